@@ -1,0 +1,63 @@
+-- Ends, followers, eviction, abort and close leave fewer sessions, in their order. Assumes nothing.
+use mathlib.Core.Path.{_≡_, refl, ap, sym, _∙_}
+use mathlib.Core.Bool.{Bool, true, false, cond, not}
+use mathlib.Core.List.{List, [], _∷_}
+use Prim.Native.Nat.{ℕ, zero, suc, _+_, _≤_, _<_}
+use native.Mathlib.Omega.{arith}
+use lib.Dec.{ltb}
+use lib.ListN.{length, getD}
+use borrow.Author.Tests.{ltb-true, ltb-false}
+use Rattle.rules.specs.declared.Session.{Session}
+use Rattle.rules.specs.Lists.{place, removeAt, omit, count}
+use Rattle.rules.specs.State.{Queue, empty, of, is, startsAt, endsAt, withWaiting}
+use Rattle.rules.specs.Ends.{Turn, quiet, andThen, dismissed, evictedAt, evicted, cancelled, aborted, closedBy}
+use Rattle.rules.specs.Instants.{endAt}
+use Rattle.rules.proofs.Tests.{by}
+use Rattle.rules.proofs.Every.{Fewer, fewer-same, fewer-keep, fewer-removeAt, FewerHeld, held-then, held-same}
+use Rattle.rules.proofs.Walk.{followed}
+
+module _ (q : Queue) where
+  pub dismissed-fewer : (r c x : ℕ) → FewerHeld q (dismissed r c x q .queue)
+  unfolding dismissed
+  dismissed-fewer r c x = record { waiting = followed c x (q .waiting) .fewer; started = fewer-same (q .started) }
+
+  pub cancelled-fewer : (p : Session → Bool) → FewerHeld q (cancelled p q .queue)
+  unfolding cancelled
+  cancelled-fewer p = record { waiting = fewer-keep (λ s. not (p s)) (q .waiting); started = fewer-keep (λ s. not (p s)) (q .started) }
+
+  pub removed-fewer : (i : ℕ) → FewerHeld q (withWaiting (removeAt i (q .waiting)) q)
+  removed-fewer i = record { waiting = fewer-removeAt i (q .waiting); started = fewer-same (q .started) }
+
+  pub endAt-fewer : (t : ℕ) → FewerHeld q (endAt t q .queue)
+  unfolding endAt
+  endAt-fewer t = record { waiting = fewer-same (q .waiting); started = fewer-keep (λ s. not (endsAt t s)) (q .started) }
+
+pub evictedAt-fewer : (i : ℕ) (q : Queue) → FewerHeld q (evictedAt i q .queue)
+unfolding evictedAt andThen
+evictedAt-fewer i q =
+    let s = getD (q .waiting) i empty in
+    held-then q _ _ (removed-fewer q i) (dismissed-fewer (withWaiting (removeAt i (q .waiting)) q) 109 (s .conn) (s .id))
+
+pub evicted-fewer : (t : ℕ) (q : Queue) → FewerHeld q (evicted t q .queue)
+unfolding evicted
+evicted-fewer t q =
+    let i = place (startsAt t) (q .waiting) in
+    by (λ (r : Turn). FewerHeld q (r .queue)) (ltb i (length (q .waiting))) _ _ (λ e. evictedAt-fewer i q) (λ e. held-same q)
+
+pub aborted-fewer : (c x : ℕ) (q : Queue) → FewerHeld q (aborted c x q .queue)
+unfolding aborted andThen
+aborted-fewer c x q = held-then q _ _ (cancelled-fewer q (is c x)) (dismissed-fewer (cancelled (is c x) q .queue) 116 c x)
+
+pub closedBy-fewer : (c : ℕ) (q : Queue) → FewerHeld q (closedBy c q .queue)
+unfolding closedBy
+closedBy-fewer c q = cancelled-fewer q (of c)
+
+-- eviction and a walk leave the started ones as they are
+pub dismissed-started : (r c x : ℕ) (q : Queue) → dismissed r c x q .queue .started ≡ q .started
+unfolding dismissed
+dismissed-started r c x q = refl
+
+pub evicted-started : (t : ℕ) (q : Queue) → evicted t q .queue .started ≡ q .started
+unfolding evicted evictedAt andThen dismissed
+evicted-started t q =
+    by (λ (r : Turn). r .queue .started ≡ q .started) (ltb (place (startsAt t) (q .waiting)) (length (q .waiting))) _ _ (λ e. refl) (λ e. refl)

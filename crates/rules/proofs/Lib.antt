@@ -1,0 +1,14 @@
+pub mod Written
+pub mod Tests
+pub mod All
+pub mod Bytes
+pub mod Records
+pub mod Count
+pub mod Every
+pub mod Walk
+pub mod Checks
+pub mod Always
+pub mod Leaving
+pub mod Tick
+pub mod Readings
+pub mod Timed

@@ -1,0 +1,156 @@
+-- What reading grants of a message read from bytes, and the laws of the descriptors' walk.
+use mathlib.Core.Path.{_≡_, refl, sym, ap, subst, _∙_}
+use mathlib.Core.Bool.{Bool, true, false, not, _&&_, _||_}
+use mathlib.Core.List.{List}
+use Prim.Native.Nat.{ℕ, zero, suc, _+_, _-_, _≤_, _<_}
+use native.Mathlib.Omega.{arith}
+use lib.Dec.{eqb, leb, ltb}
+use lib.ListN.{length, getD, drop, length-drop}
+use lib.Seq.{getD-drop, drop-drop}
+use borrow.Author.Tests.{eqb-false, ltb-false, leb-true, eq-eqb, ne-eqb, le-leb}
+use Rattle.rules.specs.declared.Start.{Start}
+use Rattle.rules.specs.declared.Start.the-variants.{Timed, Linked}
+use Rattle.rules.specs.declared.Request.{Request}
+use Rattle.rules.specs.declared.Message.{Message}
+use Rattle.rules.specs.declared.Message.the-variants.{Init, Alive, Splice, Abort, Unreadable}
+use Rattle.rules.specs.Reading.{nobody, badInit, badSplice, readInit, readAlive, readAbort, readStart, readSplice, read, priorSession, serviceID, duration, accessType, overridePlaying, separatePids, wholeRequest, descriptorsFill, descriptorsOf, descriptorLength, descriptorFits, wellFormed}
+use Rattle.rules.specs.Answers.{separate}
+use Rattle.rules.proofs.Tests.{by, or-none}
+use Rattle.rules.proofs.All.{All}
+use Rattle.rules.proofs.Bytes.{Byte, field-below}
+use Rattle.rules.proofs.Checks.{Granted, granted, Fitting, fitting, read-splice}
+
+-- ## Messages
+
+-- also where the MicroSeconds are not checked: a time stays below 2^52
+abbrev pub Within : Start → Type 0
+Within (Timed t) = t .0 < 4503599627370496
+Within (Linked p) = p < nobody
+
+-- of every request, with ServiceID 0xFFFF too
+pub record Asked (r : Request) : Type 0 where
+  pub id : r .id < 4294967296
+  pub start : Within (r .start)
+  pub service : r .service < 65536
+  pub duration : r .duration .0 < 4294967296
+  pub access : r .access ≤ 9
+  pub over : r .over ≤ 1
+
+abbrev pub Reads : Message → Type 0
+Reads (Init revision) = revision < 65536
+Reads Alive = Unit {0}
+Reads (Splice r) = Asked r
+Reads (Abort x) = x < 4294967296
+Reads Unreadable = Unit {0}
+
+module _ (d : List ℕ) (a : All Byte d) where
+  start-within : Within (readStart d)
+  unfolding readStart
+  start-within =
+      by Within (eqb (priorSession d) nobody) _ _ (λ e. omega (arith, field-below 8 4 d a, field-below 12 4 d a))
+      (λ e. let n = eqb-false (priorSession d) nobody e in omega (arith, field-below 4 4 d a))
+
+  asked-whole : badSplice d ≡ false → Asked (wholeRequest d)
+  asked-whole e =
+      let f = or-none (ltb (length d) 33) _ e in
+      let g = or-none (not (descriptorsFill (descriptorsOf d))) _ (f .1) in
+      let h = or-none (eqb (duration d) 0) _ (g .1) in
+      let i = or-none (ltb 9 (accessType d)) _ (h .1) in
+      let j = or-none (ltb 1 (overridePlaying d)) _ (i .1) in
+      record {
+        id = field-below 0 4 d a;
+        start = start-within;
+        service = field-below 16 2 d a;
+        duration = field-below 18 4 d a;
+        access = ltb-false 9 (accessType d) (i .0);
+        over = ltb-false 1 (overridePlaying d) (j .0);
+      }
+
+  asked-separate : Asked (separatePids d)
+  asked-separate =
+      record { id = field-below 0 4 d a; start = start-within; service = omega arith; duration = omega arith; access = omega arith; over = omega arith }
+
+  -- whatever the message
+  pub read-grants : (id : ℕ) → Reads (read id d)
+  unfolding read readInit readAlive readAbort readSplice
+  read-grants id =
+      by Reads (eqb id 0x0001) _ _ (λ e. by Reads (badInit d) _ _ (λ f. tt) (λ f. field-below 0 2 d a))
+      (λ e. by Reads (eqb id 0x0005) _ _ (λ f. by Reads (eqb (length d) 8) _ _ (λ g. tt) (λ g. tt))
+      (λ f. by Reads (eqb id 0x0007) _ _
+      (λ g. by Reads (ltb (length d) 18) _ _ (λ h. tt)
+      (λ h. by Reads (eqb (serviceID d) 0xFFFF) _ _ (λ i. asked-separate) (λ i. by Reads (badSplice d) _ _ (λ j. tt) asked-whole)))
+      (λ g. by Reads (eqb id 0x000E) _ _ (λ h. by Reads (eqb (length d) 4) _ _ (λ i. field-below 0 4 d a) (λ i. tt)) (λ h. tt))))
+
+  pub splice-grants : (id : ℕ) (r : Request) → read id d ≡ Splice r → Asked r
+  splice-grants id r e = subst Reads e (read-grants id)
+
+  pub abort-grants : (id x : ℕ) → read id d ≡ Abort x → x < 4294967296
+  abort-grants id x e = subst Reads e (read-grants id)
+
+  -- a request that is not for separate PIDs: Duration not 0, MicroSeconds checked
+  pub whole-grants : (id : ℕ) (r : Request) → read id d ≡ Splice r → separate r ≡ false → Granted r × Fitting r
+  whole-grants id r e k = let s = read-splice id d r e in (granted d r s k, fitting d r s k a)
+
+-- ## Descriptors
+
+eqb-zero : (l : List ℕ) → length l ≤ 0 → eqb (length l) 0 ≡ true
+eqb-zero l h = eq-eqb (length l) 0 (omega arith)
+
+enough : (n m : ℕ) (l : List ℕ) → length l ≤ n → length l ≤ m → wellFormed n l ≡ wellFormed m l
+unfolding wellFormed
+enough zero zero l h k = refl
+enough zero (suc m) l h k = rw (eqb-zero l h)
+enough (suc n) zero l h k = rw (eqb-zero l k)
+enough (suc n) (suc m) l h k =
+    let r = drop (2 + descriptorLength l) l in
+    let s : length r ≡ length l - (2 + descriptorLength l) = length-drop (2 + descriptorLength l) l in
+    ap (λ t. eqb (length l) 0 || (descriptorFits l && t)) (enough n m r (omega arith) (omega arith))
+
+-- more fuel than bytes changes nothing
+pub wellFormed-fill : (n : ℕ) (l : List ℕ) → length l ≤ n → wellFormed n l ≡ descriptorsFill l
+wellFormed-fill n l h = enough n (length l) l h (omega arith)
+
+-- at the end of the bytes
+pub fill-end : (l : List ℕ) (i : ℕ) → length l ≤ i → descriptorsFill (drop i l) ≡ true
+unfolding wellFormed
+fill-end l i h = sym (wellFormed-fill 0 (drop i l) (simp length-drop (omega arith))) ∙ eqb-zero (drop i l) (simp length-drop (omega arith))
+
+-- at a place before it
+pub fill-step : (l : List ℕ) (i : ℕ) → i < length l
+    → descriptorsFill (drop i l) ≡ (descriptorFits (drop i l) && descriptorsFill (drop (i + (2 + descriptorLength (drop i l))) l))
+unfolding wellFormed
+fill-step l i h =
+    let m = drop i l in
+    let n = 2 + descriptorLength m in
+    let k : length m ≡ length l - i = length-drop i l in
+    let j : length (drop n m) ≡ length m - n = length-drop n m in
+    sym (wellFormed-fill (suc (length m)) m (omega arith))
+    ∙ ap (λ t. t || (descriptorFits m && wellFormed (length m) (drop n m))) (ne-eqb (length m) 0 (λ z. omega arith))
+    ∙ ap (λ t. descriptorFits m && t) (wellFormed-fill (length m) (drop n m) (omega arith) ∙ ap descriptorsFill (drop-drop n i l))
+
+-- the same as a loop has it, n being the length byte of the descriptor at the place i
+module _ (l : List ℕ) (i n : ℕ) (e : n ≡ getD l (i + 1) 0) where
+  length-at : descriptorLength (drop i l) ≡ n
+  length-at = getD-drop i l 1 0 ∙ sym e
+
+  fits-at : descriptorFits (drop i l) ≡ (leb 4 n && (leb n 254 && leb (2 + n) (length l - i)))
+  fits-at = rw (length-at, length-drop i l)
+
+  pub fill-more : 4 ≤ n → n ≤ 254 → i + (2 + n) ≤ length l → descriptorsFill (drop i l) ≡ descriptorsFill (drop (i + (2 + n)) l)
+  fill-more a b c =
+      let f : descriptorFits (drop i l) ≡ true = fits-at ∙ rw (le-leb 4 n a, le-leb n 254 b, le-leb (2 + n) (length l - i) (omega arith)) in
+      fill-step l i (omega arith)
+      ∙ ap (λ t. t && descriptorsFill (drop (i + (2 + descriptorLength (drop i l))) l)) f
+      ∙ ap (λ k. descriptorsFill (drop (i + (2 + k)) l)) length-at
+
+  pub fill-bad : i < length l → (4 ≤ n → n ≤ 254 → i + (2 + n) ≤ length l → ⊥) → descriptorsFill (drop i l) ≡ false
+  fill-bad h f =
+      fill-step l i h
+      ∙ ap (λ t. t && descriptorsFill (drop (i + (2 + descriptorLength (drop i l))) l))
+      (fits-at ∙ go (leb 4 n) (leb n 254) (leb (2 + n) (length l - i)) refl refl refl)
+    where
+      go : (a b c : Bool) → leb 4 n ≡ a → leb n 254 ≡ b → leb (2 + n) (length l - i) ≡ c → (a && (b && c)) ≡ false
+      go false b c p q r = refl
+      go true false c p q r = refl
+      go true true false p q r = refl
+      go true true true p q r = absurd (f (leb-true 4 n p) (leb-true n 254 q) (let z = leb-true (2 + n) (length l - i) r in omega arith))

@@ -1,0 +1,179 @@
+-- 01, "Answering a message, first that applies".
+use mathlib.Core.Bool.{Bool, true, false, cond, not, _&&_, _||_}
+use mathlib.Core.List.{List, [], _∷_, _++_}
+use Prim.Native.Nat.{ℕ, zero, suc, _+_, _*_, max}
+use lib.Dec.{eqb, leb, ltb}
+use lib.ListN.{length, getD}
+use Rattle.rules.specs.declared.Start.{Start}
+use Rattle.rules.specs.declared.Start.the-variants.{Timed, Linked}
+use Rattle.rules.specs.declared.Request.{Request}
+use Rattle.rules.specs.declared.Message.{Message}
+use Rattle.rules.specs.declared.Message.the-variants.{Init, Alive, Splice, Abort, Unreadable}
+use Rattle.rules.specs.declared.Session.{Session}
+use Rattle.rules.specs.Units.{fromMicros, fromTicks, toMicros}
+use Rattle.rules.specs.Lists.{some, count, place, insertAt}
+use Rattle.rules.specs.Bytes.{sameName}
+use Rattle.rules.specs.Reading.{nobody, channelName, isRead, read}
+use Rattle.rules.specs.State.{Queue, Splicer, closed, opened, initialised, empty, of, is, startsAt, startsAfter, held, holds, linkOf, isInitialised, withQueue, withLink, withWaiting}
+use Rattle.rules.specs.Records.{Record, General, InitResponse, AliveResponse, SpliceResponse, AbortResponse}
+use Rattle.rules.specs.Ends.{Turn, quiet, andThen, writes, response, evicted, aborted}
+use Rattle.rules.specs.Instants.{outranks}
+
+-- the splicer after an answer, and the records of the answer
+pub record Answered : Type 0 where
+  pub splicer : Splicer
+  pub written : List Record
+
+-- nothing changes
+abbrev pub says : List Record → Splicer → Answered
+says rs s = record { splicer = s; written = rs }
+
+-- what a turn did to the sessions held
+abbrev pub turns : Turn → Splicer → Answered
+turns t s = record { splicer = withQueue (t .queue) s; written = t .written }
+
+-- ## Init
+
+-- "Revision not 2 gives 102, another name 104, else 100"
+unfoldable pub initResult : ℕ → List ℕ → List ℕ → ℕ
+initResult revision asked name = cond (not (eqb revision 2)) 102 (cond (not (sameName asked name)) 104 100)
+
+-- "else 100 and initialised. A failed later Init leaves the connection initialised. All three are Init_Response."
+unfoldable pub answerInit : ℕ → ℕ → List ℕ → Splicer → Answered
+answerInit c revision d s =
+    let r = initResult revision (channelName d) (s .name) in
+    says (InitResponse c r (s .name) ∷ []) (cond (eqb r 100) (withLink c initialised s) s)
+
+-- ## Alive
+
+-- "State 2 and the SessionID on air, or State 1 and 0xFFFFFFFF"
+unfoldable pub airState : List Session → ℕ
+airState [] = 1
+airState (air ∷ k) = 2
+
+unfoldable pub airID : List Session → ℕ
+airID [] = nobody
+airID (air ∷ k) = air .id
+
+-- "the present clock, microseconds rounded down"
+unfoldable pub aliveResponse : ℕ → Splicer → Record
+aliveResponse c s =
+    AliveResponse c 100 (airState (s .queue .started)) (airID (s .queue .started)) (toMicros (record { 0 = s .clock }) .0)
+
+-- ## Abort
+
+-- "Abort_Response 121 if this connection doesn't hold the SessionID; else 100, then the session's end and after it its followers' ends"
+unfoldable pub answerAbort : ℕ → ℕ → Queue → Turn
+answerAbort c x q =
+    cond (holds c x q)
+    (andThen (writes (AbortResponse c 100 x ∷ []) q) (aborted c x))
+    (writes (AbortResponse c 121 x ∷ []) q)
+
+-- ## Splice
+
+-- the end of number x of connection c among l
+abbrev pub endOf : ℕ → ℕ → List Session → ℕ
+endOf c x l = getD l (place (is c x) l) empty .end .0
+
+-- "A timed start is the request's time; a linked start is the prior session's end."
+unfoldable pub startOf : ℕ → Start → Queue → ℕ
+startOf c (Timed t) q = fromMicros t .0
+startOf c (Linked p) q = endOf c p (held q)
+
+abbrev pub priorOf : Start → ℕ
+priorOf (Timed t) = nobody
+priorOf (Linked p) = p
+
+-- the session that a request of connection c asks for, its start being t. "End is start plus Duration."
+unfoldable pub sessionAt : ℕ → ℕ → Request → Session
+sessionAt t c r =
+    record {
+      conn = c;
+      id = r .id;
+      prior = priorOf (r .start);
+      start = record { 0 = t };
+      end = record { 0 = t + fromTicks (r .duration) .0 };
+      access = r .access;
+      over = r .over;
+      played = record { 0 = 0 };
+    }
+
+unfoldable pub requested : ℕ → Request → Queue → Session
+requested c r q = sessionAt (startOf c (r .start) q) c r
+
+-- a. "110: ServiceID 0xFFFF."
+abbrev pub separate : Request → Bool
+separate r = eqb (r .service) 0xFFFF
+
+-- b. "121: SessionID 0xFFFFFFFF or already held by this connection; or PriorSession neither 0xFFFFFFFF nor held by it."
+unfoldable pub unknownPrior : ℕ → Start → Queue → Bool
+unknownPrior c (Timed t) q = false
+unknownPrior c (Linked p) q = not (holds c p q)
+
+abbrev pub wrongNumber : ℕ → Request → Queue → Bool
+wrongNumber c r q = eqb (r .id) nobody || (holds c (r .id) q || unknownPrior c (r .start) q)
+
+-- c. "112: timed, and the start is less than 3 s after the clock."
+unfoldable pub tooLate : ℕ → Start → Bool
+tooLate clock (Timed t) = ltb (fromMicros t .0) (clock + 3 * 9000000)
+tooLate clock (Linked p) = false
+
+-- d. "109: a waiting session of any connection has the same start and the same or a higher AccessType."
+unfoldable pub collides : Session → List Session → Bool
+collides new w = some (λ s. startsAt (new .start .0) s && not (outranks new s)) w
+
+-- e. "114: this connection has 20 waiting; or it has 10 or more and the four counts, each raised to 10 if lower, sum to 64."
+abbrev pub waits : ℕ → List Session → ℕ
+waits c w = count (of c) w
+
+abbrev pub raised : ℕ → ℕ
+raised n = max n 10
+
+abbrev pub raisedSum : List Session → ℕ
+raisedSum w = raised (waits 0 w) + (raised (waits 1 w) + (raised (waits 2 w) + raised (waits 3 w)))
+
+unfoldable pub full : ℕ → List Session → Bool
+full c w = eqb (waits c w) 20 || (leb 10 (waits c w) && eqb (raisedSum w) 64)
+
+-- "with the first that applies"
+abbrev pub firstOf : (a b c d e : Bool) → ℕ
+firstOf a b c d e = cond a 110 (cond b 121 (cond c 112 (cond d 109 (cond e 114 100))))
+
+-- new: the session that r asks for. "Counted before f."
+unfoldable pub spliceResult : ℕ → ℕ → Request → Session → Queue → ℕ
+spliceResult clock c r new q =
+    firstOf (separate r) (wrongNumber c r q) (tooLate clock (r .start)) (collides new (q .waiting)) (full c (q .waiting))
+
+-- before the first that starts later
+unfoldable pub inserted : Session → List Session → List Session
+inserted s w = insertAt (place (startsAfter (s .start .0)) w) s w
+
+-- "f. 100. A waiting session with the same start, then lower, is evicted first", "written before the 100"
+unfoldable pub accepted : Session → Queue → Turn
+accepted s q = andThen (evicted (s .start .0) q) (λ u. writes (response 100 s ∷ []) (withWaiting (inserted s (u .waiting)) u))
+
+unfoldable pub answerSplice : ℕ → ℕ → Request → Queue → Turn
+answerSplice clock c r q =
+    let new = requested c r q in
+    let n = spliceResult clock c r new q in
+    cond (eqb n 100) (accepted new q) (writes (SpliceResponse c n (r .id) ∷ []) q)
+
+-- ## The answer
+
+-- a message of the list of four, read from the data d; "5. Not readable: General_Response 123."
+unfoldable pub answerRead : ℕ → Message → List ℕ → Splicer → Answered
+answerRead c (Init revision) d s = answerInit c revision d s
+answerRead c Alive d s = says (aliveResponse c s ∷ []) s
+answerRead c (Splice r) d s = turns (answerSplice (s .clock) c r (s .queue)) s
+answerRead c (Abort x) d s = turns (answerAbort c x (s .queue)) s
+answerRead c Unreadable d s = says (General c 123 ∷ []) s
+
+-- "1. ID 0x0000: no answer. 2. Not initialised and not Init_Request: General_Response 103. 3. ID 0x000D: no answer.
+-- 4. ID not in the list of four: General_Response 120."
+unfoldable pub answer : ℕ → ℕ → List ℕ → Splicer → Answered
+answer c id d s =
+    cond (eqb id 0x0000) (says [] s)
+    (cond (not (isInitialised (linkOf c s)) && not (eqb id 0x0001)) (says (General c 103 ∷ []) s)
+    (cond (eqb id 0x000D) (says [] s)
+    (cond (not (isRead id)) (says (General c 120 ∷ []) s)
+    (answerRead c (read id d) d s))))

@@ -1,0 +1,147 @@
+-- 01, "Calls and house numbers".
+use mathlib.Core.Bool.{Bool, true, false, cond, not}
+use mathlib.Core.List.{List, [], _∷_}
+use Prim.Native.Nat.{ℕ, zero, suc, _+_}
+use lib.Dec.{eqb, leb, ltb}
+use lib.ListN.{length}
+use Rattle.rules.specs.declared.Refusal.{Refusal}
+use Rattle.rules.specs.declared.Refusal.the-variants.{Connection, Buffer, Clock, Oversize, Short, AlreadyOpen, NotOpen, MicroSeconds, Name}
+use Rattle.rules.specs.declared.Framing.{Framing}
+use Rattle.rules.specs.declared.Framing.the-variants.{Framed, Unframed}
+use Rattle.rules.specs.Units.{timeOf, fromMicros}
+use Rattle.rules.specs.Bytes.{part, messageID, messageSize, hasZero, nameIn}
+use Rattle.rules.specs.State.{Queue, Splicer, Link, closed, opened, linkOf, isOpen, withLink, withQueue, withClock}
+use Rattle.rules.specs.Records.{Record, output}
+use Rattle.rules.specs.Ends.{Turn, closedBy}
+use Rattle.rules.specs.Answers.{Answered, answer}
+use Rattle.rules.specs.Instants.{runAll}
+
+-- the table of house numbers
+unfoldable pub houseNumber : Refusal → ℕ
+houseNumber Connection = 1
+houseNumber Buffer = 2
+houseNumber Clock = 3
+houseNumber Oversize = 4
+houseNumber Short = 5
+houseNumber AlreadyOpen = 6
+houseNumber NotOpen = 7
+houseNumber MicroSeconds = 8
+houseNumber Name = 9
+
+-- "A good call returns the bytes written, and message also the bytes consumed." "A refusal returns its number, writes nothing,
+-- consumes nothing"
+pub data Answer : Type 0 where
+  refused : Refusal → Answer
+  good : (consumed : ℕ) (records : List Record) → Answer
+
+-- the splicer after a call, and what the call answers
+pub record Called : Type 0 where
+  pub splicer : Splicer
+  pub answer : Answer
+
+-- "and changes no state"
+abbrev pub refuse : Refusal → Splicer → Called
+refuse n s = record { splicer = s; answer = refused n }
+
+abbrev pub does : ℕ → List Record → Splicer → Called
+does consumed rs s = record { splicer = s; answer = good consumed rs }
+
+-- what an answer writes into the output buffer
+unfoldable pub writtenBy : Answer → List ℕ
+writtenBy (refused n) = []
+writtenBy (good consumed rs) = output rs
+
+unfoldable pub consumedBy : Answer → ℕ
+consumedBy (refused n) = 0
+consumedBy (good consumed rs) = consumed
+
+-- ## The five calls
+
+-- "A fresh splicer has clock 0, all connections closed."
+unfoldable pub named : List ℕ → Splicer
+named name =
+    record {
+      name = name;
+      clock = 0;
+      links = closed ∷ closed ∷ closed ∷ closed ∷ [];
+      queue = record { waiting = []; started = [] };
+    }
+
+-- "9: name without a zero byte." "A refused fresh gives, with number 9, the splicer of an empty name."
+unfoldable pub fresh : List ℕ → Called
+fresh name = cond (hasZero name) (does 0 [] (named (nameIn name))) (refuse Name (named []))
+
+-- "Order: open 1, 6". "Opening leaves the connection not initialised."
+unfoldable pub openCall : ℕ → Splicer → Called
+openCall c s =
+    cond (ltb 3 c) (refuse Connection s)
+    (cond (isOpen (linkOf c s)) (refuse AlreadyOpen s)
+    (does 0 [] (withLink c opened s)))
+
+-- "close 1, 2, 7". room: the length of the output buffer
+unfoldable pub closeCall : ℕ → ℕ → Splicer → Called
+closeCall c room s =
+    let t = closedBy c (s .queue) in
+    cond (ltb 3 c) (refuse Connection s)
+    (cond (ltb room 4096) (refuse Buffer s)
+    (cond (not (isOpen (linkOf c s))) (refuse NotOpen s)
+    (does 0 (t .written) (withLink c closed (withQueue (t .queue) s)))))
+
+-- "5 (header), 4, 5 (body)"; l: the bytes read so far
+unfoldable pub framing : List ℕ → Framing
+framing l =
+    cond (ltb (length l) 8) (Unframed Short)
+    (cond (ltb 4088 (messageSize l)) (Unframed Oversize)
+    (cond (ltb (length l) (8 + messageSize l)) (Unframed Short) (Framed (messageID l) (messageSize l))))
+
+-- "Message handles the first message only, and each is handed on as its own part of what was read."
+unfoldable pub handled : ℕ → Framing → List ℕ → Splicer → Called
+handled c (Unframed n) l s = refuse n s
+handled c (Framed id size) l s =
+    let a = answer c id (part 8 size l) s in
+    does (8 + size) (a .written) (a .splicer)
+
+-- "message 1, 2, 7", then as above
+unfoldable pub messageCall : ℕ → List ℕ → ℕ → Splicer → Called
+messageCall c l room s =
+    cond (ltb 3 c) (refuse Connection s)
+    (cond (ltb room 4096) (refuse Buffer s)
+    (cond (not (isOpen (linkOf c s))) (refuse NotOpen s)
+    (handled c (framing l) l s)))
+
+-- the clock brought to until
+unfoldable pub ticked : ℕ → Splicer → Called
+ticked until s =
+    let t = runAll (s .clock) until (s .queue) in
+    does 0 (t .written) (withClock until (withQueue (t .queue) s))
+
+-- "tick 2, 8, 3". "A tick to the present time is good and writes nothing."
+unfoldable pub tickCall : ℕ → ℕ → ℕ → Splicer → Called
+tickCall seconds micros room s =
+    let until = fromMicros (timeOf seconds micros) .0 in
+    cond (ltb room 4096) (refuse Buffer s)
+    (cond (ltb 999999 micros) (refuse MicroSeconds s)
+    (cond (ltb until (s .clock)) (refuse Clock s)
+    (ticked until s)))
+
+-- ## Sequences of calls: "A splicer is what fresh and the calls since have given"
+
+pub data Call : Type 0 where
+  opens : (conn : ℕ) → Call
+  closes : (conn room : ℕ) → Call
+  messages : (conn : ℕ) (l : List ℕ) (room : ℕ) → Call
+  ticks : (seconds micros room : ℕ) → Call
+
+unfoldable pub call : Call → Splicer → Called
+call (opens c) s = openCall c s
+call (closes c room) s = closeCall c room s
+call (messages c l room) s = messageCall c l room s
+call (ticks seconds micros room) s = tickCall seconds micros room s
+
+unfoldable pub after : List Call → Splicer → Splicer
+after [] s = s
+after (k ∷ ks) s = after ks (call k s .splicer)
+
+unfoldable pub answers : List Call → Splicer → List Answer
+answers [] s = []
+answers (k ∷ ks) s = call k s .answer ∷ answers ks (call k s .splicer)

@@ -1,0 +1,106 @@
+-- 01, Instants (last paragraph) and "A session's end": followers, and how sessions end by eviction, abort and close.
+use mathlib.Core.Bool.{Bool, true, false, cond}
+use mathlib.Core.List.{List, [], _∷_, _++_, map}
+use Prim.Native.Nat.{ℕ, zero, suc}
+use lib.Dec.{ltb}
+use lib.ListN.{length, getD}
+use Rattle.rules.specs.declared.Session.{Session}
+use Rattle.rules.specs.Units.{toTicks}
+use Rattle.rules.specs.Lists.{put, keep, omit, place, removeAt}
+use Rattle.rules.specs.State.{Queue, empty, of, is, follows, startsAt, withWaiting, withStarted}
+use Rattle.rules.specs.Records.{Record, SpliceResponse, SpliceComplete}
+
+-- a queue after some of the work, and the records which that wrote
+pub record Turn : Type 0 where
+  pub queue : Queue
+  pub written : List Record
+
+abbrev pub quiet : Queue → Turn
+quiet q = record { queue = q; written = [] }
+
+-- some work, and more from where it ended
+unfoldable pub andThen : Turn → (Queue → Turn) → Turn
+andThen t f = record { queue = f (t .queue) .queue; written = t .written ++ f (t .queue) .written }
+
+abbrev pub writes : List Record → Queue → Turn
+writes rs q = record { queue = q; written = rs }
+
+-- ## The records of a session
+
+-- its Splice_Response
+abbrev pub response : ℕ → Session → Record
+response r s = SpliceResponse (s .conn) r (s .id)
+
+-- its start or failure: "SpliceComplete flag 0, result .., PlayedDuration 0"
+abbrev pub spliceIn : ℕ → Session → Record
+spliceIn r s = SpliceComplete (s .conn) r (s .id) 0 0
+
+-- its end: SpliceComplete flag 1. "PlayedDuration is time on air only, summed in ninths, divided by 100, rounded down."
+abbrev pub spliceOut : ℕ → Session → Record
+spliceOut r s = SpliceComplete (s .conn) r (s .id) 1 (toTicks (s .played) .0)
+
+-- the ends of those of the started ones that pass p, from the highest AccessType down, each by what it was:
+-- air for the one on air, cover for the covered
+unfoldable pub endings : (air cover : Session → Record) → (Session → Bool) → List Session → List Record
+endings air cover p [] = []
+endings air cover p (s ∷ k) = put (p s) (air s) (map cover (keep p k))
+
+-- ## Followers
+
+pub record Walk : Type 0 where
+  pub gone : List Session
+  pub left : List Session
+
+-- "the waiting ones that reach it through PriorSession, link by link and over waiting ones only, within its connection":
+-- from number x of connection c to the one behind it, n links at most
+unfoldable pub walk : ℕ → ℕ → ℕ → List Session → Walk
+walk zero c x w = record { gone = []; left = w }
+walk (suc n) c x w =
+    let i = place (follows c x) w in
+    let s = getD w i empty in
+    let on : Walk = walk n c (s .id) (removeAt i w) in
+    cond (ltb i (length w)) (record { gone = s ∷ on .gone; left = on .left }) (record { gone = []; left = w })
+
+-- each link takes one that waits, so there are at most as many
+unfoldable pub followers : ℕ → ℕ → List Session → Walk
+followers c x w = walk (length w) c x w
+
+-- "Followers' ends are Splice_Response 109, or 116 after an abort or close, in order of start."
+unfoldable pub dismissed : (result conn id : ℕ) → Queue → Turn
+dismissed r c x q =
+    let f = followers c x (q .waiting) in
+    record { queue = withWaiting (f .left) q; written = map (response r) (f .gone) }
+
+-- ## Eviction
+
+-- the waiting session at the place i ends with 109, and its waiting followers
+unfoldable pub evictedAt : ℕ → Queue → Turn
+evictedAt i q =
+    let s = getD (q .waiting) i empty in
+    andThen (writes (response 109 s ∷ []) (withWaiting (removeAt i (q .waiting)) q)) (dismissed 109 (s .conn) (s .id))
+
+-- "A waiting session with the same start, then lower, is evicted first: it and its waiting followers end (109)"
+unfoldable pub evicted : ℕ → Queue → Turn
+evicted t q =
+    let i = place (startsAt t) (q .waiting) in
+    cond (ltb i (length (q .waiting))) (evictedAt i q) (quiet q)
+
+-- ## Abort and close
+
+-- "An aborted session on air ends with SpliceComplete flag 1, result 116; a covered or waiting one with Splice_Response 116."
+-- "Close ends, as by abort, the connection's started sessions from the highest AccessType down, each by what it was before
+-- the close (on air or covered), then all its waiting ones by start": all that pass p
+unfoldable pub cancelled : (Session → Bool) → Queue → Turn
+cancelled p q =
+    record {
+      queue = record { waiting = omit p (q .waiting); started = omit p (q .started) };
+      written = endings (spliceOut 116) (response 116) p (q .started) ++ map (response 116) (keep p (q .waiting));
+    }
+
+-- "the session's end and after it its followers' ends"
+unfoldable pub aborted : ℕ → ℕ → Queue → Turn
+aborted c x q = andThen (cancelled (is c x) q) (dismissed 116 c x)
+
+-- "followers among them, each once"
+unfoldable pub closedBy : ℕ → Queue → Turn
+closedBy c q = cancelled (of c) q

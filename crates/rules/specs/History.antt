@@ -1,0 +1,203 @@
+-- Demand 3: a connection's waiting sessions, starts and ends, taken from calls and answer bytes alone.
+use mathlib.Core.Bool.{Bool, true, false, cond, not, _&&_, _||_}
+use mathlib.Core.List.{List, [], _∷_, _++_}
+use Prim.Native.Nat.{ℕ, zero, suc, _+_, _*_}
+use lib.Dec.{eqb, leb}
+use lib.ListN.{length}
+use Rattle.rules.specs.declared.Refusal.{Refusal}
+use Rattle.rules.specs.declared.Start.{Start}
+use Rattle.rules.specs.declared.Start.the-variants.{Timed, Linked}
+use Rattle.rules.specs.Units.{timeOf, fromMicros, fromTicks}
+use Rattle.rules.specs.Lists.{put, keep, count}
+use Rattle.rules.specs.Bytes.{messageID, dataOf}
+use Rattle.rules.specs.Reading.{sessionID, readStart, wholeRequest}
+use Rattle.rules.specs.State.{Splicer}
+use Rattle.rules.specs.Records.{Record, General, InitResponse, AliveResponse, SpliceResponse, SpliceComplete, AbortResponse, output, recordsIn}
+use Rattle.rules.specs.Calls.{Answer, refused, good, Call, opens, closes, messages, ticks, call, writtenBy}
+
+-- ## Starts and ends among records
+
+abbrev pub both : ℕ → ℕ → ℕ → ℕ → Bool
+both c x c′ x′ = eqb c c′ && eqb x x′
+
+-- the start of number x of connection c: SpliceComplete flag 0, result 100
+unfoldable pub isStart : ℕ → ℕ → Record → Bool
+isStart c x (General c′ r) = false
+isStart c x (InitResponse c′ r n) = false
+isStart c x (AliveResponse c′ r a y t) = false
+isStart c x (SpliceResponse c′ r y) = false
+isStart c x (SpliceComplete c′ r y f d) = (eqb f 0 && eqb r 100) && both c x c′ y
+isStart c x (AbortResponse c′ r y) = false
+
+-- "A session's end is its SpliceComplete with flag 1, or its SpliceComplete with flag 0 and 109, or a Splice_Response 109
+-- (evicted, or its prior ended so or failed) or 116 that isn't a Splice_Request's own answer."
+unfoldable pub isEnd : ℕ → ℕ → Record → Bool
+isEnd c x (General c′ r) = false
+isEnd c x (InitResponse c′ r n) = false
+isEnd c x (AliveResponse c′ r a y t) = false
+isEnd c x (SpliceResponse c′ r y) = (eqb r 109 || eqb r 116) && both c x c′ y
+isEnd c x (SpliceComplete c′ r y f d) = (eqb f 1 || (eqb f 0 && eqb r 109)) && both c x c′ y
+isEnd c x (AbortResponse c′ r y) = false
+
+-- the Splice_Response 100 to number x of connection c
+unfoldable pub isYes : ℕ → ℕ → Record → Bool
+isYes c x (General c′ r) = false
+isYes c x (InitResponse c′ r n) = false
+isYes c x (AliveResponse c′ r a y t) = false
+isYes c x (SpliceResponse c′ r y) = eqb r 100 && both c x c′ y
+isYes c x (SpliceComplete c′ r y f d) = false
+isYes c x (AbortResponse c′ r y) = false
+
+abbrev pub startsOf : ℕ → ℕ → List Record → ℕ
+startsOf c x rs = count (isStart c x) rs
+
+abbrev pub endsOf : ℕ → ℕ → List Record → ℕ
+endsOf c x rs = count (isEnd c x) rs
+
+-- neither start nor end of number x of connection c is among rs
+abbrev pub unmarked : ℕ → List Record → ℕ → Bool
+unmarked c rs x = eqb (startsOf c x rs + endsOf c x rs) 0
+
+-- ## Calls and their answers
+
+pub data Reply : Type 0 where
+  refusal : Refusal → Reply
+  wrote : List ℕ → Reply
+
+pub record Event : Type 0 where
+  pub call : Call
+  pub reply : Reply
+
+abbrev pub replyOf : Answer → Reply
+replyOf (refused n) = refusal n
+replyOf (good consumed rs) = wrote (output rs)
+
+-- the calls ks from the splicer s, each with its answer
+unfoldable pub history : List Call → Splicer → List Event
+history [] s = []
+history (k ∷ ks) s = record { call = k; reply = replyOf (call k s .answer) } ∷ history ks (call k s .splicer)
+
+-- ## The waiting sessions of a connection: "accepted since it was opened, less those whose start or end was written"
+
+module _ {A : Type 0} where
+  -- all but the last
+  unfoldable pub front : List A → List A
+  front [] = []
+  front (x ∷ []) = []
+  front (x ∷ y ∷ l) = x ∷ front (y ∷ l)
+
+  -- the last passes the test
+  unfoldable pub last : (A → Bool) → List A → Bool
+  last p [] = false
+  last p (x ∷ []) = p x
+  last p (x ∷ y ∷ l) = last p (y ∷ l)
+
+abbrev pub isSplice : List ℕ → Bool
+isSplice l = eqb (messageID l) 0x0007
+
+-- the numbers of c that wait after a message l of connection d, if those of w did before. A Splice_Request's own answer is
+-- the last record of its call
+unfoldable pub waitAnswered : ℕ → ℕ → List ℕ → List Record → List ℕ → List ℕ
+waitAnswered c d l rs w =
+    let x = sessionID (dataOf l) in
+    cond (isSplice l) (put (eqb c d && last (isYes d x) rs) x (keep (unmarked c (front rs)) w)) (keep (unmarked c rs) w)
+
+unfoldable pub waitAfter : ℕ → Call → List Record → List ℕ → List ℕ
+waitAfter c (opens d) rs w = cond (eqb c d) [] w
+waitAfter c (closes d room) rs w = keep (unmarked c rs) w
+waitAfter c (messages d l room) rs w = waitAnswered c d l rs w
+waitAfter c (ticks seconds micros room) rs w = keep (unmarked c rs) w
+
+unfoldable pub waitReplied : ℕ → Call → Reply → List ℕ → List ℕ
+waitReplied c k (refusal n) w = w
+waitReplied c k (wrote l) w = waitAfter c k (recordsIn l) w
+
+unfoldable pub waitingTold : ℕ → List Event → List ℕ → List ℕ
+waitingTold c [] w = w
+waitingTold c (e ∷ h) w = waitingTold c h (waitReplied c (e .call) (e .reply) w)
+
+-- how many of connection c's sessions wait, from the answers
+unfoldable pub waitingCount : ℕ → List Event → ℕ
+waitingCount c h = length (waitingTold c h [])
+
+-- ## The sessions accepted, the newest first
+
+-- connection, number and end time, the ends written for it, and whether its connection has closed since
+pub record Entry : Type 0 where
+  pub conn : ℕ
+  pub id : ℕ
+  pub end : ℕ
+  pub ends : ℕ
+  pub closed : Bool
+
+abbrev pub entryIs : ℕ → ℕ → Entry → Bool
+entryIs c x e = eqb c (e .conn) && eqb x (e .id)
+
+abbrev pub withEnds : List Record → Entry → Entry
+withEnds rs e =
+    record { conn = e .conn; id = e .id; end = e .end; ends = e .ends + endsOf (e .conn) (e .id) rs; closed = e .closed }
+
+-- "It counts for the session that its connection last accepted under that SessionID, ended already or not."
+unfoldable pub credited : List Record → List Entry → List Entry
+credited rs [] = []
+credited rs (e ∷ es) = withEnds rs e ∷ credited (keep (λ r. not (isEnd (e .conn) (e .id) r)) rs) es
+
+-- the end of the session last accepted under a number
+unfoldable pub endTold : ℕ → ℕ → List Entry → ℕ
+endTold c x [] = 0
+endTold c x (e ∷ es) = cond (entryIs c x e) (e .end) (endTold c x es)
+
+unfoldable pub startTold : ℕ → Start → List Entry → ℕ
+startTold c (Timed t) es = fromMicros t .0
+startTold c (Linked p) es = endTold c p es
+
+-- the entry of a Splice_Request with the data d
+unfoldable pub entryOf : ℕ → List ℕ → List Entry → Entry
+entryOf c d es =
+    record {
+      conn = c;
+      id = sessionID d;
+      end = startTold c (readStart d) es + fromTicks (wholeRequest d .duration) .0;
+      ends = 0;
+      closed = false;
+    }
+
+unfoldable pub bookAnswered : ℕ → List ℕ → List Record → List Entry → List Entry
+bookAnswered d l rs es =
+    cond (isSplice l)
+    (put (last (isYes d (sessionID (dataOf l))) rs) (entryOf d (dataOf l) es) (credited (front rs) es))
+    (credited rs es)
+
+-- connection d has closed
+unfoldable pub shut : ℕ → List Entry → List Entry
+shut d [] = []
+shut d (e ∷ es) =
+    record { conn = e .conn; id = e .id; end = e .end; ends = e .ends; closed = eqb d (e .conn) || e .closed } ∷ shut d es
+
+unfoldable pub bookAfter : Call → List Record → List Entry → List Entry
+bookAfter (opens d) rs es = credited rs es
+bookAfter (closes d room) rs es = shut d (credited rs es)
+bookAfter (messages d l room) rs es = bookAnswered d l rs es
+bookAfter (ticks seconds micros room) rs es = credited rs es
+
+unfoldable pub bookReplied : Call → Reply → List Entry → List Entry
+bookReplied k (refusal n) es = es
+bookReplied k (wrote l) es = bookAfter k (recordsIn l) es
+
+-- the accepted sessions of a history
+unfoldable pub book : List Event → List Entry → List Entry
+book [] es = es
+book (e ∷ h) es = book h (bookReplied (e .call) (e .reply) es)
+
+-- ## The clock: the time of the last good tick
+
+unfoldable pub clockReplied : Call → Reply → ℕ → ℕ
+clockReplied k (refusal n) now = now
+clockReplied (opens c) (wrote l) now = now
+clockReplied (closes c room) (wrote l) now = now
+clockReplied (messages c m room) (wrote l) now = now
+clockReplied (ticks seconds micros room) (wrote l) now = fromMicros (timeOf seconds micros) .0
+
+unfoldable pub clockAfter : List Event → ℕ → ℕ
+clockAfter [] now = now
+clockAfter (e ∷ h) now = clockAfter h (clockReplied (e .call) (e .reply) now)

@@ -1,0 +1,14 @@
+pub mod Lists
+pub mod Units
+pub mod Bytes
+pub mod Reading
+pub mod State
+pub mod Records
+pub mod Ends
+pub mod Instants
+pub mod Answers
+pub mod Calls
+pub mod Card
+pub mod History
+pub mod Rehearsed
+pub mod Worked

@@ -1,0 +1,135 @@
+-- 01, Bytes and "Not readable": what is read of a message's data, and what makes it unreadable. Offsets are those of J.280's tables.
+use mathlib.Core.Bool.{Bool, true, false, cond, not, _&&_, _||_}
+use mathlib.Core.List.{List, [], _∷_}
+use Prim.Native.Nat.{ℕ, zero, suc, _+_}
+use lib.Dec.{eqb, leb, ltb}
+use lib.ListN.{length, getD, drop}
+use Rattle.rules.specs.declared.Start.{Start}
+use Rattle.rules.specs.declared.Start.the-variants.{Timed, Linked}
+use Rattle.rules.specs.declared.Request.{Request}
+use Rattle.rules.specs.declared.Message.{Message}
+use Rattle.rules.specs.declared.Message.the-variants.{Init, Alive, Splice, Abort, Unreadable}
+use Rattle.rules.specs.Units.{timeOf}
+use Rattle.rules.specs.Bytes.{part, field, hasZero}
+
+-- 0xFFFFFFFF: no number of a session; as a PriorSession it says that the request is timed
+abbrev pub nobody : ℕ
+nobody = 0xFFFFFFFF
+
+-- Init_Request: Revision_Num 2, ChannelName 32, SplicerName 32, the rest unread
+abbrev pub channelName : List ℕ → List ℕ
+channelName d = part 2 32 d
+
+abbrev pub splicerName : List ℕ → List ℕ
+splicerName d = part 34 32 d
+
+abbrev pub badInit : List ℕ → Bool
+badInit d = ltb (length d) 66 || (not (hasZero (channelName d)) || not (hasZero (splicerName d)))
+
+unfoldable pub readInit : List ℕ → Message
+readInit d = cond (badInit d) Unreadable (Init (field 0 2 d))
+
+-- Alive_Request: time 8. "An Alive time is not checked."
+unfoldable pub readAlive : List ℕ → Message
+readAlive d = cond (eqb (length d) 8) Alive Unreadable
+
+-- Abort_Request: SessionID 4
+unfoldable pub readAbort : List ℕ → Message
+readAbort d = cond (eqb (length d) 4) (Abort (field 0 4 d)) Unreadable
+
+-- "Descriptor: tag 1, length 1, identifier 4, private bytes. Length counts what follows it, is 4 to 254, and the descriptors
+-- fill the message exactly." n is at least the number of descriptors.
+abbrev pub descriptorLength : List ℕ → ℕ
+descriptorLength l = getD l 1 0
+
+abbrev pub descriptorFits : List ℕ → Bool
+descriptorFits l = leb 4 (descriptorLength l) && (leb (descriptorLength l) 254 && leb (2 + descriptorLength l) (length l))
+
+unfoldable pub wellFormed : ℕ → List ℕ → Bool
+wellFormed zero l = eqb (length l) 0
+wellFormed (suc n) l = eqb (length l) 0 || (descriptorFits l && wellFormed n (drop (2 + descriptorLength l) l))
+
+-- each takes at least six bytes, so there are fewer than bytes
+abbrev pub descriptorsFill : List ℕ → Bool
+descriptorsFill l = wellFormed (length l) l
+
+abbrev pub descriptorsOf : List ℕ → List ℕ
+descriptorsOf d = drop 33 d
+
+-- Splice_Request: SessionID 4, PriorSession 4, time 8, ServiceID 2, Duration 4, SpliceEventID 4, PostBlack 4, AccessType 1,
+-- OverridePlaying 1, ReturnToPriorChannel 1, then descriptors
+abbrev pub sessionID : List ℕ → ℕ
+sessionID d = field 0 4 d
+
+abbrev pub priorSession : List ℕ → ℕ
+priorSession d = field 4 4 d
+
+abbrev pub seconds : List ℕ → ℕ
+seconds d = field 8 4 d
+
+abbrev pub microSeconds : List ℕ → ℕ
+microSeconds d = field 12 4 d
+
+abbrev pub serviceID : List ℕ → ℕ
+serviceID d = field 16 2 d
+
+abbrev pub duration : List ℕ → ℕ
+duration d = field 18 4 d
+
+abbrev pub accessType : List ℕ → ℕ
+accessType d = getD d 30 0
+
+abbrev pub overridePlaying : List ℕ → ℕ
+overridePlaying d = getD d 31 0
+
+abbrev pub returnToPriorChannel : List ℕ → ℕ
+returnToPriorChannel d = getD d 32 0
+
+-- "a Splice_Request's start is in turn either timed or linked"
+unfoldable pub readStart : List ℕ → Start
+readStart d = cond (eqb (priorSession d) nobody) (Timed (timeOf (seconds d) (microSeconds d))) (Linked (priorSession d))
+
+-- with ServiceID not 0xFFFF, any of these
+abbrev pub badSplice : List ℕ → Bool
+badSplice d =
+    ltb (length d) 33
+    || (not (descriptorsFill (descriptorsOf d))
+    || (eqb (duration d) 0
+    || (ltb 9 (accessType d)
+    || (ltb 1 (overridePlaying d)
+    || (ltb 1 (returnToPriorChannel d)
+    || (eqb (priorSession d) nobody && ltb 999999 (microSeconds d)))))))
+
+-- "With ServiceID 0xFFFF only the first 18 bytes are read."
+abbrev pub separatePids : List ℕ → Request
+separatePids d =
+    record { id = sessionID d; start = readStart d; service = 0xFFFF; duration = record { 0 = 0 }; access = 0; over = 0 }
+
+abbrev pub wholeRequest : List ℕ → Request
+wholeRequest d =
+    record {
+      id = sessionID d;
+      start = readStart d;
+      service = serviceID d;
+      duration = record { 0 = duration d };
+      access = accessType d;
+      over = overridePlaying d;
+    }
+
+unfoldable pub readSplice : List ℕ → Message
+readSplice d =
+    cond (ltb (length d) 18) Unreadable
+    (cond (eqb (serviceID d) 0xFFFF) (Splice (separatePids d))
+    (cond (badSplice d) Unreadable (Splice (wholeRequest d))))
+
+-- the list of four: "Read: Init_Request, Alive_Request, Splice_Request, Abort_Request."
+abbrev pub isRead : ℕ → Bool
+isRead id = eqb id 0x0001 || (eqb id 0x0005 || (eqb id 0x0007 || eqb id 0x000E))
+
+-- a message of the list of four, by its MessageID and its data
+unfoldable pub read : ℕ → List ℕ → Message
+read id d =
+    cond (eqb id 0x0001) (readInit d)
+    (cond (eqb id 0x0005) (readAlive d)
+    (cond (eqb id 0x0007) (readSplice d)
+    (cond (eqb id 0x000E) (readAbort d) Unreadable)))

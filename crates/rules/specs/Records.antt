@@ -1,0 +1,66 @@
+-- 01, Bytes: what is written, each record's bytes with its mark, and the records that such bytes hold.
+use mathlib.Core.Bool.{Bool, true, false, cond}
+use mathlib.Core.List.{List, [], _∷_, _++_}
+use Prim.Native.Nat.{ℕ, zero, suc, _+_, _*_, _/_, _%_}
+use lib.Dec.{eqb}
+use lib.ListN.{length, getD, drop}
+use Rattle.rules.specs.declared.Micros.{Micros}
+use Rattle.rules.specs.Bytes.{bytes, field, part, padded, nameIn}
+
+-- an outgoing message: the connection it is for, its result, and its data
+pub data Record : Type 0 where
+  General : (conn result : ℕ) → Record
+  InitResponse : (conn result : ℕ) (name : List ℕ) → Record
+  AliveResponse : (conn result state id : ℕ) (time : ℕ) → Record
+  SpliceResponse : (conn result id : ℕ) → Record
+  SpliceComplete : (conn result id flag played : ℕ) → Record
+  AbortResponse : (conn result id : ℕ) → Record
+
+-- "after a two-byte mark: 0x52, and the connection it is for"; "in answers Result_Extension is 0xFFFF"
+unfoldable pub framed : (conn id result : ℕ) (body : List ℕ) → List ℕ
+framed c id r d = 0x52 ∷ (bytes 1 c ++ (bytes 2 id ++ (bytes 2 (length d) ++ (bytes 2 r ++ (bytes 2 0xFFFF ++ d)))))
+
+-- a wire time: Seconds 4, MicroSeconds 4
+abbrev pub timeBytes : ℕ → List ℕ
+timeBytes t = bytes 4 (t / 1000000) ++ bytes 4 (t % 1000000)
+
+-- Init_Response 0x0002: Revision_Num 2 bytes (value 2), configured ChannelName 32. Alive_Response 0x0006: State 4, SessionID 4, time 8.
+-- Splice_Response 0x0008, Abort_Response 0x000F: SessionID 4. General_Response 0x0000: no data.
+-- SpliceComplete_Response 0x0009: SessionID 4, SpliceTypeFlag 1, Bitrate 4 (always 0 here), PlayedDuration 4.
+unfoldable pub recordBytes : Record → List ℕ
+recordBytes (General c r) = framed c 0x0000 r []
+recordBytes (InitResponse c r name) = framed c 0x0002 r (bytes 2 2 ++ padded name)
+recordBytes (AliveResponse c r state x t) = framed c 0x0006 r (bytes 4 state ++ (bytes 4 x ++ timeBytes t))
+recordBytes (SpliceResponse c r x) = framed c 0x0008 r (bytes 4 x)
+recordBytes (SpliceComplete c r x flag played) = framed c 0x0009 r (bytes 4 x ++ (bytes 1 flag ++ (bytes 4 0 ++ bytes 4 played)))
+recordBytes (AbortResponse c r x) = framed c 0x000F r (bytes 4 x)
+
+-- "Every outgoing message goes directly behind the last one in the output buffer"
+unfoldable pub output : List Record → List ℕ
+output [] = []
+output (r ∷ rs) = recordBytes r ++ output rs
+
+-- ## Read back
+
+-- the first record of l: mark 0, connection 1, MessageID 2, MessageSize 4, Result 6, Result_Extension 8, data 10
+unfoldable pub recordIn : List ℕ → Record
+recordIn l =
+    let c = field 1 1 l in
+    let id = field 2 2 l in
+    let r = field 6 2 l in
+    cond (eqb id 0x0002) (InitResponse c r (nameIn (part 12 32 l)))
+    (cond (eqb id 0x0006) (AliveResponse c r (field 10 4 l) (field 14 4 l) (field 18 4 l * 1000000 + field 22 4 l))
+    (cond (eqb id 0x0008) (SpliceResponse c r (field 10 4 l))
+    (cond (eqb id 0x0009) (SpliceComplete c r (field 10 4 l) (field 14 1 l) (field 19 4 l))
+    (cond (eqb id 0x000F) (AbortResponse c r (field 10 4 l)) (General c r)))))
+
+-- the records of l, n at most
+unfoldable pub recordsUpTo : ℕ → List ℕ → List Record
+recordsUpTo zero l = []
+recordsUpTo (suc n) l =
+    let more : List Record = recordIn l ∷ recordsUpTo n (drop (10 + field 4 2 l) l) in
+    cond (eqb (length l) 0) [] more
+
+-- all of them: each takes at least one byte
+unfoldable pub recordsIn : List ℕ → List Record
+recordsIn l = recordsUpTo (length l) l

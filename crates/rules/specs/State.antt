@@ -1,0 +1,108 @@
+-- The splicer as plain lists and numbers: the sessions held, the connections, the clock (in ninths) and the ChannelName.
+use mathlib.Core.Bool.{Bool, true, false, cond, _&&_}
+use mathlib.Core.List.{List, [], _∷_, _++_}
+use Prim.Native.Nat.{ℕ, _+_, _*_}
+use lib.Dec.{eqb, ltb}
+use lib.ListN.{length, getD, set}
+use Rattle.rules.specs.declared.Session.{Session}
+use Rattle.rules.specs.Lists.{some, least}
+
+-- waiting: in order of start, the next first.
+-- started: from the highest AccessType down: the first is on air, the others are covered.
+pub record Queue : Type 0 where
+  pub waiting : List Session
+  pub started : List Session
+
+pub data Link : Type 0 where
+  closed opened initialised : Link
+
+-- name: the configured ChannelName, up to its first zero. links: of connections 0 to 3
+pub record Splicer : Type 0 where
+  pub name : List ℕ
+  pub clock : ℕ
+  pub links : List Link
+  pub queue : Queue
+
+-- ## Sessions
+
+-- what stands where no session is
+unfoldable pub empty : Session
+empty =
+    record {
+      conn = 0;
+      id = 0;
+      prior = 0;
+      start = record { 0 = 0 };
+      end = record { 0 = 0 };
+      access = 0;
+      over = 0;
+      played = record { 0 = 0 };
+    }
+
+-- s is connection c's
+abbrev pub of : ℕ → Session → Bool
+of c s = eqb c (s .conn)
+
+-- s is connection c's number x
+abbrev pub is : ℕ → ℕ → Session → Bool
+is c x s = eqb c (s .conn) && eqb x (s .id)
+
+-- s was requested behind connection c's number x
+abbrev pub follows : ℕ → ℕ → Session → Bool
+follows c x s = eqb c (s .conn) && eqb x (s .prior)
+
+abbrev pub startsAt : ℕ → Session → Bool
+startsAt t s = eqb t (s .start .0)
+
+abbrev pub startsAfter : ℕ → Session → Bool
+startsAfter t s = ltb t (s .start .0)
+
+abbrev pub endsAt : ℕ → Session → Bool
+endsAt t s = eqb t (s .end .0)
+
+-- "Held means waiting, on air or covered."
+abbrev pub held : Queue → List Session
+held q = q .waiting ++ q .started
+
+abbrev pub holds : ℕ → ℕ → Queue → Bool
+holds c x q = some (is c x) (held q)
+
+-- the next start or end, or `none`
+unfoldable pub due : ℕ → Queue → ℕ
+due none q = least (least none (λ s. s .end .0) (q .started)) (λ s. s .start .0) (q .waiting)
+
+-- the starts and ends that are still to come
+abbrev pub toCome : Queue → ℕ
+toCome q = 2 * length (q .waiting) + length (q .started)
+
+-- ## Connections
+
+abbrev pub linkOf : ℕ → Splicer → Link
+linkOf c s = getD (s .links) c closed
+
+abbrev pub isOpen : Link → Bool
+isOpen closed = false
+isOpen opened = true
+isOpen initialised = true
+
+abbrev pub isInitialised : Link → Bool
+isInitialised closed = false
+isInitialised opened = false
+isInitialised initialised = true
+
+-- ## The state with one part made anew
+
+abbrev pub withQueue : Queue → Splicer → Splicer
+withQueue q s = record { name = s .name; clock = s .clock; links = s .links; queue = q }
+
+abbrev pub withLink : ℕ → Link → Splicer → Splicer
+withLink c l s = record { name = s .name; clock = s .clock; links = set (s .links) c l; queue = s .queue }
+
+abbrev pub withClock : ℕ → Splicer → Splicer
+withClock t s = record { name = s .name; clock = t; links = s .links; queue = s .queue }
+
+abbrev pub withWaiting : List Session → Queue → Queue
+withWaiting w q = record { waiting = w; started = q .started }
+
+abbrev pub withStarted : List Session → Queue → Queue
+withStarted k q = record { waiting = q .waiting; started = k }

@@ -1,0 +1,24 @@
+-- 01, Bytes: "A wire time counts microseconds and a Duration counts 90 kHz ticks, and one becomes the other only here:
+-- in ninths of a microsecond, a second is 9,000,000, a microsecond 9, a tick 100. The clock and all instants are kept in ninths."
+use Prim.Native.Nat.{ℕ, _+_, _*_, _/_}
+use Rattle.rules.specs.declared.Micros.{Micros}
+use Rattle.rules.specs.declared.Ticks.{Ticks}
+use Rattle.rules.specs.declared.Ninths.{Ninths}
+
+-- the time that Seconds and MicroSeconds of the wire give
+abbrev pub timeOf : ℕ → ℕ → Micros
+timeOf seconds micros = record { 0 = seconds * 1000000 + micros }
+
+abbrev pub fromMicros : Micros → Ninths
+fromMicros m = record { 0 = m .0 * 9 }
+
+abbrev pub fromTicks : Ticks → Ninths
+fromTicks d = record { 0 = d .0 * 100 }
+
+-- rounded down
+abbrev pub toMicros : Ninths → Micros
+toMicros n = record { 0 = n .0 / 9 }
+
+-- rounded down
+abbrev pub toTicks : Ninths → Ticks
+toTicks n = record { 0 = n .0 / 100 }

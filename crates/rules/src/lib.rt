@@ -1,0 +1,68 @@
+// The types that code and definitions share: units, a parsed message, a session, a refusal.
+// The rules of document 01 stand in specs/; this file only declares what they speak of.
+
+// A wire time counts microseconds.
+pub struct Micros(pub u64);
+
+// A Duration counts 90 kHz ticks.
+pub struct Ticks(pub u32);
+
+// The clock and all instants are kept in ninths of a microsecond.
+pub struct Ninths(pub u64);
+
+// A Splice_Request's start is either timed or linked (by the PriorSession).
+pub enum Start {
+    Timed(Micros),
+    Linked(u32),
+}
+
+// What is read of a Splice_Request. With ServiceID 0xFFFF the last three are not read, and are 0.
+pub struct Request {
+    pub id: u32,
+    pub start: Start,
+    pub service: u16,
+    pub duration: Ticks,
+    pub access: u8,
+    pub over: u8,
+}
+
+// A parsed message is one of its kinds. Init holds the Revision_Num; its names stay in the message's data.
+pub enum Message {
+    Init(u16),
+    Alive,
+    Splice(Request),
+    Abort(u32),
+    Unreadable,
+}
+
+// A session that is held: its connection, SessionID and PriorSession (0xFFFFFFFF if timed), start and end,
+// AccessType, OverridePlaying, and its time on air.
+pub struct Session {
+    pub conn: u64,
+    pub id: u64,
+    pub prior: u64,
+    pub start: Ninths,
+    pub end: Ninths,
+    pub access: u64,
+    pub over: u64,
+    pub played: Ninths,
+}
+
+// The refusals of document 01's table; `houseNumber` of specs/Calls gives each its number.
+pub enum Refusal {
+    Connection,
+    Buffer,
+    Clock,
+    Oversize,
+    Short,
+    AlreadyOpen,
+    NotOpen,
+    MicroSeconds,
+    Name,
+}
+
+// The first message of what was read: its MessageID and MessageSize, or why it cannot be taken yet.
+pub enum Framing {
+    Framed(u16, u16),
+    Unframed(Refusal),
+}

@@ -1,0 +1,334 @@
+//! The table of branches: how often each branch of each rule was taken, and the floor that
+//! the generated streams must reach. A floor of 0 marks a branch that the card program cannot
+//! reach (it always lends a large enough buffer and whole messages); the unit tests take it.
+
+use std::collections::{BTreeMap, BTreeSet};
+
+pub const FULL_BY_20: [&str; 4] = [
+    "Splice e 114 by 20, connection 0",
+    "Splice e 114 by 20, connection 1",
+    "Splice e 114 by 20, connection 2",
+    "Splice e 114 by 20, connection 3",
+];
+pub const FULL_BY_64: [&str; 4] = [
+    "Splice e 114 by the sum 64, connection 0",
+    "Splice e 114 by the sum 64, connection 1",
+    "Splice e 114 by the sum 64, connection 2",
+    "Splice e 114 by the sum 64, connection 3",
+];
+pub const RESERVED: [&str; 4] = [
+    "Splice e reserved place at the sum 64, connection 0",
+    "Splice e reserved place at the sum 64, connection 1",
+    "Splice e reserved place at the sum 64, connection 2",
+    "Splice e reserved place at the sum 64, connection 3",
+];
+pub const ACCEPTED: [&str; 4] = [
+    "Splice f 100 on connection 0",
+    "Splice f 100 on connection 1",
+    "Splice f 100 on connection 2",
+    "Splice f 100 on connection 3",
+];
+pub const EVICTED_FOLLOWERS: [&str; 3] = [
+    "eviction with no follower",
+    "eviction with one follower",
+    "eviction with two followers or more",
+];
+pub const FAILED_FOLLOWERS: [&str; 3] = [
+    "failed start with no follower",
+    "failed start with one follower",
+    "failed start with two followers or more",
+];
+pub const ON_AIR_FOLLOWERS: [&str; 3] = [
+    "Abort on air with no follower",
+    "Abort on air with one follower",
+    "Abort on air with two followers or more",
+];
+pub const COVERED_FOLLOWERS: [&str; 3] = [
+    "Abort covered with no follower",
+    "Abort covered with one follower",
+    "Abort covered with two followers or more",
+];
+pub const WAITING_FOLLOWERS: [&str; 3] = [
+    "Abort waiting with no follower",
+    "Abort waiting with one follower",
+    "Abort waiting with two followers or more",
+];
+pub const DEPTH: [&str; 10] = [
+    "stack 1 deep",
+    "stack 2 deep",
+    "stack 3 deep",
+    "stack 4 deep",
+    "stack 5 deep",
+    "stack 6 deep",
+    "stack 7 deep",
+    "stack 8 deep",
+    "stack 9 deep",
+    "stack 10 deep",
+];
+
+/// Branches outside the lists above, with their floors for a run of 200 streams.
+const OTHERS: &[(&str, u64)] = &[
+    ("fresh good", 100),
+    ("fresh 9 name without a zero byte", 0),
+    ("open good", 1000),
+    ("open 1 connection above 3", 20),
+    ("open 6 already open", 20),
+    ("close good", 1000),
+    ("close 1 connection above 3", 20),
+    ("close 2 output buffer too small", 0),
+    ("close 7 not open", 10),
+    ("message 1 connection above 3", 30),
+    ("message 2 output buffer too small", 0),
+    ("message 7 not open", 20),
+    ("message 5 header cut", 0),
+    ("message 4 MessageSize above 4,088", 6),
+    ("message 5 body cut", 0),
+    ("message good with MessageSize 4,088", 100),
+    ("tick 2 output buffer too small", 0),
+    ("tick 8 MicroSeconds above 999,999", 20),
+    ("tick 3 earlier than the clock", 20),
+    ("tick to the present time", 700),
+    ("tick exactly on an instant", 2000),
+    ("tick just before an instant", 1000),
+    ("tick just after an instant", 1000),
+    ("tick to the top of the range", 100),
+    ("tick over no instant", 3000),
+    ("tick over one instant", 3000),
+    ("tick over 2 to 9 instants", 2000),
+    ("tick over 10 to 99 instants", 300),
+    ("tick over 100 instants or more", 80),
+    ("answer 1 ID 0 before Init", 7),
+    ("answer 1 ID 0 after Init", 20),
+    ("answer 2 not initialised 103", 200),
+    ("answer 2 ID 0x000D before Init 103", 7),
+    ("answer 3 ID 0x000D after Init", 20),
+    ("answer 4 unknown ID 120", 100),
+    ("123 Init below 66 bytes", 50),
+    ("123 Init ChannelName without a zero", 30),
+    ("123 Init SplicerName without a zero", 20),
+    ("123 Alive below 8 bytes", 70),
+    ("123 Alive above 8 bytes", 50),
+    ("123 Abort below 4 bytes", 60),
+    ("123 Abort above 4 bytes", 60),
+    ("123 Splice below 18 bytes", 20),
+    ("123 Splice below 33 bytes", 30),
+    ("123 Splice Duration 0", 20),
+    ("123 Splice AccessType above 9", 40),
+    ("123 Splice OverridePlaying above 1", 10),
+    ("123 Splice ReturnToPriorChannel above 1", 20),
+    ("123 Splice timed MicroSeconds above 999,999", 40),
+    ("123 Splice descriptor without a length", 8),
+    ("123 Splice descriptor length below 4", 10),
+    ("123 Splice descriptor length 255", 10),
+    ("123 Splice descriptor beyond the message", 50),
+    ("read Init of 66 bytes", 300),
+    ("read Init ChannelName with a last zero", 10),
+    ("read Init SplicerName with a last zero", 10),
+    ("read Splice of 18 bytes, ServiceID 0xFFFF", 3),
+    ("read Splice of other sizes, ServiceID 0xFFFF", 20),
+    ("read Splice of 33 bytes", 20000),
+    ("read Splice with descriptors", 10000),
+    ("read Splice descriptor length 4", 6000),
+    ("read Splice descriptor length 254", 3000),
+    ("read Splice AccessType 9", 3000),
+    ("read Splice with both flags 1", 10000),
+    ("read Splice timed MicroSeconds 999,999", 400),
+    ("read Splice linked MicroSeconds above 999,999", 2000),
+    ("Init 100", 1000),
+    ("Init 100 when initialised", 80),
+    ("Init 102", 6),
+    ("Init 102 when initialised", 40),
+    ("Init 104", 10),
+    ("Init 104 when initialised", 80),
+    ("Init name with other bytes behind its end", 600),
+    ("Alive 1 nothing on air", 800),
+    ("Alive 2 on air of its own", 300),
+    ("Alive 2 on air of another", 300),
+    ("Abort 121 not held", 90),
+    ("Abort 121 held by another connection only", 20),
+    ("Abort of the one on air", 400),
+    ("Abort of a covered one", 400),
+    ("Abort of a waiting one", 300),
+    (
+        "Abort of a reused number that a started PriorSession names",
+        90,
+    ),
+    ("Splice a 110", 20),
+    ("Splice b 121 SessionID 0xFFFFFFFF", 10),
+    ("Splice b 121 SessionID waiting", 90),
+    ("Splice b 121 SessionID on air", 70),
+    ("Splice b 121 SessionID covered", 70),
+    ("Splice b SessionID held by another connection only", 4000),
+    ("Splice b 121 PriorSession not held", 90),
+    (
+        "Splice b 121 PriorSession held by another connection only",
+        80,
+    ),
+    ("Splice c linked, less than 3 s ahead", 1000),
+    ("Splice c exactly 3 s", 400),
+    ("Splice c 112 before the clock", 70),
+    ("Splice c 112 one microsecond short", 60),
+    ("Splice c 112", 500),
+    ("Splice d 109 same AccessType, own connection", 500),
+    ("Splice d 109 higher AccessType, own connection", 600),
+    ("Splice d 109 same AccessType, another connection", 400),
+    ("Splice d 109 higher AccessType, another connection", 800),
+    ("Splice d 109 for a linked request", 600),
+    ("Splice e 114 by the sum 64 with exactly 10 of its own", 50),
+    ("Splice e 20th waiting accepted", 400),
+    ("Splice e sum 63 accepted", 80),
+    ("Splice e 114 though an eviction would make room", 80),
+    ("Splice f 100 timed", 20000),
+    ("Splice f 100 linked to a waiting one", 9000),
+    ("Splice f 100 linked to the one on air", 200),
+    ("Splice f 100 linked to a covered one", 200),
+    ("Splice f SessionID used before on this connection", 10000),
+    ("Splice f Duration 1", 900),
+    ("Splice f Duration 0xFFFFFFFF", 100),
+    ("Splice f start at the top of the range", 10),
+    ("Splice f starts a ninth apart", 100),
+    (
+        "Splice f reused number that a started PriorSession names",
+        200,
+    ),
+    ("Splice f evicts its own", 500),
+    ("Splice f evicts another's", 700),
+    ("start with nothing on air", 10000),
+    ("start overrides a lower one", 3000),
+    ("start fails, same AccessType with override", 300),
+    ("start fails, lower AccessType with override", 1000),
+    ("start fails, higher AccessType, no override", 500),
+    ("start fails, not higher, no override", 1000),
+    ("start against one on air again at the same instant", 200),
+    ("end on air 100", 10000),
+    ("end on air after a time covered", 700),
+    ("PlayedDuration rounded down", 300),
+    ("end covered 125", 1000),
+    ("instant with two ends", 200),
+    ("instant with three ends or more", 100),
+    ("instant with one end and a start", 3000),
+    ("instant with several ends and a start", 200),
+    ("on air again", 1000),
+    ("on air again, past one ending at the same instant", 10),
+    ("on air again after an abort", 100),
+    ("on air again after a close", 40),
+    ("Close with nothing started", 700),
+    ("Close with the one on air", 200),
+    ("Close with covered ones only", 50),
+    ("Close with on air and covered", 30),
+    ("Close with none waiting", 600),
+    ("Close with one waiting", 100),
+    ("Close with 2 to 9 waiting", 100),
+    ("Close with 10 waiting or more", 30),
+    ("card stops at the end of the input", 20),
+    ("card stops at a cut record", 30),
+    ("card stops at another mark", 4),
+    ("card stops at a MessageSize above 4,088", 10),
+    ("card stops at a MessageSize above 4,088 with refusal 1", 1),
+    ("card stops at a MessageSize above 4,088 with refusal 4", 6),
+    ("card stops at a MessageSize above 4,088 with refusal 7", 2),
+];
+
+/// The lists above with one floor for all of a list.
+const LISTS: &[(&[&str], u64)] = &[
+    (&FULL_BY_20, 100),
+    (&FULL_BY_64, 70),
+    (&RESERVED, 90),
+    (&ACCEPTED, 7000),
+    (&EVICTED_FOLLOWERS, 100),
+    (&FAILED_FOLLOWERS, 600),
+    (&ON_AIR_FOLLOWERS, 60),
+    (&COVERED_FOLLOWERS, 20),
+    (&WAITING_FOLLOWERS, 90),
+    (&DEPTH, 100),
+];
+
+/// How often each branch was taken.
+#[derive(Clone, Debug)]
+pub struct Counts {
+    hits: BTreeMap<&'static str, u64>,
+    /// The numbers accepted so far, only to count those used again.
+    accepted: BTreeSet<(u8, u32)>,
+}
+
+/// Every branch with its floor, in the order of the table.
+pub fn floors() -> Vec<(&'static str, u64)> {
+    let mut all = OTHERS.to_vec();
+    for (names, floor) in LISTS {
+        all.extend(names.iter().map(|name| (*name, *floor)));
+    }
+    all
+}
+
+impl Counts {
+    pub fn new() -> Counts {
+        Counts {
+            hits: floors().into_iter().map(|(name, _)| (name, 0)).collect(),
+            accepted: BTreeSet::new(),
+        }
+    }
+
+    /// One more for this branch. A name outside the table is a mistake in this program.
+    pub fn hit(&mut self, branch: &'static str) {
+        let place = self.hits.get_mut(branch);
+        *place.unwrap_or_else(|| panic!("branch not in the table: {branch}")) += 1;
+    }
+
+    pub fn accepted(&mut self, conn: u8, id: u32) {
+        self.hit(ACCEPTED[conn as usize]);
+        if !self.accepted.insert((conn, id)) {
+            self.hit("Splice f SessionID used before on this connection");
+        }
+    }
+
+    pub fn of(&self, branch: &str) -> u64 {
+        self.hits.get(branch).copied().unwrap_or(0)
+    }
+
+    pub fn add(&mut self, other: &Counts) {
+        for (name, hits) in &other.hits {
+            *self.hits.entry(name).or_insert(0) += hits;
+        }
+    }
+
+    /// The branches below their floors.
+    pub fn missing(&self) -> Vec<String> {
+        let low = |(name, floor): &(&str, u64)| self.of(name) < *floor;
+        let line = |(name, floor): (&str, u64)| format!("{name}: {} of {floor}", self.of(name));
+        floors().into_iter().filter(low).map(line).collect()
+    }
+
+    /// The whole table: hits, floor, name.
+    pub fn table(&self) -> String {
+        let line =
+            |(name, floor): (&str, u64)| format!("{:>9} {:>6}  {name}\n", self.of(name), floor);
+        let lines: String = floors().into_iter().map(line).collect();
+        format!("     hits  floor  branch\n{lines}")
+    }
+}
+
+#[cfg(test)]
+mod tests {
+    use super::*;
+
+    #[test]
+    fn every_branch_has_one_line() {
+        let all = floors();
+        let counts = Counts::new();
+        assert_eq!(counts.hits.len(), all.len());
+    }
+
+    #[test]
+    fn a_branch_below_its_floor_is_missing() {
+        let mut counts = Counts::new();
+        let low = |counts: &Counts| {
+            let lines = counts.missing();
+            lines.iter().any(|l| l.starts_with("fresh good: "))
+        };
+        assert!(low(&counts));
+        for _ in 0..200 {
+            counts.hit("fresh good");
+        }
+        assert!(!low(&counts));
+    }
+}

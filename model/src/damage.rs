@@ -1,0 +1,271 @@
+//! Damaged, cut, padded and unknown messages, each "Not readable" case of 01 on both sides of
+//! its boundary, and the tails at which the card program stops.
+
+use crate::card::Call;
+use crate::gen::{Gen, TOP};
+use crate::rules::NONE;
+
+/// The data of an Init_Request that may be wrong in one way.
+pub fn init(gen: &mut Gen) {
+    let conn = maybe_uninitialised(gen);
+    let mut data = gen.good_init();
+    match gen.rng.below(12) {
+        0 => data.truncate(65),
+        1 => data.truncate(66),
+        2 => data[2..34].fill(0x43),
+        3 => data[34..66].fill(0x43),
+        4 => data[34..65].fill(0x43),
+        5 => data[..2].copy_from_slice(&gen.rng.pick(&[[0, 0], [0, 1], [0, 3], [2, 0], [2, 2]])),
+        6 => data[2] = gen.rng.pick(&[0, b'c', b'D']),
+        7 => data[5] = b'1',
+        8 => data[4] = 0,
+        9 => data[2..33].fill(0x43),
+        10 => data.truncate(gen.rng.below(66) as usize),
+        _ => {
+            // Two at once: the version is looked at first, the reading before it.
+            data[1] = 3;
+            data[2] = b'X';
+        }
+    }
+    gen.send(conn, 0x0001, data);
+}
+
+/// A connection; at times one that is open and not initialised.
+fn maybe_uninitialised(gen: &mut Gen) -> u8 {
+    let conn = gen.conn();
+    if gen.rng.chance(15) {
+        gen.call(Call::Close(conn));
+        gen.call(Call::Open(conn));
+    }
+    conn
+}
+
+pub fn alive_and_abort(gen: &mut Gen) {
+    let conn = maybe_uninitialised(gen);
+    if gen.rng.chance(50) {
+        let size = gen.rng.pick(&[0, 1, 7, 7, 8, 9, 9, 16]);
+        gen.send(conn, 0x0005, vec![0; size]);
+    } else {
+        let all = [crate::rules::State::Waiting, crate::rules::State::OnAir];
+        let id = gen.some(Some(conn), &all).map_or(1, |s| s.id);
+        let mut data = id.to_be_bytes().to_vec();
+        let size = gen.rng.pick(&[0, 3, 3, 5, 5, 8]);
+        data.resize(size, 0);
+        gen.send(conn, 0x000E, data);
+    }
+}
+
+/// A Splice_Request that would be accepted, but for one change on either side of a boundary.
+pub fn splice(gen: &mut Gen) {
+    let conn = maybe_uninitialised(gen);
+    let units = gen.rng.between(0, 60);
+    let at = gen.ahead(units);
+    let ask = gen.timed(conn, at);
+    let mut data = gen.splice_data(&ask);
+    data.truncate(33);
+    let long = gen.rng.chance(50);
+    match gen.rng.below(14) {
+        0 => data.truncate(gen.rng.pick(&[0, 16, 17, 17, 18])),
+        1 => data.truncate(gen.rng.pick(&[18, 31, 32, 32, 33])),
+        2 => data[18..22].fill(0),
+        3 => data[30] = gen.rng.pick(&[9, 10, 10, 255]),
+        4 => data[31] = gen.rng.pick(&[1, 2, 2, 255]),
+        5 => data[32] = gen.rng.pick(&[1, 2, 2, 255]),
+        6 | 7 => micros(gen, &mut data),
+        8 => linked_micros(gen, conn, &mut data),
+        9 => separate_pids(gen, &mut data),
+        10 => {
+            // Two things wrong at once.
+            data[30] = 10;
+            data[31] = 2;
+        }
+        _ => data.extend(descriptors(gen, long)),
+    }
+    gen.send(conn, 0x0007, data);
+}
+
+fn micros(gen: &mut Gen, data: &mut [u8]) {
+    let value: u32 = gen.rng.pick(&[999_999, 1_000_000, 1_000_000, NONE]);
+    data[12..16].copy_from_slice(&value.to_be_bytes());
+}
+
+/// MicroSeconds above 999,999 in a linked request: readable.
+fn linked_micros(gen: &mut Gen, conn: u8, data: &mut [u8]) {
+    micros(gen, data);
+    let all = [crate::rules::State::Waiting, crate::rules::State::OnAir];
+    let prior = gen.some(Some(conn), &all).map_or(1, |s| s.id);
+    data[4..8].copy_from_slice(&prior.to_be_bytes());
+}
+
+/// ServiceID 0xFFFF: only the first 18 bytes are read.
+fn separate_pids(gen: &mut Gen, data: &mut Vec<u8>) {
+    data[16..18].fill(0xFF);
+    match gen.rng.below(5) {
+        0 => data.truncate(18),
+        1 => data.truncate(32),
+        2 => data[12..].fill(0xFF),
+        3 => data[0..4].fill(0xFF),
+        _ => data.extend([1, 2, 3]),
+    }
+}
+
+/// Descriptors, well-formed or not, at the boundaries 3, 4, 254 and 255.
+fn descriptors(gen: &mut Gen, long: bool) -> Vec<u8> {
+    let mut bytes = Vec::new();
+    for _ in 0..gen.rng.below(3) {
+        let length = gen.rng.pick(&[4, 5, 254]);
+        bytes.extend(gen.descriptor(length));
+    }
+    let last = match (long, gen.rng.below(5)) {
+        (true, 0..=1) => gen.descriptor(255),
+        (true, 2) => gen.descriptor(254),
+        (true, _) => {
+            let mut cut = gen.descriptor(254);
+            cut.pop();
+            cut
+        }
+        (false, 0) => gen.descriptor(3),
+        (false, 1) => gen.descriptor(4),
+        (false, 2) => vec![gen.rng.next() as u8],
+        (false, 3) => {
+            let mut cut = gen.descriptor(4);
+            cut.pop();
+            cut
+        }
+        _ => {
+            let length = gen.rng.below(4) as u8;
+            gen.descriptor(length)
+        }
+    };
+    bytes.extend(last);
+    bytes
+}
+
+/// IDs outside the list of four, before and after Init.
+pub fn unknown(gen: &mut Gen) {
+    let conn = gen.conn();
+    if gen.rng.chance(30) {
+        gen.call(Call::Close(conn));
+        gen.call(Call::Open(conn));
+    }
+    let ids = [
+        0x0000, 0x0000, 0x000D, 0x000D, 0x0002, 0x0003, 0x0004, 0x0006, 0x0008, 0x0009, 0x000A,
+        0x000B, 0x000C, 0x000F, 0x0010, 0x0011, 0x0012, 0x0100, 0x0700, 0x7FFF, 0x8000, 0xFFFF,
+    ];
+    let id = gen.rng.pick(&ids);
+    let size = gen.rng.pick(&[0, 0, 4, 8, 33, 66]);
+    gen.send(conn, id, vec![0; size]);
+    if id == 0 && gen.rng.chance(50) {
+        gen.alive(conn);
+    }
+}
+
+/// Messages, opens and closes that are refused.
+pub fn refused(gen: &mut Gen) {
+    let above = gen.rng.pick(&[4, 5, 128, 255]);
+    let conn = gen.rng.below(4) as u8;
+    match gen.rng.below(8) {
+        0 => gen.call(Call::Open(above)),
+        1 => gen.call(Call::Close(above)),
+        2 => gen.alive(above),
+        3 => {
+            gen.ready(conn);
+            gen.call(Call::Open(conn));
+        }
+        4 => {
+            let micros = gen.rng.pick(&[1_000_000, 1_000_001, NONE]);
+            let seconds = gen.seconds() as u32;
+            let other = gen.rng.pick(&[seconds, 0, NONE]);
+            gen.call(Call::Tick(other, micros));
+        }
+        5 => {
+            let back = gen.rng.pick(&[1, 1, 1_000_000, 5_000_000]);
+            let now = gen.now();
+            gen.tick_to(now.saturating_sub(back));
+        }
+        6 => {
+            let now = gen.now();
+            gen.tick_to(now);
+        }
+        _ => closed(gen, conn),
+    }
+}
+
+/// Calls on a closed connection.
+fn closed(gen: &mut Gen, conn: u8) {
+    if gen.model.open[conn as usize] {
+        gen.call(Call::Close(conn));
+    }
+    match gen.rng.below(3) {
+        0 => gen.call(Call::Close(conn)),
+        1 => gen.alive(conn),
+        _ => {
+            let data = gen.good_init();
+            gen.send(conn, 0x0001, data);
+        }
+    }
+    gen.ready(conn);
+}
+
+/// MessageSize 4,088: 33 bytes, fifteen descriptors of 256 bytes and one of 215.
+pub fn largest(gen: &mut Gen) {
+    let conn = gen.conn();
+    let at = gen.ahead(20);
+    let ask = gen.timed(conn, at);
+    let mut data = gen.splice_data(&ask);
+    data.truncate(33);
+    for _ in 0..15 {
+        data.extend(gen.descriptor(254));
+    }
+    data.extend(gen.descriptor(213));
+    match gen.rng.below(4) {
+        0 => data[4_088 - 214] += 1,
+        1 => {
+            let mut init = gen.good_init();
+            init.resize(4_088, 7);
+            return gen.send(conn, 0x0001, init);
+        }
+        _ => {}
+    }
+    gen.send(conn, 0x0007, data);
+}
+
+/// The end of a stream: nothing, a cut record, another mark or a large MessageSize, and calls
+/// behind it that must not be made.
+pub fn tail(gen: &mut Gen) {
+    let behind = [0x43, 0, 0x43, 1, 0x43, 2, 0x43, 3, 0x4F, 0];
+    match gen.rng.below(10) {
+        0..=2 => {}
+        3 => {
+            let mark = gen.rng.pick(&[0x00, 0x45, 0x52, 0x6D, 0xFF]);
+            gen.bytes.push(mark);
+            gen.bytes.extend(behind);
+        }
+        4 => {
+            let mark = gen.rng.pick(&[0x4F, 0x43, 0x4D, 0x54]);
+            gen.bytes.push(mark);
+        }
+        5 => {
+            let time = (TOP / 1_000_000) as u32;
+            let whole = [&[0x54, 0x00], &time.to_be_bytes()[..], &[0; 4]].concat();
+            let length = gen.rng.between(2, 9) as usize;
+            gen.bytes.extend(&whole[..length]);
+        }
+        6 | 7 => {
+            let whole = [0x4D, 0, 0, 5, 0, 8, 0, 0, 0, 0, 0, 0, 0, 0, 0, 0, 0, 0];
+            let length = gen.rng.between(2, 17) as usize;
+            gen.bytes.extend(&whole[..length]);
+        }
+        _ => {
+            let conn = gen.rng.pick(&[0, 1, 2, 3, 0, 1, 4, 255]);
+            if conn < 4 && gen.model.open[conn as usize] && gen.rng.chance(30) {
+                gen.call(Call::Close(conn));
+            }
+            let size: u16 = gen.rng.pick(&[4_089, 4_089, 4_096, 0xFFFF]);
+            gen.bytes.extend([0x4D, conn, 0, 1]);
+            gen.bytes.extend(size.to_be_bytes());
+            gen.bytes.extend([0xFF; 4]);
+            gen.bytes.extend(behind);
+        }
+    }
+}

@@ -1,0 +1,418 @@
+//! Starts, ends and followers: 01's "Instants" and what follows it.
+
+use crate::counts;
+use crate::records::{Record, What};
+use crate::rules::{Session, Splicer, State, MICROSECOND, TICK};
+
+impl Splicer {
+    /// "A tick works through every start and end not later than its time, in order of time."
+    pub fn work_through(&mut self, until: u64, out: &mut Vec<Record>) {
+        self.count_tick(until);
+        let mut instants = 0;
+        while let Some(time) = self.next_instant(until) {
+            instants += 1;
+            self.instant(time, out);
+        }
+        self.hit(match instants {
+            0 => "tick over no instant",
+            1 => "tick over one instant",
+            2..=9 => "tick over 2 to 9 instants",
+            10..=99 => "tick over 10 to 99 instants",
+            _ => "tick over 100 instants or more",
+        });
+    }
+
+    /// The earliest start of a waiting session or end of a started one, not later than `until`.
+    pub fn next_instant(&self, until: u64) -> Option<u64> {
+        let times = self.sessions.iter().map(|s| match s.state {
+            State::Waiting => s.start,
+            _ => s.end,
+        });
+        let due = |t: &u64| *t < until || (*t == until && self.fault != 39);
+        times.filter(due).min()
+    }
+
+    /// "At one instant, ends come first, from the highest AccessType down, then the one
+    /// possible start."
+    fn instant(&mut self, time: u64, out: &mut Vec<Record>) {
+        let starting = |s: &&Session| s.state == State::Waiting && s.start == time;
+        let start = self.sessions.iter().find(starting).cloned();
+        if self.fault == 6 {
+            if let Some(session) = start {
+                self.start(&session, time, out);
+            }
+            self.ends(time, out);
+            return;
+        }
+        let ended = self.ends(time, out);
+        if start.is_some() {
+            match ended {
+                0 => {}
+                1 => self.hit("instant with one end and a start"),
+                _ => self.hit("instant with several ends and a start"),
+            }
+        }
+        if let Some(session) = start {
+            self.start(&session, time, out);
+        }
+    }
+
+    /// The ends of one instant; gives their number.
+    fn ends(&mut self, time: u64, out: &mut Vec<Record>) -> usize {
+        let ends_now = |s: &Session| s.state != State::Waiting && s.end == time;
+        let all = self.sessions.iter().filter(|s| ends_now(s));
+        let mut ending: Vec<Session> = all.cloned().collect();
+        // "from the highest AccessType down"
+        ending.sort_by_key(|s| s.access);
+        if self.fault != 1 {
+            ending.reverse();
+        }
+        for session in &ending {
+            self.end(session, time, out);
+        }
+        let covered = |s: &&Session| s.state == State::Covered;
+        let highest = self
+            .sessions
+            .iter()
+            .filter(covered)
+            .max_by_key(|s| s.access);
+        let skipped = highest.is_some_and(ends_now);
+        self.sessions.retain(|s| !ends_now(s));
+        // "the highest covered session not ending at that instant is on air again"
+        if self.on_air_again(time) && skipped {
+            self.hit("on air again, past one ending at the same instant");
+        }
+        match ending.len() {
+            0 | 1 => {}
+            2 => self.hit("instant with two ends"),
+            _ => self.hit("instant with three ends or more"),
+        }
+        ending.len()
+    }
+
+    /// "End: SpliceComplete flag 1; result 100 if it was on air just before the instant, 125
+    /// if covered."
+    fn end(&mut self, session: &Session, time: u64, out: &mut Vec<Record>) {
+        let result = match session.state {
+            State::OnAir => 100,
+            _ if self.fault == 12 => 100,
+            _ => 125,
+        };
+        self.hit(["end covered 125", "end on air 100"][(result == 100) as usize]);
+        if session.state == State::OnAir && session.played > 0 {
+            self.hit("end on air after a time covered");
+        }
+        let played = self.played(session, time);
+        self.complete(session, result, 1, played, out);
+    }
+
+    /// "When the one on air ends, the highest covered session [...] is on air again, without a
+    /// message. A covered session's end time doesn't move."
+    fn on_air_again(&mut self, time: u64) -> bool {
+        if self.on_air().is_some() || self.fault == 13 {
+            return false;
+        }
+        let lowest = self.fault == 33;
+        let covered = |s: &&mut Session| s.state == State::Covered;
+        let rank = |s: &&mut Session| if lowest { 9 - s.access } else { s.access };
+        let Some(session) = self.sessions.iter_mut().filter(covered).max_by_key(rank) else {
+            return false;
+        };
+        session.state = State::OnAir;
+        if self.fault == 44 {
+            session.end += time - session.since;
+        }
+        session.since = time;
+        self.hit("on air again");
+        true
+    }
+
+    /// "PlayedDuration is time on air only, summed in ninths, divided by 100, rounded down."
+    fn played(&mut self, session: &Session, time: u64) -> u32 {
+        let mut sum = session.played;
+        if session.state == State::OnAir {
+            sum += time - session.since;
+        }
+        if self.fault == 5 {
+            sum = sum / MICROSECOND * MICROSECOND;
+        }
+        if self.fault == 28 {
+            sum = time - session.start;
+        }
+        if !sum.is_multiple_of(TICK) {
+            self.hit("PlayedDuration rounded down");
+        }
+        (sum / TICK) as u32
+    }
+
+    /// "Start: with nothing on air, or with OverridePlaying 1 and AccessType higher than the
+    /// one on air (which becomes covered), write SpliceComplete flag 0, result 100,
+    /// PlayedDuration 0, and go on air. Otherwise it fails: SpliceComplete flag 0, result 109,
+    /// PlayedDuration 0, and its waiting followers end."
+    fn start(&mut self, session: &Session, time: u64, out: &mut Vec<Record>) {
+        if self.on_air().is_some_and(|s| s.since == time) {
+            self.hit("start against one on air again at the same instant");
+        }
+        if !self.may_start(session) {
+            self.complete(session, 109, 0, 0, out);
+            self.remove(session);
+            if self.fault != 41 {
+                let ended = self.end_followers(session, 109, out);
+                self.hit(counts::FAILED_FOLLOWERS[ended.min(2)]);
+            }
+            return;
+        }
+        for other in &mut self.sessions {
+            if other.state == State::OnAir {
+                other.played += time - other.since;
+                other.since = time;
+                other.state = State::Covered;
+            }
+            if other.conn == session.conn && other.id == session.id {
+                other.state = State::OnAir;
+                other.since = time;
+            }
+        }
+        self.complete(session, 100, 0, 0, out);
+        let started = |s: &&Session| s.state != State::Waiting;
+        let depth = self.sessions.iter().filter(started).count();
+        self.hit(counts::DEPTH[depth.clamp(1, 10) - 1]);
+    }
+
+    fn may_start(&mut self, session: &Session) -> bool {
+        let Some(access) = self.on_air().map(|s| s.access) else {
+            self.hit("start with nothing on air");
+            return true;
+        };
+        let higher = session.access > access || (self.fault == 4 && session.access == access);
+        let branch = match (session.overrides, session.access.cmp(&access)) {
+            (true, std::cmp::Ordering::Greater) => "start overrides a lower one",
+            (true, std::cmp::Ordering::Equal) => "start fails, same AccessType with override",
+            (true, std::cmp::Ordering::Less) => "start fails, lower AccessType with override",
+            (false, std::cmp::Ordering::Greater) => "start fails, higher AccessType, no override",
+            (false, _) => "start fails, not higher, no override",
+        };
+        self.hit(branch);
+        session.overrides && higher
+    }
+
+    /// "Bitrate 4 (always 0 here)".
+    fn complete(&self, s: &Session, result: u16, flag: u8, played: u32, out: &mut Vec<Record>) {
+        let what = What::Complete {
+            result,
+            id: s.id,
+            flag,
+            bitrate: 0,
+            played,
+        };
+        // "a session's record: the one that requested it"
+        out.push(Record { conn: s.conn, what });
+    }
+
+    fn splice_response(&self, s: &Session, result: u16, out: &mut Vec<Record>) {
+        let what = What::Splice { result, id: s.id };
+        out.push(Record { conn: s.conn, what });
+    }
+
+    fn remove(&mut self, session: &Session) {
+        self.sessions
+            .retain(|s| !(s.conn == session.conn && s.id == session.id));
+    }
+
+    /// "Followers of a session are the waiting ones that reach it through PriorSession, link
+    /// by link and over waiting ones only, within its connection (a started session's
+    /// PriorSession no longer counts [...])". "in order of start"
+    pub fn followers(&self, of: &Session) -> Vec<Session> {
+        let mut found: Vec<Session> = Vec::new();
+        let mut seen = vec![of.id];
+        let mut next = 0;
+        while next < seen.len() {
+            for session in &self.sessions {
+                let near = session.conn == of.conn || self.fault == 20;
+                if !near || session.prior != seen[next] || seen.contains(&session.id) {
+                    continue;
+                }
+                if session.state == State::Waiting {
+                    found.push(session.clone());
+                    seen.push(session.id);
+                } else if self.fault == 21 {
+                    seen.push(session.id);
+                }
+            }
+            next += 1;
+            if self.fault == 2 {
+                break;
+            }
+        }
+        found.sort_by_key(|s| s.start);
+        if self.fault == 30 {
+            found.reverse();
+        }
+        found
+    }
+
+    /// "Followers' ends are Splice_Response 109, or 116 after an abort or close, in order of
+    /// start." Gives their number.
+    fn end_followers(&mut self, of: &Session, result: u16, out: &mut Vec<Record>) -> usize {
+        let result = if self.fault == 27 { 109 } else { result };
+        let followers = self.followers(of);
+        for follower in &followers {
+            self.splice_response(follower, result, out);
+            self.remove(follower);
+        }
+        followers.len()
+    }
+
+    /// "A waiting session with the same start [...] is evicted first: it and its waiting
+    /// followers end (109)".
+    pub fn evict(&mut self, start: u64, out: &mut Vec<Record>) {
+        let same = |s: &&Session| s.state == State::Waiting && s.start == start;
+        let Some(session) = self.sessions.iter().find(same).cloned() else {
+            return;
+        };
+        self.splice_response(&session, 109, out);
+        self.remove(&session);
+        if self.fault != 26 {
+            let ended = self.end_followers(&session, 109, out);
+            self.hit(counts::EVICTED_FOLLOWERS[ended.min(2)]);
+        }
+    }
+
+    /// "Abort: Abort_Response 121 if this connection doesn't hold the SessionID; else 100,
+    /// then the session's end and after it its followers' ends".
+    pub fn abort(&mut self, conn: u8, id: u32, out: &mut Vec<Record>) {
+        let Some(session) = self.held(conn, id).cloned() else {
+            let elsewhere = self.sessions.iter().any(|s| s.id == id);
+            let branch = [
+                "Abort 121 not held",
+                "Abort 121 held by another connection only",
+            ];
+            self.hit(branch[elsewhere as usize]);
+            let what = What::Abort { result: 121, id };
+            return out.push(Record { conn, what });
+        };
+        let what = What::Abort { result: 100, id };
+        out.push(Record { conn, what });
+        self.hit(match session.state {
+            State::OnAir => "Abort of the one on air",
+            State::Covered => "Abort of a covered one",
+            State::Waiting => "Abort of a waiting one",
+        });
+        self.count_reused(&session);
+        self.aborted_end(&session, out);
+        self.remove(&session);
+        let ended = self.end_followers(&session, 116, out);
+        self.hit(match session.state {
+            State::OnAir => counts::ON_AIR_FOLLOWERS[ended.min(2)],
+            State::Covered => counts::COVERED_FOLLOWERS[ended.min(2)],
+            State::Waiting => counts::WAITING_FOLLOWERS[ended.min(2)],
+        });
+        if self.on_air_again(self.clock) {
+            self.hit("on air again after an abort");
+        }
+    }
+
+    /// "An aborted session on air ends with SpliceComplete flag 1, result 116; a covered or
+    /// waiting one with Splice_Response 116."
+    fn aborted_end(&mut self, session: &Session, out: &mut Vec<Record>) {
+        let covered = session.state == State::Covered && self.fault == 10;
+        if session.state == State::OnAir || covered {
+            let played = self.played(session, self.clock);
+            self.complete(session, 116, 1, played, out);
+        } else {
+            self.splice_response(session, 116, out);
+        }
+    }
+
+    /// "Close ends, as by abort, the connection's started sessions from the highest AccessType
+    /// down, each by what it was before the close (on air or covered), then all its waiting
+    /// ones by start, followers among them, each once".
+    pub fn end_all_of(&mut self, conn: u8, out: &mut Vec<Record>) {
+        let of_it = |s: &&Session| s.conn == conn;
+        let mine: Vec<Session> = self.sessions.iter().filter(of_it).cloned().collect();
+        let (mut waiting, mut started): (Vec<Session>, Vec<Session>) =
+            mine.into_iter().partition(|s| s.state == State::Waiting);
+        started.sort_by_key(|s| s.access);
+        started.reverse();
+        waiting.sort_by_key(|s| s.start);
+        self.count_close(&started, &waiting);
+        if self.fault == 11 {
+            std::mem::swap(&mut started, &mut waiting);
+        }
+        for session in started.iter().chain(&waiting) {
+            let now = match self.fault {
+                36 => self
+                    .held(conn, session.id)
+                    .cloned()
+                    .unwrap_or(session.clone()),
+                _ => session.clone(),
+            };
+            self.aborted_end(&now, out);
+            self.remove(session);
+            if self.fault == 36 {
+                self.on_air_again(self.clock);
+            }
+        }
+        if self.fault != 48 && self.on_air_again(self.clock) {
+            self.hit("on air again after a close");
+        }
+    }
+
+    fn count_close(&mut self, started: &[Session], waiting: &[Session]) {
+        match started.first().map(|s| s.state) {
+            None => self.hit("Close with nothing started"),
+            Some(State::OnAir) => self.hit("Close with the one on air"),
+            Some(_) => self.hit("Close with covered ones only"),
+        }
+        if started.len() > 1 && started[0].state == State::OnAir {
+            self.hit("Close with on air and covered");
+        }
+        match waiting.len() {
+            0 => self.hit("Close with none waiting"),
+            1 => self.hit("Close with one waiting"),
+            2..=9 => self.hit("Close with 2 to 9 waiting"),
+            _ => self.hit("Close with 10 waiting or more"),
+        }
+    }
+
+    /// The number of the aborted session is also the PriorSession of a started one, which has
+    /// waiting followers of its own: they must not end.
+    fn count_reused(&mut self, session: &Session) {
+        let named = |s: &&Session| {
+            s.state != State::Waiting && s.conn == session.conn && s.prior == session.id
+        };
+        let started: Vec<Session> = self.sessions.iter().filter(named).cloned().collect();
+        if started.iter().any(|s| !self.followers(s).is_empty()) {
+            self.hit("Abort of a reused number that a started PriorSession names");
+        }
+    }
+
+    fn count_tick(&mut self, until: u64) {
+        if until == self.clock {
+            self.hit("tick to the present time");
+        }
+        let times = self.sessions.iter().map(|s| match s.state {
+            State::Waiting => s.start,
+            _ => s.end,
+        });
+        let times: Vec<u64> = times.collect();
+        if times.contains(&until) {
+            self.hit("tick exactly on an instant");
+        }
+        if times
+            .iter()
+            .any(|t| *t > until && *t <= until + MICROSECOND)
+        {
+            self.hit("tick just before an instant");
+        }
+        if times
+            .iter()
+            .any(|t| *t < until && *t + MICROSECOND >= until)
+        {
+            self.hit("tick just after an instant");
+        }
+        if until == u64::from(u32::MAX) * 9_000_000 + 999_999 * 9 {
+            self.hit("tick to the top of the range");
+        }
+    }
+}

@@ -1,0 +1,173 @@
+//! The independent second program of the splicer core. See `model help`.
+
+mod asrun;
+mod card;
+mod compare;
+mod counts;
+mod damage;
+mod demand3;
+mod episodes;
+mod faults;
+mod fuzz;
+mod gen;
+mod instants;
+mod people;
+mod reading;
+mod records;
+mod rules;
+mod scenario;
+#[cfg(test)]
+mod tests;
+
+use std::io::{Read, Write};
+
+const HELP: &str = "\
+model card [--fault F]                       01's card program, standard input to output
+                                             (with a deliberate fault, to try the harness)
+model scenario [--card CMD] FILE...          runs scenario files
+model scenario --bytes FILE                  writes a scenario's card input
+model gen --seed S --n N --out DIR           writes N generated streams as files
+model fuzz --seed S --n N [--card CMD] [--table] [--floors off]
+                                             N generated streams through both programs
+model faults --seed S --n N                  shows that each deliberate fault is noticed
+model decode IN OUT                          a recording's calls and answers as lines
+model asrun IN OUT                           a recording's as-run list and timeline
+";
+
+fn main() {
+    let args: Vec<String> = std::env::args().skip(1).collect();
+    match command(&args) {
+        Ok(true) => {}
+        Ok(false) => std::process::exit(1),
+        Err(text) => {
+            eprintln!("model: {text}");
+            std::process::exit(2);
+        }
+    }
+}
+
+fn command(args: &[String]) -> Result<bool, String> {
+    let Some(first) = args.first() else {
+        return Err(format!("a command is missing\n{HELP}"));
+    };
+    let rest = &args[1..];
+    match first.as_str() {
+        "card" => run_card(rest),
+        "scenario" => run_scenario(rest),
+        "gen" => run_gen(rest),
+        "fuzz" => run_fuzz(rest),
+        "faults" => run_faults(rest),
+        "decode" => run_recording(rest, people::decode),
+        "asrun" => run_recording(rest, asrun::as_run),
+        "help" | "--help" => {
+            print!("{HELP}");
+            Ok(true)
+        }
+        _ => Err(format!("unknown command {first}\n{HELP}")),
+    }
+}
+
+fn run_card(args: &[String]) -> Result<bool, String> {
+    let mut args = args.to_vec();
+    let fault = option(&mut args, "--fault")?.unwrap_or("0".to_string());
+    let fault = fault.parse().map_err(|_| format!("no fault: {fault}"))?;
+    nothing_left(&args)?;
+    let mut input = Vec::new();
+    let told = |e: std::io::Error| e.to_string();
+    std::io::stdin().read_to_end(&mut input).map_err(told)?;
+    write_out(&card::run(&input, fault).output())
+}
+
+fn write_out(bytes: &[u8]) -> Result<bool, String> {
+    let mut out = std::io::stdout().lock();
+    let told = |e: std::io::Error| e.to_string();
+    out.write_all(bytes).map_err(told)?;
+    out.flush().map_err(told)?;
+    Ok(true)
+}
+
+/// Takes `--name value` out of the arguments.
+fn option(args: &mut Vec<String>, name: &str) -> Result<Option<String>, String> {
+    let Some(place) = args.iter().position(|a| a == name) else {
+        return Ok(None);
+    };
+    if place + 1 >= args.len() {
+        return Err(format!("{name} needs a value"));
+    }
+    args.remove(place);
+    Ok(Some(args.remove(place)))
+}
+
+fn run_scenario(args: &[String]) -> Result<bool, String> {
+    let mut args = args.to_vec();
+    if let Some(path) = option(&mut args, "--bytes")? {
+        let text = std::fs::read_to_string(&path).map_err(|e| format!("{path}: {e}"))?;
+        let steps = scenario::parse(&text).map_err(|e| format!("{path}: {e}"))?;
+        return write_out(&scenario::input_of(&steps));
+    }
+    let card = option(&mut args, "--card")?;
+    if args.is_empty() {
+        return Err("no scenario file".to_string());
+    }
+    Ok(scenario::run_files(&args, card.as_deref()))
+}
+
+/// A command over the recorded input and output of a card program.
+fn run_recording(
+    args: &[String],
+    tell: fn(&[u8], &[u8]) -> (String, bool),
+) -> Result<bool, String> {
+    let [input, output] = args else {
+        return Err("the files IN and OUT are needed".to_string());
+    };
+    let read = |path: &String| std::fs::read(path).map_err(|e| format!("{path}: {e}"));
+    let (text, same) = tell(&read(input)?, &read(output)?);
+    write_out(text.as_bytes())?;
+    Ok(same)
+}
+
+fn required(args: &mut Vec<String>, name: &str) -> Result<u64, String> {
+    let value = option(args, name)?.ok_or(format!("{name} is missing"))?;
+    value
+        .parse()
+        .map_err(|_| format!("{name}: no number: {value}"))
+}
+
+fn nothing_left(args: &[String]) -> Result<(), String> {
+    match args.first() {
+        None => Ok(()),
+        Some(word) => Err(format!("unknown word {word}")),
+    }
+}
+
+fn run_gen(args: &[String]) -> Result<bool, String> {
+    let mut args = args.to_vec();
+    let (seed, n) = (required(&mut args, "--seed")?, required(&mut args, "--n")?);
+    let dir = option(&mut args, "--out")?.ok_or("--out is missing")?;
+    nothing_left(&args)?;
+    fuzz::write_streams(seed, n, &dir)
+}
+
+fn run_fuzz(args: &[String]) -> Result<bool, String> {
+    let mut args = args.to_vec();
+    let table = args
+        .iter()
+        .position(|a| a == "--table")
+        .map(|at| args.remove(at));
+    let plan = fuzz::Fuzz {
+        seed: required(&mut args, "--seed")?,
+        n: required(&mut args, "--n")?,
+        card: option(&mut args, "--card")?,
+        table: table.is_some(),
+        floors: option(&mut args, "--floors")?.as_deref() != Some("off"),
+    };
+    nothing_left(&args)?;
+    fuzz::fuzz(&plan)
+}
+
+fn run_faults(args: &[String]) -> Result<bool, String> {
+    let mut args = args.to_vec();
+    let (seed, n) = (required(&mut args, "--seed")?, required(&mut args, "--n")?);
+    nothing_left(&args)?;
+    fuzz::faults(seed, n)
+}

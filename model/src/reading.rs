@@ -1,0 +1,343 @@
+//! Reading the four requests: 01's "Bytes" and its "Not readable" sentence.
+//! A request that cannot be read gives the name of its branch.
+
+/// A message of the list of four, read.
+#[derive(Clone, Debug, PartialEq, Eq)]
+pub enum Request {
+    Init { revision: u16, name: [u8; 32] },
+    Alive,
+    Splice(SpliceFields),
+    Abort { id: u32 },
+}
+
+/// The fields of a Splice_Request that have an effect. With ServiceID 0xFFFF only `id`,
+/// `prior`, `seconds`, `micros` and `service` are read; the others stay zero.
+#[derive(Clone, Debug, Default, PartialEq, Eq)]
+pub struct SpliceFields {
+    pub id: u32,
+    pub prior: u32,
+    pub seconds: u32,
+    pub micros: u32,
+    pub service: u16,
+    pub duration: u32,
+    pub access: u8,
+    pub overrides: u8,
+}
+
+type Read = Result<Request, &'static str>;
+
+pub fn read(id: u16, data: &[u8], fault: u32) -> Read {
+    match id {
+        0x0001 => read_init(data),
+        0x0005 => read_alive(data),
+        0x0007 => read_splice(data, fault),
+        _ => read_abort(data),
+    }
+}
+
+/// The boundaries of "Not readable" that a readable message just keeps, for the branch table.
+pub fn kept_boundaries(id: u16, data: &[u8]) -> Vec<&'static str> {
+    let mut list = Vec::new();
+    match (id, data.len()) {
+        (0x0001, 66) => list.push("read Init of 66 bytes"),
+        (0x0001, _) if data[33] == 0 && data[2..33].iter().all(|b| *b != 0) => {
+            list.push("read Init ChannelName with a last zero");
+        }
+        (0x0001, _) if data[65] == 0 && data[34..65].iter().all(|b| *b != 0) => {
+            list.push("read Init SplicerName with a last zero");
+        }
+        (0x0007, 18) => list.push("read Splice of 18 bytes, ServiceID 0xFFFF"),
+        (0x0007, _) if half(data, 16) == 0xFFFF => {
+            list.push("read Splice of other sizes, ServiceID 0xFFFF");
+        }
+        (0x0007, 33) => list.push("read Splice of 33 bytes"),
+        (0x0007, _) => {
+            list.push("read Splice with descriptors");
+            match data[34] {
+                4 => list.push("read Splice descriptor length 4"),
+                254 => list.push("read Splice descriptor length 254"),
+                _ => {}
+            }
+        }
+        _ => {}
+    }
+    if id == 0x0007 && half(data, 16) != 0xFFFF {
+        list.extend(kept_by_fields(data));
+    }
+    list
+}
+
+fn kept_by_fields(data: &[u8]) -> Vec<&'static str> {
+    let mut list = Vec::new();
+    if data[30] == 9 {
+        list.push("read Splice AccessType 9");
+    }
+    if data[31] == 1 && data[32] == 1 {
+        list.push("read Splice with both flags 1");
+    }
+    match (word(data, 4), word(data, 12)) {
+        (0xFFFF_FFFF, 999_999) => list.push("read Splice timed MicroSeconds 999,999"),
+        (0xFFFF_FFFF, _) => {}
+        (_, 1_000_000..) => list.push("read Splice linked MicroSeconds above 999,999"),
+        _ => {}
+    }
+    list
+}
+
+fn half(data: &[u8], at: usize) -> u16 {
+    u16::from_be_bytes([data[at], data[at + 1]])
+}
+
+fn word(data: &[u8], at: usize) -> u32 {
+    u32::from_be_bytes([data[at], data[at + 1], data[at + 2], data[at + 3]])
+}
+
+/// "Init data below 66 bytes or either name without a zero"; "the rest unread".
+fn read_init(data: &[u8]) -> Read {
+    if data.len() < 66 {
+        return Err("123 Init below 66 bytes");
+    }
+    if !data[2..34].contains(&0) {
+        return Err("123 Init ChannelName without a zero");
+    }
+    if !data[34..66].contains(&0) {
+        return Err("123 Init SplicerName without a zero");
+    }
+    let mut name = [0; 32];
+    name.copy_from_slice(&data[2..34]);
+    Ok(Request::Init {
+        revision: half(data, 0),
+        name,
+    })
+}
+
+/// "Alive data other than 8 bytes". "An Alive time is not checked."
+fn read_alive(data: &[u8]) -> Read {
+    if data.len() < 8 {
+        return Err("123 Alive below 8 bytes");
+    }
+    if data.len() > 8 {
+        return Err("123 Alive above 8 bytes");
+    }
+    Ok(Request::Alive)
+}
+
+/// "Abort data other than 4".
+fn read_abort(data: &[u8]) -> Read {
+    if data.len() < 4 {
+        return Err("123 Abort below 4 bytes");
+    }
+    if data.len() > 4 {
+        return Err("123 Abort above 4 bytes");
+    }
+    Ok(Request::Abort { id: word(data, 0) })
+}
+
+/// "Splice data below 18 bytes, or, with ServiceID not 0xFFFF, any of: ..."
+fn read_splice(data: &[u8], fault: u32) -> Read {
+    if data.len() < 18 {
+        return Err("123 Splice below 18 bytes");
+    }
+    let mut fields = SpliceFields {
+        id: word(data, 0),
+        prior: word(data, 4),
+        seconds: word(data, 8),
+        micros: word(data, 12),
+        service: half(data, 16),
+        ..SpliceFields::default()
+    };
+    // "With ServiceID 0xFFFF only the first 18 bytes are read."
+    if fields.service == 0xFFFF && !(fault == 32 && data.len() < 33) {
+        return Ok(Request::Splice(fields));
+    }
+    if data.len() < 33 {
+        return Err("123 Splice below 33 bytes");
+    }
+    fields.duration = word(data, 18);
+    fields.access = data[30];
+    fields.overrides = data[31];
+    check_splice(&fields, data[32], fault)?;
+    check_descriptors(&data[33..], fault)?;
+    Ok(Request::Splice(fields))
+}
+
+/// "Duration 0, AccessType above 9, either of OverridePlaying and ReturnToPriorChannel above
+/// 1, or PriorSession 0xFFFFFFFF with MicroSeconds above 999,999".
+fn check_splice(fields: &SpliceFields, returns: u8, fault: u32) -> Result<(), &'static str> {
+    if fields.duration == 0 {
+        return Err("123 Splice Duration 0");
+    }
+    if fields.access > 9 {
+        return Err("123 Splice AccessType above 9");
+    }
+    if fields.overrides > 1 {
+        return Err("123 Splice OverridePlaying above 1");
+    }
+    if returns > 1 {
+        return Err("123 Splice ReturnToPriorChannel above 1");
+    }
+    let timed = fields.prior == 0xFFFF_FFFF || fault == 16;
+    if timed && fields.micros > 999_999 {
+        return Err("123 Splice timed MicroSeconds above 999,999");
+    }
+    Ok(())
+}
+
+/// "Length counts what follows it, is 4 to 254, and the descriptors fill the message exactly."
+fn check_descriptors(bytes: &[u8], fault: u32) -> Result<(), &'static str> {
+    let mut rest = bytes;
+    while !rest.is_empty() {
+        if rest.len() < 2 {
+            return Err("123 Splice descriptor without a length");
+        }
+        let length = rest[1] as usize;
+        if length < 4 && fault != 37 {
+            return Err("123 Splice descriptor length below 4");
+        }
+        if length > 254 && fault != 17 {
+            return Err("123 Splice descriptor length 255");
+        }
+        if rest.len() < 2 + length {
+            return Err("123 Splice descriptor beyond the message");
+        }
+        rest = &rest[2 + length..];
+    }
+    Ok(())
+}
+
+#[cfg(test)]
+mod tests {
+    use super::*;
+
+    fn good_splice() -> Vec<u8> {
+        let mut data = vec![0; 33];
+        data[3] = 7; // SessionID 7
+        data[4..8].fill(0xFF); // timed
+        data[17] = 1; // ServiceID 1
+        data[21] = 1; // Duration 1
+        data
+    }
+
+    fn changed(at: usize, value: u8) -> Read {
+        let mut data = good_splice();
+        data[at] = value;
+        read(7, &data, 0)
+    }
+
+    #[test]
+    fn splice_fields_stand_where_01_says() {
+        let mut data = good_splice();
+        data[8..16].copy_from_slice(&[0, 0, 3, 0xEB, 0, 0, 0, 5]);
+        data[30] = 9;
+        data[31] = 1;
+        let expected = SpliceFields {
+            id: 7,
+            prior: 0xFFFF_FFFF,
+            seconds: 1_003,
+            micros: 5,
+            service: 1,
+            duration: 1,
+            access: 9,
+            overrides: 1,
+        };
+        assert_eq!(read(7, &data, 0), Ok(Request::Splice(expected)));
+    }
+
+    #[test]
+    fn boundaries_of_a_splice() {
+        assert!(read(7, &good_splice(), 0).is_ok());
+        assert_eq!(
+            read(7, &good_splice()[..32], 0),
+            Err("123 Splice below 33 bytes")
+        );
+        assert_eq!(
+            read(7, &good_splice()[..17], 0),
+            Err("123 Splice below 18 bytes")
+        );
+        assert_eq!(changed(21, 0), Err("123 Splice Duration 0"));
+        assert!(changed(30, 9).is_ok());
+        assert_eq!(changed(30, 10), Err("123 Splice AccessType above 9"));
+        assert!(changed(31, 1).is_ok());
+        assert_eq!(changed(31, 2), Err("123 Splice OverridePlaying above 1"));
+        assert!(changed(32, 1).is_ok());
+        assert_eq!(
+            changed(32, 2),
+            Err("123 Splice ReturnToPriorChannel above 1")
+        );
+    }
+
+    #[test]
+    fn microseconds_count_in_a_timed_request_only() {
+        let mut data = good_splice();
+        data[12..16].copy_from_slice(&999_999u32.to_be_bytes());
+        assert!(read(7, &data, 0).is_ok());
+        data[12..16].copy_from_slice(&1_000_000u32.to_be_bytes());
+        assert_eq!(
+            read(7, &data, 0),
+            Err("123 Splice timed MicroSeconds above 999,999")
+        );
+        data[7] = 0; // now a linked request
+        assert!(read(7, &data, 0).is_ok());
+    }
+
+    #[test]
+    fn with_service_ffff_only_18_bytes_are_read() {
+        let mut data = good_splice();
+        data[16..18].fill(0xFF);
+        data[12..16].fill(0xFF); // MicroSeconds far above 999,999
+        assert!(read(7, &data[..18], 0).is_ok());
+        data[30] = 200;
+        assert!(read(7, &data, 0).is_ok());
+    }
+
+    #[test]
+    fn descriptors_fill_the_message_exactly() {
+        let with = |bytes: &[u8]| {
+            let mut data = good_splice();
+            data.extend(bytes);
+            read(7, &data, 0)
+        };
+        assert!(with(&[1, 4, 0, 0, 0, 0]).is_ok());
+        assert!(with(&[1, 4, 0, 0, 0, 0, 2, 5, 0, 0, 0, 0, 9]).is_ok());
+        assert_eq!(with(&[1]), Err("123 Splice descriptor without a length"));
+        assert_eq!(
+            with(&[1, 3, 0, 0, 0]),
+            Err("123 Splice descriptor length below 4")
+        );
+        assert_eq!(
+            with(&[1, 4, 0, 0, 0]),
+            Err("123 Splice descriptor beyond the message")
+        );
+        let mut long = vec![1, 254];
+        long.extend([0; 254]);
+        assert!(with(&long).is_ok());
+        long[1] = 255;
+        long.push(0);
+        assert_eq!(with(&long), Err("123 Splice descriptor length 255"));
+    }
+
+    #[test]
+    fn init_alive_and_abort_sizes() {
+        assert!(read(1, &[0; 66], 0).is_ok());
+        assert_eq!(read(1, &[0; 65], 0), Err("123 Init below 66 bytes"));
+        let mut names = [65; 66];
+        names[65] = 0;
+        assert_eq!(
+            read(1, &names, 0),
+            Err("123 Init ChannelName without a zero")
+        );
+        names[33] = 0;
+        assert!(read(1, &names, 0).is_ok());
+        names[65] = 1;
+        assert_eq!(
+            read(1, &names, 0),
+            Err("123 Init SplicerName without a zero")
+        );
+        assert_eq!(read(5, &[0; 7], 0), Err("123 Alive below 8 bytes"));
+        assert_eq!(read(5, &[0xFF; 8], 0), Ok(Request::Alive));
+        assert_eq!(read(5, &[0; 9], 0), Err("123 Alive above 8 bytes"));
+        assert_eq!(read(14, &[0; 3], 0), Err("123 Abort below 4 bytes"));
+        assert_eq!(read(14, &[0, 0, 1, 0], 0), Ok(Request::Abort { id: 256 }));
+        assert_eq!(read(14, &[0; 5], 0), Err("123 Abort above 4 bytes"));
+    }
+}

@@ -1,0 +1,549 @@
+//! Scenario files: calls and the records they must write, written by hand.
+
+use crate::card::{self, Call};
+use crate::compare;
+use crate::records::{self, Record, What};
+
+/// One call of a scenario, its bytes, and the bytes it must write.
+#[derive(Debug, PartialEq, Eq)]
+pub struct Step {
+    pub line: usize,
+    pub text: String,
+    pub input: Vec<u8>,
+    pub expected: Vec<u8>,
+}
+
+/// Reads a scenario file's text. An error names the line.
+pub fn parse(text: &str) -> Result<Vec<Step>, String> {
+    let mut steps: Vec<Step> = Vec::new();
+    for (index, line) in text.lines().enumerate() {
+        let line = line.trim();
+        let at = |error: String| format!("line {}: {error}: {line}", index + 1);
+        if line.is_empty() || line.starts_with('#') {
+            continue;
+        }
+        if let Some(rest) = line.strip_prefix('>') {
+            steps.push(Step {
+                line: index + 1,
+                text: line.to_string(),
+                input: call_bytes(rest.trim()).map_err(at)?,
+                expected: Vec::new(),
+            });
+        } else if let Some(rest) = line.strip_prefix('<') {
+            let bytes = expected_bytes(rest.trim()).map_err(at)?;
+            match steps.last_mut() {
+                Some(step) => step.expected.extend(bytes),
+                None => return Err(at("a record before any call".to_string())),
+            }
+        } else {
+            return Err(at("neither > nor < nor #".to_string()));
+        }
+    }
+    Ok(steps)
+}
+
+/// The words of a line; quotes keep blanks together and are taken off.
+fn words_of(line: &str) -> Result<Vec<String>, String> {
+    let mut list = Vec::new();
+    let mut current = String::new();
+    let (mut inside, mut begun) = (false, false);
+    for c in line.chars() {
+        if c == '"' {
+            inside = !inside;
+            begun = true;
+        } else if c.is_whitespace() && !inside {
+            if begun {
+                list.push(std::mem::take(&mut current));
+            }
+            begun = false;
+        } else {
+            current.push(c);
+            begun = true;
+        }
+    }
+    if inside {
+        return Err("quote not closed".to_string());
+    }
+    if begun {
+        list.push(current);
+    }
+    Ok(list)
+}
+
+/// The `key=value` words of a line. Every one must be taken.
+struct Fields {
+    list: Vec<(String, String)>,
+}
+
+impl Fields {
+    fn new(words: &[String]) -> Result<Fields, String> {
+        let mut list: Vec<(String, String)> = Vec::new();
+        for word in words {
+            let (key, value) = word.split_once('=').ok_or(format!("no '=' in {word}"))?;
+            if list.iter().any(|(k, _)| k == key) {
+                return Err(format!("{key} twice"));
+            }
+            list.push((key.to_string(), value.to_string()));
+        }
+        Ok(Fields { list })
+    }
+
+    fn take(&mut self, key: &str) -> Option<String> {
+        let place = self.list.iter().position(|(k, _)| k == key)?;
+        Some(self.list.remove(place).1)
+    }
+
+    fn number(&mut self, key: &str, default: u32) -> Result<u32, String> {
+        self.take(key).map_or(Ok(default), |v| number(&v))
+    }
+
+    fn required(&mut self, key: &str) -> Result<u32, String> {
+        number(&self.take(key).ok_or(format!("{key}= is missing"))?)
+    }
+
+    fn small(&mut self, key: &str, default: u8) -> Result<u8, String> {
+        let value = self.number(key, u32::from(default))?;
+        u8::try_from(value).map_err(|_| format!("{key} does not fit one byte"))
+    }
+
+    fn half(&mut self, key: &str, default: u16) -> Result<u16, String> {
+        let value = self.number(key, u32::from(default))?;
+        u16::try_from(value).map_err(|_| format!("{key} does not fit two bytes"))
+    }
+
+    fn done(self) -> Result<(), String> {
+        match self.list.first() {
+            None => Ok(()),
+            Some((key, _)) => Err(format!("unknown word {key}=")),
+        }
+    }
+}
+
+/// A decimal or 0x number.
+fn number(text: &str) -> Result<u32, String> {
+    let value = match text.strip_prefix("0x") {
+        Some(digits) => u32::from_str_radix(digits, 16),
+        None => text.parse(),
+    };
+    value.map_err(|_| format!("no number: {text}"))
+}
+
+fn small(text: &str) -> Result<u8, String> {
+    let value = number(text)?;
+    u8::try_from(value).map_err(|_| format!("does not fit one byte: {text}"))
+}
+
+/// `S`, `S.UUUUUU` with exactly six digits, or `S:U` with raw microseconds.
+fn time(text: &str) -> Result<(u32, u32), String> {
+    if let Some((seconds, micros)) = text.split_once(':') {
+        return Ok((number(seconds)?, number(micros)?));
+    }
+    let Some((seconds, micros)) = text.split_once('.') else {
+        return Ok((number(text)?, 0));
+    };
+    if micros.len() != 6 || !micros.bytes().all(|b| b.is_ascii_digit()) {
+        return Err(format!("six digits are needed after the point: {text}"));
+    }
+    let micros = micros.parse().map_err(|_| format!("no time: {text}"))?;
+    Ok((number(seconds)?, micros))
+}
+
+/// Hexadecimal bytes, blanks allowed.
+fn hex_bytes(text: &str) -> Result<Vec<u8>, String> {
+    let digits: Vec<u32> = text
+        .chars()
+        .filter(|c| !c.is_whitespace())
+        .map(|c| c.to_digit(16).ok_or(format!("no hexadecimal digit: {c}")))
+        .collect::<Result<_, _>>()?;
+    if !digits.len().is_multiple_of(2) {
+        return Err("half a byte is left over".to_string());
+    }
+    Ok(digits.chunks(2).map(|d| (d[0] * 16 + d[1]) as u8).collect())
+}
+
+fn call_bytes(line: &str) -> Result<Vec<u8>, String> {
+    let (kind, rest) = line.split_once(char::is_whitespace).unwrap_or((line, ""));
+    if kind == "raw" {
+        return hex_bytes(rest);
+    }
+    Ok(card::input_bytes(&call_of(kind, rest.trim())?))
+}
+
+fn call_of(kind: &str, rest: &str) -> Result<Call, String> {
+    if kind == "message" {
+        let (conn, hex) = rest
+            .split_once(char::is_whitespace)
+            .ok_or("bytes are missing")?;
+        return Ok(Call::Message(small(conn)?, hex_bytes(hex)?));
+    }
+    let words = words_of(rest)?;
+    let first = words.first().ok_or("a word is missing")?;
+    if kind == "tick" {
+        let (seconds, micros) = time(first)?;
+        Fields::new(&words[1..])?.done()?;
+        return Ok(Call::Tick(seconds, micros));
+    }
+    let conn = small(first)?;
+    let mut fields = Fields::new(&words[1..])?;
+    let call = match kind {
+        "open" => Call::Open(conn),
+        "close" => Call::Close(conn),
+        "init" => Call::Message(conn, message(0x0001, init_data(&mut fields)?)),
+        "alive" => Call::Message(conn, message(0x0005, alive_data(&mut fields)?)),
+        "splice" => Call::Message(conn, message(0x0007, splice_data(&mut fields)?)),
+        "abort" => {
+            let id = fields.required("id")?;
+            Call::Message(conn, message(0x000E, id.to_be_bytes().to_vec()))
+        }
+        _ => return Err(format!("unknown call {kind}")),
+    };
+    fields.done()?;
+    Ok(call)
+}
+
+/// A request: J.280 sets Result and Result_Extension to 0xFFFF.
+pub fn message(id: u16, data: Vec<u8>) -> Vec<u8> {
+    let mut bytes = id.to_be_bytes().to_vec();
+    bytes.extend((data.len() as u16).to_be_bytes());
+    bytes.extend([0xFF; 4]);
+    bytes.extend(data);
+    bytes
+}
+
+/// A 32-byte name field; `junk` goes behind the zero byte that ends the name.
+fn name_field(name: &str, junk: &[u8]) -> Result<[u8; 32], String> {
+    let mut bytes = name.as_bytes().to_vec();
+    if !junk.is_empty() {
+        bytes.push(0);
+        bytes.extend(junk);
+    }
+    if bytes.len() > 32 {
+        return Err("the name is longer than 32 bytes".to_string());
+    }
+    bytes.resize(32, 0);
+    bytes.try_into().map_err(|_| "name".to_string())
+}
+
+fn init_data(fields: &mut Fields) -> Result<Vec<u8>, String> {
+    let name = fields.take("name").unwrap_or("CH1".to_string());
+    let junk = hex_bytes(&fields.take("junk").unwrap_or_default())?;
+    let splicer = fields.take("splicer").unwrap_or("SPLICER".to_string());
+    let extra = fields
+        .take("extra")
+        .unwrap_or("00080001000100010000".to_string());
+    let mut data = fields.half("revision", 2)?.to_be_bytes().to_vec();
+    data.extend(name_field(&name, &junk)?);
+    data.extend(name_field(&splicer, &[])?);
+    data.extend(hex_bytes(&extra)?);
+    Ok(data)
+}
+
+fn alive_data(fields: &mut Fields) -> Result<Vec<u8>, String> {
+    let (seconds, micros) = time(&fields.take("time").unwrap_or("0".to_string()))?;
+    Ok([seconds.to_be_bytes(), micros.to_be_bytes()].concat())
+}
+
+fn splice_data(fields: &mut Fields) -> Result<Vec<u8>, String> {
+    let id = fields.required("id")?;
+    let at = fields.take("at");
+    let prior = fields.take("prior");
+    if at.is_none() && prior.is_none() {
+        return Err("at= or prior= is missing".to_string());
+    }
+    let prior = prior.map_or(Ok(0xFFFF_FFFF), |p| number(&p))?;
+    let (seconds, micros) = time(&at.unwrap_or("0".to_string()))?;
+    let mut data = Vec::new();
+    for word in [id, prior, seconds, micros] {
+        data.extend(word.to_be_bytes());
+    }
+    data.extend(fields.half("service", 1)?.to_be_bytes());
+    data.extend(fields.required("duration")?.to_be_bytes());
+    data.extend(fields.number("event", 0xFFFF_FFFF)?.to_be_bytes());
+    data.extend(fields.number("postblack", 0)?.to_be_bytes());
+    data.push(fields.small("access", 0)?);
+    data.push(fields.small("override", 0)?);
+    data.push(fields.small("return", 1)?);
+    data.extend(hex_bytes(&fields.take("desc").unwrap_or_default())?);
+    Ok(data)
+}
+
+/// The bytes of an expected line.
+fn expected_bytes(line: &str) -> Result<Vec<u8>, String> {
+    if let Some(hex) = line.strip_prefix("bytes") {
+        return hex_bytes(hex);
+    }
+    let words = words_of(line)?;
+    if let [refused, n] = &words[..] {
+        if refused == "refused" {
+            return Ok(vec![0x45, small(n)?]);
+        }
+    }
+    if words.len() < 3 {
+        return Err("connection, message and result are needed".to_string());
+    }
+    let conn = small(&words[0])?;
+    let result = u16::try_from(number(&words[2])?).map_err(|_| "result too large")?;
+    let mut fields = Fields::new(&words[3..])?;
+    let what = expected_record(&words[1], result, &mut fields)?;
+    fields.done()?;
+    Ok(Record { conn, what }.bytes())
+}
+
+fn expected_record(kind: &str, result: u16, fields: &mut Fields) -> Result<What, String> {
+    Ok(match kind {
+        "General_Response" => What::General { result },
+        "Init_Response" => What::Init {
+            result,
+            revision: 2,
+            name: name_field(&fields.take("name").unwrap_or("CH1".to_string()), &[])?,
+        },
+        "Alive_Response" => {
+            let state = fields.required("state")?;
+            let id = fields.required("id")?;
+            let (seconds, micros) = time(&fields.take("time").ok_or("time= is missing")?)?;
+            What::Alive {
+                result,
+                state,
+                id,
+                seconds,
+                micros,
+            }
+        }
+        "Splice_Response" => What::Splice {
+            result,
+            id: fields.required("id")?,
+        },
+        "SpliceComplete_Response" => What::Complete {
+            result,
+            id: fields.required("id")?,
+            flag: u8::try_from(fields.required("flag")?).map_err(|_| "flag too large")?,
+            bitrate: 0,
+            played: fields.required("played")?,
+        },
+        "Abort_Response" => What::Abort {
+            result,
+            id: fields.required("id")?,
+        },
+        _ => return Err(format!("unknown record {kind}")),
+    })
+}
+
+/// The card input of a scenario.
+pub fn input_of(steps: &[Step]) -> Vec<u8> {
+    steps.iter().flat_map(|s| s.input.clone()).collect()
+}
+
+/// Holds one output to the scenario. The text tells the first difference.
+fn difference(steps: &[Step], who: &str, output: &[u8]) -> Option<String> {
+    let mut at = 0;
+    for step in steps {
+        let to = at + step.expected.len();
+        if output.get(at..to) != Some(&step.expected[..]) {
+            let text = format!("line {}: {}", step.line, step.text);
+            return Some(told(
+                &text,
+                who,
+                &step.expected,
+                &output[at.min(output.len())..],
+            ));
+        }
+        at = to;
+    }
+    if output.len() > at {
+        return Some(told("after the last call", who, &[], &output[at..]));
+    }
+    None
+}
+
+fn told(call: &str, who: &str, expected: &[u8], got: &[u8]) -> String {
+    let mut text = format!("  {call}\n");
+    let wanted = records::items(expected);
+    for item in &wanted {
+        text += &format!("    expected  {}\n", item.line());
+    }
+    if expected.is_empty() {
+        text += "    expected  nothing\n";
+    }
+    text += &format!("    {who} wrote from here on\n");
+    let found = records::items(got);
+    for item in found.iter().take(wanted.len() + 3) {
+        text += &format!("    got       {}\n", item.line());
+    }
+    if found.is_empty() {
+        text += "    got       nothing\n";
+    }
+    text
+}
+
+/// Runs one scenario file through the second program and, if given, the card program.
+fn run_file(path: &str, card: Option<&str>) -> Result<(), String> {
+    let text = std::fs::read_to_string(path).map_err(|e| format!("  {e}\n"))?;
+    let steps = parse(&text).map_err(|e| format!("  {e}\n"))?;
+    let input = input_of(&steps);
+    let own = card::run(&input, 0).output();
+    if let Some(text) = difference(&steps, "the second program", &own) {
+        return Err(text);
+    }
+    if let Some(command) = card {
+        let output = compare::run_command(command, &input).map_err(|e| format!("  {e}\n"))?;
+        if let Some(text) = difference(&steps, "the card program", &output.bytes) {
+            return Err(text);
+        }
+        if let Some(text) = output.trouble {
+            return Err(format!("  {text}\n"));
+        }
+    }
+    Ok(())
+}
+
+/// All files; true if all passed.
+pub fn run_files(paths: &[String], card: Option<&str>) -> bool {
+    let mut failed = 0;
+    for path in paths {
+        let name = path.rsplit('/').next().unwrap_or(path);
+        match run_file(path, card) {
+            Ok(()) => println!("ok {name}"),
+            Err(text) => {
+                failed += 1;
+                print!("FAILED {name}\n{text}");
+            }
+        }
+    }
+    println!("{} passed, {failed} failed", paths.len() - failed);
+    failed == 0
+}
+
+#[cfg(test)]
+mod tests {
+    use super::*;
+    use crate::records::hex;
+
+    fn bytes_of(line: &str) -> String {
+        hex(&call_bytes(line).unwrap())
+    }
+
+    #[test]
+    fn calls_become_bytes() {
+        assert_eq!(bytes_of("open 3"), "4F 03");
+        assert_eq!(bytes_of("close 0x10"), "43 10");
+        assert_eq!(bytes_of("tick 1.000005"), "54 00 00 00 00 01 00 00 00 05");
+        assert_eq!(bytes_of("tick 1:1000000"), "54 00 00 00 00 01 00 0F 42 40");
+        assert_eq!(
+            bytes_of("abort 2 id=0x01020304"),
+            "4D 02 00 0E 00 04 FF FF FF FF 01 02 03 04"
+        );
+        assert_eq!(
+            bytes_of("alive 0 time=2.000001"),
+            "4D 00 00 05 00 08 FF FF FF FF 00 00 00 02 00 00 00 01"
+        );
+        assert_eq!(
+            bytes_of("message 1 00 0D 0000 FFFFFFFF"),
+            "4D 01 00 0D 00 00 FF FF FF FF"
+        );
+        assert_eq!(bytes_of("raw 4F"), "4F");
+    }
+
+    #[test]
+    fn splice_words_and_defaults() {
+        assert_eq!(
+            bytes_of("splice 0 id=7 at=1003.000002 duration=2700000 access=3 override=1"),
+            "4D 00 00 07 00 21 FF FF FF FF 00 00 00 07 FF FF FF FF 00 00 03 EB 00 00 00 02 \
+             00 01 00 29 32 E0 FF FF FF FF 00 00 00 00 03 01 01"
+        );
+        assert_eq!(
+            bytes_of("splice 1 id=8 prior=7 duration=1 return=0 service=0xFFFF event=1 postblack=2 desc=0104AABBCCDD"),
+            "4D 01 00 07 00 27 FF FF FF FF 00 00 00 08 00 00 00 07 00 00 00 00 00 00 00 00 \
+             FF FF 00 00 00 01 00 00 00 01 00 00 00 02 00 00 00 01 04 AA BB CC DD"
+        );
+        let both = call_bytes("splice 1 id=8 prior=7 at=1:1000000 duration=1").unwrap();
+        assert_eq!(hex(&both[14..26]), "00 00 00 07 00 00 00 01 00 0F 42 40");
+    }
+
+    #[test]
+    fn init_words_and_defaults() {
+        let plain = call_bytes("init 2").unwrap();
+        assert_eq!(hex(&plain[..10]), "4D 02 00 01 00 4C FF FF FF FF");
+        assert_eq!(hex(&plain[10..16]), "00 02 43 48 31 00");
+        assert_eq!(&plain[44..52], b"SPLICER\0");
+        assert_eq!(hex(&plain[76..]), "00 08 00 01 00 01 00 01 00 00");
+        let junk = call_bytes("init 2 name=\"CH1\" junk=4142 extra= revision=3").unwrap();
+        assert_eq!(
+            hex(&junk[..20]),
+            "4D 02 00 01 00 42 FF FF FF FF 00 03 43 48 31 00 41 42 00 00"
+        );
+        let empty = call_bytes("init 2 name=\"\" splicer=\"A B\"").unwrap();
+        assert_eq!(empty[12..44], [0; 32]);
+        assert_eq!(&empty[44..48], b"A B\0");
+    }
+
+    #[test]
+    fn wrong_lines_are_told() {
+        for line in [
+            "open",
+            "open 256",
+            "open 1 2",
+            "tick 1.5",
+            "splice 0 id=1 duration=1",
+            "splice 0 id=1 at=5",
+            "splice 0 id=1 at=5 duration=1 colour=3",
+            "abort 0",
+            "jump 0",
+            "raw 4",
+            "message 0 0G",
+            "init 0 name=\"A",
+        ] {
+            assert!(call_bytes(line).is_err(), "{line}");
+        }
+        assert!(parse("< refused 1").is_err());
+        assert!(parse("open 1").is_err());
+    }
+
+    #[test]
+    fn expected_lines_become_bytes() {
+        let cases = [
+            ("refused 7", "45 07"),
+            ("bytes 01 02FF", "01 02 FF"),
+            ("2 General_Response 103", "52 02 00 00 00 00 00 67 FF FF"),
+            (
+                "0 Alive_Response 100 state=1 id=0xFFFFFFFF time=3.000004",
+                "52 00 00 06 00 10 00 64 FF FF 00 00 00 01 FF FF FF FF 00 00 00 03 00 00 00 04",
+            ),
+            (
+                "1 Splice_Response 109 id=5",
+                "52 01 00 08 00 04 00 6D FF FF 00 00 00 05",
+            ),
+            (
+                "1 Abort_Response 121 id=5",
+                "52 01 00 0F 00 04 00 79 FF FF 00 00 00 05",
+            ),
+            (
+                "3 SpliceComplete_Response 116 id=5 flag=1 played=900000",
+                "52 03 00 09 00 0D 00 74 FF FF 00 00 00 05 01 00 00 00 00 00 0D BB A0",
+            ),
+        ];
+        for (line, expected) in cases {
+            assert_eq!(hex(&expected_bytes(line).unwrap()), expected, "{line}");
+        }
+        let init = expected_bytes("0 Init_Response 104").unwrap();
+        assert_eq!(
+            hex(&init[..16]),
+            "52 00 00 02 00 22 00 68 FF FF 00 02 43 48 31 00"
+        );
+        assert_eq!(init.len(), 44);
+    }
+
+    #[test]
+    fn the_first_difference_is_told() {
+        let steps = parse("> open 0\n> open 0\n< refused 6\n> close 1\n< refused 7\n").unwrap();
+        let good = [0x45, 6, 0x45, 7];
+        assert_eq!(difference(&steps, "x", &good), None);
+        let wrong = difference(&steps, "x", &[0x45, 6, 0x45, 1]).unwrap();
+        assert!(wrong.contains("line 4: > close 1"), "{wrong}");
+        assert!(wrong.contains("expected  refused 7"), "{wrong}");
+        assert!(wrong.contains("got       refused 1"), "{wrong}");
+        let short = difference(&steps, "x", &good[..2]).unwrap();
+        assert!(short.contains("got       nothing"), "{short}");
+        let long = difference(&steps, "x", &[0x45, 6, 0x45, 7, 0x45, 1]).unwrap();
+        assert!(long.contains("after the last call"), "{long}");
+    }
+}
