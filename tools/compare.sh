@@ -39,10 +39,10 @@ set -- model/scenarios/*.txt
 if [ -x target/bin/card ]; then
     card="sh tools/run-program.sh target/bin/card"
     ran scenarios "$model" scenario --card "$card" "$@"
-    ran fuzz "$model" fuzz --seed 280 --n 60 --card "$card"
+    ran fuzz "$model" fuzz --seed 280 --n 200 --card "$card"
 else
     ran scenarios "$model" scenario "$@"
-    ran fuzz "$model" fuzz --seed 280 --n 60
+    ran fuzz "$model" fuzz --seed 280 --n 200
 fi
 
 echo "$passed passed, $failed failed"

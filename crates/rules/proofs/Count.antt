@@ -67,6 +67,14 @@ module _ {A : Type 0} where
       go true e ih = omega (arith, ap bit (h x e), ih)
       go false e ih = omega arith
 
+  pub count-omitted : (p : A → Bool) (l : List A) → count p (omit p l) ≡ 0
+  count-omitted p [] = refl
+  count-omitted p (x ∷ l) = go (p x) refl (count-omitted p l)
+    where
+      go : (b : Bool) → p x ≡ b → count p (omit p l) ≡ 0 → count p (put (not b) x (omit p l)) ≡ 0
+      go true e ih = ih
+      go false e ih = omega (arith, ap bit e)
+
   pub count≤length : (p : A → Bool) (l : List A) → count p l ≤ length l
   count≤length p [] = omega arith
   count≤length p (x ∷ l) = omega (arith, bit≤1 (p x), count≤length p l)

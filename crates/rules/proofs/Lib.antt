@@ -12,3 +12,10 @@ pub mod Leaving
 pub mod Tick
 pub mod Readings
 pub mod Timed
+pub mod Sessions
+pub mod Ranked
+pub mod Room
+pub mod Held
+pub mod Aired
+pub mod Link
+pub mod Chained

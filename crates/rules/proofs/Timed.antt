@@ -77,7 +77,7 @@ evicted-free t q o =
 -- ## An instant
 
 -- those that start at t or later, and none at t, start after it
-after-t : (t : ℕ) (w : List Session) → All (λ s. t ≤ s .start .0) w → count (startsAt t) w ≡ 0 → All (λ s. t < s .start .0) w
+pub after-t : (t : ℕ) (w : List Session) → All (λ s. t ≤ s .start .0) w → count (startsAt t) w ≡ 0 → All (λ s. t < s .start .0) w
 after-t t w a e =
     all-into (λ s. (t ≤ s .start .0) × (startsAt t s ≡ false)) (λ s. t < s .start .0) (λ s h. let n = eqb-false t (s .start .0) (h .1) in omega (arith, h .0)) w
     (all-both (λ s. t ≤ s .start .0) (λ s. startsAt t s ≡ false) w a (all-none (startsAt t) w e))

@@ -2,14 +2,15 @@
 -- Rests on the lists' laws of `take`, `drop` and `++` alone.
 use mathlib.Core.Path.{_≡_, refl, sym, ap, _∙_}
 use mathlib.Core.List.{List, [], _∷_, _++_, append-assoc, append-nil}
-use Prim.Native.Nat.{ℕ, zero, suc, _+_, _-_, _/_, _%_, _≤_}
+use Prim.Native.Nat.{ℕ, suc, _+_, _-_, _≤_, _<_}
 use native.Mathlib.Omega.{arith}
 use native.Mathlib.Nat.{add-zero, zero-add}
-use lib.ListN.{length, take, drop, replicate, length-replicate, length-append, length-take, length-drop, take-append-drop, drop-of-length-le}
-use lib.Seq.{take-at, drop-at, drop-drop, take-all}
+use native.Mathlib.Numerals.{add-one}
+use lib.ListN.{length, take, drop, set, length-append, length-take, length-drop, take-append-drop, drop-of-length-le}
+use lib.Seq.{take-at, drop-at, drop-drop, take-all, set-split, append-snoc}
 use borrow.Rule.Slice.PartMut.{putMid, midOf}
-use Rattle.rules.specs.Bytes.{bytes, written}
-use Rattle.rules.specs.Records.{Record, General, InitResponse, AliveResponse, SpliceResponse, SpliceComplete, AbortResponse, framed, recordBytes, output}
+use Rattle.rules.specs.Bytes.{written}
+use Rattle.rules.specs.Records.{Record, recordBytes, output}
 
 -- ## Any bytes
 
@@ -24,6 +25,12 @@ written-none e a = simp (append-nil, add-zero, take-append-drop)
 pub length-written : (e : List ℕ) (a : ℕ) (l : List ℕ) → a + length l ≤ length e → length (written e a l) ≡ length e
 unfolding written
 length-written e a l h = simp (length-append, length-take, length-drop) (omega arith)
+
+-- a store is one byte written
+pub written-set : (e : List ℕ) (a x : ℕ) → a < length e → set e a x ≡ written e a (x ∷ [])
+unfolding written
+written-set e a x h =
+    set-split e a x h ∙ sym (append-snoc (take a e) x (drop (suc a) e)) ∙ ap (λ k. take a e ++ (x ∷ []) ++ drop k e) (sym (add-one a))
 
 -- what is written directly behind it
 pub written-more : (e : List ℕ) (a : ℕ) (l m : List ℕ) (n : ℕ) → a + length l ≤ length e → n ≡ a + length l →
@@ -83,40 +90,3 @@ pub written-record : (e : List ℕ) (a : ℕ) (rs : List Record) (r : Record) (x
 written-record e a rs r xs ys n w k h p =
     written-next e a (output rs) (recordBytes r) xs ys n w k h p
     ∙ ap (written e a) (ap (λ x. output rs ++ x) (sym (output-one r)) ∙ sym (output-append rs (r ∷ [])))
-
--- ## Lengths
-
-pub length-bytes : (n x : ℕ) → length (bytes n x) ≡ n
-unfolding bytes
-length-bytes zero x = refl
-length-bytes (suc n) x = length-append (bytes n (x / 256)) (x % 256 ∷ []) ∙ omega (arith, length-bytes n (x / 256))
-
--- mark, connection and header, then the data
-pub length-framed : (c id r : ℕ) (d : List ℕ) → length (framed c id r d) ≡ 10 + length d
-unfolding framed bytes
-length-framed c id r d = omega arith
-
-pub length-general : (c r : ℕ) → length (recordBytes (General c r)) ≡ 10
-unfolding recordBytes
-length-general c r = length-framed c 0x0000 r []
-
--- a name is at most 31 bytes and its zero
-pub length-init : (c r : ℕ) (name : List ℕ) → length name ≤ 32 → length (recordBytes (InitResponse c r name)) ≡ 44
-unfolding recordBytes
-length-init c r name h = simp (length-framed, length-append, length-bytes, length-replicate) (omega arith)
-
-pub length-alive : (c r state x t : ℕ) → length (recordBytes (AliveResponse c r state x t)) ≡ 26
-unfolding recordBytes
-length-alive c r state x t = simp (length-framed, length-append, length-bytes)
-
-pub length-splice : (c r x : ℕ) → length (recordBytes (SpliceResponse c r x)) ≡ 14
-unfolding recordBytes
-length-splice c r x = simp (length-framed, length-bytes)
-
-pub length-complete : (c r x flag played : ℕ) → length (recordBytes (SpliceComplete c r x flag played)) ≡ 23
-unfolding recordBytes
-length-complete c r x flag played = simp (length-framed, length-append, length-bytes)
-
-pub length-abort : (c r x : ℕ) → length (recordBytes (AbortResponse c r x)) ≡ 14
-unfolding recordBytes
-length-abort c r x = simp (length-framed, length-bytes)

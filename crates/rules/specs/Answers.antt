@@ -1,22 +1,22 @@
 -- 01, "Answering a message, first that applies".
 use mathlib.Core.Bool.{Bool, true, false, cond, not, _&&_, _||_}
-use mathlib.Core.List.{List, [], _∷_, _++_}
-use Prim.Native.Nat.{ℕ, zero, suc, _+_, _*_, max}
+use mathlib.Core.List.{List, [], _∷_}
+use Prim.Native.Nat.{ℕ, _+_, max}
 use lib.Dec.{eqb, leb, ltb}
-use lib.ListN.{length, getD}
+use lib.ListN.{getD}
 use Rattle.rules.specs.declared.Start.{Start}
 use Rattle.rules.specs.declared.Start.the-variants.{Timed, Linked}
 use Rattle.rules.specs.declared.Request.{Request}
 use Rattle.rules.specs.declared.Message.{Message}
 use Rattle.rules.specs.declared.Message.the-variants.{Init, Alive, Splice, Abort, Unreadable}
 use Rattle.rules.specs.declared.Session.{Session}
-use Rattle.rules.specs.Units.{fromMicros, fromTicks, toMicros}
+use Rattle.rules.specs.Units.{timeOf, fromMicros, fromTicks, toMicros}
 use Rattle.rules.specs.Lists.{some, count, place, insertAt}
 use Rattle.rules.specs.Bytes.{sameName}
-use Rattle.rules.specs.Reading.{nobody, channelName, isRead, read}
-use Rattle.rules.specs.State.{Queue, Splicer, closed, opened, initialised, empty, of, is, startsAt, startsAfter, held, holds, linkOf, isInitialised, withQueue, withLink, withWaiting}
+use Rattle.rules.specs.Reading.{nobody, separateService, initRequest, channelName, isRead, read}
+use Rattle.rules.specs.State.{Queue, Splicer, initialised, empty, of, is, startsAt, startsAfter, held, holds, linkOf, isInitialised, withQueue, withLink, withWaiting}
 use Rattle.rules.specs.Records.{Record, General, InitResponse, AliveResponse, SpliceResponse, AbortResponse}
-use Rattle.rules.specs.Ends.{Turn, quiet, andThen, writes, response, evicted, aborted}
+use Rattle.rules.specs.Ends.{Turn, andThen, writes, response, evicted, aborted}
 use Rattle.rules.specs.Instants.{outranks}
 
 -- the splicer after an answer, and the records of the answer
@@ -103,7 +103,7 @@ requested c r q = sessionAt (startOf c (r .start) q) c r
 
 -- a. "110: ServiceID 0xFFFF."
 abbrev pub separate : Request → Bool
-separate r = eqb (r .service) 0xFFFF
+separate r = eqb (r .service) separateService
 
 -- b. "121: SessionID 0xFFFFFFFF or already held by this connection; or PriorSession neither 0xFFFFFFFF nor held by it."
 unfoldable pub unknownPrior : ℕ → Start → Queue → Bool
@@ -115,7 +115,7 @@ wrongNumber c r q = eqb (r .id) nobody || (holds c (r .id) q || unknownPrior c (
 
 -- c. "112: timed, and the start is less than 3 s after the clock."
 unfoldable pub tooLate : ℕ → Start → Bool
-tooLate clock (Timed t) = ltb (fromMicros t .0) (clock + 3 * 9000000)
+tooLate clock (Timed t) = ltb (fromMicros t .0) (clock + fromMicros (timeOf 3 0) .0)
 tooLate clock (Linked p) = false
 
 -- d. "109: a waiting session of any connection has the same start and the same or a higher AccessType."
@@ -173,7 +173,7 @@ answerRead c Unreadable d s = says (General c 123 ∷ []) s
 unfoldable pub answer : ℕ → ℕ → List ℕ → Splicer → Answered
 answer c id d s =
     cond (eqb id 0x0000) (says [] s)
-    (cond (not (isInitialised (linkOf c s)) && not (eqb id 0x0001)) (says (General c 103 ∷ []) s)
+    (cond (not (isInitialised (linkOf c s)) && not (eqb id initRequest)) (says (General c 103 ∷ []) s)
     (cond (eqb id 0x000D) (says [] s)
     (cond (not (isRead id)) (says (General c 120 ∷ []) s)
     (answerRead c (read id d) d s))))

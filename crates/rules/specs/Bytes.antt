@@ -2,7 +2,7 @@
 use mathlib.Core.Bool.{Bool, true, false, cond}
 use mathlib.Core.List.{List, [], _∷_, _++_}
 use Prim.Native.Nat.{ℕ, zero, suc, _+_, _-_, _*_, _/_, _%_}
-use lib.Dec.{eqb}
+use lib.Dec.{eqb, ltb}
 use lib.ListN.{length, take, drop, replicate}
 use Rattle.rules.specs.Lists.{some, same}
 
@@ -35,9 +35,13 @@ messageID l = field 0 2 l
 abbrev pub messageSize : List ℕ → ℕ
 messageSize l = field 2 2 l
 
--- "each is handed on as its own part of what was read"
-abbrev pub dataOf : List ℕ → List ℕ
-dataOf l = part 8 (messageSize l) l
+-- the data of a message of that MessageSize: "each is handed on as its own part of what was read"
+abbrev pub dataOf : ℕ → List ℕ → List ℕ
+dataOf size l = part 8 size l
+
+-- house number 4: "MessageSize above 4,088"
+abbrev pub oversize : List ℕ → Bool
+oversize l = ltb 4088 (messageSize l)
 
 -- "A string ends at its first zero byte; bytes after it don't count when names are compared."
 abbrev pub hasZero : List ℕ → Bool

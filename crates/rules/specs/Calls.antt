@@ -1,19 +1,19 @@
 -- 01, "Calls and house numbers".
-use mathlib.Core.Bool.{Bool, true, false, cond, not}
+use mathlib.Core.Bool.{Bool, cond, not}
 use mathlib.Core.List.{List, [], _∷_}
-use Prim.Native.Nat.{ℕ, zero, suc, _+_}
-use lib.Dec.{eqb, leb, ltb}
+use Prim.Native.Nat.{ℕ, _+_}
+use lib.Dec.{ltb}
 use lib.ListN.{length}
 use Rattle.rules.specs.declared.Refusal.{Refusal}
 use Rattle.rules.specs.declared.Refusal.the-variants.{Connection, Buffer, Clock, Oversize, Short, AlreadyOpen, NotOpen, MicroSeconds, Name}
 use Rattle.rules.specs.declared.Framing.{Framing}
 use Rattle.rules.specs.declared.Framing.the-variants.{Framed, Unframed}
-use Rattle.rules.specs.Units.{timeOf, fromMicros}
-use Rattle.rules.specs.Bytes.{part, messageID, messageSize, hasZero, nameIn}
-use Rattle.rules.specs.State.{Queue, Splicer, Link, closed, opened, linkOf, isOpen, withLink, withQueue, withClock}
+use Rattle.rules.specs.Units.{timeOf, badMicros, fromMicros}
+use Rattle.rules.specs.Bytes.{messageID, messageSize, oversize, dataOf, hasZero, nameIn, written}
+use Rattle.rules.specs.State.{Splicer, closed, opened, linkOf, isOpen, withLink, withQueue, withClock}
 use Rattle.rules.specs.Records.{Record, output}
-use Rattle.rules.specs.Ends.{Turn, closedBy}
-use Rattle.rules.specs.Answers.{Answered, answer}
+use Rattle.rules.specs.Ends.{closedBy}
+use Rattle.rules.specs.Answers.{answer}
 use Rattle.rules.specs.Instants.{runAll}
 
 -- the table of house numbers
@@ -55,6 +55,24 @@ unfoldable pub consumedBy : Answer → ℕ
 consumedBy (refused n) = 0
 consumedBy (good consumed rs) = consumed
 
+-- "bytes beyond those written stay unchanged": what a lent output buffer holds after a call that held e before it
+unfoldable pub bufferAfter : Answer → List ℕ → List ℕ
+bufferAfter a e = written e 0 (writtenBy a)
+
+-- ## The tests behind the house numbers
+
+-- 1: "connection above 3"
+abbrev pub noConnection : ℕ → Bool
+noConnection c = ltb 3 c
+
+-- 2: "output buffer below 4,096 bytes"; room: its length
+abbrev pub noRoom : ℕ → Bool
+noRoom room = ltb room 4096
+
+-- 7: "not open"
+abbrev pub notOpen : ℕ → Splicer → Bool
+notOpen c s = not (isOpen (linkOf c s))
+
 -- ## The five calls
 
 -- "A fresh splicer has clock 0, all connections closed."
@@ -74,39 +92,39 @@ fresh name = cond (hasZero name) (does 0 [] (named (nameIn name))) (refuse Name 
 -- "Order: open 1, 6". "Opening leaves the connection not initialised."
 unfoldable pub openCall : ℕ → Splicer → Called
 openCall c s =
-    cond (ltb 3 c) (refuse Connection s)
+    cond (noConnection c) (refuse Connection s)
     (cond (isOpen (linkOf c s)) (refuse AlreadyOpen s)
     (does 0 [] (withLink c opened s)))
 
--- "close 1, 2, 7". room: the length of the output buffer
+-- "close 1, 2, 7"
 unfoldable pub closeCall : ℕ → ℕ → Splicer → Called
 closeCall c room s =
     let t = closedBy c (s .queue) in
-    cond (ltb 3 c) (refuse Connection s)
-    (cond (ltb room 4096) (refuse Buffer s)
-    (cond (not (isOpen (linkOf c s))) (refuse NotOpen s)
+    cond (noConnection c) (refuse Connection s)
+    (cond (noRoom room) (refuse Buffer s)
+    (cond (notOpen c s) (refuse NotOpen s)
     (does 0 (t .written) (withLink c closed (withQueue (t .queue) s)))))
 
 -- "5 (header), 4, 5 (body)"; l: the bytes read so far
 unfoldable pub framing : List ℕ → Framing
 framing l =
     cond (ltb (length l) 8) (Unframed Short)
-    (cond (ltb 4088 (messageSize l)) (Unframed Oversize)
+    (cond (oversize l) (Unframed Oversize)
     (cond (ltb (length l) (8 + messageSize l)) (Unframed Short) (Framed (messageID l) (messageSize l))))
 
 -- "Message handles the first message only, and each is handed on as its own part of what was read."
 unfoldable pub handled : ℕ → Framing → List ℕ → Splicer → Called
 handled c (Unframed n) l s = refuse n s
 handled c (Framed id size) l s =
-    let a = answer c id (part 8 size l) s in
+    let a = answer c id (dataOf size l) s in
     does (8 + size) (a .written) (a .splicer)
 
 -- "message 1, 2, 7", then as above
 unfoldable pub messageCall : ℕ → List ℕ → ℕ → Splicer → Called
 messageCall c l room s =
-    cond (ltb 3 c) (refuse Connection s)
-    (cond (ltb room 4096) (refuse Buffer s)
-    (cond (not (isOpen (linkOf c s))) (refuse NotOpen s)
+    cond (noConnection c) (refuse Connection s)
+    (cond (noRoom room) (refuse Buffer s)
+    (cond (notOpen c s) (refuse NotOpen s)
     (handled c (framing l) l s)))
 
 -- the clock brought to until
@@ -119,8 +137,8 @@ ticked until s =
 unfoldable pub tickCall : ℕ → ℕ → ℕ → Splicer → Called
 tickCall seconds micros room s =
     let until = fromMicros (timeOf seconds micros) .0 in
-    cond (ltb room 4096) (refuse Buffer s)
-    (cond (ltb 999999 micros) (refuse MicroSeconds s)
+    cond (noRoom room) (refuse Buffer s)
+    (cond (badMicros micros) (refuse MicroSeconds s)
     (cond (ltb until (s .clock)) (refuse Clock s)
     (ticked until s)))
 

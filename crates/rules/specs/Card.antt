@@ -1,13 +1,12 @@
 -- 01, "The card program": a function from all input bytes to all output bytes.
-use mathlib.Core.Bool.{Bool, true, false, cond}
+use mathlib.Core.Bool.{cond}
 use mathlib.Core.List.{List, [], _∷_, _++_}
 use Prim.Native.Nat.{ℕ, zero, suc, _+_}
 use lib.Dec.{eqb, ltb}
-use lib.ListN.{length, drop, getD}
-use Rattle.rules.specs.Bytes.{part, field, messageSize, padded}
+use lib.ListN.{length, drop}
+use Rattle.rules.specs.Bytes.{part, field, messageSize, oversize, padded}
 use Rattle.rules.specs.State.{Splicer}
-use Rattle.rules.specs.Records.{output}
-use Rattle.rules.specs.Calls.{Answer, refused, good, Called, houseNumber, fresh, Call, opens, closes, messages, ticks, call}
+use Rattle.rules.specs.Calls.{Answer, refused, good, writtenBy, houseNumber, fresh, Call, opens, closes, messages, ticks, call}
 
 -- "ChannelName is "CH1"."
 unfoldable pub cardName : List ℕ
@@ -33,7 +32,7 @@ nextMessage l =
     let m = drop 2 l in
     let size = 8 + messageSize m in
     whole 10 l
-    (cond (ltb 4088 (messageSize m)) (ends (messages (field 1 1 l) (part 0 8 m) cardRoom))
+    (cond (oversize m) (ends (messages (field 1 1 l) (part 0 8 m) cardRoom))
     (whole (2 + size) l (calls (messages (field 1 1 l) (part 0 size m) cardRoom) (drop size m))))
 
 -- "0x4F connection (open), 0x43 connection (close), 0x4D connection and one message, 0x54 0x00 and Seconds 4, MicroSeconds 4
@@ -50,7 +49,7 @@ next l =
 -- "It writes each call's output; a refusal is 0x45 and the number."
 unfoldable pub shown : Answer → List ℕ
 shown (refused n) = 0x45 ∷ houseNumber n ∷ []
-shown (good consumed rs) = output rs
+shown (good consumed rs) = writtenBy (good consumed rs)
 
 -- what follows a call's output: nothing, or what `on` gives of the splicer after it and the rest of the input
 unfoldable pub cardStep : (Splicer → List ℕ → List ℕ) → Next → Splicer → List ℕ

@@ -1,4 +1,4 @@
--- 01, Instants (last paragraph) and "A session's end": followers, and how sessions end by eviction, abort and close.
+-- 01, Instants (last paragraph): followers, and how sessions end by eviction, abort and close.
 use mathlib.Core.Bool.{Bool, true, false, cond}
 use mathlib.Core.List.{List, [], _∷_, _++_, map}
 use Prim.Native.Nat.{ℕ, zero, suc}

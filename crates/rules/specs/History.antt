@@ -1,18 +1,20 @@
 -- Demand 3: a connection's waiting sessions, starts and ends, taken from calls and answer bytes alone.
 use mathlib.Core.Bool.{Bool, true, false, cond, not, _&&_, _||_}
 use mathlib.Core.List.{List, [], _∷_, _++_}
-use Prim.Native.Nat.{ℕ, zero, suc, _+_, _*_}
-use lib.Dec.{eqb, leb}
+use Prim.Native.Nat.{ℕ, _+_}
+use lib.Dec.{eqb}
 use lib.ListN.{length}
 use Rattle.rules.specs.declared.Refusal.{Refusal}
 use Rattle.rules.specs.declared.Start.{Start}
 use Rattle.rules.specs.declared.Start.the-variants.{Timed, Linked}
+use Rattle.rules.specs.declared.Message.{Message}
+use Rattle.rules.specs.declared.Message.the-variants.{Init, Alive, Splice, Abort, Unreadable}
 use Rattle.rules.specs.Units.{timeOf, fromMicros, fromTicks}
 use Rattle.rules.specs.Lists.{put, keep, count}
-use Rattle.rules.specs.Bytes.{messageID, dataOf}
-use Rattle.rules.specs.Reading.{sessionID, readStart, wholeRequest}
+use Rattle.rules.specs.Bytes.{messageID, messageSize, dataOf}
+use Rattle.rules.specs.Reading.{spliceRequest, sessionID, readSplice}
 use Rattle.rules.specs.State.{Splicer}
-use Rattle.rules.specs.Records.{Record, General, InitResponse, AliveResponse, SpliceResponse, SpliceComplete, AbortResponse, output, recordsIn}
+use Rattle.rules.specs.Records.{Record, General, InitResponse, AliveResponse, SpliceResponse, SpliceComplete, AbortResponse, recordsIn}
 use Rattle.rules.specs.Calls.{Answer, refused, good, Call, opens, closes, messages, ticks, call, writtenBy}
 
 -- ## Starts and ends among records
@@ -70,7 +72,7 @@ pub record Event : Type 0 where
 
 abbrev pub replyOf : Answer → Reply
 replyOf (refused n) = refusal n
-replyOf (good consumed rs) = wrote (output rs)
+replyOf (good consumed rs) = wrote (writtenBy (good consumed rs))
 
 -- the calls ks from the splicer s, each with its answer
 unfoldable pub history : List Call → Splicer → List Event
@@ -92,14 +94,18 @@ module _ {A : Type 0} where
   last p (x ∷ []) = p x
   last p (x ∷ y ∷ l) = last p (y ∷ l)
 
+-- the data of the message that l begins with
+abbrev pub dataIn : List ℕ → List ℕ
+dataIn l = dataOf (messageSize l) l
+
 abbrev pub isSplice : List ℕ → Bool
-isSplice l = eqb (messageID l) 0x0007
+isSplice l = eqb (messageID l) spliceRequest
 
 -- the numbers of c that wait after a message l of connection d, if those of w did before. A Splice_Request's own answer is
 -- the last record of its call
 unfoldable pub waitAnswered : ℕ → ℕ → List ℕ → List Record → List ℕ → List ℕ
 waitAnswered c d l rs w =
-    let x = sessionID (dataOf l) in
+    let x = sessionID (dataIn l) in
     cond (isSplice l) (put (eqb c d && last (isYes d x) rs) x (keep (unmarked c (front rs)) w)) (keep (unmarked c rs) w)
 
 unfoldable pub waitAfter : ℕ → Call → List Record → List ℕ → List ℕ
@@ -151,21 +157,22 @@ unfoldable pub startTold : ℕ → Start → List Entry → ℕ
 startTold c (Timed t) es = fromMicros t .0
 startTold c (Linked p) es = endTold c p es
 
+-- the end that a message asks for: "End is start plus Duration"
+unfoldable pub endAsked : ℕ → Message → List Entry → ℕ
+endAsked c (Init revision) es = 0
+endAsked c Alive es = 0
+endAsked c (Splice r) es = startTold c (r .start) es + fromTicks (r .duration) .0
+endAsked c (Abort x) es = 0
+endAsked c Unreadable es = 0
+
 -- the entry of a Splice_Request with the data d
 unfoldable pub entryOf : ℕ → List ℕ → List Entry → Entry
-entryOf c d es =
-    record {
-      conn = c;
-      id = sessionID d;
-      end = startTold c (readStart d) es + fromTicks (wholeRequest d .duration) .0;
-      ends = 0;
-      closed = false;
-    }
+entryOf c d es = record { conn = c; id = sessionID d; end = endAsked c (readSplice d) es; ends = 0; closed = false }
 
 unfoldable pub bookAnswered : ℕ → List ℕ → List Record → List Entry → List Entry
 bookAnswered d l rs es =
     cond (isSplice l)
-    (put (last (isYes d (sessionID (dataOf l))) rs) (entryOf d (dataOf l) es) (credited (front rs) es))
+    (put (last (isYes d (sessionID (dataIn l))) rs) (entryOf d (dataIn l) es) (credited (front rs) es))
     (credited rs es)
 
 -- connection d has closed

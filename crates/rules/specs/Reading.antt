@@ -9,12 +9,29 @@ use Rattle.rules.specs.declared.Start.the-variants.{Timed, Linked}
 use Rattle.rules.specs.declared.Request.{Request}
 use Rattle.rules.specs.declared.Message.{Message}
 use Rattle.rules.specs.declared.Message.the-variants.{Init, Alive, Splice, Abort, Unreadable}
-use Rattle.rules.specs.Units.{timeOf}
+use Rattle.rules.specs.Units.{timeOf, badMicros}
 use Rattle.rules.specs.Bytes.{part, field, hasZero}
 
 -- 0xFFFFFFFF: no number of a session; as a PriorSession it says that the request is timed
 abbrev pub nobody : ℕ
 nobody = 0xFFFFFFFF
+
+-- "ServiceID 0xFFFF (separate PIDs)"
+abbrev pub separateService : ℕ
+separateService = 0xFFFF
+
+-- "Read: Init_Request, Alive_Request, Splice_Request, Abort_Request."
+abbrev pub initRequest : ℕ
+initRequest = 0x0001
+
+abbrev pub aliveRequest : ℕ
+aliveRequest = 0x0005
+
+abbrev pub spliceRequest : ℕ
+spliceRequest = 0x0007
+
+abbrev pub abortRequest : ℕ
+abortRequest = 0x000E
 
 -- Init_Request: Revision_Num 2, ChannelName 32, SplicerName 32, the rest unread
 abbrev pub channelName : List ℕ → List ℕ
@@ -98,12 +115,12 @@ badSplice d =
     || (ltb 9 (accessType d)
     || (ltb 1 (overridePlaying d)
     || (ltb 1 (returnToPriorChannel d)
-    || (eqb (priorSession d) nobody && ltb 999999 (microSeconds d)))))))
+    || (eqb (priorSession d) nobody && badMicros (microSeconds d)))))))
 
 -- "With ServiceID 0xFFFF only the first 18 bytes are read."
 abbrev pub separatePids : List ℕ → Request
 separatePids d =
-    record { id = sessionID d; start = readStart d; service = 0xFFFF; duration = record { 0 = 0 }; access = 0; over = 0 }
+    record { id = sessionID d; start = readStart d; service = separateService; duration = record { 0 = 0 }; access = 0; over = 0 }
 
 abbrev pub wholeRequest : List ℕ → Request
 wholeRequest d =
@@ -119,17 +136,17 @@ wholeRequest d =
 unfoldable pub readSplice : List ℕ → Message
 readSplice d =
     cond (ltb (length d) 18) Unreadable
-    (cond (eqb (serviceID d) 0xFFFF) (Splice (separatePids d))
+    (cond (eqb (serviceID d) separateService) (Splice (separatePids d))
     (cond (badSplice d) Unreadable (Splice (wholeRequest d))))
 
--- the list of four: "Read: Init_Request, Alive_Request, Splice_Request, Abort_Request."
+-- the list of four
 abbrev pub isRead : ℕ → Bool
-isRead id = eqb id 0x0001 || (eqb id 0x0005 || (eqb id 0x0007 || eqb id 0x000E))
+isRead id = eqb id initRequest || (eqb id aliveRequest || (eqb id spliceRequest || eqb id abortRequest))
 
 -- a message of the list of four, by its MessageID and its data
 unfoldable pub read : ℕ → List ℕ → Message
 read id d =
-    cond (eqb id 0x0001) (readInit d)
-    (cond (eqb id 0x0005) (readAlive d)
-    (cond (eqb id 0x0007) (readSplice d)
-    (cond (eqb id 0x000E) (readAbort d) Unreadable)))
+    cond (eqb id initRequest) (readInit d)
+    (cond (eqb id aliveRequest) (readAlive d)
+    (cond (eqb id spliceRequest) (readSplice d)
+    (cond (eqb id abortRequest) (readAbort d) Unreadable)))

@@ -1,6 +1,8 @@
 -- 01, Bytes: "A wire time counts microseconds and a Duration counts 90 kHz ticks, and one becomes the other only here:
 -- in ninths of a microsecond, a second is 9,000,000, a microsecond 9, a tick 100. The clock and all instants are kept in ninths."
+use mathlib.Core.Bool.{Bool}
 use Prim.Native.Nat.{ℕ, _+_, _*_, _/_}
+use lib.Dec.{ltb}
 use Rattle.rules.specs.declared.Micros.{Micros}
 use Rattle.rules.specs.declared.Ticks.{Ticks}
 use Rattle.rules.specs.declared.Ninths.{Ninths}
@@ -8,6 +10,10 @@ use Rattle.rules.specs.declared.Ninths.{Ninths}
 -- the time that Seconds and MicroSeconds of the wire give
 abbrev pub timeOf : ℕ → ℕ → Micros
 timeOf seconds micros = record { 0 = seconds * 1000000 + micros }
+
+-- a time of the wire has at most 999,999 MicroSeconds
+abbrev pub badMicros : ℕ → Bool
+badMicros micros = ltb 999999 micros
 
 abbrev pub fromMicros : Micros → Ninths
 fromMicros m = record { 0 = m .0 * 9 }

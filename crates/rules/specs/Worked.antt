@@ -31,7 +31,7 @@ given : List ℕ
 given = 0x52 ∷ 0x00 ∷ 0x00 ∷ 0x00 ∷ 0x00 ∷ 0x00 ∷ 0x00 ∷ 0x67 ∷ 0xFF ∷ 0xFF ∷ 0x45 ∷ 0x07 ∷ []
 
 whole-case : Card.card input ≡ given
-unfolding input given Card.card Card.cardRun Card.cardStep Card.next Card.nextMessage Card.shown Card.cardName bytes value valueFrom Reading.readInit Reading.readAlive Reading.readAbort Reading.wellFormed Reading.readStart Reading.readSplice Reading.read Records.framed Records.recordBytes Records.output Ends.endings Ends.cancelled Ends.closedBy Answers.answerRead Answers.answer Calls.houseNumber Calls.named Calls.fresh Calls.openCall Calls.closeCall Calls.framing Calls.handled Calls.messageCall Calls.call
+unfolding input given Card.card Card.cardRun Card.cardStep Card.next Card.nextMessage Card.shown Card.cardName bytes value valueFrom Reading.readInit Reading.readAlive Reading.readAbort Reading.wellFormed Reading.readStart Reading.readSplice Reading.read Records.framed Records.recordBytes Records.output Ends.endings Ends.cancelled Ends.closedBy Answers.answerRead Answers.answer Calls.houseNumber Calls.named Calls.fresh Calls.openCall Calls.closeCall Calls.framing Calls.handled Calls.messageCall Calls.call Calls.writtenBy
 whole-case = refl
 
 -- ## What a case looks at
@@ -151,5 +151,5 @@ cases =
     ∷ []
 
 worked : map (λ c. c .seen) cases ≡ map (λ c. c .wants) cases
-unfolding sent from initOf asks timed aborts to card plays up ready load queued linked known joined played says counting accepts begins stops lastWrites cases events counts Records.framed Records.recordBytes Records.output Records.recordIn Records.recordsUpTo Records.recordsIn Ends.closedBy Calls.closeCall Calls.answers History.isStart History.isEnd History.isYes History.history History.front History.last History.waitAnswered History.waitAfter History.waitReplied History.waitingTold History.waitingCount History.credited History.endTold History.startTold History.entryOf History.bookAnswered History.shut History.bookAfter History.bookReplied History.book place insertAt removeAt bytes value valueFrom Reading.readInit Reading.readAbort Reading.wellFormed Reading.readStart Reading.readSplice Reading.read State.empty State.due Ends.andThen Ends.endings Ends.walk Ends.followers Ends.dismissed Ends.evictedAt Ends.evicted Ends.cancelled Ends.aborted Instants.mayStart Instants.launched Instants.startAt Instants.endAt Instants.instant Instants.onAir Instants.elapse Instants.run Instants.runAll Answers.initResult Answers.answerInit Answers.answerAbort Answers.startOf Answers.sessionAt Answers.requested Answers.unknownPrior Answers.tooLate Answers.collides Answers.full Answers.spliceResult Answers.inserted Answers.accepted Answers.answerSplice Answers.answerRead Answers.answer Calls.houseNumber Calls.named Calls.fresh Calls.openCall Calls.framing Calls.handled Calls.messageCall Calls.ticked Calls.tickCall Calls.call Card.cardName ended three sixtyFour through incident behindZero oneTick onlyDirect handOver slot Calls.writtenBy
+unfolding sent from initOf asks timed aborts to card plays up ready load queued linked known joined played says counting accepts begins stops lastWrites cases events counts Records.framed Records.recordBytes Records.output Records.recordIn Records.recordsUpTo Records.recordsIn Ends.closedBy Calls.closeCall Calls.answers History.isStart History.isEnd History.isYes History.history History.front History.last History.waitAnswered History.waitAfter History.waitReplied History.waitingTold History.waitingCount History.credited History.endTold History.startTold History.entryOf History.bookAnswered History.shut History.bookAfter History.bookReplied History.book place insertAt removeAt bytes value valueFrom Reading.readInit Reading.readAbort Reading.wellFormed Reading.readStart Reading.readSplice Reading.read State.empty State.due Ends.andThen Ends.endings Ends.walk Ends.followers Ends.dismissed Ends.evictedAt Ends.evicted Ends.cancelled Ends.aborted Instants.mayStart Instants.launched Instants.startAt Instants.endAt Instants.instant Instants.onAir Instants.elapse Instants.run Instants.runAll Answers.initResult Answers.answerInit Answers.answerAbort Answers.startOf Answers.sessionAt Answers.requested Answers.unknownPrior Answers.tooLate Answers.collides Answers.full Answers.spliceResult Answers.inserted Answers.accepted Answers.answerSplice Answers.answerRead Answers.answer Calls.houseNumber Calls.named Calls.fresh Calls.openCall Calls.framing Calls.handled Calls.messageCall Calls.ticked Calls.tickCall Calls.call Calls.writtenBy Card.cardName ended three sixtyFour through incident behindZero oneTick onlyDirect handOver slot History.endAsked
 worked = refl

@@ -61,7 +61,7 @@ pub enum Refusal {
     Name,
 }
 
-// The first message of what was read: its MessageID and MessageSize, or why it cannot be taken yet.
+// The first message of what was read: its MessageID and MessageSize, or the refusal that it gets.
 pub enum Framing {
     Framed(u16, u16),
     Unframed(Refusal),

@@ -1,0 +1,138 @@
+-- Laws of the places of lent words: a place is read and written as an element of a list.
+use mathlib.Core.Path.{_≡_, refl, ap, _∙_}
+use mathlib.Core.List.{List, [], _∷_}
+use Prim.Native.Nat.{ℕ, zero, suc, _+_, _-_, _*_, _/_, _≤_, _<_}
+use native.Mathlib.Omega.{arith}
+use native.Mathlib.Nat.{le-of-suc-le-suc}
+use lib.ListN.{length, drop, set, getD, replicate, length-set, length-drop}
+use lib.Seq.{getD-drop}
+use Rattle.rules.specs.declared.Session.{Session}
+use Rattle.rules.specs.State.{empty}
+use Rattle.places.specs.Places.{row, rows, places, zeros}
+
+pub length-rows : (n : ℕ) (q : List ℕ) → length (rows n q) ≡ n
+unfolding rows
+length-rows zero q = refl
+length-rows (suc n) q = ap suc (length-rows n (drop 8 q))
+
+pub length-places : (q : List ℕ) → length (places q) ≡ length q / 8
+length-places q = length-rows (length q / 8) q
+
+-- eight words in front
+split8 : (P : List ℕ → Type 0) (q : List ℕ) → 8 ≤ length q → ((a b c d e f g h : ℕ) (l : List ℕ) → P (a ∷ b ∷ c ∷ d ∷ e ∷ f ∷ g ∷ h ∷ l)) → P q
+split8 P [] k p = absurd (omega arith)
+split8 P (a ∷ []) k p = absurd (omega arith)
+split8 P (a ∷ b ∷ []) k p = absurd (omega arith)
+split8 P (a ∷ b ∷ c ∷ []) k p = absurd (omega arith)
+split8 P (a ∷ b ∷ c ∷ d ∷ []) k p = absurd (omega arith)
+split8 P (a ∷ b ∷ c ∷ d ∷ e ∷ []) k p = absurd (omega arith)
+split8 P (a ∷ b ∷ c ∷ d ∷ e ∷ f ∷ []) k p = absurd (omega arith)
+split8 P (a ∷ b ∷ c ∷ d ∷ e ∷ f ∷ g ∷ []) k p = absurd (omega arith)
+split8 P (a ∷ b ∷ c ∷ d ∷ e ∷ f ∷ g ∷ h ∷ l) k p = p a b c d e f g h l
+
+-- the word k of the next place
+next : (i k : ℕ) → suc i * 8 + k ≡ suc (suc (suc (suc (suc (suc (suc (suc (i * 8 + k))))))))
+next i k = omega arith
+
+next0 : (i : ℕ) → suc i * 8 ≡ suc (suc (suc (suc (suc (suc (suc (suc (i * 8))))))))
+next0 i = omega arith
+
+-- what is read at the words from b on
+abbrev pub loaded : List ℕ → ℕ → Session
+loaded q b =
+    record {
+      conn = getD q b 0;
+      id = getD q (b + 1) 0;
+      prior = getD q (b + 2) 0;
+      start = record { 0 = getD q (b + 3) 0 };
+      end = record { 0 = getD q (b + 4) 0 };
+      access = getD q (b + 5) 0;
+      over = getD q (b + 6) 0;
+      played = record { 0 = getD q (b + 7) 0 };
+    }
+
+-- what is left when x is written there
+abbrev pub stored : List ℕ → ℕ → Session → List ℕ
+stored q b x =
+    set (set (set (set (set (set (set (set q b (x .conn)) (b + 1) (x .id)) (b + 2) (x .prior)) (b + 3) (x .start .0))
+    (b + 4) (x .end .0)) (b + 5) (x .access)) (b + 6) (x .over)) (b + 7) (x .played .0)
+
+rows-loaded : (n i : ℕ) (q : List ℕ) (d : Session) → i < n → 8 * n ≤ length q → loaded q (i * 8) ≡ getD (rows n q) i d
+unfolding rows
+rows-loaded zero i q d h m = absurd (omega arith)
+rows-loaded (suc n) zero q d h m = refl
+rows-loaded (suc n) (suc i) q d h m =
+    split8 (λ q. 8 * n ≤ length (drop 8 q) → loaded q (suc i * 8) ≡ getD (rows (suc n) q) (suc i) d) q (omega arith)
+    (λ a b c e f g j k l. λ m′.
+    rw (next i 1, next i 2, next i 3, next i 4, next i 5, next i 6, next i 7, next0 i) (rows-loaded n i l d (le-of-suc-le-suc h) m′))
+    (simp length-drop (omega arith))
+
+rows-stored : (n i : ℕ) (q : List ℕ) (x : Session) → i < n → 8 * n ≤ length q → rows n (stored q (i * 8) x) ≡ set (rows n q) i x
+unfolding rows
+rows-stored zero i q x h m = absurd (omega arith)
+rows-stored (suc n) zero q x h m =
+    split8 (λ q. rows (suc n) (stored q (0 * 8) x) ≡ set (rows (suc n) q) 0 x) q (omega arith) (λ a b c e f g j k l. refl)
+rows-stored (suc n) (suc i) q x h m =
+    split8 (λ q. 8 * n ≤ length (drop 8 q) → rows (suc n) (stored q (suc i * 8) x) ≡ set (rows (suc n) q) (suc i) x) q (omega arith)
+    (λ a b c e f g j k l. λ m′.
+    rw (next i 1, next i 2, next i 3, next i 4, next i 5, next i 6, next i 7, next0 i)
+    (ap (λ r. row (a ∷ b ∷ c ∷ e ∷ f ∷ g ∷ j ∷ k ∷ l) ∷ r) (rows-stored n i l x (le-of-suc-le-suc h) m′)))
+    (simp length-drop (omega arith))
+
+pub load-is : (q : List ℕ) (i : ℕ) (d : Session) → i < length q / 8 → loaded q (i * 8) ≡ getD (places q) i d
+load-is q i d h = rows-loaded (length q / 8) i q d h (omega arith)
+
+pub store-is : (q : List ℕ) (i : ℕ) (x : Session) → i < length q / 8 → places (stored q (i * 8) x) ≡ set (places q) i x
+store-is q i x h =
+    let n : length (stored q (i * 8) x) ≡ length q = simp length-set in
+    rw n (rows-stored (length q / 8) i q x h (omega arith))
+
+-- the words of whole places are determined by what they hold
+rows-same : (n : ℕ) (p q : List ℕ) → length p ≡ 8 * n → length q ≡ 8 * n → rows n p ≡ rows n q → p ≡ q
+unfolding rows
+rows-same zero [] [] h k e = refl
+rows-same zero [] (x ∷ q) h k e = absurd (omega arith)
+rows-same zero (x ∷ p) q h k e = absurd (omega arith)
+rows-same (suc n) p q h k e =
+    split8 (λ p. length p ≡ 8 * suc n → rows (suc n) p ≡ rows (suc n) q → p ≡ q) p (omega arith)
+    (λ a b c d f g i j l. λ h′ e′. split8 (λ q. length q ≡ 8 * suc n → rows (suc n) (a ∷ b ∷ c ∷ d ∷ f ∷ g ∷ i ∷ j ∷ l) ≡ rows (suc n) q → a ∷ b ∷ c ∷ d ∷ f ∷ g ∷ i ∷ j ∷ l ≡ q) q (omega arith)
+    (λ a′ b′ c′ d′ f′ g′ i′ j′ l′. λ k′ e″. join a b c d f g i j l a′ b′ c′ d′ f′ g′ i′ j′ l′ (head e″) (rows-same n l l′ (omega arith) (omega arith) (ap (drop 1) e″))) k e′)
+    h e
+  where
+    head : {l m : List Session} → l ≡ m → getD l 0 empty ≡ getD m 0 empty
+    head e = ap (λ l. getD l 0 empty) e
+
+    join : (a b c d f g i j : ℕ) (l : List ℕ) (a′ b′ c′ d′ f′ g′ i′ j′ : ℕ) (l′ : List ℕ) →
+        row (a ∷ b ∷ c ∷ d ∷ f ∷ g ∷ i ∷ j ∷ l) ≡ row (a′ ∷ b′ ∷ c′ ∷ d′ ∷ f′ ∷ g′ ∷ i′ ∷ j′ ∷ l′) → l ≡ l′ →
+        a ∷ b ∷ c ∷ d ∷ f ∷ g ∷ i ∷ j ∷ l ≡ a′ ∷ b′ ∷ c′ ∷ d′ ∷ f′ ∷ g′ ∷ i′ ∷ j′ ∷ l′
+    join a b c d f g i j l a′ b′ c′ d′ f′ g′ i′ j′ l′ e t =
+        λ z. e z .conn ∷ e z .id ∷ e z .prior ∷ e z .start .0 ∷ e z .end .0 ∷ e z .access ∷ e z .over ∷ e z .played .0 ∷ t z
+
+pub places-same : (p q : List ℕ) → length p ≡ length q → length p ≡ 8 * (length p / 8) → places p ≡ places q → p ≡ q
+places-same p q h k e = rows-same (length p / 8) p q k (omega arith) (e ∙ rw h refl)
+
+-- the places of zeros are empty
+zero-at : (m k : ℕ) → getD (zeros m) k 0 ≡ 0
+zero-at zero k = refl
+zero-at (suc m) zero = refl
+zero-at (suc m) (suc k) = zero-at m k
+
+rows-zero : (n : ℕ) (q : List ℕ) → ((k : ℕ) → getD q k 0 ≡ 0) → rows n q ≡ replicate n empty
+unfolding rows empty
+rows-zero zero q z = refl
+rows-zero (suc n) q z =
+    let e : row q ≡ empty =
+    λ i. record {
+      conn = z 0 i;
+      id = z 1 i;
+      prior = z 2 i;
+      start = record { 0 = z 3 i };
+      end = record { 0 = z 4 i };
+      access = z 5 i;
+      over = z 6 i;
+      played = record { 0 = z 7 i };
+    } in
+    λ i. e i ∷ rows-zero n (drop 8 q) (λ k. getD-drop 8 q k 0 ∙ z (8 + k)) i
+
+pub places-zero : (m : ℕ) → places (zeros m) ≡ replicate (length (zeros m) / 8) empty
+places-zero m = rows-zero (length (zeros m) / 8) (zeros m) (zero-at m)

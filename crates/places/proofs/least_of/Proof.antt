@@ -1,0 +1,64 @@
+-- `best` is the least among the first i, and the rest is to come (`Lowest`).
+use native.Mathlib.Omega.{arith}
+use borrow.Author.Needs.{needs}
+use mathlib.Core.Path.{ap, _∙_}
+use Prim.Native.Nat.{_-_, _≤_}
+use mathlib.Core.Logic.{⊎-elim}
+use Rattle.rules.specs.State.{empty}
+use Rattle.places.specs.Places.{lot, momentOf}
+use Rattle.places.proofs.Laws.{within, Lowest, lowest-none, lowest-more, lowest-out}
+use Rattle.places.proofs.least_of.Statement.{statement}
+use Rattle.places.proofs.least_of.Tie as tie
+
+abbrev Inv-loop : tie.InvT-loop
+Inv-loop q n m best₀ i₀ best i = Lowest (best₀ .0) (momentOf m) (lot q n) i (best .0)
+
+abbrev μ-loop : tie.MeasureT-loop
+μ-loop q n m best₀ i₀ best i = n - i
+
+loop-holds : tie.Need-loop-holds Inv-loop μ-loop
+loop-holds c = lowest-none _ _ (lot (c .before .args .q .now) (c .before .args .n))
+
+load-requires : tie.Need-load-requires Inv-loop μ-loop
+load-requires c κs =
+    let s = c .before .before .before in
+    within (s .args .q .now) (s .args .n) (c .before .loop .i) (s .pre) (c .loop-test .taken)
+
+moment-of-requires : tie.Need-moment-of-requires Inv-loop μ-loop
+moment-of-requires c κs = search needs
+
+add-i : tie.Need-add-i Inv-loop μ-loop
+add-i c = search needs
+
+loop-less : tie.Need-loop-less Inv-loop μ-loop
+loop-less c = search needs
+
+loop-again : tie.Need-loop-again Inv-loop μ-loop
+loop-again c =
+    let s = c .before .before .before .before .before .before .before .before in
+    let l = c .before .before .before .before .before .before .loop in
+    let q = lot (s .args .q .now) (s .args .n) in
+    let e = c .before .before .before .moment-of .ensures ∙ ap (momentOf (s .args .m)) (c .before .before .before .before .load .ensures) in
+    ⊎-elim
+    (λ w. lowest-more _ _ q (l .i) (l .best .0) _ empty (s .pre) (omega arith) (omega (arith, ap (λ t. t .0) (w .1))) (l .inv))
+    (λ w. lowest-more _ _ q (l .i) (l .best .0) _ empty (s .pre) (omega arith) (omega (arith, ap (λ t. t .0) (w .1))) (l .inv))
+    (c .if1 .came)
+
+returns : tie.Need-returns Inv-loop μ-loop
+returns c =
+    let s = c .before .before .before in
+    lowest-out _ _ (lot (s .args .q .now) (s .args .n)) (c .before .loop .i) (c .before .loop .best .0) (s .pre) (omega arith) (c .before .loop .inv)
+
+pub least-of-spec : {M : Type 1} → statement M
+least-of-spec =
+    tie.close
+    (tie.spec
+    Inv-loop
+    μ-loop
+    loop-holds
+    load-requires
+    moment-of-requires
+    add-i
+    loop-less
+    loop-again
+    returns)

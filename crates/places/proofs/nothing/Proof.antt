@@ -1,0 +1,12 @@
+-- `empty`, field by field.
+use mathlib.Core.Path.{refl}
+use Rattle.rules.specs.State.{empty}
+use Rattle.places.proofs.nothing.Statement.{statement}
+use Rattle.places.proofs.nothing.Tie as tie
+
+returns : tie.Need-returns
+unfolding empty
+returns c = refl
+
+pub nothing-spec : {M : Type 1} → statement M
+nothing-spec = tie.close (tie.spec returns)

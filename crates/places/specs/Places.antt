@@ -1,0 +1,70 @@
+-- The sessions that lent words hold, what is asked of the words, and what a search looks for.
+use mathlib.Core.Path.{_≡_}
+use mathlib.Core.List.{List, [], _∷_}
+use mathlib.Core.Bool.{Bool}
+use Prim.Native.Nat.{ℕ, zero, suc, _-_, _/_, _≤_}
+use lib.ListN.{length, take, drop, getD, replicate}
+use Rattle.rules.specs.declared.Session.{Session}
+use Rattle.rules.specs.State.{empty, of, is, follows, startsAt, startsAfter, endsAt}
+use Rattle.places.specs.declared.Key.{Key}
+use Rattle.places.specs.declared.Key.the-variants.{Held, Follows, Of, StartsAt, StartsAfter, EndsAt}
+use Rattle.places.specs.declared.Moment.{Moment}
+use Rattle.places.specs.declared.Moment.the-variants.{Start, End}
+
+-- the session in the first eight words
+abbrev pub row : List ℕ → Session
+row q =
+    record {
+      conn = getD q 0 0;
+      id = getD q 1 0;
+      prior = getD q 2 0;
+      start = record { 0 = getD q 3 0 };
+      end = record { 0 = getD q 4 0 };
+      access = getD q 5 0;
+      over = getD q 6 0;
+      played = record { 0 = getD q 7 0 };
+    }
+
+-- n sessions, eight words to each
+unfoldable pub rows : ℕ → List ℕ → List Session
+rows zero q = []
+rows (suc n) q = row q ∷ rows n (drop 8 q)
+
+-- the places of lent words
+abbrev pub places : List ℕ → List Session
+places q = rows (length q / 8) q
+
+-- the words of places that are all empty
+abbrev pub zeros : ℕ → List ℕ
+zeros n = replicate n 0
+
+-- places, and how many of them are used
+pub record Lot : Type 0 where
+  pub items : List Session
+  pub len : ℕ
+
+abbrev pub lot : List ℕ → ℕ → Lot
+lot q n = record { items = places q; len = n }
+
+-- the sessions that stand there, in their order
+abbrev pub used : Lot → List Session
+used l = take (l .len) (l .items)
+
+-- what `clear` gives and each function keeps: the places behind the used ones are empty
+pub record Good (l : Lot) : Type 0 where
+  pub fits : l .len ≤ length (l .items)
+  pub clear : drop (l .len) (l .items) ≡ replicate (length (l .items) - l .len) empty
+
+-- the test of each key
+abbrev pub keyTest : Key → Session → Bool
+keyTest (Held c x) = is c x
+keyTest (Follows c x) = follows c x
+keyTest (Of c) = of c
+keyTest (StartsAt t) = startsAt (t .0)
+keyTest (StartsAfter t) = startsAfter (t .0)
+keyTest (EndsAt t) = endsAt (t .0)
+
+-- a session's start or end
+abbrev pub momentOf : Moment → Session → ℕ
+momentOf Start s = s .start .0
+momentOf End s = s .end .0

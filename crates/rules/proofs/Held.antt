@@ -1,0 +1,172 @@
+-- What is held: each session's fields in their ranges, no number held twice by a connection, none held by a closed one.
+-- Assumes nothing but, for the widths of numbers, that the bytes read are bytes.
+use mathlib.Core.Path.{_≡_, refl, ap, sym, _∙_}
+use mathlib.Core.Bool.{Bool, true, false, cond, not, _&&_}
+use mathlib.Core.List.{List, [], _∷_, _++_}
+use Prim.Native.Nat.{ℕ, zero, suc, _+_, _-_, _*_, _≤_, _<_}
+use native.Mathlib.Omega.{arith}
+use lib.Dec.{eqb, ltb}
+use lib.ListN.{length, getD, set, length-set}
+use lib.Seq.{getD-set-same, getD-set-other}
+use borrow.Author.Tests.{eqb-true, eqb-false, ne-eqb}
+use Rattle.rules.specs.declared.Session.{Session}
+use Rattle.rules.specs.declared.Start.{Start}
+use Rattle.rules.specs.declared.Start.the-variants.{Timed, Linked}
+use Rattle.rules.specs.declared.Request.{Request}
+use Rattle.rules.specs.Units.{timeOf, fromMicros}
+use Rattle.rules.specs.Lists.{bit, count, omit}
+use Rattle.rules.specs.Bytes.{hasZero}
+use Rattle.rules.specs.Reading.{nobody}
+use Rattle.rules.specs.State.{Queue, Splicer, Link, closed, opened, initialised, of, is, held, holds, linkOf, isOpen, withLink, withQueue}
+use Rattle.rules.specs.Ends.{evicted, closedBy, cancelled, aborted}
+use Rattle.rules.specs.Instants.{playing, runAll}
+use Rattle.rules.specs.Answers.{startOf, priorOf, sessionAt, requested, accepted}
+use Rattle.rules.specs.Calls.{Call, Called, named, fresh}
+use Rattle.rules.proofs.Tests.{by, clash, and-both, eqb-same}
+use Rattle.rules.proofs.All.{All}
+use Rattle.rules.proofs.Bytes.{Byte, NoZero, nameIn-zero, nameIn-shorter, nameIn-byte}
+use Rattle.rules.proofs.Count.{some-none, count-omitted}
+use Rattle.rules.proofs.Every.{Each}
+use Rattle.rules.proofs.Checks.{Passed, Granted, Fitting, StartFits}
+use Rattle.rules.proofs.Leaving.{evicted-fewer, aborted-fewer, closedBy-fewer}
+use Rattle.rules.proofs.Always.{Wired, Admitted, grants, fits, Kept, KeptHeld}
+use Rattle.rules.proofs.Sessions.{each-kept, heldCount, count-held, fewer-held, held-accepted, held-tick}
+
+-- ## Each session
+
+-- a session as it was accepted, whatever the bytes
+pub record Proper (s : Session) : Type 0 where
+  pub conn : s .conn ≤ 3
+  pub somebody : eqb (s .id) nobody ≡ false
+  pub access : s .access ≤ 9
+  pub over : s .over ≤ 1
+  pub lasts : s .start .0 < s .end .0
+
+pub proper-kept : {F : Call → Type 0} → KeptHeld F (λ now q. Each Proper q)
+unfolding requested sessionAt
+proper-kept =
+    each-kept Proper (λ d s h. record { conn = h .conn; somebody = h .somebody; access = h .access; over = h .over; lasts = h .lasts })
+    (λ s c r a h. let g = grants a in
+    record { conn = a .low; somebody = a .passed .somebody; access = g .ranked; over = g .overrides; lasts = omega (arith, g .lasts) })
+
+-- the numbers that bytes hold: a SessionID and a PriorSession are four of them, and so is a Duration
+pub record Small (s : Session) : Type 0 where
+  pub id : s .id < 0xFFFFFFFF
+  pub prior : s .prior ≤ 0xFFFFFFFF
+  pub duration : s .end .0 ≤ s .start .0 + 100 * 0xFFFFFFFF
+  pub timed : s .prior ≡ nobody → s .start .0 < 4294967296 * 9000000
+
+pub small-kept : KeptHeld Wired (λ now q. Each Small q)
+unfolding requested sessionAt startOf
+small-kept =
+    each-kept Small (λ d s h. record { id = h .id; prior = h .prior; duration = h .duration; timed = h .timed })
+    (λ s c r a h. new (s .queue) c r (a .passed .somebody) (fits a))
+  where
+    prior : (f : Start) → StartFits f → priorOf f ≤ 0xFFFFFFFF
+    prior (Timed t) h = omega arith
+    prior (Linked p) h = omega arith
+
+    timed : (c : ℕ) (f : Start) (q : Queue) → StartFits f → priorOf f ≡ nobody → startOf c f q < 4294967296 * 9000000
+    timed c (Timed t) q h e = omega arith
+    timed c (Linked p) q h e = absurd (omega arith)
+
+    new : (q : Queue) (c : ℕ) (r : Request) → eqb (r .id) nobody ≡ false → Fitting r → Small (requested c r q)
+    new q c r e f =
+        let n = eqb-false (r .id) nobody e in
+        record {
+          id = omega (arith, f .id);
+          prior = prior (r .start) (f .start);
+          duration = omega (arith, f .duration);
+          timed = timed c (r .start) q (f .start);
+        }
+
+-- ## No number twice
+
+abbrev pub Once : Queue → Type 0
+Once q = (c x : ℕ) → heldCount q (is c x) ≤ 1
+
+pub once-kept : {F : Call → Type 0} → KeptHeld F (λ now q. Once q)
+unfolding requested sessionAt
+once-kept =
+    record {
+      closing = λ now q c h d x. omega (arith, h d x, fewer-held (is d x) q _ (closedBy-fewer c q));
+      aborting = λ now q c y e h d x. omega (arith, h d x, fewer-held (is d x) q _ (aborted-fewer c y q));
+      accepting = λ s c r a h d x. new (s .queue) c r (a .passed .number) h d x (is d x (requested c r (s .queue))) refl;
+      ticking = λ now until q le h d x. omega (arith, h d x, held-tick (is d x) (λ e s. refl) now until q);
+    }
+  where
+    new : (q : Queue) (c : ℕ) (r : Request) → holds c (r .id) q ≡ false → Once q → (d x : ℕ) (b : Bool) → is d x (requested c r q) ≡ b
+        → heldCount (accepted (requested c r q) q .queue) (is d x) ≤ 1
+    new q c r n h d x true e =
+        let i = and-both (eqb d c) (eqb x (r .id)) e in
+        let z : count (is d x) (held q) ≡ 0 = rw (eqb-true d c (i .0), eqb-true x (r .id) (i .1)) (some-none (is c (r .id)) (held q) n) in
+        let s = requested c r q in
+        omega (arith, held-accepted (is d x) s q, ap bit e, fewer-held (is d x) q _ (evicted-fewer (s .start .0) q), z, count-held (is d x) q)
+    new q c r n h d x false e =
+        let s = requested c r q in
+        omega (arith, held-accepted (is d x) s q, ap bit e, fewer-held (is d x) q _ (evicted-fewer (s .start .0) q), h d x)
+
+-- ## Connections and the name
+
+pub record Linking (s : Splicer) : Type 0 where
+  pub four : length (s .links) ≡ 4
+  pub shut : (c : ℕ) → isOpen (linkOf c s) ≡ false → heldCount (s .queue) (of c) ≡ 0
+  pub zeros : NoZero (s .name)
+  pub short : length (s .name) < 32
+  pub bytes : All Byte (s .name)
+
+-- connection c gets the link l, and the queue becomes q
+linking-set : (s : Splicer) (q : Queue) (c : ℕ) (l : Link) → c ≤ 3 → Linking s → (isOpen l ≡ false → heldCount q (of c) ≡ 0)
+    → ((d : ℕ) → (d ≡ c → ⊥) → heldCount q (of d) ≤ heldCount (s .queue) (of d)) → Linking (withLink c l (withQueue q s))
+linking-set s q c l low h own others =
+    record {
+      four = length-set (s .links) c l ∙ h .four;
+      shut = λ d e. go d (eqb d c) refl e;
+      zeros = h .zeros;
+      short = h .short;
+      bytes = h .bytes;
+    }
+  where
+    go : (d : ℕ) (b : Bool) → eqb d c ≡ b → isOpen (getD (set (s .links) c l) d closed) ≡ false → heldCount q (of d) ≡ 0
+    go d true f e =
+        let i = eqb-true d c f in
+        let g : isOpen l ≡ false = rw (getD-set-same (s .links) c l closed (omega (arith, h .four))) at (rw i at e) in
+        rw i (own g)
+    go d false f e =
+        let n = eqb-false d c f in
+        let g : isOpen (linkOf d s) ≡ false = rw (getD-set-other (s .links) c d l closed n) at e in
+        omega (arith, others d n, h .shut d g)
+
+linking-queue : (s : Splicer) (q : Queue) → Linking s → ((d : ℕ) → isOpen (linkOf d s) ≡ false → heldCount q (of d) ≤ heldCount (s .queue) (of d)) → Linking (withQueue q s)
+linking-queue s q h le = record { four = h .four; shut = λ d e. omega (arith, le d e, h .shut d e); zeros = h .zeros; short = h .short; bytes = h .bytes }
+
+pub linking-kept : {F : Call → Type 0} → Kept F Linking
+unfolding requested sessionAt closedBy cancelled
+linking-kept =
+    record {
+      opening = λ s c low e h. linking-set s (s .queue) c opened low h (λ f. absurd (clash true refl f)) (λ d n. omega arith);
+      naming = λ s c low e h. linking-set s (s .queue) c initialised low h (λ f. absurd (clash true refl f)) (λ d n. omega arith);
+      closing = λ s c low e h. linking-set s (closedBy c (s .queue) .queue) c closed low h (λ f. gone c (s .queue)) (λ d n. fewer-held (of d) (s .queue) _ (closedBy-fewer c (s .queue)));
+      aborting = λ s c x low e a h. linking-queue s _ h (λ d f. fewer-held (of d) (s .queue) _ (aborted-fewer c x (s .queue)));
+      accepting = λ s c r a h. linking-queue s _ h (λ d f. new s c r (a .linked) d f);
+      ticking = λ s seconds micros room f m le h. let until = fromMicros (timeOf seconds micros) .0 in
+          let k = linking-queue s (runAll (s .clock) until (s .queue) .queue) h (λ d e. held-tick (of d) (λ e u. refl) (s .clock) until (s .queue)) in
+          record { four = k .four; shut = k .shut; zeros = k .zeros; short = k .short; bytes = k .bytes };
+    }
+  where
+    gone : (c : ℕ) (q : Queue) → heldCount (closedBy c q .queue) (of c) ≡ 0
+    gone c q = omega (arith, count-omitted (of c) (q .waiting), count-omitted (of c) (q .started))
+
+    new : (s : Splicer) (c : ℕ) (r : Request) → isOpen (linkOf c s) ≡ true → (d : ℕ) → isOpen (linkOf d s) ≡ false
+        → heldCount (accepted (requested c r (s .queue)) (s .queue) .queue) (of d) ≤ heldCount (s .queue) (of d)
+    new s c r e d f =
+        let n = requested c r (s .queue) in
+        let z : eqb d c ≡ false = ne-eqb d c (λ i. clash (isOpen (linkOf c s)) e (rw i at f)) in
+        omega (arith, held-accepted (of d) n (s .queue), ap bit z, fewer-held (of d) (s .queue) _ (evicted-fewer (n .start .0) (s .queue)))
+
+pub linking-fresh : (name : List ℕ) → length name ≡ 32 → All Byte name → Linking (fresh name .splicer)
+unfolding fresh named
+linking-fresh name e a =
+    by (λ (k : Called). Linking (k .splicer)) (hasZero name) _ _
+    (λ z. record { four = refl; shut = λ c f. refl; zeros = nameIn-zero name; short = omega (arith, nameIn-shorter name z); bytes = nameIn-byte name a })
+    (λ z. record { four = refl; shut = λ c f. refl; zeros = refl; short = omega arith; bytes = tt })

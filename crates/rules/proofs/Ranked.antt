@@ -1,0 +1,86 @@
+-- The AccessTypes of the started fall strictly and are at most 9, so at most ten have started. Assumes nothing.
+use mathlib.Core.Path.{_≡_, refl, ap, sym, _∙_}
+use mathlib.Core.Bool.{Bool, true, false, cond, not, _&&_}
+use mathlib.Core.List.{List, [], _∷_}
+use Prim.Native.Nat.{ℕ, zero, suc, _+_, _-_, _*_, _≤_, _<_}
+use native.Mathlib.Omega.{arith}
+use lib.Dec.{eqb, ltb}
+use lib.ListN.{length, getD}
+use borrow.Author.Tests.{ltb-true}
+use Rattle.rules.specs.declared.Session.{Session}
+use Rattle.rules.specs.declared.Request.{Request}
+use Rattle.rules.specs.Lists.{place, removeAt}
+use Rattle.rules.specs.State.{Queue, Splicer, empty, startsAt, withWaiting}
+use Rattle.rules.specs.Ends.{Turn, andThen, evicted, dismissed}
+use Rattle.rules.specs.Instants.{outranks, mayStart, launched, startAt, endAt, instant, onAir, elapse, runAll}
+use Rattle.rules.specs.Answers.{requested, accepted}
+use Rattle.rules.specs.Calls.{Call}
+use Rattle.rules.proofs.Tests.{by, and-both}
+use Rattle.rules.proofs.All.{All, all-into}
+use Rattle.rules.proofs.Every.{Fewer, none, less, stay, fewer-all}
+use Rattle.rules.proofs.Leaving.{endAt-fewer, evicted-started, aborted-fewer, closedBy-fewer}
+use Rattle.rules.proofs.Always.{KeptHeld}
+use Rattle.rules.proofs.Tick.{run-law}
+
+abbrev pub Falling : List Session → Type 0
+Falling [] = Unit {0}
+Falling (s ∷ k) = All (λ u. u .access < s .access) k × Falling k
+
+fewer-falling : {k l : List Session} → Fewer k l → Falling k → Falling l
+fewer-falling none f = tt
+fewer-falling (less h) f = fewer-falling h (f .1)
+fewer-falling (stay {x = s} h) f = (fewer-all (λ u. u .access < s .access) h (f .0), fewer-falling h (f .1))
+
+falling-push : (s : Session) (k : List Session) → mayStart s k ≡ true → Falling k → Falling (s ∷ k)
+unfolding mayStart
+falling-push s [] e f = (tt, tt)
+falling-push s (a ∷ k) e f =
+    let h = ltb-true (a .access) (s .access) (and-both (eqb (s .over) 1) (outranks s a) e .1) in
+    ((h, all-into (λ u. u .access < a .access) (λ u. u .access < s .access) (λ u i. omega arith) k (f .0)), f)
+
+falling-onAir : (d : ℕ) (k : List Session) → Falling k → Falling (onAir d k)
+unfolding onAir
+falling-onAir d [] f = f
+falling-onAir d (s ∷ k) f = f
+
+falling-launched : (s : Session) (q : Queue) → Falling (q .started) → Falling (launched s q .queue .started)
+unfolding launched andThen dismissed
+falling-launched s q f = by (λ (r : Turn). Falling (r .queue .started)) (mayStart s (q .started)) _ _ (λ e. falling-push s (q .started) e f) (λ e. f)
+
+falling-instant : (t : ℕ) (q : Queue) → Falling (q .started) → Falling (instant t q .queue .started)
+unfolding instant andThen startAt
+falling-instant t q f =
+    let u = endAt t q .queue in
+    let i = place (startsAt t) (u .waiting) in
+    let g = fewer-falling (endAt-fewer q t .started) f in
+    by (λ (r : Turn). Falling (r .queue .started)) (ltb i (length (u .waiting))) _ _
+    (λ e. falling-launched (getD (u .waiting) i empty) (withWaiting (removeAt i (u .waiting)) u) g) (λ e. g)
+
+falling-tick : (now until : ℕ) (q : Queue) → Falling (q .started) → Falling (runAll now until q .queue .started)
+unfolding runAll elapse
+falling-tick now until q f =
+    run-law (λ u t. Falling (u .started) → Falling (t .queue .started)) (λ d u g. falling-onAir d (u .started) g) (λ t u g. falling-instant t u g) (λ u a b g h i. h (g i))
+    (2 * length (q .waiting) + length (q .started)) now until q f
+
+falling-accepted : (s : Session) (q : Queue) → Falling (q .started) → Falling (accepted s q .queue .started)
+unfolding accepted andThen
+falling-accepted s q f = rw (evicted-started (s .start .0) q) f
+
+pub falling-kept : {F : Call → Type 0} → KeptHeld F (λ now q. Falling (q .started))
+falling-kept =
+    record {
+      closing = λ now q c h. fewer-falling (closedBy-fewer c q .started) h;
+      aborting = λ now q c x e h. fewer-falling (aborted-fewer c x q .started) h;
+      accepting = λ s c r a h. falling-accepted (requested c r (s .queue)) (s .queue) h;
+      ticking = λ now until q le h. falling-tick now until q h;
+    }
+
+-- ## At most ten
+
+falling-length : (s : Session) (k : List Session) → Falling (s ∷ k) → length k ≤ s .access
+falling-length s [] f = omega arith
+falling-length s (a ∷ k) f = omega (arith, falling-length a k (f .1), f .0 .0)
+
+pub ten : (k : List Session) → Falling k → All (λ s. s .access ≤ 9) k → length k ≤ 10
+ten [] f a = omega arith
+ten (s ∷ k) f a = omega (arith, falling-length s k f, a .0)

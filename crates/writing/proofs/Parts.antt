@@ -1,0 +1,57 @@
+-- Each record is its parts, in the order in which they are written.
+-- Rests on the definitions of the bytes alone: `bytes` at a given width computes.
+use mathlib.Core.Path.{_≡_, refl, sym, ap, _∙_}
+use mathlib.Core.List.{List, [], _∷_, _++_}
+use Prim.Native.Nat.{ℕ, _+_, _≤_, _<_}
+use native.Mathlib.Omega.{arith}
+use native.Mathlib.Numerals.{add-one}
+use lib.ListN.{length, take, set, getD}
+use lib.Seq.{length-take-le, take-suc}
+use Rattle.rules.specs.Bytes.{bytes, nameIn, padded, written}
+use Rattle.rules.specs.Records.{General, InitResponse, AliveResponse, SpliceComplete, framed, timeBytes, recordBytes}
+use Rattle.rules.proofs.Written.{written-set, written-more, length-written}
+use Rattle.writing.specs.Header.{headerOf}
+
+pub header-parts : (c id n r : ℕ) → bytes 1 0x52 ++ bytes 1 c ++ bytes 2 id ++ bytes 2 n ++ bytes 2 r ++ bytes 2 0xFFFF ≡ headerOf c id n r
+unfolding headerOf bytes
+header-parts c id n r = refl
+
+pub length-header : (c id n r : ℕ) → length (headerOf c id n r) ≡ 10
+unfolding headerOf bytes
+length-header c id n r = refl
+
+-- the header says how much data stands behind it
+pub framed-header : (c id n r : ℕ) (d : List ℕ) → n ≡ length d → headerOf c id n r ++ d ≡ framed c id r d
+unfolding framed headerOf bytes
+framed-header c id n r d e = ap (λ k. headerOf c id k r ++ d) e
+
+pub general-parts : (c r : ℕ) → headerOf c 0x0000 0 r ≡ recordBytes (General c r)
+unfolding recordBytes framed headerOf bytes
+general-parts c r = refl
+
+pub init-parts : (c r : ℕ) (name : List ℕ) → length name ≡ 32 → name ≡ padded (nameIn name) →
+    headerOf c 0x0002 34 r ++ bytes 2 2 ++ name ≡ recordBytes (InitResponse c r (nameIn name))
+unfolding recordBytes headerOf bytes
+init-parts c r name n e =
+    framed-header c 0x0002 34 r (bytes 2 2 ++ name) (omega arith) ∙ ap (λ x. framed c 0x0002 r (bytes 2 2 ++ x)) e
+
+pub alive-parts : (c state x t : ℕ) →
+    headerOf c 0x0006 16 100 ++ bytes 4 state ++ bytes 4 x ++ timeBytes t ≡ recordBytes (AliveResponse c 100 state x t)
+unfolding recordBytes framed headerOf bytes
+alive-parts c state x t = refl
+
+pub complete-parts : (c r x flag played : ℕ) →
+    headerOf c 0x0009 13 r ++ bytes 4 x ++ bytes 1 flag ++ bytes 4 0 ++ bytes 4 played ≡ recordBytes (SpliceComplete c r x flag played)
+unfolding recordBytes framed headerOf bytes
+complete-parts c r x flag played = refl
+
+-- a turn of a copy: one byte more of l
+pub copied : (e l o : List ℕ) (i : ℕ) → i < length l → length l ≤ length e → o ≡ written e 0 (take i l) →
+    set o i (getD l i 0) ≡ written e 0 (take (i + 1) l)
+copied e l o i h k w =
+    let n : length (take i l) ≡ i = length-take-le i l (omega arith) in
+    let m : length o ≡ length e = ap length w ∙ length-written e 0 (take i l) (omega arith) in
+    written-set o i (getD l i 0) (omega arith)
+    ∙ ap (λ x. written x i (getD l i 0 ∷ [])) w
+    ∙ written-more e 0 (take i l) (getD l i 0 ∷ []) i (omega arith) (omega arith)
+    ∙ ap (written e 0) (sym (take-suc l i 0 h) ∙ ap (λ j. take j l) (sym (add-one i)))

@@ -1,0 +1,137 @@
+// The record writers: "Every outgoing message goes directly behind the last one in the output buffer". Each is lent the rest of
+// that buffer from the current length on and writes its record at the start; every other byte stays as it was.
+use rules::Micros;
+use rules::Ticks;
+ghost use mathlib.Core.Path.{_≡_};
+ghost use Prim.Native.Nat.{_≤_};
+ghost use lib.ListN.{length};
+ghost use Rattle.rules.specs.Bytes.{bytes, written, nameIn, padded};
+ghost use Rattle.rules.specs.Records.{framed, timeBytes, recordBytes, General, InitResponse, AliveResponse, SpliceResponse, SpliceComplete, AbortResponse};
+ghost use Rattle.writing.specs.Header.{headerOf};
+
+// ---- parts of a record. "All numbers are big-endian."
+
+fn put1(out: &mut [u8], x: u64)
+    requires { ⌜ 1 ≤ length (now out) ⌝ }
+    ensures { λ _. ⌜ now (out .exit) ≡ written (now (out .entry)) 0 (bytes 1 x) ⌝ }
+{
+    out[0] = (x % 256) as u8;
+}
+
+fn put2(out: &mut [u8], x: u16)
+    requires { ⌜ 2 ≤ length (now out) ⌝ }
+    ensures { λ _. ⌜ now (out .exit) ≡ written (now (out .entry)) 0 (bytes 2 x) ⌝ }
+{
+    out[0] = (x / 256 % 256) as u8;
+    out[1] = (x % 256) as u8;
+}
+
+fn put4(out: &mut [u8], x: u64)
+    requires { ⌜ 4 ≤ length (now out) ⌝ }
+    ensures { λ _. ⌜ now (out .exit) ≡ written (now (out .entry)) 0 (bytes 4 x) ⌝ }
+{
+    out[0] = (x / 256 / 256 / 256 % 256) as u8;
+    out[1] = (x / 256 / 256 % 256) as u8;
+    out[2] = (x / 256 % 256) as u8;
+    out[3] = (x % 256) as u8;
+}
+
+// Seconds 4, MicroSeconds 4.
+fn put_time(out: &mut [u8], time: Micros)
+    requires { ⌜ 8 ≤ length (now out) ⌝ }
+    ensures { λ _. ⌜ now (out .exit) ≡ written (now (out .entry)) 0 (timeBytes (time .0)) ⌝ }
+{
+    put4(&mut *out, time.0 / 1000000);
+    put4(&mut out[4..], time.0 % 1000000);
+}
+
+fn copy_name(out: &mut [u8], name: &[u8])
+    requires { ⌜ length (now name) ≤ length (now out) ⌝ }
+    ensures { λ _. ⌜ now (out .exit) ≡ written (now (out .entry)) 0 (now (name .entry)) ⌝ }
+{
+    let mut i = 0;
+    while i < name.len() {
+        out[i] = name[i];
+        i += 1;
+    }
+}
+
+// The mark and the header; "in answers Result_Extension is 0xFFFF".
+fn header(out: &mut [u8], conn: u64, id: u16, size: u16, result: u16)
+    requires { ⌜ 10 ≤ length (now out) ⌝ }
+    ensures { λ _. ⌜ now (out .exit) ≡ written (now (out .entry)) 0 (headerOf conn id size result) ⌝ }
+{
+    put1(&mut *out, 0x52);
+    put1(&mut out[1..], conn);
+    put2(&mut out[2..], id);
+    put2(&mut out[4..], size);
+    put2(&mut out[6..], result);
+    put2(&mut out[8..], 0xFFFF);
+}
+
+// A record whose data is a SessionID.
+fn session_response(out: &mut [u8], conn: u64, id: u16, result: u16, session: u64)
+    requires { ⌜ 14 ≤ length (now out) ⌝ }
+    ensures { λ _. ⌜ now (out .exit) ≡ written (now (out .entry)) 0 (framed conn id result (bytes 4 session)) ⌝ }
+{
+    header(&mut *out, conn, id, 4, result);
+    put4(&mut out[10..], session);
+}
+
+// ---- the records
+
+pub fn general_response(out: &mut [u8], conn: u64, result: u16)
+    requires { ⌜ 10 ≤ length (now out) ⌝ }
+    ensures { λ _. ⌜ now (out .exit) ≡ written (now (out .entry)) 0 (recordBytes (General conn result)) ⌝ }
+{
+    header(out, conn, 0x0000, 0, result);
+}
+
+// The name is the splicer's own 32 bytes, "with zeros behind the end"; Revision_Num is 2 whatever was asked.
+pub fn init_response(out: &mut [u8], conn: u64, result: u16, name: &[u8])
+    requires { ⌜ 44 ≤ length (now out) ⌝ }
+    requires { ⌜ length (now name) ≡ 32 ⌝ }
+    requires { ⌜ now name ≡ padded (nameIn (now name)) ⌝ }
+    ensures { λ _. ⌜ now (out .exit) ≡ written (now (out .entry)) 0 (recordBytes (InitResponse conn result (nameIn (now (name .entry))))) ⌝ }
+{
+    header(&mut *out, conn, 0x0002, 34, result);
+    put2(&mut out[10..], 2);
+    copy_name(&mut out[12..], name);
+}
+
+// An Alive_Request is always answered 100.
+pub fn alive_response(out: &mut [u8], conn: u64, state: u32, id: u64, time: Micros)
+    requires { ⌜ 26 ≤ length (now out) ⌝ }
+    ensures { λ _. ⌜ now (out .exit) ≡ written (now (out .entry)) 0 (recordBytes (AliveResponse conn 100 state id (time .0))) ⌝ }
+{
+    header(&mut *out, conn, 0x0006, 16, 100);
+    put4(&mut out[10..], state as u64);
+    put4(&mut out[14..], id);
+    put_time(&mut out[18..], time);
+}
+
+pub fn splice_response(out: &mut [u8], conn: u64, result: u16, id: u64)
+    requires { ⌜ 14 ≤ length (now out) ⌝ }
+    ensures { λ _. ⌜ now (out .exit) ≡ written (now (out .entry)) 0 (recordBytes (SpliceResponse conn result id)) ⌝ }
+{
+    session_response(out, conn, 0x0008, result, id);
+}
+
+// SpliceTypeFlag is 0 for a start and 1 for an end; Bitrate is "always 0 here".
+pub fn splice_complete(out: &mut [u8], conn: u64, result: u16, id: u64, flag: u8, played: Ticks)
+    requires { ⌜ 23 ≤ length (now out) ⌝ }
+    ensures { λ _. ⌜ now (out .exit) ≡ written (now (out .entry)) 0 (recordBytes (SpliceComplete conn result id flag (played .0))) ⌝ }
+{
+    header(&mut *out, conn, 0x0009, 13, result);
+    put4(&mut out[10..], id);
+    put1(&mut out[14..], flag as u64);
+    put4(&mut out[15..], 0);
+    put4(&mut out[19..], played.0 as u64);
+}
+
+pub fn abort_response(out: &mut [u8], conn: u64, result: u16, id: u64)
+    requires { ⌜ 14 ≤ length (now out) ⌝ }
+    ensures { λ _. ⌜ now (out .exit) ≡ written (now (out .entry)) 0 (recordBytes (AbortResponse conn result id)) ⌝ }
+{
+    session_response(out, conn, 0x000F, result, id);
+}
