@@ -6,9 +6,8 @@ ghost use mathlib.Core.Path.{_≡_};
 ghost use Prim.Native.Nat.{_+_, _-_, _/_, _≤_, _<_};
 ghost use lib.ListN.{length, set, getD};
 ghost use Rattle.rules.specs.Lists.{place, insertAt, removeAt, count, least};
-ghost use Rattle.rules.specs.State.{empty, of};
+ghost use Rattle.rules.specs.State.{empty, of, Sorted};
 ghost use Rattle.rules.specs.Answers.{inserted};
-ghost use Rattle.rules.proofs.Every.{Sorted};
 ghost use Rattle.places.specs.Places.{places, zeros, lot, used, Good, keyTest, momentOf};
 
 // What a search looks for: `keyTest` of specs/ gives each its test.

@@ -1,19 +1,17 @@
 -- Time on air: none before the start, and never more than has passed since it; so it is never longer than the Duration.
 -- Assumes nothing.
-use mathlib.Core.Path.{_≡_, refl, ap, sym, _∙_}
-use mathlib.Core.Bool.{Bool, true, false, cond, not}
+use mathlib.Core.Path.{_≡_, refl}
 use mathlib.Core.List.{List, [], _∷_}
-use Prim.Native.Nat.{ℕ, zero, suc, _+_, _-_, _*_, _≤_, _<_}
+use Prim.Native.Nat.{ℕ, suc, _+_, _-_, _≤_, _<_}
 use native.Mathlib.Omega.{arith}
 use lib.Dec.{ltb}
 use lib.ListN.{length, getD}
 use borrow.Author.Tests.{ltb-true, eqb-true}
 use Rattle.rules.specs.declared.Session.{Session}
-use Rattle.rules.specs.declared.Request.{Request}
 use Rattle.rules.specs.Lists.{place, removeAt}
-use Rattle.rules.specs.State.{Queue, Splicer, empty, startsAt, withWaiting}
+use Rattle.rules.specs.State.{Queue, empty, startsAt, withWaiting}
 use Rattle.rules.specs.Ends.{Turn, andThen, evicted, dismissed}
-use Rattle.rules.specs.Instants.{mayStart, launched, startAt, endAt, instant, playing, onAir, elapse, runAll}
+use Rattle.rules.specs.Instants.{mayStart, launched, startAt, endAt, instant, onAir, elapse}
 use Rattle.rules.specs.Answers.{sessionAt, requested, accepted}
 use Rattle.rules.specs.Calls.{Call}
 use Rattle.rules.proofs.Tests.{by}
@@ -21,9 +19,9 @@ use Rattle.rules.proofs.All.{All, all-into}
 use Rattle.rules.proofs.Count.{place-holds}
 use Rattle.rules.proofs.Every.{all-getD, all-inserted, fewer-removeAt, fewer-all, FewerHeld}
 use Rattle.rules.proofs.Leaving.{dismissed-fewer, endAt-fewer, evicted-fewer, aborted-fewer, closedBy-fewer}
-use Rattle.rules.proofs.Always.{Admitted, KeptHeld}
+use Rattle.rules.proofs.Always.{KeptHeld}
 use Rattle.rules.proofs.Tick.{Due, meets, elapse-due, tick-through}
-use Rattle.rules.proofs.Timed.{OnTime, timed-fewer, timed-kept, instant-timed, elapse-timed, wait-timed, meets-after, accept-timed}
+use Rattle.rules.proofs.Timed.{OnTime, timed-fewer, instant-timed, elapse-timed, wait-timed, meets-after, accept-timed}
 
 abbrev Since : ℕ → Session → Type 0
 Since now s = s .start .0 + s .played .0 ≤ now
@@ -45,7 +43,7 @@ elapse-played now t q le h = record { silent = h .silent; since = go (q .started
     go [] a = tt
     go (s ∷ k) a = (omega (arith, a .0), all-into (Since now) (Since t) (λ u i. omega arith) k (a .1))
 
-instant-played : (t : ℕ) (q : Queue) → Played t q → Played t (instant t q .queue)
+pub instant-played : (t : ℕ) (q : Queue) → Played t q → Played t (instant t q .queue)
 unfolding instant andThen startAt launched dismissed
 instant-played t q h =
     by (λ (r : Turn). Played t (r .queue)) (ltb i (length (u .waiting))) _ _ (λ e. one (ltb-true i (length (u .waiting)) e)) (λ e. g)
@@ -86,6 +84,17 @@ accept-played now s q e h =
     let k = played-fewer now q u (evicted-fewer (s .start .0) q) h in
     record { silent = all-inserted (λ x. x .played .0 ≡ 0) s (u .waiting) e (k .silent); since = k .since }
 
+pub moved-aired : (now t : ℕ) (q : Queue) → Due t q → 0 < meets t q → Aired now q → Aired t (instant t (elapse (t - now) q) .queue)
+moved-aired now t q d m h =
+    let lt = meets-after now t q (h .timed) m in
+    record {
+      timed = instant-timed t now (elapse (t - now) q) (elapse-timed now (t - now) q (h .timed)) (elapse-due t (t - now) q d);
+      played = instant-played t (elapse (t - now) q) (elapse-played now t q (omega arith) (h .played));
+    }
+
+pub rest-aired : (now until : ℕ) (q : Queue) → now ≤ until → Due (suc until) q → Aired now q → Aired until (elapse (until - now) q)
+rest-aired now until q le d h = record { timed = elapse-timed until (until - now) q (wait-timed now until q d (h .timed)); played = elapse-played now until q le (h .played) }
+
 pub aired-kept : {F : Call → Type 0} → KeptHeld F Aired
 unfolding requested sessionAt
 aired-kept =
@@ -93,14 +102,7 @@ aired-kept =
       closing = λ now q c h. fewer now q _ (closedBy-fewer c q) h;
       aborting = λ now q c x e h. fewer now q _ (aborted-fewer c x q) h;
       accepting = λ s c r a h. record { timed = accept-timed s c r a (h .timed); played = accept-played (s .clock) (requested c r (s .queue)) (s .queue) refl (h .played) };
-      ticking = tick-through Aired (λ now until q le d h. record {
-        timed = elapse-timed until (until - now) q (wait-timed now until q d (h .timed));
-        played = elapse-played now until q le (h .played);
-      }) (λ now t q d m h. let lt = meets-after now t q (h .timed) m in
-          record {
-            timed = instant-timed t now (elapse (t - now) q) (elapse-timed now (t - now) q (h .timed)) (elapse-due t (t - now) q d);
-            played = instant-played t (elapse (t - now) q) (elapse-played now t q (omega arith) (h .played));
-          });
+      ticking = tick-through Aired rest-aired moved-aired;
     }
   where
     fewer : (now : ℕ) (q r : Queue) → FewerHeld q r → Aired now q → Aired now r

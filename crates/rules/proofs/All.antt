@@ -2,12 +2,9 @@
 use mathlib.Core.List.{List, [], _∷_, _++_}
 use Prim.Native.Nat.{ℕ, zero, suc}
 use lib.ListN.{getD, take, drop, replicate}
+pub use Rattle.rules.specs.Lists.{All}
 
 module _ {A : Type 0} where
-  abbrev pub All : (A → Type 0) → List A → Type 0
-  All P [] = Unit {0}
-  All P (x ∷ l) = P x × All P l
-
   pub all-append : (P : A → Type 0) (l m : List A) → All P l → All P m → All P (l ++ m)
   all-append P [] m a b = b
   all-append P (x ∷ l) m a b = (a .0, all-append P l m (a .1) b)

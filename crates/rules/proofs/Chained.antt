@@ -1,13 +1,13 @@
 -- Links hold after every call: abort, close, the instants of a tick, and an acceptance, which never evicts the prior of the new one.
 -- Assumes nothing.
 use mathlib.Core.Path.{_≡_, refl, ap, sym, _∙_}
-use mathlib.Core.Bool.{Bool, true, false, cond, not, _&&_, and-false}
+use mathlib.Core.Bool.{Bool, true, false, not, _&&_}
 use mathlib.Core.List.{List, [], _∷_, _++_}
-use Prim.Native.Nat.{ℕ, zero, suc, _+_, _-_, _*_, _≤_, _<_}
+use Prim.Native.Nat.{ℕ, suc, _+_, _-_, _≤_, _<_}
 use native.Mathlib.Omega.{arith}
 use lib.Dec.{eqb, ltb}
 use lib.ListN.{length, getD}
-use borrow.Author.Tests.{eqb-true, eqb-false, eq-eqb, ne-eqb, ltb-true, ltb-false, not-true, not-false}
+use borrow.Author.Tests.{eqb-true, eq-eqb, ltb-true, ltb-false, not-true, not-false}
 use Rattle.rules.specs.declared.Session.{Session}
 use Rattle.rules.specs.declared.Start.{Start}
 use Rattle.rules.specs.declared.Start.the-variants.{Timed, Linked}
@@ -16,8 +16,8 @@ use Rattle.rules.specs.Lists.{bit, keep, omit, count, place, removeAt}
 use Rattle.rules.specs.Reading.{nobody}
 use Rattle.rules.specs.State.{Queue, Splicer, empty, of, is, follows, startsAt, endsAt, held, holds, withWaiting, withStarted}
 use Rattle.rules.specs.Ends.{Turn, Walk, andThen, followers, dismissed, evictedAt, evicted, cancelled, aborted, closedBy}
-use Rattle.rules.specs.Instants.{mayStart, launched, startAt, endAt, instant, playing, elapse, runAll}
-use Rattle.rules.specs.Answers.{endOf, startOf, priorOf, sessionAt, requested, unknownPrior, accepted}
+use Rattle.rules.specs.Instants.{mayStart, launched, startAt, endAt, instant, elapse, runAll}
+use Rattle.rules.specs.Answers.{startOf, priorOf, sessionAt, requested, unknownPrior, accepted}
 use Rattle.rules.specs.Calls.{Call}
 use Rattle.rules.proofs.Tests.{clash, by, failed, and-both, both-and, eqb-same}
 use Rattle.rules.proofs.All.{All, all-append, all-into}
@@ -25,14 +25,11 @@ use Rattle.rules.proofs.Count.{count-append, count-split, count-other, 
 use Rattle.rules.proofs.Every.{all-any, all-both, all-kept, all-getD, none-all, all-counted, all-inserted, fewer-keep, fewer-removeAt, fewer-all, Each, all-held}
 use Rattle.rules.proofs.Walk.{followed, followers-gone}
 use Rattle.rules.proofs.Always.{Admitted, KeptHeld}
-use Rattle.rules.proofs.Tick.{Due, meets, elapse-due, tick-through, count-onAir}
+use Rattle.rules.proofs.Tick.{Due, elapse-due, tick-through}
 use Rattle.rules.proofs.Sessions.{heldCount, count-held, each-instant, each-elapse, held-instant, held-elapse, held-accepted}
-use Rattle.rules.proofs.Timed.{OnTime, Later, timed-kept, instant-timed, elapse-timed, wait-timed, starts-removed, after-t}
-use Rattle.rules.proofs.Held.{Proper, proper-kept, Once, once-kept}
+use Rattle.rules.proofs.Timed.{OnTime, timed-kept, instant-timed, elapse-timed, wait-timed, starts-removed, after-t}
+use Rattle.rules.proofs.Held.{Proper, proper-plays, proper-kept, Once, once-kept}
 use Rattle.rules.proofs.Link.{isPrior, Tied, tied-more, prior-parts, Orderly, orderly-fewer, followers-after, Chained, orderly, dismissed-tied}
-
-proper-plays : (d : ℕ) (s : Session) → Proper s → Proper (playing d s)
-proper-plays d s h = record { conn = h .conn; somebody = h .somebody; access = h .access; over = h .over; lasts = h .lasts }
 
 -- ## Abort
 
@@ -141,19 +138,24 @@ elapse-chained now d q h =
       tied = all-into (Tied (heldCount q)) (Tied (heldCount (elapse d q))) (λ s t e. omega (arith, t e, held-elapse (isPrior s) (λ f u. refl) d q)) (q .waiting) (h .tied);
     }
 
-tick-chained : (now until : ℕ) (q : Queue) → now ≤ until → Chained now q → Chained until (runAll now until q .queue)
-tick-chained =
-    tick-through Chained (λ now until q le d h. elapse-chained until (until - now) q (record { timed = wait-timed now until q d (h .timed); proper = h .proper; once = h .once; tied = h .tied }))
-    (λ now t q d m h. moved now t (elapse (t - now) q) (elapse-chained now (t - now) q h) (elapse-due t (t - now) q d))
+pub moved-chained : (now t : ℕ) (q : Queue) → Due t q → Chained now q → Chained t (instant t (elapse (t - now) q) .queue)
+moved-chained now t q d h = moved (elapse (t - now) q) (elapse-chained now (t - now) q h) (elapse-due t (t - now) q d)
   where
-    moved : (now t : ℕ) (q : Queue) → Chained now q → Due t q → Chained t (instant t q .queue)
-    moved now t q h d =
+    moved : (q : Queue) → Chained now q → Due t q → Chained t (instant t q .queue)
+    moved q h d =
         record {
           timed = instant-timed t now q (h .timed) d;
           proper = each-instant Proper proper-plays t q (h .proper);
           once = λ c x. omega (arith, h .once c x, held-instant (is c x) (λ e s. refl) t q);
           tied = instant-tied now t q h d;
         }
+
+pub rest-chained : (now until : ℕ) (q : Queue) → Due (suc until) q → Chained now q → Chained until (elapse (until - now) q)
+rest-chained now until q d h =
+    elapse-chained until (until - now) q (record { timed = wait-timed now until q d (h .timed); proper = h .proper; once = h .once; tied = h .tied })
+
+tick-chained : (now until : ℕ) (q : Queue) → now ≤ until → Chained now q → Chained until (runAll now until q .queue)
+tick-chained = tick-through Chained (λ now until q le d h. rest-chained now until q d h) (λ now t q d m h. moved-chained now t q d h)
 
 -- ## An acceptance
 

@@ -1,20 +1,19 @@
 -- What a request that is accepted has passed: reading, and checks a to e. Assumes nothing.
-use mathlib.Core.Path.{_≡_, refl, ap, sym, _∙_}
+use mathlib.Core.Path.{_≡_, refl}
 use mathlib.Core.Bool.{Bool, true, false, cond, not, _&&_, _||_}
-use mathlib.Core.List.{List, [], _∷_}
-use Prim.Native.Nat.{ℕ, zero, suc, _+_, _*_, _^_, _≤_, _<_}
+use mathlib.Core.List.{List}
+use Prim.Native.Nat.{ℕ, _*_, _≤_, _<_}
 use native.Mathlib.Omega.{arith}
-use lib.Dec.{eqb, leb, ltb}
+use lib.Dec.{eqb, ltb}
 use lib.ListN.{length}
-use borrow.Author.Tests.{ltb-false, eqb-true, eqb-false, not-false}
+use borrow.Author.Tests.{ltb-false, eqb-false}
 use Rattle.rules.specs.declared.Start.{Start}
 use Rattle.rules.specs.declared.Start.the-variants.{Timed, Linked}
 use Rattle.rules.specs.declared.Request.{Request}
-use Rattle.rules.specs.declared.Message.{Message}
 use Rattle.rules.specs.declared.Message.the-variants.{Init, Alive, Splice, Abort, Unreadable}
 use Rattle.rules.specs.Units.{timeOf}
 use Rattle.rules.specs.Bytes.{field}
-use Rattle.rules.specs.Reading.{nobody, badInit, readInit, readAlive, readAbort, descriptorsFill, descriptorsOf, sessionID, priorSession, seconds, microSeconds, serviceID, duration, accessType, overridePlaying, returnToPriorChannel, readStart, badSplice, separatePids, wholeRequest, readSplice, read}
+use Rattle.rules.specs.Reading.{nobody, badInit, readInit, readAlive, readAbort, descriptorsFill, descriptorsOf, priorSession, seconds, microSeconds, serviceID, duration, accessType, overridePlaying, returnToPriorChannel, readStart, badSplice, separatePids, wholeRequest, readSplice, read}
 use Rattle.rules.specs.State.{Queue, holds}
 use Rattle.rules.specs.Answers.{requested, separate, unknownPrior, wrongNumber, tooLate, collides, full, firstOf, spliceResult}
 use Rattle.rules.proofs.Tests.{tests, clash, or-none}

@@ -2,16 +2,16 @@
 use mathlib.Core.Path.{_≡_, refl, ap, sym, _∙_}
 use mathlib.Core.Bool.{Bool, true, false, cond, not, _&&_, _||_}
 use mathlib.Core.List.{List, [], _∷_, _++_, map}
-use Prim.Native.Nat.{ℕ, zero, suc, _+_, _-_, _≤_, _<_}
+use Prim.Native.Nat.{ℕ, zero, suc, _+_, _≤_, _<_}
 use native.Mathlib.Omega.{arith}
 use lib.Dec.{ltb, leb·suc-suc}
-use lib.ListN.{length, getD, take, drop, length-map}
+use lib.ListN.{length, getD, length-map}
 use borrow.Author.Tests.{lt-ltb, le-ltb}
 use Rattle.rules.specs.declared.Session.{Session}
 use Rattle.rules.specs.Lists.{bit, put, keep, omit, some, count, place, insertAt, removeAt}
 use Rattle.rules.specs.Records.{Record}
 use Rattle.rules.specs.Ends.{endings}
-use Rattle.rules.proofs.Tests.{clash, by}
+use Rattle.rules.proofs.Tests.{clash}
 
 pub bit≤1 : (b : Bool) → bit b ≤ 1
 bit≤1 true = omega arith

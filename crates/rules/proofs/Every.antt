@@ -1,19 +1,18 @@
 -- Facts of each of a list, order of start, and lists that have lost some of their members. Assumes nothing.
-use mathlib.Core.Path.{_≡_, refl, ap, sym, _∙_}
-use mathlib.Core.Bool.{Bool, true, false, cond, not, _&&_, _||_, or-true}
-use mathlib.Core.List.{List, [], _∷_, _++_, map}
+use mathlib.Core.Path.{_≡_, refl, ap}
+use mathlib.Core.Bool.{Bool, true, false, cond}
+use mathlib.Core.List.{List, [], _∷_, _++_}
 use Prim.Native.Nat.{ℕ, zero, suc, _+_, _≤_, _<_}
 use native.Mathlib.Omega.{arith}
-use lib.Dec.{ltb}
 use lib.ListN.{length, getD}
-use borrow.Author.Tests.{ltb-true, ltb-false, not-true}
+use borrow.Author.Tests.{ltb-true, ltb-false}
 use Rattle.rules.specs.declared.Session.{Session}
-use Rattle.rules.specs.Lists.{bit, put, keep, omit, some, count, place, insertAt, removeAt}
+use Rattle.rules.specs.Lists.{bit, put, keep, some, count, place, insertAt, removeAt}
 use Rattle.rules.specs.State.{Queue, held, startsAfter}
+pub use Rattle.rules.specs.State.{Sorted}
 use Rattle.rules.specs.Answers.{inserted}
 use Rattle.rules.proofs.All.{All, all-append, all-into}
-use Rattle.rules.proofs.Tests.{clash, failed, or-none}
-use Rattle.rules.proofs.Count.{place-none, count-put}
+use Rattle.rules.proofs.Tests.{or-none}
 
 -- ## All of a list
 
@@ -130,10 +129,6 @@ module _ {A : Type 0} where
   fewer-length (stay h) = omega (arith, fewer-length h)
 
 -- ## In order of start, no two alike
-
-abbrev pub Sorted : List Session → Type 0
-Sorted [] = Unit {0}
-Sorted (s ∷ w) = All (λ u. s .start .0 < u .start .0) w × Sorted w
 
 pub fewer-sorted : {l m : List Session} → Fewer l m → Sorted l → Sorted m
 fewer-sorted none o = tt

@@ -1,11 +1,11 @@
 -- What is held: each session's fields in their ranges, no number held twice by a connection, none held by a closed one.
 -- Assumes nothing but, for the widths of numbers, that the bytes read are bytes.
-use mathlib.Core.Path.{_≡_, refl, ap, sym, _∙_}
-use mathlib.Core.Bool.{Bool, true, false, cond, not, _&&_}
-use mathlib.Core.List.{List, [], _∷_, _++_}
-use Prim.Native.Nat.{ℕ, zero, suc, _+_, _-_, _*_, _≤_, _<_}
+use mathlib.Core.Path.{_≡_, refl, ap, _∙_}
+use mathlib.Core.Bool.{Bool, true, false}
+use mathlib.Core.List.{List}
+use Prim.Native.Nat.{ℕ, _+_, _*_, _≤_, _<_}
 use native.Mathlib.Omega.{arith}
-use lib.Dec.{eqb, ltb}
+use lib.Dec.{eqb}
 use lib.ListN.{length, getD, set, length-set}
 use lib.Seq.{getD-set-same, getD-set-other}
 use borrow.Author.Tests.{eqb-true, eqb-false, ne-eqb}
@@ -14,22 +14,22 @@ use Rattle.rules.specs.declared.Start.{Start}
 use Rattle.rules.specs.declared.Start.the-variants.{Timed, Linked}
 use Rattle.rules.specs.declared.Request.{Request}
 use Rattle.rules.specs.Units.{timeOf, fromMicros}
-use Rattle.rules.specs.Lists.{bit, count, omit}
+use Rattle.rules.specs.Lists.{bit, count}
 use Rattle.rules.specs.Bytes.{hasZero}
 use Rattle.rules.specs.Reading.{nobody}
 use Rattle.rules.specs.State.{Queue, Splicer, Link, closed, opened, initialised, of, is, held, holds, linkOf, isOpen, withLink, withQueue}
-use Rattle.rules.specs.Ends.{evicted, closedBy, cancelled, aborted}
+use Rattle.rules.specs.Ends.{closedBy, cancelled}
 use Rattle.rules.specs.Instants.{playing, runAll}
 use Rattle.rules.specs.Answers.{startOf, priorOf, sessionAt, requested, accepted}
 use Rattle.rules.specs.Calls.{Call, Called, named, fresh}
-use Rattle.rules.proofs.Tests.{by, clash, and-both, eqb-same}
+use Rattle.rules.proofs.Tests.{by, clash, and-both}
 use Rattle.rules.proofs.All.{All}
 use Rattle.rules.proofs.Bytes.{Byte, NoZero, nameIn-zero, nameIn-shorter, nameIn-byte}
 use Rattle.rules.proofs.Count.{some-none, count-omitted}
 use Rattle.rules.proofs.Every.{Each}
-use Rattle.rules.proofs.Checks.{Passed, Granted, Fitting, StartFits}
+use Rattle.rules.proofs.Checks.{Fitting, StartFits}
 use Rattle.rules.proofs.Leaving.{evicted-fewer, aborted-fewer, closedBy-fewer}
-use Rattle.rules.proofs.Always.{Wired, Admitted, grants, fits, Kept, KeptHeld}
+use Rattle.rules.proofs.Always.{Wired, grants, fits, Kept, KeptHeld}
 use Rattle.rules.proofs.Sessions.{each-kept, heldCount, count-held, fewer-held, held-accepted, held-tick}
 
 -- ## Each session
@@ -42,10 +42,13 @@ pub record Proper (s : Session) : Type 0 where
   pub over : s .over ≤ 1
   pub lasts : s .start .0 < s .end .0
 
+pub proper-plays : (d : ℕ) (s : Session) → Proper s → Proper (playing d s)
+proper-plays d s h = record { conn = h .conn; somebody = h .somebody; access = h .access; over = h .over; lasts = h .lasts }
+
 pub proper-kept : {F : Call → Type 0} → KeptHeld F (λ now q. Each Proper q)
 unfolding requested sessionAt
 proper-kept =
-    each-kept Proper (λ d s h. record { conn = h .conn; somebody = h .somebody; access = h .access; over = h .over; lasts = h .lasts })
+    each-kept Proper proper-plays
     (λ s c r a h. let g = grants a in
     record { conn = a .low; somebody = a .passed .somebody; access = g .ranked; over = g .overrides; lasts = omega (arith, g .lasts) })
 
@@ -56,10 +59,13 @@ pub record Small (s : Session) : Type 0 where
   pub duration : s .end .0 ≤ s .start .0 + 100 * 0xFFFFFFFF
   pub timed : s .prior ≡ nobody → s .start .0 < 4294967296 * 9000000
 
+pub small-plays : (d : ℕ) (s : Session) → Small s → Small (playing d s)
+small-plays d s h = record { id = h .id; prior = h .prior; duration = h .duration; timed = h .timed }
+
 pub small-kept : KeptHeld Wired (λ now q. Each Small q)
 unfolding requested sessionAt startOf
 small-kept =
-    each-kept Small (λ d s h. record { id = h .id; prior = h .prior; duration = h .duration; timed = h .timed })
+    each-kept Small small-plays
     (λ s c r a h. new (s .queue) c r (a .passed .somebody) (fits a))
   where
     prior : (f : Start) → StartFits f → priorOf f ≤ 0xFFFFFFFF

@@ -1,19 +1,16 @@
 -- Ends, followers, eviction, abort and close leave fewer sessions, in their order. Assumes nothing.
-use mathlib.Core.Path.{_≡_, refl, ap, sym, _∙_}
-use mathlib.Core.Bool.{Bool, true, false, cond, not}
-use mathlib.Core.List.{List, [], _∷_}
-use Prim.Native.Nat.{ℕ, zero, suc, _+_, _≤_, _<_}
-use native.Mathlib.Omega.{arith}
+use mathlib.Core.Path.{_≡_, refl}
+use mathlib.Core.Bool.{Bool, not}
+use Prim.Native.Nat.{ℕ}
 use lib.Dec.{ltb}
 use lib.ListN.{length, getD}
-use borrow.Author.Tests.{ltb-true, ltb-false}
 use Rattle.rules.specs.declared.Session.{Session}
-use Rattle.rules.specs.Lists.{place, removeAt, omit, count}
+use Rattle.rules.specs.Lists.{place, removeAt}
 use Rattle.rules.specs.State.{Queue, empty, of, is, startsAt, endsAt, withWaiting}
-use Rattle.rules.specs.Ends.{Turn, quiet, andThen, dismissed, evictedAt, evicted, cancelled, aborted, closedBy}
+use Rattle.rules.specs.Ends.{Turn, andThen, dismissed, evictedAt, evicted, cancelled, aborted, closedBy}
 use Rattle.rules.specs.Instants.{endAt}
 use Rattle.rules.proofs.Tests.{by}
-use Rattle.rules.proofs.Every.{Fewer, fewer-same, fewer-keep, fewer-removeAt, FewerHeld, held-then, held-same}
+use Rattle.rules.proofs.Every.{fewer-same, fewer-keep, fewer-removeAt, FewerHeld, held-then, held-same}
 use Rattle.rules.proofs.Walk.{followed}
 
 module _ (q : Queue) where

@@ -19,3 +19,9 @@ pub mod Held
 pub mod Aired
 pub mod Link
 pub mod Chained
+pub mod Fitted
+pub mod History
+pub mod Size
+pub mod Bounds
+pub mod Values
+pub mod Sound

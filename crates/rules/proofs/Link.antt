@@ -1,34 +1,26 @@
 -- Links: a waiting linked session's prior is held by its connection and ends at its start. So a session has at most one direct
 -- follower, a walk gives followers in order of start, and leaves none that follows what went. Assumes nothing.
 use mathlib.Core.Path.{_≡_, refl, ap, sym, _∙_}
-use mathlib.Core.Bool.{Bool, true, false, cond, not, _&&_, and-false}
-use mathlib.Core.List.{List, [], _∷_, _++_}
-use Prim.Native.Nat.{ℕ, zero, suc, _+_, _-_, _*_, _≤_, _<_}
+use mathlib.Core.Bool.{Bool, true, false, not, _&&_}
+use mathlib.Core.List.{List, [], _∷_}
+use Prim.Native.Nat.{ℕ, zero, suc, _+_, _≤_, _<_}
 use native.Mathlib.Omega.{arith}
 use lib.Dec.{eqb, ltb}
 use lib.ListN.{length, getD}
-use borrow.Author.Tests.{eqb-true, eqb-false, eq-eqb, ne-eqb, ltb-true, ltb-false, not-true, not-false}
+use borrow.Author.Tests.{eqb-true, eq-eqb, ltb-true, ltb-false}
 use Rattle.rules.specs.declared.Session.{Session}
-use Rattle.rules.specs.declared.Start.{Start}
-use Rattle.rules.specs.declared.Start.the-variants.{Timed, Linked}
-use Rattle.rules.specs.declared.Request.{Request}
-use Rattle.rules.specs.Lists.{bit, keep, omit, count, place, removeAt}
+use Rattle.rules.specs.Lists.{bit, count, place, removeAt}
 use Rattle.rules.specs.Reading.{nobody}
-use Rattle.rules.specs.State.{Queue, Splicer, empty, of, is, follows, startsAt, endsAt, held, holds, withWaiting, withStarted}
-use Rattle.rules.specs.Ends.{Turn, Walk, andThen, walk, followers, dismissed, evictedAt, evicted, cancelled, aborted, closedBy}
-use Rattle.rules.specs.Instants.{mayStart, launched, startAt, endAt, instant, playing, elapse, runAll}
-use Rattle.rules.specs.Answers.{endOf, startOf, priorOf, sessionAt, requested, unknownPrior, inserted, accepted}
-use Rattle.rules.specs.Calls.{Call}
-use Rattle.rules.proofs.Tests.{clash, by, failed, and-both, both-and, eqb-same}
-use Rattle.rules.proofs.All.{All, all-append, all-into}
-use Rattle.rules.proofs.Count.{count-append, count-split, count-other, count-apart, count-removeAt, length-removeAt, place-holds, place-none, some-place, some-one}
-use Rattle.rules.proofs.Every.{all-any, all-both, all-kept, all-getD, all-none, none-all, all-counted, all-inserted, Fewer, fewer-same, fewer-then, fewer-keep, fewer-removeAt, fewer-all, fewer-count, Sorted, Each, all-held}
-use Rattle.rules.proofs.Walk.{Walked, walked, followed, followers-gone}
-use Rattle.rules.proofs.Always.{Admitted, KeptHeld}
-use Rattle.rules.proofs.Tick.{Due, meets, elapse-due, tick-through}
-use Rattle.rules.proofs.Sessions.{heldCount, count-held, each-instant, each-elapse, held-instant, held-elapse, held-accepted}
-use Rattle.rules.proofs.Timed.{OnTime, Later, timed-kept, instant-timed, elapse-timed, wait-timed, starts-removed, after-t}
-use Rattle.rules.proofs.Held.{Proper, proper-kept, Once, once-kept}
+use Rattle.rules.specs.State.{Queue, empty, is, follows}
+use Rattle.rules.specs.Ends.{Walk, walk, followers, dismissed}
+use Rattle.rules.proofs.Tests.{clash, by, failed, and-both, both-and}
+use Rattle.rules.proofs.All.{All, all-into}
+use Rattle.rules.proofs.Count.{count-apart, count-removeAt, length-removeAt, place-holds, place-none}
+use Rattle.rules.proofs.Every.{all-any, all-both, all-getD, all-none, none-all, all-counted, Fewer, fewer-removeAt, fewer-all, fewer-count, Sorted, Each}
+use Rattle.rules.proofs.Walk.{Walked, walked, followed}
+use Rattle.rules.proofs.Sessions.{heldCount}
+use Rattle.rules.proofs.Timed.{OnTime}
+use Rattle.rules.proofs.Held.{Proper, Once}
 
 -- u is the number that s names, and ends where s starts
 abbrev pub isPrior : Session → Session → Bool

@@ -1,17 +1,16 @@
 -- The AccessTypes of the started fall strictly and are at most 9, so at most ten have started. Assumes nothing.
-use mathlib.Core.Path.{_≡_, refl, ap, sym, _∙_}
-use mathlib.Core.Bool.{Bool, true, false, cond, not, _&&_}
+use mathlib.Core.Path.{_≡_}
+use mathlib.Core.Bool.{true}
 use mathlib.Core.List.{List, [], _∷_}
-use Prim.Native.Nat.{ℕ, zero, suc, _+_, _-_, _*_, _≤_, _<_}
+use Prim.Native.Nat.{ℕ, _+_, _*_, _≤_, _<_}
 use native.Mathlib.Omega.{arith}
 use lib.Dec.{eqb, ltb}
 use lib.ListN.{length, getD}
 use borrow.Author.Tests.{ltb-true}
 use Rattle.rules.specs.declared.Session.{Session}
-use Rattle.rules.specs.declared.Request.{Request}
 use Rattle.rules.specs.Lists.{place, removeAt}
-use Rattle.rules.specs.State.{Queue, Splicer, empty, startsAt, withWaiting}
-use Rattle.rules.specs.Ends.{Turn, andThen, evicted, dismissed}
+use Rattle.rules.specs.State.{Queue, empty, startsAt, withWaiting}
+use Rattle.rules.specs.Ends.{Turn, andThen, dismissed}
 use Rattle.rules.specs.Instants.{outranks, mayStart, launched, startAt, endAt, instant, onAir, elapse, runAll}
 use Rattle.rules.specs.Answers.{requested, accepted}
 use Rattle.rules.specs.Calls.{Call}
@@ -38,7 +37,7 @@ falling-push s (a ∷ k) e f =
     let h = ltb-true (a .access) (s .access) (and-both (eqb (s .over) 1) (outranks s a) e .1) in
     ((h, all-into (λ u. u .access < a .access) (λ u. u .access < s .access) (λ u i. omega arith) k (f .0)), f)
 
-falling-onAir : (d : ℕ) (k : List Session) → Falling k → Falling (onAir d k)
+pub falling-onAir : (d : ℕ) (k : List Session) → Falling k → Falling (onAir d k)
 unfolding onAir
 falling-onAir d [] f = f
 falling-onAir d (s ∷ k) f = f
@@ -47,7 +46,7 @@ falling-launched : (s : Session) (q : Queue) → Falling (q .started) → Fallin
 unfolding launched andThen dismissed
 falling-launched s q f = by (λ (r : Turn). Falling (r .queue .started)) (mayStart s (q .started)) _ _ (λ e. falling-push s (q .started) e f) (λ e. f)
 
-falling-instant : (t : ℕ) (q : Queue) → Falling (q .started) → Falling (instant t q .queue .started)
+pub falling-instant : (t : ℕ) (q : Queue) → Falling (q .started) → Falling (instant t q .queue .started)
 unfolding instant andThen startAt
 falling-instant t q f =
     let u = endAt t q .queue in

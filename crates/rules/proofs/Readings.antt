@@ -13,7 +13,7 @@ use Rattle.rules.specs.declared.Start.the-variants.{Timed, Linked}
 use Rattle.rules.specs.declared.Request.{Request}
 use Rattle.rules.specs.declared.Message.{Message}
 use Rattle.rules.specs.declared.Message.the-variants.{Init, Alive, Splice, Abort, Unreadable}
-use Rattle.rules.specs.Reading.{nobody, badInit, badSplice, readInit, readAlive, readAbort, readStart, readSplice, read, priorSession, serviceID, duration, accessType, overridePlaying, separatePids, wholeRequest, descriptorsFill, descriptorsOf, descriptorLength, descriptorFits, wellFormed}
+use Rattle.rules.specs.Reading.{nobody, separateService, initRequest, aliveRequest, spliceRequest, abortRequest, badInit, badSplice, readInit, readAlive, readAbort, readStart, readSplice, read, priorSession, serviceID, duration, accessType, overridePlaying, separatePids, wholeRequest, descriptorsFill, descriptorsOf, descriptorLength, descriptorFits, wellFormed}
 use Rattle.rules.specs.Answers.{separate}
 use Rattle.rules.proofs.Tests.{by, or-none}
 use Rattle.rules.proofs.All.{All}
@@ -74,12 +74,12 @@ module _ (d : List ℕ) (a : All Byte d) where
   pub read-grants : (id : ℕ) → Reads (read id d)
   unfolding read readInit readAlive readAbort readSplice
   read-grants id =
-      by Reads (eqb id 0x0001) _ _ (λ e. by Reads (badInit d) _ _ (λ f. tt) (λ f. field-below 0 2 d a))
-      (λ e. by Reads (eqb id 0x0005) _ _ (λ f. by Reads (eqb (length d) 8) _ _ (λ g. tt) (λ g. tt))
-      (λ f. by Reads (eqb id 0x0007) _ _
+      by Reads (eqb id initRequest) _ _ (λ e. by Reads (badInit d) _ _ (λ f. tt) (λ f. field-below 0 2 d a))
+      (λ e. by Reads (eqb id aliveRequest) _ _ (λ f. by Reads (eqb (length d) 8) _ _ (λ g. tt) (λ g. tt))
+      (λ f. by Reads (eqb id spliceRequest) _ _
       (λ g. by Reads (ltb (length d) 18) _ _ (λ h. tt)
-      (λ h. by Reads (eqb (serviceID d) 0xFFFF) _ _ (λ i. asked-separate) (λ i. by Reads (badSplice d) _ _ (λ j. tt) asked-whole)))
-      (λ g. by Reads (eqb id 0x000E) _ _ (λ h. by Reads (eqb (length d) 4) _ _ (λ i. field-below 0 4 d a) (λ i. tt)) (λ h. tt))))
+      (λ h. by Reads (eqb (serviceID d) separateService) _ _ (λ i. asked-separate) (λ i. by Reads (badSplice d) _ _ (λ j. tt) asked-whole)))
+      (λ g. by Reads (eqb id abortRequest) _ _ (λ h. by Reads (eqb (length d) 4) _ _ (λ i. field-below 0 4 d a) (λ i. tt)) (λ h. tt))))
 
   pub splice-grants : (id : ℕ) (r : Request) → read id d ≡ Splice r → Asked r
   splice-grants id r e = subst Reads e (read-grants id)

@@ -1,26 +1,24 @@
 -- Places: no connection has more than 20 waiting, the four counts, each raised to 10, are never above 64, so at most 64 wait.
 -- Assumes nothing.
-use mathlib.Core.Path.{_≡_, refl, ap, sym, _∙_}
-use mathlib.Core.Bool.{Bool, true, false, cond, not, _&&_, _||_}
+use mathlib.Core.Path.{_≡_, refl, ap}
+use mathlib.Core.Bool.{Bool, true, false, _&&_, _||_}
 use mathlib.Core.List.{List, [], _∷_}
-use Prim.Native.Nat.{ℕ, zero, suc, _+_, _-_, _≤_, _<_, max}
+use Prim.Native.Nat.{ℕ, zero, suc, _+_, _≤_, _<_}
 use native.Mathlib.Omega.{arith}
 use native.Mathlib.Nat.{zero-add}
 use native.Mathlib.Numerals.{one-add}
-use lib.Dec.{eqb, ltb, leb}
+use lib.Dec.{eqb, leb}
 use lib.ListN.{length}
 use borrow.Author.Tests.{eqb-true, eqb-false, leb-false}
 use Rattle.rules.specs.declared.Session.{Session}
 use Rattle.rules.specs.declared.Request.{Request}
-use Rattle.rules.specs.Lists.{bit, count}
-use Rattle.rules.specs.State.{Queue, Splicer, of}
-use Rattle.rules.specs.Ends.{evicted}
+use Rattle.rules.specs.Lists.{bit}
+use Rattle.rules.specs.State.{Splicer, of}
 use Rattle.rules.specs.Answers.{sessionAt, requested, waits, raised, raisedSum, full, accepted}
 use Rattle.rules.specs.Calls.{Call}
-use Rattle.rules.proofs.Tests.{tests, clash, or-none}
+use Rattle.rules.proofs.Tests.{or-none}
 use Rattle.rules.proofs.All.{All}
 use Rattle.rules.proofs.Every.{Fewer, fewer-count}
-use Rattle.rules.proofs.Checks.{Passed}
 use Rattle.rules.proofs.Leaving.{evicted-fewer, aborted-fewer, closedBy-fewer}
 use Rattle.rules.proofs.Always.{Admitted, KeptHeld}
 use Rattle.rules.proofs.Sessions.{count-accepted, waiting-tick}

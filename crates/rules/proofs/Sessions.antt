@@ -1,22 +1,20 @@
 -- What calls do to each session held: nothing but an acceptance adds one, and only the time on air of one changes. Assumes nothing.
-use mathlib.Core.Path.{_≡_, refl, ap, sym, _∙_}
-use mathlib.Core.Bool.{Bool, true, false, cond, not, _&&_}
-use mathlib.Core.List.{List, [], _∷_, _++_}
-use Prim.Native.Nat.{ℕ, zero, suc, _+_, _-_, _*_, _≤_, _<_}
+use mathlib.Core.Path.{_≡_, refl}
+use mathlib.Core.Bool.{Bool}
+use Prim.Native.Nat.{ℕ, _+_, _*_, _≤_}
 use native.Mathlib.Omega.{arith}
-use lib.Dec.{eqb, ltb}
+use lib.Dec.{ltb}
 use lib.ListN.{length, getD}
-use borrow.Author.Tests.{ltb-true, ltb-false, eqb-false}
+use borrow.Author.Tests.{ltb-true}
 use Rattle.rules.specs.declared.Session.{Session}
 use Rattle.rules.specs.declared.Request.{Request}
-use Rattle.rules.specs.Lists.{bit, count, place, removeAt, omit}
-use Rattle.rules.specs.State.{Queue, Splicer, empty, startsAt, endsAt, startsAfter, held, withWaiting, withStarted}
-use Rattle.rules.specs.Ends.{Turn, quiet, andThen, evicted}
-use Rattle.rules.specs.Instants.{mayStart, launched, startAt, endAt, instant, playing, onAir, elapse, run, runAll}
+use Rattle.rules.specs.Lists.{bit, count, place, removeAt}
+use Rattle.rules.specs.State.{Queue, Splicer, empty, startsAt, startsAfter, held, withWaiting}
+use Rattle.rules.specs.Ends.{Turn, andThen, evicted}
+use Rattle.rules.specs.Instants.{mayStart, launched, startAt, endAt, instant, playing, elapse, runAll}
 use Rattle.rules.specs.Answers.{requested, accepted, inserted}
 use Rattle.rules.specs.Calls.{Call}
 use Rattle.rules.proofs.Tests.{by}
-use Rattle.rules.proofs.All.{All}
 use Rattle.rules.proofs.Count.{count-append, count-removeAt, count-insertAt}
 use Rattle.rules.proofs.Every.{all-getD, all-inserted, Fewer, fewer-same, fewer-then, fewer-removeAt, fewer-all, fewer-count, Each, FewerHeld, fewer-each}
 use Rattle.rules.proofs.Leaving.{dismissed-fewer, endAt-fewer, evicted-fewer, aborted-fewer, closedBy-fewer}
@@ -145,8 +143,12 @@ waiting-startAt t q =
     (λ e. fewer-then (fewer-removeAt i (q .waiting)) (waiting-launched (getD (q .waiting) i empty) (withWaiting (removeAt i (q .waiting)) q)))
     (λ e. fewer-same (q .waiting))
 
+pub waiting-instant : (t : ℕ) (q : Queue) → Fewer (q .waiting) (instant t q .queue .waiting)
+unfolding instant andThen endAt
+waiting-instant t q = waiting-startAt t (endAt t q .queue)
+
 pub waiting-tick : (now until : ℕ) (q : Queue) → Fewer (q .waiting) (runAll now until q .queue .waiting)
-unfolding runAll instant andThen endAt elapse
+unfolding runAll elapse
 waiting-tick now until q =
-    run-law (λ u t. Fewer (u .waiting) (t .queue .waiting)) (λ d u. fewer-same (u .waiting)) (λ t u. waiting-startAt t (endAt t u .queue)) (λ u a b f g. fewer-then f g)
+    run-law (λ u t. Fewer (u .waiting) (t .queue .waiting)) (λ d u. fewer-same (u .waiting)) waiting-instant (λ u a b f g. fewer-then f g)
     (2 * length (q .waiting) + length (q .started)) now until q

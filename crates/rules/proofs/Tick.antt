@@ -1,7 +1,7 @@
 -- A tick: the next instant, each instant leaves fewer to come, so that a tick is never cut short; what instants keep a tick keeps.
 -- Assumes nothing.
-use mathlib.Core.Path.{_≡_, refl, ap, sym, _∙_}
-use mathlib.Core.Bool.{Bool, true, false, cond, not}
+use mathlib.Core.Path.{_≡_, refl, ap}
+use mathlib.Core.Bool.{Bool, true, false, cond}
 use mathlib.Core.List.{List, [], _∷_, _++_}
 use Prim.Native.Nat.{ℕ, zero, suc, _+_, _-_, _*_, _≤_, _<_, min}
 use native.Mathlib.Omega.{arith}
@@ -11,13 +11,13 @@ use borrow.Author.Tests.{leb-false, leb-true, ltb-false, ltb-true, lt-leb}
 use Rattle.rules.specs.declared.Session.{Session}
 use Rattle.rules.specs.Lists.{bit, keep, omit, count, least, place, removeAt}
 use Rattle.rules.specs.State.{Queue, empty, startsAt, endsAt, due, toCome, withWaiting, withStarted}
-use Rattle.rules.specs.Ends.{Turn, quiet, andThen, writes, dismissed}
+use Rattle.rules.specs.Ends.{Turn, quiet, andThen}
 use Rattle.rules.specs.Instants.{mayStart, launched, startAt, endAt, instant, playing, onAir, elapse, run, runAll}
 use Rattle.rules.proofs.Tests.{tests, by, eqb-same}
 use Rattle.rules.proofs.All.{All, all-into}
 use Rattle.rules.proofs.Count.{length-removeAt, length-split, length-keep, place-none}
 use Rattle.rules.proofs.Every.{fewer-length}
-use Rattle.rules.proofs.Leaving.{dismissed-fewer, endAt-fewer}
+use Rattle.rules.proofs.Leaving.{dismissed-fewer}
 
 -- ## The least
 

@@ -1,30 +1,29 @@
 -- Times: the waiting are in order of start, no two alike, all after the clock; all ends are after it; a tick is never cut short.
 -- Assumes nothing.
 use mathlib.Core.Path.{_≡_, refl, ap, sym, _∙_}
-use mathlib.Core.Bool.{Bool, true, false, cond, not, _&&_, _||_}
-use mathlib.Core.List.{List, [], _∷_, _++_}
-use Prim.Native.Nat.{ℕ, zero, suc, _+_, _-_, _*_, _≤_, _<_, min}
+use mathlib.Core.Bool.{Bool, true, false, not}
+use mathlib.Core.List.{List, [], _∷_}
+use Prim.Native.Nat.{ℕ, suc, _+_, _-_, _*_, _≤_, _<_}
 use native.Mathlib.Omega.{arith}
-use lib.Dec.{eqb, ltb, leb}
+use lib.Dec.{ltb}
 use lib.ListN.{length, getD}
 use borrow.Author.Tests.{eqb-true, eqb-false, ne-eqb, not-true, not-false, ltb-false, ltb-true}
 use Rattle.rules.specs.declared.Session.{Session}
 use Rattle.rules.specs.declared.Start.{Start}
 use Rattle.rules.specs.declared.Start.the-variants.{Timed, Linked}
 use Rattle.rules.specs.declared.Request.{Request}
-use Rattle.rules.specs.Lists.{bit, keep, omit, some, count, least, place, removeAt}
+use Rattle.rules.specs.Lists.{bit, omit, count, place, removeAt}
 use Rattle.rules.specs.Bytes.{hasZero}
 use Rattle.rules.specs.State.{Queue, Splicer, empty, is, startsAt, endsAt, held, holds, withWaiting, withStarted}
-use Rattle.rules.specs.Ends.{Turn, quiet, andThen, writes, dismissed, evictedAt, evicted, aborted, closedBy}
-use Rattle.rules.specs.Instants.{mayStart, launched, startAt, endAt, instant, playing, onAir, elapse, runAll}
-use Rattle.rules.specs.Answers.{endOf, startOf, sessionAt, requested, unknownPrior, tooLate, accepted, inserted}
+use Rattle.rules.specs.Ends.{Turn, andThen, evictedAt, evicted}
+use Rattle.rules.specs.Instants.{mayStart, launched, startAt, endAt, instant, elapse, runAll}
+use Rattle.rules.specs.Answers.{endOf, startOf, sessionAt, requested, unknownPrior, tooLate, accepted}
 use Rattle.rules.specs.Calls.{Call, Called, named, after, fresh}
-use Rattle.rules.proofs.Tests.{tests, clash, by, eqb-same}
+use Rattle.rules.proofs.Tests.{tests, by}
 use Rattle.rules.proofs.All.{All, all-into}
 use Rattle.rules.proofs.Count.{count-removeAt, place-holds, place-none, some-place}
 use Rattle.rules.proofs.Every.{all-both, all-kept, all-getD, all-none, none-all, Fewer, fewer-removeAt, fewer-all, fewer-count, Sorted, fewer-sorted, sorted-inserted, all-inserted, Each, FewerHeld, all-held}
-use Rattle.rules.proofs.Checks.{Passed, Granted}
-use Rattle.rules.proofs.Leaving.{dismissed-fewer, endAt-fewer, evicted-fewer, evicted-started, evictedAt-fewer, aborted-fewer, closedBy-fewer}
+use Rattle.rules.proofs.Leaving.{dismissed-fewer, evicted-fewer, aborted-fewer, closedBy-fewer}
 use Rattle.rules.proofs.Tick.{Due, meets, all-onAir, elapse-due, tick-through}
 use Rattle.rules.proofs.Always.{Any, Admitted, grants, KeptHeld, held-kept, always, any-calls}
 

@@ -1,14 +1,14 @@
 -- Followers: what a walk takes out and what it leaves, and the walk link by link as code makes it. Assumes nothing.
-use mathlib.Core.Path.{_≡_, refl, ap, sym, _∙_}
-use mathlib.Core.Bool.{Bool, true, false, cond, not, _&&_}
-use mathlib.Core.List.{List, [], _∷_, _++_, map}
+use mathlib.Core.Path.{_≡_, refl}
+use mathlib.Core.Bool.{Bool, true}
+use mathlib.Core.List.{List, [], _∷_}
 use Prim.Native.Nat.{ℕ, zero, suc, _+_, _≤_, _<_}
 use native.Mathlib.Omega.{arith}
 use lib.Dec.{eqb, ltb}
 use lib.ListN.{length, getD}
 use borrow.Author.Tests.{ltb-true, lt-ltb, le-ltb}
 use Rattle.rules.specs.declared.Session.{Session}
-use Rattle.rules.specs.Lists.{bit, count, place, removeAt}
+use Rattle.rules.specs.Lists.{count, place, removeAt}
 use Rattle.rules.specs.State.{empty, of, follows}
 use Rattle.rules.specs.Ends.{Walk, walk, followers}
 use Rattle.rules.proofs.All.{All}

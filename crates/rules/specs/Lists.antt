@@ -52,6 +52,12 @@ module _ {A : Type 0} where
   least none f [] = none
   least none f (x ∷ l) = min (f x) (least none f l)
 
+-- P holds of each of l
+module _ {A : Type 0} where
+  abbrev pub All : (A → Type 0) → List A → Type 0
+  All P [] = Unit {0}
+  All P (x ∷ l) = P x × All P l
+
 -- the same bytes
 abbrev pub same : List ℕ → List ℕ → Bool
 same [] [] = true

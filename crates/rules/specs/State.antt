@@ -1,11 +1,11 @@
 -- The splicer as plain lists and numbers: the sessions held, the connections, the clock (in ninths) and the ChannelName.
 use mathlib.Core.Bool.{Bool, true, false, cond, _&&_}
 use mathlib.Core.List.{List, [], _∷_, _++_}
-use Prim.Native.Nat.{ℕ, _+_, _*_}
+use Prim.Native.Nat.{ℕ, _+_, _*_, _<_}
 use lib.Dec.{eqb, ltb}
 use lib.ListN.{length, getD, set}
 use Rattle.rules.specs.declared.Session.{Session}
-use Rattle.rules.specs.Lists.{some, least}
+use Rattle.rules.specs.Lists.{All, some, least}
 
 -- waiting: in order of start, the next first.
 -- started: from the highest AccessType down: the first is on air, the others are covered.
@@ -74,6 +74,11 @@ due none q = least (least none (λ s. s .end .0) (q .started)) (λ s. s .start .
 -- the starts and ends that are still to come
 abbrev pub toCome : Queue → ℕ
 toCome q = 2 * length (q .waiting) + length (q .started)
+
+-- in order of start, no two alike
+abbrev pub Sorted : List Session → Type 0
+Sorted [] = Unit {0}
+Sorted (s ∷ w) = All (λ u. s .start .0 < u .start .0) w × Sorted w
 
 -- ## Connections
 

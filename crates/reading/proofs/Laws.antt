@@ -1,0 +1,71 @@
+-- Laws for the readers and their callers: what is said of a part, and the lengths that an answer grants.
+-- Rests on nothing but the definitions.
+use mathlib.Core.Bool.{Bool, false, not}
+use mathlib.Core.List.{List}
+use mathlib.Core.Path.{_≡_, sym, ap, subst, _∙_}
+use Prim.Native.Nat.{ℕ, _+_, _-_, _≤_}
+use native.Mathlib.Omega.{arith}
+use borrow.Author.Tests.{ltb-false}
+use lib.Dec.{eqb, ltb}
+use lib.ListN.{length, take, drop, length-drop}
+use lib.Seq.{take-all}
+use Rattle.rules.specs.declared.Framing.{Framing}
+use Rattle.rules.specs.declared.Framing.the-variants.{Framed, Unframed}
+use Rattle.rules.specs.declared.Message.{Message}
+use Rattle.rules.specs.declared.Message.the-variants.{Init, Alive, Splice, Abort, Unreadable}
+use Rattle.rules.specs.Bytes.{messageSize, oversize}
+use Rattle.rules.specs.Calls.{framing}
+use Rattle.rules.specs.Reading.{initRequest, aliveRequest, spliceRequest, abortRequest, separateService, badInit, readInit, readAlive, readAbort, serviceID, badSplice, readSplice, read}
+use Rattle.rules.proofs.Tests.{by, or-none}
+
+-- what was said of a part, by a test that is turned round
+pub said : (f : List ℕ → Bool) {x y : List ℕ} {b n : Bool} → b ≡ f x → x ≡ y → not b ≡ n → not (f y) ≡ n
+said f e p g = ap not (ap f (sym p) ∙ sym e) ∙ g
+
+-- `&l[a..]` is all that stands from the place a on
+pub behind : (a : ℕ) (l : List ℕ) → take (length l - a) (drop a l) ≡ drop a l
+behind a l = take-all (length l - a) (drop a l) (simp length-drop (omega arith))
+
+-- a request that is not bad has the 33 bytes that are read
+pub good-length : (d : List ℕ) → badSplice d ≡ false → 33 ≤ length d
+good-length d e = ltb-false (length d) 33 (or-none (ltb (length d) 33) _ e .0)
+
+-- ## What callers go on with
+
+-- a framed message's data is there, and its size is not over 4,088
+abbrev Frames : List ℕ → Framing → Type 0
+Frames l (Unframed n) = Unit {0}
+Frames l (Framed id size) = (8 + size ≤ length l) × (size ≤ 4088)
+
+frames : (l : List ℕ) → Frames l (framing l)
+unfolding framing
+frames l =
+    by (Frames l) (ltb (length l) 8) _ _ (λ e. tt)
+    (λ e. by (Frames l) (oversize l) _ _ (λ f. tt)
+    (λ f. by (Frames l) (ltb (length l) (8 + messageSize l)) _ _ (λ g. tt)
+    (λ g. (ltb-false (length l) (8 + messageSize l) g, ltb-false 4088 (messageSize l) f))))
+
+pub framed : (l : List ℕ) (id size : ℕ) → framing l ≡ Framed id size → (8 + size ≤ length l) × (size ≤ 4088)
+framed l id size e = subst (Frames l) e (frames l)
+
+-- an Init_Request that was read has both its names
+abbrev Holds : List ℕ → Message → Type 0
+Holds d (Init revision) = 66 ≤ length d
+Holds d Alive = Unit {0}
+Holds d (Splice r) = Unit {0}
+Holds d (Abort x) = Unit {0}
+Holds d Unreadable = Unit {0}
+
+holds : (id : ℕ) (d : List ℕ) → Holds d (read id d)
+unfolding read readInit readAlive readSplice readAbort
+holds id d =
+    by (Holds d) (eqb id initRequest) _ _
+    (λ e. by (Holds d) (badInit d) _ _ (λ f. tt) (λ f. ltb-false (length d) 66 (or-none (ltb (length d) 66) _ f .0)))
+    (λ e. by (Holds d) (eqb id aliveRequest) _ _ (λ f. by (Holds d) (eqb (length d) 8) _ _ (λ g. tt) (λ g. tt))
+    (λ f. by (Holds d) (eqb id spliceRequest) _ _
+    (λ g. by (Holds d) (ltb (length d) 18) _ _ (λ h. tt)
+    (λ h. by (Holds d) (eqb (serviceID d) separateService) _ _ (λ i. tt) (λ i. by (Holds d) (badSplice d) _ _ (λ j. tt) (λ j. tt))))
+    (λ g. by (Holds d) (eqb id abortRequest) _ _ (λ h. by (Holds d) (eqb (length d) 4) _ _ (λ i. tt) (λ i. tt)) (λ h. tt))))
+
+pub init-length : (id : ℕ) (d : List ℕ) (revision : ℕ) → read id d ≡ Init revision → 66 ≤ length d
+init-length id d revision e = subst (Holds d) e (holds id d)

@@ -1,0 +1,75 @@
+-- The invariant: descriptors fill all exactly if they fill the rest. What a step says of the rest is `step-says`.
+use mathlib.Core.Path.{_≡_, refl, sym, subst, _∙_}
+use Prim.Native.Nat.{_-_, _≤_}
+use native.Mathlib.Omega.{arith}
+use lib.ListN.{length, drop}
+use Rattle.rules.specs.Reading.{descriptorsFill}
+use Rattle.reading.proofs.Walks.{Says, step-says}
+use borrow.Author.Needs.{needs}
+use Rattle.reading.proofs.descriptors.well_formed.Statement.{statement}
+use Rattle.reading.proofs.descriptors.well_formed.Tie as tie
+
+abbrev Inv-loop : tie.InvT-loop
+Inv-loop l at₀ at = (at ≤ length l) × (descriptorsFill l ≡ descriptorsFill (drop at l))
+
+abbrev μ-loop : tie.MeasureT-loop
+μ-loop l at₀ at = length l - at
+
+loop-holds : tie.Need-loop-holds Inv-loop μ-loop
+loop-holds c = (omega arith, refl)
+
+step-requires : tie.Need-step-requires Inv-loop μ-loop
+step-requires c κs = search needs
+
+enum-known-next : tie.Need-enum-known-next Inv-loop μ-loop
+enum-known-next c = search needs
+
+loop-less : tie.Need-loop-less Inv-loop μ-loop
+loop-less c =
+    let l = c .before .before .before .before .before .before .args .l .now in
+    let at = c .before .before .before .before .loop .at in
+    let says = subst (Says l at) (sym (c .before .before .before .step .ensures) ∙ c .before .next .given .1) (step-says l at) in
+    omega arith
+
+loop-again : tie.Need-loop-again Inv-loop μ-loop
+loop-again c =
+    let l = c .before .before .before .before .before .before .args .l .now in
+    let at = c .before .before .before .before .loop .at in
+    let says = subst (Says l at) (sym (c .before .before .before .step .ensures) ∙ c .before .next .given .1) (step-says l at) in
+    (omega arith, c .before .before .before .before .loop .inv .1 ∙ says .2)
+
+enum-told : tie.Need-enum-told Inv-loop μ-loop
+enum-told c = search needs
+
+returns : tie.Need-returns Inv-loop μ-loop
+returns c =
+    let l = c .before .before .before .before .before .args .l .now in
+    let at = c .before .before .before .loop .at in
+    let says = subst (Says l at) (sym (c .before .before .step .ensures) ∙ c .enum-told .given .1) (step-says l at) in
+    sym (c .before .before .before .loop .inv .1 ∙ says)
+
+enum-told-2 : tie.Need-enum-told-2 Inv-loop μ-loop
+enum-told-2 c = search needs
+
+returns-2 : tie.Need-returns-2 Inv-loop μ-loop
+returns-2 c =
+    let l = c .before .before .before .before .before .args .l .now in
+    let at = c .before .before .before .loop .at in
+    let says = subst (Says l at) (sym (c .before .before .step .ensures) ∙ c .enum-told2 .given .1) (step-says l at) in
+    sym (c .before .before .before .loop .inv .1 ∙ says)
+
+pub well-formed-spec : {M : Type 1} → statement M
+well-formed-spec =
+    tie.close
+    (tie.spec
+    Inv-loop
+    μ-loop
+    loop-holds
+    step-requires
+    enum-known-next
+    loop-less
+    loop-again
+    enum-told
+    returns
+    enum-told-2
+    returns-2)

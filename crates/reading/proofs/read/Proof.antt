@@ -1,0 +1,60 @@
+-- The MessageID decides.
+use borrow.Author.Tests.{ne-eqb}
+use Rattle.rules.specs.Reading.{«read»}
+use borrow.Author.Needs.{needs}
+use Rattle.reading.proofs.read.Statement.{statement}
+use Rattle.reading.proofs.read.Tie as tie
+
+read-init-requires : tie.Need-read-init-requires
+read-init-requires c κs = search needs
+
+read-alive-requires : tie.Need-read-alive-requires
+read-alive-requires c κs = search needs
+
+read-splice-requires : tie.Need-read-splice-requires
+read-splice-requires c κs = search needs
+
+read-abort-requires : tie.Need-read-abort-requires
+read-abort-requires c κs = search needs
+
+returns : tie.Need-returns
+unfolding «read»
+returns c = rw (c .before .match .keys1) (c .read-init .ensures)
+
+returns-2 : tie.Need-returns-2
+unfolding «read»
+returns-2 c = rw (c .before .match .keys2) (c .read-alive .ensures)
+
+returns-3 : tie.Need-returns-3
+unfolding «read»
+returns-3 c = rw (c .before .match .keys3) (c .read-splice .ensures)
+
+returns-4 : tie.Need-returns-4
+unfolding «read»
+returns-4 c = rw (c .before .match .keys4) (c .read-abort .ensures)
+
+returns-5 : tie.Need-returns-5
+unfolding «read»
+returns-5 c =
+    let id = c .before .before .args .id in
+    let none = c .match .rest in
+    rw (
+      ne-eqb id 0x0001 (none .0 .0 .0 .1),
+      ne-eqb id 0x0005 (none .0 .0 .1),
+      ne-eqb id 0x0007 (none .0 .1),
+      ne-eqb id 0x000E (none .1),
+    )
+
+pub read-spec : {M : Type 1} → statement M
+read-spec =
+    tie.close
+    (tie.spec
+    read-init-requires
+    read-alive-requires
+    read-splice-requires
+    read-abort-requires
+    returns
+    returns-2
+    returns-3
+    returns-4
+    returns-5)

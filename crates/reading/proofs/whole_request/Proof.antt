@@ -1,0 +1,37 @@
+-- Each field is what its reader promises.
+use borrow.Author.Needs.{needs}
+use Rattle.reading.proofs.whole_request.Statement.{statement}
+use Rattle.reading.proofs.whole_request.Tie as tie
+
+number4-requires : tie.Need-number4-requires
+number4-requires c κs = search needs
+
+start-in-requires : tie.Need-start-in-requires
+start-in-requires c κs = search needs
+
+number2-requires : tie.Need-number2-requires
+number2-requires c κs = search needs
+
+number4-requires-2 : tie.Need-number4-requires-2
+number4-requires-2 c κs = search needs
+
+shared-slice-read-t8 : tie.Need-shared-slice-read-t8
+shared-slice-read-t8 c = search needs
+
+shared-slice-read-t10 : tie.Need-shared-slice-read-t10
+shared-slice-read-t10 c = search needs
+
+returns : tie.Need-returns
+returns c = cc
+
+pub whole-request-spec : {M : Type 1} → statement M
+whole-request-spec =
+    tie.close
+    (tie.spec
+    number4-requires
+    start-in-requires
+    number2-requires
+    number4-requires-2
+    shared-slice-read-t8
+    shared-slice-read-t10
+    returns)

@@ -1,0 +1,197 @@
+// Reading what a connection sent (01, Bytes and "Not readable"): one function for each definition of rules' specs/Reading.
+ghost use mathlib.Core.Path.{_≡_};
+ghost use Prim.Native.Nat.{_+_, _≤_};
+ghost use lib.ListN.{length};
+ghost use Rattle.rules.specs.Bytes.{dataOf};
+ghost use Rattle.rules.specs.Calls.{framing};
+ghost use Rattle.rules.specs.Reading.{channelName, splicerName, readInit, readAlive, readAbort, readStart, badSplice, separatePids, wholeRequest, readSplice, «read»};
+
+pub mod descriptors;
+pub mod names;
+pub mod numbers;
+
+use descriptors::well_formed;
+use names::has_zero;
+use numbers::number2;
+use numbers::number4;
+use rules::Framing;
+use rules::Message;
+use rules::Refusal;
+use rules::Request;
+use rules::Start;
+use rules::Ticks;
+
+// As a PriorSession: the request is timed.
+const NOBODY: u32 = 0xFFFFFFFF;
+
+// "5 (header), 4, 5 (body)": the first message of the bytes read so far.
+pub fn frame(l: &[u8]) -> Framing
+    ensures { λ r. ⌜ r ≡ framing (now (l .entry)) ⌝ }
+{
+    if l.len() < 8 {
+        return Framing::Unframed(Refusal::Short);
+    }
+    let size = number2(l, 2);
+    if 4088 < size {
+        return Framing::Unframed(Refusal::Oversize);
+    }
+    if l.len() < 8 + size as usize {
+        return Framing::Unframed(Refusal::Short);
+    }
+    Framing::Framed(number2(l, 0), size)
+}
+
+// "each is handed on as its own part of what was read": the data behind the 8 bytes of the header.
+pub fn data_of(l: &[u8], size: usize) -> &[u8]
+    requires { ⌜ 8 + size ≤ length (now l) ⌝ }
+    ensures { λ r. ⌜ now r ≡ dataOf size (now (l .entry)) ⌝ }
+{
+    let end = 8 + size;
+    &l[8..end]
+}
+
+// Of Init_Request's data: "Revision_Num 2, ChannelName 32, SplicerName 32, the rest unread".
+pub fn channel_name(d: &[u8]) -> &[u8]
+    requires { ⌜ 34 ≤ length (now d) ⌝ }
+    ensures { λ r. ⌜ now r ≡ channelName (now (d .entry)) ⌝ }
+{
+    &d[2..34]
+}
+
+fn splicer_name(d: &[u8]) -> &[u8]
+    requires { ⌜ 66 ≤ length (now d) ⌝ }
+    ensures { λ r. ⌜ now r ≡ splicerName (now (d .entry)) ⌝ }
+{
+    &d[34..66]
+}
+
+pub fn read_init(d: &[u8]) -> Message
+    ensures { λ r. ⌜ r ≡ readInit (now (d .entry)) ⌝ }
+{
+    if d.len() < 66 {
+        return Message::Unreadable;
+    }
+    if !has_zero(channel_name(d)) {
+        return Message::Unreadable;
+    }
+    if !has_zero(splicer_name(d)) {
+        return Message::Unreadable;
+    }
+    Message::Init(number2(d, 0))
+}
+
+// "An Alive time is not checked."
+pub fn read_alive(d: &[u8]) -> Message
+    ensures { λ r. ⌜ r ≡ readAlive (now (d .entry)) ⌝ }
+{
+    if d.len() == 8 {
+        return Message::Alive;
+    }
+    Message::Unreadable
+}
+
+pub fn read_abort(d: &[u8]) -> Message
+    ensures { λ r. ⌜ r ≡ readAbort (now (d .entry)) ⌝ }
+{
+    if d.len() == 4 {
+        return Message::Abort(number4(d, 0));
+    }
+    Message::Unreadable
+}
+
+// "a Splice_Request's start is in turn either timed or linked"
+fn start_in(d: &[u8]) -> Start
+    requires { ⌜ 16 ≤ length (now d) ⌝ }
+    ensures { λ r. ⌜ r ≡ readStart (now (d .entry)) ⌝ }
+{
+    let prior = number4(d, 4);
+    if prior == NOBODY {
+        return Start::Timed(units::time_of(number4(d, 8), number4(d, 12)));
+    }
+    Start::Linked(prior)
+}
+
+// What makes a request with a ServiceID other than 0xFFFF unreadable. Only a timed one's MicroSeconds count.
+fn bad_splice(d: &[u8]) -> bool
+    ensures { λ r. ⌜ r ≡ badSplice (now (d .entry)) ⌝ }
+{
+    if d.len() < 33 {
+        return true;
+    }
+    if !well_formed(&d[33..]) {
+        return true;
+    }
+    if number4(d, 18) == 0 {
+        return true;
+    }
+    if 9 < d[30] {
+        return true;
+    }
+    if 1 < d[31] {
+        return true;
+    }
+    if 1 < d[32] {
+        return true;
+    }
+    if number4(d, 12) <= 999999 {
+        return false;
+    }
+    number4(d, 4) == NOBODY
+}
+
+// "With ServiceID 0xFFFF only the first 18 bytes are read."
+fn separate_pids(d: &[u8]) -> Request
+    requires { ⌜ 18 ≤ length (now d) ⌝ }
+    ensures { λ r. ⌜ r ≡ separatePids (now (d .entry)) ⌝ }
+{
+    Request {
+        id: number4(d, 0),
+        start: start_in(d),
+        service: 0xFFFF,
+        duration: Ticks(0),
+        access: 0,
+        over: 0,
+    }
+}
+
+fn whole_request(d: &[u8]) -> Request
+    requires { ⌜ 33 ≤ length (now d) ⌝ }
+    ensures { λ r. ⌜ r ≡ wholeRequest (now (d .entry)) ⌝ }
+{
+    Request {
+        id: number4(d, 0),
+        start: start_in(d),
+        service: number2(d, 16),
+        duration: Ticks(number4(d, 18)),
+        access: d[30],
+        over: d[31],
+    }
+}
+
+pub fn read_splice(d: &[u8]) -> Message
+    ensures { λ r. ⌜ r ≡ readSplice (now (d .entry)) ⌝ }
+{
+    if d.len() < 18 {
+        return Message::Unreadable;
+    }
+    if number2(d, 16) == 0xFFFF {
+        return Message::Splice(separate_pids(d));
+    }
+    if bad_splice(d) {
+        return Message::Unreadable;
+    }
+    Message::Splice(whole_request(d))
+}
+
+// A message of the list of four, by its MessageID and its data; any other is unreadable, as the definition has it.
+pub fn read(id: u16, d: &[u8]) -> Message
+    ensures { λ r. ⌜ r ≡ «read» id (now (d .entry)) ⌝ }
+{
+    match id {
+        0x0001 => read_init(d),
+        0x0005 => read_alive(d),
+        0x0007 => read_splice(d),
+        0x000E => read_abort(d),
+        _ => Message::Unreadable,
+    }
+}

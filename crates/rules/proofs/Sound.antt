@@ -1,0 +1,153 @@
+-- All that holds of every splicer that fresh and the calls since have given. Assumes only that bytes are bytes and Seconds four of
+-- them (Wired), and that the name has 32 bytes.
+use mathlib.Core.Path.{_≡_}
+use mathlib.Core.List.{List, []}
+use Prim.Native.Nat.{ℕ, suc, _-_, _≤_, _<_}
+use native.Mathlib.Omega.{arith}
+use lib.ListN.{length}
+use Rattle.rules.specs.Bytes.{hasZero}
+use Rattle.rules.specs.State.{Queue, Splicer}
+use Rattle.rules.specs.Records.{recordsIn}
+use Rattle.rules.specs.Instants.{instant, elapse}
+use Rattle.rules.specs.Calls.{Called, writtenBy, named, fresh, Call, call, after}
+use Rattle.rules.proofs.Tests.{by}
+use Rattle.rules.proofs.All.{All, all-into}
+use Rattle.rules.proofs.Bytes.{Byte}
+use Rattle.rules.proofs.Every.{Each}
+use Rattle.rules.proofs.Always.{Wired, Kept, KeptHeld, held-kept, call-kept, always}
+use Rattle.rules.proofs.Tick.{Due, meets}
+use Rattle.rules.proofs.Sessions.{heldCount, each-elapse, each-instant, waiting-instant}
+use Rattle.rules.proofs.Timed.{OnTime}
+use Rattle.rules.proofs.Aired.{Played, Aired, aired-kept, moved-aired, rest-aired}
+use Rattle.rules.proofs.Ranked.{Falling, falling-kept, falling-instant, falling-onAir, ten}
+use Rattle.rules.proofs.Room.{Room, room-kept, room-fewer, room-none, sixty-four}
+use Rattle.rules.proofs.Held.{Proper, Small, small-plays, small-kept, Once, Linking, linking-kept, linking-fresh}
+use Rattle.rules.proofs.Link.{Tied, Chained, Orderly, orderly}
+use Rattle.rules.proofs.Chained.{chained-kept, moved-chained, rest-chained}
+use Rattle.rules.proofs.Bounds.{horizon, ends-early}
+use Rattle.rules.proofs.Fitted.{recordsOf, found}
+use Rattle.rules.proofs.Size.{call-size}
+
+-- ## Of the sessions held at a time: the clock, or an instant of a tick
+
+pub record Holding (now : ℕ) (q : Queue) : Type 0 where
+  pub timed : OnTime now q
+  pub played : Played now q
+  pub falling : Falling (q .started)
+  pub room : Room (q .waiting)
+  pub proper : Each Proper q
+  pub small : Each Small q
+  pub once : Once q
+  pub tied : All (Tied (heldCount q)) (q .waiting)
+
+module _ {now : ℕ} {q : Queue} where
+  pub chained : Holding now q → Chained now q
+  chained h = record { timed = h .timed; proper = h .proper; once = h .once; tied = h .tied }
+
+  aired : Holding now q → Aired now q
+  aired h = record { timed = h .timed; played = h .played }
+
+  joined : Chained now q → Aired now q → Falling (q .started) → Room (q .waiting) → Each Small q → Holding now q
+  joined c a f r s =
+      record { timed = c .timed; played = a .played; falling = f; room = r; proper = c .proper; small = s; once = c .once; tied = c .tied }
+
+  pub few-wait : Holding now q → length (q .waiting) ≤ 64
+  few-wait h = sixty-four (q .waiting) (all-into Proper (λ s. s .conn ≤ 3) (λ s p. p .conn) (q .waiting) (h .proper .waiting)) (h .room)
+
+  pub few-started : Holding now q → length (q .started) ≤ 10
+  few-started h = ten (q .started) (h .falling) (all-into Proper (λ s. s .access ≤ 9) (λ s p. p .access) (q .started) (h .proper .started))
+
+  -- what a walk through the waiting needs
+  pub in-order : Holding now q → Orderly (q .waiting)
+  in-order h = orderly now q (chained h)
+
+  pub early : Holding now q → now < horizon → Each (λ s. s .end .0 < 72057594037927936) q
+  early h e = ends-early now q e (h .timed) (h .played) (h .proper) (h .small) (h .tied) (few-wait h)
+
+-- from one instant of a tick to the next
+pub holding-moved : (now t : ℕ) (q : Queue) → Due t q → 0 < meets t q → Holding now q → Holding t (instant t (elapse (t - now) q) .queue)
+unfolding elapse
+holding-moved now t q d m h =
+    let u = elapse (t - now) q in
+    joined (moved-chained now t q d (chained h)) (moved-aired now t q d m (aired h)) (falling-instant t u (falling-onAir (t - now) (q .started) (h .falling)))
+    (room-fewer (q .waiting) _ (waiting-instant t u) (h .room)) (each-instant Small small-plays t u (each-elapse Small small-plays (t - now) q (h .small)))
+
+-- from the last instant of a tick to its time
+pub holding-rest : (now until : ℕ) (q : Queue) → now ≤ until → Due (suc until) q → Holding now q → Holding until (elapse (until - now) q)
+unfolding elapse
+holding-rest now until q le d h =
+    joined (rest-chained now until q d (chained h)) (rest-aired now until q le d (aired h)) (falling-onAir (until - now) (q .started) (h .falling)) (h .room)
+    (each-elapse Small small-plays (until - now) q (h .small))
+
+pub holding-kept : KeptHeld Wired Holding
+holding-kept =
+    let c : KeptHeld Wired Chained = chained-kept in
+    let a : KeptHeld Wired Aired = aired-kept in
+    let f : KeptHeld Wired (λ now q. Falling (q .started)) = falling-kept in
+    let r : KeptHeld Wired (λ now q. Room (q .waiting)) = room-kept in
+    let s = small-kept in
+    record {
+      closing = λ now q d h. joined (c .closing now q d (chained h)) (a .closing now q d (aired h)) (f .closing now q d (h .falling)) (r .closing now q d (h .room)) (s .closing now q d (h .small));
+      aborting = λ now q d x e h. joined (c .aborting now q d x e (chained h)) (a .aborting now q d x e (aired h)) (f .aborting now q d x e (h .falling)) (r .aborting now q d x e (h .room)) (s .aborting now q d x e (h .small));
+      accepting = λ z d x e h. joined (c .accepting z d x e (chained h)) (a .accepting z d x e (aired h)) (f .accepting z d x e (h .falling)) (r .accepting z d x e (h .room)) (s .accepting z d x e (h .small));
+      ticking = λ now until q le h. joined (c .ticking now until q le (chained h)) (a .ticking now until q le (aired h)) (f .ticking now until q le (h .falling)) (r .ticking now until q le (h .room)) (s .ticking now until q le (h .small));
+    }
+
+-- ## Of a splicer
+
+pub record Sound (s : Splicer) : Type 0 where
+  pub linking : Linking s
+  pub clock : s .clock < horizon
+  pub holding : Holding (s .clock) (s .queue)
+
+pub sound-kept : Kept Wired Sound
+sound-kept =
+    let l : Kept Wired Linking = linking-kept in
+    let k = held-kept Holding holding-kept in
+    record {
+      opening = λ s c low e h. record { linking = l .opening s c low e (h .linking); clock = h .clock; holding = h .holding };
+      naming = λ s c low e h. record { linking = l .naming s c low e (h .linking); clock = h .clock; holding = h .holding };
+      closing = λ s c low e h. record { linking = l .closing s c low e (h .linking); clock = h .clock; holding = k .closing s c low e (h .holding) };
+      aborting = λ s c x low e a h. record { linking = l .aborting s c x low e a (h .linking); clock = h .clock; holding = k .aborting s c x low e a (h .holding) };
+      accepting = λ s c r a h. record { linking = l .accepting s c r a (h .linking); clock = h .clock; holding = k .accepting s c r a (h .holding) };
+      ticking = λ s seconds micros room f m le h. record {
+        linking = l .ticking s seconds micros room f m le (h .linking);
+        clock = omega arith;
+        holding = k .ticking s seconds micros room f m le (h .holding);
+      };
+    }
+
+pub sound-call : (s : Splicer) (k : Call) → Wired k → Sound s → Sound (call k s .splicer)
+sound-call s k f h = call-kept Wired Sound sound-kept s k f h
+
+nothing-held : Holding 0 (record { waiting = []; started = [] })
+nothing-held =
+    record {
+      timed = record { sorted = tt; later = tt; ends = tt };
+      played = record { silent = tt; since = tt };
+      falling = tt;
+      room = room-none;
+      proper = record { waiting = tt; started = tt };
+      small = record { waiting = tt; started = tt };
+      once = λ c x. omega arith;
+      tied = tt;
+    }
+
+pub sound-fresh : (name : List ℕ) → length name ≡ 32 → All Byte name → Sound (fresh name .splicer)
+unfolding fresh named
+sound-fresh name e a =
+    by (λ (k : Called). Linking (k .splicer) → Sound (k .splicer)) (hasZero name) _ _ (λ z l. record { linking = l; clock = omega arith; holding = nothing-held })
+    (λ z l. record { linking = l; clock = omega arith; holding = nothing-held }) (linking-fresh name e a)
+
+pub sound-always : (ks : List Call) (name : List ℕ) → length name ≡ 32 → All Byte name → All Wired ks → Sound (after ks (fresh name .splicer))
+sound-always ks name e a f = always Wired Sound sound-kept ks (fresh name .splicer) f (sound-fresh name e a)
+
+-- no call writes more than 3,174 bytes
+pub sound-size : (s : Splicer) → Sound s → (k : Call) → length (writtenBy (call k s .answer)) ≤ 3174
+sound-size s h k =
+    call-size s (record { waiting = few-wait (h .holding); started = few-started (h .holding); name = omega (arith, h .linking .short) }) k
+
+-- what is said of its records is said of its bytes
+pub sound-found : (s : Splicer) (k : Call) → Wired k → Sound s → recordsIn (writtenBy (call k s .answer)) ≡ recordsOf (call k s .answer)
+sound-found s k f h =
+    found k s f (record { aired = aired (h .holding); proper = h .holding .proper; small = h .holding .small; clock = h .clock; linking = h .linking })
