@@ -7,7 +7,7 @@ use native.Mathlib.Omega.{arith}
 use native.Mathlib.Numerals.{add-one}
 use native.Mathlib.Nat.{not-suc-le-zero, le-of-suc-le-suc}
 use lib.ListN.{length, take, drop, set, getD, replicate, length-append, length-take, length-drop, length-set, length-replicate, take-append-drop, drop-of-length-le}
-use lib.Seq.{drop-cons, take-append-le, drop-append-le, take-at, drop-at, drop-append-seam, length-take-le, take-append-seam, getD-take, take-set-lt, drop-set-lt}
+use lib.Seq.{drop-cons, take-append-le, drop-append-le, take-at, drop-at, drop-append-seam, length-take-le, take-append-seam, getD-take, take-set-lt, take-set-le, take-take, drop-set-lt, getD-set-same}
 use Rattle.rules.specs.declared.Session.{Session}
 use Rattle.rules.specs.Lists.{bit, place, count, insertAt, removeAt, least}
 use Rattle.rules.specs.State.{empty}
@@ -178,6 +178,23 @@ used-set q r i x g h e =
         clear = ap (drop (q .len)) e ∙ drop-set-lt (q .len) (q .items) i x h ∙ g .clear ∙ ap (λ (m : ℕ). replicate (m - q .len) empty) (sym n);
       },
       ap (take (q .len)) e ∙ take-set-lt (q .len) (q .items) i x h,
+    )
+
+-- what `truncate` leaves of n places when it has cleared down to the place i
+pub used-cleared : (q : Lot) (r : List Session) (i : ℕ) → Good q → suc i ≡ q .len → r ≡ set (q .items) i empty →
+    Good (record { items = r; len = i }) × (used (record { items = r; len = i }) ≡ take i (used q))
+used-cleared q r i g h e =
+    let n : length r ≡ length (q .items) = ap length e ∙ length-set (q .items) i empty in
+    let f : i < length (q .items) = omega (arith, g .fits) in
+    let z : length r - i ≡ suc (length (q .items) - suc i) = omega arith in
+    let d : drop i (set (q .items) i empty) ≡ empty ∷ drop (suc i) (q .items) =
+    drop-cons (set (q .items) i empty) i empty (omega (arith, length-set (q .items) i empty))
+    ∙ rw (getD-set-same (q .items) i empty empty f, drop-set-lt (suc i) (q .items) i empty (omega arith)) refl in (
+      record {
+        fits = omega arith;
+        clear = ap (drop i) e ∙ d ∙ ap (λ (m : ℕ). empty ∷ drop m (q .items)) h ∙ ap (λ r. empty ∷ r) (g .clear) ∙ (rw (z, h) refl);
+      },
+      ap (take i) e ∙ take-set-le i (q .items) i empty (omega arith) ∙ sym (take-take i (q .len) (q .items) (omega arith)),
     )
 
 -- ## Loops over the used places: i of them are passed, and the rest decides

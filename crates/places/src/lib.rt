@@ -4,10 +4,11 @@ use rules::Ninths;
 use rules::Session;
 ghost use mathlib.Core.Path.{_≡_};
 ghost use Prim.Native.Nat.{_+_, _-_, _/_, _≤_, _<_};
-ghost use lib.ListN.{length, set, getD};
+ghost use lib.ListN.{length, take, set, getD};
 ghost use Rattle.rules.specs.Lists.{place, insertAt, removeAt, count, least};
 ghost use Rattle.rules.specs.State.{empty, of, Sorted};
 ghost use Rattle.rules.specs.Answers.{inserted};
+ghost use Rattle.rules.specs.Instants.{outranks};
 ghost use Rattle.places.specs.Places.{places, zeros, lot, used, Good, keyTest, momentOf};
 
 // What a search looks for: `keyTest` of specs/ gives each its test.
@@ -119,6 +120,37 @@ pub fn remove_at(q: &mut [u64], n: usize, at: usize)
         store(&mut *q, i, up);
         up = y;
     }
+}
+
+// x at the place `at`, where another stood.
+pub fn replace_at(q: &mut [u64], n: usize, at: usize, x: Session)
+    requires { ⌜ Good (lot (now q) n) ⌝ }
+    requires { ⌜ at < n ⌝ }
+    ensures good { λ _. ⌜ Good (lot (now (q .exit)) n) ⌝ }
+    ensures list { λ _. ⌜ used (lot (now (q .exit)) n) ≡ set (used (lot (now (q .entry)) n)) at x ⌝ }
+{
+    store(q, at, x);
+}
+
+// Only the first `left` stay: the places behind them are cleared, the last one first.
+pub fn truncate(q: &mut [u64], n: usize, left: usize)
+    requires { ⌜ Good (lot (now q) n) ⌝ }
+    requires { ⌜ left ≤ n ⌝ }
+    ensures good { λ _. ⌜ Good (lot (now (q .exit)) left) ⌝ }
+    ensures list { λ _. ⌜ used (lot (now (q .exit)) left) ≡ take left (used (lot (now (q .entry)) n)) ⌝ }
+{
+    let mut i = n;
+    while left < i {
+        i -= 1;
+        store(&mut *q, i, nothing());
+    }
+}
+
+// Whether a new session outranks an old one: the one place where equal AccessTypes are decided.
+pub fn outranks(new: Session, old: Session) -> bool
+    ensures { λ r. ⌜ r ≡ outranks new old ⌝ }
+{
+    old.access < new.access
 }
 
 // Whether x is one that the key looks for.

@@ -22,16 +22,9 @@ use Rattle.rules.proofs.Leaving.{dismissed-fewer, endAt-fewer, evicted-
 use Rattle.rules.proofs.Always.{KeptHeld}
 use Rattle.rules.proofs.Tick.{Due, meets, elapse-due, tick-through}
 use Rattle.rules.proofs.Timed.{OnTime, timed-fewer, instant-timed, elapse-timed, wait-timed, meets-after, accept-timed}
+pub use Rattle.rules.specs.Sound.{Since, Played}
 
-abbrev Since : ℕ → Session → Type 0
-Since now s = s .start .0 + s .played .0 ≤ now
-
--- of the sessions alone
-pub record Played (now : ℕ) (q : Queue) : Type 0 where
-  pub silent : All (λ s. s .played .0 ≡ 0) (q .waiting)
-  pub since : All (Since now) (q .started)
-
-played-fewer : (now : ℕ) (q r : Queue) → FewerHeld q r → Played now q → Played now r
+pub played-fewer : (now : ℕ) (q r : Queue) → FewerHeld q r → Played now q → Played now r
 played-fewer now q r f h = record { silent = fewer-all (λ s. s .played .0 ≡ 0) (f .waiting) (h .silent); since = fewer-all (Since now) (f .started) (h .since) }
 
 -- what passes until t, the time of the next instant or of the tick

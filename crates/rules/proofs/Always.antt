@@ -12,25 +12,19 @@ use Rattle.rules.specs.declared.Message.the-variants.{Init, Alive, Splic
 use Rattle.rules.specs.declared.Framing.{Framing}
 use Rattle.rules.specs.declared.Framing.the-variants.{Framed, Unframed}
 use Rattle.rules.specs.Units.{timeOf, fromMicros}
-use Rattle.rules.specs.Bytes.{part}
+use Rattle.rules.specs.Bytes.{part, hasZero}
 use Rattle.rules.specs.Reading.{channelName, isRead, readSplice, read}
 use Rattle.rules.specs.State.{Queue, Splicer, closed, opened, initialised, holds, linkOf, isOpen, isInitialised, withQueue, withLink, withClock}
 use Rattle.rules.specs.Ends.{Turn, andThen, aborted, closedBy}
 use Rattle.rules.specs.Instants.{runAll}
 use Rattle.rules.specs.Answers.{Answered, requested, spliceResult, accepted, answerSplice, answerAbort, initResult, answerInit, answerRead, answer}
-use Rattle.rules.specs.Calls.{Called, openCall, closeCall, framing, handled, messageCall, ticked, tickCall, Call, opens, closes, messages, ticks, call, after}
+use Rattle.rules.specs.Calls.{Called, openCall, closeCall, framing, handled, messageCall, ticked, tickCall, Call, opens, closes, messages, ticks, call, after, named, fresh}
 use Rattle.rules.proofs.Tests.{by}
 use Rattle.rules.proofs.All.{All}
 use Rattle.rules.proofs.Bytes.{Byte, part-byte}
 use Rattle.rules.proofs.Every.{all-any}
 use Rattle.rules.proofs.Checks.{Passed, passed-all, Granted, granted, Fitting, fitting, read-splice}
-
--- a call whose bytes are bytes and whose Seconds are four of them
-abbrev pub Wired : Call → Type 0
-Wired (opens c) = Unit {0}
-Wired (closes c room) = Unit {0}
-Wired (messages c l room) = All Byte l
-Wired (ticks seconds micros room) = seconds < 4294967296
+pub use Rattle.rules.specs.Sound.{Wired}
 
 -- any call
 abbrev pub Any : Call → Type 0
@@ -162,3 +156,12 @@ module _ (F : Call → Type 0) (P : Splicer → Type 0) (k : Kept F P) where
   unfolding after
   always [] s f h = h
   always (j ∷ ks) s f h = always ks (call j s .splicer) (f .1) (call-kept s j (f .0) h)
+
+-- a fact of clock and queue, from fresh, with any name and any calls
+pub held-always : (J : ℕ → Queue → Type 0) → KeptHeld Any J → J 0 (record { waiting = []; started = [] }) → (ks : List Call) (name : List ℕ)
+    → J (after ks (fresh name .splicer) .clock) (after ks (fresh name .splicer) .queue)
+unfolding fresh named
+held-always J k none ks name = always Any (λ s. J (s .clock) (s .queue)) (held-kept J k) ks (fresh name .splicer) (any-calls ks) first
+  where
+    first : J (fresh name .splicer .clock) (fresh name .splicer .queue)
+    first = by (λ (r : Called). J (r .splicer .clock) (r .splicer .queue)) (hasZero name) _ _ (λ e. none) (λ e. none)

@@ -8,25 +8,30 @@ use lib.Dec.{eqb}
 use lib.ListN.{length}
 use borrow.Author.Tests.{eqb-true}
 use Rattle.rules.specs.declared.Session.{Session}
-use Rattle.rules.specs.Lists.{bit, count}
+use Rattle.rules.specs.Lists.{bit, count, place}
 use Rattle.rules.specs.Reading.{nobody}
-use Rattle.rules.specs.State.{Queue}
+use Rattle.rules.specs.declared.Start.{Start}
+use Rattle.rules.specs.declared.Start.the-variants.{Timed, Linked}
+use Rattle.rules.specs.State.{Queue, empty, is, held}
+use Rattle.rules.specs.Answers.{startOf}
+use Rattle.rules.proofs.Checks.{StartBelow}
 use Rattle.rules.proofs.Tests.{failed}
-use Rattle.rules.proofs.All.{All, all-into}
-use Rattle.rules.proofs.Every.{all-both, none-all, Sorted, Each}
+use Rattle.rules.proofs.All.{All, all-into, at-all}
+use Rattle.rules.proofs.Every.{all-both, none-all, Sorted, Each, all-held}
 use Rattle.rules.proofs.Sessions.{heldCount}
 use Rattle.rules.proofs.Timed.{OnTime}
 use Rattle.rules.proofs.Aired.{Played}
 use Rattle.rules.proofs.Held.{Proper, Small}
 use Rattle.rules.proofs.Link.{isPrior, Tied, tied-more, prior-parts}
-
--- the clock and a timed start stay below this
-abbrev pub horizon : ℕ
-horizon = 4294967296 * 9000000
+pub use Rattle.rules.specs.Sound.{horizon}
 
 -- the longest Duration
 abbrev pub longest : ℕ
 longest = 100 * 0xFFFFFFFF
+
+-- 2^56: no instant is as late
+abbrev pub never : ℕ
+never = 72057594037927936
 
 -- the prior of v is among l: v starts by the time by which all of l end
 start-by : (v : Session) (n : ℕ) (l : List Session) → All (λ u. u .end .0 ≤ n) l → 0 < count (isPrior v) l → v .start .0 ≤ n
@@ -71,9 +76,9 @@ reach a (v ∷ w) k o p m t before up =
             split zero i = omega (arith, start-by v (horizon + longest) k up (omega (arith, d, z)))
             split (suc n) i = start-by v (horizon + suc (length a) * longest) a before (omega arith)
 
--- no end is as late as 2^56
+-- no end
 pub ends-early : (now : ℕ) (q : Queue) → now < horizon → OnTime now q → Played now q → Each Proper q → Each Small q → All (Tied (heldCount q)) (q .waiting)
-    → length (q .waiting) ≤ 64 → Each (λ s. s .end .0 < 72057594037927936) q
+    → length (q .waiting) ≤ 64 → Each (λ s. s .end .0 < never) q
 ends-early now q early timed played proper small tied few =
     let up : All (λ u. u .end .0 ≤ horizon + longest) (q .started) =
     all-into (λ u. (u .start .0 + u .played .0 ≤ now) × Small u) (λ u. u .end .0 ≤ horizon + longest) (λ u h. omega (arith, h .0, h .1 .duration)) (q .started)
@@ -81,6 +86,13 @@ ends-early now q early timed played proper small tied few =
     let w = reach [] (q .waiting) (q .started) (timed .sorted) (proper .waiting) (small .waiting)
     (tied-more (heldCount q) (λ p. count p [] + (count p (q .waiting) + count p (q .started))) (λ p. omega arith) (q .waiting) tied) tt up in
     record {
-      waiting = all-into (λ u. u .end .0 ≤ horizon + suc (0 + length (q .waiting)) * longest) (λ u. u .end .0 < 72057594037927936) (λ u i. omega arith) (q .waiting) w;
-      started = all-into (λ u. u .end .0 ≤ horizon + longest) (λ u. u .end .0 < 72057594037927936) (λ u i. omega arith) (q .started) up;
+      waiting = all-into (λ u. u .end .0 ≤ horizon + suc (0 + length (q .waiting)) * longest) (λ u. u .end .0 < never) (λ u i. omega arith) (q .waiting) w;
+      started = all-into (λ u. u .end .0 ≤ horizon + longest) (λ u. u .end .0 < never) (λ u i. omega arith) (q .started) up;
     }
+
+-- nor is the start of any request, before it is checked
+pub start-early : (c : ℕ) (f : Start) (q : Queue) → StartBelow f → Each (λ s. s .end .0 < never) q → startOf c f q < never
+unfolding startOf empty
+start-early c (Timed t) q h a = omega arith
+start-early c (Linked p) q h a =
+    at-all (λ s. s .end .0 < never) empty (held q) (omega arith) (all-held (λ s. s .end .0 < never) q a) (place (is c p) (held q))

@@ -13,9 +13,7 @@ use Rattle.rules.specs.Lists.{same}
 use Rattle.rules.specs.Bytes.{bytes, valueFrom, value, part, field, hasZero, nameIn, sameName, padded}
 use Rattle.rules.proofs.Tests.{clash, or-none, and-both}
 use Rattle.rules.proofs.All.{All, all-append, all-take, all-drop, all-replicate}
-
-abbrev pub Byte : ℕ → Type 0
-Byte b = b < 256
+pub use Rattle.rules.specs.Bytes.{Byte, NoZero}
 
 -- ## Numbers
 
@@ -122,9 +120,6 @@ field-below a n l h =
     omega (arith, pow-le-pow-right {n = 256} (omega arith) m)
 
 -- ## Names
-
-abbrev pub NoZero : List ℕ → Type 0
-NoZero l = hasZero l ≡ false
 
 pub name-whole : (l m : List ℕ) → NoZero l → nameIn (l ++ (0 ∷ m)) ≡ l
 name-whole [] m e = refl

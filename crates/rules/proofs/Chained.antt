@@ -18,13 +18,13 @@ use Rattle.rules.specs.State.{Queue, Splicer, empty, of, is, follows, st
 use Rattle.rules.specs.Ends.{Turn, Walk, andThen, followers, dismissed, evictedAt, evicted, cancelled, aborted, closedBy}
 use Rattle.rules.specs.Instants.{mayStart, launched, startAt, endAt, instant, elapse, runAll}
 use Rattle.rules.specs.Answers.{startOf, priorOf, sessionAt, requested, unknownPrior, accepted}
-use Rattle.rules.specs.Calls.{Call}
+use Rattle.rules.specs.Calls.{Call, fresh, after}
 use Rattle.rules.proofs.Tests.{clash, by, failed, and-both, both-and, eqb-same}
 use Rattle.rules.proofs.All.{All, all-append, all-into}
 use Rattle.rules.proofs.Count.{count-append, count-split, count-other, count-removeAt, place-holds, place-none, some-place, some-one}
 use Rattle.rules.proofs.Every.{all-any, all-both, all-kept, all-getD, none-all, all-counted, all-inserted, fewer-keep, fewer-removeAt, fewer-all, Each, all-held}
 use Rattle.rules.proofs.Walk.{followed, followers-gone}
-use Rattle.rules.proofs.Always.{Admitted, KeptHeld}
+use Rattle.rules.proofs.Always.{Admitted, KeptHeld, held-always}
 use Rattle.rules.proofs.Tick.{Due, elapse-due, tick-through}
 use Rattle.rules.proofs.Sessions.{heldCount, count-held, each-instant, each-elapse, held-instant, held-elapse, held-accepted}
 use Rattle.rules.proofs.Timed.{OnTime, timed-kept, instant-timed, elapse-timed, wait-timed, starts-removed, after-t}
@@ -280,3 +280,8 @@ chained-kept {F} =
       };
       ticking = tick-chained;
     }
+
+pub chained-always : (ks : List Call) (name : List ℕ) → Chained (after ks (fresh name .splicer) .clock) (after ks (fresh name .splicer) .queue)
+chained-always =
+    held-always Chained chained-kept
+    (record { timed = record { sorted = tt; later = tt; ends = tt }; proper = record { waiting = tt; started = tt }; once = λ c x. omega arith; tied = tt })

@@ -13,6 +13,7 @@ pub use Rattle.rules.specs.State.{Sorted}
 use Rattle.rules.specs.Answers.{inserted}
 use Rattle.rules.proofs.All.{All, all-append, all-into}
 use Rattle.rules.proofs.Tests.{or-none}
+pub use Rattle.rules.specs.Sound.{Each}
 
 -- ## All of a list
 
@@ -45,6 +46,11 @@ module _ {A : Type 0} where
   all-getD P [] i d h a = absurd (omega arith)
   all-getD P (x ∷ l) zero d h a = a .0
   all-getD P (x ∷ l) (suc i) d h a = all-getD P l i d (omega arith) (a .1)
+
+  -- from each place
+  pub each-at : (P : A → Type 0) (d : A) (l : List A) → ((i : ℕ) → i < length l → P (getD l i d)) → All P l
+  each-at P d [] f = tt
+  each-at P d (x ∷ l) f = (f 0 (omega arith), each-at P d l (λ i h. f (suc i) (omega arith)))
 
   pub all-insertAt : (P : A → Type 0) (i : ℕ) (x : A) (l : List A) → P x → All P l → All P (insertAt i x l)
   unfolding insertAt
@@ -135,6 +141,20 @@ fewer-sorted none o = tt
 fewer-sorted (less h) o = fewer-sorted h (o .1)
 fewer-sorted (stay {x = s} h) o = (fewer-all (λ u. s .start .0 < u .start .0) h (o .0), fewer-sorted h (o .1))
 
+-- by places
+pub sorted-at : (w : List Session) (i j : ℕ) (d : Session) → Sorted w → i < j → j < length w → getD w i d .start .0 < getD w j d .start .0
+sorted-at [] i j d o h k = absurd (omega arith)
+sorted-at (s ∷ w) i zero d o h k = absurd (omega arith)
+sorted-at (s ∷ w) zero (suc j) d o h k = all-getD (λ u. s .start .0 < u .start .0) w j d (omega arith) (o .0)
+sorted-at (s ∷ w) (suc i) (suc j) d o h k = sorted-at w i j d (o .1) (omega arith) (omega arith)
+
+pub at-sorted : (w : List Session) (d : Session) → ((i j : ℕ) → i < j → j < length w → getD w i d .start .0 < getD w j d .start .0) → Sorted w
+at-sorted [] d f = tt
+at-sorted (s ∷ w) d f = (places-all w (λ j h. f 0 (suc j) (omega arith) (omega arith)), at-sorted w d (λ i j h k. f (suc i) (suc j) (omega arith) (omega arith)))
+  where
+    places-all : (l : List Session) → ((j : ℕ) → j < length l → s .start .0 < getD l j d .start .0) → All (λ u. s .start .0 < u .start .0) l
+    places-all l g = each-at (λ u. s .start .0 < u .start .0) d l g
+
 pub sorted-inserted : (s : Session) (w : List Session) → Sorted w → All (λ u. s .start .0 ≡ u .start .0 → ⊥) w → Sorted (inserted s w)
 unfolding inserted insertAt place
 sorted-inserted s [] o n = (tt, tt)
@@ -155,10 +175,6 @@ unfolding inserted
 all-inserted P s w h a = all-insertAt P (place (startsAfter (s .start .0)) w) s w h a
 
 -- ## Each that is held
-
-pub record Each (P : Session → Type 0) (q : Queue) : Type 0 where
-  pub waiting : All P (q .waiting)
-  pub started : All P (q .started)
 
 -- fewer wait, and fewer have started
 pub record FewerHeld (q r : Queue) : Type 0 where

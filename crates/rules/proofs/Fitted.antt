@@ -33,11 +33,11 @@ use Rattle.rules.proofs.Every.{all-keep, all-both, all-getD, fewer-all,
 use Rattle.rules.proofs.Walk.{followers-gone}
 use Rattle.rules.proofs.Leaving.{endAt-fewer, cancelled-fewer}
 use Rattle.rules.proofs.Always.{Wired, fits}
-use Rattle.rules.proofs.Tick.{Due, meets, due-first, due-meets, all-onAir, elapse-due, moved}
-use Rattle.rules.proofs.Timed.{elapse-timed, instant-timed, meets-after}
-use Rattle.rules.proofs.Sessions.{each-instant}
+use Rattle.rules.proofs.Tick.{Due, meets, due-first, due-meets, elapse-due, moved}
+use Rattle.rules.proofs.Timed.{meets-after}
+use Rattle.rules.proofs.Sessions.{each-elapse, each-instant}
 use Rattle.rules.proofs.Held.{Proper, Small, Linking}
-use Rattle.rules.proofs.Aired.{Played, elapse-played, instant-played, Aired}
+use Rattle.rules.proofs.Aired.{Played, elapse-played, Aired, moved-aired}
 
 -- ## Sessions
 
@@ -160,7 +160,7 @@ instant-fits t q h =
 -- ## A tick
 
 -- the sessions held at the time now
-pub record Sound (now : ℕ) (q : Queue) : Type 0 where
+pub record Telling (now : ℕ) (q : Queue) : Type 0 where
   pub aired : Aired now q
   pub numbered : Each Numbered q
 
@@ -176,35 +176,25 @@ tell-at t q p e h =
     three [] a b c = tt
     three (s ∷ k) a b c = ((a .0, b .0, c .0), three k (a .1) (b .1) (c .1))
 
-tell-now : (now : ℕ) (q : Queue) → Sound now q → Tellable q
+tell-now : (now : ℕ) (q : Queue) → Telling now q → Tellable q
 tell-now now q h =
     tell-at now q (h .aired .played) (all-into (λ s. now < s .end .0) (λ s. now ≤ s .end .0) (λ s e. omega arith) (q .started) (h .aired .timed .ends)) (h .numbered)
 
-elapse-numbered : (d : ℕ) (q : Queue) → Each Numbered q → Each Numbered (elapse d q)
-unfolding elapse
-elapse-numbered d q h = record { waiting = h .waiting; started = all-onAir Numbered (λ e s i. i) d (q .started) (h .started) }
-
-module _ (now t : ℕ) (q : Queue) (d : Due t q) (m : 0 < meets t q) (h : Sound now q) where
+module _ (now t : ℕ) (q : Queue) (d : Due t q) (m : 0 < meets t q) (h : Telling now q) where
   abbrev u : Queue
   u = elapse (t - now) q
 
-  played-due : Played t u
-  played-due = let l = meets-after now t q (h .aired .timed) m in elapse-played now t q (omega arith) (h .aired .played)
+  elapsed : Each Numbered u
+  elapsed = each-elapse Numbered (λ e s i. i) (t - now) q (h .numbered)
 
+  -- at the next instant, before its work
   tell-due : Tellable u
-  tell-due = tell-at t u played-due (elapse-due t (t - now) q d .ends) (elapse-numbered (t - now) q (h .numbered))
+  tell-due = let l = meets-after now t q (h .aired .timed) m in tell-at t u (elapse-played now t q (omega arith) (h .aired .played)) (elapse-due t (t - now) q d .ends) elapsed
 
-  sound-moves : Sound t (instant t u .queue)
-  sound-moves =
-      record {
-        aired = record {
-          timed = instant-timed t now u (elapse-timed now (t - now) q (h .aired .timed)) (elapse-due t (t - now) q d);
-          played = instant-played t u played-due;
-        };
-        numbered = each-instant Numbered (λ e s i. i) t u (elapse-numbered (t - now) q (h .numbered));
-      }
+  telling-moved : Telling t (instant t u .queue)
+  telling-moved = record { aired = moved-aired now t q d m (h .aired); numbered = each-instant Numbered (λ e s i. i) t u elapsed }
 
-run-fits : (n now until : ℕ) (q : Queue) → Sound now q → All Fits (run n now until q .written)
+run-fits : (n now until : ℕ) (q : Queue) → Telling now q → All Fits (run n now until q .written)
 unfolding run andThen
 run-fits zero now until q h = tt
 run-fits (suc n) now until q h =
@@ -214,7 +204,7 @@ run-fits (suc n) now until q h =
     (λ e. let i = leb-true t until e in
     let m = due-meets (suc until) q (omega arith) in
     all-append Fits (moved now until q .written) (run n t until (moved now until q .queue) .written) (instant-fits t (elapse (t - now) q) (tell-due now t q d m h))
-    (run-fits n t until (moved now until q .queue) (sound-moves now t q d m h)))
+    (run-fits n t until (moved now until q .queue) (telling-moved now t q d m h)))
     (λ e. tt)
 
 -- ## Answers
@@ -231,8 +221,8 @@ numbers : (l : List Session) → All Proper l → All Small l → All Numbered l
 numbers [] a b = tt
 numbers (s ∷ l) a b = ((a .0 .conn, omega (arith, b .0 .id), omega (arith, b .0 .duration)), numbers l (a .1) (b .1))
 
-sound-of : (s : Splicer) → Healthy s → Sound (s .clock) (s .queue)
-sound-of s h =
+telling-of : (s : Splicer) → Healthy s → Telling (s .clock) (s .queue)
+telling-of s h =
     record {
       aired = h .aired;
       numbered = record {
@@ -257,7 +247,7 @@ module _ (c : ℕ) (low : c ≤ 3) (s : Splicer) (h : Healthy s) where
 
   alive-fits : Fits (aliveResponse c s)
   unfolding aliveResponse airState airID
-  alive-fits = ((omega arith, omega arith), state (s .queue .started), number (s .queue .started) (sound-of s h .numbered .started), omega (arith, h .clock))
+  alive-fits = ((omega arith, omega arith), state (s .queue .started), number (s .queue .started) (telling-of s h .numbered .started), omega (arith, h .clock))
     where
       state : (k : List Session) → airState k < 4294967296
       state [] = omega arith
@@ -271,14 +261,14 @@ module _ (c : ℕ) (low : c ≤ 3) (s : Splicer) (h : Healthy s) where
   unfolding answerAbort andThen
   abort-fits x e =
       by (λ (r : Turn). All Fits (r .written)) (holds c x (s .queue)) _ _
-      (λ f. (((omega arith, omega arith), e), aborted-fits c x (s .queue) (tell-now (s .clock) (s .queue) (sound-of s h)))) (λ f. (((omega arith, omega arith), e), tt))
+      (λ f. (((omega arith, omega arith), e), aborted-fits c x (s .queue) (tell-now (s .clock) (s .queue) (telling-of s h)))) (λ f. (((omega arith, omega arith), e), tt))
 
   splice-fits : (r : Request) → Asked r → All Fits (answerSplice (s .clock) c r (s .queue) .written)
   unfolding answerSplice spliceResult requested sessionAt
   splice-fits r a =
       let q = s .queue in
       by (λ (t : Turn). All Fits (t .written)) (eqb (spliceResult (s .clock) c r (requested c r (s .queue)) (s .queue)) 100) _ _
-      (λ e. accepted-fits (requested c r (s .queue)) (s .queue) ((omega arith, omega arith), a .id) (sound-of s h .numbered))
+      (λ e. accepted-fits (requested c r (s .queue)) (s .queue) ((omega arith, omega arith), a .id) (telling-of s h .numbered))
       (λ e. (((omega arith, first (separate r) (wrongNumber c r q) (tooLate (s .clock) (r .start)) (collides (requested c r q) (q .waiting)) (full c (q .waiting))), a .id), tt))
     where
       first : (i j k l m : Bool) → firstOf i j k l m < 65536
@@ -326,7 +316,7 @@ call-fits (opens c) s w h = by Told (noConnection c) _ _ (λ e. tt) (λ e. by To
 call-fits (closes c room) s w h =
     by Told (noConnection c) _ _ (λ e. tt)
     (λ e. by Told (noRoom room) _ _ (λ f. tt)
-    (λ f. by Told (notOpen c s) _ _ (λ g. tt) (λ g. closedBy-fits c (s .queue) (tell-now (s .clock) (s .queue) (sound-of s h)))))
+    (λ f. by Told (notOpen c s) _ _ (λ g. tt) (λ g. closedBy-fits c (s .queue) (tell-now (s .clock) (s .queue) (telling-of s h)))))
 call-fits (messages c l room) s w h =
     by Told (noConnection c) _ _ (λ e. tt)
     (λ e. by Told (noRoom room) _ _ (λ f. tt)
@@ -334,7 +324,7 @@ call-fits (messages c l room) s w h =
 call-fits (ticks seconds micros room) s w h =
     by Told (noRoom room) _ _ (λ e. tt)
     (λ e. by Told (badMicros micros) _ _ (λ f. tt)
-    (λ f. by Told (ltb (fromMicros (timeOf seconds micros) .0) (s .clock)) _ _ (λ g. tt) (λ g. run-fits _ (s .clock) _ (s .queue) (sound-of s h))))
+    (λ f. by Told (ltb (fromMicros (timeOf seconds micros) .0) (s .clock)) _ _ (λ g. tt) (λ g. run-fits _ (s .clock) _ (s .queue) (telling-of s h))))
 
 -- what is found in the bytes that a call wrote is what it answered
 pub found : (k : Call) (s : Splicer) → Wired k → Healthy s → recordsIn (writtenBy (call k s .answer)) ≡ recordsOf (call k s .answer)

@@ -31,16 +31,9 @@ use Rattle.rules.proofs.Checks.{Fitting, StartFits}
 use Rattle.rules.proofs.Leaving.{evicted-fewer, aborted-fewer, closedBy-fewer}
 use Rattle.rules.proofs.Always.{Wired, grants, fits, Kept, KeptHeld}
 use Rattle.rules.proofs.Sessions.{each-kept, heldCount, count-held, fewer-held, held-accepted, held-tick}
+pub use Rattle.rules.specs.Sound.{Proper, Small, Once, Linking}
 
 -- ## Each session
-
--- a session as it was accepted, whatever the bytes
-pub record Proper (s : Session) : Type 0 where
-  pub conn : s .conn ≤ 3
-  pub somebody : eqb (s .id) nobody ≡ false
-  pub access : s .access ≤ 9
-  pub over : s .over ≤ 1
-  pub lasts : s .start .0 < s .end .0
 
 pub proper-plays : (d : ℕ) (s : Session) → Proper s → Proper (playing d s)
 proper-plays d s h = record { conn = h .conn; somebody = h .somebody; access = h .access; over = h .over; lasts = h .lasts }
@@ -51,13 +44,6 @@ proper-kept =
     each-kept Proper proper-plays
     (λ s c r a h. let g = grants a in
     record { conn = a .low; somebody = a .passed .somebody; access = g .ranked; over = g .overrides; lasts = omega (arith, g .lasts) })
-
--- the numbers that bytes hold: a SessionID and a PriorSession are four of them, and so is a Duration
-pub record Small (s : Session) : Type 0 where
-  pub id : s .id < 0xFFFFFFFF
-  pub prior : s .prior ≤ 0xFFFFFFFF
-  pub duration : s .end .0 ≤ s .start .0 + 100 * 0xFFFFFFFF
-  pub timed : s .prior ≡ nobody → s .start .0 < 4294967296 * 9000000
 
 pub small-plays : (d : ℕ) (s : Session) → Small s → Small (playing d s)
 small-plays d s h = record { id = h .id; prior = h .prior; duration = h .duration; timed = h .timed }
@@ -88,9 +74,6 @@ small-kept =
 
 -- ## No number twice
 
-abbrev pub Once : Queue → Type 0
-Once q = (c x : ℕ) → heldCount q (is c x) ≤ 1
-
 pub once-kept : {F : Call → Type 0} → KeptHeld F (λ now q. Once q)
 unfolding requested sessionAt
 once-kept =
@@ -113,13 +96,6 @@ once-kept =
         omega (arith, held-accepted (is d x) s q, ap bit e, fewer-held (is d x) q _ (evicted-fewer (s .start .0) q), h d x)
 
 -- ## Connections and the name
-
-pub record Linking (s : Splicer) : Type 0 where
-  pub four : length (s .links) ≡ 4
-  pub shut : (c : ℕ) → isOpen (linkOf c s) ≡ false → heldCount (s .queue) (of c) ≡ 0
-  pub zeros : NoZero (s .name)
-  pub short : length (s .name) < 32
-  pub bytes : All Byte (s .name)
 
 -- connection c gets the link l, and the queue becomes q
 linking-set : (s : Splicer) (q : Queue) (c : ℕ) (l : Link) → c ≤ 3 → Linking s → (isOpen l ≡ false → heldCount q (of c) ≡ 0)

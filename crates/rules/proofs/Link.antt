@@ -21,14 +21,7 @@ use Rattle.rules.proofs.Walk.{Walked, walked, followed}
 use Rattle.rules.proofs.Sessions.{heldCount}
 use Rattle.rules.proofs.Timed.{OnTime}
 use Rattle.rules.proofs.Held.{Proper, Once}
-
--- u is the number that s names, and ends where s starts
-abbrev pub isPrior : Session → Session → Bool
-isPrior s u = is (s .conn) (s .prior) u && eqb (s .start .0) (u .end .0)
-
--- n counts sessions: the prior of s, if it names one, is among them
-abbrev pub Tied : ((Session → Bool) → ℕ) → Session → Type 0
-Tied n s = eqb (s .prior) nobody ≡ false → 0 < n (isPrior s)
+pub use Rattle.rules.specs.Sound.{isPrior, Tied}
 
 pub tied-more : (n n′ : (Session → Bool) → ℕ) → ((p : Session → Bool) → n p ≤ n′ p) → (w : List Session) → All (Tied n) w → All (Tied n′) w
 tied-more n n′ le w a = all-into (Tied n) (Tied n′) (λ s d e. omega (arith, d e, le (isPrior s))) w a

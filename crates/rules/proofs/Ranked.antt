@@ -13,19 +13,16 @@ use Rattle.rules.specs.State.{Queue, empty, startsAt, withWaiting}
 use Rattle.rules.specs.Ends.{Turn, andThen, dismissed}
 use Rattle.rules.specs.Instants.{outranks, mayStart, launched, startAt, endAt, instant, onAir, elapse, runAll}
 use Rattle.rules.specs.Answers.{requested, accepted}
-use Rattle.rules.specs.Calls.{Call}
+use Rattle.rules.specs.Calls.{Call, fresh, after}
 use Rattle.rules.proofs.Tests.{by, and-both}
 use Rattle.rules.proofs.All.{All, all-into}
 use Rattle.rules.proofs.Every.{Fewer, none, less, stay, fewer-all}
 use Rattle.rules.proofs.Leaving.{endAt-fewer, evicted-started, aborted-fewer, closedBy-fewer}
-use Rattle.rules.proofs.Always.{KeptHeld}
+use Rattle.rules.proofs.Always.{KeptHeld, held-always}
 use Rattle.rules.proofs.Tick.{run-law}
+pub use Rattle.rules.specs.Sound.{Falling}
 
-abbrev pub Falling : List Session → Type 0
-Falling [] = Unit {0}
-Falling (s ∷ k) = All (λ u. u .access < s .access) k × Falling k
-
-fewer-falling : {k l : List Session} → Fewer k l → Falling k → Falling l
+pub fewer-falling : {k l : List Session} → Fewer k l → Falling k → Falling l
 fewer-falling none f = tt
 fewer-falling (less h) f = fewer-falling h (f .1)
 fewer-falling (stay {x = s} h) f = (fewer-all (λ u. u .access < s .access) h (f .0), fewer-falling h (f .1))
@@ -73,6 +70,9 @@ falling-kept =
       accepting = λ s c r a h. falling-accepted (requested c r (s .queue)) (s .queue) h;
       ticking = λ now until q le h. falling-tick now until q h;
     }
+
+pub falling-always : (ks : List Call) (name : List ℕ) → Falling (after ks (fresh name .splicer) .queue .started)
+falling-always = held-always (λ now q. Falling (q .started)) falling-kept tt
 
 -- ## At most ten
 

@@ -15,21 +15,18 @@ use Rattle.rules.specs.declared.Request.{Request}
 use Rattle.rules.specs.Lists.{bit}
 use Rattle.rules.specs.State.{Splicer, of}
 use Rattle.rules.specs.Answers.{sessionAt, requested, waits, raised, raisedSum, full, accepted}
-use Rattle.rules.specs.Calls.{Call}
+use Rattle.rules.specs.Calls.{Call, fresh, after}
 use Rattle.rules.proofs.Tests.{or-none}
 use Rattle.rules.proofs.All.{All}
 use Rattle.rules.proofs.Every.{Fewer, fewer-count}
 use Rattle.rules.proofs.Leaving.{evicted-fewer, aborted-fewer, closedBy-fewer}
-use Rattle.rules.proofs.Always.{Admitted, KeptHeld}
+use Rattle.rules.proofs.Always.{Admitted, KeptHeld, held-always}
 use Rattle.rules.proofs.Sessions.{count-accepted, waiting-tick}
+pub use Rattle.rules.specs.Sound.{Room}
 
 -- n c: how many of connection c wait
 abbrev sumOf : (ℕ → ℕ) → ℕ
 sumOf n = raised (n 0) + (raised (n 1) + (raised (n 2) + raised (n 3)))
-
-pub record Room (w : List Session) : Type 0 where
-  pub each : (c : ℕ) → waits c w ≤ 20
-  pub sum : raisedSum w ≤ 64
 
 raised-up : (x y : ℕ) → x ≤ y → raised x ≤ raised y
 raised-up x y h = omega arith
@@ -106,6 +103,9 @@ room-kept =
 
 pub room-none : Room []
 room-none = record { each = λ c. omega arith; sum = omega arith }
+
+pub room-always : (ks : List Call) (name : List ℕ) → Room (after ks (fresh name .splicer) .queue .waiting)
+room-always = held-always (λ now q. Room (q .waiting)) room-kept room-none
 
 -- ## At most 64 wait
 

@@ -20,6 +20,7 @@ use Rattle.rules.proofs.Every.{all-getD, all-inserted, Fewer, fewer-sam
 use Rattle.rules.proofs.Leaving.{dismissed-fewer, endAt-fewer, evicted-fewer, aborted-fewer, closedBy-fewer}
 use Rattle.rules.proofs.Always.{Admitted, KeptHeld}
 use Rattle.rules.proofs.Tick.{all-onAir, count-onAir, run-law}
+pub use Rattle.rules.specs.Sound.{heldCount}
 
 -- ## A fact of each session
 
@@ -70,10 +71,6 @@ module _ (P : Session → Type 0) (plays : (d : ℕ) (s : Session) → P s → P
       }
 
 -- ## Counts of what is held
-
--- how many held ones pass p
-abbrev pub heldCount : Queue → (Session → Bool) → ℕ
-heldCount q p = count p (q .waiting) + count p (q .started)
 
 pub count-held : (p : Session → Bool) (q : Queue) → count p (held q) ≡ heldCount q p
 count-held p q = count-append p (q .waiting) (q .started)

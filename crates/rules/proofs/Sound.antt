@@ -2,43 +2,34 @@
 -- them (Wired), and that the name has 32 bytes.
 use mathlib.Core.Path.{_≡_}
 use mathlib.Core.List.{List, []}
-use Prim.Native.Nat.{ℕ, suc, _-_, _≤_, _<_}
+use Prim.Native.Nat.{ℕ, suc, _+_, _-_, _≤_, _<_}
 use native.Mathlib.Omega.{arith}
 use lib.ListN.{length}
 use Rattle.rules.specs.Bytes.{hasZero}
-use Rattle.rules.specs.State.{Queue, Splicer}
+use Rattle.rules.specs.State.{Queue, Splicer, is, due}
 use Rattle.rules.specs.Records.{recordsIn}
 use Rattle.rules.specs.Instants.{instant, elapse}
 use Rattle.rules.specs.Calls.{Called, writtenBy, named, fresh, Call, call, after}
 use Rattle.rules.proofs.Tests.{by}
 use Rattle.rules.proofs.All.{All, all-into}
 use Rattle.rules.proofs.Bytes.{Byte}
-use Rattle.rules.proofs.Every.{Each}
+use Rattle.rules.proofs.Every.{all-both, Each, FewerHeld, fewer-each}
 use Rattle.rules.proofs.Always.{Wired, Kept, KeptHeld, held-kept, call-kept, always}
-use Rattle.rules.proofs.Tick.{Due, meets}
-use Rattle.rules.proofs.Sessions.{heldCount, each-elapse, each-instant, waiting-instant}
-use Rattle.rules.proofs.Timed.{OnTime}
-use Rattle.rules.proofs.Aired.{Played, Aired, aired-kept, moved-aired, rest-aired}
-use Rattle.rules.proofs.Ranked.{Falling, falling-kept, falling-instant, falling-onAir, ten}
+use Rattle.rules.proofs.Tick.{Due, meets, due-first, due-meets, elapse-due, moved}
+use Rattle.rules.proofs.Sessions.{heldCount, fewer-held, each-elapse, each-instant, waiting-instant}
+use Rattle.rules.proofs.Timed.{OnTime, timed-fewer, meets-after}
+use Rattle.rules.proofs.Aired.{Played, elapse-played, played-fewer, Aired, aired-kept, moved-aired, rest-aired}
+use Rattle.rules.proofs.Ranked.{Falling, fewer-falling, falling-kept, falling-instant, falling-onAir, ten}
 use Rattle.rules.proofs.Room.{Room, room-kept, room-fewer, room-none, sixty-four}
 use Rattle.rules.proofs.Held.{Proper, Small, small-plays, small-kept, Once, Linking, linking-kept, linking-fresh}
 use Rattle.rules.proofs.Link.{Tied, Chained, Orderly, orderly}
 use Rattle.rules.proofs.Chained.{chained-kept, moved-chained, rest-chained}
-use Rattle.rules.proofs.Bounds.{horizon, ends-early}
+use Rattle.rules.proofs.Bounds.{horizon, longest, never, ends-early}
 use Rattle.rules.proofs.Fitted.{recordsOf, found}
 use Rattle.rules.proofs.Size.{call-size}
+pub use Rattle.rules.specs.Sound.{Holding, Sound, Reached}
 
 -- ## Of the sessions held at a time: the clock, or an instant of a tick
-
-pub record Holding (now : ℕ) (q : Queue) : Type 0 where
-  pub timed : OnTime now q
-  pub played : Played now q
-  pub falling : Falling (q .started)
-  pub room : Room (q .waiting)
-  pub proper : Each Proper q
-  pub small : Each Small q
-  pub once : Once q
-  pub tied : All (Tied (heldCount q)) (q .waiting)
 
 module _ {now : ℕ} {q : Queue} where
   pub chained : Holding now q → Chained now q
@@ -61,8 +52,30 @@ module _ {now : ℕ} {q : Queue} where
   pub in-order : Holding now q → Orderly (q .waiting)
   in-order h = orderly now q (chained h)
 
-  pub early : Holding now q → now < horizon → Each (λ s. s .end .0 < 72057594037927936) q
+  pub early : Holding now q → now < horizon → Each (λ s. s .end .0 < never) q
   early h e = ends-early now q e (h .timed) (h .played) (h .proper) (h .small) (h .tied) (few-wait h)
+
+-- what stays when any sessions go, before their followers do: all but the links
+pub record Loose (now : ℕ) (q : Queue) : Type 0 where
+  pub timed : OnTime now q
+  pub played : Played now q
+  pub falling : Falling (q .started)
+  pub room : Room (q .waiting)
+  pub proper : Each Proper q
+  pub small : Each Small q
+  pub once : Once q
+
+pub loose : (now : ℕ) (q r : Queue) → FewerHeld q r → Holding now q → Loose now r
+loose now q r f h =
+    record {
+      timed = timed-fewer now q r f (h .timed);
+      played = played-fewer now q r f (h .played);
+      falling = fewer-falling (f .started) (h .falling);
+      room = room-fewer (q .waiting) (r .waiting) (f .waiting) (h .room);
+      proper = fewer-each Proper q r f (h .proper);
+      small = fewer-each Small q r f (h .small);
+      once = λ c x. omega (arith, h .once c x, fewer-held (is c x) q r f);
+    }
 
 -- from one instant of a tick to the next
 pub holding-moved : (now t : ℕ) (q : Queue) → Due t q → 0 < meets t q → Holding now q → Holding t (instant t (elapse (t - now) q) .queue)
@@ -71,6 +84,28 @@ holding-moved now t q d m h =
     let u = elapse (t - now) q in
     joined (moved-chained now t q d (chained h)) (moved-aired now t q d m (aired h)) (falling-instant t u (falling-onAir (t - now) (q .started) (h .falling)))
     (room-fewer (q .waiting) _ (waiting-instant t u) (h .room)) (each-instant Small small-plays t u (each-elapse Small small-plays (t - now) q (h .small)))
+
+-- the next instant not later than until is after the time now
+pub next-after : (now until : ℕ) (q : Queue) → due (suc until) q ≤ until → Holding now q → now < due (suc until) q
+next-after now until q le h = meets-after now (due (suc until) q) q (h .timed) (due-meets (suc until) q (omega arith))
+
+pub holding-next : (now until : ℕ) (q : Queue) → due (suc until) q ≤ until → Holding now q → Holding (due (suc until) q) (moved now until q .queue)
+holding-next now until q le h = holding-moved now (due (suc until) q) q (due-first (suc until) q) (due-meets (suc until) q (omega arith)) h
+
+-- no PlayedDuration is longer than the longest Duration: at the present time, and at t before its work, if nothing is due before t
+pub played-now : (now : ℕ) (q : Queue) → Holding now q → All (λ s. s .played .0 ≤ longest) (q .started)
+played-now now q h =
+    all-into (λ s. ((s .start .0 + s .played .0 ≤ now) × (now < s .end .0)) × Small s) (λ s. s .played .0 ≤ longest) (λ s a. omega (arith, a .0 .0, a .0 .1, a .1 .duration)) (q .started)
+    (all-both (λ s. (s .start .0 + s .played .0 ≤ now) × (now < s .end .0)) Small (q .started)
+    (all-both (λ s. s .start .0 + s .played .0 ≤ now) (λ s. now < s .end .0) (q .started) (h .played .since) (h .timed .ends)) (h .small .started))
+
+pub played-then : (now t : ℕ) (q : Queue) → now ≤ t → Due t q → Holding now q → All (λ s. s .played .0 ≤ longest) (elapse (t - now) q .started)
+played-then now t q le d h =
+    let u = elapse (t - now) q in
+    all-into (λ s. ((s .start .0 + s .played .0 ≤ t) × (t ≤ s .end .0)) × Small s) (λ s. s .played .0 ≤ longest) (λ s a. omega (arith, a .0 .0, a .0 .1, a .1 .duration)) (u .started)
+    (all-both (λ s. (s .start .0 + s .played .0 ≤ t) × (t ≤ s .end .0)) Small (u .started)
+    (all-both (λ s. s .start .0 + s .played .0 ≤ t) (λ s. t ≤ s .end .0) (u .started) (elapse-played now t q le (h .played) .since) (elapse-due t (t - now) q d .ends))
+    (each-elapse Small small-plays (t - now) q (h .small) .started))
 
 -- from the last instant of a tick to its time
 pub holding-rest : (now until : ℕ) (q : Queue) → now ≤ until → Due (suc until) q → Holding now q → Holding until (elapse (until - now) q)
@@ -94,11 +129,6 @@ holding-kept =
     }
 
 -- ## Of a splicer
-
-pub record Sound (s : Splicer) : Type 0 where
-  pub linking : Linking s
-  pub clock : s .clock < horizon
-  pub holding : Holding (s .clock) (s .queue)
 
 pub sound-kept : Kept Wired Sound
 sound-kept =

@@ -39,6 +39,11 @@ module _ {A : Type 0} (n : ℕ) (f : A → ℕ) where
       go true e ih = let k : min (f x) (least n f l) ≡ f x = omega (arith, tests) in rw k (omega (arith, ap bit (eqb-same (f x))))
       go false e ih = let k : min (f x) (least n f l) ≡ least n f l = omega (arith, tests) in rw k (omega (arith, ih (omega (arith, tests))))
 
+  -- if n is the least
+  pub least-above : (l : List A) → All (λ x. n ≤ f x) l → least n f l ≡ n
+  least-above [] a = refl
+  least-above (x ∷ l) a = omega (arith, a .0, least-above l (a .1))
+
 -- ## The next instant
 
 -- nothing starts or ends before t
@@ -59,6 +64,16 @@ due-first n q =
       starts = least-all e (λ (s : Session). s .start .0) (q .waiting);
       ends = all-into (λ (s : Session). e ≤ s .end .0) (λ (s : Session). d ≤ s .end .0) (λ s h. omega (arith, least-base e (λ (u : Session). u .start .0) (q .waiting))) (q .started)
           (least-all n (λ (s : Session). s .end .0) (q .started));
+    }
+
+-- with nothing due by until
+pub due-last : (until : ℕ) (q : Queue) → until < due (suc until) q → Due (suc until) q
+due-last until q h =
+    let t = due (suc until) q in
+    let d = due-first (suc until) q in
+    record {
+      starts = all-into (λ s. t ≤ s .start .0) (λ s. suc until ≤ s .start .0) (λ s i. omega arith) (q .waiting) (d .starts);
+      ends = all-into (λ s. t ≤ s .end .0) (λ s. suc until ≤ s .end .0) (λ s i. omega arith) (q .started) (d .ends);
     }
 
 pub due-meets : (n : ℕ) (q : Queue) → due n q < n → 0 < meets (due n q) q
@@ -217,16 +232,7 @@ module _ (J : ℕ → Queue → Type 0)
       (λ e. let i = leb-true t until e in
       let l = moved-less now until q i in
       run-through n t until (moved now until q .queue) (omega arith) i (moves now t q (due-first (suc until) q) (due-meets (suc until) q (omega arith)) h))
-      (λ e. waits now until q le (none-before (leb-false t until e)) h)
-    where
-      none-before : until < due (suc until) q → Due (suc until) q
-      none-before i =
-          let d = due-first (suc until) q in
-          let t = due (suc until) q in
-          record {
-            starts = all-into (λ s. t ≤ s .start .0) (λ s. suc until ≤ s .start .0) (λ s j. omega arith) (q .waiting) (d .starts);
-            ends = all-into (λ s. t ≤ s .end .0) (λ s. suc until ≤ s .end .0) (λ s j. omega arith) (q .started) (d .ends);
-          }
+      (λ e. waits now until q le (due-last until q (leb-false t until e)) h)
 
   pub tick-through : (now until : ℕ) (q : Queue) → now ≤ until → J now q → J until (runAll now until q .queue)
   unfolding runAll

@@ -13,27 +13,19 @@ use Rattle.rules.specs.declared.Start.{Start}
 use Rattle.rules.specs.declared.Start.the-variants.{Timed, Linked}
 use Rattle.rules.specs.declared.Request.{Request}
 use Rattle.rules.specs.Lists.{bit, omit, count, place, removeAt}
-use Rattle.rules.specs.Bytes.{hasZero}
-use Rattle.rules.specs.State.{Queue, Splicer, empty, is, startsAt, endsAt, held, holds, withWaiting, withStarted}
+use Rattle.rules.specs.State.{due, Queue, Splicer, empty, is, startsAt, endsAt, held, holds, withWaiting, withStarted}
 use Rattle.rules.specs.Ends.{Turn, andThen, evictedAt, evicted}
 use Rattle.rules.specs.Instants.{mayStart, launched, startAt, endAt, instant, elapse, runAll}
 use Rattle.rules.specs.Answers.{endOf, startOf, sessionAt, requested, unknownPrior, tooLate, accepted}
-use Rattle.rules.specs.Calls.{Call, Called, named, after, fresh}
+use Rattle.rules.specs.Calls.{Call, after, fresh}
 use Rattle.rules.proofs.Tests.{tests, by}
 use Rattle.rules.proofs.All.{All, all-into}
 use Rattle.rules.proofs.Count.{count-removeAt, place-holds, place-none, some-place}
 use Rattle.rules.proofs.Every.{all-both, all-kept, all-getD, all-none, none-all, Fewer, fewer-removeAt, fewer-all, fewer-count, Sorted, fewer-sorted, sorted-inserted, all-inserted, Each, FewerHeld, all-held}
 use Rattle.rules.proofs.Leaving.{dismissed-fewer, evicted-fewer, aborted-fewer, closedBy-fewer}
-use Rattle.rules.proofs.Tick.{Due, meets, all-onAir, elapse-due, tick-through}
-use Rattle.rules.proofs.Always.{Any, Admitted, grants, KeptHeld, held-kept, always, any-calls}
-
-abbrev pub Later : ℕ → Session → Type 0
-Later now s = (now < s .start .0) × (s .start .0 < s .end .0)
-
-pub record OnTime (now : ℕ) (q : Queue) : Type 0 where
-  pub sorted : Sorted (q .waiting)
-  pub later : All (Later now) (q .waiting)
-  pub ends : All (λ s. now < s .end .0) (q .started)
+use Rattle.rules.proofs.Tick.{least-above, Due, meets, all-onAir, elapse-due, tick-through}
+use Rattle.rules.proofs.Always.{Admitted, grants, KeptHeld, held-always}
+pub use Rattle.rules.specs.Sound.{Later, OnTime}
 
 pub timed-fewer : (now : ℕ) (q r : Queue) → FewerHeld q r → OnTime now q → OnTime now r
 timed-fewer now q r f h =
@@ -196,10 +188,12 @@ timed-kept =
       ticking = tick-timed;
     }
 
-pub timed-fresh : (name : List ℕ) → OnTime (fresh name .splicer .clock) (fresh name .splicer .queue)
-unfolding fresh named
-timed-fresh name =
-    by (λ (k : Called). OnTime (k .splicer .clock) (k .splicer .queue)) (hasZero name) _ _ (λ e. record { sorted = tt; later = tt; ends = tt }) (λ e. record { sorted = tt; later = tt; ends = tt })
-
 pub timed-always : (ks : List Call) (name : List ℕ) → OnTime (after ks (fresh name .splicer) .clock) (after ks (fresh name .splicer) .queue)
-timed-always ks name = always Any (λ s. OnTime (s .clock) (s .queue)) (held-kept OnTime timed-kept) ks (fresh name .splicer) (any-calls ks) (timed-fresh name)
+timed-always = held-always OnTime timed-kept (record { sorted = tt; later = tt; ends = tt })
+
+-- nothing is left that was due: a tick to the present time does nothing
+pub nothing-due : (now : ℕ) (q : Queue) → OnTime now q → due (suc now) q ≡ suc now
+unfolding due
+nothing-due now q h =
+    let e = least-above (suc now) (λ (s : Session). s .end .0) (q .started) (h .ends) in
+    rw e (least-above (suc now) (λ (s : Session). s .start .0) (q .waiting) (all-into (Later now) (λ s. suc now ≤ s .start .0) (λ s i. i .0) (q .waiting) (h .later)))

@@ -12,3 +12,4 @@ pub mod Card
 pub mod History
 pub mod Rehearsed
 pub mod Worked
+pub mod Sound

@@ -1,4 +1,4 @@
--- 01, "Rehearsed situations": P1 to P14 in one table under one statement, worked through the calls, from bytes to bytes. Assumes nothing.
+-- 01, "Rehearsed situations": P1 to P14 in one table under one statement, worked through the calls, from the bytes of a request to the records in the answer's bytes. Assumes nothing.
 use mathlib.Core.Path.{_≡_, refl}
 use mathlib.Core.List.{List, [], _∷_, _++_, map}
 use Prim.Native.Nat.{ℕ, zero, suc, _+_, _*_}
@@ -10,11 +10,12 @@ use Rattle.rules.specs.Reading
 use Rattle.rules.specs.State
 use Rattle.rules.specs.State.{Splicer}
 use Rattle.rules.specs.Records
+use Rattle.rules.specs.Records.{Record, recordsIn}
 use Rattle.rules.specs.Ends
 use Rattle.rules.specs.Instants
 use Rattle.rules.specs.Answers
 use Rattle.rules.specs.Calls
-use Rattle.rules.specs.Calls.{Call, Called, Answer, refused, good, opens, messages, ticks, call}
+use Rattle.rules.specs.Calls.{Call, Called, opens, messages, ticks, call}
 use Rattle.rules.specs.Card
 
 -- ## Messages
@@ -59,42 +60,31 @@ unfoldable pub plays : List Call → Called → Called
 plays [] r = r
 plays (k ∷ ks) r = plays ks (call k (r .splicer))
 
--- the numbers of a record: SessionID, flag, result, PlayedDuration
-unfoldable pub told : Records.Record → List ℕ
-told (Records.General c r) = r ∷ []
-told (Records.InitResponse c r n) = r ∷ []
-told (Records.AliveResponse c r a x t) = a ∷ x ∷ []
-told (Records.SpliceResponse c r x) = x ∷ r ∷ []
-told (Records.SpliceComplete c r x f d) = x ∷ f ∷ r ∷ d ∷ []
-told (Records.AbortResponse c r x) = x ∷ r ∷ []
+-- what a row looks at: the records in the bytes that the last call wrote, or numbers of the state after it
+pub data Seen : Type 0 where
+  wrote : List Record → Seen
+  holds : List ℕ → Seen
 
-unfoldable pub flat : List (List ℕ) → List ℕ
-flat [] = []
-flat (x ∷ l) = x ++ flat l
-
-unfoldable pub answered : Answer → List ℕ
-answered (refused n) = Calls.houseNumber n ∷ []
-answered (good k rs) = flat (map told rs)
-
--- what the last call answers
-unfoldable pub said : Called → List ℕ
-said r = answered (r .answer)
+said : Called → Seen
+said r = wrote (recordsIn (Calls.writtenBy (r .answer)))
 
 -- the ends of the waiting sessions
-unfoldable pub ends : Called → List ℕ
-ends r = map (λ (s : Session). s .end .0) (r .splicer .queue .waiting)
+ends : Called → Seen
+ends r = holds (map (λ (s : Session). s .end .0) (r .splicer .queue .waiting))
 
--- the started sessions: on air, then covered
-unfoldable pub air : Called → List ℕ
-air r = map (λ (s : Session). s .id) (r .splicer .queue .started)
+-- the numbers of the started sessions: on air, then covered
+air : Called → Seen
+air r = holds (map (λ (s : Session). s .id) (r .splicer .queue .started))
 
+-- P: the number of the situation
 record Row : Type 0 where
+  P : ℕ
   calls : List Call
-  sees : Called → List ℕ
-  wants : List ℕ
+  sees : Called → Seen
+  wants : Seen
 
-row : List Call → (Called → List ℕ) → List ℕ → Row
-row ks f l = record { calls = ks; sees = f; wants = l }
+row : ℕ → List Call → (Called → Seen) → Seen → Row
+row n ks f l = record { P = n; calls = ks; sees = f; wants = l }
 
 -- ## The table
 
@@ -124,29 +114,42 @@ shown s u = timed 0 3 1003 0 3 0 2700000 ∷ to s u ∷ aborts 0 3 ∷ []
 against : ℕ → ℕ → List Call
 against a o = timed 0 4 1003 0 4 0 2700000 ∷ to 1003 0 ∷ timed 0 5 1006 0 a o 90000 ∷ to 1006 0 ∷ []
 
+-- Splice_Response and SpliceComplete_Response of connection 0, and its Abort_Response
+responds : (result id : ℕ) → Record
+responds r x = Records.SpliceResponse 0 r x
+
+completes : (result id flag played : ℕ) → Record
+completes r x f d = Records.SpliceComplete 0 r x f d
+
+-- the answer to the abort in `shown`, with the ticks played
+stopped : ℕ → Seen
+stopped d = wrote (Records.AbortResponse 0 100 3 ∷ completes 116 3 1 d ∷ [])
+
 table : List Row
 table =
-    row (new ∷ []) said (99 ∷ 100 ∷ [])
-    ∷ row (timed 0 99 1002 999999 1 0 90000 ∷ []) said (99 ∷ 112 ∷ [])
-    ∷ row (queued 9 20 20 14 ++ (new ∷ [])) said (99 ∷ 100 ∷ [])
-    ∷ row (queued 10 20 20 14 ++ (new ∷ [])) said (99 ∷ 114 ∷ [])
-    ∷ row (queued 19 0 0 0 ++ (new ∷ [])) said (99 ∷ 100 ∷ [])
-    ∷ row (queued 20 0 0 0 ++ (new ∷ [])) said (99 ∷ 114 ∷ [])
-    ∷ row (timed 0 3 1003 0 3 0 90000 ∷ timed 0 5 1003 0 5 0 90000 ∷ []) said (3 ∷ 109 ∷ 5 ∷ 100 ∷ [])
-    ∷ row (timed 0 3 1003 0 3 0 90000 ∷ timed 0 5 1003 0 3 0 90000 ∷ []) said (5 ∷ 109 ∷ [])
-    ∷ row (timed 0 3 1003 0 3 0 2700000 ∷ []) ends (9297000000 ∷ [])
-    ∷ row (shown 1013 0) said (3 ∷ 100 ∷ 3 ∷ 1 ∷ 116 ∷ 900000 ∷ [])
-    ∷ row (shown 1003 11) said (3 ∷ 100 ∷ 3 ∷ 1 ∷ 116 ∷ 0 ∷ [])
-    ∷ row (shown 1003 12) said (3 ∷ 100 ∷ 3 ∷ 1 ∷ 116 ∷ 1 ∷ [])
-    ∷ row (against 4 1) said (5 ∷ 0 ∷ 109 ∷ 0 ∷ [])
-    ∷ row (against 5 0) said (5 ∷ 0 ∷ 109 ∷ 0 ∷ [])
-    ∷ row (against 5 1) said (5 ∷ 0 ∷ 100 ∷ 0 ∷ [])
-    ∷ row (against 5 1) air (5 ∷ 4 ∷ [])
+    row 1 (new ∷ []) said (wrote (responds 100 99 ∷ []))
+    ∷ row 2 (timed 0 99 1002 999999 1 0 90000 ∷ []) said (wrote (responds 112 99 ∷ []))
+    ∷ row 3 (queued 9 20 20 14 ++ (new ∷ [])) said (wrote (responds 100 99 ∷ []))
+    ∷ row 4 (queued 10 20 20 14 ++ (new ∷ [])) said (wrote (responds 114 99 ∷ []))
+    ∷ row 5 (queued 19 0 0 0 ++ (new ∷ [])) said (wrote (responds 100 99 ∷ []))
+    ∷ row 6 (queued 20 0 0 0 ++ (new ∷ [])) said (wrote (responds 114 99 ∷ []))
+    ∷ row 7 (timed 0 3 1003 0 3 0 90000 ∷ timed 0 5 1003 0 5 0 90000 ∷ []) said (wrote (responds 109 3 ∷ responds 100 5 ∷ []))
+    ∷ row 8 (timed 0 3 1003 0 3 0 90000 ∷ timed 0 5 1003 0 3 0 90000 ∷ []) said (wrote (responds 109 5 ∷ []))
+    ∷ row 9 (timed 0 3 1003 0 3 0 2700000 ∷ []) ends (holds (9297000000 ∷ []))
+    ∷ row 10 (shown 1013 0) said (stopped 900000)
+    ∷ row 11 (shown 1003 11) said (stopped 0)
+    ∷ row 11 (shown 1003 12) said (stopped 1)
+    ∷ row 12 (against 4 1) said (wrote (completes 109 5 0 0 ∷ []))
+    ∷ row 12 (against 4 1) air (holds (4 ∷ []))
+    ∷ row 13 (against 5 0) said (wrote (completes 109 5 0 0 ∷ []))
+    ∷ row 13 (against 5 0) air (holds (4 ∷ []))
+    ∷ row 14 (against 5 1) said (wrote (completes 100 5 0 0 ∷ []))
+    ∷ row 14 (against 5 1) air (holds (5 ∷ 4 ∷ []))
     ∷ []
 
-shows : Row → List ℕ
+shows : Row → Seen
 shows r = r .sees (plays (ready ++ r .calls) card)
 
 rehearsed : map shows table ≡ map (λ r. r .wants) table
-unfolding sent from initOf asks timed aborts to card plays told flat answered said ends air row up ready load queued new shown against table shows place insertAt removeAt bytes value valueFrom Reading.readInit Reading.readAbort Reading.wellFormed Reading.readStart Reading.readSplice Reading.read State.empty State.due Ends.andThen Ends.endings Ends.walk Ends.followers Ends.dismissed Ends.evictedAt Ends.evicted Ends.cancelled Ends.aborted Instants.mayStart Instants.launched Instants.startAt Instants.endAt Instants.instant Instants.onAir Instants.elapse Instants.run Instants.runAll Answers.initResult Answers.answerInit Answers.answerAbort Answers.startOf Answers.sessionAt Answers.requested Answers.unknownPrior Answers.tooLate Answers.collides Answers.full Answers.spliceResult Answers.inserted Answers.accepted Answers.answerSplice Answers.answerRead Answers.answer Calls.houseNumber Calls.named Calls.fresh Calls.openCall Calls.framing Calls.handled Calls.messageCall Calls.ticked Calls.tickCall Calls.call Card.cardName
+unfolding sent from initOf asks timed aborts to card plays said ends air row up ready load queued new shown against responds completes stopped table shows place insertAt removeAt bytes value valueFrom Reading.readInit Reading.readAbort Reading.wellFormed Reading.readStart Reading.readSplice Reading.read State.empty State.due Records.framed Records.recordBytes Records.output Records.recordIn Records.recordsUpTo Records.recordsIn Ends.andThen Ends.endings Ends.walk Ends.followers Ends.dismissed Ends.evictedAt Ends.evicted Ends.cancelled Ends.aborted Instants.mayStart Instants.launched Instants.startAt Instants.endAt Instants.instant Instants.onAir Instants.elapse Instants.run Instants.runAll Answers.initResult Answers.answerInit Answers.answerAbort Answers.startOf Answers.sessionAt Answers.requested Answers.unknownPrior Answers.tooLate Answers.collides Answers.full Answers.spliceResult Answers.inserted Answers.accepted Answers.answerSplice Answers.answerRead Answers.answer Calls.writtenBy Calls.named Calls.fresh Calls.openCall Calls.framing Calls.handled Calls.messageCall Calls.ticked Calls.tickCall Calls.call Card.cardName
 rehearsed = refl

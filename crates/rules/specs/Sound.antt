@@ -1,0 +1,125 @@
+-- What holds of every splicer that fresh and the calls since have given. proofs/Sound shows it for all sequences of calls.
+use mathlib.Core.Path.{_≡_}
+use mathlib.Core.Bool.{Bool, true, false, _&&_}
+use mathlib.Core.List.{List, [], _∷_}
+use Prim.Native.Nat.{ℕ, _+_, _*_, _≤_, _<_}
+use lib.Dec.{eqb}
+use lib.ListN.{length}
+use Rattle.rules.specs.declared.Session.{Session}
+use Rattle.rules.specs.Lists.{All, count}
+use Rattle.rules.specs.Bytes.{Byte, NoZero}
+use Rattle.rules.specs.Reading.{nobody}
+use Rattle.rules.specs.State.{Queue, Splicer, of, is, Sorted, linkOf, isOpen}
+use Rattle.rules.specs.Answers.{waits, raisedSum}
+use Rattle.rules.specs.Calls.{fresh, Call, opens, closes, messages, ticks, after}
+
+-- ## The sessions held at a time: the clock, or an instant of a tick
+
+-- P holds of each session held
+pub record Each (P : Session → Type 0) (q : Queue) : Type 0 where
+  pub waiting : All P (q .waiting)
+  pub started : All P (q .started)
+
+-- how many held ones pass p
+abbrev pub heldCount : Queue → (Session → Bool) → ℕ
+heldCount q p = count p (q .waiting) + count p (q .started)
+
+abbrev pub Later : ℕ → Session → Type 0
+Later now s = (now < s .start .0) × (s .start .0 < s .end .0)
+
+-- starts are in order, no two alike, and after the time; ends are after it
+pub record OnTime (now : ℕ) (q : Queue) : Type 0 where
+  pub sorted : Sorted (q .waiting)
+  pub later : All (Later now) (q .waiting)
+  pub ends : All (λ s. now < s .end .0) (q .started)
+
+abbrev pub Since : ℕ → Session → Type 0
+Since now s = s .start .0 + s .played .0 ≤ now
+
+-- nothing that waits was on air, and a started session was not on air for longer than since its start
+pub record Played (now : ℕ) (q : Queue) : Type 0 where
+  pub silent : All (λ s. s .played .0 ≡ 0) (q .waiting)
+  pub since : All (Since now) (q .started)
+
+-- AccessTypes fall strictly
+abbrev pub Falling : List Session → Type 0
+Falling [] = Unit {0}
+Falling (s ∷ k) = All (λ u. u .access < s .access) k × Falling k
+
+-- at most 20 of a connection wait, and the raised counts sum to at most 64
+pub record Room (w : List Session) : Type 0 where
+  pub each : (c : ℕ) → waits c w ≤ 20
+  pub sum : raisedSum w ≤ 64
+
+-- a session as it was accepted, whatever the bytes
+pub record Proper (s : Session) : Type 0 where
+  pub conn : s .conn ≤ 3
+  pub somebody : eqb (s .id) nobody ≡ false
+  pub access : s .access ≤ 9
+  pub over : s .over ≤ 1
+  pub lasts : s .start .0 < s .end .0
+
+-- the clock and a timed start stay below this: Seconds are four bytes
+abbrev pub horizon : ℕ
+horizon = 4294967296 * 9000000
+
+-- the numbers that bytes hold: a SessionID and a PriorSession are four of them, and so is a Duration
+pub record Small (s : Session) : Type 0 where
+  pub id : s .id < 0xFFFFFFFF
+  pub prior : s .prior ≤ 0xFFFFFFFF
+  pub duration : s .end .0 ≤ s .start .0 + 100 * 0xFFFFFFFF
+  pub timed : s .prior ≡ nobody → s .start .0 < horizon
+
+-- no connection holds a number twice
+abbrev pub Once : Queue → Type 0
+Once q = (c x : ℕ) → heldCount q (is c x) ≤ 1
+
+-- u is the number that s names, and ends where s starts
+abbrev pub isPrior : Session → Session → Bool
+isPrior s u = is (s .conn) (s .prior) u && eqb (s .start .0) (u .end .0)
+
+-- n counts sessions: the prior of s, if it names one, is among them
+abbrev pub Tied : ((Session → Bool) → ℕ) → Session → Type 0
+Tied n s = eqb (s .prior) nobody ≡ false → 0 < n (isPrior s)
+
+pub record Holding (now : ℕ) (q : Queue) : Type 0 where
+  pub timed : OnTime now q
+  pub played : Played now q
+  pub falling : Falling (q .started)
+  pub room : Room (q .waiting)
+  pub proper : Each Proper q
+  pub small : Each Small q
+  pub once : Once q
+  pub tied : All (Tied (heldCount q)) (q .waiting)
+
+-- ## The splicer
+
+-- four connections, of which a closed one holds nothing; a name of less than 32 bytes, none of them zero
+pub record Linking (s : Splicer) : Type 0 where
+  pub four : length (s .links) ≡ 4
+  pub shut : (c : ℕ) → isOpen (linkOf c s) ≡ false → heldCount (s .queue) (of c) ≡ 0
+  pub zeros : NoZero (s .name)
+  pub short : length (s .name) < 32
+  pub bytes : All Byte (s .name)
+
+pub record Sound (s : Splicer) : Type 0 where
+  pub linking : Linking s
+  pub clock : s .clock < horizon
+  pub holding : Holding (s .clock) (s .queue)
+
+-- ## "A splicer is what fresh and the calls since have given; a call may rely on that and on nothing else."
+
+-- a call whose bytes are bytes and whose Seconds are four of them
+abbrev pub Wired : Call → Type 0
+Wired (opens c) = Unit {0}
+Wired (closes c room) = Unit {0}
+Wired (messages c l room) = All Byte l
+Wired (ticks seconds micros room) = seconds < 4294967296
+
+pub record Reached (s : Splicer) : Type 0 where
+  pub name : List ℕ
+  pub whole : length name ≡ 32
+  pub bytes : All Byte name
+  pub calls : List Call
+  pub wired : All Wired calls
+  pub same : s ≡ after calls (fresh name .splicer)
