@@ -1,37 +1,50 @@
--- Laws of the list in lent places: it is padded with empty ones, a shift carries one session on, a loop has passed a part of it.
+-- Laws of the list in lent places: it is padded with empty ones, a shift moves a hole, a loop has passed a part of it.
 use mathlib.Core.Path.{_≡_, refl, sym, ap, subst, _∙_}
 use mathlib.Core.List.{List, [], _∷_, _++_, append-assoc}
-use mathlib.Core.Bool.{Bool, true, false, cond}
-use Prim.Native.Nat.{ℕ, zero, suc, _+_, _-_, _*_, _/_, _≤_, _<_, min}
+use mathlib.Core.Bool.{Bool, true, false}
+use Prim.Native.Nat.{ℕ, zero, suc, _+_, _-_, _/_, _≤_, _<_, min}
 use native.Mathlib.Omega.{arith}
 use native.Mathlib.Numerals.{add-one}
 use native.Mathlib.Nat.{not-suc-le-zero, le-of-suc-le-suc}
-use lib.ListN.{length, take, drop, set, getD, replicate, length-append, length-take, length-drop, length-set, length-replicate, take-append-drop, drop-of-length-le}
-use lib.Seq.{drop-cons, take-append-le, drop-append-le, take-at, drop-at, drop-append-seam, length-take-le, take-append-seam, getD-take, take-set-lt, take-set-le, take-take, drop-set-lt, getD-set-same}
+use lib.ListN.{length, take, drop, set, getD, replicate, length-append, length-set, length-replicate, take-append-drop, drop-of-length-le}
+use lib.Seq.{drop-cons, take-append-le, drop-append-le, take-at, drop-at, drop-append-seam, length-take-le, take-append-seam, getD-take, take-set-lt, drop-set-lt}
 use Rattle.rules.specs.declared.Session.{Session}
-use Rattle.rules.specs.Lists.{bit, place, count, insertAt, removeAt, least}
-use Rattle.rules.specs.State.{empty}
-use Rattle.rules.proofs.All.{All}
-use Rattle.rules.proofs.Every.{Sorted}
-use Rattle.rules.proofs.Count.{length-insertAt, length-removeAt}
-use Rattle.places.specs.Places.{Lot, lot, zeros, Good, used}
+use Rattle.rules.specs.Lists.{All, bit, place, count, insertAt, removeAt, least}
+use Rattle.rules.specs.State.{empty, Sorted}
+use Rattle.rules.proofs.Count.{length-insertAt, length-removeAt, place≤}
+use Rattle.places.specs.Places.{Lot, lot, spare, zeros, Good, used}
 use Rattle.places.proofs.Words.{length-places, places-zero, places-same}
 
 -- ## Lists
 
 module _ {A : Type 0} where
-  -- the carried element goes in, and the one that stood there is carried on
-  pub carry-up : (l : List A) (i : ℕ) (a d : A) → i < length l → insertAt (suc i) (getD l i d) (set l i a) ≡ insertAt i a l
-  unfolding insertAt
-  carry-up [] i a d h = absurd (not-suc-le-zero h)
-  carry-up (x ∷ l) zero a d h = refl
-  carry-up (x ∷ l) (suc i) a d h = ap (λ r. x ∷ r) (carry-up l i a d (le-of-suc-le-suc h))
+  -- a hole moves: what stood before it, or behind it, goes in, and the rest stays
+  before : (l : List A) (i : ℕ) (d : A) → suc i < length l → removeAt i (set l (suc i) (getD l i d)) ≡ removeAt (suc i) l
+  unfolding removeAt
+  before [] i d h = absurd (not-suc-le-zero h)
+  before (x ∷ []) zero d h = absurd (omega arith)
+  before (x ∷ y ∷ l) zero d h = refl
+  before (x ∷ l) (suc i) d h = ap (λ r. x ∷ r) (before l i d (le-of-suc-le-suc h))
 
-  pub carry-down : (l : List A) (i : ℕ) (a d : A) → i < length l → insertAt i (getD l i d) (set l i a) ≡ insertAt (suc i) a l
-  unfolding insertAt
-  carry-down [] i a d h = absurd (not-suc-le-zero h)
-  carry-down (x ∷ l) zero a d h = refl
-  carry-down (x ∷ l) (suc i) a d h = ap (λ r. x ∷ r) (carry-down l i a d (le-of-suc-le-suc h))
+  behind : (l : List A) (i : ℕ) (d : A) → suc i < length l → removeAt (suc i) (set l i (getD l (suc i) d)) ≡ removeAt i l
+  unfolding removeAt
+  behind [] i d h = absurd (not-suc-le-zero h)
+  behind (x ∷ []) zero d h = absurd (omega arith)
+  behind (x ∷ y ∷ l) zero d h = refl
+  behind (x ∷ l) (suc i) d h = ap (λ r. x ∷ r) (behind l i d (le-of-suc-le-suc h))
+
+  pub hole-before : (l : List A) (i k : ℕ) (d : A) → k ≡ suc i → k < length l → removeAt i (set l k (getD l i d)) ≡ removeAt k l
+  hole-before l i k d e h = rw e (before l i d (omega arith))
+
+  pub hole-behind : (l : List A) (i k : ℕ) (d : A) → k ≡ suc i → k < length l → removeAt k (set l i (getD l k d)) ≡ removeAt i l
+  hole-behind l i k d e h = rw e (behind l i d (omega arith))
+
+  -- and is filled
+  pub hole-filled : (l : List A) (i : ℕ) (x : A) → i < length l → set l i x ≡ insertAt i x (removeAt i l)
+  unfolding insertAt removeAt
+  hole-filled [] i x h = absurd (not-suc-le-zero h)
+  hole-filled (y ∷ l) zero x h = refl
+  hole-filled (y ∷ l) (suc i) x h = ap (λ r. y ∷ r) (hole-filled l i x (le-of-suc-le-suc h))
 
   insertAt-append : (n : ℕ) (x : A) (l m : List A) → n ≤ length l → insertAt n x (l ++ m) ≡ insertAt n x l ++ m
   unfolding insertAt
@@ -53,14 +66,20 @@ module _ {A : Type 0} where
   unfolding insertAt
   insertAt-seam n x l m e = rw (take-at l m n e, drop-at l m n e) refl
 
-  -- a list with c at its place m: what stands before the place, and c with what stands behind it
-  split-insert : (m : ℕ) (c : A) (p v r : List A) → m ≤ length p → length v ≡ m → insertAt m c p ≡ v ++ r → (take m p ≡ v) × (c ∷ drop m p ≡ r)
-  unfolding insertAt
-  split-insert m c p v r h l e =
-      let k : length (take m p) ≡ m = length-take-le m p h in (
-        sym (take-at (take m p) (c ∷ drop m p) m k) ∙ ap (take m) e ∙ take-at v r m l,
-        sym (drop-at (take m p) (c ∷ drop m p) m k) ∙ ap (drop m) e ∙ drop-at v r m l,
-      )
+  removeAt-seam : (n : ℕ) (x : A) (l m : List A) → length l ≡ n → removeAt n (l ++ (x ∷ m)) ≡ l ++ m
+  removeAt-seam n x l m e =
+      ap (removeAt n) (sym (insertAt-seam n x l m e)) ∙ remove-insert n x (l ++ m) (simp length-append (omega arith))
+
+  -- without the last of the first i
+  pub removeAt-take : (i k : ℕ) (l : List A) → k ≡ suc i → removeAt i (take k l) ≡ take i l
+  unfolding removeAt
+  removeAt-take i k l e = rw e (last i l)
+    where
+      last : (i : ℕ) (l : List A) → removeAt i (take (suc i) l) ≡ take i l
+      last zero [] = refl
+      last zero (x ∷ l) = refl
+      last (suc i) [] = refl
+      last (suc i) (x ∷ l) = ap (λ r. x ∷ r) (last i l)
 
   pub least-none : (none : ℕ) (f : A → ℕ) (l : List A) → least none f l ≤ none
   least-none none f [] = omega arith
@@ -105,12 +124,11 @@ same p q g h m e =
     let len : p .len ≡ q .len = sym (length-used p g) ∙ ap length e ∙ length-used q h in
     λ i. record { items = items i; len = len i }
 
--- and every word, if the words are whole places
-pub words-same : (p q : List ℕ) (m n : ℕ) → Good (lot p m) → Good (lot q n) → length p ≡ length q → length p ≡ 8 * (length p / 8) →
-    used (lot p m) ≡ used (lot q n) → p ≡ q
-words-same p q m n g h l k e =
+-- and, with the spare ones, every word
+pub words-same : (p q : List ℕ) (m n : ℕ) → Good (lot p m) → Good (lot q n) → length p ≡ length q → used (lot p m) ≡ used (lot q n) → spare p ≡ spare q → p ≡ q
+words-same p q m n g h l e d =
     let s = same (lot p m) (lot q n) g h (length-places p ∙ ap (λ (i : ℕ). i / 8) l ∙ sym (length-places q)) e in
-    places-same p q l k (ap (λ r. r .items) s)
+    places-same p q l (ap (λ r. r .items) s) d
 
 -- zeros are good, and hold nothing
 pub cleared : (m : ℕ) → Good (lot (zeros m) 0)
@@ -118,44 +136,41 @@ cleared m =
     let e : length (zeros m) / 8 ≡ length (lot (zeros m) 0 .items) - 0 = omega (arith, length-places (zeros m)) in
     record { fits = omega arith; clear = places-zero m ∙ ap (λ (i : ℕ). replicate i empty) e }
 
--- what `insert_at` leaves: r, when the carried one has come behind the last
-pub insert-made : (q : Lot) (r : List Session) (at : ℕ) (x carry : Session) (i : ℕ) → Good q → at ≤ q .len → q .len < length (q .items) →
-    length r ≡ length (q .items) → i ≡ q .len + 1 → insertAt i carry r ≡ insertAt at x (q .items) →
+-- what `insert_at` leaves: the hole, that was behind the last, is x at the place `at`
+pub insert-made : (q : Lot) (r : List Session) (at : ℕ) (x : Session) → Good q → at ≤ q .len → q .len < length (q .items) →
+    r ≡ insertAt at x (removeAt (q .len) (q .items)) →
     Good (record { items = r; len = q .len + 1 }) × (used (record { items = r; len = q .len + 1 }) ≡ insertAt at x (used q))
 unfolding pad
-insert-made q r at x carry i g a l w e v =
+insert-made q r at x g a l e =
     let u = used q in
     let m = length (q .items) in
     let n : length u ≡ q .len = length-used q g in
     let k : length (insertAt at x u) ≡ suc (length u) = length-insertAt at x u in
     let z : m - length u ≡ suc (m - length (insertAt at x u)) = omega arith in
-    let s = split-insert i carry r (insertAt at x u) (replicate (m - length u) empty) (omega arith) (omega arith)
-    (v ∙ ap (insertAt at x) (padded q g) ∙ insertAt-append at x u (replicate (m - length u) empty) (omega arith)) in
-    let t : drop i r ≡ replicate (m - length (insertAt at x u)) empty =
-    ap (drop 1) (s .1 ∙ ap (λ (j : ℕ). replicate j empty) z) in
+    let rest = replicate (m - length (insertAt at x u)) empty in
+    let f : removeAt (q .len) (q .items) ≡ u ++ rest =
+    ap (removeAt (q .len)) (padded q g ∙ ap (λ (j : ℕ). u ++ replicate j empty) z) ∙ removeAt-seam (q .len) empty u rest n in
     made m (insertAt at x u) (record { items = r; len = q .len + 1 }) (omega arith)
-    (sym (take-append-drop i r) ∙ rw (s .0, t) refl) (omega arith)
+    (e ∙ ap (insertAt at x) f ∙ insertAt-append at x u rest (omega arith)) (omega arith)
 
--- what `remove_at` leaves: r, when the carried one is the one to remove
-pub remove-made : (q : Lot) (r : List Session) (at : ℕ) (carry : Session) (i : ℕ) → Good q → at < q .len →
-    length r ≡ length (q .items) → i ≡ at → insertAt i carry r ≡ insertAt (q .len) empty (q .items) →
+-- what `remove_at` leaves: the hole, that was at the place `at`, is empty at the last
+pub remove-made : (q : Lot) (r : List Session) (at : ℕ) → Good q → at < q .len →
+    r ≡ insertAt (q .len - 1) empty (removeAt at (q .items)) →
     Good (record { items = r; len = q .len - 1 }) × (used (record { items = r; len = q .len - 1 }) ≡ removeAt at (used q))
 unfolding pad
-remove-made q r at carry i g a w e v =
+remove-made q r at g a e =
     let u = used q in
     let m = length (q .items) in
     let n : length u ≡ q .len = length-used q g in
     let k : suc (length (removeAt at u)) ≡ length u = length-removeAt at u (omega arith) in
-    let z : m - length (removeAt at u) ≡ suc (m - length u) = omega arith in
-    let f : insertAt (q .len) empty (q .items) ≡ u ++ (empty ∷ replicate (m - length u) empty) =
-    ap (insertAt (q .len) empty) (padded q g) ∙ insertAt-seam (q .len) empty u (replicate (m - length u) empty) n in
-    let p : r ≡ pad m (removeAt at u) =
-    sym (remove-insert at carry r (omega arith))
-    ∙ ap (λ (j : ℕ). removeAt at (insertAt j carry r)) (sym e)
-    ∙ ap (removeAt at) (v ∙ f)
-    ∙ removeAt-append at u (empty ∷ replicate (m - length u) empty) (omega arith)
-    ∙ ap (λ (j : ℕ). removeAt at u ++ replicate j empty) (sym z) in
-    made m (removeAt at u) (record { items = r; len = q .len - 1 }) (omega arith) p (omega arith)
+    let z : suc (m - length u) ≡ m - length (removeAt at u) = omega (arith, g .fits) in
+    let rest = replicate (m - length u) empty in
+    let f : removeAt at (q .items) ≡ removeAt at u ++ rest = ap (removeAt at) (padded q g) ∙ removeAt-append at u rest (omega arith) in
+    made m (removeAt at u) (record { items = r; len = q .len - 1 }) (omega (arith, g .fits))
+    (e
+    ∙ ap (insertAt (q .len - 1) empty) f
+    ∙ insertAt-seam (q .len - 1) empty (removeAt at u) rest (omega arith)
+    ∙ ap (λ (j : ℕ). removeAt at u ++ replicate j empty) z) (omega arith)
 
 -- with a place removed there is one less
 pub len-removed : (q r : Lot) (k : ℕ) → Good q → Good r → k < q .len → used r ≡ removeAt k (used q) → suc (r .len) ≡ q .len
@@ -163,6 +178,10 @@ len-removed q r k g h l e =
     let n : length (used q) ≡ q .len = length-used q g in
     let m : length (used r) ≡ r .len = length-used r h in
     omega (arith, length-removeAt k (used q) (omega arith), ap length e)
+
+-- what a search gives is a place, or the end
+pub found-within : (p : Session → Bool) (q : Lot) (i : ℕ) → Good q → i ≡ place p (used q) → i ≤ q .len
+found-within p q i g e = omega (arith, place≤ p (used q), length-used q g)
 
 -- what `load` reads at a used place is the list's
 pub used-at : (q : Lot) (i : ℕ) (d : Session) → i < q .len → getD (q .items) i d ≡ getD (used q) i d
@@ -178,23 +197,6 @@ used-set q r i x g h e =
         clear = ap (drop (q .len)) e ∙ drop-set-lt (q .len) (q .items) i x h ∙ g .clear ∙ ap (λ (m : ℕ). replicate (m - q .len) empty) (sym n);
       },
       ap (take (q .len)) e ∙ take-set-lt (q .len) (q .items) i x h,
-    )
-
--- what `truncate` leaves of n places when it has cleared down to the place i
-pub used-cleared : (q : Lot) (r : List Session) (i : ℕ) → Good q → suc i ≡ q .len → r ≡ set (q .items) i empty →
-    Good (record { items = r; len = i }) × (used (record { items = r; len = i }) ≡ take i (used q))
-used-cleared q r i g h e =
-    let n : length r ≡ length (q .items) = ap length e ∙ length-set (q .items) i empty in
-    let f : i < length (q .items) = omega (arith, g .fits) in
-    let z : length r - i ≡ suc (length (q .items) - suc i) = omega arith in
-    let d : drop i (set (q .items) i empty) ≡ empty ∷ drop (suc i) (q .items) =
-    drop-cons (set (q .items) i empty) i empty (omega (arith, length-set (q .items) i empty))
-    ∙ rw (getD-set-same (q .items) i empty empty f, drop-set-lt (suc i) (q .items) i empty (omega arith)) refl in (
-      record {
-        fits = omega arith;
-        clear = ap (drop i) e ∙ d ∙ ap (λ (m : ℕ). empty ∷ drop m (q .items)) h ∙ ap (λ r. empty ∷ r) (g .clear) ∙ (rw (z, h) refl);
-      },
-      ap (take i) e ∙ take-set-le i (q .items) i empty (omega arith) ∙ sym (take-take i (q .len) (q .items) (omega arith)),
     )
 
 -- ## Loops over the used places: i of them are passed, and the rest decides

@@ -4,11 +4,11 @@ use mathlib.Core.List.{List, [], _∷_}
 use Prim.Native.Nat.{ℕ, zero, suc, _+_, _-_, _*_, _/_, _≤_, _<_}
 use native.Mathlib.Omega.{arith}
 use native.Mathlib.Nat.{le-of-suc-le-suc}
-use lib.ListN.{length, drop, set, getD, replicate, length-set, length-drop}
-use lib.Seq.{getD-drop}
+use lib.ListN.{length, drop, set, getD, replicate, length-set, length-drop, drop-of-length-le}
+use lib.Seq.{getD-drop, drop-set-lt}
 use Rattle.rules.specs.declared.Session.{Session}
 use Rattle.rules.specs.State.{empty}
-use Rattle.places.specs.Places.{row, rows, places, zeros}
+use Rattle.places.specs.Places.{row, rows, places, spare, zeros}
 
 pub length-rows : (n : ℕ) (q : List ℕ) → length (rows n q) ≡ n
 unfolding rows
@@ -87,17 +87,31 @@ store-is q i x h =
     let n : length (stored q (i * 8) x) ≡ length q = simp length-set in
     rw n (rows-stored (length q / 8) i q x h (omega arith))
 
--- the words of whole places are determined by what they hold
-rows-same : (n : ℕ) (p q : List ℕ) → length p ≡ 8 * n → length q ≡ 8 * n → rows n p ≡ rows n q → p ≡ q
+pub store-spare : (q : List ℕ) (i : ℕ) (x : Session) → i < length q / 8 → spare (stored q (i * 8) x) ≡ spare q
+store-spare q i x h =
+    let n : length (stored q (i * 8) x) ≡ length q = simp length-set in
+    let b : (j : ℕ) → j < 8 → i * 8 + j < length q / 8 * 8 = λ j k. omega arith in
+    let z : i * 8 < length q / 8 * 8 = omega arith in
+    let m = length q / 8 * 8 in
+    rw n
+    (drop-set-lt m _ (i * 8 + 7) _ (b 7 (omega arith))
+    ∙ drop-set-lt m _ (i * 8 + 6) _ (b 6 (omega arith))
+    ∙ drop-set-lt m _ (i * 8 + 5) _ (b 5 (omega arith))
+    ∙ drop-set-lt m _ (i * 8 + 4) _ (b 4 (omega arith))
+    ∙ drop-set-lt m _ (i * 8 + 3) _ (b 3 (omega arith))
+    ∙ drop-set-lt m _ (i * 8 + 2) _ (b 2 (omega arith))
+    ∙ drop-set-lt m _ (i * 8 + 1) _ (b 1 (omega arith))
+    ∙ drop-set-lt m _ (i * 8) _ z)
+
+-- the words are determined by what their places hold and the spare ones
+rows-same : (n : ℕ) (p q : List ℕ) → n * 8 ≤ length p → n * 8 ≤ length q → rows n p ≡ rows n q → drop (n * 8) p ≡ drop (n * 8) q → p ≡ q
 unfolding rows
-rows-same zero [] [] h k e = refl
-rows-same zero [] (x ∷ q) h k e = absurd (omega arith)
-rows-same zero (x ∷ p) q h k e = absurd (omega arith)
-rows-same (suc n) p q h k e =
-    split8 (λ p. length p ≡ 8 * suc n → rows (suc n) p ≡ rows (suc n) q → p ≡ q) p (omega arith)
-    (λ a b c d f g i j l. λ h′ e′. split8 (λ q. length q ≡ 8 * suc n → rows (suc n) (a ∷ b ∷ c ∷ d ∷ f ∷ g ∷ i ∷ j ∷ l) ≡ rows (suc n) q → a ∷ b ∷ c ∷ d ∷ f ∷ g ∷ i ∷ j ∷ l ≡ q) q (omega arith)
-    (λ a′ b′ c′ d′ f′ g′ i′ j′ l′. λ k′ e″. join a b c d f g i j l a′ b′ c′ d′ f′ g′ i′ j′ l′ (head e″) (rows-same n l l′ (omega arith) (omega arith) (ap (drop 1) e″))) k e′)
-    h e
+rows-same zero p q h k e d = d
+rows-same (suc n) p q h k e d =
+    split8 (λ p. suc n * 8 ≤ length p → rows (suc n) p ≡ rows (suc n) q → drop (suc n * 8) p ≡ drop (suc n * 8) q → p ≡ q) p (omega arith)
+    (λ a b c f g i j m l. λ h′ e′ d′. split8 (λ q. suc n * 8 ≤ length q → rows (suc n) (a ∷ b ∷ c ∷ f ∷ g ∷ i ∷ j ∷ m ∷ l) ≡ rows (suc n) q → drop (suc n * 8) (a ∷ b ∷ c ∷ f ∷ g ∷ i ∷ j ∷ m ∷ l) ≡ drop (suc n * 8) q → a ∷ b ∷ c ∷ f ∷ g ∷ i ∷ j ∷ m ∷ l ≡ q) q (omega arith)
+    (λ a′ b′ c′ f′ g′ i′ j′ m′ l′. λ k′ e″ d″. join a b c f g i j m l a′ b′ c′ f′ g′ i′ j′ m′ l′ (head e″) (rows-same n l l′ (omega arith) (omega arith) (ap (drop 1) e″) (rw next0 at d″))) k e′ d′)
+    h e d
   where
     head : {l m : List Session} → l ≡ m → getD l 0 empty ≡ getD m 0 empty
     head e = ap (λ l. getD l 0 empty) e
@@ -108,8 +122,12 @@ rows-same (suc n) p q h k e =
     join a b c d f g i j l a′ b′ c′ d′ f′ g′ i′ j′ l′ e t =
         λ z. e z .conn ∷ e z .id ∷ e z .prior ∷ e z .start .0 ∷ e z .end .0 ∷ e z .access ∷ e z .over ∷ e z .played .0 ∷ t z
 
-pub places-same : (p q : List ℕ) → length p ≡ length q → length p ≡ 8 * (length p / 8) → places p ≡ places q → p ≡ q
-places-same p q h k e = rows-same (length p / 8) p q k (omega arith) (e ∙ rw h refl)
+pub places-same : (p q : List ℕ) → length p ≡ length q → places p ≡ places q → spare p ≡ spare q → p ≡ q
+places-same p q h e d = rows-same (length p / 8) p q (omega arith) (omega arith) (e ∙ rw h refl) (d ∙ rw h refl)
+
+-- k whole places leave none to spare
+pub spare-none : (k : ℕ) (q : List ℕ) → length q ≡ k * 8 → spare q ≡ []
+spare-none k q e = drop-of-length-le q {i = length q / 8 * 8} (omega arith)
 
 -- the places of zeros are empty
 zero-at : (m k : ℕ) → getD (zeros m) k 0 ≡ 0

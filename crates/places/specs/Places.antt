@@ -2,7 +2,7 @@
 use mathlib.Core.Path.{_≡_}
 use mathlib.Core.List.{List, [], _∷_}
 use mathlib.Core.Bool.{Bool}
-use Prim.Native.Nat.{ℕ, zero, suc, _-_, _/_, _≤_}
+use Prim.Native.Nat.{ℕ, zero, suc, _-_, _*_, _/_, _≤_}
 use lib.ListN.{length, take, drop, getD, replicate}
 use Rattle.rules.specs.declared.Session.{Session}
 use Rattle.rules.specs.State.{empty, of, is, follows, startsAt, startsAfter, endsAt}
@@ -34,6 +34,10 @@ rows (suc n) q = row q ∷ rows n (drop 8 q)
 abbrev pub places : List ℕ → List Session
 places q = rows (length q / 8) q
 
+-- the words behind the last whole place: none, where whole places are lent
+abbrev pub spare : List ℕ → List ℕ
+spare q = drop (length q / 8 * 8) q
+
 -- the words of places that are all empty
 abbrev pub zeros : ℕ → List ℕ
 zeros n = replicate n 0
@@ -54,6 +58,12 @@ used l = take (l .len) (l .items)
 pub record Good (l : Lot) : Type 0 where
   pub fits : l .len ≤ length (l .items)
   pub clear : drop (l .len) (l .items) ≡ replicate (length (l .items) - l .len) empty
+
+-- what a function makes of the words e: n places of the words o hold u, and the spare words are as they were
+pub record Made (e o : List ℕ) (n : ℕ) (u : List Session) : Type 0 where
+  pub good : Good (lot o n)
+  pub list : used (lot o n) ≡ u
+  pub rest : spare o ≡ spare e
 
 -- the test of each key
 abbrev pub keyTest : Key → Session → Bool

@@ -7,9 +7,9 @@ ghost use Prim.Native.Nat.{_+_, _-_, _/_, _≤_, _<_};
 ghost use lib.ListN.{length, take, set, getD};
 ghost use Rattle.rules.specs.Lists.{place, insertAt, removeAt, count, least};
 ghost use Rattle.rules.specs.State.{empty, of, Sorted};
-ghost use Rattle.rules.specs.Answers.{inserted};
 ghost use Rattle.rules.specs.Instants.{outranks};
-ghost use Rattle.places.specs.Places.{places, zeros, lot, used, Good, keyTest, momentOf};
+ghost use Rattle.rules.specs.Answers.{inserted};
+ghost use Rattle.places.specs.Places.{places, spare, zeros, lot, used, Good, Made, keyTest, momentOf};
 
 // What a search looks for: `keyTest` of specs/ gives each its test.
 pub enum Key {
@@ -64,7 +64,8 @@ pub fn load(q: &[u64], i: usize) -> Session
 // x at the place i.
 pub fn store(q: &mut [u64], i: usize, x: Session)
     requires { ⌜ i < length (now q) / 8 ⌝ }
-    ensures { λ _. ⌜ places (now (q .exit)) ≡ set (places (now (q .entry))) i x ⌝ }
+    ensures list { λ _. ⌜ places (now (q .exit)) ≡ set (places (now (q .entry))) i x ⌝ }
+    ensures rest { λ _. ⌜ spare (now (q .exit)) ≡ spare (now (q .entry)) ⌝ }
 {
     let b = i * 8;
     q[b] = x.conn;
@@ -88,65 +89,64 @@ pub fn clear(q: &mut [u64])
     }
 }
 
+// x in place of the one at the place `at`.
+pub fn replace_at(q: &mut [u64], n: usize, at: usize, x: Session)
+    requires { ⌜ Good (lot (now q) n) ⌝ }
+    requires { ⌜ at < n ⌝ }
+    ensures { λ _. ⌜ Made (now (q .entry)) (now (q .exit)) n (set (used (lot (now (q .entry)) n)) at x) ⌝ }
+{
+    store(&mut *q, at, x)
+}
+
 // x at the place `at`, and what stood there and behind it one place on.
 pub fn insert_at(q: &mut [u64], n: usize, at: usize, x: Session)
     requires { ⌜ Good (lot (now q) n) ⌝ }
     requires { ⌜ (at ≤ n) × (n < length (now q) / 8) ⌝ }
-    ensures good { λ _. ⌜ Good (lot (now (q .exit)) (n + 1)) ⌝ }
-    ensures list { λ _. ⌜ used (lot (now (q .exit)) (n + 1)) ≡ insertAt at x (used (lot (now (q .entry)) n)) ⌝ }
+    ensures { λ _. ⌜ Made (now (q .entry)) (now (q .exit)) (n + 1) (insertAt at x (used (lot (now (q .entry)) n))) ⌝ }
 {
-    let mut down = x;
-    let mut i = at;
-    while i <= n {
-        let y = load(&*q, i);
-        store(&mut *q, i, down);
-        down = y;
-        i += 1;
+    let mut hole = n;
+    while at < hole {
+        let before = hole - 1;
+        let y = load(&*q, before);
+        store(&mut *q, hole, y);
+        hole = before;
     }
+    store(&mut *q, at, x)
 }
 
 // Without the place `at`: what stood behind it moves one place up, and the last place is cleared.
 pub fn remove_at(q: &mut [u64], n: usize, at: usize)
     requires { ⌜ Good (lot (now q) n) ⌝ }
     requires { ⌜ at < n ⌝ }
-    ensures good { λ _. ⌜ Good (lot (now (q .exit)) (n - 1)) ⌝ }
-    ensures list { λ _. ⌜ used (lot (now (q .exit)) (n - 1)) ≡ removeAt at (used (lot (now (q .entry)) n)) ⌝ }
+    ensures { λ _. ⌜ Made (now (q .entry)) (now (q .exit)) (n - 1) (removeAt at (used (lot (now (q .entry)) n))) ⌝ }
 {
-    let mut up = nothing();
-    let mut i = n;
-    while at < i {
-        i -= 1;
-        let y = load(&*q, i);
-        store(&mut *q, i, up);
-        up = y;
+    let last = n - 1;
+    let mut hole = at;
+    while hole < last {
+        let behind = hole + 1;
+        let y = load(&*q, behind);
+        store(&mut *q, hole, y);
+        hole = behind;
     }
+    let none = nothing();
+    store(&mut *q, last, none)
 }
 
-// x at the place `at`, where another stood.
-pub fn replace_at(q: &mut [u64], n: usize, at: usize, x: Session)
-    requires { ⌜ Good (lot (now q) n) ⌝ }
-    requires { ⌜ at < n ⌝ }
-    ensures good { λ _. ⌜ Good (lot (now (q .exit)) n) ⌝ }
-    ensures list { λ _. ⌜ used (lot (now (q .exit)) n) ≡ set (used (lot (now (q .entry)) n)) at x ⌝ }
-{
-    store(q, at, x);
-}
-
-// Only the first `left` stay: the places behind them are cleared, the last one first.
+// The first `left` of them: the places behind are cleared.
 pub fn truncate(q: &mut [u64], n: usize, left: usize)
     requires { ⌜ Good (lot (now q) n) ⌝ }
     requires { ⌜ left ≤ n ⌝ }
-    ensures good { λ _. ⌜ Good (lot (now (q .exit)) left) ⌝ }
-    ensures list { λ _. ⌜ used (lot (now (q .exit)) left) ≡ take left (used (lot (now (q .entry)) n)) ⌝ }
+    ensures { λ _. ⌜ Made (now (q .entry)) (now (q .exit)) left (take left (used (lot (now (q .entry)) n))) ⌝ }
 {
+    let none = nothing();
     let mut i = n;
     while left < i {
         i -= 1;
-        store(&mut *q, i, nothing());
+        store(&mut *q, i, none);
     }
 }
 
-// Whether a new session outranks an old one: the one place where equal AccessTypes are decided.
+// Whether a new session outranks an old one.
 pub fn outranks(new: Session, old: Session) -> bool
     ensures { λ r. ⌜ r ≡ outranks new old ⌝ }
 {
@@ -264,8 +264,7 @@ pub fn first_start(q: &[u64], n: usize, none: Ninths) -> Ninths
 pub fn put(q: &mut [u64], n: usize, x: Session)
     requires { ⌜ Good (lot (now q) n) ⌝ }
     requires { ⌜ n < length (now q) / 8 ⌝ }
-    ensures good { λ _. ⌜ Good (lot (now (q .exit)) (n + 1)) ⌝ }
-    ensures list { λ _. ⌜ used (lot (now (q .exit)) (n + 1)) ≡ inserted x (used (lot (now (q .entry)) n)) ⌝ }
+    ensures { λ _. ⌜ Made (now (q .entry)) (now (q .exit)) (n + 1) (inserted x (used (lot (now (q .entry)) n))) ⌝ }
 {
     let t = x.start;
     let at = find(&*q, n, Key::StartsAfter(t));

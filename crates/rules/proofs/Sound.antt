@@ -1,7 +1,7 @@
 -- All that holds of every splicer that fresh and the calls since have given. Assumes only that bytes are bytes and Seconds four of
 -- them (Wired), and that the name has 32 bytes.
-use mathlib.Core.Path.{_≡_}
-use mathlib.Core.List.{List, []}
+use mathlib.Core.Path.{_≡_, refl, sym, ap, _∙_}
+use mathlib.Core.List.{List, [], _∷_, _++_}
 use Prim.Native.Nat.{ℕ, suc, _+_, _-_, _≤_, _<_}
 use native.Mathlib.Omega.{arith}
 use lib.ListN.{length}
@@ -11,7 +11,7 @@ use Rattle.rules.specs.Records.{recordsIn}
 use Rattle.rules.specs.Instants.{instant, elapse}
 use Rattle.rules.specs.Calls.{Called, writtenBy, named, fresh, Call, call, after}
 use Rattle.rules.proofs.Tests.{by}
-use Rattle.rules.proofs.All.{All, all-into}
+use Rattle.rules.proofs.All.{All, all-into, all-append}
 use Rattle.rules.proofs.Bytes.{Byte}
 use Rattle.rules.proofs.Every.{all-both, Each, FewerHeld, fewer-each}
 use Rattle.rules.proofs.Always.{Wired, Kept, KeptHeld, held-kept, call-kept, always}
@@ -181,3 +181,28 @@ sound-size s h k =
 pub sound-found : (s : Splicer) (k : Call) → Wired k → Sound s → recordsIn (writtenBy (call k s .answer)) ≡ recordsOf (call k s .answer)
 sound-found s k f h =
     found k s f (record { aired = aired (h .holding); proper = h .holding .proper; small = h .holding .small; clock = h .clock; linking = h .linking })
+
+-- ## A splicer that fresh and the calls since have given
+
+after-last : (ks : List Call) (k : Call) (s : Splicer) → after (ks ++ (k ∷ [])) s ≡ call k (after ks s) .splicer
+unfolding after
+after-last [] k s = refl
+after-last (j ∷ ks) k s = after-last ks k (call j s .splicer)
+
+pub reached-fresh : (name : List ℕ) → length name ≡ 32 → All Byte name → Reached (fresh name .splicer)
+unfolding after
+reached-fresh name e a = record { name = name; whole = e; bytes = a; calls = []; wired = tt; same = refl }
+
+pub reached-call : (s : Splicer) (k : Call) → Wired k → Reached s → Reached (call k s .splicer)
+reached-call s k f r =
+    record {
+      name = r .name;
+      whole = r .whole;
+      bytes = r .bytes;
+      calls = r .calls ++ (k ∷ []);
+      wired = all-append Wired (r .calls) (k ∷ []) (r .wired) (f, tt);
+      same = ap (λ y. call k y .splicer) (r .same) ∙ sym (after-last (r .calls) k (fresh (r .name) .splicer));
+    }
+
+pub reached-sound : (s : Splicer) → Reached s → Sound s
+reached-sound s r = rw (r .same) (sound-always (r .calls) (r .name) (r .whole) (r .bytes) (r .wired))

@@ -1,10 +1,9 @@
 -- In order of start the first is the least (`first-least`).
 use native.Mathlib.Omega.{arith}
-use mathlib.Core.Path.{_≡_, ap, _∙_}
+use mathlib.Core.Path.{ap}
 use Rattle.rules.specs.State.{empty}
 use Rattle.places.specs.Places.{lot}
 use Rattle.places.proofs.Laws.{within, first-least}
-use borrow.Author.Needs.{needs}
 use Rattle.places.proofs.first_start.Statement.{statement}
 use Rattle.places.proofs.first_start.Tie as tie
 

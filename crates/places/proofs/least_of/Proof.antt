@@ -2,7 +2,7 @@
 use native.Mathlib.Omega.{arith}
 use borrow.Author.Needs.{needs}
 use mathlib.Core.Path.{ap, _∙_}
-use Prim.Native.Nat.{_-_, _≤_}
+use Prim.Native.Nat.{_-_}
 use mathlib.Core.Logic.{⊎-elim}
 use Rattle.rules.specs.State.{empty}
 use Rattle.places.specs.Places.{lot, momentOf}

@@ -1,5 +1,4 @@
 -- Each arm is its key's test.
-use mathlib.Core.Path.{_≡_}
 use borrow.Author.Tests.{eq-eqb, ne-eqb}
 use borrow.Author.Needs.{needs}
 use Rattle.places.proofs.matches.Statement.{statement}

@@ -1,7 +1,7 @@
 -- Rests on `store-is`: eight words written from i * 8 on are the place i.
 use native.Mathlib.Omega.{arith}
 use lib.ListN.{length-set}
-use Rattle.places.proofs.Words.{store-is}
+use Rattle.places.proofs.Words.{store-is, store-spare}
 use borrow.Author.Needs.{needs}
 use Rattle.places.proofs.store.Statement.{statement}
 use Rattle.places.proofs.store.Tie as tie
@@ -82,7 +82,7 @@ same-length : tie.Need-same-length
 same-length c = simp length-set
 
 returns : tie.Need-returns
-returns c = store-is (c .args .q .now) (c .args .i) (c .args .x) (c .pre)
+returns c = let a = c .args in (store-is (a .q .now) (a .i) (a .x) (c .pre), store-spare (a .q .now) (a .i) (a .x) (c .pre))
 
 pub store-spec : {M : Type 1} → statement M
 store-spec =
