@@ -213,14 +213,14 @@ abbrev pub Lowest : ℕ → (Session → ℕ) → Lot → ℕ → ℕ → Type 0
 Lowest none f q i b = (i ≤ q .len) × (b ≤ none) × (least none f (used q) ≡ min b (least none f (drop i (used q))))
 
 -- the place i is the head of the rest
-head : (q : Lot) (i : ℕ) (d : Session) → Good q → i < q .len → drop i (used q) ≡ getD (q .items) i d ∷ drop (i + 1) (used q)
+pub head : (q : Lot) (i : ℕ) (d : Session) → Good q → i < q .len → drop i (used q) ≡ getD (q .items) i d ∷ drop (i + 1) (used q)
 head q i d g h =
     let n : length (used q) ≡ q .len = length-used q g in
     drop-cons (used q) i d (omega arith)
     ∙ ap (λ (x : Session). x ∷ drop (suc i) (used q)) (getD-take (q .len) (q .items) i d h)
     ∙ rw add-one
 
-at-end : (q : Lot) (i : ℕ) → Good q → q .len ≤ i → drop i (used q) ≡ []
+pub at-end : (q : Lot) (i : ℕ) → Good q → q .len ≤ i → drop i (used q) ≡ []
 at-end q i g h =
     let n : length (used q) ≡ q .len = length-used q g in
     drop-of-length-le (used q) {i = i} (omega arith)
