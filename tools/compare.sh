@@ -45,5 +45,8 @@ else
     ran fuzz "$model" fuzz --seed 280 --n 200
 fi
 
+# the definitions themselves, on three streams
+ran definitions sh tools/definitions.sh 280 3
+
 echo "$passed passed, $failed failed"
 [ "$failed" -eq 0 ]
