@@ -1,14 +1,14 @@
 -- The connections' words: what they say, and what a store of one does to the splicer that they show.
-use mathlib.Core.Path.{_≡_, refl, sym, ap, _∙_}
-use mathlib.Core.Bool.{Bool, true, false, cond, not}
+use mathlib.Core.Path.{_≡_, refl, ap}
+use mathlib.Core.Bool.{true, false}
 use mathlib.Core.List.{List, [], _∷_, map}
 use Prim.Native.Nat.{ℕ, zero, suc, _≤_, _<_}
 use native.Mathlib.Omega.{arith}
-use lib.Dec.{eqb, ltb}
-use lib.ListN.{length, getD, set, List·getD-map}
-use borrow.Author.Tests.{eqb-true, eqb-false, eq-eqb, ne-eqb}
+use lib.Dec.{eqb}
+use lib.ListN.{getD, set, List·getD-map}
+use borrow.Author.Tests.{eqb-false, eq-eqb, ne-eqb}
 use Rattle.rules.specs.Lists.{All}
-use Rattle.rules.specs.State.{Link, closed, opened, initialised, Splicer, isOpen, isInitialised, withLink}
+use Rattle.rules.specs.State.{Link, closed, isOpen, isInitialised, withLink}
 use Rattle.rules.proofs.Tests.{by}
 use Rattle.answers.specs.declared.Head.{Head}
 use Rattle.answers.specs.View.{linkOf, view, Form, withWord}

@@ -1,6 +1,6 @@
 -- The splicer that a head, the stored name and the lent words show, and what an answer to a message gives of it.
 use mathlib.Core.Path.{_≡_}
-use mathlib.Core.Bool.{cond}
+use mathlib.Core.Bool.{Bool, cond, not, _&&_}
 use mathlib.Core.List.{List, map}
 use Prim.Native.Nat.{ℕ, _≤_}
 use lib.Dec.{eqb}
@@ -8,7 +8,8 @@ use lib.ListN.{length, set}
 use Rattle.rules.specs.Lists.{All}
 use Rattle.rules.specs.Units.{toMicros}
 use Rattle.rules.specs.Bytes.{nameIn, padded, written}
-use Rattle.rules.specs.State.{Link, closed, opened, initialised, Splicer}
+use Rattle.rules.specs.Reading.{initRequest}
+use Rattle.rules.specs.State.{Link, closed, opened, initialised, Splicer, isInitialised}
 use Rattle.rules.specs.Records.{Record, InitResponse, AliveResponse, recordBytes, output}
 use Rattle.rules.specs.Answers.{Answered, airState, airID}
 use Rattle.places.specs.Places.{Good, lot, used}
@@ -43,6 +44,10 @@ pub record Gives (e : List ℕ) (a : Answered) (r : Given) (name w k o : List �
   pub bytes : o ≡ written e 0 (output (a .written))
 
 -- ## What the parts of an answer promise
+
+-- "2. Not initialised and not Init_Request": n is the connection's word
+abbrev pub barred : ℕ → ℕ → Bool
+barred n id = not (isInitialised (linkOf n)) && not (eqb id initRequest)
 
 -- the head with another word for a connection
 abbrev pub withWord : ℕ → ℕ → Head → Head

@@ -1,9 +1,9 @@
 -- Each way writes its one record behind the last (`one-end`).
 use native.Mathlib.Omega.{arith}
 use borrow.Author.Needs.{needs}
-use mathlib.Core.Path.{_≡_, sym, ap, _∙_}
+use mathlib.Core.Path.{sym, ap, _∙_}
 use Rattle.rules.specs.declared.Ticks.{Ticks}
-use Rattle.rules.specs.Records.{SpliceComplete, SpliceResponse}
+use Rattle.rules.specs.Records.{SpliceComplete}
 use Rattle.rules.proofs.Records.{length-record}
 use Rattle.ends.specs.declared.Ending.{Ending}
 use Rattle.ends.specs.Does.{endingOf}

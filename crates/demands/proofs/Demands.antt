@@ -1,0 +1,90 @@
+-- READ THIS FIRST: the customer's demands as theorems about the definitions of `rules`, for all sequences of calls, each under its sentence.
+-- What the statements speak of stands in specs/Told and in `rules` (specs/History: what is taken from the answers' bytes). No axiom, no hole.
+use mathlib.Core.Path.{_≡_, refl}
+use mathlib.Core.Bool.{Bool, true, false, cond}
+use mathlib.Core.List.{List, [], _∷_, _++_}
+use Prim.Native.Nat.{ℕ, _≤_}
+use lib.ListN.{length}
+use Rattle.rules.specs.declared.Request.{Request}
+use Rattle.rules.specs.declared.Refusal.{Refusal}
+use Rattle.rules.specs.declared.Refusal.the-variants.{Name}
+use Rattle.rules.specs.Lists.{All}
+use Rattle.rules.specs.Bytes.{Byte, hasZero}
+use Rattle.rules.specs.State.{Splicer}
+use Rattle.rules.specs.Records.{recordsIn}
+use Rattle.rules.specs.Answers.{requested, spliceResult}
+use Rattle.rules.specs.Calls.{refused, refuse, writtenBy, named, fresh, Call, closes, messages, call, after}
+use Rattle.rules.specs.History.{Event, history, last, waitingCount, book, clockAfter}
+use Rattle.rules.specs.Sound.{Wired}
+use Rattle.rules.proofs.Sound.{sound-size}
+use Rattle.demands.specs.Told.{FromFresh, Unchanged, firstNumber, checks, numberOf, answers, Asks, Passes, fullTold, Ended, Stands}
+use Rattle.demands.proofs.Refusals.{unchanged, first-number, fresh-number, fresh-refused}
+use Rattle.demands.proofs.Room.{from-sound, count-room, own-answer, full-answer}
+use Rattle.demands.proofs.Once.{all-ended}
+use Rattle.demands.proofs.Closed.{from-more, close-stands}
+
+-- ## "Over all sequences of opens, closes, messages and ticks from a fresh splicer"
+
+-- FromFresh h s: some calls from a fresh splicer, with their answers' bytes, are h, and s is the splicer then. Any name of 32 bytes, any calls:
+pub any-calls : (name : List ℕ) → length name ≡ 32 → All Byte name → (ks : List Call) → All Wired ks
+    → FromFresh (history ks (fresh name .splicer)) (after ks (fresh name .splicer))
+any-calls name e a ks w = record { name = name; whole = e; bytes = a; calls = ks; wired = w; heard = refl; same = refl }
+
+-- and any calls more
+pub more-calls : (h : List Event) (s : Splicer) → FromFresh h s → (js : List Call) → All Wired js → FromFresh (h ++ history js s) (after js s)
+more-calls = from-more
+
+-- ## Demand 1
+
+-- "A bad call gets its number from document 01": the first that applies, in 01's order; 0 stands for a good call
+pub bad-call-number : (s : Splicer) (k : Call) → numberOf (call k s .answer) ≡ firstNumber (checks k s)
+bad-call-number = first-number
+
+-- "and the splicer and the lent buffers stay as they were before it"
+pub bad-call-changes-nothing : (s : Splicer) (k : Call) (n : Refusal) → call k s .answer ≡ refused n → Unchanged s (call k s)
+bad-call-changes-nothing = unchanged
+
+-- the same of fresh: number 9 for a name without a zero byte, and the splicer of an empty name
+pub bad-name-number : (name : List ℕ) → numberOf (fresh name .answer) ≡ cond (hasZero name) 0 9
+bad-name-number = fresh-number
+
+pub bad-name-gives-empty : (name : List ℕ) → hasZero name ≡ false → fresh name ≡ refuse Name (named [])
+bad-name-gives-empty = fresh-refused
+
+-- "every call takes every input": no answer is longer than 3,174 bytes, so the 4,096 that a good call has are enough
+pub answers-fit : (h : List Event) (s : Splicer) → FromFresh h s → (k : Call) → length (writtenBy (call k s .answer)) ≤ 3174
+answers-fit h s f k = sound-size s (from-sound h s f) k
+
+-- ## Demand 2, the codes of a Splice_Request
+
+-- "An accepted request is accepted because the rules accept it; a refused one carries the first result code that applies.": the last record in
+-- the bytes of the answer is the Splice_Response with the code of 01's a to f
+pub first-code-applies : (h : List Event) (s : Splicer) → FromFresh h s → (c : ℕ) (l : List ℕ) (room : ℕ) (r : Request) → Asks c l room r s
+    → last (answers (spliceResult (s .clock) c r (requested c r (s .queue)) (s .queue)) c (r .id)) (recordsIn (writtenBy (call (messages c l room) s .answer))) ≡ true
+first-code-applies h s f c l room r a = own-answer c l room r s a h f
+
+-- ## Demand 3
+
+-- "take a connection's waiting sessions from the answers alone: accepted since it was opened, less those whose start or end was written.
+-- That count never passes 20."
+pub count-never-passes-20 : (h : List Event) (s : Splicer) → FromFresh h s → (c : ℕ) → waitingCount c h ≤ 20
+count-never-passes-20 = count-room
+
+-- "A request that passes every earlier check in 01's order is refused for a full queue exactly when the count is 20, or when it is at least 10
+-- and the four counts, each taken as at least 10, add up to 64." Else it is accepted
+pub full-exactly-when : (h : List Event) (s : Splicer) → FromFresh h s → (c : ℕ) (l : List ℕ) (room : ℕ) (r : Request) → Asks c l room r s → Passes c r s
+    → last (answers (cond (fullTold c h) 114 100) c (r .id)) (recordsIn (writtenBy (call (messages c l room) s .answer))) ≡ true
+full-exactly-when = full-answer
+
+-- "No accepted session gets a second end, and each gets exactly one end, at the latest when the clock is brought to its end time or its
+-- connection closes."
+pub one-end : (h : List Event) (s : Splicer) → FromFresh h s → All (Ended (clockAfter h 0)) (book h [])
+one-end = all-ended
+
+-- The incident: "freed the session's place, the next request took it, and the completion routine then wrote the old spot's end under the new
+-- SessionID". Once connection c has closed, by a good call, its sessions of before stand in the book as they stood, each with its one end,
+-- whatever calls follow: what is written later counts for newer sessions only, which one-end binds in turn
+pub closed-stays-ended : (h : List Event) (s : Splicer) → FromFresh h s → (c room : ℕ) → numberOf (call (closes c room) s .answer) ≡ 0
+    → (js : List Call) → All Wired js
+    → Stands c (book (h ++ history (closes c room ∷ []) s) []) (book (h ++ history (closes c room ∷ js) s) [])
+closed-stays-ended = close-stands

@@ -1,0 +1,160 @@
+-- What each piece of work does to the sessions of one number of one connection: those held before are held after or ended. Assumes nothing.
+use mathlib.Core.Path.{_≡_, refl, ap, _∙_}
+use mathlib.Core.Bool.{Bool, true, false}
+use mathlib.Core.List.{List, [], _∷_, _++_, map}
+use Prim.Native.Nat.{ℕ, _+_, _*_, _≤_, _<_}
+use native.Mathlib.Omega.{arith}
+use lib.Dec.{ltb}
+use lib.ListN.{length, getD}
+use borrow.Author.Tests.{ltb-true}
+use Rattle.rules.specs.declared.Session.{Session}
+use Rattle.rules.specs.Lists.{keep, omit, count, place, removeAt}
+use Rattle.rules.specs.State.{Queue, empty, of, is, startsAt, endsAt, toCome, withWaiting, withStarted}
+use Rattle.rules.specs.Records.{Record}
+use Rattle.rules.specs.Ends.{Turn, quiet, writes, andThen, response, spliceIn, spliceOut, endings, followers, dismissed, evictedAt, evicted, cancelled, aborted, closedBy}
+use Rattle.rules.specs.Instants.{mayStart, launched, startAt, endAt, instant, elapse, runAll}
+use Rattle.rules.specs.History.{isStart, isEnd, startsOf, endsOf}
+use Rattle.rules.proofs.Tests.{by}
+use Rattle.rules.proofs.Count.{count-append, count-split, count-none, count-map, count-endings, count-removeAt}
+use Rattle.rules.proofs.Walk.{followed}
+use Rattle.rules.proofs.Tick.{count-onAir, run-law}
+
+-- how many of l have the number x of connection c
+abbrev pub tally : ℕ → ℕ → List Session → ℕ
+tally c x l = count (is c x) l
+
+-- held before is held after or ended; the started grow only by starts; what started is started or ended
+pub record Law (c x : ℕ) (q : Queue) (t : Turn) : Type 0 where
+  pub kept : tally c x (q .waiting) + tally c x (q .started) ≡ tally c x (t .queue .waiting) + tally c x (t .queue .started) + endsOf c x (t .written)
+  pub grown : tally c x (t .queue .started) ≤ tally c x (q .started) + startsOf c x (t .written)
+  pub begun : tally c x (q .started) + startsOf c x (t .written) ≤ tally c x (t .queue .started) + endsOf c x (t .written)
+
+module _ (c x : ℕ) where
+  -- ## Records
+
+  ends-109 : (l : List Session) → endsOf c x (map (response 109) l) ≡ tally c x l
+  unfolding isEnd
+  ends-109 l = count-map (isEnd c x) (response 109) l
+
+  ends-116 : (l : List Session) → endsOf c x (map (response 116) l) ≡ tally c x l
+  unfolding isEnd
+  ends-116 l = count-map (isEnd c x) (response 116) l
+
+  starts-responses : (r : ℕ) (l : List Session) → startsOf c x (map (response r) l) ≡ 0
+  unfolding isStart
+  starts-responses r l = count-map (isStart c x) (response r) l ∙ count-none (λ s. false) (λ s. refl) l
+
+  ends-endings : (a : ℕ) (cover : Session → Record) → ((s : Session) → isEnd c x (cover s) ≡ is c x s) → (p : Session → Bool) (k : List Session)
+      → endsOf c x (endings (spliceOut a) cover p k) ≡ tally c x (keep p k)
+  unfolding isEnd
+  ends-endings a cover h p k = count-endings (isEnd c x) (is c x) (spliceOut a) cover (λ s. refl) h p k
+
+  starts-endings : (a : ℕ) (cover : Session → Record) → ((s : Session) → isStart c x (cover s) ≡ false) → (p : Session → Bool) (k : List Session)
+      → startsOf c x (endings (spliceOut a) cover p k) ≡ 0
+  unfolding isStart
+  starts-endings a cover h p k =
+      count-endings (isStart c x) (λ s. false) (spliceOut a) cover (λ s. refl) h p k ∙ count-none (λ s. false) (λ s. refl) (keep p k)
+
+  -- ## One piece of work after another
+
+  pub quiet-law : (q : Queue) → Law c x q (quiet q)
+  quiet-law q = record { kept = omega arith; grown = omega arith; begun = omega arith }
+
+  pub join-law : (q : Queue) (t u : Turn) → Law c x q t → Law c x (t .queue) u → Law c x q (record { queue = u .queue; written = t .written ++ u .written })
+  join-law q t u l m =
+      let e = count-append (isEnd c x) (t .written) (u .written) in
+      let s = count-append (isStart c x) (t .written) (u .written) in
+      record { kept = omega (arith, l .kept, m .kept); grown = omega (arith, l .grown, m .grown); begun = omega (arith, l .begun, m .begun) }
+
+  -- ## Followers, eviction, abort, close
+
+  -- the followers' ends are of a result r that is an end's
+  dismissed-law : (r d y : ℕ) (q : Queue) → ((l : List Session) → endsOf c x (map (response r) l) ≡ tally c x l) → Law c x q (dismissed r d y q)
+  unfolding dismissed
+  dismissed-law r d y q h =
+      let f = followers d y (q .waiting) in
+      let e = h (f .gone) in
+      let s = starts-responses r (f .gone) in
+      let w = followed d y (q .waiting) .counts (is c x) in
+      record { kept = omega arith; grown = omega arith; begun = omega arith }
+
+  evictedAt-law : (i : ℕ) (q : Queue) → i < length (q .waiting) → Law c x q (evictedAt i q)
+  unfolding evictedAt andThen isEnd isStart
+  evictedAt-law i q h =
+      let s = getD (q .waiting) i empty in
+      let u = withWaiting (removeAt i (q .waiting)) q in
+      let w = count-removeAt (is c x) i (q .waiting) empty h in
+      join-law q (writes (response 109 s ∷ []) u) (dismissed 109 (s .conn) (s .id) u) (record { kept = omega arith; grown = omega arith; begun = omega arith })
+      (dismissed-law 109 (s .conn) (s .id) u ends-109)
+
+  pub evicted-law : (t : ℕ) (q : Queue) → Law c x q (evicted t q)
+  unfolding evicted
+  evicted-law t q =
+      let i = place (startsAt t) (q .waiting) in
+      by (Law c x q) (ltb i (length (q .waiting))) _ _ (λ e. evictedAt-law i q (ltb-true i (length (q .waiting)) e)) (λ e. quiet-law q)
+
+  cancelled-law : (p : Session → Bool) (q : Queue) → Law c x q (cancelled p q)
+  unfolding cancelled isEnd isStart
+  cancelled-law p q =
+      let a = endings (spliceOut 116) (response 116) p (q .started) in
+      let b = map (response 116) (keep p (q .waiting)) in
+      let e₁ = count-append (isEnd c x) a b in
+      let e₂ = ends-endings 116 (response 116) (λ s. refl) p (q .started) in
+      let e₃ = ends-116 (keep p (q .waiting)) in
+      let s₁ = count-append (isStart c x) a b in
+      let s₂ = starts-endings 116 (response 116) (λ s. refl) p (q .started) in
+      let s₃ = starts-responses 116 (keep p (q .waiting)) in
+      let w = count-split (is c x) p (q .waiting) in
+      let k = count-split (is c x) p (q .started) in
+      record { kept = omega arith; grown = omega arith; begun = omega arith }
+
+  pub closedBy-law : (d : ℕ) (q : Queue) → Law c x q (closedBy d q)
+  unfolding closedBy
+  closedBy-law d q = cancelled-law (of d) q
+
+  pub aborted-law : (d y : ℕ) (q : Queue) → Law c x q (aborted d y q)
+  unfolding aborted andThen
+  aborted-law d y q =
+      let t = cancelled (is d y) q in
+      join-law q t (dismissed 116 d y (t .queue)) (cancelled-law (is d y) q) (dismissed-law 116 d y (t .queue) ends-116)
+
+  -- ## Instants
+
+  -- s, which no longer waits
+  launched-law : (s : Session) (w : List Session) (q : Queue) → tally c x w ≡ tally c x (s ∷ q .waiting) → Law c x (withWaiting w q) (launched s q)
+  unfolding launched andThen isEnd isStart
+  launched-law s w q h =
+      by (Law c x (withWaiting w q)) (mayStart s (q .started)) _ _ (λ e. record { kept = omega arith; grown = omega arith; begun = omega arith })
+      (λ e. join-law (withWaiting w q) (writes (spliceIn 109 s ∷ []) q) (dismissed 109 (s .conn) (s .id) q)
+      (record { kept = omega arith; grown = omega arith; begun = omega arith }) (dismissed-law 109 (s .conn) (s .id) q ends-109))
+
+  startAt-law : (t : ℕ) (q : Queue) → Law c x q (startAt t q)
+  unfolding startAt
+  startAt-law t q =
+      let i = place (startsAt t) (q .waiting) in
+      by (Law c x q) (ltb i (length (q .waiting))) _ _
+      (λ e. launched-law (getD (q .waiting) i empty) (q .waiting) (withWaiting (removeAt i (q .waiting)) q)
+      (count-removeAt (is c x) i (q .waiting) empty (ltb-true i (length (q .waiting)) e)))
+      (λ e. quiet-law q)
+
+  endAt-law : (t : ℕ) (q : Queue) → Law c x q (endAt t q)
+  unfolding endAt isEnd isStart
+  endAt-law t q =
+      let e = ends-endings 100 (spliceOut 125) (λ s. refl) (endsAt t) (q .started) in
+      let s = starts-endings 100 (spliceOut 125) (λ s. refl) (endsAt t) (q .started) in
+      let k = count-split (is c x) (endsAt t) (q .started) in
+      record { kept = omega arith; grown = omega arith; begun = omega arith }
+
+  instant-law : (t : ℕ) (q : Queue) → Law c x q (instant t q)
+  unfolding instant andThen
+  instant-law t q = join-law q (endAt t q) (startAt t (endAt t q .queue)) (endAt-law t q) (startAt-law t (endAt t q .queue))
+
+  elapse-law : (d : ℕ) (q : Queue) → Law c x q (quiet (elapse d q))
+  unfolding elapse
+  elapse-law d q =
+      let k = count-onAir (is c x) (λ e s. refl) d (q .started) in
+      record { kept = omega arith; grown = omega arith; begun = omega arith }
+
+  pub tick-law : (now until : ℕ) (q : Queue) → Law c x q (runAll now until q)
+  unfolding runAll
+  tick-law now until q = run-law (Law c x) elapse-law instant-law join-law (toCome q) now until q

@@ -1,0 +1,9 @@
+pub mod Demands
+pub mod Laws
+pub mod Cases
+pub mod Refusals
+pub mod Waiting
+pub mod Room
+pub mod Book
+pub mod Once
+pub mod Closed

@@ -1,0 +1,70 @@
+-- A Splice_Request's own answer, from the answer's bytes: the first code that applies, and 114 as the answers' counts say.
+-- Rests on Waiting (the answers' counts are the splicer's) and on the bytes giving back their records.
+use mathlib.Core.Path.{_≡_, refl, ap, _∙_}
+use mathlib.Core.Bool.{Bool, true, false, cond, not, _&&_, _||_}
+use mathlib.Core.List.{List, [], _∷_, _++_}
+use Prim.Native.Nat.{ℕ, _+_, _≤_}
+use native.Mathlib.Omega.{arith}
+use lib.Dec.{eqb, leb}
+use borrow.Author.Tests.{eqb-true}
+use Rattle.rules.specs.declared.Request.{Request}
+use Rattle.rules.specs.Bytes.{messageSize}
+use Rattle.rules.specs.Reading.{read}
+use Rattle.rules.specs.State.{Splicer, Link, closed, opened, initialised, linkOf, isOpen, isInitialised, withQueue}
+use Rattle.rules.specs.Records.{Record, recordsIn}
+use Rattle.rules.specs.Ends.{Turn, andThen, evicted, response}
+use Rattle.rules.specs.Answers.{sessionAt, requested, separate, wrongNumber, tooLate, collides, full, spliceResult, accepted, answerSplice, answerRead, answer}
+use Rattle.rules.specs.Calls.{does, handled, messageCall, Call, messages, call, writtenBy}
+use Rattle.rules.specs.History.{Event, last, dataIn, waitingCount}
+use Rattle.rules.specs.Sound.{Sound, Reached}
+use Rattle.rules.proofs.Tests.{by, clash, eqb-same}
+use Rattle.rules.proofs.Sound.{reached-sound, sound-found}
+use Rattle.rules.proofs.Fitted.{recordsOf}
+use Rattle.demands.specs.Told.{FromFresh, answers, Asks, Passes, fullTold}
+use Rattle.demands.proofs.Waiting.{last-last, waiting-counted}
+
+pub from-sound : (h : List Event) (s : Splicer) → FromFresh h s → Sound s
+from-sound h s f = reached-sound s (record { name = f .name; whole = f .whole; bytes = f .bytes; calls = f .calls; wired = f .wired; same = f .same })
+
+-- "That count never passes 20."
+pub count-room : (h : List Event) (s : Splicer) → FromFresh h s → (c : ℕ) → waitingCount c h ≤ 20
+count-room h s f c = omega (arith, waiting-counted h s f c, from-sound h s f .holding .room .each c)
+
+ready-open : (l : Link) → isInitialised l ≡ true → isOpen l ≡ true
+ready-open closed e = absurd (clash false e refl)
+ready-open opened e = refl
+ready-open initialised e = refl
+
+module _ (c : ℕ) (l : List ℕ) (room : ℕ) (r : Request) (s : Splicer) (a : Asks c l room r s) where
+  splice-call : call (messages c l room) s
+      ≡ does (8 + messageSize l) (answerSplice (s .clock) c r (s .queue) .written) (withQueue (answerSplice (s .clock) c r (s .queue) .queue) s)
+  unfolding call messageCall handled answer answerRead read
+  splice-call = rw (a .low, a .roomy, ready-open (linkOf c s) (a .ready), a .framed, a .ready, a .readable)
+
+  own : last (answers (spliceResult (s .clock) c r (requested c r (s .queue)) (s .queue)) c (r .id)) (answerSplice (s .clock) c r (s .queue) .written) ≡ true
+  unfolding answerSplice accepted andThen last answers requested sessionAt
+  own =
+      let n = spliceResult (s .clock) c r (requested c r (s .queue)) (s .queue) in
+      let new = requested c r (s .queue) in
+      by (λ (t : Turn). last (answers n c (r .id)) (t .written) ≡ true) (eqb n 100) _ _
+      (λ e. last-last (answers n c (r .id)) (evicted (new .start .0) (s .queue) .written) (response 100 new) ∙ rw (e, eqb-same c, eqb-same (r .id)))
+      (λ e. rw (eqb-same n, eqb-same c, eqb-same (r .id)))
+
+  -- "a refused one carries the first result code that applies"
+  pub own-answer : (h : List Event) → FromFresh h s
+      → last (answers (spliceResult (s .clock) c r (requested c r (s .queue)) (s .queue)) c (r .id)) (recordsIn (writtenBy (call (messages c l room) s .answer))) ≡ true
+  own-answer h f = rw (sound-found s (messages c l room) (a .bytes) (from-sound h s f), splice-call) own
+
+-- what check e looks at is what the answers say
+full-counted : (h : List Event) (s : Splicer) → FromFresh h s → (c : ℕ) → full c (s .queue .waiting) ≡ fullTold c h
+unfolding full fullTold
+full-counted h s f c = let n = waiting-counted h s f in rw (n c, n 0, n 1, n 2, n 3)
+
+passed-code : (h : List Event) (s : Splicer) → FromFresh h s → (c : ℕ) (r : Request) → Passes c r s
+    → spliceResult (s .clock) c r (requested c r (s .queue)) (s .queue) ≡ cond (fullTold c h) 114 100
+unfolding spliceResult
+passed-code h s f c r p = rw (p .a, p .b, p .c′, p .d, full-counted h s f c)
+
+pub full-answer : (h : List Event) (s : Splicer) → FromFresh h s → (c : ℕ) (l : List ℕ) (room : ℕ) (r : Request) → Asks c l room r s → Passes c r s
+    → last (answers (cond (fullTold c h) 114 100) c (r .id)) (recordsIn (writtenBy (call (messages c l room) s .answer))) ≡ true
+full-answer h s f c l room r a p = rw (← (passed-code h s f c r p)) (own-answer c l room r s a h f)

@@ -1,0 +1,122 @@
+-- What the demands' statements speak of, beside the definitions of `rules`.
+use mathlib.Core.Path.{_≡_}
+use mathlib.Core.Bool.{Bool, true, false, cond, _&&_, _||_}
+use mathlib.Core.List.{List, [], _∷_, _++_}
+use Prim.Native.Nat.{ℕ, _+_, _≤_}
+use lib.Dec.{eqb, leb, ltb}
+use lib.ListN.{length}
+use Rattle.rules.specs.declared.Request.{Request}
+use Rattle.rules.specs.declared.Message.the-variants.{Splice}
+use Rattle.rules.specs.declared.Framing.the-variants.{Framed}
+use Rattle.rules.specs.Units.{timeOf, badMicros, fromMicros}
+use Rattle.rules.specs.Lists.{All, keep}
+use Rattle.rules.specs.Bytes.{Byte, messageSize, oversize}
+use Rattle.rules.specs.Reading.{spliceRequest, readSplice}
+use Rattle.rules.specs.State.{Splicer, linkOf, isOpen, isInitialised}
+use Rattle.rules.specs.Records.{Record, General, InitResponse, AliveResponse, SpliceResponse, SpliceComplete, AbortResponse}
+use Rattle.rules.specs.Answers.{raised, requested, separate, wrongNumber, tooLate, collides}
+use Rattle.rules.specs.Calls.{houseNumber, Answer, refused, good, Called, writtenBy, consumedBy, bufferAfter, noConnection, noRoom, notOpen, fresh, framing, Call, opens, closes, messages, ticks, after}
+use Rattle.rules.specs.History.{Event, Entry, history, both, dataIn, waitingCount}
+use Rattle.rules.specs.Sound.{Wired}
+
+-- "Over all sequences of opens, closes, messages and ticks from a fresh splicer": h, the calls with their answers, and s, the splicer
+-- after them. The name has 32 bytes, bytes are bytes and Seconds are four of them; nothing else is asked of the calls.
+pub record FromFresh (h : List Event) (s : Splicer) : Type 0 where
+  pub name : List ℕ
+  pub whole : length name ≡ 32
+  pub bytes : All Byte name
+  pub calls : List Call
+  pub wired : All Wired calls
+  pub heard : h ≡ history calls (fresh name .splicer)
+  pub same : s ≡ after calls (fresh name .splicer)
+
+-- ## A Splice_Request's own answer
+
+-- a Splice_Response with the result n to number x of connection c
+unfoldable pub answers : ℕ → ℕ → ℕ → Record → Bool
+answers n c x (General c′ r) = false
+answers n c x (InitResponse c′ r name) = false
+answers n c x (AliveResponse c′ r a y t) = false
+answers n c x (SpliceResponse c′ r y) = eqb n r && both c x c′ y
+answers n c x (SpliceComplete c′ r y f d) = false
+answers n c x (AbortResponse c′ r y) = false
+
+-- the bytes l of connection c begin with a whole Splice_Request that is read as r, and nothing before the checks a to f stops it
+pub record Asks (c : ℕ) (l : List ℕ) (room : ℕ) (r : Request) (s : Splicer) : Type 0 where
+  pub bytes : All Byte l
+  pub low : noConnection c ≡ false
+  pub roomy : noRoom room ≡ false
+  pub ready : isInitialised (linkOf c s) ≡ true
+  pub framed : framing l ≡ Framed spliceRequest (messageSize l)
+  pub readable : readSplice (dataIn l) ≡ Splice r
+
+-- and it passes a to d
+pub record Passes (c : ℕ) (r : Request) (s : Splicer) : Type 0 where
+  pub a : separate r ≡ false
+  pub b : wrongNumber c r (s .queue) ≡ false
+  pub c′ : tooLate (s .clock) (r .start) ≡ false
+  pub d : collides (requested c r (s .queue)) (s .queue .waiting) ≡ false
+
+-- "when the count is 20, or when it is at least 10 and the four counts, each taken as at least 10, add up to 64"
+unfoldable pub fullTold : ℕ → List Event → Bool
+fullTold c h =
+    eqb (waitingCount c h) 20
+    || (leb 10 (waitingCount c h)
+    && eqb (raised (waitingCount 0 h) + (raised (waitingCount 1 h) + (raised (waitingCount 2 h) + raised (waitingCount 3 h)))) 64)
+
+-- ## House numbers
+
+-- a check of 01's table: its number, and whether it applies
+pub record Check : Type 0 where
+  pub number : ℕ
+  pub applies : Bool
+
+-- the first that applies, or 0
+unfoldable pub firstNumber : List Check → ℕ
+firstNumber [] = 0
+firstNumber (k ∷ l) = cond (k .applies) (k .number) (firstNumber l)
+
+abbrev pub check : ℕ → Bool → Check
+check n b = record { number = n; applies = b }
+
+-- "Order: open 1, 6; close 1, 2, 7; message 1, 2, 7, 5 (header), 4, 5 (body); tick 2, 8, 3."
+unfoldable pub checks : Call → Splicer → List Check
+checks (opens c) s = check 1 (noConnection c) ∷ check 6 (isOpen (linkOf c s)) ∷ []
+checks (closes c room) s = check 1 (noConnection c) ∷ check 2 (noRoom room) ∷ check 7 (notOpen c s) ∷ []
+checks (messages c l room) s =
+    check 1 (noConnection c) ∷ check 2 (noRoom room) ∷ check 7 (notOpen c s)
+    ∷ check 5 (ltb (length l) 8) ∷ check 4 (oversize l) ∷ check 5 (ltb (length l) (8 + messageSize l)) ∷ []
+checks (ticks seconds micros room) s =
+    check 2 (noRoom room) ∷ check 8 (badMicros micros) ∷ check 3 (ltb (fromMicros (timeOf seconds micros) .0) (s .clock)) ∷ []
+
+-- the number of a refusal; 0 is none
+unfoldable pub numberOf : Answer → ℕ
+numberOf (refused n) = houseNumber n
+numberOf (good consumed rs) = 0
+
+-- "the splicer and the lent buffers stay as they were before it": s before a call, r what came of it
+pub record Unchanged (s : Splicer) (r : Called) : Type 0 where
+  pub splicer : r .splicer ≡ s
+  pub written : writtenBy (r .answer) ≡ []
+  pub consumed : consumedBy (r .answer) ≡ 0
+  pub buffer : (e : List ℕ) → bufferAfter (r .answer) e ≡ e
+
+-- ## The accepted sessions
+
+-- of one of them, at the time now: "No accepted session gets a second end, and each gets exactly one end, at the latest when the clock is
+-- brought to its end time or its connection closes."
+pub record Ended (now : ℕ) (e : Entry) : Type 0 where
+  pub once : e .ends ≤ 1
+  pub byTime : e .end ≤ now → e .ends ≡ 1
+  pub byClose : e .closed ≡ true → e .ends ≡ 1
+
+-- connection c's
+abbrev pub entriesOf : ℕ → List Entry → List Entry
+entriesOf c es = keep (λ e. eqb c (e .conn)) es
+
+-- es, the book when connection c has closed, and fs, a later one: c's sessions of then stand in it as they stood, each with its one end, and
+-- whatever was written since counts for newer ones
+pub record Stands (c : ℕ) (es fs : List Entry) : Type 0 where
+  pub newer : List Entry
+  pub same : entriesOf c fs ≡ newer ++ entriesOf c es
+  pub ended : All (λ e. e .ends ≡ 1) (entriesOf c es)

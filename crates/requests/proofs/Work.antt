@@ -1,0 +1,312 @@
+-- Laws behind eviction, acceptance, abort and the two answers: what each piece of work promises, from what its parts promise.
+use mathlib.Core.Path.{_≡_, refl, sym, ap, ap₂, subst, _∙_}
+use mathlib.Core.Bool.{Bool, true, false, cond, _&&_}
+use mathlib.Core.List.{List, [], _∷_, _++_, map}
+use Prim.Native.Nat.{ℕ, zero, suc, _+_, _-_, _*_, _/_, _≤_, _<_}
+use native.Mathlib.Omega.{arith}
+use native.Mathlib.Nat.{zero-add}
+use native.Mathlib.Numerals.{one-add}
+use lib.Dec.{eqb, leb, ltb}
+use lib.ListN.{length, getD, length-append}
+use borrow.Author.Tests.{lt-ltb, le-ltb, eq-eqb, ne-eqb, eqb-true, eqb-false, leb-true, leb-false, le-leb}
+use borrow.Rule.Slice.PartMut.{putMid, midOf}
+use Rattle.rules.specs.declared.Session.{Session}
+use Rattle.rules.specs.declared.Start.{Start}
+use Rattle.rules.specs.declared.Start.the-variants.{Timed, Linked}
+use Rattle.rules.specs.declared.Request.{Request}
+use Rattle.rules.specs.Lists.{All, bit, put, keep, omit, place, removeAt}
+use Rattle.rules.specs.State.{Queue, empty, of, is, startsAt, holds, withWaiting}
+use Rattle.rules.specs.Bytes.{written}
+use Rattle.rules.specs.Records.{Record, SpliceResponse, AbortResponse, recordBytes, output}
+use Rattle.rules.specs.Ends.{Turn, quiet, andThen, writes, Walk, response, spliceOut, endings, followers, dismissed, evictedAt, evicted, cancelled, aborted}
+use Rattle.rules.specs.Answers.{startOf, sessionAt, requested, waits, raised, raisedSum, full, spliceResult, inserted, accepted, answerSplice, answerAbort}
+use Rattle.rules.specs.Sound.{Each, Proper, Room, horizon, Holding}
+use Rattle.rules.proofs.Tests.{or-none}
+use Rattle.rules.proofs.All.{all-into}
+use Rattle.rules.proofs.Checks.{passed-all}
+use Rattle.rules.proofs.Readings.{Within}
+use Rattle.rules.proofs.Records.{length-record}
+use Rattle.rules.proofs.Written.{written-none, written-more, length-written, written-record, written-output, output-append, output-one}
+use Rattle.rules.proofs.Room.{sixty-four}
+use Rattle.rules.proofs.Size.{Lean, weight-append, weight-one, evicted-lean, cancelled-lean}
+use Rattle.rules.proofs.Bounds.{never, start-early}
+use Rattle.rules.proofs.Sound.{early}
+use Rattle.places.specs.Places.{Lot, lot, Good, Made, used}
+use Rattle.places.proofs.Words.{length-places}
+use Rattle.places.proofs.Laws.{length-used, used-at}
+use Rattle.ends.specs.declared.Counts.{Counts}
+use Rattle.ends.specs.declared.Ending.the-variants.{Complete, Response}
+use Rattle.ends.specs.Does.{Playable, endingOf, Ends, queueOf, Turns}
+use Rattle.ends.proofs.Laws.{brief-ending, room-endings, turns-writes, ends-waiting, turns-then}
+use Rattle.requests.specs.Found.{alone}
+
+-- as many are used as there are places at most
+pub used-fits : (q : List ℕ) (n : ℕ) → Good (lot q n) → n ≤ length q / 8
+used-fits q n g = omega (arith, g .fits, length-places q)
+
+-- ## Eviction
+
+-- a record, and ends behind it
+ends-more : (e : List ℕ) (len n : ℕ) (x : Record) (l : List Session) (rs : List Record) (k : Lot) (to : ℕ) (o o′ : List ℕ) → n ≡ len + length (recordBytes x) → n ≤ length e
+    → o ≡ written e len (recordBytes x) → Ends o n l rs k to o′ → Ends e len l (x ∷ rs) k to o′
+unfolding output
+ends-more e len n x l rs k to o o′ h m b d =
+    record {
+      good = d .good;
+      list = d .list;
+      count = omega (arith, d .count, length-append (recordBytes x) (output rs));
+      bytes = d .bytes ∙ ap (λ a. written a n (output rs)) b ∙ written-more e len (recordBytes x) (output rs) n (omega arith) h;
+    }
+
+-- the work on the waiting ones is the work on the queue
+evicted-alone : (t : ℕ) (q : Queue) → evicted t q ≡ record { queue = withWaiting (evicted t (alone (q .waiting)) .queue .waiting) q; written = evicted t (alone (q .waiting)) .written }
+unfolding evicted evictedAt andThen dismissed
+evicted-alone t q = go (ltb (place (startsAt t) (q .waiting)) (length (q .waiting)))
+  where
+    i : ℕ
+    i = place (startsAt t) (q .waiting)
+
+    go : (b : Bool) → _≡_ {A = Turn} (cond b (evictedAt i q) (quiet q))
+        (record { queue = withWaiting (cond b (evictedAt i (alone (q .waiting))) (quiet (alone (q .waiting))) .queue .waiting) q; written = cond b (evictedAt i (alone (q .waiting))) (quiet (alone (q .waiting))) .written })
+    go true = refl
+    go false = refl
+
+evicted-one : (t i : ℕ) (u : List Session) → i ≡ place (startsAt t) u → i < length u → evicted t (alone u) ≡ evictedAt i (alone u)
+unfolding evicted
+evicted-one t i u e h = rw e (rw (lt-ltb (place (startsAt t) u) (length u) (omega arith)))
+
+module _ (t : ℕ) (e : List ℕ) (len : ℕ) (w : Lot) (g : Good w) where
+  abbrev leaves : Turn
+  leaves = evicted t (alone (used w))
+
+  module _ (i : ℕ) (f : i ≡ place (startsAt t) (used w)) where
+    pub evict-none : w .len ≤ i → Ends e len (leaves .queue .waiting) (leaves .written) w len e
+    unfolding evicted output
+    evict-none h =
+        let n : length (used w) ≡ w .len = length-used w g in
+        rw (le-ltb (place (startsAt t) (used w)) (length (used w)) (omega arith)) (record { good = g; list = refl; count = omega arith; bytes = sym (written-none e len) })
+
+    -- the one at the place i ends, and then those that follow it
+    pub evict-one : (v k : Lot) (to : ℕ) (o o′ : List ℕ) (s : Session) → i < w .len → s ≡ getD (w .items) i empty → used v ≡ removeAt i (used w)
+        → len + 14 ≤ length e → o ≡ written e len (recordBytes (response 109 s))
+        → Ends o (len + 14) (followers (s .conn) (s .id) (used v) .left) (map (response 109) (followers (s .conn) (s .id) (used v) .gone)) k to o′
+        → Ends e len (leaves .queue .waiting) (leaves .written) k to o′
+    unfolding evictedAt andThen dismissed
+    evict-one v k to o o′ s h q u m b d =
+        let n : length (used w) ≡ w .len = length-used w g in
+        let z : s ≡ getD (used w) i empty = q ∙ used-at w i empty h in
+        let a = ends-more e len (len + 14) (response 109 s) _ _ k to o o′ (omega (arith, length-record (response 109 s) tt)) m b d in
+        subst (λ (r : Turn). Ends e len (r .queue .waiting) (r .written) k to o′) (sym (evicted-one t i (used w) f (omega arith)))
+        (subst (λ (x : Session). Ends e len (followers (x .conn) (x .id) (removeAt i (used w)) .left) (response 109 x ∷ map (response 109) (followers (x .conn) (x .id) (removeAt i (used w)) .gone)) k to o′) z
+        (subst (λ (l : List Session). Ends e len (followers (s .conn) (s .id) l .left) (response 109 s ∷ map (response 109) (followers (s .conn) (s .id) l .gone)) k to o′) u a))
+
+  -- 14 bytes for each that goes
+  pub evict-spends : (v : Lot) (to : ℕ) (o : List ℕ) → Ends e len (leaves .queue .waiting) (leaves .written) v to o → (len ≤ to) × (to + 14 * v .len ≤ len + 14 * w .len)
+  evict-spends v to o a =
+      let n : length (used w) ≡ w .len = length-used w g in
+      let m : length (leaves .queue .waiting) ≡ v .len = sym (ap length (a .list)) ∙ length-used v (a .good) in
+      (omega (arith, a .count), omega (arith, a .count, evicted-lean t (alone (used w))))
+
+-- ## Acceptance
+
+accepted-alone : (s : Session) (q : Queue) → accepted s q ≡ record { queue = withWaiting (accepted s (alone (q .waiting)) .queue .waiting) q; written = accepted s (alone (q .waiting)) .written }
+unfolding accepted andThen
+accepted-alone s q = ap (λ (t : Turn). andThen t (λ u. writes (response 100 s ∷ []) (withWaiting (inserted s (u .waiting)) u))) (evicted-alone (s .start .0) q)
+
+module _ (new : Session) (e : List ℕ) where
+  -- the new one waits, and its 100 stands behind the ends
+  pub accept-ends : (u : List Session) (w w′ : List ℕ) (left len : ℕ) (o ys : List ℕ) → Ends e 0 (evicted (new .start .0) (alone u) .queue .waiting) (evicted (new .start .0) (alone u) .written) (lot w left) len o
+      → Made w w′ (left + 1) (inserted new (used (lot w left))) → len + 14 ≤ length e → ys ≡ written (midOf len (length o - len) o) 0 (recordBytes (response 100 new))
+      → Ends e 0 (accepted new (alone u) .queue .waiting) (accepted new (alone u) .written) (lot w′ (left + 1)) (len + 14) (putMid len (length o - len) o ys)
+  unfolding accepted andThen
+  accept-ends u w w′ left len o ys a m h b =
+      let rs = evicted (new .start .0) (alone u) .written in
+      let x = response 100 new in
+      let n : length (recordBytes x) ≡ 14 = length-record x tt in
+      record {
+        good = m .good;
+        list = m .list ∙ ap (inserted new) (a .list);
+        count = omega (arith, a .count, weight-append rs (x ∷ []), weight-one x tt);
+        bytes = written-record e 0 rs x o ys len (a .bytes) (a .count) (omega arith) b;
+      }
+
+  -- the started ones stay as they are
+  accept-turns : (w w′ k : List ℕ) (n m left len : ℕ) (o : List ℕ) → Good (lot k m)
+      → Ends e 0 (accepted new (alone (used (lot w n))) .queue .waiting) (accepted new (alone (used (lot w n))) .written) (lot w′ left) len o
+      → Turns e 0 (accepted new (queueOf w n k m)) w′ k (record { waiting = left; started = m; len = len }) o
+  accept-turns w w′ k n m left len o b a =
+      let q = queueOf w n k m in
+      subst (λ (t : Turn). Turns e 0 t w′ k (record { waiting = left; started = m; len = len }) o) (sym (accepted-alone new q))
+      (ends-waiting e 0 (accepted new (alone (q .waiting)) .queue .waiting) (accepted new (alone (q .waiting)) .written) w′ k left m len o b a)
+
+-- ## A connection that is not full leaves room for one more
+
+more : (x y : ℕ) → (10 ≤ x → raised x + y < 64) → raised x + y ≤ 64 → raised (suc x) + y ≤ 64
+more x y f s = go (leb 10 x) refl
+  where
+    go : (b : Bool) → leb 10 x ≡ b → raised (suc x) + y ≤ 64
+    go true e = omega (arith, f (leb-true 10 x e))
+    go false e = omega (arith, leb-false 10 x e)
+
+-- n c: how many of connection c wait
+abbrev sumOf : (ℕ → ℕ) → ℕ
+sumOf n = raised (n 0) + (raised (n 1) + (raised (n 2) + raised (n 3)))
+
+sum-more : (n : ℕ → ℕ) (d : ℕ) → d ≤ 3 → (10 ≤ n d → sumOf n < 64) → sumOf n ≤ 64 → sumOf (λ c. bit (eqb c d) + n c) ≤ 64
+sum-more n zero h f s = simp (zero-add, one-add) (more (n 0) (raised (n 1) + (raised (n 2) + raised (n 3))) f s)
+sum-more n (suc zero) h f s =
+    simp (zero-add, one-add) (omega (arith, more (n 1) (raised (n 0) + (raised (n 2) + raised (n 3))) (λ l. omega (arith, f l)) (omega arith)))
+sum-more n (suc (suc zero)) h f s =
+    simp (zero-add, one-add) (omega (arith, more (n 2) (raised (n 0) + (raised (n 1) + raised (n 3))) (λ l. omega (arith, f l)) (omega arith)))
+sum-more n (suc (suc (suc zero))) h f s =
+    simp (zero-add, one-add) (omega (arith, more (n 3) (raised (n 0) + (raised (n 1) + raised (n 2))) (λ l. omega (arith, f l)) (omega arith)))
+sum-more n (suc (suc (suc (suc d)))) h f s = absurd (omega arith)
+
+room-left : (s : Session) (w : List Session) → s .conn ≤ 3 → All (λ u. u .conn ≤ 3) w → Room w → full (s .conn) w ≡ false → length w < 64
+unfolding full
+room-left s w low a r f =
+    let o = or-none (eqb (waits (s .conn) w) 20) (leb 10 (waits (s .conn) w) && eqb (raisedSum w) 64) f in
+    omega (arith, sixty-four (s ∷ w) (low, a) (record { each = λ c. each (o .0) c (eqb c (s .conn)) refl; sum = sum-more (λ c. waits c w) (s .conn) low (less (o .1)) (r .sum) }))
+  where
+    each : eqb (waits (s .conn) w) 20 ≡ false → (c : ℕ) (b : Bool) → eqb c (s .conn) ≡ b → bit b + waits c w ≤ 20
+    each n c true e =
+        let z = eqb-false (waits (s .conn) w) 20 n in
+        omega (arith, r .each c, ap (λ (d : ℕ). waits d w) (eqb-true c (s .conn) e))
+    each n c false e = omega (arith, r .each c)
+
+    less : (leb 10 (waits (s .conn) w) && eqb (raisedSum w) 64) ≡ false → 10 ≤ waits (s .conn) w → raisedSum w < 64
+    less n l =
+        let z = eqb-false (raisedSum w) 64 (rw (le-leb 10 (waits (s .conn) w) l) at n) in
+        omega (arith, r .sum)
+
+-- ## The answer to a Splice_Request
+
+-- no start is so late that an end wraps
+pub start-fits : (c clock : ℕ) (f : Start) (q : Queue) (t : ℕ) → Within f → Holding clock q → clock < horizon → t ≡ startOf c f q → t < never
+unfolding startOf
+start-fits c clock (Timed m) q t h k l e = omega arith
+start-fits c clock (Linked p) q t h k l e = omega (arith, start-early c (Linked p) q (omega arith) (early k l))
+
+-- new: the session that r asks for, n: its result
+module _ (clock c : ℕ) (r : Request) (w k : List ℕ) (i j t : ℕ) (new : Session) (n : ℕ) (at : t ≡ startOf c (r .start) (queueOf w i k j)) (is-new : new ≡ sessionAt t c r)
+    (f : n ≡ spliceResult clock c r new (queueOf w i k j)) where
+  abbrev before : Queue
+  before = queueOf w i k j
+
+  asked-for : new ≡ requested c r before
+  unfolding requested
+  asked-for = is-new ∙ ap (λ (u : ℕ). sessionAt u c r) at
+
+  result-is : n ≡ spliceResult clock c r (requested c r before) before
+  result-is = f ∙ ap (λ (s : Session). spliceResult clock c r s before) asked-for
+
+  pub room-waiting : n ≡ 100 → Good (lot w i) → c ≤ 3 → Holding clock before → i < 64
+  unfolding requested sessionAt
+  room-waiting e g low h =
+      omega (
+        arith,
+        length-used (lot w i) g,
+        room-left (requested c r before) (before .waiting) low
+            (all-into Proper (λ s. s .conn ≤ 3) (λ s p. p .conn) (before .waiting) (h .proper .waiting)) (h .room)
+            (passed-all clock c r before (sym result-is ∙ e) .room),
+      )
+
+  answer-is : cond (eqb n 100) (accepted new before) (writes (SpliceResponse c n (r .id) ∷ []) before) ≡ answerSplice clock c r before
+  unfolding answerSplice
+  answer-is = ap₂ (λ (m : ℕ) (s : Session). cond (eqb m 100) (accepted s before) (writes (SpliceResponse c m (r .id) ∷ []) before)) result-is asked-for
+
+  module _ (e : List ℕ) where
+    pub accepted-turns : (w′ : List ℕ) (left len : ℕ) (o : List ℕ) → n ≡ 100 → Good (lot k j)
+        → Ends e 0 (accepted new (alone (used (lot w i))) .queue .waiting) (accepted new (alone (used (lot w i))) .written) (lot w′ left) len o
+        → Turns e 0 (answerSplice clock c r before) w′ k (record { waiting = left; started = j; len = len }) o
+    accepted-turns w′ left len o h b a =
+        subst (λ (u : Turn). Turns e 0 u w′ k (record { waiting = left; started = j; len = len }) o) answer-is (rw (eq-eqb n 100 h) (accept-turns new e w w′ k i j left len o b a))
+
+    pub refused-turns : (o : List ℕ) → (n ≡ 100 → ⊥) → Good (lot w i) → Good (lot k j) → o ≡ written e 0 (recordBytes (SpliceResponse c n (r .id)))
+        → Turns e 0 (answerSplice clock c r before) w k (record { waiting = i; started = j; len = 14 }) o
+    refused-turns o h g b a =
+        let x = SpliceResponse c n (r .id) in
+        subst (λ (u : Turn). Turns e 0 u w k (record { waiting = i; started = j; len = 14 }) o) answer-is
+        (rw (ne-eqb n 100 h) (turns-writes e 0 x before w k i j 14 o g b refl (omega (arith, length-record x tt)) a))
+
+-- ## Abort and close
+
+-- one way to end for all
+endings-one : (f : Session → Record) (p : Session → Bool) (l : List Session) → endings f f p l ≡ map f (keep p l)
+unfolding endings
+endings-one f p [] = refl
+endings-one f p (s ∷ l) = go (p s)
+  where
+    go : (b : Bool) → put b (f s) (map f (keep p l)) ≡ map f (put b s (keep p l))
+    go true = refl
+    go false = refl
+
+module _ (p : Session → Bool) (e : List ℕ) (len : ℕ) (w k : List ℕ) (n m : ℕ) (g : Good (lot w n)) (h : Good (lot k m)) where
+  abbrev q : Queue
+  q = queueOf w n k m
+
+  abbrev first : List Record
+  first = endings (endingOf (Complete 116)) (endingOf (Response 116)) p (q .started)
+
+  -- the started ones have ended: there is room for the waiting ones' ends
+  pub room-behind : (l : Lot) (to : ℕ) (o : List ℕ) → Ends e len (omit p (q .started)) first l to o → to ≤ len + 23 * m
+  room-behind l to o a =
+      omega (arith, a .count, length-used (lot k m) h, room-endings (endingOf (Response 116)) (brief-ending (Response 116)) (endingOf (Complete 116)) (brief-ending (Complete 116)) p (q .started))
+
+  pub cancel-turns : (w′ k′ : List ℕ) (n′ m′ to to′ : ℕ) (o o′ : List ℕ) → len + 23 * m ≤ length e → Ends e len (omit p (q .started)) first (lot k′ m′) to o
+      → Ends o to (omit p (q .waiting)) (endings (endingOf (Response 116)) (endingOf (Response 116)) p (q .waiting)) (lot w′ n′) to′ o′
+      → Turns e len (cancelled p q) w′ k′ (record { waiting = n′; started = m′; len = to′ }) o′
+  unfolding cancelled
+  cancel-turns w′ k′ n′ m′ to to′ o o′ l a b =
+      let rs = map (response 116) (keep p (q .waiting)) in
+      let z : endings (response 116) (response 116) p (q .waiting) ≡ rs = endings-one (response 116) p (q .waiting) in
+      record {
+        waiting = b .good;
+        started = a .good;
+        queue = λ i. record { waiting = b .list i; started = a .list i };
+        count = omega (arith, a .count, b .count, ap (λ (x : List Record). length (output x)) z, weight-append first rs);
+        bytes =
+            b .bytes
+            ∙ ap₂ (λ (x : List ℕ) (y : List Record). written x to (output y)) (a .bytes) z
+            ∙ written-output e len first rs to (omega (arith, a .count, room-behind (lot k′ m′) to o a)) (a .count);
+      }
+
+  -- 14 bytes for each waiting one that goes, at most 23 for each started one
+  pub cancel-spends : (w′ k′ : List ℕ) (r : Counts) (o : List ℕ) → Turns e len (cancelled p q) w′ k′ r o
+      → (len ≤ r .len) × (r .len + (14 * r .waiting + 23 * r .started) ≤ len + (14 * n + 23 * m))
+  cancel-spends w′ k′ r o a =
+      let x : length (cancelled p q .queue .waiting) ≡ r .waiting = sym (ap (λ (u : Queue). length (u .waiting)) (a .queue)) ∙ length-used (lot w′ (r .waiting)) (a .waiting) in
+      let y : length (cancelled p q .queue .started) ≡ r .started = sym (ap (λ (u : Queue). length (u .started)) (a .queue)) ∙ length-used (lot k′ (r .started)) (a .started) in
+      (omega (arith, a .count), omega (arith, a .count, cancelled-lean p q, length-used (lot w n) g, length-used (lot k m) h))
+
+module _ (c x : ℕ) (e : List ℕ) (w k : List ℕ) (n m : ℕ) (g : Good (lot w n)) (h : Good (lot k m)) (room : 4096 ≤ length e) where
+  abbrev held : Queue
+  held = queueOf w n k m
+
+  wrote : (result : ℕ) (o : List ℕ) → o ≡ written e 0 (recordBytes (AbortResponse c result x))
+      → Turns e 0 (writes (AbortResponse c result x ∷ []) held) w k (record { waiting = n; started = m; len = 14 }) o
+  wrote result o b =
+      turns-writes e 0 (AbortResponse c result x) held w k n m 14 o g h refl (omega (arith, length-record (AbortResponse c result x) tt)) b
+
+  pub abort-unknown : (b : Bool) (o : List ℕ) → b ≡ holds c x held → b ≡ false → o ≡ written e 0 (recordBytes (AbortResponse c 121 x))
+      → Turns e 0 (answerAbort c x held) w k (record { waiting = n; started = m; len = 14 }) o
+  unfolding answerAbort
+  abort-unknown b o d f a = rw (sym d ∙ f) (wrote 121 o a)
+
+  -- 100, the session's end, and its followers' ends
+  pub abort-turns : (b : Bool) (w′ k′ w″ : List ℕ) (r : Counts) (left to : ℕ) (o o′ o″ : List ℕ) → b ≡ holds c x held → b ≡ true → length w ≡ 512 → length k ≡ 80
+      → o ≡ written e 0 (recordBytes (AbortResponse c 100 x)) → Turns o 14 (cancelled (is c x) held) w′ k′ r o′
+      → Ends o′ (r .len) (followers c x (used (lot w′ (r .waiting))) .left) (map (response 116) (followers c x (used (lot w′ (r .waiting))) .gone)) (lot w″ left) to o″
+      → Turns e 0 (answerAbort c x held) w″ k′ (record { waiting = left; started = r .started; len = to }) o″
+  unfolding answerAbort aborted dismissed
+  abort-turns b w′ k′ w″ r left to o o′ o″ d f i j a t s =
+      let y = AbortResponse c 100 x in
+      let l : length (recordBytes y) ≡ 14 = length-record y tt in
+      let z : length o ≡ length e = ap length a ∙ length-written e 0 (recordBytes y) (omega arith) in
+      let u = used (lot w′ (r .waiting)) in
+      let done : Counts = record { waiting = left; started = r .started; len = to } in
+      let dismissing = ends-waiting o′ (r .len) (followers c x u .left) (map (response 116) (followers c x u .gone)) w″ k′ left (r .started) to o″ (t .started) s in
+      rw (sym d ∙ f) (turns-then e 0 (writes (y ∷ []) held) (aborted c x) w k w″ k′ (record { waiting = n; started = m; len = 14 }) done o o″
+      (omega (arith, weight-one y tt)) (wrote 100 o a)
+      (turns-then o 14 (cancelled (is c x) held) (dismissed 116 c x) w′ k′ w″ k′ r done o′ o″
+      (omega (arith, t .count, cancel-spends (is c x) o 14 w k n m g h w′ k′ r o′ t .1, used-fits w n g, used-fits k m h)) t dismissing))

@@ -1,0 +1,31 @@
+-- What the search finds is held.
+use mathlib.Core.Path.{sym, _∙_}
+use Rattle.ends.specs.Does.{queueOf}
+use Rattle.requests.proofs.Laws.{held-known, missing-known}
+use borrow.Author.Needs.{needs}
+use Rattle.requests.proofs.is_held.Statement.{statement}
+use Rattle.requests.proofs.is_held.Tie as tie
+
+find-held-requires : tie.Need-find-held-requires
+find-held-requires c κs = search needs
+
+enum-told : tie.Need-enum-told
+enum-told c = search needs
+
+enum-told-2 : tie.Need-enum-told-2
+enum-told-2 c = search needs
+
+returns : tie.Need-returns
+returns c =
+    let s = c .before .before .before .before .before in
+    let g = c .enum-told .given in
+    sym (held-known (s .args .conn) (s .args .id) (queueOf (s .args .w .now) (s .args .waiting) (s .args .k .now) (s .args .started)) (g .0 .0) (sym (g .1) ∙ c .before .before .find-held .ensures) .0)
+
+returns-2 : tie.Need-returns-2
+returns-2 c =
+    let s = c .before .before .before .before .before in
+    let g = c .enum-told2 .given in
+    sym (missing-known (s .args .conn) (s .args .id) (queueOf (s .args .w .now) (s .args .waiting) (s .args .k .now) (s .args .started)) (sym (g .1) ∙ c .before .before .find-held .ensures))
+
+pub is-held-spec : {M : Type 1} → statement M
+is-held-spec = tie.close (tie.spec find-held-requires enum-told enum-told-2 returns returns-2)

@@ -1,0 +1,433 @@
+// Requests: a Splice_Request's checks a to f, eviction and acceptance, an abort, and the ends of a close.
+use ends::Counts;
+use ends::Ending;
+use ends::Left;
+use places::Key;
+use rules::Ninths;
+use rules::Request;
+use rules::Session;
+use rules::Start;
+ghost use mathlib.Core.Path.{_≡_};
+ghost use Prim.Native.Nat.{_+_, _*_, _≤_, _<_};
+ghost use lib.ListN.{length};
+ghost use Rattle.rules.specs.Lists.{All};
+ghost use Rattle.rules.specs.State.{holds, Sorted};
+ghost use Rattle.rules.specs.Ends.{evicted, cancelled};
+ghost use Rattle.rules.specs.Answers.{startOf, priorOf, sessionAt, unknownPrior, wrongNumber, tooLate, collides, raised, raisedSum, full, spliceResult, accepted, answerSplice, answerAbort};
+ghost use Rattle.rules.specs.Sound.{horizon, Holding};
+ghost use Rattle.rules.proofs.Readings.{Within, Asked};
+ghost use Rattle.places.specs.Places.{Good, lot, used, keyTest};
+ghost use Rattle.ends.specs.Does.{Playable, queueOf, Ends, Turns};
+ghost use Rattle.requests.specs.Found.{foundIn, alone};
+
+// A session that is held, or that none is.
+pub enum Found {
+    Held(Session),
+    Missing,
+}
+
+// The connection's session of that number, waiting, on air or covered.
+pub fn find_held(w: &[u64], waiting: usize, k: &[u64], started: usize, conn: u64, id: u64) -> Found
+    requires { ⌜ Good (lot (now w) waiting) ⌝ }
+    requires { ⌜ Good (lot (now k) started) ⌝ }
+    ensures { λ r. ⌜ r ≡ foundIn conn id (queueOf (now (w .entry)) waiting (now (k .entry)) started) ⌝ }
+{
+    let i = places::find(w, waiting, Key::Held(conn, id));
+    if i < waiting {
+        return Found::Held(places::load(w, i));
+    }
+    let j = places::find(k, started, Key::Held(conn, id));
+    if j < started {
+        return Found::Held(places::load(k, j));
+    }
+    Found::Missing
+}
+
+// Whether the connection holds the number.
+pub fn is_held(w: &[u64], waiting: usize, k: &[u64], started: usize, conn: u64, id: u64) -> bool
+    requires { ⌜ Good (lot (now w) waiting) ⌝ }
+    requires { ⌜ Good (lot (now k) started) ⌝ }
+    ensures { λ r. ⌜ r ≡ holds conn id (queueOf (now (w .entry)) waiting (now (k .entry)) started) ⌝ }
+{
+    if let Found::Held(_) = find_held(w, waiting, k, started, conn, id) {
+        true
+    } else {
+        false
+    }
+}
+
+// A timed start is the request's time; a linked start is the prior session's end.
+pub fn start_of(
+    conn: u64,
+    start: Start,
+    w: &[u64],
+    waiting: usize,
+    k: &[u64],
+    started: usize,
+) -> Ninths
+    requires { ⌜ Good (lot (now w) waiting) ⌝ }
+    requires { ⌜ Good (lot (now k) started) ⌝ }
+    requires { ⌜ Within start ⌝ }
+    ensures { λ r. ⌜ r .0 ≡ startOf conn start (queueOf (now (w .entry)) waiting (now (k .entry)) started) ⌝ }
+{
+    match start {
+        Start::Timed(t) => units::from_micros(t),
+        Start::Linked(p) => {
+            let found = find_held(w, waiting, k, started, conn, p as u64);
+            match found {
+                Found::Held(x) => x.end,
+                Found::Missing => Ninths(0),
+            }
+        }
+    }
+}
+
+// The PriorSession: 0xFFFFFFFF if timed.
+pub fn prior_of(start: Start) -> u64
+    ensures { λ r. ⌜ r ≡ priorOf start ⌝ }
+{
+    match start {
+        Start::Timed(_) => 0xFFFFFFFF,
+        Start::Linked(p) => p as u64,
+    }
+}
+
+// The session that a request asks for: the one place where a session is made.
+pub fn session_at(t: Ninths, conn: u64, r: Request) -> Session
+    requires { ⌜ t .0 + 429496729600 < 18446744073709551616 ⌝ }
+    ensures { λ s. ⌜ s ≡ sessionAt (t .0) conn r ⌝ }
+{
+    let start = r.start;
+    let prior = prior_of(start);
+    let d = units::from_ticks(r.duration);
+    Session {
+        conn: conn,
+        id: r.id as u64,
+        prior: prior,
+        start: t,
+        end: Ninths(t.0 + d.0),
+        access: r.access as u64,
+        over: r.over as u64,
+        played: Ninths(0),
+    }
+}
+
+// Whether a linked request's PriorSession is not held by its connection.
+pub fn is_unknown_prior(
+    conn: u64,
+    start: Start,
+    w: &[u64],
+    waiting: usize,
+    k: &[u64],
+    started: usize,
+) -> bool
+    requires { ⌜ Good (lot (now w) waiting) ⌝ }
+    requires { ⌜ Good (lot (now k) started) ⌝ }
+    ensures { λ r. ⌜ r ≡ unknownPrior conn start (queueOf (now (w .entry)) waiting (now (k .entry)) started) ⌝ }
+{
+    match start {
+        Start::Timed(_) => false,
+        Start::Linked(p) => !is_held(w, waiting, k, started, conn, p as u64),
+    }
+}
+
+// b. A number that no session has, or that the connection holds already, or a prior that it does not hold.
+pub fn is_wrong_number(
+    conn: u64,
+    r: Request,
+    w: &[u64],
+    waiting: usize,
+    k: &[u64],
+    started: usize,
+) -> bool
+    requires { ⌜ Good (lot (now w) waiting) ⌝ }
+    requires { ⌜ Good (lot (now k) started) ⌝ }
+    ensures { λ b. ⌜ b ≡ wrongNumber conn r (queueOf (now (w .entry)) waiting (now (k .entry)) started) ⌝ }
+{
+    if r.id == 0xFFFFFFFF {
+        return true;
+    }
+    if is_held(w, waiting, k, started, conn, r.id as u64) {
+        return true;
+    }
+    let start = r.start;
+    is_unknown_prior(conn, start, w, waiting, k, started)
+}
+
+// c. Timed, and the start is less than 3 s after the clock.
+pub fn is_too_late(clock: Ninths, start: Start) -> bool
+    requires { ⌜ clock .0 < horizon ⌝ }
+    requires { ⌜ Within start ⌝ }
+    ensures { λ b. ⌜ b ≡ tooLate (clock .0) start ⌝ }
+{
+    match start {
+        Start::Timed(t) => {
+            let s = units::from_micros(t);
+            s.0 < clock.0 + 27000000
+        }
+        Start::Linked(_) => false,
+    }
+}
+
+// A count, raised to 10 if lower.
+pub fn raise(n: usize) -> usize
+    ensures { λ r. ⌜ r ≡ raised n ⌝ }
+{
+    if n < 10 { 10 } else { n }
+}
+
+// The four counts, each raised to 10 if lower.
+pub fn raised_sum(w: &[u64], waiting: usize) -> usize
+    requires { ⌜ Good (lot (now w) waiting) ⌝ }
+    requires { ⌜ length (now w) ≡ 512 ⌝ }
+    ensures { λ r. ⌜ r ≡ raisedSum (used (lot (now (w .entry)) waiting)) ⌝ }
+{
+    let a = raise(places::count_of(w, waiting, 0));
+    let b = raise(places::count_of(w, waiting, 1));
+    let c = raise(places::count_of(w, waiting, 2));
+    let d = raise(places::count_of(w, waiting, 3));
+    a + (b + (c + d))
+}
+
+// e. Whether the connection's queue is full.
+pub fn is_full(w: &[u64], waiting: usize, conn: u64) -> bool
+    requires { ⌜ Good (lot (now w) waiting) ⌝ }
+    requires { ⌜ length (now w) ≡ 512 ⌝ }
+    ensures { λ r. ⌜ r ≡ full conn (used (lot (now (w .entry)) waiting)) ⌝ }
+{
+    let n = places::count_of(w, waiting, conn);
+    if n == 20 {
+        return true;
+    }
+    if n < 10 {
+        return false;
+    }
+    raised_sum(w, waiting) == 64
+}
+
+// d. Whether a waiting session has the same start and is not outranked. No two that wait start together, so the first decides.
+pub fn does_collide(new: Session, w: &[u64], waiting: usize) -> bool
+    requires { ⌜ Good (lot (now w) waiting) ⌝ }
+    requires { ⌜ Sorted (used (lot (now w) waiting)) ⌝ }
+    ensures { λ r. ⌜ r ≡ collides new (used (lot (now (w .entry)) waiting)) ⌝ }
+{
+    let t = new.start;
+    let i = places::find(w, waiting, Key::StartsAt(t));
+    if i < waiting {
+        let old = places::load(w, i);
+        if places::outranks(new, old) {
+            return false;
+        }
+        return true;
+    }
+    false
+}
+
+// The first of a to f that applies.
+pub fn splice_result(
+    clock: Ninths,
+    conn: u64,
+    r: Request,
+    new: Session,
+    w: &[u64],
+    waiting: usize,
+    k: &[u64],
+    started: usize,
+) -> u16
+    requires { ⌜ Good (lot (now w) waiting) ⌝ }
+    requires { ⌜ Good (lot (now k) started) ⌝ }
+    requires { ⌜ length (now w) ≡ 512 ⌝ }
+    requires { ⌜ Sorted (used (lot (now w) waiting)) ⌝ }
+    requires { ⌜ clock .0 < horizon ⌝ }
+    requires { ⌜ Within (r .start) ⌝ }
+    ensures { λ n. ⌜ n ≡ spliceResult (clock .0) conn r new (queueOf (now (w .entry)) waiting (now (k .entry)) started) ⌝ }
+{
+    if r.service == 0xFFFF {
+        return 110;
+    }
+    if is_wrong_number(conn, r, w, waiting, k, started) {
+        return 121;
+    }
+    let start = r.start;
+    if is_too_late(clock, start) {
+        return 112;
+    }
+    if does_collide(new, w, waiting) {
+        return 109;
+    }
+    if is_full(w, waiting, conn) {
+        return 114;
+    }
+    100
+}
+
+// The one that waits with the start t ends with 109, and its waiting followers.
+pub fn evict(t: Ninths, w: &mut [u64], waiting: usize, out: &mut [u8], len: usize) -> Left
+    requires { ⌜ Good (lot (now w) waiting) ⌝ }
+    requires { ⌜ length (now w) ≡ 512 ⌝ }
+    requires { ⌜ len + 23 * waiting ≤ length (now out) ⌝ }
+    ensures { λ r. ⌜ Ends (now (out .entry)) len (evicted (t .0) (alone (used (lot (now (w .entry)) waiting))) .queue .waiting) (evicted (t .0) (alone (used (lot (now (w .entry)) waiting))) .written) (lot (now (w .exit)) (r .left)) (r .len) (now (out .exit)) ⌝ }
+{
+    let i = places::find(&*w, waiting, Key::StartsAt(t));
+    if i < waiting {
+        let x = places::load(&*w, i);
+        places::remove_at(&mut *w, waiting, i);
+        writing::splice_response(&mut out[len..], x.conn, 109, x.id);
+        ends::dismiss(&mut *w, waiting - 1, 109, x.conn, x.id, &mut *out, len + 14)
+    } else {
+        Left {
+            left: waiting,
+            len: len,
+        }
+    }
+}
+
+// f. The new session waits, once the one that it evicts has ended; the 100 is written last.
+pub fn accept(new: Session, w: &mut [u64], waiting: usize, out: &mut [u8]) -> Left
+    requires { ⌜ Good (lot (now w) waiting) ⌝ }
+    requires { ⌜ length (now w) ≡ 512 ⌝ }
+    requires { ⌜ waiting < 64 ⌝ }
+    requires { ⌜ 4096 ≤ length (now out) ⌝ }
+    ensures { λ r. ⌜ Ends (now (out .entry)) 0 (accepted new (alone (used (lot (now (w .entry)) waiting))) .queue .waiting) (accepted new (alone (used (lot (now (w .entry)) waiting))) .written) (lot (now (w .exit)) (r .left)) (r .len) (now (out .exit)) ⌝ }
+{
+    let t = new.start;
+    let e = evict(t, &mut *w, waiting, &mut *out, 0);
+    let left = e.left;
+    let len = e.len;
+    places::put(&mut *w, left, new);
+    writing::splice_response(&mut out[len..], new.conn, 100, new.id);
+    Left {
+        left: left + 1,
+        len: len + 14,
+    }
+}
+
+// The answer to a Splice_Request.
+pub fn answer_splice(
+    clock: Ninths,
+    conn: u64,
+    r: Request,
+    w: &mut [u64],
+    waiting: usize,
+    k: &[u64],
+    started: usize,
+    out: &mut [u8],
+) -> Counts
+    requires { ⌜ Good (lot (now w) waiting) ⌝ }
+    requires { ⌜ Good (lot (now k) started) ⌝ }
+    requires { ⌜ length (now w) ≡ 512 ⌝ }
+    requires { ⌜ Holding (clock .0) (queueOf (now w) waiting (now k) started) ⌝ }
+    requires { ⌜ clock .0 < horizon ⌝ }
+    requires { ⌜ conn ≤ 3 ⌝ }
+    requires { ⌜ Asked r ⌝ }
+    requires { ⌜ 4096 ≤ length (now out) ⌝ }
+    ensures { λ c. ⌜ Turns (now (out .entry)) 0 (answerSplice (clock .0) conn r (queueOf (now (w .entry)) waiting (now (k .entry)) started)) (now (w .exit)) (now (k .entry)) c (now (out .exit)) ⌝ }
+{
+    let start = r.start;
+    let t = start_of(conn, start, &*w, waiting, k, started);
+    let new = session_at(t, conn, r);
+    let n = splice_result(clock, conn, r, new, &*w, waiting, k, started);
+    if n == 100 {
+        let a = accept(new, &mut *w, waiting, &mut *out);
+        return Counts {
+            waiting: a.left,
+            started: started,
+            len: a.len,
+        };
+    }
+    writing::splice_response(&mut *out, conn, n, r.id as u64);
+    Counts {
+        waiting: waiting,
+        started: started,
+        len: 14,
+    }
+}
+
+// Those that the key looks for end, as by abort: the started from the highest AccessType down, then the waiting by start.
+pub fn cancel(
+    whom: Key,
+    w: &mut [u64],
+    waiting: usize,
+    k: &mut [u64],
+    started: usize,
+    out: &mut [u8],
+    len: usize,
+) -> Counts
+    requires { ⌜ Good (lot (now w) waiting) ⌝ }
+    requires { ⌜ Good (lot (now k) started) ⌝ }
+    requires { ⌜ length (now w) ≡ 512 ⌝ }
+    requires { ⌜ length (now k) ≡ 80 ⌝ }
+    requires { ⌜ All Playable (used (lot (now w) waiting)) ⌝ }
+    requires { ⌜ All Playable (used (lot (now k) started)) ⌝ }
+    requires { ⌜ len + 23 * (waiting + started) ≤ length (now out) ⌝ }
+    ensures { λ c. ⌜ Turns (now (out .entry)) len (cancelled (keyTest whom) (queueOf (now (w .entry)) waiting (now (k .entry)) started)) (now (w .exit)) (now (k .exit)) c (now (out .exit)) ⌝ }
+{
+    let a = ends::end_those(
+        &mut *k,
+        started,
+        whom,
+        Ending::Complete(116),
+        Ending::Response(116),
+        &mut *out,
+        len,
+    );
+    let b = ends::end_those(
+        &mut *w,
+        waiting,
+        whom,
+        Ending::Response(116),
+        Ending::Response(116),
+        &mut *out,
+        a.len,
+    );
+    Counts {
+        waiting: b.left,
+        started: a.left,
+        len: b.len,
+    }
+}
+
+// The answer to an Abort_Request: 121, or 100, the session's end and its followers' ends.
+pub fn answer_abort(
+    conn: u64,
+    id: u64,
+    w: &mut [u64],
+    waiting: usize,
+    k: &mut [u64],
+    started: usize,
+    out: &mut [u8],
+) -> Counts
+    requires { ⌜ Good (lot (now w) waiting) ⌝ }
+    requires { ⌜ Good (lot (now k) started) ⌝ }
+    requires { ⌜ length (now w) ≡ 512 ⌝ }
+    requires { ⌜ length (now k) ≡ 80 ⌝ }
+    requires { ⌜ All Playable (used (lot (now w) waiting)) ⌝ }
+    requires { ⌜ All Playable (used (lot (now k) started)) ⌝ }
+    requires { ⌜ 4096 ≤ length (now out) ⌝ }
+    ensures { λ c. ⌜ Turns (now (out .entry)) 0 (answerAbort conn id (queueOf (now (w .entry)) waiting (now (k .entry)) started)) (now (w .exit)) (now (k .exit)) c (now (out .exit)) ⌝ }
+{
+    if !is_held(&*w, waiting, &*k, started, conn, id) {
+        writing::abort_response(&mut *out, conn, 121, id);
+        return Counts {
+            waiting: waiting,
+            started: started,
+            len: 14,
+        };
+    }
+    writing::abort_response(&mut *out, conn, 100, id);
+    let c = cancel(
+        Key::Held(conn, id),
+        &mut *w,
+        waiting,
+        &mut *k,
+        started,
+        &mut *out,
+        14,
+    );
+    let e = ends::dismiss(&mut *w, c.waiting, 116, conn, id, &mut *out, c.len);
+    Counts {
+        waiting: e.left,
+        started: c.started,
+        len: e.len,
+    }
+}
