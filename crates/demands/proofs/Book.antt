@@ -1,41 +1,39 @@
 -- The book of the accepted sessions beside the splicer: of each number, the newest entry has had its end or is held, and all older ones have
 -- had theirs. Rests on Laws (held before is held after or ended).
 use mathlib.Core.Path.{_≡_, refl, ap, sym, _∙_}
-use mathlib.Core.Bool.{Bool, true, false, cond, not, _&&_, _||_, and-false}
-use mathlib.Core.List.{List, [], _∷_, _++_}
-use Prim.Native.Nat.{ℕ, _+_, _*_, _≤_, _<_}
+use mathlib.Core.Bool.{Bool, true, false, cond, _&&_, _||_, and-false}
+use mathlib.Core.List.{List, [], _∷_}
+use Prim.Native.Nat.{ℕ, _+_, _<_}
 use native.Mathlib.Omega.{arith}
 use native.Mathlib.Nat.{zero-add}
-use lib.Dec.{eqb, ltb}
+use lib.Dec.{eqb}
 use lib.ListN.{length, getD}
 use borrow.Author.Tests.{eqb-true, ltb-true, not-false}
 use Rattle.rules.specs.declared.Session.{Session}
 use Rattle.rules.specs.declared.Start.{Start}
 use Rattle.rules.specs.declared.Start.the-variants.{Timed, Linked}
-use Rattle.rules.specs.declared.Request.{Request}
 use Rattle.rules.specs.declared.Message.the-variants.{Splice}
 use Rattle.rules.specs.Units.{timeOf, fromMicros}
-use Rattle.rules.specs.Lists.{All, bit, put, keep, omit, some, count, place}
+use Rattle.rules.specs.Lists.{All, bit, omit, count, place}
 use Rattle.rules.specs.Bytes.{hasZero}
-use Rattle.rules.specs.Reading.{wholeRequest, sessionID, readSplice}
+use Rattle.rules.specs.Reading.{wholeRequest, readSplice}
 use Rattle.rules.specs.State.{Queue, Splicer, empty, of, is, held, holds}
 use Rattle.rules.specs.Records.{Record, General, InitResponse, AliveResponse, SpliceResponse, SpliceComplete, AbortResponse}
-use Rattle.rules.specs.Ends.{Turn, writes, andThen, response, evicted, cancelled, aborted, closedBy}
+use Rattle.rules.specs.Ends.{Turn, writes, andThen, response, evicted, cancelled, closedBy}
 use Rattle.rules.specs.Instants.{runAll}
 use Rattle.rules.specs.Answers.{endOf, startOf, sessionAt, requested, unknownPrior, accepted}
 use Rattle.rules.specs.Calls.{Called, Call, call, after, named, fresh}
-use Rattle.rules.specs.History.{both, isStart, isEnd, isYes, endsOf, front, last, dataIn, isSplice, Entry, entryIs, withEnds, credited, endTold, startTold, endAsked, entryOf, bookAnswered, shut, bookAfter}
+use Rattle.rules.specs.History.{both, isEnd, isYes, endsOf, front, last, dataIn, Entry, entryIs, credited, endTold, startTold, endAsked, entryOf, bookAnswered, shut, bookAfter}
 use Rattle.rules.specs.Sound.{Each, heldCount}
 use Rattle.rules.proofs.Tests.{clash, by, and-both, eqb-same}
 use Rattle.rules.proofs.All.{all-into}
 use Rattle.rules.proofs.Count.{bit-and, place-holds, some-place, count-le, count-other, count-omitted, count-split, some-none}
 use Rattle.rules.proofs.Every.{all-both, all-getD, all-none, fewer-each, all-held}
 use Rattle.rules.proofs.Leaving.{evicted-fewer, aborted-fewer, closedBy-fewer}
-use Rattle.rules.proofs.Timed.{endOf-held}
 use Rattle.rules.proofs.Sessions.{count-held, each-tick, each-accepted, held-accepted}
 use Rattle.rules.proofs.History.{bookAnswer, bookOf}
-use Rattle.demands.proofs.Laws.{Law, evicted-law, closedBy-law, aborted-law, tick-law}
-use Rattle.demands.proofs.Cases.{Plain, plain-none, Cases, cases}
+use Rattle.demands.proofs.Laws.{Law, evicted-law, closedBy-law, plain-law, answered-law, tick-law, Plain, plain-none}
+use Rattle.demands.proofs.Cases.{cases}
 use Rattle.demands.proofs.Waiting.{front-last, last-last}
 
 -- ## An end is of one number only
@@ -166,7 +164,7 @@ turn-booked q es t b law d =
 
 plain-booked : (q : Queue) (es : List Entry) (rs : List Record) → Plain rs → Booked q es → Booked q (credited rs es)
 plain-booked q es rs p b =
-    turn-booked q es (writes rs q) b (λ c x. record { kept = omega (arith, p .ends c x); grown = omega arith; begun = omega (arith, p .starts c x) }) (b .dated)
+    turn-booked q es (writes rs q) b (λ c x. plain-law c x q rs p) (b .dated)
 
 shut-booked : (q : Queue) (es : List Entry) (d : ℕ) → ((x : ℕ) → heldCount q (is d x) ≡ 0) → Booked q es → Booked q (shut d es)
 shut-booked q es d none b =
@@ -258,10 +256,6 @@ module _ (s : Splicer) (es : List Entry) (b : Booked (s .queue) es) where
       none : (x : ℕ) (l : List Session) → count (is d x) (omit (of d) l) ≡ 0
       none x l = omega (arith, count-le (is d x) (of d) (λ u. bit-and (eqb d (u .conn)) (eqb x (u .id))) (omit (of d) l), count-omitted (of d) l)
 
-  said-aborted : (d y : ℕ) → (c x : ℕ) → Law c x q (record { queue = aborted d y q .queue; written = AbortResponse d 100 y ∷ aborted d y q .written })
-  unfolding isEnd isStart
-  said-aborted d y c x = let l = aborted-law c x d y q in record { kept = omega (arith, l .kept); grown = omega (arith, l .grown); begun = omega (arith, l .begun) }
-
   -- the entry of a request that is accepted
   asked-entry : (c : ℕ) (l : List ℕ) → readSplice (dataIn l) ≡ Splice (wholeRequest (dataIn l)) → unknownPrior c (wholeRequest (dataIn l) .start) q ≡ false
       → entryOf c (dataIn l) es ≡ entry (requested c (wholeRequest (dataIn l)) q)
@@ -277,8 +271,8 @@ module _ (s : Splicer) (es : List Entry) (b : Booked (s .queue) es) where
         closing = λ c room low e. closed-booked c;
         saying = λ c l room n rs e p. rw e (plain-booked q es rs p b);
         naming = λ c l room n r e p. rw e (plain-booked q es (r ∷ []) p b);
-        aborting = λ c l room n x e i. rw e (turn-booked q es _ b (said-aborted c x) (fewer-each (Dated es) q _ (aborted-fewer c x q) (b .dated)));
-        declining = λ c l room n r e y. rw (e, y) (plain-booked q es [] plain-none b);
+        aborting = λ c l room n x e i. rw e (turn-booked q es _ b (λ d y. answered-law d y c x q) (fewer-each (Dated es) q _ (aborted-fewer c x q) (b .dated)));
+        declining = λ c l room n r e y o. rw (e, y) (plain-booked q es [] plain-none b);
         accepting = λ c l room n e f p. let r = wholeRequest (dataIn l) in
             let new = requested c r q in
             let rs = evicted (new .start .0) q .written in

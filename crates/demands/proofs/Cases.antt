@@ -20,17 +20,16 @@ use Rattle.rules.specs.Ends.{Turn, andThen, aborted, closedBy}
 use Rattle.rules.specs.Instants.{runAll}
 use Rattle.rules.specs.Answers.{Answered, requested, spliceResult, accepted, answerSplice, answerAbort, initResult, answerInit, aliveResponse, answerRead, answer}
 use Rattle.rules.specs.Calls.{Called, refuse, does, noConnection, noRoom, notOpen, openCall, closeCall, framing, handled, messageCall, ticked, tickCall, Call, opens, closes, messages, ticks, call}
-use Rattle.rules.specs.History.{isStart, isEnd, isYes, startsOf, endsOf, dataIn, isSplice}
+use Rattle.rules.specs.History.{isStart, isEnd, isYes, dataIn, isSplice}
 use Rattle.rules.proofs.Tests.{by}
 use Rattle.rules.proofs.Checks.{Passed, passed-all}
+use Rattle.demands.specs.Told.{isOut}
+use Rattle.demands.proofs.Laws.{Plain, plain-none}
 
--- neither a start nor an end is among rs
-pub record Plain (rs : List Record) : Type 0 where
-  pub starts : (c x : ℕ) → startsOf c x rs ≡ 0
-  pub ends : (c x : ℕ) → endsOf c x rs ≡ 0
-
-pub plain-none : Plain []
-plain-none = record { starts = λ c x. refl; ends = λ c x. refl }
+-- of no session's start, nor of the end of one that was on air
+pub record Offair (r : Record) : Type 0 where
+  pub starts : (c x : ℕ) → isStart c x r ≡ false
+  pub outs : (c x : ℕ) → isOut c x r ≡ false
 
 -- what has to be shown of a call k to s and what comes of it
 pub record Cases (s : Splicer) (P : Call → Called → Type 0) : Type 0 where
@@ -44,7 +43,7 @@ pub record Cases (s : Splicer) (P : Call → Called → Type 0) : Type 0 where
   pub aborting : (c : ℕ) (l : List ℕ) (room n x : ℕ) → isSplice l ≡ false → holds c x (s .queue) ≡ true
       → P (messages c l room) (does n (AbortResponse c 100 x ∷ aborted c x (s .queue) .written) (withQueue (aborted c x (s .queue) .queue) s))
   -- a Splice_Request that is not accepted, and one that is
-  pub declining : (c : ℕ) (l : List ℕ) (room n : ℕ) (r : Record) → isSplice l ≡ true → isYes c (sessionID (dataIn l)) r ≡ false → P (messages c l room) (does n (r ∷ []) s)
+  pub declining : (c : ℕ) (l : List ℕ) (room n : ℕ) (r : Record) → isSplice l ≡ true → isYes c (sessionID (dataIn l)) r ≡ false → Offair r → P (messages c l room) (does n (r ∷ []) s)
   pub accepting : (c : ℕ) (l : List ℕ) (room n : ℕ) → isSplice l ≡ true → readSplice (dataIn l) ≡ Splice (wholeRequest (dataIn l))
       → Passed (s .clock) c (wholeRequest (dataIn l)) (s .queue)
       → P (messages c l room) (does n (accepted (requested c (wholeRequest (dataIn l)) (s .queue)) (s .queue) .written)
@@ -62,16 +61,16 @@ module _ (s : Splicer) (P : Call → Called → Type 0) (k : Cases s P) where
     Done a = P (messages c l room) (does n (a .written) (a .splicer))
 
     -- one record that says neither yes nor start nor end
-    one : (r : Record) → isYes c (sessionID (dataIn l)) r ≡ false → Plain (r ∷ []) → P (messages c l room) (does n (r ∷ []) s)
-    one r y p = go (isSplice l) refl
+    one : (r : Record) → isYes c (sessionID (dataIn l)) r ≡ false → Offair r → Plain (r ∷ []) → P (messages c l room) (does n (r ∷ []) s)
+    one r y o p = go (isSplice l) refl
       where
         go : (b : Bool) → isSplice l ≡ b → P (messages c l room) (does n (r ∷ []) s)
-        go true e = k .declining c l room n r e y
+        go true e = k .declining c l room n r e y o
         go false e = k .saying c l room n (r ∷ []) e p
 
     general : (r : ℕ) → P (messages c l room) (does n (General c r ∷ []) s)
-    unfolding isYes isStart isEnd
-    general r = one (General c r) refl (record { starts = λ d x. refl; ends = λ d x. refl })
+    unfolding isYes isStart isEnd isOut
+    general r = one (General c r) refl (record { starts = λ d x. refl; outs = λ d x. refl }) (record { starts = λ d x. refl; ends = λ d x. refl })
 
     -- another MessageID
     other : (id : ℕ) → eqb (messageID l) id ≡ true → eqb id spliceRequest ≡ false → isSplice l ≡ false
@@ -98,6 +97,10 @@ module _ (s : Splicer) (P : Call → Called → Type 0) (k : Cases s P) where
         by (λ (t : Turn). P (messages c l room) (does n (t .written) (withQueue (t .queue) s))) (holds c x (s .queue)) _ _
         (λ i. k .aborting c l room n x e i) (λ i. k .saying c l room n (AbortResponse c 121 x ∷ []) e (record { starts = λ d x. refl; ends = λ d x. refl }))
 
+    response-off : (v x : ℕ) → Offair (SpliceResponse c v x)
+    unfolding isStart isOut
+    response-off v x = record { starts = λ d y. refl; outs = λ d y. refl }
+
     splice-case : isSplice l ≡ true → readSplice (dataIn l) ≡ Splice (wholeRequest (dataIn l))
         → P (messages c l room) (does n (answerSplice (s .clock) c (wholeRequest (dataIn l)) (s .queue) .written) (withQueue (answerSplice (s .clock) c (wholeRequest (dataIn l)) (s .queue) .queue) s))
     unfolding answerSplice isYes
@@ -106,7 +109,7 @@ module _ (s : Splicer) (P : Call → Called → Type 0) (k : Cases s P) where
         let v = spliceResult (s .clock) c r (requested c r (s .queue)) (s .queue) in
         by (λ (t : Turn). P (messages c l room) (does n (t .written) (withQueue (t .queue) s))) (eqb v 100) _ _
         (λ i. k .accepting c l room n e f (passed-all (s .clock) c r (s .queue) (eqb-true v 100 i)))
-        (λ i. k .declining c l room n (SpliceResponse c v (r .id)) e (rw i))
+        (λ i. k .declining c l room n (SpliceResponse c v (r .id)) e (rw i) (response-off v (r .id)))
 
     read-case : Done (answerRead c (read (messageID l) (dataIn l)) (dataIn l) s)
     unfolding answerRead read readInit readAlive readAbort readSplice answerSplice spliceResult isYes
@@ -118,7 +121,7 @@ module _ (s : Splicer) (P : Call → Called → Type 0) (k : Cases s P) where
         (λ e. by M (eqb (messageID l) aliveRequest) _ _ (λ f. by M (eqb (length d) 8) _ _ (λ g. alive-case (other aliveRequest f refl)) (λ g. bad))
         (λ f. by M (eqb (messageID l) spliceRequest) _ _
         (λ g. by M (ltb (length d) 18) _ _ (λ h. bad)
-        (λ h. by M (eqb (serviceID d) separateService) _ _ (λ i. k .declining c l room n (SpliceResponse c 110 (sessionID d)) g refl)
+        (λ h. by M (eqb (serviceID d) separateService) _ _ (λ i. k .declining c l room n (SpliceResponse c 110 (sessionID d)) g refl (response-off 110 (sessionID d)))
         (λ i. by M (badSplice d) _ _ (λ j. bad) (λ j. splice-case g (rw (h, i, j))))))
         (λ g. by M (eqb (messageID l) abortRequest) _ _ (λ h. by M (eqb (length d) 4) _ _ (λ i. abort-case (field 0 4 d) g) (λ i. bad)) (λ h. bad))))
 

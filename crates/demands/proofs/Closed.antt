@@ -5,16 +5,13 @@ use mathlib.Core.List.{List, [], _∷_, _++_}
 use Prim.Native.Nat.{ℕ, _+_, _≤_}
 use native.Mathlib.Omega.{arith}
 use lib.Dec.{eqb}
-use borrow.Author.Tests.{eqb-true}
-use Rattle.rules.specs.declared.Refusal.{Refusal}
-use Rattle.rules.specs.Lists.{All, put, keep, omit}
+use Rattle.rules.specs.Lists.{All, put, omit}
 use Rattle.rules.specs.Reading.{sessionID}
 use Rattle.rules.specs.State.{Splicer}
 use Rattle.rules.specs.Records.{Record, recordsIn}
-use Rattle.rules.specs.Calls.{houseNumber, Answer, refused, good, Call, opens, closes, messages, ticks, call, writtenBy, after, fresh}
-use Rattle.rules.specs.History.{Event, Reply, refusal, wrote, Entry, isEnd, isYes, endsOf, withEnds, front, last, dataIn, isSplice, replyOf, history, credited, entryOf, bookAnswered, shut, bookAfter, bookReplied, book, clockAfter}
+use Rattle.rules.specs.Calls.{Answer, refused, good, Call, opens, closes, messages, ticks, call, writtenBy, after, fresh}
+use Rattle.rules.specs.History.{Event, Reply, refusal, wrote, Entry, isEnd, isYes, withEnds, front, last, dataIn, isSplice, replyOf, history, credited, entryOf, bookAnswered, shut, bookAfter, bookReplied, book, clockAfter}
 use Rattle.rules.specs.Sound.{Wired}
-use Rattle.rules.proofs.Tests.{clash}
 use Rattle.rules.proofs.All.{all-into, all-append}
 use Rattle.rules.proofs.Every.{all-both, all-kept}
 use Rattle.demands.specs.Told.{FromFresh, numberOf, Ended, entriesOf, Stands}

@@ -1,9 +1,9 @@
 -- READ THIS FIRST: the customer's demands as theorems about the definitions of `rules`, for all sequences of calls, each under its sentence.
 -- What the statements speak of stands in specs/Told and in `rules` (specs/History: what is taken from the answers' bytes). No axiom, no hole.
 use mathlib.Core.Path.{_≡_, refl}
-use mathlib.Core.Bool.{Bool, true, false, cond}
+use mathlib.Core.Bool.{true, false, cond}
 use mathlib.Core.List.{List, [], _∷_, _++_}
-use Prim.Native.Nat.{ℕ, _≤_}
+use Prim.Native.Nat.{ℕ, _+_, _≤_}
 use lib.ListN.{length}
 use Rattle.rules.specs.declared.Request.{Request}
 use Rattle.rules.specs.declared.Refusal.{Refusal}
@@ -14,13 +14,14 @@ use Rattle.rules.specs.State.{Splicer}
 use Rattle.rules.specs.Records.{recordsIn}
 use Rattle.rules.specs.Answers.{requested, spliceResult}
 use Rattle.rules.specs.Calls.{refused, refuse, writtenBy, named, fresh, Call, closes, messages, call, after}
-use Rattle.rules.specs.History.{Event, history, last, waitingCount, book, clockAfter}
+use Rattle.rules.specs.History.{Event, startsOf, endsOf, history, last, waitingCount, book, clockAfter}
 use Rattle.rules.specs.Sound.{Wired}
 use Rattle.rules.proofs.Sound.{sound-size}
-use Rattle.demands.specs.Told.{FromFresh, Unchanged, firstNumber, checks, numberOf, answers, Asks, Passes, fullTold, Ended, Stands}
+use Rattle.demands.specs.Told.{FromFresh, Unchanged, firstNumber, checks, numberOf, answers, Asks, Passes, fullTold, outsOf, withoutOwn, startedTold, unended, Ended, Stands}
 use Rattle.demands.proofs.Refusals.{unchanged, first-number, fresh-number, fresh-refused}
 use Rattle.demands.proofs.Room.{from-sound, count-room, own-answer, full-answer}
 use Rattle.demands.proofs.Once.{all-ended}
+use Rattle.demands.proofs.Aired.{ends-accepted, outs-started}
 use Rattle.demands.proofs.Closed.{from-more, close-stands}
 
 -- ## "Over all sequences of opens, closes, messages and ticks from a fresh splicer"
@@ -81,9 +82,20 @@ full-exactly-when = full-answer
 pub one-end : (h : List Event) (s : Splicer) → FromFresh h s → All (Ended (clockAfter h 0)) (book h [])
 one-end = all-ended
 
--- The incident: "freed the session's place, the next request took it, and the completion routine then wrote the old spot's end under the new
--- SessionID". Once connection c has closed, by a good call, its sessions of before stand in the book as they stood, each with its one end,
--- whatever calls follow: what is written later counts for newer sessions only, which one-end binds in turn
+-- An end in an answer's bytes, a Splice_Request's own answer apart, is of an accepted session that had none: it is neither a second end nor
+-- the end of a number that nobody was granted
+pub ends-are-owed : (c x : ℕ) (h : List Event) (s : Splicer) → FromFresh h s → (k : Call) → Wired k
+    → endsOf c x (withoutOwn k (recordsIn (writtenBy (call k s .answer)))) ≤ unended c x (book h [])
+ends-are-owed = ends-accepted
+
+-- The incident: "the completion routine then wrote the old spot's end under the new SessionID. Two operators' as-run logs listed a spot that
+-- never aired." A SpliceComplete flag 1 is written only under a number whose start is written, since its last end or by the same call
+pub only-aired-is-listed : (c x : ℕ) (h : List Event) (s : Splicer) → FromFresh h s → (k : Call) → Wired k
+    → outsOf c x (recordsIn (writtenBy (call k s .answer))) ≤ startedTold c x h 0 + startsOf c x (recordsIn (writtenBy (call k s .answer)))
+only-aired-is-listed = outs-started
+
+-- "An ad server dropped its connection with its spot on air." Once connection c has closed, by a good call, its sessions of before stand in
+-- the book as they stood, each with its one end, whatever calls follow: what is written later counts for newer sessions only
 pub closed-stays-ended : (h : List Event) (s : Splicer) → FromFresh h s → (c room : ℕ) → numberOf (call (closes c room) s .answer) ≡ 0
     → (js : List Call) → All Wired js
     → Stands c (book (h ++ history (closes c room ∷ []) s) []) (book (h ++ history (closes c room ∷ js) s) [])

@@ -1,33 +1,43 @@
 -- What each piece of work does to the sessions of one number of one connection: those held before are held after or ended. Assumes nothing.
-use mathlib.Core.Path.{_≡_, refl, ap, _∙_}
-use mathlib.Core.Bool.{Bool, true, false}
+use mathlib.Core.Path.{_≡_, refl, _∙_}
+use mathlib.Core.Bool.{Bool, true, false, _&&_, _||_}
 use mathlib.Core.List.{List, [], _∷_, _++_, map}
-use Prim.Native.Nat.{ℕ, _+_, _*_, _≤_, _<_}
+use Prim.Native.Nat.{ℕ, _+_, _≤_, _<_}
 use native.Mathlib.Omega.{arith}
-use lib.Dec.{ltb}
+use lib.Dec.{eqb, ltb}
 use lib.ListN.{length, getD}
 use borrow.Author.Tests.{ltb-true}
 use Rattle.rules.specs.declared.Session.{Session}
-use Rattle.rules.specs.Lists.{keep, omit, count, place, removeAt}
-use Rattle.rules.specs.State.{Queue, empty, of, is, startsAt, endsAt, toCome, withWaiting, withStarted}
-use Rattle.rules.specs.Records.{Record}
+use Rattle.rules.specs.Lists.{bit, keep, count, place, removeAt}
+use Rattle.rules.specs.State.{Queue, empty, of, is, startsAt, endsAt, toCome, withWaiting}
+use Rattle.rules.specs.Records.{Record, General, InitResponse, AliveResponse, SpliceResponse, SpliceComplete, AbortResponse}
 use Rattle.rules.specs.Ends.{Turn, quiet, writes, andThen, response, spliceIn, spliceOut, endings, followers, dismissed, evictedAt, evicted, cancelled, aborted, closedBy}
 use Rattle.rules.specs.Instants.{mayStart, launched, startAt, endAt, instant, elapse, runAll}
-use Rattle.rules.specs.History.{isStart, isEnd, startsOf, endsOf}
+use Rattle.rules.specs.History.{both, isStart, isEnd, startsOf, endsOf}
 use Rattle.rules.proofs.Tests.{by}
-use Rattle.rules.proofs.Count.{count-append, count-split, count-none, count-map, count-endings, count-removeAt}
+use Rattle.rules.proofs.Count.{count-append, count-split, count-none, count-le, count-map, count-endings, count-removeAt}
 use Rattle.rules.proofs.Walk.{followed}
 use Rattle.rules.proofs.Tick.{count-onAir, run-law}
+use Rattle.demands.specs.Told.{isOut, outsOf}
 
 -- how many of l have the number x of connection c
 abbrev pub tally : ℕ → ℕ → List Session → ℕ
 tally c x l = count (is c x) l
 
--- held before is held after or ended; the started grow only by starts; what started is started or ended
+-- held before is held after or ended; the started grow only by starts; what started is started or ended; only what started ends as aired
 pub record Law (c x : ℕ) (q : Queue) (t : Turn) : Type 0 where
   pub kept : tally c x (q .waiting) + tally c x (q .started) ≡ tally c x (t .queue .waiting) + tally c x (t .queue .started) + endsOf c x (t .written)
   pub grown : tally c x (t .queue .started) ≤ tally c x (q .started) + startsOf c x (t .written)
   pub begun : tally c x (q .started) + startsOf c x (t .written) ≤ tally c x (t .queue .started) + endsOf c x (t .written)
+  pub aired : tally c x (t .queue .started) + outsOf c x (t .written) ≤ tally c x (q .started) + startsOf c x (t .written)
+
+-- neither a start nor an end is among rs
+pub record Plain (rs : List Record) : Type 0 where
+  pub starts : (c x : ℕ) → startsOf c x rs ≡ 0
+  pub ends : (c x : ℕ) → endsOf c x rs ≡ 0
+
+pub plain-none : Plain []
+plain-none = record { starts = λ c x. refl; ends = λ c x. refl }
 
 module _ (c x : ℕ) where
   -- ## Records
@@ -55,16 +65,45 @@ module _ (c x : ℕ) where
   starts-endings a cover h p k =
       count-endings (isStart c x) (λ s. false) (spliceOut a) cover (λ s. refl) h p k ∙ count-none (λ s. false) (λ s. refl) (keep p k)
 
+  -- only ends are ends of what was on air
+  pub outs-ends : (rs : List Record) → outsOf c x rs ≤ endsOf c x rs
+  unfolding isOut isEnd
+  outs-ends rs = count-le (isOut c x) (isEnd c x) one rs
+    where
+      flag : (a b d : Bool) → bit (a && d) ≤ bit ((a || b) && d)
+      flag true b d = omega arith
+      flag false b d = omega arith
+
+      one : (r : Record) → bit (isOut c x r) ≤ bit (isEnd c x r)
+      one (General d n) = omega arith
+      one (InitResponse d n name) = omega arith
+      one (AliveResponse d n a y t) = omega arith
+      one (SpliceResponse d n y) = omega arith
+      one (SpliceComplete d n y f p) = flag (eqb f 1) (eqb f 0 && eqb n 109) (both c x d y)
+      one (AbortResponse d n y) = omega arith
+
+  outs-responses : (r : ℕ) (l : List Session) → outsOf c x (map (response r) l) ≡ 0
+  unfolding isOut
+  outs-responses r l = count-map (isOut c x) (response r) l ∙ count-none (λ s. false) (λ s. refl) l
+
   -- ## One piece of work after another
 
   pub quiet-law : (q : Queue) → Law c x q (quiet q)
-  quiet-law q = record { kept = omega arith; grown = omega arith; begun = omega arith }
+  quiet-law q = record { kept = omega arith; grown = omega arith; begun = omega arith; aired = omega arith }
+
+  pub plain-law : (q : Queue) (rs : List Record) → Plain rs → Law c x q (writes rs q)
+  plain-law q rs p =
+      let e = p .ends c x in
+      let s = p .starts c x in
+      let o = outs-ends rs in
+      record { kept = omega arith; grown = omega arith; begun = omega arith; aired = omega arith }
 
   pub join-law : (q : Queue) (t u : Turn) → Law c x q t → Law c x (t .queue) u → Law c x q (record { queue = u .queue; written = t .written ++ u .written })
   join-law q t u l m =
       let e = count-append (isEnd c x) (t .written) (u .written) in
       let s = count-append (isStart c x) (t .written) (u .written) in
-      record { kept = omega (arith, l .kept, m .kept); grown = omega (arith, l .grown, m .grown); begun = omega (arith, l .begun, m .begun) }
+      let o = count-append (isOut c x) (t .written) (u .written) in
+      record { kept = omega (arith, l .kept, m .kept); grown = omega (arith, l .grown, m .grown); begun = omega (arith, l .begun, m .begun); aired = omega (arith, l .aired, m .aired) }
 
   -- ## Followers, eviction, abort, close
 
@@ -75,16 +114,17 @@ module _ (c x : ℕ) where
       let f = followers d y (q .waiting) in
       let e = h (f .gone) in
       let s = starts-responses r (f .gone) in
+      let o = outs-responses r (f .gone) in
       let w = followed d y (q .waiting) .counts (is c x) in
-      record { kept = omega arith; grown = omega arith; begun = omega arith }
+      record { kept = omega arith; grown = omega arith; begun = omega arith; aired = omega arith }
 
   evictedAt-law : (i : ℕ) (q : Queue) → i < length (q .waiting) → Law c x q (evictedAt i q)
-  unfolding evictedAt andThen isEnd isStart
+  unfolding evictedAt andThen isEnd isStart isOut
   evictedAt-law i q h =
       let s = getD (q .waiting) i empty in
       let u = withWaiting (removeAt i (q .waiting)) q in
       let w = count-removeAt (is c x) i (q .waiting) empty h in
-      join-law q (writes (response 109 s ∷ []) u) (dismissed 109 (s .conn) (s .id) u) (record { kept = omega arith; grown = omega arith; begun = omega arith })
+      join-law q (writes (response 109 s ∷ []) u) (dismissed 109 (s .conn) (s .id) u) (record { kept = omega arith; grown = omega arith; begun = omega arith; aired = omega arith })
       (dismissed-law 109 (s .conn) (s .id) u ends-109)
 
   pub evicted-law : (t : ℕ) (q : Queue) → Law c x q (evicted t q)
@@ -104,29 +144,39 @@ module _ (c x : ℕ) where
       let s₁ = count-append (isStart c x) a b in
       let s₂ = starts-endings 116 (response 116) (λ s. refl) p (q .started) in
       let s₃ = starts-responses 116 (keep p (q .waiting)) in
+      let o₁ = count-append (isOut c x) a b in
+      let o₂ = outs-ends a in
+      let o₃ = outs-responses 116 (keep p (q .waiting)) in
       let w = count-split (is c x) p (q .waiting) in
       let k = count-split (is c x) p (q .started) in
-      record { kept = omega arith; grown = omega arith; begun = omega arith }
+      record { kept = omega arith; grown = omega arith; begun = omega arith; aired = omega arith }
 
   pub closedBy-law : (d : ℕ) (q : Queue) → Law c x q (closedBy d q)
   unfolding closedBy
   closedBy-law d q = cancelled-law (of d) q
 
-  pub aborted-law : (d y : ℕ) (q : Queue) → Law c x q (aborted d y q)
+  aborted-law : (d y : ℕ) (q : Queue) → Law c x q (aborted d y q)
   unfolding aborted andThen
   aborted-law d y q =
       let t = cancelled (is d y) q in
       join-law q t (dismissed 116 d y (t .queue)) (cancelled-law (is d y) q) (dismissed-law 116 d y (t .queue) ends-116)
 
+  -- with its Abort_Response
+  pub answered-law : (d y : ℕ) (q : Queue) → Law c x q (record { queue = aborted d y q .queue; written = AbortResponse d 100 y ∷ aborted d y q .written })
+  unfolding isEnd isStart
+  answered-law d y q =
+      let p : Plain (AbortResponse d 100 y ∷ []) = record { starts = λ e z. refl; ends = λ e z. refl } in
+      join-law q (writes (AbortResponse d 100 y ∷ []) q) (aborted d y q) (plain-law q (AbortResponse d 100 y ∷ []) p) (aborted-law d y q)
+
   -- ## Instants
 
   -- s, which no longer waits
   launched-law : (s : Session) (w : List Session) (q : Queue) → tally c x w ≡ tally c x (s ∷ q .waiting) → Law c x (withWaiting w q) (launched s q)
-  unfolding launched andThen isEnd isStart
+  unfolding launched andThen isEnd isStart isOut
   launched-law s w q h =
-      by (Law c x (withWaiting w q)) (mayStart s (q .started)) _ _ (λ e. record { kept = omega arith; grown = omega arith; begun = omega arith })
+      by (Law c x (withWaiting w q)) (mayStart s (q .started)) _ _ (λ e. record { kept = omega arith; grown = omega arith; begun = omega arith; aired = omega arith })
       (λ e. join-law (withWaiting w q) (writes (spliceIn 109 s ∷ []) q) (dismissed 109 (s .conn) (s .id) q)
-      (record { kept = omega arith; grown = omega arith; begun = omega arith }) (dismissed-law 109 (s .conn) (s .id) q ends-109))
+      (record { kept = omega arith; grown = omega arith; begun = omega arith; aired = omega arith }) (dismissed-law 109 (s .conn) (s .id) q ends-109))
 
   startAt-law : (t : ℕ) (q : Queue) → Law c x q (startAt t q)
   unfolding startAt
@@ -142,8 +192,9 @@ module _ (c x : ℕ) where
   endAt-law t q =
       let e = ends-endings 100 (spliceOut 125) (λ s. refl) (endsAt t) (q .started) in
       let s = starts-endings 100 (spliceOut 125) (λ s. refl) (endsAt t) (q .started) in
+      let o = outs-ends (endings (spliceOut 100) (spliceOut 125) (endsAt t) (q .started)) in
       let k = count-split (is c x) (endsAt t) (q .started) in
-      record { kept = omega arith; grown = omega arith; begun = omega arith }
+      record { kept = omega arith; grown = omega arith; begun = omega arith; aired = omega arith }
 
   instant-law : (t : ℕ) (q : Queue) → Law c x q (instant t q)
   unfolding instant andThen
@@ -153,7 +204,7 @@ module _ (c x : ℕ) where
   unfolding elapse
   elapse-law d q =
       let k = count-onAir (is c x) (λ e s. refl) d (q .started) in
-      record { kept = omega arith; grown = omega arith; begun = omega arith }
+      record { kept = omega arith; grown = omega arith; begun = omega arith; aired = omega arith }
 
   pub tick-law : (now until : ℕ) (q : Queue) → Law c x q (runAll now until q)
   unfolding runAll

@@ -7,3 +7,4 @@ pub mod Room
 pub mod Book
 pub mod Once
 pub mod Closed
+pub mod Aired

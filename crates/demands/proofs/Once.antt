@@ -1,28 +1,25 @@
 -- "No accepted session gets a second end, and each gets exactly one end", from the answers' bytes, after every sequence of calls.
 -- Rests on Book, on Sound (all that is held ends after the clock) and on the bytes giving back their records.
 use mathlib.Core.Path.{_≡_, refl, ap, _∙_}
-use mathlib.Core.Bool.{Bool, true, false, cond, _&&_}
+use mathlib.Core.Bool.{Bool, true, false, cond}
 use mathlib.Core.List.{List, [], _∷_}
 use Prim.Native.Nat.{ℕ, zero, suc, _+_, _≤_, _<_}
 use native.Mathlib.Omega.{arith}
-use lib.Dec.{eqb}
-use Rattle.rules.specs.declared.Session.{Session}
-use Rattle.rules.specs.Lists.{All, some, count}
+use Rattle.rules.specs.Lists.{All}
 use Rattle.rules.specs.Bytes.{hasZero}
-use Rattle.rules.specs.State.{Queue, Splicer, is, held, holds}
-use Rattle.rules.specs.Answers.{endOf}
+use Rattle.rules.specs.State.{Splicer, is, held, holds}
 use Rattle.rules.specs.Calls.{Called, Call, call, after, named, fresh}
 use Rattle.rules.specs.History.{Event, Entry, entryIs, endTold, replyOf, history, book, clockReplied, clockAfter}
-use Rattle.rules.specs.Sound.{Sound, heldCount}
-use Rattle.rules.proofs.Tests.{by, clash, eqb-same, failed}
+use Rattle.rules.specs.Sound.{heldCount}
+use Rattle.rules.proofs.Tests.{by, clash, eqb-same}
 use Rattle.rules.proofs.All.{all-into}
 use Rattle.rules.proofs.Count.{some-none}
 use Rattle.rules.proofs.Timed.{ends-held, endOf-held}
 use Rattle.rules.proofs.Sessions.{count-held}
 use Rattle.rules.proofs.Sound.{sound-fresh}
-use Rattle.rules.proofs.History.{bookOf, book-found}
+use Rattle.rules.proofs.History.{book-found}
 use Rattle.demands.specs.Told.{FromFresh, Ended}
-use Rattle.demands.proofs.Cases.{Cases, cases}
+use Rattle.demands.proofs.Cases.{cases}
 use Rattle.demands.proofs.Room.{from-sound}
 use Rattle.demands.proofs.Book.{Settled, Owed, Booked, told-end, booked-always, booked-fresh}
 
@@ -38,7 +35,7 @@ call-clock s =
       saying = λ c l room n rs e p. refl;
       naming = λ c l room n r e p. refl;
       aborting = λ c l room n x e i. refl;
-      declining = λ c l room n r e y. refl;
+      declining = λ c l room n r e y o. refl;
       accepting = λ c l room n e f p. refl;
       ticking = λ seconds micros room le. refl;
     })

@@ -1,8 +1,8 @@
 -- Demand 1 of the definitions: a refused call carries the first number that applies, writes nothing and changes nothing. Assumes nothing.
-use mathlib.Core.Path.{_≡_, refl, ap, _∙_}
-use mathlib.Core.Bool.{Bool, true, false, cond, not}
-use mathlib.Core.List.{List, [], _∷_}
-use Prim.Native.Nat.{ℕ, _+_, _≤_, _<_}
+use mathlib.Core.Path.{_≡_, refl}
+use mathlib.Core.Bool.{Bool, true, false, cond}
+use mathlib.Core.List.{List, []}
+use Prim.Native.Nat.{ℕ, _+_, _<_}
 use native.Mathlib.Omega.{arith}
 use lib.Dec.{ltb}
 use lib.ListN.{length}
@@ -14,10 +14,10 @@ use Rattle.rules.specs.Bytes.{messageID, messageSize, oversize, hasZero, nameIn
 use Rattle.rules.specs.State.{Splicer, closed, opened, linkOf, isOpen, withLink, withQueue}
 use Rattle.rules.specs.Records.{Record}
 use Rattle.rules.specs.Ends.{closedBy}
-use Rattle.rules.specs.Calls.{houseNumber, Answer, refused, good, Called, refuse, does, writtenBy, consumedBy, bufferAfter, noConnection, noRoom, notOpen, named, fresh, openCall, closeCall, framing, handled, messageCall, ticked, tickCall, Call, opens, closes, messages, ticks, call}
+use Rattle.rules.specs.Calls.{houseNumber, refused, good, Called, refuse, does, writtenBy, consumedBy, bufferAfter, noConnection, noRoom, notOpen, named, fresh, openCall, closeCall, framing, handled, messageCall, ticked, tickCall, Call, opens, closes, messages, ticks, call}
 use Rattle.rules.proofs.Written.{written-none}
 use Rattle.demands.specs.Told.{firstNumber, checks, numberOf, Unchanged}
-use Rattle.demands.proofs.Cases.{Cases, cases}
+use Rattle.demands.proofs.Cases.{cases}
 
 module _ (s : Splicer) where
   -- r: what came of a call to s
@@ -36,7 +36,7 @@ module _ (s : Splicer) where
         saying = λ c l room m rs i p n e. good-other e;
         naming = λ c l room m r i p n e. good-other e;
         aborting = λ c l room m x i j n e. good-other e;
-        declining = λ c l room m r i y n e. good-other e;
+        declining = λ c l room m r i y o n e. good-other e;
         accepting = λ c l room m i j p n e. good-other e;
         ticking = λ seconds micros room le n e. good-other e;
       })

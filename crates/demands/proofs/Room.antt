@@ -1,25 +1,23 @@
 -- A Splice_Request's own answer, from the answer's bytes: the first code that applies, and 114 as the answers' counts say.
 -- Rests on Waiting (the answers' counts are the splicer's) and on the bytes giving back their records.
-use mathlib.Core.Path.{_≡_, refl, ap, _∙_}
-use mathlib.Core.Bool.{Bool, true, false, cond, not, _&&_, _||_}
-use mathlib.Core.List.{List, [], _∷_, _++_}
+use mathlib.Core.Path.{_≡_, refl, _∙_}
+use mathlib.Core.Bool.{true, false, cond}
+use mathlib.Core.List.{List}
 use Prim.Native.Nat.{ℕ, _+_, _≤_}
 use native.Mathlib.Omega.{arith}
-use lib.Dec.{eqb, leb}
-use borrow.Author.Tests.{eqb-true}
+use lib.Dec.{eqb}
 use Rattle.rules.specs.declared.Request.{Request}
 use Rattle.rules.specs.Bytes.{messageSize}
 use Rattle.rules.specs.Reading.{read}
 use Rattle.rules.specs.State.{Splicer, Link, closed, opened, initialised, linkOf, isOpen, isInitialised, withQueue}
-use Rattle.rules.specs.Records.{Record, recordsIn}
+use Rattle.rules.specs.Records.{recordsIn}
 use Rattle.rules.specs.Ends.{Turn, andThen, evicted, response}
-use Rattle.rules.specs.Answers.{sessionAt, requested, separate, wrongNumber, tooLate, collides, full, spliceResult, accepted, answerSplice, answerRead, answer}
-use Rattle.rules.specs.Calls.{does, handled, messageCall, Call, messages, call, writtenBy}
-use Rattle.rules.specs.History.{Event, last, dataIn, waitingCount}
-use Rattle.rules.specs.Sound.{Sound, Reached}
+use Rattle.rules.specs.Answers.{sessionAt, requested, full, spliceResult, accepted, answerSplice, answerRead, answer}
+use Rattle.rules.specs.Calls.{does, handled, messageCall, messages, call, writtenBy}
+use Rattle.rules.specs.History.{Event, last, waitingCount}
+use Rattle.rules.specs.Sound.{Sound}
 use Rattle.rules.proofs.Tests.{by, clash, eqb-same}
 use Rattle.rules.proofs.Sound.{reached-sound, sound-found}
-use Rattle.rules.proofs.Fitted.{recordsOf}
 use Rattle.demands.specs.Told.{FromFresh, answers, Asks, Passes, fullTold}
 use Rattle.demands.proofs.Waiting.{last-last, waiting-counted}
 

@@ -1,9 +1,9 @@
 -- A connection's waiting sessions, counted from the answers' bytes, are as many as the splicer holds waiting, after every sequence of calls.
 -- Rests on Laws (what each piece of work does to a number), on Sound (no number held twice) and on the bytes giving back their records.
-use mathlib.Core.Path.{_≡_, refl, ap, _∙_}
-use mathlib.Core.Bool.{Bool, true, false, cond, _&&_, and-true, and-false}
+use mathlib.Core.Path.{_≡_, refl, ap}
+use mathlib.Core.Bool.{Bool, true, false, cond, and-true, and-false}
 use mathlib.Core.List.{List, [], _∷_, _++_}
-use Prim.Native.Nat.{ℕ, _+_, _≤_, _<_}
+use Prim.Native.Nat.{ℕ, _+_, _<_}
 use native.Mathlib.Omega.{arith}
 use lib.Dec.{eqb}
 use lib.ListN.{length}
@@ -11,15 +11,15 @@ use borrow.Author.Tests.{eqb-true}
 use Rattle.rules.specs.declared.Session.{Session}
 use Rattle.rules.specs.Units.{timeOf, fromMicros}
 use Rattle.rules.specs.Lists.{All, bit, put, keep, count}
-use Rattle.rules.specs.Bytes.{Byte, hasZero}
-use Rattle.rules.specs.Reading.{wholeRequest, sessionID}
+use Rattle.rules.specs.Bytes.{hasZero}
+use Rattle.rules.specs.Reading.{wholeRequest}
 use Rattle.rules.specs.State.{Queue, Splicer, of, is}
-use Rattle.rules.specs.Records.{Record, AbortResponse}
-use Rattle.rules.specs.Ends.{Turn, writes, andThen, response, aborted, evicted, closedBy}
+use Rattle.rules.specs.Records.{Record}
+use Rattle.rules.specs.Ends.{Turn, writes, andThen, response, evicted, closedBy}
 use Rattle.rules.specs.Instants.{runAll}
 use Rattle.rules.specs.Answers.{sessionAt, requested, accepted, waits}
-use Rattle.rules.specs.Calls.{Called, Call, messages, call, after, named, fresh}
-use Rattle.rules.specs.History.{Event, isStart, isEnd, isYes, startsOf, endsOf, unmarked, history, front, last, dataIn, isSplice, waitAnswered, waitAfter, waitingTold, waitingCount}
+use Rattle.rules.specs.Calls.{Called, Call, call, after, named, fresh}
+use Rattle.rules.specs.History.{Event, isYes, unmarked, front, last, dataIn, waitAnswered, waitAfter, waitingCount}
 use Rattle.rules.specs.Sound.{Once, Wired, Sound}
 use Rattle.rules.proofs.Tests.{tests, by, clash, eqb-same}
 use Rattle.rules.proofs.Count.{bit-and, count-put, count-le}
@@ -27,8 +27,8 @@ use Rattle.rules.proofs.Sessions.{count-accepted}
 use Rattle.rules.proofs.Sound.{sound-call, sound-fresh}
 use Rattle.rules.proofs.History.{waitAnswer, waitingOf, waiting-found}
 use Rattle.demands.specs.Told.{FromFresh}
-use Rattle.demands.proofs.Laws.{tally, Law, quiet-law, join-law, evicted-law, closedBy-law, aborted-law, tick-law}
-use Rattle.demands.proofs.Cases.{Plain, plain-none, Cases, cases}
+use Rattle.demands.proofs.Laws.{tally, Law, evicted-law, closedBy-law, plain-law, answered-law, tick-law, Plain, plain-none}
+use Rattle.demands.proofs.Cases.{cases}
 
 -- ## Lists of numbers
 
@@ -85,7 +85,7 @@ module _ (q : Queue) (L : ℕ → List ℕ) (once : Once q) (g : Counted q L) wh
       go c x false e = omega (arith, tests, keep-out x (unmarked c (t .written)) (L c) e, g .same c x, once c x, law c x)
 
   plain-counted : (rs : List Record) → Plain rs → Counted q (λ c. keep (unmarked c rs) (L c))
-  plain-counted rs p = turn-counted (writes rs q) (λ c x. record { kept = omega (arith, p .ends c x); grown = omega arith; begun = omega (arith, p .starts c x) })
+  plain-counted rs p = turn-counted (writes rs q) (λ c x. plain-law c x q rs p)
 
 -- ## Every call
 
@@ -106,10 +106,6 @@ module _ (s : Splicer) (L : ℕ → List ℕ) (h : Sound s) (g : Counted (s .que
       go c x true f = rw (eqb-true c d f) (omega (arith, none x))
       go c x false f = g .same c x
 
-  said-aborted : (d y : ℕ) → (c x : ℕ) → Law c x q (record { queue = aborted d y q .queue; written = AbortResponse d 100 y ∷ aborted d y q .written })
-  unfolding isStart isEnd
-  said-aborted d y c x = let l = aborted-law c x d y q in record { kept = omega (arith, l .kept); grown = omega (arith, l .grown); begun = omega (arith, l .begun) }
-
   new-counted : (new : Session) → Counted (accepted new q .queue) (λ c. put (eqb c (new .conn)) (new .id) (keep (unmarked c (evicted (new .start .0) q .written)) (L c)))
   new-counted new =
       let t = evicted (new .start .0) q in
@@ -125,8 +121,8 @@ module _ (s : Splicer) (L : ℕ → List ℕ) (h : Sound s) (g : Counted (s .que
         closing = λ c room low e. turn-counted q L once g (closedBy c q) (λ d x. closedBy-law d x c q);
         saying = λ c l room n rs e p. rw e (plain-counted q L once g rs p);
         naming = λ c l room n r e p. rw e (plain-counted q L once g (r ∷ []) p);
-        aborting = λ c l room n x e i. rw e (turn-counted q L once g _ (said-aborted c x));
-        declining = λ c l room n r e y. relist q (λ d. keep (unmarked d []) (L d)) _ (λ d. rw (e, y, and-false)) (plain-counted q L once g [] plain-none);
+        aborting = λ c l room n x e i. rw e (turn-counted q L once g _ (λ d y. answered-law d y c x q));
+        declining = λ c l room n r e y o. relist q (λ d. keep (unmarked d []) (L d)) _ (λ d. rw (e, y, and-false)) (plain-counted q L once g [] plain-none);
         accepting = λ c l room n e f p. let r = wholeRequest (dataIn l) in
             let new = requested c r q in
             let rs = evicted (new .start .0) q .written in

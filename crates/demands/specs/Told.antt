@@ -2,21 +2,21 @@
 use mathlib.Core.Path.{_≡_}
 use mathlib.Core.Bool.{Bool, true, false, cond, _&&_, _||_}
 use mathlib.Core.List.{List, [], _∷_, _++_}
-use Prim.Native.Nat.{ℕ, _+_, _≤_}
+use Prim.Native.Nat.{ℕ, _+_, _-_, _≤_}
 use lib.Dec.{eqb, leb, ltb}
 use lib.ListN.{length}
 use Rattle.rules.specs.declared.Request.{Request}
 use Rattle.rules.specs.declared.Message.the-variants.{Splice}
 use Rattle.rules.specs.declared.Framing.the-variants.{Framed}
 use Rattle.rules.specs.Units.{timeOf, badMicros, fromMicros}
-use Rattle.rules.specs.Lists.{All, keep}
+use Rattle.rules.specs.Lists.{All, keep, count}
 use Rattle.rules.specs.Bytes.{Byte, messageSize, oversize}
 use Rattle.rules.specs.Reading.{spliceRequest, readSplice}
 use Rattle.rules.specs.State.{Splicer, linkOf, isOpen, isInitialised}
-use Rattle.rules.specs.Records.{Record, General, InitResponse, AliveResponse, SpliceResponse, SpliceComplete, AbortResponse}
+use Rattle.rules.specs.Records.{Record, General, InitResponse, AliveResponse, SpliceResponse, SpliceComplete, AbortResponse, recordsIn}
 use Rattle.rules.specs.Answers.{raised, requested, separate, wrongNumber, tooLate, collides}
 use Rattle.rules.specs.Calls.{houseNumber, Answer, refused, good, Called, writtenBy, consumedBy, bufferAfter, noConnection, noRoom, notOpen, fresh, framing, Call, opens, closes, messages, ticks, after}
-use Rattle.rules.specs.History.{Event, Entry, history, both, dataIn, waitingCount}
+use Rattle.rules.specs.History.{Reply, refusal, wrote, Event, Entry, entryIs, startsOf, endsOf, front, isSplice, history, both, dataIn, waitingCount}
 use Rattle.rules.specs.Sound.{Wired}
 
 -- "Over all sequences of opens, closes, messages and ticks from a fresh splicer": h, the calls with their answers, and s, the splicer
@@ -101,7 +101,41 @@ pub record Unchanged (s : Splicer) (r : Called) : Type 0 where
   pub consumed : consumedBy (r .answer) ≡ 0
   pub buffer : (e : List ℕ) → bufferAfter (r .answer) e ≡ e
 
+-- ## Ends in a call's answer
+
+-- the SpliceComplete flag 1 of number x of connection c: that a spot which was on air has ended
+unfoldable pub isOut : ℕ → ℕ → Record → Bool
+isOut c x (General c′ r) = false
+isOut c x (InitResponse c′ r name) = false
+isOut c x (AliveResponse c′ r a y t) = false
+isOut c x (SpliceResponse c′ r y) = false
+isOut c x (SpliceComplete c′ r y f d) = eqb f 1 && both c x c′ y
+isOut c x (AbortResponse c′ r y) = false
+
+abbrev pub outsOf : ℕ → ℕ → List Record → ℕ
+outsOf c x rs = count (isOut c x) rs
+
+-- a call's records, without a Splice_Request's own answer, the last
+unfoldable pub withoutOwn : Call → List Record → List Record
+withoutOwn (opens c) rs = rs
+withoutOwn (closes c room) rs = rs
+withoutOwn (messages c l room) rs = cond (isSplice l) (front rs) rs
+withoutOwn (ticks seconds micros room) rs = rs
+
+-- the session of number x of connection c has started and not ended, from the answers: 1, or else 0
+unfoldable pub startedReplied : ℕ → ℕ → Call → Reply → ℕ → ℕ
+startedReplied c x k (refusal m) n = n
+startedReplied c x k (wrote l) n = (n + startsOf c x (recordsIn l)) - endsOf c x (withoutOwn k (recordsIn l))
+
+unfoldable pub startedTold : ℕ → ℕ → List Event → ℕ → ℕ
+startedTold c x [] n = n
+startedTold c x (e ∷ h) n = startedTold c x h (startedReplied c x (e .call) (e .reply) n)
+
 -- ## The accepted sessions
+
+-- the accepted sessions of number x of connection c that have had no end
+abbrev pub unended : ℕ → ℕ → List Entry → ℕ
+unended c x es = count (λ e. entryIs c x e && eqb (e .ends) 0) es
 
 -- of one of them, at the time now: "No accepted session gets a second end, and each gets exactly one end, at the latest when the clock is
 -- brought to its end time or its connection closes."

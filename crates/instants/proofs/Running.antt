@@ -1,12 +1,11 @@
 -- The loop of `run`: what was done so far, and the rest of the tick from there. The fuel is a field, so no law says that it does not matter.
 use mathlib.Core.Path.{_≡_, refl, sym, ap, subst, _∙_}
-use mathlib.Core.List.{List, [], _∷_, _++_, append-assoc, append-nil}
+use mathlib.Core.List.{List, [], _++_, append-assoc, append-nil}
 use Prim.Native.Nat.{ℕ, zero, suc, _+_, _*_, _-_, _/_, _≤_, _<_}
 use native.Mathlib.Omega.{arith}
 use native.Mathlib.Numerals.{add-one}
 use lib.ListN.{length, drop-of-length-le}
 use borrow.Author.Tests.{le-leb, lt-leb}
-use Rattle.rules.specs.declared.Session.{Session}
 use Rattle.rules.specs.Lists.{All}
 use Rattle.rules.specs.State.{Queue, due, toCome}
 use Rattle.rules.specs.Bytes.{written}
@@ -15,8 +14,8 @@ use Rattle.rules.specs.Ends.{Turn, quiet, andThen, writes}
 use Rattle.rules.specs.Instants.{instant, onAir, elapse, run, runAll}
 use Rattle.rules.specs.Sound.{Since, Holding}
 use Rattle.rules.proofs.All.{all-into}
-use Rattle.rules.proofs.Tick.{due-first, due-meets, elapse-due, elapse-toCome, moved-less}
-use Rattle.rules.proofs.Size.{weight-append, weight-none, instant-brief}
+use Rattle.rules.proofs.Tick.{due-first, elapse-toCome, moved-less}
+use Rattle.rules.proofs.Size.{weight-append, instant-brief}
 use Rattle.rules.proofs.Sound.{few-started, next-after, holding-next, played-then}
 use Rattle.rules.proofs.Written.{written-none, written-output, length-written}
 use Rattle.places.specs.Places.{lot, spare, used, Good, Made}

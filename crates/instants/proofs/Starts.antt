@@ -2,24 +2,23 @@
 use mathlib.Core.Path.{_≡_, refl, sym, ap, subst, _∙_}
 use mathlib.Core.Bool.{Bool, true, false, _&&_}
 use mathlib.Core.List.{List, [], _∷_, map}
-use Prim.Native.Nat.{ℕ, suc, _+_, _*_, _-_, _/_, _≤_, _<_}
+use Prim.Native.Nat.{ℕ, suc, _+_, _*_, _/_, _≤_, _<_}
 use native.Mathlib.Omega.{arith}
 use lib.Dec.{eqb}
 use lib.ListN.{length, getD, set}
 use borrow.Author.Tests.{eq-eqb, ne-eqb, lt-ltb, le-ltb}
 use Rattle.rules.specs.declared.Session.{Session}
 use Rattle.rules.specs.Lists.{All, omit, place, insertAt, removeAt, least}
-use Rattle.rules.specs.State.{Queue, Sorted, empty, startsAt, endsAt, due, withWaiting}
+use Rattle.rules.specs.State.{Queue, Sorted, empty, startsAt, endsAt, due}
 use Rattle.rules.specs.Bytes.{written}
-use Rattle.rules.specs.Records.{Record, recordBytes, output}
-use Rattle.rules.specs.Ends.{Turn, quiet, andThen, writes, response, spliceIn, spliceOut, endings, followers, dismissed}
+use Rattle.rules.specs.Records.{recordBytes, output}
+use Rattle.rules.specs.Ends.{Turn, andThen, writes, response, spliceIn, spliceOut, endings, followers, dismissed}
 use Rattle.rules.specs.Instants.{outranks, mayStart, launched, startAt, endAt, instant, playing, onAir}
 use Rattle.rules.proofs.All.{all-into}
 use Rattle.rules.proofs.Every.{all-getD}
 use Rattle.rules.proofs.Records.{length-record}
-use Rattle.rules.proofs.Written.{output-one}
 use Rattle.rules.proofs.Size.{weight-one}
-use Rattle.places.specs.Places.{Lot, lot, places, used, Good, Made}
+use Rattle.places.specs.Places.{lot, places, used, Good, Made}
 use Rattle.places.proofs.Laws.{length-used, used-at}
 use Rattle.ends.specs.declared.Counts.{Counts}
 use Rattle.ends.specs.Does.{Ends, queueOf, Turns}

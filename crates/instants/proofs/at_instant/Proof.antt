@@ -1,5 +1,4 @@
 -- The ends and the start, one after the other (`instant-turns`).
-use mathlib.Core.Path.{sym}
 use native.Mathlib.Omega.{arith}
 use Rattle.instants.proofs.Starts.{instant-room, instant-meets, instant-placed, instant-turns}
 use borrow.Author.Needs.{needs}

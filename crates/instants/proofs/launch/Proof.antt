@@ -1,6 +1,5 @@
 -- It goes on air where there is a place for it (`on-placed`), or fails; either way its record comes first (`launched-on`, `launched-off`).
 use mathlib.Core.Path.{sym, _∙_}
-use Prim.Native.Nat.{_+_}
 use native.Mathlib.Omega.{arith}
 use Rattle.rules.specs.Records.{recordBytes}
 use Rattle.rules.specs.Ends.{spliceIn}

@@ -1,0 +1,149 @@
+-- Each promise determines its result: any two results that it allows are equal, and a refusal leaves everything as it was.
+-- Rests on places' words-same: the sessions and the zeros behind them determine the words.
+use mathlib.Core.Path.{_≡_, refl, sym, ap, _∙_}
+use mathlib.Core.Bool.{Bool, true, false, cond}
+use mathlib.Core.List.{List, [], _∷_, map}
+use Prim.Native.Nat.{ℕ, zero, suc, _≤_}
+use native.Mathlib.Omega.{arith}
+use lib.Dec.{ltb}
+use lib.ListN.{length}
+use Rattle.rules.specs.declared.Refusal.{Refusal}
+use Rattle.rules.specs.declared.Refusal.the-variants.{Connection, Buffer, Clock, AlreadyOpen, NotOpen, MicroSeconds, Name}
+use Rattle.rules.specs.declared.Framing.{Framing}
+use Rattle.rules.specs.declared.Framing.the-variants.{Framed, Unframed}
+use Rattle.rules.specs.Lists.{All}
+use Rattle.rules.specs.Units.{badMicros, timeOf, fromMicros}
+use Rattle.rules.specs.Bytes.{Byte, hasZero, nameIn, padded}
+use Rattle.rules.specs.State.{Link, closed, opened, initialised, Splicer, isOpen, linkOf}
+use Rattle.rules.specs.Calls.{Called, Call, opens, closes, messages, ticks, call, refused, good, refuse, does, writtenBy, bufferAfter, noConnection, noRoom, notOpen, openCall, closeCall, messageCall, framing, handled, tickCall, ticked, fresh}
+use Rattle.rules.specs.Calls as calls
+use Rattle.rules.specs.Records.{Record}
+use Rattle.rules.proofs.Tests.{by}
+use Rattle.rules.proofs.Written.{written-none}
+use Rattle.places.specs.Places.{lot, zeros}
+use Rattle.places.proofs.Laws.{length-used, words-same}
+use Rattle.places.proofs.Words.{spare-none}
+use Rattle.answers.specs.declared.Head.{Head}
+use Rattle.answers.specs.View.{view, Form}
+use Rattle.answers.specs.View as words
+use Rattle.engine.specs.declared.Answer.{Answer}
+use Rattle.engine.specs.declared.Answer.the-variants.{Refused, Done}
+use Rattle.engine.specs.declared.Said.{Said}
+use Rattle.engine.specs.Lent.{Lent, answerOf, Answers}
+use Rattle.engine.proofs.Beginning.{start, fresh-bad}
+use Rattle.engine.proofs.Calls.{refused-as}
+
+-- ## What is shown determines what stands in memory
+
+abbrev wordOf : Link → ℕ
+wordOf closed = 0
+wordOf opened = 1
+wordOf initialised = 2
+
+word-link : (n : ℕ) → n ≤ 2 → wordOf (words.linkOf n) ≡ n
+word-link zero h = refl
+word-link (suc zero) h = refl
+word-link (suc (suc zero)) h = refl
+word-link (suc (suc (suc n))) h = absurd (omega arith)
+
+words-links : (l : List ℕ) → All (λ n. n ≤ 2) l → map wordOf (map words.linkOf l) ≡ l
+words-links [] a = refl
+words-links (n ∷ l) a = cc (word-link n (a .0), words-links l (a .1))
+
+-- a head by its parts
+made-same : (c d n o m p : ℕ) (l k : List ℕ) → c ≡ d → n ≡ o → m ≡ p → l ≡ k
+    → _≡_ {A = Head} (record { clock = record { 0 = c }; waiting = n; started = m; links = l }) (record { clock = record { 0 = d }; waiting = o; started = p; links = k })
+made-same c d n o m p l k e f g h = cc
+
+said-same : (g h : Head) (a b : Answer) → g ≡ h → a ≡ b → _≡_ {A = Said} (record { head = g; answer = a }) (record { head = h; answer = b })
+said-same g h a b e f = cc
+
+module _ (g h : Head) (n w k m v j : List ℕ) (f : Form g n w k) (e : Form h m v j) (same : view g n w k ≡ view h m v j) where
+  name-same : n ≡ m
+  name-same = f .stored ∙ ap (λ y. padded (y .name)) same ∙ sym (e .stored)
+
+  waiting-same : w ≡ v
+  waiting-same =
+      words-same w v (g .waiting) (h .waiting) (f .waiting) (e .waiting) (f .places ∙ sym (e .places)) (ap (λ y. y .queue .waiting) same)
+      (spare-none 64 w (f .places) ∙ sym (spare-none 64 v (e .places)))
+
+  started-same : k ≡ j
+  started-same =
+      words-same k j (g .started) (h .started) (f .started) (e .started) (f .stack ∙ sym (e .stack)) (ap (λ y. y .queue .started) same)
+      (spare-none 10 k (f .stack) ∙ sym (spare-none 10 j (e .stack)))
+
+  head-same : g ≡ h
+  head-same =
+      let waits = sym (length-used (lot w (g .waiting)) (f .waiting)) ∙ ap (λ y. length (y .queue .waiting)) same ∙ length-used (lot v (h .waiting)) (e .waiting) in
+      let has = sym (length-used (lot k (g .started)) (f .started)) ∙ ap (λ y. length (y .queue .started)) same ∙ length-used (lot j (h .started)) (e .started) in
+      let links = sym (words-links (g .links) (f .links)) ∙ ap (λ y. map wordOf (y .links)) same ∙ words-links (h .links) (e .links) in
+      made-same _ _ _ _ _ _ _ _ (ap (λ y. y .clock) same) waits has links
+
+-- ## "any two results it allows are proved equal"
+
+pub answers-same : (c : Called) (r s : Said) (n w k m v j : List ℕ) → Answers c r n w k → Answers c s m v j → (r ≡ s) × (n ≡ m) × (w ≡ v) × (k ≡ j)
+answers-same c r s n w k m v j a b =
+    let f = a .lent .form in
+    let e = b .lent .form in
+    let same = a .splicer ∙ sym (b .splicer) in
+    let head = head-same (r .head) (s .head) n w k m v j f e same in
+    (said-same (r .head) (s .head) (r .answer) (s .answer) head (a .answer ∙ sym (b .answer)), name-same (r .head) (s .head) n w k m v j f e same, waiting-same (r .head) (s .head) n w k m v j f e same, started-same (r .head) (s .head) n w k m v j f e same)
+
+-- the buffer is an equation, so two results hold the same
+pub buffer-same : (a : calls.Answer) (e o p : List ℕ) → o ≡ bufferAfter a e → p ≡ bufferAfter a e → o ≡ p
+buffer-same a e o p f g = f ∙ sym g
+
+-- ## "A refusal returns its number, writes nothing, consumes nothing and changes no state."
+
+module _ (s : Splicer) (n : Refusal) where
+  -- what a call does that is refused with n
+  abbrev Keeps : Called → Type 0
+  Keeps c = c .answer ≡ refused n → c ≡ refuse n s
+
+  keeps-refuse : (m : Refusal) → Keeps (refuse m s)
+  keeps-refuse m e = cc
+
+  keeps-does : (consumed : ℕ) (rs : List Record) (t : Splicer) → Keeps (does consumed rs t)
+  keeps-does consumed rs t e = let z : _≡_ {A = ℕ} 0 1 = cc in absurd (omega arith)
+
+  keeps-handled : (c : ℕ) (f : Framing) (l : List ℕ) → Keeps (handled c f l s)
+  unfolding handled
+  keeps-handled c (Unframed m) l = keeps-refuse m
+  keeps-handled c (Framed id size) l = keeps-does _ _ _
+
+  -- a test, and what follows it
+  keeps-test : (b : Bool) (m : Refusal) (c : Called) → Keeps c → Keeps (cond b (refuse m s) c)
+  keeps-test b m c k = by Keeps b (refuse m s) c (λ e. keeps-refuse m) (λ e. k)
+
+  pub call-refused : (k : Call) → Keeps (call k s)
+  unfolding call openCall closeCall messageCall tickCall ticked
+  call-refused (opens c) = keeps-test (noConnection c) Connection _ (keeps-test (isOpen (linkOf c s)) AlreadyOpen _ (keeps-does _ _ _))
+  call-refused (closes c room) =
+      keeps-test (noConnection c) Connection _ (keeps-test (noRoom room) Buffer _ (keeps-test (notOpen c s) NotOpen _ (keeps-does _ _ _)))
+  call-refused (messages c l room) =
+      keeps-test (noConnection c) Connection _ (keeps-test (noRoom room) Buffer _ (keeps-test (notOpen c s) NotOpen _ (keeps-handled c (framing l) l)))
+  call-refused (ticks seconds micros room) =
+      keeps-test (noRoom room) Buffer _ (keeps-test (badMicros micros) MicroSeconds _ (keeps-test (ltb (fromMicros (timeOf seconds micros) .0) (s .clock)) Clock _ (keeps-does _ _ _)))
+
+refused-answer : (a : calls.Answer) (n : Refusal) → Refused n ≡ answerOf a → a ≡ refused n
+unfolding answerOf
+refused-answer (refused m) n e = cc
+refused-answer (good consumed rs) n e = let z : _≡_ {A = ℕ} 0 1 = cc in absurd (omega arith)
+
+-- of every result that the contract of open, close, message or tick allows: the head, the words and the buffer are as they were
+pub refused-unchanged : (i : Call) (n : Refusal) (h : Head) (name w k : List ℕ) (r : Said) (m v j e o : List ℕ) → Lent h name w k
+    → Answers (call i (view h name w k)) r m v j → o ≡ bufferAfter (call i (view h name w k) .answer) e → r .answer ≡ Refused n
+    → ((r ≡ record { head = h; answer = Refused n }) × (m ≡ name) × (v ≡ w) × (j ≡ k)) × (o ≡ e)
+unfolding bufferAfter writtenBy
+refused-unchanged i n h name w k r m v j e o l a b f =
+    let s = view h name w k in
+    let y = refused-answer (call i s .answer) n (sym f ∙ a .answer) in (
+      answers-same (call i s) r (record { head = h; answer = Refused n }) m v j name w k a (refused-as h name w k (call i s) n l (call-refused s n i y)),
+      b ∙ ap (λ z. bufferAfter z e) y ∙ written-none e 0,
+    )
+
+-- "A refused fresh gives, with number 9, the splicer of an empty name."
+pub fresh-refused : (name : List ℕ) (r : Said) (m v j : List ℕ) → length name ≡ 32 → All Byte name → hasZero name ≡ false → Answers (fresh name) r m v j
+    → (r ≡ record { head = start; answer = Refused Name }) × (m ≡ padded []) × (v ≡ zeros 512) × (j ≡ zeros 80)
+fresh-refused name r m v j long bytes z a =
+    answers-same (fresh name) r (record { head = start; answer = Refused Name }) m v j (padded []) (zeros 512) (zeros 80) a (fresh-bad name long bytes z)

@@ -1,0 +1,53 @@
+-- `open`: each return is one law of proofs/Calls.
+use native.Mathlib.Omega.{arith}
+use Rattle.engine.proofs.Calls.{open-bad, open-twice, open-done}
+use borrow.Author.Needs.{needs}
+use Rattle.engine.proofs.open.Statement.{statement}
+use Rattle.engine.proofs.open.Tie as tie
+
+refuse-requires : tie.Need-refuse-requires
+refuse-requires c κs = search needs
+
+returns : tie.Need-returns
+returns c =
+    let s = c .before .before .before .before .before in
+    open-bad (s .args .t1) (s .args .name .now) (s .args .w .now) (s .args .k .now) (s .args .conn) (s .pre) _ (c .refuse .ensures) (omega arith)
+
+mul-if2 : tie.Need-mul-if2
+mul-if2 c = search needs
+
+element-copy-out-if2 : tie.Need-element-copy-out-if2
+element-copy-out-if2 c = search needs
+
+refuse-requires-2 : tie.Need-refuse-requires-2
+refuse-requires-2 c κs = search needs
+
+returns-2 : tie.Need-returns-2
+returns-2 c =
+    let s = c .before .before .before .before .before .before .before in
+    open-twice (s .args .t1) (s .args .name .now) (s .args .w .now) (s .args .k .now) (s .args .conn) (s .pre) _ (c .refuse2 .ensures) (omega arith) (omega arith)
+
+mul-m : tie.Need-mul-m
+mul-m c = search needs
+
+element-write-m : tie.Need-element-write-m
+element-write-m c = search needs
+
+returns-3 : tie.Need-returns-3
+returns-3 c =
+    let s = c .before .before .before .before .before .before in
+    open-done (s .args .t1) (s .args .name .now) (s .args .w .now) (s .args .k .now) (s .args .conn) (s .pre) (omega arith) (omega arith)
+
+pub open-spec : {M : Type 1} → statement M
+open-spec =
+    tie.close
+    (tie.spec
+    refuse-requires
+    returns
+    mul-if2
+    element-copy-out-if2
+    refuse-requires-2
+    returns-2
+    mul-m
+    element-write-m
+    returns-3)
