@@ -1,4 +1,4 @@
-// "A descriptor reader stays on the message's own bytes and moves from one descriptor to the next": the bytes and a place.
+// "A descriptor reader stays on the message's own bytes and moves from one descriptor to the next."
 ghost use mathlib.Core.Path.{_≡_};
 ghost use Rattle.rules.specs.Reading.{descriptorsFill};
 ghost use Rattle.reading.specs.Walk.{stepAt};
@@ -32,13 +32,52 @@ pub fn step(l: &[u8], at: usize) -> Descriptor
     Descriptor::Next(at + (2 + size))
 }
 
+// The descriptors' bytes as they stand in the message, and a place in them. Its functions are thin: `step` has the work.
+pub struct Reader<'a> {
+    pub src: &'a [u8],
+    pub at: usize,
+}
+
+impl<'a> Reader<'a> {
+    // At the first descriptor.
+    pub fn new(src: &'a [u8]) -> Reader<'a>
+        ensures { λ r. ⌜ (r .src ≡ src .entry) × (r .at ≡ 0) ⌝ }
+    {
+        Reader { src, at: 0 }
+    }
+
+    // On the same bytes, at the place behind a descriptor.
+    pub fn moved(self, place: usize) -> Reader<'a>
+        ensures { λ r. ⌜ (r .src ≡ self .entry .src) × (r .at ≡ place) ⌝ }
+    {
+        Reader {
+            src: self.src,
+            at: place,
+        }
+    }
+
+    // What stands at its place.
+    pub fn found(self) -> Descriptor
+        ensures { λ r. ⌜ r ≡ stepAt (now (self .entry .src)) (self .entry .at) ⌝ }
+    {
+        step(self.src, self.at)
+    }
+}
+
+// What a reader finds at a place. Its callers have a slice and a number, so their proofs hold no walk.
+pub fn descriptor_at(l: &[u8], place: usize) -> Descriptor
+    ensures { λ r. ⌜ r ≡ stepAt (now (l .entry)) place ⌝ }
+{
+    Reader::new(l).moved(place).found()
+}
+
 // "the descriptors fill the message exactly"
 pub fn well_formed(l: &[u8]) -> bool
     ensures { λ r. ⌜ r ≡ descriptorsFill (now (l .entry)) ⌝ }
 {
     let mut at = 0;
     loop {
-        match step(l, at) {
+        match descriptor_at(l, at) {
             Descriptor::Next(next) => at = next,
             Descriptor::End => return true,
             Descriptor::Bad => return false,

@@ -18,8 +18,8 @@ abbrev μ-loop : tie.MeasureT-loop
 loop-holds : tie.Need-loop-holds Inv-loop μ-loop
 loop-holds c = (omega arith, refl)
 
-step-requires : tie.Need-step-requires Inv-loop μ-loop
-step-requires c κs = search needs
+descriptor-at-requires : tie.Need-descriptor-at-requires Inv-loop μ-loop
+descriptor-at-requires c κs = search needs
 
 enum-known-next : tie.Need-enum-known-next Inv-loop μ-loop
 enum-known-next c = search needs
@@ -28,14 +28,14 @@ loop-less : tie.Need-loop-less Inv-loop μ-loop
 loop-less c =
     let l = c .before .before .before .before .before .before .args .l .now in
     let at = c .before .before .before .before .loop .at in
-    let says = subst (Says l at) (sym (c .before .before .before .step .ensures) ∙ c .before .next .given .1) (step-says l at) in
+    let says = subst (Says l at) (sym (c .before .before .before .descriptor-at .ensures) ∙ c .before .next .given .1) (step-says l at) in
     omega arith
 
 loop-again : tie.Need-loop-again Inv-loop μ-loop
 loop-again c =
     let l = c .before .before .before .before .before .before .args .l .now in
     let at = c .before .before .before .before .loop .at in
-    let says = subst (Says l at) (sym (c .before .before .before .step .ensures) ∙ c .before .next .given .1) (step-says l at) in
+    let says = subst (Says l at) (sym (c .before .before .before .descriptor-at .ensures) ∙ c .before .next .given .1) (step-says l at) in
     (omega arith, c .before .before .before .before .loop .inv .1 ∙ says .2)
 
 enum-told : tie.Need-enum-told Inv-loop μ-loop
@@ -45,7 +45,7 @@ returns : tie.Need-returns Inv-loop μ-loop
 returns c =
     let l = c .before .before .before .before .before .args .l .now in
     let at = c .before .before .before .loop .at in
-    let says = subst (Says l at) (sym (c .before .before .step .ensures) ∙ c .enum-told .given .1) (step-says l at) in
+    let says = subst (Says l at) (sym (c .before .before .descriptor-at .ensures) ∙ c .enum-told .given .1) (step-says l at) in
     sym (c .before .before .before .loop .inv .1 ∙ says)
 
 enum-told-2 : tie.Need-enum-told-2 Inv-loop μ-loop
@@ -55,7 +55,7 @@ returns-2 : tie.Need-returns-2 Inv-loop μ-loop
 returns-2 c =
     let l = c .before .before .before .before .before .args .l .now in
     let at = c .before .before .before .loop .at in
-    let says = subst (Says l at) (sym (c .before .before .step .ensures) ∙ c .enum-told2 .given .1) (step-says l at) in
+    let says = subst (Says l at) (sym (c .before .before .descriptor-at .ensures) ∙ c .enum-told2 .given .1) (step-says l at) in
     sym (c .before .before .before .loop .inv .1 ∙ says)
 
 pub well-formed-spec : {M : Type 1} → statement M
@@ -65,7 +65,7 @@ well-formed-spec =
     Inv-loop
     μ-loop
     loop-holds
-    step-requires
+    descriptor-at-requires
     enum-known-next
     loop-less
     loop-again
