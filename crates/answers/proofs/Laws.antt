@@ -1,5 +1,5 @@
 -- What each part of an answer says of its own paths. Rests on the laws of the records (`Records`, `Written`), of names and of places.
-use mathlib.Core.Path.{_≡_, refl, sym, ap, subst, _∙_}
+use mathlib.Core.Path.{_≡_, refl, sym, ap, subst, subst₂, _∙_}
 use mathlib.Core.Bool.{Bool, true, false, cond, not}
 use mathlib.Core.List.{List, [], _∷_}
 use mathlib.Core.Logic.{_⊎_, inl, inr}
@@ -10,17 +10,15 @@ use lib.ListN.{length, getD, replicate, length-append, length-replicate}
 use borrow.Author.Tests.{eq-eqb, ne-eqb}
 use Rattle.rules.specs.declared.Micros.{Micros}
 use Rattle.rules.specs.declared.Message.{Message}
-use Rattle.rules.specs.declared.Message.the-variants.{Init, Alive, Splice, Abort, Unreadable}
-use Rattle.rules.specs.declared.Request.{Request}
+use Rattle.rules.specs.declared.Message.the-variants.{Init}
 use Rattle.rules.specs.Lists.{All}
 use Rattle.rules.specs.Units.{toMicros}
 use Rattle.rules.specs.Bytes.{nameIn, padded, sameName, written}
 use Rattle.rules.specs.Reading.{channelName, isRead, read}
 use Rattle.rules.specs.State.{Queue, initialised, empty, withLink}
-use Rattle.rules.specs.State as state
 use Rattle.rules.specs.Records.{Record, General, AliveResponse, InitResponse, recordBytes, output}
 use Rattle.rules.specs.Ends.{Turn}
-use Rattle.rules.specs.Answers.{Answered, says, turns, initResult, answerInit, airState, airID, aliveResponse, answerSplice, answerAbort, answerRead, answer}
+use Rattle.rules.specs.Answers.{Answered, says, turns, initResult, answerInit, airState, airID, answerRead, answer}
 use Rattle.rules.specs.Sound.{Holding, Sound, Small}
 use Rattle.rules.proofs.Tests.{by}
 use Rattle.rules.proofs.All.{all-into}
@@ -31,7 +29,7 @@ use Rattle.rules.proofs.Written.{written-none, output-one}
 use Rattle.places.specs.Places.{Good, lot, used}
 use Rattle.places.proofs.Laws.{head}
 use Rattle.ends.specs.declared.Counts.{Counts}
-use Rattle.ends.specs.Does.{Playable, queueOf, Turns}
+use Rattle.ends.specs.Does.{Playable, Turns}
 use Rattle.answers.specs.declared.Head.{Head}
 use Rattle.answers.specs.declared.Given.{Given}
 use Rattle.answers.specs.View.{barred, view, Form, Gives, Writes, withWord, initHead, initRecord, aliveRecord, countedHead}
@@ -163,69 +161,65 @@ module _ (h : Head) (name w k : List ℕ) (f : Form h name w k) where
 
 module _ (h : Head) (name w k : List ℕ) (f : Form h name w k) (e : List ℕ) (c id : ℕ) (d : List ℕ) where
   -- what the answer to the message that stands in the data gives, that of the read gives
-  abbrev Answers : Message → Given → List ℕ → List ℕ → List ℕ → Type 0
-  Answers m r w′ k′ o = Gives e (answerRead c m d (view h name w k)) r name w′ k′ o
+  abbrev Part : Message → Given → List ℕ → List ℕ → List ℕ → Type 0
+  Part m r w′ k′ o = Gives e (answerRead c m d (view h name w k)) r name w′ k′ o
 
-  as-read : (m : Message) (r : Given) (w′ k′ o : List ℕ) → read id d ≡ m → Answers m r w′ k′ o → Answers (read id d) r w′ k′ o
-  as-read m r w′ k′ o p g = subst (λ (y : Message). Answers y r w′ k′ o) (sym p) g
+  as-read : (m : Message) (r : Given) (w′ k′ o : List ℕ) → read id d ≡ m → Part m r w′ k′ o → Part (read id d) r w′ k′ o
+  as-read m r w′ k′ o p g = subst (λ (y : Message). Part y r w′ k′ o) (sym p) g
 
   pub reads-init : (n : ℕ) (r : Given) (o : List ℕ) → read id d ≡ Init n
       → Writes e (initHead h c (initResult n (channelName d) (nameIn name))) (initRecord c (initResult n (channelName d) (nameIn name)) name) r o
-      → Answers (read id d) r w k o
+      → Part (read id d) r w k o
   unfolding answerRead
   reads-init n r o p g = as-read (Init n) r w k o p (init-said h name w k f e c n d r o g)
 
-  pub reads-alive : (r : Given) (o : List ℕ) → read id d ≡ Alive → Writes e h (aliveRecord c h k) r o → Answers (read id d) r w k o
-  unfolding answerRead aliveResponse
-  reads-alive r o p g = as-read Alive r w k o p (said h name w k f e (aliveRecord c h k) r o g)
+  -- a message that is answered by one record
+  pub reads-one : (m : Message) (x : Record) (r : Given) (o : List ℕ) → read id d ≡ m
+      → answerRead c m d (view h name w k) ≡ says (x ∷ []) (view h name w k) → Writes e h x r o → Part (read id d) r w k o
+  reads-one m x r o p q g = as-read m r w k o p (subst (λ (y : Answered). Gives e y r name w k o) (sym q) (said h name w k f e x r o g))
 
-  pub reads-unreadable : (r : Given) (o : List ℕ) → read id d ≡ Unreadable → Writes e h (General c 123) r o → Answers (read id d) r w k o
-  unfolding answerRead
-  reads-unreadable r o p g = as-read Unreadable r w k o p (said h name w k f e (General c 123) r o g)
-
-  -- r: the head with the counts n
-  module _ (r : Given) (n : Counts) (j : r ≡ countedHead h n) (w′ k′ o : List ℕ) (a : length w′ ≡ length w) (b : length k′ ≡ length k) where
-    pub reads-splice : (x : Request) → read id d ≡ Splice x → Turns e 0 (answerSplice (h .clock .0) c x (queueOf w (h .waiting) k (h .started))) w′ k′ n o
-        → Answers (read id d) r w′ k′ o
-    unfolding answerRead
-    reads-splice x p g = as-read (Splice x) r w′ k′ o p (subst (λ (y : Given). Answers (Splice x) y w′ k′ o) (sym j) (turned h name w k f e _ w′ k′ n o g a b))
-
-    pub reads-abort : (x : ℕ) → read id d ≡ Abort x → Turns e 0 (answerAbort c x (queueOf w (h .waiting) k (h .started))) w′ k′ n o
-        → Answers (read id d) r w′ k′ o
-    unfolding answerRead
-    reads-abort x p g = as-read (Abort x) r w′ k′ o p (subst (λ (y : Given). Answers (Abort x) y w′ k′ o) (sym j) (turned h name w k f e _ w′ k′ n o g a b))
+  -- a message that is answered by a turn; r: the head with the counts n
+  pub reads-turn : (m : Message) (t : Turn) (r : Given) (n : Counts) (w′ k′ o : List ℕ) → read id d ≡ m
+      → answerRead c m d (view h name w k) ≡ turns t (view h name w k) → r ≡ countedHead h n → length w′ ≡ length w → length k′ ≡ length k
+      → Turns e 0 t w′ k′ n o → Part (read id d) r w′ k′ o
+  reads-turn m t r n w′ k′ o p q j a b g =
+      as-read m r w′ k′ o p (subst₂ (λ (y : Answered) (z : Given). Gives e y z name w′ k′ o) (sym q) (sym j) (turned h name w k f e t w′ k′ n o g a b))
 
 -- ## "first that applies"
 
 module _ (h : Head) (name w k : List ℕ) (f : Form h name w k) (e : List ℕ) (c id : ℕ) (d : List ℕ) where
-  abbrev Answered′ : Given → List ℕ → List ℕ → List ℕ → Type 0
-  Answered′ r w′ k′ o = Gives e (answer c id d (view h name w k)) r name w′ k′ o
+  abbrev Step : Given → List ℕ → List ℕ → List ℕ → Type 0
+  Step r w′ k′ o = Gives e (answer c id d (view h name w k)) r name w′ k′ o
 
-  by-answer : (a : Answered) (r : Given) (w′ k′ o : List ℕ) → answer c id d (view h name w k) ≡ a → Gives e a r name w′ k′ o → Answered′ r w′ k′ o
+  by-answer : (a : Answered) (r : Given) (w′ k′ o : List ℕ) → answer c id d (view h name w k) ≡ a → Gives e a r name w′ k′ o → Step r w′ k′ o
   by-answer a r w′ k′ o p g = subst (λ (y : Answered). Gives e y r name w′ k′ o) (sym p) g
 
-  pub first : id ≡ 0x0000 → Answered′ (record { head = h; len = 0 }) w k e
+  -- "1. ID 0x0000: no answer."
+  pub first : id ≡ 0x0000 → Step (record { head = h; len = 0 }) w k e
   unfolding answer
   first z = by-answer _ _ w k e (rw z) (silent h name w k f e)
 
   module _ (n : id ≡ 0x0000 → ⊥) where
-    pub second : (r : Given) (o : List ℕ) → barred (getD (h .links) c 0) id ≡ true → Writes e h (General c 103) r o → Answered′ r w k o
+    -- "2. Not initialised and not Init_Request: General_Response 103."
+    pub second : (r : Given) (o : List ℕ) → barred (getD (h .links) c 0) id ≡ true → Writes e h (General c 103) r o → Step r w k o
     unfolding answer
     second r o b g = by-answer _ r w k o (rw (ne-eqb id 0x0000 n, link-at (h .links) c, b)) (said h name w k f e (General c 103) r o g)
 
     module _ (b : barred (getD (h .links) c 0) id ≡ false) where
-      pub third : id ≡ 0x000D → Answered′ (record { head = h; len = 0 }) w k e
+      -- "3. ID 0x000D: no answer."
+      pub third : id ≡ 0x000D → Step (record { head = h; len = 0 }) w k e
       unfolding answer
       third z = by-answer _ _ w k e (rw (ne-eqb id 0x0000 n, link-at (h .links) c, b, eq-eqb id 0x000D z)) (silent h name w k f e)
 
-      -- t: the test of the list of four, turned round
-      pub fourth : (t : Bool) (r : Given) (o : List ℕ) → (id ≡ 0x000D → ⊥) → t ≡ isRead id → not t ≡ true → Writes e h (General c 120) r o → Answered′ r w k o
+      -- "4. ID not in the list of four: General_Response 120." t: whether it is
+      pub fourth : (t : Bool) (r : Given) (o : List ℕ) → (id ≡ 0x000D → ⊥) → t ≡ isRead id → not t ≡ true → Writes e h (General c 120) r o → Step r w k o
       unfolding answer
       fourth t r o m i j g =
           by-answer _ r w k o (rw (ne-eqb id 0x0000 n, link-at (h .links) c, b, ne-eqb id 0x000D m, ← i, j)) (said h name w k f e (General c 120) r o g)
 
+      -- a message of the list of four
       pub fifth : (t : Bool) (r : Given) (w′ k′ o : List ℕ) → (id ≡ 0x000D → ⊥) → t ≡ isRead id → not t ≡ false
-          → Gives e (answerRead c (read id d) d (view h name w k)) r name w′ k′ o → Answered′ r w′ k′ o
+          → Gives e (answerRead c (read id d) d (view h name w k)) r name w′ k′ o → Step r w′ k′ o
       unfolding answer
       fifth t r w′ k′ o m i j g = by-answer _ r w′ k′ o (rw (ne-eqb id 0x0000 n, link-at (h .links) c, b, ne-eqb id 0x000D m, ← i, j)) g
 

@@ -1,28 +1,25 @@
 -- Laws behind the checks of a request: what a search finds, the waiting with one start, the room that is left.
-use mathlib.Core.Path.{_≡_, refl, sym, ap, subst, _∙_}
+use mathlib.Core.Path.{_≡_, refl, sym, ap, _∙_}
 use mathlib.Core.Bool.{Bool, true, false, cond, not, _&&_, _||_}
 use mathlib.Core.List.{List, [], _∷_, _++_}
-use Prim.Native.Nat.{ℕ, zero, suc, _+_, _*_, _/_, _≤_, _<_}
+use Prim.Native.Nat.{ℕ, suc, _+_, _≤_, _<_}
 use native.Mathlib.Omega.{arith}
-use lib.Dec.{eqb, leb, ltb}
+use lib.Dec.{eqb}
 use lib.ListN.{length, getD, length-append, List·getD-eq-default, List·getD-append}
 use lib.Seq.{getD-append-add}
 use borrow.Author.Tests.{ltb-false, eqb-true, lt-ltb, le-ltb, eq-eqb, ne-eqb, le-leb, lt-leb}
 use Rattle.rules.specs.declared.Session.{Session}
-use Rattle.rules.specs.declared.Start.{Start}
-use Rattle.rules.specs.declared.Start.the-variants.{Timed, Linked}
 use Rattle.rules.specs.declared.Request.{Request}
 use Rattle.rules.specs.declared.Ninths.{Ninths}
 use Rattle.rules.specs.Units.{fromTicks}
-use Rattle.rules.specs.Reading.{separateService}
-use Rattle.rules.specs.Lists.{All, bit, some, count, place}
+use Rattle.rules.specs.Reading.{nobody, separateService}
+use Rattle.rules.specs.Lists.{All, some, place}
 use Rattle.rules.specs.State.{Queue, empty, of, is, startsAt, held, holds, Sorted}
 use Rattle.rules.specs.Instants.{outranks}
-use Rattle.rules.specs.Answers.{startOf, endOf, unknownPrior, wrongNumber, collides, waits, raised, raisedSum, full, spliceResult, sessionAt, priorOf, tooLate}
-use Rattle.rules.proofs.Tests.{clash}
+use Rattle.rules.specs.Answers.{endOf, unknownPrior, wrongNumber, collides, waits, raised, raisedSum, full, spliceResult, sessionAt, priorOf, tooLate}
 use Rattle.rules.proofs.All.{all-into}
-use Rattle.rules.proofs.Count.{count≤length, place-holds, place-none, some-place, some-none}
-use Rattle.rules.proofs.Every.{all-none, none-some, some-all}
+use Rattle.rules.proofs.Count.{count≤length, place-none, some-place}
+use Rattle.rules.proofs.Every.{all-none}
 use Rattle.places.specs.Places.{Lot, lot, Good, used}
 use Rattle.places.proofs.Words.{length-places}
 use Rattle.places.proofs.Laws.{length-used, used-at}
@@ -86,36 +83,50 @@ module _ (c x : ℕ) (w k : Lot) (g : Good w) (h : Good k) where
         let o : length (used k) ≡ k .len = length-used k h in
         rw (some-place (is c x) (held both), place-behind (is c x) (used w) (used k) (omega arith), le-ltb (length (used w) + place (is c x) (used k)) (length (used w ++ used k)) (simp length-append (omega arith)))
 
--- ## What is known of it
+-- ## What is known of what it finds
 
-module _ (c x : ℕ) (q : Queue) where
-  pub held-known : (s : Session) → Held s ≡ foundIn c x q → (holds c x q ≡ true) × (s ≡ getD (held q) (place (is c x) (held q)) empty)
+module _ (c x : ℕ) (q : Queue) (f : Found) (e : f ≡ foundIn c x q) where
+  held-known : (s : Session) → f ≡ Held s → (true ≡ holds c x q) × (s ≡ getD (held q) (place (is c x) (held q)) empty)
   unfolding foundIn
-  held-known s = go (holds c x q)
+  held-known s h = go (holds c x q) e
     where
-      go : (b : Bool) → Held s ≡ cond b (Held (getD (held q) (place (is c x) (held q)) empty)) Missing → (b ≡ true) × (s ≡ getD (held q) (place (is c x) (held q)) empty)
-      go true e = (refl, cc)
-      go false e = let z : _≡_ {A = ℕ} 0 1 = cc in absurd (omega arith)
+      go : (b : Bool) → f ≡ cond b (Held (getD (held q) (place (is c x) (held q)) empty)) Missing → (true ≡ b) × (s ≡ getD (held q) (place (is c x) (held q)) empty)
+      go true d = (refl, cc)
+      go false d = let z : _≡_ {A = ℕ} 0 1 = cc in absurd (omega arith)
 
-  pub missing-known : Missing ≡ foundIn c x q → holds c x q ≡ false
+  pub held-true : (s : Session) → f ≡ Held s → true ≡ holds c x q
+  held-true s h = held-known s h .0
+
+  pub missing-false : f ≡ Missing → false ≡ holds c x q
   unfolding foundIn
-  missing-known = go (holds c x q)
+  missing-false h = go (holds c x q) e
     where
-      go : (b : Bool) → Missing ≡ cond b (Held (getD (held q) (place (is c x) (held q)) empty)) Missing → b ≡ false
-      go true e = let z : _≡_ {A = ℕ} 0 1 = cc in absurd (omega arith)
-      go false e = refl
+      go : (b : Bool) → f ≡ cond b (Held (getD (held q) (place (is c x) (held q)) empty)) Missing → false ≡ b
+      go true d = let z : _≡_ {A = ℕ} 0 1 = cc in absurd (omega arith)
+      go false d = refl
 
-  pub held-end : (s : Session) → Held s ≡ foundIn c x q → s .end .0 ≡ endOf c x (held q)
-  held-end s e = ap (λ (t : Session). t .end .0) (held-known s e .1)
+  -- a linked start
+  pub held-end : (s : Session) → f ≡ Held s → s .end .0 ≡ endOf c x (held q)
+  held-end s h = ap (λ (t : Session). t .end .0) (held-known s h .1)
 
-  pub missing-end : Missing ≡ foundIn c x q → 0 ≡ endOf c x (held q)
+  pub missing-end : f ≡ Missing → 0 ≡ endOf c x (held q)
   unfolding empty
-  missing-end e =
-      let n : length (held q) ≤ place (is c x) (held q) = omega (arith, ltb-false′ (sym (some-place (is c x) (held q)) ∙ missing-known e)) in
+  missing-end h =
+      let n : length (held q) ≤ place (is c x) (held q) = ltb-false _ _ (sym (missing-false h ∙ some-place (is c x) (held q))) in
       sym (ap (λ (t : Session). t .end .0) (List·getD-eq-default (held q) empty n))
-    where
-      ltb-false′ : ltb (place (is c x) (held q)) (length (held q)) ≡ false → length (held q) ≤ place (is c x) (held q)
-      ltb-false′ f = ltb-false _ _ f
+
+-- ## b. The three reasons
+
+module _ (c : ℕ) (r : Request) (q : Queue) where
+  pub wrong-nobody : r .id ≡ nobody → true ≡ wrongNumber c r q
+  wrong-nobody h = rw (eq-eqb (r .id) nobody h)
+
+  module _ (somebody : r .id ≡ nobody → ⊥) (b : Bool) (f : b ≡ holds c (r .id) q) where
+    pub wrong-held : b ≡ true → true ≡ wrongNumber c r q
+    wrong-held h = rw (ne-eqb (r .id) nobody somebody, ← f, h)
+
+    pub wrong-prior : (u : Bool) → b ≡ false → u ≡ unknownPrior c (r .start) q → u ≡ wrongNumber c r q
+    wrong-prior u h g = rw (ne-eqb (r .id) nobody somebody, ← f, h) g
 
 -- ## d. No two that wait start together, so the first with the start decides
 
@@ -154,11 +165,11 @@ module _ (new : Session) (w : Lot) (g : Good w) (i : ℕ) (f : i ≡ place (star
       let n : length (used w) ≡ w .len = length-used w g in
       sym (start-none (λ s. not (outranks new s)) (new .start .0) (used w) (omega arith))
 
-  pub collides-at : (old : Session) (b : Bool) → Sorted (used w) → i < w .len → old ≡ getD (w .items) i empty → outranks new old ≡ b → not b ≡ collides new (used w)
+  pub collides-at : (old : Session) (b : Bool) → Sorted (used w) → i < w .len → old ≡ getD (w .items) i empty → b ≡ outranks new old → not b ≡ collides new (used w)
   unfolding collides
   collides-at old b o h e r =
       let n : length (used w) ≡ w .len = length-used w g in
-      ap not (sym r)
+      ap not r
       ∙ ap (λ (s : Session). not (outranks new s)) (e ∙ used-at w i empty h ∙ ap (λ (j : ℕ). getD (used w) j empty) f)
       ∙ sym (start-at (λ s. not (outranks new s)) (new .start .0) (used w) o (omega arith))
 

@@ -1,13 +1,13 @@
 -- Laws behind eviction, acceptance, abort and the two answers: what each piece of work promises, from what its parts promise.
 use mathlib.Core.Path.{_≡_, refl, sym, ap, ap₂, subst, _∙_}
 use mathlib.Core.Bool.{Bool, true, false, cond, _&&_}
-use mathlib.Core.List.{List, [], _∷_, _++_, map}
+use mathlib.Core.List.{List, [], _∷_, map}
 use Prim.Native.Nat.{ℕ, zero, suc, _+_, _-_, _*_, _/_, _≤_, _<_}
 use native.Mathlib.Omega.{arith}
 use native.Mathlib.Nat.{zero-add}
 use native.Mathlib.Numerals.{one-add}
 use lib.Dec.{eqb, leb, ltb}
-use lib.ListN.{length, getD, length-append}
+use lib.ListN.{length, getD, length-append, drop-of-length-le}
 use borrow.Author.Tests.{lt-ltb, le-ltb, eq-eqb, ne-eqb, eqb-true, eqb-false, leb-true, leb-false, le-leb}
 use borrow.Rule.Slice.PartMut.{putMid, midOf}
 use Rattle.rules.specs.declared.Session.{Session}
@@ -15,29 +15,29 @@ use Rattle.rules.specs.declared.Start.{Start}
 use Rattle.rules.specs.declared.Start.the-variants.{Timed, Linked}
 use Rattle.rules.specs.declared.Request.{Request}
 use Rattle.rules.specs.Lists.{All, bit, put, keep, omit, place, removeAt}
-use Rattle.rules.specs.State.{Queue, empty, of, is, startsAt, holds, withWaiting}
+use Rattle.rules.specs.State.{Queue, empty, is, startsAt, holds, withWaiting}
 use Rattle.rules.specs.Bytes.{written}
 use Rattle.rules.specs.Records.{Record, SpliceResponse, AbortResponse, recordBytes, output}
-use Rattle.rules.specs.Ends.{Turn, quiet, andThen, writes, Walk, response, spliceOut, endings, followers, dismissed, evictedAt, evicted, cancelled, aborted}
+use Rattle.rules.specs.Ends.{Turn, quiet, andThen, writes, response, endings, followers, dismissed, evictedAt, evicted, cancelled, aborted}
 use Rattle.rules.specs.Answers.{startOf, sessionAt, requested, waits, raised, raisedSum, full, spliceResult, inserted, accepted, answerSplice, answerAbort}
-use Rattle.rules.specs.Sound.{Each, Proper, Room, horizon, Holding}
+use Rattle.rules.specs.Sound.{Proper, Room, horizon, Holding}
 use Rattle.rules.proofs.Tests.{or-none}
 use Rattle.rules.proofs.All.{all-into}
 use Rattle.rules.proofs.Checks.{passed-all}
 use Rattle.rules.proofs.Readings.{Within}
 use Rattle.rules.proofs.Records.{length-record}
-use Rattle.rules.proofs.Written.{written-none, written-more, length-written, written-record, written-output, output-append, output-one}
+use Rattle.rules.proofs.Written.{written-none, written-more, length-written, written-record, written-output}
 use Rattle.rules.proofs.Room.{sixty-four}
-use Rattle.rules.proofs.Size.{Lean, weight-append, weight-one, evicted-lean, cancelled-lean}
+use Rattle.rules.proofs.Size.{weight-append, weight-one, evicted-lean, cancelled-lean}
 use Rattle.rules.proofs.Bounds.{never, start-early}
 use Rattle.rules.proofs.Sound.{early}
-use Rattle.places.specs.Places.{Lot, lot, Good, Made, used}
+use Rattle.places.specs.Places.{Lot, lot, Good, Made, used, spare}
 use Rattle.places.proofs.Words.{length-places}
 use Rattle.places.proofs.Laws.{length-used, used-at}
 use Rattle.ends.specs.declared.Counts.{Counts}
 use Rattle.ends.specs.declared.Ending.the-variants.{Complete, Response}
-use Rattle.ends.specs.Does.{Playable, endingOf, Ends, queueOf, Turns}
-use Rattle.ends.proofs.Laws.{brief-ending, room-endings, turns-writes, ends-waiting, turns-then}
+use Rattle.ends.specs.Does.{endingOf, Ends, queueOf, Turns}
+use Rattle.ends.proofs.Laws.{brief-ending, room-endings, turns-writes, ends-waiting, turns-then, ends-same, turns-same}
 use Rattle.requests.specs.Found.{alone}
 
 -- as many are used as there are places at most
@@ -310,3 +310,19 @@ module _ (c x : ℕ) (e : List ℕ) (w k : List ℕ) (n m : ℕ) (g : Good (lot 
       (omega (arith, weight-one y tt)) (wrote 100 o a)
       (turns-then o 14 (cancelled (is c x) held) (dismissed 116 c x) w′ k′ w″ k′ r done o′ o″
       (omega (arith, t .count, cancel-spends (is c x) o 14 w k n m g h w′ k′ r o′ t .1, used-fits w n g, used-fits k m h)) t dismissing))
+
+-- ## Any two results of one promise are equal, word for word: 64 and 10 places leave no spare words
+
+spare-none : (q : List ℕ) (n : ℕ) → length q ≡ n * 8 → spare q ≡ []
+spare-none q n e = drop-of-length-le q {i = length q / 8 * 8} (omega arith)
+
+module _ (e : List ℕ) (len : ℕ) (w w′ : List ℕ) (o o′ : List ℕ) (h : length w ≡ 512) (h′ : length w′ ≡ 512) where
+  same-spare : spare w ≡ spare w′
+  same-spare = spare-none w 64 h ∙ sym (spare-none w′ 64 h′)
+
+  pub ends-determined : (l : List Session) (rs : List Record) (n n′ to to′ : ℕ) → Ends e len l rs (lot w n) to o → Ends e len l rs (lot w′ n′) to′ o′ → (w ≡ w′) × (n ≡ n′) × (to ≡ to′) × (o ≡ o′)
+  ends-determined l rs n n′ to to′ a b = ends-same e len l rs w w′ n n′ to to′ o o′ (h ∙ sym h′) same-spare a b
+
+  pub turns-determined : (t : Turn) (k k′ : List ℕ) (r r′ : Counts) → length k ≡ 80 → length k′ ≡ 80 → Turns e len t w k r o → Turns e len t w′ k′ r′ o′ → (w ≡ w′) × (k ≡ k′) × (r ≡ r′) × (o ≡ o′)
+  turns-determined t k k′ r r′ i i′ a b =
+      turns-same e len t w k w′ k′ r r′ o o′ (h ∙ sym h′) same-spare (i ∙ sym i′) (spare-none k 10 i ∙ sym (spare-none k′ 10 i′)) a b

@@ -215,10 +215,7 @@ pub fn does_collide(new: Session, w: &[u64], waiting: usize) -> bool
     let i = places::find(w, waiting, Key::StartsAt(t));
     if i < waiting {
         let old = places::load(w, i);
-        if places::outranks(new, old) {
-            return false;
-        }
-        return true;
+        return !places::outranks(new, old);
     }
     false
 }
@@ -362,24 +359,10 @@ pub fn cancel(
     requires { ⌜ len + 23 * (waiting + started) ≤ length (now out) ⌝ }
     ensures { λ c. ⌜ Turns (now (out .entry)) len (cancelled (keyTest whom) (queueOf (now (w .entry)) waiting (now (k .entry)) started)) (now (w .exit)) (now (k .exit)) c (now (out .exit)) ⌝ }
 {
-    let a = ends::end_those(
-        &mut *k,
-        started,
-        whom,
-        Ending::Complete(116),
-        Ending::Response(116),
-        &mut *out,
-        len,
-    );
-    let b = ends::end_those(
-        &mut *w,
-        waiting,
-        whom,
-        Ending::Response(116),
-        Ending::Response(116),
-        &mut *out,
-        a.len,
-    );
+    let on_air = Ending::Complete(116);
+    let other = Ending::Response(116);
+    let a = ends::end_those(&mut *k, started, whom, on_air, other, &mut *out, len);
+    let b = ends::end_those(&mut *w, waiting, whom, other, other, &mut *out, a.len);
     Counts {
         waiting: b.left,
         started: a.left,
@@ -415,15 +398,8 @@ pub fn answer_abort(
         };
     }
     writing::abort_response(&mut *out, conn, 100, id);
-    let c = cancel(
-        Key::Held(conn, id),
-        &mut *w,
-        waiting,
-        &mut *k,
-        started,
-        &mut *out,
-        14,
-    );
+    let whom = Key::Held(conn, id);
+    let c = cancel(whom, &mut *w, waiting, &mut *k, started, &mut *out, 14);
     let e = ends::dismiss(&mut *w, c.waiting, 116, conn, id, &mut *out, c.len);
     Counts {
         waiting: e.left,

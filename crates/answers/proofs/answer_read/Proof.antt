@@ -1,11 +1,12 @@
--- The message that was read decides; each part promises its record or its turn (`reads-init` to `reads-unreadable`).
+-- The message that was read decides; each part promises its record or its turn (`reads-init`, `reads-one`, `reads-turn`).
 use mathlib.Core.Path.{refl, sym, _∙_}
 use native.Mathlib.Omega.{arith}
 use Rattle.rules.specs.Bytes.{Byte}
+use Rattle.rules.specs.Answers.{answerRead, aliveResponse}
 use Rattle.rules.proofs.All.{all-at}
 use Rattle.rules.proofs.Readings.{splice-grants}
 use Rattle.reading.proofs.Laws.{init-length}
-use Rattle.answers.proofs.Laws.{stored-length, reads-init, reads-alive, reads-splice, reads-abort, reads-unreadable, waiting-playable, started-playable}
+use Rattle.answers.proofs.Laws.{stored-length, reads-init, reads-one, reads-turn, waiting-playable, started-playable}
 use borrow.Author.Needs.{needs}
 use Rattle.answers.proofs.answer_read.Statement.{statement}
 use Rattle.answers.proofs.answer_read.Tie as tie
@@ -76,8 +77,9 @@ same-length-3 : tie.Need-same-length-3
 same-length-3 c = search needs
 
 returns-2 : tie.Need-returns-2
+unfolding answerRead aliveResponse
 returns-2 c = let s = c .before .before .before .before .before .before .before .before .before .before .before .before .before .before in
-    reads-alive (s .args .h) (s .args .name .now) (s .args .w .now) (s .args .k .now) (s .pre .0) (s .args .out .now) (s .args .conn) (s .args .id) (s .args .d .now) _ _ (sym (c .before .before .before .before .before .before .before .before .read .ensures) ∙ c .before .before .before .before .before .enum-told .given .1) (c .before .before .answer-alive .ensures)
+    reads-one (s .args .h) (s .args .name .now) (s .args .w .now) (s .args .k .now) (s .pre .0) (s .args .out .now) (s .args .conn) (s .args .id) (s .args .d .now) _ _ _ _ (sym (c .before .before .before .before .before .before .before .before .read .ensures) ∙ c .before .before .before .before .before .enum-told .given .1) refl (c .before .before .answer-alive .ensures)
 
 same-length-4 : tie.Need-same-length-4
 same-length-4 c = search needs
@@ -89,9 +91,10 @@ same-length-6 : tie.Need-same-length-6
 same-length-6 c = search needs
 
 returns-3 : tie.Need-returns-3
+unfolding answerRead
 returns-3 c = let s = c .before .before .before .before .before .before .before .before .before .before .before .before .before .before .before .before .before .before .before in
     let x = c .before .before .before .before .before .answer-splice in
-    reads-splice (s .args .h) (s .args .name .now) (s .args .w .now) (s .args .k .now) (s .pre .0) (s .args .out .now) (s .args .conn) (s .args .id) (s .args .d .now) _ _ (c .counted .ensures) _ _ _ (x .kept .1 .1 .1 .0) refl _ (sym (c .before .before .before .before .before .before .before .before .before .before .before .before .before .read .ensures) ∙ c .before .before .before .before .before .before .before .before .before .before .m2 .given .1) (x .ensures)
+    reads-turn (s .args .h) (s .args .name .now) (s .args .w .now) (s .args .k .now) (s .pre .0) (s .args .out .now) (s .args .conn) (s .args .id) (s .args .d .now) _ _ _ _ _ _ _ (sym (c .before .before .before .before .before .before .before .before .before .before .before .before .before .read .ensures) ∙ c .before .before .before .before .before .before .before .before .before .before .m2 .given .1) refl (c .counted .ensures) (x .kept .1 .1 .1 .0) refl (x .ensures)
 
 same-length-7 : tie.Need-same-length-7
 same-length-7 c = search needs
@@ -103,16 +106,18 @@ same-length-9 : tie.Need-same-length-9
 same-length-9 c = search needs
 
 returns-4 : tie.Need-returns-4
+unfolding answerRead
 returns-4 c = let s = c .before .before .before .before .before .before .before .before .before .before .before .before .before .before .before .before .before .before .before .before .before in
     let x = c .before .before .before .before .before .before .before .answer-abort in
-    reads-abort (s .args .h) (s .args .name .now) (s .args .w .now) (s .args .k .now) (s .pre .0) (s .args .out .now) (s .args .conn) (s .args .id) (s .args .d .now) _ _ (c .counted2 .ensures) _ _ _ (x .kept .1 .1 .0) (x .kept .1 .1 .1 .1 .0) _ (sym (c .before .before .before .before .before .before .before .before .before .before .before .before .before .before .before .read .ensures) ∙ c .before .before .before .before .before .before .before .before .before .before .before .before .m3 .given .1) (x .ensures)
+    reads-turn (s .args .h) (s .args .name .now) (s .args .w .now) (s .args .k .now) (s .pre .0) (s .args .out .now) (s .args .conn) (s .args .id) (s .args .d .now) _ _ _ _ _ _ _ (sym (c .before .before .before .before .before .before .before .before .before .before .before .before .before .before .before .read .ensures) ∙ c .before .before .before .before .before .before .before .before .before .before .before .before .m3 .given .1) refl (c .counted2 .ensures) (x .kept .1 .1 .0) (x .kept .1 .1 .1 .1 .0) (x .ensures)
 
 same-length-10 : tie.Need-same-length-10
 same-length-10 c = search needs
 
 returns-5 : tie.Need-returns-5
+unfolding answerRead
 returns-5 c = let s = c .before .before .before .before .before .before .before .before .before .before .before .before .before in
-    reads-unreadable (s .args .h) (s .args .name .now) (s .args .w .now) (s .args .k .now) (s .pre .0) (s .args .out .now) (s .args .conn) (s .args .id) (s .args .d .now) _ _ (sym (c .before .before .before .before .before .before .before .read .ensures) ∙ c .before .before .before .before .enum-told2 .given .1) (c .before .before .general .ensures)
+    reads-one (s .args .h) (s .args .name .now) (s .args .w .now) (s .args .k .now) (s .pre .0) (s .args .out .now) (s .args .conn) (s .args .id) (s .args .d .now) _ _ _ _ (sym (c .before .before .before .before .before .before .before .read .ensures) ∙ c .before .before .before .before .enum-told2 .given .1) refl (c .before .before .general .ensures)
 
 pub answer-read-spec : {M : Type 1} → statement M
 answer-read-spec =

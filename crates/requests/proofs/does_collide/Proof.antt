@@ -1,6 +1,4 @@
 -- The first with the same start is the only one.
-use mathlib.Core.Bool.{true, false}
-use mathlib.Core.Path.{sym, _∙_}
 use Rattle.places.specs.Places.{lot}
 use Rattle.places.proofs.Laws.{within}
 use Rattle.requests.proofs.Laws.{collides-none, collides-at}
@@ -19,19 +17,14 @@ outranks-requires c κs = search needs
 
 returns : tie.Need-returns
 returns c =
-    let s = c .before .before .before .before .before .before .before in
-    collides-at (s .args .new) (lot (s .args .w .now) (s .args .waiting)) (s .pre .0) (c .before .before .before .before .find .result) (c .before .before .before .before .find .ensures) _ true (s .pre .1) (c .before .before .before .if1 .taken) (c .before .before .load .ensures) (sym (c .before .outranks .ensures) ∙ c .if2 .taken)
+    let s = c .before .before .before .before .before .before in
+    collides-at (s .args .new) (lot (s .args .w .now) (s .args .waiting)) (s .pre .0) (c .before .before .before .find .result) (c .before .before .before .find .ensures) (c .before .load .result) (c .outranks .result) (s .pre .1) (c .before .before .if1 .taken) (c .before .load .ensures) (c .outranks .ensures)
 
 returns-2 : tie.Need-returns-2
 returns-2 c =
-    let s = c .before .before .before .before .before .before .before in
-    collides-at (s .args .new) (lot (s .args .w .now) (s .args .waiting)) (s .pre .0) (c .before .before .before .before .find .result) (c .before .before .before .before .find .ensures) _ false (s .pre .1) (c .before .before .before .if1 .taken) (c .before .before .load .ensures) (sym (c .before .outranks .ensures) ∙ c .if2 .left)
-
-returns-3 : tie.Need-returns-3
-returns-3 c =
     let s = c .before .before .before .before in
     collides-none (s .args .new) (lot (s .args .w .now) (s .args .waiting)) (s .pre .0) (c .before .find .result) (c .before .find .ensures) (c .if1 .left)
 
 pub does-collide-spec : {M : Type 1} → statement M
 does-collide-spec =
-    tie.close (tie.spec find-requires load-requires outranks-requires returns returns-2 returns-3)
+    tie.close (tie.spec find-requires load-requires outranks-requires returns returns-2)

@@ -1,6 +1,6 @@
 -- Timed or linked, and whether the number is held.
 use mathlib.Core.Bool.{not}
-use mathlib.Core.Path.{sym, ap, _∙_}
+use mathlib.Core.Path.{ap}
 use Rattle.rules.specs.Answers.{unknownPrior}
 use borrow.Author.Needs.{needs}
 use Rattle.requests.proofs.is_unknown_prior.Statement.{statement}

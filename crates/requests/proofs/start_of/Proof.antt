@@ -1,5 +1,5 @@
 -- A timed start is the request's time; what the search finds gives a linked one.
-use mathlib.Core.Path.{sym, ap, subst, _∙_}
+use mathlib.Core.Path.{ap, subst}
 use native.Mathlib.Omega.{arith}
 use Rattle.rules.specs.Answers.{startOf}
 use Rattle.rules.proofs.Readings.{Within}
@@ -38,13 +38,13 @@ returns-2 : tie.Need-returns-2
 unfolding startOf
 returns-2 c =
     let s = c .before .before .before .before .before .before .before .before .before .before in
-    rw (c .before .before .before .before .before .before .start2 .given .1) (held-end (s .args .conn) _ (queueOf (s .args .w .now) (s .args .waiting) (s .args .k .now) (s .args .started)) _ (sym (c .before .before .found .given .1) ∙ c .before .before .before .before .find-held .ensures))
+    rw (c .before .before .before .before .before .before .start2 .given .1) (held-end (s .args .conn) _ (queueOf (s .args .w .now) (s .args .waiting) (s .args .k .now) (s .args .started)) (c .before .before .before .before .find-held .result) (c .before .before .before .before .find-held .ensures) _ (c .before .before .found .given .1))
 
 returns-3 : tie.Need-returns-3
 unfolding startOf
 returns-3 c =
     let s = c .before .before .before .before .before .before .before .before in
-    rw (c .before .before .before .before .start2 .given .1) (missing-end (s .args .conn) _ (queueOf (s .args .w .now) (s .args .waiting) (s .args .k .now) (s .args .started)) (sym (c .enum-told .given .1) ∙ c .before .before .find-held .ensures))
+    rw (c .before .before .before .before .start2 .given .1) (missing-end (s .args .conn) _ (queueOf (s .args .w .now) (s .args .waiting) (s .args .k .now) (s .args .started)) (c .before .before .find-held .result) (c .before .before .find-held .ensures) (c .enum-told .given .1))
 
 pub start-of-spec : {M : Type 1} → statement M
 start-of-spec =

@@ -1,0 +1,278 @@
+-- Each arm is its call of the engine and what is written behind it; the record says how many bytes it took.
+use mathlib.Core.Path.{_≡_, refl, subst}
+use mathlib.Core.Bool.{true}
+use Prim.Native.Nat.{_+_, _-_}
+use native.Mathlib.Omega.{arith}
+use lib.ListN.{take, drop}
+use Rattle.rules.specs.Bytes.{part}
+use Rattle.rules.specs.Calls.{opens, closes, messages, ticks, call, openCall}
+use Rattle.rules.specs.Card.{cardRoom}
+use Rattle.answers.specs.View.{view}
+use Rattle.feed.specs.Feed.{nextOf, usedBy, isCut}
+use Rattle.feed.specs.Play.{madeBy, stepBy, Plays}
+use Rattle.feed.proofs.Plays.{ended-plays, open-silent, made-plays, plays-as, message-plays, used-within, stopped-plays}
+use borrow.Author.Needs.{needs}
+use Rattle.feed.proofs.playing.play.Statement.{statement}
+use Rattle.feed.proofs.playing.play.Tie as tie
+use Rattle.feed.proofs.playing.play.Reads as reads
+use Rattle.feed.proofs.playing.play.Lts as lts
+use Rattle.engine.proofs.close.Reads as close-reads
+use Rattle.engine.proofs.message.Reads as message-reads
+use Rattle.engine.proofs.open.Reads as open-reads
+use Rattle.engine.proofs.tick.Reads as tick-reads
+use Rattle.feed.proofs.playing.ended.Reads as ended-reads
+use Rattle.feed.proofs.playing.stopped.Reads as stopped-reads
+
+enum-known-r : tie.Need-enum-known-r
+enum-known-r c = search needs
+
+cast-open : tie.Need-cast-open
+cast-open c = search needs
+
+open-requires : tie.Need-open-requires
+open-requires c κs = search needs
+
+ended-requires : tie.Need-ended-requires
+ended-requires c κs = search needs
+
+enum-known-r-2 : tie.Need-enum-known-r-2
+enum-known-r-2 c = search needs
+
+cast-close : tie.Need-cast-close
+cast-close c = search needs
+
+close-requires : tie.Need-close-requires
+close-requires c κs = search needs
+
+ended-requires-2 : tie.Need-ended-requires-2
+ended-requires-2 c κs = search needs
+
+enum-known-r-3 : tie.Need-enum-known-r-3
+enum-known-r-3 c = search needs
+
+cast-end : tie.Need-cast-end
+cast-end c = search needs
+
+add-end : tie.Need-add-end
+add-end c = search needs
+
+cast-message : tie.Need-cast-message
+cast-message c = search needs
+
+sub-message : tie.Need-sub-message
+sub-message c = search needs
+
+part-message-start : tie.Need-part-message-start
+part-message-start c = search needs
+
+part-message-end : tie.Need-part-message-end
+unfolding usedBy
+part-message-end c = omega (arith, used-within (c .before .before .before .before .before .before .before .before .before .before .args .l .now) (c .before .before .before .before .before .before .before .before .before .before .pre .1 .0) (c .before .before .before .r3 .given .1))
+
+message-requires : tie.Need-message-requires
+message-requires c κs = search needs
+
+ended-requires-3 : tie.Need-ended-requires-3
+ended-requires-3 c κs = omega (arith, c .before .before .before .before .before .before .before .before .before .before .before .before .before .before .before .before .before .before .before .before .pre .1 .1, c .before .before .before .before .before .before .before .message .kept .1 .1 .1 .1 .1 .1 .0)
+
+enum-known-r-4 : tie.Need-enum-known-r-4
+enum-known-r-4 c = search needs
+
+cast-message-2 : tie.Need-cast-message-2
+cast-message-2 c = search needs
+
+sub-message-2 : tie.Need-sub-message-2
+sub-message-2 c = search needs
+
+part-message-start-2 : tie.Need-part-message-start-2
+part-message-start-2 c = search needs
+
+part-message-end-2 : tie.Need-part-message-end-2
+unfolding usedBy
+part-message-end-2 c = omega (arith, used-within (c .before .before .before .before .before .before .before .before .before .before .args .l .now) (c .before .before .before .before .before .before .before .before .before .before .pre .1 .0) (c .before .before .before .r4 .given .1))
+
+message-requires-2 : tie.Need-message-requires-2
+message-requires-2 c κs = search needs
+
+ended-requires-4 : tie.Need-ended-requires-4
+ended-requires-4 c κs = omega (arith, c .before .before .before .before .before .before .before .before .before .before .before .before .before .before .before .before .before .before .before .before .pre .1 .1, c .before .before .before .before .before .before .before .message2 .kept .1 .1 .1 .1 .1 .1 .0)
+
+enum-known-r-5 : tie.Need-enum-known-r-5
+enum-known-r-5 c = search needs
+
+tick-requires : tie.Need-tick-requires
+tick-requires c κs = search needs
+
+ended-requires-5 : tie.Need-ended-requires-5
+ended-requires-5 c κs = omega (arith, c .before .before .before .before .before .before .before .before .before .before .before .before .before .before .before .before .before .before .before .pre .1 .1, c .before .before .before .before .before .before .before .tick .kept .1 .1 .1 .1 .1 .1 .0)
+
+enum-told : tie.Need-enum-told
+enum-told c = search needs
+
+stopped-requires : tie.Need-stopped-requires
+stopped-requires c κs = search needs
+
+enum-told-2 : tie.Need-enum-told-2
+enum-told-2 c = search needs
+
+stopped-requires-2 : tie.Need-stopped-requires-2
+stopped-requires-2 c κs = search needs
+
+same-length : tie.Need-same-length
+same-length c = search needs
+
+same-length-2 : tie.Need-same-length-2
+same-length-2 c = search needs
+
+same-length-3 : tie.Need-same-length-3
+same-length-3 c = search needs
+
+returns : tie.Need-returns
+unfolding usedBy isCut nextOf stepBy call
+returns c =
+    let a = c .before .before .before .before .before .before .before .before .before .before .before .before .before .before .before .args in
+    let s = view (a .h) (a .name .now) (a .w .now) (a .k .now) in
+    plays-as (a .l .now) s (c .before .before .before .before .before .before .before .before .before .before .before .before .before .before .before .pre .1 .0) (c .before .before .before .before .before .before .before .before .r .given .1) (ended-plays (openCall _ s) _ _ _ _ _ _ _ _ _ _ (c .before .before .before .before .«open» .ensures) (open-silent _ s (a .out .now)) (c .before .before .ended .ensures))
+
+same-length-4 : tie.Need-same-length-4
+same-length-4 c = search needs
+
+same-length-5 : tie.Need-same-length-5
+same-length-5 c = search needs
+
+same-length-6 : tie.Need-same-length-6
+same-length-6 c = search needs
+
+returns-2 : tie.Need-returns-2
+unfolding usedBy isCut nextOf stepBy call
+returns-2 c =
+    let a = c .before .before .before .before .before .before .before .before .before .before .before .before .before .before .before .before .before .before .before .before .before .before .args in
+    let s = view (a .h) (a .name .now) (a .w .now) (a .k .now) in
+    plays-as (a .l .now) s (c .before .before .before .before .before .before .before .before .before .before .before .before .before .before .before .before .before .before .before .before .before .before .pre .1 .0) (c .before .before .before .before .before .before .before .before .before .before .before .before .before .before .before .r2 .given .1) (made-plays (λ n. closes (c .before .before .before .before .before .before .before .before .before .before .before .before .before .before .before .r2 .given .0 .0) n) s (c .before .before .before .before .before .before .before .before .before .before .before .before .before .before .before .before .before .before .before .before .before .before .pre .1 .1) (c .before .before .before .before .before .before .before .before .before .before .close .ensures .0) (c .before .before .before .before .before .before .before .before .before .before .close .ensures .1) (c .before .before .ended2 .ensures))
+
+same-length-7 : tie.Need-same-length-7
+same-length-7 c = search needs
+
+same-length-8 : tie.Need-same-length-8
+same-length-8 c = search needs
+
+same-length-9 : tie.Need-same-length-9
+same-length-9 c = search needs
+
+returns-3 : tie.Need-returns-3
+unfolding call
+returns-3 c =
+    let a = c .before .before .before .before .before .before .before .before .before .before .before .before .before .before .before .before .before .before .before .before .before .before .before .args in
+    let l = a .l .now in
+    let s = view (a .h) (a .name .now) (a .w .now) (a .k .now) in
+    let x = c .before .before .before .before .before .before .before .before .before .before .before .before .before .before .before .before .r3 .given .0 in
+    plays-as l s (c .before .before .before .before .before .before .before .before .before .before .before .before .before .before .before .before .before .before .before .before .before .before .before .pre .1 .0) (c .before .before .before .before .before .before .before .before .before .before .before .before .before .before .before .before .r3 .given .1)
+    (message-plays (x .0) (x .1 .0) l s
+    (made-plays (λ n. messages (x .0) (part 2 (10 + x .1 .0 - 2) l) n) s (c .before .before .before .before .before .before .before .before .before .before .before .before .before .before .before .before .before .before .before .before .before .before .before .pre .1 .1) (c .before .before .before .before .before .before .before .before .before .before .message .ensures .0) (c .before .before .before .before .before .before .before .before .before .before .message .ensures .1) (c .before .before .ended3 .ensures)))
+
+same-length-10 : tie.Need-same-length-10
+same-length-10 c = search needs
+
+same-length-11 : tie.Need-same-length-11
+same-length-11 c = search needs
+
+same-length-12 : tie.Need-same-length-12
+same-length-12 c = search needs
+
+returns-4 : tie.Need-returns-4
+unfolding usedBy isCut nextOf stepBy call
+returns-4 c =
+    let a = c .before .before .before .before .before .before .before .before .before .before .before .before .before .before .before .before .before .before .before .before .before .before .before .args in
+    let l = a .l .now in
+    let s = view (a .h) (a .name .now) (a .w .now) (a .k .now) in
+    plays-as l s (c .before .before .before .before .before .before .before .before .before .before .before .before .before .before .before .before .before .before .before .before .before .before .before .pre .1 .0) (c .before .before .before .before .before .before .before .before .before .before .before .before .before .before .before .before .r4 .given .1)
+    (made-plays (λ n. messages (c .before .before .before .before .before .before .before .before .before .before .before .before .before .before .before .before .r4 .given .0 .0) (part 2 8 l) n) s (c .before .before .before .before .before .before .before .before .before .before .before .before .before .before .before .before .before .before .before .before .before .before .before .pre .1 .1) (c .before .before .before .before .before .before .before .before .before .before .message2 .ensures .0) (c .before .before .before .before .before .before .before .before .before .before .message2 .ensures .1) (c .before .before .ended4 .ensures))
+
+same-length-13 : tie.Need-same-length-13
+same-length-13 c = search needs
+
+same-length-14 : tie.Need-same-length-14
+same-length-14 c = search needs
+
+same-length-15 : tie.Need-same-length-15
+same-length-15 c = search needs
+
+returns-5 : tie.Need-returns-5
+unfolding usedBy isCut nextOf stepBy call
+returns-5 c =
+    let a = c .before .before .before .before .before .before .before .before .before .before .before .before .before .before .before .before .before .before .before .before .before .before .args in
+    let s = view (a .h) (a .name .now) (a .w .now) (a .k .now) in
+    let x = c .before .before .before .before .before .before .before .before .before .before .before .before .before .before .before .r5 .given .0 in
+    plays-as (a .l .now) s (c .before .before .before .before .before .before .before .before .before .before .before .before .before .before .before .before .before .before .before .before .before .before .pre .1 .0) (c .before .before .before .before .before .before .before .before .before .before .before .before .before .before .before .r5 .given .1) (made-plays (λ n. ticks (x .0) (x .1 .0) n) s (c .before .before .before .before .before .before .before .before .before .before .before .before .before .before .before .before .before .before .before .before .before .before .pre .1 .1) (c .before .before .before .before .before .before .before .before .before .before .tick .ensures .0) (c .before .before .before .before .before .before .before .before .before .before .tick .ensures .1) (c .before .before .ended5 .ensures))
+
+returns-6 : tie.Need-returns-6
+unfolding usedBy isCut nextOf stepBy
+returns-6 c =
+    let a = c .before .before .before .before .before .before .before .before .args in
+    let s = view (a .h) (a .name .now) (a .w .now) (a .k .now) in
+    plays-as (a .l .now) s (c .before .before .before .before .before .before .before .before .pre .1 .0) (c .before .enum-told .given .1) (rw (c .stopped .ensures) (stopped-plays (a .h) _ _ _ _ (a .out .now) (c .before .before .before .before .before .before .before .before .pre .0)))
+
+returns-7 : tie.Need-returns-7
+unfolding usedBy isCut nextOf stepBy
+returns-7 c =
+    let a = c .before .before .before .before .before .before .before .before .args in
+    let s = view (a .h) (a .name .now) (a .w .now) (a .k .now) in
+    plays-as (a .l .now) s (c .before .before .before .before .before .before .before .before .pre .1 .0) (c .before .enum-told2 .given .1) (rw (c .stopped2 .ensures) (stopped-plays (a .h) _ _ _ _ (a .out .now) (c .before .before .before .before .before .before .before .before .pre .0)))
+
+pub play-spec : {M : Type 1} → statement M
+play-spec =
+    tie.close
+    (tie.spec
+    enum-known-r
+    cast-open
+    open-requires
+    ended-requires
+    enum-known-r-2
+    cast-close
+    close-requires
+    ended-requires-2
+    enum-known-r-3
+    cast-end
+    add-end
+    cast-message
+    sub-message
+    part-message-start
+    part-message-end
+    message-requires
+    ended-requires-3
+    enum-known-r-4
+    cast-message-2
+    sub-message-2
+    part-message-start-2
+    part-message-end-2
+    message-requires-2
+    ended-requires-4
+    enum-known-r-5
+    tick-requires
+    ended-requires-5
+    enum-told
+    stopped-requires
+    enum-told-2
+    stopped-requires-2
+    same-length
+    same-length-2
+    same-length-3
+    returns
+    same-length-4
+    same-length-5
+    same-length-6
+    returns-2
+    same-length-7
+    same-length-8
+    same-length-9
+    returns-3
+    same-length-10
+    same-length-11
+    same-length-12
+    returns-4
+    same-length-13
+    same-length-14
+    same-length-15
+    returns-5
+    returns-6
+    returns-7)

@@ -1,0 +1,50 @@
+-- A refusal is two stores; what a good call wrote stands there already.
+use mathlib.Core.Path.{sym}
+use native.Mathlib.Omega.{arith}
+use Rattle.rules.proofs.Written.{written-none}
+use Rattle.feed.specs.Play.{told, toldLength}
+use Rattle.feed.proofs.Plays.{tells-refused}
+use borrow.Author.Needs.{needs}
+use Rattle.feed.proofs.playing.tell.Statement.{statement}
+use Rattle.feed.proofs.playing.tell.Tie as tie
+use Rattle.feed.proofs.playing.tell.Reads as reads
+use Rattle.feed.proofs.playing.tell.Lts as lts
+use Rattle.feed.proofs.playing.house_number.Reads as house-number-reads
+
+enum-known-a : tie.Need-enum-known-a
+enum-known-a c = search needs
+
+slice-write-out : tie.Need-slice-write-out
+slice-write-out c = search needs
+
+house-number-requires : tie.Need-house-number-requires
+house-number-requires c κs = search needs
+
+slice-write-out-2 : tie.Need-slice-write-out-2
+slice-write-out-2 c = search needs
+
+enum-known-a-2 : tie.Need-enum-known-a-2
+enum-known-a-2 c = search needs
+
+same-length : tie.Need-same-length
+same-length c = search needs
+
+returns : tie.Need-returns
+returns c = tells-refused (c .before .before .before .before .before .args .out .now) (c .house-number .result) (c .before .before .a .given .1) (c .house-number .ensures) (omega arith)
+
+returns-2 : tie.Need-returns-2
+unfolding told toldLength
+returns-2 c = record { count = rw (c .before .a2 .given .1); bytes = rw (c .before .a2 .given .1) (sym (written-none (c .before .before .before .before .args .out .now) 0)) }
+
+pub tell-spec : {M : Type 1} → statement M
+tell-spec =
+    tie.close
+    (tie.spec
+    enum-known-a
+    slice-write-out
+    house-number-requires
+    slice-write-out-2
+    enum-known-a-2
+    same-length
+    returns
+    returns-2)

@@ -1,0 +1,79 @@
+// The card program's input, record by record.
+mod playing;
+
+use answers::Head;
+pub use playing::house_number;
+pub use playing::play;
+use reading::numbers::number2;
+use reading::numbers::number4;
+ghost use mathlib.Core.Path.{_≡_};
+ghost use Prim.Native.Nat.{_≤_};
+ghost use lib.ListN.{length};
+ghost use Rattle.feed.specs.Feed.{recordIn, messageIn, tickIn};
+
+// The record that some bytes begin with: a connection, the MessageSize, Seconds and MicroSeconds.
+pub enum Record {
+    Open(u8),
+    Close(u8),
+    Message(u8, u16),
+    Oversize(u8),
+    Tick(u32, u32),
+    Cut,
+    Unknown,
+}
+
+// A record played: the head after it, the bytes that it took, how much was written, and whether to go on.
+pub struct Played {
+    pub head: Head,
+    pub used: usize,
+    pub len: usize,
+    pub more: bool,
+}
+
+fn take_message(l: &[u8]) -> Record
+    ensures { λ r. ⌜ r ≡ messageIn (now (l .entry)) ⌝ }
+{
+    if l.len() < 10 {
+        return Record::Cut;
+    }
+    let size = number2(l, 4);
+    if 4088 < size {
+        return Record::Oversize(l[1]);
+    }
+    if l.len() < 10 + size as usize {
+        return Record::Cut;
+    }
+    Record::Message(l[1], size)
+}
+
+fn take_tick(l: &[u8]) -> Record
+    ensures { λ r. ⌜ r ≡ tickIn (now (l .entry)) ⌝ }
+{
+    if l.len() < 10 {
+        return Record::Cut;
+    }
+    Record::Tick(number4(l, 2), number4(l, 6))
+}
+
+// "0x4F connection (open), 0x43 connection (close), 0x4D connection and one message, 0x54 0x00 and Seconds 4, MicroSeconds 4".
+pub fn take(l: &[u8]) -> Record
+    ensures { λ r. ⌜ r ≡ recordIn (now (l .entry)) ⌝ }
+{
+    if l.len() < 2 {
+        return Record::Cut;
+    }
+    let mark = l[0];
+    if mark == 0x4F {
+        return Record::Open(l[1]);
+    }
+    if mark == 0x43 {
+        return Record::Close(l[1]);
+    }
+    if mark == 0x4D {
+        return take_message(l);
+    }
+    if mark == 0x54 {
+        return take_tick(l);
+    }
+    Record::Unknown
+}
