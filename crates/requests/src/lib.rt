@@ -162,8 +162,9 @@ pub fn is_too_late(clock: Ninths, start: Start) -> bool
 {
     match start {
         Start::Timed(t) => {
+            let soon = units::from_micros(units::time_of(3, 0));
             let s = units::from_micros(t);
-            s.0 < clock.0 + 27000000
+            s.0 < clock.0 + soon.0
         }
         Start::Linked(_) => false,
     }
