@@ -8,8 +8,6 @@ use Rattle.rules.specs.declared.Session.{Session}
 use Rattle.rules.specs.State.{empty, of, is, follows, startsAt, startsAfter, endsAt}
 use Rattle.places.specs.declared.Key.{Key}
 use Rattle.places.specs.declared.Key.the-variants.{Held, Follows, Of, StartsAt, StartsAfter, EndsAt}
-use Rattle.places.specs.declared.Moment.{Moment}
-use Rattle.places.specs.declared.Moment.the-variants.{Start, End}
 
 -- the session in the first eight words
 abbrev pub row : List ℕ → Session
@@ -73,8 +71,3 @@ keyTest (Of c) = of c
 keyTest (StartsAt t) = startsAt (t .0)
 keyTest (StartsAfter t) = startsAfter (t .0)
 keyTest (EndsAt t) = endsAt (t .0)
-
--- a session's start or end
-abbrev pub momentOf : Moment → Session → ℕ
-momentOf Start s = s .start .0
-momentOf End s = s .end .0

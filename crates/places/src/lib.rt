@@ -9,7 +9,7 @@ ghost use Rattle.rules.specs.Lists.{place, insertAt, removeAt, count, least};
 ghost use Rattle.rules.specs.State.{empty, of, Sorted};
 ghost use Rattle.rules.specs.Instants.{outranks};
 ghost use Rattle.rules.specs.Answers.{inserted};
-ghost use Rattle.places.specs.Places.{places, spare, zeros, lot, used, Good, Made, keyTest, momentOf};
+ghost use Rattle.places.specs.Places.{places, spare, lot, used, Good, Made, keyTest};
 
 // What a search looks for: `keyTest` of specs/ gives each its test.
 pub enum Key {
@@ -19,12 +19,6 @@ pub enum Key {
     StartsAt(Ninths),
     StartsAfter(Ninths),
     EndsAt(Ninths),
-}
-
-// The two instants of a session.
-enum Moment {
-    Start,
-    End,
 }
 
 // What stands where no session is.
@@ -76,17 +70,6 @@ pub fn store(q: &mut [u64], i: usize, x: Session)
     q[b + 5] = x.access;
     q[b + 6] = x.over;
     q[b + 7] = x.played.0;
-}
-
-// No session at all: every word 0.
-pub fn clear(q: &mut [u64])
-    ensures { λ _. ⌜ now (q .exit) ≡ zeros (length (now (q .entry))) ⌝ }
-{
-    let mut i = 0;
-    while i < q.len() {
-        q[i] = 0;
-        i += 1;
-    }
 }
 
 // x in place of the one at the place `at`.
@@ -200,48 +183,22 @@ pub fn count_of(q: &[u64], n: usize, conn: u64) -> usize
     k
 }
 
-// The session's start or end.
-fn moment_of(m: Moment, x: Session) -> Ninths
-    ensures { λ r. ⌜ r .0 ≡ momentOf m x ⌝ }
-{
-    match m {
-        Moment::Start => x.start,
-        Moment::End => x.end,
-    }
-}
-
-// The first of all starts or ends, or none.
-fn least_of(q: &[u64], n: usize, m: Moment, none: Ninths) -> Ninths
+// The first end, or none.
+pub fn least_end(q: &[u64], n: usize, none: Ninths) -> Ninths
     requires { ⌜ Good (lot (now q) n) ⌝ }
-    ensures { λ r. ⌜ r .0 ≡ least (none .0) (momentOf m) (used (lot (now (q .entry)) n)) ⌝ }
+    ensures { λ r. ⌜ r .0 ≡ least (none .0) (λ s. s .end .0) (used (lot (now (q .entry)) n)) ⌝ }
 {
     let mut best = none;
     let mut i = 0;
     while i < n {
         let x = load(q, i);
-        let t = moment_of(m, x);
+        let t = x.end;
         if t.0 < best.0 {
             best = t;
         }
         i += 1;
     }
     best
-}
-
-// The first end, or none.
-pub fn least_end(q: &[u64], n: usize, none: Ninths) -> Ninths
-    requires { ⌜ Good (lot (now q) n) ⌝ }
-    ensures { λ r. ⌜ r .0 ≡ least (none .0) (λ s. s .end .0) (used (lot (now (q .entry)) n)) ⌝ }
-{
-    least_of(q, n, Moment::End, none)
-}
-
-// The first start, or none.
-pub fn least_start(q: &[u64], n: usize, none: Ninths) -> Ninths
-    requires { ⌜ Good (lot (now q) n) ⌝ }
-    ensures { λ r. ⌜ r .0 ≡ least (none .0) (λ s. s .start .0) (used (lot (now (q .entry)) n)) ⌝ }
-{
-    least_of(q, n, Moment::Start, none)
 }
 
 // The first start of those that stand in order of start, or none: only the first is read.
