@@ -1,7 +1,7 @@
 -- The fresh splicer: no session, all connections closed, and the name that was kept.
 use mathlib.Core.Path.{_≡_, refl, sym, ap, _∙_}
-use mathlib.Core.Bool.{Bool, true, false}
-use mathlib.Core.List.{List, [], _∷_, map}
+use mathlib.Core.Bool.{true, false}
+use mathlib.Core.List.{List, [], _∷_}
 use Prim.Native.Nat.{ℕ}
 use native.Mathlib.Omega.{arith}
 use lib.ListN.{length}
@@ -9,7 +9,7 @@ use Rattle.rules.specs.declared.Refusal.the-variants.{Name}
 use Rattle.rules.specs.Lists.{All}
 use Rattle.rules.specs.Bytes.{Byte, NoZero, hasZero, nameIn, padded}
 use Rattle.rules.specs.Records.{output}
-use Rattle.rules.specs.Calls.{named, fresh, does, refuse}
+use Rattle.rules.specs.Calls.{named, fresh}
 use Rattle.rules.proofs.Bytes.{nameIn-padded, nameIn-zero}
 use Rattle.rules.proofs.Sound.{reached-fresh}
 use Rattle.places.specs.Places.{zeros}

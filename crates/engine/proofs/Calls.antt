@@ -2,10 +2,9 @@
 -- Rests on what holds of every splicer that fresh and the calls since have given (rules' proofs/Sound).
 use mathlib.Core.Path.{_≡_, refl, sym, ap, _∙_}
 use mathlib.Core.Bool.{Bool, true, false, cond, not}
-use mathlib.Core.List.{List, [], _∷_, map}
-use Prim.Native.Nat.{ℕ, _+_, _*_, _/_, _≤_, _<_}
+use mathlib.Core.List.{List, [], map}
+use Prim.Native.Nat.{ℕ, _+_, _*_, _≤_, _<_}
 use native.Mathlib.Omega.{arith}
-use lib.Dec.{ltb}
 use lib.ListN.{length, getD, set}
 use borrow.Author.Tests.{lt-ltb, le-ltb, ltb-false}
 use Rattle.rules.specs.declared.Ninths.{Ninths}
@@ -22,11 +21,11 @@ use Rattle.rules.specs.Ends.{Turn, cancelled, closedBy}
 use Rattle.rules.specs.Instants.{runAll}
 use Rattle.rules.specs.Answers.{answer}
 use Rattle.rules.specs.Calls.{Called, Call, opens, closes, messages, ticks, call, noConnection, noRoom, notOpen, openCall, closeCall, framing, handled, messageCall, tickCall, ticked, refuse, does, writtenBy, bufferAfter}
-use Rattle.rules.specs.Sound.{Holding, Sound, Wired}
+use Rattle.rules.specs.Sound.{Holding, Wired}
 use Rattle.rules.proofs.All.{all-into}
 use Rattle.rules.proofs.Written.{written-none}
 use Rattle.rules.proofs.Sound.{reached-call, reached-sound, few-wait, few-started, played-now}
-use Rattle.places.specs.Places.{lot, used}
+use Rattle.places.specs.Places.{lot}
 use Rattle.places.proofs.Laws.{length-used}
 use Rattle.ends.specs.declared.Counts.{Counts}
 use Rattle.ends.specs.Does.{Playable, queueOf, Turns}
@@ -156,7 +155,7 @@ abbrev tested : Tested → Splicer → Called → Called
 tested Good s x = x
 tested (Bad n) s x = refuse n s
 
-abbrev guarded : ℕ → ℕ → Splicer → Called → Called
+abbrev pub guarded : ℕ → ℕ → Splicer → Called → Called
 guarded c room s x = cond (noConnection c) (refuse Connection s) (cond (noRoom room) (refuse Buffer s) (cond (notOpen c s) (refuse NotOpen s) x))
 
 guarded-is : (c room : ℕ) (s : Splicer) (x : Called) (t : Tested) → t ≡ openTest c room (s .links) → guarded c room s x ≡ tested t s x

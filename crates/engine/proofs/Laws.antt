@@ -1,9 +1,9 @@
 -- Each promise determines its result: any two results that it allows are equal, and a refusal leaves everything as it was.
 -- Rests on places' words-same: the sessions and the zeros behind them determine the words.
 use mathlib.Core.Path.{_≡_, refl, sym, ap, _∙_}
-use mathlib.Core.Bool.{Bool, true, false, cond}
+use mathlib.Core.Bool.{Bool, false, cond}
 use mathlib.Core.List.{List, [], _∷_, map}
-use Prim.Native.Nat.{ℕ, zero, suc, _≤_}
+use Prim.Native.Nat.{ℕ, zero, suc, _*_, _≤_}
 use native.Mathlib.Omega.{arith}
 use lib.Dec.{ltb}
 use lib.ListN.{length}
@@ -13,25 +13,25 @@ use Rattle.rules.specs.declared.Framing.{Framing}
 use Rattle.rules.specs.declared.Framing.the-variants.{Framed, Unframed}
 use Rattle.rules.specs.Lists.{All}
 use Rattle.rules.specs.Units.{badMicros, timeOf, fromMicros}
-use Rattle.rules.specs.Bytes.{Byte, hasZero, nameIn, padded}
+use Rattle.rules.specs.Bytes.{Byte, hasZero, padded}
 use Rattle.rules.specs.State.{Link, closed, opened, initialised, Splicer, isOpen, linkOf}
 use Rattle.rules.specs.Calls.{Called, Call, opens, closes, messages, ticks, call, refused, good, refuse, does, writtenBy, bufferAfter, noConnection, noRoom, notOpen, openCall, closeCall, messageCall, framing, handled, tickCall, ticked, fresh}
 use Rattle.rules.specs.Calls as calls
 use Rattle.rules.specs.Records.{Record}
 use Rattle.rules.proofs.Tests.{by}
 use Rattle.rules.proofs.Written.{written-none}
-use Rattle.places.specs.Places.{lot, zeros}
+use Rattle.places.specs.Places.{Good, lot, used, zeros}
 use Rattle.places.proofs.Laws.{length-used, words-same}
 use Rattle.places.proofs.Words.{spare-none}
 use Rattle.answers.specs.declared.Head.{Head}
 use Rattle.answers.specs.View.{view, Form}
 use Rattle.answers.specs.View as words
 use Rattle.engine.specs.declared.Answer.{Answer}
-use Rattle.engine.specs.declared.Answer.the-variants.{Refused, Done}
+use Rattle.engine.specs.declared.Answer.the-variants.{Refused}
 use Rattle.engine.specs.declared.Said.{Said}
 use Rattle.engine.specs.Lent.{Lent, answerOf, Answers}
 use Rattle.engine.proofs.Beginning.{start, fresh-bad}
-use Rattle.engine.proofs.Calls.{refused-as}
+use Rattle.engine.proofs.Calls.{refused-as, guarded}
 
 -- ## What is shown determines what stands in memory
 
@@ -58,36 +58,26 @@ made-same c d n o m p l k e f g h = cc
 said-same : (g h : Head) (a b : Answer) → g ≡ h → a ≡ b → _≡_ {A = Said} (record { head = g; answer = a }) (record { head = h; answer = b })
 said-same g h a b e f = cc
 
-module _ (g h : Head) (n w k m v j : List ℕ) (f : Form g n w k) (e : Form h m v j) (same : view g n w k ≡ view h m v j) where
-  name-same : n ≡ m
-  name-same = f .stored ∙ ap (λ y. padded (y .name)) same ∙ sym (e .stored)
+-- as many words, holding the same sessions, are the same words, and as many of their places are used
+lot-same : (i : ℕ) (w v : List ℕ) (n m : ℕ) → Good (lot w n) → Good (lot v m) → length w ≡ i * 8 → length v ≡ i * 8 → used (lot w n) ≡ used (lot v m) → (w ≡ v) × (n ≡ m)
+lot-same i w v n m f g x y e = (
+  words-same w v n m f g (x ∙ sym y) e (spare-none i w x ∙ sym (spare-none i v y)),
+  sym (length-used (lot w n) f) ∙ ap length e ∙ length-used (lot v m) g,
+)
 
-  waiting-same : w ≡ v
-  waiting-same =
-      words-same w v (g .waiting) (h .waiting) (f .waiting) (e .waiting) (f .places ∙ sym (e .places)) (ap (λ y. y .queue .waiting) same)
-      (spare-none 64 w (f .places) ∙ sym (spare-none 64 v (e .places)))
-
-  started-same : k ≡ j
-  started-same =
-      words-same k j (g .started) (h .started) (f .started) (e .started) (f .stack ∙ sym (e .stack)) (ap (λ y. y .queue .started) same)
-      (spare-none 10 k (f .stack) ∙ sym (spare-none 10 j (e .stack)))
-
-  head-same : g ≡ h
-  head-same =
-      let waits = sym (length-used (lot w (g .waiting)) (f .waiting)) ∙ ap (λ y. length (y .queue .waiting)) same ∙ length-used (lot v (h .waiting)) (e .waiting) in
-      let has = sym (length-used (lot k (g .started)) (f .started)) ∙ ap (λ y. length (y .queue .started)) same ∙ length-used (lot j (h .started)) (e .started) in
-      let links = sym (words-links (g .links) (f .links)) ∙ ap (λ y. map wordOf (y .links)) same ∙ words-links (h .links) (e .links) in
-      made-same _ _ _ _ _ _ _ _ (ap (λ y. y .clock) same) waits has links
+shown-same : (g h : Head) (n w k m v j : List ℕ) → Form g n w k → Form h m v j → view g n w k ≡ view h m v j → (g ≡ h) × (n ≡ m) × (w ≡ v) × (k ≡ j)
+shown-same g h n w k m v j a b e =
+    let waits = lot-same 64 w v (g .waiting) (h .waiting) (a .waiting) (b .waiting) (a .places) (b .places) (ap (λ y. y .queue .waiting) e) in
+    let stack = lot-same 10 k j (g .started) (h .started) (a .started) (b .started) (a .stack) (b .stack) (ap (λ y. y .queue .started) e) in
+    let links = sym (words-links (g .links) (a .links)) ∙ ap (λ y. map wordOf (y .links)) e ∙ words-links (h .links) (b .links) in
+    (made-same _ _ _ _ _ _ _ _ (ap (λ y. y .clock) e) (waits .1) (stack .1) links, a .stored ∙ ap (λ y. padded (y .name)) e ∙ sym (b .stored), waits .0, stack .0)
 
 -- ## "any two results it allows are proved equal"
 
 pub answers-same : (c : Called) (r s : Said) (n w k m v j : List ℕ) → Answers c r n w k → Answers c s m v j → (r ≡ s) × (n ≡ m) × (w ≡ v) × (k ≡ j)
 answers-same c r s n w k m v j a b =
-    let f = a .lent .form in
-    let e = b .lent .form in
-    let same = a .splicer ∙ sym (b .splicer) in
-    let head = head-same (r .head) (s .head) n w k m v j f e same in
-    (said-same (r .head) (s .head) (r .answer) (s .answer) head (a .answer ∙ sym (b .answer)), name-same (r .head) (s .head) n w k m v j f e same, waiting-same (r .head) (s .head) n w k m v j f e same, started-same (r .head) (s .head) n w k m v j f e same)
+    let x = shown-same (r .head) (s .head) n w k m v j (a .lent .form) (b .lent .form) (a .splicer ∙ sym (b .splicer)) in
+    (said-same (r .head) (s .head) (r .answer) (s .answer) (x .0) (a .answer ∙ sym (b .answer)), x .1, x .2, x .3)
 
 -- the buffer is an equation, so two results hold the same
 pub buffer-same : (a : calls.Answer) (e o p : List ℕ) → o ≡ bufferAfter a e → p ≡ bufferAfter a e → o ≡ p
@@ -115,13 +105,14 @@ module _ (s : Splicer) (n : Refusal) where
   keeps-test : (b : Bool) (m : Refusal) (c : Called) → Keeps c → Keeps (cond b (refuse m s) c)
   keeps-test b m c k = by Keeps b (refuse m s) c (λ e. keeps-refuse m) (λ e. k)
 
+  keeps-guarded : (c room : ℕ) (x : Called) → Keeps x → Keeps (guarded c room s x)
+  keeps-guarded c room x k = keeps-test (noConnection c) Connection _ (keeps-test (noRoom room) Buffer _ (keeps-test (notOpen c s) NotOpen x k))
+
   pub call-refused : (k : Call) → Keeps (call k s)
   unfolding call openCall closeCall messageCall tickCall ticked
   call-refused (opens c) = keeps-test (noConnection c) Connection _ (keeps-test (isOpen (linkOf c s)) AlreadyOpen _ (keeps-does _ _ _))
-  call-refused (closes c room) =
-      keeps-test (noConnection c) Connection _ (keeps-test (noRoom room) Buffer _ (keeps-test (notOpen c s) NotOpen _ (keeps-does _ _ _)))
-  call-refused (messages c l room) =
-      keeps-test (noConnection c) Connection _ (keeps-test (noRoom room) Buffer _ (keeps-test (notOpen c s) NotOpen _ (keeps-handled c (framing l) l)))
+  call-refused (closes c room) = keeps-guarded c room _ (keeps-does _ _ _)
+  call-refused (messages c l room) = keeps-guarded c room _ (keeps-handled c (framing l) l)
   call-refused (ticks seconds micros room) =
       keeps-test (noRoom room) Buffer _ (keeps-test (badMicros micros) MicroSeconds _ (keeps-test (ltb (fromMicros (timeOf seconds micros) .0) (s .clock)) Clock _ (keeps-does _ _ _)))
 

@@ -1,8 +1,7 @@
 -- How a name is kept: byte by byte up to its first zero, with zeros behind.
 use mathlib.Core.Path.{_≡_, refl, sym, ap, _∙_}
-use mathlib.Core.Bool.{Bool, true, false, cond, _||_}
 use mathlib.Core.List.{List, [], _∷_, _++_}
-use Prim.Native.Nat.{ℕ, zero, suc, _+_, _-_, _≤_, _<_}
+use Prim.Native.Nat.{ℕ, zero, suc, _+_, _-_, _<_}
 use native.Mathlib.Omega.{arith}
 use native.Mathlib.Numerals.{unary-clauses, add-one}
 use lib.Dec.{eqb}
@@ -20,11 +19,6 @@ passed (suc i) (b ∷ l) = b ∷ passed i l
 pub passed-none : (l : List ℕ) → replicate (length l) 0 ≡ passed zero l
 passed-none [] = refl
 passed-none (b ∷ l) = ap (λ m. 0 ∷ m) (passed-none l)
-
-pub length-passed : (i : ℕ) (l : List ℕ) → length (passed i l) ≡ length l
-length-passed i [] = refl
-length-passed zero (b ∷ l) = ap suc (length-passed zero l)
-length-passed (suc i) (b ∷ l) = ap suc (length-passed i l)
 
 pub passed-more : (l : List ℕ) (i : ℕ) → i < length l → set (passed i l) i (getD l i 0) ≡ passed (suc i) l
 passed-more [] i h = absurd (omega arith)

@@ -89,10 +89,10 @@ pub fn open(h: Head, name: &[u8], w: &[u64], k: &[u64], conn: u32) -> Said
     requires { ⌜ Lent h (now name) (now w) (now k) ⌝ }
     ensures { λ r. ⌜ Answers (openCall conn (view h (now (name .entry)) (now (w .entry)) (now (k .entry)))) r (now (name .entry)) (now (w .entry)) (now (k .entry)) ⌝ }
 {
-    if 3 < conn {
+    let c = conn as usize;
+    if 3 < c {
         return refuse(h, Refusal::Connection);
     }
-    let c = conn as usize;
     if 0 < h.links[c] {
         return refuse(h, Refusal::AlreadyOpen);
     }
@@ -190,14 +190,16 @@ pub fn tick(
     ensures state { λ r. ⌜ Answers (tickCall seconds micros (length (now (out .entry))) (view h (now (name .entry)) (now (w .entry)) (now (k .entry)))) r (now (name .entry)) (now (w .exit)) (now (k .exit)) ⌝ }
     ensures buffer { λ r. ⌜ now (out .exit) ≡ bufferAfter (tickCall seconds micros (length (now (out .entry))) (view h (now (name .entry)) (now (w .entry)) (now (k .entry))) .answer) (now (out .entry)) ⌝ }
 {
+    let until = units::from_micros(units::time_of(seconds, micros));
+    let to = until.0;
+    let at = h.clock.0;
     if out.len() < 4096 {
         return refuse(h, Refusal::Buffer);
     }
     if 999999 < micros {
         return refuse(h, Refusal::MicroSeconds);
     }
-    let until = units::from_micros(units::time_of(seconds, micros));
-    if until.0 < h.clock.0 {
+    if to < at {
         return refuse(h, Refusal::Clock);
     }
     let t = instants::run(

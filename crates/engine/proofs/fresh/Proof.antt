@@ -1,3 +1,4 @@
+-- `fresh`: each return is one law of proofs/Beginning; that the name is 32 bytes comes from its type.
 use mathlib.Core.Path.{_≡_, sym, _∙_}
 use Prim.Native.Nat.{ℕ}
 use native.Mathlib.Omega.{arith}
@@ -10,20 +11,13 @@ use Rattle.engine.proofs.Beginning.{fresh-good, fresh-bad}
 use borrow.Author.Needs.{needs}
 use Rattle.engine.proofs.fresh.Statement.{statement}
 use Rattle.engine.proofs.fresh.Tie as tie
-use Rattle.engine.proofs.fresh.Reads as reads
-use Rattle.engine.proofs.fresh.Lts as lts
-use Rattle.engine.proofs.stored.Reads as stored-reads
-use Rattle.reading.proofs.names.has_zero.Reads as has-zero-reads
 
--- src/lib.rt:57:33
 slice-aggregate-has-zero : tie.Need-slice-aggregate-has-zero
 slice-aggregate-has-zero c = search needs
 
--- src/lib.rt:57:8
 has-zero-requires : tie.Need-has-zero-requires
 has-zero-requires c κs = search needs
 
--- src/lib.rt:58:17
 stored-requires : tie.Need-stored-requires
 stored-requires c κs = search needs
 

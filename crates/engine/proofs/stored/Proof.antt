@@ -1,5 +1,5 @@
 -- `stored`: the kept name is what has been passed of the name, with zeros behind; no zero has been passed.
-use mathlib.Core.Path.{_≡_, refl, sym, ap, _∙_}
+use mathlib.Core.Path.{_≡_, refl, _∙_}
 use Prim.Native.Nat.{_≤_, _-_}
 use native.Mathlib.Omega.{arith}
 use native.Mathlib.Numerals.{add-one}
@@ -9,8 +9,6 @@ use Rattle.rules.specs.Bytes.{NoZero}
 use Rattle.engine.proofs.Names.{passed, stored-none, passed-next, name-more, stored-all}
 use Rattle.engine.proofs.stored.Statement.{statement}
 use Rattle.engine.proofs.stored.Tie as tie
-use Rattle.engine.proofs.stored.Reads as reads
-use Rattle.engine.proofs.stored.Lts as lts
 
 abbrev Inv-loop : tie.InvT-loop
 Inv-loop name r₀ i₀ r i = (i ≤ 32) × (length name ≡ 32) × (r ≡ passed i name) × NoZero (take i name)

@@ -1,0 +1,139 @@
+-- READ THIS FIRST: the customer's demands as theorems about the calls of `engine`, each under its sentence. The only hypothesis is a trace
+-- (specs/Trace): fresh, then any calls with any inputs, each result one that the call's contract allows. No axiom, no hole.
+use mathlib.Core.Path.{_≡_, refl, sym, ap, _∙_}
+use mathlib.Core.Bool.{true, false, cond}
+use mathlib.Core.List.{List, [], _∷_, _++_}
+use Prim.Native.Nat.{ℕ, _+_, _≤_, _<_}
+use native.Mathlib.Nat.{le-trans}
+use lib.ListN.{length}
+use Rattle.rules.specs.declared.Request.{Request}
+use Rattle.rules.specs.declared.Refusal.{Refusal}
+use Rattle.rules.specs.Lists.{All}
+use Rattle.rules.specs.Bytes.{Byte, hasZero}
+use Rattle.rules.specs.Records.{recordsIn}
+use Rattle.rules.specs.Answers.{requested, spliceResult}
+use Rattle.rules.specs.History.{startsOf, endsOf, last, waitingCount, book, clockAfter}
+use Rattle.engine.specs.declared.Answer.the-variants.{Refused}
+use Rattle.engine.specs.Lent.{Lent}
+use Rattle.demands.specs.Told.{firstNumber, checks, answers, Asks, Passes, fullTold, outsOf, withoutOwn, startedTold, unended, Ended, Stands}
+use Rattle.demands.proofs.Demands as told
+use Rattle.traces.specs.Trace.{Memory, emptyMemory, shown, Input, aClose, aMessage, Typed, callOf, bufferOf, Result, next, Made, made, Trace, More, Point, numberIn, number, bytesOf, events, inputs, Answerable, Run, AsRuled}
+use Rattle.traces.proofs.Steps.{wired, as-ruled, number-first, unchanged}
+use Rattle.traces.proofs.Course.{trace-lent, trace-told, trace-more, trace-point, trace-same, fresh-number, fresh-empty}
+use Rattle.traces.proofs.Closed.{not-full, closed-stands, unended-newer}
+use Rattle.traces.proofs.Answerable.{answerable, runs}
+
+-- ## "On a splicer that came from fresh and the calls after it"
+
+-- any name of 32 bytes and any inputs: "Over all sequences of opens, closes, messages and ticks from a fresh splicer"
+pub any-calls : (name : List ℕ) → length name ≡ 32 → All Byte name → (is : List Input) → All Typed is → Run name is
+any-calls = runs
+
+-- one call more gives a trace again
+pub trace-goes-on : (name : List ℕ) (h : List Made) (m : Memory) (i : Input) (r : Result) → More name h m i r → Trace name (h ++ (made i r ∷ [])) (next m r)
+trace-goes-on = trace-more
+
+-- and every point of a trace is the end of a trace, so what is said below of a trace's end is said of every point
+pub every-point : (name : List ℕ) (h g : List Made) (m : Memory) → Trace name (h ++ g) m → Point name h g m
+every-point = trace-point
+
+-- the splicer is determined: the same name and the same inputs (bytes, and buffers as they were before each call) give the same results, which
+-- are answers, lent words and buffers, and the same memory
+pub same-calls-same-results : (name : List ℕ) (h g : List Made) (m n : Memory) → Trace name h m → Trace name g n → inputs h ≡ inputs g → (h ≡ g) × (m ≡ n)
+same-calls-same-results = trace-same
+
+module _ (name : List ℕ) (h : List Made) (m : Memory) where
+  -- ## Demand 1
+
+  -- "every call takes every input": all that open, close, message and tick require is Lent, and it holds
+  pub every-call-may-be-made : Trace name h m → Lent (m .head) (m .name) (m .words) (m .stack)
+  every-call-may-be-made = trace-lent name h m
+
+  -- and for every input there is a result that the call's contract allows; by same-calls-same-results only one
+  pub every-call-is-answered : Trace name h m → (i : Input) → Typed i → Answerable m i
+  every-call-is-answered t = answerable m (trace-lent name h m t)
+
+  -- fresh: number 9 for a name without a zero byte, and then the memory is that of an empty name, without sessions
+  pub bad-name-number : (t : Trace name h m) → numberIn (t .answer) ≡ cond (hasZero name) 0 9
+  bad-name-number = fresh-number name h m
+
+  pub bad-name-gives-empty : (t : Trace name h m) → hasZero name ≡ false → t .begun ≡ emptyMemory
+  bad-name-gives-empty = fresh-empty name h m
+
+  module _ (i : Input) (r : Result) (c : More name h m i r) where
+    -- "A bad call gets its number from document 01": the first that applies, in 01's order; 0 stands for a good call
+    pub bad-call-number : number r ≡ firstNumber (checks (callOf i) (shown m))
+    bad-call-number = number-first m i r (c .allowed)
+
+    -- "and the splicer and the lent buffers stay as they were before it"
+    pub bad-call-changes-nothing : (n : Refusal) → r .said .answer ≡ Refused n → (next m r ≡ m) × (r .buffer ≡ bufferOf i)
+    bad-call-changes-nothing = unchanged m i r (c .allowed) (trace-lent name h m (c .trace))
+
+    -- no answer is longer than 3,174 bytes, so the 4,096 that a good call has are enough
+    pub answers-fit : length (bytesOf r) ≤ 3174
+    answers-fit = rw (as-ruled m i r (c .allowed) .bytes) (told.answers-fit (events h) (shown m) (trace-told name h m (c .trace)) (callOf i))
+
+    -- ## Demand 2
+
+    -- "every answer byte, its order and the state after it are those that 01's rules give"
+    pub answers-as-ruled : AsRuled m i r
+    answers-as-ruled = as-ruled m i r (c .allowed)
+
+    -- ## Demand 3: ends in an answer's bytes
+
+    -- An end, a Splice_Request's own answer apart, is of an accepted session that had none: it is neither a second end nor the end of a
+    -- number that nobody was granted
+    pub ends-are-owed : (d x : ℕ) → endsOf d x (withoutOwn (callOf i) (recordsIn (bytesOf r))) ≤ unended d x (book (events h) [])
+    ends-are-owed d x =
+        rw (as-ruled m i r (c .allowed) .bytes) (told.ends-are-owed d x (events h) (shown m) (trace-told name h m (c .trace)) (callOf i) (wired i (c .typed)))
+
+    -- "Two operators' as-run logs listed a spot that never aired." A SpliceComplete flag 1 is written only under a number whose start is written, since its last end or by the same call
+    pub only-aired-is-listed : (d x : ℕ) → outsOf d x (recordsIn (bytesOf r)) ≤ startedTold d x (events h) 0 + startsOf d x (recordsIn (bytesOf r))
+    only-aired-is-listed d x =
+        rw (as-ruled m i r (c .allowed) .bytes) (told.only-aired-is-listed d x (events h) (shown m) (trace-told name h m (c .trace)) (callOf i) (wired i (c .typed)))
+
+  -- ## Demand 2, the codes of a Splice_Request, and demand 3, the full queue
+
+  -- the connection d sends the bytes l, which are a Splice_Request q, with a buffer that holds e
+  module _ (d : ℕ) (l e : List ℕ) (r : Result) (c : More name h m (aMessage d l e) r) (q : Request) (asks : Asks d l (length e) q (shown m)) where
+    -- "An accepted request is accepted because the rules accept it; a refused one carries the first result code that applies.": the last record
+    -- in the answer's bytes is the Splice_Response with the code of 01's a to f
+    pub first-code-applies : last (answers (spliceResult (shown m .clock) d q (requested d q (shown m .queue)) (shown m .queue)) d (q .id)) (recordsIn (bytesOf r)) ≡ true
+    first-code-applies =
+        rw (as-ruled m (aMessage d l e) r (c .allowed) .bytes) (told.first-code-applies (events h) (shown m) (trace-told name h m (c .trace)) d l (length e) q asks)
+
+    -- "A request that passes every earlier check in 01's order is refused for a full queue exactly when the count is 20, or when it is at least
+    -- 10 and the four counts, each taken as at least 10, add up to 64." Else it is accepted
+    pub full-exactly-when : Passes d q (shown m) → last (answers (cond (fullTold d (events h)) 114 100) d (q .id)) (recordsIn (bytesOf r)) ≡ true
+    full-exactly-when p =
+        rw (as-ruled m (aMessage d l e) r (c .allowed) .bytes) (told.full-exactly-when (events h) (shown m) (trace-told name h m (c .trace)) d l (length e) q asks p)
+
+    -- "Reserved places hold against the other connections.": with fewer than 10 waiting it is accepted, whatever the others have
+    pub reserved-places-hold : Passes d q (shown m) → waitingCount d (events h) < 10 → last (answers 100 d (q .id)) (recordsIn (bytesOf r)) ≡ true
+    reserved-places-hold p few = rw (not-full d (events h) few) at (full-exactly-when p)
+
+  -- ## Demand 3
+
+  -- "take a connection's waiting sessions from the answers alone: accepted since it was opened, less those whose start or end was written.
+  -- That count never passes 20."
+  pub count-never-passes-20 : Trace name h m → (d : ℕ) → waitingCount d (events h) ≤ 20
+  count-never-passes-20 t = told.count-never-passes-20 (events h) (shown m) (trace-told name h m t)
+
+  -- "No accepted session gets a second end, and each gets exactly one end, at the latest when the clock is brought to its end time or its
+  -- connection closes."
+  pub one-end : Trace name h m → All (Ended (clockAfter (events h) 0)) (book (events h) [])
+  one-end t = told.one-end (events h) (shown m) (trace-told name h m t)
+
+-- ## The incident
+
+-- "An ad server dropped its connection with its spot on air.": after the calls h connection d closes, by a good call, and the calls g follow
+module _ (name : List ℕ) (h g : List Made) (m : Memory) (d : ℕ) (e : List ℕ) (r : Result) (t : Trace name (h ++ (made (aClose d e) r ∷ g)) m) (z : number r ≡ 0) where
+  -- its sessions of before stand in the book as they stood at the close, each with its one end; newer are those accepted since
+  pub closed-stays-ended : Stands d (book (events (h ++ (made (aClose d e) r ∷ []))) []) (book (events (h ++ (made (aClose d e) r ∷ g))) [])
+  closed-stays-ended = closed-stands name h g m d e r t z
+
+  -- "the completion routine then wrote the old spot's end under the new SessionID": an end of the connection that the next call writes is of a
+  -- newer session that has had none
+  pub the-incident : (i : Input) (o : Result) → More name (h ++ (made (aClose d e) r ∷ g)) m i o → (x : ℕ)
+      → endsOf d x (withoutOwn (callOf i) (recordsIn (bytesOf o))) ≤ unended d x (closed-stays-ended .newer)
+  the-incident i o c x = le-trans (ends-are-owed name (h ++ (made (aClose d e) r ∷ g)) m i o c d x) (unended-newer d x _ _ closed-stays-ended)

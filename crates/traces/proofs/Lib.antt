@@ -1,0 +1,6 @@
+pub mod Demands
+pub mod Steps
+pub mod Course
+pub mod Closed
+pub mod Packed
+pub mod Answerable

@@ -1,0 +1,203 @@
+/* splicer.h: the proved splicer core for drivers in C11 or C++17. Link with libdoor.a (rt staticlib door).
+ *
+ * One struct splicer is one output channel with its connections 0 to 3. The driver owns its memory; the core keeps none of its
+ * own, allocates nothing and has no globals. Every call borrows its arguments until it returns and keeps no pointer.
+ *
+ * The driver owes, and nothing checks:
+ *   - splicer_call_fresh comes first; afterwards only the calls change the struct. It may be copied or moved between calls, since it
+ *     holds no pointers.
+ *   - `out` does not overlap the struct or `in`, and `in` does not overlap the struct; no pointer is null, also where a length is 0.
+ *   - one call at a time on a struct. Calls on different structs may run at the same time.
+ * Everything else is tested by the call and answered by a house number: any connection, any bytes, any time, any length of a buffer.
+ *
+ * A compiler without standard headers (the proof kit's) defines SPLICER_NO_STANDARD_HEADERS. */
+#ifndef SPLICER_H
+#define SPLICER_H
+
+#ifdef SPLICER_NO_STANDARD_HEADERS
+typedef __UINT8_TYPE__ uint8_t;
+typedef __UINT32_TYPE__ uint32_t;
+typedef __UINT64_TYPE__ uint64_t;
+typedef __SIZE_TYPE__ size_t;
+#define SPLICER_OFFSET(type, field) __builtin_offsetof(type, field)
+#else
+#include <stddef.h>
+#include <stdint.h>
+#define SPLICER_OFFSET(type, field) offsetof(type, field)
+#endif
+
+#ifdef __cplusplus
+extern "C" {
+#define SPLICER_ASSERT(test, why) static_assert(test, why)
+#define SPLICER_ALIGN(type) alignof(type)
+#else
+#define SPLICER_ASSERT(test, why) _Static_assert(test, why)
+#define SPLICER_ALIGN(type) _Alignof(type)
+#endif
+
+/* Sizes. A message is a header of 8 bytes and at most 4,088 bytes of data. A buffer of SPLICER_OUT bytes takes the records of any
+ * call; a shorter one is refused (2), a longer one is not used beyond them. */
+enum {
+    SPLICER_CONNECTIONS = 4,
+    SPLICER_NAME = 32,
+    SPLICER_HEADER = 8,
+    SPLICER_MESSAGE = 4096,
+    SPLICER_OUT = 4096,
+    SPLICER_MARK = 2,
+    SPLICER_HEAD_WORDS = 7,
+    SPLICER_WAITING_WORDS = 512,
+    SPLICER_STARTED_WORDS = 80
+};
+
+/* Document 01's house numbers: why a call was refused. A refused call wrote nothing, consumed nothing and changed nothing; only a
+ * refused fresh gives a splicer, that of an empty name. */
+enum splicer_refusal {
+    SPLICER_GOOD = 0,
+    SPLICER_NO_CONNECTION = 1, /* connection above 3: open, close, message */
+    SPLICER_NO_ROOM = 2,       /* output buffer below 4,096 bytes: close, message, tick */
+    SPLICER_CLOCK_BACK = 3,    /* clock earlier than the present one: tick */
+    SPLICER_OVERSIZE = 4,      /* MessageSize above 4,088: message */
+    SPLICER_SHORT = 5,         /* not yet a whole message: message. Read on and call again with more */
+    SPLICER_ALREADY_OPEN = 6,  /* open */
+    SPLICER_NOT_OPEN = 7,      /* close, message */
+    SPLICER_BAD_MICROS = 8,    /* MicroSeconds above 999,999: tick */
+    SPLICER_BAD_NAME = 9       /* name without a zero byte: fresh */
+};
+
+/* MessageIDs of the records that the core writes, and of the requests that it reads. */
+enum splicer_message_id {
+    SPLICER_GENERAL_RESPONSE = 0x0000,        /* no data */
+    SPLICER_INIT_REQUEST = 0x0001,
+    SPLICER_INIT_RESPONSE = 0x0002,           /* Revision_Num 2, ChannelName 32 */
+    SPLICER_ALIVE_REQUEST = 0x0005,
+    SPLICER_ALIVE_RESPONSE = 0x0006,          /* State 4, SessionID 4, Seconds 4, MicroSeconds 4 */
+    SPLICER_SPLICE_REQUEST = 0x0007,
+    SPLICER_SPLICE_RESPONSE = 0x0008,         /* SessionID 4 */
+    SPLICER_SPLICE_COMPLETE_RESPONSE = 0x0009, /* SessionID 4, SpliceTypeFlag 1, Bitrate 4, PlayedDuration 4 */
+    SPLICER_ABORT_REQUEST = 0x000E,
+    SPLICER_ABORT_RESPONSE = 0x000F           /* SessionID 4 */
+};
+
+/* Result codes of J.280, Appendix I, that document 01 uses. */
+enum splicer_result {
+    SPLICER_SUCCESSFUL = 100,
+    SPLICER_INVALID_VERSION = 102,
+    SPLICER_ACCESS_DENIED = 103,    /* the connection is not initialised */
+    SPLICER_UNKNOWN_CHANNEL = 104,
+    SPLICER_COLLISION = 109,
+    SPLICER_NO_INSERTION = 110,     /* ServiceID 0xFFFF */
+    SPLICER_TOO_LATE = 112,
+    SPLICER_QUEUE_FULL = 114,
+    SPLICER_ABORTED = 116,
+    SPLICER_UNKNOWN_MESSAGE = 120,
+    SPLICER_INVALID_SESSION = 121,
+    SPLICER_INVALID_DATA = 123,
+    SPLICER_OVERRIDDEN = 125        /* the session's end while another covered it */
+};
+
+/* One output channel. Opaque: its content is the core's. head: the clock in ninths of a microsecond, how many wait and have
+ * started, a word for each connection; then the ChannelName, 64 places of 8 words for those that wait, 10 for those that started. */
+struct splicer {
+    uint64_t head[SPLICER_HEAD_WORDS];
+    uint8_t name[SPLICER_NAME];
+    uint64_t waiting[SPLICER_WAITING_WORDS];
+    uint64_t started[SPLICER_STARTED_WORDS];
+};
+
+/* What a call answers: the house number of its refusal, or 0 and the bytes consumed of `in` and written to `out`. */
+struct splicer_reply {
+    uint32_t refused;
+    size_t consumed;
+    size_t written;
+};
+
+/* The archive is made for machines on which these hold. */
+SPLICER_ASSERT(sizeof(size_t) == 8, "a length is 8 bytes");
+SPLICER_ASSERT(sizeof(struct splicer) == 4824, "size of struct splicer");
+SPLICER_ASSERT(SPLICER_ALIGN(struct splicer) == 8, "alignment of struct splicer");
+SPLICER_ASSERT(SPLICER_OFFSET(struct splicer, started) == 4184, "layout of struct splicer");
+SPLICER_ASSERT(sizeof(struct splicer_reply) == 24, "size of struct splicer_reply");
+SPLICER_ASSERT(SPLICER_OFFSET(struct splicer_reply, written) == 16, "layout of struct splicer_reply");
+
+/* The archive's functions, over the parts of a struct splicer. Drivers use the splicer_call_ functions below. */
+struct splicer_reply splicer_fresh(const uint8_t *name, uint64_t *head, uint8_t *kept, uint64_t *waiting, uint64_t *started);
+struct splicer_reply splicer_open(uint64_t *head, const uint8_t *kept, const uint64_t *waiting, const uint64_t *started, uint32_t conn);
+struct splicer_reply splicer_close(uint64_t *head, const uint8_t *kept, uint64_t *waiting, uint64_t *started, uint32_t conn,
+                                   uint8_t *out, size_t room);
+struct splicer_reply splicer_message(uint64_t *head, const uint8_t *kept, uint64_t *waiting, uint64_t *started, uint32_t conn,
+                                     const uint8_t *in, size_t length, uint8_t *out, size_t room);
+struct splicer_reply splicer_tick(uint64_t *head, const uint8_t *kept, uint64_t *waiting, uint64_t *started, uint32_t seconds,
+                                  uint32_t micros, uint8_t *out, size_t room);
+
+/* Makes a splicer, whatever s held: clock 0, all connections closed. name: 32 bytes, a zero among them (else 9). */
+static inline struct splicer_reply splicer_call_fresh(struct splicer *s, const uint8_t *name) {
+    return splicer_fresh(name, s->head, s->name, s->waiting, s->started);
+}
+
+/* A server has connected. Refused: 1, 6. */
+static inline struct splicer_reply splicer_call_open(struct splicer *s, uint32_t conn) {
+    return splicer_open(s->head, s->name, s->waiting, s->started, conn);
+}
+
+/* The connection is gone. The records are not sent but logged. Refused: 1, 2, 7. */
+static inline struct splicer_reply splicer_call_close(struct splicer *s, uint32_t conn, uint8_t *out, size_t room) {
+    return splicer_close(s->head, s->name, s->waiting, s->started, conn, out, room);
+}
+
+/* Handles the first message of the `length` bytes read so far from conn; `consumed` says how many it was. Refused: 1, 2, 7, 5, 4. */
+static inline struct splicer_reply splicer_call_message(struct splicer *s, uint32_t conn, const uint8_t *in, size_t length, uint8_t *out,
+                                                        size_t room) {
+    return splicer_message(s->head, s->name, s->waiting, s->started, conn, in, length, out, room);
+}
+
+/* Brings the clock to a time and does what is due until then. Refused: 2, 8, 3. */
+static inline struct splicer_reply splicer_call_tick(struct splicer *s, uint32_t seconds, uint32_t micros, uint8_t *out, size_t room) {
+    return splicer_tick(s->head, s->name, s->waiting, s->started, seconds, micros, out, room);
+}
+
+/* A record in an output buffer: whom it is for, what it says, and the message as it is sent. The pointers lead into the buffer. */
+struct splicer_record {
+    uint32_t connection;
+    uint32_t message_id;
+    uint32_t result;
+    const uint8_t *data;
+    size_t size; /* of data */
+    const uint8_t *message;
+    size_t length; /* of message: 8 + size */
+};
+
+/* Numbers on the wire are big-endian. */
+static inline uint32_t splicer_u16(const uint8_t *p) {
+    return (uint32_t)p[0] << 8 | (uint32_t)p[1];
+}
+
+static inline uint32_t splicer_u32(const uint8_t *p) {
+    return splicer_u16(p) << 16 | splicer_u16(p + 2);
+}
+
+/* The record at *at of the `written` bytes; moves *at behind it. 1, or 0 at the end. Start with *at == 0. */
+static inline int splicer_next_record(const uint8_t *out, size_t written, size_t *at, struct splicer_record *r) {
+    const uint8_t *p = out + *at;
+    size_t left = written - *at;
+    if (left < SPLICER_MARK + SPLICER_HEADER || p[0] != 0x52) {
+        return 0;
+    }
+    r->connection = p[1];
+    r->message = p + SPLICER_MARK;
+    r->message_id = splicer_u16(r->message);
+    r->size = splicer_u16(r->message + 2);
+    r->result = splicer_u16(r->message + 4);
+    r->data = r->message + SPLICER_HEADER;
+    r->length = SPLICER_HEADER + r->size;
+    if (left < SPLICER_MARK + r->length) {
+        return 0;
+    }
+    *at += SPLICER_MARK + r->length;
+    return 1;
+}
+
+#ifdef __cplusplus
+}
+#endif
+
+#endif

@@ -1,0 +1,48 @@
+#!/bin/sh
+# driver.sh: the C header by itself, as C11 and C++17, and the example driver over the proved archive, its output compared with
+# examples/driver.out. All by the kit's own compiler and linker. The last line is 'N passed, M failed'.
+set -eu
+cd "$(dirname "$0")/.."
+work=target/driver
+mkdir -p "$work"
+kit=${RATTLE_HOME:-$(cd "$(dirname "$(readlink -f "$(command -v rt)")")/.." && pwd -P)}
+clang=$kit/on/$(uname -m)/toolchain/bin/clang
+passed=0
+failed=0
+
+# tried NAME COMMAND..: counts it, and shows what a failed one printed
+tried() {
+    name=$1
+    shift
+    if "$@" >"$work/log" 2>&1; then
+        echo "driver: $name: good"
+        passed=$((passed + 1))
+    else
+        cat "$work/log"
+        echo "driver: $name: FAILED"
+        failed=$((failed + 1))
+    fi
+}
+
+# header LANGUAGE STANDARD: a source of nothing but the header
+header() {
+    echo '#include "splicer.h"' | "$clang" --target=x86_64-unknown-linux-gnu -DSPLICER_NO_STANDARD_HEADERS -x "$1" -std="$2" \
+        -Wall -Wextra -Wpedantic -Werror -Iinclude -fsyntax-only -
+}
+
+# built: the archive of the proved crate, and the program over it
+built() {
+    rt staticlib door && sh tools/build-driver.sh "$work/driver" examples/driver.c target/staticlib/libdoor.a -Iinclude
+}
+
+# runs: the program writes what was worked out by hand
+runs() {
+    sh tools/run-program.sh "$work/driver" >"$work/out" && diff examples/driver.out "$work/out"
+}
+
+tried 'header as C11' header c c11
+tried 'header as C++17' header c++ c++17
+tried 'build' built
+tried 'run' runs
+echo "$passed passed, $failed failed"
+[ "$failed" -eq 0 ]
