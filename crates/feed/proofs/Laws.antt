@@ -1,19 +1,17 @@
 -- A record of the input is the call that document 01's card program makes of it, also with more input behind it.
-use mathlib.Core.Path.{_≡_, refl, sym, ap, _∙_}
+use mathlib.Core.Path.{_≡_, refl, ap, _∙_}
 use mathlib.Core.Bool.{Bool, true, false, cond}
-use mathlib.Core.List.{List, [], _∷_, _++_}
-use Prim.Native.Nat.{ℕ, zero, suc, _+_, _-_, _≤_, _<_}
+use mathlib.Core.List.{List}
+use Prim.Native.Nat.{ℕ, _+_, _-_}
 use native.Mathlib.Omega.{arith}
 use lib.Dec.{eqb, ltb}
 use lib.ListN.{length, getD, take, drop}
 use lib.Seq.{drop-drop}
-use borrow.Author.Tests.{ltb-true, ltb-false}
+use borrow.Author.Tests.{ltb-false}
 use Rattle.rules.specs.Bytes.{value, part, field, messageSize}
-use Rattle.rules.specs.Calls.{Call, opens, closes, messages, ticks}
-use Rattle.rules.specs.Card.{Next, calls, ends, stops, cardRoom, next, nextMessage}
-use Rattle.rules.proofs.Tests.{by}
+use Rattle.rules.specs.Calls.{opens, closes, messages, ticks}
+use Rattle.rules.specs.Card.{calls, ends, stops, cardRoom, next, nextMessage}
 use Rattle.rules.proofs.Values.{field-one}
-use Rattle.feed.specs.declared.Record.{Record}
 use Rattle.feed.specs.declared.Record.the-variants.{Open, Close, Message, Oversize, Tick, Cut, Unknown}
 use Rattle.feed.specs.Feed.{sizeIn, messageIn, tickIn, recordIn, nextOf}
 

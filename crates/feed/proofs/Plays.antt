@@ -1,11 +1,11 @@
 -- What a call of the engine and the refusal behind it give is the record played.
 -- Rests on: the engine's answer is the definition's, so a refusal wrote nothing before its mark.
-use mathlib.Core.Path.{_≡_, refl, sym, subst, ap, ap₂, _∙_}
+use mathlib.Core.Path.{_≡_, refl, sym, subst, ap, _∙_}
 use mathlib.Core.Bool.{Bool, true, false}
 use mathlib.Core.List.{List, [], _∷_, _++_, append-nil}
 use Prim.Native.Nat.{ℕ, _+_, _-_, _≤_}
 use native.Mathlib.Omega.{arith}
-use lib.ListN.{length, drop, set}
+use lib.ListN.{length, set}
 use lib.Seq.{sets-eq}
 use Rattle.rules.specs.declared.Refusal.{Refusal}
 use Rattle.rules.specs.Bytes.{part, written}

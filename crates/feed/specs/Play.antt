@@ -8,7 +8,6 @@ use Rattle.rules.specs.Bytes.{written}
 use Rattle.rules.specs.State.{Splicer}
 use Rattle.rules.specs.Calls.{houseNumber, Call, call}
 use Rattle.rules.specs.Card.{Next, calls, ends, stops, next, shown}
-use Rattle.answers.specs.declared.Head.{Head}
 use Rattle.answers.specs.View.{view}
 use Rattle.engine.specs.declared.Answer.{Answer}
 use Rattle.engine.specs.declared.Answer.the-variants.{Refused, Done}

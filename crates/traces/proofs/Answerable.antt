@@ -1,16 +1,15 @@
 -- From every point of a trace every call has a result that its contract allows: the splicer that document 01 gives stands in some words.
-use mathlib.Core.Path.{_≡_, refl, sym, ap, _∙_}
+use mathlib.Core.Path.{_≡_, refl, sym, ap}
 use mathlib.Core.Bool.{Bool, true, false, cond}
-use mathlib.Core.List.{List, [], _∷_, _++_, map}
-use Prim.Native.Nat.{ℕ, _≤_}
-use native.Mathlib.Omega.{arith}
+use mathlib.Core.List.{List, [], _∷_, map}
+use Prim.Native.Nat.{ℕ}
 use lib.ListN.{length}
 use Rattle.rules.specs.declared.Refusal.the-variants.{Connection, AlreadyOpen, Name}
 use Rattle.rules.specs.Lists.{All}
 use Rattle.rules.specs.Bytes.{Byte, hasZero, nameIn, padded}
-use Rattle.rules.specs.State.{Queue, Splicer, opened, linkOf, isOpen, withLink}
-use Rattle.rules.specs.Calls.{Called, refuse, does, noConnection, openCall, Call, opens, closes, messages, ticks, call, bufferAfter, fresh}
-use Rattle.rules.specs.Sound.{Wired, Reached, Sound}
+use Rattle.rules.specs.State.{Splicer, opened, linkOf, isOpen, withLink}
+use Rattle.rules.specs.Calls.{refuse, does, noConnection, openCall, Call, opens, closes, messages, ticks, call, bufferAfter, fresh}
+use Rattle.rules.specs.Sound.{Wired, Sound}
 use Rattle.rules.proofs.Sound.{few-wait, few-started, reached-call, reached-sound}
 use Rattle.places.specs.Places.{lot, used, Good, zeros}
 use Rattle.answers.specs.declared.Head.{Head}
@@ -19,9 +18,9 @@ use Rattle.engine.specs.declared.Answer.the-variants.{Refused, Done}
 use Rattle.engine.specs.Lent.{Lent, answerOf, Answers}
 use Rattle.engine.proofs.Beginning.{start, fresh-good, fresh-bad}
 use Rattle.demands.proofs.Cases.{cases}
-use Rattle.traces.specs.Trace.{Memory, shown, Input, anOpen, aClose, aMessage, aTick, Typed, callOf, bufferOf, Result, Allowed, next, Made, made, Leads, Trace, Answerable, Run, inputs}
+use Rattle.traces.specs.Trace.{Memory, shown, Input, anOpen, aClose, aMessage, aTick, Typed, Result, next, Made, made, Leads, Answerable, Run, inputs}
 use Rattle.traces.proofs.Packed.{packed, length-packed, packed-good, packed-used, wordOf, links-words, words-low}
-use Rattle.traces.proofs.Steps.{wired, promised}
+use Rattle.traces.proofs.Steps.{promised}
 
 -- no call changes the name
 name-kept : (s : Splicer) (k : Call) → call k s .splicer .name ≡ s .name

@@ -7,14 +7,13 @@ use native.Mathlib.Omega.{arith}
 use lib.Dec.{eqb}
 use lib.ListN.{length}
 use borrow.Author.Tests.{ne-eqb, lt-leb}
-use Rattle.rules.specs.Lists.{All, put, keep, count, bit}
-use Rattle.rules.specs.Records.{recordsIn}
+use Rattle.rules.specs.Lists.{All, put, bit}
 use Rattle.rules.specs.History.{Event, Entry, entryIs, waitingCount, book}
 use Rattle.rules.proofs.Count.{count-append}
 use Rattle.demands.specs.Told.{fullTold, unended, entriesOf, Stands}
 use Rattle.demands.proofs.Demands as told
-use Rattle.traces.specs.Trace.{Memory, shown, Input, aClose, callOf, Result, next, Made, made, Trace, More, events, calls, number, bytesOf}
-use Rattle.traces.proofs.Steps.{wired, as-ruled, number-is}
+use Rattle.traces.specs.Trace.{Memory, shown, aClose, Result, next, Made, made, Trace, events, calls, number}
+use Rattle.traces.proofs.Steps.{number-is}
 use Rattle.traces.proofs.Course.{events-append, led-heard, led-wired, trace-told, trace-point}
 
 -- fewer than the reserved places are never a full queue

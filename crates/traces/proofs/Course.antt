@@ -1,18 +1,16 @@
 -- A whole trace: its events are the history of document 01's calls from a fresh splicer. By induction on the calls made, from Steps.
 use mathlib.Core.Path.{_≡_, refl, sym, ap, _∙_}
 use mathlib.Core.Bool.{false, cond}
-use mathlib.Core.List.{List, [], _∷_, _++_, map}
+use mathlib.Core.List.{List, [], _∷_, _++_}
 use Prim.Native.Nat.{ℕ}
 use native.Mathlib.Omega.{arith}
 use Rattle.rules.specs.declared.Refusal.the-variants.{Name}
 use Rattle.rules.specs.Lists.{All}
 use Rattle.rules.specs.Bytes.{hasZero}
-use Rattle.rules.specs.State.{Splicer}
 use Rattle.rules.specs.Calls.{fresh, Call, call, after}
-use Rattle.rules.specs.History.{Reply, Event, replyOf, history}
+use Rattle.rules.specs.History.{Reply, Event, history}
 use Rattle.rules.specs.Sound.{Wired}
 use Rattle.engine.specs.Lent.{Lent}
-use Rattle.engine.specs.declared.Answer.{Answer}
 use Rattle.engine.specs.declared.Said.{Said}
 use Rattle.engine.specs.declared.Answer.the-variants.{Refused}
 use Rattle.engine.proofs.Beginning.{start}
@@ -52,7 +50,7 @@ led-shown [] b m l = ap shown l
 led-shown (x ∷ h) b m l =
     led-shown h (next b (x .result)) m (l .2) ∙ ap (after (calls h)) (promised b (x .input) (x .result) (l .1) .splicer)
 
-abbrev LentAt : Memory → Type 0
+abbrev pub LentAt : Memory → Type 0
 LentAt m = Lent (m .head) (m .name) (m .words) (m .stack)
 
 led-lent : (h : List Made) (b m : Memory) → LentAt b → Leads b h m → LentAt m
@@ -89,17 +87,24 @@ module _ (name : List ℕ) where
   pub trace-lent : (h : List Made) (m : Memory) → Trace name h m → LentAt m
   trace-lent h m t = led-lent h (t .begun) m (t .fresh .lent) (t .leads)
 
+  pub trace-history : (h : List Made) (m : Memory) → Trace name h m → (events h ≡ history (calls h) (fresh name .splicer)) × (shown m ≡ after (calls h) (fresh name .splicer))
+  trace-history h m t =
+      let b = t .begun in (
+        led-heard h b m (t .leads) ∙ ap (history (calls h)) (t .fresh .splicer),
+        led-shown h b m (t .leads) ∙ ap (after (calls h)) (t .fresh .splicer),
+      )
+
   pub trace-told : (h : List Made) (m : Memory) → Trace name h m → FromFresh (events h) (shown m)
   trace-told h m t =
-      let b = t .begun in
+      let p = trace-history h m t in
       record {
         name = name;
         whole = t .whole;
         bytes = t .bytes;
         calls = calls h;
-        wired = led-wired h b m (t .leads);
-        heard = led-heard h b m (t .leads) ∙ ap (history (calls h)) (t .fresh .splicer);
-        same = led-shown h b m (t .leads) ∙ ap (after (calls h)) (t .fresh .splicer);
+        wired = led-wired h (t .begun) m (t .leads);
+        heard = p .0;
+        same = p .1;
       }
 
   pub trace-more : (h : List Made) (m : Memory) (i : Input) (r : Result) → More name h m i r → Trace name (h ++ (made i r ∷ [])) (next m r)

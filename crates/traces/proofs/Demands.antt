@@ -1,6 +1,7 @@
 -- READ THIS FIRST: the customer's demands as theorems about the calls of `engine`, each under its sentence. The only hypothesis is a trace
--- (specs/Trace): fresh, then any calls with any inputs, each result one that the call's contract allows. No axiom, no hole.
-use mathlib.Core.Path.{_≡_, refl, sym, ap, _∙_}
+-- (specs/Trace): fresh, then any calls with any inputs, each result one that the call's contract allows; proofs/Cited holds it to the contracts
+-- in engine/src/lib.rt. No axiom, no hole.
+use mathlib.Core.Path.{_≡_}
 use mathlib.Core.Bool.{true, false, cond}
 use mathlib.Core.List.{List, [], _∷_, _++_}
 use Prim.Native.Nat.{ℕ, _+_, _≤_, _<_}
@@ -12,14 +13,15 @@ use Rattle.rules.specs.Lists.{All}
 use Rattle.rules.specs.Bytes.{Byte, hasZero}
 use Rattle.rules.specs.Records.{recordsIn}
 use Rattle.rules.specs.Answers.{requested, spliceResult}
-use Rattle.rules.specs.History.{startsOf, endsOf, last, waitingCount, book, clockAfter}
+use Rattle.rules.specs.Calls.{fresh, after}
+use Rattle.rules.specs.History.{startsOf, endsOf, history, last, waitingCount, book, clockAfter}
 use Rattle.engine.specs.declared.Answer.the-variants.{Refused}
 use Rattle.engine.specs.Lent.{Lent}
 use Rattle.demands.specs.Told.{firstNumber, checks, answers, Asks, Passes, fullTold, outsOf, withoutOwn, startedTold, unended, Ended, Stands}
 use Rattle.demands.proofs.Demands as told
-use Rattle.traces.specs.Trace.{Memory, emptyMemory, shown, Input, aClose, aMessage, Typed, callOf, bufferOf, Result, next, Made, made, Trace, More, Point, numberIn, number, bytesOf, events, inputs, Answerable, Run, AsRuled}
+use Rattle.traces.specs.Trace.{Memory, emptyMemory, shown, Input, aClose, aMessage, Typed, callOf, bufferOf, Result, next, Made, made, Trace, More, Point, numberIn, number, bytesOf, events, calls, inputs, Answerable, Run, AsRuled}
 use Rattle.traces.proofs.Steps.{wired, as-ruled, number-first, unchanged}
-use Rattle.traces.proofs.Course.{trace-lent, trace-told, trace-more, trace-point, trace-same, fresh-number, fresh-empty}
+use Rattle.traces.proofs.Course.{trace-lent, trace-history, trace-told, trace-more, trace-point, trace-same, fresh-number, fresh-empty}
 use Rattle.traces.proofs.Closed.{not-full, closed-stands, unended-newer}
 use Rattle.traces.proofs.Answerable.{answerable, runs}
 
@@ -42,6 +44,7 @@ every-point = trace-point
 pub same-calls-same-results : (name : List ℕ) (h g : List Made) (m n : Memory) → Trace name h m → Trace name g n → inputs h ≡ inputs g → (h ≡ g) × (m ≡ n)
 same-calls-same-results = trace-same
 
+-- "Over all sequences": what follows is said of the name, the calls h made since, with their results, and the memory m now
 module _ (name : List ℕ) (h : List Made) (m : Memory) where
   -- ## Demand 1
 
@@ -53,13 +56,7 @@ module _ (name : List ℕ) (h : List Made) (m : Memory) where
   pub every-call-is-answered : Trace name h m → (i : Input) → Typed i → Answerable m i
   every-call-is-answered t = answerable m (trace-lent name h m t)
 
-  -- fresh: number 9 for a name without a zero byte, and then the memory is that of an empty name, without sessions
-  pub bad-name-number : (t : Trace name h m) → numberIn (t .answer) ≡ cond (hasZero name) 0 9
-  bad-name-number = fresh-number name h m
-
-  pub bad-name-gives-empty : (t : Trace name h m) → hasZero name ≡ false → t .begun ≡ emptyMemory
-  bad-name-gives-empty = fresh-empty name h m
-
+  -- the next call, with the input i, and its result r
   module _ (i : Input) (r : Result) (c : More name h m i r) where
     -- "A bad call gets its number from document 01": the first that applies, in 01's order; 0 stands for a good call
     pub bad-call-number : number r ≡ firstNumber (checks (callOf i) (shown m))
@@ -73,44 +70,29 @@ module _ (name : List ℕ) (h : List Made) (m : Memory) where
     pub answers-fit : length (bytesOf r) ≤ 3174
     answers-fit = rw (as-ruled m i r (c .allowed) .bytes) (told.answers-fit (events h) (shown m) (trace-told name h m (c .trace)) (callOf i))
 
-    -- ## Demand 2
+  -- fresh: number 9 for a name without a zero byte, and then the memory is that of an empty name, without sessions
+  pub bad-name-number : (t : Trace name h m) → numberIn (t .answer) ≡ cond (hasZero name) 0 9
+  bad-name-number = fresh-number name h m
 
-    -- "every answer byte, its order and the state after it are those that 01's rules give"
-    pub answers-as-ruled : AsRuled m i r
-    answers-as-ruled = as-ruled m i r (c .allowed)
+  pub bad-name-gives-empty : (t : Trace name h m) → hasZero name ≡ false → t .begun ≡ emptyMemory
+  bad-name-gives-empty = fresh-empty name h m
 
-    -- ## Demand 3: ends in an answer's bytes
+  -- ## Demand 2
 
-    -- An end, a Splice_Request's own answer apart, is of an accepted session that had none: it is neither a second end nor the end of a
-    -- number that nobody was granted
-    pub ends-are-owed : (d x : ℕ) → endsOf d x (withoutOwn (callOf i) (recordsIn (bytesOf r))) ≤ unended d x (book (events h) [])
-    ends-are-owed d x =
-        rw (as-ruled m i r (c .allowed) .bytes) (told.ends-are-owed d x (events h) (shown m) (trace-told name h m (c .trace)) (callOf i) (wired i (c .typed)))
+  -- "every answer byte, its order and the state after it are those that 01's rules give": of the next call
+  pub answers-as-ruled : (i : Input) (r : Result) → More name h m i r → AsRuled m i r
+  answers-as-ruled i r c = as-ruled m i r (c .allowed)
 
-    -- "Two operators' as-run logs listed a spot that never aired." A SpliceComplete flag 1 is written only under a number whose start is written, since its last end or by the same call
-    pub only-aired-is-listed : (d x : ℕ) → outsOf d x (recordsIn (bytesOf r)) ≤ startedTold d x (events h) 0 + startsOf d x (recordsIn (bytesOf r))
-    only-aired-is-listed d x =
-        rw (as-ruled m i r (c .allowed) .bytes) (told.only-aired-is-listed d x (events h) (shown m) (trace-told name h m (c .trace)) (callOf i) (wired i (c .typed)))
+  -- and of all calls together: their answers' bytes and refusals are those of 01's calls from a fresh splicer, and so is the splicer now
+  pub trace-as-ruled : Trace name h m → (events h ≡ history (calls h) (fresh name .splicer)) × (shown m ≡ after (calls h) (fresh name .splicer))
+  trace-as-ruled = trace-history name h m
 
-  -- ## Demand 2, the codes of a Splice_Request, and demand 3, the full queue
-
-  -- the connection d sends the bytes l, which are a Splice_Request q, with a buffer that holds e
-  module _ (d : ℕ) (l e : List ℕ) (r : Result) (c : More name h m (aMessage d l e) r) (q : Request) (asks : Asks d l (length e) q (shown m)) where
-    -- "An accepted request is accepted because the rules accept it; a refused one carries the first result code that applies.": the last record
-    -- in the answer's bytes is the Splice_Response with the code of 01's a to f
-    pub first-code-applies : last (answers (spliceResult (shown m .clock) d q (requested d q (shown m .queue)) (shown m .queue)) d (q .id)) (recordsIn (bytesOf r)) ≡ true
-    first-code-applies =
-        rw (as-ruled m (aMessage d l e) r (c .allowed) .bytes) (told.first-code-applies (events h) (shown m) (trace-told name h m (c .trace)) d l (length e) q asks)
-
-    -- "A request that passes every earlier check in 01's order is refused for a full queue exactly when the count is 20, or when it is at least
-    -- 10 and the four counts, each taken as at least 10, add up to 64." Else it is accepted
-    pub full-exactly-when : Passes d q (shown m) → last (answers (cond (fullTold d (events h)) 114 100) d (q .id)) (recordsIn (bytesOf r)) ≡ true
-    full-exactly-when p =
-        rw (as-ruled m (aMessage d l e) r (c .allowed) .bytes) (told.full-exactly-when (events h) (shown m) (trace-told name h m (c .trace)) d l (length e) q asks p)
-
-    -- "Reserved places hold against the other connections.": with fewer than 10 waiting it is accepted, whatever the others have
-    pub reserved-places-hold : Passes d q (shown m) → waitingCount d (events h) < 10 → last (answers 100 d (q .id)) (recordsIn (bytesOf r)) ≡ true
-    reserved-places-hold p few = rw (not-full d (events h) few) at (full-exactly-when p)
+  -- "An accepted request is accepted because the rules accept it; a refused one carries the first result code that applies.": connection d sends
+  -- the bytes l, which are a Splice_Request q; the last record in the answer's bytes is the Splice_Response with the code of 01's a to f
+  pub first-code-applies : (d : ℕ) (l e : List ℕ) (r : Result) → More name h m (aMessage d l e) r → (q : Request) → Asks d l (length e) q (shown m)
+      → last (answers (spliceResult (shown m .clock) d q (requested d q (shown m .queue)) (shown m .queue)) d (q .id)) (recordsIn (bytesOf r)) ≡ true
+  first-code-applies d l e r c q asks =
+      rw (as-ruled m (aMessage d l e) r (c .allowed) .bytes) (told.first-code-applies (events h) (shown m) (trace-told name h m (c .trace)) d l (length e) q asks)
 
   -- ## Demand 3
 
@@ -119,10 +101,35 @@ module _ (name : List ℕ) (h : List Made) (m : Memory) where
   pub count-never-passes-20 : Trace name h m → (d : ℕ) → waitingCount d (events h) ≤ 20
   count-never-passes-20 t = told.count-never-passes-20 (events h) (shown m) (trace-told name h m t)
 
+  module _ (d : ℕ) (l e : List ℕ) (r : Result) (c : More name h m (aMessage d l e) r) (q : Request) (asks : Asks d l (length e) q (shown m)) (passes : Passes d q (shown m)) where
+    -- "A request that passes every earlier check in 01's order is refused for a full queue exactly when the count is 20, or when it is at least
+    -- 10 and the four counts, each taken as at least 10, add up to 64." Else it is accepted
+    pub full-exactly-when : last (answers (cond (fullTold d (events h)) 114 100) d (q .id)) (recordsIn (bytesOf r)) ≡ true
+    full-exactly-when =
+        rw (as-ruled m (aMessage d l e) r (c .allowed) .bytes) (told.full-exactly-when (events h) (shown m) (trace-told name h m (c .trace)) d l (length e) q asks passes)
+
+    -- "Reserved places hold against the other connections.": with fewer than 10 waiting it is accepted, whatever the others have
+    pub reserved-places-hold : waitingCount d (events h) < 10 → last (answers 100 d (q .id)) (recordsIn (bytesOf r)) ≡ true
+    reserved-places-hold few = rw (not-full d (events h) few) at full-exactly-when
+
   -- "No accepted session gets a second end, and each gets exactly one end, at the latest when the clock is brought to its end time or its
   -- connection closes."
   pub one-end : Trace name h m → All (Ended (clockAfter (events h) 0)) (book (events h) [])
   one-end t = told.one-end (events h) (shown m) (trace-told name h m t)
+
+  -- the next call, of any connection d and any number x
+  module _ (i : Input) (r : Result) (c : More name h m i r) (d x : ℕ) where
+    -- An end in its answer's bytes, a Splice_Request's own answer apart, is of an accepted session that had none: it is neither a second end
+    -- nor the end of a number that nobody was granted
+    pub ends-are-owed : endsOf d x (withoutOwn (callOf i) (recordsIn (bytesOf r))) ≤ unended d x (book (events h) [])
+    ends-are-owed =
+        rw (as-ruled m i r (c .allowed) .bytes) (told.ends-are-owed d x (events h) (shown m) (trace-told name h m (c .trace)) (callOf i) (wired i (c .typed)))
+
+    -- "Two operators' as-run logs listed a spot that never aired.": a SpliceComplete flag 1 is written only under a number whose start is
+    -- written, since its last end or by the same call
+    pub only-aired-is-listed : outsOf d x (recordsIn (bytesOf r)) ≤ startedTold d x (events h) 0 + startsOf d x (recordsIn (bytesOf r))
+    only-aired-is-listed =
+        rw (as-ruled m i r (c .allowed) .bytes) (told.only-aired-is-listed d x (events h) (shown m) (trace-told name h m (c .trace)) (callOf i) (wired i (c .typed)))
 
 -- ## The incident
 

@@ -2,5 +2,6 @@ pub mod Demands
 pub mod Steps
 pub mod Course
 pub mod Closed
+pub mod Cited
 pub mod Packed
 pub mod Answerable

@@ -1,6 +1,5 @@
 -- Every splicer of 64 waiting and 10 started sessions at most stands in some words: eight for each session, then zeros.
-use mathlib.Core.Path.{_≡_, refl, sym, ap, _∙_}
-use mathlib.Core.Bool.{Bool, true, false, cond}
+use mathlib.Core.Path.{_≡_, refl, ap, _∙_}
 use mathlib.Core.List.{List, [], _∷_, map}
 use Prim.Native.Nat.{ℕ, zero, suc, _-_, _*_, _/_, _≤_}
 use native.Mathlib.Omega.{arith}
@@ -8,7 +7,7 @@ use lib.ListN.{length, take, drop, replicate}
 use Rattle.rules.specs.declared.Session.{Session}
 use Rattle.rules.specs.Lists.{All}
 use Rattle.rules.specs.State.{empty, Link, closed, opened, initialised}
-use Rattle.places.specs.Places.{rows, places, Lot, lot, used, Good}
+use Rattle.places.specs.Places.{rows, places, lot, used, Good}
 use Rattle.answers.specs.View.{linkOf}
 
 abbrev words : Session → List ℕ → List ℕ

@@ -1,9 +1,9 @@
 -- One call: what its contract allows is what document 01 says of it. Rests on engine's answers-same and refused-unchanged.
 use mathlib.Core.Path.{_≡_, refl, sym, ap, _∙_}
 use mathlib.Core.Bool.{Bool, true, false, cond}
-use mathlib.Core.List.{List, [], _∷_, _++_}
-use Prim.Native.Nat.{ℕ, _+_, _≤_}
-use lib.ListN.{length, take, drop}
+use mathlib.Core.List.{List, []}
+use Prim.Native.Nat.{ℕ, _+_}
+use lib.ListN.{length, drop}
 use lib.Seq.{take-append-seam}
 use Rattle.rules.specs.declared.Refusal.{Refusal}
 use Rattle.rules.specs.declared.Refusal.the-variants.{Connection, AlreadyOpen}
@@ -14,14 +14,13 @@ use Rattle.rules.specs.Calls.{Called, refuse, does, openCall, call, refused, go
 use Rattle.rules.specs.Calls as rules
 use Rattle.rules.specs.History.{wrote, replyOf}
 use Rattle.rules.specs.Sound.{Wired}
-use Rattle.rules.proofs.Tests.{by}
-use Rattle.engine.specs.declared.Answer.the-variants.{Refused, Done}
+use Rattle.engine.specs.declared.Answer.the-variants.{Refused}
 use Rattle.engine.specs.declared.Said.{Said}
 use Rattle.engine.specs.Lent.{Lent, answerOf, Answers}
 use Rattle.engine.proofs.Laws.{answers-same, buffer-same, refused-unchanged}
 use Rattle.demands.specs.Told.{firstNumber, checks, numberOf}
 use Rattle.demands.proofs.Refusals.{first-number}
-use Rattle.traces.specs.Trace.{Memory, shown, Input, anOpen, aClose, aMessage, aTick, Typed, callOf, bufferOf, Result, Allowed, next, numberIn, bytesIn, bytesOf, number, replyIn, AsRuled}
+use Rattle.traces.specs.Trace.{Memory, shown, Input, anOpen, aClose, aMessage, aTick, Typed, callOf, bufferOf, Result, Allowed, next, numberIn, bytesIn, number, replyIn, AsRuled}
 
 -- the types say what the rules ask of a call
 pub wired : (i : Input) → Typed i → Wired (callOf i)

@@ -1,7 +1,7 @@
 -- A trace: what the driver sees of the five calls of `engine`, any number of them in any order, each result one that the call's
 -- contract allows. The contracts' own words (`Answers`, `view`, `bufferAfter`) stand here as they stand in engine/src/lib.rt.
 use mathlib.Core.Path.{_≡_}
-use mathlib.Core.List.{List, [], _∷_, _++_, map}
+use mathlib.Core.List.{List, [], _∷_, map}
 use Prim.Native.Nat.{ℕ, _<_}
 use lib.ListN.{length, take, replicate}
 use Rattle.rules.specs.Lists.{All}

@@ -2,16 +2,10 @@
 use native.Mathlib.Omega.{arith}
 use borrow.Author.Needs.{needs}
 use borrow.Author.Tests.{lt-ltb, le-ltb, eq-eqb, ne-eqb}
-use Prim.Native.Nat.{_+_}
-use mathlib.Core.Path.{_≡_, ap, ap₂, sym, _∙_}
 use lib.ListN.{length, getD}
-use Rattle.feed.specs.Feed.{recordIn, sizeIn}
+use Rattle.feed.specs.Feed.{recordIn}
 use Rattle.feed.proofs.take.Statement.{statement}
 use Rattle.feed.proofs.take.Tie as tie
-use Rattle.feed.proofs.take.Reads as reads
-use Rattle.feed.proofs.take.Lts as lts
-use Rattle.feed.proofs.take_message.Reads as take-message-reads
-use Rattle.feed.proofs.take_tick.Reads as take-tick-reads
 
 -- src/lib.rt:50:9
 returns : tie.Need-returns

@@ -1,17 +1,14 @@
 -- Each answer follows from the tests that led there.
 use native.Mathlib.Omega.{arith}
 use borrow.Author.Needs.{needs}
-use borrow.Author.Tests.{lt-ltb, le-ltb, eq-eqb, ne-eqb}
+use borrow.Author.Tests.{lt-ltb, le-ltb}
 use Prim.Native.Nat.{_+_}
-use mathlib.Core.Path.{_≡_, ap, ap₂, sym, _∙_}
+use mathlib.Core.Path.{ap}
 use lib.ListN.{length, getD}
-use Rattle.feed.specs.Feed.{recordIn, sizeIn}
+use Rattle.feed.specs.Feed.{sizeIn}
 use Rattle.feed.specs.declared.Record.the-variants.{Message}
 use Rattle.feed.proofs.take_message.Statement.{statement}
 use Rattle.feed.proofs.take_message.Tie as tie
-use Rattle.feed.proofs.take_message.Reads as reads
-use Rattle.feed.proofs.take_message.Lts as lts
-use Rattle.reading.proofs.numbers.number2.Reads as number2-reads
 
 -- src/lib.rt:24:9
 returns : tie.Need-returns

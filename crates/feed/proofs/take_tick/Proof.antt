@@ -1,17 +1,12 @@
 -- Each answer follows from the tests that led there.
 use native.Mathlib.Omega.{arith}
 use borrow.Author.Needs.{needs}
-use borrow.Author.Tests.{lt-ltb, le-ltb, eq-eqb, ne-eqb}
-use Prim.Native.Nat.{_+_}
-use mathlib.Core.Path.{_≡_, ap, ap₂, sym, _∙_}
-use lib.ListN.{length, getD}
-use Rattle.feed.specs.Feed.{recordIn, sizeIn}
+use borrow.Author.Tests.{lt-ltb, le-ltb}
+use mathlib.Core.Path.{ap₂}
+use lib.ListN.{length}
 use Rattle.feed.specs.declared.Record.the-variants.{Tick}
 use Rattle.feed.proofs.take_tick.Statement.{statement}
 use Rattle.feed.proofs.take_tick.Tie as tie
-use Rattle.feed.proofs.take_tick.Reads as reads
-use Rattle.feed.proofs.take_tick.Lts as lts
-use Rattle.reading.proofs.numbers.number4.Reads as number4-reads
 
 -- src/lib.rt:40:9
 returns : tie.Need-returns

@@ -3,8 +3,6 @@ use mathlib.Core.Path.{sym, ap}
 use Rattle.rules.specs.Calls.{houseNumber}
 use Rattle.feed.proofs.playing.house_number.Statement.{statement}
 use Rattle.feed.proofs.playing.house_number.Tie as tie
-use Rattle.feed.proofs.playing.house_number.Reads as reads
-use Rattle.feed.proofs.playing.house_number.Lts as lts
 
 -- src/playing.rt:22:32
 enum-told : tie.Need-enum-told

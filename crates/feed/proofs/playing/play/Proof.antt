@@ -1,27 +1,15 @@
 -- Each arm is its call of the engine and what is written behind it; the record says how many bytes it took.
-use mathlib.Core.Path.{_≡_, refl, subst}
-use mathlib.Core.Bool.{true}
 use Prim.Native.Nat.{_+_, _-_}
 use native.Mathlib.Omega.{arith}
-use lib.ListN.{take, drop}
 use Rattle.rules.specs.Bytes.{part}
-use Rattle.rules.specs.Calls.{opens, closes, messages, ticks, call, openCall}
-use Rattle.rules.specs.Card.{cardRoom}
+use Rattle.rules.specs.Calls.{closes, messages, ticks, call, openCall}
 use Rattle.answers.specs.View.{view}
 use Rattle.feed.specs.Feed.{nextOf, usedBy, isCut}
-use Rattle.feed.specs.Play.{madeBy, stepBy, Plays}
+use Rattle.feed.specs.Play.{stepBy}
 use Rattle.feed.proofs.Plays.{ended-plays, open-silent, made-plays, plays-as, message-plays, used-within, stopped-plays}
 use borrow.Author.Needs.{needs}
 use Rattle.feed.proofs.playing.play.Statement.{statement}
 use Rattle.feed.proofs.playing.play.Tie as tie
-use Rattle.feed.proofs.playing.play.Reads as reads
-use Rattle.feed.proofs.playing.play.Lts as lts
-use Rattle.engine.proofs.close.Reads as close-reads
-use Rattle.engine.proofs.message.Reads as message-reads
-use Rattle.engine.proofs.open.Reads as open-reads
-use Rattle.engine.proofs.tick.Reads as tick-reads
-use Rattle.feed.proofs.playing.ended.Reads as ended-reads
-use Rattle.feed.proofs.playing.stopped.Reads as stopped-reads
 
 enum-known-r : tie.Need-enum-known-r
 enum-known-r c = search needs

@@ -7,9 +7,6 @@ use Rattle.feed.proofs.Plays.{tells-refused}
 use borrow.Author.Needs.{needs}
 use Rattle.feed.proofs.playing.tell.Statement.{statement}
 use Rattle.feed.proofs.playing.tell.Tie as tie
-use Rattle.feed.proofs.playing.tell.Reads as reads
-use Rattle.feed.proofs.playing.tell.Lts as lts
-use Rattle.feed.proofs.playing.house_number.Reads as house-number-reads
 
 enum-known-a : tie.Need-enum-known-a
 enum-known-a c = search needs
