@@ -6,11 +6,14 @@ use Prim.Native.Nat.{ℕ, zero, suc, _<_}
 use native.Mathlib.Omega.{arith}
 use lib.ListN.{length, getD}
 use lib.Seq.{ext-getD}
-use Rattle.rules.specs.Calls.{Called}
+use Rattle.rules.specs.Calls.{Called, Call, call, bufferAfter}
 use Rattle.answers.specs.View.{view}
+use Rattle.engine.specs.declared.Answer.{Answer}
+use Rattle.engine.specs.declared.Answer.the-variants.{Refused, Done}
 use Rattle.engine.specs.declared.Said.{Said}
-use Rattle.engine.specs.Lent.{Answers, answerOf}
+use Rattle.engine.specs.Lent.{Lent, Answers, answerOf}
 use Rattle.engine.proofs.Laws.{answers-same}
+use Rattle.engine.proofs.Laws as engine
 use Rattle.door.specs.declared.Reply.{Reply}
 use Rattle.door.specs.Door.{headOf, replyOf, Replies}
 
@@ -53,3 +56,17 @@ pub replies-same : (c : Called) (r s : Reply) (h n w k g m v j : List ℕ) → R
 replies-same c r s h n w k g m v j a b =
     let e = answers-same c (saidBy c h) (saidBy c g) n w k m v j (answered c r h n w k a) (answered c s g m v j b) in
     (a .reply ∙ sym (b .reply), words-same h g (a .whole) (b .whole) (ap (λ y. y .head) (e .0)), e .1, e .2, e .3)
+
+-- "A refusal returns its number, writes nothing, consumes nothing and changes no state."
+pub refused-unchanged : (i : Call) (h name w k : List ℕ) (r : Reply) (g m v j e o : List ℕ) → length h ≡ 7 → Lent (headOf h) name w k
+    → Replies (call i (view (headOf h) name w k)) r g m v j → o ≡ bufferAfter (call i (view (headOf h) name w k) .answer) e → 0 < r .refused
+    → (g ≡ h) × (m ≡ name) × (v ≡ w) × (j ≡ k) × (o ≡ e)
+unfolding replyOf
+refused-unchanged i h name w k r g m v j e o n l a b f = by (answerOf (call i (view (headOf h) name w k) .answer)) refl
+  where
+    by : (y : Answer) → answerOf (call i (view (headOf h) name w k) .answer) ≡ y → (g ≡ h) × (m ≡ name) × (v ≡ w) × (j ≡ k) × (o ≡ e)
+    by (Refused x) y =
+        let c = call i (view (headOf h) name w k) in
+        let u = engine.refused-unchanged i x (headOf h) name w k (saidBy c g) m v j e o l (answered c r g m v j a) b y in
+        (words-same g h (a .whole) n (ap (λ z. z .head) (u .0 .0)), u .0 .1, u .0 .2, u .0 .3, u .1)
+    by (Done x z) y = let t : r .refused ≡ 0 = ap (λ t. t .refused) (a .reply ∙ ap replyOf y) in absurd (omega arith)
