@@ -4,6 +4,8 @@ use feed::Played;
 ghost use mathlib.Core.Path.{_≡_};
 ghost use Prim.Native.Nat.{_+_, _-_, _≤_};
 ghost use lib.ListN.{length, take, drop};
+ghost use Rattle.rules.specs.Bytes.{padded};
+ghost use Rattle.rules.specs.Card.{cardName};
 ghost use Rattle.answers.specs.View.{view};
 ghost use Rattle.engine.specs.Lent.{Lent};
 ghost use Rattle.card.specs.Ran.{Runs, Turned};
@@ -129,15 +131,22 @@ fn turns(h: Head, name: &[u8], w: &mut [u64], k: &mut [u64], input: &mut [u8], o
     }
 }
 
+// ChannelName is "CH1".
+fn channel() -> [u8; 32]
+    ensures { λ r. ⌜ r ≡ padded cardName ⌝ }
+{
+    let mut r = [0; 32];
+    r[0] = b'C';
+    r[1] = b'H';
+    r[2] = b'1';
+    r
+}
+
 fn main() {
-    let mut channel = [0; 32];
-    channel[0] = b'C';
-    channel[1] = b'H';
-    channel[2] = b'1';
     let mut name = [0; 32];
     let mut w = [0; 512];
     let mut k = [0; 80];
-    let s = engine::fresh(channel, &mut name, &mut w, &mut k);
+    let s = engine::fresh(channel(), &mut name, &mut w, &mut k);
     let mut input = io::large_buffer();
     let mut out = io::large_buffer();
     let head = s.head;

@@ -15,7 +15,7 @@ use Rattle.rules.specs.declared.Framing.the-variants.{Framed, Unframed}
 use Rattle.rules.specs.Lists.{All}
 use Rattle.rules.specs.Bytes.{Byte, nameIn, dataOf, written}
 use Rattle.rules.specs.Units.{timeOf, fromMicros}
-use Rattle.rules.specs.State.{Link, closed, opened, Queue, Splicer, of, isOpen, toCome, withLink, withQueue}
+use Rattle.rules.specs.State.{Link, closed, opened, Queue, Splicer, of, isOpen, toCome, withLink}
 use Rattle.rules.specs.Records.{Record, output}
 use Rattle.rules.specs.Ends.{Turn, cancelled, closedBy}
 use Rattle.rules.specs.Instants.{runAll}
@@ -83,15 +83,15 @@ module _ (i : Call) (h : Head) (name w k : List ℕ) (g : Head) (v j : List ℕ)
 abbrev pub turnedHead : Ninths → List ℕ → Counts → Head
 turnedHead u l t = record { clock = u; waiting = t .waiting; started = t .started; links = l }
 
-module _ (h : Head) (name w k v j : List ℕ) (u : Ninths) (l : List ℕ) (t : Counts) where
-  pub turned-form : (b o : List ℕ) (len : ℕ) (q : Turn) → All (λ n. n ≤ 2) l → length v ≡ length w → length j ≡ length k → Form h name w k → Turns b len q v j t o
-      → Form (turnedHead u l t) name v j
-  turned-form b o len q a x y f m =
-      record { waiting = m .waiting; started = m .started; places = x ∙ f .places; stack = y ∙ f .stack; links = a; stored = f .stored }
-
-  pub turned-view : (q : Queue) (ls : List Link) → queueOf v (t .waiting) j (t .started) ≡ q → map linkOf l ≡ ls
-      → view (turnedHead u l t) name v j ≡ record { name = nameIn name; clock = u .0; links = ls; queue = q }
-  turned-view q ls e f = ap (λ y. record { name = nameIn name; clock = u .0; links = map linkOf l; queue = y }) e ∙ ap (λ y. record { name = nameIn name; clock = u .0; links = y; queue = q }) f
+pub turned-both : (i : Call) (h : Head) (name w k v j b o : List ℕ) (u : Ninths) (g : List ℕ) (ls : List Link) (t : Counts) (q : Turn) (r : Said) → Lent h name w k → Wired i
+    → call i (view h name w k) ≡ does 0 (q .written) (record { name = nameIn name; clock = u .0; links = ls; queue = q .queue })
+    → r ≡ record { head = turnedHead u g t; answer = Done 0 (t .len) } → All (λ n. n ≤ 2) g → map linkOf g ≡ ls → length v ≡ length w → length j ≡ length k → Turns b 0 q v j t o
+    → Promised (call i (view h name w k)) r name v j b o
+turned-both i h name w k v j b o u g ls t q r l wired e y a z m n x =
+    let f = l .form in
+    let form : Form (turnedHead u g t) name v j = record { waiting = x .waiting; started = x .started; places = m ∙ f .places; stack = n ∙ f .stack; links = a; stored = f .stored } in
+    let shown : view (turnedHead u g t) name v j ≡ record { name = nameIn name; clock = u .0; links = ls; queue = q .queue } = ap (λ p. record { name = nameIn name; clock = u .0; links = map linkOf g; queue = p }) (x .queue) ∙ ap (λ p. record { name = nameIn name; clock = u .0; links = p; queue = q .queue }) z in
+    rw y (done-both i h name w k (turnedHead u g t) v j 0 (t .len) (q .written) _ l wired e b o form shown (omega (arith, x .count)) (x .bytes))
 
 -- ## What the work of a call may rely on
 
@@ -184,17 +184,13 @@ pub guard-refused : (h : Head) (name w k : List ℕ) (c : ℕ) (b : List ℕ) (x
 guard-refused h name w k c b x r n t l e f g =
     refused-both h name w k (guarded c (length b) (view h name w k) x) n r b l g (guarded-is c (length b) (view h name w k) x (Bad n) (sym f ∙ e))
 
-pub close-done : (h : Head) (name w k : List ℕ) (c : ℕ) (b : List ℕ) (l : Lent h name w k) (v j o : List ℕ) (t : Counts) → Good ≡ openTest c (length b) (map linkOf (h .links))
-    → length v ≡ length w → length j ≡ length k → Turns b 0 (cancelled (of c) (queueOf w (h .waiting) k (h .started))) v j t o
-    → Promised (closeCall c (length b) (view h name w k)) (record { head = turnedHead (h .clock) (set (h .links) c 0) t; answer = Done 0 (t .len) }) name v j b o
+pub close-done : (h : Head) (name w k : List ℕ) (c : ℕ) (b v j o : List ℕ) (t : Counts) (r : Said) → Lent h name w k → r ≡ record { head = turnedHead (h .clock) (set (h .links) c 0) t; answer = Done 0 (t .len) }
+    → Good ≡ openTest c (length b) (map linkOf (h .links)) → length v ≡ length w → length j ≡ length k → Turns b 0 (cancelled (of c) (queueOf w (h .waiting) k (h .started))) v j t o
+    → Promised (closeCall c (length b) (view h name w k)) r name v j b o
 unfolding closeCall closedBy call
-close-done h name w k c b l v j o t e x y a =
-    let q = cancelled (of c) (queueOf w (h .waiting) k (h .started)) in
-    let g = set (h .links) c 0 in
-    done-both (closes c (length b)) h name w k (turnedHead (h .clock) g t) v j 0 (t .len) (q .written) (withLink c closed (withQueue (q .queue) (view h name w k))) l tt
-    (guarded-is c (length b) (view h name w k) _ Good e) b o
-    (turned-form h name w k v j (h .clock) g t b o 0 q (all-set (h .links) c 0 (omega arith) (l .form .links)) x y (l .form) a)
-    (turned-view h name w k v j (h .clock) g t (q .queue) (set (map linkOf (h .links)) c closed) (a .queue) (link-set (h .links) c 0)) (omega (arith, a .count)) (a .bytes)
+close-done h name w k c b v j o t r l i e x y a =
+    turned-both (closes c (length b)) h name w k v j b o (h .clock) (set (h .links) c 0) (set (map linkOf (h .links)) c closed) t (cancelled (of c) (queueOf w (h .waiting) k (h .started))) r l tt
+    (guarded-is c (length b) (view h name w k) _ Good e) i (all-set (h .links) c 0 (omega arith) (l .form .links)) (link-set (h .links) c 0) x y a
 
 -- ## Message
 
@@ -247,12 +243,10 @@ module _ (h : Head) (name w k : List ℕ) (seconds micros : ℕ) (b : List ℕ) 
         rw (le-ltb (length b) 4096 m, le-ltb 999999 micros u, le-ltb ((seconds * 1000000 + micros) * 9) (h .clock .0) (rw (ap (λ y. y .0) same) at e))
         (ap (λ y. ticked (y .0) (view h name w k)) (sym same))
 
-    pub tick-done : (v j o : List ℕ) (t : Counts) → seconds < 4294967296 → 4096 ≤ length b → micros ≤ 999999 → h .clock .0 ≤ until .0 → length v ≡ length w → length j ≡ length k
-        → Turns b 0 (runAll (h .clock .0) (until .0) (queueOf w (h .waiting) k (h .started))) v j t o
-        → Promised ticking (record { head = turnedHead until (h .links) t; answer = Done 0 (t .len) }) name v j b o
+    pub tick-done : (v j o : List ℕ) (t : Counts) (r : Said) → r ≡ record { head = turnedHead until (h .links) t; answer = Done 0 (t .len) } → seconds < 4294967296 → 4096 ≤ length b → micros ≤ 999999
+        → h .clock .0 ≤ until .0 → length v ≡ length w → length j ≡ length k → Turns b 0 (runAll (h .clock .0) (until .0) (queueOf w (h .waiting) k (h .started))) v j t o
+        → Promised ticking r name v j b o
     unfolding call ticked
-    tick-done v j o t f m u e x y a =
-        let q = runAll (h .clock .0) (until .0) (queueOf w (h .waiting) k (h .started)) in
-        done-both (ticks seconds micros (length b)) h name w k (turnedHead until (h .links) t) v j 0 (t .len) (q .written) _ l f (tick-good m u e) b o
-        (turned-form h name w k v j until (h .links) t b o 0 q (l .form .links) x y (l .form) a)
-        (turned-view h name w k v j until (h .links) t (q .queue) (map linkOf (h .links)) (a .queue) refl) (omega (arith, a .count)) (a .bytes)
+    tick-done v j o t r i f m u e x y a =
+        turned-both (ticks seconds micros (length b)) h name w k v j b o until (h .links) (map linkOf (h .links)) t (runAll (h .clock .0) (until .0) (queueOf w (h .waiting) k (h .started))) r l f
+        (tick-good m u e) i (l .form .links) refl x y a

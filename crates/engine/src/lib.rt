@@ -1,6 +1,7 @@
 // The five calls of document 01, over memory that the caller lends: the stored ChannelName (32 bytes), the words of the waiting
 // sessions (64 places) and of the started ones (10 places). The head is small and goes by value.
 use answers::Head;
+use ends::Counts;
 use places::Key;
 use rules::Framing;
 use rules::Ninths;
@@ -12,7 +13,7 @@ ghost use Rattle.rules.specs.Bytes.{nameIn, padded};
 ghost use Rattle.rules.specs.Calls.{fresh, openCall, closeCall, messageCall, tickCall, bufferAfter};
 ghost use Rattle.answers.specs.View.{linkOf, view};
 ghost use Rattle.engine.specs.Lent.{Lent, Answers, openTest};
-ghost use Rattle.engine.specs.declared.Answer.the-variants.{Refused};
+ghost use Rattle.engine.specs.declared.Answer.the-variants.{Refused, Done};
 
 // What a call answers: a refusal, or the bytes consumed and the bytes written.
 pub enum Answer {
@@ -84,6 +85,19 @@ fn refuse(h: Head, n: Refusal) -> Said
     }
 }
 
+// What close and tick answer when the work has left these counts: nothing is consumed.
+fn turned(h: Head, t: Counts) -> Said
+    ensures { λ r. ⌜ r ≡ record { head = record { clock = h .clock; waiting = t .waiting; started = t .started; links = h .links }; answer = Done 0 (t .len) } ⌝ }
+{
+    let mut m = h;
+    m.waiting = t.waiting;
+    m.started = t.started;
+    Said {
+        head: m,
+        answer: Answer::Done(0, t.len),
+    }
+}
+
 // Open: 1, 6.
 pub fn open(h: Head, name: &[u8], w: &[u64], k: &[u64], conn: u32) -> Said
     requires { ⌜ Lent h (now name) (now w) (now k) ⌝ }
@@ -136,12 +150,7 @@ pub fn close(h: Head, name: &[u8], w: &mut [u64], k: &mut [u64], conn: u32, out:
     let mut m = h;
     let c = conn as usize;
     m.links[c] = 0;
-    m.waiting = t.waiting;
-    m.started = t.started;
-    Said {
-        head: m,
-        answer: Answer::Done(0, t.len),
-    }
+    turned(m, t)
 }
 
 // Message: 1, 2, 7, then 5 (header), 4, 5 (body); then the answer.
@@ -213,10 +222,5 @@ pub fn tick(
     );
     let mut m = h;
     m.clock = until;
-    m.waiting = t.waiting;
-    m.started = t.started;
-    Said {
-        head: m,
-        answer: Answer::Done(0, t.len),
-    }
+    turned(m, t)
 }

@@ -122,6 +122,10 @@ slot : List Call
 slot =
     timed 0 3 1003 0 3 0 2700000 ∷ timed 1 5 1006 0 5 1 900000 ∷ to 1010 0 ∷ closes 1 4096 ∷ timed 2 6 1015 0 5 1 900000 ∷ to 1050 0 ∷ []
 
+-- check e, "Counted before f.": with 20 waiting a request that would evict one of them is refused all the same
+fullBefore : List Call
+fullBefore = queued 20 0 0 0 ++ (timed 0 99 2005 0 2 0 90000 ∷ [])
+
 -- a Splice_Request's 100, a start with 100, an end by SpliceComplete
 accepts : (conn id : ℕ) → Record
 accepts c x = SpliceResponse c 100 x
@@ -148,8 +152,9 @@ cases =
     ∷ says handOver (accepts 0 1 ∷ accepts 0 2 ∷ begins 0 1 ∷ stops 0 100 1 90000 ∷ begins 0 2 ∷ [])
     ∷ says slot (accepts 0 3 ∷ accepts 1 5 ∷ begins 0 3 ∷ begins 1 5 ∷ stops 1 116 5 360000 ∷ accepts 2 6 ∷ begins 2 6 ∷ stops 2 100 6 900000 ∷ stops 0 100 3 1440000 ∷ [])
     ∷ counting (ended slot) (1 ∷ 1 ∷ 1 ∷ [])
+    ∷ counting (ended fullBefore) (replicate 20 0)
     ∷ []
 
 worked : map (λ c. c .seen) cases ≡ map (λ c. c .wants) cases
-unfolding sent from initOf asks timed aborts to card plays up ready load queued linked known joined played says counting accepts begins stops lastWrites cases events counts Records.framed Records.recordBytes Records.output Records.recordIn Records.recordsUpTo Records.recordsIn Ends.closedBy Calls.closeCall Calls.answers History.isStart History.isEnd History.isYes History.history History.front History.last History.waitAnswered History.waitAfter History.waitReplied History.waitingTold History.waitingCount History.credited History.endTold History.startTold History.entryOf History.bookAnswered History.shut History.bookAfter History.bookReplied History.book place insertAt removeAt bytes value valueFrom Reading.readInit Reading.readAbort Reading.wellFormed Reading.readStart Reading.readSplice Reading.read State.empty State.due Ends.andThen Ends.endings Ends.walk Ends.followers Ends.dismissed Ends.evictedAt Ends.evicted Ends.cancelled Ends.aborted Instants.mayStart Instants.launched Instants.startAt Instants.endAt Instants.instant Instants.onAir Instants.elapse Instants.run Instants.runAll Answers.initResult Answers.answerInit Answers.answerAbort Answers.startOf Answers.sessionAt Answers.requested Answers.unknownPrior Answers.tooLate Answers.collides Answers.full Answers.spliceResult Answers.inserted Answers.accepted Answers.answerSplice Answers.answerRead Answers.answer Calls.houseNumber Calls.named Calls.fresh Calls.openCall Calls.framing Calls.handled Calls.messageCall Calls.ticked Calls.tickCall Calls.call Calls.writtenBy Card.cardName ended three sixtyFour through incident behindZero oneTick onlyDirect handOver slot History.endAsked
+unfolding fullBefore sent from initOf asks timed aborts to card plays up ready load queued linked known joined played says counting accepts begins stops lastWrites cases events counts Records.framed Records.recordBytes Records.output Records.recordIn Records.recordsUpTo Records.recordsIn Ends.closedBy Calls.closeCall Calls.answers History.isStart History.isEnd History.isYes History.history History.front History.last History.waitAnswered History.waitAfter History.waitReplied History.waitingTold History.waitingCount History.credited History.endTold History.startTold History.entryOf History.bookAnswered History.shut History.bookAfter History.bookReplied History.book place insertAt removeAt bytes value valueFrom Reading.readInit Reading.readAbort Reading.wellFormed Reading.readStart Reading.readSplice Reading.read State.empty State.due Ends.andThen Ends.endings Ends.walk Ends.followers Ends.dismissed Ends.evictedAt Ends.evicted Ends.cancelled Ends.aborted Instants.mayStart Instants.launched Instants.startAt Instants.endAt Instants.instant Instants.onAir Instants.elapse Instants.run Instants.runAll Answers.initResult Answers.answerInit Answers.answerAbort Answers.startOf Answers.sessionAt Answers.requested Answers.unknownPrior Answers.tooLate Answers.collides Answers.full Answers.spliceResult Answers.inserted Answers.accepted Answers.answerSplice Answers.answerRead Answers.answer Calls.houseNumber Calls.named Calls.fresh Calls.openCall Calls.framing Calls.handled Calls.messageCall Calls.ticked Calls.tickCall Calls.call Calls.writtenBy Card.cardName ended three sixtyFour through incident behindZero oneTick onlyDirect handOver slot History.endAsked
 worked = refl

@@ -5,14 +5,8 @@ use borrow.Author.Needs.{needs}
 use Rattle.card.proofs.main.Statement.{statement}
 use Rattle.card.proofs.main.Tie as tie
 
-array-write-channel : tie.Need-array-write-channel
-array-write-channel c = search needs
-
-array-write-channel-2 : tie.Need-array-write-channel-2
-array-write-channel-2 c = search needs
-
-array-write-channel-3 : tie.Need-array-write-channel-3
-array-write-channel-3 c = search needs
+channel-requires : tie.Need-channel-requires
+channel-requires c κs = search needs
 
 fresh-requires : tie.Need-fresh-requires
 fresh-requires c κs = search needs
@@ -48,9 +42,7 @@ pub main-spec : {M : Type 1} → statement M
 main-spec =
     tie.close
     (tie.spec
-    array-write-channel
-    array-write-channel-2
-    array-write-channel-3
+    channel-requires
     fresh-requires
     large-buffer-requires
     large-buffer-requires-2

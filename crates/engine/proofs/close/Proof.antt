@@ -45,6 +45,9 @@ element-write-m c =
     let e = test-past (s .args .conn) (length (s .args .out .now)) (map linkOf (s .args .h .links)) (sym (c .before .before .before .before .before .before .before .before .before .before .enum-told .given .1) ∙ c .before .before .before .before .before .before .before .before .before .before .before .before .test-open .ensures) in
     search (needs, e)
 
+turned-requires : tie.Need-turned-requires
+turned-requires c κs = search needs
+
 same-length : tie.Need-same-length
 same-length c = search needs
 
@@ -56,9 +59,9 @@ same-length-3 c = search needs
 
 returns-2 : tie.Need-returns-2
 returns-2 c =
-    let s = c .before .before .before .before .before .before .before .before .before .before .before .before .before .before .before .before .before in
-    let t = c .before .before .before .before .before .before .cancel in
-    close-done (s .args .h) (s .args .name .now) (s .args .w .now) (s .args .k .now) (s .args .conn) (s .args .out .now) (s .pre) _ _ _ (t .result) (sym (c .before .before .before .before .before .before .before .before .before .before .enum-told .given .1) ∙ c .before .before .before .before .before .before .before .before .before .before .before .before .test-open .ensures) (search needs) (search needs) (t .ensures)
+    let s = c .before .before .before .before .before .before .before .before .before .before .before .before .before .before .before .before .before .before in
+    let t = c .before .before .before .before .before .before .before .cancel in
+    close-done (s .args .h) (s .args .name .now) (s .args .w .now) (s .args .k .now) (s .args .conn) (s .args .out .now) _ _ _ (t .result) _ (s .pre) (c .turned .ensures) (sym (c .before .before .before .before .before .before .before .before .before .before .before .enum-told .given .1) ∙ c .before .before .before .before .before .before .before .before .before .before .before .before .before .test-open .ensures) (search needs) (search needs) (t .ensures)
 
 pub close-spec : {M : Type 1} → statement M
 close-spec =
@@ -72,6 +75,7 @@ close-spec =
     cancel-requires
     mul-m
     element-write-m
+    turned-requires
     same-length
     same-length-2
     same-length-3

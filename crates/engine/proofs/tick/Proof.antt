@@ -46,6 +46,9 @@ run-requires c κs =
     let e = ap (λ y. y .0) (c .before .before .before .before .before .before .from-micros .ensures ∙ ap fromMicros (c .before .before .before .before .before .before .before .time-of .ensures)) in
     (f .waiting, (f .started, ((f .places, f .stack), (h, ((omega arith, omega (arith, e, s .fits .seconds, s .fits .micros)), room-run (length (s .args .out .now)) h (omega arith))))))
 
+turned-requires : tie.Need-turned-requires
+turned-requires c κs = search needs
+
 same-length : tie.Need-same-length
 same-length c = search needs
 
@@ -57,9 +60,9 @@ same-length-3 c = search needs
 
 returns-4 : tie.Need-returns-4
 returns-4 c =
-    let s = c .before .before .before .before .before .before .before .before .before .before .before .before .before .before .before .before .before .before .before in
-    let t = c .before .before .before .before .before .before .run in
-    tick-done (s .args .h) (s .args .name .now) (s .args .w .now) (s .args .k .now) (s .args .seconds) (s .args .micros) (s .args .out .now) (s .pre) (c .before .before .before .before .before .before .before .before .before .before .before .before .before .from-micros .result) (c .before .before .before .before .before .before .before .before .before .before .before .before .before .from-micros .ensures ∙ ap fromMicros (c .before .before .before .before .before .before .before .before .before .before .before .before .before .before .time-of .ensures)) _ _ _ (t .result) (omega (arith, s .fits .seconds)) (c .before .before .before .before .before .before .before .before .before .before .before .before .if1 .left) (c .before .before .before .before .before .before .before .before .before .before .before .if2 .left) (c .before .before .before .before .before .before .before .before .before .before .if3 .left) (search needs) (search needs) (t .ensures)
+    let s = c .before .before .before .before .before .before .before .before .before .before .before .before .before .before .before .before .before .before .before .before in
+    let t = c .before .before .before .before .before .before .before .run in
+    tick-done (s .args .h) (s .args .name .now) (s .args .w .now) (s .args .k .now) (s .args .seconds) (s .args .micros) (s .args .out .now) (s .pre) (c .before .before .before .before .before .before .before .before .before .before .before .before .before .before .from-micros .result) (c .before .before .before .before .before .before .before .before .before .before .before .before .before .before .from-micros .ensures ∙ ap fromMicros (c .before .before .before .before .before .before .before .before .before .before .before .before .before .before .before .time-of .ensures)) _ _ _ (t .result) _ (c .turned .ensures) (omega (arith, s .fits .seconds)) (c .before .before .before .before .before .before .before .before .before .before .before .before .before .if1 .left) (c .before .before .before .before .before .before .before .before .before .before .before .before .if2 .left) (c .before .before .before .before .before .before .before .before .before .before .before .if3 .left) (search needs) (search needs) (t .ensures)
 
 pub tick-spec : {M : Type 1} → statement M
 tick-spec =
@@ -74,6 +77,7 @@ tick-spec =
     refuse-requires-3
     returns-3
     run-requires
+    turned-requires
     same-length
     same-length-2
     same-length-3
