@@ -19,7 +19,7 @@ pub struct Reply {
 }
 
 // The table of house numbers.
-pub fn house_number(n: Refusal) -> u32
+fn house_number(n: Refusal) -> u32
     ensures { λ r. ⌜ r ≡ houseNumber n ⌝ }
 {
     match n {
