@@ -2,10 +2,9 @@
 use answers::Head;
 use engine::Answer;
 use rules::Ninths;
-use rules::Refusal;
 ghost use mathlib.Core.Path.{_≡_};
 ghost use lib.ListN.{length};
-ghost use Rattle.rules.specs.Calls.{houseNumber, fresh, openCall, closeCall, messageCall, tickCall, bufferAfter};
+ghost use Rattle.rules.specs.Calls.{fresh, openCall, closeCall, messageCall, tickCall, bufferAfter};
 ghost use Rattle.answers.specs.View.{view};
 ghost use Rattle.engine.specs.Lent.{Lent};
 ghost use Rattle.door.specs.Door.{headOf, replyOf, Replies};
@@ -18,29 +17,12 @@ pub struct Reply {
     pub written: usize,
 }
 
-// The table of house numbers.
-fn house_number(n: Refusal) -> u32
-    ensures { λ r. ⌜ r ≡ houseNumber n ⌝ }
-{
-    match n {
-        Refusal::Connection => 1,
-        Refusal::Buffer => 2,
-        Refusal::Clock => 3,
-        Refusal::Oversize => 4,
-        Refusal::Short => 5,
-        Refusal::AlreadyOpen => 6,
-        Refusal::NotOpen => 7,
-        Refusal::MicroSeconds => 8,
-        Refusal::Name => 9,
-    }
-}
-
 fn reply_of(a: Answer) -> Reply
     ensures { λ r. ⌜ r ≡ replyOf a ⌝ }
 {
     match a {
         Answer::Refused(n) => Reply {
-            refused: house_number(n),
+            refused: engine::house_number(n) as u32,
             consumed: 0,
             written: 0,
         },

@@ -10,7 +10,7 @@ ghost use mathlib.Core.List.{map};
 ghost use mathlib.Core.Path.{_≡_};
 ghost use lib.ListN.{length};
 ghost use Rattle.rules.specs.Bytes.{nameIn, padded};
-ghost use Rattle.rules.specs.Calls.{fresh, openCall, closeCall, messageCall, tickCall, bufferAfter};
+ghost use Rattle.rules.specs.Calls.{houseNumber, fresh, openCall, closeCall, messageCall, tickCall, bufferAfter};
 ghost use Rattle.answers.specs.View.{linkOf, view};
 ghost use Rattle.engine.specs.Lent.{Lent, Answers, openTest};
 ghost use Rattle.engine.specs.declared.Answer.the-variants.{Refused, Done};
@@ -31,6 +31,23 @@ pub struct Said {
 enum Tested {
     Good,
     Bad(Refusal),
+}
+
+// The table of house numbers.
+pub fn house_number(n: Refusal) -> u8
+    ensures { λ r. ⌜ r ≡ houseNumber n ⌝ }
+{
+    match n {
+        Refusal::Connection => 1,
+        Refusal::Buffer => 2,
+        Refusal::Clock => 3,
+        Refusal::Oversize => 4,
+        Refusal::Short => 5,
+        Refusal::AlreadyOpen => 6,
+        Refusal::NotOpen => 7,
+        Refusal::MicroSeconds => 8,
+        Refusal::Name => 9,
+    }
 }
 
 // A name as it is kept: zeros behind its end.

@@ -2,7 +2,6 @@
 mod playing;
 
 use answers::Head;
-pub use playing::house_number;
 pub use playing::play;
 use reading::numbers::number2;
 use reading::numbers::number4;

@@ -4,32 +4,13 @@ use super::Record;
 use answers::Head;
 use engine::Answer;
 use engine::Said;
-use rules::Refusal;
 ghost use mathlib.Core.Path.{_≡_};
 ghost use Prim.Native.Nat.{_≤_};
 ghost use lib.ListN.{length};
-ghost use Rattle.rules.specs.Calls.{houseNumber};
 ghost use Rattle.answers.specs.View.{view};
 ghost use Rattle.engine.specs.Lent.{Lent};
 ghost use Rattle.feed.specs.Feed.{recordIn};
 ghost use Rattle.feed.specs.Play.{stepOf, Plays, Tells, Ended};
-
-// The table of house numbers.
-pub fn house_number(r: Refusal) -> u8
-    ensures { λ n. ⌜ n ≡ houseNumber r ⌝ }
-{
-    match r {
-        Refusal::Connection => 1,
-        Refusal::Buffer => 2,
-        Refusal::Clock => 3,
-        Refusal::Oversize => 4,
-        Refusal::Short => 5,
-        Refusal::AlreadyOpen => 6,
-        Refusal::NotOpen => 7,
-        Refusal::MicroSeconds => 8,
-        Refusal::Name => 9,
-    }
-}
 
 // "It writes each call's output; a refusal is 0x45 and the number." The output stands there already.
 fn tell(a: Answer, out: &mut [u8]) -> usize
@@ -39,7 +20,7 @@ fn tell(a: Answer, out: &mut [u8]) -> usize
     match a {
         Answer::Refused(n) => {
             out[0] = 0x45;
-            out[1] = house_number(n);
+            out[1] = engine::house_number(n);
             2
         }
         Answer::Done(_, len) => len,

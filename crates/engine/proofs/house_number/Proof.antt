@@ -1,8 +1,8 @@
 -- `house_number`: each case is the table's.
 use Rattle.rules.specs.Calls.{houseNumber}
 use borrow.Author.Needs.{needs}
-use Rattle.door.proofs.house_number.Statement.{statement}
-use Rattle.door.proofs.house_number.Tie as tie
+use Rattle.engine.proofs.house_number.Statement.{statement}
+use Rattle.engine.proofs.house_number.Tie as tie
 
 enum-told : tie.Need-enum-told
 enum-told c = search needs
