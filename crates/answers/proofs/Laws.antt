@@ -27,7 +27,7 @@ use Rattle.rules.proofs.Every.{all-both}
 use Rattle.rules.proofs.Records.{length-record}
 use Rattle.rules.proofs.Written.{written-none, output-one}
 use Rattle.places.specs.Places.{Good, lot, used}
-use Rattle.places.proofs.Laws.{head}
+use Rattle.places.proofs.Laws.{head, at-end}
 use Rattle.ends.specs.declared.Counts.{Counts}
 use Rattle.ends.specs.Does.{Playable, Turns}
 use Rattle.answers.specs.declared.Head.{Head}
@@ -68,14 +68,14 @@ init-writes e h g c n m name o p q f l b =
 
 -- ## Alive
 
-module _ (k : List ℕ) (n : ℕ) where
+module _ (k : List ℕ) (n : ℕ) (g : Good (lot k n)) where
   pub air-none : n ≡ 0 → (airState (used (lot k n)) ≡ 1) × (airID (used (lot k n)) ≡ 0xFFFFFFFF)
   unfolding airState airID
-  air-none e = rw e (refl, refl)
+  air-none e = rw (at-end (lot k n) 0 g (omega arith)) (refl, refl)
 
-  pub air-some : Good (lot k n) → 0 < n → (airState (used (lot k n)) ≡ 2) × (airID (used (lot k n)) ≡ getD (lot k n .items) 0 empty .id)
+  pub air-some : 0 < n → (airState (used (lot k n)) ≡ 2) × (airID (used (lot k n)) ≡ getD (used (lot k n)) 0 empty .id)
   unfolding airState airID
-  air-some g h = let e = head (lot k n) 0 empty g h in (ap airState e, ap airID e)
+  air-some h = let e = head (lot k n) 0 empty g h in (ap airState e, ap airID e)
 
 -- x: the State; i: the SessionID
 pub alive-writes : (e : List ℕ) (h : Head) (c x i : ℕ) (t : Micros) (k o : List ℕ) → airState (used (lot k (h .started))) ≡ x → airID (used (lot k (h .started))) ≡ i

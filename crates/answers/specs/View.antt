@@ -26,7 +26,7 @@ abbrev pub view : Head → List ℕ → List ℕ → List ℕ → Splicer
 view h name w k =
     record { name = nameIn name; clock = h .clock .0; links = map linkOf (h .links); queue = queueOf w (h .waiting) k (h .started) }
 
--- how the splicer stands in memory: the places behind the used ones are empty, the name has zeros behind its end, and a
+-- how the splicer stands in memory: the places before the used ones are empty, the name has zeros behind its end, and a
 -- connection's word is at most 2
 pub record Form (h : Head) (name w k : List ℕ) : Type 0 where
   pub waiting : Good (lot w (h .waiting))

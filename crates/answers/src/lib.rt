@@ -4,14 +4,14 @@ use rules::Message;
 use rules::Ninths;
 ghost use mathlib.Core.Path.{_≡_};
 ghost use Prim.Native.Nat.{_≤_};
-ghost use lib.ListN.{length};
+ghost use lib.ListN.{length, getD};
 ghost use Rattle.rules.specs.Bytes.{nameIn, padded};
 ghost use Rattle.rules.specs.Reading.{channelName, isRead, «read»};
 ghost use Rattle.rules.specs.Records.{General};
 ghost use Rattle.rules.specs.Answers.{initResult, answerRead, answer};
 ghost use Rattle.rules.specs.Sound.{Sound};
 ghost use Rattle.places.specs.Places.{Good, lot, used};
-ghost use Rattle.answers.specs.View.{view, Form, Gives, barred, Writes, initHead, initRecord, aliveRecord, countedHead};
+ghost use Rattle.answers.specs.View.{view, Form, Gives, barred, Writes, withWord, initHead, initRecord, aliveRecord, countedHead};
 
 // The clock, how many sessions wait and have started, and the connections: 0 closed, 1 open, 2 initialised.
 pub struct Head {
@@ -25,6 +25,45 @@ pub struct Head {
 pub struct Given {
     pub head: Head,
     pub len: usize,
+}
+
+// The word of connection c. Each has its own index: by one that varies, the four would be copied to memory first.
+pub fn link_at(h: Head, c: u32) -> u64
+    requires { ⌜ c ≤ 3 ⌝ }
+    ensures { λ r. ⌜ r ≡ getD (h .links) c 0 ⌝ }
+{
+    if c == 0 {
+        return h.links[0];
+    }
+    if c == 1 {
+        return h.links[1];
+    }
+    if c == 2 {
+        return h.links[2];
+    }
+    h.links[3]
+}
+
+// The head with the word n for connection c.
+pub fn with_link(h: Head, c: u32, n: u64) -> Head
+    requires { ⌜ c ≤ 3 ⌝ }
+    ensures { λ r. ⌜ r ≡ withWord c n h ⌝ }
+{
+    let mut m = h;
+    if c == 0 {
+        m.links[0] = n;
+        return m;
+    }
+    if c == 1 {
+        m.links[1] = n;
+        return m;
+    }
+    if c == 2 {
+        m.links[2] = n;
+        return m;
+    }
+    m.links[3] = n;
+    m
 }
 
 // Init: "Revision not 2 gives 102, another name 104, else 100".
@@ -54,9 +93,7 @@ fn answer_init(h: Head, name: &[u8], conn: u32, revision: u16, d: &[u8], out: &m
     if r != 100 {
         return Given { head: h, len: 44 };
     }
-    let c = conn as usize;
-    let mut m = h;
-    m.links[c] = 2;
+    let m = with_link(h, conn, 2);
     Given { head: m, len: 44 }
 }
 
@@ -71,7 +108,7 @@ fn answer_alive(h: Head, conn: u32, k: &[u64], out: &mut [u8]) -> Given
         writing::alive_response(&mut *out, conn as u64, 1, 0xFFFFFFFF, time);
         return Given { head: h, len: 26 };
     }
-    let air = places::load(k, 0);
+    let air = places::load(k, h.started, 0);
     writing::alive_response(&mut *out, conn as u64, 2, air.id, time);
     Given { head: h, len: 26 }
 }
@@ -189,8 +226,8 @@ pub fn answer(
     if id == 0x0000 {
         return Given { head: h, len: 0 };
     }
-    let c = conn as usize;
-    if is_barred(h.links[c], id) {
+    let word = link_at(h, conn);
+    if is_barred(word, id) {
         return general(h, conn, 103, &mut *out);
     }
     if id == 0x000D {

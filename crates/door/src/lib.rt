@@ -60,6 +60,22 @@ fn packed(h: Head) -> [u64; 7]
     ]
 }
 
+// A tick changes no connection, so their words are left as they stand.
+fn repacked(head: &[u64; 7], h: Head) -> [u64; 7]
+    ensures { λ r. ⌜ headOf r ≡ record { clock = h .clock; waiting = h .waiting; started = h .started; links = headOf (now (head .entry)) .links } ⌝ }
+    ensures whole { λ r. ⌜ length r ≡ 7 ⌝ }
+{
+    [
+        h.clock.0,
+        h.waiting as u64,
+        h.started as u64,
+        head[3],
+        head[4],
+        head[5],
+        head[6],
+    ]
+}
+
 // Whatever stood in the words before.
 #[no_mangle]
 pub extern "C" fn splicer_fresh(
@@ -158,7 +174,7 @@ pub extern "C" fn splicer_tick(
     let h = unpacked(&*head);
     let t = engine::tick(h, kept, waiting, started, seconds, micros, out);
     let m = t.head;
-    *head = packed(m);
+    *head = repacked(&*head, m);
     let a = t.answer;
     reply_of(a)
 }

@@ -20,7 +20,7 @@ use Rattle.rules.proofs.Records.{length-record}
 use Rattle.rules.proofs.Written.{written-none, written-more, written-part, output-append, output-one, written-output}
 use Rattle.rules.proofs.Walk.{followed, walk-none, walk-more}
 use Rattle.places.specs.Places.{Lot, lot, spare, Good, used}
-use Rattle.places.proofs.Laws.{words-same, length-used, used-at}
+use Rattle.places.proofs.Laws.{words-same, length-used}
 use Rattle.ends.specs.declared.Counts.{Counts}
 use Rattle.ends.specs.declared.Ending.{Ending}
 use Rattle.ends.specs.declared.Ending.the-variants.{Complete, Response}
@@ -80,7 +80,7 @@ module _ (result c x : ℕ) (e : List ℕ) (len : ℕ) (w : Lot) (g : Good w) (i
       rw (walk-none c x (used w) i f (omega arith)) (record { good = g; list = refl; count = omega arith; bytes = sym (written-none e len) })
 
   -- the one at the place i ends, and then those that follow it
-  pub dismissed-more : (v k : Lot) (to : ℕ) (o o′ : List ℕ) (s : Session) → i < w .len → s ≡ getD (w .items) i empty → used v ≡ removeAt i (used w) →
+  pub dismissed-more : (v k : Lot) (to : ℕ) (o o′ : List ℕ) (s : Session) → i < w .len → s ≡ getD (used w) i empty → used v ≡ removeAt i (used w) →
       len + 14 ≤ length e → o ≡ written e len (recordBytes (SpliceResponse c result (s .id))) →
       Ends o (len + 14) (followers c (s .id) (used v) .left) (map (response result) (followers c (s .id) (used v) .gone)) k to o′ →
       Ends e len (followers c x (used w) .left) (map (response result) (followers c x (used w) .gone)) k to o′
@@ -90,7 +90,7 @@ module _ (result c x : ℕ) (e : List ℕ) (len : ℕ) (w : Lot) (g : Good w) (i
       let n : length (used w) ≡ w .len = length-used w g in
       let a : follows c x t ≡ true = ap (λ (j : ℕ). follows c x (getD (used w) j empty)) f ∙ place-holds (follows c x) (used w) empty (omega arith) in
       let y : c ≡ t .conn = eqb-true c (t .conn) (and-both (eqb c (t .conn)) (eqb x (t .prior)) a .0) in
-      let z : s ≡ t = q ∙ used-at w i empty h in
+      let z : s ≡ t = q in
       let on = map (response result) (followers c (t .id) (removeAt i (used w)) .gone) in
       let l : length (recordBytes (response result t)) ≡ 14 = length-record (response result t) tt in
       let r : SpliceResponse c result (s .id) ≡ response result t = λ j. SpliceResponse (y j) result (z j .id) in

@@ -22,6 +22,11 @@ abbrev pub endingOf : Ending → Session → Record
 endingOf (Complete r) s = spliceOut r s
 endingOf (Response r) s = response r s
 
+-- of the buffer e, written up to len: the records stand behind what was written
+pub record Tells (e : List ℕ) (len : ℕ) (records : List Record) (to : ℕ) (o : List ℕ) : Type 0 where
+  pub count : to ≡ len + length (output records)
+  pub bytes : o ≡ written e len (output records)
+
 -- of the buffer e, written up to len: the lot l now holds the sessions, and the records stand behind what was written
 pub record Ends (e : List ℕ) (len : ℕ) (sessions : List Session) (records : List Record) (l : Lot) (to : ℕ) (o : List ℕ) : Type 0 where
   pub good : Good l

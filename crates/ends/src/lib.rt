@@ -10,7 +10,7 @@ ghost use Rattle.rules.specs.Bytes.{written};
 ghost use Rattle.rules.specs.Records.{recordBytes};
 ghost use Rattle.rules.specs.Ends.{response, endings, followers};
 ghost use Rattle.places.specs.Places.{Good, lot, used, spare, keyTest};
-ghost use Rattle.ends.specs.Does.{Playable, endingOf, Ends};
+ghost use Rattle.ends.specs.Does.{Playable, endingOf, Tells, Ends};
 
 // How a session ends: by a SpliceComplete with flag 1 or by a Splice_Response, with a result.
 pub enum Ending {
@@ -51,6 +51,35 @@ pub fn write_end(how: Ending, x: Session, out: &mut [u8], len: usize) -> usize
     }
 }
 
+// The ends of those that the key looks for, in their order: that of the first of all by `first`, any other by `others`.
+fn write_ends(
+    l: &[u64],
+    n: usize,
+    whom: Key,
+    first: Ending,
+    others: Ending,
+    out: &mut [u8],
+    len: usize,
+) -> usize
+    requires { ⌜ Good (lot (now l) n) ⌝ }
+    requires { ⌜ All Playable (used (lot (now l) n)) ⌝ }
+    requires { ⌜ len + 23 * n ≤ length (now out) ⌝ }
+    ensures { λ r. ⌜ Tells (now (out .entry)) len (endings (endingOf first) (endingOf others) (keyTest whom) (used (lot (now (l .entry)) n))) r (now (out .exit)) ⌝ }
+{
+    let mut how = first;
+    let mut to = len;
+    let mut i = 0;
+    while i < n {
+        let x = places::load(l, n, i);
+        if places::matches(whom, x) {
+            to = write_end(how, x, &mut *out, to);
+        }
+        how = others;
+        i += 1;
+    }
+    to
+}
+
 // Those that the key looks for end, the first of all by `first` and any other by `others`; the rest closes up.
 pub fn end_those(
     l: &mut [u64],
@@ -67,22 +96,8 @@ pub fn end_those(
     ensures ends { λ r. ⌜ Ends (now (out .entry)) len (omit (keyTest whom) (used (lot (now (l .entry)) n))) (endings (endingOf first) (endingOf others) (keyTest whom) (used (lot (now (l .entry)) n))) (lot (now (l .exit)) (r .left)) (r .len) (now (out .exit)) ⌝ }
     ensures rest { λ _. ⌜ spare (now (l .exit)) ≡ spare (now (l .entry)) ⌝ }
 {
-    let mut how = first;
-    let mut left = 0;
-    let mut to = len;
-    let mut i = 0;
-    while i < n {
-        let x = places::load(&*l, i);
-        if places::matches(whom, x) {
-            to = write_end(how, x, &mut *out, to);
-        } else {
-            places::replace_at(&mut *l, n, left, x);
-            left += 1;
-        }
-        how = others;
-        i += 1;
-    }
-    places::truncate(&mut *l, n, left);
+    let to = write_ends(&*l, n, whom, first, others, &mut *out, len);
+    let left = places::omit_those(&mut *l, n, whom);
     Left {
         left: left,
         len: to,
@@ -106,7 +121,7 @@ pub fn dismiss(
 {
     let i = places::find(&*w, n, Key::Follows(conn, id));
     if i < n {
-        let x = places::load(&*w, i);
+        let x = places::load(&*w, n, i);
         places::remove_at(&mut *w, n, i);
         writing::splice_response(&mut out[len..], conn, result, x.id);
         dismiss(&mut *w, n - 1, result, conn, x.id, &mut *out, len + 14)

@@ -13,7 +13,7 @@ use Rattle.rules.specs.Calls.{named, fresh}
 use Rattle.rules.proofs.Bytes.{nameIn-padded, nameIn-zero}
 use Rattle.rules.proofs.Sound.{reached-fresh}
 use Rattle.places.specs.Places.{zeros}
-use Rattle.places.proofs.Laws.{cleared}
+use Rattle.places.proofs.Laws.{cleared, cleared-none}
 use Rattle.answers.specs.declared.Head.{Head}
 use Rattle.answers.specs.View.{view, Form}
 use Rattle.engine.specs.declared.Answer.{Answer}
@@ -26,7 +26,7 @@ start = record { clock = record { 0 = 0 }; waiting = 0; started = 0; links = 0 �
 
 start-view : (m : List ℕ) → NoZero m → view start (padded m) (zeros 512) (zeros 80) ≡ named m
 unfolding named
-start-view m z = ap (λ n. named n) (nameIn-padded m z)
+start-view m z = λ i. record { name = nameIn-padded m z i; clock = 0; links = named m .links; queue = record { waiting = cleared-none 512 i; started = cleared-none 80 i } }
 
 start-form : (m : List ℕ) → NoZero m → Form start (padded m) (zeros 512) (zeros 80)
 start-form m z =

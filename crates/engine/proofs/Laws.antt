@@ -50,6 +50,9 @@ words-links : (l : List ℕ) → All (λ n. n ≤ 2) l → map wordOf (map words
 words-links [] a = refl
 words-links (n ∷ l) a = cc (word-link n (a .0), words-links l (a .1))
 
+links-same : (g h : Head) → All (λ n. n ≤ 2) (g .links) → All (λ n. n ≤ 2) (h .links) → map words.linkOf (g .links) ≡ map words.linkOf (h .links) → g .links ≡ h .links
+links-same g h a b e = sym (words-links (g .links) a) ∙ ap (λ y. map wordOf y) e ∙ words-links (h .links) b
+
 -- a head by its parts
 made-same : (c d n o m p : ℕ) (l k : List ℕ) → c ≡ d → n ≡ o → m ≡ p → l ≡ k
     → _≡_ {A = Head} (record { clock = record { 0 = c }; waiting = n; started = m; links = l }) (record { clock = record { 0 = d }; waiting = o; started = p; links = k })
@@ -69,8 +72,22 @@ shown-same : (g h : Head) (n w k m v j : List ℕ) → Form g n w k → Form h m
 shown-same g h n w k m v j a b e =
     let waits = lot-same 64 w v (g .waiting) (h .waiting) (a .waiting) (b .waiting) (a .places) (b .places) (ap (λ y. y .queue .waiting) e) in
     let stack = lot-same 10 k j (g .started) (h .started) (a .started) (b .started) (a .stack) (b .stack) (ap (λ y. y .queue .started) e) in
-    let links = sym (words-links (g .links) (a .links)) ∙ ap (λ y. map wordOf (y .links)) e ∙ words-links (h .links) (b .links) in
+    let links = links-same g h (a .links) (b .links) (ap (λ (s : Splicer). s .links) e) in
     (made-same _ _ _ _ _ _ _ _ (ap (λ y. y .clock) e) (waits .1) (stack .1) links, a .stored ∙ ap (λ y. padded (y .name)) e ∙ sym (b .stored), waits .0, stack .0)
+
+-- ## A tick changes no connection
+
+tick-keeps : (seconds micros room : ℕ) (s : Splicer) → tickCall seconds micros room s .splicer .links ≡ s .links
+unfolding tickCall ticked
+tick-keeps seconds micros room s =
+    by (λ (c : Called). c .splicer .links ≡ s .links) (noRoom room) _ _ (λ e. refl)
+    (λ e. by (λ (c : Called). c .splicer .links ≡ s .links) (badMicros micros) _ _ (λ f. refl)
+    (λ f. by (λ (c : Called). c .splicer .links ≡ s .links) (ltb (fromMicros (timeOf seconds micros) .0) (s .clock)) _ _ (λ g. refl) (λ g. refl)))
+
+pub tick-links : (seconds micros room : ℕ) (h : Head) (name w k : List ℕ) (r : Said) (m v j : List ℕ) → Lent h name w k
+    → Answers (tickCall seconds micros room (view h name w k)) r m v j → r .head .links ≡ h .links
+tick-links seconds micros room h name w k r m v j l a =
+    links-same (r .head) h (a .lent .form .links) (l .form .links) (ap (λ (s : Splicer). s .links) (a .splicer) ∙ tick-keeps seconds micros room (view h name w k))
 
 -- ## "any two results it allows are proved equal"
 

@@ -120,15 +120,13 @@ pub fn open(h: Head, name: &[u8], w: &[u64], k: &[u64], conn: u32) -> Said
     requires { ⌜ Lent h (now name) (now w) (now k) ⌝ }
     ensures { λ r. ⌜ Answers (openCall conn (view h (now (name .entry)) (now (w .entry)) (now (k .entry)))) r (now (name .entry)) (now (w .entry)) (now (k .entry)) ⌝ }
 {
-    let c = conn as usize;
-    if 3 < c {
+    if conn > 3 {
         return refuse(h, Refusal::Connection);
     }
-    if 0 < h.links[c] {
+    if 0 < answers::link_at(h, conn) {
         return refuse(h, Refusal::AlreadyOpen);
     }
-    let mut m = h;
-    m.links[c] = 1;
+    let m = answers::with_link(h, conn, 1);
     Said {
         head: m,
         answer: Answer::Done(0, 0),
@@ -145,8 +143,7 @@ fn test_open(h: Head, conn: u32, room: usize) -> Tested
     if room < 4096 {
         return Tested::Bad(Refusal::Buffer);
     }
-    let c = conn as usize;
-    if h.links[c] == 0 {
+    if answers::link_at(h, conn) == 0 {
         return Tested::Bad(Refusal::NotOpen);
     }
     Tested::Good
@@ -164,9 +161,7 @@ pub fn close(h: Head, name: &[u8], w: &mut [u64], k: &mut [u64], conn: u32, out:
     }
     let whom = Key::Of(conn as u64);
     let t = requests::cancel(whom, &mut *w, h.waiting, &mut *k, h.started, &mut *out, 0);
-    let mut m = h;
-    let c = conn as usize;
-    m.links[c] = 0;
+    let m = answers::with_link(h, conn, 0);
     turned(m, t)
 }
 

@@ -18,8 +18,8 @@ use Rattle.rules.proofs.All.{all-into}
 use Rattle.rules.proofs.Every.{all-getD}
 use Rattle.rules.proofs.Records.{length-record}
 use Rattle.rules.proofs.Size.{weight-one}
-use Rattle.places.specs.Places.{lot, places, used, Good, Made}
-use Rattle.places.proofs.Laws.{length-used, used-at}
+use Rattle.places.specs.Places.{lot, used, Good, Made}
+use Rattle.places.proofs.Laws.{length-used, at-end}
 use Rattle.ends.specs.declared.Counts.{Counts}
 use Rattle.ends.specs.Does.{Ends, queueOf, Turns}
 use Rattle.ends.specs.declared.Ending.the-variants.{Complete}
@@ -36,9 +36,9 @@ on-first d (s ∷ l) h = refl
 module _ (k : List ℕ) (m d : ℕ) (g : Good (lot k m)) where
   pub elapsed-none : m ≡ 0 → Made k k m (onAir d (used (lot k m)))
   unfolding onAir
-  elapsed-none e = record { good = g; list = rw e refl; rest = refl }
+  elapsed-none e = record { good = g; list = rw (at-end (lot k m) 0 g (omega arith)) refl; rest = refl }
 
-  pub elapsed-some : (k′ : List ℕ) (x : Session) → 0 < m → x ≡ getD (places k) 0 empty → Made k k′ m (set (used (lot k m)) 0 (playing d x)) →
+  pub elapsed-some : (k′ : List ℕ) (x : Session) → 0 < m → x ≡ getD (used (lot k m)) 0 empty → Made k k′ m (set (used (lot k m)) 0 (playing d x)) →
       Made k k′ m (onAir d (used (lot k m)))
   elapsed-some k′ x h e v =
       let n : length (used (lot k m)) ≡ m = length-used (lot k m) g in
@@ -46,14 +46,14 @@ module _ (k : List ℕ) (m d : ℕ) (g : Good (lot k m)) where
         good = v .good;
         list =
             v .list
-            ∙ ap (λ y. set (used (lot k m)) 0 (playing d y)) (e ∙ used-at (lot k m) 0 empty h)
+            ∙ ap (λ y. set (used (lot k m)) 0 (playing d y)) e
             ∙ sym (on-first d (used (lot k m)) (omega arith));
         rest = v .rest;
       }
 
-  pub first-lasting : (x : Session) → 0 < m → x ≡ getD (places k) 0 empty → Lasting d (used (lot k m)) → x .played .0 + d < 18446744073709551616
+  pub first-lasting : (x : Session) → 0 < m → x ≡ getD (used (lot k m)) 0 empty → Lasting d (used (lot k m)) → x .played .0 + d < 18446744073709551616
   first-lasting x h e a =
-      rw (e ∙ used-at (lot k m) 0 empty h)
+      rw e
       (all-getD (λ s. s .played .0 + d < 18446744073709551616) (used (lot k m)) 0 empty (omega (arith, length-used (lot k m) g)) a)
 
 -- ## Whether one may start
@@ -64,15 +64,14 @@ may-first x [] h = absurd (omega arith)
 may-first x (s ∷ l) h = refl
 
 module _ (x : Session) (k : List ℕ) (m : ℕ) where
-  pub may-none : m ≡ 0 → true ≡ mayStart x (used (lot k m))
+  pub may-none : Good (lot k m) → m ≡ 0 → true ≡ mayStart x (used (lot k m))
   unfolding mayStart
-  may-none e = rw e refl
+  may-none g e = rw (at-end (lot k m) 0 g (omega arith)) refl
 
-  pub may-over : (air : Session) (b c : Bool) → Good (lot k m) → 0 < m → air ≡ getD (places k) 0 empty → eqb (x .over) 1 ≡ b → outranks x air ≡ c → (b && c) ≡ mayStart x (used (lot k m))
+  pub may-over : (air : Session) (b c : Bool) → Good (lot k m) → 0 < m → air ≡ getD (used (lot k m)) 0 empty → eqb (x .over) 1 ≡ b → outranks x air ≡ c → (b && c) ≡ mayStart x (used (lot k m))
   may-over air b c g h e f o =
       let n : length (used (lot k m)) ≡ m = length-used (lot k m) g in
-      let a : air ≡ getD (used (lot k m)) 0 empty = e ∙ used-at (lot k m) 0 empty h in
-      sym (may-first x (used (lot k m)) (omega arith) ∙ rw (← a, f, o) refl)
+      sym (may-first x (used (lot k m)) (omega arith) ∙ rw (← e, f, o) refl)
 
 -- ## A start
 
@@ -130,23 +129,22 @@ module _ (t : ℕ) (e : List ℕ) (len : ℕ) (w k : List ℕ) (n m : ℕ) (a : 
 
   pub start-none : n ≡ 0 → Turns e len (startAt t (queueOf w n k m)) w k (record { waiting = n; started = m; len = len }) e
   unfolding place
-  start-none z = start-quiet (rw z refl)
+  start-none z = start-quiet (rw (at-end (lot w n) 0 a (omega arith)) refl)
 
-  pub start-later : (x : Session) → 0 < n → x ≡ getD (places w) 0 empty → (x .start .0 ≡ t → ⊥) → Meets t (queueOf w n k m) →
+  pub start-later : (x : Session) → 0 < n → x ≡ getD (used (lot w n)) 0 empty → (x .start .0 ≡ t → ⊥) → Meets t (queueOf w n k m) →
       Turns e len (startAt t (queueOf w n k m)) w k (record { waiting = n; started = m; len = len }) e
   start-later x h f y v =
       start-quiet (first-later t (used (lot w n)) (v .sorted) (v .starts) (omega (arith, length-used (lot w n) a))
-      (λ z. y (ap (λ u. u .start .0) (f ∙ used-at (lot w n) 0 empty h) ∙ z)))
+      (λ z. y (ap (λ u. u .start .0) f ∙ z)))
 
   -- the first starts, and the words w′ hold the others
-  module _ (w′ : List ℕ) (n′ : ℕ) (x : Session) (h : 0 < n) (f : x ≡ getD (places w) 0 empty) (y : x .start .0 ≡ t) (u : used (lot w′ n′) ≡ removeAt 0 (used (lot w n))) where
+  module _ (w′ : List ℕ) (n′ : ℕ) (x : Session) (h : 0 < n) (f : x ≡ getD (used (lot w n)) 0 empty) (y : x .start .0 ≡ t) (u : used (lot w′ n′) ≡ removeAt 0 (used (lot w n))) where
     start-launched : startAt t (queueOf w n k m) ≡ launched x (queueOf w′ n′ k m)
     unfolding startAt
     start-launched =
         let l : length (used (lot w n)) ≡ n = length-used (lot w n) a in
-        let c : x ≡ getD (used (lot w n)) 0 empty = f ∙ used-at (lot w n) 0 empty h in
-        let p : place (startsAt t) (used (lot w n)) ≡ 0 = first-now t (used (lot w n)) (omega arith) (ap (λ s. s .start .0) (sym c) ∙ y) in
-        rw (p, lt-ltb 0 (length (used (lot w n))) (omega arith), ← c, ← u) refl
+        let p : place (startsAt t) (used (lot w n)) ≡ 0 = first-now t (used (lot w n)) (omega arith) (ap (λ s. s .start .0) (sym f) ∙ y) in
+        rw (p, lt-ltb 0 (length (used (lot w n))) (omega arith), ← f, ← u) refl
 
     pub start-placed : Placed (startAt t (queueOf w n k m)) k → Placed (launched x (queueOf w′ n′ k m)) k
     start-placed p = subst (λ (y : Turn). Placed y k) start-launched p

@@ -25,7 +25,7 @@ fn elapse(k: &mut [u64], started: usize, d: u64)
     if started == 0 {
         return;
     }
-    let mut x = places::load(&*k, 0);
+    let mut x = places::load(&*k, started, 0);
     let played = x.played.0 + d;
     x.played.0 = played;
     places::replace_at(&mut *k, started, 0, x);
@@ -39,7 +39,7 @@ fn may_start(x: Session, k: &[u64], started: usize) -> bool
     if started == 0 {
         return true;
     }
-    let air = places::load(k, 0);
+    let air = places::load(k, started, 0);
     x.over == 1 && places::outranks(x, air)
 }
 
@@ -102,7 +102,7 @@ fn start_at(
             len: len,
         };
     }
-    let x = places::load(&*w, 0);
+    let x = places::load(&*w, waiting, 0);
     if x.start.0 == t.0 {
         places::remove_at(&mut *w, waiting, 0);
         launch(x, &mut *w, waiting - 1, &mut *k, started, &mut *out, len)

@@ -1,18 +1,21 @@
 -- Laws of the list in lent places: it is padded with empty ones, a shift moves a hole, a loop has passed a part of it.
-use mathlib.Core.Path.{_≡_, refl, sym, ap, subst, _∙_}
+use mathlib.Core.Path.{_≡_, refl, sym, ap, ap₂, subst, _∙_}
 use mathlib.Core.List.{List, [], _∷_, _++_, append-assoc}
 use mathlib.Core.Bool.{Bool, true, false}
 use Prim.Native.Nat.{ℕ, zero, suc, _+_, _-_, _/_, _≤_, _<_, min}
 use native.Mathlib.Omega.{arith}
 use native.Mathlib.Numerals.{add-one}
 use native.Mathlib.Nat.{not-suc-le-zero, le-of-suc-le-suc}
-use lib.ListN.{length, take, drop, set, getD, replicate, length-append, length-set, length-replicate, take-append-drop, drop-of-length-le}
-use lib.Seq.{drop-cons, take-append-le, drop-append-le, take-at, drop-at, drop-append-seam, length-take-le, take-append-seam, getD-take, take-set-lt, drop-set-lt}
+use lib.ListN.{length, take, drop, set, getD, replicate, length-append, length-set, length-take, length-drop, length-replicate, take-append-drop, drop-of-length-le}
+use lib.Seq.{getD-set-same, getD-set-other, ext-getD, drop-cons, drop-drop, take-length, length-take-le, take-take, getD-take, take-append-add, drop-append-add, take-at, drop-at, getD-drop, take-set-le, drop-set-add}
+use lib.Dec.{eqb}
+use borrow.Author.Tests.{eqb-true, eqb-false}
 use Rattle.rules.specs.declared.Session.{Session}
-use Rattle.rules.specs.Lists.{All, bit, place, count, insertAt, removeAt, least}
-use Rattle.rules.specs.State.{empty, Sorted}
-use Rattle.rules.proofs.Count.{length-insertAt, length-removeAt, place≤}
-use Rattle.places.specs.Places.{Lot, lot, spare, zeros, Good, used}
+use Rattle.rules.specs.Lists.{All, bit, omit, place, count, insertAt, removeAt, least}
+use Rattle.rules.specs.State.{empty, of, Sorted}
+use Rattle.rules.proofs.All.{all-drop}
+use Rattle.rules.proofs.Count.{bit≤1, length-insertAt, length-removeAt, place≤}
+use Rattle.places.specs.Places.{Lot, lot, places, spare, zeros, free, Good, used, OfFour, tallied}
 use Rattle.places.proofs.Words.{length-places, places-zero, places-same}
 
 -- ## Lists
@@ -46,40 +49,42 @@ module _ {A : Type 0} where
   hole-filled (y ∷ l) zero x h = refl
   hole-filled (y ∷ l) (suc i) x h = ap (λ r. y ∷ r) (hole-filled l i x (le-of-suc-le-suc h))
 
-  insertAt-append : (n : ℕ) (x : A) (l m : List A) → n ≤ length l → insertAt n x (l ++ m) ≡ insertAt n x l ++ m
+  -- behind the front p of a list
+  insertAt-add : (p l : List A) (n : ℕ) (x : A) → insertAt (length p + n) x (p ++ l) ≡ p ++ insertAt n x l
   unfolding insertAt
-  insertAt-append n x l m h = simp (take-append-le, drop-append-le, append-assoc, h)
+  insertAt-add p l n x = rw (take-append-add p l n, drop-append-add p l n, append-assoc) refl
 
-  removeAt-append : (n : ℕ) (l m : List A) → n < length l → removeAt n (l ++ m) ≡ removeAt n l ++ m
+  removeAt-add : (p l : List A) (n : ℕ) → removeAt (length p + n) (p ++ l) ≡ p ++ removeAt n l
   unfolding removeAt
-  removeAt-append n l m h =
-      let g : n ≤ length l = omega arith in
-      simp (take-append-le, drop-append-le, append-assoc, h, g)
-
-  remove-insert : (n : ℕ) (x : A) (l : List A) → n ≤ length l → removeAt n (insertAt n x l) ≡ l
-  unfolding removeAt insertAt
-  remove-insert zero x l h = refl
-  remove-insert (suc n) x [] h = absurd (not-suc-le-zero h)
-  remove-insert (suc n) x (y ∷ l) h = ap (λ r. y ∷ r) (remove-insert n x l (le-of-suc-le-suc h))
+  removeAt-add p l n =
+      let e : suc (length p + n) ≡ length p + suc n = omega arith in
+      rw (take-append-add p l n, ap (λ (j : ℕ). drop j (p ++ l)) e ∙ drop-append-add p l (suc n), append-assoc) refl
 
   insertAt-seam : (n : ℕ) (x : A) (l m : List A) → length l ≡ n → insertAt n x (l ++ m) ≡ l ++ (x ∷ m)
   unfolding insertAt
   insertAt-seam n x l m e = rw (take-at l m n e, drop-at l m n e) refl
 
-  removeAt-seam : (n : ℕ) (x : A) (l m : List A) → length l ≡ n → removeAt n (l ++ (x ∷ m)) ≡ l ++ m
-  removeAt-seam n x l m e =
-      ap (removeAt n) (sym (insertAt-seam n x l m e)) ∙ remove-insert n x (l ++ m) (simp length-append (omega arith))
+  -- one of many alike
+  one-more : (n : ℕ) (x : A) (l : List A) → replicate n x ++ (x ∷ l) ≡ x ∷ (replicate n x ++ l)
+  one-more zero x l = refl
+  one-more (suc n) x l = ap (λ r. x ∷ r) (one-more n x l)
 
-  -- without the last of the first i
-  pub removeAt-take : (i k : ℕ) (l : List A) → k ≡ suc i → removeAt i (take k l) ≡ take i l
+  one-less : (n : ℕ) (x : A) (l : List A) → removeAt n (x ∷ (replicate n x ++ l)) ≡ replicate n x ++ l
   unfolding removeAt
-  removeAt-take i k l e = rw e (last i l)
-    where
-      last : (i : ℕ) (l : List A) → removeAt i (take (suc i) l) ≡ take i l
-      last zero [] = refl
-      last zero (x ∷ l) = refl
-      last (suc i) [] = refl
-      last (suc i) (x ∷ l) = ap (λ r. x ∷ r) (last i l)
+  one-less zero x l = refl
+  one-less (suc n) x l = ap (λ r. x ∷ r) (one-less n x l)
+
+  -- the first goes
+  pub removeAt-drop : (k i : ℕ) (l : List A) → i ≡ suc k → removeAt 0 (drop k l) ≡ drop i l
+  unfolding removeAt
+  removeAt-drop k i l e =
+      let z : k + 1 ≡ i = omega arith in
+      drop-drop 1 k l ∙ ap (λ (n : ℕ). drop n l) z
+
+  drop-set-here : (l : List A) (k i : ℕ) (x : A) → k < length l → i ≡ suc k → drop k (set l k x) ≡ x ∷ drop i l
+  drop-set-here [] k i x h e = absurd (omega arith)
+  drop-set-here (y ∷ l) zero i x h e = rw e refl
+  drop-set-here (y ∷ l) (suc k) i x h e = drop-set-here l k (suc k) x (le-of-suc-le-suc h) refl ∙ rw e refl
 
   pub least-none : (none : ℕ) (f : A → ℕ) (l : List A) → least none f l ≤ none
   least-none none f [] = omega arith
@@ -87,40 +92,37 @@ module _ {A : Type 0} where
 
 -- ## The list in its places
 
--- the list u in m places
+-- the list u in the last of m places
 unfoldable pad : ℕ → List Session → List Session
-pad m u = u ++ replicate (m - length u) empty
-
--- a place that is used is a place of the words
-pub within : (q : List ℕ) (n i : ℕ) → Good (lot q n) → i < n → i < length q / 8
-within q n i g h = omega (arith, g .fits, length-places q)
+pad m u = replicate (m - length u) empty ++ u
 
 pub length-used : (q : Lot) → Good q → length (used q) ≡ q .len
-length-used q g = length-take-le (q .len) (q .items) (g .fits)
+length-used q g = length-drop (free q) (q .items) ∙ omega (arith, g .fits)
 
 -- good places are their list, padded
 padded : (q : Lot) → Good q → q .items ≡ pad (length (q .items)) (used q)
 unfolding pad
 padded q g =
-    sym (take-append-drop (q .len) (q .items))
-    ∙ ap (λ r. used q ++ r) (g .clear ∙ ap (λ (n : ℕ). replicate (length (q .items) - n) empty) (sym (length-used q g)))
+    sym (take-append-drop (free q) (q .items))
+    ∙ ap (λ r. r ++ used q) (g .clear ∙ ap (λ (n : ℕ). replicate (length (q .items) - n) empty) (sym (length-used q g)))
 
 -- and what has the places of a padded list is good, and holds that list
 made : (m : ℕ) (u : List Session) (q : Lot) → length u ≤ m → q .items ≡ pad m u → q .len ≡ length u → Good q × (used q ≡ u)
 unfolding pad
 made m u q h e n =
-    let w : length (q .items) ≡ m = ap length e ∙ simp (length-append, length-replicate) (omega arith) in (
+    let w : length (q .items) ≡ m = ap length e ∙ simp (length-append, length-replicate) (omega arith) in
+    let z : length (replicate (m - length u) empty) ≡ m - length u = length-replicate (m - length u) empty in (
       record {
         fits = omega arith;
-        clear = rw (w, e, n) (drop-append-seam u (replicate (m - length u) empty));
+        clear = rw (w, e, n) (take-at (replicate (m - length u) empty) u (m - length u) z);
       },
-      rw (e, n) (take-append-seam u (replicate (m - length u) empty)),
+      rw (w, e, n) (drop-at (replicate (m - length u) empty) u (m - length u) z),
     )
 
 -- what good places hold determines them
 pub same : (p q : Lot) → Good p → Good q → length (p .items) ≡ length (q .items) → used p ≡ used q → p ≡ q
 same p q g h m e =
-    let items : p .items ≡ q .items = padded p g ∙ (rw (m, e) refl) ∙ sym (padded q h) in
+    let items : p .items ≡ q .items = padded p g ∙ ap₂ pad m e ∙ sym (padded q h) in
     let len : p .len ≡ q .len = sym (length-used p g) ∙ ap length e ∙ length-used q h in
     λ i. record { items = items i; len = len i }
 
@@ -133,44 +135,51 @@ words-same p q m n g h l e d =
 -- zeros are good, and hold nothing
 pub cleared : (m : ℕ) → Good (lot (zeros m) 0)
 cleared m =
-    let e : length (zeros m) / 8 ≡ length (lot (zeros m) 0 .items) - 0 = omega (arith, length-places (zeros m)) in
-    record { fits = omega arith; clear = places-zero m ∙ ap (λ (i : ℕ). replicate i empty) e }
+    let e : length (zeros m) / 8 ≡ length (places (zeros m)) = sym (length-places (zeros m)) in
+    let z : length (places (zeros m)) - 0 ≡ length (places (zeros m)) = omega arith in
+    record { fits = omega arith; clear = rw z (take-length (places (zeros m)) ∙ places-zero m ∙ ap (λ (i : ℕ). replicate i empty) e) }
 
--- what `insert_at` leaves: the hole, that was behind the last, is x at the place `at`
-pub insert-made : (q : Lot) (r : List Session) (at : ℕ) (x : Session) → Good q → at ≤ q .len → q .len < length (q .items) →
-    r ≡ insertAt at x (removeAt (q .len) (q .items)) →
+-- what `insert_at` leaves: the hole, that was before the first, is x before the session `at`
+pub insert-made : (q : Lot) (r : List Session) (at k : ℕ) (x : Session) → Good q → q .len < length (q .items) → suc k ≡ free q → at ≤ q .len →
+    r ≡ insertAt (k + at) x (removeAt k (q .items)) →
     Good (record { items = r; len = q .len + 1 }) × (used (record { items = r; len = q .len + 1 }) ≡ insertAt at x (used q))
 unfolding pad
-insert-made q r at x g a l e =
+insert-made q r at k x g l d a e =
     let u = used q in
     let m = length (q .items) in
     let n : length u ≡ q .len = length-used q g in
-    let k : length (insertAt at x u) ≡ suc (length u) = length-insertAt at x u in
-    let z : m - length u ≡ suc (m - length (insertAt at x u)) = omega arith in
-    let rest = replicate (m - length (insertAt at x u)) empty in
-    let f : removeAt (q .len) (q .items) ≡ u ++ rest =
-    ap (removeAt (q .len)) (padded q g ∙ ap (λ (j : ℕ). u ++ replicate j empty) z) ∙ removeAt-seam (q .len) empty u rest n in
+    let c : length (insertAt at x u) ≡ suc (length u) = length-insertAt at x u in
+    let z : m - length u ≡ suc k = omega arith in
+    let p = replicate k empty in
+    let f : removeAt k (q .items) ≡ p ++ u = ap (removeAt k) (padded q g ∙ ap (λ (j : ℕ). replicate j empty ++ u) z) ∙ one-less k empty u in
+    let i : insertAt (k + at) x (p ++ u) ≡ p ++ insertAt at x u =
+    ap (λ (j : ℕ). insertAt (j + at) x (p ++ u)) (sym (length-replicate k empty)) ∙ insertAt-add p u at x in
+    let y : k ≡ m - length (insertAt at x u) = omega arith in
     made m (insertAt at x u) (record { items = r; len = q .len + 1 }) (omega arith)
-    (e ∙ ap (insertAt at x) f ∙ insertAt-append at x u rest (omega arith)) (omega arith)
+    (e ∙ ap (insertAt (k + at) x) f ∙ i ∙ ap (λ (j : ℕ). replicate j empty ++ insertAt at x u) y) (omega arith)
 
--- what `remove_at` leaves: the hole, that was at the place `at`, is empty at the last
-pub remove-made : (q : Lot) (r : List Session) (at : ℕ) → Good q → at < q .len →
-    r ≡ insertAt (q .len - 1) empty (removeAt at (q .items)) →
+-- what `remove_at` leaves: the hole, that was the session `at`, is empty before the first
+pub remove-made : (q : Lot) (r : List Session) (at k : ℕ) → Good q → at < q .len → k ≡ free q →
+    r ≡ insertAt k empty (removeAt (k + at) (q .items)) →
     Good (record { items = r; len = q .len - 1 }) × (used (record { items = r; len = q .len - 1 }) ≡ removeAt at (used q))
 unfolding pad
-remove-made q r at g a e =
+remove-made q r at k g a d e =
     let u = used q in
     let m = length (q .items) in
     let n : length u ≡ q .len = length-used q g in
-    let k : suc (length (removeAt at u)) ≡ length u = length-removeAt at u (omega arith) in
-    let z : suc (m - length u) ≡ m - length (removeAt at u) = omega (arith, g .fits) in
-    let rest = replicate (m - length u) empty in
-    let f : removeAt at (q .items) ≡ removeAt at u ++ rest = ap (removeAt at) (padded q g) ∙ removeAt-append at u rest (omega arith) in
+    let c : suc (length (removeAt at u)) ≡ length u = length-removeAt at u (omega arith) in
+    let p = replicate k empty in
+    let z : length p ≡ k = length-replicate k empty in
+    let o : m - length u ≡ k = omega arith in
+    let f : removeAt (k + at) (q .items) ≡ p ++ removeAt at u =
+    ap (removeAt (k + at)) (padded q g ∙ ap (λ (j : ℕ). replicate j empty ++ u) o) ∙ ap (λ (j : ℕ). removeAt (j + at) (p ++ u)) (sym z) ∙ removeAt-add p u at in
+    let y : suc k ≡ m - length (removeAt at u) = omega (arith, g .fits) in
     made m (removeAt at u) (record { items = r; len = q .len - 1 }) (omega (arith, g .fits))
     (e
-    ∙ ap (insertAt (q .len - 1) empty) f
-    ∙ insertAt-seam (q .len - 1) empty (removeAt at u) rest (omega arith)
-    ∙ ap (λ (j : ℕ). removeAt at u ++ replicate j empty) z) (omega arith)
+    ∙ ap (insertAt k empty) f
+    ∙ insertAt-seam k empty p (removeAt at u) z
+    ∙ one-more k empty (removeAt at u)
+    ∙ ap (λ (j : ℕ). replicate j empty ++ removeAt at u) y) (omega arith)
 
 -- with a place removed there is one less
 pub len-removed : (q r : Lot) (k : ℕ) → Good q → Good r → k < q .len → used r ≡ removeAt k (used q) → suc (r .len) ≡ q .len
@@ -183,21 +192,30 @@ len-removed q r k g h l e =
 pub found-within : (p : Session → Bool) (q : Lot) (i : ℕ) → Good q → i ≡ place p (used q) → i ≤ q .len
 found-within p q i g e = omega (arith, place≤ p (used q), length-used q g)
 
--- what `load` reads at a used place is the list's
-pub used-at : (q : Lot) (i : ℕ) (d : Session) → i < q .len → getD (q .items) i d ≡ getD (used q) i d
-used-at q i d h = sym (getD-take (q .len) (q .items) i d h)
+-- no more are used than there are places
+pub slot-free : (q : List ℕ) (n : ℕ) → Good (lot q n) → n ≤ length q / 8
+slot-free q n g = omega (arith, g .fits, length-places q)
 
--- what `store` leaves at a used place
-pub used-set : (q : Lot) (r : List Session) (i : ℕ) (x : Session) → Good q → i < q .len → r ≡ set (q .items) i x →
-    Good (record { items = r; len = q .len }) × (used (record { items = r; len = q .len }) ≡ set (used q) i x)
-used-set q r i x g h e =
-    let n : length r ≡ length (q .items) = ap length e ∙ length-set (q .items) i x in (
-      record {
-        fits = omega (arith, g .fits);
-        clear = ap (drop (q .len)) e ∙ drop-set-lt (q .len) (q .items) i x h ∙ g .clear ∙ ap (λ (m : ℕ). replicate (m - q .len) empty) (sym n);
-      },
-      ap (take (q .len)) e ∙ take-set-lt (q .len) (q .items) i x h,
-    )
+-- the session `at` of the words q: its place is one of the words, and holds what the list has there
+module _ (q : List ℕ) (n at : ℕ) (g : Good (lot q n)) (h : at < n) where
+  pub slot-within : length q / 8 - n + at < length q / 8
+  slot-within = omega (arith, g .fits, length-places q)
+
+  pub slot-read : (d : Session) → getD (places q) (length q / 8 - n + at) d ≡ getD (used (lot q n)) at d
+  slot-read d = ap (λ (m : ℕ). getD (places q) (m - n + at) d) (sym (length-places q)) ∙ sym (getD-drop (free (lot q n)) (places q) at d)
+
+  pub slot-set : (r : List Session) (x : Session) → r ≡ set (places q) (length q / 8 - n + at) x →
+      Good (record { items = r; len = n }) × (used (record { items = r; len = n }) ≡ set (used (lot q n)) at x)
+  slot-set r x e =
+      let k = length (places q) - n in
+      let f : r ≡ set (places q) (k + at) x = e ∙ ap (λ (m : ℕ). set (places q) (m - n + at) x) (sym (length-places q)) in
+      let m : length r ≡ length (places q) = ap length f ∙ length-set (places q) (k + at) x in (
+        record {
+          fits = omega (arith, g .fits);
+          clear = rw m (ap (take k) f ∙ take-set-le k (places q) (k + at) x (omega arith) ∙ g .clear);
+        },
+        rw m (ap (drop k) f ∙ drop-set-add k (places q) at x),
+      )
 
 -- ## Loops over the used places: i of them are passed, and the rest decides
 
@@ -212,29 +230,30 @@ Counted p q i n = (i ≤ q .len) × (count p (used q) ≡ n + count p (drop i (u
 abbrev pub Lowest : ℕ → (Session → ℕ) → Lot → ℕ → ℕ → Type 0
 Lowest none f q i b = (i ≤ q .len) × (b ≤ none) × (least none f (used q) ≡ min b (least none f (drop i (used q))))
 
--- the place i is the head of the rest
-pub head : (q : Lot) (i : ℕ) (d : Session) → Good q → i < q .len → drop i (used q) ≡ getD (q .items) i d ∷ drop (i + 1) (used q)
+-- the session i is the head of the rest
+pub head : (q : Lot) (i : ℕ) (d : Session) → Good q → i < q .len → drop i (used q) ≡ getD (used q) i d ∷ drop (i + 1) (used q)
 head q i d g h =
     let n : length (used q) ≡ q .len = length-used q g in
-    drop-cons (used q) i d (omega arith)
-    ∙ ap (λ (x : Session). x ∷ drop (suc i) (used q)) (getD-take (q .len) (q .items) i d h)
-    ∙ rw add-one
+    drop-cons (used q) i d (omega arith) ∙ rw add-one
 
 pub at-end : (q : Lot) (i : ℕ) → Good q → q .len ≤ i → drop i (used q) ≡ []
 at-end q i g h =
     let n : length (used q) ≡ q .len = length-used q g in
     drop-of-length-le (used q) {i = i} (omega arith)
 
+pub cleared-none : (m : ℕ) → used (lot (zeros m) 0) ≡ []
+cleared-none m = at-end (lot (zeros m) 0) 0 (cleared m) (omega arith)
+
 pub sought-none : (p : Session → Bool) (q : Lot) → Sought p q 0
 sought-none p q = (omega arith, omega arith)
 
-pub sought-more : (p : Session → Bool) (q : Lot) (i : ℕ) (d : Session) → Good q → i < q .len → p (getD (q .items) i d) ≡ false → Sought p q i → Sought p q (i + 1)
+pub sought-more : (p : Session → Bool) (q : Lot) (i : ℕ) (d : Session) → Good q → i < q .len → p (getD (used q) i d) ≡ false → Sought p q i → Sought p q (i + 1)
 unfolding place
 sought-more p q i d g h e s =
     let f : place p (drop i (used q)) ≡ suc (place p (drop (i + 1) (used q))) = rw (head q i d g h, e) refl in
     (omega arith, omega (arith, s .1))
 
-pub sought-hit : (p : Session → Bool) (q : Lot) (i : ℕ) (d : Session) → Good q → i < q .len → p (getD (q .items) i d) ≡ true → Sought p q i → i ≡ place p (used q)
+pub sought-hit : (p : Session → Bool) (q : Lot) (i : ℕ) (d : Session) → Good q → i < q .len → p (getD (used q) i d) ≡ true → Sought p q i → i ≡ place p (used q)
 unfolding place
 sought-hit p q i d g h e s =
     let f : place p (drop i (used q)) ≡ 0 = rw (head q i d g h, e) refl in
@@ -249,7 +268,7 @@ sought-out p q i g h s =
 pub counted-none : (p : Session → Bool) (q : Lot) → Counted p q 0 0
 counted-none p q = (omega arith, omega arith)
 
-pub counted-more : (p : Session → Bool) (b : Bool) (q : Lot) (i n k : ℕ) (d : Session) → Good q → i < q .len → p (getD (q .items) i d) ≡ b → k ≡ n + bit b →
+pub counted-more : (p : Session → Bool) (b : Bool) (q : Lot) (i n k : ℕ) (d : Session) → Good q → i < q .len → p (getD (used q) i d) ≡ b → k ≡ n + bit b →
     Counted p q i n → Counted p q (i + 1) k
 counted-more p b q i n k d g h e m s =
     let f : count p (drop i (used q)) ≡ bit b + count p (drop (i + 1) (used q)) = rw (head q i d g h, e) refl in
@@ -260,12 +279,67 @@ counted-out p q i n g h s =
     let f : count p (drop i (used q)) ≡ 0 = rw (at-end q i g h) refl in
     omega (arith, s .1)
 
+-- ## A tally: each connection's among the first i
+
+pub record Tally (q : Lot) (i : ℕ) (t : List ℕ) : Type 0 where
+  pub four : length t ≡ 4
+  pub each : (c : ℕ) → Counted (of c) q i (getD t c 0)
+  pub few : (c : ℕ) → getD t c 0 ≤ i
+
+-- the place's connection is one of the four
+pub of-four : (q : Lot) (i : ℕ) (x : Session) → Good q → i < q .len → x ≡ getD (used q) i empty → All OfFour (used q) → OfFour x
+of-four q i x g h e a = rw e (subst (All OfFour) (head q i empty g h) (all-drop OfFour i (used q) a) .0)
+
+pub tally-none : (q : Lot) → Tally q 0 (zeros 4)
+tally-none q =
+    record {
+      four = refl;
+      each = λ c. rw (none 4 c) (counted-none (of c) q);
+      few = λ c. omega (arith, none 4 c);
+    }
+  where
+    none : (n c : ℕ) → getD (zeros n) c 0 ≡ 0
+    none zero c = refl
+    none (suc n) zero = refl
+    none (suc n) (suc c) = none n c
+
+pub tally-more : (q : Lot) (i : ℕ) (t : List ℕ) (x : Session) → Good q → i < q .len → x ≡ getD (used q) i empty → OfFour x →
+    Tally q i t → Tally q (i + 1) (set t (x .conn) (getD t (x .conn) 0 + 1))
+tally-more q i t x g h e low s =
+    record {
+      four = length-set t k (getD t k 0 + 1) ∙ s .four;
+      each = λ c. counted-more (of c) (eqb c k) q i (getD t c 0) _ empty g h (ap (of c) (sym e)) (counts c (eqb c k) refl) (s .each c);
+      few = λ c. omega (arith, s .few c, counts c (eqb c k) refl, bit≤1 (eqb c k));
+    }
+  where
+    k : ℕ
+    k = x .conn
+
+    counts : (c : ℕ) (b : Bool) → eqb c k ≡ b → getD (set t k (getD t k 0 + 1)) c 0 ≡ getD t c 0 + bit b
+    counts c true f =
+        let f : c ≡ k = eqb-true c k f in
+        rw f (getD-set-same t k (getD t k 0 + 1) 0 (omega (arith, s .four)))
+    counts c false f = getD-set-other t k c (getD t k 0 + 1) 0 (eqb-false c k f) ∙ omega arith
+
+pub tallied-at : (l : List Session) (c : ℕ) → c ≤ 3 → getD (tallied l) c 0 ≡ count (of c) l
+unfolding tallied
+tallied-at l zero h = refl
+tallied-at l (suc zero) h = refl
+tallied-at l (suc (suc zero)) h = refl
+tallied-at l (suc (suc (suc zero))) h = refl
+tallied-at l (suc (suc (suc (suc c)))) h = absurd (omega arith)
+
+pub tally-out : (q : Lot) (i : ℕ) (t : List ℕ) → Good q → q .len ≤ i → Tally q i t → t ≡ tallied (used q)
+unfolding tallied
+tally-out q i t g h s =
+    ext-getD 0 t (tallied (used q)) (s .four) (λ c l. counted-out (of c) q i (getD t c 0) g h (s .each c) ∙ sym (tallied-at (used q) c (omega (arith, s .four))))
+
 pub lowest-none : (none : ℕ) (f : Session → ℕ) (q : Lot) → Lowest none f q 0 none
 lowest-none none f q = (omega arith, omega arith, omega (arith, least-none none f (used q)))
 
-pub lowest-more : (none : ℕ) (f : Session → ℕ) (q : Lot) (i b c : ℕ) (d : Session) → Good q → i < q .len → c ≡ min b (f (getD (q .items) i d)) → Lowest none f q i b → Lowest none f q (i + 1) c
+pub lowest-more : (none : ℕ) (f : Session → ℕ) (q : Lot) (i b c : ℕ) (d : Session) → Good q → i < q .len → c ≡ min b (f (getD (used q) i d)) → Lowest none f q i b → Lowest none f q (i + 1) c
 lowest-more none f q i b c d g h e s =
-    let t : least none f (drop i (used q)) ≡ min (f (getD (q .items) i d)) (least none f (drop (i + 1) (used q))) = rw (head q i d g h) refl in
+    let t : least none f (drop i (used q)) ≡ min (f (getD (used q) i d)) (least none f (drop (i + 1) (used q))) = rw (head q i d g h) refl in
     (omega arith, omega (arith, s .1), omega (arith, s .2))
 
 pub lowest-out : (none : ℕ) (f : Session → ℕ) (q : Lot) (i b : ℕ) → Good q → q .len ≤ i → Lowest none f q i b → b ≡ least none f (used q)
@@ -280,8 +354,58 @@ after-least none t [] a = refl
 after-least none t (s ∷ l) a = omega (arith, a .0, after-least none t l (a .1))
 
 pub first-least : (none : ℕ) (q : Lot) (d : Session) → Good q → 0 < q .len → Sorted (used q) →
-    min (getD (q .items) 0 d .start .0) none ≡ least none (λ s. s .start .0) (used q)
+    min (getD (used q) 0 d .start .0) none ≡ least none (λ s. s .start .0) (used q)
 first-least none q d g h o =
-    let e : used q ≡ getD (q .items) 0 d ∷ drop 1 (used q) = head q 0 d g h in
+    let e : used q ≡ getD (used q) 0 d ∷ drop 1 (used q) = head q 0 d g h in
     let a = subst Sorted e o in
-    sym (ap (least none (λ s. s .start .0)) e ∙ after-least none (getD (q .items) 0 d .start .0) (drop 1 (used q)) (a .0))
+    sym (ap (least none (λ s. s .start .0)) e ∙ after-least none (getD (used q) 0 d .start .0) (drop 1 (used q)) (a .0))
+
+-- ## Closing up, from the last on: the first i are as they were, and behind `to` stands what stays of the others
+
+pub record Omitting (p : Session → Bool) (u : List Session) (l : Lot) (i to : ℕ) : Type 0 where
+  pub good : Good l
+  pub ahead : i ≤ to
+  pub fits : to ≤ l .len
+  pub front : take i (used l) ≡ take i u
+  pub back : drop to (used l) ≡ omit p (drop i u)
+
+pub omitting-none : (p : Session → Bool) (l : Lot) → Good l → Omitting p (used l) l (l .len) (l .len)
+omitting-none p l g =
+    let z : drop (l .len) (used l) ≡ [] = at-end l (l .len) g (omega arith) in
+    record { good = g; ahead = omega arith; fits = omega arith; front = refl; back = rw z refl }
+
+module _ (p : Session → Bool) (u : List Session) (l : Lot) (i to j : ℕ) (v : Omitting p u l i to) (e : i ≡ suc j) where
+  -- the session j is still the one of the beginning, and the head of what is next
+  next-in : drop j u ≡ getD (used l) j empty ∷ drop i u
+  next-in =
+      let n : length (used l) ≡ l .len = length-used l (v .good) in
+      let m = length-take-le i (used l) (omega (arith, v .ahead, v .fits)) in
+      let x : getD (used l) j empty ≡ getD u j empty =
+      sym (getD-take i (used l) j empty (omega arith)) ∙ ap (λ (r : List Session). getD r j empty) (v .front) ∙ getD-take i u j empty (omega arith) in
+      drop-cons u j empty (omega (arith, length-take i u, ap length (v .front)))
+      ∙ ap (λ (k : ℕ). getD u j empty ∷ drop k u) (sym e)
+      ∙ ap (λ (y : Session). y ∷ drop i u) (sym x)
+
+  front-in : take j (used l) ≡ take j u
+  front-in = sym (take-take j i (used l) (omega arith)) ∙ ap (take j) (v .front) ∙ take-take j i u (omega arith)
+
+  pub omitting-goes : p (getD (used l) j empty) ≡ true → Omitting p u l j to
+  omitting-goes d =
+      record { good = v .good; ahead = omega (arith, v .ahead); fits = v .fits; front = front-in; back = v .back ∙ sym (rw (next-in, d) refl) }
+
+  pub omitting-stays : (m : Lot) (k : ℕ) → suc k ≡ to → p (getD (used l) j empty) ≡ false → Good m → m .len ≡ l .len → used m ≡ set (used l) k (getD (used l) j empty) → Omitting p u m j k
+  omitting-stays m k f d g n w =
+      let o : length (used l) ≡ l .len = length-used l (v .good) in
+      let x = getD (used l) j empty in
+      record {
+        good = g;
+        ahead = omega (arith, v .ahead);
+        fits = omega (arith, v .fits);
+        front = ap (take j) w ∙ take-set-le j (used l) k x (omega (arith, v .ahead)) ∙ front-in;
+        back = ap (drop k) w ∙ drop-set-here (used l) k to x (omega (arith, v .fits)) (omega arith) ∙ ap (λ r. x ∷ r) (v .back) ∙ sym (rw (next-in, d) refl);
+      }
+
+pub omitting-done : (p : Session → Bool) (u : List Session) (l : Lot) (i to : ℕ) → Omitting p u l i to → i ≤ 0 → drop to (used l) ≡ omit p u
+omitting-done p u l i to v h =
+    let z : i ≡ 0 = omega arith in
+    v .back ∙ ap (λ (k : ℕ). omit p (drop k u)) z

@@ -3,11 +3,13 @@ use mathlib.Core.Path.{_≡_}
 use mathlib.Core.List.{List, [], _∷_}
 use mathlib.Core.Bool.{Bool}
 use Prim.Native.Nat.{ℕ, zero, suc, _-_, _*_, _/_, _≤_}
+use lib.Dec.{leb}
 use lib.ListN.{length, take, drop, getD, replicate}
 use Rattle.rules.specs.declared.Session.{Session}
-use Rattle.rules.specs.State.{empty, of, is, follows, startsAt, startsAfter, endsAt}
+use Rattle.rules.specs.Lists.{count}
+use Rattle.rules.specs.State.{empty, of, is, follows, startsAfter, endsAt}
 use Rattle.places.specs.declared.Key.{Key}
-use Rattle.places.specs.declared.Key.the-variants.{Held, Follows, Of, StartsAt, StartsAfter, EndsAt}
+use Rattle.places.specs.declared.Key.the-variants.{Held, Follows, Of, StartsFrom, StartsAfter, EndsAt}
 
 -- the session in the first eight words
 abbrev pub row : List ℕ → Session
@@ -48,14 +50,18 @@ pub record Lot : Type 0 where
 abbrev pub lot : List ℕ → ℕ → Lot
 lot q n = record { items = places q; len = n }
 
+-- the places that stand free, before the used ones: so the first session goes, or one comes before it, and no other moves
+abbrev pub free : Lot → ℕ
+free l = length (l .items) - l .len
+
 -- the sessions that stand there, in their order
 abbrev pub used : Lot → List Session
-used l = take (l .len) (l .items)
+used l = drop (free l) (l .items)
 
--- what `clear` gives and each function keeps: the places behind the used ones are empty
+-- what `cleared` gives and each function keeps: the free places are empty
 pub record Good (l : Lot) : Type 0 where
   pub fits : l .len ≤ length (l .items)
-  pub clear : drop (l .len) (l .items) ≡ replicate (length (l .items) - l .len) empty
+  pub clear : take (free l) (l .items) ≡ replicate (free l) empty
 
 -- what a function makes of the words e: n places of the words o hold u, and the spare words are as they were
 pub record Made (e o : List ℕ) (n : ℕ) (u : List Session) : Type 0 where
@@ -63,11 +69,23 @@ pub record Made (e o : List ℕ) (n : ℕ) (u : List Session) : Type 0 where
   pub list : used (lot o n) ≡ u
   pub rest : spare o ≡ spare e
 
+-- each connection is one of four
+abbrev pub OfFour : Session → Type 0
+OfFour s = s .conn ≤ 3
+
+-- how many are each connection's
+unfoldable pub tallied : List Session → List ℕ
+tallied l = count (of 0) l ∷ count (of 1) l ∷ count (of 2) l ∷ count (of 3) l ∷ []
+
+-- s starts at t or later
+abbrev pub startsFrom : ℕ → Session → Bool
+startsFrom t s = leb t (s .start .0)
+
 -- the test of each key
 abbrev pub keyTest : Key → Session → Bool
 keyTest (Held c x) = is c x
 keyTest (Follows c x) = follows c x
 keyTest (Of c) = of c
-keyTest (StartsAt t) = startsAt (t .0)
+keyTest (StartsFrom t) = startsFrom (t .0)
 keyTest (StartsAfter t) = startsAfter (t .0)
 keyTest (EndsAt t) = endsAt (t .0)

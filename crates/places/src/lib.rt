@@ -1,22 +1,23 @@
-// Sessions in words that the caller lends, eight words to a place: the used places first, each place behind them all zeros.
-// The waiting ones stand in 64 places, in order of start, and the started ones in 10.
+// Sessions in words that the caller lends, eight words to a place: the used places last, each place before them all zeros.
+// The waiting ones stand in 64 places, in order of start, and the started ones in 10: in both it is the first that goes or comes
+// most often, and then no other moves.
 use rules::Ninths;
 use rules::Session;
 ghost use mathlib.Core.Path.{_≡_};
 ghost use Prim.Native.Nat.{_+_, _-_, _/_, _≤_, _<_};
-ghost use lib.ListN.{length, take, set, getD};
-ghost use Rattle.rules.specs.Lists.{place, insertAt, removeAt, count, least};
-ghost use Rattle.rules.specs.State.{empty, of, Sorted};
+ghost use lib.ListN.{length, drop, set, getD};
+ghost use Rattle.rules.specs.Lists.{All, omit, place, insertAt, removeAt, least};
+ghost use Rattle.rules.specs.State.{empty, Sorted};
 ghost use Rattle.rules.specs.Instants.{outranks};
 ghost use Rattle.rules.specs.Answers.{inserted};
-ghost use Rattle.places.specs.Places.{places, spare, lot, used, Good, Made, keyTest};
+ghost use Rattle.places.specs.Places.{places, spare, lot, used, Good, Made, OfFour, tallied, keyTest};
 
 // What a search looks for: `keyTest` of specs/ gives each its test.
 pub enum Key {
     Held(u64, u64),
     Follows(u64, u64),
     Of(u64),
-    StartsAt(Ninths),
+    StartsFrom(Ninths),
     StartsAfter(Ninths),
     EndsAt(Ninths),
 }
@@ -37,8 +38,8 @@ pub fn nothing() -> Session
     }
 }
 
-// The session at the place i.
-pub fn load(q: &[u64], i: usize) -> Session
+// The session in the eight words of the place i.
+fn read_row(q: &[u64], i: usize) -> Session
     requires { ⌜ i < length (now q) / 8 ⌝ }
     ensures { λ r. ⌜ r ≡ getD (places (now (q .entry))) i empty ⌝ }
 {
@@ -55,8 +56,8 @@ pub fn load(q: &[u64], i: usize) -> Session
     }
 }
 
-// x at the place i.
-pub fn store(q: &mut [u64], i: usize, x: Session)
+// x in the eight words of the place i.
+fn write_row(q: &mut [u64], i: usize, x: Session)
     requires { ⌜ i < length (now q) / 8 ⌝ }
     ensures list { λ _. ⌜ places (now (q .exit)) ≡ set (places (now (q .entry))) i x ⌝ }
     ensures rest { λ _. ⌜ spare (now (q .exit)) ≡ spare (now (q .entry)) ⌝ }
@@ -72,60 +73,85 @@ pub fn store(q: &mut [u64], i: usize, x: Session)
     q[b + 7] = x.played.0;
 }
 
-// x in place of the one at the place `at`.
+// The session `at` of the n that are used.
+pub fn load(q: &[u64], n: usize, at: usize) -> Session
+    requires { ⌜ Good (lot (now q) n) ⌝ }
+    requires { ⌜ at < n ⌝ }
+    ensures { λ r. ⌜ r ≡ getD (used (lot (now (q .entry)) n)) at empty ⌝ }
+{
+    let free = q.len() / 8 - n;
+    read_row(q, free + at)
+}
+
+// x in place of the session `at`.
 pub fn replace_at(q: &mut [u64], n: usize, at: usize, x: Session)
     requires { ⌜ Good (lot (now q) n) ⌝ }
     requires { ⌜ at < n ⌝ }
     ensures { λ _. ⌜ Made (now (q .entry)) (now (q .exit)) n (set (used (lot (now (q .entry)) n)) at x) ⌝ }
 {
-    store(&mut *q, at, x)
+    let free = q.len() / 8 - n;
+    write_row(&mut *q, free + at, x)
 }
 
-// x at the place `at`, and what stood there and behind it one place on.
+// The session `from` in place of the session `to` too.
+fn move_to(q: &mut [u64], n: usize, from: usize, to: usize)
+    requires { ⌜ Good (lot (now q) n) ⌝ }
+    requires { ⌜ (from < n) × (to < n) ⌝ }
+    ensures { λ _. ⌜ Made (now (q .entry)) (now (q .exit)) n (set (used (lot (now (q .entry)) n)) to (getD (used (lot (now (q .entry)) n)) from empty)) ⌝ }
+{
+    if from == to {
+        return;
+    }
+    let x = load(&*q, n, from);
+    replace_at(&mut *q, n, to, x)
+}
+
+// x before the session `at`: those before it move one place up.
 pub fn insert_at(q: &mut [u64], n: usize, at: usize, x: Session)
     requires { ⌜ Good (lot (now q) n) ⌝ }
     requires { ⌜ (at ≤ n) × (n < length (now q) / 8) ⌝ }
     ensures { λ _. ⌜ Made (now (q .entry)) (now (q .exit)) (n + 1) (insertAt at x (used (lot (now (q .entry)) n))) ⌝ }
 {
-    let mut hole = n;
-    while at < hole {
-        let before = hole - 1;
-        let y = load(&*q, before);
-        store(&mut *q, hole, y);
-        hole = before;
+    let last_free = q.len() / 8 - n - 1;
+    let to = last_free + at;
+    let mut hole = last_free;
+    while hole < to {
+        let behind = hole + 1;
+        let y = read_row(&*q, behind);
+        write_row(&mut *q, hole, y);
+        hole = behind;
     }
-    store(&mut *q, at, x)
+    write_row(&mut *q, to, x)
 }
 
-// Without the place `at`: what stood behind it moves one place up, and the last place is cleared.
+// Without the session `at`: those before it move one place down, and the place that gets free is cleared.
 pub fn remove_at(q: &mut [u64], n: usize, at: usize)
     requires { ⌜ Good (lot (now q) n) ⌝ }
     requires { ⌜ at < n ⌝ }
     ensures { λ _. ⌜ Made (now (q .entry)) (now (q .exit)) (n - 1) (removeAt at (used (lot (now (q .entry)) n))) ⌝ }
 {
-    let last = n - 1;
-    let mut hole = at;
-    while hole < last {
-        let behind = hole + 1;
-        let y = load(&*q, behind);
-        store(&mut *q, hole, y);
-        hole = behind;
+    let first = q.len() / 8 - n;
+    let mut hole = first + at;
+    while first < hole {
+        let before = hole - 1;
+        let y = read_row(&*q, before);
+        write_row(&mut *q, hole, y);
+        hole = before;
     }
     let none = nothing();
-    store(&mut *q, last, none)
+    write_row(&mut *q, first, none)
 }
 
-// The first `left` of them: the places behind are cleared.
-pub fn truncate(q: &mut [u64], n: usize, left: usize)
+// Without the first k.
+fn drop_first(q: &mut [u64], n: usize, k: usize)
     requires { ⌜ Good (lot (now q) n) ⌝ }
-    requires { ⌜ left ≤ n ⌝ }
-    ensures { λ _. ⌜ Made (now (q .entry)) (now (q .exit)) left (take left (used (lot (now (q .entry)) n))) ⌝ }
+    requires { ⌜ k ≤ n ⌝ }
+    ensures { λ _. ⌜ Made (now (q .entry)) (now (q .exit)) (n - k) (drop k (used (lot (now (q .entry)) n))) ⌝ }
 {
-    let none = nothing();
-    let mut i = n;
-    while left < i {
-        i -= 1;
-        store(&mut *q, i, none);
+    let mut i = 0;
+    while i < k {
+        remove_at(&mut *q, n - i, 0);
+        i += 1;
     }
 }
 
@@ -144,7 +170,7 @@ pub fn matches(key: Key, x: Session) -> bool
         Key::Held(conn, id) => conn == x.conn && id == x.id,
         Key::Follows(conn, id) => conn == x.conn && id == x.prior,
         Key::Of(conn) => conn == x.conn,
-        Key::StartsAt(t) => t.0 == x.start.0,
+        Key::StartsFrom(t) => t.0 <= x.start.0,
         Key::StartsAfter(t) => t.0 < x.start.0,
         Key::EndsAt(t) => t.0 == x.end.0,
     }
@@ -157,7 +183,7 @@ pub fn find(q: &[u64], n: usize, key: Key) -> usize
 {
     let mut at = 0;
     while at < n {
-        let x = load(q, at);
+        let x = load(q, n, at);
         if matches(key, x) {
             return at;
         }
@@ -166,21 +192,40 @@ pub fn find(q: &[u64], n: usize, key: Key) -> usize
     at
 }
 
-// How many are the connection's.
-pub fn count_of(q: &[u64], n: usize, conn: u64) -> usize
+// Without those that the key looks for: the rest closes up, from the last on. How many stay.
+pub fn omit_those(q: &mut [u64], n: usize, whom: Key) -> usize
     requires { ⌜ Good (lot (now q) n) ⌝ }
-    ensures { λ r. ⌜ r ≡ count (of conn) (used (lot (now (q .entry)) n)) ⌝ }
+    ensures { λ r. ⌜ Made (now (q .entry)) (now (q .exit)) r (omit (keyTest whom) (used (lot (now (q .entry)) n))) ⌝ }
 {
-    let mut k = 0;
+    let mut to = n;
+    let mut i = n;
+    while 0 < i {
+        i -= 1;
+        let x = load(&*q, n, i);
+        if !matches(whom, x) {
+            to -= 1;
+            move_to(&mut *q, n, i, to);
+        }
+    }
+    drop_first(&mut *q, n, to);
+    n - to
+}
+
+// How many are each connection's.
+pub fn tally(q: &[u64], n: usize) -> [usize; 4]
+    requires { ⌜ Good (lot (now q) n) ⌝ }
+    requires { ⌜ All OfFour (used (lot (now q) n)) ⌝ }
+    ensures { λ r. ⌜ r ≡ tallied (used (lot (now (q .entry)) n)) ⌝ }
+{
+    let mut t = [0; 4];
     let mut i = 0;
     while i < n {
-        let x = load(q, i);
-        if conn == x.conn {
-            k += 1;
-        }
+        let x = load(q, n, i);
+        let c = x.conn as usize;
+        t[c] += 1;
         i += 1;
     }
-    k
+    t
 }
 
 // The first end, or none.
@@ -191,7 +236,7 @@ pub fn least_end(q: &[u64], n: usize, none: Ninths) -> Ninths
     let mut best = none;
     let mut i = 0;
     while i < n {
-        let x = load(q, i);
+        let x = load(q, n, i);
         let t = x.end;
         if t.0 < best.0 {
             best = t;
@@ -210,7 +255,7 @@ pub fn first_start(q: &[u64], n: usize, none: Ninths) -> Ninths
     if n == 0 {
         return none;
     }
-    let x = load(q, 0);
+    let x = load(q, n, 0);
     if x.start.0 < none.0 {
         return x.start;
     }

@@ -7,25 +7,28 @@ use native.Mathlib.Omega.{arith}
 use lib.Dec.{eqb}
 use lib.ListN.{length, getD, length-append, List·getD-eq-default, List·getD-append}
 use lib.Seq.{getD-append-add}
-use borrow.Author.Tests.{ltb-false, eqb-true, lt-ltb, le-ltb, eq-eqb, ne-eqb, le-leb, lt-leb}
+use borrow.Author.Tests.{ltb-true, ltb-false, leb-true, leb-false, eqb-true, eqb-false, lt-ltb, le-ltb, eq-eqb, ne-eqb, le-leb, lt-leb}
 use Rattle.rules.specs.declared.Session.{Session}
+use Rattle.rules.specs.declared.Start.{Start}
+use Rattle.rules.specs.declared.Start.the-variants.{Timed, Linked}
 use Rattle.rules.specs.declared.Request.{Request}
 use Rattle.rules.specs.declared.Ninths.{Ninths}
 use Rattle.rules.specs.Units.{fromTicks}
 use Rattle.rules.specs.Reading.{nobody, separateService}
 use Rattle.rules.specs.Lists.{All, some, place}
-use Rattle.rules.specs.State.{Queue, empty, of, is, startsAt, held, holds, Sorted}
+use Rattle.rules.specs.State.{Queue, empty, of, is, startsAt, startsAfter, held, holds, Sorted}
 use Rattle.rules.specs.Instants.{outranks}
-use Rattle.rules.specs.Answers.{endOf, unknownPrior, wrongNumber, collides, waits, raised, raisedSum, full, spliceResult, sessionAt, priorOf, tooLate}
+use Rattle.rules.specs.Answers.{endOf, startOf, unknownPrior, wrongNumber, collides, waits, raisedSum, full, spliceResult, sessionAt, priorOf, tooLate}
+use Rattle.rules.specs.Sound.{Proper, Each, Holding}
 use Rattle.rules.proofs.All.{all-into}
-use Rattle.rules.proofs.Count.{count≤length, place-none, some-place}
-use Rattle.rules.proofs.Every.{all-none}
-use Rattle.places.specs.Places.{Lot, lot, Good, used}
+use Rattle.rules.proofs.Count.{count≤length, place-holds, some-none, some-place}
+use Rattle.rules.proofs.Every.{all-getD, all-none, all-held}
+use Rattle.places.specs.Places.{Lot, lot, Good, used, OfFour, startsFrom, tallied}
 use Rattle.places.proofs.Words.{length-places}
-use Rattle.places.proofs.Laws.{length-used, used-at}
+use Rattle.places.proofs.Laws.{length-used, tallied-at}
 use Rattle.requests.specs.declared.Found.{Found}
 use Rattle.requests.specs.declared.Found.the-variants.{Held, Missing}
-use Rattle.requests.specs.Found.{foundIn}
+use Rattle.requests.specs.Found.{foundIn, unplaced, sumOf, Few}
 
 -- ## The first that passes, of two lists
 
@@ -50,6 +53,10 @@ module _ {A : Type 0} (p : A → Bool) where
       go true ih k = absurd (omega arith)
       go false ih k = omega (arith, ih (omega arith))
 
+-- one that passes is at its place
+some-within : {A : Type 0} (p : A → Bool) (l : List A) → some p l ≡ true → place p l < length l
+some-within p l h = ltb-true _ _ (sym (some-place p l) ∙ h)
+
 -- ## What `find_held` finds
 
 module _ (c x : ℕ) (w k : Lot) (g : Good w) (h : Good k) where
@@ -63,18 +70,18 @@ module _ (c x : ℕ) (w k : Lot) (g : Good w) (h : Good k) where
       rw (some-place (is c x) (held both), e, lt-ltb i (length (held both)) l) (ap Held f)
 
   module _ (i : ℕ) (a : i ≡ place (is c x) (used w)) where
-    pub found-waiting : (s : Session) → i < w .len → s ≡ getD (w .items) i empty → Held s ≡ foundIn c x both
+    pub found-waiting : (s : Session) → i < w .len → s ≡ getD (used w) i empty → Held s ≡ foundIn c x both
     found-waiting s l f =
         let n : length (used w) ≡ w .len = length-used w g in
         found-at i s (place-front (is c x) (used w) (used k) (omega arith) ∙ sym a) (simp length-append (omega arith))
-        (f ∙ used-at w i empty l ∙ sym (List·getD-append (used w) (used k) empty i (omega arith)))
+        (f ∙ sym (List·getD-append (used w) (used k) empty i (omega arith)))
 
-    pub found-started : (j : ℕ) (s : Session) → w .len ≤ i → j ≡ place (is c x) (used k) → j < k .len → s ≡ getD (k .items) j empty → Held s ≡ foundIn c x both
+    pub found-started : (j : ℕ) (s : Session) → w .len ≤ i → j ≡ place (is c x) (used k) → j < k .len → s ≡ getD (used k) j empty → Held s ≡ foundIn c x both
     found-started j s l b m f =
         let n : length (used w) ≡ w .len = length-used w g in
         let o : length (used k) ≡ k .len = length-used k h in
         found-at (length (used w) + j) s (place-behind (is c x) (used w) (used k) (omega arith) ∙ ap (λ t. length (used w) + t) (sym b)) (simp length-append (omega arith))
-        (f ∙ used-at k j empty m ∙ sym (getD-append-add (used w) (used k) j empty))
+        (f ∙ sym (getD-append-add (used w) (used k) j empty))
 
     pub found-none : (j : ℕ) → w .len ≤ i → j ≡ place (is c x) (used k) → k .len ≤ j → Missing ≡ foundIn c x both
     unfolding foundIn
@@ -84,6 +91,12 @@ module _ (c x : ℕ) (w k : Lot) (g : Good w) (h : Good k) where
         rw (some-place (is c x) (held both), place-behind (is c x) (used w) (used k) (omega arith), le-ltb (length (used w) + place (is c x) (used k)) (length (used w ++ used k)) (simp length-append (omega arith)))
 
 -- ## What is known of what it finds
+
+unheld-end : (c x : ℕ) (q : Queue) → holds c x q ≡ false → endOf c x (held q) ≡ 0
+unfolding empty
+unheld-end c x q h =
+    let n : length (held q) ≤ place (is c x) (held q) = ltb-false _ _ (sym (some-place (is c x) (held q)) ∙ h) in
+    ap (λ (t : Session). t .end .0) (List·getD-eq-default (held q) empty n)
 
 module _ (c x : ℕ) (q : Queue) (f : Found) (e : f ≡ foundIn c x q) where
   held-known : (s : Session) → f ≡ Held s → (true ≡ holds c x q) × (s ≡ getD (held q) (place (is c x) (held q)) empty)
@@ -110,12 +123,22 @@ module _ (c x : ℕ) (q : Queue) (f : Found) (e : f ≡ foundIn c x q) where
   held-end s h = ap (λ (t : Session). t .end .0) (held-known s h .1)
 
   pub missing-end : f ≡ Missing → 0 ≡ endOf c x (held q)
-  unfolding empty
-  missing-end h =
-      let n : length (held q) ≤ place (is c x) (held q) = ltb-false _ _ (sym (missing-false h ∙ some-place (is c x) (held q))) in
-      sym (ap (λ (t : Session). t .end .0) (List·getD-eq-default (held q) empty n))
+  missing-end h = sym (unheld-end c x q (sym (missing-false h)))
 
 -- ## b. The three reasons
+
+-- no session that is held ends at 0
+unknown-is : (c : ℕ) (f : Start) (q : Queue) (t : ℕ) → Each Proper q → t ≡ startOf c f q → unplaced f t ≡ unknownPrior c f q
+unfolding startOf unknownPrior
+unknown-is c (Timed m) q t a e = refl
+unknown-is c (Linked p) q t a e = ap (λ (n : ℕ). eqb n 0) e ∙ go (holds c p q) refl
+  where
+    go : (b : Bool) → holds c p q ≡ b → eqb (endOf c p (held q)) 0 ≡ not b
+    go true h =
+        let s : Proper (getD (held q) (place (is c p) (held q)) empty) =
+        all-getD Proper (held q) (place (is c p) (held q)) empty (some-within (is c p) (held q) h) (all-held Proper q a) in
+        ne-eqb (endOf c p (held q)) 0 (λ z. omega (arith, s .lasts))
+    go false h = eq-eqb (endOf c p (held q)) 0 (unheld-end c p q h)
 
 module _ (c : ℕ) (r : Request) (q : Queue) where
   pub wrong-nobody : r .id ≡ nobody → true ≡ wrongNumber c r q
@@ -125,78 +148,138 @@ module _ (c : ℕ) (r : Request) (q : Queue) where
     pub wrong-held : b ≡ true → true ≡ wrongNumber c r q
     wrong-held h = rw (ne-eqb (r .id) nobody somebody, ← f, h)
 
-    pub wrong-prior : (u : Bool) → b ≡ false → u ≡ unknownPrior c (r .start) q → u ≡ wrongNumber c r q
-    wrong-prior u h g = rw (ne-eqb (r .id) nobody somebody, ← f, h) g
+    pub wrong-prior : (u : Bool) (t : ℕ) → b ≡ false → Each Proper q → t ≡ startOf c (r .start) q → u ≡ unplaced (r .start) t → u ≡ wrongNumber c r q
+    wrong-prior u t h a e g = rw (ne-eqb (r .id) nobody somebody, ← f, h) (g ∙ unknown-is c (r .start) q t a e)
 
--- ## d. No two that wait start together, so the first with the start decides
+-- ## d. No two that wait start together, so the first from a start on decides
 
 none-at : (p : Session → Bool) (t : ℕ) (w : List Session) → All (λ u. startsAt t u ≡ false) w → some (λ u. startsAt t u && p u) w ≡ false
 none-at p t [] a = refl
 none-at p t (u ∷ w) a = rw (a .0) (none-at p t w (a .1))
 
-module _ (p : Session → Bool) (t : ℕ) where
-  start-none : (w : List Session) → length w ≤ place (startsAt t) w → some (λ u. startsAt t u && p u) w ≡ false
-  start-none w h = none-at p t w (all-none (startsAt t) w (place-none (startsAt t) w h))
+start-at : (p : Session → Bool) (t : ℕ) (w : List Session) → Sorted w → place (startsAt t) w < length w → some (λ u. startsAt t u && p u) w ≡ p (getD w (place (startsAt t) w) empty)
+unfolding place
+start-at p t [] o h = absurd (omega arith)
+start-at p t (s ∷ w) o h = go (startsAt t s) refl (start-at p t w (o .1)) h
+  where
+    others : startsAt t s ≡ true → All (λ u. startsAt t u ≡ false) w
+    others e =
+        let i = eqb-true t (s .start .0) e in
+        all-into (λ u. s .start .0 < u .start .0) (λ u. startsAt t u ≡ false) (λ u l. ne-eqb t (u .start .0) (λ f. omega arith)) w (o .0)
 
-  start-at : (w : List Session) → Sorted w → place (startsAt t) w < length w → some (λ u. startsAt t u && p u) w ≡ p (getD w (place (startsAt t) w) empty)
+    or-false : (b : Bool) → (b || false) ≡ b
+    or-false true = refl
+    or-false false = refl
+
+    go : (b : Bool) → startsAt t s ≡ b → (place (startsAt t) w < length w → some (λ u. startsAt t u && p u) w ≡ p (getD w (place (startsAt t) w) empty))
+        → cond b 0 (suc (place (startsAt t) w)) < suc (length w)
+        → ((b && p s) || some (λ u. startsAt t u && p u) w) ≡ p (getD (s ∷ w) (cond b 0 (suc (place (startsAt t) w))) empty)
+    go true e ih k = rw (none-at p t w (others e)) (or-false (p s))
+    go false e ih k = ih (omega arith)
+
+module _ (t : ℕ) where
+  none-starts : (u : List Session) → some (startsAt t) u ≡ false → All (λ s. startsAt t s ≡ false) u
+  none-starts u h = all-none (startsAt t) u (some-none (startsAt t) u h)
+
+  -- one that starts at t is the first from t on
+  pub taken-at : (u : List Session) → Sorted u → some (startsAt t) u ≡ true → place (startsAt t) u ≡ place (startsFrom t) u
   unfolding place
-  start-at [] o h = absurd (omega arith)
-  start-at (s ∷ w) o h = go (startsAt t s) refl (start-at w (o .1)) h
+  taken-at [] o h = let z : _≡_ {A = ℕ} 0 1 = cc in absurd (omega arith)
+  taken-at (s ∷ u) o h = go (startsAt t s) refl (taken-at u (o .1)) h
     where
-      others : startsAt t s ≡ true → All (λ u. startsAt t u ≡ false) w
-      others e =
-          let i = eqb-true t (s .start .0) e in
-          all-into (λ u. s .start .0 < u .start .0) (λ u. startsAt t u ≡ false) (λ u l. ne-eqb t (u .start .0) (λ f. omega arith)) w (o .0)
+      earlier : some (startsAt t) u ≡ true → s .start .0 < t
+      earlier k =
+          let l = some-within (startsAt t) u k in
+          let e = eqb-true t (getD u (place (startsAt t) u) empty .start .0) (place-holds (startsAt t) u empty l) in
+          omega (arith, all-getD (λ v. s .start .0 < v .start .0) u (place (startsAt t) u) empty l (o .0))
 
-      or-false : (b : Bool) → (b || false) ≡ b
-      or-false true = refl
-      or-false false = refl
+      go : (b : Bool) → startsAt t s ≡ b → (some (startsAt t) u ≡ true → place (startsAt t) u ≡ place (startsFrom t) u) → (b || some (startsAt t) u) ≡ true
+          → cond b 0 (suc (place (startsAt t) u)) ≡ cond (startsFrom t s) 0 (suc (place (startsFrom t) u))
+      go true e ih k = rw (le-leb t (s .start .0) (omega (arith, eqb-true t (s .start .0) e)))
+      go false e ih k = rw (lt-leb t (s .start .0) (earlier k)) (ap suc (ih k))
 
-      go : (b : Bool) → startsAt t s ≡ b → (place (startsAt t) w < length w → some (λ u. startsAt t u && p u) w ≡ p (getD w (place (startsAt t) w) empty))
-          → cond b 0 (suc (place (startsAt t) w)) < suc (length w)
-          → ((b && p s) || some (λ u. startsAt t u && p u) w) ≡ p (getD (s ∷ w) (cond b 0 (suc (place (startsAt t) w))) empty)
-      go true e ih k = rw (none-at p t w (others e)) (or-false (p s))
-      go false e ih k = ih (omega arith)
+  -- where none starts at t, those from t on start after it
+  pub free-at : (u : List Session) → some (startsAt t) u ≡ false → place (startsAfter t) u ≡ place (startsFrom t) u
+  unfolding place
+  free-at u h = same u (none-starts u h)
+    where
+      after : (s : Session) → startsAt t s ≡ false → (b : Bool) → startsFrom t s ≡ b → startsAfter t s ≡ b
+      after s e true f =
+          let n = eqb-false t (s .start .0) e in
+          let l = leb-true t (s .start .0) f in
+          lt-ltb t (s .start .0) (omega arith)
+      after s e false f = le-ltb t (s .start .0) (omega (arith, leb-false t (s .start .0) f))
 
-module _ (new : Session) (w : Lot) (g : Good w) (i : ℕ) (f : i ≡ place (startsAt (new .start .0)) (used w)) where
-  pub collides-none : w .len ≤ i → false ≡ collides new (used w)
+      same : (u : List Session) → All (λ s. startsAt t s ≡ false) u → place (startsAfter t) u ≡ place (startsFrom t) u
+      same [] a = refl
+      same (s ∷ u) a = rw (after s (a .0) (startsFrom t s) refl, same u (a .1))
+
+  module _ (w : Lot) (g : Good w) (o : Sorted (used w)) (i : ℕ) (f : i ≡ place (startsFrom t) (used w)) where
+    pub taken-here : (x : Session) → i < w .len → x ≡ getD (used w) i empty → startsAt t x ≡ some (startsAt t) (used w)
+    taken-here x h e = go (some (startsAt t) (used w)) refl
+      where
+        go : (b : Bool) → some (startsAt t) (used w) ≡ b → startsAt t x ≡ b
+        go true k =
+            ap (startsAt t) (e ∙ ap (λ (j : ℕ). getD (used w) j empty) (f ∙ sym (taken-at (used w) o k)))
+            ∙ place-holds (startsAt t) (used w) empty (some-within (startsAt t) (used w) k)
+        go false k =
+            ap (startsAt t) e ∙ all-getD (λ s. startsAt t s ≡ false) (used w) i empty (omega (arith, length-used w g)) (none-starts (used w) k)
+
+    pub taken-within : (b : Bool) → b ≡ some (startsAt t) (used w) → b ≡ true → i < w .len
+    taken-within b e h =
+        let k = sym e ∙ h in
+        omega (arith, length-used w g, taken-at (used w) o k, some-within (startsAt t) (used w) k)
+
+    pub taken-none : w .len ≤ i → false ≡ some (startsAt t) (used w)
+    taken-none h = go (some (startsAt t) (used w)) refl
+      where
+        go : (b : Bool) → some (startsAt t) (used w) ≡ b → false ≡ b
+        go true k = absurd (omega (arith, taken-within true (sym k) refl))
+        go false k = refl
+
+module _ (new : Session) (u : List Session) (b : Bool) (f : b ≡ some (startsAt (new .start .0)) u) where
+  pub collides-none : b ≡ false → false ≡ collides new u
   unfolding collides
-  collides-none h =
-      let n : length (used w) ≡ w .len = length-used w g in
-      sym (start-none (λ s. not (outranks new s)) (new .start .0) (used w) (omega arith))
+  collides-none h = sym (none-at (λ s. not (outranks new s)) (new .start .0) u (none-starts (new .start .0) u (sym f ∙ h)))
 
-  pub collides-at : (old : Session) (b : Bool) → Sorted (used w) → i < w .len → old ≡ getD (w .items) i empty → b ≡ outranks new old → not b ≡ collides new (used w)
+  pub collides-at : (i : ℕ) (old : Session) (r : Bool) → Sorted u → i ≡ place (startsFrom (new .start .0)) u → b ≡ true → old ≡ getD u i empty → r ≡ outranks new old → not r ≡ collides new u
   unfolding collides
-  collides-at old b o h e r =
-      let n : length (used w) ≡ w .len = length-used w g in
-      ap not r
-      ∙ ap (λ (s : Session). not (outranks new s)) (e ∙ used-at w i empty h ∙ ap (λ (j : ℕ). getD (used w) j empty) f)
-      ∙ sym (start-at (λ s. not (outranks new s)) (new .start .0) (used w) o (omega arith))
+  collides-at i old r o j h e q =
+      let k = sym f ∙ h in
+      ap not q
+      ∙ ap (λ (s : Session). not (outranks new s)) (e ∙ ap (λ (n : ℕ). getD u n empty) (j ∙ sym (taken-at (new .start .0) u o k)))
+      ∙ sym (start-at (λ s. not (outranks new s)) (new .start .0) u o (some-within (startsAt (new .start .0)) u k))
 
 -- ## e. The counts
 
--- a raised count, for the sum
-pub raised-fits : (q : List ℕ) (n c k a : ℕ) → Good (lot q n) → length q ≡ 512 → k ≡ waits c (used (lot q n)) → a ≡ raised k → a ≤ 64
-raised-fits q n c k a g e f h =
-    omega (arith, length-used (lot q n) g, g .fits, length-places q, count≤length (of c) (used (lot q n)))
+-- every connection is one of the four
+pub waiting-of-four : (clock : ℕ) (q : Queue) → Holding clock q → All OfFour (q .waiting)
+waiting-of-four clock q h = all-into Proper OfFour (λ s p. p .conn) (q .waiting) (h .proper .waiting)
 
-module _ (w : List Session) where
-  pub sum-is : (a b c d a′ b′ c′ d′ : ℕ) → a ≡ waits 0 w → b ≡ waits 1 w → c ≡ waits 2 w → d ≡ waits 3 w → a′ ≡ raised a → b′ ≡ raised b → c′ ≡ raised c → d′ ≡ raised d
-      → a′ + (b′ + (c′ + d′)) ≡ raisedSum w
-  sum-is a b c d a′ b′ c′ d′ h i j k h′ i′ j′ k′ = cc
+-- what a tally counts is at most as many as there are places
+pub tally-fits : (q : List ℕ) (n : ℕ) (t : List ℕ) → Good (lot q n) → length q ≡ 512 → t ≡ tallied (used (lot q n)) → Few t
+tally-fits q n t g e f c h =
+    rw (f, tallied-at (used (lot q n)) c h) (omega (arith, length-used (lot q n) g, g .fits, length-places q, count≤length (of c) (used (lot q n))))
 
-  module _ (c n : ℕ) (e : n ≡ waits c w) where
-    pub full-twenty : n ≡ 20 → true ≡ full c w
-    unfolding full
-    full-twenty h = rw (eq-eqb (waits c w) 20 (sym e ∙ h))
+module _ (w : List Session) (t : List ℕ) (e : t ≡ tallied w) (c : ℕ) (low : c ≤ 3) where
+  counts : getD t c 0 ≡ waits c w
+  counts = rw e (tallied-at w c low)
 
-    pub full-few : (n ≡ 20 → ⊥) → n < 10 → false ≡ full c w
-    unfolding full
-    full-few h l = rw (ne-eqb (waits c w) 20 (λ f. h (e ∙ f)), lt-leb 10 (waits c w) (omega arith))
+  sums : sumOf (λ d. getD t d 0) ≡ raisedSum w
+  unfolding tallied
+  sums = rw e
 
-    pub full-sum : (s : ℕ) → (n ≡ 20 → ⊥) → 10 ≤ n → s ≡ raisedSum w → eqb s 64 ≡ full c w
-    unfolding full
-    full-sum s h l f = rw (ne-eqb (waits c w) 20 (λ z. h (e ∙ z)), le-leb 10 (waits c w) (omega arith), f)
+  pub full-twenty : getD t c 0 ≡ 20 → true ≡ full c w
+  unfolding full
+  full-twenty h = rw (eq-eqb (waits c w) 20 (sym counts ∙ h))
+
+  pub full-few : (getD t c 0 ≡ 20 → ⊥) → getD t c 0 < 10 → false ≡ full c w
+  unfolding full
+  full-few h l = rw (ne-eqb (waits c w) 20 (λ f. h (counts ∙ f)), lt-leb 10 (waits c w) (omega (arith, counts)))
+
+  pub full-sum : (s : ℕ) → (getD t c 0 ≡ 20 → ⊥) → 10 ≤ getD t c 0 → s ≡ sumOf (λ d. getD t d 0) → eqb s 64 ≡ full c w
+  unfolding full
+  full-sum s h l f = rw (ne-eqb (waits c w) 20 (λ z. h (counts ∙ z)), le-leb 10 (waits c w) (omega (arith, counts)), f ∙ sums)
 
 -- ## "with the first that applies"
 

@@ -8,37 +8,38 @@ use native.Mathlib.Nat.{zero-add}
 use native.Mathlib.Numerals.{one-add}
 use lib.Dec.{eqb, leb, ltb}
 use lib.ListN.{length, getD, length-append, drop-of-length-le}
-use borrow.Author.Tests.{lt-ltb, le-ltb, eq-eqb, ne-eqb, eqb-true, eqb-false, leb-true, leb-false, le-leb}
+use borrow.Author.Tests.{lt-ltb, eq-eqb, ne-eqb, eqb-true, eqb-false, leb-true, leb-false, le-leb}
 use borrow.Rule.Slice.PartMut.{putMid, midOf}
 use Rattle.rules.specs.declared.Session.{Session}
 use Rattle.rules.specs.declared.Start.{Start}
 use Rattle.rules.specs.declared.Start.the-variants.{Timed, Linked}
 use Rattle.rules.specs.declared.Request.{Request}
-use Rattle.rules.specs.Lists.{All, bit, put, keep, omit, place, removeAt}
-use Rattle.rules.specs.State.{Queue, empty, is, startsAt, holds, withWaiting}
+use Rattle.rules.specs.Lists.{All, bit, put, keep, omit, some, place, insertAt, removeAt}
+use Rattle.rules.specs.State.{Queue, empty, is, startsAt, holds, withWaiting, Sorted}
 use Rattle.rules.specs.Bytes.{written}
 use Rattle.rules.specs.Records.{Record, SpliceResponse, AbortResponse, recordBytes, output}
 use Rattle.rules.specs.Ends.{Turn, quiet, andThen, writes, response, endings, followers, dismissed, evictedAt, evicted, cancelled, aborted}
 use Rattle.rules.specs.Answers.{startOf, sessionAt, requested, waits, raised, raisedSum, full, spliceResult, inserted, accepted, answerSplice, answerAbort}
-use Rattle.rules.specs.Sound.{Proper, Room, horizon, Holding}
+use Rattle.rules.specs.Sound.{Room, horizon, Holding}
 use Rattle.rules.proofs.Tests.{or-none}
-use Rattle.rules.proofs.All.{all-into}
+use Rattle.rules.proofs.Count.{some-place}
 use Rattle.rules.proofs.Checks.{passed-all}
 use Rattle.rules.proofs.Readings.{Within}
 use Rattle.rules.proofs.Records.{length-record}
 use Rattle.rules.proofs.Written.{written-none, written-more, length-written, written-record, written-output}
 use Rattle.rules.proofs.Room.{sixty-four}
-use Rattle.rules.proofs.Size.{weight-append, weight-one, evicted-lean, cancelled-lean}
+use Rattle.rules.proofs.Size.{weight-append, weight-one, evictedAt-lean, cancelled-lean}
 use Rattle.rules.proofs.Bounds.{never, start-early}
 use Rattle.rules.proofs.Sound.{early}
-use Rattle.places.specs.Places.{Lot, lot, Good, Made, used, spare}
+use Rattle.places.specs.Places.{Lot, lot, Good, Made, used, spare, OfFour, startsFrom}
 use Rattle.places.proofs.Words.{length-places}
-use Rattle.places.proofs.Laws.{length-used, used-at}
+use Rattle.places.proofs.Laws.{length-used}
 use Rattle.ends.specs.declared.Counts.{Counts}
 use Rattle.ends.specs.declared.Ending.the-variants.{Complete, Response}
 use Rattle.ends.specs.Does.{endingOf, Ends, queueOf, Turns}
 use Rattle.ends.proofs.Laws.{brief-ending, room-endings, turns-writes, ends-waiting, turns-then, ends-same, turns-same}
-use Rattle.requests.specs.Found.{alone}
+use Rattle.requests.proofs.Laws.{taken-at, taken-within, free-at, waiting-of-four}
+use Rattle.requests.specs.Found.{alone, sumOf}
 
 -- as many are used as there are places at most
 pub used-fits : (q : List ℕ) (n : ℕ) → Good (lot q n) → n ≤ length q / 8
@@ -75,37 +76,31 @@ evicted-one : (t i : ℕ) (u : List Session) → i ≡ place (startsAt t) u → 
 unfolding evicted
 evicted-one t i u e h = rw e (rw (lt-ltb (place (startsAt t) u) (length u) (omega arith)))
 
-module _ (t : ℕ) (e : List ℕ) (len : ℕ) (w : Lot) (g : Good w) where
+evicted-none : (t : ℕ) (u : List Session) → some (startsAt t) u ≡ false → evicted t (alone u) ≡ quiet (alone u)
+unfolding evicted
+evicted-none t u h = rw (sym (some-place (startsAt t) u) ∙ h)
+
+module _ (e : List ℕ) (i : ℕ) (w : Lot) where
   abbrev leaves : Turn
-  leaves = evicted t (alone (used w))
+  leaves = evictedAt i (alone (used w))
 
-  module _ (i : ℕ) (f : i ≡ place (startsAt t) (used w)) where
-    pub evict-none : w .len ≤ i → Ends e len (leaves .queue .waiting) (leaves .written) w len e
-    unfolding evicted output
-    evict-none h =
-        let n : length (used w) ≡ w .len = length-used w g in
-        rw (le-ltb (place (startsAt t) (used w)) (length (used w)) (omega arith)) (record { good = g; list = refl; count = omega arith; bytes = sym (written-none e len) })
-
-    -- the one at the place i ends, and then those that follow it
-    pub evict-one : (v k : Lot) (to : ℕ) (o o′ : List ℕ) (s : Session) → i < w .len → s ≡ getD (w .items) i empty → used v ≡ removeAt i (used w)
-        → len + 14 ≤ length e → o ≡ written e len (recordBytes (response 109 s))
-        → Ends o (len + 14) (followers (s .conn) (s .id) (used v) .left) (map (response 109) (followers (s .conn) (s .id) (used v) .gone)) k to o′
-        → Ends e len (leaves .queue .waiting) (leaves .written) k to o′
-    unfolding evictedAt andThen dismissed
-    evict-one v k to o o′ s h q u m b d =
-        let n : length (used w) ≡ w .len = length-used w g in
-        let z : s ≡ getD (used w) i empty = q ∙ used-at w i empty h in
-        let a = ends-more e len (len + 14) (response 109 s) _ _ k to o o′ (omega (arith, length-record (response 109 s) tt)) m b d in
-        subst (λ (r : Turn). Ends e len (r .queue .waiting) (r .written) k to o′) (sym (evicted-one t i (used w) f (omega arith)))
-        (subst (λ (x : Session). Ends e len (followers (x .conn) (x .id) (removeAt i (used w)) .left) (response 109 x ∷ map (response 109) (followers (x .conn) (x .id) (removeAt i (used w)) .gone)) k to o′) z
-        (subst (λ (l : List Session). Ends e len (followers (s .conn) (s .id) l .left) (response 109 s ∷ map (response 109) (followers (s .conn) (s .id) l .gone)) k to o′) u a))
+  -- the one at the place i ends, and then those that follow it
+  pub evict-one : (v k : Lot) (to : ℕ) (o o′ : List ℕ) (s : Session) → s ≡ getD (used w) i empty → used v ≡ removeAt i (used w)
+      → 14 ≤ length e → o ≡ written e 0 (recordBytes (response 109 s))
+      → Ends o 14 (followers (s .conn) (s .id) (used v) .left) (map (response 109) (followers (s .conn) (s .id) (used v) .gone)) k to o′
+      → Ends e 0 (leaves .queue .waiting) (leaves .written) k to o′
+  unfolding evictedAt andThen dismissed
+  evict-one v k to o o′ s z u m b d =
+      let a = ends-more e 0 14 (response 109 s) _ _ k to o o′ (omega (arith, length-record (response 109 s) tt)) m b d in
+      subst (λ (x : Session). Ends e 0 (followers (x .conn) (x .id) (removeAt i (used w)) .left) (response 109 x ∷ map (response 109) (followers (x .conn) (x .id) (removeAt i (used w)) .gone)) k to o′) z
+      (subst (λ (l : List Session). Ends e 0 (followers (s .conn) (s .id) l .left) (response 109 s ∷ map (response 109) (followers (s .conn) (s .id) l .gone)) k to o′) u a)
 
   -- 14 bytes for each that goes
-  pub evict-spends : (v : Lot) (to : ℕ) (o : List ℕ) → Ends e len (leaves .queue .waiting) (leaves .written) v to o → (len ≤ to) × (to + 14 * v .len ≤ len + 14 * w .len)
-  evict-spends v to o a =
+  pub evict-spends : Good w → i < w .len → (v : Lot) (to : ℕ) (o : List ℕ) → Ends e 0 (leaves .queue .waiting) (leaves .written) v to o → to + 14 * v .len ≤ 14 * w .len
+  evict-spends g h v to o a =
       let n : length (used w) ≡ w .len = length-used w g in
       let m : length (leaves .queue .waiting) ≡ v .len = sym (ap length (a .list)) ∙ length-used v (a .good) in
-      (omega (arith, a .count), omega (arith, a .count, evicted-lean t (alone (used w))))
+      omega (arith, a .count, evictedAt-lean i (alone (used w)) (omega arith))
 
 -- ## Acceptance
 
@@ -113,23 +108,46 @@ accepted-alone : (s : Session) (q : Queue) → accepted s q ≡ record { queue =
 unfolding accepted andThen
 accepted-alone s q = ap (λ (t : Turn). andThen t (λ u. writes (response 100 s ∷ []) (withWaiting (inserted s (u .waiting)) u))) (evicted-alone (s .start .0) q)
 
-module _ (new : Session) (e : List ℕ) where
+-- b: whether one that waits has the start; i: the place of the first from it on
+module _ (new : Session) (e : List ℕ) (w : List ℕ) (n i : ℕ) (g : Good (lot w n)) (sorted : Sorted (used (lot w n)))
+    (f : i ≡ place (startsFrom (new .start .0)) (used (lot w n))) (b : Bool) (h : b ≡ some (startsAt (new .start .0)) (used (lot w n))) where
+  abbrev u : List Session
+  u = used (lot w n)
+
   -- the new one waits, and its 100 stands behind the ends
-  pub accept-ends : (u : List Session) (w w′ : List ℕ) (left len : ℕ) (o ys : List ℕ) → Ends e 0 (evicted (new .start .0) (alone u) .queue .waiting) (evicted (new .start .0) (alone u) .written) (lot w left) len o
-      → Made w w′ (left + 1) (inserted new (used (lot w left))) → len + 14 ≤ length e → ys ≡ written (midOf len (length o - len) o) 0 (recordBytes (response 100 new))
-      → Ends e 0 (accepted new (alone u) .queue .waiting) (accepted new (alone u) .written) (lot w′ (left + 1)) (len + 14) (putMid len (length o - len) o ys)
+  pub accept-over : b ≡ true → (w′ w″ : List ℕ) (left len : ℕ) (o ys : List ℕ) → Ends e 0 (evictedAt i (alone u) .queue .waiting) (evictedAt i (alone u) .written) (lot w′ left) len o
+      → Made w′ w″ (left + 1) (inserted new (used (lot w′ left))) → len + 14 ≤ length e → ys ≡ written (midOf len (length o - len) o) 0 (recordBytes (response 100 new))
+      → Ends e 0 (accepted new (alone u) .queue .waiting) (accepted new (alone u) .written) (lot w″ (left + 1)) (len + 14) (putMid len (length o - len) o ys)
   unfolding accepted andThen
-  accept-ends u w w′ left len o ys a m h b =
-      let rs = evicted (new .start .0) (alone u) .written in
+  accept-over k w′ w″ left len o ys a m r d =
       let x = response 100 new in
-      let n : length (recordBytes x) ≡ 14 = length-record x tt in
-      record {
+      let z : length (recordBytes x) ≡ 14 = length-record x tt in
+      let rs = evictedAt i (alone u) .written in
+      rw (evicted-one (new .start .0) i u (f ∙ sym (taken-at (new .start .0) u sorted (sym h ∙ k))) (omega (arith, length-used (lot w n) g, taken-within (new .start .0) (lot w n) g sorted i f b h k)))
+      (record {
         good = m .good;
         list = m .list ∙ ap (inserted new) (a .list);
         count = omega (arith, a .count, weight-append rs (x ∷ []), weight-one x tt);
-        bytes = written-record e 0 rs x o ys len (a .bytes) (a .count) (omega arith) b;
-      }
+        bytes = written-record e 0 rs x o ys len (a .bytes) (a .count) (omega arith) d;
+      })
 
+  -- none has its start: it waits at the place i
+  pub accept-free : b ≡ false → (w′ o : List ℕ) → Made w w′ (n + 1) (insertAt i new u) → 14 ≤ length e → o ≡ written e 0 (recordBytes (response 100 new))
+      → Ends e 0 (accepted new (alone u) .queue .waiting) (accepted new (alone u) .written) (lot w′ (n + 1)) 14 o
+  unfolding accepted andThen inserted output
+  accept-free k w′ o m r d =
+      let x = response 100 new in
+      let z : length (recordBytes x) ≡ 14 = length-record x tt in
+      rw (evicted-none (new .start .0) u (sym h ∙ k))
+      (ends-more e 0 14 x _ [] (lot w′ (n + 1)) 14 o o (omega arith) r d
+      (record {
+        good = m .good;
+        list = m .list ∙ ap (λ (j : ℕ). insertAt j new u) (f ∙ sym (free-at (new .start .0) u (sym h ∙ k)));
+        count = omega arith;
+        bytes = sym (written-none o 14);
+      }))
+
+module _ (new : Session) (e : List ℕ) where
   -- the started ones stay as they are
   accept-turns : (w w′ k : List ℕ) (n m left len : ℕ) (o : List ℕ) → Good (lot k m)
       → Ends e 0 (accepted new (alone (used (lot w n))) .queue .waiting) (accepted new (alone (used (lot w n))) .written) (lot w′ left) len o
@@ -148,10 +166,6 @@ more x y f s = go (leb 10 x) refl
     go true e = omega (arith, f (leb-true 10 x e))
     go false e = omega (arith, leb-false 10 x e)
 
--- n c: how many of connection c wait
-abbrev sumOf : (ℕ → ℕ) → ℕ
-sumOf n = raised (n 0) + (raised (n 1) + (raised (n 2) + raised (n 3)))
-
 sum-more : (n : ℕ → ℕ) (d : ℕ) → d ≤ 3 → (10 ≤ n d → sumOf n < 64) → sumOf n ≤ 64 → sumOf (λ c. bit (eqb c d) + n c) ≤ 64
 sum-more n zero h f s = simp (zero-add, one-add) (more (n 0) (raised (n 1) + (raised (n 2) + raised (n 3))) f s)
 sum-more n (suc zero) h f s =
@@ -162,7 +176,7 @@ sum-more n (suc (suc (suc zero))) h f s =
     simp (zero-add, one-add) (omega (arith, more (n 3) (raised (n 0) + (raised (n 1) + raised (n 2))) (λ l. omega (arith, f l)) (omega arith)))
 sum-more n (suc (suc (suc (suc d)))) h f s = absurd (omega arith)
 
-room-left : (s : Session) (w : List Session) → s .conn ≤ 3 → All (λ u. u .conn ≤ 3) w → Room w → full (s .conn) w ≡ false → length w < 64
+room-left : (s : Session) (w : List Session) → OfFour s → All OfFour w → Room w → full (s .conn) w ≡ false → length w < 64
 unfolding full
 room-left s w low a r f =
     let o = or-none (eqb (waits (s .conn) w) 20) (leb 10 (waits (s .conn) w) && eqb (raisedSum w) 64) f in
@@ -187,6 +201,14 @@ unfolding startOf
 start-fits c clock (Timed m) q t h k l e = omega arith
 start-fits c clock (Linked p) q t h k l e = omega (arith, start-early c (Linked p) q (omega arith) (early k l))
 
+-- the session asked for starts at t, and its place is that of the first from t on
+pub starts-asked : (t c : ℕ) (r : Request) (new : Session) (x : ℕ) → new ≡ sessionAt t c r → t ≡ x → new .start .0 ≡ x
+unfolding sessionAt
+starts-asked t c r new x e f = ap (λ (s : Session). s .start .0) e ∙ f
+
+pub place-asked : (t c : ℕ) (r : Request) (new : Session) (u : List Session) (i : ℕ) → new ≡ sessionAt t c r → i ≡ place (startsFrom t) u → i ≡ place (startsFrom (new .start .0)) u
+place-asked t c r new u i e f = f ∙ ap (λ (n : ℕ). place (startsFrom n) u) (sym (starts-asked t c r new t e refl))
+
 -- new: the session that r asks for, n: its result
 module _ (clock c : ℕ) (r : Request) (w k : List ℕ) (i j t : ℕ) (new : Session) (n : ℕ) (at : t ≡ startOf c (r .start) (queueOf w i k j)) (is-new : new ≡ sessionAt t c r)
     (f : n ≡ spliceResult clock c r new (queueOf w i k j)) where
@@ -206,8 +228,7 @@ module _ (clock c : ℕ) (r : Request) (w k : List ℕ) (i j t : ℕ) (new : Ses
       omega (
         arith,
         length-used (lot w i) g,
-        room-left (requested c r before) (before .waiting) low
-            (all-into Proper (λ s. s .conn ≤ 3) (λ s p. p .conn) (before .waiting) (h .proper .waiting)) (h .room)
+        room-left (requested c r before) (before .waiting) low (waiting-of-four clock before h) (h .room)
             (passed-all clock c r before (sym result-is ∙ e) .room),
       )
 

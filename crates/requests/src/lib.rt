@@ -9,16 +9,16 @@ use rules::Session;
 use rules::Start;
 ghost use mathlib.Core.Path.{_≡_};
 ghost use Prim.Native.Nat.{_+_, _*_, _≤_, _<_};
-ghost use lib.ListN.{length};
-ghost use Rattle.rules.specs.Lists.{All};
-ghost use Rattle.rules.specs.State.{holds, Sorted};
-ghost use Rattle.rules.specs.Ends.{evicted, cancelled};
-ghost use Rattle.rules.specs.Answers.{startOf, priorOf, sessionAt, unknownPrior, wrongNumber, tooLate, collides, raised, raisedSum, full, spliceResult, accepted, answerSplice, answerAbort};
-ghost use Rattle.rules.specs.Sound.{horizon, Holding};
+ghost use lib.ListN.{length, getD};
+ghost use Rattle.rules.specs.Lists.{All, some, place};
+ghost use Rattle.rules.specs.State.{startsAt, holds, Sorted};
+ghost use Rattle.rules.specs.Ends.{evictedAt, cancelled};
+ghost use Rattle.rules.specs.Answers.{startOf, priorOf, sessionAt, wrongNumber, tooLate, collides, raised, full, spliceResult, accepted, answerSplice, answerAbort};
+ghost use Rattle.rules.specs.Sound.{Proper, Each, horizon, Holding};
 ghost use Rattle.rules.proofs.Readings.{Within, Asked};
-ghost use Rattle.places.specs.Places.{Good, lot, used, keyTest};
+ghost use Rattle.places.specs.Places.{Good, lot, used, OfFour, startsFrom, keyTest};
 ghost use Rattle.ends.specs.Does.{Playable, queueOf, Ends, Turns};
-ghost use Rattle.requests.specs.Found.{foundIn, alone};
+ghost use Rattle.requests.specs.Found.{foundIn, unplaced, alone, sumOf, Few};
 
 // A session that is held, or that none is.
 pub enum Found {
@@ -34,11 +34,11 @@ pub fn find_held(w: &[u64], waiting: usize, k: &[u64], started: usize, conn: u64
 {
     let i = places::find(w, waiting, Key::Held(conn, id));
     if i < waiting {
-        return Found::Held(places::load(w, i));
+        return Found::Held(places::load(w, waiting, i));
     }
     let j = places::find(k, started, Key::Held(conn, id));
     if j < started {
-        return Found::Held(places::load(k, j));
+        return Found::Held(places::load(k, started, j));
     }
     Found::Missing
 }
@@ -112,22 +112,13 @@ pub fn session_at(t: Ninths, conn: u64, r: Request) -> Session
     }
 }
 
-// Whether a linked request's PriorSession is not held by its connection.
-pub fn is_unknown_prior(
-    conn: u64,
-    start: Start,
-    w: &[u64],
-    waiting: usize,
-    k: &[u64],
-    started: usize,
-) -> bool
-    requires { ⌜ Good (lot (now w) waiting) ⌝ }
-    requires { ⌜ Good (lot (now k) started) ⌝ }
-    ensures { λ r. ⌜ r ≡ unknownPrior conn start (queueOf (now (w .entry)) waiting (now (k .entry)) started) ⌝ }
+// Whether a linked request's PriorSession is not held by its connection. Its start t is then 0, and no session that is held ends at 0.
+pub fn is_unknown_prior(start: Start, t: Ninths) -> bool
+    ensures { λ r. ⌜ r ≡ unplaced start (t .0) ⌝ }
 {
     match start {
         Start::Timed(_) => false,
-        Start::Linked(p) => !is_held(w, waiting, k, started, conn, p as u64),
+        Start::Linked(_) => t.0 == 0,
     }
 }
 
@@ -135,6 +126,7 @@ pub fn is_unknown_prior(
 pub fn is_wrong_number(
     conn: u64,
     r: Request,
+    t: Ninths,
     w: &[u64],
     waiting: usize,
     k: &[u64],
@@ -142,6 +134,8 @@ pub fn is_wrong_number(
 ) -> bool
     requires { ⌜ Good (lot (now w) waiting) ⌝ }
     requires { ⌜ Good (lot (now k) started) ⌝ }
+    requires { ⌜ Each Proper (queueOf (now w) waiting (now k) started) ⌝ }
+    requires { ⌜ t .0 ≡ startOf conn (r .start) (queueOf (now w) waiting (now k) started) ⌝ }
     ensures { λ b. ⌜ b ≡ wrongNumber conn r (queueOf (now (w .entry)) waiting (now (k .entry)) started) ⌝ }
 {
     if r.id == 0xFFFFFFFF {
@@ -151,7 +145,7 @@ pub fn is_wrong_number(
         return true;
     }
     let start = r.start;
-    is_unknown_prior(conn, start, w, waiting, k, started)
+    is_unknown_prior(start, t)
 }
 
 // c. Timed, and the start is less than 3 s after the clock.
@@ -178,15 +172,14 @@ pub fn raise(n: usize) -> usize
 }
 
 // The four counts, each raised to 10 if lower.
-pub fn raised_sum(w: &[u64], waiting: usize) -> usize
-    requires { ⌜ Good (lot (now w) waiting) ⌝ }
-    requires { ⌜ length (now w) ≡ 512 ⌝ }
-    ensures { λ r. ⌜ r ≡ raisedSum (used (lot (now (w .entry)) waiting)) ⌝ }
+pub fn raised_sum(t: [usize; 4]) -> usize
+    requires { ⌜ Few t ⌝ }
+    ensures { λ r. ⌜ r ≡ sumOf (λ c. getD t c 0) ⌝ }
 {
-    let a = raise(places::count_of(w, waiting, 0));
-    let b = raise(places::count_of(w, waiting, 1));
-    let c = raise(places::count_of(w, waiting, 2));
-    let d = raise(places::count_of(w, waiting, 3));
+    let a = raise(t[0]);
+    let b = raise(t[1]);
+    let c = raise(t[2]);
+    let d = raise(t[3]);
     a + (b + (c + d))
 }
 
@@ -194,28 +187,46 @@ pub fn raised_sum(w: &[u64], waiting: usize) -> usize
 pub fn is_full(w: &[u64], waiting: usize, conn: u64) -> bool
     requires { ⌜ Good (lot (now w) waiting) ⌝ }
     requires { ⌜ length (now w) ≡ 512 ⌝ }
+    requires { ⌜ All OfFour (used (lot (now w) waiting)) ⌝ }
+    requires { ⌜ conn ≤ 3 ⌝ }
     ensures { λ r. ⌜ r ≡ full conn (used (lot (now (w .entry)) waiting)) ⌝ }
 {
-    let n = places::count_of(w, waiting, conn);
+    let t = places::tally(w, waiting);
+    let c = conn as usize;
+    let n = t[c];
     if n == 20 {
         return true;
     }
     if n < 10 {
         return false;
     }
-    raised_sum(w, waiting) == 64
+    raised_sum(t) == 64
 }
 
-// d. Whether a waiting session has the same start and is not outranked. No two that wait start together, so the first decides.
-pub fn does_collide(new: Session, w: &[u64], waiting: usize) -> bool
+// Whether one that waits starts at t. `at` is the place of the first from t on: no two that wait start together, so it decides.
+pub fn is_taken(t: Ninths, at: usize, w: &[u64], waiting: usize) -> bool
     requires { ⌜ Good (lot (now w) waiting) ⌝ }
     requires { ⌜ Sorted (used (lot (now w) waiting)) ⌝ }
+    requires { ⌜ at ≡ place (startsFrom (t .0)) (used (lot (now w) waiting)) ⌝ }
+    ensures { λ r. ⌜ r ≡ some (startsAt (t .0)) (used (lot (now (w .entry)) waiting)) ⌝ }
+{
+    if at < waiting {
+        let x = places::load(w, waiting, at);
+        return t.0 == x.start.0;
+    }
+    false
+}
+
+// d. Whether a waiting session has the same start and is not outranked.
+pub fn does_collide(new: Session, at: usize, w: &[u64], waiting: usize) -> bool
+    requires { ⌜ Good (lot (now w) waiting) ⌝ }
+    requires { ⌜ Sorted (used (lot (now w) waiting)) ⌝ }
+    requires { ⌜ at ≡ place (startsFrom (new .start .0)) (used (lot (now w) waiting)) ⌝ }
     ensures { λ r. ⌜ r ≡ collides new (used (lot (now (w .entry)) waiting)) ⌝ }
 {
     let t = new.start;
-    let i = places::find(w, waiting, Key::StartsAt(t));
-    if i < waiting {
-        let old = places::load(w, i);
+    if is_taken(t, at, w, waiting) {
+        let old = places::load(w, waiting, at);
         return !places::outranks(new, old);
     }
     false
@@ -227,6 +238,7 @@ pub fn splice_result(
     conn: u64,
     r: Request,
     new: Session,
+    at: usize,
     w: &[u64],
     waiting: usize,
     k: &[u64],
@@ -235,7 +247,10 @@ pub fn splice_result(
     requires { ⌜ Good (lot (now w) waiting) ⌝ }
     requires { ⌜ Good (lot (now k) started) ⌝ }
     requires { ⌜ length (now w) ≡ 512 ⌝ }
-    requires { ⌜ Sorted (used (lot (now w) waiting)) ⌝ }
+    requires { ⌜ Holding (clock .0) (queueOf (now w) waiting (now k) started) ⌝ }
+    requires { ⌜ new .start .0 ≡ startOf conn (r .start) (queueOf (now w) waiting (now k) started) ⌝ }
+    requires { ⌜ at ≡ place (startsFrom (new .start .0)) (used (lot (now w) waiting)) ⌝ }
+    requires { ⌜ conn ≤ 3 ⌝ }
     requires { ⌜ clock .0 < horizon ⌝ }
     requires { ⌜ Within (r .start) ⌝ }
     ensures { λ n. ⌜ n ≡ spliceResult (clock .0) conn r new (queueOf (now (w .entry)) waiting (now (k .entry)) started) ⌝ }
@@ -243,14 +258,15 @@ pub fn splice_result(
     if r.service == 0xFFFF {
         return 110;
     }
-    if is_wrong_number(conn, r, w, waiting, k, started) {
+    let t = new.start;
+    if is_wrong_number(conn, r, t, w, waiting, k, started) {
         return 121;
     }
     let start = r.start;
     if is_too_late(clock, start) {
         return 112;
     }
-    if does_collide(new, w, waiting) {
+    if does_collide(new, at, w, waiting) {
         return 109;
     }
     if is_full(w, waiting, conn) {
@@ -259,44 +275,46 @@ pub fn splice_result(
     100
 }
 
-// The one that waits with the start t ends with 109, and its waiting followers.
-pub fn evict(t: Ninths, w: &mut [u64], waiting: usize, out: &mut [u8], len: usize) -> Left
+// The one at the place `at` ends with 109, and its waiting followers.
+pub fn evict(at: usize, w: &mut [u64], waiting: usize, out: &mut [u8]) -> Left
     requires { ⌜ Good (lot (now w) waiting) ⌝ }
-    requires { ⌜ length (now w) ≡ 512 ⌝ }
-    requires { ⌜ len + 23 * waiting ≤ length (now out) ⌝ }
-    ensures { λ r. ⌜ Ends (now (out .entry)) len (evicted (t .0) (alone (used (lot (now (w .entry)) waiting))) .queue .waiting) (evicted (t .0) (alone (used (lot (now (w .entry)) waiting))) .written) (lot (now (w .exit)) (r .left)) (r .len) (now (out .exit)) ⌝ }
+    requires { ⌜ at < waiting ⌝ }
+    requires { ⌜ 23 * waiting ≤ length (now out) ⌝ }
+    ensures { λ r. ⌜ Ends (now (out .entry)) 0 (evictedAt at (alone (used (lot (now (w .entry)) waiting))) .queue .waiting) (evictedAt at (alone (used (lot (now (w .entry)) waiting))) .written) (lot (now (w .exit)) (r .left)) (r .len) (now (out .exit)) ⌝ }
 {
-    let i = places::find(&*w, waiting, Key::StartsAt(t));
-    if i < waiting {
-        let x = places::load(&*w, i);
-        places::remove_at(&mut *w, waiting, i);
-        writing::splice_response(&mut out[len..], x.conn, 109, x.id);
-        ends::dismiss(&mut *w, waiting - 1, 109, x.conn, x.id, &mut *out, len + 14)
-    } else {
-        Left {
-            left: waiting,
-            len: len,
-        }
-    }
+    let x = places::load(&*w, waiting, at);
+    places::remove_at(&mut *w, waiting, at);
+    writing::splice_response(&mut *out, x.conn, 109, x.id);
+    ends::dismiss(&mut *w, waiting - 1, 109, x.conn, x.id, &mut *out, 14)
 }
 
-// f. The new session waits, once the one that it evicts has ended; the 100 is written last.
-pub fn accept(new: Session, w: &mut [u64], waiting: usize, out: &mut [u8]) -> Left
+// f. The new session waits, once the one that it evicts has ended; the 100 is written last. `at` is the place of the first from its start on.
+pub fn accept(new: Session, at: usize, w: &mut [u64], waiting: usize, out: &mut [u8]) -> Left
     requires { ⌜ Good (lot (now w) waiting) ⌝ }
     requires { ⌜ length (now w) ≡ 512 ⌝ }
+    requires { ⌜ Sorted (used (lot (now w) waiting)) ⌝ }
+    requires { ⌜ at ≡ place (startsFrom (new .start .0)) (used (lot (now w) waiting)) ⌝ }
     requires { ⌜ waiting < 64 ⌝ }
     requires { ⌜ 4096 ≤ length (now out) ⌝ }
     ensures { λ r. ⌜ Ends (now (out .entry)) 0 (accepted new (alone (used (lot (now (w .entry)) waiting))) .queue .waiting) (accepted new (alone (used (lot (now (w .entry)) waiting))) .written) (lot (now (w .exit)) (r .left)) (r .len) (now (out .exit)) ⌝ }
 {
     let t = new.start;
-    let e = evict(t, &mut *w, waiting, &mut *out, 0);
-    let left = e.left;
-    let len = e.len;
-    places::put(&mut *w, left, new);
-    writing::splice_response(&mut out[len..], new.conn, 100, new.id);
+    if is_taken(t, at, &*w, waiting) {
+        let e = evict(at, &mut *w, waiting, &mut *out);
+        let left = e.left;
+        let len = e.len;
+        places::put(&mut *w, left, new);
+        writing::splice_response(&mut out[len..], new.conn, 100, new.id);
+        return Left {
+            left: left + 1,
+            len: len + 14,
+        };
+    }
+    places::insert_at(&mut *w, waiting, at, new);
+    writing::splice_response(&mut *out, new.conn, 100, new.id);
     Left {
-        left: left + 1,
-        len: len + 14,
+        left: waiting + 1,
+        len: 14,
     }
 }
 
@@ -324,9 +342,10 @@ pub fn answer_splice(
     let start = r.start;
     let t = start_of(conn, start, &*w, waiting, k, started);
     let new = session_at(t, conn, r);
-    let n = splice_result(clock, conn, r, new, &*w, waiting, k, started);
+    let at = places::find(&*w, waiting, Key::StartsFrom(t));
+    let n = splice_result(clock, conn, r, new, at, &*w, waiting, k, started);
     if n == 100 {
-        let a = accept(new, &mut *w, waiting, &mut *out);
+        let a = accept(new, at, &mut *w, waiting, &mut *out);
         return Counts {
             waiting: a.left,
             started: started,

@@ -81,7 +81,7 @@ module _ (m : Memory) (l : Lent (m .head) (m .name) (m .words) (m .stack)) (k : 
       let few = few-wait (sound .holding) in
       let less = few-started (sound .holding) in
       stands _ _ _ _ (packed-good 64 (t .queue .waiting) few) (packed-good 10 (t .queue .started) less)
-      (length-packed 64 (t .queue .waiting)) (length-packed 10 (t .queue .started)) (packed-used 64 (t .queue .waiting) few) (packed-used 10 (t .queue .started) less)
+      (length-packed 64 (t .queue .waiting) few) (length-packed 10 (t .queue .started) less) (packed-used 64 (t .queue .waiting) few) (packed-used 10 (t .queue .started) less)
 
 open-queue : (c : ℕ) (s : Splicer) → openCall c s .splicer .queue ≡ s .queue
 unfolding openCall

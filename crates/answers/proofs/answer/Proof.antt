@@ -1,5 +1,7 @@
 -- Each return is one of the five steps (`first` to `fifth`).
-use mathlib.Core.Path.{sym, _∙_}
+use mathlib.Core.Path.{sym, ap, _∙_}
+use Prim.Native.Nat.{ℕ}
+use Rattle.answers.specs.View.{barred}
 use Rattle.answers.proofs.Laws.{first, second, third, fourth, fifth}
 use borrow.Author.Needs.{needs}
 use Rattle.answers.proofs.answer.Statement.{statement}
@@ -7,13 +9,10 @@ use Rattle.answers.proofs.answer.Tie as tie
 
 returns : tie.Need-returns
 returns c = let s = c .before .before .before .before .before .before in
-    first (s .args .t1) (s .args .name .now) (s .args .w .now) (s .args .k .now) (s .pre .0) (s .args .out .now) (s .args .conn) (s .args .id) (s .args .d .now) (c .if1 .taken)
+    first (s .args .h) (s .args .name .now) (s .args .w .now) (s .args .k .now) (s .pre .0) (s .args .out .now) (s .args .conn) (s .args .id) (s .args .d .now) (c .if1 .taken)
 
-mul-is-barred : tie.Need-mul-is-barred
-mul-is-barred c = search needs
-
-element-copy-out-is-barred : tie.Need-element-copy-out-is-barred
-element-copy-out-is-barred c = search needs
+link-at-requires : tie.Need-link-at-requires
+link-at-requires c κs = search needs
 
 is-barred-requires : tie.Need-is-barred-requires
 is-barred-requires c κs = search needs
@@ -26,11 +25,11 @@ same-length c = search needs
 
 returns-2 : tie.Need-returns-2
 returns-2 c = let s = c .before .before .before .before .before .before .before .before .before .before .before .before .before in
-    second (s .args .t1) (s .args .name .now) (s .args .w .now) (s .args .k .now) (s .pre .0) (s .args .out .now) (s .args .conn) (s .args .id) (s .args .d .now) (c .before .before .before .before .before .before .before .if1 .left) _ _ (sym (c .before .before .before .before .before .is-barred .ensures) ∙ c .before .before .before .before .if2 .taken) (c .before .before .general .ensures)
+    second (s .args .h) (s .args .name .now) (s .args .w .now) (s .args .k .now) (s .pre .0) (s .args .out .now) (s .args .conn) (s .args .id) (s .args .d .now) (c .before .before .before .before .before .before .before .if1 .left) _ _ (ap (λ (n : ℕ). barred n (s .args .id)) (sym (c .before .before .before .before .before .before .link-at .ensures)) ∙ sym (c .before .before .before .before .before .is-barred .ensures) ∙ c .before .before .before .before .if2 .taken) (c .before .before .general .ensures)
 
 returns-3 : tie.Need-returns-3
 returns-3 c = let s = c .before .before .before .before .before .before .before .before .before .before in
-    third (s .args .t1) (s .args .name .now) (s .args .w .now) (s .args .k .now) (s .pre .0) (s .args .out .now) (s .args .conn) (s .args .id) (s .args .d .now) (c .before .before .before .before .if1 .left) (sym (c .before .before .is-barred .ensures) ∙ c .before .if2 .left) (c .if3 .taken)
+    third (s .args .h) (s .args .name .now) (s .args .w .now) (s .args .k .now) (s .pre .0) (s .args .out .now) (s .args .conn) (s .args .id) (s .args .d .now) (c .before .before .before .before .if1 .left) (ap (λ (n : ℕ). barred n (s .args .id)) (sym (c .before .before .before .link-at .ensures)) ∙ sym (c .before .before .is-barred .ensures) ∙ c .before .if2 .left) (c .if3 .taken)
 
 is-read-requires : tie.Need-is-read-requires
 is-read-requires c κs = search needs
@@ -43,7 +42,7 @@ same-length-2 c = search needs
 
 returns-4 : tie.Need-returns-4
 returns-4 c = let s = c .before .before .before .before .before .before .before .before .before .before .before .before .before .before .before .before in
-    fourth (s .args .t1) (s .args .name .now) (s .args .w .now) (s .args .k .now) (s .pre .0) (s .args .out .now) (s .args .conn) (s .args .id) (s .args .d .now) (c .before .before .before .before .before .before .before .before .before .before .if1 .left) (sym (c .before .before .before .before .before .before .before .before .is-barred .ensures) ∙ c .before .before .before .before .before .before .before .if2 .left) _ _ _ (c .before .before .before .before .before .before .if3 .left) (c .before .before .before .before .before .is-read .ensures) (c .before .before .before .before .if4 .taken) (c .before .before .general2 .ensures)
+    fourth (s .args .h) (s .args .name .now) (s .args .w .now) (s .args .k .now) (s .pre .0) (s .args .out .now) (s .args .conn) (s .args .id) (s .args .d .now) (c .before .before .before .before .before .before .before .before .before .before .if1 .left) (ap (λ (n : ℕ). barred n (s .args .id)) (sym (c .before .before .before .before .before .before .before .before .before .link-at .ensures)) ∙ sym (c .before .before .before .before .before .before .before .before .is-barred .ensures) ∙ c .before .before .before .before .before .before .before .if2 .left) _ _ _ (c .before .before .before .before .before .before .if3 .left) (c .before .before .before .before .before .is-read .ensures) (c .before .before .before .before .if4 .taken) (c .before .before .general2 .ensures)
 
 answer-read-requires : tie.Need-answer-read-requires
 answer-read-requires c κs = search needs
@@ -59,15 +58,14 @@ same-length-5 c = search needs
 
 returns-5 : tie.Need-returns-5
 returns-5 c = let s = c .before .before .before .before .before .before .before .before .before .before .before .before .before .before .before .before .before .before .before .before .before .before in
-    fifth (s .args .t1) (s .args .name .now) (s .args .w .now) (s .args .k .now) (s .pre .0) (s .args .out .now) (s .args .conn) (s .args .id) (s .args .d .now) (c .before .before .before .before .before .before .before .before .before .before .before .before .before .before .before .before .if1 .left) (sym (c .before .before .before .before .before .before .before .before .before .before .before .before .before .before .is-barred .ensures) ∙ c .before .before .before .before .before .before .before .before .before .before .before .before .before .if2 .left) _ _ _ _ _ (c .before .before .before .before .before .before .before .before .before .before .before .before .if3 .left) (c .before .before .before .before .before .before .before .before .before .before .before .is-read .ensures) (c .before .before .before .before .before .before .before .before .before .before .if4 .left) (c .before .before .before .before .before .before .answer-read .ensures)
+    fifth (s .args .h) (s .args .name .now) (s .args .w .now) (s .args .k .now) (s .pre .0) (s .args .out .now) (s .args .conn) (s .args .id) (s .args .d .now) (c .before .before .before .before .before .before .before .before .before .before .before .before .before .before .before .before .if1 .left) (ap (λ (n : ℕ). barred n (s .args .id)) (sym (c .before .before .before .before .before .before .before .before .before .before .before .before .before .before .before .link-at .ensures)) ∙ sym (c .before .before .before .before .before .before .before .before .before .before .before .before .before .before .is-barred .ensures) ∙ c .before .before .before .before .before .before .before .before .before .before .before .before .before .if2 .left) _ _ _ _ _ (c .before .before .before .before .before .before .before .before .before .before .before .before .if3 .left) (c .before .before .before .before .before .before .before .before .before .before .before .is-read .ensures) (c .before .before .before .before .before .before .before .before .before .before .if4 .left) (c .before .before .before .before .before .before .answer-read .ensures)
 
 pub answer-spec : {M : Type 1} → statement M
 answer-spec =
     tie.close
     (tie.spec
     returns
-    mul-is-barred
-    element-copy-out-is-barred
+    link-at-requires
     is-barred-requires
     general-requires
     same-length

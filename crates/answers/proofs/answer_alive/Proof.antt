@@ -1,7 +1,6 @@
 -- The first of the started is on air (`air-none`, `air-some`).
 use mathlib.Core.Path.{sym, ap, _∙_}
 use native.Mathlib.Omega.{arith}
-use Rattle.places.proofs.Laws.{within}
 use Rattle.answers.proofs.Laws.{air-none, air-some, alive-writes}
 use borrow.Author.Needs.{needs}
 use Rattle.answers.proofs.answer_alive.Statement.{statement}
@@ -18,11 +17,11 @@ same-length c = search needs
 
 returns : tie.Need-returns
 returns c = let s = c .before .before .before .before .before .before .before .before .before in
-    let a = air-none (s .args .k .now) (s .args .h .started) (c .before .before .before .before .if1 .taken) in
+    let a = air-none (s .args .k .now) (s .args .h .started) (s .pre .0) (c .before .before .before .before .if1 .taken) in
     alive-writes (s .args .out .now) (s .args .h) (s .args .conn) 1 0xFFFFFFFF _ (s .args .k .now) _ (a .0) (a .1) (c .before .before .before .before .before .before .to-micros .ensures) (c .before .before .alive-response .ensures)
 
 load-requires : tie.Need-load-requires
-load-requires c κs = let s = c .before .before .before .before .before in within (s .args .k .now) (s .args .h .started) 0 (s .pre .0) (omega arith)
+load-requires c κs = let s = c .before .before .before .before .before in (s .pre .0, omega arith)
 
 alive-response-requires-2 : tie.Need-alive-response-requires-2
 alive-response-requires-2 c κs = search needs

@@ -26,20 +26,17 @@ returns c = let s = c .before .before .before .before .before .before .before .b
     let e = c .before .before .before .before .before .init-result .ensures ∙ ap (λ y. initResult (s .args .revision) y (nameIn (s .args .name .now))) (c .before .before .before .before .before .before .channel-name .ensures) in
     init-writes (s .args .out .now) (s .args .h) _ (s .args .conn) n _ (s .args .name .now) _ e (rw (ne-eqb n 100 (c .if1 .taken))) (s .pre .1 .1 .0) (s .pre .1 .0) (c .before .before .before .init-response .ensures)
 
-mul-m : tie.Need-mul-m
-mul-m c = search needs
-
-element-write-m : tie.Need-element-write-m
-element-write-m c = search needs
+with-link-requires : tie.Need-with-link-requires
+with-link-requires c κs = search needs
 
 same-length-2 : tie.Need-same-length-2
 same-length-2 c = search needs
 
 returns-2 : tie.Need-returns-2
-returns-2 c = let s = c .before .before .before .before .before .before .before .before .before .before in
-    let n = c .before .before .before .before .before .init-result .result in
-    let e = c .before .before .before .before .before .init-result .ensures ∙ ap (λ y. initResult (s .args .revision) y (nameIn (s .args .name .now))) (c .before .before .before .before .before .before .channel-name .ensures) in
-    init-writes (s .args .out .now) (s .args .h) _ (s .args .conn) n _ (s .args .name .now) _ e (rw (eq-eqb n 100 (c .if1 .left))) (s .pre .1 .1 .0) (s .pre .1 .0) (c .before .before .before .init-response .ensures)
+returns-2 c = let s = c .before .before .before .before .before .before .before .before .before .before .before in
+    let n = c .before .before .before .before .before .before .init-result .result in
+    let e = c .before .before .before .before .before .before .init-result .ensures ∙ ap (λ y. initResult (s .args .revision) y (nameIn (s .args .name .now))) (c .before .before .before .before .before .before .before .channel-name .ensures) in
+    init-writes (s .args .out .now) (s .args .h) _ (s .args .conn) n _ (s .args .name .now) _ e (c .with-link .ensures ∙ rw (eq-eqb n 100 (c .before .if1 .left))) (s .pre .1 .1 .0) (s .pre .1 .0) (c .before .before .before .before .init-response .ensures)
 
 pub answer-init-spec : {M : Type 1} → statement M
 answer-init-spec =
@@ -50,7 +47,6 @@ answer-init-spec =
     init-response-requires
     same-length
     returns
-    mul-m
-    element-write-m
+    with-link-requires
     same-length-2
     returns-2)

@@ -1,4 +1,7 @@
--- `splicer_tick`: what the engine promises of the unpacked head, packed again (replied).
+-- `splicer_tick`: what the engine promises of the unpacked head, its connections left where they stand (replied).
+use mathlib.Core.Path.{sym, ap, _∙_}
+use Rattle.engine.proofs.Laws.{tick-links}
+use Rattle.door.specs.Door.{headOf}
 use Rattle.door.proofs.Laws.{replied}
 use borrow.Author.Needs.{needs}
 use Rattle.door.proofs.splicer_tick.Statement.{statement}
@@ -10,8 +13,8 @@ unpacked-requires c κs = search needs
 tick-requires : tie.Need-tick-requires
 tick-requires c κs = rw (c .before .before .before .before .unpacked .ensures) (c .before .before .before .before .before .before .before .pre)
 
-packed-requires : tie.Need-packed-requires
-packed-requires c κs = search needs
+repacked-requires : tie.Need-repacked-requires
+repacked-requires c κs = search needs
 
 reply-of-requires : tie.Need-reply-of-requires
 reply-of-requires c κs = search needs
@@ -21,10 +24,15 @@ same-length c = search needs
 
 returns : tie.Need-returns
 returns c =
-    let p = c .before .packed in
-    let t = c .before .before .before .before .before .tick in
-    let u = c .before .before .before .before .before .before .before .before .before .before .unpacked in
-    (replied _ (t .result) _ _ _ _ _ (rw (u .ensures) at (t .ensures .0)) (p .ensures .0) (p .ensures .1) (c .reply-of .ensures), rw (u .ensures) at (t .ensures .1))
+    let p = c .before .repacked in
+    let t = c .before .before .before .before .before .before .tick in
+    let u = c .before .before .before .before .before .before .before .before .before .before .before .unpacked in
+    let m = t .result .head in
+    let s = c .before .before .before .before .before .before .before .before .before .before .before .before .before .before in
+    let a = rw (u .ensures) at (t .ensures .0) in
+    let l = tick-links (s .args .seconds) (s .args .micros) _ (headOf (s .args .head .now)) _ _ _ (t .result) _ _ _ (s .pre) a in
+    let e = p .ensures .0 ∙ ap (λ y. record { clock = m .clock; waiting = m .waiting; started = m .started; links = y }) (sym l) in
+    (replied _ (t .result) _ _ _ _ _ a e (p .ensures .1) (c .reply-of .ensures), rw (u .ensures) at (t .ensures .1))
 
 pub splicer-tick-spec : {M : Type 1} → statement M
 splicer-tick-spec =
@@ -32,7 +40,7 @@ splicer-tick-spec =
     (tie.spec
     unpacked-requires
     tick-requires
-    packed-requires
+    repacked-requires
     reply-of-requires
     same-length
     returns)

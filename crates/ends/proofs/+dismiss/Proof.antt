@@ -9,7 +9,6 @@ use Rattle.rules.specs.Records.{SpliceResponse, recordBytes}
 use Rattle.rules.proofs.Records.{length-record}
 use Rattle.rules.proofs.Written.{written-part}
 use Rattle.places.specs.Places.{lot}
-use Rattle.places.proofs.Laws.{within}
 use Rattle.places.proofs.find.Reads as find-reads
 use Rattle.places.proofs.load.Reads as load-reads
 use Rattle.places.proofs.remove_at.Reads as remove-at-reads
@@ -51,7 +50,7 @@ find-requires t c κs = search needs
 load-requires : (t : ℕ) → lts.Need-load-requires (claims t) (dismiss-at t) dismiss.Post
 load-requires t c κs =
     let s = c .before .before .before .before .before .before in
-    within (s .args .w .now) (s .args .n) (c .before .before .find .result) (s .pre .1 .0) (omega arith)
+    (s .pre .1 .0, omega arith)
 
 remove-at-requires : (t : ℕ) → lts.Need-remove-at-requires (claims t) (dismiss-at t) dismiss.Post
 remove-at-requires t c κs = search needs

@@ -1,10 +1,12 @@
 -- `close`: each return is one law of proofs/Calls; what requests asks holds of every splicer that the calls have given.
 use mathlib.Core.List.{map}
-use mathlib.Core.Path.{sym, _∙_}
+use mathlib.Core.Path.{sym, ap, _∙_}
 use lib.ListN.{length}
 use Rattle.rules.specs.Calls.{closeCall}
+use Rattle.answers.specs.declared.Head.{Head}
 use Rattle.answers.specs.View.{linkOf}
-use Rattle.engine.proofs.Calls.{holding, playable-waiting, playable-started, room-all, guard-refused, test-past, close-done}
+use Rattle.engine.specs.declared.Answer.the-variants.{Done}
+use Rattle.engine.proofs.Calls.{holding, playable-waiting, playable-started, room-all, guard-refused, test-past, turnedHead, close-done}
 use borrow.Author.Needs.{needs}
 use Rattle.engine.proofs.close.Statement.{statement}
 use Rattle.engine.proofs.close.Tie as tie
@@ -36,14 +38,11 @@ cancel-requires c κs =
     let e = test-past (s .args .conn) (length (s .args .out .now)) (map linkOf (s .args .h .links)) (sym (c .before .before .before .enum-told .given .1) ∙ c .before .before .before .before .before .test-open .ensures) in
     (f .waiting, (f .started, (f .places, (f .stack, (playable-waiting h, (playable-started h, room-all (s .args .h) (s .args .name .now) (s .args .w .now) (s .args .k .now) (length (s .args .out .now)) (s .pre) (e .1)))))))
 
-mul-m : tie.Need-mul-m
-mul-m c = search needs
-
-element-write-m : tie.Need-element-write-m
-element-write-m c =
+with-link-requires : tie.Need-with-link-requires
+with-link-requires c κs =
     let s = c .before .before .before .before .before .before .before .before .before .before .before .before .before .before .before .before .before in
     let e = test-past (s .args .conn) (length (s .args .out .now)) (map linkOf (s .args .h .links)) (sym (c .before .before .before .before .before .before .before .before .before .before .enum-told .given .1) ∙ c .before .before .before .before .before .before .before .before .before .before .before .before .test-open .ensures) in
-    search (needs, e)
+    e .0
 
 turned-requires : tie.Need-turned-requires
 turned-requires c κs = search needs
@@ -59,9 +58,9 @@ same-length-3 c = search needs
 
 returns-2 : tie.Need-returns-2
 returns-2 c =
-    let s = c .before .before .before .before .before .before .before .before .before .before .before .before .before .before .before .before .before .before in
-    let t = c .before .before .before .before .before .before .before .cancel in
-    close-done (s .args .h) (s .args .name .now) (s .args .w .now) (s .args .k .now) (s .args .conn) (s .args .out .now) _ _ _ (t .result) _ (s .pre) (c .turned .ensures) (sym (c .before .before .before .before .before .before .before .before .before .before .before .enum-told .given .1) ∙ c .before .before .before .before .before .before .before .before .before .before .before .before .before .test-open .ensures) (search needs) (search needs) (t .ensures)
+    let s = c .before .before .before .before .before .before .before .before .before .before .before .before .before .before .before .before .before .before .before in
+    let t = c .before .before .before .before .before .before .before .before .cancel in
+    close-done (s .args .h) (s .args .name .now) (s .args .w .now) (s .args .k .now) (s .args .conn) (s .args .out .now) _ _ _ (t .result) _ (s .pre) (c .turned .ensures ∙ ap (λ (m : Head). record { head = turnedHead (m .clock) (m .links) (t .result); answer = Done 0 (t .result .len) }) (c .before .with-link .ensures)) (sym (c .before .before .before .before .before .before .before .before .before .before .before .before .enum-told .given .1) ∙ c .before .before .before .before .before .before .before .before .before .before .before .before .before .before .test-open .ensures) (search needs) (search needs) (t .ensures)
 
 pub close-spec : {M : Type 1} → statement M
 close-spec =
@@ -73,8 +72,7 @@ close-spec =
     returns
     enum-told
     cancel-requires
-    mul-m
-    element-write-m
+    with-link-requires
     turned-requires
     same-length
     same-length-2

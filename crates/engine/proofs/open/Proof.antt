@@ -11,13 +11,10 @@ refuse-requires c κs = search needs
 returns : tie.Need-returns
 returns c =
     let s = c .before .before .before .before .before in
-    open-bad (s .args .t1) (s .args .name .now) (s .args .w .now) (s .args .k .now) (s .args .conn) (s .pre) _ (c .refuse .ensures) (omega arith)
+    open-bad (s .args .h) (s .args .name .now) (s .args .w .now) (s .args .k .now) (s .args .conn) (s .pre) _ (c .refuse .ensures) (omega arith)
 
-mul-if2 : tie.Need-mul-if2
-mul-if2 c = search needs
-
-element-copy-out-if2 : tie.Need-element-copy-out-if2
-element-copy-out-if2 c = search needs
+link-at-requires : tie.Need-link-at-requires
+link-at-requires c κs = search needs
 
 refuse-requires-2 : tie.Need-refuse-requires-2
 refuse-requires-2 c κs = search needs
@@ -25,18 +22,15 @@ refuse-requires-2 c κs = search needs
 returns-2 : tie.Need-returns-2
 returns-2 c =
     let s = c .before .before .before .before .before .before .before in
-    open-twice (s .args .t1) (s .args .name .now) (s .args .w .now) (s .args .k .now) (s .args .conn) (s .pre) _ (c .refuse2 .ensures) (omega arith) (omega arith)
+    open-twice (s .args .h) (s .args .name .now) (s .args .w .now) (s .args .k .now) (s .args .conn) (s .pre) _ (c .refuse2 .ensures) (omega arith) (omega (arith, c .before .before .link-at .ensures))
 
-mul-m : tie.Need-mul-m
-mul-m c = search needs
-
-element-write-m : tie.Need-element-write-m
-element-write-m c = search needs
+with-link-requires : tie.Need-with-link-requires
+with-link-requires c κs = search needs
 
 returns-3 : tie.Need-returns-3
 returns-3 c =
-    let s = c .before .before .before .before .before .before in
-    open-done (s .args .t1) (s .args .name .now) (s .args .w .now) (s .args .k .now) (s .args .conn) (s .pre) (omega arith) (omega arith)
+    let s = c .before .before .before .before .before .before .before in
+    rw (c .with-link .ensures) (open-done (s .args .h) (s .args .name .now) (s .args .w .now) (s .args .k .now) (s .args .conn) (s .pre) (omega arith) (omega (arith, c .before .before .link-at .ensures)))
 
 pub open-spec : {M : Type 1} → statement M
 open-spec =
@@ -44,10 +38,8 @@ open-spec =
     (tie.spec
     refuse-requires
     returns
-    mul-if2
-    element-copy-out-if2
+    link-at-requires
     refuse-requires-2
     returns-2
-    mul-m
-    element-write-m
+    with-link-requires
     returns-3)

@@ -1,6 +1,5 @@
 -- Only the first of the started is on air (`elapsed-some`).
 use Rattle.instants.proofs.Starts.{elapsed-none, elapsed-some, first-lasting}
-use Rattle.places.proofs.Laws.{within}
 use native.Mathlib.Omega.{arith}
 use borrow.Author.Needs.{needs}
 use Rattle.instants.proofs.elapse.Statement.{statement}
@@ -14,7 +13,7 @@ returns c =
 load-requires : tie.Need-load-requires
 load-requires c κs =
     let s = c .before .before .before in
-    within (s .args .k .now) (s .args .started) 0 (s .pre .0) (omega arith)
+    (s .pre .0, omega arith)
 
 add-played : tie.Need-add-played
 add-played c =

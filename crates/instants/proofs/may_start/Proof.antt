@@ -4,7 +4,6 @@ use mathlib.Core.Bool.{true, false}
 use native.Mathlib.Omega.{arith}
 use borrow.Author.Tests.{eq-eqb, ne-eqb}
 use Rattle.rules.specs.Instants.{outranks}
-use Rattle.places.proofs.Laws.{within}
 use Rattle.instants.proofs.Starts.{may-none, may-over}
 use borrow.Author.Needs.{needs}
 use Rattle.instants.proofs.may_start.Statement.{statement}
@@ -13,12 +12,12 @@ use Rattle.instants.proofs.may_start.Tie as tie
 returns : tie.Need-returns
 returns c =
     let s = c .before .before in
-    may-none (s .args .x) (s .args .k .now) (s .args .started) (c .if1 .taken)
+    may-none (s .args .x) (s .args .k .now) (s .args .started) (s .pre) (c .if1 .taken)
 
 load-requires : tie.Need-load-requires
 load-requires c κs =
     let s = c .before .before in
-    within (s .args .k .now) (s .args .started) 0 (s .pre) (omega arith)
+    (s .pre, omega arith)
 
 outranks-requires : tie.Need-outranks-requires
 outranks-requires c κs = search needs

@@ -1,7 +1,6 @@
 -- In order of start, and with none before t, the first is the only one that can start at t (`start-turns`, `start-later`).
 use Prim.Native.Nat.{_-_}
 use native.Mathlib.Omega.{arith}
-use Rattle.places.proofs.Laws.{within}
 use Rattle.instants.proofs.Starts.{start-none, start-later, start-placed, start-turns}
 use borrow.Author.Needs.{needs}
 use Rattle.instants.proofs.start_at.Statement.{statement}
@@ -16,7 +15,7 @@ returns c =
 load-requires : tie.Need-load-requires
 load-requires c κs =
     let s = c .before .before .before .before .before in
-    within (s .args .w .now) (s .args .waiting) 0 (s .pre .0) (omega arith)
+    (s .pre .0, omega arith)
 
 remove-at-requires : tie.Need-remove-at-requires
 remove-at-requires c κs = search needs

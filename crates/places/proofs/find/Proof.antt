@@ -5,7 +5,7 @@ use mathlib.Core.Path.{sym, ap, _∙_}
 use Prim.Native.Nat.{_-_}
 use Rattle.rules.specs.State.{empty}
 use Rattle.places.specs.Places.{lot, keyTest}
-use Rattle.places.proofs.Laws.{within, Sought, sought-none, sought-more, sought-hit, sought-out}
+use Rattle.places.proofs.Laws.{Sought, sought-none, sought-more, sought-hit, sought-out}
 use Rattle.places.proofs.find.Statement.{statement}
 use Rattle.places.proofs.find.Tie as tie
 
@@ -21,7 +21,7 @@ loop-holds c = sought-none _ (lot (c .before .args .q .now) (c .before .args .n)
 load-requires : tie.Need-load-requires Inv-loop μ-loop
 load-requires c κs =
     let s = c .before .before .before in
-    within (s .args .q .now) (s .args .n) (c .before .loop .at) (s .pre) (c .loop-test .taken)
+    (s .pre, c .loop-test .taken)
 
 matches-requires : tie.Need-matches-requires Inv-loop μ-loop
 matches-requires c κs = search needs

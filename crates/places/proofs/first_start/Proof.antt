@@ -1,19 +1,21 @@
 -- In order of start the first is the least (`first-least`).
 use native.Mathlib.Omega.{arith}
-use mathlib.Core.Path.{ap}
+use mathlib.Core.Path.{refl, ap}
 use Rattle.rules.specs.State.{empty}
 use Rattle.places.specs.Places.{lot}
-use Rattle.places.proofs.Laws.{within, first-least}
+use Rattle.places.proofs.Laws.{at-end, first-least}
 use Rattle.places.proofs.first_start.Statement.{statement}
 use Rattle.places.proofs.first_start.Tie as tie
 
 returns : tie.Need-returns
-returns c = rw (c .if1 .taken)
+returns c =
+    let s = c .before .before in
+    rw (at-end (lot (s .args .q .now) (s .args .n)) 0 (s .pre .0) (omega arith)) refl
 
 load-requires : tie.Need-load-requires
 load-requires c κs =
     let s = c .before .before in
-    within (s .args .q .now) (s .args .n) 0 (s .pre .0) (omega arith)
+    (s .pre .0, omega arith)
 
 returns-2 : tie.Need-returns-2
 returns-2 c =

@@ -6,7 +6,7 @@ use Prim.Native.Nat.{_-_}
 use mathlib.Core.Logic.{⊎-elim}
 use Rattle.rules.specs.State.{empty}
 use Rattle.places.specs.Places.{lot}
-use Rattle.places.proofs.Laws.{within, Lowest, lowest-none, lowest-more, lowest-out}
+use Rattle.places.proofs.Laws.{Lowest, lowest-none, lowest-more, lowest-out}
 use Rattle.places.proofs.least_end.Statement.{statement}
 use Rattle.places.proofs.least_end.Tie as tie
 
@@ -22,7 +22,7 @@ loop-holds c = lowest-none _ _ (lot (c .before .args .q .now) (c .before .args .
 load-requires : tie.Need-load-requires Inv-loop μ-loop
 load-requires c κs =
     let s = c .before .before .before in
-    within (s .args .q .now) (s .args .n) (c .before .loop .i) (s .pre) (c .loop-test .taken)
+    (s .pre, c .loop-test .taken)
 
 add-i : tie.Need-add-i Inv-loop μ-loop
 add-i c = search needs

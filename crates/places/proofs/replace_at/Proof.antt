@@ -1,12 +1,17 @@
--- Rests on `used-set`: a store at a used place is a store in the list.
-use Rattle.places.specs.Places.{lot}
-use Rattle.places.proofs.Laws.{within, used-set}
+-- Rests on `slot-set`: a session written at a used place is written in the list.
 use borrow.Author.Needs.{needs}
+use Rattle.places.proofs.Laws.{slot-free, slot-within, slot-set}
 use Rattle.places.proofs.replace_at.Statement.{statement}
 use Rattle.places.proofs.replace_at.Tie as tie
 
-store-requires : tie.Need-store-requires
-store-requires c κs = let s = c .before .before in within (s .args .q .now) (s .args .n) (s .args .at) (s .pre .0) (s .pre .1)
+sub-free : tie.Need-sub-free
+sub-free c = let s = c .before in slot-free (s .args .q .now) (s .args .n) (s .pre .0)
+
+add-write-row : tie.Need-add-write-row
+add-write-row c = search needs
+
+write-row-requires : tie.Need-write-row-requires
+write-row-requires c κs = let s = c .before .before in slot-within (s .args .q .now) (s .args .n) (s .args .at) (s .pre .0) (s .pre .1)
 
 same-length : tie.Need-same-length
 same-length c = search needs
@@ -14,8 +19,8 @@ same-length c = search needs
 returns : tie.Need-returns
 returns c =
     let s = c .before .before .before .before .before in
-    let m = used-set (lot (s .args .q .now) (s .args .n)) _ (s .args .at) (s .args .x) (s .pre .0) (s .pre .1) (c .before .before .store .ensures .0) in
-    record { good = m .0; list = m .1; rest = c .before .before .store .ensures .1 }
+    let m = slot-set (s .args .q .now) (s .args .n) (s .args .at) (s .pre .0) (s .pre .1) _ (s .args .x) (c .before .before .write-row .ensures .0) in
+    record { good = m .0; list = m .1; rest = c .before .before .write-row .ensures .1 }
 
 pub replace-at-spec : {M : Type 1} → statement M
-replace-at-spec = tie.close (tie.spec store-requires same-length returns)
+replace-at-spec = tie.close (tie.spec sub-free add-write-row write-row-requires same-length returns)

@@ -1,7 +1,4 @@
--- Timed or linked, and whether the number is held.
-use mathlib.Core.Bool.{not}
-use mathlib.Core.Path.{ap}
-use Rattle.rules.specs.Answers.{unknownPrior}
+-- Timed or linked, and whether the start is 0.
 use borrow.Author.Needs.{needs}
 use Rattle.requests.proofs.is_unknown_prior.Statement.{statement}
 use Rattle.requests.proofs.is_unknown_prior.Tie as tie
@@ -9,23 +6,20 @@ use Rattle.requests.proofs.is_unknown_prior.Tie as tie
 enum-told : tie.Need-enum-told
 enum-told c = search needs
 
-enum-known-start : tie.Need-enum-known-start
-enum-known-start c = search needs
-
-cast-is-held : tie.Need-cast-is-held
-cast-is-held c = search needs
-
-is-held-requires : tie.Need-is-held-requires
-is-held-requires c κs = search needs
+enum-told-2 : tie.Need-enum-told-2
+enum-told-2 c = search needs
 
 returns : tie.Need-returns
-unfolding unknownPrior
 returns c = rw (c .enum-told .given .1)
 
 returns-2 : tie.Need-returns-2
-unfolding unknownPrior
-returns-2 c = rw (c .before .before .start .given .1) (ap not (c .is-held .ensures))
+returns-2 c = rw (c .before .enum-told2 .given .1)
 
 pub is-unknown-prior-spec : {M : Type 1} → statement M
 is-unknown-prior-spec =
-    tie.close (tie.spec enum-told enum-known-start cast-is-held is-held-requires returns returns-2)
+    tie.close
+    (tie.spec
+    enum-told
+    enum-told-2
+    returns
+    returns-2)

@@ -27,9 +27,15 @@ is-unknown-prior-requires c κs = search needs
 returns-3 : tie.Need-returns-3
 returns-3 c =
     let s = c .before .before .before .before .before .before .before .before in
-    wrong-prior (s .args .conn) (s .args .r) (queueOf (s .args .w .now) (s .args .waiting) (s .args .k .now) (s .args .started)) (c .before .before .before .before .if1 .left) (c .before .before .is-held .result) (c .before .before .is-held .ensures) _ (c .before .if2 .left) (c .is-unknown-prior .ensures)
+    wrong-prior (s .args .conn) (s .args .r) (queueOf (s .args .w .now) (s .args .waiting) (s .args .k .now) (s .args .started)) (c .before .before .before .before .if1 .left) (c .before .before .is-held .result) (c .before .before .is-held .ensures) _ (s .args .t .0) (c .before .if2 .left) (s .pre .1 .1 .0) (s .pre .1 .1 .1) (c .is-unknown-prior .ensures)
 
 pub is-wrong-number-spec : {M : Type 1} → statement M
 is-wrong-number-spec =
     tie.close
-    (tie.spec returns cast-is-held is-held-requires returns-2 is-unknown-prior-requires returns-3)
+    (tie.spec
+    returns
+    cast-is-held
+    is-held-requires
+    returns-2
+    is-unknown-prior-requires
+    returns-3)

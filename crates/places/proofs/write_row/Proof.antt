@@ -3,8 +3,8 @@ use native.Mathlib.Omega.{arith}
 use lib.ListN.{length-set}
 use Rattle.places.proofs.Words.{store-is, store-spare}
 use borrow.Author.Needs.{needs}
-use Rattle.places.proofs.store.Statement.{statement}
-use Rattle.places.proofs.store.Tie as tie
+use Rattle.places.proofs.write_row.Statement.{statement}
+use Rattle.places.proofs.write_row.Tie as tie
 
 mul-b : tie.Need-mul-b
 mul-b c = search needs
@@ -84,8 +84,8 @@ same-length c = simp length-set
 returns : tie.Need-returns
 returns c = let a = c .args in (store-is (a .q .now) (a .i) (a .x) (c .pre), store-spare (a .q .now) (a .i) (a .x) (c .pre))
 
-pub store-spec : {M : Type 1} → statement M
-store-spec =
+pub write-row-spec : {M : Type 1} → statement M
+write-row-spec =
     tie.close
     (tie.spec
     mul-b
