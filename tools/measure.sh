@@ -1,69 +1,217 @@
 #!/bin/sh
-# measure.sh: instructions of each call of the core and of a splicer in plain C (tools/measure), over the same states; code size and
-# frames of the archive. Prints tables for docs/MEASURES.md. Needs Debian's qemu-user and gcc (once, for the plugin): the kit's own
-# emulator takes no plugin. The numbers are the same in every run. No part of the gate.
+# measure.sh [counts|stack|frames|size|agree]..: the proved core against two engines of the same rules (tools/measure): inplace.rs, plain Rust
+# as one writes it, and peer.h, tuned C. All parts without a word. Prints tables for docs/MEASURES.md:
+#   counts  instructions of a call (exact, the same in each run) and the ratio of times beside them
+#   stack   bytes of stack that a call reached, from the caller's stack pointer down; library functions were bound before
+#   frames  code and frame of each function of the core, by objdump
+#   size    code and state
+#   agree   random calls by all three, compared (RANDOM_CALLS, 300,000 for each of three seeds)
+# Before anything is measured, replies and buffers of all three are compared on the call and on all calls that made its state.
+# How the states are made, so that they favour no engine: tools/measure/cases.h.
+# Needs Debian's qemu-user and gcc (once, for the plugin; the kit's own emulator takes no plugin) and a rustc with the library for
+# x86-64 (RUSTC names one; Debian 12: rustc-web and libstd-rust-web-dev:amd64). No part of the gate.
 set -eu
 cd "$(dirname "$0")/.."
 work=target/measure
 mkdir -p "$work"
 kit=${RATTLE_HOME:-$(cd "$(dirname "$(readlink -f "$(command -v rt)")")/.." && pwd -P)}
-tools=$kit/on/$(uname -m)/toolchain
-rt staticlib door >"$work/log" 2>&1 || { cat "$work/log" >&2; exit 1; }
-archive=target/staticlib/libdoor.a
-sh tools/build-driver.sh "$work/bench" tools/measure/bench.c "$archive" -Iinclude -Itools/measure
-gcc -O2 -shared -fPIC tools/measure/insns.c -o "$work/insns.so"
+own=$kit/on/$(uname -m)
+tools=$own/toolchain
+target=x86_64-unknown-linux-gnu
+core=target/staticlib/libdoor.a
+rust=$work/libinplace.a
+RT_JOBS=${RT_JOBS:-1}
+export RT_JOBS
+rows=0 calls=2000
+
+fail() {
+    echo "measure.sh: $*" >&2
+    exit 1
+}
+
+# quiet COMMAND..: shows what it said only if it fails
+quiet() {
+    "$@" >"$work/log" 2>&1 || { cat "$work/log" >&2; fail "$1 failed"; }
+}
+
+# a rustc that has the library for x86-64
+find_rustc() {
+    for r in ${RUSTC:-} rustc /usr/bin/rustc; do
+        command -v "$r" >/dev/null 2>&1 || continue
+        [ -d "$("$r" --print sysroot)/lib/rustlib/$target/lib" ] || continue
+        echo "$r"
+        return
+    done
+    fail "no rustc here has the library for $target"
+}
+
+find_objdump() {
+    command -v x86_64-linux-gnu-objdump || command -v objdump || fail "no objdump"
+}
+
+build() {
+    quiet rt staticlib door
+    quiet "$rustc" --edition 2021 --crate-type staticlib --crate-name inplace -C opt-level=3 -C panic=abort --target $target \
+        -o "$rust" tools/measure/inplace.rs
+    quiet "$tools/bin/clang" --target=$target -march=x86-64 -std=c11 -Wall -Wextra -Werror -O3 -fPIC -DSPLICER_NO_STANDARD_HEADERS \
+        -Iinclude -Itools/measure -c tools/measure/bench.c -o "$work/bench.o"
+    quiet "$own/bin/rattle-link" --target $target --toolchain "$tools" -o "$work/bench" "$work/bench.o" "$core" "$rust"
+    quiet gcc -O2 -shared -fPIC tools/measure/insns.c -o "$work/insns.so"
+}
+
+versions() {
+    echo "Core: $(rt version), clang of the kit: $("$tools/bin/clang" --version | head -n 1)"
+    echo "Rust: $("$rustc" --version), -C opt-level=3 -C panic=abort"
+    echo "Counts: $(qemu-x86_64 --version | head -n 1), -cpu max,-erms"
+    if [ -x "$tools/bin/qemu-x86_64" ]; then
+        times="emulated"
+        echo "Times: emulated on $(uname -m) by the kit's $("$tools/bin/qemu-x86_64" --version | head -n 1)"
+    else
+        times="real"
+        echo "Times: real, $(uname -m)"
+    fi
+}
+
+# bench ARG..: a run under the kit's loader
+bench() {
+    sh tools/run-program.sh "$work/bench" "$@"
+}
+
+# agreed CASE N: stops if the three differ
+agreed() {
+    bench agree "$1" "$2" >"$work/said" || fail "$(cat "$work/said")"
+    rows=$((rows + 1))
+}
 
 # counted ARG..: the instructions of a run of the bench
 counted() {
-    qemu-x86_64 -cpu max,-erms -plugin "$work/insns.so" "$tools/lib/ld-linux-x86-64.so.2" --library-path "$tools/lib" "$work/bench" "$@" 2>&1 >/dev/null |
+    qemu-x86_64 -cpu max,-erms -plugin "$work/insns.so" "$tools/lib/ld-linux-x86-64.so.2" --library-path "$tools/lib" "$work/bench" count "$@" 2>&1 >/dev/null |
         sed -n 's/^insns //p'
 }
 
-# call CASE N WHO: instructions of the case's call, the restored state taken off
+# call CASE N WHO: instructions of the case's call; the restored state and the bench's own way to a call taken off
 call() {
-    with=$(counted "$1" "$2" "$3" 2000 1)
-    without=$(counted "$1" "$2" "$3" 2000 0)
-    echo $(((with - without) / 2000))
+    with=$(counted "$1" "$2" "$3" $calls 1)
+    without=$(counted "$1" "$2" "$3" $calls 0)
+    echo $(((with - without + calls / 2) / calls))
+}
+
+ratio() {
+    awk "BEGIN { if ($2 > 0) printf \"%.2f\", $1 / $2; else printf \"-\" }"
 }
 
 # row TITLE CASE N
 row() {
-    sh tools/run-program.sh "$work/bench" "$2" "$3" >"$work/said" || { cat "$work/said" >&2; exit 1; }
-    core=$(call "$2" "$3" core)
-    peer=$(call "$2" "$3" peer)
-    echo "| $1 | $core | $peer | $(awk "BEGIN { printf \"%.2f\", $core / $peer }") |"
+    agreed "$2" "$3"
+    a=$(call "$2" "$3" core) b=$(call "$2" "$3" rust) c=$(call "$2" "$3" c)
+    bench time "$2" "$3" >"$work/times"
+    read -r ta tb tc <"$work/times"
+    echo "| $1 | $a | $b | $c | $(ratio "$a" "$b") | $(ratio "$a" "$c") | $(ratio "$ta" "$tb") | $ta : $tb : $tc |"
 }
 
-echo '| Call | Core | Plain C | Ratio |'
-echo '|---|---|---|---|'
-row 'tick, idle, 0 waiting' idle 0
-row 'tick, idle, 10 waiting' idle 10
-row 'tick, idle, 64 waiting' idle 64
-row 'tick with a start and an end, 1 waiting' busy 1
-row 'tick with a start and an end, 10 waiting' busy 10
-row 'tick with a start and an end, 64 waiting' busy 64
-row 'Splice_Request accepted, 0 waiting' splice 0
-row 'Splice_Request accepted in the middle of 10' splice 10
-row 'Splice_Request accepted in the middle of 63' splice 63
-row 'Abort_Request with 1 follower' abort 1
-row 'Abort_Request with 19 followers' abort 19
-row 'close with 20 waiting and 1 on air' close 20
-row 'Init_Request' init 0
-row 'Alive_Request' alive 0
+counts() {
+    echo "| Call | Core | Rust | C | Core/Rust | Core/C | Core/Rust, time ($times) | ns ($times), core : Rust : C |"
+    echo '|---|---|---|---|---|---|---|---|'
+    row 'tick, idle, 0 waiting' idle 0
+    row 'tick, idle, 10 waiting' idle 10
+    row 'tick, idle, 64 waiting' idle 64
+    row 'tick, 1 on air ends, 1 waiting starts, no other' busy 1
+    row 'tick, 1 on air ends, the first of 10 waiting starts' busy 10
+    row 'tick, 1 on air ends, the first of 64 waiting starts' busy 64
+    row 'Splice_Request accepted, 0 waiting' splice 0
+    row 'Splice_Request accepted in the middle of 10' splice 10
+    row 'Splice_Request accepted in the middle of 63' splice 63
+    row 'Abort_Request with 1 follower' abort 1
+    row 'Abort_Request with 19 followers' abort 19
+    row 'close with 20 waiting and 1 on air' close 20
+    row 'Init_Request' init 0
+    row 'Alive_Request' alive 0
+}
+
+# deep CALL TITLE CASE N
+deep() {
+    agreed "$3" "$4"
+    bench stack "$3" "$4" >"$work/stack"
+    read -r a b c <"$work/stack"
+    echo "| $1 | $2 | $a | $b | $c |"
+}
+
+stack() {
+    echo '| Call | Case | Core | Rust | C |'
+    echo '|---|---|---|---|---|'
+    deep fresh 'a good name' fresh 0
+    deep open 'a closed connection' open 0
+    deep close '20 waiting, 1 on air' close 20
+    deep close 'full splicer: 64 wait, 10 started' fullclose 10
+    deep message Init_Request init 0
+    deep message Alive_Request alive 0
+    deep message 'Splice_Request accepted, 0 waiting' splice 0
+    deep message 'Splice_Request accepted in the middle of 63' splice 63
+    deep message 'Splice_Request evicts one with 19 followers' evict 19
+    deep message 'the same, full splicer: 63 wait, 10 started' fullevict 9
+    deep message 'Abort_Request, 1 follower' abort 1
+    deep message 'Abort_Request, 19 followers' abort 19
+    deep message 'the same, full splicer' fullabort 10
+    deep message 'Abort_Request, on air, 20 followers' air 20
+    deep tick 'idle, 64 waiting' idle 64
+    deep tick 'an end, then a start, 64 waiting' busy 64
+    deep tick '64 sessions start and end' play 64
+    deep tick 'a start fails, 19 followers' fail 19
+    deep tick 'full splicer: 4 chains fail, 10 started end' fulltick 10
+}
+
+# the frame: pushed registers, the room below them and the return address; what a leaf keeps below its stack pointer (at most 128) is not in it
+frames() {
+    echo '| Function of the core | Bytes of code | Frame |'
+    echo '|---|---|---|'
+    "$objdump" -d --no-show-raw-insn "$core" | awk '
+    function out() { if (name != "") printf "| %s | %d | %d |\n", name, last - first, frame + 8 }
+    /^[0-9a-f]+ <.*>:$/ { out(); name = $2; sub(/^</, "", name); sub(/>:$/, "", name); frame = 0; body = 0; first = -1; next }
+    /^ *[0-9a-f]+:/ { at = $1; sub(/:$/, "", at); at = hex(at); if (first < 0) first = at; last = at }
+    !body && /push / { frame += 8; next }
+    !body && /sub .*,%rsp/ { v = $0; sub(/.*\$0x/, "", v); sub(/,%rsp.*/, "", v); frame += hex(v); body = 1 }
+    function hex(s,   i, n) { n = 0; for (i = 1; i <= length(s); i++) n = n * 16 + index("0123456789abcdef", substr(s, i, 1)) - 1; return n }
+    END { out() }'
+}
+
+# code FILE MEMBER: bytes of machine code in the sections .text of an archive's members whose name has MEMBER in it
+code() {
+    "$objdump" -h "$1" | awk -v member="$2" '
+    / file format / { on = index($1, member) > 0 }
+    on && $2 ~ /^\.text/ { sum += hex($3) }
+    function hex(s,   i, n) { n = 0; for (i = 1; i <= length(s); i++) n = n * 16 + index("0123456789abcdef", substr(s, i, 1)) - 1; return n }
+    END { print sum + 0 }'
+}
+
+size() {
+    quiet "$tools/bin/clang" --target=$target -march=x86-64 -std=c11 -O3 -fPIC -DSPLICER_NO_STANDARD_HEADERS -Iinclude -x c \
+        -c tools/measure/peer.h -o "$work/peer.o"
+    bench size >"$work/sizes"
+    read -r a b c <"$work/sizes"
+    echo '| | Core | Rust | C |'
+    echo '|---|---|---|---|'
+    echo "| bytes of code | $(code "$core" '') | $(code "$rust" libinplace) | $(code "$work/peer.o" '') |"
+    echo "| bytes of state | $a | $b | $c |"
+}
+
+agree() {
+    for seed in 1 2 3; do
+        bench random $seed "${RANDOM_CALLS:-300000}" >"$work/said" || fail "$(cat "$work/said")"
+        echo "seed $seed, ${RANDOM_CALLS:-300000} random calls: the three agree. $(tr '\n' ' ' <"$work/said")"
+    done
+}
+
+rustc=$(find_rustc)
+objdump=$(find_objdump)
+build
+versions
+[ $# -gt 0 ] || set -- counts stack frames size agree
+for part; do
+    echo
+    case $part in
+    counts | stack | frames | size | agree) $part ;;
+    *) fail "no part '$part'" ;;
+    esac
+done
 echo
-if command -v x86_64-linux-gnu-objdump >/dev/null 2>&1; then
-    objdump=x86_64-linux-gnu-objdump
-else
-    objdump=objdump
-fi
-echo '| Function | Bytes of code | Frame |'
-echo '|---|---|---|'
-# the frame: pushed registers, the room below them and the return address
-$objdump -d --no-show-raw-insn "$archive" | awk '
-function out() { if (name != "") printf "| %s | %d | %d |\n", name, last - first, frame + 8 }
-/^[0-9a-f]+ <.*>:$/ { out(); name = $2; sub(/^</, "", name); sub(/>:$/, "", name); frame = 0; body = 0; first = -1; next }
-/^ *[0-9a-f]+:/ { at = $1; sub(/:$/, "", at); at = hex(at); if (first < 0) first = at; last = at }
-!body && /push / { frame += 8; next }
-!body && /sub .*,%rsp/ { v = $0; sub(/.*\$0x/, "", v); sub(/,%rsp.*/, "", v); frame += hex(v); body = 1 }
-function hex(s,   i, n) { n = 0; for (i = 1; i <= length(s); i++) n = n * 16 + index("0123456789abcdef", substr(s, i, 1)) - 1; return n }
-END { out() }'
+[ $rows -eq 0 ] || echo "$rows cases, replies and buffers of all three equal in each"

@@ -1,24 +1,6 @@
 //! The independent second program of the splicer core. See `model help`.
 
-mod asrun;
-mod card;
-mod compare;
-mod counts;
-mod damage;
-mod demand3;
-mod episodes;
-mod faults;
-mod fuzz;
-mod gen;
-mod instants;
-mod people;
-mod reading;
-mod records;
-mod rules;
-mod scenario;
-#[cfg(test)]
-mod tests;
-
+use model::{asrun, card, fuzz, people, scenario};
 use std::io::{Read, Write};
 
 const HELP: &str = "\

@@ -61,14 +61,14 @@ fn packed(h: Head) -> [u64; 7]
 }
 
 // A tick changes no connection, so their words are left as they stand.
-fn repacked(head: &[u64; 7], h: Head) -> [u64; 7]
-    ensures { λ r. ⌜ headOf r ≡ record { clock = h .clock; waiting = h .waiting; started = h .started; links = headOf (now (head .entry)) .links } ⌝ }
+fn repacked(head: &[u64; 7], m: Head) -> [u64; 7]
+    ensures { λ r. ⌜ headOf r ≡ record { clock = m .clock; waiting = m .waiting; started = m .started; links = headOf (now (head .entry)) .links } ⌝ }
     ensures whole { λ r. ⌜ length r ≡ 7 ⌝ }
 {
     [
-        h.clock.0,
-        h.waiting as u64,
-        h.started as u64,
+        m.clock.0,
+        m.waiting as u64,
+        m.started as u64,
         head[3],
         head[4],
         head[5],

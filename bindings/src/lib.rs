@@ -1,0 +1,250 @@
+//! The proved splicer core for drivers in Rust: `include/splicer.h` as a safe interface.
+//!
+//! One [`Splicer`] is one output channel with its connections 0 to 3. The core allocates nothing
+//! and has no globals, and a `Splicer` holds no pointers: it may be moved, cloned and sent to a
+//! thread.
+//! What the header leaves to the driver is held here by the types: a `Splicer` comes from
+//! [`Splicer::fresh`] only and is changed by the calls only, one at a time, and what is lent to a
+//! call overlaps nothing. Any connection, bytes, time and length of a buffer may be handed in: the
+//! call tests them and answers with a house number, a [`Refusal`].
+#![no_std]
+#![warn(missing_docs)]
+
+mod door;
+mod records;
+
+use core::fmt;
+use door::Reply;
+pub use records::{message_id, records, result, Record, Records};
+
+/// Connections of a channel: 0 to 3.
+pub const CONNECTIONS: usize = 4;
+/// Bytes of a ChannelName.
+pub const NAME: usize = 32;
+/// Bytes of a message's header.
+pub const HEADER: usize = 8;
+/// The longest message: a header and 4,088 bytes of data.
+pub const MESSAGE: usize = 4096;
+/// An output buffer of this length takes the records of any call; a shorter one is refused.
+pub const OUT: usize = 4096;
+/// Bytes of the mark before each record.
+pub const MARK: usize = 2;
+
+const HEAD_WORDS: usize = 7;
+const WAITING_WORDS: usize = 512;
+const STARTED_WORDS: usize = 80;
+
+/// One output channel.
+///
+/// Two splicers are equal if they show the same: the core keeps unused places zero.
+#[derive(Clone, PartialEq, Eq)]
+#[repr(C)]
+pub struct Splicer {
+    head: [u64; HEAD_WORDS],
+    name: [u8; NAME],
+    waiting: [u64; WAITING_WORDS],
+    started: [u64; STARTED_WORDS],
+}
+
+// The numbers that the header asserts of its struct.
+const _: () = assert!(size_of::<usize>() == 8);
+const _: () = assert!(size_of::<Splicer>() == 4824);
+const _: () = assert!(align_of::<Splicer>() == 8);
+const _: () = assert!(core::mem::offset_of!(Splicer, started) == 4184);
+
+/// Document 01's house numbers: why a call was refused. A refused call wrote nothing, consumed
+/// nothing and changed nothing.
+#[derive(Clone, Copy, Debug, PartialEq, Eq, Hash)]
+#[repr(u8)]
+pub enum Refusal {
+    /// Connection above 3: open, close, message.
+    NoConnection = 1,
+    /// Output buffer below 4,096 bytes: close, message, tick.
+    NoRoom = 2,
+    /// Clock earlier than the present one: tick.
+    ClockBack = 3,
+    /// MessageSize above 4,088: message.
+    Oversize = 4,
+    /// Not yet a whole message: message. Read on and call again with more.
+    Short = 5,
+    /// Already open: open.
+    AlreadyOpen = 6,
+    /// Not open: close, message.
+    NotOpen = 7,
+    /// MicroSeconds above 999,999: tick.
+    BadMicros = 8,
+    /// Name without a zero byte: fresh.
+    BadName = 9,
+}
+
+impl Refusal {
+    /// The refusal of this house number.
+    pub const fn of(number: u32) -> Option<Refusal> {
+        Some(match number {
+            1 => Refusal::NoConnection,
+            2 => Refusal::NoRoom,
+            3 => Refusal::ClockBack,
+            4 => Refusal::Oversize,
+            5 => Refusal::Short,
+            6 => Refusal::AlreadyOpen,
+            7 => Refusal::NotOpen,
+            8 => Refusal::BadMicros,
+            9 => Refusal::BadName,
+            _ => return None,
+        })
+    }
+
+    /// Its house number.
+    pub const fn number(self) -> u8 {
+        self as u8
+    }
+}
+
+impl fmt::Display for Refusal {
+    fn fmt(&self, f: &mut fmt::Formatter<'_>) -> fmt::Result {
+        write!(f, "refused {}", self.number())
+    }
+}
+
+impl core::error::Error for Refusal {}
+
+/// What a good [`Splicer::message`] did.
+#[derive(Clone, Copy, Debug, PartialEq, Eq)]
+pub struct Handled<'o> {
+    /// Bytes of the message, to be dropped from the front of what was read.
+    pub consumed: usize,
+    /// The records, at the front of the lent output buffer. They may be none.
+    pub written: &'o [u8],
+}
+
+/// A text as a ChannelName, with zeros behind it. One of 32 bytes or more leaves no zero byte, and
+/// `fresh` refuses it.
+pub const fn name(text: &[u8]) -> [u8; NAME] {
+    let mut name = [0; NAME];
+    let mut at = 0;
+    while at < NAME && at < text.len() {
+        name[at] = text[at];
+        at += 1;
+    }
+    name
+}
+
+impl Splicer {
+    /// A splicer with clock 0 and all connections closed. A name without a zero byte is refused
+    /// (`BadName`, 9) and still gives a splicer, that of the empty name: document 01 has both come
+    /// back, so this does too.
+    pub fn fresh(name: &[u8; NAME]) -> (Splicer, Result<(), Refusal>) {
+        let mut made = Splicer {
+            head: [0; HEAD_WORDS],
+            name: [0; NAME],
+            waiting: [0; WAITING_WORDS],
+            started: [0; STARTED_WORDS],
+        };
+        // SAFETY: fresh takes whatever the parts hold; they are fields of one struct, so apart.
+        let reply = unsafe {
+            door::splicer_fresh(
+                name.as_ptr(),
+                made.head.as_mut_ptr(),
+                made.name.as_mut_ptr(),
+                made.waiting.as_mut_ptr(),
+                made.started.as_mut_ptr(),
+            )
+        };
+        (made, reply.good().map(|_| ()))
+    }
+
+    /// A server has connected. Refused: 1, 6.
+    pub fn open(&mut self, connection: u32) -> Result<(), Refusal> {
+        // SAFETY: the state came from fresh, as the fields are private; they do not overlap.
+        let reply = unsafe {
+            door::splicer_open(
+                self.head.as_mut_ptr(),
+                self.name.as_ptr(),
+                self.waiting.as_ptr(),
+                self.started.as_ptr(),
+                connection,
+            )
+        };
+        reply.good().map(|_| ())
+    }
+
+    /// The connection is gone. The records are not sent but logged. Refused: 1, 2, 7.
+    pub fn close<'o>(&mut self, connection: u32, out: &'o mut [u8]) -> Result<&'o [u8], Refusal> {
+        // SAFETY: the state came from fresh; `out` is lent for writing, so it overlaps nothing.
+        let reply = unsafe {
+            door::splicer_close(
+                self.head.as_mut_ptr(),
+                self.name.as_ptr(),
+                self.waiting.as_mut_ptr(),
+                self.started.as_mut_ptr(),
+                connection,
+                out.as_mut_ptr(),
+                out.len(),
+            )
+        };
+        written(reply, out)
+    }
+
+    /// Handles the first message of the bytes read so far from a connection.
+    /// Refused: 1, 2, 7, 5, 4.
+    pub fn message<'o>(
+        &mut self,
+        connection: u32,
+        read: &[u8],
+        out: &'o mut [u8],
+    ) -> Result<Handled<'o>, Refusal> {
+        // SAFETY: the state came from fresh; `self` and `out` are lent for writing, so apart.
+        let reply = unsafe {
+            door::splicer_message(
+                self.head.as_mut_ptr(),
+                self.name.as_ptr(),
+                self.waiting.as_mut_ptr(),
+                self.started.as_mut_ptr(),
+                connection,
+                read.as_ptr(),
+                read.len(),
+                out.as_mut_ptr(),
+                out.len(),
+            )
+        };
+        let consumed = reply.consumed;
+        let written = written(reply, out)?;
+        Ok(Handled { consumed, written })
+    }
+
+    /// Brings the clock to a time and does what is due until then. Refused: 2, 8, 3.
+    pub fn tick<'o>(
+        &mut self,
+        seconds: u32,
+        micros: u32,
+        out: &'o mut [u8],
+    ) -> Result<&'o [u8], Refusal> {
+        // SAFETY: the state came from fresh; `out` is lent for writing, so it overlaps nothing.
+        let reply = unsafe {
+            door::splicer_tick(
+                self.head.as_mut_ptr(),
+                self.name.as_ptr(),
+                self.waiting.as_mut_ptr(),
+                self.started.as_mut_ptr(),
+                seconds,
+                micros,
+                out.as_mut_ptr(),
+                out.len(),
+            )
+        };
+        written(reply, out)
+    }
+}
+
+/// Its content is the core's.
+impl fmt::Debug for Splicer {
+    fn fmt(&self, f: &mut fmt::Formatter<'_>) -> fmt::Result {
+        f.debug_struct("Splicer").finish_non_exhaustive()
+    }
+}
+
+/// The written front of the lent buffer, or the refusal.
+fn written(reply: Reply, out: &[u8]) -> Result<&[u8], Refusal> {
+    let reply = reply.good()?;
+    Ok(&out[..reply.written])
+}

@@ -1,0 +1,195 @@
+//! The five calls through the archive, with values by hand from document 01.
+
+use splicer::{message_id, name, records, result, Refusal, Splicer, OUT};
+
+fn message(id: u16, data: &[u8]) -> Vec<u8> {
+    let size = data.len() as u16;
+    let mut bytes = [id.to_be_bytes(), size.to_be_bytes()].concat();
+    bytes.extend([0xFF; 4]);
+    bytes.extend(data);
+    bytes
+}
+
+fn init(channel: &[u8]) -> Vec<u8> {
+    let data = [&[0, 2], &name(channel)[..], &name(b"SERVER")].concat();
+    message(message_id::INIT_REQUEST, &data)
+}
+
+/// A timed Splice_Request with AccessType 1.
+fn splice(session: u32, seconds: u32, duration: u32) -> Vec<u8> {
+    let mut data = Vec::new();
+    for word in [session, 0xFFFF_FFFF, seconds, 0] {
+        data.extend(word.to_be_bytes());
+    }
+    data.extend([0, 1]);
+    for word in [duration, 0xFFFF_FFFF, 0] {
+        data.extend(word.to_be_bytes());
+    }
+    data.extend([1, 0, 1]);
+    message(message_id::SPLICE_REQUEST, &data)
+}
+
+fn abort(session: u32) -> Vec<u8> {
+    message(message_id::ABORT_REQUEST, &session.to_be_bytes())
+}
+
+/// Connection, MessageID and result of each record.
+fn told(written: &[u8]) -> Vec<(u8, u16, u16)> {
+    let mut walk = records(written);
+    let list = walk
+        .by_ref()
+        .map(|r| (r.connection, r.message_id, r.result));
+    let list = list.collect();
+    assert_eq!(walk.rest(), b"", "all bytes are records");
+    list
+}
+
+/// A splicer "CH1" at 1,000 s with connection 0 initialised.
+fn ready() -> (Splicer, [u8; OUT]) {
+    let mut out = [0; OUT];
+    let (mut channel, named) = Splicer::fresh(&name(b"CH1"));
+    assert_eq!(named, Ok(()));
+    assert_eq!(channel.open(0), Ok(()));
+    let handled = channel.message(0, &init(b"CH1"), &mut out).unwrap();
+    let expected = (0, message_id::INIT_RESPONSE, result::SUCCESSFUL);
+    assert_eq!(told(handled.written), [expected]);
+    assert_eq!(channel.tick(1000, 0, &mut out), Ok(&b""[..]));
+    (channel, out)
+}
+
+#[test]
+fn the_whole_case_of_the_card_program() {
+    let mut out = [0xAA; OUT];
+    let (mut channel, _) = Splicer::fresh(&name(b"CH1"));
+    channel.open(0).unwrap();
+    let alive = message(message_id::ALIVE_REQUEST, &[0; 8]);
+    let handled = channel.message(0, &alive, &mut out).unwrap();
+    assert_eq!(handled.consumed, 16);
+    assert_eq!(handled.written, [0x52, 0, 0, 0, 0, 0, 0, 0x67, 0xFF, 0xFF]);
+    assert!(out[10..].iter().all(|b| *b == 0xAA));
+    assert_eq!(channel.close(0, &mut out), Ok(&b""[..]));
+    assert_eq!(channel.close(0, &mut out), Err(Refusal::NotOpen));
+}
+
+#[test]
+fn a_name_without_a_zero_gives_9_and_the_splicer_of_the_empty_name() {
+    let (nameless, named) = Splicer::fresh(&[b'A'; 32]);
+    assert_eq!(named, Err(Refusal::BadName));
+    assert_eq!(Splicer::fresh(&name(b"")), (nameless.clone(), Ok(())));
+    assert_ne!(Splicer::fresh(&name(b"A")).0, nameless);
+    // Bytes behind a name's zero do not count.
+    let mut junk = name(b"CH1");
+    junk[4..].fill(7);
+    assert_eq!(Splicer::fresh(&junk), Splicer::fresh(&name(b"CH1")));
+    assert_eq!(name(&[b'A'; 40]), [b'A'; 32]);
+}
+
+#[test]
+fn each_house_number_is_given() {
+    let (mut channel, mut out) = ready();
+    let before = channel.clone();
+    let mut short = [0; OUT - 1];
+    let request = splice(1, 1003, 90_000);
+    let huge = [&request[..2], &[0x0F, 0xF9], &request[4..]].concat();
+    assert_eq!(channel.open(4), Err(Refusal::NoConnection));
+    assert_eq!(channel.open(u32::MAX), Err(Refusal::NoConnection));
+    assert_eq!(channel.open(0), Err(Refusal::AlreadyOpen));
+    assert_eq!(channel.close(0, &mut short), Err(Refusal::NoRoom));
+    assert_eq!(channel.close(1, &mut out), Err(Refusal::NotOpen));
+    assert_eq!(channel.tick(1001, 0, &mut []), Err(Refusal::NoRoom));
+    let micros = channel.tick(0, 1_000_000, &mut out);
+    assert_eq!(micros, Err(Refusal::BadMicros));
+    let back = channel.tick(999, 999_999, &mut out);
+    assert_eq!(back, Err(Refusal::ClockBack));
+    let refusals: [(u32, &[u8], usize, u8); 6] = [
+        (256, &request, OUT, 1),
+        (0, &request, OUT - 1, 2),
+        (1, &request, OUT, 7),
+        (0, &huge, OUT, 4),
+        (0, &[], OUT, 5),
+        (0, &request[..40], OUT, 5),
+    ];
+    for (connection, read, room, number) in refusals {
+        let reply = channel.message(connection, read, &mut out[..room]);
+        assert_eq!(reply.unwrap_err().number(), number);
+    }
+    assert_eq!(channel, before, "a refused call changes nothing");
+}
+
+#[test]
+fn a_session_plays_and_is_aborted() {
+    let (mut channel, mut out) = ready();
+    // P1, P9 and P10: start 1,003 s, aborted at 1,013 s: 900,000 ticks played.
+    let both = [splice(1, 1003, 2_700_000), splice(2, 1002, 1)].concat();
+    let handled = channel.message(0, &both, &mut out).unwrap();
+    assert_eq!(handled.consumed, 41);
+    let accepted = (0, message_id::SPLICE_RESPONSE, result::SUCCESSFUL);
+    assert_eq!(told(handled.written), [accepted]);
+    let handled = channel.message(0, &both[41..], &mut out).unwrap();
+    let late = (0, message_id::SPLICE_RESPONSE, result::TOO_LATE);
+    assert_eq!(told(handled.written), [late]);
+    let complete = message_id::SPLICE_COMPLETE_RESPONSE;
+    let written = channel.tick(1013, 0, &mut out).unwrap();
+    assert_eq!(told(written), [(0, complete, result::SUCCESSFUL)]);
+    let mut other = channel.clone();
+    let handled = channel.message(0, &abort(1), &mut out).unwrap();
+    let ends = [
+        (0, message_id::ABORT_RESPONSE, result::SUCCESSFUL),
+        (0, complete, result::ABORTED),
+    ];
+    assert_eq!(told(handled.written), ends);
+    let last = records(handled.written).last().unwrap();
+    assert_eq!(last.data, [0, 0, 0, 1, 1, 0, 0, 0, 0, 0, 13, 0xBB, 0xA0]);
+    assert_eq!(last.message.len(), 21);
+    // A clone is a splicer of its own.
+    assert_eq!(told(other.close(0, &mut out).unwrap()), [ends[1]]);
+}
+
+/// The loop of docs/INTEGRATION.md: every whole message of what was read; `send` gets the records.
+fn heard(
+    channel: &mut Splicer,
+    inbox: &mut Vec<u8>,
+    mut send: impl FnMut(u8, &[u8]),
+) -> Result<(), Refusal> {
+    let mut out = [0; OUT];
+    loop {
+        match channel.message(0, inbox, &mut out) {
+            Ok(handled) => {
+                for record in records(handled.written) {
+                    send(record.connection, record.message);
+                }
+                inbox.drain(..handled.consumed);
+            }
+            Err(Refusal::Short) => return Ok(()),
+            Err(refusal) => return Err(refusal),
+        }
+    }
+}
+
+#[test]
+fn the_loop_of_a_driver() {
+    let (mut channel, _) = ready();
+    let wire = [splice(1, 1003, 90_000), abort(1), abort(1)].concat();
+    let (mut inbox, mut sent) = (Vec::new(), Vec::new());
+    for piece in wire.chunks(7) {
+        inbox.extend(piece);
+        let send = |connection, message: &[u8]| sent.push((connection, message[5]));
+        assert_eq!(heard(&mut channel, &mut inbox, send), Ok(()));
+    }
+    assert_eq!(sent, [(0, 100), (0, 100), (0, 116), (0, 121)]);
+    assert_eq!(inbox, b"");
+    inbox.extend([0, 1, 0xFF, 0xFF, 0, 0, 0, 0]);
+    let last = heard(&mut channel, &mut inbox, |_, _| {});
+    assert_eq!(last, Err(Refusal::Oversize));
+}
+
+#[test]
+fn the_walk_stops_at_what_is_no_record() {
+    let record = [0x52, 3, 0, 15, 0, 4, 0, 121, 0xFF, 0xFF, 0, 0, 0, 9];
+    let two = [&record[..], &record[..13]].concat();
+    let mut walk = records(&two);
+    assert_eq!(walk.next().map(|r| r.data), Some(&record[10..]));
+    assert_eq!(walk.next(), None);
+    assert_eq!(walk.rest(), &record[..13]);
+    assert_eq!(records(&[0x45, 7, 0, 0, 0, 0, 0, 0, 0, 0]).next(), None);
+}

@@ -1,0 +1,413 @@
+//! What must hold of a splicer, by the calls and records alone: who waits and who has started is
+//! rebuilt from the records, and each answer is compared with 01's sentences about it. It uses
+//! neither the second program nor the core's state.
+
+use crate::calls::{Act, Call, Said};
+use splicer::{message_id as id, records, result, Record, CONNECTIONS, HEADER, OUT};
+
+const NONE: u32 = 0xFFFF_FFFF;
+/// 01: "in ninths of a microsecond, a second is 9,000,000, a microsecond 9, a tick 100".
+const SECOND: u64 = 9_000_000;
+/// No answer is longer (docs/DEMANDS.md, `answers-fit`).
+const LONGEST_ANSWER: usize = 3_174;
+
+/// An accepted session whose end was not written yet.
+#[derive(Clone)]
+struct Held {
+    conn: u8,
+    id: u32,
+    prior: u32,
+    start: u64,
+    end: u64,
+    duration: u32,
+    access: u8,
+    overrides: bool,
+    started: bool,
+}
+
+#[derive(Clone, Default)]
+pub struct Books {
+    clock: u64,
+    open: [bool; CONNECTIONS],
+    initialised: [bool; CONNECTIONS],
+    held: Vec<Held>,
+}
+
+type Kept = Result<(), String>;
+
+fn must(kept: bool, text: &str) -> Kept {
+    if kept {
+        return Ok(());
+    }
+    Err(format!("by the records alone: {text}"))
+}
+
+fn half(bytes: &[u8], at: usize) -> u16 {
+    u16::from_be_bytes([bytes[at], bytes[at + 1]])
+}
+
+fn word(bytes: &[u8], at: usize) -> u32 {
+    u32::from_be_bytes([bytes[at], bytes[at + 1], bytes[at + 2], bytes[at + 3]])
+}
+
+fn ninths(seconds: u32, micros: u32) -> u64 {
+    u64::from(seconds) * SECOND + u64::from(micros) * 9
+}
+
+impl Books {
+    /// Enters a call and its answer.
+    pub fn call(&mut self, act: &Act, said: &Said) -> Kept {
+        must(said.refused == self.refusal(act), "another house number")?;
+        if said.refused != 0 {
+            return must(
+                said.consumed == 0 && said.written.is_empty(),
+                "refused and wrote",
+            );
+        }
+        must(said.written.len() <= LONGEST_ANSWER, "a long answer")?;
+        let mut walk = records(&said.written);
+        let list: Vec<Record> = walk.by_ref().collect();
+        must(walk.rest().is_empty(), "bytes that are no record")?;
+        for record in &list {
+            well_formed(record)?;
+        }
+        match &act.call {
+            Call::Open(conn) => self.opened(*conn as u8, &list)?,
+            Call::Close(conn) => self.closed(*conn as u8, &list)?,
+            Call::Message(conn, bytes) => {
+                let size = usize::from(half(bytes, 2));
+                must(said.consumed == HEADER + size, "not one message consumed")?;
+                self.answered(*conn as u8, &bytes[..said.consumed], &list)?;
+            }
+            Call::Tick(seconds, micros) => self.ticked(ninths(*seconds, *micros), &list)?,
+        }
+        if list.is_empty() {
+            return Ok(());
+        }
+        self.holds()
+    }
+
+    /// The first house number that applies, in 01's order, or 0.
+    fn refusal(&self, act: &Act) -> u8 {
+        let above = |conn: u32| conn as usize >= CONNECTIONS;
+        let short = act.room < OUT;
+        match &act.call {
+            Call::Open(conn) | Call::Close(conn) | Call::Message(conn, _) if above(*conn) => 1,
+            Call::Open(conn) if self.open[*conn as usize] => 6,
+            Call::Open(_) => 0,
+            _ if short => 2,
+            Call::Close(conn) | Call::Message(conn, _) if !self.open[*conn as usize] => 7,
+            Call::Close(_) => 0,
+            Call::Message(_, bytes) if bytes.len() < HEADER => 5,
+            Call::Message(_, bytes) if half(bytes, 2) > 4_088 => 4,
+            Call::Message(_, bytes) if bytes.len() < HEADER + usize::from(half(bytes, 2)) => 5,
+            Call::Message(..) => 0,
+            Call::Tick(_, micros) if *micros > 999_999 => 8,
+            Call::Tick(seconds, micros) if ninths(*seconds, *micros) < self.clock => 3,
+            Call::Tick(..) => 0,
+        }
+    }
+
+    /// "Opening leaves the connection not initialised."
+    fn opened(&mut self, conn: u8, list: &[Record]) -> Kept {
+        self.open[usize::from(conn)] = true;
+        self.initialised[usize::from(conn)] = false;
+        must(list.is_empty(), "open wrote")
+    }
+
+    /// "Close ends, as by abort, the connection's started sessions [..], then all its waiting".
+    fn closed(&mut self, conn: u8, list: &[Record]) -> Kept {
+        for record in list {
+            must(record.connection == conn, "close ended another's session")?;
+            must(record.result == result::ABORTED, "close without 116")?;
+            self.session(record)?;
+        }
+        self.open[usize::from(conn)] = false;
+        must(self.held.iter().all(|s| s.conn != conn), "held after close")
+    }
+
+    /// "A tick works through every start and end not later than its time".
+    fn ticked(&mut self, time: u64, list: &[Record]) -> Kept {
+        self.clock = time;
+        for record in list {
+            must(record.result != result::ABORTED, "a tick aborted")?;
+            self.session(record)?;
+        }
+        let due = |s: &Held| if s.started { s.end } else { s.start };
+        must(self.held.iter().all(|s| due(s) > time), "due and not done")
+    }
+
+    /// "Answering a message, first that applies", as far as records show it.
+    fn answered(&mut self, conn: u8, message: &[u8], list: &[Record]) -> Kept {
+        let ready = self.initialised[usize::from(conn)];
+        let kind = half(message, 0);
+        let general = |code: u16| matches!(list, [r] if is(r, conn, id::GENERAL_RESPONSE, code));
+        match kind {
+            id::GENERAL_RESPONSE => return must(list.is_empty(), "0x0000 answered"),
+            id::INIT_REQUEST => {}
+            _ if !ready => return must(general(result::ACCESS_DENIED), "no 103"),
+            0x000D => return must(list.is_empty(), "0x000D answered"),
+            id::ALIVE_REQUEST | id::SPLICE_REQUEST | id::ABORT_REQUEST => {}
+            _ => return must(general(result::UNKNOWN_MESSAGE), "no 120"),
+        }
+        if general(result::INVALID_DATA) {
+            return Ok(());
+        }
+        let data = &message[HEADER..];
+        match (kind, list) {
+            (id::INIT_REQUEST, [answer]) => self.init(conn, data, answer),
+            (id::ALIVE_REQUEST, [answer]) => self.alive(conn, answer),
+            (id::ABORT_REQUEST, [answer, ends @ ..]) => self.abort(conn, data, answer, ends),
+            (id::SPLICE_REQUEST, [evicted @ .., answer]) => {
+                self.splice(conn, data, evicted, answer)
+            }
+            _ => must(false, "not the answers of its kind"),
+        }
+    }
+
+    /// "Revision not 2 gives 102, another name 104, else 100 and initialised."
+    fn init(&mut self, conn: u8, data: &[u8], answer: &Record) -> Kept {
+        let version = (half(data, 0) != 2) == (answer.result == result::INVALID_VERSION);
+        must(version, "102 not by the revision")?;
+        let kind = answer.message_id == id::INIT_RESPONSE && answer.connection == conn;
+        must(kind && half(answer.data, 0) == 2, "no Init_Response")?;
+        if answer.result == result::SUCCESSFUL {
+            self.initialised[usize::from(conn)] = true;
+        }
+        Ok(())
+    }
+
+    /// "State 2 and the SessionID on air, or State 1 and 0xFFFFFFFF; the present clock".
+    fn alive(&self, conn: u8, answer: &Record) -> Kept {
+        must(
+            is(answer, conn, id::ALIVE_RESPONSE, 100),
+            "no Alive_Response",
+        )?;
+        let (state, session) = match self.on_air() {
+            Some(s) => (2, s.id),
+            None => (1, NONE),
+        };
+        let shown = (word(answer.data, 0), word(answer.data, 4));
+        must(shown == (state, session), "another one on air")?;
+        let clock = ninths(word(answer.data, 8), word(answer.data, 12));
+        must(clock == self.clock, "another clock")
+    }
+
+    /// "121 if this connection doesn't hold the SessionID; else 100, then the session's end and
+    /// after it its followers' ends".
+    fn abort(&mut self, conn: u8, data: &[u8], answer: &Record, ends: &[Record]) -> Kept {
+        let session = word(data, 0);
+        let (code, first) = match self.find(conn, session) {
+            Some(_) => (result::SUCCESSFUL, Some(session)),
+            None => (result::INVALID_SESSION, None),
+        };
+        must(
+            is(answer, conn, id::ABORT_RESPONSE, code),
+            "another Abort_Response",
+        )?;
+        must(word(answer.data, 0) == session, "another's Abort_Response")?;
+        let found = ends.first().map(|r| word(r.data, 0));
+        must(
+            found == first,
+            "the aborted session is not the first to end",
+        )?;
+        for record in ends {
+            let own = record.connection == conn && record.result == result::ABORTED;
+            must(own, "an abort ended another's session or without 116")?;
+            self.session(record)?;
+        }
+        Ok(())
+    }
+
+    /// "Splice_Response with the first that applies"; "written before the 100" the evicted ones.
+    fn splice(&mut self, conn: u8, data: &[u8], evicted: &[Record], answer: &Record) -> Kept {
+        let code = self.code(conn, data);
+        must(
+            is(answer, conn, id::SPLICE_RESPONSE, code),
+            "another result code",
+        )?;
+        must(
+            word(answer.data, 0) == word(data, 0),
+            "another's Splice_Response",
+        )?;
+        must(
+            code == 100 || evicted.is_empty(),
+            "evicted and not accepted",
+        )?;
+        let start = self.start(conn, data);
+        for record in evicted {
+            must(
+                is_kind(record, id::SPLICE_RESPONSE, 109),
+                "evicted without 109",
+            )?;
+            self.session(record)?;
+        }
+        if code == 100 {
+            self.accepted(conn, data, start)?;
+        }
+        Ok(())
+    }
+
+    /// "End is start plus Duration."
+    fn accepted(&mut self, conn: u8, data: &[u8], start: u64) -> Kept {
+        let mut waiting = self.held.iter().filter(|s| !s.started);
+        must(
+            waiting.all(|s| s.start != start),
+            "two waiting with one start",
+        )?;
+        let duration = word(data, 18);
+        self.held.push(Held {
+            conn,
+            id: word(data, 0),
+            prior: word(data, 4),
+            start,
+            end: start + u64::from(duration) * 100,
+            duration,
+            access: data[30],
+            overrides: data[31] == 1,
+            started: false,
+        });
+        Ok(())
+    }
+
+    /// a to f.
+    fn code(&self, conn: u8, data: &[u8]) -> u16 {
+        let (session, prior) = (word(data, 0), word(data, 4));
+        if half(data, 16) == 0xFFFF {
+            return result::NO_INSERTION;
+        }
+        let known = session == NONE || self.find(conn, session).is_some();
+        if known || (prior != NONE && self.find(conn, prior).is_none()) {
+            return result::INVALID_SESSION;
+        }
+        let start = self.start(conn, data);
+        if prior == NONE && start < self.clock + 3 * SECOND {
+            return result::TOO_LATE;
+        }
+        let mut waiting = self.held.iter().filter(|s| !s.started);
+        if waiting.any(|s| s.start == start && s.access >= data[30]) {
+            return result::COLLISION;
+        }
+        let counts = self.counts();
+        let own = counts[usize::from(conn)];
+        let sum: usize = counts.iter().map(|n| *n.max(&10)).sum();
+        if own == 20 || (own >= 10 && sum == 64) {
+            return result::QUEUE_FULL;
+        }
+        result::SUCCESSFUL
+    }
+
+    /// "A timed start is the request's time; a linked start is the prior session's end."
+    fn start(&self, conn: u8, data: &[u8]) -> u64 {
+        match word(data, 4) {
+            NONE => ninths(word(data, 8), word(data, 12)),
+            prior => self.find(conn, prior).map_or(0, |at| self.held[at].end),
+        }
+    }
+
+    fn counts(&self) -> [usize; CONNECTIONS] {
+        let mut counts = [0; CONNECTIONS];
+        for session in self.held.iter().filter(|s| !s.started) {
+            counts[usize::from(session.conn)] += 1;
+        }
+        counts
+    }
+
+    fn find(&self, conn: u8, session: u32) -> Option<usize> {
+        let own = |s: &Held| s.conn == conn && s.id == session;
+        self.held.iter().position(own)
+    }
+
+    /// Only a higher AccessType covers, so the highest started session is the one on air.
+    fn on_air(&self) -> Option<&Held> {
+        let started = self.held.iter().filter(|s| s.started);
+        started.max_by_key(|s| s.access)
+    }
+
+    /// A record of a session: its start or its one end, under the connection that requested it.
+    fn session(&mut self, record: &Record) -> Kept {
+        let place = self.find(record.connection, word(record.data, 0));
+        let Some(place) = place else {
+            return must(false, "a record of a session that is not held");
+        };
+        let s = &self.held[place];
+        let flag = (record.message_id == id::SPLICE_COMPLETE_RESPONSE).then(|| record.data[4]);
+        let played = flag.map_or(0, |_| word(record.data, 9));
+        must(played <= s.duration, "played longer than its Duration")?;
+        let highest = self.on_air().map(|top| (top.access, top.conn, top.id));
+        let kept = match (flag, record.result) {
+            (Some(0), 100) => {
+                !s.started && highest.is_none_or(|(a, ..)| s.overrides && s.access > a)
+            }
+            (Some(0), 109) => {
+                !s.started && highest.is_some_and(|(a, ..)| !s.overrides || s.access <= a)
+            }
+            (Some(1), 100) => highest == Some((s.access, s.conn, s.id)),
+            (Some(1), 116 | 125) => s.started,
+            (None, 109) => !s.started,
+            (None, 116) => true,
+            _ => false,
+        };
+        must(kept, "a start or end that its session cannot have")?;
+        must(flag != Some(0) || played == 0, "played before its start")?;
+        if (flag, record.result) == (Some(0), 100) {
+            self.held[place].started = true;
+        } else {
+            self.held.swap_remove(place);
+        }
+        Ok(())
+    }
+
+    /// After every call: the places, and each waiting linked session behind the one it names.
+    fn holds(&self) -> Kept {
+        let counts = self.counts();
+        must(counts.iter().all(|n| *n <= 20), "more than 20 waiting")?;
+        let all: usize = counts.iter().sum();
+        must(all <= 64, "more than 64 waiting")?;
+        must(self.held.len() - all <= 10, "more than 10 started")?;
+        for (place, s) in self.held.iter().enumerate() {
+            must(
+                self.open[usize::from(s.conn)],
+                "held by a closed connection",
+            )?;
+            must(
+                self.find(s.conn, s.id) == Some(place),
+                "one number held twice",
+            )?;
+            if s.started || s.prior == NONE {
+                continue;
+            }
+            let prior = self.find(s.conn, s.prior).map(|at| self.held[at].end);
+            must(
+                prior == Some(s.start),
+                "a follower without its prior session",
+            )?;
+        }
+        Ok(())
+    }
+}
+
+fn is_kind(record: &Record, kind: u16, code: u16) -> bool {
+    record.message_id == kind && record.result == code
+}
+
+fn is(record: &Record, conn: u8, kind: u16, code: u16) -> bool {
+    record.connection == conn && is_kind(record, kind, code)
+}
+
+/// The size of its kind, and "in answers Result_Extension is 0xFFFF".
+fn well_formed(record: &Record) -> Kept {
+    let size = match record.message_id {
+        id::GENERAL_RESPONSE => 0,
+        id::INIT_RESPONSE => 34,
+        id::ALIVE_RESPONSE => 16,
+        id::SPLICE_RESPONSE | id::ABORT_RESPONSE => 4,
+        id::SPLICE_COMPLETE_RESPONSE => 13,
+        _ => return must(false, "a MessageID that is not written"),
+    };
+    must(record.data.len() == size, "a record of another size")?;
+    must(
+        half(record.message, 6) == 0xFFFF,
+        "another Result_Extension",
+    )
+}

@@ -1,0 +1,151 @@
+//! A call as both programs get it, what each of them says, and the memory lent to the core.
+
+use model::records;
+use model::rules;
+
+#[derive(Clone, Debug)]
+pub enum Call {
+    Open(u32),
+    Close(u32),
+    /// The connection and the bytes read so far.
+    Message(u32, Vec<u8>),
+    Tick(u32, u32),
+}
+
+/// A call and the length of the output buffer lent to it.
+#[derive(Clone, Debug)]
+pub struct Act {
+    pub call: Call,
+    pub room: usize,
+}
+
+/// What a call gave: its house number or 0, the bytes consumed and the bytes written.
+#[derive(Clone, Debug, PartialEq, Eq)]
+pub struct Said {
+    pub refused: u8,
+    pub consumed: usize,
+    pub written: Vec<u8>,
+}
+
+impl Said {
+    fn good(consumed: usize, written: Vec<u8>) -> Said {
+        Said {
+            refused: 0,
+            consumed,
+            written,
+        }
+    }
+
+    pub fn refusal(number: u8) -> Said {
+        Said {
+            refused: number,
+            consumed: 0,
+            written: Vec::new(),
+        }
+    }
+
+    pub fn line(&self) -> String {
+        match self.refused {
+            0 => format!("consumed {} wrote {}", self.consumed, hex(&self.written)),
+            number => format!("refused {number}"),
+        }
+    }
+}
+
+impl Act {
+    pub fn line(&self) -> String {
+        let room = self.room;
+        match &self.call {
+            Call::Open(conn) => format!("open {conn}"),
+            Call::Close(conn) => format!("close {conn}, room {room}"),
+            Call::Message(conn, bytes) => format!("message {conn}, room {room}: {}", hex(bytes)),
+            Call::Tick(seconds, micros) => format!("tick {seconds} {micros}, room {room}"),
+        }
+    }
+}
+
+fn hex(bytes: &[u8]) -> String {
+    match bytes.len() {
+        0 => "nothing".to_string(),
+        1..=200 => records::hex(bytes),
+        length => format!("{} ... ({length} bytes)", records::hex(&bytes[..200])),
+    }
+}
+
+/// The second program's answer. It keeps connections in a byte; 01 knows only "above 3".
+pub fn ask_model(model: &mut rules::Splicer, act: &Act) -> Said {
+    let byte = |conn: &u32| (*conn).min(255) as u8;
+    let result = match &act.call {
+        Call::Open(conn) => model.open(byte(conn)).map(|()| (Vec::new(), 0)),
+        Call::Close(conn) => model.close(byte(conn), act.room).map(|r| (r, 0)),
+        Call::Message(conn, bytes) => model.message(byte(conn), bytes, act.room),
+        Call::Tick(seconds, micros) => model.tick(*seconds, *micros, act.room).map(|r| (r, 0)),
+    };
+    match result {
+        Ok((written, consumed)) => Said::good(consumed, records::all_bytes(&written)),
+        Err(number) => Said::refusal(number),
+    }
+}
+
+/// The core's answer, with `out` lent to it.
+pub fn ask_core(core: &mut splicer::Splicer, call: &Call, out: &mut [u8]) -> Said {
+    let result = match call {
+        Call::Open(conn) => core.open(*conn).map(|()| (&[][..], 0)),
+        Call::Close(conn) => core.close(*conn, out).map(|w| (w, 0)),
+        Call::Message(conn, bytes) => core
+            .message(*conn, bytes, out)
+            .map(|h| (h.written, h.consumed)),
+        Call::Tick(seconds, micros) => core.tick(*seconds, *micros, out).map(|w| (w, 0)),
+    };
+    match result {
+        Ok((written, consumed)) => Said::good(consumed, written.to_vec()),
+        Err(refusal) => Said::refusal(refusal.number()),
+    }
+}
+
+const GUARD: usize = 64;
+
+/// Memory around and under the output buffers, and a copy of what it held before a call.
+pub struct Desk {
+    pub lent: Vec<u8>,
+    kept: Vec<u8>,
+    turn: usize,
+}
+
+impl Desk {
+    /// For output buffers up to this length.
+    pub fn new(longest: usize) -> Desk {
+        let filled: Vec<u8> = (0..longest + 3 * GUARD).map(|at| at as u8).collect();
+        Desk {
+            lent: filled.clone(),
+            kept: filled,
+            turn: 0,
+        }
+    }
+
+    /// Where the next output buffer begins: at every alignment in turn.
+    pub fn begin(&self) -> usize {
+        GUARD + self.turn % 16
+    }
+
+    pub fn buffer(&mut self, room: usize) -> &mut [u8] {
+        let begin = self.begin();
+        &mut self.lent[begin..begin + room]
+    }
+
+    /// True if bytes outside the written ones changed. The written ones get another filling, so
+    /// that a later call is seen to write.
+    pub fn touched(&mut self, written: usize) -> bool {
+        let begin = self.begin();
+        let end = begin + written;
+        let touched =
+            self.lent[..begin] != self.kept[..begin] || self.lent[end..] != self.kept[end..];
+        self.turn += 1;
+        self.lent[begin..end].fill(self.turn as u8);
+        self.kept[begin..end].fill(self.turn as u8);
+        if touched {
+            self.kept.copy_from_slice(&self.lent);
+        }
+        touched
+    }
+}

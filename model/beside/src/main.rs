@@ -1,0 +1,159 @@
+//! The second program and the proved core, called side by side in one process. After every call the
+//! refusal, the bytes consumed and written and the rest of the memory are compared.
+
+mod acts;
+mod books;
+mod calls;
+mod pair;
+mod run;
+mod wrong;
+
+use acts::Stream;
+use run::{Plan, Tally};
+use wrong::Wrong;
+
+const HELP: &str = "\
+beside [--seed S] [--n N] [--first I] [--threads T]   N streams through both, then every fault
+beside --fault NAME [--seed S]                        one deliberate fault, by its name or number
+";
+
+/// A fault must be noticed within this many streams.
+const FOR_A_FAULT: u64 = 52;
+
+/// Faults of the second program that the records alone give away, with no program to compare.
+const BOOKED: &[u32] = &[
+    2, 3, 4, 7, 9, 12, 13, 14, 15, 18, 19, 20, 22, 23, 24, 25, 26, 27, 29, 31, 33, 34, 35, 38, 39,
+    40, 41, 42, 43, 44, 45, 46, 47, 48, 49,
+];
+
+fn main() {
+    let args: Vec<String> = std::env::args().skip(1).collect();
+    match command(args) {
+        Ok(true) => {}
+        Ok(false) => std::process::exit(1),
+        Err(text) => {
+            eprint!("beside: {text}\n{HELP}");
+            std::process::exit(2);
+        }
+    }
+}
+
+fn command(mut args: Vec<String>) -> Result<bool, String> {
+    let fault = option(&mut args, "--fault")?;
+    let plan = Plan {
+        seed: number(&mut args, "--seed", 280)?,
+        first: number(&mut args, "--first", 0)?,
+        n: number(&mut args, "--n", 760)?,
+        threads: number(&mut args, "--threads", 2)?.max(1),
+    };
+    if let Some(word) = args.first() {
+        return Err(format!("unknown word {word}"));
+    }
+    let list = run::streams(plan.seed, 0, FOR_A_FAULT);
+    let results = match fault {
+        Some(name) => {
+            let wrong = wrong::named(&name).ok_or(format!("no fault {name}"))?;
+            vec![noticed(&plan, &list, wrong)]
+        }
+        None => everything(&plan, &list),
+    };
+    let passed = results.iter().filter(|good| **good).count();
+    let failed = results.len() - passed;
+    println!("{passed} passed, {failed} failed");
+    Ok(failed == 0)
+}
+
+/// The comparison, and every fault.
+fn everything(plan: &Plan, list: &[Stream]) -> Vec<bool> {
+    let mut results = vec![compared(plan)];
+    for wrong in wrong::all() {
+        results.push(noticed(plan, list, wrong));
+    }
+    for fault in BOOKED {
+        results.push(booked(list, *fault));
+    }
+    let unnoticed = results[1..].iter().filter(|good| !**good).count();
+    println!(
+        "beside: {} faults, {unnoticed} not noticed",
+        results.len() - 1
+    );
+    results
+}
+
+/// Takes `--name value` out of the arguments.
+fn option(args: &mut Vec<String>, name: &str) -> Result<Option<String>, String> {
+    let Some(place) = args.iter().position(|a| a == name) else {
+        return Ok(None);
+    };
+    if place + 1 >= args.len() {
+        return Err(format!("{name} needs a value"));
+    }
+    args.remove(place);
+    Ok(Some(args.remove(place)))
+}
+
+fn number(args: &mut Vec<String>, name: &str, usual: u64) -> Result<u64, String> {
+    match option(args, name)? {
+        None => Ok(usual),
+        Some(text) => text
+            .parse()
+            .map_err(|_| format!("{name}: no number: {text}")),
+    }
+}
+
+/// The comparison itself.
+fn compared(plan: &Plan) -> bool {
+    let tally = run::run(plan);
+    for text in tally.differences.iter().take(3) {
+        print!("seed {}, {text}", plan.seed);
+    }
+    let never = never(plan, &tally);
+    for branch in &never {
+        println!("never taken: {branch}");
+    }
+    println!("refusals 1 to 9: {:?}", &tally.refusals[1..]);
+    println!(
+        "beside: seed {}, {} streams, {} calls, {} differences",
+        plan.seed,
+        tally.streams,
+        tally.calls,
+        tally.differences.len()
+    );
+    tally.differences.is_empty() && never.is_empty()
+}
+
+/// The branches of the second program's table that no call took. Few streams need not take all.
+fn never(plan: &Plan, tally: &Tally) -> Vec<&'static str> {
+    if plan.n < 200 {
+        return Vec::new();
+    }
+    let floors = model::counts::floors();
+    let names = floors.into_iter().map(|(name, _)| name);
+    // These are the card program's own reading.
+    let calls = names.filter(|name| !name.starts_with("card "));
+    calls.filter(|name| tally.counts.of(name) == 0).collect()
+}
+
+/// Shows that the comparison notices a fault.
+fn noticed(plan: &Plan, list: &[Stream], wrong: Wrong) -> bool {
+    let found = run::noticed(plan.seed, list, wrong);
+    match &found {
+        Some(text) => {
+            let place = text.split(':').next().unwrap_or(text);
+            println!("noticed in {place}: {}", wrong.line());
+        }
+        None => println!("NOT NOTICED: {}", wrong.line()),
+    }
+    found.is_some()
+}
+
+/// Shows that the books notice a fault by themselves.
+fn booked(list: &[Stream], fault: u32) -> bool {
+    let line = Wrong::Model(fault).line();
+    let found = run::booked(list, fault);
+    match &found {
+        Some(text) => println!("noticed in {text}: {line}"),
+        None => println!("NOT NOTICED by the records alone: {line}"),
+    }
+    found.is_some()
+}

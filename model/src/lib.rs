@@ -1,0 +1,22 @@
+//! The second program as a library, for its own command `model` and for `beside`, which calls it in
+//! one process with the proved core. It uses nothing of the core.
+#![allow(clippy::new_without_default, clippy::should_implement_trait)]
+
+pub mod asrun;
+pub mod card;
+pub mod compare;
+pub mod counts;
+pub mod damage;
+pub mod demand3;
+pub mod episodes;
+pub mod faults;
+pub mod fuzz;
+pub mod gen;
+pub mod instants;
+pub mod people;
+pub mod reading;
+pub mod records;
+pub mod rules;
+pub mod scenario;
+#[cfg(test)]
+mod tests;

@@ -1,0 +1,99 @@
+#!/bin/sh
+# beside.sh [ARG..]: the second program and the proved core called side by side in one process over the archive (model/beside, ARGs as it
+# takes them), and the tests of the Rust wrapper (bindings). The archive is x86-64: on another machine the programs are built for x86-64
+# and run by Debian's emulator. Where that cannot be had, or with ROUTE=card, more streams through the card program stand in.
+# The last line is 'N passed, M failed'.
+set -eu
+cd "$(dirname "$0")/.."
+target=x86_64-unknown-linux-gnu
+work=target/beside
+mkdir -p "$work"
+passed=0
+failed=0
+
+# ran NAME COMMAND..: runs it, shows what it prints and adds its counts; a failure that it does not count is one more
+ran() {
+    name=$1
+    shift
+    before=$failed
+    status=0
+    "$@" >"$work/$name.log" 2>&1 || status=$?
+    cat "$work/$name.log"
+    sums=$(grep -oE '[0-9]+ passed[,;] [0-9]+ failed' "$work/$name.log" | awk '{ p += $1; f += $3 } END { print p + 0, f + 0 }')
+    passed=$((passed + ${sums% *}))
+    failed=$((failed + ${sums#* }))
+    if [ "$status" -ne 0 ] && [ "$failed" -eq "$before" ]; then
+        failed=$((failed + 1))
+    fi
+    return "$status"
+}
+
+# compiler: sets rustc to one that has the standard library for x86-64
+compiler() {
+    for rustc in ${RUSTC:-} rustc /usr/bin/rustc; do
+        command -v "$rustc" >/dev/null 2>&1 || continue
+        if [ -d "$("$rustc" --print sysroot)/lib/rustlib/$target/lib" ]; then
+            return 0
+        fi
+    done
+    return 1
+}
+
+# ready: whether programs in Rust over the archive can be built and run here; sets linker and runner
+ready() {
+    linker=cc runner=
+    if [ "$(uname -m)" != x86_64 ]; then
+        # with erms the emulator runs each long memcpy byte by byte
+        linker=x86_64-linux-gnu-gcc runner='qemu-x86_64 -cpu max,-erms'
+    fi
+    for tool in cargo "$linker" ${runner%% *}; do
+        command -v "$tool" >/dev/null 2>&1 || return 1
+    done
+    compiler
+}
+
+# over_archive [ARG..]: the wrapper's tests and the comparison
+over_archive() {
+    RUSTC=$rustc CARGO_TARGET_DIR=$work
+    CARGO_TARGET_X86_64_UNKNOWN_LINUX_GNU_LINKER=$linker
+    export RUSTC CARGO_TARGET_DIR CARGO_TARGET_X86_64_UNKNOWN_LINUX_GNU_LINKER
+    if [ -n "$runner" ]; then
+        CARGO_TARGET_X86_64_UNKNOWN_LINUX_GNU_RUNNER=$runner
+        export CARGO_TARGET_X86_64_UNKNOWN_LINUX_GNU_RUNNER
+    fi
+    ran archive rt staticlib door || return 0
+    ran bindings cargo test --release --offline --target $target --manifest-path bindings/Cargo.toml || :
+    ran compared cargo run --release --offline --target $target --manifest-path model/beside/Cargo.toml -- "$@" || :
+}
+
+# over_card: the second program against the card program, on other and more streams than compare.sh
+over_card() {
+    CARGO_TARGET_DIR=target/model
+    export CARGO_TARGET_DIR
+    ran build cargo build --release --offline --manifest-path model/Cargo.toml || return 0
+    if [ ! -x target/bin/card ]; then
+        ran card rt check card || return 0
+    fi
+    if ran fuzz target/model/release/model fuzz --seed 281 --n 600 --card 'sh tools/run-program.sh target/bin/card'; then
+        passed=$((passed + 1))
+    fi
+}
+
+route=${ROUTE:-archive}
+why='ROUTE=card'
+if [ "$route" = archive ] && ! ready; then
+    sh tools/setup.sh x86 >"$work/setup.log" 2>&1 || :
+    if ! ready; then
+        route=card
+        why='no Rust for x86-64 here and none to be installed'
+    fi
+fi
+if [ "$route" = card ]; then
+    echo "beside: by way of the card program ($why)"
+    over_card
+else
+    echo "beside: over the archive, on $(uname -m)${runner:+ by ${runner%% *}}, $("$rustc" --version)"
+    over_archive "$@"
+fi
+echo "$passed passed, $failed failed"
+[ "$failed" -eq 0 ]
