@@ -18,6 +18,7 @@ use Rattle.rules.proofs.All.{all-into}
 use Rattle.rules.proofs.Every.{all-getD}
 use Rattle.rules.proofs.Records.{length-record}
 use Rattle.rules.proofs.Size.{weight-one}
+use Rattle.rules.proofs.Written.{written-none}
 use Rattle.places.specs.Places.{lot, used, Good, Made}
 use Rattle.places.proofs.Laws.{length-used, at-end}
 use Rattle.ends.specs.declared.Counts.{Counts}
@@ -187,6 +188,14 @@ module _ (t : ℕ) (e : List ℕ) (len : ℕ) (w k : List ℕ) (n m : ℕ) (a : 
   instant-turns w″ k″ r o′ h v =
       turns-then e len (endAt t (queueOf w n k m)) (startAt t) w k′ w″ k″ (record { waiting = n; started = m′; len = to }) r o o′ (omega (arith, brief))
       (ends-started e len (omit (endsAt t) (used (lot k m))) (endings (spliceOut 100) (spliceOut 125) (endsAt t) (used (lot k m))) w k′ n m′ to o a d) v
+
+-- with none started, none ends
+pub ends-none : (t : ℕ) (e : List ℕ) (len : ℕ) (k : List ℕ) (m : ℕ) → Good (lot k m) → m ≡ 0 →
+    Ends e len (omit (endsAt t) (used (lot k m))) (endings (spliceOut 100) (spliceOut 125) (endsAt t) (used (lot k m))) (lot k m) len e
+unfolding endings output
+ends-none t e len k m g z =
+    let n : used (lot k m) ≡ [] = at-end (lot k m) 0 g (omega arith) in
+    rw n (record { good = g; list = n; count = omega arith; bytes = sym (written-none e len) })
 
 -- ## The next instant
 

@@ -1,6 +1,7 @@
 // Instants: starts, ends, being covered and on air again, and a tick's run over them.
 use ends::Counts;
 use ends::Ending;
+use ends::Left;
 use places::Key;
 use rules::Ninths;
 use rules::Session;
@@ -133,15 +134,21 @@ fn at_instant(
     requires { ⌜ len + 23 * (waiting + started) ≤ length (now out) ⌝ }
     ensures { λ r. ⌜ Turns (now (out .entry)) len (instant (t .0) (queueOf (now (w .entry)) waiting (now (k .entry)) started)) (now (w .exit)) (now (k .exit)) r (now (out .exit)) ⌝ }
 {
-    let e = ends::end_those(
-        &mut *k,
-        started,
-        Key::EndsAt(t),
-        Ending::Complete(100),
-        Ending::Complete(125),
-        &mut *out,
-        len,
-    );
+    let mut e = Left {
+        left: started,
+        len: len,
+    };
+    if 0 < started {
+        e = ends::end_those(
+            &mut *k,
+            started,
+            Key::EndsAt(t),
+            Ending::Complete(100),
+            Ending::Complete(125),
+            &mut *out,
+            len,
+        );
+    }
     start_at(t, &mut *w, waiting, &mut *k, e.left, &mut *out, e.len)
 }
 
