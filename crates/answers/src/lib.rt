@@ -10,7 +10,7 @@ ghost use Rattle.rules.specs.Reading.{channelName, isRead, «read»};
 ghost use Rattle.rules.specs.Records.{General};
 ghost use Rattle.rules.specs.Answers.{initResult, answerRead, answer};
 ghost use Rattle.rules.specs.Sound.{Sound};
-ghost use Rattle.places.specs.Places.{Good, lot, used};
+ghost use Rattle.places.specs.Places.{Good, lot};
 ghost use Rattle.answers.specs.View.{view, Form, Gives, barred, Writes, withWord, initHead, initRecord, aliveRecord, countedHead};
 
 // The clock, how many sessions wait and have started, and the connections: 0 closed, 1 open, 2 initialised.

@@ -1,5 +1,6 @@
 // How sessions end: one record behind the other, and the places closed up in order.
 use places::Key;
+use places::Those;
 use rules::Session;
 ghost use mathlib.Core.Path.{_≡_};
 ghost use mathlib.Core.List.{map};
@@ -9,7 +10,7 @@ ghost use Rattle.rules.specs.Lists.{All, omit};
 ghost use Rattle.rules.specs.Bytes.{written};
 ghost use Rattle.rules.specs.Records.{recordBytes};
 ghost use Rattle.rules.specs.Ends.{response, endings, followers};
-ghost use Rattle.places.specs.Places.{Good, lot, used, spare, keyTest};
+ghost use Rattle.places.specs.Places.{Good, lot, used, spare, among};
 ghost use Rattle.ends.specs.Does.{Playable, endingOf, Tells, Ends};
 
 // How a session ends: by a SpliceComplete with flag 1 or by a Splice_Response, with a result.
@@ -51,11 +52,11 @@ pub fn write_end(how: Ending, x: Session, out: &mut [u8], len: usize) -> usize
     }
 }
 
-// The ends of those that the key looks for, in their order: that of the first of all by `first`, any other by `others`.
+// The ends of those, in their order: that of the first of all by `first`, any other by `others`.
 fn write_ends(
     l: &[u64],
     n: usize,
-    whom: Key,
+    those: Those,
     first: Ending,
     others: Ending,
     out: &mut [u8],
@@ -64,14 +65,14 @@ fn write_ends(
     requires { ⌜ Good (lot (now l) n) ⌝ }
     requires { ⌜ All Playable (used (lot (now l) n)) ⌝ }
     requires { ⌜ len + 23 * n ≤ length (now out) ⌝ }
-    ensures { λ r. ⌜ Tells (now (out .entry)) len (endings (endingOf first) (endingOf others) (keyTest whom) (used (lot (now (l .entry)) n))) r (now (out .exit)) ⌝ }
+    ensures { λ r. ⌜ Tells (now (out .entry)) len (endings (endingOf first) (endingOf others) (among those) (used (lot (now (l .entry)) n))) r (now (out .exit)) ⌝ }
 {
     let mut how = first;
     let mut to = len;
     let mut i = 0;
     while i < n {
         let x = places::load(l, n, i);
-        if places::matches(whom, x) {
+        if places::is_among(those, x) {
             to = write_end(how, x, &mut *out, to);
         }
         how = others;
@@ -80,11 +81,11 @@ fn write_ends(
     to
 }
 
-// Those that the key looks for end, the first of all by `first` and any other by `others`; the rest closes up.
+// Those end, the first of all by `first` and any other by `others`; the rest closes up.
 pub fn end_those(
     l: &mut [u64],
     n: usize,
-    whom: Key,
+    those: Those,
     first: Ending,
     others: Ending,
     out: &mut [u8],
@@ -93,11 +94,11 @@ pub fn end_those(
     requires { ⌜ Good (lot (now l) n) ⌝ }
     requires { ⌜ All Playable (used (lot (now l) n)) ⌝ }
     requires { ⌜ len + 23 * n ≤ length (now out) ⌝ }
-    ensures ends { λ r. ⌜ Ends (now (out .entry)) len (omit (keyTest whom) (used (lot (now (l .entry)) n))) (endings (endingOf first) (endingOf others) (keyTest whom) (used (lot (now (l .entry)) n))) (lot (now (l .exit)) (r .left)) (r .len) (now (out .exit)) ⌝ }
+    ensures ends { λ r. ⌜ Ends (now (out .entry)) len (omit (among those) (used (lot (now (l .entry)) n))) (endings (endingOf first) (endingOf others) (among those) (used (lot (now (l .entry)) n))) (lot (now (l .exit)) (r .left)) (r .len) (now (out .exit)) ⌝ }
     ensures rest { λ _. ⌜ spare (now (l .exit)) ≡ spare (now (l .entry)) ⌝ }
 {
-    let to = write_ends(&*l, n, whom, first, others, &mut *out, len);
-    let left = places::omit_those(&mut *l, n, whom);
+    let to = write_ends(&*l, n, those, first, others, &mut *out, len);
+    let left = places::omit_those(&mut *l, n, those);
     Left {
         left: left,
         len: to,

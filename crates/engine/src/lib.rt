@@ -2,7 +2,7 @@
 // sessions (64 places) and of the started ones (10 places). The head is small and goes by value.
 use answers::Head;
 use ends::Counts;
-use places::Key;
+use places::Those;
 use rules::Framing;
 use rules::Ninths;
 use rules::Refusal;
@@ -159,8 +159,8 @@ pub fn close(h: Head, name: &[u8], w: &mut [u64], k: &mut [u64], conn: u32, out:
     if let Tested::Bad(n) = test {
         return refuse(h, n);
     }
-    let whom = Key::Of(conn as u64);
-    let t = requests::cancel(whom, &mut *w, h.waiting, &mut *k, h.started, &mut *out, 0);
+    let those = Those::Of(conn as u64);
+    let t = requests::cancel(those, &mut *w, h.waiting, &mut *k, h.started, &mut *out, 0);
     let m = answers::with_link(h, conn, 0);
     turned(m, t)
 }

@@ -6,8 +6,6 @@ pub use playing::play;
 use reading::numbers::number2;
 use reading::numbers::number4;
 ghost use mathlib.Core.Path.{_≡_};
-ghost use Prim.Native.Nat.{_≤_};
-ghost use lib.ListN.{length};
 ghost use Rattle.feed.specs.Feed.{recordIn, messageIn, tickIn};
 
 // The record that some bytes begin with: a connection, the MessageSize, Seconds and MicroSeconds.

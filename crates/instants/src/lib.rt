@@ -2,7 +2,7 @@
 use ends::Counts;
 use ends::Ending;
 use ends::Left;
-use places::Key;
+use places::Those;
 use rules::Ninths;
 use rules::Session;
 use rules::Ticks;
@@ -142,7 +142,7 @@ fn at_instant(
         e = ends::end_those(
             &mut *k,
             started,
-            Key::EndsAt(t),
+            Those::EndsAt(t),
             Ending::Complete(100),
             Ending::Complete(125),
             &mut *out,

@@ -9,7 +9,9 @@ use Rattle.rules.specs.declared.Session.{Session}
 use Rattle.rules.specs.Lists.{count}
 use Rattle.rules.specs.State.{empty, of, is, follows, startsAfter, endsAt}
 use Rattle.places.specs.declared.Key.{Key}
-use Rattle.places.specs.declared.Key.the-variants.{Held, Follows, Of, StartsFrom, StartsAfter, EndsAt}
+use Rattle.places.specs.declared.Key.the-variants.{Held, Follows, StartsFrom, StartsAfter}
+use Rattle.places.specs.declared.Those.{Those}
+use Rattle.places.specs.declared.Those.the-variants.{Of, EndsAt}
 
 -- the session in the first eight words
 abbrev pub row : List ℕ → Session
@@ -85,7 +87,10 @@ startsFrom t s = leb t (s .start .0)
 abbrev pub keyTest : Key → Session → Bool
 keyTest (Held c x) = is c x
 keyTest (Follows c x) = follows c x
-keyTest (Of c) = of c
 keyTest (StartsFrom t) = startsFrom (t .0)
 keyTest (StartsAfter t) = startsAfter (t .0)
-keyTest (EndsAt t) = endsAt (t .0)
+
+-- the test of those that end together
+abbrev pub among : Those → Session → Bool
+among (Of c) = of c
+among (EndsAt t) = endsAt (t .0)

@@ -10,15 +10,19 @@ ghost use Rattle.rules.specs.Lists.{All, omit, place, insertAt, removeAt, least
 ghost use Rattle.rules.specs.State.{empty, Sorted};
 ghost use Rattle.rules.specs.Instants.{outranks};
 ghost use Rattle.rules.specs.Answers.{inserted};
-ghost use Rattle.places.specs.Places.{places, spare, lot, used, Good, Made, OfFour, tallied, keyTest};
+ghost use Rattle.places.specs.Places.{places, spare, lot, used, Good, Made, OfFour, tallied, keyTest, among};
 
 // What a search looks for: `keyTest` of specs/ gives each its test.
 pub enum Key {
     Held(u64, u64),
     Follows(u64, u64),
-    Of(u64),
     StartsFrom(Ninths),
     StartsAfter(Ninths),
+}
+
+// Those that end together: a connection's, or those whose end has come. `among` of specs/ gives each its test.
+pub enum Those {
+    Of(u64),
     EndsAt(Ninths),
 }
 
@@ -169,10 +173,18 @@ pub fn matches(key: Key, x: Session) -> bool
     match key {
         Key::Held(conn, id) => conn == x.conn && id == x.id,
         Key::Follows(conn, id) => conn == x.conn && id == x.prior,
-        Key::Of(conn) => conn == x.conn,
         Key::StartsFrom(t) => t.0 <= x.start.0,
         Key::StartsAfter(t) => t.0 < x.start.0,
-        Key::EndsAt(t) => t.0 == x.end.0,
+    }
+}
+
+// Whether x is one of those.
+pub fn is_among(those: Those, x: Session) -> bool
+    ensures { λ r. ⌜ r ≡ among those x ⌝ }
+{
+    match those {
+        Those::Of(conn) => conn == x.conn,
+        Those::EndsAt(t) => t.0 == x.end.0,
     }
 }
 
@@ -192,17 +204,17 @@ pub fn find(q: &[u64], n: usize, key: Key) -> usize
     at
 }
 
-// Without those that the key looks for: the rest closes up, from the last on. How many stay.
-pub fn omit_those(q: &mut [u64], n: usize, whom: Key) -> usize
+// Without those: the rest closes up, from the last on. How many stay.
+pub fn omit_those(q: &mut [u64], n: usize, those: Those) -> usize
     requires { ⌜ Good (lot (now q) n) ⌝ }
-    ensures { λ r. ⌜ Made (now (q .entry)) (now (q .exit)) r (omit (keyTest whom) (used (lot (now (q .entry)) n))) ⌝ }
+    ensures { λ r. ⌜ Made (now (q .entry)) (now (q .exit)) r (omit (among those) (used (lot (now (q .entry)) n))) ⌝ }
 {
     let mut to = n;
     let mut i = n;
     while 0 < i {
         i -= 1;
         let x = load(&*q, n, i);
-        if !matches(whom, x) {
+        if !is_among(those, x) {
             to -= 1;
             move_to(&mut *q, n, i, to);
         }

@@ -1,6 +1,6 @@
 -- Laws for the readers and their callers: what is said of a part, and the lengths that an answer grants.
 -- Rests on nothing but the definitions.
-use mathlib.Core.Bool.{Bool, false, not}
+use mathlib.Core.Bool.{Bool, not}
 use mathlib.Core.List.{List}
 use mathlib.Core.Path.{_≡_, sym, ap, subst, _∙_}
 use Prim.Native.Nat.{ℕ, _+_, _-_, _≤_}
@@ -25,10 +25,6 @@ said f e p g = ap not (ap f (sym p) ∙ sym e) ∙ g
 -- `&l[a..]` is all that stands from the place a on
 pub behind : (a : ℕ) (l : List ℕ) → take (length l - a) (drop a l) ≡ drop a l
 behind a l = take-all (length l - a) (drop a l) (simp length-drop (omega arith))
-
--- a request that is not bad has the 33 bytes that are read
-pub good-length : (d : List ℕ) → badSplice d ≡ false → 33 ≤ length d
-good-length d e = ltb-false (length d) 33 (or-none (ltb (length d) 33) _ e .0)
 
 -- ## What callers go on with
 

@@ -111,42 +111,39 @@ fn start_in(d: &[u8]) -> Start
     Start::Linked(prior)
 }
 
-// What makes a request with a ServiceID other than 0xFFFF unreadable. Only a timed one's MicroSeconds count.
-fn bad_splice(d: &[u8]) -> bool
-    ensures { λ r. ⌜ r ≡ badSplice (now (d .entry)) ⌝ }
+// What makes a request r with a ServiceID other than 0xFFFF unreadable. Only a timed one's MicroSeconds count.
+fn bad_splice(d: &[u8], r: Request) -> bool
+    requires { ⌜ 33 ≤ length (now d) ⌝ }
+    requires { ⌜ r ≡ wholeRequest (now d) ⌝ }
+    ensures { λ b. ⌜ b ≡ badSplice (now (d .entry)) ⌝ }
 {
-    if d.len() < 33 {
+    if 999999 < number4(d, 12) && number4(d, 4) == NOBODY {
         return true;
     }
-    if !well_formed(&d[33..]) {
+    if r.duration.0 == 0 {
         return true;
     }
-    if number4(d, 18) == 0 {
+    if 9 < r.access {
         return true;
     }
-    if 9 < d[30] {
-        return true;
-    }
-    if 1 < d[31] {
+    if 1 < r.over {
         return true;
     }
     if 1 < d[32] {
         return true;
     }
-    if number4(d, 12) <= 999999 {
-        return false;
-    }
-    number4(d, 4) == NOBODY
+    !well_formed(&d[33..])
 }
 
 // "With ServiceID 0xFFFF only the first 18 bytes are read."
-fn separate_pids(d: &[u8]) -> Request
+fn separate_pids(d: &[u8], start: Start) -> Request
     requires { ⌜ 18 ≤ length (now d) ⌝ }
+    requires { ⌜ start ≡ readStart (now d) ⌝ }
     ensures { λ r. ⌜ r ≡ separatePids (now (d .entry)) ⌝ }
 {
     Request {
         id: number4(d, 0),
-        start: start_in(d),
+        start: start,
         service: 0xFFFF,
         duration: Ticks(0),
         access: 0,
@@ -154,13 +151,14 @@ fn separate_pids(d: &[u8]) -> Request
     }
 }
 
-fn whole_request(d: &[u8]) -> Request
+fn whole_request(d: &[u8], start: Start) -> Request
     requires { ⌜ 33 ≤ length (now d) ⌝ }
+    requires { ⌜ start ≡ readStart (now d) ⌝ }
     ensures { λ r. ⌜ r ≡ wholeRequest (now (d .entry)) ⌝ }
 {
     Request {
         id: number4(d, 0),
-        start: start_in(d),
+        start: start,
         service: number2(d, 16),
         duration: Ticks(number4(d, 18)),
         access: d[30],
@@ -168,19 +166,25 @@ fn whole_request(d: &[u8]) -> Request
     }
 }
 
+// Each field is read before the tests on it. Its bytes, read in one go, are one load to the compiler.
 pub fn read_splice(d: &[u8]) -> Message
     ensures { λ r. ⌜ r ≡ readSplice (now (d .entry)) ⌝ }
 {
     if d.len() < 18 {
         return Message::Unreadable;
     }
+    let start = start_in(d);
     if number2(d, 16) == 0xFFFF {
-        return Message::Splice(separate_pids(d));
+        return Message::Splice(separate_pids(d, start));
     }
-    if bad_splice(d) {
+    if d.len() < 33 {
         return Message::Unreadable;
     }
-    Message::Splice(whole_request(d))
+    let r = whole_request(d, start);
+    if bad_splice(d, r) {
+        return Message::Unreadable;
+    }
+    Message::Splice(r)
 }
 
 // A message of the list of four, by its MessageID and its data; any other is unreadable, as the definition has it.

@@ -1,10 +1,10 @@
 -- Laws behind the checks of a request: what a search finds, the waiting with one start, the room that is left.
-use mathlib.Core.Path.{_≡_, refl, sym, ap, _∙_}
+use mathlib.Core.Path.{_≡_, refl, sym, ap, subst, _∙_}
 use mathlib.Core.Bool.{Bool, true, false, cond, not, _&&_, _||_}
 use mathlib.Core.List.{List, [], _∷_, _++_}
 use Prim.Native.Nat.{ℕ, suc, _+_, _≤_, _<_}
 use native.Mathlib.Omega.{arith}
-use lib.Dec.{eqb}
+use lib.Dec.{eqb, ltb}
 use lib.ListN.{length, getD, length-append, List·getD-eq-default, List·getD-append}
 use lib.Seq.{getD-append-add}
 use borrow.Author.Tests.{ltb-true, ltb-false, leb-true, leb-false, eqb-true, eqb-false, lt-ltb, le-ltb, eq-eqb, ne-eqb, le-leb, lt-leb}
@@ -20,15 +20,20 @@ use Rattle.rules.specs.State.{Queue, empty, of, is, startsAt, startsAfter, held
 use Rattle.rules.specs.Instants.{outranks}
 use Rattle.rules.specs.Answers.{endOf, startOf, unknownPrior, wrongNumber, collides, waits, raisedSum, full, spliceResult, sessionAt, priorOf, tooLate}
 use Rattle.rules.specs.Sound.{Proper, Each, Holding}
+use Rattle.rules.proofs.Tests.{by}
 use Rattle.rules.proofs.All.{all-into}
 use Rattle.rules.proofs.Count.{count≤length, place-holds, some-none, some-place}
 use Rattle.rules.proofs.Every.{all-getD, all-none, all-held}
 use Rattle.places.specs.Places.{Lot, lot, Good, used, OfFour, startsFrom, tallied}
 use Rattle.places.proofs.Words.{length-places}
 use Rattle.places.proofs.Laws.{length-used, tallied-at}
-use Rattle.requests.specs.declared.Found.{Found}
-use Rattle.requests.specs.declared.Found.the-variants.{Held, Missing}
-use Rattle.requests.specs.Found.{foundIn, unplaced, sumOf, Few}
+use mathlib.Core.Logic.{inl, inr}
+use types.Run.{OneOf}
+use denote.Enum.Declared.{tagOf}
+use Rattle.requests.proofs.Where.{the-type}
+use Rattle.requests.specs.declared.Where.{Where}
+use Rattle.requests.specs.declared.Where.the-variants.{Waiting, Started, Nowhere}
+use Rattle.requests.specs.Found.{whereIn, Stands, unplaced, sumOf, Few}
 
 -- ## The first that passes, of two lists
 
@@ -57,75 +62,104 @@ module _ {A : Type 0} (p : A → Bool) where
 some-within : {A : Type 0} (p : A → Bool) (l : List A) → some p l ≡ true → place p l < length l
 some-within p l h = ltb-true _ _ (sym (some-place p l) ∙ h)
 
--- ## What `find_held` finds
+-- ## Where a number is held
 
-module _ (c x : ℕ) (w k : Lot) (g : Good w) (h : Good k) where
+-- the session that is held there
+abbrev foundAt : Where → Queue → Session
+foundAt (Waiting i) q = getD (q .waiting) i empty
+foundAt (Started j) q = getD (q .started) j empty
+foundAt Nowhere q = empty
+
+abbrev pub isSomewhere : Where → Bool
+isSomewhere (Waiting i) = true
+isSomewhere (Started j) = true
+isSomewhere Nowhere = false
+
+-- the second way of `if let Where::Nowhere`
+pub somewhere : (a : Where) → OneOf (0 ∷ 1 ∷ []) (tagOf the-type a) → isSomewhere a ≡ true
+somewhere (Waiting i) h = refl
+somewhere (Started j) h = refl
+somewhere Nowhere (inl e) = absurd (omega arith)
+somewhere Nowhere (inr e) = absurd (omega arith)
+
+module _ (c x : ℕ) (q : Queue) where
+  abbrev i : ℕ
+  i = place (is c x) (q .waiting)
+
+  abbrev j : ℕ
+  j = place (is c x) (q .started)
+
+  -- a fact of where it is, from the fact of each place
+  pub by-where : (P : Where → Type 0) → (i < length (q .waiting) → P (Waiting i)) → (length (q .waiting) ≤ i → j < length (q .started) → P (Started j))
+      → (length (q .waiting) ≤ i → length (q .started) ≤ j → P Nowhere) → P (whereIn c x q)
+  unfolding whereIn
+  by-where P f g h =
+      by P (ltb i (length (q .waiting))) _ _ (λ e. f (ltb-true _ _ e))
+      (λ e. by P (ltb j (length (q .started))) _ _ (λ d. g (ltb-false _ _ e) (ltb-true _ _ d)) (λ d. h (ltb-false _ _ e) (ltb-false _ _ d)))
+
+  -- the session there, or none
+  found-where : getD (held q) (place (is c x) (held q)) empty ≡ foundAt (whereIn c x q) q
+  found-where =
+      by-where (λ a. getD (held q) (place (is c x) (held q)) empty ≡ foundAt a q)
+      (λ h. ap at (place-front (is c x) (q .waiting) (q .started) h) ∙ List·getD-append (q .waiting) (q .started) empty i h)
+      (λ h k. ap at (place-behind (is c x) (q .waiting) (q .started) h) ∙ getD-append-add (q .waiting) (q .started) j empty)
+      (λ h k. List·getD-eq-default (held q) empty (omega (arith, place-behind (is c x) (q .waiting) (q .started) h, length-append (q .waiting) (q .started))))
+    where
+      at : ℕ → Session
+      at n = getD (held q) n empty
+
+  holds-where : holds c x q ≡ isSomewhere (whereIn c x q)
+  holds-where =
+      some-place (is c x) (held q)
+      ∙ by-where (λ a. ltb (place (is c x) (held q)) (length (held q)) ≡ isSomewhere a)
+      (λ h. lt-ltb (place (is c x) (held q)) (length (held q)) (omega (arith, place-front (is c x) (q .waiting) (q .started) h, n)))
+      (λ h k. lt-ltb (place (is c x) (held q)) (length (held q)) (omega (arith, place-behind (is c x) (q .waiting) (q .started) h, n)))
+      (λ h k. le-ltb (place (is c x) (held q)) (length (held q)) (omega (arith, place-behind (is c x) (q .waiting) (q .started) h, n)))
+    where
+      n : length (held q) ≡ length (q .waiting) + length (q .started)
+      n = length-append (q .waiting) (q .started)
+
+  pub held-where : (a : Where) (b : Bool) → a ≡ whereIn c x q → isSomewhere a ≡ b → b ≡ holds c x q
+  held-where a b e f = sym f ∙ ap isSomewhere e ∙ sym holds-where
+
+  -- a linked start
+  pub end-where : (a b : Where) (s : Session) → a ≡ whereIn c x q → a ≡ b → s ≡ foundAt b q → s .end .0 ≡ endOf c x (held q)
+  end-where a b s e d f = ap (λ (t : Session). t .end .0) (f ∙ ap (λ (y : Where). foundAt y q) (sym d ∙ e) ∙ sym found-where)
+
+-- what is found stands where it is found
+pub where-stands : (c x : ℕ) (w k : Lot) → Good w → Good k → (a b : Where) → a ≡ whereIn c x (record { waiting = used w; started = used k }) → a ≡ b → Stands b (w .len) (k .len)
+where-stands c x w k g h a b e d =
+    let n : length (used w) ≡ w .len = length-used w g in
+    let m : length (used k) ≡ k .len = length-used k h in
+    subst (λ (y : Where). Stands y (w .len) (k .len)) (sym e ∙ d)
+    (by-where c x (record { waiting = used w; started = used k }) (λ y. Stands y (w .len) (k .len)) (λ i. omega arith) (λ i j. omega arith) (λ i j. tt))
+
+-- the two searches of `where_held`
+module _ (c x : ℕ) (w k : Lot) (g : Good w) (h : Good k) (i : ℕ) (a : i ≡ place (is c x) (used w)) where
   abbrev both : Queue
   both = record { waiting = used w; started = used k }
 
-  -- a session of that number among those held
-  found-at : (i : ℕ) (s : Session) → place (is c x) (held both) ≡ i → i < length (held both) → s ≡ getD (held both) i empty → Held s ≡ foundIn c x both
-  unfolding foundIn
-  found-at i s e l f =
-      rw (some-place (is c x) (held both), e, lt-ltb i (length (held both)) l) (ap Held f)
+  pub found-waiting : i < w .len → Waiting i ≡ whereIn c x both
+  unfolding whereIn
+  found-waiting l = rw (lt-ltb (place (is c x) (used w)) (length (used w)) (omega (arith, length-used w g))) (ap Waiting a)
 
-  module _ (i : ℕ) (a : i ≡ place (is c x) (used w)) where
-    pub found-waiting : (s : Session) → i < w .len → s ≡ getD (used w) i empty → Held s ≡ foundIn c x both
-    found-waiting s l f =
-        let n : length (used w) ≡ w .len = length-used w g in
-        found-at i s (place-front (is c x) (used w) (used k) (omega arith) ∙ sym a) (simp length-append (omega arith))
-        (f ∙ sym (List·getD-append (used w) (used k) empty i (omega arith)))
+  pub found-started : (j : ℕ) → w .len ≤ i → j ≡ place (is c x) (used k) → j < k .len → Started j ≡ whereIn c x both
+  unfolding whereIn
+  found-started j l b m =
+      rw (le-ltb (place (is c x) (used w)) (length (used w)) (omega (arith, length-used w g)), lt-ltb (place (is c x) (used k)) (length (used k)) (omega (arith, length-used k h))) (ap Started b)
 
-    pub found-started : (j : ℕ) (s : Session) → w .len ≤ i → j ≡ place (is c x) (used k) → j < k .len → s ≡ getD (used k) j empty → Held s ≡ foundIn c x both
-    found-started j s l b m f =
-        let n : length (used w) ≡ w .len = length-used w g in
-        let o : length (used k) ≡ k .len = length-used k h in
-        found-at (length (used w) + j) s (place-behind (is c x) (used w) (used k) (omega arith) ∙ ap (λ t. length (used w) + t) (sym b)) (simp length-append (omega arith))
-        (f ∙ sym (getD-append-add (used w) (used k) j empty))
+  pub found-nowhere : (j : ℕ) → w .len ≤ i → j ≡ place (is c x) (used k) → k .len ≤ j → Nowhere ≡ whereIn c x both
+  unfolding whereIn
+  found-nowhere j l b m =
+      rw (le-ltb (place (is c x) (used w)) (length (used w)) (omega (arith, length-used w g)), le-ltb (place (is c x) (used k)) (length (used k)) (omega (arith, length-used k h)))
 
-    pub found-none : (j : ℕ) → w .len ≤ i → j ≡ place (is c x) (used k) → k .len ≤ j → Missing ≡ foundIn c x both
-    unfolding foundIn
-    found-none j l b m =
-        let n : length (used w) ≡ w .len = length-used w g in
-        let o : length (used k) ≡ k .len = length-used k h in
-        rw (some-place (is c x) (held both), place-behind (is c x) (used w) (used k) (omega arith), le-ltb (length (used w) + place (is c x) (used k)) (length (used w ++ used k)) (simp length-append (omega arith)))
-
--- ## What is known of what it finds
+-- ## b. The three reasons
 
 unheld-end : (c x : ℕ) (q : Queue) → holds c x q ≡ false → endOf c x (held q) ≡ 0
 unfolding empty
 unheld-end c x q h =
     let n : length (held q) ≤ place (is c x) (held q) = ltb-false _ _ (sym (some-place (is c x) (held q)) ∙ h) in
     ap (λ (t : Session). t .end .0) (List·getD-eq-default (held q) empty n)
-
-module _ (c x : ℕ) (q : Queue) (f : Found) (e : f ≡ foundIn c x q) where
-  held-known : (s : Session) → f ≡ Held s → (true ≡ holds c x q) × (s ≡ getD (held q) (place (is c x) (held q)) empty)
-  unfolding foundIn
-  held-known s h = go (holds c x q) e
-    where
-      go : (b : Bool) → f ≡ cond b (Held (getD (held q) (place (is c x) (held q)) empty)) Missing → (true ≡ b) × (s ≡ getD (held q) (place (is c x) (held q)) empty)
-      go true d = (refl, cc)
-      go false d = let z : _≡_ {A = ℕ} 0 1 = cc in absurd (omega arith)
-
-  pub held-true : (s : Session) → f ≡ Held s → true ≡ holds c x q
-  held-true s h = held-known s h .0
-
-  pub missing-false : f ≡ Missing → false ≡ holds c x q
-  unfolding foundIn
-  missing-false h = go (holds c x q) e
-    where
-      go : (b : Bool) → f ≡ cond b (Held (getD (held q) (place (is c x) (held q)) empty)) Missing → false ≡ b
-      go true d = let z : _≡_ {A = ℕ} 0 1 = cc in absurd (omega arith)
-      go false d = refl
-
-  -- a linked start
-  pub held-end : (s : Session) → f ≡ Held s → s .end .0 ≡ endOf c x (held q)
-  held-end s h = ap (λ (t : Session). t .end .0) (held-known s h .1)
-
-  pub missing-end : f ≡ Missing → 0 ≡ endOf c x (held q)
-  missing-end h = sym (unheld-end c x q (sym (missing-false h)))
-
--- ## b. The three reasons
 
 -- no session that is held ends at 0
 unknown-is : (c : ℕ) (f : Start) (q : Queue) (t : ℕ) → Each Proper q → t ≡ startOf c f q → unplaced f t ≡ unknownPrior c f q

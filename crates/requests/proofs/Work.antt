@@ -1,7 +1,7 @@
 -- Laws behind eviction, acceptance, abort and the two answers: what each piece of work promises, from what its parts promise.
 use mathlib.Core.Path.{_≡_, refl, sym, ap, ap₂, subst, _∙_}
-use mathlib.Core.Bool.{Bool, true, false, cond, _&&_}
-use mathlib.Core.List.{List, [], _∷_, map}
+use mathlib.Core.Bool.{Bool, true, false, cond, not, _&&_}
+use mathlib.Core.List.{List, [], _∷_, _++_, map}
 use Prim.Native.Nat.{ℕ, zero, suc, _+_, _-_, _*_, _/_, _≤_, _<_}
 use native.Mathlib.Omega.{arith}
 use native.Mathlib.Nat.{zero-add}
@@ -14,19 +14,19 @@ use Rattle.rules.specs.declared.Session.{Session}
 use Rattle.rules.specs.declared.Start.{Start}
 use Rattle.rules.specs.declared.Start.the-variants.{Timed, Linked}
 use Rattle.rules.specs.declared.Request.{Request}
-use Rattle.rules.specs.Lists.{All, bit, put, keep, omit, some, place, insertAt, removeAt}
+use Rattle.rules.specs.Lists.{All, bit, put, keep, omit, some, count, place, insertAt, removeAt}
 use Rattle.rules.specs.State.{Queue, empty, is, startsAt, holds, withWaiting, Sorted}
 use Rattle.rules.specs.Bytes.{written}
 use Rattle.rules.specs.Records.{Record, SpliceResponse, AbortResponse, recordBytes, output}
-use Rattle.rules.specs.Ends.{Turn, quiet, andThen, writes, response, endings, followers, dismissed, evictedAt, evicted, cancelled, aborted}
+use Rattle.rules.specs.Ends.{Turn, quiet, andThen, writes, response, spliceOut, endings, followers, dismissed, evictedAt, evicted, cancelled, aborted}
 use Rattle.rules.specs.Answers.{startOf, sessionAt, requested, waits, raised, raisedSum, full, spliceResult, inserted, accepted, answerSplice, answerAbort}
-use Rattle.rules.specs.Sound.{Room, horizon, Holding}
+use Rattle.rules.specs.Sound.{Room, horizon, Once, Holding}
 use Rattle.rules.proofs.Tests.{or-none}
-use Rattle.rules.proofs.Count.{some-place}
+use Rattle.rules.proofs.Count.{some-one, some-place, place-none}
 use Rattle.rules.proofs.Checks.{passed-all}
 use Rattle.rules.proofs.Readings.{Within}
 use Rattle.rules.proofs.Records.{length-record}
-use Rattle.rules.proofs.Written.{written-none, written-more, length-written, written-record, written-output}
+use Rattle.rules.proofs.Written.{written-none, written-more, length-written, written-record, output-one, written-output}
 use Rattle.rules.proofs.Room.{sixty-four}
 use Rattle.rules.proofs.Size.{weight-append, weight-one, evictedAt-lean, cancelled-lean}
 use Rattle.rules.proofs.Bounds.{never, start-early}
@@ -35,11 +35,13 @@ use Rattle.places.specs.Places.{Lot, lot, Good, Made, used, spare, OfFour, star
 use Rattle.places.proofs.Words.{length-places}
 use Rattle.places.proofs.Laws.{length-used}
 use Rattle.ends.specs.declared.Counts.{Counts}
+use Rattle.ends.specs.declared.Ending.{Ending}
 use Rattle.ends.specs.declared.Ending.the-variants.{Complete, Response}
 use Rattle.ends.specs.Does.{endingOf, Ends, queueOf, Turns}
 use Rattle.ends.proofs.Laws.{brief-ending, room-endings, turns-writes, ends-waiting, turns-then, ends-same, turns-same}
-use Rattle.requests.proofs.Laws.{taken-at, taken-within, free-at, waiting-of-four}
-use Rattle.requests.specs.Found.{alone, sumOf}
+use Rattle.requests.proofs.Laws.{by-where, taken-at, taken-within, free-at, waiting-of-four}
+use Rattle.requests.specs.declared.Where.{Where}
+use Rattle.requests.specs.Found.{whereIn, endingAt, endedAt, alone, sumOf}
 
 -- as many are used as there are places at most
 pub used-fits : (q : List ℕ) (n : ℕ) → Good (lot q n) → n ≤ length q / 8
@@ -252,6 +254,92 @@ module _ (clock c : ℕ) (r : Request) (w k : List ℕ) (i j t : ℕ) (new : Ses
 
 -- ## Abort and close
 
+module _ {A : Type 0} (p : A → Bool) where
+  -- none passes
+  parted-none : (l : List A) → count p l ≡ 0 → (keep p l ≡ []) × (omit p l ≡ l)
+  parted-none [] h = (refl, refl)
+  parted-none (x ∷ l) h = go (p x) (parted-none l) h
+    where
+      go : (b : Bool) → (count p l ≡ 0 → (keep p l ≡ []) × (omit p l ≡ l)) → bit b + count p l ≡ 0 → (put b x (keep p l) ≡ []) × (put (not b) x (omit p l) ≡ x ∷ l)
+      go true ih k = absurd (omega arith)
+      go false ih k = let z = ih (omega arith) in (z .0, ap (λ (m : List A). x ∷ m) (z .1))
+
+  -- one alone passes: that at the place of the first
+  parted-one : (l : List A) (d : A) → count p l ≤ 1 → place p l < length l → (keep p l ≡ getD l (place p l) d ∷ []) × (omit p l ≡ removeAt (place p l) l)
+  unfolding place removeAt
+  parted-one [] d o h = absurd (omega arith)
+  parted-one (x ∷ l) d o h = go (p x) (parted-one l d) o h
+    where
+      go : (b : Bool) → (count p l ≤ 1 → place p l < length l → (keep p l ≡ getD l (place p l) d ∷ []) × (omit p l ≡ removeAt (place p l) l)) → bit b + count p l ≤ 1
+          → cond b 0 (suc (place p l)) < suc (length l)
+          → (put b x (keep p l) ≡ getD (x ∷ l) (cond b 0 (suc (place p l))) d ∷ []) × (put (not b) x (omit p l) ≡ removeAt (cond b 0 (suc (place p l))) (x ∷ l))
+      go true ih m k = let z = parted-none l (omega arith) in (ap (λ (u : List A). x ∷ u) (z .0), z .1)
+      go false ih m k = let z = ih (omega arith) (omega arith) in (z .0, ap (λ (u : List A). x ∷ u) (z .1))
+
+  -- one that has a place is one
+  placed-one : (l : List A) → place p l < length l → 0 < count p l
+  placed-one l h = some-one p l (some-place p l ∙ lt-ltb _ _ h)
+
+module _ (p : Session → Bool) where
+  endings-none : (air cover : Session → Record) (k : List Session) → count p k ≡ 0 → endings air cover p k ≡ []
+  unfolding endings
+  endings-none air cover [] h = refl
+  endings-none air cover (s ∷ k) h = go (p s) h
+    where
+      go : (b : Bool) → bit b + count p k ≡ 0 → put b (air s) (map cover (keep p k)) ≡ []
+      go true l = absurd (omega arith)
+      go false l = ap (map cover) (parted-none p k (omega arith) .0)
+
+  endings-at : (k : List Session) → count p k ≤ 1 → place p k < length k
+      → endings (spliceOut 116) (response 116) p k ≡ endingOf (endingAt (place p k)) (getD k (place p k) empty) ∷ []
+  unfolding endings place
+  endings-at [] o h = absurd (omega arith)
+  endings-at (s ∷ k) o h = go (p s) o h
+    where
+      go : (b : Bool) → bit b + count p k ≤ 1 → cond b 0 (suc (place p k)) < suc (length k)
+          → put b (spliceOut 116 s) (map (response 116) (keep p k)) ≡ endingOf (endingAt (cond b 0 (suc (place p k)))) (getD (s ∷ k) (cond b 0 (suc (place p k))) empty) ∷ []
+      go true m l = ap (λ (u : List Session). spliceOut 116 s ∷ map (response 116) u) (parted-none p k (omega arith) .0)
+      go false m l = ap (map (response 116)) (parted-one p k empty (omega arith) (omega arith) .0)
+
+-- how a covered session ends
+pub ending-covered : (i : ℕ) → (i ≡ 0 → ⊥) → Response 116 ≡ endingAt i
+ending-covered zero h = absurd (h refl)
+ending-covered (suc i) h = refl
+
+module _ (e : List ℕ) (len : ℕ) where
+  -- one session ends, and its place closes up
+  pub end-one : (w w′ : List ℕ) (n i : ℕ) (how : Ending) (s : Session) (to : ℕ) (o : List ℕ) → s ≡ getD (used (lot w n)) i empty → Made w w′ (n - 1) (removeAt i (used (lot w n)))
+      → to ≡ len + length (recordBytes (endingOf how s)) → o ≡ written e len (recordBytes (endingOf how s))
+      → Ends e len (removeAt i (used (lot w n))) (endingOf how (getD (used (lot w n)) i empty) ∷ []) (lot w′ (n - 1)) to o
+  end-one w w′ n i how s to o z m c b =
+      let x = output-one (endingOf how s) in
+      subst (λ (t : Session). Ends e len (removeAt i (used (lot w n))) (endingOf how t ∷ []) (lot w′ (n - 1)) to o) z
+      (record { good = m .good; list = m .list; count = c ∙ ap (λ (l : List ℕ). len + length l) (sym x); bytes = b ∙ ap (written e len) (sym x) })
+
+-- a number is held once: what ends is the session where it is held
+cancelled-where : (c x : ℕ) (q : Queue) → Once q → endedAt (whereIn c x q) q ≡ cancelled (is c x) q
+unfolding cancelled
+cancelled-where c x q once =
+    by-where c x q (λ a. endedAt a q ≡ cancelled (is c x) q)
+    (λ h. let o = once c x in
+    let n = placed-one (is c x) (q .waiting) h in
+    let a = parted-one (is c x) (q .waiting) empty (omega arith) h in
+    let b = parted-none (is c x) (q .started) (omega arith) in
+    turn (sym (a .1)) (sym (b .1)) (sym (ap₂ (λ (u : List Record) (v : List Session). u ++ map (response 116) v) (endings-none (is c x) (spliceOut 116) (response 116) (q .started) (omega arith)) (a .0))))
+    (λ w h. let o = once c x in
+    let n = placed-one (is c x) (q .started) h in
+    let a = parted-none (is c x) (q .waiting) (place-none (is c x) (q .waiting) w) in
+    let b = parted-one (is c x) (q .started) empty (omega arith) h in
+    turn (sym (a .1)) (sym (b .1)) (sym (ap₂ (λ (u : List Record) (v : List Session). u ++ map (response 116) v) (endings-at (is c x) (q .started) (omega arith) h) (a .0))))
+    (λ w h. let n = place-none (is c x) (q .started) h in
+    let a = parted-none (is c x) (q .waiting) (place-none (is c x) (q .waiting) w) in
+    let b = parted-none (is c x) (q .started) n in
+    turn (sym (a .1)) (sym (b .1)) (sym (ap₂ (λ (u : List Record) (v : List Session). u ++ map (response 116) v) (endings-none (is c x) (spliceOut 116) (response 116) (q .started) n) (a .0))))
+  where
+    turn : {w w′ k k′ : List Session} {r r′ : List Record} → w ≡ w′ → k ≡ k′ → r ≡ r′
+        → _≡_ {A = Turn} (record { queue = record { waiting = w; started = k }; written = r }) (record { queue = record { waiting = w′; started = k′ }; written = r′ })
+    turn a b d i = record { queue = record { waiting = a i; started = b i }; written = d i }
+
 -- one way to end for all
 endings-one : (f : Session → Record) (p : Session → Bool) (l : List Session) → endings f f p l ≡ map f (keep p l)
 unfolding endings
@@ -309,25 +397,31 @@ module _ (c x : ℕ) (e : List ℕ) (w k : List ℕ) (n m : ℕ) (g : Good (lot 
   wrote result o b =
       turns-writes e 0 (AbortResponse c result x) held w k n m 14 o g h refl (omega (arith, length-record (AbortResponse c result x) tt)) b
 
-  pub abort-unknown : (b : Bool) (o : List ℕ) → b ≡ holds c x held → b ≡ false → o ≡ written e 0 (recordBytes (AbortResponse c 121 x))
+  pub abort-unknown : (o : List ℕ) → false ≡ holds c x held → o ≡ written e 0 (recordBytes (AbortResponse c 121 x))
       → Turns e 0 (answerAbort c x held) w k (record { waiting = n; started = m; len = 14 }) o
   unfolding answerAbort
-  abort-unknown b o d f a = rw (sym d ∙ f) (wrote 121 o a)
+  abort-unknown o f a = rw (sym f) (wrote 121 o a)
+
+  -- the session ends where it is held
+  pub ended-turns : (a : Where) (o w′ k′ : List ℕ) (r : Counts) (o′ : List ℕ) → Once held → a ≡ whereIn c x held → Turns o 14 (endedAt a held) w′ k′ r o′
+      → Turns o 14 (cancelled (is c x) held) w′ k′ r o′
+  ended-turns a o w′ k′ r o′ once i t =
+      subst (λ (u : Turn). Turns o 14 u w′ k′ r o′) (ap (λ (b : Where). endedAt b held) i ∙ cancelled-where c x held once) t
 
   -- 100, the session's end, and its followers' ends
-  pub abort-turns : (b : Bool) (w′ k′ w″ : List ℕ) (r : Counts) (left to : ℕ) (o o′ o″ : List ℕ) → b ≡ holds c x held → b ≡ true → length w ≡ 512 → length k ≡ 80
+  pub abort-turns : (w′ k′ w″ : List ℕ) (r : Counts) (left to : ℕ) (o o′ o″ : List ℕ) → true ≡ holds c x held → length w ≡ 512 → length k ≡ 80
       → o ≡ written e 0 (recordBytes (AbortResponse c 100 x)) → Turns o 14 (cancelled (is c x) held) w′ k′ r o′
       → Ends o′ (r .len) (followers c x (used (lot w′ (r .waiting))) .left) (map (response 116) (followers c x (used (lot w′ (r .waiting))) .gone)) (lot w″ left) to o″
       → Turns e 0 (answerAbort c x held) w″ k′ (record { waiting = left; started = r .started; len = to }) o″
   unfolding answerAbort aborted dismissed
-  abort-turns b w′ k′ w″ r left to o o′ o″ d f i j a t s =
+  abort-turns w′ k′ w″ r left to o o′ o″ f i j a t s =
       let y = AbortResponse c 100 x in
       let l : length (recordBytes y) ≡ 14 = length-record y tt in
       let z : length o ≡ length e = ap length a ∙ length-written e 0 (recordBytes y) (omega arith) in
       let u = used (lot w′ (r .waiting)) in
       let done : Counts = record { waiting = left; started = r .started; len = to } in
       let dismissing = ends-waiting o′ (r .len) (followers c x u .left) (map (response 116) (followers c x u .gone)) w″ k′ left (r .started) to o″ (t .started) s in
-      rw (sym d ∙ f) (turns-then e 0 (writes (y ∷ []) held) (aborted c x) w k w″ k′ (record { waiting = n; started = m; len = 14 }) done o o″
+      rw (sym f) (turns-then e 0 (writes (y ∷ []) held) (aborted c x) w k w″ k′ (record { waiting = n; started = m; len = 14 }) done o o″
       (omega (arith, weight-one y tt)) (wrote 100 o a)
       (turns-then o 14 (cancelled (is c x) held) (dismissed 116 c x) w′ k′ w″ k′ r done o′ o″
       (omega (arith, t .count, cancel-spends (is c x) o 14 w k n m g h w′ k′ r o′ t .1, used-fits w n g, used-fits k m h)) t dismissing))

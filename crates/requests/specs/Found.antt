@@ -1,21 +1,45 @@
--- What a search among the sessions held gives, a start that tells an unknown prior, the waiting ones by themselves, and the sum of the four counts.
+-- Where a search finds a session, how the one found there ends, a start that tells an unknown prior, the waiting ones by themselves, and the sum of the four counts.
 use mathlib.Core.Bool.{Bool, false, cond}
-use mathlib.Core.List.{List, []}
-use Prim.Native.Nat.{ℕ, _+_, _≤_}
-use lib.Dec.{eqb}
-use lib.ListN.{getD}
+use mathlib.Core.List.{List, [], _∷_}
+use Prim.Native.Nat.{ℕ, zero, suc, _+_, _≤_, _<_}
+use lib.Dec.{eqb, ltb}
+use lib.ListN.{length, getD}
 use Rattle.rules.specs.declared.Session.{Session}
 use Rattle.rules.specs.declared.Start.{Start}
 use Rattle.rules.specs.declared.Start.the-variants.{Timed, Linked}
-use Rattle.rules.specs.Lists.{place}
-use Rattle.rules.specs.State.{Queue, empty, is, held, holds}
+use Rattle.rules.specs.Lists.{place, removeAt}
+use Rattle.rules.specs.State.{Queue, empty, is, withWaiting, withStarted}
+use Rattle.rules.specs.Ends.{Turn, quiet, response}
 use Rattle.rules.specs.Answers.{raised}
-use Rattle.requests.specs.declared.Found.{Found}
-use Rattle.requests.specs.declared.Found.the-variants.{Held, Missing}
+use Rattle.ends.specs.declared.Ending.{Ending}
+use Rattle.ends.specs.declared.Ending.the-variants.{Complete, Response}
+use Rattle.ends.specs.Does.{endingOf}
+use Rattle.requests.specs.declared.Where.{Where}
+use Rattle.requests.specs.declared.Where.the-variants.{Waiting, Started, Nowhere}
 
--- connection c's number x among those held
-unfoldable pub foundIn : ℕ → ℕ → Queue → Found
-foundIn c x q = cond (holds c x q) (Held (getD (held q) (place (is c x) (held q)) empty)) Missing
+-- where connection c's number x is held
+unfoldable pub whereIn : ℕ → ℕ → Queue → Where
+whereIn c x q =
+    let i = place (is c x) (q .waiting) in
+    let j = place (is c x) (q .started) in
+    cond (ltb i (length (q .waiting))) (Waiting i) (cond (ltb j (length (q .started))) (Started j) Nowhere)
+
+-- the place is one of the n that wait, or of the m that have started
+abbrev pub Stands : Where → ℕ → ℕ → Type 0
+Stands (Waiting i) n m = i < n
+Stands (Started j) n m = j < m
+Stands Nowhere n m = Unit {0}
+
+-- how the started session at a place ends, aborted: the first is on air, the others are covered
+abbrev pub endingAt : ℕ → Ending
+endingAt zero = Complete 116
+endingAt (suc i) = Response 116
+
+-- the session that is held there ends, as by abort
+abbrev pub endedAt : Where → Queue → Turn
+endedAt (Waiting i) q = record { queue = withWaiting (removeAt i (q .waiting)) q; written = response 116 (getD (q .waiting) i empty) ∷ [] }
+endedAt (Started j) q = record { queue = withStarted (removeAt j (q .started)) q; written = endingOf (endingAt j) (getD (q .started) j empty) ∷ [] }
+endedAt Nowhere q = quiet q
 
 -- a linked start of 0: no session that is held ends there, so the prior is not held
 abbrev pub unplaced : Start → ℕ → Bool

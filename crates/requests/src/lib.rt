@@ -3,44 +3,47 @@ use ends::Counts;
 use ends::Ending;
 use ends::Left;
 use places::Key;
+use places::Those;
 use rules::Ninths;
 use rules::Request;
 use rules::Session;
 use rules::Start;
 ghost use mathlib.Core.Path.{_≡_};
-ghost use Prim.Native.Nat.{_+_, _*_, _≤_, _<_};
+ghost use mathlib.Core.List.{[], _∷_};
+ghost use Prim.Native.Nat.{_+_, _-_, _*_, _≤_, _<_};
 ghost use lib.ListN.{length, getD};
-ghost use Rattle.rules.specs.Lists.{All, some, place};
-ghost use Rattle.rules.specs.State.{startsAt, holds, Sorted};
+ghost use Rattle.rules.specs.Lists.{All, some, place, removeAt};
+ghost use Rattle.rules.specs.State.{empty, startsAt, held, holds, Sorted};
 ghost use Rattle.rules.specs.Ends.{evictedAt, cancelled};
-ghost use Rattle.rules.specs.Answers.{startOf, priorOf, sessionAt, wrongNumber, tooLate, collides, raised, full, spliceResult, accepted, answerSplice, answerAbort};
-ghost use Rattle.rules.specs.Sound.{Proper, Each, horizon, Holding};
+ghost use Rattle.rules.specs.Answers.{endOf, startOf, priorOf, sessionAt, wrongNumber, tooLate, collides, raised, full, spliceResult, accepted, answerSplice, answerAbort};
+ghost use Rattle.rules.specs.Sound.{Proper, Each, horizon, Once, Holding};
 ghost use Rattle.rules.proofs.Readings.{Within, Asked};
-ghost use Rattle.places.specs.Places.{Good, lot, used, OfFour, startsFrom, keyTest};
-ghost use Rattle.ends.specs.Does.{Playable, queueOf, Ends, Turns};
-ghost use Rattle.requests.specs.Found.{foundIn, unplaced, alone, sumOf, Few};
+ghost use Rattle.places.specs.Places.{Good, lot, used, OfFour, startsFrom, among};
+ghost use Rattle.ends.specs.Does.{Playable, endingOf, queueOf, Ends, Turns};
+ghost use Rattle.requests.specs.Found.{whereIn, Stands, endingAt, endedAt, unplaced, alone, sumOf, Few};
 
-// A session that is held, or that none is.
-pub enum Found {
-    Held(Session),
-    Missing,
+// Where a session is held: at a place among the waiting or the started, or nowhere.
+pub enum Where {
+    Waiting(usize),
+    Started(usize),
+    Nowhere,
 }
 
-// The connection's session of that number, waiting, on air or covered.
-pub fn find_held(w: &[u64], waiting: usize, k: &[u64], started: usize, conn: u64, id: u64) -> Found
+// Where the connection's session of that number is.
+pub fn where_held(w: &[u64], waiting: usize, k: &[u64], started: usize, conn: u64, id: u64) -> Where
     requires { ⌜ Good (lot (now w) waiting) ⌝ }
     requires { ⌜ Good (lot (now k) started) ⌝ }
-    ensures { λ r. ⌜ r ≡ foundIn conn id (queueOf (now (w .entry)) waiting (now (k .entry)) started) ⌝ }
+    ensures { λ r. ⌜ r ≡ whereIn conn id (queueOf (now (w .entry)) waiting (now (k .entry)) started) ⌝ }
 {
     let i = places::find(w, waiting, Key::Held(conn, id));
     if i < waiting {
-        return Found::Held(places::load(w, waiting, i));
+        return Where::Waiting(i);
     }
     let j = places::find(k, started, Key::Held(conn, id));
     if j < started {
-        return Found::Held(places::load(k, started, j));
+        return Where::Started(j);
     }
-    Found::Missing
+    Where::Nowhere
 }
 
 // Whether the connection holds the number.
@@ -49,10 +52,30 @@ pub fn is_held(w: &[u64], waiting: usize, k: &[u64], started: usize, conn: u64, 
     requires { ⌜ Good (lot (now k) started) ⌝ }
     ensures { λ r. ⌜ r ≡ holds conn id (queueOf (now (w .entry)) waiting (now (k .entry)) started) ⌝ }
 {
-    if let Found::Held(_) = find_held(w, waiting, k, started, conn, id) {
-        true
-    } else {
+    if let Where::Nowhere = where_held(w, waiting, k, started, conn, id) {
         false
+    } else {
+        true
+    }
+}
+
+// The end of the connection's session of that number, or 0.
+pub fn end_of(w: &[u64], waiting: usize, k: &[u64], started: usize, conn: u64, id: u64) -> Ninths
+    requires { ⌜ Good (lot (now w) waiting) ⌝ }
+    requires { ⌜ Good (lot (now k) started) ⌝ }
+    ensures { λ r. ⌜ r .0 ≡ endOf conn id (held (queueOf (now (w .entry)) waiting (now (k .entry)) started)) ⌝ }
+{
+    let at = where_held(w, waiting, k, started, conn, id);
+    match at {
+        Where::Waiting(i) => {
+            let x = places::load(w, waiting, i);
+            x.end
+        }
+        Where::Started(j) => {
+            let x = places::load(k, started, j);
+            x.end
+        }
+        Where::Nowhere => Ninths(0),
     }
 }
 
@@ -72,13 +95,7 @@ pub fn start_of(
 {
     match start {
         Start::Timed(t) => units::from_micros(t),
-        Start::Linked(p) => {
-            let found = find_held(w, waiting, k, started, conn, p as u64);
-            match found {
-                Found::Held(x) => x.end,
-                Found::Missing => Ninths(0),
-            }
-        }
+        Start::Linked(p) => end_of(w, waiting, k, started, conn, p as u64),
     }
 }
 
@@ -360,9 +377,9 @@ pub fn answer_splice(
     }
 }
 
-// Those that the key looks for end, as by abort: the started from the highest AccessType down, then the waiting by start.
+// Those end, as by abort: the started from the highest AccessType down, then the waiting by start.
 pub fn cancel(
-    whom: Key,
+    those: Those,
     w: &mut [u64],
     waiting: usize,
     k: &mut [u64],
@@ -377,12 +394,12 @@ pub fn cancel(
     requires { ⌜ All Playable (used (lot (now w) waiting)) ⌝ }
     requires { ⌜ All Playable (used (lot (now k) started)) ⌝ }
     requires { ⌜ len + 23 * (waiting + started) ≤ length (now out) ⌝ }
-    ensures { λ c. ⌜ Turns (now (out .entry)) len (cancelled (keyTest whom) (queueOf (now (w .entry)) waiting (now (k .entry)) started)) (now (w .exit)) (now (k .exit)) c (now (out .exit)) ⌝ }
+    ensures { λ c. ⌜ Turns (now (out .entry)) len (cancelled (among those) (queueOf (now (w .entry)) waiting (now (k .entry)) started)) (now (w .exit)) (now (k .exit)) c (now (out .exit)) ⌝ }
 {
     let on_air = Ending::Complete(116);
     let other = Ending::Response(116);
-    let a = ends::end_those(&mut *k, started, whom, on_air, other, &mut *out, len);
-    let b = ends::end_those(&mut *w, waiting, whom, other, other, &mut *out, a.len);
+    let a = ends::end_those(&mut *k, started, those, on_air, other, &mut *out, len);
+    let b = ends::end_those(&mut *w, waiting, those, other, other, &mut *out, a.len);
     Counts {
         waiting: b.left,
         started: a.left,
@@ -390,7 +407,74 @@ pub fn cancel(
     }
 }
 
-// The answer to an Abort_Request: 121, or 100, the session's end and its followers' ends.
+// How the started session at the place ends, aborted: the first is on air, the others are covered.
+pub fn ending_at(at: usize) -> Ending
+    ensures { λ r. ⌜ r ≡ endingAt at ⌝ }
+{
+    if at == 0 {
+        return Ending::Complete(116);
+    }
+    Ending::Response(116)
+}
+
+// The session `at` of the n that are used ends, and the others close up. How far the output is written.
+pub fn end_at(l: &mut [u64], n: usize, at: usize, how: Ending, out: &mut [u8], len: usize) -> usize
+    requires { ⌜ Good (lot (now l) n) ⌝ }
+    requires { ⌜ at < n ⌝ }
+    requires { ⌜ All Playable (used (lot (now l) n)) ⌝ }
+    requires { ⌜ len + 23 ≤ length (now out) ⌝ }
+    ensures { λ r. ⌜ Ends (now (out .entry)) len (removeAt at (used (lot (now (l .entry)) n))) (endingOf how (getD (used (lot (now (l .entry)) n)) at empty) ∷ []) (lot (now (l .exit)) (n - 1)) r (now (out .exit)) ⌝ }
+{
+    let x = places::load(&*l, n, at);
+    places::remove_at(&mut *l, n, at);
+    ends::write_end(how, x, &mut *out, len)
+}
+
+// The session that is held there ends, as by abort.
+pub fn end_held(
+    at: Where,
+    w: &mut [u64],
+    waiting: usize,
+    k: &mut [u64],
+    started: usize,
+    out: &mut [u8],
+    len: usize,
+) -> Counts
+    requires { ⌜ Good (lot (now w) waiting) ⌝ }
+    requires { ⌜ Good (lot (now k) started) ⌝ }
+    requires { ⌜ Stands at waiting started ⌝ }
+    requires { ⌜ All Playable (used (lot (now w) waiting)) ⌝ }
+    requires { ⌜ All Playable (used (lot (now k) started)) ⌝ }
+    requires { ⌜ len + 23 ≤ length (now out) ⌝ }
+    ensures { λ c. ⌜ Turns (now (out .entry)) len (endedAt at (queueOf (now (w .entry)) waiting (now (k .entry)) started)) (now (w .exit)) (now (k .exit)) c (now (out .exit)) ⌝ }
+{
+    match at {
+        Where::Waiting(i) => {
+            let to = end_at(&mut *w, waiting, i, Ending::Response(116), &mut *out, len);
+            Counts {
+                waiting: waiting - 1,
+                started: started,
+                len: to,
+            }
+        }
+        Where::Started(j) => {
+            let how = ending_at(j);
+            let to = end_at(&mut *k, started, j, how, &mut *out, len);
+            Counts {
+                waiting: waiting,
+                started: started - 1,
+                len: to,
+            }
+        }
+        Where::Nowhere => Counts {
+            waiting: waiting,
+            started: started,
+            len: len,
+        },
+    }
+}
+
+// The answer to an Abort_Request: 121, or 100, the session's end and its followers' ends. No number is held twice: one search finds it.
 pub fn answer_abort(
     conn: u64,
     id: u64,
@@ -406,10 +490,12 @@ pub fn answer_abort(
     requires { ⌜ length (now k) ≡ 80 ⌝ }
     requires { ⌜ All Playable (used (lot (now w) waiting)) ⌝ }
     requires { ⌜ All Playable (used (lot (now k) started)) ⌝ }
+    requires { ⌜ Once (queueOf (now w) waiting (now k) started) ⌝ }
     requires { ⌜ 4096 ≤ length (now out) ⌝ }
     ensures { λ c. ⌜ Turns (now (out .entry)) 0 (answerAbort conn id (queueOf (now (w .entry)) waiting (now (k .entry)) started)) (now (w .exit)) (now (k .exit)) c (now (out .exit)) ⌝ }
 {
-    if !is_held(&*w, waiting, &*k, started, conn, id) {
+    let at = where_held(&*w, waiting, &*k, started, conn, id);
+    if let Where::Nowhere = at {
         writing::abort_response(&mut *out, conn, 121, id);
         return Counts {
             waiting: waiting,
@@ -418,8 +504,7 @@ pub fn answer_abort(
         };
     }
     writing::abort_response(&mut *out, conn, 100, id);
-    let whom = Key::Held(conn, id);
-    let c = cancel(whom, &mut *w, waiting, &mut *k, started, &mut *out, 14);
+    let c = end_held(at, &mut *w, waiting, &mut *k, started, &mut *out, 14);
     let e = ends::dismiss(&mut *w, c.waiting, 116, conn, id, &mut *out, c.len);
     Counts {
         waiting: e.left,

@@ -3,7 +3,7 @@
 use mathlib.Core.Path.{_≡_, refl}
 use mathlib.Core.Bool.{true, false, not, _&&_}
 use mathlib.Core.List.{List, [], _∷_}
-use Prim.Native.Nat.{ℕ, _≤_, _<_}
+use Prim.Native.Nat.{ℕ, _≤_}
 use lib.Dec.{eqb, ltb}
 use borrow.Author.Tests.{eqb-true, ltb-false, not-false}
 use Rattle.rules.specs.declared.Request.{Request}
@@ -21,7 +21,7 @@ use Rattle.rules.specs.Answers.{Answered, requested, spliceResult, accep
 use Rattle.rules.specs.Calls.{Called, openCall, closeCall, framing, handled, messageCall, ticked, tickCall, Call, opens, closes, messages, ticks, call, after, named, fresh}
 use Rattle.rules.proofs.Tests.{by}
 use Rattle.rules.proofs.All.{All}
-use Rattle.rules.proofs.Bytes.{Byte, part-byte}
+use Rattle.rules.proofs.Bytes.{part-byte}
 use Rattle.rules.proofs.Every.{all-any}
 use Rattle.rules.proofs.Checks.{Passed, passed-all, Granted, granted, Fitting, fitting, read-splice}
 pub use Rattle.rules.specs.Sound.{Wired}

@@ -3,7 +3,7 @@
 use mathlib.Core.Path.{_≡_, refl, ap, _∙_}
 use mathlib.Core.Bool.{Bool, true, false}
 use mathlib.Core.List.{List}
-use Prim.Native.Nat.{ℕ, _+_, _*_, _≤_, _<_}
+use Prim.Native.Nat.{ℕ, _*_, _≤_, _<_}
 use native.Mathlib.Omega.{arith}
 use lib.Dec.{eqb}
 use lib.ListN.{length, getD, set, length-set}
@@ -24,7 +24,7 @@ use Rattle.rules.specs.Answers.{startOf, priorOf, sessionAt, requested, 
 use Rattle.rules.specs.Calls.{Call, Called, named, fresh}
 use Rattle.rules.proofs.Tests.{by, clash, and-both}
 use Rattle.rules.proofs.All.{All}
-use Rattle.rules.proofs.Bytes.{Byte, NoZero, nameIn-zero, nameIn-shorter, nameIn-byte}
+use Rattle.rules.proofs.Bytes.{Byte, nameIn-zero, nameIn-shorter, nameIn-byte}
 use Rattle.rules.proofs.Count.{some-none, count-omitted}
 use Rattle.rules.proofs.Every.{Each}
 use Rattle.rules.proofs.Checks.{Fitting, StartFits}

@@ -16,13 +16,13 @@ use Rattle.rules.proofs.Bytes.{Byte}
 use Rattle.rules.proofs.Every.{all-both, Each, FewerHeld, fewer-each}
 use Rattle.rules.proofs.Always.{Wired, Kept, KeptHeld, held-kept, call-kept, always}
 use Rattle.rules.proofs.Tick.{Due, meets, due-first, due-meets, elapse-due, moved}
-use Rattle.rules.proofs.Sessions.{heldCount, fewer-held, each-elapse, each-instant, waiting-instant}
+use Rattle.rules.proofs.Sessions.{fewer-held, each-elapse, each-instant, waiting-instant}
 use Rattle.rules.proofs.Timed.{OnTime, timed-fewer, meets-after}
 use Rattle.rules.proofs.Aired.{Played, elapse-played, played-fewer, Aired, aired-kept, moved-aired, rest-aired}
 use Rattle.rules.proofs.Ranked.{Falling, fewer-falling, falling-kept, falling-instant, falling-onAir, ten}
 use Rattle.rules.proofs.Room.{Room, room-kept, room-fewer, room-none, sixty-four}
 use Rattle.rules.proofs.Held.{Proper, Small, small-plays, small-kept, Once, Linking, linking-kept, linking-fresh}
-use Rattle.rules.proofs.Link.{Tied, Chained, Orderly, orderly}
+use Rattle.rules.proofs.Link.{Chained, Orderly, orderly}
 use Rattle.rules.proofs.Chained.{chained-kept, moved-chained, rest-chained}
 use Rattle.rules.proofs.Bounds.{horizon, longest, never, ends-early}
 use Rattle.rules.proofs.Fitted.{recordsOf, found}

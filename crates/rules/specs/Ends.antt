@@ -1,5 +1,5 @@
 -- 01, Instants (last paragraph): followers, and how sessions end by eviction, abort and close.
-use mathlib.Core.Bool.{Bool, true, false, cond}
+use mathlib.Core.Bool.{Bool, cond}
 use mathlib.Core.List.{List, [], _∷_, _++_, map}
 use Prim.Native.Nat.{ℕ, zero, suc}
 use lib.Dec.{ltb}
@@ -7,7 +7,7 @@ use lib.ListN.{length, getD}
 use Rattle.rules.specs.declared.Session.{Session}
 use Rattle.rules.specs.Units.{toTicks}
 use Rattle.rules.specs.Lists.{put, keep, omit, place, removeAt}
-use Rattle.rules.specs.State.{Queue, empty, of, is, follows, startsAt, withWaiting, withStarted}
+use Rattle.rules.specs.State.{Queue, empty, of, is, follows, startsAt, withWaiting}
 use Rattle.rules.specs.Records.{Record, SpliceResponse, SpliceComplete}
 
 -- a queue after some of the work, and the records which that wrote

@@ -1,13 +1,12 @@
 -- 01, Instants: starts and ends, and a tick as a recursion over instants.
-use mathlib.Core.Bool.{Bool, true, false, cond, _&&_}
-use mathlib.Core.List.{List, [], _∷_, _++_}
+use mathlib.Core.Bool.{Bool, true, cond, _&&_}
+use mathlib.Core.List.{List, [], _∷_}
 use Prim.Native.Nat.{ℕ, zero, suc, _+_, _-_}
 use lib.Dec.{eqb, leb, ltb}
 use lib.ListN.{length, getD}
 use Rattle.rules.specs.declared.Session.{Session}
 use Rattle.rules.specs.Lists.{omit, place, removeAt}
 use Rattle.rules.specs.State.{Queue, empty, startsAt, endsAt, due, toCome, withWaiting, withStarted}
-use Rattle.rules.specs.Records.{Record}
 use Rattle.rules.specs.Ends.{Turn, quiet, andThen, writes, spliceIn, spliceOut, endings, dismissed}
 
 -- a new session outranks an old one: the one place where equal AccessTypes are decided

@@ -1,7 +1,7 @@
 -- The few functions on lists and bytes that the rules are written with. Assumes nothing.
 use mathlib.Core.Bool.{Bool, true, false, cond, not, _&&_, _||_}
 use mathlib.Core.List.{List, [], _∷_, _++_}
-use Prim.Native.Nat.{ℕ, zero, suc, _+_, min}
+use Prim.Native.Nat.{ℕ, suc, _+_, min}
 use lib.Dec.{eqb}
 use lib.ListN.{take, drop}
 

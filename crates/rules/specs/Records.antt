@@ -1,10 +1,9 @@
 -- 01, Bytes: what is written, each record's bytes with its mark, and the records that such bytes hold.
-use mathlib.Core.Bool.{Bool, true, false, cond}
+use mathlib.Core.Bool.{cond}
 use mathlib.Core.List.{List, [], _∷_, _++_}
 use Prim.Native.Nat.{ℕ, zero, suc, _+_, _*_, _/_, _%_}
 use lib.Dec.{eqb}
-use lib.ListN.{length, getD, drop}
-use Rattle.rules.specs.declared.Micros.{Micros}
+use lib.ListN.{length, drop}
 use Rattle.rules.specs.Bytes.{bytes, field, part, padded, nameIn}
 
 -- an outgoing message: the connection it is for, its result, and its data

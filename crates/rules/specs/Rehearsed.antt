@@ -8,7 +8,6 @@ use Rattle.rules.specs.Lists.{place, insertAt, removeAt}
 use Rattle.rules.specs.Bytes.{bytes, value, valueFrom, padded}
 use Rattle.rules.specs.Reading
 use Rattle.rules.specs.State
-use Rattle.rules.specs.State.{Splicer}
 use Rattle.rules.specs.Records
 use Rattle.rules.specs.Records.{Record, recordsIn}
 use Rattle.rules.specs.Ends

@@ -52,7 +52,7 @@ answer-abort-requires : tie.Need-answer-abort-requires
 answer-abort-requires c κs = let s = c .before .before .before .before .before .before .before .before .before .before .before .before .before in
     let f = s .pre .0 in
     let h = s .pre .1 .0 .holding in
-    (f .waiting, (f .started, (f .places, (f .stack, (waiting-playable h, (started-playable h, s .pre .1 .1 .1))))))
+    (f .waiting, (f .started, (f .places, (f .stack, (waiting-playable h, (started-playable h, (h .once, s .pre .1 .1 .1)))))))
 
 counted-requires-2 : tie.Need-counted-requires-2
 counted-requires-2 c κs = search needs

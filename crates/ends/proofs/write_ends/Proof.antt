@@ -1,10 +1,10 @@
 -- One turn of `Closing`: the session at the place i ends or stays.
 use native.Mathlib.Omega.{arith}
 use borrow.Author.Needs.{needs}
-use mathlib.Core.Path.{_≡_, sym, ap, subst, _∙_}
+use mathlib.Core.Path.{sym, subst, _∙_}
 use mathlib.Core.Logic.{⊎-elim}
 use Prim.Native.Nat.{_-_, _<_}
-use Rattle.places.specs.Places.{lot, keyTest}
+use Rattle.places.specs.Places.{lot, among}
 use Rattle.ends.specs.Does.{Playable, endingOf}
 use Rattle.ends.proofs.Laws.{brief-ending}
 use Rattle.ends.proofs.Closing.{Closing, closing-none, closing-playable, closing-ends, closing-stays, closing-done}
@@ -12,10 +12,10 @@ use Rattle.ends.proofs.write_ends.Statement.{statement}
 use Rattle.ends.proofs.write_ends.Tie as tie
 
 abbrev Inv-loop : tie.InvT-loop
-Inv-loop l n whom others out₀ len how₀ to₀ i₀ out how to i = Closing (keyTest whom) (endingOf how₀) (endingOf others) (lot l n) out₀ len i (endingOf how) to out
+Inv-loop l n those others out₀ len how₀ to₀ i₀ out how to i = Closing (among those) (endingOf how₀) (endingOf others) (lot l n) out₀ len i (endingOf how) to out
 
 abbrev μ-loop : tie.MeasureT-loop
-μ-loop l n whom others out₀ len how₀ to₀ i₀ out how to i = n - i
+μ-loop l n those others out₀ len how₀ to₀ i₀ out how to i = n - i
 
 loop-holds : tie.Need-loop-holds Inv-loop μ-loop
 loop-holds c =
@@ -25,8 +25,8 @@ loop-holds c =
 load-requires : tie.Need-load-requires Inv-loop μ-loop
 load-requires c κs = search needs
 
-matches-requires : tie.Need-matches-requires Inv-loop μ-loop
-matches-requires c κs = search needs
+is-among-requires : tie.Need-is-among-requires Inv-loop μ-loop
+is-among-requires c κs = search needs
 
 write-end-requires : tie.Need-write-end-requires Inv-loop μ-loop
 write-end-requires c κs =
@@ -48,7 +48,7 @@ loop-again c =
     let l = c .before .before .before .before .loop in
     let x = c .before .before .load in
     let k : l .i < s .args .n = c .before .before .before .loop-test .taken in
-    let m = sym (c .before .matches .ensures) in
+    let m = sym (c .before .is-among .ensures) in
     ⊎-elim
     (λ w. rw (w .5, w .6) (closing-ends _ _ _ (lot (s .args .l .now) (s .args .n)) (s .pre .0) _ _ (l .i) (endingOf (l .how)) (l .to) (l .out) (l .inv) (x .result) k (x .ensures)
     (w .2 .result) (w .2 .last .1 .1 .0) (m ∙ w .0 .taken) (brief-ending (l .how) (x .result)) (w .2 .ensures .0) (w .2 .ensures .1)))
@@ -72,7 +72,7 @@ write-ends-spec =
     μ-loop
     loop-holds
     load-requires
-    matches-requires
+    is-among-requires
     write-end-requires
     add-i
     loop-less

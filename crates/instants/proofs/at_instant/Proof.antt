@@ -1,6 +1,6 @@
 -- The ends, if any has started (`ends-none`), and the start, one after the other (`instant-turns`).
 use native.Mathlib.Omega.{arith}
-use mathlib.Core.Path.{_≡_, subst, sym}
+use mathlib.Core.Path.{_≡_}
 use mathlib.Core.Logic.{⊎-elim}
 use lib.ListN.{length}
 use Rattle.rules.specs.Lists.{omit}

@@ -1,5 +1,4 @@
 -- Rests on `slot-read`: behind the free places, the place of the words is that of the list.
-use native.Mathlib.Omega.{arith}
 use mathlib.Core.Path.{_∙_}
 use borrow.Author.Needs.{needs}
 use Rattle.rules.specs.State.{empty}

@@ -16,12 +16,6 @@ enum-known-key-3 c = search needs
 enum-known-key-4 : tie.Need-enum-known-key-4
 enum-known-key-4 c = search needs
 
-enum-known-key-5 : tie.Need-enum-known-key-5
-enum-known-key-5 c = search needs
-
-enum-known-key-6 : tie.Need-enum-known-key-6
-enum-known-key-6 c = search needs
-
 returns : tie.Need-returns
 returns c = rw (c .before .before .before .before .key .given .1) (simp (eq-eqb _ _ (c .before .if1 .taken)))
 
@@ -35,16 +29,10 @@ returns-4 : tie.Need-returns-4
 returns-4 c = rw (c .before .before .before .key2 .given .1) (simp (ne-eqb _ _ (c .if2 .left)))
 
 returns-5 : tie.Need-returns-5
-returns-5 c = rw (c .before .before .key3 .given .1)
+returns-5 c = rw (c .before .before .before .key3 .given .1)
 
 returns-6 : tie.Need-returns-6
 returns-6 c = rw (c .before .before .before .key4 .given .1)
-
-returns-7 : tie.Need-returns-7
-returns-7 c = rw (c .before .before .before .key5 .given .1)
-
-returns-8 : tie.Need-returns-8
-returns-8 c = rw (c .before .before .before .key6 .given .1)
 
 pub matches-spec : {M : Type 1} → statement M
 matches-spec =
@@ -54,13 +42,9 @@ matches-spec =
     enum-known-key-2
     enum-known-key-3
     enum-known-key-4
-    enum-known-key-5
-    enum-known-key-6
     returns
     returns-2
     returns-3
     returns-4
     returns-5
-    returns-6
-    returns-7
-    returns-8)
+    returns-6)

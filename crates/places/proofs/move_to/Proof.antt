@@ -1,5 +1,4 @@
 -- A session written onto itself changes nothing (`set-getD`).
-use native.Mathlib.Omega.{arith}
 use mathlib.Core.Path.{refl, sym, ap, _∙_}
 use Prim.Native.Nat.{ℕ}
 use lib.ListN.{set, getD}

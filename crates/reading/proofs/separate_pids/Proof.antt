@@ -6,11 +6,8 @@ use Rattle.reading.proofs.separate_pids.Tie as tie
 number4-requires : tie.Need-number4-requires
 number4-requires c κs = search needs
 
-start-in-requires : tie.Need-start-in-requires
-start-in-requires c κs = search needs
-
 returns : tie.Need-returns
 returns c = cc
 
 pub separate-pids-spec : {M : Type 1} → statement M
-separate-pids-spec = tie.close (tie.spec number4-requires start-in-requires returns)
+separate-pids-spec = tie.close (tie.spec number4-requires returns)

@@ -6,9 +6,6 @@ use Rattle.reading.proofs.whole_request.Tie as tie
 number4-requires : tie.Need-number4-requires
 number4-requires c κs = search needs
 
-start-in-requires : tie.Need-start-in-requires
-start-in-requires c κs = search needs
-
 number2-requires : tie.Need-number2-requires
 number2-requires c κs = search needs
 
@@ -29,7 +26,6 @@ whole-request-spec =
     tie.close
     (tie.spec
     number4-requires
-    start-in-requires
     number2-requires
     number4-requires-2
     shared-slice-read-t8

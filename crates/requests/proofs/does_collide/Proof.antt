@@ -1,6 +1,4 @@
 -- The one with the same start is the only one.
-use mathlib.Core.Path.{_∙_}
-use Rattle.rules.specs.State.{empty}
 use Rattle.places.specs.Places.{lot, used}
 use Rattle.requests.proofs.Laws.{taken-within, collides-none, collides-at}
 use borrow.Author.Needs.{needs}

@@ -1,8 +1,6 @@
 -- The one at the place is taken out and written, then its followers (`evict-one`).
-use mathlib.Core.Path.{_∙_}
 use Prim.Native.Nat.{_-_}
 use native.Mathlib.Omega.{arith}
-use Rattle.rules.specs.State.{empty}
 use Rattle.places.specs.Places.{lot}
 use Rattle.requests.proofs.Work.{evict-one}
 use borrow.Author.Needs.{needs}

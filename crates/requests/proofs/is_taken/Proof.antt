@@ -1,6 +1,4 @@
 -- The first from t on decides (`taken-here`).
-use mathlib.Core.Path.{_∙_}
-use Rattle.rules.specs.State.{empty}
 use Rattle.places.specs.Places.{lot}
 use Rattle.requests.proofs.Laws.{taken-here, taken-none}
 use Rattle.requests.proofs.is_taken.Statement.{statement}
