@@ -30,7 +30,7 @@ ran() {
 
 # compiler: sets rustc to one that has the standard library for x86-64
 compiler() {
-    for rustc in ${RUSTC:-} rustc /usr/bin/rustc; do
+    for rustc in "${RUSTC:-rustc}" rustc /usr/bin/rustc; do
         command -v "$rustc" >/dev/null 2>&1 || continue
         if [ -d "$("$rustc" --print sysroot)/lib/rustlib/$target/lib" ]; then
             return 0
@@ -49,7 +49,9 @@ ready() {
     for tool in cargo "$linker" ${runner%% *}; do
         command -v "$tool" >/dev/null 2>&1 || return 1
     done
-    compiler
+    compiler || return 1
+    # names alone do not say that a program of it runs: the loader may be missing
+    echo 'fn main() {}' | "$rustc" --target $target -C linker="$linker" -o "$work/try" - >"$work/try.log" 2>&1 && $runner "$work/try"
 }
 
 # over_archive [ARG..]: the wrapper's tests and the comparison
@@ -74,18 +76,23 @@ over_card() {
     if [ ! -x target/bin/card ]; then
         ran card rt check card || return 0
     fi
-    if ran fuzz target/model/release/model fuzz --seed 281 --n 600 --card 'sh tools/run-program.sh target/bin/card'; then
+    if ran fuzz target/model/release/model fuzz --seed 281 --n 900 --card 'sh tools/run-program.sh target/bin/card'; then
         passed=$((passed + 1))
     fi
 }
 
 route=${ROUTE:-archive}
+case $route in
+archive | card) ;;
+*) echo "beside.sh: no route '$route': archive or card" >&2; exit 2 ;;
+esac
 why='ROUTE=card'
 if [ "$route" = archive ] && ! ready; then
+    echo 'beside: installing what builds and runs x86-64 programs in Rust'
     sh tools/setup.sh x86 >"$work/setup.log" 2>&1 || :
     if ! ready; then
         route=card
-        why='no Rust for x86-64 here and none to be installed'
+        why='x86-64 programs in Rust cannot be built and run here'
     fi
 fi
 if [ "$route" = card ]; then

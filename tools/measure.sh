@@ -1,15 +1,17 @@
 #!/bin/sh
-# measure.sh [counts|stack|frames|size|agree]..: the proved core against two engines of the same rules (tools/measure): inplace.rs, plain Rust
+# measure.sh [counts|stack|frames|size|agree|programs]..: the proved core against two engines of the same rules (tools/measure): inplace.rs, plain Rust
 # as one writes it, and peer.h, tuned C. All parts without a word. Prints tables for docs/MEASURES.md:
-#   counts  instructions of a call (exact, the same in each run) and the ratio of times beside them
+#   counts  instructions of a call (exact; only a library copy takes some more or less by where its memory lies) and the ratio of times beside them
 #   stack   bytes of stack that a call reached, from the caller's stack pointer down; library functions were bound before
 #   frames  code and frame of each function of the core, by objdump
 #   size    code and state
 #   agree   random calls by all three, compared (RANDOM_CALLS, 300,000 for each of three seeds)
+#   programs  instructions of the card program and of the second program, both x86-64, on the same generated streams
 # Before anything is measured, replies and buffers of all three are compared on the call and on all calls that made its state.
 # How the states are made, so that they favour no engine: tools/measure/cases.h.
 # Needs Debian's qemu-user and gcc (once, for the plugin; the kit's own emulator takes no plugin) and a rustc with the library for
-# x86-64 (RUSTC names one; Debian 12: rustc-web and libstd-rust-web-dev:amd64). No part of the gate.
+# x86-64 (RUSTC names one; Debian 12: rustc-web and libstd-rust-web-dev:amd64), on Arm gcc-x86-64-linux-gnu too (objdump, and the linker
+# for programs); programs needs cargo. `sh tools/setup.sh x86` installs them. No part of the gate.
 set -eu
 cd "$(dirname "$0")/.."
 work=target/measure
@@ -36,7 +38,7 @@ quiet() {
 
 # a rustc that has the library for x86-64
 find_rustc() {
-    for r in ${RUSTC:-} rustc /usr/bin/rustc; do
+    for r in "${RUSTC:-rustc}" rustc /usr/bin/rustc; do
         command -v "$r" >/dev/null 2>&1 || continue
         [ -d "$("$r" --print sysroot)/lib/rustlib/$target/lib" ] || continue
         echo "$r"
@@ -93,6 +95,7 @@ counted() {
 call() {
     with=$(counted "$1" "$2" "$3" $calls 1)
     without=$(counted "$1" "$2" "$3" $calls 0)
+    [ -n "$with" ] && [ -n "$without" ] || fail "no count for $1 $2 $3"
     echo $(((with - without + calls / 2) / calls))
 }
 
@@ -103,7 +106,9 @@ ratio() {
 # row TITLE CASE N
 row() {
     agreed "$2" "$3"
-    a=$(call "$2" "$3" core) b=$(call "$2" "$3" rust) c=$(call "$2" "$3" c)
+    a=$(call "$2" "$3" core)
+    b=$(call "$2" "$3" rust)
+    c=$(call "$2" "$3" c)
     bench time "$2" "$3" >"$work/times"
     read -r ta tb tc <"$work/times"
     echo "| $1 | $a | $b | $c | $(ratio "$a" "$b") | $(ratio "$a" "$c") | $(ratio "$ta" "$tb") | $ta : $tb : $tc |"
@@ -201,15 +206,55 @@ agree() {
     done
 }
 
+# whole PROGRAM.. <IN: the instructions of a whole run
+whole() {
+    qemu-x86_64 -cpu max,-erms -plugin "$work/insns.so" "$@" 2>&1 >/dev/null | sed -n 's/^insns //p'
+}
+
+# streamed PROGRAM..: the instructions of its runs on all streams, an empty run taken off each
+streamed() {
+    empty=$(whole "$@" </dev/null)
+    [ -n "$empty" ] || fail "no count for $1"
+    sum=0
+    for stream in "$work"/streams/*; do
+        one=$(whole "$@" <"$stream")
+        [ -n "$one" ] || fail "no count for $1 on $stream"
+        sum=$((sum + one - empty))
+    done
+    echo $sum
+}
+
+programs() {
+    linker=cc
+    [ "$(uname -m)" = x86_64 ] || linker=x86_64-linux-gnu-gcc
+    quiet env RUSTC="$rustc" CARGO_TARGET_DIR="$work/model" CARGO_TARGET_X86_64_UNKNOWN_LINUX_GNU_LINKER=$linker \
+        cargo build --release --offline --target $target --manifest-path model/Cargo.toml
+    quiet rt check card
+    second=$work/model/$target/release/model
+    rm -rf "$work/streams"
+    mkdir -p "$work/streams"
+    quiet qemu-x86_64 "$second" gen --seed 9 --n 20 --out "$work/streams"
+    made=$(qemu-x86_64 "$second" fuzz --seed 9 --n 20 --floors off | grep -oE '[0-9,]+ calls' | head -n 1 | tr -d ', a-z')
+    [ -n "$made" ] || fail "no count of calls"
+    a=$(streamed "$tools/lib/ld-linux-x86-64.so.2" --library-path "$tools/lib" target/bin/card)
+    b=$(streamed "$second" card)
+    echo '| 20 streams of seed 9 | Instructions | A call |'
+    echo '|---|---|---|'
+    echo "| card program | $a | $((a / made)) |"
+    echo "| second program | $b | $((b / made)) |"
+    echo
+    echo "$made calls"
+}
+
 rustc=$(find_rustc)
 objdump=$(find_objdump)
 build
 versions
-[ $# -gt 0 ] || set -- counts stack frames size agree
+[ $# -gt 0 ] || set -- counts stack frames size agree programs
 for part; do
     echo
     case $part in
-    counts | stack | frames | size | agree) $part ;;
+    counts | stack | frames | size | agree | programs) $part ;;
     *) fail "no part '$part'" ;;
     esac
 done

@@ -21,7 +21,9 @@ cargo --version
 if [ "${1:-}" = x86 ] && [ "$(uname -m)" = aarch64 ]; then
     # rustc-web and its library for x86-64 are of one version
     dpkg --add-architecture amd64
+    trap 'dpkg --remove-architecture amd64 2>/dev/null || :' EXIT
     update
     install rustc-web libstd-rust-web-dev:amd64 gcc gcc-x86-64-linux-gnu libc6-dev-amd64-cross qemu-user
+    trap - EXIT
 fi
 echo "1 passed, 0 failed"

@@ -7,6 +7,10 @@
 //! [`Splicer::fresh`] only and is changed by the calls only, one at a time, and what is lent to a
 //! call overlaps nothing. Any connection, bytes, time and length of a buffer may be handed in: the
 //! call tests them and answers with a house number, a [`Refusal`].
+//!
+//! What each unsafe call rests on: the parts have the lengths that the core takes (7, 32, 512 and
+//! 80, by their types), and a state came from `fresh` and was changed by the calls only, since its
+//! fields are private. The reason beside each call says the rest.
 #![no_std]
 #![warn(missing_docs)]
 

@@ -54,7 +54,7 @@ INLINE struct splicer_reply rust_call(const struct call *c) {
     }
 }
 
-/* peer.h has neither fresh nor open: they stand here and are not measured */
+/* peer.h has neither fresh nor open: these only make the state, and their figures say nothing */
 APART struct splicer_reply peer_fresh(const uint8_t *name) {
     size_t n = 0;
     memset(&peer, 0, sizeof peer);

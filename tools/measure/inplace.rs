@@ -1,6 +1,6 @@
 //! The card rules of document 01 as an in-place engine in plain Rust: the measuring peer of the proved core.
 //!
-//! Written from document 01 alone, in the way one would write it for the card without counting instructions: one struct of
+//! Written from document 01 and J.280 alone, in the way one would write it for the card without counting instructions: one struct of
 //! fixed size changed in place, lists of fixed capacity, iterators, bounds checks left on. Not proved, not part of the product.
 //!
 //! Two facts keep it short. Waiting sessions have different starts (rule d), so the waiting list is kept by start: its first

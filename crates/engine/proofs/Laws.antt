@@ -1,5 +1,5 @@
 -- Each promise determines its result: any two results that it allows are equal, and a refusal leaves everything as it was.
--- Rests on places' words-same: the sessions and the zeros behind them determine the words.
+-- Rests on places' words-same: the sessions and the zeros before them determine the words.
 use mathlib.Core.Path.{_≡_, refl, sym, ap, _∙_}
 use mathlib.Core.Bool.{Bool, false, cond}
 use mathlib.Core.List.{List, [], _∷_, map}

@@ -193,8 +193,8 @@ pub found-within : (p : Session → Bool) (q : Lot) (i : ℕ) → Good q → i �
 found-within p q i g e = omega (arith, place≤ p (used q), length-used q g)
 
 -- no more are used than there are places
-pub slot-free : (q : List ℕ) (n : ℕ) → Good (lot q n) → n ≤ length q / 8
-slot-free q n g = omega (arith, g .fits, length-places q)
+pub used-fits : (q : List ℕ) (n : ℕ) → Good (lot q n) → n ≤ length q / 8
+used-fits q n g = omega (arith, g .fits, length-places q)
 
 -- the session `at` of the words q: its place is one of the words, and holds what the list has there
 module _ (q : List ℕ) (n at : ℕ) (g : Good (lot q n)) (h : at < n) where

@@ -6,7 +6,7 @@ use Prim.Native.Nat.{ℕ, zero, suc, _-_, _*_, _/_, _≤_}
 use lib.Dec.{leb}
 use lib.ListN.{length, take, drop, getD, replicate}
 use Rattle.rules.specs.declared.Session.{Session}
-use Rattle.rules.specs.Lists.{count}
+use Rattle.rules.specs.Answers.{waits}
 use Rattle.rules.specs.State.{empty, of, is, follows, startsAfter, endsAt}
 use Rattle.places.specs.declared.Key.{Key}
 use Rattle.places.specs.declared.Key.the-variants.{Held, Follows, StartsFrom, StartsAfter}
@@ -77,7 +77,7 @@ OfFour s = s .conn ≤ 3
 
 -- how many are each connection's
 unfoldable pub tallied : List Session → List ℕ
-tallied l = count (of 0) l ∷ count (of 1) l ∷ count (of 2) l ∷ count (of 3) l ∷ []
+tallied l = waits 0 l ∷ waits 1 l ∷ waits 2 l ∷ waits 3 l ∷ []
 
 -- s starts at t or later
 abbrev pub startsFrom : ℕ → Session → Bool

@@ -110,7 +110,7 @@ fn move_to(q: &mut [u64], n: usize, from: usize, to: usize)
     replace_at(&mut *q, n, to, x)
 }
 
-// x before the session `at`: those before it move one place up.
+// x before the session `at`: those before it move one place towards the free ones.
 pub fn insert_at(q: &mut [u64], n: usize, at: usize, x: Session)
     requires { ⌜ Good (lot (now q) n) ⌝ }
     requires { ⌜ (at ≤ n) × (n < length (now q) / 8) ⌝ }
@@ -128,7 +128,7 @@ pub fn insert_at(q: &mut [u64], n: usize, at: usize, x: Session)
     write_row(&mut *q, to, x)
 }
 
-// Without the session `at`: those before it move one place down, and the place that gets free is cleared.
+// Without the session `at`: those before it move one place away from the free ones, and the place that gets free is cleared.
 pub fn remove_at(q: &mut [u64], n: usize, at: usize)
     requires { ⌜ Good (lot (now q) n) ⌝ }
     requires { ⌜ at < n ⌝ }

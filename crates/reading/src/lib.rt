@@ -166,7 +166,7 @@ fn whole_request(d: &[u8], start: Start) -> Request
     }
 }
 
-// Each field is read before the tests on it. Its bytes, read in one go, are one load to the compiler.
+// Each field is read before the tests on it, the start before the ServiceID parts the ways: its bytes are then one load.
 pub fn read_splice(d: &[u8]) -> Message
     ensures { λ r. ⌜ r ≡ readSplice (now (d .entry)) ⌝ }
 {

@@ -18,7 +18,7 @@ use Rattle.rules.specs.Reading.{nobody, separateService}
 use Rattle.rules.specs.Lists.{All, some, place}
 use Rattle.rules.specs.State.{Queue, empty, of, is, startsAt, startsAfter, held, holds, Sorted}
 use Rattle.rules.specs.Instants.{outranks}
-use Rattle.rules.specs.Answers.{endOf, startOf, unknownPrior, wrongNumber, collides, waits, raisedSum, full, spliceResult, sessionAt, priorOf, tooLate}
+use Rattle.rules.specs.Answers.{endOf, startOf, unknownPrior, wrongNumber, collides, waits, raisedSum, full, spliceResult, sessionAt, priorOf, tooLate, sumOf}
 use Rattle.rules.specs.Sound.{Proper, Each, Holding}
 use Rattle.rules.proofs.Tests.{by}
 use Rattle.rules.proofs.All.{all-into}
@@ -33,7 +33,7 @@ use denote.Enum.Declared.{tagOf}
 use Rattle.requests.proofs.Where.{the-type}
 use Rattle.requests.specs.declared.Where.{Where}
 use Rattle.requests.specs.declared.Where.the-variants.{Waiting, Started, Nowhere}
-use Rattle.requests.specs.Found.{whereIn, Stands, unplaced, sumOf, Few}
+use Rattle.requests.specs.Found.{whereIn, Stands, startsNowhere, Few}
 
 -- ## The first that passes, of two lists
 
@@ -126,32 +126,35 @@ module _ (c x : ℕ) (q : Queue) where
   pub end-where : (a b : Where) (s : Session) → a ≡ whereIn c x q → a ≡ b → s ≡ foundAt b q → s .end .0 ≡ endOf c x (held q)
   end-where a b s e d f = ap (λ (t : Session). t .end .0) (f ∙ ap (λ (y : Where). foundAt y q) (sym d ∙ e) ∙ sym found-where)
 
--- what is found stands where it is found
-pub where-stands : (c x : ℕ) (w k : Lot) → Good w → Good k → (a b : Where) → a ≡ whereIn c x (record { waiting = used w; started = used k }) → a ≡ b → Stands b (w .len) (k .len)
-where-stands c x w k g h a b e d =
-    let n : length (used w) ≡ w .len = length-used w g in
-    let m : length (used k) ≡ k .len = length-used k h in
-    subst (λ (y : Where). Stands y (w .len) (k .len)) (sym e ∙ d)
-    (by-where c x (record { waiting = used w; started = used k }) (λ y. Stands y (w .len) (k .len)) (λ i. omega arith) (λ i j. omega arith) (λ i j. tt))
-
--- the two searches of `where_held`
-module _ (c x : ℕ) (w k : Lot) (g : Good w) (h : Good k) (i : ℕ) (a : i ≡ place (is c x) (used w)) where
+module _ (c x : ℕ) (w k : Lot) (g : Good w) (h : Good k) where
   abbrev both : Queue
   both = record { waiting = used w; started = used k }
 
-  pub found-waiting : i < w .len → Waiting i ≡ whereIn c x both
-  unfolding whereIn
-  found-waiting l = rw (lt-ltb (place (is c x) (used w)) (length (used w)) (omega (arith, length-used w g))) (ap Waiting a)
+  -- what is found stands where it is found
+  pub where-stands : (a b : Where) → a ≡ whereIn c x both → a ≡ b → Stands b (w .len) (k .len)
+  where-stands a b e d =
+      let n : length (used w) ≡ w .len = length-used w g in
+      let m : length (used k) ≡ k .len = length-used k h in
+      subst (λ (y : Where). Stands y (w .len) (k .len)) (sym e ∙ d)
+      (by-where c x both (λ y. Stands y (w .len) (k .len)) (λ u. omega arith) (λ u v. omega arith) (λ u v. tt))
 
-  pub found-started : (j : ℕ) → w .len ≤ i → j ≡ place (is c x) (used k) → j < k .len → Started j ≡ whereIn c x both
-  unfolding whereIn
-  found-started j l b m =
-      rw (le-ltb (place (is c x) (used w)) (length (used w)) (omega (arith, length-used w g)), lt-ltb (place (is c x) (used k)) (length (used k)) (omega (arith, length-used k h))) (ap Started b)
+  -- the two searches of `where_held`
+  module _ (n : ℕ) (a : n ≡ place (is c x) (used w)) where
+    pub found-waiting : n < w .len → Waiting n ≡ whereIn c x both
+    unfolding whereIn
+    found-waiting l = rw (lt-ltb (place (is c x) (used w)) (length (used w)) (omega (arith, length-used w g))) (ap Waiting a)
 
-  pub found-nowhere : (j : ℕ) → w .len ≤ i → j ≡ place (is c x) (used k) → k .len ≤ j → Nowhere ≡ whereIn c x both
-  unfolding whereIn
-  found-nowhere j l b m =
-      rw (le-ltb (place (is c x) (used w)) (length (used w)) (omega (arith, length-used w g)), le-ltb (place (is c x) (used k)) (length (used k)) (omega (arith, length-used k h)))
+    module _ (l : w .len ≤ n) (m : ℕ) (b : m ≡ place (is c x) (used k)) where
+      none-waits : ltb (place (is c x) (used w)) (length (used w)) ≡ false
+      none-waits = le-ltb (place (is c x) (used w)) (length (used w)) (omega (arith, length-used w g))
+
+      pub found-started : m < k .len → Started m ≡ whereIn c x both
+      unfolding whereIn
+      found-started f = rw (none-waits, lt-ltb (place (is c x) (used k)) (length (used k)) (omega (arith, length-used k h))) (ap Started b)
+
+      pub found-nowhere : k .len ≤ m → Nowhere ≡ whereIn c x both
+      unfolding whereIn
+      found-nowhere f = rw (none-waits, le-ltb (place (is c x) (used k)) (length (used k)) (omega (arith, length-used k h)))
 
 -- ## b. The three reasons
 
@@ -162,7 +165,7 @@ unheld-end c x q h =
     ap (λ (t : Session). t .end .0) (List·getD-eq-default (held q) empty n)
 
 -- no session that is held ends at 0
-unknown-is : (c : ℕ) (f : Start) (q : Queue) (t : ℕ) → Each Proper q → t ≡ startOf c f q → unplaced f t ≡ unknownPrior c f q
+unknown-is : (c : ℕ) (f : Start) (q : Queue) (t : ℕ) → Each Proper q → t ≡ startOf c f q → startsNowhere f t ≡ unknownPrior c f q
 unfolding startOf unknownPrior
 unknown-is c (Timed m) q t a e = refl
 unknown-is c (Linked p) q t a e = ap (λ (n : ℕ). eqb n 0) e ∙ go (holds c p q) refl
@@ -182,7 +185,7 @@ module _ (c : ℕ) (r : Request) (q : Queue) where
     pub wrong-held : b ≡ true → true ≡ wrongNumber c r q
     wrong-held h = rw (ne-eqb (r .id) nobody somebody, ← f, h)
 
-    pub wrong-prior : (u : Bool) (t : ℕ) → b ≡ false → Each Proper q → t ≡ startOf c (r .start) q → u ≡ unplaced (r .start) t → u ≡ wrongNumber c r q
+    pub wrong-prior : (u : Bool) (t : ℕ) → b ≡ false → Each Proper q → t ≡ startOf c (r .start) q → u ≡ startsNowhere (r .start) t → u ≡ wrongNumber c r q
     wrong-prior u t h a e g = rw (ne-eqb (r .id) nobody somebody, ← f, h) (g ∙ unknown-is c (r .start) q t a e)
 
 -- ## d. No two that wait start together, so the first from a start on decides

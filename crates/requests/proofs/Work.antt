@@ -1,14 +1,12 @@
 -- Laws behind eviction, acceptance, abort and the two answers: what each piece of work promises, from what its parts promise.
 use mathlib.Core.Path.{_≡_, refl, sym, ap, ap₂, subst, _∙_}
-use mathlib.Core.Bool.{Bool, true, false, cond, not, _&&_}
+use mathlib.Core.Bool.{Bool, true, false, cond, not}
 use mathlib.Core.List.{List, [], _∷_, _++_, map}
 use Prim.Native.Nat.{ℕ, zero, suc, _+_, _-_, _*_, _/_, _≤_, _<_}
 use native.Mathlib.Omega.{arith}
-use native.Mathlib.Nat.{zero-add}
-use native.Mathlib.Numerals.{one-add}
-use lib.Dec.{eqb, leb, ltb}
+use lib.Dec.{eqb, ltb}
 use lib.ListN.{length, getD, length-append, drop-of-length-le}
-use borrow.Author.Tests.{lt-ltb, eq-eqb, ne-eqb, eqb-true, eqb-false, leb-true, leb-false, le-leb}
+use borrow.Author.Tests.{lt-ltb, eq-eqb, ne-eqb}
 use borrow.Rule.Slice.PartMut.{putMid, midOf}
 use Rattle.rules.specs.declared.Session.{Session}
 use Rattle.rules.specs.declared.Start.{Start}
@@ -19,21 +17,19 @@ use Rattle.rules.specs.State.{Queue, empty, is, startsAt, holds, withWaiting, S
 use Rattle.rules.specs.Bytes.{written}
 use Rattle.rules.specs.Records.{Record, SpliceResponse, AbortResponse, recordBytes, output}
 use Rattle.rules.specs.Ends.{Turn, quiet, andThen, writes, response, spliceOut, endings, followers, dismissed, evictedAt, evicted, cancelled, aborted}
-use Rattle.rules.specs.Answers.{startOf, sessionAt, requested, waits, raised, raisedSum, full, spliceResult, inserted, accepted, answerSplice, answerAbort}
+use Rattle.rules.specs.Answers.{startOf, sessionAt, requested, waits, full, spliceResult, inserted, accepted, answerSplice, answerAbort}
 use Rattle.rules.specs.Sound.{Room, horizon, Once, Holding}
-use Rattle.rules.proofs.Tests.{or-none}
 use Rattle.rules.proofs.Count.{some-one, some-place, place-none}
 use Rattle.rules.proofs.Checks.{passed-all}
 use Rattle.rules.proofs.Readings.{Within}
 use Rattle.rules.proofs.Records.{length-record}
 use Rattle.rules.proofs.Written.{written-none, written-more, length-written, written-record, output-one, written-output}
-use Rattle.rules.proofs.Room.{sixty-four}
+use Rattle.rules.proofs.Room.{room-more, sixty-four}
 use Rattle.rules.proofs.Size.{weight-append, weight-one, evictedAt-lean, cancelled-lean}
 use Rattle.rules.proofs.Bounds.{never, start-early}
 use Rattle.rules.proofs.Sound.{early}
 use Rattle.places.specs.Places.{Lot, lot, Good, Made, used, spare, OfFour, startsFrom}
-use Rattle.places.proofs.Words.{length-places}
-use Rattle.places.proofs.Laws.{length-used}
+use Rattle.places.proofs.Laws.{length-used, used-fits}
 use Rattle.ends.specs.declared.Counts.{Counts}
 use Rattle.ends.specs.declared.Ending.{Ending}
 use Rattle.ends.specs.declared.Ending.the-variants.{Complete, Response}
@@ -41,11 +37,7 @@ use Rattle.ends.specs.Does.{endingOf, Ends, queueOf, Turns}
 use Rattle.ends.proofs.Laws.{brief-ending, room-endings, turns-writes, ends-waiting, turns-then, ends-same, turns-same}
 use Rattle.requests.proofs.Laws.{by-where, taken-at, taken-within, free-at, waiting-of-four}
 use Rattle.requests.specs.declared.Where.{Where}
-use Rattle.requests.specs.Found.{whereIn, endingAt, endedAt, alone, sumOf}
-
--- as many are used as there are places at most
-pub used-fits : (q : List ℕ) (n : ℕ) → Good (lot q n) → n ≤ length q / 8
-used-fits q n g = omega (arith, g .fits, length-places q)
+use Rattle.requests.specs.Found.{whereIn, endingByPlace, endedAt, alone}
 
 -- ## Eviction
 
@@ -161,39 +153,8 @@ module _ (new : Session) (e : List ℕ) where
 
 -- ## A connection that is not full leaves room for one more
 
-more : (x y : ℕ) → (10 ≤ x → raised x + y < 64) → raised x + y ≤ 64 → raised (suc x) + y ≤ 64
-more x y f s = go (leb 10 x) refl
-  where
-    go : (b : Bool) → leb 10 x ≡ b → raised (suc x) + y ≤ 64
-    go true e = omega (arith, f (leb-true 10 x e))
-    go false e = omega (arith, leb-false 10 x e)
-
-sum-more : (n : ℕ → ℕ) (d : ℕ) → d ≤ 3 → (10 ≤ n d → sumOf n < 64) → sumOf n ≤ 64 → sumOf (λ c. bit (eqb c d) + n c) ≤ 64
-sum-more n zero h f s = simp (zero-add, one-add) (more (n 0) (raised (n 1) + (raised (n 2) + raised (n 3))) f s)
-sum-more n (suc zero) h f s =
-    simp (zero-add, one-add) (omega (arith, more (n 1) (raised (n 0) + (raised (n 2) + raised (n 3))) (λ l. omega (arith, f l)) (omega arith)))
-sum-more n (suc (suc zero)) h f s =
-    simp (zero-add, one-add) (omega (arith, more (n 2) (raised (n 0) + (raised (n 1) + raised (n 3))) (λ l. omega (arith, f l)) (omega arith)))
-sum-more n (suc (suc (suc zero))) h f s =
-    simp (zero-add, one-add) (omega (arith, more (n 3) (raised (n 0) + (raised (n 1) + raised (n 2))) (λ l. omega (arith, f l)) (omega arith)))
-sum-more n (suc (suc (suc (suc d)))) h f s = absurd (omega arith)
-
 room-left : (s : Session) (w : List Session) → OfFour s → All OfFour w → Room w → full (s .conn) w ≡ false → length w < 64
-unfolding full
-room-left s w low a r f =
-    let o = or-none (eqb (waits (s .conn) w) 20) (leb 10 (waits (s .conn) w) && eqb (raisedSum w) 64) f in
-    omega (arith, sixty-four (s ∷ w) (low, a) (record { each = λ c. each (o .0) c (eqb c (s .conn)) refl; sum = sum-more (λ c. waits c w) (s .conn) low (less (o .1)) (r .sum) }))
-  where
-    each : eqb (waits (s .conn) w) 20 ≡ false → (c : ℕ) (b : Bool) → eqb c (s .conn) ≡ b → bit b + waits c w ≤ 20
-    each n c true e =
-        let z = eqb-false (waits (s .conn) w) 20 n in
-        omega (arith, r .each c, ap (λ (d : ℕ). waits d w) (eqb-true c (s .conn) e))
-    each n c false e = omega (arith, r .each c)
-
-    less : (leb 10 (waits (s .conn) w) && eqb (raisedSum w) 64) ≡ false → 10 ≤ waits (s .conn) w → raisedSum w < 64
-    less n l =
-        let z = eqb-false (raisedSum w) 64 (rw (le-leb 10 (waits (s .conn) w) l) at n) in
-        omega (arith, r .sum)
+room-left s w low a r f = omega (arith, sixty-four (s ∷ w) (low, a) (room-more w (s ∷ w) (s .conn) low f (λ c. omega arith) r))
 
 -- ## The answer to a Splice_Request
 
@@ -291,18 +252,18 @@ module _ (p : Session → Bool) where
       go false l = ap (map cover) (parted-none p k (omega arith) .0)
 
   endings-at : (k : List Session) → count p k ≤ 1 → place p k < length k
-      → endings (spliceOut 116) (response 116) p k ≡ endingOf (endingAt (place p k)) (getD k (place p k) empty) ∷ []
+      → endings (spliceOut 116) (response 116) p k ≡ endingOf (endingByPlace (place p k)) (getD k (place p k) empty) ∷ []
   unfolding endings place
   endings-at [] o h = absurd (omega arith)
   endings-at (s ∷ k) o h = go (p s) o h
     where
       go : (b : Bool) → bit b + count p k ≤ 1 → cond b 0 (suc (place p k)) < suc (length k)
-          → put b (spliceOut 116 s) (map (response 116) (keep p k)) ≡ endingOf (endingAt (cond b 0 (suc (place p k)))) (getD (s ∷ k) (cond b 0 (suc (place p k))) empty) ∷ []
+          → put b (spliceOut 116 s) (map (response 116) (keep p k)) ≡ endingOf (endingByPlace (cond b 0 (suc (place p k)))) (getD (s ∷ k) (cond b 0 (suc (place p k))) empty) ∷ []
       go true m l = ap (λ (u : List Session). spliceOut 116 s ∷ map (response 116) u) (parted-none p k (omega arith) .0)
       go false m l = ap (map (response 116)) (parted-one p k empty (omega arith) (omega arith) .0)
 
 -- how a covered session ends
-pub ending-covered : (i : ℕ) → (i ≡ 0 → ⊥) → Response 116 ≡ endingAt i
+pub ending-covered : (i : ℕ) → (i ≡ 0 → ⊥) → Response 116 ≡ endingByPlace i
 ending-covered zero h = absurd (h refl)
 ending-covered (suc i) h = refl
 
@@ -321,24 +282,27 @@ cancelled-where : (c x : ℕ) (q : Queue) → Once q → endedAt (whereIn c x q)
 unfolding cancelled
 cancelled-where c x q once =
     by-where c x q (λ a. endedAt a q ≡ cancelled (is c x) q)
-    (λ h. let o = once c x in
-    let n = placed-one (is c x) (q .waiting) h in
-    let a = parted-one (is c x) (q .waiting) empty (omega arith) h in
-    let b = parted-none (is c x) (q .started) (omega arith) in
-    turn (sym (a .1)) (sym (b .1)) (sym (ap₂ (λ (u : List Record) (v : List Session). u ++ map (response 116) v) (endings-none (is c x) (spliceOut 116) (response 116) (q .started) (omega arith)) (a .0))))
-    (λ w h. let o = once c x in
-    let n = placed-one (is c x) (q .started) h in
-    let a = parted-none (is c x) (q .waiting) (place-none (is c x) (q .waiting) w) in
-    let b = parted-one (is c x) (q .started) empty (omega arith) h in
-    turn (sym (a .1)) (sym (b .1)) (sym (ap₂ (λ (u : List Record) (v : List Session). u ++ map (response 116) v) (endings-at (is c x) (q .started) (omega arith) h) (a .0))))
-    (λ w h. let n = place-none (is c x) (q .started) h in
-    let a = parted-none (is c x) (q .waiting) (place-none (is c x) (q .waiting) w) in
-    let b = parted-none (is c x) (q .started) n in
-    turn (sym (a .1)) (sym (b .1)) (sym (ap₂ (λ (u : List Record) (v : List Session). u ++ map (response 116) v) (endings-none (is c x) (spliceOut 116) (response 116) (q .started) n) (a .0))))
+    (λ h. let n = placed-one p (q .waiting) h in
+    let w = parted-one p (q .waiting) empty (omega (arith, once c x)) h in
+    let none : count p (q .started) ≡ 0 = omega (arith, once c x) in
+    parts (w .1) (parted-none p (q .started) none .1) (endings-none p (spliceOut 116) (response 116) (q .started) none) (w .0))
+    (λ f h. let w = parted-none p (q .waiting) (place-none p (q .waiting) f) in
+    let one : count p (q .started) ≤ 1 = omega (arith, once c x) in
+    parts (w .1) (parted-one p (q .started) empty one h .1) (endings-at p (q .started) one h) (w .0))
+    (λ f h. let w = parted-none p (q .waiting) (place-none p (q .waiting) f) in
+    let none = place-none p (q .started) h in
+    parts (w .1) (parted-none p (q .started) none .1) (endings-none p (spliceOut 116) (response 116) (q .started) none) (w .0))
   where
-    turn : {w w′ k k′ : List Session} {r r′ : List Record} → w ≡ w′ → k ≡ k′ → r ≡ r′
-        → _≡_ {A = Turn} (record { queue = record { waiting = w; started = k }; written = r }) (record { queue = record { waiting = w′; started = k′ }; written = r′ })
-    turn a b d i = record { queue = record { waiting = a i; started = b i }; written = d i }
+    p : Session → Bool
+    p = is c x
+
+    parts : {w k v : List Session} {r : List Record} → omit p (q .waiting) ≡ w → omit p (q .started) ≡ k → endings (spliceOut 116) (response 116) p (q .started) ≡ r → keep p (q .waiting) ≡ v
+        → _≡_ {A = Turn} (record { queue = record { waiting = w; started = k }; written = r ++ map (response 116) v })
+        (record {
+          queue = record { waiting = omit p (q .waiting); started = omit p (q .started) };
+          written = endings (spliceOut 116) (response 116) p (q .started) ++ map (response 116) (keep p (q .waiting));
+        })
+    parts a b d e = sym (λ i. record { queue = record { waiting = a i; started = b i }; written = d i ++ map (response 116) (e i) })
 
 -- one way to end for all
 endings-one : (f : Session → Record) (p : Session → Bool) (l : List Session) → endings f f p l ≡ map f (keep p l)

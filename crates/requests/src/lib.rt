@@ -15,12 +15,12 @@ ghost use lib.ListN.{length, getD};
 ghost use Rattle.rules.specs.Lists.{All, some, place, removeAt};
 ghost use Rattle.rules.specs.State.{empty, startsAt, held, holds, Sorted};
 ghost use Rattle.rules.specs.Ends.{evictedAt, cancelled};
-ghost use Rattle.rules.specs.Answers.{endOf, startOf, priorOf, sessionAt, wrongNumber, tooLate, collides, raised, full, spliceResult, accepted, answerSplice, answerAbort};
+ghost use Rattle.rules.specs.Answers.{endOf, startOf, priorOf, sessionAt, wrongNumber, tooLate, collides, raised, full, spliceResult, accepted, answerSplice, answerAbort, sumOf};
 ghost use Rattle.rules.specs.Sound.{Proper, Each, horizon, Once, Holding};
 ghost use Rattle.rules.proofs.Readings.{Within, Asked};
 ghost use Rattle.places.specs.Places.{Good, lot, used, OfFour, startsFrom, among};
 ghost use Rattle.ends.specs.Does.{Playable, endingOf, queueOf, Ends, Turns};
-ghost use Rattle.requests.specs.Found.{whereIn, Stands, endingAt, endedAt, unplaced, alone, sumOf, Few};
+ghost use Rattle.requests.specs.Found.{whereIn, Stands, endingByPlace, endedAt, startsNowhere, alone, Few};
 
 // Where a session is held: at a place among the waiting or the started, or nowhere.
 pub enum Where {
@@ -131,7 +131,7 @@ pub fn session_at(t: Ninths, conn: u64, r: Request) -> Session
 
 // Whether a linked request's PriorSession is not held by its connection. Its start t is then 0, and no session that is held ends at 0.
 pub fn is_unknown_prior(start: Start, t: Ninths) -> bool
-    ensures { λ r. ⌜ r ≡ unplaced start (t .0) ⌝ }
+    ensures { λ r. ⌜ r ≡ startsNowhere start (t .0) ⌝ }
 {
     match start {
         Start::Timed(_) => false,
@@ -408,8 +408,8 @@ pub fn cancel(
 }
 
 // How the started session at the place ends, aborted: the first is on air, the others are covered.
-pub fn ending_at(at: usize) -> Ending
-    ensures { λ r. ⌜ r ≡ endingAt at ⌝ }
+pub fn ending_by_place(at: usize) -> Ending
+    ensures { λ r. ⌜ r ≡ endingByPlace at ⌝ }
 {
     if at == 0 {
         return Ending::Complete(116);
@@ -418,7 +418,7 @@ pub fn ending_at(at: usize) -> Ending
 }
 
 // The session `at` of the n that are used ends, and the others close up. How far the output is written.
-pub fn end_at(l: &mut [u64], n: usize, at: usize, how: Ending, out: &mut [u8], len: usize) -> usize
+pub fn end_one(l: &mut [u64], n: usize, at: usize, how: Ending, out: &mut [u8], len: usize) -> usize
     requires { ⌜ Good (lot (now l) n) ⌝ }
     requires { ⌜ at < n ⌝ }
     requires { ⌜ All Playable (used (lot (now l) n)) ⌝ }
@@ -450,7 +450,7 @@ pub fn end_held(
 {
     match at {
         Where::Waiting(i) => {
-            let to = end_at(&mut *w, waiting, i, Ending::Response(116), &mut *out, len);
+            let to = end_one(&mut *w, waiting, i, Ending::Response(116), &mut *out, len);
             Counts {
                 waiting: waiting - 1,
                 started: started,
@@ -458,8 +458,8 @@ pub fn end_held(
             }
         }
         Where::Started(j) => {
-            let how = ending_at(j);
-            let to = end_at(&mut *k, started, j, how, &mut *out, len);
+            let how = ending_by_place(j);
+            let to = end_one(&mut *k, started, j, how, &mut *out, len);
             Counts {
                 waiting: waiting,
                 started: started - 1,

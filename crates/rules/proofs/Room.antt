@@ -14,7 +14,7 @@ use Rattle.rules.specs.declared.Session.{Session}
 use Rattle.rules.specs.declared.Request.{Request}
 use Rattle.rules.specs.Lists.{bit}
 use Rattle.rules.specs.State.{Splicer, of}
-use Rattle.rules.specs.Answers.{sessionAt, requested, waits, raised, raisedSum, full, accepted}
+use Rattle.rules.specs.Answers.{sessionAt, requested, waits, raised, sumOf, raisedSum, full, accepted}
 use Rattle.rules.specs.Calls.{Call, fresh, after}
 use Rattle.rules.proofs.Tests.{or-none}
 use Rattle.rules.proofs.All.{All}
@@ -23,10 +23,6 @@ use Rattle.rules.proofs.Leaving.{evicted-fewer, aborted-fewer, closedBy
 use Rattle.rules.proofs.Always.{Admitted, KeptHeld, held-always}
 use Rattle.rules.proofs.Sessions.{count-accepted, waiting-tick}
 pub use Rattle.rules.specs.Sound.{Room}
-
--- n c: how many of connection c wait
-abbrev sumOf : (ℕ → ℕ) → ℕ
-sumOf n = raised (n 0) + (raised (n 1) + (raised (n 2) + raised (n 3)))
 
 raised-up : (x y : ℕ) → x ≤ y → raised x ≤ raised y
 raised-up x y h = omega arith
@@ -38,7 +34,7 @@ sum-up : (n n′ : ℕ → ℕ) → ((c : ℕ) → n c ≤ n′ c) → sumOf n �
 sum-up n n′ h = four-up _ _ _ _ _ _ _ _ (raised-up _ _ (h 0)) (raised-up _ _ (h 1)) (raised-up _ _ (h 2)) (raised-up _ _ (h 3))
 
 -- one more for d
-abbrev plus : ℕ → (ℕ → ℕ) → ℕ → ℕ
+abbrev pub plus : ℕ → (ℕ → ℕ) → ℕ → ℕ
 plus d n c = bit (eqb c d) + n c
 
 sum-plus : (n : ℕ → ℕ) (d : ℕ) → d ≤ 3 → sumOf (plus d n) + raised (n d) ≤ sumOf n + raised (suc (n d))
@@ -66,7 +62,7 @@ room-less w v h r = record { each = λ c. omega (arith, h c, r .each c); sum = o
 pub room-fewer : (w v : List Session) → Fewer w v → Room w → Room v
 room-fewer w v f r = room-less w v (λ c. fewer-count (of c) f) r
 
-room-more : (w v : List Session) (d : ℕ) → d ≤ 3 → full d w ≡ false → ((c : ℕ) → waits c v ≤ plus d (λ e. waits e w) c) → Room w → Room v
+pub room-more : (w v : List Session) (d : ℕ) → d ≤ 3 → full d w ≡ false → ((c : ℕ) → waits c v ≤ plus d (λ e. waits e w) c) → Room w → Room v
 unfolding full
 room-more w v d low f h r =
     let n : ℕ → ℕ = λ c. waits c w in

@@ -129,8 +129,12 @@ waits c w = count (of c) w
 abbrev pub raised : ℕ → ℕ
 raised n = max n 10
 
+-- of the four counts n
+abbrev pub sumOf : (ℕ → ℕ) → ℕ
+sumOf n = raised (n 0) + (raised (n 1) + (raised (n 2) + raised (n 3)))
+
 abbrev pub raisedSum : List Session → ℕ
-raisedSum w = raised (waits 0 w) + (raised (waits 1 w) + (raised (waits 2 w) + raised (waits 3 w)))
+raisedSum w = sumOf (λ c. waits c w)
 
 unfoldable pub full : ℕ → List Session → Bool
 full c w = eqb (waits c w) 20 || (leb 10 (waits c w) && eqb (raisedSum w) 64)

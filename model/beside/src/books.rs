@@ -358,7 +358,7 @@ impl Books {
         Ok(())
     }
 
-    /// After every call: the places, and each waiting linked session behind the one it names.
+    /// After every call that wrote: the places, and each waiting linked session behind the one it names.
     fn holds(&self) -> Kept {
         let counts = self.counts();
         must(counts.iter().all(|n| *n <= 20), "more than 20 waiting")?;

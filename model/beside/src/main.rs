@@ -49,6 +49,9 @@ fn command(mut args: Vec<String>) -> Result<bool, String> {
     if let Some(word) = args.first() {
         return Err(format!("unknown word {word}"));
     }
+    if plan.n == 0 {
+        return Err("--n 0 compares nothing".to_string());
+    }
     let list = run::streams(plan.seed, 0, FOR_A_FAULT);
     let results = match fault {
         Some(name) => {
@@ -74,8 +77,9 @@ fn everything(plan: &Plan, list: &[Stream]) -> Vec<bool> {
     }
     let unnoticed = results[1..].iter().filter(|good| !**good).count();
     println!(
-        "beside: {} faults, {unnoticed} not noticed",
-        results.len() - 1
+        "beside: {} faults, and {} of them by the records alone: {unnoticed} not noticed",
+        wrong::all().len(),
+        BOOKED.len()
     );
     results
 }

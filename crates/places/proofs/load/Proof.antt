@@ -2,12 +2,12 @@
 use mathlib.Core.Path.{_∙_}
 use borrow.Author.Needs.{needs}
 use Rattle.rules.specs.State.{empty}
-use Rattle.places.proofs.Laws.{slot-within, slot-read, slot-free}
+use Rattle.places.proofs.Laws.{slot-within, slot-read, used-fits}
 use Rattle.places.proofs.load.Statement.{statement}
 use Rattle.places.proofs.load.Tie as tie
 
 sub-free : tie.Need-sub-free
-sub-free c = let s = c .before in slot-free (s .args .q .now) (s .args .n) (s .pre .0)
+sub-free c = let s = c .before in used-fits (s .args .q .now) (s .args .n) (s .pre .0)
 
 add-read-row : tie.Need-add-read-row
 add-read-row c = search needs

@@ -8,7 +8,7 @@ use Rattle.rules.specs.Lists.{insertAt, removeAt}
 use Rattle.rules.specs.State.{empty}
 use Rattle.places.specs.Places.{lot, places, spare}
 use Rattle.places.proofs.Words.{length-places}
-use Rattle.places.proofs.Laws.{hole-before, hole-filled, slot-free, slot-within, remove-made}
+use Rattle.places.proofs.Laws.{hole-before, hole-filled, used-fits, slot-within, remove-made}
 use Rattle.places.proofs.remove_at.Statement.{statement}
 use Rattle.places.proofs.remove_at.Tie as tie
 
@@ -19,7 +19,7 @@ abbrev μ-loop : tie.MeasureT-loop
 μ-loop q₀ n at first hole₀ q hole = hole
 
 sub-first : tie.Need-sub-first Inv-loop μ-loop
-sub-first c = let s = c .before in slot-free (s .args .q .now) (s .args .n) (s .pre .0)
+sub-first c = let s = c .before in used-fits (s .args .q .now) (s .args .n) (s .pre .0)
 
 add-hole : tie.Need-add-hole Inv-loop μ-loop
 add-hole c = search needs

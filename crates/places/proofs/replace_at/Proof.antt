@@ -1,11 +1,11 @@
 -- Rests on `slot-set`: a session written at a used place is written in the list.
 use borrow.Author.Needs.{needs}
-use Rattle.places.proofs.Laws.{slot-free, slot-within, slot-set}
+use Rattle.places.proofs.Laws.{used-fits, slot-within, slot-set}
 use Rattle.places.proofs.replace_at.Statement.{statement}
 use Rattle.places.proofs.replace_at.Tie as tie
 
 sub-free : tie.Need-sub-free
-sub-free c = let s = c .before in slot-free (s .args .q .now) (s .args .n) (s .pre .0)
+sub-free c = let s = c .before in used-fits (s .args .q .now) (s .args .n) (s .pre .0)
 
 add-write-row : tie.Need-add-write-row
 add-write-row c = search needs

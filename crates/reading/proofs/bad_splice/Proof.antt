@@ -1,13 +1,14 @@
 -- Any one of the tests makes it bad; the fields of r are those of the data.
 use mathlib.Core.Bool.{false, not, _&&_, or-true, or-false, and-false}
 use mathlib.Core.Logic.{⊎-elim}
-use mathlib.Core.Path.{_≡_, sym, ap, _∙_}
+use mathlib.Core.Path.{_≡_, ap, _∙_}
 use native.Mathlib.Omega.{arith}
 use borrow.Author.Tests.{eq-eqb, ne-eqb, lt-ltb, le-ltb}
 use lib.Dec.{eqb}
 use lib.ListN.{length}
 use Rattle.rules.specs.Units.{badMicros}
 use Rattle.rules.specs.Reading.{descriptorsFill, descriptorsOf, nobody, priorSession, microSeconds, duration, accessType, overridePlaying, returnToPriorChannel}
+use Rattle.rules.proofs.Tests.{tests}
 use Rattle.reading.proofs.Laws.{behind}
 use borrow.Author.Needs.{needs}
 use Rattle.reading.proofs.bad_splice.Statement.{statement}
@@ -22,7 +23,7 @@ number4-requires-2 c κs = search needs
 returns : tie.Need-returns
 returns c =
     let d = c .before .before .before .before .before .args .d .now in
-    rw (ap (λ p. eqb p nobody) (sym (c .before .number42 .ensures)) ∙ c .if2 .taken, lt-ltb 999999 (microSeconds d) (omega arith))
+    rw (eq-eqb (priorSession d) nobody (omega (arith, tests)), lt-ltb 999999 (microSeconds d) (omega arith))
     (simp or-true)
 
 returns-2 : tie.Need-returns-2
@@ -69,7 +70,7 @@ returns-6 c =
     let d = s .args .d .now in
     let time : (eqb (priorSession d) nobody && badMicros (microSeconds d)) ≡ false =
     ⊎-elim
-    (λ w. ap (λ b. b && badMicros (microSeconds d)) (ap (λ p. eqb p nobody) (sym (w .1 .ensures)) ∙ w .2 .left))
+    (λ w. ap (λ b. b && badMicros (microSeconds d)) (ne-eqb (priorSession d) nobody (omega (arith, tests, w .1 .ensures, w .2 .left))))
     (λ w. ap (λ b. eqb (priorSession d) nobody && b) (le-ltb 999999 (microSeconds d) (omega (arith, w .left))) ∙ and-false (eqb (priorSession d) nobody))
     (c .before .before .before .before .before .before .before .before .before .before .if1 .came) in
     rw (

@@ -5,7 +5,8 @@ use Rattle.rules.specs.State.{is}
 use Rattle.places.specs.Places.{lot}
 use Rattle.ends.specs.Does.{queueOf}
 use Rattle.requests.proofs.Laws.{isSomewhere, somewhere, held-where, where-stands}
-use Rattle.requests.proofs.Work.{used-fits, cancel-spends, abort-unknown, ended-turns, abort-turns}
+use Rattle.places.proofs.Laws.{used-fits}
+use Rattle.requests.proofs.Work.{cancel-spends, abort-unknown, ended-turns, abort-turns}
 use borrow.Author.Needs.{needs}
 use Rattle.requests.proofs.answer_abort.Statement.{statement}
 use Rattle.requests.proofs.answer_abort.Tie as tie

@@ -18,8 +18,8 @@ use Rattle.requests.proofs.end_held.Tie as tie
 enum-known-at : tie.Need-enum-known-at
 enum-known-at c = search needs
 
-end-at-requires : tie.Need-end-at-requires
-end-at-requires c κs =
+end-one-requires : tie.Need-end-one-requires
+end-one-requires c κs =
     let s = c .before .before .before .before .before .before .before .before in
     (s .pre .0, (subst (λ (a : Where). Stands a (s .args .waiting) (s .args .started)) (c .before .before .before .at .given .1) (s .pre .1 .1 .0), (s .pre .1 .1 .1 .0, s .pre .1 .1 .1 .1 .1)))
 
@@ -32,11 +32,11 @@ sub-t19 c =
 enum-known-at-2 : tie.Need-enum-known-at-2
 enum-known-at-2 c = search needs
 
-ending-at-requires : tie.Need-ending-at-requires
-ending-at-requires c κs = search needs
+ending-by-place-requires : tie.Need-ending-by-place-requires
+ending-by-place-requires c κs = search needs
 
-end-at-requires-2 : tie.Need-end-at-requires-2
-end-at-requires-2 c κs =
+end-one-requires-2 : tie.Need-end-one-requires-2
+end-one-requires-2 c κs =
     let s = c .before .before .before .before .before .before .before .before .before in
     (s .pre .1 .0, (subst (λ (a : Where). Stands a (s .args .waiting) (s .args .started)) (c .before .before .before .before .at2 .given .1) (s .pre .1 .1 .0), (s .pre .1 .1 .1 .1 .0, s .pre .1 .1 .1 .1 .1)))
 
@@ -59,7 +59,7 @@ returns : tie.Need-returns
 returns c =
     let s = c .before .before .before .before .before .before .before .before .before .before .before .before .before in
     let u = used (lot (s .args .w .now) (s .args .waiting)) in
-    rw (c .before .before .before .before .before .before .before .before .at .given .1) (ends-waiting (s .args .out .now) (s .args .len) (removeAt _ u) (response 116 (getD u _ empty) ∷ []) (c .before .before .before .before .end-at .last .0) (s .args .k .now) _ (s .args .started) _ _ (s .pre .1 .0) (c .before .before .before .before .end-at .ensures))
+    rw (c .before .before .before .before .before .before .before .before .at .given .1) (ends-waiting (s .args .out .now) (s .args .len) (removeAt _ u) (response 116 (getD u _ empty) ∷ []) (c .before .before .before .before .end-one .last .0) (s .args .k .now) _ (s .args .started) _ _ (s .pre .1 .0) (c .before .before .before .before .end-one .ensures))
 
 same-length-3 : tie.Need-same-length-3
 same-length-3 c = search needs
@@ -71,7 +71,7 @@ returns-2 : tie.Need-returns-2
 returns-2 c =
     let s = c .before .before .before .before .before .before .before .before .before .before .before .before .before .before in
     let u = used (lot (s .args .k .now) (s .args .started)) in
-    rw (c .before .before .before .before .before .before .before .before .before .at2 .given .1, ← c .before .before .before .before .before .before .before .ending-at .ensures) (ends-started (s .args .out .now) (s .args .len) (removeAt _ u) (endingOf (c .before .before .before .before .before .before .before .ending-at .result) (getD u _ empty) ∷ []) (s .args .w .now) (c .before .before .before .before .end-at2 .last .0) (s .args .waiting) _ _ _ (s .pre .0) (c .before .before .before .before .end-at2 .ensures))
+    rw (c .before .before .before .before .before .before .before .before .before .at2 .given .1, ← c .before .before .before .before .before .before .before .ending-by-place .ensures) (ends-started (s .args .out .now) (s .args .len) (removeAt _ u) (endingOf (c .before .before .before .before .before .before .before .ending-by-place .result) (getD u _ empty) ∷ []) (s .args .w .now) (c .before .before .before .before .end-one2 .last .0) (s .args .waiting) _ _ _ (s .pre .0) (c .before .before .before .before .end-one2 .ensures))
 
 returns-3 : tie.Need-returns-3
 returns-3 c =
@@ -83,11 +83,11 @@ end-held-spec =
     tie.close
     (tie.spec
     enum-known-at
-    end-at-requires
+    end-one-requires
     sub-t19
     enum-known-at-2
-    ending-at-requires
-    end-at-requires-2
+    ending-by-place-requires
+    end-one-requires-2
     sub-t24
     enum-told
     same-length

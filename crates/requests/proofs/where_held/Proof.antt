@@ -19,12 +19,12 @@ find-requires-2 c κs = search needs
 returns-2 : tie.Need-returns-2
 returns-2 c =
     let s = c .before .before .before .before .before .before in
-    found-started (s .args .conn) (s .args .id) (lot (s .args .w .now) (s .args .waiting)) (lot (s .args .k .now) (s .args .started)) (s .pre .0) (s .pre .1) (c .before .before .before .find .result) (c .before .before .before .find .ensures) (c .before .find2 .result) (c .before .before .if1 .left) (c .before .find2 .ensures) (c .if2 .taken)
+    found-started (s .args .conn) (s .args .id) (lot (s .args .w .now) (s .args .waiting)) (lot (s .args .k .now) (s .args .started)) (s .pre .0) (s .pre .1) (c .before .before .before .find .result) (c .before .before .before .find .ensures) (c .before .before .if1 .left) (c .before .find2 .result) (c .before .find2 .ensures) (c .if2 .taken)
 
 returns-3 : tie.Need-returns-3
 returns-3 c =
     let s = c .before .before .before .before .before .before in
-    found-nowhere (s .args .conn) (s .args .id) (lot (s .args .w .now) (s .args .waiting)) (lot (s .args .k .now) (s .args .started)) (s .pre .0) (s .pre .1) (c .before .before .before .find .result) (c .before .before .before .find .ensures) (c .before .find2 .result) (c .before .before .if1 .left) (c .before .find2 .ensures) (c .if2 .left)
+    found-nowhere (s .args .conn) (s .args .id) (lot (s .args .w .now) (s .args .waiting)) (lot (s .args .k .now) (s .args .started)) (s .pre .0) (s .pre .1) (c .before .before .before .find .result) (c .before .before .before .find .ensures) (c .before .before .if1 .left) (c .before .find2 .result) (c .before .find2 .ensures) (c .if2 .left)
 
 pub where-held-spec : {M : Type 1} → statement M
 where-held-spec = tie.close (tie.spec find-requires returns find-requires-2 returns-2 returns-3)

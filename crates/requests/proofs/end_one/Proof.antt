@@ -8,8 +8,8 @@ use Rattle.places.proofs.Laws.{length-used}
 use Rattle.ends.specs.Does.{Playable}
 use Rattle.requests.proofs.Work.{end-one}
 use borrow.Author.Needs.{needs}
-use Rattle.requests.proofs.end_at.Statement.{statement}
-use Rattle.requests.proofs.end_at.Tie as tie
+use Rattle.requests.proofs.end_one.Statement.{statement}
+use Rattle.requests.proofs.end_one.Tie as tie
 
 load-requires : tie.Need-load-requires
 load-requires c κs =
@@ -36,8 +36,8 @@ returns c =
     let s = c .before .before .before .before .before .before .before .before .before .before .before .before in
     end-one (s .args .out .now) (s .args .len) (s .args .l .now) (c .before .before .before .before .before .before .remove-at .last .0) (s .args .n) (s .args .at) (s .args .how) (c .before .before .before .before .before .before .before .before .load .result) _ _ (c .before .before .before .before .before .before .before .before .load .ensures) (c .before .before .before .before .before .before .remove-at .ensures) (c .before .before .write-end .ensures .0) (c .before .before .write-end .ensures .1)
 
-pub end-at-spec : {M : Type 1} → statement M
-end-at-spec =
+pub end-one-spec : {M : Type 1} → statement M
+end-one-spec =
     tie.close
     (tie.spec
     load-requires
