@@ -8,25 +8,7 @@ cd "$(dirname "$0")/.."
 target=x86_64-unknown-linux-gnu
 work=target/beside
 mkdir -p "$work"
-passed=0
-failed=0
-
-# ran NAME COMMAND..: runs it, shows what it prints and adds its counts; a failure that it does not count is one more
-ran() {
-    name=$1
-    shift
-    before=$failed
-    status=0
-    "$@" >"$work/$name.log" 2>&1 || status=$?
-    cat "$work/$name.log"
-    sums=$(grep -oE '[0-9]+ passed[,;] [0-9]+ failed' "$work/$name.log" | awk '{ p += $1; f += $3 } END { print p + 0, f + 0 }')
-    passed=$((passed + ${sums% *}))
-    failed=$((failed + ${sums#* }))
-    if [ "$status" -ne 0 ] && [ "$failed" -eq "$before" ]; then
-        failed=$((failed + 1))
-    fi
-    return "$status"
-}
+. tools/ran.sh
 
 # compiler: sets rustc to one that has the standard library for x86-64
 compiler() {

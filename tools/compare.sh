@@ -5,48 +5,26 @@ set -eu
 cd "$(dirname "$0")/.."
 work=target/compare
 mkdir -p "$work"
-passed=0
-failed=0
-
-# take LOG: adds every count 'N passed, M failed' or 'N passed; M failed' that stands in a log
-take() {
-    sums=$(grep -oE '[0-9]+ passed[,;] [0-9]+ failed' "$1" | awk '{ p += $1; f += $3 } END { print p + 0, f + 0 }')
-    passed=$((passed + ${sums% *}))
-    failed=$((failed + ${sums#* }))
-}
-
-# ran NAME COMMAND..: runs it and shows what it prints; a failure that it does not count is one more
-ran() {
-    name=$1
-    shift
-    before=$failed
-    status=0
-    "$@" >"$work/$name" 2>&1 || status=$?
-    cat "$work/$name"
-    take "$work/$name"
-    if [ "$status" -ne 0 ] && [ "$failed" -eq "$before" ]; then
-        failed=$((failed + 1))
-    fi
-}
+. tools/ran.sh
 
 CARGO_TARGET_DIR=target/model
 export CARGO_TARGET_DIR
-ran build cargo build --release --offline --manifest-path model/Cargo.toml
-ran tests cargo test --release --offline --manifest-path model/Cargo.toml
+ran build cargo build --release --offline --manifest-path model/Cargo.toml || :
+ran tests cargo test --release --offline --manifest-path model/Cargo.toml || :
 model=$CARGO_TARGET_DIR/release/model
 
 set -- model/scenarios/*.txt
 if [ -x target/bin/card ]; then
     card="sh tools/run-program.sh target/bin/card"
-    ran scenarios "$model" scenario --card "$card" "$@"
-    ran fuzz "$model" fuzz --seed 280 --n 200 --card "$card"
+    ran scenarios "$model" scenario --card "$card" "$@" || :
+    ran fuzz "$model" fuzz --seed 280 --n 200 --card "$card" || :
 else
-    ran scenarios "$model" scenario "$@"
-    ran fuzz "$model" fuzz --seed 280 --n 200
+    ran scenarios "$model" scenario "$@" || :
+    ran fuzz "$model" fuzz --seed 280 --n 200 || :
 fi
 
 # the definitions themselves, on three streams
-ran definitions sh tools/definitions.sh 280 3
+ran definitions sh tools/definitions.sh 280 3 || :
 
 echo "$passed passed, $failed failed"
 [ "$failed" -eq 0 ]

@@ -20,3 +20,15 @@ pub mod rules;
 pub mod scenario;
 #[cfg(test)]
 mod tests;
+
+/// Takes `--name value` out of the arguments.
+pub fn option(args: &mut Vec<String>, name: &str) -> Result<Option<String>, String> {
+    let Some(place) = args.iter().position(|a| a == name) else {
+        return Ok(None);
+    };
+    if place + 1 >= args.len() {
+        return Err(format!("{name} needs a value"));
+    }
+    args.remove(place);
+    Ok(Some(args.remove(place)))
+}

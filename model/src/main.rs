@@ -1,6 +1,6 @@
 //! The independent second program of the splicer core. See `model help`.
 
-use model::{asrun, card, fuzz, people, scenario};
+use model::{asrun, card, fuzz, option, people, scenario};
 use std::io::{Read, Write};
 
 const HELP: &str = "\
@@ -66,18 +66,6 @@ fn write_out(bytes: &[u8]) -> Result<bool, String> {
     out.write_all(bytes).map_err(told)?;
     out.flush().map_err(told)?;
     Ok(true)
-}
-
-/// Takes `--name value` out of the arguments.
-fn option(args: &mut Vec<String>, name: &str) -> Result<Option<String>, String> {
-    let Some(place) = args.iter().position(|a| a == name) else {
-        return Ok(None);
-    };
-    if place + 1 >= args.len() {
-        return Err(format!("{name} needs a value"));
-    }
-    args.remove(place);
-    Ok(Some(args.remove(place)))
 }
 
 fn run_scenario(args: &[String]) -> Result<bool, String> {

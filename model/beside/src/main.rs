@@ -9,6 +9,7 @@ mod run;
 mod wrong;
 
 use acts::Stream;
+use model::option;
 use run::{Plan, Tally};
 use wrong::Wrong;
 
@@ -82,18 +83,6 @@ fn everything(plan: &Plan, list: &[Stream]) -> Vec<bool> {
         BOOKED.len()
     );
     results
-}
-
-/// Takes `--name value` out of the arguments.
-fn option(args: &mut Vec<String>, name: &str) -> Result<Option<String>, String> {
-    let Some(place) = args.iter().position(|a| a == name) else {
-        return Ok(None);
-    };
-    if place + 1 >= args.len() {
-        return Err(format!("{name} needs a value"));
-    }
-    args.remove(place);
-    Ok(Some(args.remove(place)))
 }
 
 fn number(args: &mut Vec<String>, name: &str, usual: u64) -> Result<u64, String> {
