@@ -1,6 +1,7 @@
 #!/bin/sh
-# setup.sh [x86]: what the comparisons need beside the kit: cargo and rustc. With x86, also what builds and runs x86-64 programs in Rust
-# on Arm (tools/beside.sh). Installs Debian's where there are none (as root).
+# setup.sh [x86]: what the comparisons need beside the kit: cargo and rustc. With x86, also what builds x86-64 programs in Rust, runs and
+# counts them (tools/beside.sh, tools/measure.sh): on x86-64 gcc, objdump and Debian's emulator, which takes plugins; on Arm the library and the
+# linker for x86-64 too. Installs Debian's where there are none (as root).
 set -eu
 
 # install PACKAGE..: removes nothing that is there, and does not wait long for a network that does not answer
@@ -12,18 +13,40 @@ update() {
     apt-get update -o Acquire::http::Timeout=20 -o Acquire::Retries=1
 }
 
-if ! command -v cargo >/dev/null 2>&1; then
+# lacks TOOL..: whether one of them is not here
+lacks() {
+    for tool; do
+        command -v "$tool" >/dev/null 2>&1 || return 0
+    done
+    return 1
+}
+
+if lacks cargo; then
     update
     # Debian 12's plain cargo is too old for the second program
     install cargo-web rustc-web || install cargo rustc
 fi
 cargo --version
-if [ "${1:-}" = x86 ] && [ "$(uname -m)" = aarch64 ]; then
-    # rustc-web and its library for x86-64 are of one version
-    dpkg --add-architecture amd64
-    trap 'dpkg --remove-architecture amd64 2>/dev/null || :' EXIT
-    update
-    install rustc-web libstd-rust-web-dev:amd64 gcc gcc-x86-64-linux-gnu libc6-dev-amd64-cross qemu-user
-    trap - EXIT
+if [ "${1:-}" = x86 ]; then
+    case $(uname -m) in
+    x86_64)
+        if lacks gcc objdump qemu-x86_64; then
+            update
+            install gcc libc6-dev binutils qemu-user
+        fi
+        ;;
+    aarch64)
+        # rustc-web and its library for x86-64 are of one version
+        dpkg --add-architecture amd64
+        trap 'dpkg --remove-architecture amd64 2>/dev/null || :' EXIT
+        update
+        install rustc-web libstd-rust-web-dev:amd64 gcc gcc-x86-64-linux-gnu libc6-dev-amd64-cross qemu-user
+        trap - EXIT
+        ;;
+    *)
+        echo "setup.sh: no way known for $(uname -m)" >&2
+        exit 2
+        ;;
+    esac
 fi
 echo "1 passed, 0 failed"
