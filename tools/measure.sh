@@ -9,6 +9,7 @@
 #   programs  instructions of the card program and of the second program, both x86-64, on the same generated streams
 # Before anything is measured, replies and buffers of all three are compared on the call and on all calls that made its state.
 # How the states are made, so that they favour no engine: tools/measure/cases.h.
+# ARCHIVE names another archive than that of `rt staticlib door`, as the unproved one of tools/try-archive.sh.
 # Needs Debian's qemu-user and gcc (once, for the plugin; the kit's own emulator takes no plugin) and a rustc with the library for
 # x86-64 (RUSTC names one; Debian 12: rustc-web and libstd-rust-web-dev:amd64), on Arm gcc-x86-64-linux-gnu too (objdump, and the linker
 # for programs); programs needs cargo. `sh tools/setup.sh x86` installs them. No part of the gate.
@@ -20,7 +21,7 @@ kit=${RATTLE_HOME:-$(cd "$(dirname "$(readlink -f "$(command -v rt)")")/.." && p
 own=$kit/on/$(uname -m)
 tools=$own/toolchain
 target=x86_64-unknown-linux-gnu
-core=target/staticlib/libdoor.a
+core=${ARCHIVE:-target/staticlib/libdoor.a}
 rust=$work/libinplace.a
 RT_JOBS=${RT_JOBS:-1}
 export RT_JOBS
@@ -52,7 +53,9 @@ find_objdump() {
 }
 
 build() {
-    quiet rt staticlib door
+    if [ -z "${ARCHIVE:-}" ]; then
+        quiet rt staticlib door
+    fi
     quiet "$rustc" --edition 2021 --crate-type staticlib --crate-name inplace -C opt-level=3 -C panic=abort --target $target \
         -o "$rust" tools/measure/inplace.rs
     quiet "$tools/bin/clang" --target=$target -march=x86-64 -std=c11 -Wall -Wextra -Werror -O3 -fPIC -DSPLICER_NO_STANDARD_HEADERS \
@@ -62,6 +65,9 @@ build() {
 }
 
 versions() {
+    if [ -n "${ARCHIVE:-}" ]; then
+        echo "Core: the archive $ARCHIVE as it is; nothing here says that it is proved"
+    fi
     echo "Core: $(rt version), clang of the kit: $("$tools/bin/clang" --version | head -n 1)"
     echo "Rust: $("$rustc" --version), -C opt-level=3 -C panic=abort"
     echo "Counts: $(qemu-x86_64 --version | head -n 1), -cpu max,-erms"

@@ -1,0 +1,149 @@
+#!/bin/sh
+# try-archive.sh [OUT.a]: an UNPROVED x86-64 archive of crate `door` and all it reaches, from their sources as they stand, to measure and try
+# code before it is proved. OUT.a is target/try/libdoor.a if it is not given. A tool for development: no part of the gate, and no product.
+#   ARCHIVE=target/try/libdoor.a sh tools/measure.sh counts     instructions of its calls
+#   SPLICER_LIB=target/try                                      for cargo in bindings/ and model/beside/
+# How: `rt try` compiles a program of the door's source with an empty main. It runs here in a copy of the kit's folder made of links, whose
+# clang keeps the LLVM module. In a program no function is exported, so the C form of each `#[no_mangle] pub extern "C" fn` is written
+# behind the module as the kit writes it for an archive: a slice comes as a pointer and a length, all else as it is. The module is then
+# compiled as the kit compiles an archive's.
+set -eu
+cd "$(dirname "$0")/.."
+out=${1:-target/try/libdoor.a}
+kit=${RATTLE_HOME:-$(cd "$(dirname "$(readlink -f "$(command -v rt)")")/.." && pwd -P)}
+own=on/$(uname -m)
+tools=$kit/$own/toolchain
+target=x86_64-unknown-linux-gnu
+work=$PWD/target/try
+trial=$work/repo
+
+fail() {
+    echo "try-archive.sh: $*" >&2
+    exit 1
+}
+
+# links TO FILE..: a link in the folder TO for each file
+links() {
+    to=$1
+    shift
+    mkdir -p "$to"
+    for file; do
+        ln -s "$file" "$to/"
+    done
+}
+
+# the repository, with the door as a program
+rm -rf "$work"
+links "$trial/crates" "$PWD"/crates/*
+cp crates.txt "$trial/"
+rm "$trial/crates/door"
+cp -R crates/door "$trial/crates/door"
+rm -rf "$trial/crates/door/must-fail"
+mv "$trial/crates/door/src/lib.rt" "$trial/crates/door/src/main.rt"
+printf '\nfn main() {}\n' >>"$trial/crates/door/src/main.rt"
+
+# the kit, with a clang that keeps the module
+links "$work/kit" "$kit"/*
+rm "$work/kit/on"
+links "$work/kit/$own" "$kit/$own"/*
+rm "$work/kit/$own/toolchain"
+links "$work/kit/$own/toolchain" "$tools"/*
+rm "$work/kit/$own/toolchain/bin"
+links "$work/kit/$own/toolchain/bin" "$tools"/bin/*
+rm "$work/kit/$own/toolchain/bin/clang"
+# the first module is the program's; a later one has the compiler's assumptions checked
+cat >"$work/kit/$own/toolchain/bin/clang" <<END
+#!/bin/sh
+for word in "\$@"; do
+    case \$word in
+    *.bc) [ -f "$work/module.bc" ] || cp "\$word" "$work/module.bc" ;;
+    esac
+done
+exec "$tools/bin/clang" "\$@"
+END
+chmod +x "$work/kit/$own/toolchain/bin/clang"
+(cd "$trial" && RATTLE_HOME=$work/kit rt try door) >"$work/try.log" 2>&1 || { cat "$work/try.log" >&2; fail "the sources do not compile"; }
+[ -f "$work/module.bc" ] || fail "no module was kept"
+
+# compiled FLAG..: the kit's clang, as the kit calls it for an archive
+compiled() {
+    "$tools/bin/clang" --target=$target -march=x86-64 -ffunction-sections -fdata-sections -mllvm -trap-unreachable \
+        -mllvm -no-trap-after-noreturn --no-default-config -no-canonical-prefixes -x ir "$@"
+}
+
+compiled -S -emit-llvm -O0 -Xclang -disable-llvm-passes "$work/module.bc" -o "$work/module.ll"
+
+# The exported functions by the source, a line each: its name, then for each parameter 1 if it is a slice, else 0.
+# FUNCTION(PARAMETERS) may stand in one line or in several; an array of N has a `;` in it, a slice has none.
+awk '
+    /^#\[no_mangle\]/ { on = 1; text = ""; next }
+    on { sub(/\/\/.*/, ""); text = text " " $0; if (index(text, ")")) { say(); on = 0 } }
+    function say(    n, i, words, line) {
+        line = text
+        sub(/^.*fn +/, "", line)
+        sub(/\(.*/, "", line)
+        sub(/^[^(]*\(/, "", text)
+        sub(/\).*/, "", text)
+        n = split(text, words, ",")
+        for (i = 1; i <= n; i++)
+            if (words[i] ~ /:/) line = line " " (words[i] ~ /&(mut +)?\[[^;]*\] *$/ ? 1 : 0)
+        print line
+    }' "$trial/crates/door/src/main.rt" >"$work/exported"
+[ -s "$work/exported" ] || fail "the door exports nothing"
+
+# behind the module: the C form of each; a struct that is returned goes through memory, its address first (one of more than 16 bytes)
+awk -v list="$work/exported" '
+    BEGIN { while ((getline line < list) > 0) { name = line; sub(/ .*/, "", name); slices[name] = substr(line, length(name) + 2) } }
+    { print (/^define i32 @main\(\)/ ? "define internal i32 @main() {" : $0) }
+    /^define internal .*@"door::[a-z0-9_]+"\(/ {
+        name = $0
+        sub(/^.*@"door::/, "", name)
+        sub(/".*/, "", name)
+        if (name in slices) { heads[name] = $0; order[++count] = name }
+    }
+    END {
+        for (name in slices) if (!(name in heads)) exit 1
+        for (i = 1; i <= count; i++) export(order[i])
+    }
+    function export(name,    head, back, types, n, i, wide, m, through, pars, args, body, k) {
+        head = heads[name]
+        back = head
+        sub(/^define internal /, "", back)
+        sub(/ *@".*/, "", back)
+        sub(/^[^(]*\(/, "", head)
+        sub(/\) #.*/, "", head)
+        n = split(head, types, /, */)
+        m = split(slices[name], wide, " ")
+        through = n - m
+        if (through < 0 || through > 1 || (through && back != "void")) exit 1
+        for (i = 1; i <= n; i++) {
+            sub(/ %.*/, "", types[i])
+            pars = pars (i > 1 ? ", " : "") types[i] " %a" i
+            if (i > through && wide[i - through]) {
+                pars = pars ", i64 noundef %n" i
+                body = body "  %s" i " = alloca [16 x i8], align 8\n  store ptr %a" i ", ptr %s" i ", align 8\n"
+                body = body "  %e" i " = getelementptr i8, ptr %s" i ", i64 8\n  store i64 %n" i ", ptr %e" i ", align 8\n"
+            }
+            k = types[i]
+            sub(/ .*/, "", k)
+            args = args (i > 1 ? ", " : "") k " %" (i > through && wide[i - through] ? "s" : "a") i
+        }
+        k = back
+        sub(/^.* /, "", k)
+        print "\ndefine " (through ? "noundef ptr" : back) " @" name "(" pars ") #0 {"
+        printf "%s", body
+        if (back == "void") {
+            print "  call void @\"door::" name "\"(" args ")"
+            print (through ? "  ret ptr %a1" : "  ret void")
+        } else {
+            print "  %r = call " back " @\"door::" name "\"(" args ")"
+            print "  ret " k " %r"
+        }
+        print "}"
+    }' "$work/module.ll" >"$work/door.ll" || fail "the door's functions are not those of the module"
+
+compiled -c -Werror -fPIC -O3 "$work/door.ll" -o "$work/door.o"
+mkdir -p "$(dirname "$out")"
+rm -f "$out"
+"$tools/bin/llvm-ar" --format=gnu rc "$out" "$work/door.o"
+echo "$out: NOT PROVED, $(wc -l <"$work/exported") functions: $(sed 's/ .*//' "$work/exported" | tr '\n' ' ')"
