@@ -158,6 +158,9 @@ int main(void) {
     connected(1);
     connected(0);
     connected(4);
+    /* empty buffers, as some languages hand them over: a null pointer and length 0 */
+    report("message from", 0, splicer_call_message(&channel, 0, 0, 0, out, sizeof out));
+    report("tick", 1, splicer_call_tick(&channel, 1, 0, 0, 0));
     end = alive(wire);
     heard(0, wire, (size_t)(end - wire));
     end = init(wire, "CH1");

@@ -3,11 +3,8 @@
  * One struct splicer is one output channel with its connections 0 to 3. The driver owns its memory; the core keeps none of its
  * own, allocates nothing and has no globals. Every call borrows its arguments until it returns and keeps no pointer.
  *
- * The driver owes, and nothing checks:
- *   - splicer_call_fresh comes first; afterwards only the calls change the struct. It may be copied or moved between calls, since it
- *     holds no pointers.
- *   - `out` does not overlap the struct or `in`, and `in` does not overlap the struct; no pointer is null, also where a length is 0.
- *   - one call at a time on a struct. Calls on different structs may run at the same time.
+ * What the driver owes, and nothing checks: docs/INTEGRATION.md, "What the driver owes". In short: splicer_call_fresh first, then only the
+ * calls write to the struct; one call at a time on it; what is lent does not overlap; no null pointer but for a buffer of length 0.
  * Everything else is tested by the call and answered by a house number: any connection, any bytes, any time, any length of a buffer.
  *
  * A compiler without standard headers (the proof kit's) defines SPLICER_NO_STANDARD_HEADERS. */
@@ -35,6 +32,12 @@ extern "C" {
 #define SPLICER_ALIGN(type) _Alignof(type)
 #endif
 
+/* The version of struct splicer and of the archive's functions. Their names carry it, and every call below refers to such a name, so
+ * a header and an archive of two versions do not link. */
+enum {
+    SPLICER_VERSION = 2
+};
+
 /* Sizes. A message is a header of 8 bytes and at most 4,088 bytes of data. A buffer of SPLICER_OUT bytes takes the records of any
  * call; a shorter one is refused (2), a longer one is not used beyond them. */
 enum {
@@ -44,9 +47,9 @@ enum {
     SPLICER_MESSAGE = 4096,
     SPLICER_OUT = 4096,
     SPLICER_MARK = 2,
-    SPLICER_HEAD_WORDS = 7,
-    SPLICER_WAITING_WORDS = 512,
-    SPLICER_STARTED_WORDS = 80
+    SPLICER_WORDS = 599,
+    SPLICER_BYTES = 32,
+    SPLICER_REPLY = 3
 };
 
 /* Document 01's house numbers: why a call was refused. A refused call wrote nothing, consumed nothing and changed nothing; only a
@@ -95,13 +98,12 @@ enum splicer_result {
     SPLICER_OVERRIDDEN = 125        /* the session's end while another covered it */
 };
 
-/* One output channel. Opaque: its content is the core's. head: the clock in ninths of a microsecond, how many wait and have
- * started, a word for each connection; then the ChannelName, 64 places of 8 words for those that wait, 10 for those that started. */
+/* One output channel. Opaque: its content is the core's, and unused places are zero. words: 0 the clock in ninths of a microsecond, 1 how
+ * many wait, 2 how many have started, 3 to 6 the connections; then 64 places of 8 words for those that wait, then 10 for those that have
+ * started. In both the used places are the last ones, the first session next to the free places. bytes: the ChannelName. */
 struct splicer {
-    uint64_t head[SPLICER_HEAD_WORDS];
-    uint8_t name[SPLICER_NAME];
-    uint64_t waiting[SPLICER_WAITING_WORDS];
-    uint64_t started[SPLICER_STARTED_WORDS];
+    uint64_t words[SPLICER_WORDS];
+    uint8_t bytes[SPLICER_BYTES];
 };
 
 /* What a call answers: the house number of its refusal, or 0 and the bytes consumed of `in` and written to `out`. */
@@ -115,44 +117,60 @@ struct splicer_reply {
 SPLICER_ASSERT(sizeof(size_t) == 8, "a length is 8 bytes");
 SPLICER_ASSERT(sizeof(struct splicer) == 4824, "size of struct splicer");
 SPLICER_ASSERT(SPLICER_ALIGN(struct splicer) == 8, "alignment of struct splicer");
-SPLICER_ASSERT(SPLICER_OFFSET(struct splicer, started) == 4184, "layout of struct splicer");
-SPLICER_ASSERT(sizeof(struct splicer_reply) == 24, "size of struct splicer_reply");
-SPLICER_ASSERT(SPLICER_OFFSET(struct splicer_reply, written) == 16, "layout of struct splicer_reply");
+SPLICER_ASSERT(SPLICER_OFFSET(struct splicer, bytes) == 4792, "layout of struct splicer");
 
-/* The archive's functions, over the parts of a struct splicer. Drivers use the splicer_call_ functions below. */
-struct splicer_reply splicer_fresh(const uint8_t *name, uint64_t *head, uint8_t *kept, uint64_t *waiting, uint64_t *started);
-struct splicer_reply splicer_open(uint64_t *head, const uint8_t *kept, const uint64_t *waiting, const uint64_t *started, uint32_t conn);
-struct splicer_reply splicer_close(uint64_t *head, const uint8_t *kept, uint64_t *waiting, uint64_t *started, uint32_t conn,
-                                   uint8_t *out, size_t room);
-struct splicer_reply splicer_message(uint64_t *head, const uint8_t *kept, uint64_t *waiting, uint64_t *started, uint32_t conn,
-                                     const uint8_t *in, size_t length, uint8_t *out, size_t room);
-struct splicer_reply splicer_tick(uint64_t *head, const uint8_t *kept, uint64_t *waiting, uint64_t *started, uint32_t seconds,
-                                  uint32_t micros, uint8_t *out, size_t room);
+/* The archive's functions, over the parts of a struct splicer. Drivers use the splicer_call_ functions below. Pointers and numbers only:
+ * nothing is passed or returned by value that two compilers could pass in two ways. reply, SPLICER_REPLY words, gets the house number or
+ * 0, the bytes consumed and the bytes written. */
+void splicer_2_fresh(const uint8_t *name, uint64_t *words, uint8_t *bytes, uint64_t *reply);
+void splicer_2_open(uint64_t *words, uint8_t *bytes, uint32_t conn, uint64_t *reply);
+void splicer_2_close(uint64_t *words, uint8_t *bytes, uint32_t conn, uint8_t *out, size_t room, uint64_t *reply);
+void splicer_2_message(uint64_t *words, uint8_t *bytes, uint32_t conn, const uint8_t *in, size_t length, uint8_t *out, size_t room,
+                       uint64_t *reply);
+void splicer_2_tick(uint64_t *words, uint8_t *bytes, uint32_t seconds, uint32_t micros, uint8_t *out, size_t room, uint64_t *reply);
+
+static inline struct splicer_reply splicer_reply_of(const uint64_t *reply) {
+    struct splicer_reply r;
+    r.refused = (uint32_t)reply[0];
+    r.consumed = (size_t)reply[1];
+    r.written = (size_t)reply[2];
+    return r;
+}
 
 /* Makes a splicer, whatever s held: clock 0, all connections closed. name: 32 bytes, a zero among them (else 9). */
 static inline struct splicer_reply splicer_call_fresh(struct splicer *s, const uint8_t *name) {
-    return splicer_fresh(name, s->head, s->name, s->waiting, s->started);
+    uint64_t reply[SPLICER_REPLY];
+    splicer_2_fresh(name, s->words, s->bytes, reply);
+    return splicer_reply_of(reply);
 }
 
 /* A server has connected. Refused: 1, 6. */
 static inline struct splicer_reply splicer_call_open(struct splicer *s, uint32_t conn) {
-    return splicer_open(s->head, s->name, s->waiting, s->started, conn);
+    uint64_t reply[SPLICER_REPLY];
+    splicer_2_open(s->words, s->bytes, conn, reply);
+    return splicer_reply_of(reply);
 }
 
 /* The connection is gone. The records are not sent but logged. Refused: 1, 2, 7. */
 static inline struct splicer_reply splicer_call_close(struct splicer *s, uint32_t conn, uint8_t *out, size_t room) {
-    return splicer_close(s->head, s->name, s->waiting, s->started, conn, out, room);
+    uint64_t reply[SPLICER_REPLY];
+    splicer_2_close(s->words, s->bytes, conn, out, room, reply);
+    return splicer_reply_of(reply);
 }
 
 /* Handles the first message of the `length` bytes read so far from conn; `consumed` says how many it was. Refused: 1, 2, 7, 5, 4. */
 static inline struct splicer_reply splicer_call_message(struct splicer *s, uint32_t conn, const uint8_t *in, size_t length, uint8_t *out,
                                                         size_t room) {
-    return splicer_message(s->head, s->name, s->waiting, s->started, conn, in, length, out, room);
+    uint64_t reply[SPLICER_REPLY];
+    splicer_2_message(s->words, s->bytes, conn, in, length, out, room, reply);
+    return splicer_reply_of(reply);
 }
 
 /* Brings the clock to a time and does what is due until then. Refused: 2, 8, 3. */
 static inline struct splicer_reply splicer_call_tick(struct splicer *s, uint32_t seconds, uint32_t micros, uint8_t *out, size_t room) {
-    return splicer_tick(s->head, s->name, s->waiting, s->started, seconds, micros, out, room);
+    uint64_t reply[SPLICER_REPLY];
+    splicer_2_tick(s->words, s->bytes, seconds, micros, out, room, reply);
+    return splicer_reply_of(reply);
 }
 
 /* A record in an output buffer: whom it is for, what it says, and the message as it is sent. The pointers lead into the buffer. */
@@ -177,11 +195,11 @@ static inline uint32_t splicer_u32(const uint8_t *p) {
 
 /* The record at *at of the `written` bytes; moves *at behind it. 1, or 0 at the end. Start with *at == 0. */
 static inline int splicer_next_record(const uint8_t *out, size_t written, size_t *at, struct splicer_record *r) {
-    const uint8_t *p = out + *at;
     size_t left = written - *at;
-    if (left < SPLICER_MARK + SPLICER_HEADER || p[0] != 0x52) {
+    if (left < SPLICER_MARK + SPLICER_HEADER || out[*at] != 0x52) {
         return 0;
     }
+    const uint8_t *p = out + *at;
     r->connection = p[1];
     r->message = p + SPLICER_MARK;
     r->message_id = splicer_u16(r->message);

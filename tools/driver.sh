@@ -1,9 +1,11 @@
 #!/bin/sh
 # driver.sh: the C header by itself, as C11 and C++17, and the example driver over the proved archive, its output compared with
-# examples/driver.out. All by the kit's own compiler and linker. The last line is 'N passed, M failed'.
+# examples/driver.out; a driver of version 1 must not link with it. All by the kit's own compiler and linker.
+# The last line is 'N passed, M failed'.
 set -eu
 cd "$(dirname "$0")/.."
 work=target/driver
+rm -rf "$work"
 mkdir -p "$work"
 kit=${RATTLE_HOME:-$(cd "$(dirname "$(readlink -f "$(command -v rt)")")/.." && pwd -P)}
 clang=$kit/on/$(uname -m)/toolchain/bin/clang
@@ -40,9 +42,19 @@ runs() {
     sh tools/run-program.sh "$work/driver" >"$work/out" && diff examples/driver.out "$work/out"
 }
 
+# old: a driver that was compiled with version 1's header must not link, for want of its functions
+old() {
+    if sh tools/build-driver.sh "$work/old" tools/driver/version-1.c target/staticlib/libdoor.a >"$work/old.log" 2>&1; then
+        echo 'it links'
+        return 1
+    fi
+    grep 'undefined symbol: splicer_fresh' "$work/old.log"
+}
+
 tried 'header as C11' header c c11
 tried 'header as C++17' header c++ c++17
 tried 'build' built
 tried 'run' runs
+tried 'a driver of version 1 does not link' old
 echo "$passed passed, $failed failed"
 [ "$failed" -eq 0 ]

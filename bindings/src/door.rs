@@ -1,76 +1,69 @@
-//! The archive's five functions, as `include/splicer.h` declares them.
+//! The archive's five functions, as `include/splicer.h` declares them: their link names carry the
+//! version, so that this crate and an archive of two versions do not link.
 
 use crate::Refusal;
 
-/// What a call answers: the house number of its refusal, or 0 and the bytes consumed and written.
-#[repr(C)]
-pub struct Reply {
-    pub refused: u32,
+/// Words of a reply: the house number of a refusal or 0, the bytes consumed and the bytes written.
+pub const REPLY: usize = 3;
+
+/// What a good call did.
+pub struct Counts {
     pub consumed: usize,
     pub written: usize,
 }
 
-const _: () = assert!(size_of::<Reply>() == 24);
-const _: () = assert!(core::mem::offset_of!(Reply, written) == 16);
-
-impl Reply {
-    /// Itself, or why the call was refused.
-    pub fn good(self) -> Result<Reply, Refusal> {
-        match self.refused {
-            0 => Ok(self),
-            // The core gives no number above 9; another archive is better noticed here.
-            number => Err(Refusal::of(number).expect("a house number")),
-        }
+/// Lends the words of a reply to a call. Gives what it did, or why it was refused.
+pub fn replied(call: impl FnOnce(*mut u64)) -> Result<Counts, Refusal> {
+    let mut reply = [0; REPLY];
+    call(reply.as_mut_ptr());
+    let [number, consumed, written] = reply;
+    if number == 0 {
+        // A length is 8 bytes: lib.rs asserts it.
+        let (consumed, written) = (consumed as usize, written as usize);
+        return Ok(Counts { consumed, written });
     }
+    // The core gives no number above 9; another archive is better noticed here.
+    let refusal = u32::try_from(number).ok().and_then(Refusal::of);
+    Err(refusal.expect("a house number"))
 }
 
 extern "C" {
-    pub fn splicer_fresh(
-        name: *const u8,
-        head: *mut u64,
-        kept: *mut u8,
-        waiting: *mut u64,
-        started: *mut u64,
-    ) -> Reply;
+    #[link_name = "splicer_2_fresh"]
+    pub fn fresh(name: *const u8, words: *mut u64, bytes: *mut u8, reply: *mut u64);
 
-    pub fn splicer_open(
-        head: *mut u64,
-        kept: *const u8,
-        waiting: *const u64,
-        started: *const u64,
-        conn: u32,
-    ) -> Reply;
+    #[link_name = "splicer_2_open"]
+    pub fn open(words: *mut u64, bytes: *mut u8, conn: u32, reply: *mut u64);
 
-    pub fn splicer_close(
-        head: *mut u64,
-        kept: *const u8,
-        waiting: *mut u64,
-        started: *mut u64,
+    #[link_name = "splicer_2_close"]
+    pub fn close(
+        words: *mut u64,
+        bytes: *mut u8,
         conn: u32,
         out: *mut u8,
         room: usize,
-    ) -> Reply;
+        reply: *mut u64,
+    );
 
-    pub fn splicer_message(
-        head: *mut u64,
-        kept: *const u8,
-        waiting: *mut u64,
-        started: *mut u64,
+    #[link_name = "splicer_2_message"]
+    pub fn message(
+        words: *mut u64,
+        bytes: *mut u8,
         conn: u32,
         read: *const u8,
         length: usize,
         out: *mut u8,
         room: usize,
-    ) -> Reply;
+        reply: *mut u64,
+    );
 
-    pub fn splicer_tick(
-        head: *mut u64,
-        kept: *const u8,
-        waiting: *mut u64,
-        started: *mut u64,
+    #[link_name = "splicer_2_tick"]
+    pub fn tick(
+        words: *mut u64,
+        bytes: *mut u8,
         seconds: u32,
         micros: u32,
         out: *mut u8,
         room: usize,
-    ) -> Reply;
+        reply: *mut u64,
+    );
 }

@@ -8,8 +8,8 @@
 //! call overlaps nothing. Any connection, bytes, time and length of a buffer may be handed in: the
 //! call tests them and answers with a house number, a [`Refusal`].
 //!
-//! What each unsafe call rests on: the parts have the lengths that the core takes (7, 32, 512 and
-//! 80, by their types), and a state came from `fresh` and was changed by the calls only, since its
+//! What each unsafe call rests on: the parts have the lengths that the core takes (599 words and 32
+//! bytes, by their types), and a state came from `fresh` and was changed by the calls only, since its
 //! fields are private. The reason beside each call says the rest.
 #![no_std]
 #![warn(missing_docs)]
@@ -18,9 +18,10 @@ mod door;
 mod records;
 
 use core::fmt;
-use door::Reply;
 pub use records::{message_id, records, result, Record, Records};
 
+/// The version of the state and of the archive's functions, whose names carry it.
+pub const VERSION: u32 = 2;
 /// Connections of a channel: 0 to 3.
 pub const CONNECTIONS: usize = 4;
 /// Bytes of a ChannelName.
@@ -33,10 +34,10 @@ pub const MESSAGE: usize = 4096;
 pub const OUT: usize = 4096;
 /// Bytes of the mark before each record.
 pub const MARK: usize = 2;
-
-const HEAD_WORDS: usize = 7;
-const WAITING_WORDS: usize = 512;
-const STARTED_WORDS: usize = 80;
+/// Words of a [`Splicer`]'s memory.
+pub const WORDS: usize = 599;
+/// Bytes of a [`Splicer`]'s memory, behind its words.
+pub const BYTES: usize = 32;
 
 /// One output channel.
 ///
@@ -44,17 +45,15 @@ const STARTED_WORDS: usize = 80;
 #[derive(Clone, PartialEq, Eq)]
 #[repr(C)]
 pub struct Splicer {
-    head: [u64; HEAD_WORDS],
-    name: [u8; NAME],
-    waiting: [u64; WAITING_WORDS],
-    started: [u64; STARTED_WORDS],
+    words: [u64; WORDS],
+    bytes: [u8; BYTES],
 }
 
 // The numbers that the header asserts of its struct.
 const _: () = assert!(size_of::<usize>() == 8);
 const _: () = assert!(size_of::<Splicer>() == 4824);
 const _: () = assert!(align_of::<Splicer>() == 8);
-const _: () = assert!(core::mem::offset_of!(Splicer, started) == 4184);
+const _: () = assert!(core::mem::offset_of!(Splicer, bytes) == 4792);
 
 /// Document 01's house numbers: why a call was refused. A refused call wrote nothing, consumed
 /// nothing and changed nothing.
@@ -139,54 +138,36 @@ impl Splicer {
     /// back, so this does too.
     pub fn fresh(name: &[u8; NAME]) -> (Splicer, Result<(), Refusal>) {
         let mut made = Splicer {
-            head: [0; HEAD_WORDS],
-            name: [0; NAME],
-            waiting: [0; WAITING_WORDS],
-            started: [0; STARTED_WORDS],
+            words: [0; WORDS],
+            bytes: [0; BYTES],
         };
+        let (words, bytes) = made.parts();
         // SAFETY: fresh takes whatever the parts hold; they are fields of one struct, so apart.
-        let reply = unsafe {
-            door::splicer_fresh(
-                name.as_ptr(),
-                made.head.as_mut_ptr(),
-                made.name.as_mut_ptr(),
-                made.waiting.as_mut_ptr(),
-                made.started.as_mut_ptr(),
-            )
-        };
-        (made, reply.good().map(|_| ()))
+        let named = door::replied(|reply| unsafe {
+            door::fresh(name.as_ptr(), words, bytes, reply);
+        });
+        (made, named.map(|_| ()))
     }
 
     /// A server has connected. Refused: 1, 6.
     pub fn open(&mut self, connection: u32) -> Result<(), Refusal> {
+        let (words, bytes) = self.parts();
         // SAFETY: the state came from fresh, as the fields are private; they do not overlap.
-        let reply = unsafe {
-            door::splicer_open(
-                self.head.as_mut_ptr(),
-                self.name.as_ptr(),
-                self.waiting.as_ptr(),
-                self.started.as_ptr(),
-                connection,
-            )
-        };
-        reply.good().map(|_| ())
+        let opened = door::replied(|reply| unsafe {
+            door::open(words, bytes, connection, reply);
+        });
+        opened.map(|_| ())
     }
 
     /// The connection is gone. The records are not sent but logged. Refused: 1, 2, 7.
     pub fn close<'o>(&mut self, connection: u32, out: &'o mut [u8]) -> Result<&'o [u8], Refusal> {
+        let (words, bytes) = self.parts();
+        let (at, room) = (out.as_mut_ptr(), out.len());
         // SAFETY: the state came from fresh; `out` is lent for writing, so it overlaps nothing.
-        let reply = unsafe {
-            door::splicer_close(
-                self.head.as_mut_ptr(),
-                self.name.as_ptr(),
-                self.waiting.as_mut_ptr(),
-                self.started.as_mut_ptr(),
-                connection,
-                out.as_mut_ptr(),
-                out.len(),
-            )
-        };
-        written(reply, out)
+        let done = door::replied(|reply| unsafe {
+            door::close(words, bytes, connection, at, room, reply);
+        })?;
+        Ok(&out[..done.written])
     }
 
     /// Handles the first message of the bytes read so far from a connection.
@@ -197,23 +178,17 @@ impl Splicer {
         read: &[u8],
         out: &'o mut [u8],
     ) -> Result<Handled<'o>, Refusal> {
+        let (words, bytes) = self.parts();
+        let (from, length) = (read.as_ptr(), read.len());
+        let (at, room) = (out.as_mut_ptr(), out.len());
         // SAFETY: the state came from fresh; `self` and `out` are lent for writing, so apart.
-        let reply = unsafe {
-            door::splicer_message(
-                self.head.as_mut_ptr(),
-                self.name.as_ptr(),
-                self.waiting.as_mut_ptr(),
-                self.started.as_mut_ptr(),
-                connection,
-                read.as_ptr(),
-                read.len(),
-                out.as_mut_ptr(),
-                out.len(),
-            )
-        };
-        let consumed = reply.consumed;
-        let written = written(reply, out)?;
-        Ok(Handled { consumed, written })
+        let done = door::replied(|reply| unsafe {
+            door::message(words, bytes, connection, from, length, at, room, reply);
+        })?;
+        Ok(Handled {
+            consumed: done.consumed,
+            written: &out[..done.written],
+        })
     }
 
     /// Brings the clock to a time and does what is due until then. Refused: 2, 8, 3.
@@ -223,20 +198,18 @@ impl Splicer {
         micros: u32,
         out: &'o mut [u8],
     ) -> Result<&'o [u8], Refusal> {
+        let (words, bytes) = self.parts();
+        let (at, room) = (out.as_mut_ptr(), out.len());
         // SAFETY: the state came from fresh; `out` is lent for writing, so it overlaps nothing.
-        let reply = unsafe {
-            door::splicer_tick(
-                self.head.as_mut_ptr(),
-                self.name.as_ptr(),
-                self.waiting.as_mut_ptr(),
-                self.started.as_mut_ptr(),
-                seconds,
-                micros,
-                out.as_mut_ptr(),
-                out.len(),
-            )
-        };
-        written(reply, out)
+        let done = door::replied(|reply| unsafe {
+            door::tick(words, bytes, seconds, micros, at, room, reply);
+        })?;
+        Ok(&out[..done.written])
+    }
+
+    /// What is lent to every call.
+    fn parts(&mut self) -> (*mut u64, *mut u8) {
+        (self.words.as_mut_ptr(), self.bytes.as_mut_ptr())
     }
 }
 
@@ -245,10 +218,4 @@ impl fmt::Debug for Splicer {
     fn fmt(&self, f: &mut fmt::Formatter<'_>) -> fmt::Result {
         f.debug_struct("Splicer").finish_non_exhaustive()
     }
-}
-
-/// The written front of the lent buffer, or the refusal.
-fn written(reply: Reply, out: &[u8]) -> Result<&[u8], Refusal> {
-    let reply = reply.good()?;
-    Ok(&out[..reply.written])
 }

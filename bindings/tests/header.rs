@@ -1,8 +1,11 @@
-//! The crate's numbers are those of `include/splicer.h`.
+//! The crate's numbers and its declarations of the archive's functions are those of
+//! `include/splicer.h`.
 
 use splicer::{message_id, result, Refusal};
 
 const HEADER_TEXT: &str = include_str!("../../include/splicer.h");
+const DOOR_TEXT: &str = include_str!("../src/door.rs");
+const CALLS: [&str; 5] = ["fresh", "open", "close", "message", "tick"];
 
 /// Every `SPLICER_NAME = number` of the header's enums.
 fn of_header() -> Vec<(String, u32)> {
@@ -25,14 +28,30 @@ fn of_header() -> Vec<(String, u32)> {
 
 fn sizes() -> Vec<(&'static str, u32)> {
     let list = [
+        ("VERSION", splicer::VERSION as usize),
         ("CONNECTIONS", splicer::CONNECTIONS),
         ("NAME", splicer::NAME),
         ("HEADER", splicer::HEADER),
         ("MESSAGE", splicer::MESSAGE),
         ("OUT", splicer::OUT),
         ("MARK", splicer::MARK),
+        ("WORDS", splicer::WORDS),
+        ("BYTES", splicer::BYTES),
+        ("REPLY", reply_words()),
     ];
     list.map(|(name, size)| (name, size as u32)).to_vec()
+}
+
+/// It is private, so it is read in the source.
+fn reply_words() -> usize {
+    let number = between(DOOR_TEXT, "const REPLY: usize = ", ";");
+    number.parse().expect("a number")
+}
+
+/// What stands between two texts, the first place where it does.
+fn between<'t>(text: &'t str, before: &str, behind: &str) -> &'t str {
+    let (_, rest) = text.split_once(before).expect(before);
+    rest.split_once(behind).expect(behind).0
 }
 
 fn refusals() -> Vec<(&'static str, u32)> {
@@ -84,15 +103,11 @@ fn ids_and_results() -> Vec<(&'static str, u32)> {
 
 #[test]
 fn every_number_of_the_header_is_here() {
-    // The word counts are private, and held by the size of a Splicer; GOOD is no refusal.
-    let left_out = ["HEAD_WORDS", "WAITING_WORDS", "STARTED_WORDS", "GOOD"];
-    let here = [sizes(), refusals(), ids_and_results()].concat();
+    let good = vec![("GOOD", 0)];
+    let here = [sizes(), good, refusals(), ids_and_results()].concat();
     let header = of_header();
-    assert_eq!(header.len(), here.len() + left_out.len());
+    assert_eq!(header.len(), here.len());
     for (name, number) in header {
-        if left_out.contains(&name.as_str()) {
-            continue;
-        }
         let own = here.iter().find(|(own, _)| *own == name);
         assert_eq!(own.map(|(_, n)| *n), Some(number), "{name}");
     }
@@ -105,6 +120,66 @@ fn the_sizes_are_those_that_the_header_asserts() {
     asserted(&format!("sizeof(struct splicer) == {size}"));
     let align = align_of::<splicer::Splicer>();
     asserted(&format!("SPLICER_ALIGN(struct splicer) == {align}"));
+    let words = splicer::WORDS * size_of::<u64>();
+    asserted(&format!("SPLICER_OFFSET(struct splicer, bytes) == {words}"));
+    assert_eq!(words + splicer::BYTES, size);
+}
+
+/// A function's parameters as the header declares them, in Rust's words.
+fn of_header_call(name: &str) -> Vec<&'static str> {
+    let version = splicer::VERSION;
+    let list = between(HEADER_TEXT, &format!("void splicer_{version}_{name}("), ")");
+    let kinds = [
+        ("const uint8_t *", "*const u8"),
+        ("uint8_t *", "*mut u8"),
+        ("uint64_t *", "*mut u64"),
+        ("uint32_t ", "u32"),
+        ("size_t ", "usize"),
+    ];
+    let kind = |text: &str| {
+        let found = kinds.iter().find(|(c, _)| text.trim().starts_with(c));
+        found.unwrap_or_else(|| panic!("{name}: {text}")).1
+    };
+    list.split(',').map(kind).collect()
+}
+
+/// Those that this crate declares under the function's link name.
+fn of_door_call(name: &str) -> Vec<&'static str> {
+    let version = splicer::VERSION;
+    let linked = format!("#[link_name = \"splicer_{version}_{name}\"]\n    pub fn {name}(");
+    let list = between(DOOR_TEXT, &linked, ");");
+    let parts = list.split(',').map(str::trim).filter(|p| !p.is_empty());
+    parts
+        .map(|part| part.split_once(": ").expect(name).1)
+        .collect()
+}
+
+#[test]
+fn the_functions_are_declared_as_in_the_header() {
+    for name in CALLS {
+        assert_eq!(of_door_call(name), of_header_call(name), "{name}");
+    }
+    assert_eq!(DOOR_TEXT.matches("link_name").count(), CALLS.len());
+    assert_eq!(DOOR_TEXT.matches("pub fn ").count(), CALLS.len() + 1);
+}
+
+/// Each is declared once and called once, by the inline function of its name, and nothing else of
+/// the header is left to the linker.
+#[test]
+fn the_header_refers_to_versioned_names_only() {
+    let version = splicer::VERSION;
+    for name in CALLS {
+        let call = format!("splicer_{version}_{name}(");
+        assert_eq!(HEADER_TEXT.matches(&call).count(), 2, "{call}");
+        let inline = format!("splicer_call_{name}(struct splicer *s");
+        let body = between(HEADER_TEXT, &inline, "\n}");
+        assert!(body.contains(&format!("    {call}")), "{name}");
+    }
+    let functions = HEADER_TEXT.lines().filter(|line| {
+        let first = line.starts_with(|c: char| c.is_ascii_lowercase());
+        first && line.contains('(') && !line.starts_with("static inline ")
+    });
+    assert_eq!(functions.count(), CALLS.len());
 }
 
 #[test]

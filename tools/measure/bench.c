@@ -18,10 +18,11 @@ int clock_gettime(int clock, struct moment *at);
 enum { BLOCK = 2000, ROUNDS = 15, PAINTED = 65536, MONOTONIC = 1 };
 
 INLINE void repeat(const struct call *c, enum who who, int calls) {
+    uint64_t reply[SPLICER_REPLY];
     for (int i = 0; i < calls; i++) {
         restore(who);
         if (who == CORE) {
-            by_core(c);
+            by_core(reply, c);
         } else if (who == RUST) {
             by_rust(c);
         } else {
@@ -76,8 +77,9 @@ INLINE size_t reached(const uint8_t *sp, uint8_t colour) {
 }
 
 APART size_t core_stack(const struct call *c, uint8_t colour) {
+    uint64_t reply[SPLICER_REPLY];
     uint8_t *sp = paint(colour);
-    core_call(c);
+    core_call(reply, c);
     return reached(sp, colour);
 }
 
