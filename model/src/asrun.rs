@@ -42,7 +42,7 @@ struct Day {
 
 /// The text, and true if the output is the second program's own.
 pub fn as_run(input: &[u8], output: &[u8]) -> (String, bool) {
-    let run = card::run(input, 0);
+    let run = card::run(input, None);
     let (agreed, at, same) = agreement(&run, output);
     let day = Day::of(&run.calls[..agreed]);
     let mut text = day.list();
@@ -230,7 +230,7 @@ impl Day {
 /// The fields of a readable Splice_Request.
 fn splice(bytes: &[u8]) -> Option<SpliceFields> {
     let id = u16::from_be_bytes([bytes[0], bytes[1]]);
-    match reading::read(id, &bytes[8..], 0) {
+    match reading::read(id, &bytes[8..], None) {
         Ok(Request::Splice(fields)) if id == 0x0007 => Some(fields),
         _ => None,
     }
@@ -250,7 +250,7 @@ mod tests {
              > splice 1 id=9 at=1004 duration=1\n\
              > tick 1020\n";
         let input = scenario::input_of(&scenario::parse(text).unwrap());
-        let output = card::run(&input, 0).output();
+        let output = card::run(&input, None).output();
         let (text, same) = as_run(&input, &output);
         assert!(same);
         let lines: Vec<String> = text
@@ -282,7 +282,7 @@ mod tests {
     fn the_timeline_agrees_with_every_played_duration() {
         let mut ended = 0;
         for index in 0..26 {
-            let run = card::run(&crate::gen::stream(5, index), 0);
+            let run = card::run(&crate::gen::stream(5, index), None);
             let day = Day::of(&run.calls);
             for (place, row) in day.rows.iter().enumerate() {
                 let own = day.spans.iter().filter(|span| span.row == place);
@@ -304,7 +304,7 @@ mod tests {
              > tick 1004\n> abort 0 id=1\n\
              > splice 0 id=1 at=1010 duration=90000\n> tick 1030\n";
         let input = scenario::input_of(&scenario::parse(text).unwrap());
-        let output = card::run(&input, 0).output();
+        let output = card::run(&input, None).output();
         let (text, _) = as_run(&input, &output);
         let lines: Vec<String> = text
             .lines()

@@ -1,6 +1,7 @@
 //! 01's card program: records of standard input become calls, and what the calls write
 //! becomes standard output.
 
+use crate::faults::Fault;
 use crate::records;
 use crate::rules::{Splicer, LARGEST_SIZE, ROOM};
 
@@ -62,7 +63,7 @@ pub fn channel_name() -> [u8; 32] {
     name
 }
 
-pub fn run(input: &[u8], fault: u32) -> Run {
+pub fn run(input: &[u8], fault: Option<Fault>) -> Run {
     let (mut splicer, _) = Splicer::fresh(&channel_name());
     splicer.fault = fault;
     let mut calls = Vec::new();
@@ -184,7 +185,7 @@ mod tests {
     }
 
     fn out(text: &str) -> String {
-        hex(&run(&bytes(text), 0).output())
+        hex(&run(&bytes(text), None).output())
     }
 
     #[test]

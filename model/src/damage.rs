@@ -2,7 +2,7 @@
 //! its boundary, and the tails at which the card program stops.
 
 use crate::card::Call;
-use crate::gen::{Gen, TOP};
+use crate::draw::{Gen, TOP};
 use crate::rules::NONE;
 
 /// The data of an Init_Request that may be wrong in one way.

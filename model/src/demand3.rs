@@ -143,7 +143,7 @@ fn request(call: &Call) -> Option<(u8, SpliceFields)> {
     if bytes[..2] != [0x00, 0x07] {
         return None;
     }
-    match reading::read(0x0007, &bytes[8..], 0) {
+    match reading::read(0x0007, &bytes[8..], None) {
         Ok(Request::Splice(fields)) => Some((*conn, fields)),
         _ => None,
     }
@@ -153,26 +153,33 @@ fn request(call: &Call) -> Option<(u8, SpliceFields)> {
 mod tests {
     use super::*;
     use crate::card;
+    use crate::faults::Fault;
     use crate::gen;
 
     #[test]
     fn the_clean_program_keeps_demand_3() {
         for index in 0..26 {
-            let run = card::run(&gen::stream(3, index), 0);
+            let run = card::run(&gen::stream(3, index), None);
             assert_eq!(broken(&run.calls), Vec::<String>::new(), "stream {index}");
         }
     }
 
     #[test]
     fn faulty_programs_break_it() {
-        // Counted after the eviction, one pool, 21 waiting, an end one tick late, 11 reserved
-        // places, an end that moves.
-        for fault in [3, 14, 15, 39, 42, 44] {
+        let faults = [
+            Fault::CountedAfterEviction,
+            Fault::OnePool,
+            Fault::TwentyOneWaiting,
+            Fault::InstantLeftOver,
+            Fault::ElevenReserved,
+            Fault::CoveredEndMoves,
+        ];
+        for fault in faults {
             let breaks = |index| {
-                let run = card::run(&gen::stream(3, index), fault);
+                let run = card::run(&gen::stream(3, index), Some(fault));
                 !broken(&run.calls).is_empty()
             };
-            assert!((0..26).any(breaks), "fault {fault}");
+            assert!((0..26).any(breaks), "{fault:?}");
         }
     }
 }

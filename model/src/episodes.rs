@@ -2,7 +2,7 @@
 
 use crate::card::Call;
 use crate::damage;
-use crate::gen::{Ask, Gen, TOP};
+use crate::draw::{Ask, Gen, TOP};
 use crate::rules::{Session, State, MICROSECOND, NONE, SECOND};
 
 pub type Episode = fn(&mut Gen);

@@ -1,63 +1,110 @@
 //! The deliberate faults that `Splicer::fault` switches in, one at a time.
 
-pub const FAULTS: &[(u32, &str)] = &[
-    (1, "ends at one instant from the lowest AccessType up"),
-    (2, "only the direct follower ends"),
-    (3, "114 counted after the eviction"),
-    (4, "an equal AccessType overrides at a start"),
-    (5, "PlayedDuration through whole microseconds"),
-    (6, "the start before the ends at one instant"),
-    (7, "3 s exactly is too late"),
-    (8, "all 32 bytes of a name compared"),
-    (9, "109 looks at its own connection only"),
-    (10, "a covered session's abort gives SpliceComplete"),
-    (11, "close writes the waiting before the started"),
-    (12, "a covered end gives 100"),
-    (13, "the covered one is not on air again"),
-    (14, "one pool of 64 without reserved places"),
-    (15, "21 waiting allowed"),
-    (16, "MicroSeconds checked in a linked request"),
-    (17, "descriptor length 255 accepted"),
-    (18, "Alive shows whole seconds only"),
-    (19, "the evicted written after the 100"),
-    (20, "followers across connections"),
-    (
-        21,
-        "followers also through a started session's PriorSession",
-    ),
-    (22, "a failed later Init un-initialises"),
-    (23, "0x000D unanswered also before Init"),
-    (24, "112 before 121"),
-    (25, "109 before 112"),
-    (26, "an eviction leaves the followers waiting"),
-    (27, "followers end with 109 after an abort"),
-    (28, "covered time counts as played"),
-    (29, "a connection opened again is still initialised"),
-    (30, "followers end from the last start back"),
-    (31, "tick looks at 3 before 8"),
-    (
-        32,
-        "ServiceID 0xFFFF with less than 33 bytes is not readable",
-    ),
-    (33, "the lowest covered one is on air again"),
-    (34, "an equal AccessType evicts"),
-    (35, "SessionIDs held by other connections give 121"),
-    (36, "close takes each started one by what it has become"),
-    (37, "descriptor length below 4 accepted"),
-    (38, "Alive shows only its own connection's session"),
-    (
-        39,
-        "an instant at the tick's very time waits for the next tick",
-    ),
-    (40, "a tick to the present time is refused"),
-    (41, "a failed start leaves its followers waiting"),
-    (42, "the reserved places are 11"),
-    (43, "a linked request is held to the 3 s"),
-    (44, "a covered session's end moves"),
-    (45, "114 before 109"),
-    (46, "109 compares starts in whole microseconds"),
-    (47, "a linked start is rounded down to a microsecond"),
-    (48, "after a close no covered one is on air again"),
-    (49, "0x0000 before Init gives 103"),
-    (50, "a name that only begins like the channel's is taken"),
-];
+/// One table: each fault's name in the code and what it does. On a command line
+/// `OnlyDirectFollower` is `only-direct-follower`.
+macro_rules! faults {
+    ($($fault:ident: $text:literal,)*) => {
+        #[derive(Clone, Copy, Debug, PartialEq, Eq)]
+        pub enum Fault {
+            $($fault,)*
+        }
+
+        pub const FAULTS: &[(Fault, &str)] = &[$((Fault::$fault, $text),)*];
+    };
+}
+
+faults! {
+    LowestEndsFirst: "ends at one instant from the lowest AccessType up",
+    OnlyDirectFollower: "only the direct follower ends",
+    CountedAfterEviction: "114 counted after the eviction",
+    EqualOverrides: "an equal AccessType overrides at a start",
+    PlayedInMicroseconds: "PlayedDuration through whole microseconds",
+    StartBeforeEnds: "the start before the ends at one instant",
+    ThreeSecondsTooLate: "3 s exactly is too late",
+    WholeNameCompared: "all 32 bytes of a name compared",
+    OwnCollisionsOnly: "109 looks at its own connection only",
+    CoveredAbortCompletes: "a covered session's abort gives SpliceComplete",
+    CloseWaitingFirst: "close writes the waiting before the started",
+    CoveredEnd100: "a covered end gives 100",
+    NeverOnAirAgain: "the covered one is not on air again",
+    OnePool: "one pool of 64 without reserved places",
+    TwentyOneWaiting: "21 waiting allowed",
+    LinkedMicrosChecked: "MicroSeconds checked in a linked request",
+    Descriptor255: "descriptor length 255 accepted",
+    AliveWholeSeconds: "Alive shows whole seconds only",
+    EvictedAfterAnswer: "the evicted written after the 100",
+    FollowersElsewhere: "followers across connections",
+    FollowersOfStarted: "followers also through a started session's PriorSession",
+    FailedInitUndoes: "a failed later Init un-initialises",
+    CueSilentBeforeInit: "0x000D unanswered also before Init",
+    LateBeforeNumbers: "112 before 121",
+    CollisionBeforeLate: "109 before 112",
+    EvictionLeavesFollowers: "an eviction leaves the followers waiting",
+    AbortedFollowers109: "followers end with 109 after an abort",
+    CoveredTimePlayed: "covered time counts as played",
+    ReopenedInitialised: "a connection opened again is still initialised",
+    FollowersLastFirst: "followers end from the last start back",
+    ClockBeforeMicros: "tick looks at 3 before 8",
+    SeparatePidsOf33: "ServiceID 0xFFFF with less than 33 bytes is not readable",
+    LowestOnAirAgain: "the lowest covered one is on air again",
+    EqualEvicts: "an equal AccessType evicts",
+    OthersNumbersHeld: "SessionIDs held by other connections give 121",
+    CloseByNewState: "close takes each started one by what it has become",
+    Descriptor3: "descriptor length below 4 accepted",
+    AliveOwnOnly: "Alive shows only its own connection's session",
+    InstantLeftOver: "an instant at the tick's very time waits for the next tick",
+    PresentTimeRefused: "a tick to the present time is refused",
+    FailureLeavesFollowers: "a failed start leaves its followers waiting",
+    ElevenReserved: "the reserved places are 11",
+    LinkedThreeSeconds: "a linked request is held to the 3 s",
+    CoveredEndMoves: "a covered session's end moves",
+    FullBeforeCollision: "114 before 109",
+    CollisionInMicroseconds: "109 compares starts in whole microseconds",
+    LinkedStartRounded: "a linked start is rounded down to a microsecond",
+    NothingAfterClose: "after a close no covered one is on air again",
+    ZeroAnsweredBeforeInit: "0x0000 before Init gives 103",
+    NameBeginsAlike: "a name that only begins like the channel's is taken",
+}
+
+impl Fault {
+    /// Its name on a command line.
+    pub fn name(self) -> String {
+        let mut name = String::new();
+        let mut before = 'A';
+        for letter in format!("{self:?}").chars() {
+            let number = letter.is_ascii_digit() && !before.is_ascii_digit();
+            if !name.is_empty() && (letter.is_ascii_uppercase() || number) {
+                name.push('-');
+            }
+            name.push(letter.to_ascii_lowercase());
+            before = letter;
+        }
+        name
+    }
+
+    pub fn text(self) -> &'static str {
+        let row = FAULTS.iter().find(|(fault, _)| *fault == self);
+        row.map_or("", |(_, text)| text)
+    }
+
+    pub fn named(name: &str) -> Option<Fault> {
+        let mut all = FAULTS.iter().map(|(fault, _)| *fault);
+        all.find(|fault| fault.name() == name)
+    }
+}
+
+#[cfg(test)]
+mod tests {
+    use super::*;
+
+    #[test]
+    fn a_name_names_its_fault() {
+        for (fault, text) in FAULTS {
+            assert_eq!(Fault::named(&fault.name()), Some(*fault));
+            assert_eq!(fault.text(), *text);
+        }
+        assert_eq!(Fault::Descriptor255.name(), "descriptor-255");
+        assert_eq!(Fault::OnlyDirectFollower.name(), "only-direct-follower");
+        assert_eq!(Fault::named("2"), None);
+    }
+}

@@ -35,7 +35,7 @@ pub fn fuzz(plan: &Fuzz) -> Result<bool, String> {
     let (mut calls, mut differ, mut broken) = (0, 0, 0);
     for index in 0..plan.n {
         let input = gen::stream(plan.seed, index);
-        let run = card::run(&input, 0);
+        let run = card::run(&input, None);
         calls += run.calls.len();
         counts.add(&run.splicer.counts);
         for fault in demand3::broken(&run.calls) {
@@ -139,12 +139,13 @@ fn held_before(run: &Run, call: usize) -> String {
 /// Runs the clean program against each faulty one on the generated streams.
 pub fn faults(seed: u64, n: u64) -> Result<bool, String> {
     let streams: Vec<Vec<u8>> = (0..n).map(|index| gen::stream(seed, index)).collect();
-    let clean: Vec<Run> = streams.iter().map(|input| card::run(input, 0)).collect();
+    let clean: Vec<Run> = streams.iter().map(|input| card::run(input, None)).collect();
     let mut unnoticed = 0;
     for (fault, text) in FAULTS {
+        let name = fault.name();
         let mut first = None;
         for (index, input) in streams.iter().enumerate() {
-            let faulty = card::run(input, *fault);
+            let faulty = card::run(input, Some(*fault));
             let (agreed, _, same) = agreement(&clean[index], &faulty.output());
             if !same {
                 first = Some((index, agreed + 1));
@@ -153,11 +154,11 @@ pub fn faults(seed: u64, n: u64) -> Result<bool, String> {
         }
         match first {
             Some((stream, call)) => {
-                println!("fault {fault:2} noticed in stream {stream:3} at call {call:4}: {text}");
+                println!("{name} noticed in stream {stream} at call {call}: {text}");
             }
             None => {
                 unnoticed += 1;
-                println!("fault {fault:2} NOT NOTICED: {text}");
+                println!("{name} NOT NOTICED: {text}");
             }
         }
     }

@@ -1,6 +1,7 @@
 //! Starts, ends and followers: 01's "Instants" and what follows it.
 
 use crate::counts;
+use crate::faults::Fault;
 use crate::records::{Record, What};
 use crate::rules::{Session, Splicer, State, MICROSECOND, TICK};
 
@@ -28,7 +29,7 @@ impl Splicer {
             State::Waiting => s.start,
             _ => s.end,
         });
-        let due = |t: &u64| *t < until || (*t == until && self.fault != 39);
+        let due = |t: &u64| *t < until || (*t == until && !self.faulty(Fault::InstantLeftOver));
         times.filter(due).min()
     }
 
@@ -37,7 +38,7 @@ impl Splicer {
     fn instant(&mut self, time: u64, out: &mut Vec<Record>) {
         let starting = |s: &&Session| s.state == State::Waiting && s.start == time;
         let start = self.sessions.iter().find(starting).cloned();
-        if self.fault == 6 {
+        if self.faulty(Fault::StartBeforeEnds) {
             if let Some(session) = start {
                 self.start(&session, time, out);
             }
@@ -64,7 +65,7 @@ impl Splicer {
         let mut ending: Vec<Session> = all.cloned().collect();
         // "from the highest AccessType down"
         ending.sort_by_key(|s| s.access);
-        if self.fault != 1 {
+        if !self.faulty(Fault::LowestEndsFirst) {
             ending.reverse();
         }
         for session in &ending {
@@ -95,7 +96,7 @@ impl Splicer {
     fn end(&mut self, session: &Session, time: u64, out: &mut Vec<Record>) {
         let result = match session.state {
             State::OnAir => 100,
-            _ if self.fault == 12 => 100,
+            _ if self.faulty(Fault::CoveredEnd100) => 100,
             _ => 125,
         };
         self.hit(["end covered 125", "end on air 100"][(result == 100) as usize]);
@@ -109,17 +110,18 @@ impl Splicer {
     /// "When the one on air ends, the highest covered session [...] is on air again, without a
     /// message. A covered session's end time doesn't move."
     fn on_air_again(&mut self, time: u64) -> bool {
-        if self.on_air().is_some() || self.fault == 13 {
+        if self.on_air().is_some() || self.faulty(Fault::NeverOnAirAgain) {
             return false;
         }
-        let lowest = self.fault == 33;
+        let lowest = self.faulty(Fault::LowestOnAirAgain);
+        let moves = self.faulty(Fault::CoveredEndMoves);
         let covered = |s: &&mut Session| s.state == State::Covered;
         let rank = |s: &&mut Session| if lowest { 9 - s.access } else { s.access };
         let Some(session) = self.sessions.iter_mut().filter(covered).max_by_key(rank) else {
             return false;
         };
         session.state = State::OnAir;
-        if self.fault == 44 {
+        if moves {
             session.end += time - session.since;
         }
         session.since = time;
@@ -133,10 +135,10 @@ impl Splicer {
         if session.state == State::OnAir {
             sum += time - session.since;
         }
-        if self.fault == 5 {
+        if self.faulty(Fault::PlayedInMicroseconds) {
             sum = sum / MICROSECOND * MICROSECOND;
         }
-        if self.fault == 28 {
+        if self.faulty(Fault::CoveredTimePlayed) {
             sum = time - session.start;
         }
         if !sum.is_multiple_of(TICK) {
@@ -156,7 +158,7 @@ impl Splicer {
         if !self.may_start(session) {
             self.complete(session, 109, 0, 0, out);
             self.remove(session);
-            if self.fault != 41 {
+            if !self.faulty(Fault::FailureLeavesFollowers) {
                 let ended = self.end_followers(session, 109, out);
                 self.hit(counts::FAILED_FOLLOWERS[ended.min(2)]);
             }
@@ -184,7 +186,8 @@ impl Splicer {
             self.hit("start with nothing on air");
             return true;
         };
-        let higher = session.access > access || (self.fault == 4 && session.access == access);
+        let higher = session.access > access
+            || (self.faulty(Fault::EqualOverrides) && session.access == access);
         let branch = match (session.overrides, session.access.cmp(&access)) {
             (true, std::cmp::Ordering::Greater) => "start overrides a lower one",
             (true, std::cmp::Ordering::Equal) => "start fails, same AccessType with override",
@@ -228,24 +231,24 @@ impl Splicer {
         let mut next = 0;
         while next < seen.len() {
             for session in &self.sessions {
-                let near = session.conn == of.conn || self.fault == 20;
+                let near = session.conn == of.conn || self.faulty(Fault::FollowersElsewhere);
                 if !near || session.prior != seen[next] || seen.contains(&session.id) {
                     continue;
                 }
                 if session.state == State::Waiting {
                     found.push(session.clone());
                     seen.push(session.id);
-                } else if self.fault == 21 {
+                } else if self.faulty(Fault::FollowersOfStarted) {
                     seen.push(session.id);
                 }
             }
             next += 1;
-            if self.fault == 2 {
+            if self.faulty(Fault::OnlyDirectFollower) {
                 break;
             }
         }
         found.sort_by_key(|s| s.start);
-        if self.fault == 30 {
+        if self.faulty(Fault::FollowersLastFirst) {
             found.reverse();
         }
         found
@@ -254,7 +257,11 @@ impl Splicer {
     /// "Followers' ends are Splice_Response 109, or 116 after an abort or close, in order of
     /// start." Gives their number.
     fn end_followers(&mut self, of: &Session, result: u16, out: &mut Vec<Record>) -> usize {
-        let result = if self.fault == 27 { 109 } else { result };
+        let result = if self.faulty(Fault::AbortedFollowers109) {
+            109
+        } else {
+            result
+        };
         let followers = self.followers(of);
         for follower in &followers {
             self.splice_response(follower, result, out);
@@ -272,7 +279,7 @@ impl Splicer {
         };
         self.splice_response(&session, 109, out);
         self.remove(&session);
-        if self.fault != 26 {
+        if !self.faulty(Fault::EvictionLeavesFollowers) {
             let ended = self.end_followers(&session, 109, out);
             self.hit(counts::EVICTED_FOLLOWERS[ended.min(2)]);
         }
@@ -315,7 +322,7 @@ impl Splicer {
     /// "An aborted session on air ends with SpliceComplete flag 1, result 116; a covered or
     /// waiting one with Splice_Response 116."
     fn aborted_end(&mut self, session: &Session, out: &mut Vec<Record>) {
-        let covered = session.state == State::Covered && self.fault == 10;
+        let covered = session.state == State::Covered && self.faulty(Fault::CoveredAbortCompletes);
         if session.state == State::OnAir || covered {
             let played = self.played(session, self.clock);
             self.complete(session, 116, 1, played, out);
@@ -336,12 +343,12 @@ impl Splicer {
         started.reverse();
         waiting.sort_by_key(|s| s.start);
         self.count_close(&started, &waiting);
-        if self.fault == 11 {
+        if self.faulty(Fault::CloseWaitingFirst) {
             std::mem::swap(&mut started, &mut waiting);
         }
         for session in started.iter().chain(&waiting) {
             let now = match self.fault {
-                36 => self
+                Some(Fault::CloseByNewState) => self
                     .held(conn, session.id)
                     .cloned()
                     .unwrap_or(session.clone()),
@@ -349,11 +356,11 @@ impl Splicer {
             };
             self.aborted_end(&now, out);
             self.remove(session);
-            if self.fault == 36 {
+            if self.faulty(Fault::CloseByNewState) {
                 self.on_air_again(self.clock);
             }
         }
-        if self.fault != 48 && self.on_air_again(self.clock) {
+        if !self.faulty(Fault::NothingAfterClose) && self.on_air_again(self.clock) {
             self.hit("on air again after a close");
         }
     }

@@ -8,6 +8,7 @@ pub mod compare;
 pub mod counts;
 pub mod damage;
 pub mod demand3;
+pub mod draw;
 pub mod episodes;
 pub mod faults;
 pub mod fuzz;

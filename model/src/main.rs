@@ -1,10 +1,11 @@
 //! The independent second program of the splicer core. See `model help`.
 
+use model::faults::Fault;
 use model::{asrun, card, fuzz, option, people, scenario};
 use std::io::{Read, Write};
 
 const HELP: &str = "\
-model card [--fault F]                       01's card program, standard input to output
+model card [--fault NAME]                    01's card program, standard input to output
                                              (with a deliberate fault, to try the harness)
 model scenario [--card CMD] FILE...          runs scenario files
 model scenario --bytes FILE                  writes a scenario's card input
@@ -51,8 +52,10 @@ fn command(args: &[String]) -> Result<bool, String> {
 
 fn run_card(args: &[String]) -> Result<bool, String> {
     let mut args = args.to_vec();
-    let fault = option(&mut args, "--fault")?.unwrap_or("0".to_string());
-    let fault = fault.parse().map_err(|_| format!("no fault: {fault}"))?;
+    let fault = match option(&mut args, "--fault")? {
+        Some(name) => Some(Fault::named(&name).ok_or(format!("no fault {name}"))?),
+        None => None,
+    };
     nothing_left(&args)?;
     let mut input = Vec::new();
     let told = |e: std::io::Error| e.to_string();

@@ -136,7 +136,7 @@ pub fn agreement(run: &Run, output: &[u8]) -> (usize, usize, bool) {
 /// Calls and the records found in the output, interleaved. True if they are the second
 /// program's own.
 pub fn decode(input: &[u8], output: &[u8]) -> (String, bool) {
-    let run = card::run(input, 0);
+    let run = card::run(input, None);
     let (agreed, at, same) = agreement(&run, output);
     let mut text = String::new();
     let mut clock = "0.000000".to_string();
@@ -198,7 +198,7 @@ mod tests {
 
     fn recording(text: &str) -> (Vec<u8>, Vec<u8>) {
         let input = scenario::input_of(&scenario::parse(text).unwrap());
-        let output = card::run(&input, 0).output();
+        let output = card::run(&input, None).output();
         (input, output)
     }
 

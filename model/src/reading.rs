@@ -1,6 +1,8 @@
 //! Reading the four requests: 01's "Bytes" and its "Not readable" sentence.
 //! A request that cannot be read gives the name of its branch.
 
+use crate::faults::Fault;
+
 /// A message of the list of four, read.
 #[derive(Clone, Debug, PartialEq, Eq)]
 pub enum Request {
@@ -26,7 +28,7 @@ pub struct SpliceFields {
 
 type Read = Result<Request, &'static str>;
 
-pub fn read(id: u16, data: &[u8], fault: u32) -> Read {
+pub fn read(id: u16, data: &[u8], fault: Option<Fault>) -> Read {
     match id {
         0x0001 => read_init(data),
         0x0005 => read_alive(data),
@@ -134,7 +136,7 @@ fn read_abort(data: &[u8]) -> Read {
 }
 
 /// "Splice data below 18 bytes, or, with ServiceID not 0xFFFF, any of: ..."
-fn read_splice(data: &[u8], fault: u32) -> Read {
+fn read_splice(data: &[u8], fault: Option<Fault>) -> Read {
     if data.len() < 18 {
         return Err("123 Splice below 18 bytes");
     }
@@ -147,7 +149,7 @@ fn read_splice(data: &[u8], fault: u32) -> Read {
         ..SpliceFields::default()
     };
     // "With ServiceID 0xFFFF only the first 18 bytes are read."
-    if fields.service == 0xFFFF && !(fault == 32 && data.len() < 33) {
+    if fields.service == 0xFFFF && !(fault == Some(Fault::SeparatePidsOf33) && data.len() < 33) {
         return Ok(Request::Splice(fields));
     }
     if data.len() < 33 {
@@ -163,7 +165,11 @@ fn read_splice(data: &[u8], fault: u32) -> Read {
 
 /// "Duration 0, AccessType above 9, either of OverridePlaying and ReturnToPriorChannel above
 /// 1, or PriorSession 0xFFFFFFFF with MicroSeconds above 999,999".
-fn check_splice(fields: &SpliceFields, returns: u8, fault: u32) -> Result<(), &'static str> {
+fn check_splice(
+    fields: &SpliceFields,
+    returns: u8,
+    fault: Option<Fault>,
+) -> Result<(), &'static str> {
     if fields.duration == 0 {
         return Err("123 Splice Duration 0");
     }
@@ -176,7 +182,7 @@ fn check_splice(fields: &SpliceFields, returns: u8, fault: u32) -> Result<(), &'
     if returns > 1 {
         return Err("123 Splice ReturnToPriorChannel above 1");
     }
-    let timed = fields.prior == 0xFFFF_FFFF || fault == 16;
+    let timed = fields.prior == 0xFFFF_FFFF || fault == Some(Fault::LinkedMicrosChecked);
     if timed && fields.micros > 999_999 {
         return Err("123 Splice timed MicroSeconds above 999,999");
     }
@@ -184,17 +190,17 @@ fn check_splice(fields: &SpliceFields, returns: u8, fault: u32) -> Result<(), &'
 }
 
 /// "Length counts what follows it, is 4 to 254, and the descriptors fill the message exactly."
-fn check_descriptors(bytes: &[u8], fault: u32) -> Result<(), &'static str> {
+fn check_descriptors(bytes: &[u8], fault: Option<Fault>) -> Result<(), &'static str> {
     let mut rest = bytes;
     while !rest.is_empty() {
         if rest.len() < 2 {
             return Err("123 Splice descriptor without a length");
         }
         let length = rest[1] as usize;
-        if length < 4 && fault != 37 {
+        if length < 4 && fault != Some(Fault::Descriptor3) {
             return Err("123 Splice descriptor length below 4");
         }
-        if length > 254 && fault != 17 {
+        if length > 254 && fault != Some(Fault::Descriptor255) {
             return Err("123 Splice descriptor length 255");
         }
         if rest.len() < 2 + length {
@@ -221,7 +227,7 @@ mod tests {
     fn changed(at: usize, value: u8) -> Read {
         let mut data = good_splice();
         data[at] = value;
-        read(7, &data, 0)
+        read(7, &data, None)
     }
 
     #[test]
@@ -240,18 +246,18 @@ mod tests {
             access: 9,
             overrides: 1,
         };
-        assert_eq!(read(7, &data, 0), Ok(Request::Splice(expected)));
+        assert_eq!(read(7, &data, None), Ok(Request::Splice(expected)));
     }
 
     #[test]
     fn boundaries_of_a_splice() {
-        assert!(read(7, &good_splice(), 0).is_ok());
+        assert!(read(7, &good_splice(), None).is_ok());
         assert_eq!(
-            read(7, &good_splice()[..32], 0),
+            read(7, &good_splice()[..32], None),
             Err("123 Splice below 33 bytes")
         );
         assert_eq!(
-            read(7, &good_splice()[..17], 0),
+            read(7, &good_splice()[..17], None),
             Err("123 Splice below 18 bytes")
         );
         assert_eq!(changed(21, 0), Err("123 Splice Duration 0"));
@@ -270,14 +276,14 @@ mod tests {
     fn microseconds_count_in_a_timed_request_only() {
         let mut data = good_splice();
         data[12..16].copy_from_slice(&999_999u32.to_be_bytes());
-        assert!(read(7, &data, 0).is_ok());
+        assert!(read(7, &data, None).is_ok());
         data[12..16].copy_from_slice(&1_000_000u32.to_be_bytes());
         assert_eq!(
-            read(7, &data, 0),
+            read(7, &data, None),
             Err("123 Splice timed MicroSeconds above 999,999")
         );
         data[7] = 0; // now a linked request
-        assert!(read(7, &data, 0).is_ok());
+        assert!(read(7, &data, None).is_ok());
     }
 
     #[test]
@@ -285,9 +291,9 @@ mod tests {
         let mut data = good_splice();
         data[16..18].fill(0xFF);
         data[12..16].fill(0xFF); // MicroSeconds far above 999,999
-        assert!(read(7, &data[..18], 0).is_ok());
+        assert!(read(7, &data[..18], None).is_ok());
         data[30] = 200;
-        assert!(read(7, &data, 0).is_ok());
+        assert!(read(7, &data, None).is_ok());
     }
 
     #[test]
@@ -295,7 +301,7 @@ mod tests {
         let with = |bytes: &[u8]| {
             let mut data = good_splice();
             data.extend(bytes);
-            read(7, &data, 0)
+            read(7, &data, None)
         };
         assert!(with(&[1, 4, 0, 0, 0, 0]).is_ok());
         assert!(with(&[1, 4, 0, 0, 0, 0, 2, 5, 0, 0, 0, 0, 9]).is_ok());
@@ -318,26 +324,29 @@ mod tests {
 
     #[test]
     fn init_alive_and_abort_sizes() {
-        assert!(read(1, &[0; 66], 0).is_ok());
-        assert_eq!(read(1, &[0; 65], 0), Err("123 Init below 66 bytes"));
+        assert!(read(1, &[0; 66], None).is_ok());
+        assert_eq!(read(1, &[0; 65], None), Err("123 Init below 66 bytes"));
         let mut names = [65; 66];
         names[65] = 0;
         assert_eq!(
-            read(1, &names, 0),
+            read(1, &names, None),
             Err("123 Init ChannelName without a zero")
         );
         names[33] = 0;
-        assert!(read(1, &names, 0).is_ok());
+        assert!(read(1, &names, None).is_ok());
         names[65] = 1;
         assert_eq!(
-            read(1, &names, 0),
+            read(1, &names, None),
             Err("123 Init SplicerName without a zero")
         );
-        assert_eq!(read(5, &[0; 7], 0), Err("123 Alive below 8 bytes"));
-        assert_eq!(read(5, &[0xFF; 8], 0), Ok(Request::Alive));
-        assert_eq!(read(5, &[0; 9], 0), Err("123 Alive above 8 bytes"));
-        assert_eq!(read(14, &[0; 3], 0), Err("123 Abort below 4 bytes"));
-        assert_eq!(read(14, &[0, 0, 1, 0], 0), Ok(Request::Abort { id: 256 }));
-        assert_eq!(read(14, &[0; 5], 0), Err("123 Abort above 4 bytes"));
+        assert_eq!(read(5, &[0; 7], None), Err("123 Alive below 8 bytes"));
+        assert_eq!(read(5, &[0xFF; 8], None), Ok(Request::Alive));
+        assert_eq!(read(5, &[0; 9], None), Err("123 Alive above 8 bytes"));
+        assert_eq!(read(14, &[0; 3], None), Err("123 Abort below 4 bytes"));
+        assert_eq!(
+            read(14, &[0, 0, 1, 0], None),
+            Ok(Request::Abort { id: 256 })
+        );
+        assert_eq!(read(14, &[0; 5], None), Err("123 Abort above 4 bytes"));
     }
 }

@@ -2,10 +2,11 @@
 //! The sessions lie in an unordered list, and every question scans the whole list.
 //! The instants and the ends of sessions are in `instants.rs`.
 //!
-//! `fault` is 0 in the true program. Another number switches in one deliberate fault
-//! (the list is in `faults.rs`), so that the generator can be shown to notice it.
+//! `fault` is none in the true program. One of `faults.rs` switches in that deliberate fault, so
+//! that the generator can be shown to notice it.
 
 use crate::counts::Counts;
+use crate::faults::Fault;
 use crate::reading::{self, Request, SpliceFields};
 use crate::records::{Record, What};
 
@@ -52,7 +53,7 @@ pub struct Splicer {
     pub open: [bool; 4],
     pub initialised: [bool; 4],
     pub sessions: Vec<Session>,
-    pub fault: u32,
+    pub fault: Option<Fault>,
     pub counts: Counts,
 }
 
@@ -71,7 +72,7 @@ impl Splicer {
             open: [false; 4],
             initialised: [false; 4],
             sessions: Vec::new(),
-            fault: 0,
+            fault: None,
             counts: Counts::new(),
         };
         if !name.contains(&0) {
@@ -89,6 +90,11 @@ impl Splicer {
         self.counts.hit(branch);
     }
 
+    /// Whether this deliberate fault is switched in.
+    pub fn faulty(&self, fault: Fault) -> bool {
+        self.fault == Some(fault)
+    }
+
     fn refuse<T>(&mut self, branch: &'static str, number: u8) -> Result<T, u8> {
         self.hit(branch);
         Err(number)
@@ -104,7 +110,7 @@ impl Splicer {
         }
         self.hit("open good");
         self.open[conn as usize] = true;
-        if self.fault != 29 {
+        if !self.faulty(Fault::ReopenedInitialised) {
             self.initialised[conn as usize] = false;
         }
         Ok(())
@@ -172,13 +178,13 @@ impl Splicer {
             return self.refuse("tick 2 output buffer too small", 2);
         }
         let time = ninths(seconds, micros);
-        if self.fault == 31 && time < self.clock {
+        if self.faulty(Fault::ClockBeforeMicros) && time < self.clock {
             return Err(3);
         }
         if micros > 999_999 {
             return self.refuse("tick 8 MicroSeconds above 999,999", 8);
         }
-        if time < self.clock || (self.fault == 40 && time == self.clock) {
+        if time < self.clock || (self.faulty(Fault::PresentTimeRefused) && time == self.clock) {
             return self.refuse("tick 3 earlier than the clock", 3);
         }
         let mut out = Vec::new();
@@ -191,11 +197,11 @@ impl Splicer {
     fn answer(&mut self, conn: u8, id: u16, data: &[u8], out: &mut Vec<Record>) {
         let ready = self.initialised[conn as usize];
         // 1. "ID 0x0000: no answer."
-        if id == 0x0000 && (ready || self.fault != 49) {
+        if id == 0x0000 && (ready || !self.faulty(Fault::ZeroAnsweredBeforeInit)) {
             let branch = ["answer 1 ID 0 before Init", "answer 1 ID 0 after Init"];
             return self.hit(branch[ready as usize]);
         }
-        if self.fault == 23 && id == 0x000D {
+        if self.faulty(Fault::CueSilentBeforeInit) && id == 0x000D {
             return;
         }
         // 2. "Not initialised and not Init_Request: General_Response 103."
@@ -223,7 +229,7 @@ impl Splicer {
         match reading::read(id, data, self.fault) {
             Err(branch) => {
                 self.hit(branch);
-                if id == 0x0001 && self.fault == 22 {
+                if id == 0x0001 && self.faulty(Fault::FailedInitUndoes) {
                     self.initialised[conn as usize] = false;
                 }
                 self.general(conn, 123, out);
@@ -256,8 +262,8 @@ impl Splicer {
     fn init(&mut self, conn: u8, revision: u16, name: &[u8; 32], out: &mut Vec<Record>) {
         let later = self.initialised[conn as usize];
         let same = match self.fault {
-            8 => name == &self.name,
-            50 => text_of(name).starts_with(text_of(&self.name)),
+            Some(Fault::WholeNameCompared) => name == &self.name,
+            Some(Fault::NameBeginsAlike) => text_of(name).starts_with(text_of(&self.name)),
             _ => text_of(name) == text_of(&self.name),
         };
         let (result, branches) = if revision != 2 {
@@ -273,7 +279,7 @@ impl Splicer {
         }
         if result == 100 {
             self.initialised[conn as usize] = true;
-        } else if self.fault == 22 {
+        } else if self.faulty(Fault::FailedInitUndoes) {
             self.initialised[conn as usize] = false;
         }
         let what = What::Init {
@@ -289,7 +295,7 @@ impl Splicer {
     fn alive(&mut self, conn: u8, out: &mut Vec<Record>) {
         let on_air = self
             .on_air()
-            .filter(|s| self.fault != 38 || s.conn == conn)
+            .filter(|s| !self.faulty(Fault::AliveOwnOnly) || s.conn == conn)
             .map(|s| (s.conn, s.id));
         let (state, id) = match on_air {
             Some((owner, id)) => {
@@ -308,7 +314,11 @@ impl Splicer {
             state,
             id,
             seconds: (self.clock / SECOND) as u32,
-            micros: if self.fault == 18 { 0 } else { micros },
+            micros: if self.faulty(Fault::AliveWholeSeconds) {
+                0
+            } else {
+                micros
+            },
         };
         out.push(Record { conn, what });
     }
@@ -324,7 +334,7 @@ impl Splicer {
             result,
             id: fields.id,
         };
-        if self.fault == 19 {
+        if self.faulty(Fault::EvictedAfterAnswer) {
             out.insert(before, Record { conn, what });
         } else {
             out.push(Record { conn, what });
@@ -338,19 +348,19 @@ impl Splicer {
             self.hit("Splice a 110");
             return 110;
         }
-        if self.fault == 24 && self.too_late(conn, fields) {
+        if self.faulty(Fault::LateBeforeNumbers) && self.too_late(conn, fields) {
             return 112;
         }
         if self.wrong_number(conn, fields) {
             return 121;
         }
-        if self.fault == 25 && self.collides(conn, fields) {
+        if self.faulty(Fault::CollisionBeforeLate) && self.collides(conn, fields) {
             return 109;
         }
         if self.too_late(conn, fields) {
             return 112;
         }
-        if self.fault == 45 && self.queue_full(conn, fields) {
+        if self.faulty(Fault::FullBeforeCollision) && self.queue_full(conn, fields) {
             return 114;
         }
         if self.collides(conn, fields) {
@@ -380,7 +390,7 @@ impl Splicer {
         }
         if self.sessions.iter().any(|s| elsewhere(s, fields.id)) {
             self.hit("Splice b SessionID held by another connection only");
-            if self.fault == 35 {
+            if self.faulty(Fault::OthersNumbersHeld) {
                 return true;
             }
         }
@@ -399,7 +409,7 @@ impl Splicer {
     fn too_late(&mut self, conn: u8, fields: &SpliceFields) -> bool {
         let start = self.start_of(conn, fields);
         let limit = self.clock + 3 * SECOND;
-        if fields.prior != NONE && self.fault != 43 {
+        if fields.prior != NONE && !self.faulty(Fault::LinkedThreeSeconds) {
             if start < limit {
                 self.hit("Splice c linked, less than 3 s ahead");
             }
@@ -407,7 +417,7 @@ impl Splicer {
         }
         if start == limit {
             self.hit("Splice c exactly 3 s");
-            return self.fault == 7;
+            return self.faulty(Fault::ThreeSecondsTooLate);
         }
         if start < self.clock {
             self.hit("Splice c 112 before the clock");
@@ -424,9 +434,10 @@ impl Splicer {
     fn collides(&mut self, conn: u8, fields: &SpliceFields) -> bool {
         let start = self.start_of(conn, fields);
         let other = self.sessions.iter().find(|s| {
-            let reach = self.fault != 9 || s.conn == conn;
-            let least = fields.access + (self.fault == 34) as u8;
-            let same = s.start == start || (self.fault == 46 && s.start / 9 == start / 9);
+            let reach = !self.faulty(Fault::OwnCollisionsOnly) || s.conn == conn;
+            let least = fields.access + u8::from(self.faulty(Fault::EqualEvicts));
+            let same = s.start == start
+                || (self.faulty(Fault::CollisionInMicroseconds) && s.start / 9 == start / 9);
             s.state == State::Waiting && same && s.access >= least && reach
         });
         let Some(other) = other else {
@@ -460,18 +471,26 @@ impl Splicer {
     /// raised to 10 if lower, sum to 64. Counted before f."
     fn queue_full(&mut self, conn: u8, fields: &SpliceFields) -> bool {
         let mut counts = self.waiting_counts();
-        if self.fault == 3 {
+        if self.faulty(Fault::CountedAfterEviction) {
             let mut later = self.clone();
             later.evict(later.start_of(conn, fields), &mut Vec::new());
             counts = later.waiting_counts();
         }
         let own = counts[conn as usize];
         let sum: usize = counts.iter().map(|n| (*n).max(10)).sum();
-        let full = if self.fault == 14 {
+        let full = if self.faulty(Fault::OnePool) {
             own == 20 || counts.iter().sum::<usize>() >= 64
         } else {
-            let least = if self.fault == 42 { 11 } else { 10 };
-            let most = if self.fault == 15 { 21 } else { 20 };
+            let least = if self.faulty(Fault::ElevenReserved) {
+                11
+            } else {
+                10
+            };
+            let most = if self.faulty(Fault::TwentyOneWaiting) {
+                21
+            } else {
+                20
+            };
             own >= most || (own >= least && sum >= 64)
         };
         self.count_queue(conn, own, sum, full);
@@ -515,7 +534,7 @@ impl Splicer {
             return ninths(fields.seconds, fields.micros);
         }
         let end = self.held(conn, fields.prior).map_or(0, |s| s.end);
-        if self.fault == 47 {
+        if self.faulty(Fault::LinkedStartRounded) {
             return end / MICROSECOND * MICROSECOND;
         }
         end

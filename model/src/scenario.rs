@@ -380,7 +380,7 @@ fn run_file(path: &str, card: Option<&str>) -> Result<(), String> {
     let text = std::fs::read_to_string(path).map_err(|e| format!("  {e}\n"))?;
     let steps = parse(&text).map_err(|e| format!("  {e}\n"))?;
     let input = input_of(&steps);
-    let own = card::run(&input, 0).output();
+    let own = card::run(&input, None).output();
     if let Some(text) = difference(&steps, "the second program", &own) {
         return Err(text);
     }

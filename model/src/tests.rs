@@ -8,7 +8,7 @@ use crate::scenario;
 /// Runs the calls of a scenario text and holds the output to its records.
 fn hold(text: &str) -> Splicer {
     let steps = scenario::parse(text).unwrap();
-    let run = card::run(&scenario::input_of(&steps), 0);
+    let run = card::run(&scenario::input_of(&steps), None);
     let lines =
         |bytes: &[u8]| -> Vec<String> { records::items(bytes).iter().map(Item::line).collect() };
     for (step, done) in steps.iter().zip(&run.calls) {

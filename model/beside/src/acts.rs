@@ -3,7 +3,8 @@
 
 use crate::calls::{Act, Call};
 use model::card;
-use model::gen::{self, Rng};
+use model::draw::Rng;
+use model::gen;
 use splicer::{HEADER, NAME, OUT};
 
 /// The longest output buffer lent.

@@ -9,22 +9,56 @@ mod run;
 mod wrong;
 
 use acts::Stream;
+use model::faults::Fault;
 use model::option;
 use run::{Plan, Tally};
 use wrong::Wrong;
 
 const HELP: &str = "\
 beside [--seed S] [--n N] [--first I] [--threads T]   N streams through both, then every fault
-beside --fault NAME [--seed S]                        one deliberate fault, by its name or number
+beside --fault NAME [--seed S]                        one deliberate fault, by its name
 ";
 
 /// A fault must be noticed within this many streams.
 const FOR_A_FAULT: u64 = 52;
 
 /// Faults of the second program that the records alone give away, with no program to compare.
-const BOOKED: &[u32] = &[
-    2, 3, 4, 7, 9, 12, 13, 14, 15, 18, 19, 20, 22, 23, 24, 25, 26, 27, 29, 31, 33, 34, 35, 38, 39,
-    40, 41, 42, 43, 44, 45, 46, 47, 48, 49,
+const BOOKED: &[Fault] = &[
+    Fault::OnlyDirectFollower,
+    Fault::CountedAfterEviction,
+    Fault::EqualOverrides,
+    Fault::ThreeSecondsTooLate,
+    Fault::OwnCollisionsOnly,
+    Fault::CoveredEnd100,
+    Fault::NeverOnAirAgain,
+    Fault::OnePool,
+    Fault::TwentyOneWaiting,
+    Fault::AliveWholeSeconds,
+    Fault::EvictedAfterAnswer,
+    Fault::FollowersElsewhere,
+    Fault::FailedInitUndoes,
+    Fault::CueSilentBeforeInit,
+    Fault::LateBeforeNumbers,
+    Fault::CollisionBeforeLate,
+    Fault::EvictionLeavesFollowers,
+    Fault::AbortedFollowers109,
+    Fault::ReopenedInitialised,
+    Fault::ClockBeforeMicros,
+    Fault::LowestOnAirAgain,
+    Fault::EqualEvicts,
+    Fault::OthersNumbersHeld,
+    Fault::AliveOwnOnly,
+    Fault::InstantLeftOver,
+    Fault::PresentTimeRefused,
+    Fault::FailureLeavesFollowers,
+    Fault::ElevenReserved,
+    Fault::LinkedThreeSeconds,
+    Fault::CoveredEndMoves,
+    Fault::FullBeforeCollision,
+    Fault::CollisionInMicroseconds,
+    Fault::LinkedStartRounded,
+    Fault::NothingAfterClose,
+    Fault::ZeroAnsweredBeforeInit,
 ];
 
 fn main() {
@@ -141,7 +175,7 @@ fn noticed(plan: &Plan, list: &[Stream], wrong: Wrong) -> bool {
 }
 
 /// Shows that the books notice a fault by themselves.
-fn booked(list: &[Stream], fault: u32) -> bool {
+fn booked(list: &[Stream], fault: Fault) -> bool {
     let line = Wrong::Model(fault).line();
     let found = run::booked(list, fault);
     match &found {

@@ -6,7 +6,8 @@ use crate::calls::{ask_model, Act, Desk};
 use crate::pair::Pair;
 use crate::wrong::Wrong;
 use model::counts::Counts;
-use model::gen::Rng;
+use model::draw::Rng;
+use model::faults::Fault;
 use model::rules;
 
 /// Splicers alive at once in a thread, their calls interleaved.
@@ -208,10 +209,10 @@ fn share_state(lanes: &mut [Lane], at: usize) {
 }
 
 /// Where the books alone find a fault of the second program, without comparing it with anything.
-pub fn booked(list: &[Stream], fault: u32) -> Option<String> {
+pub fn booked(list: &[Stream], fault: Fault) -> Option<String> {
     for stream in list {
         let (mut model, _) = rules::Splicer::fresh(&stream.name);
-        model.fault = fault;
+        model.fault = Some(fault);
         let mut books = Books::default();
         for (at, act) in stream.acts.iter().enumerate() {
             let said = ask_model(&mut model, act);

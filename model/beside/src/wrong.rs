@@ -2,14 +2,14 @@
 //! and some in what the core is handed or seen to do.
 
 use crate::calls::{Act, Call, Desk, Said};
-use model::faults::FAULTS;
+use model::faults::{Fault, FAULTS};
 use splicer::{Refusal, Splicer, HEADER, NAME, OUT};
 
 #[derive(Clone, Copy, Debug, PartialEq, Eq)]
 pub enum Wrong {
     Nothing,
     /// A fault of the second program's list.
-    Model(u32),
+    Model(Fault),
     /// A fault of `OWN`, by its name.
     Core(&'static str),
 }
@@ -35,15 +35,15 @@ pub const OWN: &[(&str, &str)] = &[
 
 /// Every fault that must be noticed.
 pub fn all() -> Vec<Wrong> {
-    let model = FAULTS.iter().map(|(number, _)| Wrong::Model(*number));
+    let model = FAULTS.iter().map(|(fault, _)| Wrong::Model(*fault));
     let own = OWN.iter().map(|(name, _)| Wrong::Core(name));
     model.chain(own).collect()
 }
 
-/// The fault of this number or name.
+/// The fault of this name.
 pub fn named(text: &str) -> Option<Wrong> {
     all().into_iter().find(|wrong| match wrong {
-        Wrong::Model(number) => number.to_string() == text,
+        Wrong::Model(fault) => fault.name() == text,
         Wrong::Core(name) => *name == text,
         Wrong::Nothing => false,
     })
@@ -53,21 +53,18 @@ impl Wrong {
     pub fn line(self) -> String {
         match self {
             Wrong::Nothing => "no fault".to_string(),
-            Wrong::Model(number) => {
-                let text = FAULTS.iter().find(|(n, _)| *n == number);
-                format!("fault {number}: {}", text.map_or("", |(_, t)| t))
-            }
+            Wrong::Model(fault) => format!("{}: {}", fault.name(), fault.text()),
             Wrong::Core(name) => {
                 let text = OWN.iter().find(|(n, _)| *n == name);
-                format!("fault {name}: {}", text.map_or("", |(_, t)| t))
+                format!("{name}: {}", text.map_or("", |(_, t)| t))
             }
         }
     }
 
-    pub fn of_model(self) -> u32 {
+    pub fn of_model(self) -> Option<Fault> {
         match self {
-            Wrong::Model(number) => number,
-            _ => 0,
+            Wrong::Model(fault) => Some(fault),
+            _ => None,
         }
     }
 
