@@ -3,16 +3,14 @@
 # code before it is proved. OUT.a is target/try/libdoor.a if it is not given. A tool for development: no part of the gate, and no product.
 #   ARCHIVE=target/try/libdoor.a sh tools/measure.sh counts     instructions of its calls
 #   SPLICER_LIB=target/try                                      for cargo in bindings/ and model/beside/
-# How: `rt try` compiles a program of the door's source with an empty main. It runs here in a copy of the kit's folder made of links, whose
-# clang keeps the LLVM module. In a program no function is exported, so the C form of each `#[no_mangle] pub extern "C" fn` is written
-# behind the module as the kit writes it for an archive: a slice comes as a pointer and a length, all else as it is. The module is then
-# compiled as the kit compiles an archive's.
+# How: `rt try` compiles a program of the door's source with an empty main, and its LLVM module is kept. In a program no function is
+# exported, so the C form of each `#[no_mangle] pub extern "C" fn` is written behind the module as the kit writes it for an archive: a
+# slice comes as a pointer and a length, all else as it is. The module is then compiled as the kit compiles an archive's.
 set -eu
 cd "$(dirname "$0")/.."
 out=${1:-target/try/libdoor.a}
 kit=${RATTLE_HOME:-$(cd "$(dirname "$(readlink -f "$(command -v rt)")")/.." && pwd -P)}
-own=on/$(uname -m)
-tools=$kit/$own/toolchain
+tools=$kit/on/$(uname -m)/toolchain
 target=x86_64-unknown-linux-gnu
 work=$PWD/target/try
 trial=$work/repo
@@ -22,48 +20,22 @@ fail() {
     exit 1
 }
 
-# links TO FILE..: a link in the folder TO for each file
-links() {
-    to=$1
-    shift
-    mkdir -p "$to"
-    for file; do
-        ln -s "$file" "$to/"
-    done
-}
-
 # the repository, with the door as a program
 rm -rf "$work"
-links "$trial/crates" "$PWD"/crates/*
+mkdir -p "$trial/crates"
 cp crates.txt "$trial/"
+for crate in "$PWD"/crates/*; do
+    ln -s "$crate" "$trial/crates/"
+done
 rm "$trial/crates/door"
-cp -R crates/door "$trial/crates/door"
-rm -rf "$trial/crates/door/must-fail"
+mkdir "$trial/crates/door"
+cp -R crates/door/src "$trial/crates/door/src"
 mv "$trial/crates/door/src/lib.rt" "$trial/crates/door/src/main.rt"
 printf '\nfn main() {}\n' >>"$trial/crates/door/src/main.rt"
 
-# the kit, with a clang that keeps the module
-links "$work/kit" "$kit"/*
-rm "$work/kit/on"
-links "$work/kit/$own" "$kit/$own"/*
-rm "$work/kit/$own/toolchain"
-links "$work/kit/$own/toolchain" "$tools"/*
-rm "$work/kit/$own/toolchain/bin"
-links "$work/kit/$own/toolchain/bin" "$tools"/bin/*
-rm "$work/kit/$own/toolchain/bin/clang"
 # the first module is the program's; a later one has the compiler's assumptions checked
-cat >"$work/kit/$own/toolchain/bin/clang" <<END
-#!/bin/sh
-for word in "\$@"; do
-    case \$word in
-    *.bc) [ -f "$work/module.bc" ] || cp "\$word" "$work/module.bc" ;;
-    esac
-done
-exec "$tools/bin/clang" "\$@"
-END
-chmod +x "$work/kit/$own/toolchain/bin/clang"
-(cd "$trial" && RATTLE_HOME=$work/kit rt try door) >"$work/try.log" 2>&1 || { cat "$work/try.log" >&2; fail "the sources do not compile"; }
-[ -f "$work/module.bc" ] || fail "no module was kept"
+here=$PWD
+(cd "$trial" && sh "$here/tools/kept-module.sh" "$work" try door) >"$work/try.log" 2>&1 || { cat "$work/try.log" >&2; fail "the sources do not compile"; }
 
 # compiled FLAG..: the kit's clang, as the kit calls it for an archive
 compiled() {

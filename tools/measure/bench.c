@@ -15,7 +15,7 @@ struct moment {
 };
 int clock_gettime(int clock, struct moment *at);
 
-enum { BLOCK = 2000, ROUNDS = 15, PAINTED = 65536, MONOTONIC = 1 };
+enum { BLOCK = 2000, ROUNDS = 60, PAINTED = 65536, MONOTONIC = 1 };
 
 INLINE void repeat(const struct call *c, enum who who, int calls) {
     uint64_t reply[SPLICER_REPLY];

@@ -1,0 +1,32 @@
+#!/bin/sh
+# archive-for.sh TARGET OUT.a: the proved archive for another 64-bit little-endian processor, as aarch64-unknown-linux-gnu or
+# riscv64-unknown-linux-gnu. `rt staticlib door` proves and writes the x86-64 archive as ever; the LLVM module that the kit hands to its
+# compiler is kept and compiled for TARGET, by the kit's clang too. The door's functions take pointers and numbers only and return
+# nothing, so no rule of x86-64 about structs stands in the module. No part of the gate: run examples/driver.c over it first.
+set -eu
+cd "$(dirname "$0")/.."
+[ $# -eq 2 ] || { echo "usage: archive-for.sh TARGET OUT.a" >&2; exit 2; }
+kit=${RATTLE_HOME:-$(cd "$(dirname "$(readlink -f "$(command -v rt)")")/.." && pwd -P)}
+tools=$kit/on/$(uname -m)/toolchain
+work=target/archive-for
+mkdir -p "$work"
+sh tools/kept-module.sh "$work" staticlib door >"$work/log" 2>&1 || { cat "$work/log" >&2; exit 1; }
+
+# compiled FLAG..: the kit's clang for the target
+compiled() {
+    "$tools/bin/clang" --target="$target" --no-default-config -Wno-override-module -ffunction-sections -fdata-sections -x ir "$@"
+}
+
+target=$1
+# as text, without the name of x86-64's processor, which another has no use for
+compiled -S -emit-llvm -O0 -Xclang -disable-llvm-passes "$work/module.bc" -o "$work/module.ll"
+sed 's/ "target-cpu"="x86-64"//' "$work/module.ll" >"$work/door.ll"
+if grep '^define ' "$work/door.ll" | grep -vE '^define (internal |void @)' >&2; then
+    echo "archive-for.sh: these return something, by the rule of x86-64" >&2
+    exit 1
+fi
+compiled -c -fPIC -O3 "$work/door.ll" -o "$work/door.o"
+mkdir -p "$(dirname "$2")"
+rm -f "$2"
+"$tools/bin/llvm-ar" --format=gnu rc "$2" "$work/door.o"
+echo "$2: for $target, of the module that target/staticlib/libdoor.a was made of"
