@@ -305,6 +305,18 @@ impl Counts {
         let lines: String = floors().into_iter().map(line).collect();
         format!("     hits  floor  branch\n{lines}")
     }
+
+    /// The table in a line: how many branches it has, and how many of those with a floor were taken.
+    pub fn totals(&self) -> String {
+        let all = floors();
+        let floored: Vec<_> = all.iter().filter(|(_, floor)| *floor > 0).collect();
+        let taken = floored.iter().filter(|(name, _)| self.of(name) > 0).count();
+        format!(
+            "{} branches, {} with a floor, {taken} of these taken",
+            all.len(),
+            floored.len()
+        )
+    }
 }
 
 #[cfg(test)]
@@ -316,6 +328,18 @@ mod tests {
         let all = floors();
         let counts = Counts::new();
         assert_eq!(counts.hits.len(), all.len());
+    }
+
+    #[test]
+    fn the_totals_are_those_of_the_table() {
+        let mut counts = Counts::new();
+        let all = floors().len();
+        assert!(counts.totals().starts_with(&format!("{all} branches, ")));
+        assert!(counts.totals().ends_with(", 0 of these taken"));
+        counts.hit("fresh good");
+        // It has no floor: the card program's name is good.
+        counts.hit("fresh 9 name without a zero byte");
+        assert!(counts.totals().ends_with(", 1 of these taken"));
     }
 
     #[test]

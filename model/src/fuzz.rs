@@ -60,6 +60,7 @@ pub fn fuzz(plan: &Fuzz) -> Result<bool, String> {
     for line in &missing {
         println!("below its floor: {line}");
     }
+    println!("fuzz: {}", counts.totals());
     println!("fuzz: {} streams, {calls} calls, {differ} differ", plan.n);
     Ok(differ == 0 && broken == 0 && missing.is_empty())
 }
