@@ -129,6 +129,7 @@ void splicer_2_message(uint64_t *words, uint8_t *bytes, uint32_t conn, const uin
                        uint64_t *reply);
 void splicer_2_tick(uint64_t *words, uint8_t *bytes, uint32_t seconds, uint32_t micros, uint8_t *out, size_t room, uint64_t *reply);
 
+/* The words of a reply as a struct. */
 static inline struct splicer_reply splicer_reply_of(const uint64_t *reply) {
     struct splicer_reply r;
     r.refused = (uint32_t)reply[0];

@@ -20,6 +20,17 @@ fail() {
     exit 1
 }
 
+# reached: the crates that the door reaches
+reached() {
+    awk '
+    { sub(/#.*/, ""); at = index($0, ":"); if (at) deps[substr($0, 1, at - 1)] = substr($0, at + 1) }
+    END { visit("door") }
+    function visit(name,    n, i, list) {
+        n = split(deps[name], list, " ")
+        for (i = 1; i <= n; i++) if (!(list[i] in seen)) { seen[list[i]] = 1; print list[i]; visit(list[i]) }
+    }' crates.txt
+}
+
 # the repository, with the door as a program
 rm -rf "$work"
 mkdir -p "$trial/crates"
@@ -35,7 +46,16 @@ printf '\nfn main() {}\n' >>"$trial/crates/door/src/main.rt"
 
 # the first module is the program's; a later one has the compiler's assumptions checked
 here=$PWD
-(cd "$trial" && sh "$here/tools/kept-module.sh" "$work" try door) >"$work/try.log" 2>&1 || { cat "$work/try.log" >&2; fail "the sources do not compile"; }
+if ! (cd "$trial" && sh "$here/tools/kept-module.sh" "$work" try door) >"$work/try.log" 2>&1; then
+    cat "$work/try.log" >&2
+    # rt try does not say where: the front end by itself does
+    set -- --lib "std=$kit/libs/std/src/lib.rt"
+    for crate in $(reached); do
+        set -- "$@" --lib "$crate=$trial/crates/$crate/src/lib.rt"
+    done
+    "$kit/on/$(uname -m)/bin/rattle-print-mir" "$trial/crates/door/src/main.rt" --crate-name door "$@" >"$work/mir" || :
+    fail "the sources do not compile"
+fi
 
 # compiled FLAG..: the kit's clang, as the kit calls it for an archive
 compiled() {
