@@ -9,20 +9,19 @@ use lib.Dec.{eqb}
 use Rattle.rules.specs.Units.{timeOf, fromMicros}
 use Rattle.rules.specs.Lists.{All, bit}
 use Rattle.rules.specs.Bytes.{hasZero}
-use Rattle.rules.specs.Reading.{wholeRequest}
+use Rattle.rules.specs.Reading.{wholeRequest, dataIn, isSplice}
 use Rattle.rules.specs.State.{Queue, Splicer, is}
 use Rattle.rules.specs.Records.{Record, recordsIn}
-use Rattle.rules.specs.Ends.{Turn, quiet, writes, andThen, response, evicted, closedBy}
-use Rattle.rules.specs.Instants.{runAll}
-use Rattle.rules.specs.Answers.{requested, accepted}
-use Rattle.rules.specs.Calls.{Answer, refused, good, Called, Call, opens, closes, messages, ticks, call, writtenBy, after, named, fresh}
-use Rattle.rules.specs.History.{Event, Entry, entryIs, isStart, startsOf, endsOf, replyOf, history, front, dataIn, isSplice, book}
+use Rattle.rules.specs.Ends.{Turn, quiet, writes, andThen, evicted, closedBy}
+use Rattle.rules.specs.Answers.{requested, accepts, accepted}
+use Rattle.rules.specs.Calls.{Answer, refused, good, Called, Call, opens, closes, messages, ticks, moves, ticked, call, writtenBy, after, named, fresh}
+use Rattle.demands.specs.History.{Event, Entry, entryIs, isStart, startsOf, endsOf, replyOf, history, front, book}
 use Rattle.rules.specs.Sound.{heldCount, Once, Wired, Sound}
 use Rattle.rules.proofs.Tests.{by}
 use Rattle.rules.proofs.Count.{count-append}
 use Rattle.rules.proofs.Fitted.{recordsOf}
 use Rattle.rules.proofs.Sound.{sound-call, sound-fresh, sound-found}
-use Rattle.demands.specs.Told.{FromFresh, isOut, outsOf, withoutOwn, startedReplied, startedTold, unended}
+use Rattle.demands.specs.Told.{FromFresh, isOut, outsOf, othersOf, startedReplied, startedTold, unended}
 use Rattle.demands.proofs.Laws.{tally, Law, plain-law, quiet-law, evicted-law, closedBy-law, answered-law, tick-law}
 use Rattle.demands.proofs.Cases.{cases}
 use Rattle.demands.proofs.Waiting.{front-last}
@@ -30,23 +29,24 @@ use Rattle.demands.proofs.Room.{from-sound}
 use Rattle.demands.proofs.Book.{Settled, Owed}
 use Rattle.demands.proofs.Once.{book-told}
 
-own-none : (k : Call) → withoutOwn k [] ≡ []
-unfolding withoutOwn front
+own-none : (k : Call) → othersOf k [] ≡ []
+unfolding othersOf front
 own-none (opens c) = refl
 own-none (closes c room) = refl
-own-none (messages c l room) = by (λ (rs : List Record). rs ≡ []) (isSplice l) _ _ (λ e. refl) (λ e. refl)
+own-none (messages c l loans) = by (λ (rs : List Record). rs ≡ []) (isSplice l) _ _ (λ e. refl) (λ e. refl)
 own-none (ticks seconds micros room) = refl
+own-none (moves until room) = refl
 
 -- a call k with the records rs, from the sessions q to u
 record Airs (c x : ℕ) (q u : Queue) (k : Call) (rs : List Record) : Type 0 where
-  ends : endsOf c x (withoutOwn k rs) ≤ heldCount q (is c x)
-  started : (tally c x (q .started) + startsOf c x rs) - endsOf c x (withoutOwn k rs) ≡ tally c x (u .started)
+  ends : endsOf c x (othersOf k rs) ≤ heldCount q (is c x)
+  started : (tally c x (q .started) + startsOf c x rs) - endsOf c x (othersOf k rs) ≡ tally c x (u .started)
   outs : outsOf c x rs ≤ tally c x (q .started) + startsOf c x rs
 
 module _ (c x : ℕ) where
   -- a piece of work, and an own answer that says nothing of it
   airs-turn : (q u : Queue) (t : Turn) (k : Call) (rs : List Record) → Once q → Law c x q t → tally c x (u .started) ≡ tally c x (t .queue .started)
-      → endsOf c x (withoutOwn k rs) ≡ endsOf c x (t .written) → startsOf c x rs ≡ startsOf c x (t .written) → outsOf c x rs ≡ outsOf c x (t .written) → Airs c x q u k rs
+      → endsOf c x (othersOf k rs) ≡ endsOf c x (t .written) → startsOf c x rs ≡ startsOf c x (t .written) → outsOf c x rs ≡ outsOf c x (t .written) → Airs c x q u k rs
   airs-turn q u t k rs once l same e s o =
       let z = once c x in
       record { ends = omega (arith, l .kept); started = omega (arith, l .kept, l .grown, l .begun); outs = omega (arith, l .aired) }
@@ -59,30 +59,30 @@ module _ (c x : ℕ) where
     P k r = Airs c x q (r .splicer .queue) k (recordsOf (r .answer))
 
     call-airs : (k : Call) → P k (call k s)
-    unfolding withoutOwn front accepted andThen isStart isOut
+    unfolding othersOf front accepted andThen isStart isOut ticked
     call-airs =
         cases s P (record {
           refusing = λ k n. airs-turn q q (quiet q) k [] once (quiet-law c x q) refl (rw (own-none k)) refl refl;
           opening = λ d low e. airs-turn q q (quiet q) (opens d) [] once (quiet-law c x q) refl refl refl refl;
           closing = λ d room low e. airs-turn q _ (closedBy d q) (closes d room) _ once (closedBy-law c x d q) refl refl refl refl;
-          saying = λ d l room n rs e p. airs-turn q q (writes rs q) (messages d l room) rs once (plain-law c x q rs p) refl (rw e) refl refl;
-          naming = λ d l room n r e p. airs-turn q q (writes (r ∷ []) q) (messages d l room) (r ∷ []) once (plain-law c x q (r ∷ []) p) refl (rw e) refl refl;
-          aborting = λ d l room n y e i. airs-turn q _ _ (messages d l room) _ once (answered-law c x d y q) refl (rw e) refl refl;
-          declining = λ d l room n r e y o. airs-turn q q (quiet q) (messages d l room) (r ∷ []) once (quiet-law c x q) refl (rw e)
+          saying = λ d l loans n rs e p. airs-turn q q (writes rs q) (messages d l loans) rs once (plain-law c x q rs p) refl (rw e) refl refl;
+          naming = λ d l loans n r e p. airs-turn q q (writes (r ∷ []) q) (messages d l loans) (r ∷ []) once (plain-law c x q (r ∷ []) p) refl (rw e) refl refl;
+          aborting = λ d l loans n y e i. airs-turn q _ _ (messages d l loans) _ once (answered-law c x d y q) refl (rw e) refl refl;
+          declining = λ d l loans n r e y o. airs-turn q q (quiet q) (messages d l loans) (r ∷ []) once (quiet-law c x q) refl (rw e)
               (omega (arith, ap bit (o .starts c x))) (omega (arith, ap bit (o .outs c x)));
-          accepting = λ d l room n e f p. let new = requested d (wholeRequest (dataIn l)) q in
+          accepting = λ d l loans n e f p. let new = requested d (wholeRequest (dataIn l)) q in
               let t = evicted (new .start .0) q in
-              let one = response 100 new ∷ [] in
-              airs-turn q _ t (messages d l room) (t .written ++ one) once (evicted-law c x (new .start .0) q) refl (rw (e, front-last (t .written) (response 100 new)))
+              let one = accepts new ∷ [] in
+              airs-turn q _ t (messages d l loans) (t .written ++ one) once (evicted-law c x (new .start .0) q) refl (rw (e, front-last (t .written) (accepts new)))
               (omega (arith, count-append (isStart c x) (t .written) one)) (omega (arith, count-append (isOut c x) (t .written) one));
-          ticking = λ seconds micros room le. airs-turn q _ (runAll (s .clock) (fromMicros (timeOf seconds micros) .0) q) (ticks seconds micros room) _ once
-              (tick-law c x (s .clock) (fromMicros (timeOf seconds micros) .0) q) refl refl refl refl;
+          ticking = λ seconds micros room le. airs-turn q _ _ (ticks seconds micros room) _ once (tick-law c x (s .clock) (fromMicros (timeOf seconds micros) .0) q) refl refl refl refl;
+          moving = λ until room le. airs-turn q _ _ (moves until room) _ once (tick-law c x (s .clock) until q) refl refl refl refl;
         })
 
   -- ## What has started, from the answers
 
   replied-started : (k : Call) (a : Answer) (n : ℕ) → recordsIn (writtenBy a) ≡ recordsOf a
-      → startedReplied c x k (replyOf a) n ≡ (n + startsOf c x (recordsOf a)) - endsOf c x (withoutOwn k (recordsOf a))
+      → startedReplied c x k (replyOf a) n ≡ (n + startsOf c x (recordsOf a)) - endsOf c x (othersOf k (recordsOf a))
   unfolding startedReplied
   replied-started k (refused m) n e = rw (own-none k) (omega arith)
   replied-started k (good consumed rs) n e = rw e
@@ -123,7 +123,7 @@ module _ (c x : ℕ) where
     airs : Airs c x (s .queue) (call k s .splicer .queue) k (recordsIn (writtenBy (call k s .answer)))
     airs = let d = from-sound h s f in rw (sound-found s k w d) (call-airs s (d .holding .once) k)
 
-    pub ends-accepted : endsOf c x (withoutOwn k (recordsIn (writtenBy (call k s .answer)))) ≤ unended c x (book h [])
+    pub ends-accepted : endsOf c x (othersOf k (recordsIn (writtenBy (call k s .answer)))) ≤ unended c x (book h [])
     ends-accepted = omega (arith, airs .ends, owed-unended (heldCount (s .queue) (is c x)) (book h []) (book-told h s f .owed c x))
 
     pub outs-started : outsOf c x (recordsIn (writtenBy (call k s .answer))) ≤ startedTold c x h 0 + startsOf c x (recordsIn (writtenBy (call k s .answer)))

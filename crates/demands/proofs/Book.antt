@@ -16,14 +16,14 @@ use Rattle.rules.specs.declared.Message.the-variants.{Splice}
 use Rattle.rules.specs.Units.{timeOf, fromMicros}
 use Rattle.rules.specs.Lists.{All, bit, omit, count, place}
 use Rattle.rules.specs.Bytes.{hasZero}
-use Rattle.rules.specs.Reading.{wholeRequest, readSplice}
-use Rattle.rules.specs.State.{Queue, Splicer, empty, of, is, held, holds}
+use Rattle.rules.specs.Reading.{wholeRequest, readSplice, dataIn}
+use Rattle.rules.specs.State.{sameNumber, Queue, Splicer, empty, of, is, held, holds}
 use Rattle.rules.specs.Records.{Record, General, InitResponse, AliveResponse, SpliceResponse, SpliceComplete, AbortResponse}
-use Rattle.rules.specs.Ends.{Turn, writes, andThen, response, evicted, cancelled, closedBy}
+use Rattle.rules.specs.Ends.{Turn, writes, andThen, evicted, cancelled, closedBy}
 use Rattle.rules.specs.Instants.{runAll}
-use Rattle.rules.specs.Answers.{endOf, startOf, sessionAt, requested, unknownPrior, accepted}
-use Rattle.rules.specs.Calls.{Called, Call, call, after, named, fresh}
-use Rattle.rules.specs.History.{both, isEnd, isYes, endsOf, front, last, dataIn, Entry, entryIs, credited, endTold, startTold, endAsked, entryOf, bookAnswered, shut, bookAfter}
+use Rattle.rules.specs.Answers.{endOf, startOf, sessionAt, requested, unknownPrior, accepts, accepted}
+use Rattle.rules.specs.Calls.{Called, ticked, Call, call, after, named, fresh}
+use Rattle.demands.specs.History.{isEnd, isYes, endsOf, front, last, Entry, entryIs, credited, endTold, startTold, endAsked, entryOf, bookAnswered, shut, bookAfter}
 use Rattle.rules.specs.Sound.{Each, heldCount}
 use Rattle.rules.proofs.Tests.{clash, by, and-both, eqb-same}
 use Rattle.rules.proofs.All.{all-into}
@@ -31,20 +31,20 @@ use Rattle.rules.proofs.Count.{bit-and, place-holds, some-place, count-le, coun
 use Rattle.rules.proofs.Every.{all-both, all-getD, all-none, fewer-each, all-held}
 use Rattle.rules.proofs.Leaving.{evicted-fewer, aborted-fewer, closedBy-fewer}
 use Rattle.rules.proofs.Sessions.{count-held, each-tick, each-accepted, held-accepted}
-use Rattle.rules.proofs.History.{bookAnswer, bookOf}
+use Rattle.demands.proofs.Heard.{bookAnswer, bookOf}
 use Rattle.demands.proofs.Laws.{Law, evicted-law, closedBy-law, plain-law, answered-law, tick-law, Plain, plain-none}
 use Rattle.demands.proofs.Cases.{cases}
 use Rattle.demands.proofs.Waiting.{front-last, last-last}
 
 -- ## An end is of one number only
 
-other-one : (b : Bool) (c x c′ x′ d y : ℕ) → both c x c′ x′ ≡ false → (b && both c′ x′ d y) ≡ true → (b && both c x d y) ≡ false
+other-one : (b : Bool) (c x c′ x′ d y : ℕ) → sameNumber c x c′ x′ ≡ false → (b && sameNumber c′ x′ d y) ≡ true → (b && sameNumber c x d y) ≡ false
 other-one b c x c′ x′ d y f e =
-    let h = and-both b (both c′ x′ d y) e in
+    let h = and-both b (sameNumber c′ x′ d y) e in
     let k = and-both (eqb c′ d) (eqb x′ y) (h .1) in
     rw (← (eqb-true c′ d (k .0)), ← (eqb-true x′ y (k .1)), f, and-false)
 
-end-one : (c x c′ x′ : ℕ) (r : Record) → both c x c′ x′ ≡ false → isEnd c′ x′ r ≡ true → isEnd c x r ≡ false
+end-one : (c x c′ x′ : ℕ) (r : Record) → sameNumber c x c′ x′ ≡ false → isEnd c′ x′ r ≡ true → isEnd c x r ≡ false
 unfolding isEnd
 end-one c x c′ x′ (General d n) f e = refl
 end-one c x c′ x′ (InitResponse d n name) f e = refl
@@ -262,24 +262,27 @@ module _ (s : Splicer) (es : List Entry) (b : Booked (s .queue) es) where
   unfolding entryOf endAsked requested sessionAt
   asked-entry c l e u = rw (e, told-start c (wholeRequest (dataIn l) .start) q es (b .dated) u)
 
+  tick-booked : (until : ℕ) → Booked (runAll (s .clock) until q .queue) (credited (runAll (s .clock) until q .written) es)
+  tick-booked until = turn-booked q es (runAll (s .clock) until q) b (λ c x. tick-law c x (s .clock) until q) (each-tick (Dated es) (λ d u h. h) (s .clock) until q (b .dated))
+
   call-booked : (k : Call) → Kept k (call k s)
-  unfolding bookAfter bookAnswered front last accepted andThen isYes requested sessionAt
+  unfolding bookAfter bookAnswered front last accepted andThen isYes requested sessionAt ticked
   call-booked =
       cases s Kept (record {
         refusing = λ k n. b;
         opening = λ c low e. plain-booked q es [] plain-none b;
         closing = λ c room low e. closed-booked c;
-        saying = λ c l room n rs e p. rw e (plain-booked q es rs p b);
-        naming = λ c l room n r e p. rw e (plain-booked q es (r ∷ []) p b);
-        aborting = λ c l room n x e i. rw e (turn-booked q es _ b (λ d y. answered-law d y c x q) (fewer-each (Dated es) q _ (aborted-fewer c x q) (b .dated)));
-        declining = λ c l room n r e y o. rw (e, y) (plain-booked q es [] plain-none b);
-        accepting = λ c l room n e f p. let r = wholeRequest (dataIn l) in
+        saying = λ c l loans n rs e p. rw e (plain-booked q es rs p b);
+        naming = λ c l loans n r e p. rw e (plain-booked q es (r ∷ []) p b);
+        aborting = λ c l loans n x e i. rw e (turn-booked q es _ b (λ d y. answered-law d y c x q) (fewer-each (Dated es) q _ (aborted-fewer c x q) (b .dated)));
+        declining = λ c l loans n r e y o. rw (e, y) (plain-booked q es [] plain-none b);
+        accepting = λ c l loans n e f p. let r = wholeRequest (dataIn l) in
             let new = requested c r q in
             let rs = evicted (new .start .0) q .written in
-            rw (e, last-last (isYes c (r .id)) rs (response 100 new), front-last rs (response 100 new), eqb-same c, eqb-same (r .id), asked-entry c l f (p .prior))
+            rw (e, last-last (isYes c (r .id)) rs (accepts new), front-last rs (accepts new), eqb-same c, eqb-same (r .id), asked-entry c l f (p .prior))
             (new-booked new q es b (omega (arith, some-none (is c (r .id)) (held q) (p .number), count-held (is c (r .id)) q)));
-        ticking = λ seconds micros room le. turn-booked q es (runAll (s .clock) (fromMicros (timeOf seconds micros) .0) q) b
-            (λ c x. tick-law c x (s .clock) (fromMicros (timeOf seconds micros) .0) q) (each-tick (Dated es) (λ d u h. h) (s .clock) (fromMicros (timeOf seconds micros) .0) q (b .dated));
+        ticking = λ seconds micros room le. tick-booked (fromMicros (timeOf seconds micros) .0);
+        moving = λ until room le. tick-booked until;
       })
 
 pub booked-always : (ks : List Call) (s : Splicer) (es : List Entry) → Booked (s .queue) es → Booked (after ks s .queue) (bookOf ks s es)

@@ -1,16 +1,16 @@
 -- The incident: what is written after a close counts for no session that was accepted before it. Rests on Once and on how the book is kept.
 use mathlib.Core.Path.{_≡_, refl, sym, ap, _∙_}
-use mathlib.Core.Bool.{Bool, true, false, cond, _||_}
+use mathlib.Core.Bool.{Bool, true, false, cond, _||_, _&&_}
 use mathlib.Core.List.{List, [], _∷_, _++_}
-use Prim.Native.Nat.{ℕ, _+_, _≤_}
+use Prim.Native.Nat.{ℕ, _≤_}
 use native.Mathlib.Omega.{arith}
 use lib.Dec.{eqb}
 use Rattle.rules.specs.Lists.{All, put, omit}
-use Rattle.rules.specs.Reading.{sessionID}
+use Rattle.rules.specs.Reading.{sessionID, dataIn, isSplice}
 use Rattle.rules.specs.State.{Splicer}
 use Rattle.rules.specs.Records.{Record, recordsIn}
-use Rattle.rules.specs.Calls.{Answer, refused, good, Call, opens, closes, messages, ticks, call, writtenBy, after, fresh}
-use Rattle.rules.specs.History.{Event, Reply, refusal, wrote, Entry, isEnd, isYes, withEnds, front, last, dataIn, isSplice, replyOf, history, credited, entryOf, bookAnswered, shut, bookAfter, bookReplied, book, clockAfter}
+use Rattle.rules.specs.Calls.{Answer, refused, good, Call, opens, closes, messages, ticks, moves, call, writtenBy, after, fresh}
+use Rattle.demands.specs.History.{Event, Reply, refusal, wrote, Entry, isEnd, isYes, withEnds, front, last, replyOf, history, credited, entryOf, bookAnswered, shut, bookAfter, bookReplied, book, clockAfter}
 use Rattle.rules.specs.Sound.{Wired}
 use Rattle.rules.proofs.All.{all-into, all-append}
 use Rattle.rules.proofs.Every.{all-both, all-kept}
@@ -109,15 +109,16 @@ unfolding bookReplied bookAfter bookAnswered
 since-replied k (refusal n) h = h
 since-replied (opens c) (wrote l) h = since-credited (recordsIn l) h
 since-replied (closes c room) (wrote l) h = since-shut c (since-credited (recordsIn l) h)
-since-replied {es} {fs} (messages c m room) (wrote l) h = go (isSplice m)
+since-replied {es} {fs} (messages c m loans) (wrote l) h = go (isSplice m)
   where
     rs : List Record
     rs = recordsIn l
 
-    go : (b : Bool) → Since es (cond b (put (last (isYes c (sessionID (dataIn m))) rs) (entryOf c (dataIn m) fs) (credited (front rs) fs)) (credited rs fs))
+    go : (b : Bool) → Since es (put (b && last (isYes c (sessionID (dataIn m))) rs) (entryOf c (dataIn m) fs) (credited (cond b (front rs) rs) fs))
     go true = since-put (last (isYes c (sessionID (dataIn m))) rs) (entryOf c (dataIn m) fs) (since-credited (front rs) h)
     go false = since-credited rs h
 since-replied (ticks seconds micros room) (wrote l) h = since-credited (recordsIn l) h
+since-replied (moves until room) (wrote l) h = since-credited (recordsIn l) h
 
 since-book : {es fs : List Entry} (h : List Event) → Since es fs → Since es (book h fs)
 unfolding book

@@ -7,17 +7,17 @@ use Prim.Native.Nat.{ℕ, _+_, _≤_}
 use lib.ListN.{length}
 use Rattle.rules.specs.declared.Request.{Request}
 use Rattle.rules.specs.declared.Refusal.{Refusal}
-use Rattle.rules.specs.declared.Refusal.the-variants.{Name}
+use Rattle.rules.specs.declared.Refusal.the-variants.{BadName}
 use Rattle.rules.specs.Lists.{All}
 use Rattle.rules.specs.Bytes.{Byte, hasZero}
 use Rattle.rules.specs.State.{Splicer}
 use Rattle.rules.specs.Records.{recordsIn}
 use Rattle.rules.specs.Answers.{requested, spliceResult}
-use Rattle.rules.specs.Calls.{refused, refuse, writtenBy, named, fresh, Call, closes, messages, call, after}
-use Rattle.rules.specs.History.{Event, startsOf, endsOf, history, last, waitingCount, book, clockAfter}
+use Rattle.rules.specs.Calls.{refused, refuse, writtenBy, named, fresh, Loans, Call, closes, messages, call, after}
+use Rattle.demands.specs.History.{Event, startsOf, endsOf, history, last, waitingCount, book, clockAfter}
 use Rattle.rules.specs.Sound.{Wired}
 use Rattle.rules.proofs.Sound.{sound-size}
-use Rattle.demands.specs.Told.{FromFresh, Unchanged, firstNumber, checks, numberOf, answers, Asks, Passes, fullTold, outsOf, withoutOwn, startedTold, unended, Ended, Stands}
+use Rattle.demands.specs.Told.{FromFresh, Unchanged, firstNumber, checks, numberOf, answers, Asks, Passes, fullTold, outsOf, othersOf, startedTold, unended, Ended, Stands}
 use Rattle.demands.proofs.Refusals.{unchanged, first-number, fresh-number, fresh-refused}
 use Rattle.demands.proofs.Room.{from-sound, count-room, own-answer, full-answer}
 use Rattle.demands.proofs.Once.{all-ended}
@@ -49,7 +49,7 @@ bad-call-changes-nothing = unchanged
 pub bad-name-number : (name : List ℕ) → numberOf (fresh name .answer) ≡ cond (hasZero name) 0 9
 bad-name-number = fresh-number
 
-pub bad-name-gives-empty : (name : List ℕ) → hasZero name ≡ false → fresh name ≡ refuse Name (named [])
+pub bad-name-gives-empty : (name : List ℕ) → hasZero name ≡ false → fresh name ≡ refuse BadName (named [])
 bad-name-gives-empty = fresh-refused
 
 -- "every call takes every input": no answer is longer than 3,174 bytes, so the 4,096 that a good call has are enough
@@ -60,9 +60,9 @@ answers-fit h s f k = sound-size s (from-sound h s f) k
 
 -- "An accepted request is accepted because the rules accept it; a refused one carries the first result code that applies.": the last record in
 -- the bytes of the answer is the Splice_Response with the code of 01's a to f
-pub first-code-applies : (h : List Event) (s : Splicer) → FromFresh h s → (c : ℕ) (l : List ℕ) (room : ℕ) (r : Request) → Asks c l room r s
-    → last (answers (spliceResult (s .clock) c r (requested c r (s .queue)) (s .queue)) c (r .id)) (recordsIn (writtenBy (call (messages c l room) s .answer))) ≡ true
-first-code-applies h s f c l room r a = own-answer c l room r s a h f
+pub first-code-applies : (h : List Event) (s : Splicer) → FromFresh h s → (c : ℕ) (l : List ℕ) (loans : Loans) (r : Request) → Asks c l loans r s
+    → last (answers (spliceResult (s .clock) c r (requested c r (s .queue)) (s .queue)) c (r .id)) (recordsIn (writtenBy (call (messages c l loans) s .answer))) ≡ true
+first-code-applies h s f c l loans r a = own-answer c l loans r s a h f
 
 -- ## Demand 3
 
@@ -73,8 +73,8 @@ count-never-passes-20 = count-room
 
 -- "A request that passes every earlier check in 01's order is refused for a full queue exactly when the count is 20, or when it is at least 10
 -- and the four counts, each taken as at least 10, add up to 64." Else it is accepted
-pub full-exactly-when : (h : List Event) (s : Splicer) → FromFresh h s → (c : ℕ) (l : List ℕ) (room : ℕ) (r : Request) → Asks c l room r s → Passes c r s
-    → last (answers (cond (fullTold c h) 114 100) c (r .id)) (recordsIn (writtenBy (call (messages c l room) s .answer))) ≡ true
+pub full-exactly-when : (h : List Event) (s : Splicer) → FromFresh h s → (c : ℕ) (l : List ℕ) (loans : Loans) (r : Request) → Asks c l loans r s → Passes c r s
+    → last (answers (cond (fullTold c h) 114 100) c (r .id)) (recordsIn (writtenBy (call (messages c l loans) s .answer))) ≡ true
 full-exactly-when = full-answer
 
 -- "No accepted session gets a second end, and each gets exactly one end, at the latest when the clock is brought to its end time or its
@@ -85,7 +85,7 @@ one-end = all-ended
 -- An end in an answer's bytes, a Splice_Request's own answer apart, is of an accepted session that had none: it is neither a second end nor
 -- the end of a number that nobody was granted
 pub ends-are-owed : (c x : ℕ) (h : List Event) (s : Splicer) → FromFresh h s → (k : Call) → Wired k
-    → endsOf c x (withoutOwn k (recordsIn (writtenBy (call k s .answer)))) ≤ unended c x (book h [])
+    → endsOf c x (othersOf k (recordsIn (writtenBy (call k s .answer)))) ≤ unended c x (book h [])
 ends-are-owed = ends-accepted
 
 -- The incident: "the completion routine then wrote the old spot's end under the new SessionID. Two operators' as-run logs listed a spot that

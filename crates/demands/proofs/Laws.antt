@@ -8,12 +8,14 @@ use lib.Dec.{eqb, ltb}
 use lib.ListN.{length, getD}
 use borrow.Author.Tests.{ltb-true}
 use Rattle.rules.specs.declared.Session.{Session}
+use Rattle.rules.specs.declared.Ending.{Ending}
+use Rattle.rules.specs.declared.Ending.the-variants.{Complete, Failed, Response}
 use Rattle.rules.specs.Lists.{bit, keep, count, place, removeAt}
-use Rattle.rules.specs.State.{Queue, empty, of, is, startsAt, endsAt, toCome, withWaiting}
+use Rattle.rules.specs.State.{sameNumber, Queue, empty, of, is, startsAt, endsAt, toCome, withWaiting}
 use Rattle.rules.specs.Records.{Record, General, InitResponse, AliveResponse, SpliceResponse, SpliceComplete, AbortResponse}
-use Rattle.rules.specs.Ends.{Turn, quiet, writes, andThen, response, spliceIn, spliceOut, endings, followers, dismissed, evictedAt, evicted, cancelled, aborted, closedBy}
+use Rattle.rules.specs.Ends.{Turn, quiet, writes, andThen, ended, endings, followers, dismissed, evictedAt, evicted, cancelled, aborted, closedBy}
 use Rattle.rules.specs.Instants.{mayStart, launched, startAt, endAt, instant, elapse, runAll}
-use Rattle.rules.specs.History.{both, isStart, isEnd, startsOf, endsOf}
+use Rattle.demands.specs.History.{isStart, isEnd, startsOf, endsOf}
 use Rattle.rules.proofs.Tests.{by}
 use Rattle.rules.proofs.Count.{count-append, count-split, count-none, count-le, count-map, count-endings, count-removeAt}
 use Rattle.rules.proofs.Walk.{followed}
@@ -42,28 +44,33 @@ plain-none = record { starts = λ c x. refl; ends = λ c x. refl }
 module _ (c x : ℕ) where
   -- ## Records
 
-  ends-109 : (l : List Session) → endsOf c x (map (response 109) l) ≡ tally c x l
+  ends-109 : (l : List Session) → endsOf c x (map (ended (Response 109)) l) ≡ tally c x l
   unfolding isEnd
-  ends-109 l = count-map (isEnd c x) (response 109) l
+  ends-109 l = count-map (isEnd c x) (ended (Response 109)) l
 
-  ends-116 : (l : List Session) → endsOf c x (map (response 116) l) ≡ tally c x l
+  ends-116 : (l : List Session) → endsOf c x (map (ended (Response 116)) l) ≡ tally c x l
   unfolding isEnd
-  ends-116 l = count-map (isEnd c x) (response 116) l
+  ends-116 l = count-map (isEnd c x) (ended (Response 116)) l
 
-  starts-responses : (r : ℕ) (l : List Session) → startsOf c x (map (response r) l) ≡ 0
+  starts-responses : (r : ℕ) (l : List Session) → startsOf c x (map (ended (Response r)) l) ≡ 0
   unfolding isStart
-  starts-responses r l = count-map (isStart c x) (response r) l ∙ count-none (λ s. false) (λ s. refl) l
+  starts-responses r l = count-map (isStart c x) (ended (Response r)) l ∙ count-none (λ s. false) (λ s. refl) l
 
-  ends-endings : (a : ℕ) (cover : Session → Record) → ((s : Session) → isEnd c x (cover s) ≡ is c x s) → (p : Session → Bool) (k : List Session)
-      → endsOf c x (endings (spliceOut a) cover p k) ≡ tally c x (keep p k)
+  ends-endings : (r : ℕ) (cover : Ending) → ((s : Session) → isEnd c x (ended cover s) ≡ is c x s) → (p : Session → Bool) (k : List Session)
+      → endsOf c x (endings (Complete r) cover p k) ≡ tally c x (keep p k)
   unfolding isEnd
-  ends-endings a cover h p k = count-endings (isEnd c x) (is c x) (spliceOut a) cover (λ s. refl) h p k
+  ends-endings r cover h p k = count-endings (isEnd c x) (is c x) (Complete r) cover (λ s. refl) h p k
 
-  starts-endings : (a : ℕ) (cover : Session → Record) → ((s : Session) → isStart c x (cover s) ≡ false) → (p : Session → Bool) (k : List Session)
-      → startsOf c x (endings (spliceOut a) cover p k) ≡ 0
+  -- no end is a start
+  not-start : (h : Ending) (s : Session) → isStart c x (ended h s) ≡ false
   unfolding isStart
-  starts-endings a cover h p k =
-      count-endings (isStart c x) (λ s. false) (spliceOut a) cover (λ s. refl) h p k ∙ count-none (λ s. false) (λ s. refl) (keep p k)
+  not-start (Complete r) s = refl
+  not-start Failed s = refl
+  not-start (Response r) s = refl
+
+  starts-endings : (air cover : Ending) (p : Session → Bool) (k : List Session) → startsOf c x (endings air cover p k) ≡ 0
+  starts-endings air cover p k =
+      count-endings (isStart c x) (λ s. false) air cover (not-start air) (not-start cover) p k ∙ count-none (λ s. false) (λ s. refl) (keep p k)
 
   -- only ends are ends of what was on air
   pub outs-ends : (rs : List Record) → outsOf c x rs ≤ endsOf c x rs
@@ -79,12 +86,12 @@ module _ (c x : ℕ) where
       one (InitResponse d n name) = omega arith
       one (AliveResponse d n a y t) = omega arith
       one (SpliceResponse d n y) = omega arith
-      one (SpliceComplete d n y f p) = flag (eqb f 1) (eqb f 0 && eqb n 109) (both c x d y)
+      one (SpliceComplete d n y f p) = flag (eqb f 1) (eqb f 0 && eqb n 109) (sameNumber c x d y)
       one (AbortResponse d n y) = omega arith
 
-  outs-responses : (r : ℕ) (l : List Session) → outsOf c x (map (response r) l) ≡ 0
+  outs-responses : (r : ℕ) (l : List Session) → outsOf c x (map (ended (Response r)) l) ≡ 0
   unfolding isOut
-  outs-responses r l = count-map (isOut c x) (response r) l ∙ count-none (λ s. false) (λ s. refl) l
+  outs-responses r l = count-map (isOut c x) (ended (Response r)) l ∙ count-none (λ s. false) (λ s. refl) l
 
   -- ## One piece of work after another
 
@@ -108,7 +115,7 @@ module _ (c x : ℕ) where
   -- ## Followers, eviction, abort, close
 
   -- the followers' ends are of a result r that is an end's
-  dismissed-law : (r d y : ℕ) (q : Queue) → ((l : List Session) → endsOf c x (map (response r) l) ≡ tally c x l) → Law c x q (dismissed r d y q)
+  dismissed-law : (r d y : ℕ) (q : Queue) → ((l : List Session) → endsOf c x (map (ended (Response r)) l) ≡ tally c x l) → Law c x q (dismissed r d y q)
   unfolding dismissed
   dismissed-law r d y q h =
       let f = followers d y (q .waiting) in
@@ -124,7 +131,7 @@ module _ (c x : ℕ) where
       let s = getD (q .waiting) i empty in
       let u = withWaiting (removeAt i (q .waiting)) q in
       let w = count-removeAt (is c x) i (q .waiting) empty h in
-      join-law q (writes (response 109 s ∷ []) u) (dismissed 109 (s .conn) (s .id) u) (record { kept = omega arith; grown = omega arith; begun = omega arith; aired = omega arith })
+      join-law q (writes (ended (Response 109) s ∷ []) u) (dismissed 109 (s .conn) (s .id) u) (record { kept = omega arith; grown = omega arith; begun = omega arith; aired = omega arith })
       (dismissed-law 109 (s .conn) (s .id) u ends-109)
 
   pub evicted-law : (t : ℕ) (q : Queue) → Law c x q (evicted t q)
@@ -136,13 +143,13 @@ module _ (c x : ℕ) where
   cancelled-law : (p : Session → Bool) (q : Queue) → Law c x q (cancelled p q)
   unfolding cancelled isEnd isStart
   cancelled-law p q =
-      let a = endings (spliceOut 116) (response 116) p (q .started) in
-      let b = map (response 116) (keep p (q .waiting)) in
+      let a = endings (Complete 116) (Response 116) p (q .started) in
+      let b = map (ended (Response 116)) (keep p (q .waiting)) in
       let e₁ = count-append (isEnd c x) a b in
-      let e₂ = ends-endings 116 (response 116) (λ s. refl) p (q .started) in
+      let e₂ = ends-endings 116 (Response 116) (λ s. refl) p (q .started) in
       let e₃ = ends-116 (keep p (q .waiting)) in
       let s₁ = count-append (isStart c x) a b in
-      let s₂ = starts-endings 116 (response 116) (λ s. refl) p (q .started) in
+      let s₂ = starts-endings (Complete 116) (Response 116) p (q .started) in
       let s₃ = starts-responses 116 (keep p (q .waiting)) in
       let o₁ = count-append (isOut c x) a b in
       let o₂ = outs-ends a in
@@ -175,7 +182,7 @@ module _ (c x : ℕ) where
   unfolding launched andThen isEnd isStart isOut
   launched-law s w q h =
       by (Law c x (withWaiting w q)) (mayStart s (q .started)) _ _ (λ e. record { kept = omega arith; grown = omega arith; begun = omega arith; aired = omega arith })
-      (λ e. join-law (withWaiting w q) (writes (spliceIn 109 s ∷ []) q) (dismissed 109 (s .conn) (s .id) q)
+      (λ e. join-law (withWaiting w q) (writes (ended Failed s ∷ []) q) (dismissed 109 (s .conn) (s .id) q)
       (record { kept = omega arith; grown = omega arith; begun = omega arith; aired = omega arith }) (dismissed-law 109 (s .conn) (s .id) q ends-109))
 
   startAt-law : (t : ℕ) (q : Queue) → Law c x q (startAt t q)
@@ -190,9 +197,9 @@ module _ (c x : ℕ) where
   endAt-law : (t : ℕ) (q : Queue) → Law c x q (endAt t q)
   unfolding endAt isEnd isStart
   endAt-law t q =
-      let e = ends-endings 100 (spliceOut 125) (λ s. refl) (endsAt t) (q .started) in
-      let s = starts-endings 100 (spliceOut 125) (λ s. refl) (endsAt t) (q .started) in
-      let o = outs-ends (endings (spliceOut 100) (spliceOut 125) (endsAt t) (q .started)) in
+      let e = ends-endings 100 (Complete 125) (λ s. refl) (endsAt t) (q .started) in
+      let s = starts-endings (Complete 100) (Complete 125) (endsAt t) (q .started) in
+      let o = outs-ends (endings (Complete 100) (Complete 125) (endsAt t) (q .started)) in
       let k = count-split (is c x) (endsAt t) (q .started) in
       record { kept = omega arith; grown = omega arith; begun = omega arith; aired = omega arith }
 

@@ -1,3 +1,4 @@
+pub mod Heard
 pub mod Demands
 pub mod Laws
 pub mod Cases

@@ -8,8 +8,8 @@ use native.Mathlib.Omega.{arith}
 use Rattle.rules.specs.Lists.{All}
 use Rattle.rules.specs.Bytes.{hasZero}
 use Rattle.rules.specs.State.{Splicer, is, held, holds}
-use Rattle.rules.specs.Calls.{Called, Call, call, after, named, fresh}
-use Rattle.rules.specs.History.{Event, Entry, entryIs, endTold, replyOf, history, book, clockReplied, clockAfter}
+use Rattle.rules.specs.Calls.{Called, ticked, Call, call, after, named, fresh}
+use Rattle.demands.specs.History.{Event, Entry, entryIs, endTold, replyOf, history, book, clockReplied, clockAfter}
 use Rattle.rules.specs.Sound.{heldCount}
 use Rattle.rules.proofs.Tests.{by, clash, eqb-same}
 use Rattle.rules.proofs.All.{all-into}
@@ -17,7 +17,7 @@ use Rattle.rules.proofs.Count.{some-none}
 use Rattle.rules.proofs.Timed.{ends-held, endOf-held}
 use Rattle.rules.proofs.Sessions.{count-held}
 use Rattle.rules.proofs.Sound.{sound-fresh}
-use Rattle.rules.proofs.History.{book-found}
+use Rattle.demands.proofs.Heard.{book-found}
 use Rattle.demands.specs.Told.{FromFresh, Ended}
 use Rattle.demands.proofs.Cases.{cases}
 use Rattle.demands.proofs.Room.{from-sound}
@@ -26,18 +26,19 @@ use Rattle.demands.proofs.Book.{Settled, Owed, Booked, told-end, booked
 -- ## The clock is the last good tick's
 
 call-clock : (s : Splicer) (k : Call) → clockReplied k (replyOf (call k s .answer)) (s .clock) ≡ call k s .splicer .clock
-unfolding clockReplied
+unfolding clockReplied ticked
 call-clock s =
     cases s (λ k r. clockReplied k (replyOf (r .answer)) (s .clock) ≡ r .splicer .clock) (record {
       refusing = λ k n. refl;
       opening = λ c low e. refl;
       closing = λ c room low e. refl;
-      saying = λ c l room n rs e p. refl;
-      naming = λ c l room n r e p. refl;
-      aborting = λ c l room n x e i. refl;
-      declining = λ c l room n r e y o. refl;
-      accepting = λ c l room n e f p. refl;
+      saying = λ c l loans n rs e p. refl;
+      naming = λ c l loans n r e p. refl;
+      aborting = λ c l loans n x e i. refl;
+      declining = λ c l loans n r e y o. refl;
+      accepting = λ c l loans n e f p. refl;
       ticking = λ seconds micros room le. refl;
+      moving = λ until room le. refl;
     })
 
 clock-after : (ks : List Call) (s : Splicer) → clockAfter (history ks s) (s .clock) ≡ after ks s .clock

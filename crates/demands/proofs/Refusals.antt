@@ -7,14 +7,15 @@ use native.Mathlib.Omega.{arith}
 use lib.Dec.{ltb}
 use lib.ListN.{length}
 use Rattle.rules.specs.declared.Refusal.{Refusal}
-use Rattle.rules.specs.declared.Refusal.the-variants.{Connection, Buffer, Clock, Oversize, Short, AlreadyOpen, NotOpen, MicroSeconds, Name}
+use Rattle.rules.specs.declared.Link.the-variants.{Closed, Opened}
+use Rattle.rules.specs.declared.Refusal.the-variants.{NoConnection, NoRoom, ClockBack, Oversize, Short, AlreadyOpen, NotOpen, BadMicros, BadName}
 use Rattle.rules.specs.declared.Framing.the-variants.{Framed, Unframed}
 use Rattle.rules.specs.Units.{timeOf, badMicros, fromMicros}
 use Rattle.rules.specs.Bytes.{messageID, messageSize, oversize, hasZero, nameIn}
-use Rattle.rules.specs.State.{Splicer, closed, opened, linkOf, isOpen, withLink, withQueue}
+use Rattle.rules.specs.State.{Splicer, linkOf, isOpen, withLink, withQueue}
 use Rattle.rules.specs.Records.{Record}
 use Rattle.rules.specs.Ends.{closedBy}
-use Rattle.rules.specs.Calls.{houseNumber, refused, good, Called, refuse, does, writtenBy, consumedBy, bufferAfter, noConnection, noRoom, notOpen, named, fresh, openCall, closeCall, framing, handled, messageCall, ticked, tickCall, Call, opens, closes, messages, ticks, call}
+use Rattle.rules.specs.Calls.{houseNumber, refused, good, Called, refuse, does, writtenBy, consumedBy, bufferAfter, noConnection, noRoom, notOpen, named, fresh, openCall, closeCall, framing, handled, messageCall, ticked, moveCall, tickCall, Call, opens, closes, messages, ticks, moves, call}
 use Rattle.rules.proofs.Written.{written-none}
 use Rattle.demands.specs.Told.{firstNumber, checks, numberOf, Unchanged}
 use Rattle.demands.proofs.Cases.{cases}
@@ -28,17 +29,19 @@ module _ (s : Splicer) where
   good-other e = let z : _≡_ {A = ℕ} 0 1 = cc in absurd (omega arith)
 
   same-state : (k : Call) → Same k (call k s)
+  unfolding ticked
   same-state =
       cases s Same (record {
         refusing = λ k n m e. refl;
         opening = λ c low i n e. good-other e;
         closing = λ c room low i n e. good-other e;
-        saying = λ c l room m rs i p n e. good-other e;
-        naming = λ c l room m r i p n e. good-other e;
-        aborting = λ c l room m x i j n e. good-other e;
-        declining = λ c l room m r i y o n e. good-other e;
-        accepting = λ c l room m i j p n e. good-other e;
+        saying = λ c l loans m rs i p n e. good-other e;
+        naming = λ c l loans m r i p n e. good-other e;
+        aborting = λ c l loans m x i j n e. good-other e;
+        declining = λ c l loans m r i y o n e. good-other e;
+        accepting = λ c l loans m i j p n e. good-other e;
         ticking = λ seconds micros room le n e. good-other e;
+        moving = λ until room le n e. good-other e;
       })
 
   pub unchanged : (k : Call) (n : Refusal) → call k s .answer ≡ refused n → Unchanged s (call k s)
@@ -47,27 +50,27 @@ module _ (s : Splicer) where
       record { splicer = same-state k n e; written = rw e; consumed = rw e; buffer = λ b. rw e (written-none b 0) }
 
   pub first-number : (k : Call) → numberOf (call k s .answer) ≡ firstNumber (checks k s)
-  unfolding call openCall closeCall messageCall framing handled tickCall ticked numberOf houseNumber firstNumber checks
+  unfolding call openCall closeCall messageCall framing handled moveCall tickCall ticked numberOf houseNumber firstNumber checks
   first-number (opens c) = go (noConnection c) (isOpen (linkOf c s))
     where
-      go : (a b : Bool) → numberOf (cond a (refuse Connection s) (cond b (refuse AlreadyOpen s) (does 0 [] (withLink c opened s))) .answer) ≡ cond a 1 (cond b 6 0)
+      go : (a b : Bool) → numberOf (cond a (refuse NoConnection s) (cond b (refuse AlreadyOpen s) (does 0 [] (withLink c Opened s))) .answer) ≡ cond a 1 (cond b 6 0)
       go true b = refl
       go false true = refl
       go false false = refl
   first-number (closes c room) = go (noConnection c) (noRoom room) (notOpen c s)
     where
       go : (a b d : Bool)
-          → numberOf (cond a (refuse Connection s) (cond b (refuse Buffer s) (cond d (refuse NotOpen s)
-          (does 0 (closedBy c (s .queue) .written) (withLink c closed (withQueue (closedBy c (s .queue) .queue) s))))) .answer)
+          → numberOf (cond a (refuse NoConnection s) (cond b (refuse NoRoom s) (cond d (refuse NotOpen s)
+          (does 0 (closedBy c (s .queue) .written) (withLink c Closed (withQueue (closedBy c (s .queue) .queue) s))))) .answer)
           ≡ cond a 1 (cond b 2 (cond d 7 0))
       go true b d = refl
       go false true d = refl
       go false false true = refl
       go false false false = refl
-  first-number (messages c l room) = go (noConnection c) (noRoom room) (notOpen c s) (ltb (length l) 8) (oversize l) (ltb (length l) (8 + messageSize l))
+  first-number (messages c l loans) = go (noConnection c) (noRoom (loans .room)) (notOpen c s) (ltb (length l) 8) (oversize l) (ltb (length l) (8 + messageSize l))
     where
       go : (a b d e f g : Bool)
-          → numberOf (cond a (refuse Connection s) (cond b (refuse Buffer s) (cond d (refuse NotOpen s)
+          → numberOf (cond a (refuse NoConnection s) (cond b (refuse NoRoom s) (cond d (refuse NotOpen s)
           (handled c (cond e (Unframed Short) (cond f (Unframed Oversize) (cond g (Unframed Short) (Framed (messageID l) (messageSize l))))) l s))) .answer)
           ≡ cond a 1 (cond b 2 (cond d 7 (cond e 5 (cond f 4 (cond g 5 0)))))
       go true b d e f g = refl
@@ -80,35 +83,42 @@ module _ (s : Splicer) where
   first-number (ticks seconds micros room) = go (noRoom room) (badMicros micros) (ltb (fromMicros (timeOf seconds micros) .0) (s .clock))
     where
       go : (a b d : Bool)
-          → numberOf (cond a (refuse Buffer s) (cond b (refuse MicroSeconds s) (cond d (refuse Clock s) (ticked (fromMicros (timeOf seconds micros) .0) s))) .answer)
+          → numberOf (cond a (refuse NoRoom s) (cond b (refuse BadMicros s) (cond a (refuse NoRoom s) (cond d (refuse ClockBack s)
+          (ticked (fromMicros (timeOf seconds micros) .0) s)))) .answer)
           ≡ cond a 2 (cond b 8 (cond d 3 0))
       go true b d = refl
       go false true d = refl
       go false false true = refl
       go false false false = refl
+  first-number (moves until room) = go (noRoom room) (ltb until (s .clock))
+    where
+      go : (a b : Bool) → numberOf (cond a (refuse NoRoom s) (cond b (refuse ClockBack s) (ticked until s)) .answer) ≡ cond a 2 (cond b 3 0)
+      go true b = refl
+      go false true = refl
+      go false false = refl
 
 -- no refusal is number 0
 pub a-number : (n : Refusal) → 0 < houseNumber n
 unfolding houseNumber
-a-number Connection = omega arith
-a-number Buffer = omega arith
-a-number Clock = omega arith
+a-number NoConnection = omega arith
+a-number NoRoom = omega arith
+a-number ClockBack = omega arith
 a-number Oversize = omega arith
 a-number Short = omega arith
 a-number AlreadyOpen = omega arith
 a-number NotOpen = omega arith
-a-number MicroSeconds = omega arith
-a-number Name = omega arith
+a-number BadMicros = omega arith
+a-number BadName = omega arith
 
 -- "name without a zero byte"; "A refused fresh gives, with number 9, the splicer of an empty name."
 pub fresh-number : (name : List ℕ) → numberOf (fresh name .answer) ≡ cond (hasZero name) 0 9
 unfolding fresh numberOf houseNumber
 fresh-number name = go (hasZero name)
   where
-    go : (b : Bool) → numberOf (cond b (does 0 [] (named (nameIn name))) (refuse Name (named [])) .answer) ≡ cond b 0 9
+    go : (b : Bool) → numberOf (cond b (does 0 [] (named (nameIn name))) (refuse BadName (named [])) .answer) ≡ cond b 0 9
     go true = refl
     go false = refl
 
-pub fresh-refused : (name : List ℕ) → hasZero name ≡ false → fresh name ≡ refuse Name (named [])
+pub fresh-refused : (name : List ℕ) → hasZero name ≡ false → fresh name ≡ refuse BadName (named [])
 unfolding fresh
 fresh-refused name e = rw e

@@ -9,12 +9,14 @@ use lib.Dec.{eqb}
 use Rattle.rules.specs.declared.Request.{Request}
 use Rattle.rules.specs.Bytes.{messageSize}
 use Rattle.rules.specs.Reading.{read}
-use Rattle.rules.specs.State.{Splicer, Link, closed, opened, initialised, linkOf, isOpen, isInitialised, withQueue}
+use Rattle.rules.specs.declared.Link.{Link}
+use Rattle.rules.specs.declared.Link.the-variants.{Closed, Opened, Initialised}
+use Rattle.rules.specs.State.{Splicer, linkOf, isOpen, isInitialised, withQueue}
 use Rattle.rules.specs.Records.{recordsIn}
-use Rattle.rules.specs.Ends.{Turn, andThen, evicted, response}
-use Rattle.rules.specs.Answers.{sessionAt, requested, full, spliceResult, accepted, answerSplice, answerRead, answer}
-use Rattle.rules.specs.Calls.{does, handled, messageCall, messages, call, writtenBy}
-use Rattle.rules.specs.History.{Event, last, waitingCount}
+use Rattle.rules.specs.Ends.{Turn, andThen, evicted}
+use Rattle.rules.specs.Answers.{sessionAt, requested, full, spliceResult, accepts, accepted, answerSplice, answerRead, answer}
+use Rattle.rules.specs.Calls.{does, handled, messageCall, Loans, messages, call, writtenBy}
+use Rattle.demands.specs.History.{Event, last, waitingCount}
 use Rattle.rules.specs.Sound.{Sound}
 use Rattle.rules.proofs.Tests.{by, clash, eqb-same}
 use Rattle.rules.proofs.Sound.{reached-sound, sound-found}
@@ -29,12 +31,12 @@ pub count-room : (h : List Event) (s : Splicer) → FromFresh h s → (c : ℕ) 
 count-room h s f c = omega (arith, waiting-counted h s f c, from-sound h s f .holding .room .each c)
 
 ready-open : (l : Link) → isInitialised l ≡ true → isOpen l ≡ true
-ready-open closed e = absurd (clash false e refl)
-ready-open opened e = refl
-ready-open initialised e = refl
+ready-open Closed e = absurd (clash false e refl)
+ready-open Opened e = refl
+ready-open Initialised e = refl
 
-module _ (c : ℕ) (l : List ℕ) (room : ℕ) (r : Request) (s : Splicer) (a : Asks c l room r s) where
-  splice-call : call (messages c l room) s
+module _ (c : ℕ) (l : List ℕ) (loans : Loans) (r : Request) (s : Splicer) (a : Asks c l loans r s) where
+  splice-call : call (messages c l loans) s
       ≡ does (8 + messageSize l) (answerSplice (s .clock) c r (s .queue) .written) (withQueue (answerSplice (s .clock) c r (s .queue) .queue) s)
   unfolding call messageCall handled answer answerRead read
   splice-call = rw (a .low, a .roomy, ready-open (linkOf c s) (a .ready), a .framed, a .ready, a .readable)
@@ -45,13 +47,13 @@ module _ (c : ℕ) (l : List ℕ) (room : ℕ) (r : Request) (s : Splicer) (a : 
       let n = spliceResult (s .clock) c r (requested c r (s .queue)) (s .queue) in
       let new = requested c r (s .queue) in
       by (λ (t : Turn). last (answers n c (r .id)) (t .written) ≡ true) (eqb n 100) _ _
-      (λ e. last-last (answers n c (r .id)) (evicted (new .start .0) (s .queue) .written) (response 100 new) ∙ rw (e, eqb-same c, eqb-same (r .id)))
+      (λ e. last-last (answers n c (r .id)) (evicted (new .start .0) (s .queue) .written) (accepts new) ∙ rw (e, eqb-same c, eqb-same (r .id)))
       (λ e. rw (eqb-same n, eqb-same c, eqb-same (r .id)))
 
   -- "a refused one carries the first result code that applies"
   pub own-answer : (h : List Event) → FromFresh h s
-      → last (answers (spliceResult (s .clock) c r (requested c r (s .queue)) (s .queue)) c (r .id)) (recordsIn (writtenBy (call (messages c l room) s .answer))) ≡ true
-  own-answer h f = rw (sound-found s (messages c l room) (a .bytes) (from-sound h s f), splice-call) own
+      → last (answers (spliceResult (s .clock) c r (requested c r (s .queue)) (s .queue)) c (r .id)) (recordsIn (writtenBy (call (messages c l loans) s .answer))) ≡ true
+  own-answer h f = rw (sound-found s (messages c l loans) (a .bytes) (from-sound h s f), splice-call) own
 
 -- what check e looks at is what the answers say
 full-counted : (h : List Event) (s : Splicer) → FromFresh h s → (c : ℕ) → full c (s .queue .waiting) ≡ fullTold c h
@@ -63,6 +65,6 @@ passed-code : (h : List Event) (s : Splicer) → FromFresh h s → (c : ℕ) (r 
 unfolding spliceResult
 passed-code h s f c r p = rw (p .a, p .b, p .c′, p .d, full-counted h s f c)
 
-pub full-answer : (h : List Event) (s : Splicer) → FromFresh h s → (c : ℕ) (l : List ℕ) (room : ℕ) (r : Request) → Asks c l room r s → Passes c r s
-    → last (answers (cond (fullTold c h) 114 100) c (r .id)) (recordsIn (writtenBy (call (messages c l room) s .answer))) ≡ true
-full-answer h s f c l room r a p = rw (← (passed-code h s f c r p)) (own-answer c l room r s a h f)
+pub full-answer : (h : List Event) (s : Splicer) → FromFresh h s → (c : ℕ) (l : List ℕ) (loans : Loans) (r : Request) → Asks c l loans r s → Passes c r s
+    → last (answers (cond (fullTold c h) 114 100) c (r .id)) (recordsIn (writtenBy (call (messages c l loans) s .answer))) ≡ true
+full-answer h s f c l loans r a p = rw (← (passed-code h s f c r p)) (own-answer c l loans r s a h f)

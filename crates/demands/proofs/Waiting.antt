@@ -1,7 +1,7 @@
 -- A connection's waiting sessions, counted from the answers' bytes, are as many as the splicer holds waiting, after every sequence of calls.
 -- Rests on Laws (what each piece of work does to a number), on Sound (no number held twice) and on the bytes giving back their records.
 use mathlib.Core.Path.{_≡_, refl, ap}
-use mathlib.Core.Bool.{Bool, true, false, cond, and-true, and-false}
+use mathlib.Core.Bool.{Bool, true, false, cond}
 use mathlib.Core.List.{List, [], _∷_, _++_}
 use Prim.Native.Nat.{ℕ, _+_, _<_}
 use native.Mathlib.Omega.{arith}
@@ -12,20 +12,20 @@ use Rattle.rules.specs.declared.Session.{Session}
 use Rattle.rules.specs.Units.{timeOf, fromMicros}
 use Rattle.rules.specs.Lists.{All, bit, put, keep, count}
 use Rattle.rules.specs.Bytes.{hasZero}
-use Rattle.rules.specs.Reading.{wholeRequest}
+use Rattle.rules.specs.Reading.{wholeRequest, dataIn}
 use Rattle.rules.specs.State.{Queue, Splicer, of, is}
 use Rattle.rules.specs.Records.{Record}
-use Rattle.rules.specs.Ends.{Turn, writes, andThen, response, evicted, closedBy}
+use Rattle.rules.specs.Ends.{Turn, writes, andThen, evicted, closedBy}
 use Rattle.rules.specs.Instants.{runAll}
-use Rattle.rules.specs.Answers.{sessionAt, requested, accepted, waits}
-use Rattle.rules.specs.Calls.{Called, Call, call, after, named, fresh}
-use Rattle.rules.specs.History.{Event, isYes, unmarked, front, last, dataIn, waitAnswered, waitAfter, waitingCount}
+use Rattle.rules.specs.Answers.{sessionAt, requested, accepts, accepted, waits}
+use Rattle.rules.specs.Calls.{Called, ticked, Call, call, after, named, fresh}
+use Rattle.demands.specs.History.{Event, isYes, unmarked, front, last, waitAnswered, waitAfter, waitingCount}
 use Rattle.rules.specs.Sound.{Once, Wired, Sound}
 use Rattle.rules.proofs.Tests.{tests, by, clash, eqb-same}
 use Rattle.rules.proofs.Count.{bit-and, count-put, count-le}
 use Rattle.rules.proofs.Sessions.{count-accepted}
 use Rattle.rules.proofs.Sound.{sound-call, sound-fresh}
-use Rattle.rules.proofs.History.{waitAnswer, waitingOf, waiting-found}
+use Rattle.demands.proofs.Heard.{waitAnswer, waitingOf, waiting-found}
 use Rattle.demands.specs.Told.{FromFresh}
 use Rattle.demands.proofs.Laws.{tally, Law, evicted-law, closedBy-law, plain-law, answered-law, tick-law, Plain, plain-none}
 use Rattle.demands.proofs.Cases.{cases}
@@ -113,22 +113,23 @@ module _ (s : Splicer) (L : ℕ → List ℕ) (h : Sound s) (g : Counted (s .que
       record { same = λ c x. rw (count-accepted (is c x) new q, count-put, k .same c x) }
 
   call-counted : (k : Call) → P k (call k s)
-  unfolding waitAfter waitAnswered front last accepted andThen isYes requested sessionAt
+  unfolding waitAfter waitAnswered front last accepted andThen isYes requested sessionAt ticked
   call-counted =
       cases s P (record {
         refusing = λ k n. g;
         opening = λ c low e. opened-counted c (λ x. omega (arith, count-le (is c x) (of c) (λ u. bit-and (eqb c (u .conn)) (eqb x (u .id))) (q .waiting), h .linking .shut c e));
         closing = λ c room low e. turn-counted q L once g (closedBy c q) (λ d x. closedBy-law d x c q);
-        saying = λ c l room n rs e p. rw e (plain-counted q L once g rs p);
-        naming = λ c l room n r e p. rw e (plain-counted q L once g (r ∷ []) p);
-        aborting = λ c l room n x e i. rw e (turn-counted q L once g _ (λ d y. answered-law d y c x q));
-        declining = λ c l room n r e y o. relist q (λ d. keep (unmarked d []) (L d)) _ (λ d. rw (e, y, and-false)) (plain-counted q L once g [] plain-none);
-        accepting = λ c l room n e f p. let r = wholeRequest (dataIn l) in
+        saying = λ c l loans n rs e p. rw e (plain-counted q L once g rs p);
+        naming = λ c l loans n r e p. rw e (plain-counted q L once g (r ∷ []) p);
+        aborting = λ c l loans n x e i. rw e (turn-counted q L once g _ (λ d y. answered-law d y c x q));
+        declining = λ c l loans n r e y o. relist q (λ d. keep (unmarked d []) (L d)) _ (λ d. rw (e, y)) (plain-counted q L once g [] plain-none);
+        accepting = λ c l loans n e f p. let r = wholeRequest (dataIn l) in
             let new = requested c r q in
             let rs = evicted (new .start .0) q .written in
             relist _ (λ d. put (eqb d c) (r .id) (keep (unmarked d rs) (L d))) _
-            (λ d. rw (e, last-last (isYes c (r .id)) rs (response 100 new), front-last rs (response 100 new), eqb-same c, eqb-same (r .id), and-true)) (new-counted new);
-        ticking = λ seconds micros room le. turn-counted q L once g (runAll (s .clock) (fromMicros (timeOf seconds micros) .0) q) (λ d x. tick-law d x (s .clock) (fromMicros (timeOf seconds micros) .0) q);
+            (λ d. rw (e, last-last (isYes c (r .id)) rs (accepts new), front-last rs (accepts new), eqb-same c, eqb-same (r .id))) (new-counted new);
+        ticking = λ seconds micros room le. let until = fromMicros (timeOf seconds micros) .0 in turn-counted q L once g (runAll (s .clock) until q) (λ d x. tick-law d x (s .clock) until q);
+        moving = λ until room le. turn-counted q L once g (runAll (s .clock) until q) (λ d x. tick-law d x (s .clock) until q);
       })
 
 -- ## Every sequence of calls

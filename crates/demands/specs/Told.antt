@@ -1,9 +1,9 @@
 -- What the demands' statements speak of, beside the definitions of `rules`.
 use mathlib.Core.Path.{_≡_}
-use mathlib.Core.Bool.{Bool, true, false, cond, _&&_, _||_}
+use mathlib.Core.Bool.{Bool, true, false, cond, _&&_}
 use mathlib.Core.List.{List, [], _∷_, _++_}
 use Prim.Native.Nat.{ℕ, _+_, _-_, _≤_}
-use lib.Dec.{eqb, leb, ltb}
+use lib.Dec.{eqb, ltb}
 use lib.ListN.{length}
 use Rattle.rules.specs.declared.Request.{Request}
 use Rattle.rules.specs.declared.Message.the-variants.{Splice}
@@ -11,16 +11,16 @@ use Rattle.rules.specs.declared.Framing.the-variants.{Framed}
 use Rattle.rules.specs.Units.{timeOf, badMicros, fromMicros}
 use Rattle.rules.specs.Lists.{All, keep, count}
 use Rattle.rules.specs.Bytes.{Byte, messageSize, oversize}
-use Rattle.rules.specs.Reading.{spliceRequest, readSplice}
+use Rattle.rules.specs.Reading.{spliceRequest, readSplice, dataIn}
 use Rattle.rules.specs.State.{Splicer, linkOf, isOpen, isInitialised}
-use Rattle.rules.specs.Records.{Record, General, InitResponse, AliveResponse, SpliceResponse, SpliceComplete, AbortResponse, recordsIn}
-use Rattle.rules.specs.Answers.{raised, requested, separate, wrongNumber, tooLate, collides}
-use Rattle.rules.specs.Calls.{houseNumber, Answer, refused, good, Called, writtenBy, consumedBy, bufferAfter, noConnection, noRoom, notOpen, fresh, framing, Call, opens, closes, messages, ticks, after}
-use Rattle.rules.specs.History.{Reply, refusal, wrote, Event, Entry, entryIs, startsOf, endsOf, front, isSplice, history, both, dataIn, waitingCount}
+use Rattle.rules.specs.Records.{Record, recordsIn}
+use Rattle.rules.specs.Answers.{fullBy, requested, separate, wrongNumber, tooLate, collides}
+use Rattle.rules.specs.Calls.{houseNumber, Answer, refused, good, Called, writtenBy, consumedBy, bufferAfter, noConnection, noRoom, notOpen, fresh, framing, Loans, Call, opens, closes, messages, ticks, moves, after}
+use Rattle.demands.specs.History.{Reply, refusal, wrote, Event, Entry, entryIs, startsOf, endsOf, history, waitingCount, tells, othersIn}
 use Rattle.rules.specs.Sound.{Wired}
 
 -- "Over all sequences of opens, closes, messages and ticks from a fresh splicer": h, the calls with their answers, and s, the splicer
--- after them. The name has 32 bytes, bytes are bytes and Seconds are four of them; nothing else is asked of the calls.
+-- after them. The name has 32 bytes, bytes are bytes and times stay below what four bytes of Seconds hold; nothing else is asked of the calls.
 pub record FromFresh (h : List Event) (s : Splicer) : Type 0 where
   pub name : List ℕ
   pub whole : length name ≡ 32
@@ -34,18 +34,13 @@ pub record FromFresh (h : List Event) (s : Splicer) : Type 0 where
 
 -- a Splice_Response with the result n to number x of connection c
 unfoldable pub answers : ℕ → ℕ → ℕ → Record → Bool
-answers n c x (General c′ r) = false
-answers n c x (InitResponse c′ r name) = false
-answers n c x (AliveResponse c′ r a y t) = false
-answers n c x (SpliceResponse c′ r y) = eqb n r && both c x c′ y
-answers n c x (SpliceComplete c′ r y f d) = false
-answers n c x (AbortResponse c′ r y) = false
+answers n c x r = tells (λ m flag. false) (λ m. eqb n m) c x r
 
 -- the bytes l of connection c begin with a whole Splice_Request that is read as r, and nothing before the checks a to f stops it
-pub record Asks (c : ℕ) (l : List ℕ) (room : ℕ) (r : Request) (s : Splicer) : Type 0 where
+pub record Asks (c : ℕ) (l : List ℕ) (loans : Loans) (r : Request) (s : Splicer) : Type 0 where
   pub bytes : All Byte l
   pub low : noConnection c ≡ false
-  pub roomy : noRoom room ≡ false
+  pub roomy : noRoom (loans .room) ≡ false
   pub ready : isInitialised (linkOf c s) ≡ true
   pub framed : framing l ≡ Framed spliceRequest (messageSize l)
   pub readable : readSplice (dataIn l) ≡ Splice r
@@ -59,10 +54,7 @@ pub record Passes (c : ℕ) (r : Request) (s : Splicer) : Type 0 where
 
 -- "when the count is 20, or when it is at least 10 and the four counts, each taken as at least 10, add up to 64"
 unfoldable pub fullTold : ℕ → List Event → Bool
-fullTold c h =
-    eqb (waitingCount c h) 20
-    || (leb 10 (waitingCount c h)
-    && eqb (raised (waitingCount 0 h) + (raised (waitingCount 1 h) + (raised (waitingCount 2 h) + raised (waitingCount 3 h)))) 64)
+fullTold c h = fullBy (λ d. waitingCount d h) c
 
 -- ## House numbers
 
@@ -83,11 +75,12 @@ check n b = record { number = n; applies = b }
 unfoldable pub checks : Call → Splicer → List Check
 checks (opens c) s = check 1 (noConnection c) ∷ check 6 (isOpen (linkOf c s)) ∷ []
 checks (closes c room) s = check 1 (noConnection c) ∷ check 2 (noRoom room) ∷ check 7 (notOpen c s) ∷ []
-checks (messages c l room) s =
-    check 1 (noConnection c) ∷ check 2 (noRoom room) ∷ check 7 (notOpen c s)
+checks (messages c l loans) s =
+    check 1 (noConnection c) ∷ check 2 (noRoom (loans .room)) ∷ check 7 (notOpen c s)
     ∷ check 5 (ltb (length l) 8) ∷ check 4 (oversize l) ∷ check 5 (ltb (length l) (8 + messageSize l)) ∷ []
 checks (ticks seconds micros room) s =
     check 2 (noRoom room) ∷ check 8 (badMicros micros) ∷ check 3 (ltb (fromMicros (timeOf seconds micros) .0) (s .clock)) ∷ []
+checks (moves until room) s = check 2 (noRoom room) ∷ check 3 (ltb until (s .clock)) ∷ []
 
 -- the number of a refusal; 0 is none
 unfoldable pub numberOf : Answer → ℕ
@@ -105,27 +98,23 @@ pub record Unchanged (s : Splicer) (r : Called) : Type 0 where
 
 -- the SpliceComplete flag 1 of number x of connection c: that a spot which was on air has ended
 unfoldable pub isOut : ℕ → ℕ → Record → Bool
-isOut c x (General c′ r) = false
-isOut c x (InitResponse c′ r name) = false
-isOut c x (AliveResponse c′ r a y t) = false
-isOut c x (SpliceResponse c′ r y) = false
-isOut c x (SpliceComplete c′ r y f d) = eqb f 1 && both c x c′ y
-isOut c x (AbortResponse c′ r y) = false
+isOut c x r = tells (λ n flag. eqb flag 1) (λ n. false) c x r
 
 abbrev pub outsOf : ℕ → ℕ → List Record → ℕ
 outsOf c x rs = count (isOut c x) rs
 
--- a call's records, without a Splice_Request's own answer, the last
-unfoldable pub withoutOwn : Call → List Record → List Record
-withoutOwn (opens c) rs = rs
-withoutOwn (closes c room) rs = rs
-withoutOwn (messages c l room) rs = cond (isSplice l) (front rs) rs
-withoutOwn (ticks seconds micros room) rs = rs
+-- a call's records, without a Splice_Request's own answer
+unfoldable pub othersOf : Call → List Record → List Record
+othersOf (opens c) rs = rs
+othersOf (closes c room) rs = rs
+othersOf (messages c l loans) rs = othersIn l rs
+othersOf (ticks seconds micros room) rs = rs
+othersOf (moves until room) rs = rs
 
 -- the session of number x of connection c has started and not ended, from the answers: 1, or else 0
 unfoldable pub startedReplied : ℕ → ℕ → Call → Reply → ℕ → ℕ
 startedReplied c x k (refusal m) n = n
-startedReplied c x k (wrote l) n = (n + startsOf c x (recordsIn l)) - endsOf c x (withoutOwn k (recordsIn l))
+startedReplied c x k (wrote l) n = (n + startsOf c x (recordsIn l)) - endsOf c x (othersOf k (recordsIn l))
 
 unfoldable pub startedTold : ℕ → ℕ → List Event → ℕ → ℕ
 startedTold c x [] n = n

@@ -1,29 +1,26 @@
 -- A fact that open, Init, close, abort, acceptance and tick keep holds after every sequence of calls. Assumes nothing.
--- The refusals and choices of the calls are walked here, once.
-use mathlib.Core.Path.{_≡_, refl}
-use mathlib.Core.Bool.{true, false, not, _&&_}
+-- The calls' choices are walked in Cases.
+use mathlib.Core.Path.{_≡_}
+use mathlib.Core.Bool.{true, false}
 use mathlib.Core.List.{List, [], _∷_}
 use Prim.Native.Nat.{ℕ, _≤_}
-use lib.Dec.{eqb, ltb}
-use borrow.Author.Tests.{eqb-true, ltb-false, not-false}
+use lib.Dec.{eqb}
+use Rattle.rules.specs.declared.Link.the-variants.{Closed, Opened, Initialised}
 use Rattle.rules.specs.declared.Request.{Request}
-use Rattle.rules.specs.declared.Message.{Message}
-use Rattle.rules.specs.declared.Message.the-variants.{Init, Alive, Splice, Abort, Unreadable}
-use Rattle.rules.specs.declared.Framing.{Framing}
-use Rattle.rules.specs.declared.Framing.the-variants.{Framed, Unframed}
-use Rattle.rules.specs.Units.{timeOf, fromMicros}
-use Rattle.rules.specs.Bytes.{part, hasZero}
-use Rattle.rules.specs.Reading.{channelName, isRead, readSplice, read}
-use Rattle.rules.specs.State.{Queue, Splicer, closed, opened, initialised, holds, linkOf, isOpen, isInitialised, withQueue, withLink, withClock}
-use Rattle.rules.specs.Ends.{Turn, andThen, aborted, closedBy}
+use Rattle.rules.specs.declared.Message.the-variants.{Splice}
+use Rattle.rules.specs.Bytes.{part, hasZero, messageSize}
+use Rattle.rules.specs.Reading.{isRead, readSplice}
+use Rattle.rules.specs.State.{Queue, Splicer, holds, linkOf, isOpen, withQueue, withLink, withClock}
+use Rattle.rules.specs.Ends.{andThen, aborted, closedBy}
 use Rattle.rules.specs.Instants.{runAll}
-use Rattle.rules.specs.Answers.{Answered, requested, spliceResult, accepted, answerSplice, answerAbort, initResult, answerInit, answerRead, answer}
-use Rattle.rules.specs.Calls.{Called, openCall, closeCall, framing, handled, messageCall, ticked, tickCall, Call, opens, closes, messages, ticks, call, after, named, fresh}
+use Rattle.rules.specs.Answers.{requested, accepted}
+use Rattle.rules.specs.Calls.{Called, ticked, Loans, Call, messages, call, after, named, fresh}
 use Rattle.rules.proofs.Tests.{by}
+use Rattle.rules.proofs.Cases.{Brings, Answering, cases}
 use Rattle.rules.proofs.All.{All}
 use Rattle.rules.proofs.Bytes.{part-byte}
 use Rattle.rules.proofs.Every.{all-any}
-use Rattle.rules.proofs.Checks.{Passed, passed-all, Granted, granted, Fitting, fitting, read-splice}
+use Rattle.rules.proofs.Checks.{Passed, Granted, granted, Fitting, fitting}
 pub use Rattle.rules.specs.Sound.{Wired}
 
 -- any call
@@ -40,8 +37,8 @@ pub record Admitted (F : Call → Type 0) (s : Splicer) (c : ℕ) (r : Request) 
   pub passed : Passed (s .clock) c r (s .queue)
   pub bytes : List ℕ
   pub size : ℕ
-  pub room : ℕ
-  pub given : F (messages c bytes room)
+  pub loans : Loans
+  pub given : F (messages c bytes loans)
   pub isRead : readSplice (part 8 size bytes) ≡ Splice r
 
 module _ {F : Call → Type 0} {s : Splicer} {c : ℕ} {r : Request} where
@@ -54,13 +51,12 @@ fits {r = r} a = fitting (part 8 (a .size) (a .bytes)) r (a .isRead) (a .passed 
 -- ## What has to be shown of a fact P
 
 pub record Kept (F : Call → Type 0) (P : Splicer → Type 0) : Type 0 where
-  pub opening : (s : Splicer) (c : ℕ) → c ≤ 3 → isOpen (linkOf c s) ≡ false → P s → P (withLink c opened s)
-  pub naming : (s : Splicer) (c : ℕ) → c ≤ 3 → isOpen (linkOf c s) ≡ true → P s → P (withLink c initialised s)
-  pub closing : (s : Splicer) (c : ℕ) → c ≤ 3 → isOpen (linkOf c s) ≡ true → P s → P (withLink c closed (withQueue (closedBy c (s .queue) .queue) s))
+  pub opening : (s : Splicer) (c : ℕ) → c ≤ 3 → isOpen (linkOf c s) ≡ false → P s → P (withLink c Opened s)
+  pub naming : (s : Splicer) (c : ℕ) → c ≤ 3 → isOpen (linkOf c s) ≡ true → P s → P (withLink c Initialised s)
+  pub closing : (s : Splicer) (c : ℕ) → c ≤ 3 → isOpen (linkOf c s) ≡ true → P s → P (withLink c Closed (withQueue (closedBy c (s .queue) .queue) s))
   pub aborting : (s : Splicer) (c x : ℕ) → c ≤ 3 → isOpen (linkOf c s) ≡ true → holds c x (s .queue) ≡ true → P s → P (withQueue (aborted c x (s .queue) .queue) s)
   pub accepting : (s : Splicer) (c : ℕ) (r : Request) → Admitted F s c r → P s → P (withQueue (accepted (requested c r (s .queue)) (s .queue) .queue) s)
-  pub ticking : (s : Splicer) (seconds micros room : ℕ) → F (ticks seconds micros room) → micros ≤ 999999 → s .clock ≤ fromMicros (timeOf seconds micros) .0 → P s
-      → P (withClock (fromMicros (timeOf seconds micros) .0) (withQueue (runAll (s .clock) (fromMicros (timeOf seconds micros) .0) (s .queue) .queue) s))
+  pub ticking : (s : Splicer) (k : Call) (until : ℕ) → F k → Brings k until → s .clock ≤ until → P s → P (withClock until (withQueue (runAll (s .clock) until (s .queue) .queue) s))
 
 -- a fact of clock and queue: connections play no part
 pub record KeptHeld (F : Call → Type 0) (J : ℕ → Queue → Type 0) : Type 0 where
@@ -77,80 +73,38 @@ held-kept J k =
       closing = λ s c l e h. k .closing (s .clock) (s .queue) c h;
       aborting = λ s c x l e a h. k .aborting (s .clock) (s .queue) c x a h;
       accepting = λ s c r a h. k .accepting s c r a h;
-      ticking = λ s seconds micros room f m le h. k .ticking (s .clock) (fromMicros (timeOf seconds micros) .0) (s .queue) le h;
+      ticking = λ s j until f b le h. k .ticking (s .clock) until (s .queue) le h;
     }
 
 -- ## The calls
 
 module _ (F : Call → Type 0) (P : Splicer → Type 0) (k : Kept F P) where
-  abbrev After : Called → Type 0
-  After r = P (r .splicer)
-
-  abbrev Then : Answered → Type 0
-  Then a = P (a .splicer)
-
-  module _ (s : Splicer) (h : P s) (c : ℕ) (low : c ≤ 3) (up : isOpen (linkOf c s) ≡ true) where
-    init-kept : (revision : ℕ) (d : List ℕ) → Then (answerInit c revision d s)
-    unfolding answerInit
-    init-kept revision d = by P (eqb (initResult revision (channelName d) (s .name)) 100) _ _ (λ e. k .naming s c low up h) (λ e. h)
-
-    splice-kept : (l : List ℕ) (size room : ℕ) → F (messages c l room) → (r : Request) → readSplice (part 8 size l) ≡ Splice r
-        → P (withQueue (answerSplice (s .clock) c r (s .queue) .queue) s)
-    unfolding answerSplice
-    splice-kept l size room f r e =
-        by (λ (t : Turn). P (withQueue (t .queue) s)) (eqb (spliceResult (s .clock) c r (requested c r (s .queue)) (s .queue)) 100) _ _
-        (λ i. k .accepting s c r
-        (record {
-          low = low;
-          linked = up;
-          passed = passed-all (s .clock) c r (s .queue) (eqb-true _ 100 i);
-          bytes = l;
-          size = size;
-          room = room;
-          given = f;
-          isRead = e;
-        }) h) (λ i. h)
-
-    abort-kept : (x : ℕ) → P (withQueue (answerAbort c x (s .queue) .queue) s)
-    unfolding answerAbort andThen
-    abort-kept x = by (λ (t : Turn). P (withQueue (t .queue) s)) (holds c x (s .queue)) _ _ (λ e. k .aborting s c x low up e h) (λ e. h)
-
-    read-kept : (id : ℕ) (l : List ℕ) (size room : ℕ) → F (messages c l room) → (m : Message) → read id (part 8 size l) ≡ m → Then (answerRead c m (part 8 size l) s)
-    unfolding answerRead
-    read-kept id l size room f (Init revision) e = init-kept revision (part 8 size l)
-    read-kept id l size room f Alive e = h
-    read-kept id l size room f (Splice r) e = splice-kept l size room f r (read-splice id (part 8 size l) r e)
-    read-kept id l size room f (Abort x) e = abort-kept x
-    read-kept id l size room f Unreadable e = h
-
-    handled-kept : (l : List ℕ) (room : ℕ) → F (messages c l room) → (g : Framing) → After (handled c g l s)
-    unfolding handled answer
-    handled-kept l room f (Unframed n) = h
-    handled-kept l room f (Framed id size) =
-        by Then (eqb id 0x0000) _ _ (λ e. h)
-        (λ e. by Then (not (isInitialised (linkOf c s)) && not (eqb id 0x0001)) _ _ (λ i. h)
-        (λ i. by Then (eqb id 0x000D) _ _ (λ j. h)
-        (λ j. by Then (not (isRead id)) _ _ (λ n. h) (λ n. read-kept id l size room f (read id (part 8 size l)) refl))))
+  -- only what is done to the splicer counts
+  message-kept : (s : Splicer) → P s → (c : ℕ) (l : List ℕ) (loans : Loans) → c ≤ 3 → isOpen (linkOf c s) ≡ true → Answering c l s (λ a. F (messages c l loans) → P (a .splicer))
+  unfolding andThen
+  message-kept s h c l loans low up =
+      record {
+        silent = λ e f. h;
+        general = λ r b f. h;
+        naming = λ r b e f. by P (eqb r 100) _ _ (λ i. k .naming s c low up h) (λ i. h);
+        alive = λ e f. h;
+        unknown = λ x e i f. h;
+        aborting = λ x e i held f. k .aborting s c x low up held h;
+        declining = λ r v e i b n f. h;
+        accepting = λ r e i p f. k .accepting s c r (record { low = low; linked = up; passed = p; bytes = l; size = messageSize l; loans = loans; given = f; isRead = i }) h;
+      }
 
   pub call-kept : (s : Splicer) (j : Call) → F j → P s → P (call j s .splicer)
-  unfolding call openCall closeCall messageCall tickCall ticked
-  call-kept s (opens c) f h =
-      by After (ltb 3 c) _ _ (λ e. h)
-      (λ e. by After (isOpen (linkOf c s)) _ _ (λ i. h) (λ i. k .opening s c (ltb-false 3 c e) i h))
-  call-kept s (closes c room) f h =
-      by After (ltb 3 c) _ _ (λ e. h)
-      (λ e. by After (ltb room 4096) _ _ (λ i. h)
-      (λ i. by After (not (isOpen (linkOf c s))) _ _ (λ j. h) (λ j. k .closing s c (ltb-false 3 c e) (not-false (isOpen (linkOf c s)) j) h)))
-  call-kept s (messages c l room) f h =
-      by After (ltb 3 c) _ _ (λ e. h)
-      (λ e. by After (ltb room 4096) _ _ (λ i. h)
-      (λ i. by After (not (isOpen (linkOf c s))) _ _ (λ j. h)
-      (λ j. handled-kept s h c (ltb-false 3 c e) (not-false (isOpen (linkOf c s)) j) l room f (framing l))))
-  call-kept s (ticks seconds micros room) f h =
-      by After (ltb room 4096) _ _ (λ e. h)
-      (λ e. by After (ltb 999999 micros) _ _ (λ i. h)
-      (λ i. by After (ltb (fromMicros (timeOf seconds micros) .0) (s .clock)) _ _ (λ j. h)
-      (λ j. k .ticking s seconds micros room f (ltb-false 999999 micros i) (ltb-false (fromMicros (timeOf seconds micros) .0) (s .clock) j) h)))
+  unfolding ticked
+  call-kept s j f h =
+      cases s (λ j r. F j → P (r .splicer))
+      (record {
+        refusing = λ j n f. h;
+        opening = λ c low e f. k .opening s c low e h;
+        closing = λ c room low e f. k .closing s c low e h;
+        answering = message-kept s h;
+        bringing = λ j until b le f. k .ticking s j until f b le h;
+      }) j f
 
   pub always : (ks : List Call) (s : Splicer) → All F ks → P s → P (after ks s)
   unfolding after

@@ -22,7 +22,7 @@ use Rattle.rules.proofs.Sessions.{heldCount}
 use Rattle.rules.proofs.Timed.{OnTime}
 use Rattle.rules.proofs.Aired.{Played}
 use Rattle.rules.proofs.Held.{Proper, Small}
-use Rattle.rules.proofs.Link.{isPrior, Tied, tied-more, prior-parts}
+use Rattle.rules.proofs.Priors.{isPrior, Tied, tied-more, prior-parts}
 pub use Rattle.rules.specs.Sound.{horizon}
 
 -- the longest Duration

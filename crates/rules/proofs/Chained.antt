@@ -29,7 +29,7 @@ use Rattle.rules.proofs.Tick.{Due, elapse-due, tick-through}
 use Rattle.rules.proofs.Sessions.{heldCount, count-held, each-instant, each-elapse, held-instant, held-elapse, held-accepted}
 use Rattle.rules.proofs.Timed.{OnTime, timed-kept, instant-timed, elapse-timed, wait-timed, starts-removed, after-t}
 use Rattle.rules.proofs.Held.{Proper, proper-plays, proper-kept, Once, once-kept}
-use Rattle.rules.proofs.Link.{isPrior, Tied, tied-more, prior-parts, Orderly, orderly-fewer, followers-after, Chained, orderly, dismissed-tied}
+use Rattle.rules.proofs.Priors.{isPrior, Tied, tied-more, prior-parts, Orderly, orderly-fewer, followers-after, Chained, orderly, dismissed-tied}
 
 -- ## Abort
 

@@ -86,7 +86,7 @@ read-splice id d r = go (eqb id 0x0001) (eqb id 0x0005) (eqb id 0x0007) (eqb id 
     go false false false false h = let z : _≡_ {A = ℕ} 0 1 = cc in absurd (omega arith)
 
 -- one that does not ask for separate PIDs was read whole
-read-whole : (d : List ℕ) (r : Request) → readSplice d ≡ Splice r → separate r ≡ false → (r ≡ wholeRequest d) × (badSplice d ≡ false)
+pub read-whole : (d : List ℕ) (r : Request) → readSplice d ≡ Splice r → separate r ≡ false → (r ≡ wholeRequest d) × (badSplice d ≡ false)
 unfolding readSplice
 read-whole d r h k = go (ltb (length d) 18) (eqb (serviceID d) 0xFFFF) (badSplice d) refl h
   where
@@ -109,7 +109,7 @@ Named (Linked p) = eqb p nobody ≡ false
 pub record Granted (r : Request) : Type 0 where
   pub lasts : 0 < r .duration .0
   pub ranked : r .access ≤ 9
-  pub overrides : r .over ≤ 1
+  pub overrides : r .overrides ≤ 1
   pub names : Named (r .start)
 
 -- and of bytes: "SessionID 4, PriorSession 4, time 8, ServiceID 2, Duration 4"

@@ -8,9 +8,10 @@ use lib.Dec.{ltb, leb·suc-suc}
 use lib.ListN.{length, getD, length-map}
 use borrow.Author.Tests.{lt-ltb, le-ltb}
 use Rattle.rules.specs.declared.Session.{Session}
+use Rattle.rules.specs.declared.Ending.{Ending}
 use Rattle.rules.specs.Lists.{bit, put, keep, omit, some, count, place, insertAt, removeAt}
 use Rattle.rules.specs.Records.{Record}
-use Rattle.rules.specs.Ends.{endings}
+use Rattle.rules.specs.Ends.{ended, endings}
 use Rattle.rules.proofs.Tests.{clash}
 
 pub bit≤1 : (b : Bool) → bit b ≤ 1
@@ -196,14 +197,24 @@ count-map p g (x ∷ l) = rw (count-map p g l)
 
 -- ## The ends of started ones
 
-pub count-endings : (P : Record → Bool) (Q : Session → Bool) (air cover : Session → Record) → ((s : Session) → P (air s) ≡ Q s)
-    → ((s : Session) → P (cover s) ≡ Q s) → (p : Session → Bool) (k : List Session) → count P (endings air cover p k) ≡ count Q (keep p k)
+pub count-endings : (P : Record → Bool) (Q : Session → Bool) (air cover : Ending) → ((s : Session) → P (ended air s) ≡ Q s)
+    → ((s : Session) → P (ended cover s) ≡ Q s) → (p : Session → Bool) (k : List Session) → count P (endings air cover p k) ≡ count Q (keep p k)
 unfolding endings
 count-endings P Q air cover ha hc p [] = refl
 count-endings P Q air cover ha hc p (s ∷ k) =
-    simp (count-put, count-map, ha, count-same (λ (u : Session). P (cover u)) Q hc)
+    simp (count-put, count-map, ha, count-same (λ (u : Session). P (ended cover u)) Q hc)
 
-pub length-endings : (air cover : Session → Record) (p : Session → Bool) (k : List Session) → length (endings air cover p k) ≡ length (keep p k)
+pub length-endings : (air cover : Ending) (p : Session → Bool) (k : List Session) → length (endings air cover p k) ≡ length (keep p k)
 unfolding endings
 length-endings air cover p [] = refl
 length-endings air cover p (s ∷ k) = simp (length-put, length-map)
+
+-- where both end alike
+pub endings-map : (h : Ending) (p : Session → Bool) (k : List Session) → endings h h p k ≡ map (ended h) (keep p k)
+unfolding endings
+endings-map h p [] = refl
+endings-map h p (s ∷ k) = go (p s)
+  where
+    go : (b : Bool) → put b (ended h s) (map (ended h) (keep p k)) ≡ map (ended h) (put b s (keep p k))
+    go true = refl
+    go false = refl

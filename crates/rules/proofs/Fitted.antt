@@ -1,39 +1,39 @@
 -- Every record of every call fits its fields, so it is found again in the answer's bytes: numbers have four bytes, the time on air stays
 -- within the Duration, and the clock has four bytes of Seconds.
 use mathlib.Core.Path.{_≡_}
-use mathlib.Core.Bool.{Bool, true, false, not, _&&_}
+use mathlib.Core.Bool.{Bool, true, false}
 use mathlib.Core.List.{List, [], _∷_, map}
 use Prim.Native.Nat.{ℕ, zero, suc, _+_, _-_, _*_, _/_, _≤_, _<_}
 use native.Mathlib.Omega.{arith}
-use lib.Dec.{eqb, leb, ltb}
+use lib.Dec.{ltb}
 use lib.ListN.{length, getD}
-use borrow.Author.Tests.{ltb-true, ltb-false, leb-true}
+use borrow.Author.Tests.{ltb-true}
 use Rattle.rules.specs.declared.Session.{Session}
+use Rattle.rules.specs.declared.Ending.{Ending}
+use Rattle.rules.specs.declared.Ending.the-variants.{Complete, Failed, Response}
 use Rattle.rules.specs.declared.Request.{Request}
-use Rattle.rules.specs.declared.Message.{Message}
-use Rattle.rules.specs.declared.Message.the-variants.{Init, Alive, Splice, Abort, Unreadable}
-use Rattle.rules.specs.declared.Framing.{Framing}
-use Rattle.rules.specs.declared.Framing.the-variants.{Framed, Unframed}
-use Rattle.rules.specs.Units.{fromMicros, timeOf, badMicros}
+use Rattle.rules.specs.declared.Message.the-variants.{Splice}
 use Rattle.rules.specs.Lists.{put, keep, place, removeAt}
-use Rattle.rules.specs.Bytes.{dataOf, sameName}
-use Rattle.rules.specs.Reading.{initRequest, channelName, isRead, read}
-use Rattle.rules.specs.State.{Queue, Splicer, empty, of, is, startsAt, endsAt, due, holds, linkOf, isOpen, isInitialised, withWaiting}
-use Rattle.rules.specs.Records.{Record, General, output, recordsIn}
-use Rattle.rules.specs.Ends.{Turn, andThen, response, spliceIn, spliceOut, endings, followers, dismissed, evictedAt, evicted, cancelled, aborted, closedBy}
-use Rattle.rules.specs.Instants.{mayStart, launched, startAt, endAt, instant, elapse, run, runAll}
-use Rattle.rules.specs.Answers.{Answered, initResult, answerInit, airState, airID, aliveResponse, answerAbort, sessionAt, requested, separate, wrongNumber, tooLate, collides, full, firstOf, spliceResult, accepted, answerSplice, answerRead, answer}
-use Rattle.rules.specs.Calls.{Answer, refused, good, Called, noConnection, noRoom, notOpen, openCall, closeCall, framing, handled, messageCall, ticked, tickCall, Call, opens, closes, messages, ticks, call, writtenBy}
+use Rattle.rules.specs.Bytes.{messageSize}
+use Rattle.rules.specs.Reading.{read, readSplice, dataIn, sessionID, spliceRequest}
+use Rattle.rules.specs.State.{Queue, Splicer, empty, of, is, startsAt, endsAt, due, notAfter, withWaiting}
+use Rattle.rules.specs.Records.{Record, output, recordsIn}
+use Rattle.rules.specs.Ends.{Turn, andThen, ended, endings, followers, dismissed, evictedAt, evicted, cancelled, aborted, closedBy}
+use Rattle.rules.specs.Instants.{mayStart, began, launched, startAt, endAt, instant, elapse, run, runAll}
+use Rattle.rules.specs.Answers.{airState, airID, aliveResponse, sessionAt, requested, accepts, accepted, answer}
+use Rattle.rules.specs.Calls.{Answer, refused, good, ticked, Call, call, writtenBy}
 use Rattle.rules.proofs.Tests.{by}
 use Rattle.rules.proofs.All.{All, all-append, all-into}
-use Rattle.rules.proofs.Bytes.{Byte, part-byte}
+use Rattle.rules.proofs.Bytes.{Byte, part-byte, field-below}
 use Rattle.rules.proofs.Records.{Fits, read-back}
-use Rattle.rules.proofs.Readings.{Asked, Reads, read-grants}
+use Rattle.rules.proofs.Readings.{splice-grants}
+use Rattle.rules.proofs.Cases.{Answering, cases}
+use Rattle.rules.specs.Asked.{Asked}
 use Rattle.rules.proofs.Every.{all-keep, all-both, all-getD, fewer-all, fewer-removeAt, Each, FewerHeld, fewer-each}
 use Rattle.rules.proofs.Walk.{followers-gone}
 use Rattle.rules.proofs.Leaving.{endAt-fewer, cancelled-fewer}
-use Rattle.rules.proofs.Always.{Wired, fits}
-use Rattle.rules.proofs.Tick.{Due, meets, due-first, due-meets, elapse-due, moved}
+use Rattle.rules.proofs.Always.{Wired}
+use Rattle.rules.proofs.Tick.{Due, meets, due-first, due-meets, elapse-due, moved, by-next}
 use Rattle.rules.proofs.Timed.{meets-after}
 use Rattle.rules.proofs.Sessions.{each-elapse, each-instant}
 use Rattle.rules.proofs.Held.{Proper, Small, Linking}
@@ -57,13 +57,16 @@ pub record Tellable (q : Queue) : Type 0 where
 tell-fewer : (q r : Queue) → FewerHeld q r → Tellable q → Tellable r
 tell-fewer q r f h = record { numbered = fewer-each Numbered q r f (h .numbered); short = fewer-all Short (f .started) (h .short) }
 
-response-fits : (r : ℕ) (s : Session) → r < 65536 → Numbered s → Fits (response r s)
+response-fits : (r : ℕ) (s : Session) → r < 65536 → Numbered s → Fits (ended (Response r) s)
 response-fits r s h a = ((omega (arith, a .0), h), a .1)
 
-in-fits : (r : ℕ) (s : Session) → r < 65536 → Numbered s → Fits (spliceIn r s)
-in-fits r s h a = ((omega (arith, a .0), h), a .1, omega arith, omega arith)
+began-fits : (s : Session) → Numbered s → Fits (began s)
+began-fits s a = ((omega (arith, a .0), omega arith), a .1, omega arith, omega arith)
 
-out-fits : (r : ℕ) (s : Session) → r < 65536 → Numbered s → Short s → Fits (spliceOut r s)
+failed-fits : (s : Session) → Numbered s → Fits (ended Failed s)
+failed-fits s a = ((omega (arith, a .0), omega arith), a .1, omega arith, omega arith)
+
+out-fits : (r : ℕ) (s : Session) → r < 65536 → Numbered s → Short s → Fits (ended (Complete r) s)
 out-fits r s h a d = ((omega (arith, a .0), h), a .1, omega arith, d)
 
 -- ## Pieces of work
@@ -72,16 +75,16 @@ all-told : (Q : Session → Type 0) (f : Session → Record) → ((s : Session) 
 all-told Q f g [] a = tt
 all-told Q f g (s ∷ l) a = (g s (a .0), all-told Q f g l (a .1))
 
-all-endings : (Q : Session → Type 0) (air cover : Session → Record) → ((s : Session) → Q s → Fits (air s)) → ((s : Session) → Q s → Fits (cover s))
+all-endings : (Q : Session → Type 0) (air cover : Ending) → ((s : Session) → Q s → Fits (ended air s)) → ((s : Session) → Q s → Fits (ended cover s))
     → (p : Session → Bool) (k : List Session) → All Q k → All Fits (endings air cover p k)
 unfolding endings
 all-endings Q air cover f g p [] a = tt
 all-endings Q air cover f g p (s ∷ k) a = go (p s)
   where
-    rest : All Fits (map cover (keep p k))
-    rest = all-told Q cover g (keep p k) (all-keep Q p k (a .1))
+    rest : All Fits (map (ended cover) (keep p k))
+    rest = all-told Q (ended cover) g (keep p k) (all-keep Q p k (a .1))
 
-    go : (b : Bool) → All Fits (put b (air s) (map cover (keep p k)))
+    go : (b : Bool) → All Fits (put b (ended air s) (map (ended cover) (keep p k)))
     go true = (f s (a .0), rest)
     go false = rest
 
@@ -91,7 +94,7 @@ both q h = all-both Numbered Short (q .started) (h .numbered .started) (h .short
 dismissed-fits : (r c x : ℕ) (q : Queue) → r < 65536 → Each Numbered q → All Fits (dismissed r c x q .written)
 unfolding dismissed
 dismissed-fits r c x q e h =
-    all-told Numbered (response r) (λ s a. response-fits r s e a) (followers c x (q .waiting) .gone) (followers-gone c x (q .waiting) Numbered (h .waiting))
+    all-told Numbered (ended (Response r)) (λ s a. response-fits r s e a) (followers c x (q .waiting) .gone) (followers-gone c x (q .waiting) Numbered (h .waiting))
 
 evicted-fits : (t : ℕ) (q : Queue) → Each Numbered q → All Fits (evicted t q .written)
 unfolding evicted evictedAt andThen
@@ -109,9 +112,9 @@ evicted-fits t q h =
 cancelled-fits : (p : Session → Bool) (q : Queue) → Tellable q → All Fits (cancelled p q .written)
 unfolding cancelled
 cancelled-fits p q h =
-    all-append Fits (endings (spliceOut 116) (response 116) p (q .started)) (map (response 116) (keep p (q .waiting)))
-    (all-endings (λ s. Numbered s × Short s) (spliceOut 116) (response 116) (λ s a. out-fits 116 s (omega arith) (a .0) (a .1)) (λ s a. response-fits 116 s (omega arith) (a .0)) p (q .started) (both q h))
-    (all-told Numbered (response 116) (λ s a. response-fits 116 s (omega arith) a) (keep p (q .waiting)) (all-keep Numbered p (q .waiting) (h .numbered .waiting)))
+    all-append Fits (endings (Complete 116) (Response 116) p (q .started)) (map (ended (Response 116)) (keep p (q .waiting)))
+    (all-endings (λ s. Numbered s × Short s) (Complete 116) (Response 116) (λ s a. out-fits 116 s (omega arith) (a .0) (a .1)) (λ s a. response-fits 116 s (omega arith) (a .0)) p (q .started) (both q h))
+    (all-told Numbered (ended (Response 116)) (λ s a. response-fits 116 s (omega arith) a) (keep p (q .waiting)) (all-keep Numbered p (q .waiting) (h .numbered .waiting)))
 
 aborted-fits : (c x : ℕ) (q : Queue) → Tellable q → All Fits (aborted c x q .written)
 unfolding aborted andThen
@@ -124,17 +127,17 @@ closedBy-fits : (c : ℕ) (q : Queue) → Tellable q → All Fits (closedBy c q 
 unfolding closedBy
 closedBy-fits c q h = cancelled-fits (of c) q h
 
-accepted-fits : (s : Session) (q : Queue) → Fits (response 100 s) → Each Numbered q → All Fits (accepted s q .written)
+accepted-fits : (s : Session) (q : Queue) → Fits (accepts s) → Each Numbered q → All Fits (accepted s q .written)
 unfolding accepted andThen
-accepted-fits s q f h = all-append Fits (evicted (s .start .0) q .written) (response 100 s ∷ []) (evicted-fits (s .start .0) q h) (f, tt)
+accepted-fits s q f h = all-append Fits (evicted (s .start .0) q .written) (accepts s ∷ []) (evicted-fits (s .start .0) q h) (f, tt)
 
 -- ## Instants
 
 launched-fits : (s : Session) (q : Queue) → Numbered s → Each Numbered q → All Fits (launched s q .written)
 unfolding launched andThen
 launched-fits s q a h =
-    by (λ (r : Turn). All Fits (r .written)) (mayStart s (q .started)) _ _ (λ e. (in-fits 100 s (omega arith) a, tt))
-    (λ e. (in-fits 109 s (omega arith) a, dismissed-fits 109 (s .conn) (s .id) q (omega arith) h))
+    by (λ (r : Turn). All Fits (r .written)) (mayStart s (q .started)) _ _ (λ e. (began-fits s a, tt))
+    (λ e. (failed-fits s a, dismissed-fits 109 (s .conn) (s .id) q (omega arith) h))
 
 startAt-fits : (t : ℕ) (q : Queue) → Each Numbered q → All Fits (startAt t q .written)
 unfolding startAt
@@ -148,7 +151,7 @@ startAt-fits t q h =
 endAt-fits : (t : ℕ) (q : Queue) → Tellable q → All Fits (endAt t q .written)
 unfolding endAt
 endAt-fits t q h =
-    all-endings (λ s. Numbered s × Short s) (spliceOut 100) (spliceOut 125) (λ s a. out-fits 100 s (omega arith) (a .0) (a .1)) (λ s a. out-fits 125 s (omega arith) (a .0) (a .1)) (endsAt t)
+    all-endings (λ s. Numbered s × Short s) (Complete 100) (Complete 125) (λ s a. out-fits 100 s (omega arith) (a .0) (a .1)) (λ s a. out-fits 125 s (omega arith) (a .0) (a .1)) (endsAt t)
     (q .started) (both q h)
 
 instant-fits : (t : ℕ) (q : Queue) → Tellable q → All Fits (instant t q .written)
@@ -198,13 +201,11 @@ run-fits : (n now until : ℕ) (q : Queue) → Telling now q → All Fits (run n
 unfolding run andThen
 run-fits zero now until q h = tt
 run-fits (suc n) now until q h =
-    let t = due (suc until) q in
-    let d = due-first (suc until) q in
-    by (λ (r : Turn). All Fits (r .written)) (leb t until) _ _
-    (λ e. let i = leb-true t until e in
-    let m = due-meets (suc until) q (omega arith) in
-    all-append Fits (moved now until q .written) (run n t until (moved now until q .queue) .written) (instant-fits t (elapse (t - now) q) (tell-due now t q d m h))
-    (run-fits n t until (moved now until q .queue) (telling-moved now t q d m h)))
+    by-next (λ (r : Turn). All Fits (r .written)) _ _ (notAfter until (due q))
+    (λ t e. let d = due-first until t q e in
+    let m = due-meets until t q e in
+    all-append Fits (moved now (t .0) q .written) (run n (t .0) until (moved now (t .0) q .queue) .written)
+    (instant-fits (t .0) (elapse (t .0 - now) q) (tell-due now (t .0) q d m h)) (run-fits n (t .0) until (moved now (t .0) q .queue) (telling-moved now (t .0) q d m h)))
     (λ e. tt)
 
 -- ## Answers
@@ -231,69 +232,17 @@ telling-of s h =
       };
     }
 
-module _ (c : ℕ) (low : c ≤ 3) (s : Splicer) (h : Healthy s) where
-  abbrev Written : Answered → Type 0
-  Written a = All Fits (a .written)
+alive-fits : (c : ℕ) → c ≤ 3 → (s : Splicer) → Healthy s → Fits (aliveResponse c s)
+unfolding aliveResponse airState airID
+alive-fits c low s h = ((omega arith, omega arith), state (s .queue .started), number (s .queue .started) (telling-of s h .numbered .started), omega (arith, h .clock))
+  where
+    state : (k : List Session) → airState k < 4294967296
+    state [] = omega arith
+    state (a ∷ k) = omega arith
 
-  general-fits : (r : ℕ) → r < 65536 → All Fits (General c r ∷ [])
-  general-fits r e = ((omega arith, e), tt)
-
-  init-fits : (revision : ℕ) (d : List ℕ) → Written (answerInit c revision d s)
-  unfolding answerInit initResult
-  init-fits revision d = (((omega arith, result), omega (arith, h .linking .short), h .linking .zeros, h .linking .bytes), tt)
-    where
-      result : initResult revision (channelName d) (s .name) < 65536
-      result = by (λ n. n < 65536) (not (eqb revision 2)) _ _ (λ e. omega arith) (λ e. by (λ n. n < 65536) (not (sameName (channelName d) (s .name))) 104 100 (λ f. omega arith) (λ f. omega arith))
-
-  alive-fits : Fits (aliveResponse c s)
-  unfolding aliveResponse airState airID
-  alive-fits = ((omega arith, omega arith), state (s .queue .started), number (s .queue .started) (telling-of s h .numbered .started), omega (arith, h .clock))
-    where
-      state : (k : List Session) → airState k < 4294967296
-      state [] = omega arith
-      state (a ∷ k) = omega arith
-
-      number : (k : List Session) → All Numbered k → airID k < 4294967296
-      number [] a = omega arith
-      number (u ∷ k) a = a .0 .1
-
-  abort-fits : (x : ℕ) → x < 4294967296 → All Fits (answerAbort c x (s .queue) .written)
-  unfolding answerAbort andThen
-  abort-fits x e =
-      by (λ (r : Turn). All Fits (r .written)) (holds c x (s .queue)) _ _
-      (λ f. (((omega arith, omega arith), e), aborted-fits c x (s .queue) (tell-now (s .clock) (s .queue) (telling-of s h)))) (λ f. (((omega arith, omega arith), e), tt))
-
-  splice-fits : (r : Request) → Asked r → All Fits (answerSplice (s .clock) c r (s .queue) .written)
-  unfolding answerSplice spliceResult requested sessionAt
-  splice-fits r a =
-      let q = s .queue in
-      by (λ (t : Turn). All Fits (t .written)) (eqb (spliceResult (s .clock) c r (requested c r (s .queue)) (s .queue)) 100) _ _
-      (λ e. accepted-fits (requested c r (s .queue)) (s .queue) ((omega arith, omega arith), a .id) (telling-of s h .numbered))
-      (λ e. (((omega arith, first (separate r) (wrongNumber c r q) (tooLate (s .clock) (r .start)) (collides (requested c r q) (q .waiting)) (full c (q .waiting))), a .id), tt))
-    where
-      first : (i j k l m : Bool) → firstOf i j k l m < 65536
-      first true j k l m = omega arith
-      first false true k l m = omega arith
-      first false false true l m = omega arith
-      first false false false true m = omega arith
-      first false false false false true = omega arith
-      first false false false false false = omega arith
-
-  read-fits : (m : Message) (d : List ℕ) → Reads m → Written (answerRead c m d s)
-  unfolding answerRead
-  read-fits (Init revision) d g = init-fits revision d
-  read-fits Alive d g = (alive-fits, tt)
-  read-fits (Splice r) d g = splice-fits r g
-  read-fits (Abort x) d g = abort-fits x g
-  read-fits Unreadable d g = general-fits 123 (omega arith)
-
-  answer-fits : (id : ℕ) (d : List ℕ) → All Byte d → Written (answer c id d s)
-  unfolding answer
-  answer-fits id d a =
-      by Written (eqb id 0x0000) _ _ (λ e. tt)
-      (λ e. by Written (not (isInitialised (linkOf c s)) && not (eqb id initRequest)) _ _ (λ f. general-fits 103 (omega arith))
-      (λ f. by Written (eqb id 0x000D) _ _ (λ g. tt)
-      (λ g. by Written (not (isRead id)) _ _ (λ i. general-fits 120 (omega arith)) (λ i. read-fits (read id d) d (read-grants d a id)))))
+    number : (k : List Session) → All Numbered k → airID k < 4294967296
+    number [] a = omega arith
+    number (u ∷ k) a = a .0 .1
 
 -- ## Calls
 
@@ -302,29 +251,44 @@ abbrev pub recordsOf : Answer → List Record
 recordsOf (refused n) = []
 recordsOf (good consumed rs) = rs
 
-abbrev Told : Called → Type 0
-Told r = All Fits (recordsOf (r .answer))
+read-asked : (d : List ℕ) → All Byte d → (r : Request) → readSplice d ≡ Splice r → Asked r
+unfolding read
+read-asked d a r e = splice-grants d a spliceRequest r e
 
-handled-fits : (c : ℕ) → c ≤ 3 → (s : Splicer) → Healthy s → (l : List ℕ) → All Byte l → (f : Framing) → Told (handled c f l s)
-unfolding handled
-handled-fits c low s h l a (Unframed n) = tt
-handled-fits c low s h l a (Framed id size) = answer-fits c low s h id (dataOf size l) (part-byte 8 size l a)
+message-fits : (s : Splicer) → Healthy s → (c : ℕ) (l : List ℕ) → c ≤ 3 → Answering c l s (λ a. All Byte l → All Fits (a .written))
+unfolding andThen requested sessionAt
+message-fits s h c l low =
+    record {
+      silent = λ e a. tt;
+      general = λ r b a. ((omega arith, b), tt);
+      naming = λ r b e a. (((omega arith, b), omega (arith, h .linking .short), h .linking .zeros, h .linking .bytes), tt);
+      alive = λ e a. (alive-fits c low s h, tt);
+      unknown = λ x e i a. (((omega arith, omega arith), number x i a), tt);
+      aborting = λ x e i held a. (((omega arith, omega arith), number x i a), aborted-fits c x (s .queue) (tell-now (s .clock) (s .queue) (telling-of s h)));
+      declining = λ r v e i b n a. (((omega arith, b), asked r i a .id), tt);
+      accepting = λ r e i p a. accepted-fits (requested c r (s .queue)) (s .queue) ((omega arith, omega arith), asked r i a .id) (telling-of s h .numbered);
+    }
+  where
+    bytes : All Byte l → All Byte (dataIn l)
+    bytes a = part-byte 8 (messageSize l) l a
 
-pub call-fits : (k : Call) (s : Splicer) → Wired k → Healthy s → Told (call k s)
-unfolding call openCall closeCall messageCall tickCall ticked runAll
-call-fits (opens c) s w h = by Told (noConnection c) _ _ (λ e. tt) (λ e. by Told (isOpen (linkOf c s)) _ _ (λ f. tt) (λ f. tt))
-call-fits (closes c room) s w h =
-    by Told (noConnection c) _ _ (λ e. tt)
-    (λ e. by Told (noRoom room) _ _ (λ f. tt)
-    (λ f. by Told (notOpen c s) _ _ (λ g. tt) (λ g. closedBy-fits c (s .queue) (tell-now (s .clock) (s .queue) (telling-of s h)))))
-call-fits (messages c l room) s w h =
-    by Told (noConnection c) _ _ (λ e. tt)
-    (λ e. by Told (noRoom room) _ _ (λ f. tt)
-    (λ f. by Told (notOpen c s) _ _ (λ g. tt) (λ g. handled-fits c (ltb-false 3 c e) s h l w (framing l))))
-call-fits (ticks seconds micros room) s w h =
-    by Told (noRoom room) _ _ (λ e. tt)
-    (λ e. by Told (badMicros micros) _ _ (λ f. tt)
-    (λ f. by Told (ltb (fromMicros (timeOf seconds micros) .0) (s .clock)) _ _ (λ g. tt) (λ g. run-fits _ (s .clock) _ (s .queue) (telling-of s h))))
+    number : (x : ℕ) → x ≡ sessionID (dataIn l) → All Byte l → x < 4294967296
+    number x e a = omega (arith, e, field-below 0 4 (dataIn l) (bytes a))
+
+    asked : (r : Request) → readSplice (dataIn l) ≡ Splice r → All Byte l → Asked r
+    asked r e a = read-asked (dataIn l) (bytes a) r e
+
+pub call-fits : (k : Call) (s : Splicer) → Wired k → Healthy s → All Fits (recordsOf (call k s .answer))
+unfolding ticked runAll
+call-fits k s w h =
+    cases s (λ k r. Wired k → All Fits (recordsOf (r .answer)))
+    (record {
+      refusing = λ k n w. tt;
+      opening = λ c low e w. tt;
+      closing = λ c room low e w. closedBy-fits c (s .queue) (tell-now (s .clock) (s .queue) (telling-of s h));
+      answering = λ c l loans low e. message-fits s h c l low;
+      bringing = λ k until b le w. run-fits _ (s .clock) until (s .queue) (telling-of s h);
+    }) k w
 
 -- what is found in the bytes that a call wrote is what it answered
 pub found : (k : Call) (s : Splicer) → Wired k → Healthy s → recordsIn (writtenBy (call k s .answer)) ≡ recordsOf (call k s .answer)

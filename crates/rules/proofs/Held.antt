@@ -10,14 +10,15 @@ use lib.ListN.{length, getD, set, length-set}
 use lib.Seq.{getD-set-same, getD-set-other}
 use borrow.Author.Tests.{eqb-true, eqb-false, ne-eqb}
 use Rattle.rules.specs.declared.Session.{Session}
+use Rattle.rules.specs.declared.Link.{Link}
+use Rattle.rules.specs.declared.Link.the-variants.{Closed, Opened, Initialised}
 use Rattle.rules.specs.declared.Start.{Start}
 use Rattle.rules.specs.declared.Start.the-variants.{Timed, Linked}
 use Rattle.rules.specs.declared.Request.{Request}
-use Rattle.rules.specs.Units.{timeOf, fromMicros}
 use Rattle.rules.specs.Lists.{bit, count}
 use Rattle.rules.specs.Bytes.{hasZero}
 use Rattle.rules.specs.Reading.{nobody}
-use Rattle.rules.specs.State.{Queue, Splicer, Link, closed, opened, initialised, of, is, held, holds, linkOf, isOpen, withLink, withQueue}
+use Rattle.rules.specs.State.{Queue, Splicer, of, is, held, holds, linkOf, isOpen, withLink, withQueue}
 use Rattle.rules.specs.Ends.{closedBy, cancelled}
 use Rattle.rules.specs.Instants.{playing, runAll}
 use Rattle.rules.specs.Answers.{startOf, priorOf, sessionAt, requested, accepted}
@@ -36,14 +37,14 @@ pub use Rattle.rules.specs.Sound.{Proper, Small, Once, Linking}
 -- ## Each session
 
 pub proper-plays : (d : ℕ) (s : Session) → Proper s → Proper (playing d s)
-proper-plays d s h = record { conn = h .conn; somebody = h .somebody; access = h .access; over = h .over; lasts = h .lasts }
+proper-plays d s h = record { conn = h .conn; somebody = h .somebody; access = h .access; overrides = h .overrides; lasts = h .lasts }
 
 pub proper-kept : {F : Call → Type 0} → KeptHeld F (λ now q. Each Proper q)
 unfolding requested sessionAt
 proper-kept =
     each-kept Proper proper-plays
     (λ s c r a h. let g = grants a in
-    record { conn = a .low; somebody = a .passed .somebody; access = g .ranked; over = g .overrides; lasts = omega (arith, g .lasts) })
+    record { conn = a .low; somebody = a .passed .somebody; access = g .ranked; overrides = g .overrides; lasts = omega (arith, g .lasts) })
 
 pub small-plays : (d : ℕ) (s : Session) → Small s → Small (playing d s)
 small-plays d s h = record { id = h .id; prior = h .prior; duration = h .duration; timed = h .timed }
@@ -109,14 +110,14 @@ linking-set s q c l low h own others =
       bytes = h .bytes;
     }
   where
-    go : (d : ℕ) (b : Bool) → eqb d c ≡ b → isOpen (getD (set (s .links) c l) d closed) ≡ false → heldCount q (of d) ≡ 0
+    go : (d : ℕ) (b : Bool) → eqb d c ≡ b → isOpen (getD (set (s .links) c l) d Closed) ≡ false → heldCount q (of d) ≡ 0
     go d true f e =
         let i = eqb-true d c f in
-        let g : isOpen l ≡ false = rw (getD-set-same (s .links) c l closed (omega (arith, h .four))) at (rw i at e) in
+        let g : isOpen l ≡ false = rw (getD-set-same (s .links) c l Closed (omega (arith, h .four))) at (rw i at e) in
         rw i (own g)
     go d false f e =
         let n = eqb-false d c f in
-        let g : isOpen (linkOf d s) ≡ false = rw (getD-set-other (s .links) c d l closed n) at e in
+        let g : isOpen (linkOf d s) ≡ false = rw (getD-set-other (s .links) c d l Closed n) at e in
         omega (arith, others d n, h .shut d g)
 
 linking-queue : (s : Splicer) (q : Queue) → Linking s → ((d : ℕ) → isOpen (linkOf d s) ≡ false → heldCount q (of d) ≤ heldCount (s .queue) (of d)) → Linking (withQueue q s)
@@ -126,13 +127,12 @@ pub linking-kept : {F : Call → Type 0} → Kept F Linking
 unfolding requested sessionAt closedBy cancelled
 linking-kept =
     record {
-      opening = λ s c low e h. linking-set s (s .queue) c opened low h (λ f. absurd (clash true refl f)) (λ d n. omega arith);
-      naming = λ s c low e h. linking-set s (s .queue) c initialised low h (λ f. absurd (clash true refl f)) (λ d n. omega arith);
-      closing = λ s c low e h. linking-set s (closedBy c (s .queue) .queue) c closed low h (λ f. gone c (s .queue)) (λ d n. fewer-held (of d) (s .queue) _ (closedBy-fewer c (s .queue)));
+      opening = λ s c low e h. linking-set s (s .queue) c Opened low h (λ f. absurd (clash true refl f)) (λ d n. omega arith);
+      naming = λ s c low e h. linking-set s (s .queue) c Initialised low h (λ f. absurd (clash true refl f)) (λ d n. omega arith);
+      closing = λ s c low e h. linking-set s (closedBy c (s .queue) .queue) c Closed low h (λ f. gone c (s .queue)) (λ d n. fewer-held (of d) (s .queue) _ (closedBy-fewer c (s .queue)));
       aborting = λ s c x low e a h. linking-queue s _ h (λ d f. fewer-held (of d) (s .queue) _ (aborted-fewer c x (s .queue)));
       accepting = λ s c r a h. linking-queue s _ h (λ d f. new s c r (a .linked) d f);
-      ticking = λ s seconds micros room f m le h. let until = fromMicros (timeOf seconds micros) .0 in
-          let k = linking-queue s (runAll (s .clock) until (s .queue) .queue) h (λ d e. held-tick (of d) (λ e u. refl) (s .clock) until (s .queue)) in
+      ticking = λ s j until f b le h. let k = linking-queue s (runAll (s .clock) until (s .queue) .queue) h (λ d e. held-tick (of d) (λ e u. refl) (s .clock) until (s .queue)) in
           record { four = k .four; shut = k .shut; zeros = k .zeros; short = k .short; bytes = k .bytes };
     }
   where

@@ -7,6 +7,7 @@ pub mod Count
 pub mod Every
 pub mod Walk
 pub mod Checks
+pub mod Cases
 pub mod Always
 pub mod Leaving
 pub mod Tick
@@ -17,10 +18,9 @@ pub mod Ranked
 pub mod Room
 pub mod Held
 pub mod Aired
-pub mod Link
+pub mod Priors
 pub mod Chained
 pub mod Fitted
-pub mod History
 pub mod Size
 pub mod Bounds
 pub mod Values

@@ -31,7 +31,7 @@ falling-push : (s : Session) (k : List Session) → mayStart s k ≡ true → Fa
 unfolding mayStart
 falling-push s [] e f = (tt, tt)
 falling-push s (a ∷ k) e f =
-    let h = ltb-true (a .access) (s .access) (and-both (eqb (s .over) 1) (outranks s a) e .1) in
+    let h = ltb-true (a .access) (s .access) (and-both (eqb (s .overrides) 1) (outranks s a) e .1) in
     ((h, all-into (λ u. u .access < a .access) (λ u. u .access < s .access) (λ u i. omega arith) k (f .0)), f)
 
 pub falling-onAir : (d : ℕ) (k : List Session) → Falling k → Falling (onAir d k)

@@ -8,40 +8,17 @@ use lib.Dec.{eqb, leb, ltb}
 use lib.ListN.{length, getD, drop, length-drop}
 use lib.Seq.{getD-drop, drop-drop}
 use borrow.Author.Tests.{eqb-false, ltb-false, leb-true, eq-eqb, ne-eqb, le-leb}
-use Rattle.rules.specs.declared.Start.{Start}
-use Rattle.rules.specs.declared.Start.the-variants.{Timed, Linked}
 use Rattle.rules.specs.declared.Request.{Request}
-use Rattle.rules.specs.declared.Message.{Message}
-use Rattle.rules.specs.declared.Message.the-variants.{Init, Alive, Splice, Abort, Unreadable}
+use Rattle.rules.specs.declared.Message.the-variants.{Splice, Abort}
 use Rattle.rules.specs.Reading.{nobody, separateService, initRequest, aliveRequest, spliceRequest, abortRequest, badInit, badSplice, readInit, readAlive, readAbort, readStart, readSplice, read, priorSession, serviceID, duration, accessType, overridePlaying, separatePids, wholeRequest, descriptorsFill, descriptorsOf, descriptorLength, descriptorFits, wellFormed}
 use Rattle.rules.specs.Answers.{separate}
+use Rattle.rules.specs.Asked.{Within, Asked, Reads}
 use Rattle.rules.proofs.Tests.{by, or-none}
 use Rattle.rules.proofs.All.{All}
 use Rattle.rules.proofs.Bytes.{Byte, field-below}
 use Rattle.rules.proofs.Checks.{Granted, granted, Fitting, fitting, read-splice}
 
 -- ## Messages
-
--- also where the MicroSeconds are not checked: a time stays below 2^52
-abbrev pub Within : Start → Type 0
-Within (Timed t) = t .0 < 4503599627370496
-Within (Linked p) = p < nobody
-
--- of every request, with ServiceID 0xFFFF too
-pub record Asked (r : Request) : Type 0 where
-  pub id : r .id < 4294967296
-  pub start : Within (r .start)
-  pub service : r .service < 65536
-  pub duration : r .duration .0 < 4294967296
-  pub access : r .access ≤ 9
-  pub over : r .over ≤ 1
-
-abbrev pub Reads : Message → Type 0
-Reads (Init revision) = revision < 65536
-Reads Alive = Unit {0}
-Reads (Splice r) = Asked r
-Reads (Abort x) = x < 4294967296
-Reads Unreadable = Unit {0}
 
 module _ (d : List ℕ) (a : All Byte d) where
   start-within : Within (readStart d)
@@ -63,12 +40,12 @@ module _ (d : List ℕ) (a : All Byte d) where
         service = field-below 16 2 d a;
         duration = field-below 18 4 d a;
         access = ltb-false 9 (accessType d) (i .0);
-        over = ltb-false 1 (overridePlaying d) (j .0);
+        overrides = ltb-false 1 (overridePlaying d) (j .0);
       }
 
   asked-separate : Asked (separatePids d)
   asked-separate =
-      record { id = field-below 0 4 d a; start = start-within; service = omega arith; duration = omega arith; access = omega arith; over = omega arith }
+      record { id = field-below 0 4 d a; start = start-within; service = omega arith; duration = omega arith; access = omega arith; overrides = omega arith }
 
   -- whatever the message
   pub read-grants : (id : ℕ) → Reads (read id d)

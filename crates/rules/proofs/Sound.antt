@@ -5,8 +5,10 @@ use mathlib.Core.List.{List, [], _∷_, _++_}
 use Prim.Native.Nat.{ℕ, suc, _+_, _-_, _≤_, _<_}
 use native.Mathlib.Omega.{arith}
 use lib.ListN.{length}
+use Rattle.rules.specs.declared.Ninths.{Ninths}
+use Rattle.rules.specs.declared.When.the-variants.{At}
 use Rattle.rules.specs.Bytes.{hasZero}
-use Rattle.rules.specs.State.{Queue, Splicer, is, due}
+use Rattle.rules.specs.State.{Queue, Splicer, is, due, notAfter}
 use Rattle.rules.specs.Records.{recordsIn}
 use Rattle.rules.specs.Instants.{instant, elapse}
 use Rattle.rules.specs.Calls.{Called, writtenBy, named, fresh, Call, call, after}
@@ -14,6 +16,7 @@ use Rattle.rules.proofs.Tests.{by}
 use Rattle.rules.proofs.All.{All, all-into, all-append}
 use Rattle.rules.proofs.Bytes.{Byte}
 use Rattle.rules.proofs.Every.{all-both, Each, FewerHeld, fewer-each}
+use Rattle.rules.proofs.Cases.{Brings, tick, move}
 use Rattle.rules.proofs.Always.{Wired, Kept, KeptHeld, held-kept, call-kept, always}
 use Rattle.rules.proofs.Tick.{Due, meets, due-first, due-meets, elapse-due, moved}
 use Rattle.rules.proofs.Sessions.{fewer-held, each-elapse, each-instant, waiting-instant}
@@ -22,7 +25,7 @@ use Rattle.rules.proofs.Aired.{Played, elapse-played, played-fewer, Air
 use Rattle.rules.proofs.Ranked.{Falling, fewer-falling, falling-kept, falling-instant, falling-onAir, ten}
 use Rattle.rules.proofs.Room.{Room, room-kept, room-fewer, room-none, sixty-four}
 use Rattle.rules.proofs.Held.{Proper, Small, small-plays, small-kept, Once, Linking, linking-kept, linking-fresh}
-use Rattle.rules.proofs.Link.{Chained, Orderly, orderly}
+use Rattle.rules.proofs.Priors.{Chained, Orderly, orderly}
 use Rattle.rules.proofs.Chained.{chained-kept, moved-chained, rest-chained}
 use Rattle.rules.proofs.Bounds.{horizon, longest, never, ends-early}
 use Rattle.rules.proofs.Fitted.{recordsOf, found}
@@ -86,11 +89,11 @@ holding-moved now t q d m h =
     (room-fewer (q .waiting) _ (waiting-instant t u) (h .room)) (each-instant Small small-plays t u (each-elapse Small small-plays (t - now) q (h .small)))
 
 -- the next instant not later than until is after the time now
-pub next-after : (now until : ℕ) (q : Queue) → due (suc until) q ≤ until → Holding now q → now < due (suc until) q
-next-after now until q le h = meets-after now (due (suc until) q) q (h .timed) (due-meets (suc until) q (omega arith))
+pub next-after : (now until : ℕ) (t : Ninths) (q : Queue) → notAfter until (due q) ≡ At t → Holding now q → now < t .0
+next-after now until t q e h = meets-after now (t .0) q (h .timed) (due-meets until t q e)
 
-pub holding-next : (now until : ℕ) (q : Queue) → due (suc until) q ≤ until → Holding now q → Holding (due (suc until) q) (moved now until q .queue)
-holding-next now until q le h = holding-moved now (due (suc until) q) q (due-first (suc until) q) (due-meets (suc until) q (omega arith)) h
+pub holding-next : (now until : ℕ) (t : Ninths) (q : Queue) → notAfter until (due q) ≡ At t → Holding now q → Holding (t .0) (moved now (t .0) q .queue)
+holding-next now until t q e h = holding-moved now (t .0) q (due-first until t q e) (due-meets until t q e) h
 
 -- no PlayedDuration is longer than the longest Duration: at the present time, and at t before its work, if nothing is due before t
 pub played-now : (now : ℕ) (q : Queue) → Holding now q → All (λ s. s .played .0 ≤ longest) (q .started)
@@ -130,6 +133,10 @@ holding-kept =
 
 -- ## Of a splicer
 
+brings-early : (k : Call) (until : ℕ) → Wired k → Brings k until → until < horizon
+brings-early k until w (tick seconds micros room m) = omega arith
+brings-early k until w (move t room) = w
+
 pub sound-kept : Kept Wired Sound
 sound-kept =
     let l : Kept Wired Linking = linking-kept in
@@ -140,11 +147,7 @@ sound-kept =
       closing = λ s c low e h. record { linking = l .closing s c low e (h .linking); clock = h .clock; holding = k .closing s c low e (h .holding) };
       aborting = λ s c x low e a h. record { linking = l .aborting s c x low e a (h .linking); clock = h .clock; holding = k .aborting s c x low e a (h .holding) };
       accepting = λ s c r a h. record { linking = l .accepting s c r a (h .linking); clock = h .clock; holding = k .accepting s c r a (h .holding) };
-      ticking = λ s seconds micros room f m le h. record {
-        linking = l .ticking s seconds micros room f m le (h .linking);
-        clock = omega arith;
-        holding = k .ticking s seconds micros room f m le (h .holding);
-      };
+      ticking = λ s j until f b le h. record { linking = l .ticking s j until f b le (h .linking); clock = brings-early j until f b; holding = k .ticking s j until f b le (h .holding) };
     }
 
 pub sound-call : (s : Splicer) (k : Call) → Wired k → Sound s → Sound (call k s .splicer)

@@ -1,48 +1,151 @@
 -- A tick: the next instant, each instant leaves fewer to come, so that a tick is never cut short; what instants keep a tick keeps.
 -- Assumes nothing.
-use mathlib.Core.Path.{_≡_, refl, ap}
+use mathlib.Core.Path.{_≡_, refl, ap, sym, subst, _∙_}
 use mathlib.Core.Bool.{Bool, true, false, cond}
 use mathlib.Core.List.{List, [], _∷_, _++_}
-use Prim.Native.Nat.{ℕ, zero, suc, _+_, _-_, _*_, _≤_, _<_, min}
+use Prim.Native.Nat.{ℕ, zero, suc, _+_, _-_, _*_, _≤_, _<_}
 use native.Mathlib.Omega.{arith}
 use lib.Dec.{eqb, ltb, leb}
-use lib.ListN.{length, getD}
-use borrow.Author.Tests.{leb-false, leb-true, ltb-false, ltb-true, lt-leb}
+use lib.ListN.{length, getD, drop, drop-of-length-le}
+use lib.Seq.{drop-cons}
+use borrow.Author.Tests.{ltb-false, ltb-true, le-leb, lt-leb, le-ltb, lt-ltb}
+use Rattle.rules.specs.declared.Ninths.{Ninths}
+use Rattle.rules.specs.declared.When.{When}
+use Rattle.rules.specs.declared.When.the-variants.{At, Never}
 use Rattle.rules.specs.declared.Session.{Session}
-use Rattle.rules.specs.Lists.{bit, keep, omit, count, least, place, removeAt}
-use Rattle.rules.specs.State.{Queue, empty, startsAt, endsAt, due, toCome, withWaiting, withStarted}
+use Rattle.rules.specs.Lists.{bit, keep, omit, count, place, removeAt}
+use Rattle.rules.specs.State.{Queue, Sorted, empty, startsAt, endsAt, sooner, earliest, due, notAfter, toCome, withWaiting, withStarted}
 use Rattle.rules.specs.Ends.{Turn, quiet, andThen}
-use Rattle.rules.specs.Instants.{mayStart, launched, startAt, endAt, instant, playing, onAir, elapse, run, runAll}
+use Rattle.rules.specs.Instants.{mayStart, launched, startAt, endAt, instant, playing, onAir, elapse, onwards, run, runAll}
 use Rattle.rules.proofs.Tests.{tests, by, eqb-same}
 use Rattle.rules.proofs.All.{All, all-into}
 use Rattle.rules.proofs.Count.{length-removeAt, length-split, length-keep, place-none}
 use Rattle.rules.proofs.Every.{fewer-length}
 use Rattle.rules.proofs.Leaving.{dismissed-fewer}
 
--- ## The least
+-- ## The sooner of two
 
-module _ {A : Type 0} (n : ℕ) (f : A → ℕ) where
-  least-base : (l : List A) → least n f l ≤ n
-  least-base [] = omega arith
-  least-base (x ∷ l) = omega (arith, least-base l)
+-- it is one of them
+pub sooner-one : (P : When → Type 0) (a b : When) → P a → P b → P (sooner a b)
+sooner-one P Never b x y = y
+sooner-one P (At t) Never x y = x
+sooner-one P (At t) (At u) x y = by P (leb (t .0) (u .0)) _ _ (λ e. x) (λ e. y)
 
-  least-all : (l : List A) → All (λ x. least n f l ≤ f x) l
-  least-all [] = tt
-  least-all (x ∷ l) = (omega arith, all-into (λ y. least n f l ≤ f y) (λ y. min (f x) (least n f l) ≤ f y) (λ y h. omega arith) l (least-all l))
+pub sooner-none : (a : When) → sooner a Never ≡ a
+sooner-none (At t) = refl
+sooner-none Never = refl
 
-  least-in : (l : List A) → least n f l < n → 0 < count (λ x. eqb (least n f l) (f x)) l
-  least-in [] h = absurd (omega arith)
-  least-in (x ∷ l) h = go (leb (f x) (least n f l)) refl (least-in l)
+module _ (t u : Ninths) where
+  pub sooner-first : t .0 ≤ u .0 → sooner (At t) (At u) ≡ At t
+  sooner-first h = rw (le-leb (t .0) (u .0) h)
+
+  pub sooner-second : u .0 < t .0 → sooner (At t) (At u) ≡ At u
+  sooner-second h = rw (lt-leb (t .0) (u .0) h)
+
+pub sooner-assoc : (a b c : When) → sooner (sooner a b) c ≡ sooner a (sooner b c)
+sooner-assoc Never b c = refl
+sooner-assoc (At t) Never c = refl
+sooner-assoc (At t) (At u) Never = sooner-none (sooner (At t) (At u))
+sooner-assoc (At t) (At u) (At v) = go (leb (t .0) (u .0)) refl (leb (u .0) (v .0)) refl
+  where
+    go : (a : Bool) → leb (t .0) (u .0) ≡ a → (b : Bool) → leb (u .0) (v .0) ≡ b → sooner (cond a (At t) (At u)) (At v) ≡ sooner (At t) (cond b (At u) (At v))
+    go true e true f = sooner-first t v (omega (arith, tests)) ∙ sym (sooner-first t u (omega (arith, tests)))
+    go true e false f = refl
+    go false e true f = sooner-first u v (omega (arith, tests)) ∙ sym (sooner-second t u (omega (arith, tests)))
+    go false e false f = sooner-second u v (omega (arith, tests)) ∙ sym (sooner-second t v (omega (arith, tests)))
+
+-- a is not later than the time n
+abbrev pub By : When → ℕ → Type 0
+By (At t) n = t .0 ≤ n
+By Never n = ⊥
+
+sooner-left : (a b : When) (n : ℕ) → By a n → By (sooner a b) n
+sooner-left Never b n h = absurd h
+sooner-left (At t) Never n h = h
+sooner-left (At t) (At u) n h = by (λ a. By a n) (leb (t .0) (u .0)) _ _ (λ e. h) (λ e. omega (arith, tests))
+
+sooner-right : (a b : When) (n : ℕ) → By b n → By (sooner a b) n
+sooner-right Never b n h = h
+sooner-right (At t) Never n h = absurd h
+sooner-right (At t) (At u) n h = by (λ a. By a n) (leb (t .0) (u .0)) _ _ (λ e. omega (arith, tests)) (λ e. h)
+
+-- ## The earliest
+
+module _ (f : Session → Ninths) where
+  pub earliest-none : (l : List Session) → length l ≤ 0 → earliest f l ≡ Never
+  earliest-none [] h = refl
+  earliest-none (s ∷ l) h = absurd (omega arith)
+
+  -- t is not later than any of l
+  pub earliest-first : (t : Ninths) (l : List Session) → All (λ s. t .0 ≤ f s .0) l → sooner (At t) (earliest f l) ≡ At t
+  earliest-first t [] a = refl
+  earliest-first t (s ∷ l) a =
+      sooner-one (λ w. sooner (At t) w ≡ At t) (At (f s)) (earliest f l) (sooner-first t (f s) (a .0)) (earliest-first t l (a .1))
+
+  -- from the place i on, a being the sooner of what was before
+  pub earliest-next : (a : When) (l : List Session) (i : ℕ) (d : Session) → i < length l
+      → sooner a (earliest f (drop i l)) ≡ sooner (sooner a (At (f (getD l i d)))) (earliest f (drop (suc i) l))
+  earliest-next a l i d h = ap (λ m. sooner a (earliest f m)) (drop-cons l i d h) ∙ sym (sooner-assoc a (At (f (getD l i d))) (earliest f (drop (suc i) l)))
+
+  pub earliest-last : (a : When) (l : List Session) (i : ℕ) → length l ≤ i → sooner a (earliest f (drop i l)) ≡ a
+  earliest-last a l i h = ap (λ m. sooner a (earliest f m)) (drop-of-length-le l {i = i} h) ∙ sooner-none a
+
+  earliest-all : (l : List Session) → All (λ s. By (earliest f l) (f s .0)) l
+  earliest-all [] = tt
+  earliest-all (s ∷ l) = (
+    sooner-left (At (f s)) (earliest f l) (f s .0) (omega arith),
+    all-into (λ u. By (earliest f l) (f u .0)) (λ u. By (earliest f (s ∷ l)) (f u .0)) (λ u h. sooner-right (At (f s)) (earliest f l) (f u .0) h) l (earliest-all l),
+  )
+
+  -- one of l has the time a, if it is one
+  abbrev Among : List Session → When → Type 0
+  Among l (At t) = 0 < count (λ s. eqb (t .0) (f s .0)) l
+  Among l Never = Unit {0}
+
+  earliest-among : (l : List Session) → Among l (earliest f l)
+  earliest-among [] = tt
+  earliest-among (s ∷ l) =
+      sooner-one (Among (s ∷ l)) (At (f s)) (earliest f l) (omega (arith, ap bit (eqb-same (f s .0)))) (more (earliest f l) (earliest-among l))
     where
-      go : (b : Bool) → leb (f x) (least n f l) ≡ b → (least n f l < n → 0 < count (λ y. eqb (least n f l) (f y)) l)
-          → 0 < bit (eqb (min (f x) (least n f l)) (f x)) + count (λ y. eqb (min (f x) (least n f l)) (f y)) l
-      go true e ih = let k : min (f x) (least n f l) ≡ f x = omega (arith, tests) in rw k (omega (arith, ap bit (eqb-same (f x))))
-      go false e ih = let k : min (f x) (least n f l) ≡ least n f l = omega (arith, tests) in rw k (omega (arith, ih (omega (arith, tests))))
+      more : (a : When) → Among l a → Among (s ∷ l) a
+      more (At t) h = omega arith
+      more Never h = tt
 
-  -- if n is the least
-  pub least-above : (l : List A) → All (λ x. n ≤ f x) l → least n f l ≡ n
-  least-above [] a = refl
-  least-above (x ∷ l) a = omega (arith, a .0, least-above l (a .1))
+-- of those in order of start: the first's
+pub earliest-start : (w : List Session) (d : Session) → Sorted w → 0 < length w → earliest (λ s. s .start) w ≡ At (getD w 0 d .start)
+earliest-start [] d o h = absurd (omega arith)
+earliest-start (s ∷ w) d o h =
+    earliest-first (λ u. u .start) (s .start) w (all-into (λ u. s .start .0 < u .start .0) (λ u. s .start .0 ≤ u .start .0) (λ u i. omega arith) w (o .0))
+
+-- ## Not after a time
+
+never-at : (t : Ninths) → Never ≡ At t → ⊥
+never-at t h = let z : _≡_ {A = ℕ} 0 1 = cc in omega arith
+
+module _ (until : ℕ) where
+  module _ (t : Ninths) where
+    pub notAfter-at : t .0 ≤ until → notAfter until (At t) ≡ At t
+    notAfter-at h = rw (le-ltb until (t .0) h)
+
+    pub notAfter-none : until < t .0 → notAfter until (At t) ≡ Never
+    notAfter-none h = rw (lt-ltb until (t .0) h)
+
+  notAfter-is : (a : When) (t : Ninths) → notAfter until a ≡ At t → (a ≡ At t) × (t .0 ≤ until)
+  notAfter-is (At u) t h = go (ltb until (u .0)) refl h
+    where
+      go : (b : Bool) → ltb until (u .0) ≡ b → cond b Never (At u) ≡ At t → (At u ≡ At t) × (t .0 ≤ until)
+      go true e h = absurd (never-at t h)
+      go false e h = let k : u .0 ≡ t .0 = cc in (h, omega (arith, tests))
+  notAfter-is Never t h = absurd (never-at t h)
+
+  -- what is later than until is after it
+  notAfter-later : (a : When) (n : ℕ) → notAfter until a ≡ Never → By a n → until < n
+  notAfter-later (At u) n h k = go (ltb until (u .0)) refl h k
+    where
+      go : (b : Bool) → ltb until (u .0) ≡ b → cond b Never (At u) ≡ Never → u .0 ≤ n → until < n
+      go true e h k = omega (arith, tests)
+      go false e h k = absurd (never-at u (sym h))
+  notAfter-later Never n h k = absurd k
 
 -- ## The next instant
 
@@ -55,44 +158,65 @@ pub record Due (t : ℕ) (q : Queue) : Type 0 where
 abbrev pub meets : ℕ → Queue → ℕ
 meets t q = count (startsAt t) (q .waiting) + count (endsAt t) (q .started)
 
-pub due-first : (n : ℕ) (q : Queue) → Due (due n q) q
+-- as code finds it
+pub due-of : (q : Queue) (a b : When) → a ≡ earliest (λ s. s .end) (q .started) → b ≡ earliest (λ s. s .start) (q .waiting) → sooner a b ≡ due q
 unfolding due
-due-first n q =
-    let e = least n (λ (s : Session). s .end .0) (q .started) in
-    let d = least e (λ (s : Session). s .start .0) (q .waiting) in
-    record {
-      starts = least-all e (λ (s : Session). s .start .0) (q .waiting);
-      ends = all-into (λ (s : Session). e ≤ s .end .0) (λ (s : Session). d ≤ s .end .0) (λ s h. omega (arith, least-base e (λ (u : Session). u .start .0) (q .waiting))) (q .started)
-          (least-all n (λ (s : Session). s .end .0) (q .started));
-    }
+due-of q a b e f = λ i. sooner (e i) (f i)
+
+-- nothing that starts or ends is before the next instant
+due-by : (q : Queue) → All (λ s. By (due q) (s .start .0)) (q .waiting) × All (λ s. By (due q) (s .end .0)) (q .started)
+unfolding due
+due-by q =
+    let e = earliest (λ (s : Session). s .end) (q .started) in
+    let b = earliest (λ (s : Session). s .start) (q .waiting) in (
+      all-into (λ s. By b (s .start .0)) (λ s. By (sooner e b) (s .start .0)) (λ s h. sooner-right e b (s .start .0) h) (q .waiting) (earliest-all (λ (s : Session). s .start) (q .waiting)),
+      all-into (λ s. By e (s .end .0)) (λ s. By (sooner e b) (s .end .0)) (λ s h. sooner-left e b (s .end .0) h) (q .started) (earliest-all (λ (s : Session). s .end) (q .started)),
+    )
+
+abbrev Met : Queue → When → Type 0
+Met q (At t) = 0 < meets (t .0) q
+Met q Never = Unit {0}
+
+due-met : (q : Queue) → Met q (due q)
+unfolding due
+due-met q =
+    sooner-one (Met q) (earliest (λ s. s .end) (q .started)) (earliest (λ s. s .start) (q .waiting))
+    (ends (earliest (λ s. s .end) (q .started)) (earliest-among (λ s. s .end) (q .started)))
+    (starts (earliest (λ s. s .start) (q .waiting)) (earliest-among (λ s. s .start) (q .waiting)))
+  where
+    ends : (a : When) → Among (λ s. s .end) (q .started) a → Met q a
+    ends (At t) h = omega arith
+    ends Never h = tt
+
+    starts : (a : When) → Among (λ s. s .start) (q .waiting) a → Met q a
+    starts (At t) h = omega arith
+    starts Never h = tt
+
+-- the next instant that is not later than until
+module _ (until : ℕ) (t : Ninths) (q : Queue) (e : notAfter until (due q) ≡ At t) where
+  is-due : due q ≡ At t
+  is-due = notAfter-is until (due q) t e .0
+
+  pub due-time : t .0 ≤ until
+  due-time = notAfter-is until (due q) t e .1
+
+  pub due-first : Due (t .0) q
+  due-first =
+      record {
+        starts = all-into (λ s. By (due q) (s .start .0)) (λ s. t .0 ≤ s .start .0) (λ s h. subst (λ a. By a (s .start .0)) is-due h) (q .waiting) (due-by q .0);
+        ends = all-into (λ s. By (due q) (s .end .0)) (λ s. t .0 ≤ s .end .0) (λ s h. subst (λ a. By a (s .end .0)) is-due h) (q .started) (due-by q .1);
+      }
+
+  pub due-meets : 0 < meets (t .0) q
+  due-meets = subst (Met q) is-due (due-met q)
 
 -- with nothing due by until
-pub due-last : (until : ℕ) (q : Queue) → until < due (suc until) q → Due (suc until) q
-due-last until q h =
-    let t = due (suc until) q in
-    let d = due-first (suc until) q in
+pub due-last : (until : ℕ) (q : Queue) → notAfter until (due q) ≡ Never → Due (suc until) q
+due-last until q e =
     record {
-      starts = all-into (λ s. t ≤ s .start .0) (λ s. suc until ≤ s .start .0) (λ s i. omega arith) (q .waiting) (d .starts);
-      ends = all-into (λ s. t ≤ s .end .0) (λ s. suc until ≤ s .end .0) (λ s i. omega arith) (q .started) (d .ends);
+      starts = all-into (λ s. By (due q) (s .start .0)) (λ s. suc until ≤ s .start .0) (λ s h. notAfter-later until (due q) (s .start .0) e h) (q .waiting) (due-by q .0);
+      ends = all-into (λ s. By (due q) (s .end .0)) (λ s. suc until ≤ s .end .0) (λ s h. notAfter-later until (due q) (s .end .0) e h) (q .started) (due-by q .1);
     }
-
-pub due-meets : (n : ℕ) (q : Queue) → due n q < n → 0 < meets (due n q) q
-unfolding due
-due-meets n q h = go (ltb d e) refl
-  where
-    e : ℕ
-    e = least n (λ (s : Session). s .end .0) (q .started)
-
-    d : ℕ
-    d = least e (λ (s : Session). s .start .0) (q .waiting)
-
-    go : (b : Bool) → ltb d e ≡ b → 0 < count (startsAt d) (q .waiting) + count (endsAt d) (q .started)
-    go true f = omega (arith, least-in e (λ (s : Session). s .start .0) (q .waiting) (ltb-true d e f))
-    go false f =
-        let k : d ≡ e = omega (arith, tests, least-base e (λ (s : Session). s .start .0) (q .waiting)) in
-        let l : 0 < count (endsAt e) (q .started) = least-in n (λ (s : Session). s .end .0) (q .started) (omega arith) in
-        let m : 0 < count (endsAt d) (q .started) = rw k l in
-        omega arith
 
 -- ## Time on air changes no time and no number
 
@@ -163,15 +287,15 @@ instant-less t q h =
     go true e a l k = omega (arith, a .1 (ltb-true 0 (count (startsAt t) (q .waiting)) e))
     go false e a l k = omega (arith, tests, a .0)
 
--- from the time now to the next instant, if it is not later than until
+-- from the time now to the instant t
 abbrev pub moved : ℕ → ℕ → Queue → Turn
-moved now until q = let t = due (suc until) q in instant t (elapse (t - now) q)
+moved now t q = instant t (elapse (t - now) q)
 
-pub moved-less : (now until : ℕ) (q : Queue) → due (suc until) q ≤ until → toCome (moved now until q .queue) < toCome q
-moved-less now until q h =
-    let t = due (suc until) q in
-    let m = due-meets (suc until) q (omega arith) in
-    omega (arith, instant-less t (elapse (t - now) q) (omega (arith, elapse-meets t (t - now) q)), elapse-toCome t (t - now) q)
+pub moved-less : (now until : ℕ) (t : Ninths) (q : Queue) → notAfter until (due q) ≡ At t → toCome (moved now (t .0) q .queue) < toCome q
+moved-less now until t q e =
+    let m = due-meets until t q e in
+    let d = t .0 - now in
+    omega (arith, instant-less (t .0) (elapse d q) (omega (arith, elapse-meets (t .0) d q)), elapse-toCome (t .0) d q)
 
 none-due : (t : ℕ) (q : Queue) → toCome q ≤ 0 → Due t q
 none-due t q h = go (q .waiting) (q .started) h
@@ -181,37 +305,44 @@ none-due t q h = go (q .waiting) (q .started) h
     go [] (s ∷ k) h = absurd (omega arith)
     go (s ∷ w) k h = absurd (omega arith)
 
-due-none : (n : ℕ) (q : Queue) → toCome q ≤ 0 → due n q ≡ n
+due-none : (q : Queue) → toCome q ≤ 0 → due q ≡ Never
 unfolding due
-due-none n q h = go (q .waiting) (q .started) h
-  where
-    go : (w k : List Session) → 2 * length w + length k ≤ 0 → least (least n (λ (s : Session). s .end .0) k) (λ (s : Session). s .start .0) w ≡ n
-    go [] [] h = refl
-    go [] (s ∷ k) h = absurd (omega arith)
-    go (s ∷ w) k h = absurd (omega arith)
+due-none q h = rw (earliest-none (λ s. s .end) (q .started) (omega arith), earliest-none (λ s. s .start) (q .waiting) (omega arith))
+
+-- ## The definition of a tick, an instant at a time
+
+pub run-stop : (n now until : ℕ) (q : Queue) → notAfter until (due q) ≡ Never → run n now until q ≡ quiet (elapse (until - now) q)
+unfolding run
+run-stop zero now until q e = refl
+run-stop (suc n) now until q e = rw e
+
+pub run-more : (n now until : ℕ) (t : Ninths) (q : Queue) → notAfter until (due q) ≡ At t → run (suc n) now until q ≡ andThen (moved now (t .0) q) (run n (t .0) until)
+unfolding run
+run-more n now until t q e = rw e
+
+-- a fact of what follows, from the fact of each case
+pub by-next : (P : Turn → Type 0) (f : ℕ → Turn) (x : Turn) (a : When) → ((t : Ninths) → a ≡ At t → P (f (t .0))) → (a ≡ Never → P x) → P (onwards f x a)
+by-next P f x (At t) g h = g t refl
+by-next P f x Never g h = h refl
 
 -- ## A tick is never cut short: more instants change nothing
 
+then-same : (t : Turn) (f g : Queue → Turn) → f (t .queue) ≡ g (t .queue) → andThen t f ≡ andThen t g
+unfolding andThen
+then-same t f g e = rw e
+
 pub run-enough : (m n now until : ℕ) (q : Queue) → toCome q ≤ m → toCome q ≤ n → run m now until q ≡ run n now until q
-unfolding run andThen
-run-enough zero zero now until q f g = refl
-run-enough zero (suc n) now until q f g = rw (due-none (suc until) q f, lt-leb (suc until) until (omega arith))
-run-enough (suc m) zero now until q f g = rw (due-none (suc until) q g, lt-leb (suc until) until (omega arith))
-run-enough (suc m) (suc n) now until q f g =
-    go (leb (due (suc until) q) until) refl (run-enough m n (due (suc until) q) until (moved now until q .queue))
+run-enough zero n now until q f g = let e : notAfter until (due q) ≡ Never = rw (due-none q f) in run-stop zero now until q e ∙ sym (run-stop n now until q e)
+run-enough (suc m) zero now until q f g = let e : notAfter until (due q) ≡ Never = rw (due-none q g) in run-stop (suc m) now until q e ∙ sym (run-stop zero now until q e)
+run-enough (suc m) (suc n) now until q f g = go (notAfter until (due q)) refl (λ t. run-enough m n t until (moved now t q .queue))
   where
-    t : ℕ
-    t = due (suc until) q
-
-    u : Queue
-    u = moved now until q .queue
-
-    go : (b : Bool) → leb t until ≡ b → (toCome u ≤ m → toCome u ≤ n → run m t until u ≡ run n t until u)
-        → cond b (andThen (moved now until q) (run m t until)) (quiet (elapse (until - now) q)) ≡ cond b (andThen (moved now until q) (run n t until)) (quiet (elapse (until - now) q))
-    go true e ih =
-        let l = moved-less now until q (leb-true t until e) in
-        rw (ih (omega arith) (omega arith))
-    go false e ih = refl
+    go : (a : When) → notAfter until (due q) ≡ a
+        → ((t : ℕ) → toCome (moved now t q .queue) ≤ m → toCome (moved now t q .queue) ≤ n → run m t until (moved now t q .queue) ≡ run n t until (moved now t q .queue))
+        → run (suc m) now until q ≡ run (suc n) now until q
+    go (At t) e ih =
+        let l = moved-less now until t q e in
+        run-more m now until t q e ∙ then-same (moved now (t .0) q) (run m (t .0) until) (run n (t .0) until) (ih (t .0) (omega arith) (omega arith)) ∙ sym (run-more n now until t q e)
+    go Never e ih = run-stop (suc m) now until q e ∙ sym (run-stop (suc n) now until q e)
 
 pub runAll-enough : (n now until : ℕ) (q : Queue) → toCome q ≤ n → runAll now until q ≡ run n now until q
 unfolding runAll
@@ -227,12 +358,10 @@ module _ (J : ℕ → Queue → Type 0)
   unfolding run andThen
   run-through zero now until q f le h = waits now until q le (none-due (suc until) q f) h
   run-through (suc n) now until q f le h =
-      let t = due (suc until) q in
-      by (λ (r : Turn). J until (r .queue)) (leb t until) _ _
-      (λ e. let i = leb-true t until e in
-      let l = moved-less now until q i in
-      run-through n t until (moved now until q .queue) (omega arith) i (moves now t q (due-first (suc until) q) (due-meets (suc until) q (omega arith)) h))
-      (λ e. waits now until q le (due-last until q (leb-false t until e)) h)
+      by-next (λ (r : Turn). J until (r .queue)) _ _ (notAfter until (due q))
+      (λ t e. let l = moved-less now until t q e in
+      run-through n (t .0) until (moved now (t .0) q .queue) (omega arith) (due-time until t q e) (moves now (t .0) q (due-first until t q e) (due-meets until t q e) h))
+      (λ e. waits now until q le (due-last until q e) h)
 
   pub tick-through : (now until : ℕ) (q : Queue) → now ≤ until → J now q → J until (runAll now until q .queue)
   unfolding runAll
@@ -247,9 +376,8 @@ module _ (L : Queue → Turn → Type 0)
   unfolding run andThen
   run-law zero now until q = elapses (until - now) q
   run-law (suc n) now until q =
-      let t = due (suc until) q in
-      by (L q) (leb t until) _ _
-      (λ e. joins q (moved now until q) (run n t until (moved now until q .queue))
-      (joins q (quiet (elapse (t - now) q)) (moved now until q) (elapses (t - now) q) (instants t (elapse (t - now) q)))
-      (run-law n t until (moved now until q .queue)))
+      by-next (L q) _ _ (notAfter until (due q))
+      (λ t e. joins q (moved now (t .0) q) (run n (t .0) until (moved now (t .0) q .queue))
+      (joins q (quiet (elapse (t .0 - now) q)) (moved now (t .0) q) (elapses (t .0 - now) q) (instants (t .0) (elapse (t .0 - now) q)))
+      (run-law n (t .0) until (moved now (t .0) q .queue)))
       (λ e. elapses (until - now) q)

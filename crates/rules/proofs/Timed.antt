@@ -8,12 +8,14 @@ use native.Mathlib.Omega.{arith}
 use lib.Dec.{ltb}
 use lib.ListN.{length, getD}
 use borrow.Author.Tests.{eqb-true, eqb-false, ne-eqb, not-true, not-false, ltb-false, ltb-true}
+use Rattle.rules.specs.declared.When.{When}
+use Rattle.rules.specs.declared.When.the-variants.{At, Never}
 use Rattle.rules.specs.declared.Session.{Session}
 use Rattle.rules.specs.declared.Start.{Start}
 use Rattle.rules.specs.declared.Start.the-variants.{Timed, Linked}
 use Rattle.rules.specs.declared.Request.{Request}
 use Rattle.rules.specs.Lists.{bit, omit, count, place, removeAt}
-use Rattle.rules.specs.State.{due, Queue, Splicer, empty, is, startsAt, endsAt, held, holds, withWaiting, withStarted}
+use Rattle.rules.specs.State.{due, notAfter, Queue, Splicer, empty, is, startsAt, endsAt, held, holds, withWaiting, withStarted}
 use Rattle.rules.specs.Ends.{Turn, andThen, evictedAt, evicted}
 use Rattle.rules.specs.Instants.{mayStart, launched, startAt, endAt, instant, elapse, runAll}
 use Rattle.rules.specs.Answers.{endOf, startOf, sessionAt, requested, unknownPrior, tooLate, accepted}
@@ -23,7 +25,7 @@ use Rattle.rules.proofs.All.{All, all-into}
 use Rattle.rules.proofs.Count.{count-removeAt, place-holds, place-none, some-place}
 use Rattle.rules.proofs.Every.{all-both, all-kept, all-getD, all-none, none-all, Fewer, fewer-removeAt, fewer-all, fewer-count, Sorted, fewer-sorted, sorted-inserted, all-inserted, Each, FewerHeld, all-held}
 use Rattle.rules.proofs.Leaving.{dismissed-fewer, evicted-fewer, aborted-fewer, closedBy-fewer}
-use Rattle.rules.proofs.Tick.{least-above, Due, meets, all-onAir, elapse-due, tick-through}
+use Rattle.rules.proofs.Tick.{due-time, due-meets, Due, meets, all-onAir, elapse-due, tick-through}
 use Rattle.rules.proofs.Always.{Admitted, grants, KeptHeld, held-always}
 pub use Rattle.rules.specs.Sound.{Later, OnTime}
 
@@ -192,8 +194,9 @@ pub timed-always : (ks : List Call) (name : List ℕ) → OnTime (after ks (fres
 timed-always = held-always OnTime timed-kept (record { sorted = tt; later = tt; ends = tt })
 
 -- nothing is left that was due: a tick to the present time does nothing
-pub nothing-due : (now : ℕ) (q : Queue) → OnTime now q → due (suc now) q ≡ suc now
-unfolding due
-nothing-due now q h =
-    let e = least-above (suc now) (λ (s : Session). s .end .0) (q .started) (h .ends) in
-    rw e (least-above (suc now) (λ (s : Session). s .start .0) (q .waiting) (all-into (Later now) (λ s. suc now ≤ s .start .0) (λ s i. i .0) (q .waiting) (h .later)))
+pub nothing-due : (now : ℕ) (q : Queue) → OnTime now q → notAfter now (due q) ≡ Never
+nothing-due now q h = go (notAfter now (due q)) refl
+  where
+    go : (a : When) → notAfter now (due q) ≡ a → a ≡ Never
+    go (At t) e = absurd (omega (arith, meets-after now (t .0) q h (due-meets now t q e), due-time now t q e))
+    go Never e = refl

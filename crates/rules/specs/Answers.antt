@@ -9,14 +9,15 @@ use Rattle.rules.specs.declared.Start.the-variants.{Timed, Linked}
 use Rattle.rules.specs.declared.Request.{Request}
 use Rattle.rules.specs.declared.Message.{Message}
 use Rattle.rules.specs.declared.Message.the-variants.{Init, Alive, Splice, Abort, Unreadable}
+use Rattle.rules.specs.declared.Link.the-variants.{Initialised}
 use Rattle.rules.specs.declared.Session.{Session}
 use Rattle.rules.specs.Units.{timeOf, fromMicros, fromTicks, toMicros}
 use Rattle.rules.specs.Lists.{some, count, place, insertAt}
 use Rattle.rules.specs.Bytes.{sameName}
 use Rattle.rules.specs.Reading.{nobody, separateService, initRequest, channelName, isRead, read}
-use Rattle.rules.specs.State.{Queue, Splicer, initialised, empty, of, is, startsAt, startsAfter, held, holds, linkOf, isInitialised, withQueue, withLink, withWaiting}
+use Rattle.rules.specs.State.{Queue, Splicer, empty, of, is, startsAt, startsAfter, held, holds, linkOf, isInitialised, withQueue, withLink, withWaiting}
 use Rattle.rules.specs.Records.{Record, General, InitResponse, AliveResponse, SpliceResponse, AbortResponse}
-use Rattle.rules.specs.Ends.{Turn, andThen, writes, response, evicted, aborted}
+use Rattle.rules.specs.Ends.{Turn, andThen, writes, evicted, aborted}
 use Rattle.rules.specs.Instants.{outranks}
 
 -- the splicer after an answer, and the records of the answer
@@ -42,7 +43,7 @@ initResult revision asked name = cond (not (eqb revision 2)) 102 (cond (not (sam
 unfoldable pub answerInit : ℕ → ℕ → List ℕ → Splicer → Answered
 answerInit c revision d s =
     let r = initResult revision (channelName d) (s .name) in
-    says (InitResponse c r (s .name) ∷ []) (cond (eqb r 100) (withLink c initialised s) s)
+    says (InitResponse c r (s .name) ∷ []) (cond (eqb r 100) (withLink c Initialised s) s)
 
 -- ## Alive
 
@@ -94,7 +95,7 @@ sessionAt t c r =
       start = record { 0 = t };
       end = record { 0 = t + fromTicks (r .duration) .0 };
       access = r .access;
-      over = r .over;
+      overrides = r .overrides;
       played = record { 0 = 0 };
     }
 
@@ -136,8 +137,12 @@ sumOf n = raised (n 0) + (raised (n 1) + (raised (n 2) + raised (n 3)))
 abbrev pub raisedSum : List Session → ℕ
 raisedSum w = sumOf (λ c. waits c w)
 
+-- connection c is full, by the four counts n
+abbrev pub fullBy : (ℕ → ℕ) → ℕ → Bool
+fullBy n c = eqb (n c) 20 || (leb 10 (n c) && eqb (sumOf n) 64)
+
 unfoldable pub full : ℕ → List Session → Bool
-full c w = eqb (waits c w) 20 || (leb 10 (waits c w) && eqb (raisedSum w) 64)
+full c w = fullBy (λ d. waits d w) c
 
 -- "with the first that applies"
 abbrev pub firstOf : (a b c d e : Bool) → ℕ
@@ -152,9 +157,13 @@ spliceResult clock c r new q =
 unfoldable pub inserted : Session → List Session → List Session
 inserted s w = insertAt (place (startsAfter (s .start .0)) w) s w
 
+-- the Splice_Response 100 to the request for s
+abbrev pub accepts : Session → Record
+accepts s = SpliceResponse (s .conn) 100 (s .id)
+
 -- "f. 100. A waiting session with the same start, then lower, is evicted first", "written before the 100"
 unfoldable pub accepted : Session → Queue → Turn
-accepted s q = andThen (evicted (s .start .0) q) (λ u. writes (response 100 s ∷ []) (withWaiting (inserted s (u .waiting)) u))
+accepted s q = andThen (evicted (s .start .0) q) (λ u. writes (accepts s ∷ []) (withWaiting (inserted s (u .waiting)) u))
 
 unfoldable pub answerSplice : ℕ → ℕ → Request → Queue → Turn
 answerSplice clock c r q =

@@ -44,8 +44,11 @@ abbrev pub dataOf : ℕ → List ℕ → List ℕ
 dataOf size l = part 8 size l
 
 -- house number 4: "MessageSize above 4,088"
+abbrev pub largestSize : ℕ
+largestSize = 4088
+
 abbrev pub oversize : List ℕ → Bool
-oversize l = ltb 4088 (messageSize l)
+oversize l = ltb largestSize (messageSize l)
 
 -- "A string ends at its first zero byte; bytes after it don't count when names are compared."
 abbrev pub hasZero : List ℕ → Bool

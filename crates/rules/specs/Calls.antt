@@ -4,13 +4,14 @@ use mathlib.Core.List.{List, [], _∷_}
 use Prim.Native.Nat.{ℕ, _+_}
 use lib.Dec.{ltb}
 use lib.ListN.{length}
+use Rattle.rules.specs.declared.Link.the-variants.{Closed, Opened}
 use Rattle.rules.specs.declared.Refusal.{Refusal}
-use Rattle.rules.specs.declared.Refusal.the-variants.{Connection, Buffer, Clock, Oversize, Short, AlreadyOpen, NotOpen, MicroSeconds, Name}
+use Rattle.rules.specs.declared.Refusal.the-variants.{NoConnection, NoRoom, ClockBack, Oversize, Short, AlreadyOpen, NotOpen, BadMicros, BadName}
 use Rattle.rules.specs.declared.Framing.{Framing}
 use Rattle.rules.specs.declared.Framing.the-variants.{Framed, Unframed}
 use Rattle.rules.specs.Units.{timeOf, badMicros, fromMicros}
 use Rattle.rules.specs.Bytes.{messageID, messageSize, oversize, dataOf, hasZero, nameIn, written}
-use Rattle.rules.specs.State.{Splicer, closed, opened, linkOf, isOpen, withLink, withQueue, withClock}
+use Rattle.rules.specs.State.{Splicer, linkOf, isOpen, withLink, withQueue, withClock}
 use Rattle.rules.specs.Records.{Record, output}
 use Rattle.rules.specs.Ends.{closedBy}
 use Rattle.rules.specs.Answers.{answer}
@@ -18,15 +19,15 @@ use Rattle.rules.specs.Instants.{runAll}
 
 -- the table of house numbers
 unfoldable pub houseNumber : Refusal → ℕ
-houseNumber Connection = 1
-houseNumber Buffer = 2
-houseNumber Clock = 3
+houseNumber NoConnection = 1
+houseNumber NoRoom = 2
+houseNumber ClockBack = 3
 houseNumber Oversize = 4
 houseNumber Short = 5
 houseNumber AlreadyOpen = 6
 houseNumber NotOpen = 7
-houseNumber MicroSeconds = 8
-houseNumber Name = 9
+houseNumber BadMicros = 8
+houseNumber BadName = 9
 
 -- "A good call returns the bytes written, and message also the bytes consumed." "A refusal returns its number, writes nothing,
 -- consumes nothing"
@@ -81,29 +82,29 @@ named name =
     record {
       name = name;
       clock = 0;
-      links = closed ∷ closed ∷ closed ∷ closed ∷ [];
+      links = Closed ∷ Closed ∷ Closed ∷ Closed ∷ [];
       queue = record { waiting = []; started = [] };
     }
 
 -- "9: name without a zero byte." "A refused fresh gives, with number 9, the splicer of an empty name."
 unfoldable pub fresh : List ℕ → Called
-fresh name = cond (hasZero name) (does 0 [] (named (nameIn name))) (refuse Name (named []))
+fresh name = cond (hasZero name) (does 0 [] (named (nameIn name))) (refuse BadName (named []))
 
 -- "Order: open 1, 6". "Opening leaves the connection not initialised."
 unfoldable pub openCall : ℕ → Splicer → Called
 openCall c s =
-    cond (noConnection c) (refuse Connection s)
+    cond (noConnection c) (refuse NoConnection s)
     (cond (isOpen (linkOf c s)) (refuse AlreadyOpen s)
-    (does 0 [] (withLink c opened s)))
+    (does 0 [] (withLink c Opened s)))
 
 -- "close 1, 2, 7"
 unfoldable pub closeCall : ℕ → ℕ → Splicer → Called
 closeCall c room s =
     let t = closedBy c (s .queue) in
-    cond (noConnection c) (refuse Connection s)
-    (cond (noRoom room) (refuse Buffer s)
+    cond (noConnection c) (refuse NoConnection s)
+    (cond (noRoom room) (refuse NoRoom s)
     (cond (notOpen c s) (refuse NotOpen s)
-    (does 0 (t .written) (withLink c closed (withQueue (t .queue) s)))))
+    (does 0 (t .written) (withLink c Closed (withQueue (t .queue) s)))))
 
 -- "5 (header), 4, 5 (body)"; l: the bytes read so far
 unfoldable pub framing : List ℕ → Framing
@@ -119,11 +120,18 @@ handled c (Framed id size) l s =
     let a = answer c id (dataOf size l) s in
     does (8 + size) (a .written) (a .splicer)
 
+-- what a message call is lent; room: the length of its output buffer
+pub record Loans : Type 0 where
+  pub room : ℕ
+
+abbrev pub lending : ℕ → Loans
+lending room = record { room = room }
+
 -- "message 1, 2, 7", then as above
-unfoldable pub messageCall : ℕ → List ℕ → ℕ → Splicer → Called
-messageCall c l room s =
-    cond (noConnection c) (refuse Connection s)
-    (cond (noRoom room) (refuse Buffer s)
+unfoldable pub messageCall : ℕ → List ℕ → Loans → Splicer → Called
+messageCall c l loans s =
+    cond (noConnection c) (refuse NoConnection s)
+    (cond (noRoom (loans .room)) (refuse NoRoom s)
     (cond (notOpen c s) (refuse NotOpen s)
     (handled c (framing l) l s)))
 
@@ -133,28 +141,35 @@ ticked until s =
     let t = runAll (s .clock) until (s .queue) in
     does 0 (t .written) (withClock until (withQueue (t .queue) s))
 
--- "tick 2, 8, 3". "A tick to the present time is good and writes nothing."
-unfoldable pub tickCall : ℕ → ℕ → ℕ → Splicer → Called
+-- a tick whose time is in ninths: 2, 3. "A tick to the present time is good and writes nothing."
+unfoldable pub moveCall : (until room : ℕ) → Splicer → Called
+moveCall until room s =
+    cond (noRoom room) (refuse NoRoom s)
+    (cond (ltb until (s .clock)) (refuse ClockBack s)
+    (ticked until s))
+
+-- "tick 2, 8, 3"
+unfoldable pub tickCall : (seconds micros room : ℕ) → Splicer → Called
 tickCall seconds micros room s =
-    let until = fromMicros (timeOf seconds micros) .0 in
-    cond (noRoom room) (refuse Buffer s)
-    (cond (badMicros micros) (refuse MicroSeconds s)
-    (cond (ltb until (s .clock)) (refuse Clock s)
-    (ticked until s)))
+    cond (noRoom room) (refuse NoRoom s)
+    (cond (badMicros micros) (refuse BadMicros s)
+    (moveCall (fromMicros (timeOf seconds micros) .0) room s))
 
 -- ## Sequences of calls: "A splicer is what fresh and the calls since have given"
 
 pub data Call : Type 0 where
   opens : (conn : ℕ) → Call
   closes : (conn room : ℕ) → Call
-  messages : (conn : ℕ) (l : List ℕ) (room : ℕ) → Call
+  messages : (conn : ℕ) (l : List ℕ) (loans : Loans) → Call
   ticks : (seconds micros room : ℕ) → Call
+  moves : (until room : ℕ) → Call
 
 unfoldable pub call : Call → Splicer → Called
 call (opens c) s = openCall c s
 call (closes c room) s = closeCall c room s
-call (messages c l room) s = messageCall c l room s
+call (messages c l loans) s = messageCall c l loans s
 call (ticks seconds micros room) s = tickCall seconds micros room s
+call (moves until room) s = moveCall until room s
 
 unfoldable pub after : List Call → Splicer → Splicer
 after [] s = s

@@ -5,6 +5,8 @@ use Prim.Native.Nat.{ℕ, zero, suc}
 use lib.Dec.{ltb}
 use lib.ListN.{length, getD}
 use Rattle.rules.specs.declared.Session.{Session}
+use Rattle.rules.specs.declared.Ending.{Ending}
+use Rattle.rules.specs.declared.Ending.the-variants.{Complete, Failed, Response}
 use Rattle.rules.specs.Units.{toTicks}
 use Rattle.rules.specs.Lists.{put, keep, omit, place, removeAt}
 use Rattle.rules.specs.State.{Queue, empty, of, is, follows, startsAt, withWaiting}
@@ -25,25 +27,20 @@ andThen t f = record { queue = f (t .queue) .queue; written = t .written ++ f (t
 abbrev pub writes : List Record → Queue → Turn
 writes rs q = record { queue = q; written = rs }
 
--- ## The records of a session
+-- ## The end of a session
 
--- its Splice_Response
-abbrev pub response : ℕ → Session → Record
-response r s = SpliceResponse (s .conn) r (s .id)
-
--- its start or failure: "SpliceComplete flag 0, result .., PlayedDuration 0"
-abbrev pub spliceIn : ℕ → Session → Record
-spliceIn r s = SpliceComplete (s .conn) r (s .id) 0 0
-
--- its end: SpliceComplete flag 1. "PlayedDuration is time on air only, summed in ninths, divided by 100, rounded down."
-abbrev pub spliceOut : ℕ → Session → Record
-spliceOut r s = SpliceComplete (s .conn) r (s .id) 1 (toTicks (s .played) .0)
+-- "A session's end is its SpliceComplete with flag 1, or its SpliceComplete with flag 0 and 109, or a Splice_Response 109 (evicted, or its
+-- prior ended so or failed) or 116". "PlayedDuration is time on air only, summed in ninths, divided by 100, rounded down."
+abbrev pub ended : Ending → Session → Record
+ended (Complete r) s = SpliceComplete (s .conn) r (s .id) 1 (toTicks (s .played) .0)
+ended Failed s = SpliceComplete (s .conn) 109 (s .id) 0 0
+ended (Response r) s = SpliceResponse (s .conn) r (s .id)
 
 -- the ends of those of the started ones that pass p, from the highest AccessType down, each by what it was:
 -- air for the one on air, cover for the covered
-unfoldable pub endings : (air cover : Session → Record) → (Session → Bool) → List Session → List Record
+unfoldable pub endings : (air cover : Ending) → (Session → Bool) → List Session → List Record
 endings air cover p [] = []
-endings air cover p (s ∷ k) = put (p s) (air s) (map cover (keep p k))
+endings air cover p (s ∷ k) = put (p s) (ended air s) (map (ended cover) (keep p k))
 
 -- ## Followers
 
@@ -69,7 +66,7 @@ followers c x w = walk (length w) c x w
 unfoldable pub dismissed : (result conn id : ℕ) → Queue → Turn
 dismissed r c x q =
     let f = followers c x (q .waiting) in
-    record { queue = withWaiting (f .left) q; written = map (response r) (f .gone) }
+    record { queue = withWaiting (f .left) q; written = map (ended (Response r)) (f .gone) }
 
 -- ## Eviction
 
@@ -77,7 +74,7 @@ dismissed r c x q =
 unfoldable pub evictedAt : ℕ → Queue → Turn
 evictedAt i q =
     let s = getD (q .waiting) i empty in
-    andThen (writes (response 109 s ∷ []) (withWaiting (removeAt i (q .waiting)) q)) (dismissed 109 (s .conn) (s .id))
+    andThen (writes (ended (Response 109) s ∷ []) (withWaiting (removeAt i (q .waiting)) q)) (dismissed 109 (s .conn) (s .id))
 
 -- "A waiting session with the same start, then lower, is evicted first: it and its waiting followers end (109)"
 unfoldable pub evicted : ℕ → Queue → Turn
@@ -94,7 +91,7 @@ unfoldable pub cancelled : (Session → Bool) → Queue → Turn
 cancelled p q =
     record {
       queue = record { waiting = omit p (q .waiting); started = omit p (q .started) };
-      written = endings (spliceOut 116) (response 116) p (q .started) ++ map (response 116) (keep p (q .waiting));
+      written = endings (Complete 116) (Response 116) p (q .started) ++ map (ended (Response 116)) (keep p (q .waiting));
     }
 
 -- "the session's end and after it its followers' ends"

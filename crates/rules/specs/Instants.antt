@@ -2,12 +2,16 @@
 use mathlib.Core.Bool.{Bool, true, cond, _&&_}
 use mathlib.Core.List.{List, [], _∷_}
 use Prim.Native.Nat.{ℕ, zero, suc, _+_, _-_}
-use lib.Dec.{eqb, leb, ltb}
+use lib.Dec.{eqb, ltb}
 use lib.ListN.{length, getD}
+use Rattle.rules.specs.declared.When.{When}
+use Rattle.rules.specs.declared.When.the-variants.{At, Never}
 use Rattle.rules.specs.declared.Session.{Session}
+use Rattle.rules.specs.declared.Ending.the-variants.{Complete, Failed}
 use Rattle.rules.specs.Lists.{omit, place, removeAt}
-use Rattle.rules.specs.State.{Queue, empty, startsAt, endsAt, due, toCome, withWaiting, withStarted}
-use Rattle.rules.specs.Ends.{Turn, quiet, andThen, writes, spliceIn, spliceOut, endings, dismissed}
+use Rattle.rules.specs.State.{Queue, empty, startsAt, endsAt, due, notAfter, toCome, withWaiting, withStarted}
+use Rattle.rules.specs.Records.{Record, SpliceComplete}
+use Rattle.rules.specs.Ends.{Turn, quiet, andThen, writes, ended, endings, dismissed}
 
 -- a new session outranks an old one: the one place where equal AccessTypes are decided
 abbrev pub outranks : Session → Session → Bool
@@ -16,14 +20,22 @@ outranks new old = ltb (old .access) (new .access)
 -- "with nothing on air, or with OverridePlaying 1 and AccessType higher than the one on air"
 unfoldable pub mayStart : Session → List Session → Bool
 mayStart s [] = true
-mayStart s (air ∷ k) = eqb (s .over) 1 && outranks s air
+mayStart s (air ∷ k) = eqb (s .overrides) 1 && outranks s air
 
--- s, which no longer waits, goes on air (the one on air becomes covered), or fails, and its waiting followers end
+-- "write SpliceComplete flag 0, result 100, PlayedDuration 0, and go on air"
+abbrev pub began : Session → Record
+began s = SpliceComplete (s .conn) 100 (s .id) 0 0
+
+-- "Otherwise it fails: SpliceComplete flag 0, result 109, PlayedDuration 0, and its waiting followers end."
+abbrev pub failed : Session → Queue → Turn
+failed s q = andThen (writes (ended Failed s ∷ []) q) (dismissed 109 (s .conn) (s .id))
+
+-- s, which no longer waits, goes on air (the one on air becomes covered), or fails
 unfoldable pub launched : Session → Queue → Turn
 launched s q =
     cond (mayStart s (q .started))
-    (writes (spliceIn 100 s ∷ []) (withStarted (s ∷ q .started) q))
-    (andThen (writes (spliceIn 109 s ∷ []) q) (dismissed 109 (s .conn) (s .id)))
+    (writes (began s ∷ []) (withStarted (s ∷ q .started) q))
+    (failed s q)
 
 -- "the one possible start"
 unfoldable pub startAt : ℕ → Queue → Turn
@@ -37,7 +49,7 @@ unfoldable pub endAt : ℕ → Queue → Turn
 endAt t q =
     record {
       queue = withStarted (omit (endsAt t) (q .started)) q;
-      written = endings (spliceOut 100) (spliceOut 125) (endsAt t) (q .started);
+      written = endings (Complete 100) (Complete 125) (endsAt t) (q .started);
     }
 
 -- "At one instant, ends come first, from the highest AccessType down, then the one possible start."
@@ -54,7 +66,7 @@ playing d s =
       start = s .start;
       end = s .end;
       access = s .access;
-      over = s .over;
+      overrides = s .overrides;
       played = record { 0 = s .played .0 + d };
     }
 
@@ -65,13 +77,17 @@ onAir d (s ∷ k) = playing d s ∷ k
 unfoldable pub elapse : ℕ → Queue → Queue
 elapse d q = withStarted (onAir d (q .started)) q
 
+-- f of the next instant, or x where there is none
+abbrev pub onwards : (ℕ → Turn) → Turn → When → Turn
+onwards f x (At t) = f (t .0)
+onwards f x Never = x
+
 -- "A tick works through every start and end not later than its time, in order of time": from the time now to until, n instants at most
 unfoldable pub run : ℕ → ℕ → ℕ → Queue → Turn
 run zero now until q = quiet (elapse (until - now) q)
 run (suc n) now until q =
-    let t = due (suc until) q in
-    let on : Turn = andThen (instant t (elapse (t - now) q)) (run n t until) in
-    cond (leb t until) on (quiet (elapse (until - now) q))
+    let on : ℕ → Turn = λ t. andThen (instant t (elapse (t - now) q)) (run n t until) in
+    onwards on (quiet (elapse (until - now) q)) (notAfter until (due q))
 
 -- each instant leaves fewer starts and ends to come, so this is never cut short
 unfoldable pub runAll : ℕ → ℕ → Queue → Turn

@@ -2,6 +2,7 @@ pub mod Lists
 pub mod Units
 pub mod Bytes
 pub mod Reading
+pub mod Asked
 pub mod State
 pub mod Records
 pub mod Ends
@@ -9,7 +10,4 @@ pub mod Instants
 pub mod Answers
 pub mod Calls
 pub mod Card
-pub mod History
-pub mod Rehearsed
-pub mod Worked
 pub mod Sound

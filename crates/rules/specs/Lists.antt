@@ -1,7 +1,7 @@
 -- The few functions on lists and bytes that the rules are written with. Assumes nothing.
 use mathlib.Core.Bool.{Bool, true, false, cond, not, _&&_, _||_}
 use mathlib.Core.List.{List, [], _∷_, _++_}
-use Prim.Native.Nat.{ℕ, suc, _+_, min}
+use Prim.Native.Nat.{ℕ, suc, _+_}
 use lib.Dec.{eqb}
 use lib.ListN.{take, drop}
 
@@ -46,11 +46,6 @@ module _ {A : Type 0} where
   -- l without its place i
   unfoldable pub removeAt : ℕ → List A → List A
   removeAt i l = take i l ++ drop (suc i) l
-
-  -- the least of f over l, or none
-  abbrev pub least : ℕ → (A → ℕ) → List A → ℕ
-  least none f [] = none
-  least none f (x ∷ l) = min (f x) (least none f l)
 
 -- P holds of each of l
 module _ {A : Type 0} where

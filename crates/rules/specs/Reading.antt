@@ -10,7 +10,7 @@ use Rattle.rules.specs.declared.Request.{Request}
 use Rattle.rules.specs.declared.Message.{Message}
 use Rattle.rules.specs.declared.Message.the-variants.{Init, Alive, Splice, Abort, Unreadable}
 use Rattle.rules.specs.Units.{timeOf, badMicros}
-use Rattle.rules.specs.Bytes.{part, field, hasZero}
+use Rattle.rules.specs.Bytes.{messageID, messageSize, dataOf, part, field, hasZero}
 
 -- 0xFFFFFFFF: no number of a session; as a PriorSession it says that the request is timed
 abbrev pub nobody : ℕ
@@ -120,7 +120,7 @@ badSplice d =
 -- "With ServiceID 0xFFFF only the first 18 bytes are read."
 abbrev pub separatePids : List ℕ → Request
 separatePids d =
-    record { id = sessionID d; start = readStart d; service = separateService; duration = record { 0 = 0 }; access = 0; over = 0 }
+    record { id = sessionID d; start = readStart d; service = separateService; duration = record { 0 = 0 }; access = 0; overrides = 0 }
 
 abbrev pub wholeRequest : List ℕ → Request
 wholeRequest d =
@@ -130,7 +130,7 @@ wholeRequest d =
       service = serviceID d;
       duration = record { 0 = duration d };
       access = accessType d;
-      over = overridePlaying d;
+      overrides = overridePlaying d;
     }
 
 unfoldable pub readSplice : List ℕ → Message
@@ -150,3 +150,11 @@ read id d =
     (cond (eqb id aliveRequest) (readAlive d)
     (cond (eqb id spliceRequest) (readSplice d)
     (cond (eqb id abortRequest) (readAbort d) Unreadable)))
+
+-- the data of the message that l begins with
+abbrev pub dataIn : List ℕ → List ℕ
+dataIn l = dataOf (messageSize l) l
+
+-- the message that l begins with is a Splice_Request
+abbrev pub isSplice : List ℕ → Bool
+isSplice l = eqb (messageID l) spliceRequest

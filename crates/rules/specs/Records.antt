@@ -1,9 +1,10 @@
 -- 01, Bytes: what is written, each record's bytes with its mark, and the records that such bytes hold.
 use mathlib.Core.Bool.{cond}
 use mathlib.Core.List.{List, [], _∷_, _++_}
-use Prim.Native.Nat.{ℕ, zero, suc, _+_, _*_, _/_, _%_}
+use Prim.Native.Nat.{ℕ, zero, suc, _+_, _/_, _%_}
 use lib.Dec.{eqb}
 use lib.ListN.{length, drop}
+use Rattle.rules.specs.Units.{second, timeOf}
 use Rattle.rules.specs.Bytes.{bytes, field, part, padded, nameIn}
 
 -- an outgoing message: the connection it is for, its result, and its data
@@ -21,7 +22,7 @@ framed c id r d = 0x52 ∷ (bytes 1 c ++ (bytes 2 id ++ (bytes 2 (length d) ++ (
 
 -- a wire time: Seconds 4, MicroSeconds 4
 abbrev pub timeBytes : ℕ → List ℕ
-timeBytes t = bytes 4 (t / 1000000) ++ bytes 4 (t % 1000000)
+timeBytes t = bytes 4 (t / second) ++ bytes 4 (t % second)
 
 -- Init_Response 0x0002: Revision_Num 2 bytes (value 2), configured ChannelName 32. Alive_Response 0x0006: State 4, SessionID 4, time 8.
 -- Splice_Response 0x0008, Abort_Response 0x000F: SessionID 4. General_Response 0x0000: no data.
@@ -48,7 +49,7 @@ recordIn l =
     let id = field 2 2 l in
     let r = field 6 2 l in
     cond (eqb id 0x0002) (InitResponse c r (nameIn (part 12 32 l)))
-    (cond (eqb id 0x0006) (AliveResponse c r (field 10 4 l) (field 14 4 l) (field 18 4 l * 1000000 + field 22 4 l))
+    (cond (eqb id 0x0006) (AliveResponse c r (field 10 4 l) (field 14 4 l) (timeOf (field 18 4 l) (field 22 4 l) .0))
     (cond (eqb id 0x0008) (SpliceResponse c r (field 10 4 l))
     (cond (eqb id 0x0009) (SpliceComplete c r (field 10 4 l) (field 14 1 l) (field 19 4 l))
     (cond (eqb id 0x000F) (AbortResponse c r (field 10 4 l)) (General c r)))))

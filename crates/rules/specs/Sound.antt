@@ -11,7 +11,7 @@ use Rattle.rules.specs.Bytes.{Byte, NoZero}
 use Rattle.rules.specs.Reading.{nobody}
 use Rattle.rules.specs.State.{Queue, Splicer, of, is, Sorted, linkOf, isOpen}
 use Rattle.rules.specs.Answers.{waits, raisedSum}
-use Rattle.rules.specs.Calls.{fresh, Call, opens, closes, messages, ticks, after}
+use Rattle.rules.specs.Calls.{fresh, Call, opens, closes, messages, ticks, moves, after}
 
 -- ## The sessions held at a time: the clock, or an instant of a tick
 
@@ -56,7 +56,7 @@ pub record Proper (s : Session) : Type 0 where
   pub conn : s .conn ≤ 3
   pub somebody : eqb (s .id) nobody ≡ false
   pub access : s .access ≤ 9
-  pub over : s .over ≤ 1
+  pub overrides : s .overrides ≤ 1
   pub lasts : s .start .0 < s .end .0
 
 -- the clock and a timed start stay below this: Seconds are four bytes
@@ -109,12 +109,13 @@ pub record Sound (s : Splicer) : Type 0 where
 
 -- ## "A splicer is what fresh and the calls since have given; a call may rely on that and on nothing else."
 
--- a call whose bytes are bytes and whose Seconds are four of them
+-- a call whose bytes are bytes and whose Seconds are four of them, or whose time in ninths is below all that those have
 abbrev pub Wired : Call → Type 0
 Wired (opens c) = Unit {0}
 Wired (closes c room) = Unit {0}
-Wired (messages c l room) = All Byte l
+Wired (messages c l loans) = All Byte l
 Wired (ticks seconds micros room) = seconds < 4294967296
+Wired (moves until room) = until < horizon
 
 pub record Reached (s : Splicer) : Type 0 where
   pub name : List ℕ

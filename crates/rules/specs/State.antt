@@ -1,20 +1,22 @@
 -- The splicer as plain lists and numbers: the sessions held, the connections, the clock (in ninths) and the ChannelName.
-use mathlib.Core.Bool.{Bool, true, false, _&&_}
+use mathlib.Core.Bool.{Bool, true, false, cond, _&&_}
 use mathlib.Core.List.{List, [], _∷_, _++_}
 use Prim.Native.Nat.{ℕ, _+_, _*_, _<_}
-use lib.Dec.{eqb, ltb}
+use lib.Dec.{eqb, leb, ltb}
 use lib.ListN.{length, getD, set}
+use Rattle.rules.specs.declared.Ninths.{Ninths}
+use Rattle.rules.specs.declared.When.{When}
+use Rattle.rules.specs.declared.When.the-variants.{At, Never}
 use Rattle.rules.specs.declared.Session.{Session}
-use Rattle.rules.specs.Lists.{All, some, least}
+use Rattle.rules.specs.declared.Link.{Link}
+use Rattle.rules.specs.declared.Link.the-variants.{Closed, Opened, Initialised}
+use Rattle.rules.specs.Lists.{All, some}
 
 -- waiting: in order of start, the next first.
 -- started: from the highest AccessType down: the first is on air, the others are covered.
 pub record Queue : Type 0 where
   pub waiting : List Session
   pub started : List Session
-
-pub data Link : Type 0 where
-  closed opened initialised : Link
 
 -- name: the configured ChannelName, up to its first zero. links: of connections 0 to 3
 pub record Splicer : Type 0 where
@@ -35,7 +37,7 @@ empty =
       start = record { 0 = 0 };
       end = record { 0 = 0 };
       access = 0;
-      over = 0;
+      overrides = 0;
       played = record { 0 = 0 };
     }
 
@@ -43,13 +45,17 @@ empty =
 abbrev pub of : ℕ → Session → Bool
 of c s = eqb c (s .conn)
 
+-- connection c's number x and connection c′'s number x′ are one
+abbrev pub sameNumber : (c x c′ x′ : ℕ) → Bool
+sameNumber c x c′ x′ = eqb c c′ && eqb x x′
+
 -- s is connection c's number x
 abbrev pub is : ℕ → ℕ → Session → Bool
-is c x s = eqb c (s .conn) && eqb x (s .id)
+is c x s = sameNumber c x (s .conn) (s .id)
 
 -- s was requested behind connection c's number x
 abbrev pub follows : ℕ → ℕ → Session → Bool
-follows c x s = eqb c (s .conn) && eqb x (s .prior)
+follows c x s = sameNumber c x (s .conn) (s .prior)
 
 abbrev pub startsAt : ℕ → Session → Bool
 startsAt t s = eqb t (s .start .0)
@@ -67,9 +73,27 @@ held q = q .waiting ++ q .started
 abbrev pub holds : ℕ → ℕ → Queue → Bool
 holds c x q = some (is c x) (held q)
 
--- the next start or end, or `none`
-unfoldable pub due : ℕ → Queue → ℕ
-due none q = least (least none (λ s. s .end .0) (q .started)) (λ s. s .start .0) (q .waiting)
+-- ## The next start or end
+
+-- the sooner of two instants
+abbrev pub sooner : When → When → When
+sooner Never u = u
+sooner (At t) Never = At t
+sooner (At t) (At u) = cond (leb (t .0) (u .0)) (At t) (At u)
+
+-- the earliest start, or end, of l
+abbrev pub earliest : (Session → Ninths) → List Session → When
+earliest f [] = Never
+earliest f (s ∷ l) = sooner (At (f s)) (earliest f l)
+
+-- the next start or end
+unfoldable pub due : Queue → When
+due q = sooner (earliest (λ s. s .end) (q .started)) (earliest (λ s. s .start) (q .waiting))
+
+-- t, if it is "not later than" the time until
+abbrev pub notAfter : ℕ → When → When
+notAfter until Never = Never
+notAfter until (At t) = cond (ltb until (t .0)) Never (At t)
 
 -- the starts and ends that are still to come
 abbrev pub toCome : Queue → ℕ
@@ -83,17 +107,17 @@ Sorted (s ∷ w) = All (λ u. s .start .0 < u .start .0) w × Sorted w
 -- ## Connections
 
 abbrev pub linkOf : ℕ → Splicer → Link
-linkOf c s = getD (s .links) c closed
+linkOf c s = getD (s .links) c Closed
 
 abbrev pub isOpen : Link → Bool
-isOpen closed = false
-isOpen opened = true
-isOpen initialised = true
+isOpen Closed = false
+isOpen Opened = true
+isOpen Initialised = true
 
 abbrev pub isInitialised : Link → Bool
-isInitialised closed = false
-isInitialised opened = false
-isInitialised initialised = true
+isInitialised Closed = false
+isInitialised Opened = false
+isInitialised Initialised = true
 
 -- ## The state with one part made anew
 

@@ -7,9 +7,13 @@ use Rattle.rules.specs.declared.Micros.{Micros}
 use Rattle.rules.specs.declared.Ticks.{Ticks}
 use Rattle.rules.specs.declared.Ninths.{Ninths}
 
+-- microseconds of a second
+abbrev pub second : ℕ
+second = 1000000
+
 -- the time that Seconds and MicroSeconds of the wire give
 abbrev pub timeOf : ℕ → ℕ → Micros
-timeOf seconds micros = record { 0 = seconds * 1000000 + micros }
+timeOf seconds micros = record { 0 = seconds * second + micros }
 
 -- a time of the wire has at most 999,999 MicroSeconds
 abbrev pub badMicros : ℕ → Bool

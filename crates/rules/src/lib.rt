@@ -1,4 +1,4 @@
-// The types that code and definitions share: units, a parsed message, a session, a refusal.
+// The types that code and definitions share: units, a parsed message, a session and its end, a refusal.
 // The rules of document 01 stand in specs/; this file only declares what they speak of.
 
 // A wire time counts microseconds.
@@ -9,6 +9,12 @@ pub struct Ticks(pub u32);
 
 // The clock and all instants are kept in ninths of a microsecond.
 pub struct Ninths(pub u64);
+
+// An instant, or none.
+pub enum When {
+    At(Ninths),
+    Never,
+}
 
 // A Splice_Request's start is either timed or linked (by the PriorSession).
 pub enum Start {
@@ -23,7 +29,7 @@ pub struct Request {
     pub service: u16,
     pub duration: Ticks,
     pub access: u8,
-    pub over: u8,
+    pub overrides: u8,
 }
 
 // A parsed message is one of its kinds. Init holds the Revision_Num; its names stay in the message's data.
@@ -44,21 +50,36 @@ pub struct Session {
     pub start: Ninths,
     pub end: Ninths,
     pub access: u64,
-    pub over: u64,
+    pub overrides: u64,
     pub played: Ninths,
+}
+
+// How a session ends: by a SpliceComplete with flag 1 and a result, by a SpliceComplete with flag 0 and 109 (its start
+// failed), or by a Splice_Response with a result.
+pub enum Ending {
+    Complete(u16),
+    Failed,
+    Response(u16),
+}
+
+// What a connection is.
+pub enum Link {
+    Closed,
+    Opened,
+    Initialised,
 }
 
 // The refusals of document 01's table; `houseNumber` of specs/Calls gives each its number.
 pub enum Refusal {
-    Connection,
-    Buffer,
-    Clock,
+    NoConnection,
+    NoRoom,
+    ClockBack,
     Oversize,
     Short,
     AlreadyOpen,
     NotOpen,
-    MicroSeconds,
-    Name,
+    BadMicros,
+    BadName,
 }
 
 // The first message of what was read: its MessageID and MessageSize, or the refusal that it gets.

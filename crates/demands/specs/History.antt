@@ -4,51 +4,42 @@ use mathlib.Core.List.{List, [], _∷_}
 use Prim.Native.Nat.{ℕ, _+_}
 use lib.Dec.{eqb}
 use lib.ListN.{length}
 use Rattle.rules.specs.declared.Refusal.{Refusal}
 use Rattle.rules.specs.declared.Start.{Start}
 use Rattle.rules.specs.declared.Start.the-variants.{Timed, Linked}
 use Rattle.rules.specs.declared.Message.{Message}
 use Rattle.rules.specs.declared.Message.the-variants.{Init, Alive, Splice, Abort, Unreadable}
 use Rattle.rules.specs.Units.{timeOf, fromMicros, fromTicks}
 use Rattle.rules.specs.Lists.{put, keep, count}
-use Rattle.rules.specs.Bytes.{messageID, messageSize, dataOf}
-use Rattle.rules.specs.Reading.{spliceRequest, sessionID, readSplice}
-use Rattle.rules.specs.State.{Splicer}
+use Rattle.rules.specs.Reading.{sessionID, readSplice, dataIn, isSplice}
+use Rattle.rules.specs.State.{Splicer, sameNumber}
 use Rattle.rules.specs.Records.{Record, General, InitResponse, AliveResponse, SpliceResponse, SpliceComplete, AbortResponse, recordsIn}
-use Rattle.rules.specs.Calls.{Answer, refused, good, Call, opens, closes, messages, ticks, call, writtenBy}
+use Rattle.rules.specs.Calls.{Answer, refused, good, Call, opens, closes, messages, ticks, moves, call, writtenBy}
 
 -- ## Starts and ends among records
 
-abbrev pub both : ℕ → ℕ → ℕ → ℕ → Bool
-both c x c′ x′ = eqb c c′ && eqb x x′
+-- a SpliceComplete or a Splice_Response of number x of connection c, by a test of its result and flag, or of its result; no other record
+-- tells of a session's course
+abbrev pub tells : (completes : ℕ → ℕ → Bool) → (responds : ℕ → Bool) → ℕ → ℕ → Record → Bool
+tells completes responds c x (General c′ r) = false
+tells completes responds c x (InitResponse c′ r n) = false
+tells completes responds c x (AliveResponse c′ r a y t) = false
+tells completes responds c x (SpliceResponse c′ r y) = responds r && sameNumber c x c′ y
+tells completes responds c x (SpliceComplete c′ r y f d) = completes r f && sameNumber c x c′ y
+tells completes responds c x (AbortResponse c′ r y) = false
 
 -- the start of number x of connection c: SpliceComplete flag 0, result 100
 unfoldable pub isStart : ℕ → ℕ → Record → Bool
-isStart c x (General c′ r) = false
-isStart c x (InitResponse c′ r n) = false
-isStart c x (AliveResponse c′ r a y t) = false
-isStart c x (SpliceResponse c′ r y) = false
-isStart c x (SpliceComplete c′ r y f d) = (eqb f 0 && eqb r 100) && both c x c′ y
-isStart c x (AbortResponse c′ r y) = false
+isStart c x r = tells (λ n flag. eqb flag 0 && eqb n 100) (λ n. false) c x r
 
 -- "A session's end is its SpliceComplete with flag 1, or its SpliceComplete with flag 0 and 109, or a Splice_Response 109
--- (evicted, or its prior ended so or failed) or 116 that isn't a Splice_Request's own answer."
+-- (evicted, or its prior ended so or failed) or 116"; "that isn't a Splice_Request's own answer": see `othersOf`
 unfoldable pub isEnd : ℕ → ℕ → Record → Bool
-isEnd c x (General c′ r) = false
-isEnd c x (InitResponse c′ r n) = false
-isEnd c x (AliveResponse c′ r a y t) = false
-isEnd c x (SpliceResponse c′ r y) = (eqb r 109 || eqb r 116) && both c x c′ y
-isEnd c x (SpliceComplete c′ r y f d) = (eqb f 1 || (eqb f 0 && eqb r 109)) && both c x c′ y
-isEnd c x (AbortResponse c′ r y) = false
+isEnd c x r = tells (λ n flag. eqb flag 1 || (eqb flag 0 && eqb n 109)) (λ n. eqb n 109 || eqb n 116) c x r
 
 -- the Splice_Response 100 to number x of connection c
 unfoldable pub isYes : ℕ → ℕ → Record → Bool
-isYes c x (General c′ r) = false
-isYes c x (InitResponse c′ r n) = false
-isYes c x (AliveResponse c′ r a y t) = false
-isYes c x (SpliceResponse c′ r y) = eqb r 100 && both c x c′ y
-isYes c x (SpliceComplete c′ r y f d) = false
-isYes c x (AbortResponse c′ r y) = false
+isYes c x r = tells (λ n flag. false) (λ n. eqb n 100) c x r
 
 abbrev pub startsOf : ℕ → ℕ → List Record → ℕ
 startsOf c x rs = count (isStart c x) rs
@@ -94,25 +85,24 @@ module _ {A : Type 0} where
   last p (x ∷ []) = p x
   last p (x ∷ y ∷ l) = last p (y ∷ l)
 
--- the data of the message that l begins with
-abbrev pub dataIn : List ℕ → List ℕ
-dataIn l = dataOf (messageSize l) l
+-- A Splice_Request's own answer is the last record of its call. The others of a message l's call:
+abbrev pub othersIn : List ℕ → List Record → List Record
+othersIn l rs = cond (isSplice l) (front rs) rs
 
-abbrev pub isSplice : List ℕ → Bool
-isSplice l = eqb (messageID l) spliceRequest
+-- the message l of connection d is a Splice_Request, and its own answer is 100
+abbrev pub grantedIn : ℕ → List ℕ → List Record → Bool
+grantedIn d l rs = isSplice l && last (isYes d (sessionID (dataIn l))) rs
 
--- the numbers of c that wait after a message l of connection d, if those of w did before. A Splice_Request's own answer is
--- the last record of its call
+-- the numbers of c that wait after a message l of connection d, if those of w did before
 unfoldable pub waitAnswered : ℕ → ℕ → List ℕ → List Record → List ℕ → List ℕ
-waitAnswered c d l rs w =
-    let x = sessionID (dataIn l) in
-    cond (isSplice l) (put (eqb c d && last (isYes d x) rs) x (keep (unmarked c (front rs)) w)) (keep (unmarked c rs) w)
+waitAnswered c d l rs w = put (grantedIn d l rs && eqb c d) (sessionID (dataIn l)) (keep (unmarked c (othersIn l rs)) w)
 
 unfoldable pub waitAfter : ℕ → Call → List Record → List ℕ → List ℕ
 waitAfter c (opens d) rs w = cond (eqb c d) [] w
 waitAfter c (closes d room) rs w = keep (unmarked c rs) w
-waitAfter c (messages d l room) rs w = waitAnswered c d l rs w
+waitAfter c (messages d l loans) rs w = waitAnswered c d l rs w
 waitAfter c (ticks seconds micros room) rs w = keep (unmarked c rs) w
+waitAfter c (moves until room) rs w = keep (unmarked c rs) w
 
 unfoldable pub waitReplied : ℕ → Call → Reply → List ℕ → List ℕ
 waitReplied c k (refusal n) w = w
@@ -137,7 +127,7 @@ pub record Entry : Type 0 where
   pub closed : Bool
 
 abbrev pub entryIs : ℕ → ℕ → Entry → Bool
-entryIs c x e = eqb c (e .conn) && eqb x (e .id)
+entryIs c x e = sameNumber c x (e .conn) (e .id)
 
 abbrev pub withEnds : List Record → Entry → Entry
 withEnds rs e =
@@ -170,10 +160,7 @@ unfoldable pub entryOf : ℕ → List ℕ → List Entry → Entry
 entryOf c d es = record { conn = c; id = sessionID d; end = endAsked c (readSplice d) es; ends = 0; closed = false }
 
 unfoldable pub bookAnswered : ℕ → List ℕ → List Record → List Entry → List Entry
-bookAnswered d l rs es =
-    cond (isSplice l)
-    (put (last (isYes d (sessionID (dataIn l))) rs) (entryOf d (dataIn l) es) (credited (front rs) es))
-    (credited rs es)
+bookAnswered d l rs es = put (grantedIn d l rs) (entryOf d (dataIn l) es) (credited (othersIn l rs) es)
 
 -- connection d has closed
 unfoldable pub shut : ℕ → List Entry → List Entry
@@ -184,8 +171,9 @@ shut d (e ∷ es) =
 unfoldable pub bookAfter : Call → List Record → List Entry → List Entry
 bookAfter (opens d) rs es = credited rs es
 bookAfter (closes d room) rs es = shut d (credited rs es)
-bookAfter (messages d l room) rs es = bookAnswered d l rs es
+bookAfter (messages d l loans) rs es = bookAnswered d l rs es
 bookAfter (ticks seconds micros room) rs es = credited rs es
+bookAfter (moves until room) rs es = credited rs es
 
 unfoldable pub bookReplied : Call → Reply → List Entry → List Entry
 bookReplied k (refusal n) es = es
@@ -202,8 +190,9 @@ unfoldable pub clockReplied : Call → Reply → ℕ → ℕ
 clockReplied k (refusal n) now = now
 clockReplied (opens c) (wrote l) now = now
 clockReplied (closes c room) (wrote l) now = now
-clockReplied (messages c m room) (wrote l) now = now
+clockReplied (messages c m loans) (wrote l) now = now
 clockReplied (ticks seconds micros room) (wrote l) now = fromMicros (timeOf seconds micros) .0
+clockReplied (moves until room) (wrote l) now = until
 
 unfoldable pub clockAfter : List Event → ℕ → ℕ
 clockAfter [] now = now

@@ -2,14 +2,14 @@
 use mathlib.Core.Path.{_≡_, refl, ap, _∙_}
 use mathlib.Core.List.{List, [], _∷_}
 use Prim.Native.Nat.{ℕ}
 use Rattle.rules.specs.State.{Splicer}
 use Rattle.rules.specs.Calls.{Answer, refused, good, Call, call, writtenBy}
-use Rattle.rules.specs.History.{Entry, replyOf, history, waitAfter, waitReplied, waitingTold, bookAfter, bookReplied, book}
+use Rattle.demands.specs.History.{Entry, replyOf, history, waitAfter, waitReplied, waitingTold, bookAfter, bookReplied, book}
 use Rattle.rules.proofs.All.{All}
 use Rattle.rules.proofs.Records.{Fits, read-back}
 use Rattle.rules.proofs.Always.{Wired}
 use Rattle.rules.proofs.Fitted.{recordsOf, call-fits}
 use Rattle.rules.proofs.Sound.{Sound, sound-call}
 
 -- the numbers of c that wait after a call with an answer, if those of w did before
 abbrev pub waitAnswer : ℕ → Call → Answer → List ℕ → List ℕ

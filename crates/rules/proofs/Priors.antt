@@ -1,4 +1,4 @@
--- Links: a waiting linked session's prior is held by its connection and ends at its start. So a session has at most one direct
+-- Priors: a waiting linked session's prior is held by its connection and ends at its start. So a session has at most one direct
 -- follower, a walk gives followers in order of start, and leaves none that follows what went. Assumes nothing.
 use mathlib.Core.Path.{_≡_, refl, ap, sym, _∙_}
 use mathlib.Core.Bool.{Bool, true, false, not, _&&_}

@@ -1,0 +1,157 @@
+-- What a call can do: what is shown of each of these cases holds of every call. Assumes nothing.
+-- The refusals and choices of the calls are walked here, once.
+use mathlib.Core.Path.{_≡_, refl}
+use mathlib.Core.Bool.{Bool, true, false, cond, not, _&&_}
+use mathlib.Core.List.{List, [], _∷_}
+use Prim.Native.Nat.{ℕ, _+_, _≤_, _<_}
+use native.Mathlib.Omega.{arith}
+use lib.Dec.{eqb, ltb}
+use lib.ListN.{length}
+use borrow.Author.Tests.{eqb-true, ltb-false, not-false}
+use Rattle.rules.specs.declared.Refusal.{Refusal}
+use Rattle.rules.specs.declared.Framing.{Framing}
+use Rattle.rules.specs.declared.Request.{Request}
+use Rattle.rules.specs.declared.Message.{Message}
+use Rattle.rules.specs.declared.Message.the-variants.{Splice}
+use Rattle.rules.specs.declared.Link.the-variants.{Closed, Opened, Initialised}
+use Rattle.rules.specs.Units.{timeOf, badMicros, fromMicros}
+use Rattle.rules.specs.Bytes.{messageID, messageSize, oversize, field, sameName}
+use Rattle.rules.specs.Reading.{initRequest, aliveRequest, spliceRequest, abortRequest, separateService, channelName, serviceID, sessionID, badInit, badSplice, separatePids, wholeRequest, readInit, readAlive, readAbort, readSplice, isRead, read, dataIn, isSplice}
+use Rattle.rules.specs.State.{Splicer, holds, linkOf, isOpen, isInitialised, withQueue, withLink}
+use Rattle.rules.specs.Records.{General, InitResponse, SpliceResponse, AbortResponse}
+use Rattle.rules.specs.Ends.{Turn, andThen, writes, aborted, closedBy}
+use Rattle.rules.specs.Answers.{Answered, says, turns, requested, separate, wrongNumber, tooLate, collides, full, firstOf, spliceResult, accepted, answerSplice, answerAbort, initResult, answerInit, aliveResponse, answerRead, answer}
+use Rattle.rules.specs.Calls.{Called, refuse, does, noConnection, noRoom, notOpen, openCall, closeCall, framing, handled, messageCall, ticked, moveCall, tickCall, Loans, Call, opens, closes, messages, ticks, moves, call}
+use Rattle.rules.proofs.Tests.{by}
+use Rattle.rules.proofs.Checks.{Passed, passed-all}
+
+-- a call that brings the clock to a time
+pub data Brings : Call → ℕ → Type 0 where
+  tick : (seconds micros room : ℕ) → micros ≤ 999999 → Brings (ticks seconds micros room) (fromMicros (timeOf seconds micros) .0)
+  move : (until room : ℕ) → Brings (moves until room) until
+
+-- what the answer to the message l of connection c can be; D: what is to be shown of an answer
+pub record Answering (c : ℕ) (l : List ℕ) (s : Splicer) (D : Answered → Type 0) : Type 0 where
+  pub silent : isSplice l ≡ false → D (says [] s)
+  pub general : (r : ℕ) → r < 65536 → D (says (General c r ∷ []) s)
+  pub naming : (r : ℕ) → r < 65536 → isSplice l ≡ false
+      → D (says (InitResponse c r (s .name) ∷ []) (cond (eqb r 100) (withLink c Initialised s) s))
+  pub alive : isSplice l ≡ false → D (says (aliveResponse c s ∷ []) s)
+  pub unknown : (x : ℕ) → isSplice l ≡ false → x ≡ sessionID (dataIn l) → D (says (AbortResponse c 121 x ∷ []) s)
+  pub aborting : (x : ℕ) → isSplice l ≡ false → x ≡ sessionID (dataIn l) → holds c x (s .queue) ≡ true
+      → D (turns (andThen (writes (AbortResponse c 100 x ∷ []) (s .queue)) (aborted c x)) s)
+  pub declining : (r : Request) (v : ℕ) → isSplice l ≡ true → readSplice (dataIn l) ≡ Splice r → v < 65536 → eqb v 100 ≡ false
+      → D (says (SpliceResponse c v (r .id) ∷ []) s)
+  pub accepting : (r : Request) → isSplice l ≡ true → readSplice (dataIn l) ≡ Splice r → Passed (s .clock) c r (s .queue)
+      → D (turns (accepted (requested c r (s .queue)) (s .queue)) s)
+
+-- the call k of the message l gives an answer that P holds of
+abbrev pub Handles : (Call → Called → Type 0) → ℕ → List ℕ → Loans → Answered → Type 0
+Handles P c l loans a = P (messages c l loans) (does (8 + messageSize l) (a .written) (a .splicer))
+
+-- what has to be shown of a call k to s and what comes of it
+pub record Cases (s : Splicer) (P : Call → Called → Type 0) : Type 0 where
+  pub refusing : (k : Call) (n : Refusal) → P k (refuse n s)
+  pub opening : (c : ℕ) → c ≤ 3 → isOpen (linkOf c s) ≡ false → P (opens c) (does 0 [] (withLink c Opened s))
+  pub closing : (c room : ℕ) → c ≤ 3 → isOpen (linkOf c s) ≡ true
+      → P (closes c room) (does 0 (closedBy c (s .queue) .written) (withLink c Closed (withQueue (closedBy c (s .queue) .queue) s)))
+  pub answering : (c : ℕ) (l : List ℕ) (loans : Loans) → c ≤ 3 → isOpen (linkOf c s) ≡ true → Answering c l s (Handles P c l loans)
+  pub bringing : (k : Call) (until : ℕ) → Brings k until → s .clock ≤ until → P k (ticked until s)
+
+first-below : (a b c d e : Bool) → firstOf a b c d e < 65536
+first-below true b c d e = omega arith
+first-below false true c d e = omega arith
+first-below false false true d e = omega arith
+first-below false false false true e = omega arith
+first-below false false false false true = omega arith
+first-below false false false false false = omega arith
+
+init-below : (revision : ℕ) (asked name : List ℕ) → initResult revision asked name < 65536
+unfolding initResult
+init-below revision asked name =
+    by (λ n. n < 65536) (not (eqb revision 2)) _ _ (λ e. omega arith)
+    (λ e. by (λ n. n < 65536) (not (sameName asked name)) 104 100 (λ f. omega arith) (λ f. omega arith))
+
+-- ## Messages
+
+module _ (c : ℕ) (l : List ℕ) (s : Splicer) (D : Answered → Type 0) (k : Answering c l s D) where
+  -- another MessageID than a Splice_Request's
+  other : (id : ℕ) → eqb (messageID l) id ≡ true → eqb id spliceRequest ≡ false → isSplice l ≡ false
+  other id e f = rw (eqb-true (messageID l) id e) f
+
+  abort-case : (x : ℕ) → isSplice l ≡ false → x ≡ sessionID (dataIn l) → D (turns (answerAbort c x (s .queue)) s)
+  unfolding answerAbort
+  abort-case x e f = by (λ (t : Turn). D (turns t s)) (holds c x (s .queue)) _ _ (λ i. k .aborting x e f i) (λ i. k .unknown x e f)
+
+  splice-case : (r : Request) → isSplice l ≡ true → readSplice (dataIn l) ≡ Splice r → D (turns (answerSplice (s .clock) c r (s .queue)) s)
+  unfolding answerSplice spliceResult
+  splice-case r e f =
+      let q = s .queue in
+      let v = spliceResult (s .clock) c r (requested c r q) q in
+      let low : v < 65536 = first-below (separate r) (wrongNumber c r q) (tooLate (s .clock) (r .start)) (collides (requested c r q) (q .waiting)) (full c (q .waiting)) in
+      by (λ (t : Turn). D (turns t s)) (eqb v 100) _ _
+      (λ i. k .accepting r e f (passed-all (s .clock) c r q (eqb-true v 100 i))) (λ i. k .declining r v e f low i)
+
+  read-case : D (answerRead c (read (messageID l) (dataIn l)) (dataIn l) s)
+  unfolding answerRead answerInit read readInit readAlive readAbort readSplice
+  read-case =
+      let d = dataIn l in
+      let M : Message → Type 0 = λ m. D (answerRead c m d s) in
+      let bad = k .general 123 (omega arith) in
+      by M (eqb (messageID l) initRequest) _ _
+      (λ e. by M (badInit d) _ _ (λ f. bad) (λ f. k .naming _ (init-below (field 0 2 d) (channelName d) (s .name)) (other initRequest e refl)))
+      (λ e. by M (eqb (messageID l) aliveRequest) _ _
+      (λ f. by M (eqb (length d) 8) _ _ (λ g. k .alive (other aliveRequest f refl)) (λ g. bad))
+      (λ f. by M (eqb (messageID l) spliceRequest) _ _
+      (λ g. by M (ltb (length d) 18) _ _ (λ h. bad)
+      (λ h. by M (eqb (serviceID d) separateService) _ _ (λ i. splice-case (separatePids d) g (rw (h, i)))
+      (λ i. by M (badSplice d) _ _ (λ j. bad) (λ j. splice-case (wholeRequest d) g (rw (h, i, j))))))
+      (λ g. by M (eqb (messageID l) abortRequest) _ _
+      (λ h. by M (eqb (length d) 4) _ _ (λ i. abort-case (sessionID d) g refl) (λ i. bad)) (λ h. bad))))
+
+  answer-case : D (answer c (messageID l) (dataIn l) s)
+  unfolding answer
+  answer-case =
+      by D (eqb (messageID l) 0x0000) _ _ (λ e. k .silent (other 0x0000 e refl))
+      (λ e. by D (not (isInitialised (linkOf c s)) && not (eqb (messageID l) initRequest)) _ _ (λ i. k .general 103 (omega arith))
+      (λ i. by D (eqb (messageID l) 0x000D) _ _ (λ j. k .silent (other 0x000D j refl))
+      (λ j. by D (not (isRead (messageID l))) _ _ (λ m. k .general 120 (omega arith)) (λ m. read-case))))
+
+-- ## Calls
+
+module _ (s : Splicer) (P : Call → Called → Type 0) (k : Cases s P) where
+  handled-case : (c : ℕ) (l : List ℕ) (loans : Loans) → c ≤ 3 → isOpen (linkOf c s) ≡ true → P (messages c l loans) (handled c (framing l) l s)
+  unfolding handled framing
+  handled-case c l loans low up =
+      let G : Framing → Type 0 = λ g. P (messages c l loans) (handled c g l s) in
+      by G (ltb (length l) 8) _ _ (λ e. k .refusing (messages c l loans) _)
+      (λ e. by G (oversize l) _ _ (λ f. k .refusing (messages c l loans) _)
+      (λ f. by G (ltb (length l) (8 + messageSize l)) _ _ (λ g. k .refusing (messages c l loans) _)
+      (λ g. answer-case c l s (Handles P c l loans) (k .answering c l loans low up))))
+
+  move-case : (j : Call) (until room : ℕ) → Brings j until → P j (moveCall until room s)
+  unfolding moveCall
+  move-case j until room b =
+      by (P j) (noRoom room) _ _ (λ e. k .refusing j _)
+      (λ e. by (P j) (ltb until (s .clock)) _ _ (λ i. k .refusing j _) (λ i. k .bringing j until b (ltb-false until (s .clock) i)))
+
+  pub cases : (j : Call) → P j (call j s)
+  unfolding call openCall closeCall messageCall tickCall
+  cases (opens c) =
+      by (P (opens c)) (noConnection c) _ _ (λ e. k .refusing (opens c) _)
+      (λ e. by (P (opens c)) (isOpen (linkOf c s)) _ _ (λ i. k .refusing (opens c) _) (λ i. k .opening c (ltb-false 3 c e) i))
+  cases (closes c room) =
+      by (P (closes c room)) (noConnection c) _ _ (λ e. k .refusing (closes c room) _)
+      (λ e. by (P (closes c room)) (noRoom room) _ _ (λ i. k .refusing (closes c room) _)
+      (λ i. by (P (closes c room)) (notOpen c s) _ _ (λ j. k .refusing (closes c room) _)
+      (λ j. k .closing c room (ltb-false 3 c e) (not-false (isOpen (linkOf c s)) j))))
+  cases (messages c l loans) =
+      by (P (messages c l loans)) (noConnection c) _ _ (λ e. k .refusing (messages c l loans) _)
+      (λ e. by (P (messages c l loans)) (noRoom (loans .room)) _ _ (λ i. k .refusing (messages c l loans) _)
+      (λ i. by (P (messages c l loans)) (notOpen c s) _ _ (λ j. k .refusing (messages c l loans) _)
+      (λ j. handled-case c l loans (ltb-false 3 c e) (not-false (isOpen (linkOf c s)) j))))
+  cases (ticks seconds micros room) =
+      by (P (ticks seconds micros room)) (noRoom room) _ _ (λ e. k .refusing (ticks seconds micros room) _)
+      (λ e. by (P (ticks seconds micros room)) (badMicros micros) _ _ (λ i. k .refusing (ticks seconds micros room) _)
+      (λ i. move-case (ticks seconds micros room) _ room (tick seconds micros room (ltb-false 999999 micros i))))
+  cases (moves until room) = move-case (moves until room) until room (move until room)

@@ -1,0 +1,29 @@
+-- What is known of every message that is read from bytes: the ranges of its numbers. proofs/Readings shows it.
+use Prim.Native.Nat.{_≤_, _<_}
+use Rattle.rules.specs.declared.Start.{Start}
+use Rattle.rules.specs.declared.Start.the-variants.{Timed, Linked}
+use Rattle.rules.specs.declared.Request.{Request}
+use Rattle.rules.specs.declared.Message.{Message}
+use Rattle.rules.specs.declared.Message.the-variants.{Init, Alive, Splice, Abort, Unreadable}
+use Rattle.rules.specs.Reading.{nobody}
+
+-- also where the MicroSeconds are not checked: a time stays below 2^52
+abbrev pub Within : Start → Type 0
+Within (Timed t) = t .0 < 4503599627370496
+Within (Linked p) = p < nobody
+
+-- of every request, with ServiceID 0xFFFF too
+pub record Asked (r : Request) : Type 0 where
+  pub id : r .id < 4294967296
+  pub start : Within (r .start)
+  pub service : r .service < 65536
+  pub duration : r .duration .0 < 4294967296
+  pub access : r .access ≤ 9
+  pub overrides : r .overrides ≤ 1
+
+abbrev pub Reads : Message → Type 0
+Reads (Init revision) = revision < 65536
+Reads Alive = Unit {0}
+Reads (Splice r) = Asked r
+Reads (Abort x) = x < 4294967296
+Reads Unreadable = Unit {0}
