@@ -4,6 +4,7 @@
 
 pub mod asrun;
 pub mod card;
+pub mod cases;
 pub mod compare;
 pub mod counts;
 pub mod damage;

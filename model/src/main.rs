@@ -1,7 +1,7 @@
 //! The independent second program of the splicer core. See `model help`.
 
 use model::faults::Fault;
-use model::{asrun, card, fuzz, option, people, scenario};
+use model::{asrun, card, cases, fuzz, option, people, scenario};
 use std::io::{Read, Write};
 
 const HELP: &str = "\
@@ -9,6 +9,7 @@ model card [--fault NAME]                    01's card program, standard input t
                                              (with a deliberate fault, to try the harness)
 model scenario [--card CMD] FILE...          runs scenario files
 model scenario --bytes FILE                  writes a scenario's card input
+model scenario --tables DIR FILE...          writes scenarios as tables of antt
 model gen --seed S --n N --out DIR           writes N generated streams as files
 model fuzz --seed S --n N [--card CMD] [--table] [--floors off]
                                              N generated streams through both programs
@@ -78,11 +79,26 @@ fn run_scenario(args: &[String]) -> Result<bool, String> {
         let steps = scenario::parse(&text).map_err(|e| format!("{path}: {e}"))?;
         return write_out(&scenario::input_of(&steps));
     }
+    if let Some(dir) = option(&mut args, "--tables")? {
+        return write_tables(&dir, &args);
+    }
     let card = option(&mut args, "--card")?;
     if args.is_empty() {
         return Err("no scenario file".to_string());
     }
     Ok(scenario::run_files(&args, card.as_deref()))
+}
+
+/// A table of antt for each scenario file.
+fn write_tables(dir: &str, files: &[String]) -> Result<bool, String> {
+    for path in files {
+        let text = std::fs::read_to_string(path).map_err(|e| format!("{path}: {e}"))?;
+        let steps = scenario::parse(&text).map_err(|e| format!("{path}: {e}"))?;
+        let file = format!("{dir}/{}.antt", cases::module(path));
+        let table = cases::table(path, &text, &steps);
+        std::fs::write(&file, table).map_err(|e| format!("{file}: {e}"))?;
+    }
+    Ok(true)
 }
 
 /// A command over the recorded input and output of a card program.

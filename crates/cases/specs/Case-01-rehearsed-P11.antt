@@ -1,0 +1,47 @@
+-- model/scenarios/01-rehearsed-P11.txt, made by tools/cases.sh. Line numbers are that file's.
+-- Document 01, rehearsed situation P11: on air for 11 us and for 12 us.
+-- Shows: 11 us = 99 ninths, 99 / 100 = 0 ticks; 12 us = 108 ninths, 108 / 100 = 1 tick.
+use mathlib.Core.Path.{_≡_}
+use mathlib.Core.List.{List, [], _∷_}
+use Prim.Native.String.{_++_}
+use Rattle.rules.specs.Card.{card}
+use Rattle.cases.specs.Scenario.{Row, row, input, output, holds}
+use Rattle.cases.specs.Computing.{computing}
+
+unfoldable pub rows : List Row
+rows =
+    row 4 "> open 0" "4F00" ""
+    ∷ row 5 "> init 0"
+    ("4D00 0001 004C FFFF FFFF 0002 4348310000000000000000000000000000000000000000000000000000000000"
+    ++ "53504C4943455200000000000000000000000000000000000000000000000000 0008 00010001 00010000")
+    "5200 0002 0022 0064 FFFF 0002 4348310000000000000000000000000000000000000000000000000000000000"
+    ∷ row 7 "> tick 1000" "5400 000003E8 00000000" ""
+    ∷ row 8 "> splice 0 id=1 at=1003 duration=900000"
+    "4D00 0007 0021 FFFF FFFF 00000001 FFFFFFFF 000003EB 00000000 0001 000DBBA0 FFFFFFFF 00000000 00 00 01"
+    "5200 0008 0004 0064 FFFF 00000001"
+    ∷ row 10 "> tick 1003.000011" "5400 000003EB 0000000B" "5200 0009 000D 0064 FFFF 00000001 00 00000000 00000000"
+    ∷ row 12 "> abort 0 id=1"
+    "4D00 000E 0004 FFFF FFFF 00000001"
+    ("5200 000F 0004 0064 FFFF 00000001"
+    ++ "5200 0009 000D 0074 FFFF 00000001 01 00000000 00000000")
+    ∷ row 16 "> splice 0 id=2 at=1010 duration=900000"
+    "4D00 0007 0021 FFFF FFFF 00000002 FFFFFFFF 000003F2 00000000 0001 000DBBA0 FFFFFFFF 00000000 00 00 01"
+    "5200 0008 0004 0064 FFFF 00000002"
+    ∷ row 18 "> tick 1010.000012" "5400 000003F2 0000000C" "5200 0009 000D 0064 FFFF 00000002 00 00000000 00000000"
+    ∷ row 20 "> abort 0 id=2"
+    "4D00 000E 0004 FFFF FFFF 00000002"
+    ("5200 000F 0004 0064 FFFF 00000002"
+    ++ "5200 0009 000D 0074 FFFF 00000002 01 00000000 00000001")
+    ∷ row 25 "> splice 0 id=3 at=1020 duration=900000"
+    "4D00 0007 0021 FFFF FFFF 00000003 FFFFFFFF 000003FC 00000000 0001 000DBBA0 FFFFFFFF 00000000 00 00 01"
+    "5200 0008 0004 0064 FFFF 00000003"
+    ∷ row 27 "> tick 1020" "5400 000003FC 00000000" "5200 0009 000D 0064 FFFF 00000003 00 00000000 00000000"
+    ∷ row 29 "> abort 0 id=3"
+    "4D00 000E 0004 FFFF FFFF 00000003"
+    ("5200 000F 0004 0064 FFFF 00000003"
+    ++ "5200 0009 000D 0074 FFFF 00000003 01 00000000 00000000")
+    ∷ []
+
+pub same : card (input rows) ≡ output rows
+unfolding rows computing
+same = holds rows (tt, tt)

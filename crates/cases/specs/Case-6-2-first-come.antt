@@ -1,0 +1,61 @@
+-- model/scenarios/6.2-first-come.txt, made by tools/cases.sh. Line numbers are that file's.
+-- J.280 clause 6.2, second paragraph: same splice time, same priority, two servers.
+-- Shows: first come, first served; the second gets the collision in its Splice_Response
+-- and nothing of it is kept: it may ask again with the same SessionID.
+--
+-- 01 leads elsewhere: "(unless the OverridePlaying flag is set)" does not hold in 01's
+--   check d; with flag 1 the second request of the same AccessType gets 109 too.
+use mathlib.Core.Path.{_≡_}
+use mathlib.Core.List.{List, [], _∷_}
+use Prim.Native.String.{_++_}
+use Rattle.rules.specs.Card.{card}
+use Rattle.cases.specs.Scenario.{Row, row, input, output, holds}
+use Rattle.cases.specs.Computing.{computing}
+
+unfoldable pub rows : List Row
+rows =
+    row 8 "> open 0" "4F00" ""
+    ∷ row 9 "> init 0"
+    ("4D00 0001 004C FFFF FFFF 0002 4348310000000000000000000000000000000000000000000000000000000000"
+    ++ "53504C4943455200000000000000000000000000000000000000000000000000 0008 00010001 00010000")
+    "5200 0002 0022 0064 FFFF 0002 4348310000000000000000000000000000000000000000000000000000000000"
+    ∷ row 11 "> open 1" "4F01" ""
+    ∷ row 12 "> init 1"
+    ("4D01 0001 004C FFFF FFFF 0002 4348310000000000000000000000000000000000000000000000000000000000"
+    ++ "53504C4943455200000000000000000000000000000000000000000000000000 0008 00010001 00010000")
+    "5201 0002 0022 0064 FFFF 0002 4348310000000000000000000000000000000000000000000000000000000000"
+    ∷ row 14 "> tick 1000" "5400 000003E8 00000000" ""
+    ∷ row 16 "> splice 0 id=10 at=1010 duration=900000 access=4"
+    "4D00 0007 0021 FFFF FFFF 0000000A FFFFFFFF 000003F2 00000000 0001 000DBBA0 FFFFFFFF 00000000 04 00 01"
+    "5200 0008 0004 0064 FFFF 0000000A"
+    ∷ row 18 "> splice 1 id=20 at=1010 duration=900000 access=4"
+    "4D01 0007 0021 FFFF FFFF 00000014 FFFFFFFF 000003F2 00000000 0001 000DBBA0 FFFFFFFF 00000000 04 00 01"
+    "5201 0008 0004 006D FFFF 00000014"
+    ∷ row 20 "> splice 1 id=20 at=1010 duration=900000 access=4 override=1"
+    "4D01 0007 0021 FFFF FFFF 00000014 FFFFFFFF 000003F2 00000000 0001 000DBBA0 FFFFFFFF 00000000 04 01 01"
+    "5201 0008 0004 006D FFFF 00000014"
+    ∷ row 23 "> abort 1 id=20" "4D01 000E 0004 FFFF FFFF 00000014" "5201 000F 0004 0079 FFFF 00000014"
+    ∷ row 26 "> splice 1 id=20 at=1020 duration=900000 access=4"
+    "4D01 0007 0021 FFFF FFFF 00000014 FFFFFFFF 000003FC 00000000 0001 000DBBA0 FFFFFFFF 00000000 04 00 01"
+    "5201 0008 0004 0064 FFFF 00000014"
+    ∷ row 29 "> tick 1010" "5400 000003F2 00000000" "5200 0009 000D 0064 FFFF 0000000A 00 00000000 00000000"
+    ∷ row 32 "> tick 1020"
+    "5400 000003FC 00000000"
+    ("5200 0009 000D 0064 FFFF 0000000A 01 00000000 000DBBA0"
+    ++ "5201 0009 000D 0064 FFFF 00000014 00 00000000 00000000")
+    ∷ row 35 "> tick 1030" "5400 00000406 00000000" "5201 0009 000D 0064 FFFF 00000014 01 00000000 000DBBA0"
+    ∷ row 39 "> splice 0 id=11 at=1040 duration=900000 access=4"
+    "4D00 0007 0021 FFFF FFFF 0000000B FFFFFFFF 00000410 00000000 0001 000DBBA0 FFFFFFFF 00000000 04 00 01"
+    "5200 0008 0004 0064 FFFF 0000000B"
+    ∷ row 41 "> splice 0 id=12 at=1040 duration=900000 access=4"
+    "4D00 0007 0021 FFFF FFFF 0000000C FFFFFFFF 00000410 00000000 0001 000DBBA0 FFFFFFFF 00000000 04 00 01"
+    "5200 0008 0004 006D FFFF 0000000C"
+    ∷ row 43 "> tick 1050"
+    "5400 0000041A 00000000"
+    ("5200 0009 000D 0064 FFFF 0000000B 00 00000000 00000000"
+    ++ "5200 0009 000D 0064 FFFF 0000000B 01 00000000 000DBBA0")
+    ∷ []
+
+pub same : card (input rows) ≡ output rows
+unfolding rows computing
+same = holds rows (tt, tt)

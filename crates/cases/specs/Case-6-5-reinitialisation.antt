@@ -1,0 +1,59 @@
+-- model/scenarios/6.5-reinitialisation.txt, made by tools/cases.sh. Line numbers are that file's.
+-- J.280 clause 6.5: a terminated API connection needs "re-initialization … to splice again".
+-- Shows: close, refusal 7 while closed, 103 after opening again, and splicing after Init.
+--
+-- 01 leads elsewhere: J.280's 103 is an Init_Response or Splice_Response; 01 sends it as
+--   General_Response to everything but an Init_Request on a connection not initialised.
+use mathlib.Core.Path.{_≡_}
+use mathlib.Core.List.{List, [], _∷_}
+use Prim.Native.String.{_++_}
+use Rattle.rules.specs.Card.{card}
+use Rattle.cases.specs.Scenario.{Row, row, input, output, holds}
+use Rattle.cases.specs.Computing.{computing}
+
+unfoldable pub rows : List Row
+rows =
+    row 7 "> open 0" "4F00" ""
+    ∷ row 8 "> alive 0" "4D00 0005 0008 FFFF FFFF 00000000 00000000" "5200 0000 0000 0067 FFFF"
+    ∷ row 10 "> init 0"
+    ("4D00 0001 004C FFFF FFFF 0002 4348310000000000000000000000000000000000000000000000000000000000"
+    ++ "53504C4943455200000000000000000000000000000000000000000000000000 0008 00010001 00010000")
+    "5200 0002 0022 0064 FFFF 0002 4348310000000000000000000000000000000000000000000000000000000000"
+    ∷ row 12 "> tick 1000" "5400 000003E8 00000000" ""
+    ∷ row 13 "> alive 0"
+    "4D00 0005 0008 FFFF FFFF 00000000 00000000"
+    "5200 0006 0010 0064 FFFF 00000001 FFFFFFFF 000003E8 00000000"
+    ∷ row 15 "> splice 0 id=1 at=1010 duration=900000"
+    "4D00 0007 0021 FFFF FFFF 00000001 FFFFFFFF 000003F2 00000000 0001 000DBBA0 FFFFFFFF 00000000 00 00 01"
+    "5200 0008 0004 0064 FFFF 00000001"
+    ∷ row 19 "> close 0" "4300" "5200 0008 0004 0074 FFFF 00000001"
+    ∷ row 23 "> alive 0" "4D00 0005 0008 FFFF FFFF 00000000 00000000" "4507"
+    ∷ row 25 "> init 0"
+    ("4D00 0001 004C FFFF FFFF 0002 4348310000000000000000000000000000000000000000000000000000000000"
+    ++ "53504C4943455200000000000000000000000000000000000000000000000000 0008 00010001 00010000")
+    "4507"
+    ∷ row 27 "> close 0" "4300" "4507"
+    ∷ row 31 "> open 0" "4F00" ""
+    ∷ row 32 "> alive 0" "4D00 0005 0008 FFFF FFFF 00000000 00000000" "5200 0000 0000 0067 FFFF"
+    ∷ row 34 "> splice 0 id=1 at=1010 duration=900000"
+    "4D00 0007 0021 FFFF FFFF 00000001 FFFFFFFF 000003F2 00000000 0001 000DBBA0 FFFFFFFF 00000000 00 00 01"
+    "5200 0000 0000 0067 FFFF"
+    ∷ row 36 "> abort 0 id=1" "4D00 000E 0004 FFFF FFFF 00000001" "5200 0000 0000 0067 FFFF"
+    ∷ row 40 "> init 0"
+    ("4D00 0001 004C FFFF FFFF 0002 4348310000000000000000000000000000000000000000000000000000000000"
+    ++ "53504C4943455200000000000000000000000000000000000000000000000000 0008 00010001 00010000")
+    "5200 0002 0022 0064 FFFF 0002 4348310000000000000000000000000000000000000000000000000000000000"
+    ∷ row 42 "> abort 0 id=1" "4D00 000E 0004 FFFF FFFF 00000001" "5200 000F 0004 0079 FFFF 00000001"
+    ∷ row 44 "> splice 0 id=1 at=1010 duration=900000"
+    "4D00 0007 0021 FFFF FFFF 00000001 FFFFFFFF 000003F2 00000000 0001 000DBBA0 FFFFFFFF 00000000 00 00 01"
+    "5200 0008 0004 0064 FFFF 00000001"
+    ∷ row 47 "> tick 1020"
+    "5400 000003FC 00000000"
+    ("5200 0009 000D 0064 FFFF 00000001 00 00000000 00000000"
+    ++ "5200 0009 000D 0064 FFFF 00000001 01 00000000 000DBBA0")
+    ∷ row 52 "> close 0" "4300" ""
+    ∷ []
+
+pub same : card (input rows) ≡ output rows
+unfolding rows computing
+same = holds rows (tt, tt)

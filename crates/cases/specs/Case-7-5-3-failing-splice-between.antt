@@ -1,0 +1,82 @@
+-- model/scenarios/7.5.3-failing-splice-between.txt, made by tools/cases.sh. Line numbers are that file's.
+-- J.280 clause 7.5.3: "If a splice between two pieces of content fails, the splice-out
+-- should indicate good status if the current piece of content is played in its entirety."
+-- Shows: the end of the first piece and the failed start of the second are two records of
+-- one instant, each with its own result; what follows the failed one ends at once and
+-- doesn't wait for its expected duration.
+--
+-- 01 leads elsewhere: a piece that is covered when its time is over isn't played in its
+--   entirety; its splice-out has 125 and the time it was on air.
+use mathlib.Core.Path.{_≡_}
+use mathlib.Core.List.{List, [], _∷_}
+use Prim.Native.String.{_++_}
+use Rattle.rules.specs.Card.{card}
+use Rattle.cases.specs.Scenario.{Row, row, input, output, holds}
+use Rattle.cases.specs.Computing.{computing}
+
+unfoldable pub rows : List Row
+rows =
+    row 10 "> open 0" "4F00" ""
+    ∷ row 11 "> init 0"
+    ("4D00 0001 004C FFFF FFFF 0002 4348310000000000000000000000000000000000000000000000000000000000"
+    ++ "53504C4943455200000000000000000000000000000000000000000000000000 0008 00010001 00010000")
+    "5200 0002 0022 0064 FFFF 0002 4348310000000000000000000000000000000000000000000000000000000000"
+    ∷ row 13 "> open 1" "4F01" ""
+    ∷ row 14 "> init 1"
+    ("4D01 0001 004C FFFF FFFF 0002 4348310000000000000000000000000000000000000000000000000000000000"
+    ++ "53504C4943455200000000000000000000000000000000000000000000000000 0008 00010001 00010000")
+    "5201 0002 0022 0064 FFFF 0002 4348310000000000000000000000000000000000000000000000000000000000"
+    ∷ row 16 "> tick 1000" "5400 000003E8 00000000" ""
+    ∷ row 21 "> splice 1 id=50 at=1010 duration=5400000 access=1"
+    "4D01 0007 0021 FFFF FFFF 00000032 FFFFFFFF 000003F2 00000000 0001 005265C0 FFFFFFFF 00000000 01 00 01"
+    "5201 0008 0004 0064 FFFF 00000032"
+    ∷ row 23 "> splice 0 id=1 at=1020 duration=1800000 access=3 override=1"
+    "4D00 0007 0021 FFFF FFFF 00000001 FFFFFFFF 000003FC 00000000 0001 001B7740 FFFFFFFF 00000000 03 01 01"
+    "5200 0008 0004 0064 FFFF 00000001"
+    ∷ row 25 "> splice 0 id=2 prior=1 duration=900000 access=3 override=0"
+    "4D00 0007 0021 FFFF FFFF 00000002 00000001 00000000 00000000 0001 000DBBA0 FFFFFFFF 00000000 03 00 01"
+    "5200 0008 0004 0064 FFFF 00000002"
+    ∷ row 27 "> splice 0 id=3 prior=2 duration=900000 access=3 override=1"
+    "4D00 0007 0021 FFFF FFFF 00000003 00000002 00000000 00000000 0001 000DBBA0 FFFFFFFF 00000000 03 01 01"
+    "5200 0008 0004 0064 FFFF 00000003"
+    ∷ row 29 "> splice 0 id=4 prior=3 duration=900000 access=3 override=1"
+    "4D00 0007 0021 FFFF FFFF 00000004 00000003 00000000 00000000 0001 000DBBA0 FFFFFFFF 00000000 03 01 01"
+    "5200 0008 0004 0064 FFFF 00000004"
+    ∷ row 31 "> tick 1020"
+    "5400 000003FC 00000000"
+    ("5201 0009 000D 0064 FFFF 00000032 00 00000000 00000000"
+    ++ "5200 0009 000D 0064 FFFF 00000001 00 00000000 00000000")
+    ∷ row 35 "> tick 1040"
+    "5400 00000410 00000000"
+    ("5200 0009 000D 0064 FFFF 00000001 01 00000000 001B7740"
+    ++ "5200 0009 000D 006D FFFF 00000002 00 00000000 00000000"
+    ++ "5200 0008 0004 006D FFFF 00000003"
+    ++ "5200 0008 0004 006D FFFF 00000004")
+    ∷ row 40 "> alive 0"
+    "4D00 0005 0008 FFFF FFFF 00000000 00000000"
+    "5200 0006 0010 0064 FFFF 00000002 00000032 00000410 00000000"
+    ∷ row 43 "> tick 1070" "5400 0000042E 00000000" "5201 0009 000D 0064 FFFF 00000032 01 00000000 0036EE80"
+    ∷ row 48 "> tick 1100" "5400 0000044C 00000000" ""
+    ∷ row 49 "> splice 0 id=11 at=1110 duration=1800000 access=3"
+    "4D00 0007 0021 FFFF FFFF 0000000B FFFFFFFF 00000456 00000000 0001 001B7740 FFFFFFFF 00000000 03 00 01"
+    "5200 0008 0004 0064 FFFF 0000000B"
+    ∷ row 51 "> splice 0 id=12 prior=11 duration=900000 access=3 override=1"
+    "4D00 0007 0021 FFFF FFFF 0000000C 0000000B 00000000 00000000 0001 000DBBA0 FFFFFFFF 00000000 03 01 01"
+    "5200 0008 0004 0064 FFFF 0000000C"
+    ∷ row 53 "> splice 1 id=60 at=1120 duration=2700000 access=6 override=1"
+    "4D01 0007 0021 FFFF FFFF 0000003C FFFFFFFF 00000460 00000000 0001 002932E0 FFFFFFFF 00000000 06 01 01"
+    "5201 0008 0004 0064 FFFF 0000003C"
+    ∷ row 55 "> tick 1120"
+    "5400 00000460 00000000"
+    ("5200 0009 000D 0064 FFFF 0000000B 00 00000000 00000000"
+    ++ "5201 0009 000D 0064 FFFF 0000003C 00 00000000 00000000")
+    ∷ row 59 "> tick 1130"
+    "5400 0000046A 00000000"
+    ("5200 0009 000D 007D FFFF 0000000B 01 00000000 000DBBA0"
+    ++ "5200 0009 000D 006D FFFF 0000000C 00 00000000 00000000")
+    ∷ row 62 "> tick 1150" "5400 0000047E 00000000" "5201 0009 000D 0064 FFFF 0000003C 01 00000000 002932E0"
+    ∷ []
+
+pub same : card (input rows) ≡ output rows
+unfolding rows computing
+same = holds rows (tt, tt)

@@ -1,0 +1,75 @@
+-- model/scenarios/demands-incident.txt, made by tools/cases.sh. Line numbers are that file's.
+-- DEMANDS.md, "Reported": an ad server dropped its connection with its spot on air; its
+-- place was taken by the next request, and the old spot's end was then written under the
+-- new SessionID. Two as-run logs listed a spot that never aired.
+-- Shows: the dropped spot ends once, at the close and under its own number; the request
+-- that comes next and the same SessionID requested again each get their own start and
+-- their own end, and nothing is written at the old spot's end time.
+--
+-- 01 leads elsewhere: J.280 is silent about sessions of a closed connection. 01 ends them
+--   with 116 and writes the record; the driver logs it, for nobody is there to get it.
+use mathlib.Core.Path.{_≡_}
+use mathlib.Core.List.{List, [], _∷_}
+use Prim.Native.String.{_++_}
+use Rattle.rules.specs.Card.{card}
+use Rattle.cases.specs.Scenario.{Row, row, input, output, holds}
+use Rattle.cases.specs.Computing.{computing}
+
+unfoldable pub rows : List Row
+rows =
+    row 11 "> open 0" "4F00" ""
+    ∷ row 12 "> init 0"
+    ("4D00 0001 004C FFFF FFFF 0002 4348310000000000000000000000000000000000000000000000000000000000"
+    ++ "53504C4943455200000000000000000000000000000000000000000000000000 0008 00010001 00010000")
+    "5200 0002 0022 0064 FFFF 0002 4348310000000000000000000000000000000000000000000000000000000000"
+    ∷ row 14 "> open 1" "4F01" ""
+    ∷ row 15 "> init 1"
+    ("4D01 0001 004C FFFF FFFF 0002 4348310000000000000000000000000000000000000000000000000000000000"
+    ++ "53504C4943455200000000000000000000000000000000000000000000000000 0008 00010001 00010000")
+    "5201 0002 0022 0064 FFFF 0002 4348310000000000000000000000000000000000000000000000000000000000"
+    ∷ row 17 "> tick 1000" "5400 000003E8 00000000" ""
+    ∷ row 20 "> splice 0 id=1 at=1010 duration=5400000"
+    "4D00 0007 0021 FFFF FFFF 00000001 FFFFFFFF 000003F2 00000000 0001 005265C0 FFFFFFFF 00000000 00 00 01"
+    "5200 0008 0004 0064 FFFF 00000001"
+    ∷ row 22 "> splice 0 id=2 prior=1 duration=2700000"
+    "4D00 0007 0021 FFFF FFFF 00000002 00000001 00000000 00000000 0001 002932E0 FFFFFFFF 00000000 00 00 01"
+    "5200 0008 0004 0064 FFFF 00000002"
+    ∷ row 24 "> tick 1010" "5400 000003F2 00000000" "5200 0009 000D 0064 FFFF 00000001 00 00000000 00000000"
+    ∷ row 28 "> tick 1020" "5400 000003FC 00000000" ""
+    ∷ row 29 "> close 0"
+    "4300"
+    ("5200 0009 000D 0074 FFFF 00000001 01 00000000 000DBBA0"
+    ++ "5200 0008 0004 0074 FFFF 00000002")
+    ∷ row 34 "> splice 1 id=55 at=1030 duration=2700000"
+    "4D01 0007 0021 FFFF FFFF 00000037 FFFFFFFF 00000406 00000000 0001 002932E0 FFFFFFFF 00000000 00 00 01"
+    "5201 0008 0004 0064 FFFF 00000037"
+    ∷ row 38 "> open 0" "4F00" ""
+    ∷ row 39 "> alive 0" "4D00 0005 0008 FFFF FFFF 00000000 00000000" "5200 0000 0000 0067 FFFF"
+    ∷ row 41 "> init 0"
+    ("4D00 0001 004C FFFF FFFF 0002 4348310000000000000000000000000000000000000000000000000000000000"
+    ++ "53504C4943455200000000000000000000000000000000000000000000000000 0008 00010001 00010000")
+    "5200 0002 0022 0064 FFFF 0002 4348310000000000000000000000000000000000000000000000000000000000"
+    ∷ row 43 "> alive 0"
+    "4D00 0005 0008 FFFF FFFF 00000000 00000000"
+    "5200 0006 0010 0064 FFFF 00000001 FFFFFFFF 000003FC 00000000"
+    ∷ row 45 "> abort 0 id=1" "4D00 000E 0004 FFFF FFFF 00000001" "5200 000F 0004 0079 FFFF 00000001"
+    ∷ row 47 "> splice 0 id=2 prior=1 duration=2700000"
+    "4D00 0007 0021 FFFF FFFF 00000002 00000001 00000000 00000000 0001 002932E0 FFFFFFFF 00000000 00 00 01"
+    "5200 0008 0004 0079 FFFF 00000002"
+    ∷ row 50 "> splice 0 id=1 at=1080 duration=2700000"
+    "4D00 0007 0021 FFFF FFFF 00000001 FFFFFFFF 00000438 00000000 0001 002932E0 FFFFFFFF 00000000 00 00 01"
+    "5200 0008 0004 0064 FFFF 00000001"
+    ∷ row 54 "> tick 1030" "5400 00000406 00000000" "5201 0009 000D 0064 FFFF 00000037 00 00000000 00000000"
+    ∷ row 56 "> tick 1060" "5400 00000424 00000000" "5201 0009 000D 0064 FFFF 00000037 01 00000000 002932E0"
+    ∷ row 59 "> tick 1070" "5400 0000042E 00000000" ""
+    ∷ row 60 "> alive 0"
+    "4D00 0005 0008 FFFF FFFF 00000000 00000000"
+    "5200 0006 0010 0064 FFFF 00000001 FFFFFFFF 0000042E 00000000"
+    ∷ row 63 "> tick 1080" "5400 00000438 00000000" "5200 0009 000D 0064 FFFF 00000001 00 00000000 00000000"
+    ∷ row 65 "> tick 1110" "5400 00000456 00000000" "5200 0009 000D 0064 FFFF 00000001 01 00000000 002932E0"
+    ∷ row 68 "> tick 1200" "5400 000004B0 00000000" ""
+    ∷ []
+
+pub same : card (input rows) ≡ output rows
+unfolding rows computing
+same = holds rows (tt, tt)

@@ -1,0 +1,160 @@
+-- Worked cases of 01 and of the demands beside P1 to P14, from bytes to bytes.
+use mathlib.Core.Path.{_≡_, refl}
+use mathlib.Core.List.{List, [], _∷_, _++_, map}
+use Prim.Native.Nat.{ℕ}
+use lib.ListN.{length, replicate}
+use Rattle.rules.specs.Lists.{place, insertAt, removeAt}
+use Rattle.rules.specs.Bytes.{bytes, value, valueFrom}
+use Rattle.rules.specs.Reading
+use Rattle.rules.specs.State
+use Rattle.rules.specs.State.{Splicer}
+use Rattle.rules.specs.Records
+use Rattle.rules.specs.Records.{Record, InitResponse, SpliceResponse, SpliceComplete, AbortResponse, recordsIn}
+use Rattle.rules.specs.Ends
+use Rattle.rules.specs.Instants
+use Rattle.rules.specs.Answers
+use Rattle.rules.specs.Calls
+use Rattle.rules.specs.Calls.{Call, opens, closes}
+use Rattle.rules.specs.Card
+use Rattle.demands.specs.History
+use Rattle.demands.specs.History.{Event, Entry}
+use Rattle.cases.specs.Rehearsed.{sent, from, initOf, asks, timed, linked, aborts, to, card, plays, up, ready, load, queued}
+
+-- ## 01, "Whole case"
+
+input : List ℕ
+input =
+    0x4F ∷ 0x00 ∷ 0x4D ∷ 0x00 ∷ 0x00 ∷ 0x05 ∷ 0x00 ∷ 0x08 ∷ 0xFF ∷ 0xFF ∷ 0xFF ∷ 0xFF
+    ∷ 0x00 ∷ 0x00 ∷ 0x00 ∷ 0x00 ∷ 0x00 ∷ 0x00 ∷ 0x00 ∷ 0x00 ∷ 0x43 ∷ 0x00 ∷ 0x43 ∷ 0x00 ∷ []
+
+given : List ℕ
+given = 0x52 ∷ 0x00 ∷ 0x00 ∷ 0x00 ∷ 0x00 ∷ 0x00 ∷ 0x00 ∷ 0x67 ∷ 0xFF ∷ 0xFF ∷ 0x45 ∷ 0x07 ∷ []
+
+whole-case : Card.card input ≡ given
+unfolding input given Card.card Card.cardRun Card.cardStep Card.next Card.nextMessage Card.told Card.cardName bytes value valueFrom Reading.readInit Reading.readAlive Reading.readAbort Reading.wellFormed Reading.readStart Reading.readSplice Reading.read Records.framed Records.recordBytes Records.output Ends.endings Ends.cancelled Ends.closedBy Answers.answerRead Answers.answer Calls.houseNumber Calls.named Calls.fresh Calls.openCall Calls.closeCall Calls.framing Calls.handled Calls.messageCall Calls.call Calls.writtenBy
+whole-case = refl
+
+-- ## What a case looks at
+
+-- the splicer "CH1" after `ready`: clock 1,000 s, the four connections initialised
+known : Splicer
+known = plays ready card .splicer
+
+joined : List (List Record) → List Record
+joined [] = []
+joined (x ∷ l) = x ++ joined l
+
+-- the records in the answers of some calls from there
+played : List Call → List Record
+played ks = joined (map (λ a. recordsIn (Calls.writtenBy a)) (Calls.answers ks known))
+
+-- how many records the last of them writes
+lastWrites : List Call → List ℕ
+lastWrites ks = length (recordsIn (Calls.writtenBy (plays (ready ++ ks) card .answer))) ∷ []
+
+-- the calls from fresh, with their answers
+events : List Call → List Event
+events ks = History.history (ready ++ ks) (card .splicer)
+
+-- each connection's waiting sessions, from the answers
+counts : List Call → List ℕ
+counts ks =
+    let h = events ks in
+    History.waitingCount 0 h ∷ History.waitingCount 1 h ∷ History.waitingCount 2 h ∷ History.waitingCount 3 h ∷ []
+
+-- the ends of each session accepted, from the answers
+ended : List Call → List ℕ
+ended ks = map (λ (e : Entry). e .ends) (History.book (events ks) [])
+
+data Seen : Type 0 where
+  said : List Record → Seen
+  counted : List ℕ → Seen
+
+record Case : Type 0 where
+  seen : Seen
+  wants : Seen
+
+says : List Call → List Record → Case
+says ks rs = record { seen = said (played ks); wants = said rs }
+
+counting : List ℕ → List ℕ → Case
+counting l m = record { seen = counted l; wants = counted m }
+
+-- ## The cases
+
+-- "Three linked sessions, the first aborted: all three end."
+three : List Call
+three = timed 0 1 1003 0 1 0 90000 ∷ linked 0 2 1 90000 ∷ linked 0 3 2 90000 ∷ aborts 0 1 ∷ []
+
+-- 64 waiting, worked through by one tick
+sixtyFour : List Call
+sixtyFour = queued 10 20 20 14
+
+through : List Call
+through = sixtyFour ++ (to 3000 0 ∷ [])
+
+-- the incident of the minutes: a connection closes with its spot on air, and the number comes again
+incident : List Call
+incident =
+    timed 0 7 1003 0 3 0 2700000 ∷ to 1010 0 ∷ closes 0 4096 ∷ opens 0 ∷ initOf 0 ∷ timed 0 7 1020 0 3 0 900000 ∷ to 1040 0 ∷ []
+
+-- ## 01, "Shortcuts that look right and aren't"
+
+-- "Comparing all 32 bytes of a name."
+behindZero : List Call
+behindZero = from 0 0x0001 (bytes 2 2 ++ (Card.cardName ++ ((0 ∷ replicate 28 0x58) ++ (replicate 32 0 ++ bytes 2 0)))) ∷ []
+
+-- "Turning microseconds into ticks before adding.": 9,027,000,009 ninths are no whole number of ticks. One tick later is past 1,003 s
+-- and 12 µs; added in ticks it would not be
+oneTick : List Call
+oneTick = timed 0 1 1003 1 1 0 1 ∷ to 1003 12 ∷ []
+
+-- "Ending only the direct follower on abort.": the first is on air
+onlyDirect : List Call
+onlyDirect = timed 0 1 1003 0 1 0 900000 ∷ linked 0 2 1 90000 ∷ linked 0 3 2 90000 ∷ to 1004 0 ∷ aborts 0 1 ∷ to 1030 0 ∷ []
+
+-- "Starting before ending at one instant.": at 1,004 s a 5 ends and a 1 starts, with no override
+handOver : List Call
+handOver = timed 0 1 1003 0 5 0 90000 ∷ timed 0 2 1004 0 1 0 90000 ∷ to 1004 0 ∷ []
+
+-- "Keeping a place by slot number after its session ended.": 5 covers 3 and ends with its connection; 6 takes its place
+slot : List Call
+slot =
+    timed 0 3 1003 0 3 0 2700000 ∷ timed 1 5 1006 0 5 1 900000 ∷ to 1010 0 ∷ closes 1 4096 ∷ timed 2 6 1015 0 5 1 900000 ∷ to 1050 0 ∷ []
+
+-- check e, "Counted before f.": with 20 waiting a request that would evict one of them is refused all the same
+fullBefore : List Call
+fullBefore = queued 20 0 0 0 ++ (timed 0 99 2005 0 2 0 90000 ∷ [])
+
+-- a Splice_Request's 100, a start with 100, an end by SpliceComplete
+accepts : (conn id : ℕ) → Record
+accepts c x = SpliceResponse c 100 x
+
+begins : (conn id : ℕ) → Record
+begins c x = SpliceComplete c 100 x 0 0
+
+stops : (conn result id played : ℕ) → Record
+stops c r x d = SpliceComplete c r x 1 d
+
+cases : List Case
+cases =
+    says three (accepts 0 1 ∷ accepts 0 2 ∷ accepts 0 3 ∷ AbortResponse 0 100 1 ∷ SpliceResponse 0 116 1 ∷ SpliceResponse 0 116 2 ∷ SpliceResponse 0 116 3 ∷ [])
+    ∷ counting (counts sixtyFour) (10 ∷ 20 ∷ 20 ∷ 14 ∷ [])
+    ∷ counting (counts through) (0 ∷ 0 ∷ 0 ∷ 0 ∷ [])
+    ∷ counting (lastWrites through) (128 ∷ [])
+    ∷ counting (ended through) (replicate 64 1)
+    ∷ says incident (accepts 0 7 ∷ begins 0 7 ∷ stops 0 116 7 630000 ∷ InitResponse 0 100 Card.cardName ∷ accepts 0 7 ∷ begins 0 7 ∷ stops 0 100 7 900000 ∷ [])
+    ∷ counting (ended incident) (1 ∷ 1 ∷ [])
+    ∷ says behindZero (InitResponse 0 100 Card.cardName ∷ [])
+    ∷ says oneTick (accepts 0 1 ∷ begins 0 1 ∷ [])
+    ∷ says (oneTick ++ (to 1003 13 ∷ [])) (accepts 0 1 ∷ begins 0 1 ∷ stops 0 100 1 1 ∷ [])
+    ∷ says onlyDirect (accepts 0 1 ∷ accepts 0 2 ∷ accepts 0 3 ∷ begins 0 1 ∷ AbortResponse 0 100 1 ∷ stops 0 116 1 90000 ∷ SpliceResponse 0 116 2 ∷ SpliceResponse 0 116 3 ∷ [])
+    ∷ says handOver (accepts 0 1 ∷ accepts 0 2 ∷ begins 0 1 ∷ stops 0 100 1 90000 ∷ begins 0 2 ∷ [])
+    ∷ says slot (accepts 0 3 ∷ accepts 1 5 ∷ begins 0 3 ∷ begins 1 5 ∷ stops 1 116 5 360000 ∷ accepts 2 6 ∷ begins 2 6 ∷ stops 2 100 6 900000 ∷ stops 0 100 3 1440000 ∷ [])
+    ∷ counting (ended slot) (1 ∷ 1 ∷ 1 ∷ [])
+    ∷ counting (ended fullBefore) (replicate 20 0)
+    ∷ []
+
+worked : map (λ c. c .seen) cases ≡ map (λ c. c .wants) cases
+unfolding fullBefore sent from initOf asks timed aborts to card plays up ready load queued linked known joined played says counting accepts begins stops lastWrites cases events counts Records.framed Records.recordBytes Records.output Records.recordIn Records.recordsUpTo Records.recordsIn Ends.closedBy Calls.closeCall Calls.answers History.isStart History.isEnd History.isYes History.history History.front History.last History.waitAnswered History.waitAfter History.waitReplied History.waitingTold History.waitingCount History.credited History.endTold History.startTold History.entryOf History.bookAnswered History.shut History.bookAfter History.bookReplied History.book place insertAt removeAt bytes value valueFrom Reading.readInit Reading.readAbort Reading.wellFormed Reading.readStart Reading.readSplice Reading.read State.empty State.due Ends.andThen Ends.endings Ends.walk Ends.followers Ends.dismissed Ends.evictedAt Ends.evicted Ends.cancelled Ends.aborted Instants.mayStart Instants.launched Instants.startAt Instants.endAt Instants.instant Instants.onAir Instants.elapse Instants.run Instants.runAll Answers.initResult Answers.answerInit Answers.answerAbort Answers.startOf Answers.sessionAt Answers.requested Answers.unknownPrior Answers.tooLate Answers.collides Answers.full Answers.spliceResult Answers.inserted Answers.accepted Answers.answerSplice Answers.answerRead Answers.answer Calls.houseNumber Calls.named Calls.fresh Calls.openCall Calls.framing Calls.handled Calls.messageCall Calls.ticked Calls.moveCall Calls.tickCall Calls.call Calls.writtenBy Card.cardName ended three sixtyFour through incident behindZero oneTick onlyDirect handOver slot History.endAsked
+worked = refl

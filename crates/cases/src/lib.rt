@@ -1,0 +1,1 @@
+// No code: worked cases of the definitions, in specs/.
