@@ -2,7 +2,7 @@
 use mathlib.Core.Path.{_≡_, refl, sym, ap, ap₂, subst, _∙_}
 use mathlib.Core.List.{List, [], _∷_, _++_, append-assoc}
 use mathlib.Core.Bool.{Bool, true, false}
-use Prim.Native.Nat.{ℕ, zero, suc, _+_, _-_, _/_, _≤_, _<_, min}
+use Prim.Native.Nat.{ℕ, zero, suc, _+_, _-_, _/_, _≤_, _<_}
 use native.Mathlib.Omega.{arith}
 use native.Mathlib.Numerals.{add-one}
 use native.Mathlib.Nat.{not-suc-le-zero, le-of-suc-le-suc}
@@ -10,12 +10,15 @@ use lib.ListN.{length, take, drop, set, getD, replicate, length-append, length-s
 use lib.Seq.{getD-set-same, getD-set-other, ext-getD, drop-cons, drop-drop, take-length, length-take-le, take-take, getD-take, take-append-add, drop-append-add, take-at, drop-at, getD-drop, take-set-le, drop-set-add}
 use lib.Dec.{eqb}
 use borrow.Author.Tests.{eqb-true, eqb-false}
+use Rattle.rules.specs.declared.Ninths.{Ninths}
+use Rattle.rules.specs.declared.When.the-variants.{At, Never}
 use Rattle.rules.specs.declared.Session.{Session}
-use Rattle.rules.specs.Lists.{All, bit, omit, place, count, insertAt, removeAt, least}
-use Rattle.rules.specs.State.{empty, of, Sorted}
+use Rattle.rules.specs.Lists.{All, bit, omit, place, count, insertAt, removeAt}
+use Rattle.rules.specs.State.{empty, of, Sorted, sooner, earliest}
 use Rattle.rules.proofs.All.{all-drop}
+use Rattle.rules.proofs.Tick.{earliest-none, earliest-next, earliest-last, earliest-start}
 use Rattle.rules.proofs.Count.{bit≤1, length-insertAt, length-removeAt, place≤}
-use Rattle.places.specs.Places.{Lot, lot, places, spare, zeros, free, Good, used, OfFour, tallied}
+use Rattle.places.specs.Places.{capacity, Lot, lot, places, spare, zeros, free, Good, used, OfFour, tallied}
 use Rattle.places.proofs.Words.{length-places, places-zero, places-same}
 
 -- ## Lists
@@ -86,10 +89,6 @@ module _ {A : Type 0} where
   drop-set-here (y ∷ l) zero i x h e = rw e refl
   drop-set-here (y ∷ l) (suc k) i x h e = drop-set-here l k (suc k) x (le-of-suc-le-suc h) refl ∙ rw e refl
 
-  pub least-none : (none : ℕ) (f : A → ℕ) (l : List A) → least none f l ≤ none
-  least-none none f [] = omega arith
-  least-none none f (x ∷ l) = omega (arith, least-none none f l)
-
 -- ## The list in its places
 
 -- the list u in the last of m places
@@ -135,7 +134,7 @@ words-same p q m n g h l e d =
 -- zeros are good, and hold nothing
 pub cleared : (m : ℕ) → Good (lot (zeros m) 0)
 cleared m =
-    let e : length (zeros m) / 8 ≡ length (places (zeros m)) = sym (length-places (zeros m)) in
+    let e : capacity (zeros m) ≡ length (places (zeros m)) = sym (length-places (zeros m)) in
     let z : length (places (zeros m)) - 0 ≡ length (places (zeros m)) = omega arith in
     record { fits = omega arith; clear = rw z (take-length (places (zeros m)) ∙ places-zero m ∙ ap (λ (i : ℕ). replicate i empty) e) }
 
@@ -193,18 +192,18 @@ pub found-within : (p : Session → Bool) (q : Lot) (i : ℕ) → Good q → i �
 found-within p q i g e = omega (arith, place≤ p (used q), length-used q g)
 
 -- no more are used than there are places
-pub used-fits : (q : List ℕ) (n : ℕ) → Good (lot q n) → n ≤ length q / 8
+pub used-fits : (q : List ℕ) (n : ℕ) → Good (lot q n) → n ≤ capacity q
 used-fits q n g = omega (arith, g .fits, length-places q)
 
 -- the session `at` of the words q: its place is one of the words, and holds what the list has there
 module _ (q : List ℕ) (n at : ℕ) (g : Good (lot q n)) (h : at < n) where
-  pub slot-within : length q / 8 - n + at < length q / 8
+  pub slot-within : capacity q - n + at < capacity q
   slot-within = omega (arith, g .fits, length-places q)
 
-  pub slot-read : (d : Session) → getD (places q) (length q / 8 - n + at) d ≡ getD (used (lot q n)) at d
+  pub slot-read : (d : Session) → getD (places q) (capacity q - n + at) d ≡ getD (used (lot q n)) at d
   slot-read d = ap (λ (m : ℕ). getD (places q) (m - n + at) d) (sym (length-places q)) ∙ sym (getD-drop (free (lot q n)) (places q) at d)
 
-  pub slot-set : (r : List Session) (x : Session) → r ≡ set (places q) (length q / 8 - n + at) x →
+  pub slot-set : (r : List Session) (x : Session) → r ≡ set (places q) (capacity q - n + at) x →
       Good (record { items = r; len = n }) × (used (record { items = r; len = n }) ≡ set (used (lot q n)) at x)
   slot-set r x e =
       let k = length (places q) - n in
@@ -227,8 +226,8 @@ abbrev pub Counted : (Session → Bool) → Lot → ℕ → ℕ → Type 0
 Counted p q i n = (i ≤ q .len) × (count p (used q) ≡ n + count p (drop i (used q)))
 
 -- b among the first i
-abbrev pub Lowest : ℕ → (Session → ℕ) → Lot → ℕ → ℕ → Type 0
-Lowest none f q i b = (i ≤ q .len) × (b ≤ none) × (least none f (used q) ≡ min b (least none f (drop i (used q))))
+abbrev pub Earliest : (Session → Ninths) → Lot → ℕ → Ninths → Type 0
+Earliest f q i b = (i ≤ q .len) × (earliest f (used q) ≡ sooner (At b) (earliest f (drop i (used q))))
 
 -- the session i is the head of the rest
 pub head : (q : Lot) (i : ℕ) (d : Session) → Good q → i < q .len → drop i (used q) ≡ getD (used q) i d ∷ drop (i + 1) (used q)
@@ -334,31 +333,29 @@ unfolding tallied
 tally-out q i t g h s =
     ext-getD 0 t (tallied (used q)) (s .four) (λ c l. counted-out (of c) q i (getD t c 0) g h (s .each c) ∙ sym (tallied-at (used q) c (omega (arith, s .four))))
 
-pub lowest-none : (none : ℕ) (f : Session → ℕ) (q : Lot) → Lowest none f q 0 none
-lowest-none none f q = (omega arith, omega arith, omega (arith, least-none none f (used q)))
+-- ## The first end, and the first start of those in order of start
 
-pub lowest-more : (none : ℕ) (f : Session → ℕ) (q : Lot) (i b c : ℕ) (d : Session) → Good q → i < q .len → c ≡ min b (f (getD (used q) i d)) → Lowest none f q i b → Lowest none f q (i + 1) c
-lowest-more none f q i b c d g h e s =
-    let t : least none f (drop i (used q)) ≡ min (f (getD (used q) i d)) (least none f (drop (i + 1) (used q))) = rw (head q i d g h) refl in
-    (omega arith, omega (arith, s .1), omega (arith, s .2))
+pub earliest-empty : (f : Session → Ninths) (q : Lot) → Good q → q .len ≤ 0 → Never ≡ earliest f (used q)
+earliest-empty f q g h = sym (earliest-none f (used q) (omega (arith, length-used q g)))
 
-pub lowest-out : (none : ℕ) (f : Session → ℕ) (q : Lot) (i b : ℕ) → Good q → q .len ≤ i → Lowest none f q i b → b ≡ least none f (used q)
-lowest-out none f q i b g h s =
-    let e : least none f (drop i (used q)) ≡ none = rw (at-end q i g h) refl in
-    omega (arith, s .1, s .2)
+module _ (f : Session → Ninths) (q : Lot) (g : Good q) where
+  pub earliest-one : (x : Session) → 0 < q .len → x ≡ getD (used q) 0 empty → Earliest f q 1 (f x)
+  earliest-one x h e = (omega arith, rw e (ap (earliest f) (head q 0 empty g h)))
 
--- ## The first of those in order of start
+  -- c is the sooner of b and the session i
+  pub earliest-more : (i : ℕ) (b c : Ninths) (x : Session) → i < q .len → x ≡ getD (used q) i empty → sooner (At b) (At (f x)) ≡ At c → Earliest f q i b → Earliest f q (i + 1) c
+  earliest-more i b c x h e k s = (
+    omega arith,
+    s .1
+        ∙ earliest-next f (At b) (used q) i empty (omega (arith, length-used q g))
+        ∙ rw (add-one, ← e, k) refl,
+  )
 
-after-least : (none t : ℕ) (l : List Session) → All (λ s. t < s .start .0) l → min t (least none (λ s. s .start .0) l) ≡ min t none
-after-least none t [] a = refl
-after-least none t (s ∷ l) a = omega (arith, a .0, after-least none t l (a .1))
+  pub earliest-out : (i : ℕ) (b : Ninths) → q .len ≤ i → Earliest f q i b → At b ≡ earliest f (used q)
+  earliest-out i b h s = sym (s .1 ∙ earliest-last f (At b) (used q) i (omega (arith, length-used q g)))
 
-pub first-least : (none : ℕ) (q : Lot) (d : Session) → Good q → 0 < q .len → Sorted (used q) →
-    min (getD (used q) 0 d .start .0) none ≡ least none (λ s. s .start .0) (used q)
-first-least none q d g h o =
-    let e : used q ≡ getD (used q) 0 d ∷ drop 1 (used q) = head q 0 d g h in
-    let a = subst Sorted e o in
-    sym (ap (least none (λ s. s .start .0)) e ∙ after-least none (getD (used q) 0 d .start .0) (drop 1 (used q)) (a .0))
+pub first-earliest : (q : Lot) (x : Session) → Good q → 0 < q .len → Sorted (used q) → x ≡ getD (used q) 0 empty → At (x .start) ≡ earliest (λ s. s .start) (used q)
+first-earliest q x g h o e = ap (λ (s : Session). At (s .start)) e ∙ sym (earliest-start (used q) empty o (omega (arith, length-used q g)))
 
 -- ## Closing up, from the last on: the first i are as they were, and behind `to` stands what stays of the others
 

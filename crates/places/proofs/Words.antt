@@ -1,22 +1,22 @@
 -- Laws of the places of lent words: a place is read and written as an element of a list.
 use mathlib.Core.Path.{_≡_, refl, ap, _∙_}
 use mathlib.Core.List.{List, [], _∷_}
-use Prim.Native.Nat.{ℕ, zero, suc, _+_, _-_, _*_, _/_, _≤_, _<_}
+use Prim.Native.Nat.{ℕ, zero, suc, _+_, _*_, _≤_, _<_}
 use native.Mathlib.Omega.{arith}
 use native.Mathlib.Nat.{le-of-suc-le-suc}
 use lib.ListN.{length, drop, set, getD, replicate, length-set, length-drop, drop-of-length-le}
 use lib.Seq.{getD-drop, drop-set-lt}
 use Rattle.rules.specs.declared.Session.{Session}
 use Rattle.rules.specs.State.{empty}
-use Rattle.places.specs.Places.{row, rows, places, spare, zeros}
+use Rattle.places.specs.Places.{capacity, width, row, rows, places, spare, zeros}
 
 pub length-rows : (n : ℕ) (q : List ℕ) → length (rows n q) ≡ n
 unfolding rows
 length-rows zero q = refl
 length-rows (suc n) q = ap suc (length-rows n (drop 8 q))
 
-pub length-places : (q : List ℕ) → length (places q) ≡ length q / 8
-length-places q = length-rows (length q / 8) q
+pub length-places : (q : List ℕ) → length (places q) ≡ capacity q
+length-places q = length-rows (capacity q) q
 
 -- eight words in front
 split8 : (P : List ℕ → Type 0) (q : List ℕ) → 8 ≤ length q → ((a b c d e f g h : ℕ) (l : List ℕ) → P (a ∷ b ∷ c ∷ d ∷ e ∷ f ∷ g ∷ h ∷ l)) → P q
@@ -47,7 +47,7 @@ loaded q b =
       start = record { 0 = getD q (b + 3) 0 };
       end = record { 0 = getD q (b + 4) 0 };
       access = getD q (b + 5) 0;
-      over = getD q (b + 6) 0;
+      overrides = getD q (b + 6) 0;
       played = record { 0 = getD q (b + 7) 0 };
     }
 
@@ -55,7 +55,7 @@ loaded q b =
 abbrev pub stored : List ℕ → ℕ → Session → List ℕ
 stored q b x =
     set (set (set (set (set (set (set (set q b (x .conn)) (b + 1) (x .id)) (b + 2) (x .prior)) (b + 3) (x .start .0))
-    (b + 4) (x .end .0)) (b + 5) (x .access)) (b + 6) (x .over)) (b + 7) (x .played .0)
+    (b + 4) (x .end .0)) (b + 5) (x .access)) (b + 6) (x .overrides)) (b + 7) (x .played .0)
 
 rows-loaded : (n i : ℕ) (q : List ℕ) (d : Session) → i < n → 8 * n ≤ length q → loaded q (i * 8) ≡ getD (rows n q) i d
 unfolding rows
@@ -79,20 +79,20 @@ rows-stored (suc n) (suc i) q x h m =
     (ap (λ r. row (a ∷ b ∷ c ∷ e ∷ f ∷ g ∷ j ∷ k ∷ l) ∷ r) (rows-stored n i l x (le-of-suc-le-suc h) m′)))
     (simp length-drop (omega arith))
 
-pub load-is : (q : List ℕ) (i : ℕ) (d : Session) → i < length q / 8 → loaded q (i * 8) ≡ getD (places q) i d
-load-is q i d h = rows-loaded (length q / 8) i q d h (omega arith)
+pub load-is : (q : List ℕ) (i : ℕ) (d : Session) → i < capacity q → loaded q (i * 8) ≡ getD (places q) i d
+load-is q i d h = rows-loaded (capacity q) i q d h (omega arith)
 
-pub store-is : (q : List ℕ) (i : ℕ) (x : Session) → i < length q / 8 → places (stored q (i * 8) x) ≡ set (places q) i x
+pub store-is : (q : List ℕ) (i : ℕ) (x : Session) → i < capacity q → places (stored q (i * 8) x) ≡ set (places q) i x
 store-is q i x h =
     let n : length (stored q (i * 8) x) ≡ length q = simp length-set in
-    rw n (rows-stored (length q / 8) i q x h (omega arith))
+    rw n (rows-stored (capacity q) i q x h (omega arith))
 
-pub store-spare : (q : List ℕ) (i : ℕ) (x : Session) → i < length q / 8 → spare (stored q (i * 8) x) ≡ spare q
+pub store-spare : (q : List ℕ) (i : ℕ) (x : Session) → i < capacity q → spare (stored q (i * 8) x) ≡ spare q
 store-spare q i x h =
     let n : length (stored q (i * 8) x) ≡ length q = simp length-set in
-    let b : (j : ℕ) → j < 8 → i * 8 + j < length q / 8 * 8 = λ j k. omega arith in
-    let z : i * 8 < length q / 8 * 8 = omega arith in
-    let m = length q / 8 * 8 in
+    let b : (j : ℕ) → j < 8 → i * 8 + j < capacity q * width = λ j k. omega arith in
+    let z : i * 8 < capacity q * width = omega arith in
+    let m = capacity q * width in
     rw n
     (drop-set-lt m _ (i * 8 + 7) _ (b 7 (omega arith))
     ∙ drop-set-lt m _ (i * 8 + 6) _ (b 6 (omega arith))
@@ -120,14 +120,14 @@ rows-same (suc n) p q h k e d =
         row (a ∷ b ∷ c ∷ d ∷ f ∷ g ∷ i ∷ j ∷ l) ≡ row (a′ ∷ b′ ∷ c′ ∷ d′ ∷ f′ ∷ g′ ∷ i′ ∷ j′ ∷ l′) → l ≡ l′ →
         a ∷ b ∷ c ∷ d ∷ f ∷ g ∷ i ∷ j ∷ l ≡ a′ ∷ b′ ∷ c′ ∷ d′ ∷ f′ ∷ g′ ∷ i′ ∷ j′ ∷ l′
     join a b c d f g i j l a′ b′ c′ d′ f′ g′ i′ j′ l′ e t =
-        λ z. e z .conn ∷ e z .id ∷ e z .prior ∷ e z .start .0 ∷ e z .end .0 ∷ e z .access ∷ e z .over ∷ e z .played .0 ∷ t z
+        λ z. e z .conn ∷ e z .id ∷ e z .prior ∷ e z .start .0 ∷ e z .end .0 ∷ e z .access ∷ e z .overrides ∷ e z .played .0 ∷ t z
 
 pub places-same : (p q : List ℕ) → length p ≡ length q → places p ≡ places q → spare p ≡ spare q → p ≡ q
-places-same p q h e d = rows-same (length p / 8) p q (omega arith) (omega arith) (e ∙ rw h refl) (d ∙ rw h refl)
+places-same p q h e d = rows-same (capacity p) p q (omega arith) (omega arith) (e ∙ rw h refl) (d ∙ rw h refl)
 
 -- k whole places leave none to spare
 pub spare-none : (k : ℕ) (q : List ℕ) → length q ≡ k * 8 → spare q ≡ []
-spare-none k q e = drop-of-length-le q {i = length q / 8 * 8} (omega arith)
+spare-none k q e = drop-of-length-le q {i = capacity q * width} (omega arith)
 
 -- the places of zeros are empty
 zero-at : (m k : ℕ) → getD (zeros m) k 0 ≡ 0
@@ -147,10 +147,10 @@ rows-zero (suc n) q z =
       start = record { 0 = z 3 i };
       end = record { 0 = z 4 i };
       access = z 5 i;
-      over = z 6 i;
+      overrides = z 6 i;
       played = record { 0 = z 7 i };
     } in
     λ i. e i ∷ rows-zero n (drop 8 q) (λ k. getD-drop 8 q k 0 ∙ z (8 + k)) i
 
-pub places-zero : (m : ℕ) → places (zeros m) ≡ replicate (length (zeros m) / 8) empty
-places-zero m = rows-zero (length (zeros m) / 8) (zeros m) (zero-at m)
+pub places-zero : (m : ℕ) → places (zeros m) ≡ replicate (capacity (zeros m)) empty
+places-zero m = rows-zero (capacity (zeros m)) (zeros m) (zero-at m)

@@ -4,7 +4,7 @@ use mathlib.Core.List.{List, [], _∷_}
 use mathlib.Core.Bool.{Bool}
 use Prim.Native.Nat.{ℕ, zero, suc, _-_, _*_, _/_, _≤_}
 use lib.Dec.{leb}
-use lib.ListN.{length, take, drop, getD, replicate}
+use lib.ListN.{length, take, drop, set, getD, replicate}
 use Rattle.rules.specs.declared.Session.{Session}
 use Rattle.rules.specs.Answers.{waits}
 use Rattle.rules.specs.State.{empty, of, is, follows, startsAfter, endsAt}
@@ -13,7 +13,15 @@ use Rattle.places.specs.declared.Key.the-variants.{Held, Follows, Starts
 use Rattle.places.specs.declared.Those.{Those}
 use Rattle.places.specs.declared.Those.the-variants.{Of, EndsAt}
 
--- the session in the first eight words
+-- the words of a place
+abbrev pub width : ℕ
+width = 8
+
+-- how many places lent words have
+abbrev pub capacity : List ℕ → ℕ
+capacity q = length q / width
+
+-- the session in the first words
 abbrev pub row : List ℕ → Session
 row q =
     record {
@@ -23,22 +31,22 @@ row q =
       start = record { 0 = getD q 3 0 };
       end = record { 0 = getD q 4 0 };
       access = getD q 5 0;
-      over = getD q 6 0;
+      overrides = getD q 6 0;
       played = record { 0 = getD q 7 0 };
     }
 
--- n sessions, eight words to each
+-- n sessions, one behind the other
 unfoldable pub rows : ℕ → List ℕ → List Session
 rows zero q = []
-rows (suc n) q = row q ∷ rows n (drop 8 q)
+rows (suc n) q = row q ∷ rows n (drop width q)
 
 -- the places of lent words
 abbrev pub places : List ℕ → List Session
-places q = rows (length q / 8) q
+places q = rows (capacity q) q
 
 -- the words behind the last whole place: none, where whole places are lent
 abbrev pub spare : List ℕ → List ℕ
-spare q = drop (length q / 8 * 8) q
+spare q = drop (capacity q * width) q
 
 -- the words of places that are all empty
 abbrev pub zeros : ℕ → List ℕ
@@ -59,6 +67,10 @@ free l = length (l .items) - l .len
 -- the sessions that stand there, in their order
 abbrev pub used : Lot → List Session
 used l = drop (free l) (l .items)
+
+-- the session `from` in place of the session `to` too
+abbrev pub moved : ℕ → ℕ → List Session → List Session
+moved from to u = set u to (getD u from empty)
 
 -- what `cleared` gives and each function keeps: the free places are empty
 pub record Good (l : Lot) : Type 0 where

@@ -1,16 +1,20 @@
-// Sessions in words that the caller lends, eight words to a place: the used places last, each place before them all zeros.
+// Sessions in words that the caller lends, WIDTH words to a place: the used places last, each place before them all zeros.
 // The waiting ones stand in 64 places, in order of start, and the started ones in 10: in both it is the first that goes or comes
 // most often, and then no other moves.
 use rules::Ninths;
 use rules::Session;
+use rules::When;
 ghost use mathlib.Core.Path.{_≡_};
-ghost use Prim.Native.Nat.{_+_, _-_, _/_, _≤_, _<_};
-ghost use lib.ListN.{length, drop, set, getD};
-ghost use Rattle.rules.specs.Lists.{All, omit, place, insertAt, removeAt, least};
-ghost use Rattle.rules.specs.State.{empty, Sorted};
+ghost use Prim.Native.Nat.{_+_, _-_, _≤_, _<_};
+ghost use lib.ListN.{drop, set, getD};
+ghost use Rattle.rules.specs.Lists.{All, omit, place, insertAt, removeAt};
+ghost use Rattle.rules.specs.State.{empty, Sorted, earliest};
 ghost use Rattle.rules.specs.Instants.{outranks};
 ghost use Rattle.rules.specs.Answers.{inserted};
-ghost use Rattle.places.specs.Places.{places, spare, lot, used, Good, Made, OfFour, tallied, keyTest, among};
+ghost use Rattle.places.specs.Places.{capacity, places, spare, lot, used, moved, Good, Made, OfFour, tallied, keyTest, among};
+
+// The words of a place.
+pub const WIDTH: usize = 8;
 
 // What a search looks for: `keyTest` of specs/ gives each its test.
 pub enum Key {
@@ -37,17 +41,17 @@ pub fn nothing() -> Session
         start: Ninths(0),
         end: Ninths(0),
         access: 0,
-        over: 0,
+        overrides: 0,
         played: Ninths(0),
     }
 }
 
-// The session in the eight words of the place i.
+// The session in the words of the place i.
 fn read_row(q: &[u64], i: usize) -> Session
-    requires { ⌜ i < length (now q) / 8 ⌝ }
+    requires { ⌜ i < capacity (now q) ⌝ }
     ensures { λ r. ⌜ r ≡ getD (places (now (q .entry))) i empty ⌝ }
 {
-    let b = i * 8;
+    let b = i * WIDTH;
     Session {
         conn: q[b],
         id: q[b + 1],
@@ -55,25 +59,25 @@ fn read_row(q: &[u64], i: usize) -> Session
         start: Ninths(q[b + 3]),
         end: Ninths(q[b + 4]),
         access: q[b + 5],
-        over: q[b + 6],
+        overrides: q[b + 6],
         played: Ninths(q[b + 7]),
     }
 }
 
-// x in the eight words of the place i.
+// x in the words of the place i.
 fn write_row(q: &mut [u64], i: usize, x: Session)
-    requires { ⌜ i < length (now q) / 8 ⌝ }
+    requires { ⌜ i < capacity (now q) ⌝ }
     ensures list { λ _. ⌜ places (now (q .exit)) ≡ set (places (now (q .entry))) i x ⌝ }
     ensures rest { λ _. ⌜ spare (now (q .exit)) ≡ spare (now (q .entry)) ⌝ }
 {
-    let b = i * 8;
+    let b = i * WIDTH;
     q[b] = x.conn;
     q[b + 1] = x.id;
     q[b + 2] = x.prior;
     q[b + 3] = x.start.0;
     q[b + 4] = x.end.0;
     q[b + 5] = x.access;
-    q[b + 6] = x.over;
+    q[b + 6] = x.overrides;
     q[b + 7] = x.played.0;
 }
 
@@ -83,7 +87,7 @@ pub fn load(q: &[u64], n: usize, at: usize) -> Session
     requires { ⌜ at < n ⌝ }
     ensures { λ r. ⌜ r ≡ getD (used (lot (now (q .entry)) n)) at empty ⌝ }
 {
-    let free = q.len() / 8 - n;
+    let free = q.len() / WIDTH - n;
     read_row(q, free + at)
 }
 
@@ -93,7 +97,7 @@ pub fn replace_at(q: &mut [u64], n: usize, at: usize, x: Session)
     requires { ⌜ at < n ⌝ }
     ensures { λ _. ⌜ Made (now (q .entry)) (now (q .exit)) n (set (used (lot (now (q .entry)) n)) at x) ⌝ }
 {
-    let free = q.len() / 8 - n;
+    let free = q.len() / WIDTH - n;
     write_row(&mut *q, free + at, x)
 }
 
@@ -101,7 +105,7 @@ pub fn replace_at(q: &mut [u64], n: usize, at: usize, x: Session)
 fn move_to(q: &mut [u64], n: usize, from: usize, to: usize)
     requires { ⌜ Good (lot (now q) n) ⌝ }
     requires { ⌜ (from < n) × (to < n) ⌝ }
-    ensures { λ _. ⌜ Made (now (q .entry)) (now (q .exit)) n (set (used (lot (now (q .entry)) n)) to (getD (used (lot (now (q .entry)) n)) from empty)) ⌝ }
+    ensures { λ _. ⌜ Made (now (q .entry)) (now (q .exit)) n (moved from to (used (lot (now (q .entry)) n))) ⌝ }
 {
     if from == to {
         return;
@@ -113,10 +117,10 @@ fn move_to(q: &mut [u64], n: usize, from: usize, to: usize)
 // x before the session `at`: those before it move one place towards the free ones.
 pub fn insert_at(q: &mut [u64], n: usize, at: usize, x: Session)
     requires { ⌜ Good (lot (now q) n) ⌝ }
-    requires { ⌜ (at ≤ n) × (n < length (now q) / 8) ⌝ }
+    requires { ⌜ (at ≤ n) × (n < capacity (now q)) ⌝ }
     ensures { λ _. ⌜ Made (now (q .entry)) (now (q .exit)) (n + 1) (insertAt at x (used (lot (now (q .entry)) n))) ⌝ }
 {
-    let last_free = q.len() / 8 - n - 1;
+    let last_free = q.len() / WIDTH - n - 1;
     let to = last_free + at;
     let mut hole = last_free;
     while hole < to {
@@ -134,7 +138,7 @@ pub fn remove_at(q: &mut [u64], n: usize, at: usize)
     requires { ⌜ at < n ⌝ }
     ensures { λ _. ⌜ Made (now (q .entry)) (now (q .exit)) (n - 1) (removeAt at (used (lot (now (q .entry)) n))) ⌝ }
 {
-    let first = q.len() / 8 - n;
+    let first = q.len() / WIDTH - n;
     let mut hole = first + at;
     while first < hole {
         let before = hole - 1;
@@ -240,13 +244,17 @@ pub fn tally(q: &[u64], n: usize) -> [usize; 4]
     t
 }
 
-// The first end, or none.
-pub fn least_end(q: &[u64], n: usize, none: Ninths) -> Ninths
+// The first end.
+pub fn least_end(q: &[u64], n: usize) -> When
     requires { ⌜ Good (lot (now q) n) ⌝ }
-    ensures { λ r. ⌜ r .0 ≡ least (none .0) (λ s. s .end .0) (used (lot (now (q .entry)) n)) ⌝ }
+    ensures { λ r. ⌜ r ≡ earliest (λ s. s .end) (used (lot (now (q .entry)) n)) ⌝ }
 {
-    let mut best = none;
-    let mut i = 0;
+    if n == 0 {
+        return When::Never;
+    }
+    let first = load(q, n, 0);
+    let mut best = first.end;
+    let mut i = 1;
     while i < n {
         let x = load(q, n, i);
         let t = x.end;
@@ -255,29 +263,27 @@ pub fn least_end(q: &[u64], n: usize, none: Ninths) -> Ninths
         }
         i += 1;
     }
-    best
+    When::At(best)
 }
 
-// The first start of those that stand in order of start, or none: only the first is read.
-pub fn first_start(q: &[u64], n: usize, none: Ninths) -> Ninths
+// The first start of those that stand in order of start: only the first is read.
+pub fn first_start(q: &[u64], n: usize) -> When
     requires { ⌜ Good (lot (now q) n) ⌝ }
     requires { ⌜ Sorted (used (lot (now q) n)) ⌝ }
-    ensures { λ r. ⌜ r .0 ≡ least (none .0) (λ s. s .start .0) (used (lot (now (q .entry)) n)) ⌝ }
+    ensures { λ r. ⌜ r ≡ earliest (λ s. s .start) (used (lot (now (q .entry)) n)) ⌝ }
 {
     if n == 0 {
-        return none;
+        return When::Never;
     }
-    let x = load(q, n, 0);
-    if x.start.0 < none.0 {
-        return x.start;
-    }
-    none
+    let first = load(q, n, 0);
+    let t = first.start;
+    When::At(t)
 }
 
 // x before the first that starts later.
 pub fn put(q: &mut [u64], n: usize, x: Session)
     requires { ⌜ Good (lot (now q) n) ⌝ }
-    requires { ⌜ n < length (now q) / 8 ⌝ }
+    requires { ⌜ n < capacity (now q) ⌝ }
     ensures { λ _. ⌜ Made (now (q .entry)) (now (q .exit)) (n + 1) (inserted x (used (lot (now (q .entry)) n))) ⌝ }
 {
     let t = x.start;

@@ -1,11 +1,12 @@
 -- Laws for the readers and their callers: what is said of a part, and the lengths that an answer grants.
 -- Rests on nothing but the definitions.
-use mathlib.Core.Bool.{Bool, not}
+use mathlib.Core.Bool.{Bool, true, false, not}
 use mathlib.Core.List.{List}
 use mathlib.Core.Path.{_≡_, sym, ap, subst, _∙_}
+use mathlib.Core.Logic.{_⊎_, inl, inr}
 use Prim.Native.Nat.{ℕ, _+_, _-_, _≤_}
 use native.Mathlib.Omega.{arith}
-use borrow.Author.Tests.{ltb-false}
+use borrow.Author.Tests.{ne-eqb, ltb-false}
 use lib.Dec.{eqb, ltb}
 use lib.ListN.{length, take, drop, length-drop}
 use lib.Seq.{take-all}
@@ -15,7 +16,7 @@ use Rattle.rules.specs.declared.Message.{Message}
 use Rattle.rules.specs.declared.Message.the-variants.{Init, Alive, Splice, Abort, Unreadable}
 use Rattle.rules.specs.Bytes.{messageSize, oversize}
 use Rattle.rules.specs.Calls.{framing}
-use Rattle.rules.specs.Reading.{initRequest, aliveRequest, spliceRequest, abortRequest, separateService, badInit, readInit, readAlive, readAbort, serviceID, badSplice, readSplice, read}
+use Rattle.rules.specs.Reading.{initRequest, aliveRequest, spliceRequest, abortRequest, separateService, badInit, readInit, readAlive, readAbort, serviceID, badSplice, readSplice, isRead, read}
 use Rattle.rules.proofs.Tests.{by, or-none}
 
 -- what was said of a part, by a test that is turned round
@@ -25,6 +26,27 @@ said f e p g = ap not (ap f (sym p) ∙ sym e) ∙ g
 -- `&l[a..]` is all that stands from the place a on
 pub behind : (a : ℕ) (l : List ℕ) → take (length l - a) (drop a l) ≡ drop a l
 behind a l = take-all (length l - a) (drop a l) (simp length-drop (omega arith))
+
+-- ## The list of four
+
+-- as code asks it
+abbrev Four : ℕ → Type 0
+Four id = (id ≡ initRequest) ⊎ ((id ≡ aliveRequest) ⊎ ((id ≡ spliceRequest) ⊎ (id ≡ abortRequest)))
+
+pub read-yes : (id : ℕ) → Four id → true ≡ isRead id
+read-yes id (inl e) = rw e
+read-yes id (inr (inl e)) = rw e
+read-yes id (inr (inr (inl e))) = rw e
+read-yes id (inr (inr (inr e))) = rw e
+
+pub read-no : (id : ℕ) → (Four id → ⊥) → false ≡ isRead id
+read-no id n =
+    rw (
+      ne-eqb id initRequest (λ e. n (inl e)),
+      ne-eqb id aliveRequest (λ e. n (inr (inl e))),
+      ne-eqb id spliceRequest (λ e. n (inr (inr (inl e)))),
+      ne-eqb id abortRequest (λ e. n (inr (inr (inr e)))),
+    )
 
 -- ## What callers go on with
 

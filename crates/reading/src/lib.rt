@@ -4,7 +4,7 @@ ghost use Prim.Native.Nat.{_+_, _≤_};
 ghost use lib.ListN.{length};
 ghost use Rattle.rules.specs.Bytes.{dataOf};
 ghost use Rattle.rules.specs.Calls.{framing};
-ghost use Rattle.rules.specs.Reading.{channelName, splicerName, readInit, readAlive, readAbort, readStart, badSplice, separatePids, wholeRequest, readSplice, «read»};
+ghost use Rattle.rules.specs.Reading.{channelName, splicerName, readInit, readAlive, readAbort, readStart, badSplice, separatePids, wholeRequest, readSplice, isRead, «read»};
 
 pub mod descriptors;
 pub mod names;
@@ -21,6 +21,18 @@ use rules::Request;
 use rules::Start;
 use rules::Ticks;
 
+// "Read: Init_Request, Alive_Request, Splice_Request, Abort_Request."
+pub const INIT_REQUEST: u16 = 0x0001;
+
+const ALIVE_REQUEST: u16 = 0x0005;
+
+const SPLICE_REQUEST: u16 = 0x0007;
+
+const ABORT_REQUEST: u16 = 0x000E;
+
+// "4: MessageSize above 4,088".
+pub const LONGEST: u16 = 4088;
+
 // As a PriorSession: the request is timed.
 const NOBODY: u32 = 0xFFFFFFFF;
 
@@ -32,7 +44,7 @@ pub fn frame(l: &[u8]) -> Framing
         return Framing::Unframed(Refusal::Short);
     }
     let size = number2(l, 2);
-    if 4088 < size {
+    if LONGEST < size {
         return Framing::Unframed(Refusal::Oversize);
     }
     if l.len() < 8 + size as usize {
@@ -126,7 +138,7 @@ fn bad_splice(d: &[u8], r: Request) -> bool
     if 9 < r.access {
         return true;
     }
-    if 1 < r.over {
+    if 1 < r.overrides {
         return true;
     }
     if 1 < d[32] {
@@ -147,7 +159,7 @@ fn separate_pids(d: &[u8], start: Start) -> Request
         service: 0xFFFF,
         duration: Ticks(0),
         access: 0,
-        over: 0,
+        overrides: 0,
     }
 }
 
@@ -162,7 +174,7 @@ fn whole_request(d: &[u8], start: Start) -> Request
         service: number2(d, 16),
         duration: Ticks(number4(d, 18)),
         access: d[30],
-        over: d[31],
+        overrides: d[31],
     }
 }
 
@@ -187,15 +199,25 @@ pub fn read_splice(d: &[u8]) -> Message
     Message::Splice(r)
 }
 
+// The list of four.
+pub fn is_read(id: u16) -> bool
+    ensures { λ r. ⌜ r ≡ isRead id ⌝ }
+{
+    match id {
+        INIT_REQUEST | ALIVE_REQUEST | SPLICE_REQUEST | ABORT_REQUEST => true,
+        _ => false,
+    }
+}
+
 // A message of the list of four, by its MessageID and its data; any other is unreadable, as the definition has it.
 pub fn read(id: u16, d: &[u8]) -> Message
     ensures { λ r. ⌜ r ≡ «read» id (now (d .entry)) ⌝ }
 {
     match id {
-        0x0001 => read_init(d),
-        0x0005 => read_alive(d),
-        0x0007 => read_splice(d),
-        0x000E => read_abort(d),
+        INIT_REQUEST => read_init(d),
+        ALIVE_REQUEST => read_alive(d),
+        SPLICE_REQUEST => read_splice(d),
+        ABORT_REQUEST => read_abort(d),
         _ => Message::Unreadable,
     }
 }

@@ -2,9 +2,11 @@
 ghost use mathlib.Core.Path.{_≡_};
 ghost use Prim.Native.Nat.{_*_, _^_, _<_};
 ghost use Rattle.rules.specs.Units.{timeOf, fromMicros, fromTicks, toMicros, toTicks};
+ghost use Rattle.rules.specs.State.{sooner, notAfter};
 use rules::Micros;
 use rules::Ninths;
 use rules::Ticks;
+use rules::When;
 
 // The time that Seconds and MicroSeconds of the wire give. MicroSeconds above 999,999 is for callers to refuse.
 pub fn time_of(seconds: u32, micros: u32) -> Micros
@@ -40,4 +42,33 @@ pub fn to_ticks(n: Ninths) -> Ticks
     ensures { λ r. ⌜ r ≡ toTicks n ⌝ }
 {
     Ticks((n.0 / 100) as u32)
+}
+
+// The sooner of two instants, of which either may never come.
+pub fn sooner(a: When, b: When) -> When
+    ensures { λ r. ⌜ r ≡ sooner a b ⌝ }
+{
+    let When::At(x) = a else {
+        return b;
+    };
+    let When::At(y) = b else {
+        return a;
+    };
+    if y.0 < x.0 {
+        return b;
+    }
+    a
+}
+
+// The instant, if it is not later than a time.
+pub fn not_after(until: Ninths, t: When) -> When
+    ensures { λ r. ⌜ r ≡ notAfter (until .0) t ⌝ }
+{
+    let When::At(x) = t else {
+        return t;
+    };
+    if until.0 < x.0 {
+        return When::Never;
+    }
+    t
 }

@@ -7,7 +7,7 @@ ghost use Prim.Native.Nat.{_≤_};
 ghost use lib.ListN.{length};
 ghost use Rattle.rules.specs.Bytes.{bytes, written, nameIn, padded};
 ghost use Rattle.rules.specs.Records.{framed, timeBytes, recordBytes, General, InitResponse, AliveResponse, SpliceResponse, SpliceComplete, AbortResponse};
-ghost use Rattle.writing.specs.Header.{headerOf};
+ghost use Rattle.writing.specs.Header.{headerOf, Turned};
 
 // ---- parts of a record. "All numbers are big-endian."
 
@@ -26,14 +26,26 @@ fn put2(out: &mut [u8], x: u16)
     out[1] = (x % 256) as u8;
 }
 
+// The four low bytes of x, turned round: stored from the lowest up they stand in big-endian order. So they are one store, where four
+// stores of a number's bytes from the highest down stay four.
+fn turned(x: u64) -> u64
+    ensures { λ r. ⌜ Turned x r ⌝ }
+{
+    (x % 256) * 16777216
+        + (x / 256 % 256) * 65536
+        + (x / 256 / 256 % 256) * 256
+        + x / 256 / 256 / 256 % 256
+}
+
 fn put4(out: &mut [u8], x: u64)
     requires { ⌜ 4 ≤ length (now out) ⌝ }
     ensures { λ _. ⌜ now (out .exit) ≡ written (now (out .entry)) 0 (bytes 4 x) ⌝ }
 {
-    out[0] = (x / 256 / 256 / 256 % 256) as u8;
-    out[1] = (x / 256 / 256 % 256) as u8;
-    out[2] = (x / 256 % 256) as u8;
-    out[3] = (x % 256) as u8;
+    let y = turned(x);
+    out[0] = (y % 256) as u8;
+    out[1] = (y / 256 % 256) as u8;
+    out[2] = (y / 256 / 256 % 256) as u8;
+    out[3] = (y / 256 / 256 / 256 % 256) as u8;
 }
 
 // Seconds 4, MicroSeconds 4.

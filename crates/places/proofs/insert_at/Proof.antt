@@ -2,18 +2,18 @@
 use native.Mathlib.Omega.{arith}
 use borrow.Author.Needs.{needs}
 use mathlib.Core.Path.{_≡_, refl, ap, _∙_}
-use Prim.Native.Nat.{_+_, _-_, _/_, _≤_, _<_}
+use Prim.Native.Nat.{_+_, _-_, _≤_, _<_}
 use lib.ListN.{length}
 use Rattle.rules.specs.Lists.{insertAt, removeAt}
 use Rattle.rules.specs.State.{empty}
-use Rattle.places.specs.Places.{lot, places, spare}
+use Rattle.places.specs.Places.{capacity, lot, places, spare}
 use Rattle.places.proofs.Words.{length-places}
 use Rattle.places.proofs.Laws.{hole-behind, hole-filled, insert-made}
 use Rattle.places.proofs.insert_at.Statement.{statement}
 use Rattle.places.proofs.insert_at.Tie as tie
 
 abbrev Inv-loop : tie.InvT-loop
-Inv-loop q₀ n at x last to hole₀ q hole = (hole ≤ to) × (to < length q / 8) × (length q ≡ length q₀) × (removeAt hole (places q) ≡ removeAt last (places q₀)) × (spare q ≡ spare q₀)
+Inv-loop q₀ n at x last to hole₀ q hole = (hole ≤ to) × (to < capacity q) × (length q ≡ length q₀) × (removeAt hole (places q) ≡ removeAt last (places q₀)) × (spare q ≡ spare q₀)
 
 abbrev μ-loop : tie.MeasureT-loop
 μ-loop q₀ n at x last to hole₀ q hole = to - hole
@@ -58,7 +58,7 @@ returns : tie.Need-returns Inv-loop μ-loop
 returns c =
     let s = c .before .before .before .before .before .before .before in
     let l = c .before .before .before .before .before .loop in
-    let k = length (s .args .q .now) / 8 - s .args .n - 1 in
+    let k = capacity (s .args .q .now) - s .args .n - 1 in
     let e : l .hole ≡ k + s .args .at = omega arith in
     let h : k + s .args .at < length (places (l .q)) = omega (arith, length-places (l .q)) in
     let m = insert-made (lot (s .args .q .now) (s .args .n)) _ (s .args .at) k (s .args .x) (s .pre .0) (omega (arith, length-places (s .args .q .now))) (omega (arith, length-places (s .args .q .now))) (s .pre .1 .0)

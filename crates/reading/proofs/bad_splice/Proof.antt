@@ -42,7 +42,7 @@ returns-4 : tie.Need-returns-4
 returns-4 c =
     let s = c .before .before .before .before .before .before .before .before .before in
     let d = s .args .d .now in
-    rw (lt-ltb 1 (overridePlaying d) (omega (arith, ap (λ x. x .over) (s .pre .1)))) (simp or-true)
+    rw (lt-ltb 1 (overridePlaying d) (omega (arith, ap (λ x. x .overrides) (s .pre .1)))) (simp or-true)
 
 shared-slice-read-if6 : tie.Need-shared-slice-read-if6
 shared-slice-read-if6 c = search needs
@@ -77,7 +77,7 @@ returns-6 c =
       le-ltb (length d) 33 (s .pre .0),
       ne-eqb (duration d) 0 (omega (arith, ap (λ x. x .duration .0) (s .pre .1))),
       le-ltb 9 (accessType d) (omega (arith, ap (λ x. x .access) (s .pre .1))),
-      le-ltb 1 (overridePlaying d) (omega (arith, ap (λ x. x .over) (s .pre .1))),
+      le-ltb 1 (overridePlaying d) (omega (arith, ap (λ x. x .overrides) (s .pre .1))),
       le-ltb 1 (returnToPriorChannel d) (omega arith),
       time,
       or-false (not (descriptorsFill (descriptorsOf d))),

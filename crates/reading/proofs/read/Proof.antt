@@ -1,6 +1,6 @@
 -- The MessageID decides.
 use borrow.Author.Tests.{ne-eqb}
-use Rattle.rules.specs.Reading.{«read»}
+use Rattle.rules.specs.Reading.{initRequest, aliveRequest, spliceRequest, abortRequest, «read»}
 use borrow.Author.Needs.{needs}
 use Rattle.reading.proofs.read.Statement.{statement}
 use Rattle.reading.proofs.read.Tie as tie
@@ -39,10 +39,10 @@ returns-5 c =
     let id = c .before .before .args .id in
     let none = c .match .rest in
     rw (
-      ne-eqb id 0x0001 (none .0 .0 .0 .1),
-      ne-eqb id 0x0005 (none .0 .0 .1),
-      ne-eqb id 0x0007 (none .0 .1),
-      ne-eqb id 0x000E (none .1),
+      ne-eqb id initRequest (none .0 .0 .0 .1),
+      ne-eqb id aliveRequest (none .0 .0 .1),
+      ne-eqb id spliceRequest (none .0 .1),
+      ne-eqb id abortRequest (none .1),
     )
 
 pub read-spec : {M : Type 1} → statement M

@@ -3,7 +3,7 @@ use mathlib.Core.Path.{sym, ap, _∙_}
 use native.Mathlib.Omega.{arith}
 use borrow.Author.Tests.{eq-eqb, ne-eqb, lt-ltb, le-ltb}
 use lib.ListN.{length}
-use Rattle.rules.specs.Reading.{readSplice, serviceID}
+use Rattle.rules.specs.Reading.{separateService, readSplice, serviceID}
 use Rattle.rules.specs.declared.Message.the-variants.{Splice}
 use borrow.Author.Needs.{needs}
 use Rattle.reading.proofs.read_splice.Statement.{statement}
@@ -28,14 +28,14 @@ returns-2 : tie.Need-returns-2
 unfolding readSplice
 returns-2 c =
     let d = c .before .before .before .before .before .before .args .d .now in
-    rw (le-ltb (length d) 18 (omega arith), eq-eqb (serviceID d) 0xFFFF (omega arith))
+    rw (le-ltb (length d) 18 (omega arith), eq-eqb (serviceID d) separateService (omega arith))
     (ap Splice (c .separate-pids .ensures))
 
 returns-3 : tie.Need-returns-3
 unfolding readSplice
 returns-3 c =
     let d = c .before .before .before .before .before .before .args .d .now in
-    rw (le-ltb (length d) 18 (omega arith), ne-eqb (serviceID d) 0xFFFF (omega arith), lt-ltb (length d) 33 (omega arith))
+    rw (le-ltb (length d) 18 (omega arith), ne-eqb (serviceID d) separateService (omega arith), lt-ltb (length d) 33 (omega arith))
 
 whole-request-requires : tie.Need-whole-request-requires
 whole-request-requires c κs = search needs
@@ -49,7 +49,7 @@ returns-4 c =
     let d = c .before .before .before .before .before .before .before .before .before .args .d .now in
     rw (
       le-ltb (length d) 18 (omega arith),
-      ne-eqb (serviceID d) 0xFFFF (omega arith),
+      ne-eqb (serviceID d) separateService (omega arith),
       sym (c .before .bad-splice .ensures) ∙ c .if4 .taken,
     )
 
@@ -59,7 +59,7 @@ returns-5 c =
     let d = c .before .before .before .before .before .before .before .before .before .args .d .now in
     rw (
       le-ltb (length d) 18 (omega arith),
-      ne-eqb (serviceID d) 0xFFFF (omega arith),
+      ne-eqb (serviceID d) separateService (omega arith),
       sym (c .before .bad-splice .ensures) ∙ c .if4 .left,
     )
     (ap Splice (c .before .before .whole-request .ensures))

@@ -1,4 +1,4 @@
--- `put4` meets its contract: the stores, one behind the other, are the number's bytes (`sets-eq`).
+-- The stores, one behind the other, are the bytes of the turned number (`sets-eq`), which are those of the number in big-endian order.
 use native.Mathlib.Omega.{arith}
 use lib.ListN.{length-set}
 use lib.Seq.{sets-eq}
@@ -6,6 +6,9 @@ use Rattle.rules.specs.Bytes.{bytes, written}
 use borrow.Author.Needs.{needs}
 use Rattle.writing.proofs.put4.Statement.{statement}
 use Rattle.writing.proofs.put4.Tie as tie
+
+turned-requires : tie.Need-turned-requires
+turned-requires c κs = search needs
 
 cast-out : tie.Need-cast-out
 cast-out c = search needs
@@ -36,12 +39,16 @@ same-length c = search needs
 
 returns : tie.Need-returns
 unfolding bytes written
-returns c = sets-eq (bytes 4 (c .args .x)) (c .args .out .now) 0 (omega arith)
+returns c =
+    let s = c .before .before in
+    let t = c .turned .ensures in
+    rw (t .first, t .second, t .third, t .fourth) (sets-eq (bytes 4 (s .args .x)) (s .args .out .now) 0 (omega arith))
 
 pub put4-spec : {M : Type 1} → statement M
 put4-spec =
     tie.close
     (tie.spec
+    turned-requires
     cast-out
     slice-write-out
     cast-out-2
