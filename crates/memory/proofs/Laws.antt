@@ -1,0 +1,354 @@
+-- What each change of the words leaves of all else, and that what memory shows determines every word and byte.
+-- Rests on the laws of parts of lists, and on places' words-same: the sessions and the zeros before them determine their words.
+use mathlib.Core.Path.{_≡_, refl, sym, ap, ap₂, subst, _∙_}
+use mathlib.Core.List.{List, [], _∷_, _++_, map}
+use Prim.Native.Nat.{ℕ, zero, suc, _+_, _-_, _*_, _≤_, _<_}
+use native.Mathlib.Omega.{arith}
+use lib.ListN.{length, take, drop, set, getD, replicate, length-set, length-replicate, length-drop, take-append-drop, List·getD-map}
+use lib.Seq.{length-take-le, take-all, take-at, drop-at, take-add, take-take, take-set-lt, drop-drop, drop-cons, getD-take, getD-drop, drop-set-lt, drop-set-add, getD-set-same, getD-set-other, set-getD}
+use borrow.Rule.Slice.PartMut.{putMid, postOf, same-len-mid, mid-len, take-put, drop-put}
+use borrow.Author.Tests.{ne-eqb}
+use Rattle.rules.specs.declared.Session.{Session}
+use Rattle.rules.specs.declared.Link.{Link}
+use Rattle.rules.specs.declared.Link.the-variants.{Closed, Opened, Initialised}
+use Rattle.rules.specs.Lists.{All}
+use Rattle.rules.specs.Bytes.{part, padded}
+use Rattle.rules.specs.State.{Splicer}
+use Rattle.rules.proofs.All.{all-replicate}
+use Rattle.places.specs.Places.{Lot, lot, Good, used, width, capacity, zeros}
+use Rattle.places.proofs.Laws.{length-used, words-same, cleared, cleared-none}
+use Rattle.places.proofs.Words.{spare-none}
+use Rattle.memory.specs.declared.Which.{Which}
+use Rattle.memory.specs.declared.Which.the-variants.{Waiting, Started}
+use Rattle.memory.specs.Memory.{clockWord, slotOf, firstLink, connections, placesOf, fromOf, toOf, spanOf, words, wordOf, linkIn, IsLink, linksOf, lotOf, sessions, Form, Memory, see, Now}
+use Rattle.memory.specs.Memory.{timed, linked, queued, listed, nothingShown, nameSize, nameOf, Stored, Whole, shown}
+
+-- ## Parts of words
+
+cut : (b j : ℕ) (x : List ℕ) → b ≤ length x → part b j x ≡ drop b (take (b + j) x)
+cut b j x h = sym (ap (drop b) (take-add b j x) ∙ drop-at (take b x) (take j (drop b x)) b (length-take-le b x h))
+
+put-word′ : (m ys : List ℕ) (a k : ℕ) → a ≤ length m → (i : ℕ) → i < a → getD (putMid a k m ys) i 0 ≡ getD m i 0
+put-word′ m ys a k h i j =
+    sym (getD-take a (putMid a k m ys) i 0 j) ∙ ap (λ z. getD z i 0) (take-put a k m ys h) ∙ getD-take a m i 0 j
+
+-- ys in place of the part from a to e
+module _ (m ys : List ℕ) (a e : ℕ) (h : a ≤ e) (g : e ≤ length m) (l : length ys ≡ e - a) where
+  abbrev put : List ℕ
+  put = putMid a (e - a) m ys
+
+  length-put : length put ≡ length m
+  length-put = same-len-mid a (e - a) m ys (omega (arith, l, mid-len a e m g))
+
+  put-here : part a (e - a) put ≡ ys
+  put-here =
+      ap (take (e - a)) (drop-at (take a m) (ys ++ postOf a (e - a) m) a (length-take-le a m (omega arith)))
+      ∙ take-at ys (postOf a (e - a) m) (e - a) l
+
+  put-before : (b j : ℕ) → b + j ≤ a → part b j put ≡ part b j m
+  put-before b j i =
+      cut b j put (omega (arith, length-put))
+      ∙ ap (drop b) (sym (take-take (b + j) a put i) ∙ ap (take (b + j)) (take-put a (e - a) m ys (omega arith)) ∙ take-take (b + j) a m i)
+      ∙ sym (cut b j m (omega arith))
+
+  put-behind : (b j : ℕ) → e ≤ b → part b j put ≡ part b j m
+  put-behind b j i =
+      let q : e + (b - e) ≡ b = omega arith in
+      ap (take j) (
+      ap (λ k. drop k put) (sym q)
+      ∙ sym (drop-drop (b - e) e put)
+      ∙ ap (drop (b - e)) (drop-put a e m ys h g l)
+      ∙ drop-drop (b - e) e m
+      ∙ ap (λ k. drop k m) q
+      )
+
+  put-word : (i : ℕ) → i < a → getD put i 0 ≡ getD m i 0
+  put-word i k = put-word′ m ys a (e - a) (omega arith) i k
+
+-- one word n at i: the parts behind it stay
+set-behind : (m : List ℕ) (i n b j : ℕ) → i < b → part b j (set m i n) ≡ part b j m
+set-behind m i n b j h = ap (take j) (drop-set-lt b m i n h)
+
+set-within : (m : List ℕ) (n b i j : ℕ) → i < j → part b j (set m (b + i) n) ≡ set (part b j m) i n
+set-within m n b i j h = ap (take j) (drop-set-add b m i n) ∙ take-set-lt j (drop b m) i n h
+
+-- a part of zeros
+take-zeros : (k n : ℕ) → k ≤ n → take k (zeros n) ≡ zeros k
+take-zeros zero n h = refl
+take-zeros (suc k) zero h = absurd (omega arith)
+take-zeros (suc k) (suc n) h = ap (λ l. 0 ∷ l) (take-zeros k n (omega arith))
+
+pub drop-zeros : (k n : ℕ) → drop k (zeros n) ≡ zeros (n - k)
+drop-zeros zero n = let e : n ≡ n - 0 = omega arith in ap zeros e
+drop-zeros (suc k) zero = let e : 0 ≡ 0 - suc k = omega arith in ap zeros e
+drop-zeros (suc k) (suc n) = let e : n - k ≡ suc n - suc k = omega arith in drop-zeros k n ∙ ap zeros e
+
+part-zeros : (b j n : ℕ) → b + j ≤ n → part b j (zeros n) ≡ zeros j
+part-zeros b j n h = ap (take j) (drop-zeros b n) ∙ take-zeros j (n - b) (omega arith)
+
+-- ## The connections' words
+
+-- a word says what its link says
+word-link : (n : ℕ) → IsLink n → wordOf (linkIn n) ≡ n
+word-link zero h = refl
+word-link (suc zero) h = refl
+word-link (suc (suc zero)) h = refl
+word-link (suc (suc (suc n))) h = absurd (omega arith)
+
+pub link-word : (l : Link) → linkIn (wordOf l) ≡ l
+link-word Closed = refl
+link-word Opened = refl
+link-word Initialised = refl
+
+pub is-link : (l : Link) → IsLink (wordOf l)
+is-link Closed = omega arith
+is-link Opened = omega arith
+is-link Initialised = omega arith
+
+words-links : (l : List ℕ) → All IsLink l → map wordOf (map linkIn l) ≡ l
+words-links [] a = refl
+words-links (n ∷ l) a = cc (word-link n (a .0), words-links l (a .1))
+
+links-same : (l k : List ℕ) → All IsLink l → All IsLink k → map linkIn l ≡ map linkIn k → l ≡ k
+links-same l k a b e = sym (words-links l a) ∙ ap (λ y. map wordOf y) e ∙ words-links k b
+
+link-set : (l : List ℕ) (c n : ℕ) → map linkIn (set l c n) ≡ set (map linkIn l) c (linkIn n)
+link-set [] c n = refl
+link-set (x ∷ l) zero n = refl
+link-set (x ∷ l) (suc c) n = ap (λ m. linkIn x ∷ m) (link-set l c n)
+
+all-set : (l : List ℕ) (c n : ℕ) → IsLink n → All IsLink l → All IsLink (set l c n)
+all-set [] c n h a = tt
+all-set (x ∷ l) zero n h a = (h, a .1)
+all-set (x ∷ l) (suc c) n h a = (a .0, all-set l c n h (a .1))
+
+-- the word of connection c, wherever it is read
+pub link-at : (m : List ℕ) (c : ℕ) → c ≤ 3 → linkIn (getD m (firstLink + c) 0) ≡ getD (see m .links) c Closed
+link-at m c h =
+    ap linkIn (sym (getD-drop firstLink m c 0) ∙ sym (getD-take connections (drop firstLink m) c 0 (omega arith)))
+    ∙ sym (List·getD-map linkIn (linksOf m) c 0)
+
+-- ## What the parts of the words show, all of them show
+
+module _ (m : List ℕ) (t : ℕ) (l : List ℕ) (w k : Lot) where
+  pub shows : length m ≡ words → getD m clockWord 0 ≡ t → linksOf m ≡ l → lotOf Waiting m ≡ w → lotOf Started m ≡ k → All IsLink l → Good w → Good k →
+      Now m (record { clock = t; links = map linkIn l; queue = record { waiting = used w; started = used k } })
+  shows whole clock links waiting started a g h =
+      record {
+        form =
+            record {
+              whole = whole;
+              waiting = subst (λ (x : Lot). Good x) (sym waiting) g;
+              started = subst (λ (x : Lot). Good x) (sym started) h;
+              links = subst (λ (x : List ℕ). All IsLink x) (sym links) a;
+            };
+        is = λ i. record { clock = clock i; links = map linkIn (links i); queue = record { waiting = used (waiting i); started = used (started i) } };
+      }
+
+pub a-lot : {x y : List ℕ} {n k : ℕ} → x ≡ y → n ≡ k → lot x n ≡ lot y k
+a-lot e f = ap₂ (λ (x : List ℕ) (k : ℕ). lot x k) e f
+
+-- ## A list and its count
+
+good : (v : Which) (m : List ℕ) → Form m → Good (lotOf v m)
+good Waiting m f = f .waiting
+good Started m f = f .started
+
+pub counted : (v : Which) (m : List ℕ) → Form m → getD m (slotOf v) 0 ≡ length (sessions v m)
+counted v m f = sym (length-used (lotOf v m) (good v m f))
+
+within : (v : Which) (m : List ℕ) → Form m → (fromOf v ≤ toOf v) × (toOf v ≤ length m)
+within Waiting m f = (omega arith, omega (arith, f .whole))
+within Started m f = (omega arith, omega (arith, f .whole))
+
+-- the places ys with n used ones, in place of a list and its count: all else shows as it did
+changed : (v : Which) (m ys : List ℕ) (n : ℕ) → Form m → length ys ≡ spanOf v → Good (lot ys n) →
+    Now (set (putMid (fromOf v) (spanOf v) m ys) (slotOf v) n) (queued (listed v (used (lot ys n)) (see m .queue)) (see m))
+changed Waiting m ys n f l g =
+    let a = fromOf Waiting in
+    let e = toOf Waiting in
+    let i = slotOf Waiting in
+    let o = slotOf Started in
+    let h = within Waiting m f in
+    let p = putMid a (e - a) m ys in
+    let lp : length p ≡ words = length-put m ys a e (h .0) (h .1) l ∙ f .whole in
+    shows (set p i n) (see m .clock) (linksOf m) (lot ys n) (lotOf Started m)
+    (length-set p i n ∙ lp)
+    (getD-set-other p i clockWord n 0 (λ z. omega (arith, z)) ∙ put-word m ys a e (h .0) (h .1) l clockWord (omega arith))
+    (set-behind p i n firstLink connections (omega arith) ∙ put-before m ys a e (h .0) (h .1) l firstLink connections (omega arith))
+    (a-lot (set-behind p i n a (e - a) (omega arith) ∙ put-here m ys a e (h .0) (h .1) l) (getD-set-same p i n 0 (omega (arith, lp))))
+    (a-lot (set-behind p i n (fromOf Started) (spanOf Started) (omega arith)
+    ∙ put-behind m ys a e (h .0) (h .1) l (fromOf Started) (spanOf Started) (omega arith))
+    (getD-set-other p i o n 0 (λ z. omega (arith, z)) ∙ put-word m ys a e (h .0) (h .1) l o (omega arith)))
+    (f .links) g (f .started)
+changed Started m ys n f l g =
+    let a = fromOf Started in
+    let e = toOf Started in
+    let i = slotOf Started in
+    let o = slotOf Waiting in
+    let h = within Started m f in
+    let p = putMid a (e - a) m ys in
+    let lp : length p ≡ words = length-put m ys a e (h .0) (h .1) l ∙ f .whole in
+    shows (set p i n) (see m .clock) (linksOf m) (lotOf Waiting m) (lot ys n)
+    (length-set p i n ∙ lp)
+    (getD-set-other p i clockWord n 0 (λ z. omega (arith, z)) ∙ put-word m ys a e (h .0) (h .1) l clockWord (omega arith))
+    (set-behind p i n firstLink connections (omega arith) ∙ put-before m ys a e (h .0) (h .1) l firstLink connections (omega arith))
+    (a-lot (set-behind p i n (fromOf Waiting) (spanOf Waiting) (omega arith)
+    ∙ put-before m ys a e (h .0) (h .1) l (fromOf Waiting) (spanOf Waiting) (omega arith))
+    (getD-set-other p i o n 0 (λ z. omega (arith, z)) ∙ put-word m ys a e (h .0) (h .1) l o (omega arith)))
+    (a-lot (set-behind p i n a (e - a) (omega arith) ∙ put-here m ys a e (h .0) (h .1) l) (getD-set-same p i n 0 (omega (arith, lp))))
+    (f .links) (f .waiting) g
+
+-- the words before a list stay when it is put back
+slot-word : (v : Which) (m ys : List ℕ) → Form m → getD (putMid (fromOf v) (spanOf v) m ys) (slotOf v) 0 ≡ getD m (slotOf v) 0
+slot-word Waiting m ys f = put-word′ m ys (fromOf Waiting) (spanOf Waiting) (omega (arith, f .whole)) (slotOf Waiting) (omega arith)
+slot-word Started m ys f = put-word′ m ys (fromOf Started) (spanOf Started) (omega (arith, f .whole)) (slotOf Started) (omega arith)
+
+-- ## As the code has it: a, e and i are the bounds and the slot, n the count
+
+module _ (v : Which) {m : List ℕ} {a e : ℕ} (p : a ≡ fromOf v) (q : e ≡ toOf v) (f : Form m) where
+  pub lot-at : {n : ℕ} → n ≡ length (sessions v m) → lot (part a (e - a) m) n ≡ lotOf v m
+  lot-at k = rw (p, q) (ap (lot (part (fromOf v) (spanOf v) m)) (k ∙ sym (counted v m f)))
+
+  pub good-at : {n : ℕ} → n ≡ length (sessions v m) → Good (lot (part a (e - a) m) n)
+  good-at k = subst (λ (x : Lot). Good x) (sym (lot-at k)) (good v m f)
+
+  module _ (ys : List ℕ) (l : length ys ≡ length (part a (e - a) m)) where
+    span : length ys ≡ spanOf v
+    span = l ∙ rw (p, q) (mid-len (fromOf v) (toOf v) m (within v m f .1))
+
+    pub changed-at : (n : ℕ) {i : ℕ} {u : List Session} → i ≡ slotOf v → Good (lot ys n) → used (lot ys n) ≡ u →
+        Now (set (putMid a (e - a) m ys) i n) (queued (listed v u (see m .queue)) (see m))
+    changed-at n s g h =
+        rw (p, q, s) (subst (λ (z : List Session). Now (set (putMid (fromOf v) (spanOf v) m ys) (slotOf v) n) (queued (listed v z (see m .queue)) (see m))) h (changed v m ys n f span g))
+
+    pub replaced-at : {n : ℕ} {u : List Session} → n ≡ length (sessions v m) → Good (lot ys n) → used (lot ys n) ≡ u →
+        Now (putMid a (e - a) m ys) (queued (listed v u (see m .queue)) (see m))
+    replaced-at {n} {u} k g h =
+        let x = putMid (fromOf v) (spanOf v) m ys in
+        let w : n ≡ getD x (slotOf v) 0 = k ∙ sym (counted v m f) ∙ sym (slot-word v m ys f) in
+        rw (p, q) (
+        subst (λ (z : List ℕ). Now z (queued (listed v u (see m .queue)) (see m))) (ap (set x (slotOf v)) w ∙ set-getD x (slotOf v) 0)
+        (subst (λ (z : List Session). Now (set x (slotOf v) n) (queued (listed v z (see m .queue)) (see m))) h (changed v m ys n f span g))
+        )
+
+-- a place is left
+pub room-at : (v : Which) {m : List ℕ} {a e : ℕ} → a ≡ fromOf v → e ≡ toOf v → Form m → capacity (part a (e - a) m) ≡ placesOf v
+room-at Waiting {m} p q f = rw (p, q) (omega (arith, mid-len (fromOf Waiting) (toOf Waiting) m (within Waiting m f .1)))
+room-at Started {m} p q f = rw (p, q) (omega (arith, mid-len (fromOf Started) (toOf Started) m (within Started m f .1)))
+
+pub few : (v : Which) → placesOf v ≤ 64
+few Waiting = omega arith
+few Started = omega arith
+
+-- ## One word of the head
+
+pub timed-now : (m : List ℕ) (t : ℕ) → Form m → Now (set m clockWord t) (timed t (see m))
+timed-now m t f =
+    shows (set m clockWord t) t (linksOf m) (lotOf Waiting m) (lotOf Started m)
+    (length-set m clockWord t ∙ f .whole)
+    (getD-set-same m clockWord t 0 (omega (arith, f .whole)))
+    (set-behind m clockWord t firstLink connections (omega arith))
+    (a-lot (set-behind m clockWord t (fromOf Waiting) (spanOf Waiting) (omega arith)) (getD-set-other m clockWord (slotOf Waiting) t 0 (λ z. omega (arith, z))))
+    (a-lot (set-behind m clockWord t (fromOf Started) (spanOf Started) (omega arith)) (getD-set-other m clockWord (slotOf Started) t 0 (λ z. omega (arith, z))))
+    (f .links) (f .waiting) (f .started)
+
+pub linked-now : (m : List ℕ) (c : ℕ) (l : Link) (n : ℕ) → c ≤ 3 → n ≡ wordOf l → Form m → Now (set m (firstLink + c) n) (linked c l (see m))
+linked-now m c l n h e f =
+    let i = firstLink + c in
+    let y : map linkIn (set (linksOf m) c n) ≡ set (see m .links) c l =
+    link-set (linksOf m) c n ∙ ap (set (see m .links) c) (ap linkIn e ∙ link-word l) in
+    subst (λ (z : List Link). Now (set m i n) (record { clock = see m .clock; links = z; queue = see m .queue })) y
+    (shows (set m i n) (see m .clock) (set (linksOf m) c n) (lotOf Waiting m) (lotOf Started m)
+    (length-set m i n ∙ f .whole)
+    (getD-set-other m i clockWord n 0 (λ z. omega (arith, z)))
+    (set-within m n firstLink c connections (omega arith))
+    (a-lot (set-behind m i n (fromOf Waiting) (spanOf Waiting) (omega arith)) (getD-set-other m i (slotOf Waiting) n 0 (λ z. omega (arith, z))))
+    (a-lot (set-behind m i n (fromOf Started) (spanOf Started) (omega arith)) (getD-set-other m i (slotOf Started) n 0 (λ z. omega (arith, z))))
+    (all-set (linksOf m) c n (subst (λ (k : ℕ). IsLink k) (sym e) (is-link l)) (f .links)) (f .waiting) (f .started))
+
+-- all words are zeros
+pub cleared-now : Now (zeros words) nothingShown
+cleared-now =
+    let w = cleared (spanOf Waiting) in
+    let k = cleared (spanOf Started) in
+    let s = shows (zeros words) 0 (zeros connections) (lot (zeros (spanOf Waiting)) 0) (lot (zeros (spanOf Started)) 0)
+    (length-replicate {A = ℕ} words 0) refl (part-zeros firstLink connections words (omega arith))
+    (a-lot (part-zeros (fromOf Waiting) (spanOf Waiting) words (omega arith)) refl) (a-lot (part-zeros (fromOf Started) (spanOf Started) words (omega arith)) refl)
+    (all-replicate {A = ℕ} IsLink connections 0 (omega arith)) w k in
+    record {
+      form = s .form;
+      is = s .is ∙ λ i. record { clock = 0; links = replicate connections Closed; queue = record { waiting = cleared-none (spanOf Waiting) i; started = cleared-none (spanOf Started) i } };
+    }
+
+-- ## What is shown determines every word and byte
+
+-- the words of a list's places
+abbrev placed : Which → List ℕ → List ℕ
+placed v m = part (fromOf v) (spanOf v) m
+
+-- the words are their parts
+parts : (m : List ℕ) → length m ≡ words →
+    m ≡ getD m clockWord 0 ∷ getD m (slotOf Waiting) 0 ∷ getD m (slotOf Started) 0 ∷ (linksOf m ++ (placed Waiting m ++ placed Started m))
+parts m w =
+    let s = fromOf Started in
+    let tail : drop s m ≡ placed Started m = sym (take-all (spanOf Started) (drop s m) (omega (arith, w, length-drop s m))) in
+    let rest : drop (fromOf Waiting) m ≡ placed Waiting m ++ placed Started m =
+    sym (take-append-drop (spanOf Waiting) (drop (fromOf Waiting) m))
+    ∙ ap (λ (z : List ℕ). placed Waiting m ++ z) (drop-drop (spanOf Waiting) (fromOf Waiting) m ∙ tail) in
+    let links : drop firstLink m ≡ linksOf m ++ (placed Waiting m ++ placed Started m) =
+    sym (take-append-drop connections (drop firstLink m)) ∙ ap (λ (z : List ℕ). linksOf m ++ z) (drop-drop connections firstLink m ∙ rest) in
+    drop-cons m 0 0 (omega arith)
+    ∙ ap (λ (z : List ℕ). getD m 0 0 ∷ z) (drop-cons m 1 0 (omega arith))
+    ∙ ap (λ (z : List ℕ). getD m 0 0 ∷ getD m 1 0 ∷ z) (drop-cons m 2 0 (omega arith))
+    ∙ ap (λ (z : List ℕ). getD m 0 0 ∷ getD m 1 0 ∷ getD m 2 0 ∷ z) links
+
+-- as many words, holding the same sessions, are the same words, and as many of their places are used
+lot-same : (v : Which) (m n : List ℕ) → Form m → Form n → sessions v m ≡ sessions v n →
+    (placed v m ≡ placed v n) × (getD m (slotOf v) 0 ≡ getD n (slotOf v) 0)
+lot-same v m n f g e =
+    let x : length (placed v m) ≡ spanOf v = mid-len (fromOf v) (toOf v) m (within v m f .1) in
+    let y : length (placed v n) ≡ spanOf v = mid-len (fromOf v) (toOf v) n (within v n g .1) in (
+      words-same _ _ _ _ (good v m f) (good v n g) (x ∙ sym y) e
+          (spare-none (placesOf v) (placed v m) (x ∙ spans v) ∙ sym (spare-none (placesOf v) (placed v n) (y ∙ spans v))),
+      counted v m f ∙ ap length e ∙ sym (counted v n g),
+    )
+  where
+    spans : (v : Which) → spanOf v ≡ placesOf v * width
+    spans Waiting = refl
+    spans Started = refl
+
+pub same-words : (m n : List ℕ) → Form m → Form n → see m ≡ see n → m ≡ n
+same-words m n f g e =
+    let clock : getD m clockWord 0 ≡ getD n clockWord 0 = ap (λ (s : Memory). s .clock) e in
+    let links = links-same (linksOf m) (linksOf n) (f .links) (g .links) (ap (λ (s : Memory). s .links) e) in
+    let waiting = lot-same Waiting m n f g (ap (λ (s : Memory). s .queue .waiting) e) in
+    let started = lot-same Started m n f g (ap (λ (s : Memory). s .queue .started) e) in
+    parts m (f .whole)
+    ∙ (λ i. clock i ∷ waiting .1 i ∷ started .1 i ∷ (links i ++ (waiting .0 i ++ started .0 i)))
+    ∙ sym (parts n (g .whole))
+
+pub same-bytes : (b c : List ℕ) → Stored b → Stored c → nameOf b ≡ nameOf c → b ≡ c
+same-bytes b c f g e =
+    sym (take-all nameSize b (omega (arith, f .whole)))
+    ∙ f .name
+    ∙ ap padded e
+    ∙ sym (g .name)
+    ∙ take-all nameSize c (omega (arith, g .whole))
+
+pub memory-same : (m b n c : List ℕ) → Whole m b → Whole n c → shown m b ≡ shown n c → (m ≡ n) × (b ≡ c)
+memory-same m b n c f g e = (
+  same-words m n (f .words) (g .words) (λ i. record { clock = e i .clock; links = e i .links; queue = e i .queue }),
+  same-bytes b c (f .bytes) (g .bytes) (ap (λ (s : Splicer). s .name) e),
+)
+
+-- ## What a word says
+
+pub says-closed : (n : ℕ) → n ≡ wordOf Closed → Closed ≡ linkIn n
+says-closed n e = rw e refl
+
+pub says-opened : (n : ℕ) → n ≡ wordOf Opened → Opened ≡ linkIn n
+says-opened n e = rw e refl
+
+pub says-initialised : (n : ℕ) → (n ≡ wordOf Closed → ⊥) → (n ≡ wordOf Opened → ⊥) → Initialised ≡ linkIn n
+says-initialised n h k = rw (ne-eqb n (wordOf Closed) h, ne-eqb n (wordOf Opened) k) refl

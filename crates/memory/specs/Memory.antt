@@ -1,0 +1,162 @@
+-- Where what stands in the lent words and bytes, what they show, and what is asked of them.
+use mathlib.Core.Path.{_≡_}
+use mathlib.Core.Bool.{cond}
+use mathlib.Core.List.{List, [], map}
+use Prim.Native.Nat.{ℕ, _+_, _-_, _*_, _≤_}
+use lib.Dec.{eqb}
+use lib.ListN.{length, set, getD, replicate}
+use Rattle.rules.specs.declared.Session.{Session}
+use Rattle.rules.specs.declared.Link.{Link}
+use Rattle.rules.specs.declared.Link.the-variants.{Closed, Opened, Initialised}
+use Rattle.rules.specs.Lists.{All}
+use Rattle.rules.specs.Bytes.{part, nameIn, padded}
+use Rattle.rules.specs.State.{Queue, Splicer, withWaiting, withStarted}
+use Rattle.places.specs.Places.{Lot, lot, Good, used, width}
+use Rattle.memory.specs.declared.Which.{Which}
+use Rattle.memory.specs.declared.Which.the-variants.{Waiting, Started}
+
+-- ## Where what stands in the words: the clock, how many wait, how many have started, a word for each connection, the places
+
+abbrev pub clockWord : ℕ
+clockWord = 0
+
+-- how many there are
+abbrev pub slotOf : Which → ℕ
+slotOf Waiting = 1
+slotOf Started = 2
+
+abbrev pub firstLink : ℕ
+firstLink = 3
+
+abbrev pub connections : ℕ
+connections = 4
+
+abbrev pub placesOf : Which → ℕ
+placesOf Waiting = 64
+placesOf Started = 10
+
+-- the first word of the places, and the word behind their last
+abbrev pub firstPlace : ℕ
+firstPlace = firstLink + connections
+
+abbrev pub fromOf : Which → ℕ
+fromOf Waiting = firstPlace
+fromOf Started = firstPlace + placesOf Waiting * width
+
+abbrev pub toOf : Which → ℕ
+toOf Waiting = fromOf Waiting + placesOf Waiting * width
+toOf Started = fromOf Started + placesOf Started * width
+
+abbrev pub spanOf : Which → ℕ
+spanOf v = toOf v - fromOf v
+
+abbrev pub words : ℕ
+words = toOf Started
+
+-- a connection's word
+abbrev pub wordOf : Link → ℕ
+wordOf Closed = 0
+wordOf Opened = 1
+wordOf Initialised = 2
+
+abbrev pub linkIn : ℕ → Link
+linkIn n = cond (eqb n (wordOf Closed)) Closed (cond (eqb n (wordOf Opened)) Opened Initialised)
+
+abbrev pub IsLink : ℕ → Type 0
+IsLink n = n ≤ wordOf Initialised
+
+-- the connections' words
+abbrev pub linksOf : List ℕ → List ℕ
+linksOf m = part firstLink connections m
+
+-- the places of a list, and how many are used
+abbrev pub lotOf : Which → List ℕ → Lot
+lotOf v m = lot (part (fromOf v) (spanOf v) m) (getD m (slotOf v) 0)
+
+-- ## What the words show
+
+pub record Memory : Type 0 where
+  pub clock : ℕ
+  pub links : List Link
+  pub queue : Queue
+
+abbrev pub sessions : Which → List ℕ → List Session
+sessions v m = used (lotOf v m)
+
+abbrev pub see : List ℕ → Memory
+see m =
+    record {
+      clock = getD m clockWord 0;
+      links = map linkIn (linksOf m);
+      queue = record { waiting = sessions Waiting m; started = sessions Started m };
+    }
+
+-- the free places are empty, in each list
+pub record Form (m : List ℕ) : Type 0 where
+  pub whole : length m ≡ words
+  pub waiting : Good (lotOf Waiting m)
+  pub started : Good (lotOf Started m)
+  pub links : All IsLink (linksOf m)
+
+-- the words show just that
+pub record Now (m : List ℕ) (s : Memory) : Type 0 where
+  pub form : Form m
+  pub is : see m ≡ s
+
+-- ## With one part made anew
+
+abbrev pub timed : ℕ → Memory → Memory
+timed t s = record { clock = t; links = s .links; queue = s .queue }
+
+abbrev pub linked : ℕ → Link → Memory → Memory
+linked c l s = record { clock = s .clock; links = set (s .links) c l; queue = s .queue }
+
+abbrev pub queued : Queue → Memory → Memory
+queued q s = record { clock = s .clock; links = s .links; queue = q }
+
+abbrev pub listOf : Which → Queue → List Session
+listOf Waiting q = q .waiting
+listOf Started q = q .started
+
+abbrev pub listed : Which → List Session → Queue → Queue
+listed Waiting l q = withWaiting l q
+listed Started l q = withStarted l q
+
+abbrev pub relisted : Which → List Session → Memory → Memory
+relisted v l s = queued (listed v l (s .queue)) s
+
+-- clock 0, all connections closed, no session
+abbrev pub nothingShown : Memory
+nothingShown = record { clock = 0; links = replicate connections Closed; queue = record { waiting = []; started = [] } }
+
+-- ## The bytes: the ChannelName, with zeros behind its end
+
+abbrev pub nameSize : ℕ
+nameSize = 32
+
+abbrev pub bytes : ℕ
+bytes = nameSize
+
+abbrev pub nameBytes : List ℕ → List ℕ
+nameBytes b = part 0 nameSize b
+
+abbrev pub nameOf : List ℕ → List ℕ
+nameOf b = nameIn (nameBytes b)
+
+pub record Stored (b : List ℕ) : Type 0 where
+  pub whole : length b ≡ bytes
+  pub name : nameBytes b ≡ padded (nameOf b)
+
+-- the bytes hold just that name
+pub record Named (b name : List ℕ) : Type 0 where
+  pub stored : Stored b
+  pub is : nameOf b ≡ name
+
+-- ## Both
+
+pub record Whole (m b : List ℕ) : Type 0 where
+  pub words : Form m
+  pub bytes : Stored b
+
+abbrev pub shown : List ℕ → List ℕ → Splicer
+shown m b = record { name = nameOf b; clock = see m .clock; links = see m .links; queue = see m .queue }

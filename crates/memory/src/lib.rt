@@ -1,0 +1,328 @@
+// A splicer in two pieces that the caller lends. Its words: the clock, how many wait, how many have started, a word for each
+// connection, the places of those that wait and of those that have started. Its bytes: the ChannelName with zeros behind its end.
+// Only this crate knows where what stands.
+use places::Key;
+use places::Those;
+use places::WIDTH;
+use rules::Link;
+use rules::Ninths;
+use rules::Session;
+use rules::When;
+ghost use mathlib.Core.Path.{_≡_};
+ghost use mathlib.Core.List.{[]};
+ghost use Prim.Native.Nat.{_≤_, _<_};
+ghost use lib.ListN.{length, set, getD};
+ghost use lib.Seq.{paste};
+ghost use Rattle.rules.specs.declared.Link.the-variants.{Closed};
+ghost use Rattle.rules.specs.Bytes.{nameIn};
+ghost use Rattle.rules.specs.Lists.{All, omit, place, insertAt, removeAt};
+ghost use Rattle.rules.specs.State.{empty, Sorted, earliest};
+ghost use Rattle.places.specs.Places.{keyTest, among, OfFour, tallied};
+ghost use Rattle.memory.specs.declared.Which.the-variants.{Waiting, Started};
+ghost use Rattle.memory.specs.Memory.{slotOf, firstLink, fromOf, toOf, words, placesOf, wordOf, linkIn};
+ghost use Rattle.memory.specs.Memory.{sessions, see, Form, Now, timed, linked, relisted, nothingShown};
+ghost use Rattle.memory.specs.Memory.{nameBytes, Stored, Named};
+
+// Where what stands in the words.
+const CLOCK: usize = 0;
+
+const WAITING: usize = 1;
+
+const STARTED: usize = 2;
+
+const LINKS: usize = 3;
+
+const CONNECTIONS: usize = 4;
+
+pub const WAITING_PLACES: usize = 64;
+
+pub const STARTED_PLACES: usize = 10;
+
+const WAITING_FROM: usize = LINKS + CONNECTIONS;
+
+const STARTED_FROM: usize = WAITING_FROM + WAITING_PLACES * WIDTH;
+
+pub const WORDS: usize = STARTED_FROM + STARTED_PLACES * WIDTH;
+
+// A connection's word.
+const CLOSED: u64 = 0;
+
+const OPENED: u64 = 1;
+
+const INITIALISED: u64 = 2;
+
+// The bytes of the name, and all of them.
+pub const NAME: usize = 32;
+
+pub const BYTES: usize = NAME;
+
+// The lists of sessions.
+pub enum Which {
+    Waiting,
+    Started,
+}
+
+// The word that holds how many.
+fn slot(which: Which) -> usize
+    ensures { λ r. ⌜ r ≡ slotOf which ⌝ }
+    ensures within { λ r. ⌜ r < firstLink ⌝ }
+{
+    match which {
+        Which::Waiting => WAITING,
+        Which::Started => STARTED,
+    }
+}
+
+// The first of its words.
+fn from(which: Which) -> usize
+    ensures { λ r. ⌜ r ≡ fromOf which ⌝ }
+    ensures within { λ r. ⌜ (fromOf Waiting ≤ r) × (r ≤ fromOf Started) ⌝ }
+{
+    match which {
+        Which::Waiting => WAITING_FROM,
+        Which::Started => STARTED_FROM,
+    }
+}
+
+// The word behind its last.
+fn to(which: Which) -> usize
+    ensures { λ r. ⌜ r ≡ toOf which ⌝ }
+    ensures within { λ r. ⌜ (fromOf Started ≤ r) × (r ≤ words) ⌝ }
+{
+    match which {
+        Which::Waiting => STARTED_FROM,
+        Which::Started => WORDS,
+    }
+}
+
+// How many there are.
+pub fn count(m: &[u64], which: Which) -> usize
+    requires { ⌜ Form (now m) ⌝ }
+    ensures { λ r. ⌜ r ≡ length (sessions which (now (m .entry))) ⌝ }
+{
+    let i = slot(which);
+    m[i] as usize
+}
+
+// The session `at`.
+pub fn load(m: &[u64], which: Which, at: usize) -> Session
+    requires { ⌜ Form (now m) ⌝ }
+    requires { ⌜ at < length (sessions which (now m)) ⌝ }
+    ensures { λ r. ⌜ r ≡ getD (sessions which (now (m .entry))) at empty ⌝ }
+{
+    let n = count(m, which);
+    let a = from(which);
+    let e = to(which);
+    places::load(&m[a..e], n, at)
+}
+
+// The place of the first that the key looks for, or how many there are.
+pub fn find(m: &[u64], which: Which, key: Key) -> usize
+    requires { ⌜ Form (now m) ⌝ }
+    ensures { λ r. ⌜ r ≡ place (keyTest key) (sessions which (now (m .entry))) ⌝ }
+{
+    let n = count(m, which);
+    let a = from(which);
+    let e = to(which);
+    places::find(&m[a..e], n, key)
+}
+
+// How many of the waiting are each connection's.
+pub fn tally(m: &[u64]) -> [usize; 4]
+    requires { ⌜ Form (now m) ⌝ }
+    requires { ⌜ All OfFour (sessions Waiting (now m)) ⌝ }
+    ensures { λ r. ⌜ r ≡ tallied (sessions Waiting (now (m .entry))) ⌝ }
+{
+    let n = count(m, Which::Waiting);
+    places::tally(&m[WAITING_FROM..STARTED_FROM], n)
+}
+
+// The first end of the started.
+pub fn least_end(m: &[u64]) -> When
+    requires { ⌜ Form (now m) ⌝ }
+    ensures { λ r. ⌜ r ≡ earliest (λ s. s .end) (sessions Started (now (m .entry))) ⌝ }
+{
+    let n = count(m, Which::Started);
+    places::least_end(&m[STARTED_FROM..WORDS], n)
+}
+
+// The first start of the waiting, which stand in order of start.
+pub fn first_start(m: &[u64]) -> When
+    requires { ⌜ Form (now m) ⌝ }
+    requires { ⌜ Sorted (sessions Waiting (now m)) ⌝ }
+    ensures { λ r. ⌜ r ≡ earliest (λ s. s .start) (sessions Waiting (now (m .entry))) ⌝ }
+{
+    let n = count(m, Which::Waiting);
+    places::first_start(&m[WAITING_FROM..STARTED_FROM], n)
+}
+
+// x in place of the session `at`.
+pub fn replace(m: &mut [u64], which: Which, at: usize, x: Session)
+    requires { ⌜ Form (now m) ⌝ }
+    requires { ⌜ at < length (sessions which (now m)) ⌝ }
+    ensures { λ _. ⌜ Now (now (m .exit)) (relisted which (set (sessions which (now (m .entry))) at x) (see (now (m .entry)))) ⌝ }
+{
+    let n = count(&*m, which);
+    let a = from(which);
+    let e = to(which);
+    places::replace_at(&mut m[a..e], n, at, x)
+}
+
+// x before the session `at`.
+pub fn insert(m: &mut [u64], which: Which, at: usize, x: Session)
+    requires { ⌜ Form (now m) ⌝ }
+    requires { ⌜ (at ≤ length (sessions which (now m))) × (length (sessions which (now m)) < placesOf which) ⌝ }
+    ensures { λ _. ⌜ Now (now (m .exit)) (relisted which (insertAt at x (sessions which (now (m .entry)))) (see (now (m .entry)))) ⌝ }
+{
+    let n = count(&*m, which);
+    let a = from(which);
+    let e = to(which);
+    places::insert_at(&mut m[a..e], n, at, x);
+    let i = slot(which);
+    m[i] = (n + 1) as u64;
+}
+
+// Without the session `at`.
+pub fn remove(m: &mut [u64], which: Which, at: usize)
+    requires { ⌜ Form (now m) ⌝ }
+    requires { ⌜ at < length (sessions which (now m)) ⌝ }
+    ensures { λ _. ⌜ Now (now (m .exit)) (relisted which (removeAt at (sessions which (now (m .entry)))) (see (now (m .entry)))) ⌝ }
+{
+    let n = count(&*m, which);
+    let a = from(which);
+    let e = to(which);
+    places::remove_at(&mut m[a..e], n, at);
+    let i = slot(which);
+    m[i] = (n - 1) as u64;
+}
+
+// Without those.
+pub fn omit_those(m: &mut [u64], which: Which, those: Those)
+    requires { ⌜ Form (now m) ⌝ }
+    ensures { λ _. ⌜ Now (now (m .exit))
+        (relisted which (omit (among those) (sessions which (now (m .entry)))) (see (now (m .entry)))) ⌝ }
+{
+    let n = count(&*m, which);
+    let a = from(which);
+    let e = to(which);
+    let left = places::omit_those(&mut m[a..e], n, those);
+    let i = slot(which);
+    m[i] = left as u64;
+}
+
+// The clock.
+pub fn clock(m: &[u64]) -> Ninths
+    requires { ⌜ Form (now m) ⌝ }
+    ensures { λ r. ⌜ r .0 ≡ see (now (m .entry)) .clock ⌝ }
+{
+    Ninths(m[CLOCK])
+}
+
+// Another clock.
+pub fn set_clock(m: &mut [u64], t: Ninths)
+    requires { ⌜ Form (now m) ⌝ }
+    ensures { λ _. ⌜ Now (now (m .exit)) (timed (t .0) (see (now (m .entry)))) ⌝ }
+{
+    m[CLOCK] = t.0;
+}
+
+// What a word says of its connection.
+fn link_in(n: u64) -> Link
+    ensures { λ r. ⌜ r ≡ linkIn n ⌝ }
+{
+    if n == CLOSED {
+        return Link::Closed;
+    }
+    if n == OPENED {
+        return Link::Opened;
+    }
+    Link::Initialised
+}
+
+// The word that says it.
+fn word_of(l: Link) -> u64
+    ensures { λ r. ⌜ r ≡ wordOf l ⌝ }
+{
+    match l {
+        Link::Closed => CLOSED,
+        Link::Opened => OPENED,
+        Link::Initialised => INITIALISED,
+    }
+}
+
+// What connection c is.
+pub fn link(m: &[u64], c: u32) -> Link
+    requires { ⌜ Form (now m) ⌝ }
+    requires { ⌜ c ≤ 3 ⌝ }
+    ensures { λ r. ⌜ r ≡ getD (see (now (m .entry)) .links) c Closed ⌝ }
+{
+    let i = LINKS + c as usize;
+    link_in(m[i])
+}
+
+// Connection c is l.
+pub fn set_link(m: &mut [u64], c: u32, l: Link)
+    requires { ⌜ Form (now m) ⌝ }
+    requires { ⌜ c ≤ 3 ⌝ }
+    ensures { λ _. ⌜ Now (now (m .exit)) (linked c l (see (now (m .entry)))) ⌝ }
+{
+    let at = LINKS + c as usize;
+    m[at] = word_of(l);
+}
+
+// Clock 0, all connections closed, no session.
+pub fn clear(m: &mut [u64; WORDS])
+    ensures { λ _. ⌜ Now (now (m .exit)) nothingShown ⌝ }
+{
+    *m = [0; WORDS];
+}
+
+// The bytes of the name.
+pub fn name(b: &[u8]) -> &[u8]
+    requires { ⌜ Stored (now b) ⌝ }
+    ensures { λ r. ⌜ now r ≡ nameBytes (now (b .entry)) ⌝ }
+{
+    &b[0..NAME]
+}
+
+// How many bytes stand before the first zero, or all.
+fn name_len(name: &[u8]) -> usize
+    ensures { λ r. ⌜ r ≡ length (nameIn (now (name .entry))) ⌝ }
+{
+    let mut i = 0;
+    while i < name.len() {
+        if name[i] == 0 {
+            return i;
+        }
+        i += 1;
+    }
+    i
+}
+
+// The first n bytes of `name` over those of b.
+fn copy(b: &mut [u8], name: &[u8], n: usize)
+    requires { ⌜ (n ≤ length (now name)) × (n ≤ length (now b)) ⌝ }
+    ensures { λ _. ⌜ now (b .exit) ≡ paste (now (b .entry)) 0 (now (name .entry)) n ⌝ }
+{
+    let mut i = 0;
+    while i < n {
+        b[i] = name[i];
+        i += 1;
+    }
+}
+
+// The name up to its first zero, and zeros behind it. The search and the copy stay two small loops.
+pub fn keep_name(b: &mut [u8; BYTES], name: &[u8; NAME])
+    ensures { λ _. ⌜ Named (now (b .exit)) (nameIn (now (name .entry))) ⌝ }
+{
+    *b = [0; BYTES];
+    let n = name_len(name);
+    copy(&mut *b, name, n)
+}
+
+// The empty name.
+pub fn clear_name(b: &mut [u8; BYTES])
+    ensures { λ _. ⌜ Named (now (b .exit)) [] ⌝ }
+{
+    *b = [0; BYTES];
+}
