@@ -1,105 +1,181 @@
--- The loop of `write_ends`: i sessions are passed, and the rest decides.
+-- The loops of `write_ends` and of `end_due`: some of a list are passed, and the rest decides.
+-- Rests on rules' laws of endings, of a record's length and of a list without one place.
 use mathlib.Core.Path.{_≡_, refl, sym, ap, subst, _∙_}
 use mathlib.Core.Bool.{Bool, true, false}
 use mathlib.Core.List.{List, [], _∷_, _++_, map, append-assoc, append-nil}
-use Prim.Native.Nat.{ℕ, _+_, _*_, _-_, _≤_, _<_}
+use Prim.Native.Nat.{ℕ, suc, _+_, _≤_, _<_}
 use native.Mathlib.Omega.{arith}
-use lib.ListN.{length, drop, getD, length-append}
+use native.Mathlib.Numerals.{add-one}
+use lib.ListN.{length, take, drop, getD, drop-of-length-le}
+use lib.Seq.{take-suc, take-all, take-at, drop-at, drop-cons, length-take-le, append-snoc}
 use Rattle.rules.specs.declared.Session.{Session}
-use Rattle.rules.specs.Lists.{All, put, keep}
-use Rattle.rules.specs.State.{empty}
-use Rattle.rules.specs.Bytes.{written}
-use Rattle.rules.specs.Records.{Record, recordBytes, output}
-use Rattle.rules.specs.Ends.{endings}
-use Rattle.rules.proofs.Written.{written-none, written-output, length-written, output-append, output-one}
-use Rattle.places.specs.Places.{Lot, Good, used}
-use Rattle.places.proofs.Laws.{head, at-end}
-use Rattle.ends.specs.Does.{Playable, Tells}
-use Rattle.ends.proofs.Laws.{Brief}
+use Rattle.rules.specs.declared.Ending.{Ending}
+use Rattle.rules.specs.declared.Ninths.{Ninths}
+use Rattle.rules.specs.declared.Ending.the-variants.{Complete}
+use Rattle.rules.specs.Lists.{All, put, keep, omit, removeAt}
+use Rattle.rules.specs.State.{empty, endsAt, withStarted}
+use Rattle.rules.specs.Records.{Record, output}
+use Rattle.rules.specs.Ends.{ended, endings}
+use Rattle.rules.specs.Instants.{endAt}
+use Rattle.rules.proofs.Count.{length-removeAt, endings-map}
+use Rattle.rules.proofs.Every.{all-getD, fewer-all, fewer-removeAt}
+use Rattle.rules.proofs.Size.{weight-none}
+use Rattle.rules.proofs.Written.{length-written}
+use Rattle.memory.specs.declared.Which.the-variants.{Started}
+use Rattle.memory.specs.Memory.{Memory, see, queued, relisted, Form, Now}
+use Rattle.ends.specs.Does.{Playable, roomFor, Tells, Turns}
+use Rattle.ends.proofs.Laws.{tells-none, tells-then, brief}
+
+-- ## The records
 
 -- those behind the first end all alike
-pub endings-map : (g : Session → Record) (p : Session → Bool) (l : List Session) → endings g g p l ≡ map g (keep p l)
+endings-next : (h cover : Ending) (p : Session → Bool) (x : Session) (l : List Session) →
+    endings h cover p (x ∷ l) ≡ put (p x) (ended h x) [] ++ endings cover cover p l
 unfolding endings
-endings-map g p [] = refl
-endings-map g p (s ∷ l) = go (p s)
+endings-next h cover p x l = rw (endings-map cover p l) (go (p x))
   where
-    go : (b : Bool) → put b (g s) (map g (keep p l)) ≡ map g (put b s (keep p l))
+    go : (b : Bool) → put b (ended h x) (map (ended cover) (keep p l)) ≡ put b (ended h x) [] ++ map (ended cover) (keep p l)
     go true = refl
     go false = refl
 
--- of the sessions of l and the buffer e, written up to len: i are passed, h for the next end
-pub record Closing (p : Session → Bool) (f g : Session → Record) (l : Lot) (e : List ℕ) (len i : ℕ) (h : Session → Record) (to : ℕ) (o : List ℕ) : Type 0 where
-  pub room : to + 23 * (l .len - i) ≤ length e
+-- at most one end is written at a place
+put-brief : (b : Bool) (h : Ending) (x : Session) → length (output (put b (ended h x) [])) ≤ roomFor 1
+put-brief true h x = brief h x
+put-brief false h x = omega (arith, weight-none)
+
+-- the next of a list
+next : (l : List Session) (i : ℕ) {x : Session} → i < length l → x ≡ getD l i empty → drop i l ≡ x ∷ drop (i + 1) l
+next l i h e = rw (add-one i, e) (drop-cons l i empty h)
+
+-- of the sessions l and the buffer e, written up to len: those before `rest` are passed, and h is for the next end
+pub record Closing (p : Session → Bool) (air cover : Ending) (l rest : List Session) (e : List ℕ) (len : ℕ) (h : Ending) (to : ℕ)
+    (o : List ℕ) : Type 0 where
+  pub room : to + roomFor (length rest) ≤ length e
   pub long : length o ≡ length e
-  pub playable : All Playable (drop i (used l))
   pub sofar : List Record
-  pub count : to ≡ len + length (output sofar)
-  pub bytes : o ≡ written e len (output sofar)
-  pub rest : endings f g p (used l) ≡ sofar ++ endings h g p (drop i (used l))
+  pub tells : Tells e len sofar to o
+  pub ends : endings air cover p l ≡ sofar ++ endings h cover p rest
 
-module _ (p : Session → Bool) (f g : Session → Record) (l : Lot) (d : Good l) (e : List ℕ) (len : ℕ) where
-  pub closing-none : All Playable (used l) → len + 23 * l .len ≤ length e → Closing p f g l e len 0 f len e
-  unfolding output
-  closing-none a h =
-      record {
-        room = omega arith;
-        long = refl;
-        playable = a;
-        sofar = [];
-        count = omega arith;
-        bytes = sym (written-none e len);
-        rest = refl;
-      }
+module _ {p : Session → Bool} {air cover : Ending} {l : List Session} {e : List ℕ} {len : ℕ} where
+  pub closing-none : len + roomFor (length l) ≤ length e → Closing p air cover l l e len air len e
+  closing-none h = record { room = h; long = refl; sofar = []; tells = tells-none; ends = refl }
 
-  module _ (i : ℕ) (h : Session → Record) (to : ℕ) (o : List ℕ) (v : Closing p f g l e len i h to o) where
-    pub closing-playable : i < l .len → Playable (getD (used l) i empty)
-    closing-playable k = subst (All Playable) (head l i empty d k) (v .playable) .0
+  -- the rest is what stands from the place i of k
+  module _ (k : List Session) (i : ℕ) {h : Ending} {to : ℕ} {o : List ℕ} (v : Closing p air cover l (drop i k) e len h to o) where
+    -- the next end fits
+    pub closing-room : i < length k → to + roomFor 1 ≤ length o
+    closing-room b = omega (arith, v .room, v .long, ap length (drop-cons k i empty b))
 
-    module _ (x : Session) (k : i < l .len) (q : x ≡ getD (used l) i empty) where
-      next : drop i (used l) ≡ x ∷ drop (i + 1) (used l)
-      next = head l i empty d k ∙ ap (λ (y : Session). y ∷ drop (i + 1) (used l)) (sym q)
+    -- the next ends or stays
+    pub closing-next : {x : Session} {to′ : ℕ} {o′ : List ℕ} → i < length k → x ≡ getD k i empty →
+        Tells o to (put (p x) (ended h x) []) to′ o′ → Closing p air cover l (drop (i + 1) k) e len cover to′ o′
+    closing-next {x} {to′} {o′} b q t =
+        let one = put (p x) (ended h x) [] in
+        let rest = drop (i + 1) k in
+        let f : length (output one) ≤ roomFor 1 = put-brief (p x) h x in
+        let n : length (drop i k) ≡ suc (length rest) = ap length (next k i b q) in
+        record {
+          room = omega (arith, v .room, t .count);
+          long = ap length (t .bytes) ∙ length-written o to (output one) (omega (arith, v .room, v .long)) ∙ v .long;
+          sofar = v .sofar ++ one;
+          tells = tells-then (omega (arith, v .room, v .tells .count)) (v .tells) t;
+          ends =
+              v .ends
+              ∙ ap (λ (y : List Record). v .sofar ++ y) (ap (endings h cover p) (next k i b q) ∙ endings-next h cover p x rest)
+              ∙ sym (append-assoc (v .sofar) one (endings cover cover p rest));
+        }
 
-      -- it ends
-      pub closing-ends : (to′ : ℕ) (o′ : List ℕ) → p x ≡ true → Brief (h x) →
-          to′ ≡ to + length (recordBytes (h x)) → o′ ≡ written o to (recordBytes (h x)) → Closing p f g l e len (i + 1) g to′ o′
-      unfolding endings
-      closing-ends to′ o′ c b n w =
-          let a : output (v .sofar ++ (h x ∷ [])) ≡ output (v .sofar) ++ recordBytes (h x) =
-          output-append (v .sofar) (h x ∷ []) ∙ ap (λ y. output (v .sofar) ++ y) (output-one (h x)) in
+    -- all are passed
+    pub closing-done : length k ≤ i → Tells e len (endings air cover p l) to o
+    unfolding endings
+    closing-done b =
+        let r : endings air cover p l ≡ v .sofar = v .ends ∙ rw (drop-of-length-le k {i = i} b) (append-nil (v .sofar)) in
+        subst (λ (y : List Record). Tells e len y to o) (sym r) (v .tells)
+
+-- ## Started ones go one by one, and the others stay: the loop of `end_due`
+
+-- a list without its place i
+taken : (l : List Session) (i : ℕ) → i < length l → take i (removeAt i l) ≡ take i l
+unfolding removeAt
+taken l i h = take-at (take i l) (drop (suc i) l) i (length-take-le i l (omega arith))
+
+dropped : (l : List Session) (i : ℕ) → i < length l → drop i (removeAt i l) ≡ drop (i + 1) l
+unfolding removeAt
+dropped l i h = rw (add-one i) (drop-at (take i l) (drop (suc i) l) i (length-take-le i l (omega arith)))
+
+-- of what the words showed at first: the words m show the others as they were, of the started those that stay of the first ones
+-- up to the place i, and all that are not passed
+pub record Leaving (p : Session → Bool) (air cover : Ending) (s : Memory) (e : List ℕ) (len : ℕ) (m : List ℕ) (i : ℕ) (h : Ending) (to : ℕ)
+    (o : List ℕ) : Type 0 where
+  pub form : Form m
+  pub kept : see m ≡ queued (withStarted (see m .queue .started) (s .queue)) s
+  pub playable : All Playable (see m .queue .started)
+  pub stay : omit p (s .queue .started) ≡ take i (see m .queue .started) ++ omit p (drop i (see m .queue .started))
+  pub writes : Closing p air cover (s .queue .started) (drop i (see m .queue .started)) e len h to o
+
+module _ {p : Session → Bool} {air cover : Ending} {e : List ℕ} {len : ℕ} where
+  pub leaving-none : {m : List ℕ} → Form m → All Playable (see m .queue .started) →
+      len + roomFor (length (see m .queue .started)) ≤ length e → Leaving p air cover (see m) e len m 0 air len e
+  leaving-none f a h = record { form = f; kept = refl; playable = a; stay = refl; writes = closing-none h }
+
+  module _ {s : Memory} {m : List ℕ} {i : ℕ} {h : Ending} {to : ℕ} {o : List ℕ} (v : Leaving p air cover s e len m i h to o) where
+    abbrev l : List Session
+    l = see m .queue .started
+
+    module _ {x : Session} (k : i < length l) (q : x ≡ getD l i empty) where
+      pub leaving-playable : Playable x
+      leaving-playable = subst Playable (sym q) (all-getD Playable l i empty k (v .playable))
+
+      -- it goes, and n is without it
+      pub leaving-goes : {n : List ℕ} {to′ : ℕ} {o′ : List ℕ} → p x ≡ true → Now n (relisted Started (removeAt i l) (see m)) →
+          Tells o to (ended h x ∷ []) to′ o′ → Leaving p air cover s e len n i cover to′ o′
+      leaving-goes {n} {to′} {o′} d u t =
+          let g : removeAt i l ≡ see n .queue .started = sym (ap (λ (z : Memory). z .queue .started) (u .is)) in
+          let tk : take i l ≡ take i (see n .queue .started) = sym (taken l i k) ∙ ap (take i) g in
+          let dr : drop (i + 1) l ≡ drop i (see n .queue .started) = sym (dropped l i k) ∙ ap (drop i) g in
           record {
-            room = omega (arith, v .room);
-            long = ap length w ∙ length-written o to (recordBytes (h x)) (omega (arith, v .room, v .long)) ∙ v .long;
-            playable = subst (All Playable) next (v .playable) .1;
-            sofar = v .sofar ++ (h x ∷ []);
-            count = omega (arith, v .count, ap length a, length-append (output (v .sofar)) (recordBytes (h x)));
-            bytes =
-                w ∙ ap (λ y. written y to (recordBytes (h x))) (v .bytes)
-                ∙ ap (written (written e len (output (v .sofar))) to) (sym (output-one (h x)))
-                ∙ written-output e len (v .sofar) (h x ∷ []) to (omega (arith, v .room, v .count)) (v .count);
-            rest = v .rest ∙ rw (next, c, append-assoc, ← (endings-map g p (drop (i + 1) (used l)))) refl;
+            form = u .form;
+            kept =
+                u .is
+                ∙ ap (λ (z : Memory). queued (withStarted (removeAt i l) (z .queue)) z) (v .kept)
+                ∙ ap (λ (r : List Session). queued (withStarted r (s .queue)) s) g;
+            playable = subst (All Playable) g (fewer-all Playable (fewer-removeAt i l) (v .playable));
+            stay = v .stay ∙ rw (next l i k q, d, tk, dr) refl;
+            writes =
+                subst (λ (r : List Session). Closing p air cover (s .queue .started) r e len cover to′ o′) dr
+                (closing-next l i (v .writes) k q (rw d t));
           }
 
       -- it stays
-      pub closing-stays : p x ≡ false → Closing p f g l e len (i + 1) g to o
-      unfolding endings
-      closing-stays c =
+      pub leaving-stays : p x ≡ false → Leaving p air cover s e len m (i + 1) cover to o
+      leaving-stays d =
           record {
-            room = omega (arith, v .room);
-            long = v .long;
-            playable = subst (All Playable) next (v .playable) .1;
-            sofar = v .sofar;
-            count = v .count;
-            bytes = v .bytes;
-            rest = v .rest ∙ rw (next, c, ← (endings-map g p (drop (i + 1) (used l)))) refl;
+            form = v .form;
+            kept = v .kept;
+            playable = v .playable;
+            stay =
+                v .stay
+                ∙ rw (next l i k q, d) (rw (add-one i, take-suc l i empty k, ← q) (sym (append-snoc (take i l) x (omit p (drop (suc i) l)))));
+            writes = closing-next l i (v .writes) k q (rw d tells-none);
           }
 
-    -- all are passed
-    pub closing-done : l .len ≤ i → Tells e len (endings f g p (used l)) to o
-    unfolding endings
-    closing-done k =
-        let z : drop i (used l) ≡ [] = at-end l i d k in
-        let r : endings f g p (used l) ≡ v .sofar = v .rest ∙ rw z (append-nil (v .sofar)) in
-        record {
-          count = v .count ∙ ap (λ y. len + length (output y)) (sym r);
-          bytes = v .bytes ∙ ap (λ y. written e len (output y)) (sym r);
-        }
+-- one of the started is gone
+pub leaving-less : (i : ℕ) (m : List ℕ) {n : List ℕ} → i < length (see m .queue .started) →
+    Now n (relisted Started (removeAt i (see m .queue .started)) (see m)) →
+    suc (length (see n .queue .started)) ≡ length (see m .queue .started)
+leaving-less i m h n =
+    ap (λ (z : Memory). suc (length (z .queue .started))) (n .is) ∙ length-removeAt i (see m .queue .started) h
+
+-- all are passed
+pub leaving-done : (t : Ninths) {s : Memory} {e o m : List ℕ} {len i to : ℕ} {h : Ending} →
+    Leaving (endsAt (t .0)) (Complete 100) (Complete 125) s e len m i h to o → length (see m .queue .started) ≤ i →
+    Turns e len (endAt (t .0) (s .queue)) s m to o
+unfolding endAt
+leaving-done t {s} {m = m} {i = i} v k =
+    let l = see m .queue .started in
+    let p = endsAt (t .0) in
+    let a : omit p (s .queue .started) ≡ l = v .stay ∙ rw (drop-of-length-le l {i = i} k, take-all i l k) (append-nil l) in
+    record {
+      shows = record { form = v .form; is = v .kept ∙ ap (λ (r : List Session). queued (withStarted r (s .queue)) s) (sym a) };
+      tells = closing-done l i (v .writes) k;
+    }

@@ -1,204 +1,216 @@
--- Laws of what this crate promises: each record takes at most 23 bytes, two results of one promise are equal, one piece of work follows another.
-use mathlib.Core.Path.{_≡_, refl, sym, ap, ap₂, subst, _∙_}
-use mathlib.Core.Bool.{Bool, true, false}
-use mathlib.Core.List.{List, [], _∷_, map}
-use Prim.Native.Nat.{ℕ, _+_, _*_, _-_, _≤_, _<_}
+-- Laws of what this crate promises: records one behind another, and pieces of work one after another.
+-- Rests on rules' laws of what is written into a buffer.
+use mathlib.Core.Path.{_≡_, refl, sym, ap, subst, _∙_}
+use mathlib.Core.Logic.{inl, inr}
+use mathlib.Core.List.{List, [], _∷_, _++_, map}
+use Prim.Native.Nat.{ℕ, suc, _+_, _-_, _≤_, _<_}
 use native.Mathlib.Omega.{arith}
 use lib.ListN.{length, getD, length-append}
-use borrow.Author.Tests.{eqb-true}
 use borrow.Rule.Slice.PartMut.{putMid, midOf}
-use lib.Dec.{eqb}
+use types.Run.{OneOf}
+use denote.Enum.Declared.{tagOf}
 use Rattle.rules.specs.declared.Session.{Session}
-use Rattle.rules.specs.Lists.{put, keep, omit, place, removeAt}
-use Rattle.rules.specs.State.{Queue, empty, follows}
+use Rattle.rules.specs.declared.Ending.{Ending}
+use Rattle.rules.specs.declared.Ending.the-variants.{Complete, Failed, Response}
+use Rattle.rules.specs.Lists.{omit, place, removeAt}
+use Rattle.rules.specs.State.{Queue, empty, of, follows, withWaiting}
 use Rattle.rules.specs.Bytes.{written}
-use Rattle.rules.specs.Records.{Record, SpliceResponse, recordBytes, output}
-use Rattle.rules.specs.Ends.{Turn, quiet, writes, andThen, Walk, response, endings, followers}
-use Rattle.rules.proofs.Tests.{and-both}
-use Rattle.rules.proofs.Count.{length-split, place-holds}
-use Rattle.rules.proofs.Records.{length-record}
-use Rattle.rules.proofs.Written.{written-none, written-more, written-part, output-append, output-one, written-output}
-use Rattle.rules.proofs.Walk.{followed, walk-none, walk-more}
-use Rattle.places.specs.Places.{Lot, lot, spare, Good, used}
-use Rattle.places.proofs.Laws.{words-same, length-used}
-use Rattle.ends.specs.declared.Counts.{Counts}
-use Rattle.ends.specs.declared.Ending.{Ending}
-use Rattle.ends.specs.declared.Ending.the-variants.{Complete, Response}
-use Rattle.ends.specs.Does.{endingOf, Ends, queueOf, Turns}
+use Rattle.rules.specs.Records.{Record, recordBytes, output}
+use Rattle.rules.specs.Ends.{Turn, quiet, writes, andThen, ended, endings, Walk, dismissed, cancelled, closedBy}
+use Rattle.rules.specs.Instants.{failed}
+use Rattle.rules.proofs.Ending.{the-type}
+use Rattle.rules.proofs.Count.{length-split, length-removeAt, endings-map}
+use Rattle.rules.proofs.Records.{sizeOf, Roomy, length-record}
+use Rattle.rules.proofs.Size.{weight-none, weight-ended, weight-endings}
+use Rattle.rules.proofs.Written.{written-none, written-part, output-append, output-one, written-output}
+use Rattle.rules.proofs.Walk.{walk-none, walk-more}
+use Rattle.places.specs.declared.Those.{Those}
+use Rattle.places.specs.declared.Those.the-variants.{Of}
+use Rattle.places.specs.Places.{among}
+use Rattle.memory.specs.declared.Which.{Which}
+use Rattle.memory.specs.declared.Which.the-variants.{Waiting, Started}
+use Rattle.memory.specs.Memory.{Memory, see, sessions, listOf, queued, relisted, Form, Now}
+use Rattle.ends.specs.declared.Ways.{Ways}
+use Rattle.ends.specs.Does.{Playable, Writable, Completing, roomFor, Tells, Turns, Does, oneEnded, theseEnded}
 
--- ## Room: 23 bytes for each session that may end
+-- a list of the words is that list of the queue that they show
+pub sessions-list : (v : Which) (m : List ℕ) → sessions v m ≡ listOf v (see m .queue)
+sessions-list Waiting m = refl
+sessions-list Started m = refl
 
--- a record that fits the room of one session
-abbrev pub Brief : Record → Type 0
-Brief r = length (recordBytes r) ≤ 23
+-- ## Records, one behind another
 
-pub brief-response : (r : ℕ) (s : Session) → Brief (response r s)
-brief-response r s = omega (arith, length-record (response r s) tt)
-
-pub brief-ending : (how : Ending) (s : Session) → Brief (endingOf how s)
-brief-ending (Complete r) s = omega (arith, length-record (endingOf (Complete r) s) tt)
-brief-ending (Response r) s = brief-response r s
-
--- the end of a session, written into the part directly behind what was written
-pub one-end : (how : Ending) (x : Session) (r : Record) (k len : ℕ) (xs ys : List ℕ) → endingOf how x ≡ r → length (recordBytes r) ≡ k → len + k ≤ length xs →
-    ys ≡ written (midOf len (length xs - len) xs) 0 (recordBytes r) →
-    (len + k ≡ len + length (recordBytes (endingOf how x))) × (putMid len (length xs - len) xs ys ≡ written xs len (recordBytes (endingOf how x)))
-one-end how x r k len xs ys e l h w =
-    (omega (arith, ap (λ (r : Record). length (recordBytes r)) e), written-part len xs ys (recordBytes r) (omega arith) w ∙ ap (λ (r : Record). written xs len (recordBytes r)) (sym e))
-
-module _ (g : Session → Record) (b : (s : Session) → Brief (g s)) where
-  pub room-map : (l : List Session) → length (output (map g l)) ≤ 23 * length l
+module _ {e : List ℕ} {len : ℕ} where
+  pub tells-none : Tells e len [] len e
   unfolding output
-  room-map [] = omega arith
-  room-map (s ∷ l) = omega (arith, length-append (recordBytes (g s)) (output (map g l)), b s, room-map l)
+  tells-none = record { count = omega arith; bytes = sym (written-none e len) }
 
-  module _ (f : Session → Record) (a : (s : Session) → Brief (f s)) (p : Session → Bool) where
-    room-kept : (l : List Session) → length (output (endings f g p l)) ≤ 23 * length (keep p l)
-    unfolding output endings
-    room-kept [] = omega arith
-    room-kept (s ∷ l) = go (p s)
-      where
-        go : (t : Bool) → length (output (put t (f s) (map g (keep p l)))) ≤ 23 * length (put t s (keep p l))
-        go true = omega (arith, length-append (recordBytes (f s)) (output (map g (keep p l))), a s, room-map (keep p l))
-        go false = room-map (keep p l)
+  -- one record
+  pub tells-one : {r : Record} {to : ℕ} {o : List ℕ} → to ≡ len + length (recordBytes r) → o ≡ written e len (recordBytes r) →
+      Tells e len (r ∷ []) to o
+  tells-one {r} c b =
+      record {
+        count = c ∙ ap (λ (l : List ℕ). len + length l) (sym (output-one r));
+        bytes = b ∙ ap (written e len) (sym (output-one r));
+      }
 
-    -- the ends of some, and room for the others
-    pub room-endings : (l : List Session) → length (output (endings f g p l)) + 23 * length (omit p l) ≤ 23 * length l
-    room-endings l = omega (arith, room-kept l, length-split p l)
+  -- one record, written at the start of the part behind the last
+  pub tells-part : {r : Record} {y : List ℕ} → Roomy r → len + sizeOf r ≤ length e → y ≡ written (midOf len (length e - len) e) 0 (recordBytes r) →
+      Tells e len (r ∷ []) (len + sizeOf r) (putMid len (length e - len) e y)
+  tells-part {r} {y} f h w =
+      tells-one (omega (arith, length-record r f)) (written-part len e y (recordBytes r) (omega (arith, length-record r f)) w)
 
--- the followers' ends, and room for those that are left
-pub room-followers : (r c x : ℕ) (w : List Session) → length (output (map (response r) (followers c x w .gone))) + 23 * length (followers c x w .left) ≤ 23 * length w
-room-followers r c x w = omega (arith, room-map (response r) (brief-response r) (followers c x w .gone), followed c x w .lengths)
-
--- ## Followers, link by link: the two answers of `dismiss`
-
-module _ (result c x : ℕ) (e : List ℕ) (len : ℕ) (w : Lot) (g : Good w) (i : ℕ) (f : i ≡ place (follows c x) (used w)) where
-  pub dismissed-none : w .len ≤ i → Ends e len (followers c x (used w) .left) (map (response result) (followers c x (used w) .gone)) w len e
-  unfolding output
-  dismissed-none h =
-      let n : length (used w) ≡ w .len = length-used w g in
-      rw (walk-none c x (used w) i f (omega arith)) (record { good = g; list = refl; count = omega arith; bytes = sym (written-none e len) })
-
-  -- the one at the place i ends, and then those that follow it
-  pub dismissed-more : (v k : Lot) (to : ℕ) (o o′ : List ℕ) (s : Session) → i < w .len → s ≡ getD (used w) i empty → used v ≡ removeAt i (used w) →
-      len + 14 ≤ length e → o ≡ written e len (recordBytes (SpliceResponse c result (s .id))) →
-      Ends o (len + 14) (followers c (s .id) (used v) .left) (map (response result) (followers c (s .id) (used v) .gone)) k to o′ →
-      Ends e len (followers c x (used w) .left) (map (response result) (followers c x (used w) .gone)) k to o′
-  unfolding output
-  dismissed-more v k to o o′ s h q u m b d =
-      let t = getD (used w) i empty in
-      let n : length (used w) ≡ w .len = length-used w g in
-      let a : follows c x t ≡ true = ap (λ (j : ℕ). follows c x (getD (used w) j empty)) f ∙ place-holds (follows c x) (used w) empty (omega arith) in
-      let y : c ≡ t .conn = eqb-true c (t .conn) (and-both (eqb c (t .conn)) (eqb x (t .prior)) a .0) in
-      let z : s ≡ t = q in
-      let on = map (response result) (followers c (t .id) (removeAt i (used w)) .gone) in
-      let l : length (recordBytes (response result t)) ≡ 14 = length-record (response result t) tt in
-      let r : SpliceResponse c result (s .id) ≡ response result t = λ j. SpliceResponse (y j) result (z j .id) in
-      let p : followers c (s .id) (used v) ≡ followers c (t .id) (removeAt i (used w)) = ap₂ (λ (a : Session) (l : List Session). followers c (a .id) l) z u in
-      let d′ = subst (λ (r : Walk). Ends o (len + 14) (r .left) (map (response result) (r .gone)) k to o′) p d in
-      rw (walk-more c x (used w) i f (omega arith)) (record {
-        good = d′ .good;
-        list = d′ .list;
-        count = omega (arith, d′ .count, length-append (recordBytes (response result t)) (output on));
-        bytes =
-            d′ .bytes
-            ∙ ap (λ a. written a (len + 14) (output on)) (b ∙ ap (λ a. written e len (recordBytes a)) r)
-            ∙ written-more e len (recordBytes (response result t)) (output on) (len + 14) (omega arith) (omega arith);
-      })
-
--- ## Any two results of one promise are equal, word for word
-
-pub ends-same : (e : List ℕ) (len : ℕ) (l : List Session) (rs : List Record) (w w′ : List ℕ) (n n′ to to′ : ℕ) (o o′ : List ℕ) →
-    length w ≡ length w′ → spare w ≡ spare w′ →
-    Ends e len l rs (lot w n) to o → Ends e len l rs (lot w′ n′) to′ o′ → (w ≡ w′) × (n ≡ n′) × (to ≡ to′) × (o ≡ o′)
-ends-same e len l rs w w′ n n′ to to′ o o′ h d a b =
-    let u : used (lot w n) ≡ used (lot w′ n′) = a .list ∙ sym (b .list) in (
-      words-same w w′ n n′ (a .good) (b .good) h u d,
-      sym (length-used (lot w n) (a .good)) ∙ ap length u ∙ length-used (lot w′ n′) (b .good),
-      a .count ∙ sym (b .count),
-      a .bytes ∙ sym (b .bytes),
-    )
-
--- what is said of each lot alone
-module _ (e : List ℕ) (len : ℕ) (t : Turn) (w k : List ℕ) (r : Counts) (o : List ℕ) (a : Turns e len t w k r o) where
-  turns-waiting : Ends e len (t .queue .waiting) (t .written) (lot w (r .waiting)) (r .len) o
-  turns-waiting = record { good = a .waiting; list = ap (λ (q : Queue). q .waiting) (a .queue); count = a .count; bytes = a .bytes }
-
-  turns-started : Ends e len (t .queue .started) (t .written) (lot k (r .started)) (r .len) o
-  turns-started = record { good = a .started; list = ap (λ (q : Queue). q .started) (a .queue); count = a .count; bytes = a .bytes }
-
-pub turns-same : (e : List ℕ) (len : ℕ) (t : Turn) (w k w′ k′ : List ℕ) (r r′ : Counts) (o o′ : List ℕ) →
-    length w ≡ length w′ → spare w ≡ spare w′ → length k ≡ length k′ → spare k ≡ spare k′ →
-    Turns e len t w k r o → Turns e len t w′ k′ r′ o′ → (w ≡ w′) × (k ≡ k′) × (r ≡ r′) × (o ≡ o′)
-turns-same e len t w k w′ k′ r r′ o o′ lw dw lk dk a b =
-    let x = ends-same e len (t .queue .waiting) (t .written) w w′ (r .waiting) (r′ .waiting) (r .len) (r′ .len) o o′ lw dw (turns-waiting e len t w k r o a)
-    (turns-waiting e len t w′ k′ r′ o′ b) in
-    let y = ends-same e len (t .queue .started) (t .written) k k′ (r .started) (r′ .started) (r .len) (r′ .len) o o′ lk dk (turns-started e len t w k r o a)
-    (turns-started e len t w′ k′ r′ o′ b) in
-    (x .0, y .0, λ i. record { waiting = x .1 i; started = y .1 i; len = x .2 i }, x .3)
+  -- some records, and others behind them
+  pub tells-then : {rs ss : List Record} {n to : ℕ} {o o′ : List ℕ} → len + length (output rs) ≤ length e →
+      Tells e len rs n o → Tells o n ss to o′ → Tells e len (rs ++ ss) to o′
+  tells-then {rs} {ss} {n} h a b =
+      record {
+        count =
+            b .count
+            ∙ omega (arith, a .count, length-append (output rs) (output ss))
+            ∙ ap (λ (l : List ℕ). len + length l) (sym (output-append rs ss));
+        bytes = b .bytes ∙ ap (λ (l : List ℕ). written l n (output ss)) (a .bytes) ∙ written-output e len rs ss n h (a .count);
+      }
 
 -- ## Work on the queue
 
--- nothing is done
-pub turns-quiet : (e : List ℕ) (len : ℕ) (w k : List ℕ) (n m : ℕ) → Good (lot w n) → Good (lot k m) →
-    Turns e len (quiet (queueOf w n k m)) w k (record { waiting = n; started = m; len = len }) e
-unfolding output
-turns-quiet e len w k n m a b = record { waiting = a; started = b; queue = refl; count = omega arith; bytes = sym (written-none e len) }
+module _ {e : List ℕ} {len : ℕ} where
+  -- nothing is done
+  pub turns-quiet : {m : List ℕ} → Form m → Turns e len (quiet (see m .queue)) (see m) m len e
+  turns-quiet f = record { shows = record { form = f; is = refl }; tells = tells-none }
 
--- one record is written
-pub turns-writes : (e : List ℕ) (len : ℕ) (x : Record) (q : Queue) (w k : List ℕ) (n m to : ℕ) (o : List ℕ) → Good (lot w n) → Good (lot k m) → queueOf w n k m ≡ q →
-    to ≡ len + length (recordBytes x) → o ≡ written e len (recordBytes x) → Turns e len (writes (x ∷ []) q) w k (record { waiting = n; started = m; len = to }) o
-turns-writes e len x q w k n m to o a b g c d =
-    record {
-      waiting = a;
-      started = b;
-      queue = g;
-      count = c ∙ ap (λ (l : List ℕ). len + length l) (sym (output-one x));
-      bytes = d ∙ ap (written e len) (sym (output-one x));
-    }
+  -- one record is written, and the words m show q
+  pub turns-writes : {r : Record} {q : Queue} {s : Memory} {m : List ℕ} {to : ℕ} {o : List ℕ} → Now m (queued q s) →
+      to ≡ len + length (recordBytes r) → o ≡ written e len (recordBytes r) → Turns e len (writes (r ∷ []) q) s m to o
+  turns-writes n c b = record { shows = n; tells = tells-one c b }
 
--- ends among the waiting ones alone, or the started ones alone
-module _ (e : List ℕ) (len : ℕ) (l : List Session) (rs : List Record) (w k : List ℕ) (n m to : ℕ) (o : List ℕ) where
-  pub ends-waiting : Good (lot k m) → Ends e len l rs (lot w n) to o →
-      Turns e len (record { queue = record { waiting = l; started = used (lot k m) }; written = rs }) w k (record { waiting = n; started = m; len = to }) o
-  ends-waiting b a =
-      record {
-        waiting = a .good;
-        started = b;
-        queue = λ i. record { waiting = a .list i; started = used (lot k m) };
-        count = a .count;
-        bytes = a .bytes;
-      }
+  -- one piece of work, and another from where it ended
+  pub turns-then : (t : Turn) (f : Queue → Turn) {s : Memory} {m m′ : List ℕ} {n to : ℕ} {o o′ : List ℕ} →
+      len + length (output (t .written)) ≤ length e → Turns e len t s m n o → Turns o n (f (see m .queue)) (see m) m′ to o′ →
+      Turns e len (andThen t f) s m′ to o′
+  unfolding andThen
+  turns-then t f {s} {m} {m′} {n} {to} {o} {o′} h a b =
+      let c = subst (λ (z : Memory). Turns o n (f (z .queue)) z m′ to o′) (a .shows .is) b in
+      record { shows = c .shows; tells = tells-then h (a .tells) (c .tells) }
 
-  pub ends-started : Good (lot w n) → Ends e len l rs (lot k m) to o →
-      Turns e len (record { queue = record { waiting = used (lot w n); started = l }; written = rs }) w k (record { waiting = n; started = m; len = to }) o
-  ends-started b a =
-      record {
-        waiting = b;
-        started = a .good;
-        queue = λ i. record { waiting = used (lot w n); started = a .list i };
-        count = a .count;
-        bytes = a .bytes;
-      }
+  -- what the queue was before the work does not matter
+  pub turns-over : {t : Turn} {q : Queue} {s : Memory} {m : List ℕ} {to : ℕ} {o : List ℕ} → Turns e len t (queued q s) m to o →
+      Turns e len t s m to o
+  turns-over v = record { shows = v .shows; tells = v .tells }
 
--- one piece of work, and another from where it ended
-pub turns-then : (e : List ℕ) (len : ℕ) (t : Turn) (f : Queue → Turn) (w k w′ k′ : List ℕ) (r r′ : Counts) (o o′ : List ℕ) →
-    len + length (output (t .written)) ≤ length e → Turns e len t w k r o →
-    Turns o (r .len) (f (queueOf w (r .waiting) k (r .started))) w′ k′ r′ o′ → Turns e len (andThen t f) w′ k′ r′ o′
-unfolding andThen
-turns-then e len t f w k w′ k′ r r′ o o′ h a b =
-    let c = subst (λ (q : Queue). Turns o (r .len) (f q) w′ k′ r′ o′) (a .queue) b in
-    let rs = f (t .queue) .written in
-    record {
-      waiting = c .waiting;
-      started = c .started;
-      queue = c .queue;
-      count =
-          c .count
-          ∙ omega (arith, a .count, length-append (output (t .written)) (output rs))
-          ∙ ap (λ (l : List ℕ). len + length l) (sym (output-append (t .written) rs));
-      bytes =
-          c .bytes
-          ∙ ap (λ (l : List ℕ). written l (r .len) (output rs)) (a .bytes)
-          ∙ written-output e len (t .written) rs (r .len) h (a .count);
-    }
+-- ## An end
+
+-- it fits the room of one session
+pub brief : (h : Ending) (s : Session) → length (output (ended h s ∷ [])) ≤ roomFor 1
+brief h s = omega (arith, weight-ended h s [], weight-none)
+
+-- so much is written at most
+pub told-one : (h : Ending) (s : Session) {e o : List ℕ} {len to : ℕ} → Tells e len (ended h s ∷ []) to o → to ≤ len + roomFor 1
+told-one h s t = omega (arith, t .count, brief h s)
+
+pub writable : (h : Ending) (s : Session) → Playable s → Writable h s
+writable (Complete r) s p = p
+writable Failed s p = tt
+writable (Response r) s p = tt
+
+-- what the tags say
+pub completing : (h : Ending) → OneOf (0 ∷ 1 ∷ []) (tagOf the-type h) → Completing h
+completing (Complete r) k = tt
+completing Failed k = tt
+completing (Response r) (inl e) = absurd (omega arith)
+completing (Response r) (inr e) = absurd (omega arith)
+
+pub failing : (h : Ending) → Completing h → OneOf (1 ∷ 2 ∷ []) (tagOf the-type h) → h ≡ Failed
+failing (Complete r) c (inl e) = absurd (omega arith)
+failing (Complete r) c (inr e) = absurd (omega arith)
+failing Failed c k = refl
+failing (Response r) c k = absurd c
+
+-- the session i of a list is taken out of it, and its end written
+pub one-ended : (v : Which) (m : List ℕ) (i : ℕ) (h : Ending) {n e o : List ℕ} {len to : ℕ} {x : Session} → x ≡ getD (sessions v m) i empty →
+    Now n (relisted v (removeAt i (sessions v m)) (see m)) → Tells e len (ended h x ∷ []) to o → Does (oneEnded v i h) len m e to n o
+unfolding oneEnded
+one-ended v m i h q s t = rw (← (sessions-list v m), ← q) (record { shows = s; tells = t })
+
+-- ## Followers, link by link: the two answers of `dismiss`
+
+-- one of those that wait is gone
+pub removed-less : (i : ℕ) (s : Memory) {m : List ℕ} → i < length (s .queue .waiting) →
+    Now m (queued (withWaiting (removeAt i (s .queue .waiting)) (s .queue)) s) → suc (length (see m .queue .waiting)) ≡ length (s .queue .waiting)
+removed-less i s h n =
+    ap (λ (z : Memory). suc (length (z .queue .waiting))) (n .is) ∙ length-removeAt i (s .queue .waiting) h
+
+module _ (r c x : ℕ) (i : ℕ) where
+  -- the one at the place i goes, and then those that follow it
+  link : (q : Queue) → i ≡ place (follows c x) (q .waiting) → i < length (q .waiting) →
+      let s = getD (q .waiting) i empty in
+      dismissed r c x q ≡ andThen (writes (ended (Response r) s ∷ []) (withWaiting (removeAt i (q .waiting)) q)) (dismissed r c (s .id))
+  unfolding dismissed andThen
+  link q f h =
+      ap (λ (w : Walk). record { queue = withWaiting (w .left) q; written = map (ended (Response r)) (w .gone) }) (walk-more c x (q .waiting) i f h)
+
+  module _ (m : List ℕ) {e : List ℕ} {len : ℕ} (f : i ≡ place (follows c x) (see m .queue .waiting)) where
+    pub dismissed-none : Form m → length (see m .queue .waiting) ≤ i → Does (dismissed r c x) len m e len m e
+    unfolding dismissed
+    dismissed-none g h = rw (walk-none c x (see m .queue .waiting) i f h) (turns-quiet g)
+
+    pub dismissed-more : {n n′ o o′ : List ℕ} {mid to : ℕ} {s : Session} → i < length (see m .queue .waiting) → len + roomFor 1 ≤ length e →
+        s ≡ getD (see m .queue .waiting) i empty → Now n (relisted Waiting (removeAt i (see m .queue .waiting)) (see m)) →
+        Tells e len (ended (Response r) s ∷ []) mid o → Does (dismissed r c (s .id)) mid n o to n′ o′ → Does (dismissed r c x) len m e to n′ o′
+    dismissed-more {s = s} h k q u t d =
+        rw (link (see m .queue) f h, ← q) (
+        turns-then (writes (ended (Response r) s ∷ []) (withWaiting (removeAt i (see m .queue .waiting)) (see m .queue))) (dismissed r c (s .id))
+        (omega (arith, brief (Response r) s)) (record { shows = u; tells = t }) d
+        )
+
+-- x fails: its own end, and then those that follow it
+pub fails : (x : Session) (m : List ℕ) {n e o o′ : List ℕ} {len mid to : ℕ} → Form m → len + roomFor 1 ≤ length e → Tells e len (ended Failed x ∷ []) mid o →
+    Does (dismissed 109 (x .conn) (x .id)) mid m o to n o′ → Does (failed x) len m e to n o′
+fails x m g k t d =
+    turns-then (writes (ended Failed x ∷ []) (see m .queue)) (dismissed 109 (x .conn) (x .id)) (omega (arith, brief Failed x))
+    (record { shows = record { form = g; is = refl }; tells = t }) d
+
+-- ## Those of a list, and all of a connection
+
+module _ (v : Which) (m : List ℕ) (those : Those) (ways : Ways) {n e o : List ℕ} {len to : ℕ} where
+  -- they are taken out of it, and their ends written
+  pub these-ended : Now n (relisted v (omit (among those) (sessions v m)) (see m)) →
+      Tells e len (endings (ways .first) (ways .others) (among those) (sessions v m)) to o → Does (theseEnded v those ways) len m e to n o
+  unfolding theseEnded
+  these-ended s t = rw (← (sessions-list v m)) (record { shows = s; tells = t })
+
+  -- so much is written at most
+  pub these-brief : Does (theseEnded v those ways) len m e to n o → to ≤ len + roomFor (length (sessions v m))
+  unfolding theseEnded
+  these-brief d =
+      let l = listOf v (see m .queue) in
+      omega (
+        arith,
+        d .tells .count,
+        weight-endings (ways .first) (ways .others) (among those) l,
+        length-split (among those) l,
+        ap length (sessions-list v m),
+      )
+
+-- the started by what they were, those that wait alike
+abbrev pub byState : Ways
+byState = record { first = Complete 116; others = Response 116 }
+
+abbrev pub alike : Ways
+alike = record { first = Response 116; others = Response 116 }
+
+closed-by : (c : ℕ) (q : Queue) → closedBy c q ≡ andThen (theseEnded Started (Of c) byState q) (theseEnded Waiting (Of c) alike)
+unfolding closedBy cancelled andThen theseEnded
+closed-by c q = rw (endings-map (Response 116) (of c) (q .waiting))
+
+module _ (c : ℕ) (m : List ℕ) {n e o : List ℕ} {len to : ℕ} where
+  module _ (a : Does (theseEnded Started (Of c) byState) len m e to n o) where
+    pub still-waiting : see n .queue .waiting ≡ see m .queue .waiting
+    unfolding theseEnded
+    still-waiting = ap (λ (z : Memory). z .queue .waiting) (a .shows .is)
+
+    pub closed : {n′ o′ : List ℕ} {to′ : ℕ} → len + roomFor (length (see m .queue .started)) ≤ length e →
+        Does (theseEnded Waiting (Of c) alike) to n o to′ n′ o′ → Does (closedBy c) len m e to′ n′ o′
+    closed h b =
+        rw (closed-by c (see m .queue)) (turns-then (theseEnded Started (Of c) byState (see m .queue)) (theseEnded Waiting (Of c) alike)
+        (omega (arith, a .tells .count, these-brief Started m (Of c) byState a)) a b)

@@ -1,47 +1,69 @@
--- What the functions on one lot of sessions promise.
+-- What a piece of work on the lent words promises, and the turns of the ends of one list.
 use mathlib.Core.Path.{_≡_}
-use mathlib.Core.List.{List}
-use Prim.Native.Nat.{ℕ, _+_, _/_, _<_}
-use lib.ListN.{length}
+use mathlib.Core.Bool.{Bool}
+use mathlib.Core.List.{List, [], _∷_}
+use Prim.Native.Nat.{ℕ, _+_, _*_, _/_, _<_}
+use lib.ListN.{length, getD}
 use Rattle.rules.specs.declared.Session.{Session}
+use Rattle.rules.specs.declared.Ending.{Ending}
+use Rattle.rules.specs.declared.Ending.the-variants.{Complete, Failed, Response}
+use Rattle.rules.specs.Lists.{omit, removeAt}
 use Rattle.rules.specs.Bytes.{written}
 use Rattle.rules.specs.Records.{Record, output}
-use Rattle.rules.specs.State.{Queue}
-use Rattle.rules.specs.Ends.{Turn, response, spliceOut}
-use Rattle.places.specs.Places.{Lot, lot, Good, used}
-use Rattle.ends.specs.declared.Counts.{Counts}
-use Rattle.ends.specs.declared.Ending.{Ending}
-use Rattle.ends.specs.declared.Ending.the-variants.{Complete, Response}
+use Rattle.rules.specs.State.{Queue, empty}
+use Rattle.rules.specs.Ends.{Turn, ended, endings}
+use Rattle.places.specs.declared.Those.{Those}
+use Rattle.places.specs.Places.{among}
+use Rattle.memory.specs.declared.Which.{Which}
+use Rattle.memory.specs.Memory.{Memory, see, listOf, listed, queued, Now}
+use Rattle.ends.specs.declared.Ways.{Ways}
 
 -- its PlayedDuration has four bytes
 abbrev pub Playable : Session → Type 0
 Playable s = s .played .0 / 100 < 4294967296
 
--- the record of each way to end
-abbrev pub endingOf : Ending → Session → Record
-endingOf (Complete r) s = spliceOut r s
-endingOf (Response r) s = response r s
+-- what an end asks of its session: only one with flag 1 says a PlayedDuration
+abbrev pub Writable : Ending → Session → Type 0
+Writable (Complete r) s = Playable s
+Writable Failed s = Unit {0}
+Writable (Response r) s = Unit {0}
 
--- of the buffer e, written up to len: the records stand behind what was written
+-- an end that is a SpliceComplete
+abbrev pub Completing : Ending → Type 0
+Completing (Complete r) = Unit {0}
+Completing Failed = Unit {0}
+Completing (Response r) = ⊥
+
+-- no end takes more than 23 bytes
+abbrev pub roomFor : ℕ → ℕ
+roomFor n = 23 * n
+
+-- of the buffer e, written up to len: the records stand behind what was written, and it is written up to `to`
 pub record Tells (e : List ℕ) (len : ℕ) (records : List Record) (to : ℕ) (o : List ℕ) : Type 0 where
   pub count : to ≡ len + length (output records)
   pub bytes : o ≡ written e len (output records)
 
--- of the buffer e, written up to len: the lot l now holds the sessions, and the records stand behind what was written
-pub record Ends (e : List ℕ) (len : ℕ) (sessions : List Session) (records : List Record) (l : Lot) (to : ℕ) (o : List ℕ) : Type 0 where
-  pub good : Good l
-  pub list : used l ≡ sessions
-  pub count : to ≡ len + length (output records)
-  pub bytes : o ≡ written e len (output records)
+-- of the buffer e, written up to len, and of what the words showed: they now show the turn's queue and all else as before, and its
+-- records stand behind what was written
+pub record Turns (e : List ℕ) (len : ℕ) (t : Turn) (s : Memory) (n : List ℕ) (to : ℕ) (o : List ℕ) : Type 0 where
+  pub shows : Now n (queued (t .queue) s)
+  pub tells : Tells e len (t .written) to o
 
--- the sessions that two lots of words hold
-abbrev pub queueOf : List ℕ → ℕ → List ℕ → ℕ → Queue
-queueOf w n k m = record { waiting = used (lot w n); started = used (lot k m) }
+-- the work was done on the queue that the words m showed, and on the buffer e, written up to len
+abbrev pub Does : (Queue → Turn) → ℕ → (m e : List ℕ) → ℕ → (n o : List ℕ) → Type 0
+Does work len m e to n o = Turns e len (work (see m .queue)) (see m) n to o
 
--- of the buffer e, written up to len: the words w and k, with the counts r, hold the turn's queue, and its records stand behind what was written
-pub record Turns (e : List ℕ) (len : ℕ) (t : Turn) (w k : List ℕ) (r : Counts) (o : List ℕ) : Type 0 where
-  pub waiting : Good (lot w (r .waiting))
-  pub started : Good (lot k (r .started))
-  pub queue : queueOf w (r .waiting) k (r .started) ≡ t .queue
-  pub count : r .len ≡ len + length (output (t .written))
-  pub bytes : o ≡ written e len (output (t .written))
+-- ## Ends in one list
+
+-- the session i of a list ends
+unfoldable pub oneEnded : Which → ℕ → Ending → Queue → Turn
+oneEnded v i how q =
+    record { queue = listed v (removeAt i (listOf v q)) q; written = ended how (getD (listOf v q) i empty) ∷ [] }
+
+-- those of a list end
+unfoldable pub theseEnded : Which → Those → Ways → Queue → Turn
+theseEnded v those ways q =
+    record {
+      queue = listed v (omit (among those) (listOf v q)) q;
+      written = endings (ways .first) (ways .others) (among those) (listOf v q);
+    }

@@ -1,2 +1,2 @@
-pub mod Starts
 pub mod Running
+pub mod Starts

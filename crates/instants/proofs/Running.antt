@@ -1,231 +1,174 @@
--- The loop of `run`: what was done so far, and the rest of the tick from there. The fuel is a field, so no law says that it does not matter.
+-- The loop of `run`: what was done so far, and the rest of the tick from there.
+-- Rests on rules' laws of a tick (`runAll-enough`: no tick is cut short, so the rest of one is a tick too) and of all that is held.
 use mathlib.Core.Path.{_≡_, refl, sym, ap, subst, _∙_}
 use mathlib.Core.List.{List, [], _++_, append-assoc, append-nil}
-use Prim.Native.Nat.{ℕ, zero, suc, _+_, _*_, _-_, _/_, _≤_, _<_}
+use Prim.Native.Nat.{ℕ, suc, _+_, _-_, _≤_, _<_}
 use native.Mathlib.Omega.{arith}
-use native.Mathlib.Numerals.{add-one}
-use lib.ListN.{length, drop-of-length-le}
-use borrow.Author.Tests.{le-leb, lt-leb}
+use lib.ListN.{length}
+use Rattle.rules.specs.declared.Ninths.{Ninths}
+use Rattle.rules.specs.declared.When.the-variants.{At, Never}
 use Rattle.rules.specs.Lists.{All}
-use Rattle.rules.specs.State.{Queue, due, toCome}
-use Rattle.rules.specs.Bytes.{written}
+use Rattle.rules.specs.State.{Queue, due, notAfter, toCome}
 use Rattle.rules.specs.Records.{Record, output}
 use Rattle.rules.specs.Ends.{Turn, quiet, andThen, writes}
-use Rattle.rules.specs.Instants.{instant, onAir, elapse, run, runAll}
-use Rattle.rules.specs.Sound.{Since, Holding}
+use Rattle.rules.specs.Instants.{instant, elapse, runAll}
+use Rattle.rules.specs.Sound.{Since, Holding, horizon}
 use Rattle.rules.proofs.All.{all-into}
-use Rattle.rules.proofs.Tick.{due-first, elapse-toCome, moved-less}
-use Rattle.rules.proofs.Size.{weight-append, instant-brief}
+use Rattle.rules.proofs.Bounds.{longest}
+use Rattle.rules.proofs.Tick.{moved, moved-less, due-first, due-time, elapse-toCome, run-stop, run-more, runAll-enough}
+use Rattle.rules.proofs.Size.{instant-brief}
 use Rattle.rules.proofs.Sound.{few-started, next-after, holding-next, played-then}
-use Rattle.rules.proofs.Written.{written-none, written-output, length-written}
-use Rattle.places.specs.Places.{lot, spare, used, Good, Made}
-use Rattle.places.proofs.Laws.{length-used}
-use Rattle.ends.specs.declared.Counts.{Counts}
-use Rattle.ends.specs.Does.{Playable, queueOf, Turns}
-use Rattle.ends.proofs.Laws.{turns-same}
-use Rattle.instants.specs.Runs.{Meets, Placed, Lasting}
+use Rattle.rules.proofs.Written.{length-written}
+use Rattle.memory.specs.Memory.{Memory, Form, see, queued, Now}
+use Rattle.ends.specs.Does.{Playable, roomFor, Tells, Turns}
+use Rattle.ends.proofs.Laws.{tells-none, tells-then}
+use Rattle.instants.specs.Runs.{Meets, Placed, Lasts, Lasting}
 
--- ## The definition, a turn at a time
+-- ## A tick, an instant at a time
 
--- where nothing is due any more, any fuel gives the same
-run-stop : (n now until : ℕ) (q : Queue) → until < due (suc until) q → run n now until q ≡ quiet (elapse (until - now) q)
-unfolding run
-run-stop zero now until q h = refl
-run-stop (suc n) now until q h = rw (lt-leb (due (suc until) q) until h)
+-- the records rs, and then the turn
+abbrev behind : List Record → Turn → Turn
+behind rs t = writes (rs ++ t .written) (t .queue)
 
-run-more : (n now until t : ℕ) (q : Queue) → t ≡ due (suc until) q → t ≤ until → run (suc n) now until q ≡ andThen (instant t (elapse (t - now) q)) (run n t until)
-unfolding run
-run-more n now until t q e h = rw (← e, le-leb t until h)
+behind-then : (rs ss : List Record) (t : Turn) → behind rs (behind ss t) ≡ behind (rs ++ ss) t
+behind-then rs ss t = ap (λ l. writes l (t .queue)) (sym (append-assoc rs ss (t .written)))
 
--- the records rs, and then what f gives
-then-quiet : (rs : List Record) (q r : Queue) (f : Queue → Turn) → f q ≡ quiet r → andThen (writes rs q) f ≡ writes rs r
-unfolding andThen
-then-quiet rs q r f e = rw e (ap (λ l. writes l r) (append-nil rs))
+module _ (now until : ℕ) (q : Queue) where
+  runs-stop : notAfter until (due q) ≡ Never → runAll now until q ≡ quiet (elapse (until - now) q)
+  unfolding runAll
+  runs-stop e = run-stop (toCome q) now until q e
 
-then-then : (rs : List Record) (q : Queue) (t : Turn) (f h : Queue → Turn) → h q ≡ andThen t f → andThen (writes rs q) h ≡ andThen (writes (rs ++ t .written) (t .queue)) f
-unfolding andThen
-then-then rs q t f h e = rw e (ap (λ l. writes l (f (t .queue) .queue)) (sym (append-assoc rs (t .written) (f (t .queue) .written))))
+  -- the next instant is t
+  module _ {t : Ninths} (d : notAfter until (due q) ≡ At t) where
+    less : toCome (moved now (t .0) q .queue) < toCome q
+    less = moved-less now until t q d
+
+    runs-more : runAll now until q ≡ behind (moved now (t .0) q .written) (runAll (t .0) until (moved now (t .0) q .queue))
+    unfolding andThen
+    runs-more =
+        let i = moved now (t .0) q in
+        let n = toCome q in
+        runAll-enough (suc n) now until q (omega arith) ∙ run-more n now until t q d
+        ∙ ap (behind (i .written)) (sym (runAll-enough n (t .0) until (i .queue) (omega (arith, less))))
+
+    -- what it writes and leaves to come needs no more room than what was to come
+    brief : length (output (moved now (t .0) q .written)) + roomFor (toCome (moved now (t .0) q .queue)) ≤ roomFor (toCome q)
+    brief = let u = elapse (t .0 - now) q in omega (arith, instant-brief (t .0) u, elapse-toCome (t .0) (t .0 - now) q)
+
+    module _ (h : Holding now q) where
+      after : now < t .0
+      after = next-after now until t q d h
+
+      held : Holding (t .0) (moved now (t .0) q .queue)
+      held = holding-next now until t q d h
+
+      meeting : Meets (t .0) (elapse (t .0 - now) q)
+      unfolding elapse
+      meeting = record { sorted = h .timed .sorted; starts = due-first until t q d .starts }
+
+      playable : All Playable (elapse (t .0 - now) q .started)
+      playable =
+          all-into (λ s. s .played .0 ≤ longest) Playable (λ s i. omega arith) (elapse (t .0 - now) q .started)
+          (played-then now (t .0) q (omega (arith, after)) (due-first until t q d) h)
 
 -- ## The loop
 
--- from the time `from`, the queue q₀ and the buffer e; now it is `at`, q is left, and o is written up to n
-pub record Running (from until : ℕ) (q₀ : Queue) (e : List ℕ) (q : Queue) (n at : ℕ) (o : List ℕ) : Type 0 where
-  pub holding : Holding at q
+-- its invariant. From words that showed s₀ and the buffer e: it is `at`, the words m show what is left, and o is written up to n
+pub record Running (until : ℕ) (s₀ : Memory) (e m : List ℕ) (n at : ℕ) (o : List ℕ) : Type 0 where
+  pub form : Form m
+  pub kept : see m ≡ queued (see m .queue) s₀
+  pub holding : Holding at (see m .queue)
   pub time : at ≤ until
-  pub room : n + 23 * toCome q ≤ length e
+  pub room : n + roomFor (toCome (see m .queue)) ≤ length e
   pub long : length o ≡ length e
   pub sofar : List Record
-  pub count : n ≡ length (output sofar)
-  pub bytes : o ≡ written e 0 (output sofar)
-  pub fuel : ℕ
-  pub enough : toCome q ≤ fuel
-  pub rest : runAll from until q₀ ≡ andThen (writes sofar q) (run fuel at until)
+  pub tells : Tells e 0 sofar n o
+  pub rest : runAll (s₀ .clock) until (s₀ .queue) ≡ behind sofar (runAll at until (see m .queue))
 
-module _ (from until : ℕ) (q₀ : Queue) (e : List ℕ) where
-  running-start : Holding from q₀ → from ≤ until → 23 * toCome q₀ ≤ length e → Running from until q₀ e q₀ 0 from e
-  unfolding runAll andThen output
-  running-start h le room =
-      record {
-        holding = h;
-        time = le;
-        room = omega arith;
-        long = refl;
-        sofar = [];
-        count = refl;
-        bytes = sym (written-none e 0);
-        fuel = toCome q₀;
-        enough = omega arith;
-        rest = refl;
-      }
+pub first-turn : {until : ℕ} {m e : List ℕ} → Form m → Holding (see m .clock) (see m .queue) → see m .clock ≤ until →
+    roomFor (toCome (see m .queue)) ≤ length e → Running until (see m) e m 0 (see m .clock) e
+first-turn f h le room =
+    record {
+      form = f;
+      kept = refl;
+      holding = h;
+      time = le;
+      room = omega arith;
+      long = refl;
+      sofar = [];
+      tells = tells-none;
+      rest = refl;
+    }
 
-  module _ (q : Queue) (n at : ℕ) (o : List ℕ) (v : Running from until q₀ e q n at o) where
-    -- what the tick gives, if nothing more is due
-    running-last : until < due (suc until) q → runAll from until q₀ ≡ writes (v .sofar) (elapse (until - at) q)
-    running-last h = v .rest ∙ then-quiet (v .sofar) q (elapse (until - at) q) (run (v .fuel) at until) (run-stop (v .fuel) at until q h)
+module _ {until : ℕ} {s₀ : Memory} {e m : List ℕ} {n at : ℕ} {o : List ℕ} (v : Running until s₀ e m n at o) where
+  pub turn-lasting : (t : ℕ) → at ≤ t → t < horizon → Lasting (t - at) (see m .queue .started)
+  turn-lasting t le h = all-into (Since at) (Lasts (t - at)) (λ s i. omega arith) (see m .queue .started) (v .holding .played .since)
 
-    running-lasting : (t : ℕ) → at ≤ t → t < 18446744073709551616 → Lasting (t - at) (q .started)
-    running-lasting t le h =
-        all-into (Since at) (λ s. s .played .0 + (t - at) < 18446744073709551616) (λ s i. omega arith) (q .started) (v .holding .played .since)
+  -- nothing is due any more, and `elapse` left m′
+  pub last-turn : {m′ : List ℕ} → notAfter until (due (see m .queue)) ≡ Never →
+      Now m′ (queued (elapse (until - at) (see m .queue)) (see m)) → Turns e 0 (runAll (s₀ .clock) until (s₀ .queue)) s₀ m′ n o
+  last-turn {m′} d f =
+      let q = elapse (until - at) (see m .queue) in
+      let stop = ap (behind (v .sofar)) (runs-stop at until (see m .queue) d) ∙ ap (λ l. writes l q) (append-nil (v .sofar)) in
+      subst (λ (t : Turn). Turns e 0 t s₀ m′ n o) (sym (v .rest ∙ stop))
+      (record { shows = record { form = f .form; is = f .is ∙ ap (queued q) (v .kept) }; tells = v .tells })
 
-    module _ (t : ℕ) (d : t ≡ due (suc until) q) (le : t ≤ until) where
-      running-after : at < t
-      running-after = omega (arith, next-after at until q (omega arith) (v .holding))
+  -- the next instant is t
+  module _ {t : Ninths} (d : notAfter until (due (see m .queue)) ≡ At t) where
+    pub turn-time : t .0 ≤ until
+    turn-time = due-time until t (see m .queue) d
 
-      held : Holding t (instant t (elapse (t - at) q) .queue)
-      held = rw d (holding-next at until q (omega arith) (v .holding))
+    pub turn-after : at < t .0
+    turn-after = after at until (see m .queue) d (v .holding)
 
-      -- what the instant asks
-      running-meets : Meets t (elapse (t - at) q)
-      unfolding elapse
-      running-meets = record { sorted = v .holding .timed .sorted; starts = rw d (due-first (suc until) q .starts) }
+    -- `elapse` left m′
+    module _ {m′ : List ℕ} (f : Now m′ (queued (elapse (t .0 - at) (see m .queue)) (see m))) where
+      then : see m′ .queue ≡ elapse (t .0 - at) (see m .queue)
+      then = ap (λ (z : Memory). z .queue) (f .is)
 
-      running-playable : All Playable (elapse (t - at) q .started)
-      running-playable =
-          all-into (λ s. s .played .0 ≤ 100 * 0xFFFFFFFF) Playable (λ s i. omega arith) (elapse (t - at) q .started)
-          (played-then at t q (omega (arith, running-after)) (rw d (due-first (suc until) q)) (v .holding))
+      pub turn-meets : Meets (t .0) (see m′ .queue)
+      turn-meets = subst (Meets (t .0)) (sym then) (meeting at until (see m .queue) d (v .holding))
 
-      running-placed : (k : List ℕ) → length k ≡ 80 → Placed (instant t (elapse (t - at) q)) k
-      running-placed k l = omega (arith, few-started held)
+      pub turn-placed : Placed (instant (t .0) (see m′ .queue))
+      turn-placed = subst (λ (y : Queue). Placed (instant (t .0) y)) (sym then) (few-started (held at until (see m .queue) d (v .holding)))
 
-      running-less : toCome (instant t (elapse (t - at) q) .queue) < toCome q
-      running-less = rw d (moved-less at until q (omega arith))
+      pub turn-playable : All Playable (see m′ .queue .started)
+      turn-playable = subst (λ (y : Queue). All Playable (y .started)) (sym then) (playable at until (see m .queue) d (v .holding))
 
-      running-next : (q′ : Queue) (n′ : ℕ) (o′ : List ℕ) → q′ ≡ instant t (elapse (t - at) q) .queue →
-          n′ ≡ n + length (output (instant t (elapse (t - at) q) .written)) → o′ ≡ written o n (output (instant t (elapse (t - at) q) .written)) →
-          Running from until q₀ e q′ n′ t o′
-      running-next q′ n′ o′ a b c = go (v .fuel) refl running-less (instant-brief t (elapse (t - at) q)) (elapse-toCome t (t - at) q) held
-        where
-          i : Turn
-          i = instant t (elapse (t - at) q)
+      pub turn-room : n + roomFor (toCome (see m′ .queue)) ≤ length o
+      turn-room = omega (arith, v .room, v .long, ap toCome then, elapse-toCome (t .0) (t .0 - at) (see m .queue))
 
-          go : (f : ℕ) → v .fuel ≡ f → toCome (i .queue) < toCome q → length (output (i .written)) + 23 * toCome (i .queue) ≤ 23 * toCome (elapse (t - at) q) →
-              toCome (elapse (t - at) q) ≡ toCome q → Holding t (i .queue) → Running from until q₀ e q′ n′ t o′
-          go zero z less brief same h = absurd (omega (arith, v .enough))
-          go (suc f) z less brief same h =
-              let k : run (v .fuel) at until q ≡ andThen i (run f t until) = rw z (run-more f at until t q d le) in
-              let m : toCome q′ ≡ toCome (i .queue) = ap toCome a in
-              record {
-                holding = rw a h;
-                time = le;
-                room = omega (arith, v .room);
-                long = ap length c ∙ length-written o n (output (i .written)) (omega (arith, v .room, v .long)) ∙ v .long;
-                sofar = v .sofar ++ i .written;
-                count = omega (arith, v .count, weight-append (v .sofar) (i .written));
-                bytes =
-                    c ∙ ap (λ l. written l n (output (i .written))) (v .bytes)
-                    ∙ written-output e 0 (v .sofar) (i .written) n (omega (arith, v .room, v .count)) (omega (arith, v .count));
-                fuel = f;
-                enough = omega (arith, v .enough);
-                rest =
-                    v .rest ∙ then-then (v .sofar) q i (run f t until) (run (v .fuel) at until) k
-                    ∙ ap (λ r. andThen (writes (v .sofar ++ i .written) r) (run f t until)) (sym a);
-              }
+      -- and the instant m″
+      module _ {m″ : List ℕ} {to : ℕ} {o′ : List ℕ} (g : Turns o n (instant (t .0) (see m′ .queue)) (see m′) m″ to o′) where
+        given : Turns o n (moved at (t .0) (see m .queue)) (see m′) m″ to o′
+        given = subst (λ (y : Queue). Turns o n (instant (t .0) y) (see m′) m″ to o′) then g
 
--- ## In the words that are lent
+        left : see m″ .queue ≡ moved at (t .0) (see m .queue) .queue
+        left = ap (λ (z : Memory). z .queue) (given .shows .is)
 
--- what `elapse` leaves
-elapsed : (w k k′ : List ℕ) (n m d : ℕ) → Made k k′ m (onAir d (used (lot k m))) → queueOf w n k′ m ≡ elapse d (queueOf w n k m)
-unfolding elapse
-elapsed w k k′ n m d f = λ i. record { waiting = used (lot w n); started = f .list i }
+        pub turn-less : toCome (see m″ .queue) < toCome (see m .queue)
+        turn-less = omega (arith, ap toCome left, less at until (see m .queue) d)
 
--- the loop's invariant: the words w and k hold what is left
-pub record Looping (from until : ℕ) (q₀ : Queue) (e w k : List ℕ) (c : Counts) (at : ℕ) (o : List ℕ) : Type 0 where
-  pub waiting : Good (lot w (c .waiting))
-  pub started : Good (lot k (c .started))
-  pub running : Running from until q₀ e (queueOf w (c .waiting) k (c .started)) (c .len) at o
-
-pub first-turn : (from until : ℕ) (w k e : List ℕ) (n m : ℕ) → Good (lot w n) → Good (lot k m) → Holding from (queueOf w n k m) → from ≤ until →
-    23 * toCome (queueOf w n k m) ≤ length e → Looping from until (queueOf w n k m) e w k (record { waiting = n; started = m; len = 0 }) from e
-first-turn from until w k e n m a b h le room = record { waiting = a; started = b; running = running-start from until (queueOf w n k m) e h le room }
-
-module _ {from until : ℕ} {q₀ : Queue} {e w k : List ℕ} {c : Counts} {at : ℕ} {o : List ℕ} (v : Looping from until q₀ e w k c at o) where
-  abbrev q : Queue
-  q = queueOf w (c .waiting) k (c .started)
-
-  pub turn-lasting : (t : ℕ) → at ≤ t → t < 18446744073709551616 → Lasting (t - at) (used (lot k (c .started)))
-  turn-lasting t le h = running-lasting from until q₀ e q (c .len) at o (v .running) t le h
-
-  module _ {t : ℕ} (d : t ≡ due (until + 1) (queueOf w (c .waiting) k (c .started))) where
-    next : t ≡ due (suc until) (queueOf w (c .waiting) k (c .started))
-    next = d ∙ ap (λ (i : ℕ). due i q) (add-one until)
-
-    -- nothing is due any more, and `elapse` left k′
-    pub last-turn : until < t → {k′ : List ℕ} → Made k k′ (c .started) (onAir (until - at) (used (lot k (c .started)))) → Turns e 0 (runAll from until q₀) w k′ c o
-    last-turn h {k′} f =
-        let r = running-last from until q₀ e q (c .len) at o (v .running) (omega (arith, next)) in
-        record {
-          waiting = v .waiting;
-          started = f .good;
-          queue = elapsed w k k′ (c .waiting) (c .started) (until - at) f ∙ ap (λ (y : Turn). y .queue) (sym r);
-          count = omega (arith, v .running .count, ap (λ (y : Turn). length (output (y .written))) r);
-          bytes = v .running .bytes ∙ ap (λ (y : Turn). written e 0 (output (y .written))) (sym r);
-        }
-
-    module _ (le : t ≤ until) where
-      pub turn-after : at < t
-      turn-after = running-after from until q₀ e q (c .len) at o (v .running) t next le
-
-      -- an instant, once its time has come
-      module _ {k′ : List ℕ} (f : Made k k′ (c .started) (onAir (t - at) (used (lot k (c .started))))) where
-        then : queueOf w (c .waiting) k′ (c .started) ≡ elapse (t - at) (queueOf w (c .waiting) k (c .started))
-        then = elapsed w k k′ (c .waiting) (c .started) (t - at) f
-
-        pub turn-meets : Meets t (queueOf w (c .waiting) k′ (c .started))
-        turn-meets = subst (Meets t) (sym then) (running-meets from until q₀ e q (c .len) at o (v .running) t next le)
-
-        pub turn-placed : length k′ ≡ 80 → Placed (instant t (queueOf w (c .waiting) k′ (c .started))) k′
-        turn-placed l = subst (λ (y : Queue). Placed (instant t y) k′) (sym then) (running-placed from until q₀ e q (c .len) at o (v .running) t next le k′ l)
-
-        pub turn-playable : All Playable (used (lot k′ (c .started)))
-        turn-playable = subst (λ (y : Queue). All Playable (y .started)) (sym then) (running-playable from until q₀ e q (c .len) at o (v .running) t next le)
-
-        pub turn-room : c .len + 23 * (c .waiting + c .started) ≤ length o
-        turn-room =
-            omega (arith, v .running .room, v .running .long, length-used (lot w (c .waiting)) (v .waiting), length-used (lot k (c .started)) (v .started))
-
-        module _ {w′ k″ : List ℕ} {r : Counts} {o′ : List ℕ} (g : Turns o (c .len) (instant t (queueOf w (c .waiting) k′ (c .started))) w′ k″ r o′) where
-          given : Turns o (c .len) (instant t (elapse (t - at) (queueOf w (c .waiting) k (c .started)))) w′ k″ r o′
-          given = subst (λ (y : Queue). Turns o (c .len) (instant t y) w′ k″ r o′) then g
-
-          pub turn-less : toCome (queueOf w′ (r .waiting) k″ (r .started)) < toCome (queueOf w (c .waiting) k (c .started))
-          turn-less = omega (arith, ap toCome (given .queue), running-less from until q₀ e q (c .len) at o (v .running) t next le)
-
-          pub turn-next : Looping from until q₀ e w′ k″ r t o′
-          turn-next =
-              record {
-                waiting = g .waiting;
-                started = g .started;
-                running = running-next from until q₀ e q (c .len) at o (v .running) t next le (queueOf w′ (r .waiting) k″ (r .started)) (r .len) o′ (given .queue) (given .count) (given .bytes);
-              }
-
--- ## Any two results of `run` are equal, word for word
-
-whole : (w : List ℕ) → length w ≡ 8 * (length w / 8) → spare w ≡ []
-whole w h = drop-of-length-le w {i = length w / 8 * 8} (omega arith)
-
-pub run-same : {e : List ℕ} {t : Turn} {w k w′ k′ : List ℕ} {r r′ : Counts} {o o′ : List ℕ} →
-    length w ≡ 512 → length w′ ≡ 512 → length k ≡ 80 → length k′ ≡ 80 →
-    Turns e 0 t w k r o → Turns e 0 t w′ k′ r′ o′ → (w ≡ w′) × (k ≡ k′) × (r ≡ r′) × (o ≡ o′)
-run-same {e} {t} {w} {k} {w′} {k′} {r} {r′} {o} {o′} lw lw′ lk lk′ a b =
-    turns-same e 0 t w k w′ k′ r r′ o o′ (omega arith) (whole w (omega arith) ∙ sym (whole w′ (omega arith)))
-    (omega arith) (whole k (omega arith) ∙ sym (whole k′ (omega arith))) a b
+        pub turn-next : Running until s₀ e m″ to (t .0) o′
+        turn-next =
+            let q = see m .queue in
+            let i = moved at (t .0) q in
+            let b = brief at until q d in
+            record {
+              form = given .shows .form;
+              kept =
+                  given .shows .is ∙ ap (queued (i .queue)) (f .is ∙ ap (queued (elapse (t .0 - at) q)) (v .kept))
+                  ∙ ap (λ (y : Queue). queued y s₀) (sym left);
+              holding = subst (Holding (t .0)) (sym left) (held at until q d (v .holding));
+              time = turn-time;
+              room = omega (arith, v .room, given .tells .count, b, ap toCome left);
+              long =
+                  ap length (given .tells .bytes) ∙ length-written o n (output (i .written)) (omega (arith, v .room, v .long, b))
+                  ∙ v .long;
+              sofar = v .sofar ++ i .written;
+              tells = tells-then (omega (arith, v .room, v .tells .count)) (v .tells) (given .tells);
+              rest =
+                  v .rest ∙ ap (behind (v .sofar)) (runs-more at until q d)
+                  ∙ behind-then (v .sofar) (i .written) (runAll (t .0) until (i .queue))
+                  ∙ ap (λ (y : Queue). behind (v .sofar ++ i .written) (runAll (t .0) until y)) (sym left);
+            }

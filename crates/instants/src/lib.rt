@@ -1,201 +1,127 @@
 // Instants: starts, ends, being covered and on air again, and a tick's run over them.
-use ends::Counts;
-use ends::Ending;
-use ends::Left;
-use places::Those;
+use memory::Which;
 use rules::Ninths;
 use rules::Session;
 use rules::Ticks;
+use rules::When;
 ghost use mathlib.Core.Path.{_≡_};
-ghost use Prim.Native.Nat.{_+_, _*_, _≤_, _<_};
+ghost use Prim.Native.Nat.{_+_, _≤_, _<_};
 ghost use lib.ListN.{length};
 ghost use Rattle.rules.specs.Lists.{All};
-ghost use Rattle.rules.specs.State.{due, toCome, Sorted};
-ghost use Rattle.rules.specs.Instants.{mayStart, launched, startAt, instant, onAir, runAll};
-ghost use Rattle.rules.specs.Sound.{Holding};
-ghost use Rattle.places.specs.Places.{Good, Made, lot, used};
-ghost use Rattle.ends.specs.Does.{Playable, queueOf, Turns};
+ghost use Rattle.rules.specs.State.{due, notAfter, toCome, Sorted};
+ghost use Rattle.rules.specs.Instants.{mayStart, launched, startAt, instant, elapse, runAll};
+ghost use Rattle.rules.specs.Sound.{Holding, horizon};
+ghost use Rattle.memory.specs.Memory.{Form, see, queued, Now};
+ghost use Rattle.ends.specs.Does.{Playable, roomFor, Does};
 ghost use Rattle.instants.specs.Runs.{Meets, Placed, Lasting};
 
 // The one on air has played d ninths more: the one place where time on air is added.
-fn elapse(k: &mut [u64], started: usize, d: u64)
-    requires { ⌜ Good (lot (now k) started) ⌝ }
-    requires { ⌜ Lasting d (used (lot (now k) started)) ⌝ }
-    ensures { λ _. ⌜ Made (now (k .entry)) (now (k .exit)) started (onAir d (used (lot (now (k .entry)) started))) ⌝ }
+fn elapse(m: &mut [u64], d: u64)
+    requires { ⌜ Form (now m) ⌝ }
+    requires { ⌜ Lasting d (see (now m) .queue .started) ⌝ }
+    ensures { λ _. ⌜ Now (now (m .exit)) (queued (elapse d (see (now (m .entry)) .queue)) (see (now (m .entry)))) ⌝ }
 {
-    if started == 0 {
+    if memory::count(&*m, Which::Started) == 0 {
         return;
     }
-    let mut x = places::load(&*k, started, 0);
+    let mut x = memory::load(&*m, Which::Started, 0);
     let played = x.played.0 + d;
     x.played.0 = played;
-    places::replace_at(&mut *k, started, 0, x);
+    memory::replace(&mut *m, Which::Started, 0, x)
 }
 
-// Whether x may go on air: nothing is, or x overrides one of a lower AccessType.
-fn may_start(x: Session, k: &[u64], started: usize) -> bool
-    requires { ⌜ Good (lot (now k) started) ⌝ }
-    ensures { λ r. ⌜ r ≡ mayStart x (used (lot (now (k .entry)) started)) ⌝ }
+// Whether x may go on air: nothing is, or x overrides one that it outranks.
+fn may_start(m: &[u64], x: Session) -> bool
+    requires { ⌜ Form (now m) ⌝ }
+    ensures { λ r. ⌜ r ≡ mayStart x (see (now (m .entry)) .queue .started) ⌝ }
 {
-    if started == 0 {
+    if memory::count(m, Which::Started) == 0 {
         return true;
     }
-    let air = places::load(k, started, 0);
-    x.over == 1 && places::outranks(x, air)
+    let air = memory::load(m, Which::Started, 0);
+    x.overrides == 1 && places::outranks(x, air)
 }
 
 // x, which no longer waits, goes on air, or fails with those that follow it.
-fn launch(
-    x: Session,
-    w: &mut [u64],
-    waiting: usize,
-    k: &mut [u64],
-    started: usize,
-    out: &mut [u8],
-    len: usize,
-) -> Counts
-    requires { ⌜ Good (lot (now w) waiting) ⌝ }
-    requires { ⌜ Good (lot (now k) started) ⌝ }
-    requires { ⌜ Placed (launched x (queueOf (now w) waiting (now k) started)) (now k) ⌝ }
-    requires { ⌜ len + 23 + 23 * waiting ≤ length (now out) ⌝ }
-    ensures { λ r. ⌜ Turns (now (out .entry)) len (launched x (queueOf (now (w .entry)) waiting (now (k .entry)) started)) (now (w .exit)) (now (k .exit)) r (now (out .exit)) ⌝ }
+fn launch(m: &mut [u64], x: Session, out: &mut [u8], len: usize) -> usize
+    requires { ⌜ Form (now m) ⌝ }
+    requires { ⌜ Placed (launched x (see (now m) .queue)) ⌝ }
+    requires { ⌜ len + roomFor (1 + length (see (now m) .queue .waiting)) ≤ length (now out) ⌝ }
+    ensures { λ r. ⌜ Does (launched x) len (now (m .entry)) (now (out .entry)) r (now (m .exit)) (now (out .exit)) ⌝ }
 {
-    if may_start(x, &*k, started) {
+    if may_start(&*m, x) {
         writing::splice_complete(&mut out[len..], x.conn, 100, x.id, 0, Ticks(0));
-        places::insert_at(&mut *k, started, 0, x);
-        Counts {
-            waiting: waiting,
-            started: started + 1,
-            len: len + 23,
-        }
+        memory::insert(&mut *m, Which::Started, 0, x);
+        len + 23
     } else {
-        writing::splice_complete(&mut out[len..], x.conn, 109, x.id, 0, Ticks(0));
-        let e = ends::dismiss(&mut *w, waiting, 109, x.conn, x.id, &mut *out, len + 23);
-        Counts {
-            waiting: e.left,
-            started: started,
-            len: e.len,
-        }
+        ends::fail(&mut *m, x, &mut *out, len)
     }
 }
 
 // The one possible start at t: nothing that waits starts before t, so it is the first or none.
-fn start_at(
-    t: Ninths,
-    w: &mut [u64],
-    waiting: usize,
-    k: &mut [u64],
-    started: usize,
-    out: &mut [u8],
-    len: usize,
-) -> Counts
-    requires { ⌜ Good (lot (now w) waiting) ⌝ }
-    requires { ⌜ Good (lot (now k) started) ⌝ }
-    requires { ⌜ Meets (t .0) (queueOf (now w) waiting (now k) started) ⌝ }
-    requires { ⌜ Placed (startAt (t .0) (queueOf (now w) waiting (now k) started)) (now k) ⌝ }
-    requires { ⌜ len + 23 * waiting ≤ length (now out) ⌝ }
-    ensures { λ r. ⌜ Turns (now (out .entry)) len (startAt (t .0) (queueOf (now (w .entry)) waiting (now (k .entry)) started)) (now (w .exit)) (now (k .exit)) r (now (out .exit)) ⌝ }
+fn start_at(m: &mut [u64], t: Ninths, out: &mut [u8], len: usize) -> usize
+    requires { ⌜ Form (now m) ⌝ }
+    requires { ⌜ Meets (t .0) (see (now m) .queue) ⌝ }
+    requires { ⌜ Placed (startAt (t .0) (see (now m) .queue)) ⌝ }
+    requires { ⌜ len + roomFor (length (see (now m) .queue .waiting)) ≤ length (now out) ⌝ }
+    ensures { λ r. ⌜ Does (startAt (t .0)) len (now (m .entry)) (now (out .entry)) r (now (m .exit)) (now (out .exit)) ⌝ }
 {
-    if waiting == 0 {
-        return Counts {
-            waiting: waiting,
-            started: started,
-            len: len,
-        };
+    if memory::count(&*m, Which::Waiting) == 0 {
+        return len;
     }
-    let x = places::load(&*w, waiting, 0);
+    let x = memory::load(&*m, Which::Waiting, 0);
     if x.start.0 == t.0 {
-        places::remove_at(&mut *w, waiting, 0);
-        launch(x, &mut *w, waiting - 1, &mut *k, started, &mut *out, len)
+        memory::remove(&mut *m, Which::Waiting, 0);
+        launch(&mut *m, x, &mut *out, len)
     } else {
-        Counts {
-            waiting: waiting,
-            started: started,
-            len: len,
-        }
+        len
     }
 }
 
 // One instant: ends first, from the highest AccessType down, then the start.
-fn at_instant(
-    t: Ninths,
-    w: &mut [u64],
-    waiting: usize,
-    k: &mut [u64],
-    started: usize,
-    out: &mut [u8],
-    len: usize,
-) -> Counts
-    requires { ⌜ Good (lot (now w) waiting) ⌝ }
-    requires { ⌜ Good (lot (now k) started) ⌝ }
-    requires { ⌜ Meets (t .0) (queueOf (now w) waiting (now k) started) ⌝ }
-    requires { ⌜ Placed (instant (t .0) (queueOf (now w) waiting (now k) started)) (now k) ⌝ }
-    requires { ⌜ All Playable (used (lot (now k) started)) ⌝ }
-    requires { ⌜ len + 23 * (waiting + started) ≤ length (now out) ⌝ }
-    ensures { λ r. ⌜ Turns (now (out .entry)) len (instant (t .0) (queueOf (now (w .entry)) waiting (now (k .entry)) started)) (now (w .exit)) (now (k .exit)) r (now (out .exit)) ⌝ }
+fn at_instant(m: &mut [u64], t: Ninths, out: &mut [u8], len: usize) -> usize
+    requires { ⌜ Form (now m) ⌝ }
+    requires { ⌜ Meets (t .0) (see (now m) .queue) ⌝ }
+    requires { ⌜ Placed (instant (t .0) (see (now m) .queue)) ⌝ }
+    requires { ⌜ All Playable (see (now m) .queue .started) ⌝ }
+    requires { ⌜ len + roomFor (toCome (see (now m) .queue)) ≤ length (now out) ⌝ }
+    ensures { λ r. ⌜ Does (instant (t .0)) len (now (m .entry)) (now (out .entry)) r (now (m .exit)) (now (out .exit)) ⌝ }
 {
-    let mut e = Left {
-        left: started,
-        len: len,
-    };
-    if 0 < started {
-        e = ends::end_those(
-            &mut *k,
-            started,
-            Those::EndsAt(t),
-            Ending::Complete(100),
-            Ending::Complete(125),
-            &mut *out,
-            len,
-        );
-    }
-    start_at(t, &mut *w, waiting, &mut *k, e.left, &mut *out, e.len)
+    let to = ends::end_due(&mut *m, t, &mut *out, len);
+    start_at(&mut *m, t, &mut *out, to)
 }
 
-// The next start or end, or none.
-fn next_due(none: Ninths, w: &[u64], waiting: usize, k: &[u64], started: usize) -> Ninths
-    requires { ⌜ Good (lot (now w) waiting) ⌝ }
-    requires { ⌜ Good (lot (now k) started) ⌝ }
-    requires { ⌜ Sorted (used (lot (now w) waiting)) ⌝ }
-    ensures { λ r. ⌜ r .0 ≡ due (none .0) (queueOf (now (w .entry)) waiting (now (k .entry)) started) ⌝ }
+// The next start or end up to a time, if there is one.
+fn next_due(m: &[u64], until: Ninths) -> When
+    requires { ⌜ Form (now m) ⌝ }
+    requires { ⌜ Sorted (see (now m) .queue .waiting) ⌝ }
+    ensures { λ r. ⌜ r ≡ notAfter (until .0) (due (see (now (m .entry)) .queue)) ⌝ }
 {
-    let e = places::least_end(k, started, none);
-    places::first_start(w, waiting, e)
+    let a = memory::least_end(m);
+    let b = memory::first_start(m);
+    units::not_after(until, units::sooner(a, b))
 }
 
-// Every instant from the time `from` to `until`, in order of time.
-pub fn run(
-    from: Ninths,
-    until: Ninths,
-    w: &mut [u64],
-    waiting: usize,
-    k: &mut [u64],
-    started: usize,
-    out: &mut [u8],
-) -> Counts
-    requires { ⌜ Good (lot (now w) waiting) ⌝ }
-    requires { ⌜ Good (lot (now k) started) ⌝ }
-    requires { ⌜ (length (now w) ≡ 512) × (length (now k) ≡ 80) ⌝ }
-    requires { ⌜ Holding (from .0) (queueOf (now w) waiting (now k) started) ⌝ }
-    requires { ⌜ (from .0 ≤ until .0) × (until .0 < 18446744073709551615) ⌝ }
-    requires { ⌜ 23 * toCome (queueOf (now w) waiting (now k) started) ≤ length (now out) ⌝ }
-    ensures { λ r. ⌜ Turns (now (out .entry)) 0 (runAll (from .0) (until .0) (queueOf (now (w .entry)) waiting (now (k .entry)) started)) (now (w .exit)) (now (k .exit)) r (now (out .exit)) ⌝ }
+// Every instant from the clock to `until`, in order of time. The clock's word stays.
+pub fn run(m: &mut [u64], until: Ninths, out: &mut [u8]) -> usize
+    requires { ⌜ Form (now m) ⌝ }
+    requires { ⌜ Holding (see (now m) .clock) (see (now m) .queue) ⌝ }
+    requires { ⌜ (see (now m) .clock ≤ until .0) × (until .0 < horizon) ⌝ }
+    requires { ⌜ roomFor (toCome (see (now m) .queue)) ≤ length (now out) ⌝ }
+    ensures { λ r.
+        ⌜ Does (runAll (see (now (m .entry)) .clock) (until .0)) 0 (now (m .entry)) (now (out .entry)) r
+        (now (m .exit)) (now (out .exit)) ⌝ }
 {
-    let none = Ninths(until.0 + 1);
-    let mut at = from;
-    let mut c = Counts {
-        waiting: waiting,
-        started: started,
-        len: 0,
-    };
+    let mut at = memory::clock(&*m);
+    let mut len = 0;
     loop {
-        let t = next_due(none, &*w, c.waiting, &*k, c.started);
-        if until.0 < t.0 {
-            elapse(&mut *k, c.started, until.0 - at.0);
-            return c;
-        }
-        elapse(&mut *k, c.started, t.0 - at.0);
-        c = at_instant(t, &mut *w, c.waiting, &mut *k, c.started, &mut *out, c.len);
+        let due = next_due(&*m, until);
+        let When::At(t) = due else {
+            elapse(&mut *m, until.0 - at.0);
+            return len;
+        };
+        elapse(&mut *m, t.0 - at.0);
+        len = at_instant(&mut *m, t, &mut *out, len);
         at = t;
     }
 }

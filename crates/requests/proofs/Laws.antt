@@ -1,357 +1,351 @@
--- Laws behind the checks of a request: what a search finds, the waiting with one start, the room that is left.
-use mathlib.Core.Path.{_≡_, refl, sym, ap, subst, _∙_}
-use mathlib.Core.Bool.{Bool, true, false, cond, not, _&&_, _||_}
-use mathlib.Core.List.{List, [], _∷_, _++_}
-use Prim.Native.Nat.{ℕ, suc, _+_, _≤_, _<_}
+-- Laws behind eviction, acceptance, abort and the two answers: what each piece of work promises, from what its parts promise.
+-- Rests on the laws of work of `ends`, on what `checks` tells of places, and on the rules' laws of counts and sizes.
+use mathlib.Core.Path.{_≡_, refl, sym, ap, ap₂, subst, _∙_}
+use mathlib.Core.Bool.{Bool, true, false, cond, not}
+use mathlib.Core.List.{List, [], _∷_, _++_, map}
+use Prim.Native.Nat.{ℕ, zero, suc, _+_, _-_, _*_, _≤_, _<_}
 use native.Mathlib.Omega.{arith}
-use lib.Dec.{eqb, ltb}
-use lib.ListN.{length, getD, length-append, List·getD-eq-default, List·getD-append}
-use lib.Seq.{getD-append-add}
-use borrow.Author.Tests.{ltb-true, ltb-false, leb-true, leb-false, eqb-true, eqb-false, lt-ltb, le-ltb, eq-eqb, ne-eqb, le-leb, lt-leb}
+use lib.Dec.{eqb}
+use lib.ListN.{length, getD}
+use borrow.Author.Tests.{eqb-true, lt-ltb, eq-eqb, ne-eqb}
+use borrow.Rule.Slice.PartMut.{putMid, midOf}
 use Rattle.rules.specs.declared.Session.{Session}
 use Rattle.rules.specs.declared.Start.{Start}
 use Rattle.rules.specs.declared.Start.the-variants.{Timed, Linked}
-use Rattle.rules.specs.declared.Request.{Request}
+use Rattle.rules.specs.declared.When.the-variants.{At, Never}
 use Rattle.rules.specs.declared.Ninths.{Ninths}
-use Rattle.rules.specs.Units.{fromTicks}
-use Rattle.rules.specs.Reading.{nobody, separateService}
-use Rattle.rules.specs.Lists.{All, some, place}
-use Rattle.rules.specs.State.{Queue, empty, of, is, startsAt, startsAfter, held, holds, Sorted}
-use Rattle.rules.specs.Instants.{outranks}
-use Rattle.rules.specs.Answers.{endOf, startOf, unknownPrior, wrongNumber, collides, waits, raisedSum, full, spliceResult, sessionAt, priorOf, tooLate, sumOf}
-use Rattle.rules.specs.Sound.{Proper, Each, Holding}
-use Rattle.rules.proofs.Tests.{by}
+use Rattle.rules.specs.declared.Request.{Request}
+use Rattle.rules.specs.declared.Ending.{Ending}
+use Rattle.rules.specs.declared.Ending.the-variants.{Complete, Response}
+use Rattle.rules.specs.Lists.{All, bit, put, keep, omit, some, count, place, insertAt, removeAt}
+use Rattle.rules.specs.State.{Queue, empty, is, startsAt, startsAfter, withWaiting, holds, Sorted}
+use Rattle.rules.specs.Bytes.{written}
+use Rattle.rules.specs.Records.{Record, SpliceResponse, AbortResponse, recordBytes}
+use Rattle.rules.specs.Ends.{Turn, quiet, writes, andThen, ended, endings, dismissed, evictedAt, evicted, cancelled, aborted}
+use Rattle.rules.specs.Answers.{startOf, sessionAt, requested, separate, full}
+use Rattle.rules.specs.Answers.{spliceResult, inserted, accepts, accepted, answerSplice, answerAbort}
+use Rattle.rules.specs.Asked.{Within}
+use Rattle.rules.specs.Sound.{Room, horizon, heldCount, Once, Holding}
+use Rattle.rules.proofs.Tests.{and-both}
 use Rattle.rules.proofs.All.{all-into}
-use Rattle.rules.proofs.Count.{count≤length, place-holds, some-none, some-place}
-use Rattle.rules.proofs.Every.{all-getD, all-none, all-held}
-use Rattle.places.specs.Places.{Lot, lot, Good, used, OfFour, startsFrom, tallied}
-use Rattle.places.proofs.Words.{length-places}
-use Rattle.places.proofs.Laws.{length-used, tallied-at}
-use mathlib.Core.Logic.{inl, inr}
-use types.Run.{OneOf}
-use denote.Enum.Declared.{tagOf}
-use Rattle.requests.proofs.Where.{the-type}
-use Rattle.requests.specs.declared.Where.{Where}
-use Rattle.requests.specs.declared.Where.the-variants.{Waiting, Started, Nowhere}
-use Rattle.requests.specs.Found.{whereIn, Stands, startsNowhere, Few}
+use Rattle.rules.proofs.Count.{some-place, place≤}
+use Rattle.rules.proofs.Every.{fewer-length, fewer-removeAt}
+use Rattle.rules.proofs.Leaving.{evicted-started}
+use Rattle.rules.proofs.Checks.{passed-all}
+use Rattle.rules.proofs.Room.{room-more, sixty-four}
+use Rattle.rules.proofs.Records.{length-record}
+use Rattle.rules.proofs.Size.{weight-one, evicted-lean}
+use Rattle.rules.proofs.Bounds.{longest, never, start-early}
+use Rattle.rules.proofs.Sound.{early, played-now}
+use Rattle.places.specs.Places.{OfFour, startsFrom}
+use Rattle.memory.specs.declared.Which.{Which}
+use Rattle.memory.specs.declared.Which.the-variants.{Waiting, Started}
+use Rattle.memory.specs.Memory.{Memory, Form, see, sessions, listOf, listed, relisted, Now, placesOf}
+use Rattle.ends.specs.Does.{Playable, roomFor, Turns, Does, oneEnded}
+use Rattle.ends.proofs.Laws.{sessions-list, told-one, tells-part, turns-quiet, turns-writes, turns-then}
+use Rattle.checks.specs.Found.{startIn}
+use Rattle.checks.proofs.Laws.{HeldAt, held-alone, found-within, start-known, taken-at, free-at, taken-within, result-none, waiting-of-four}
+use Rattle.requests.specs.declared.Way.{Way}
+use Rattle.requests.specs.Made.{MadeWay, chainEnded, endingAt}
 
--- ## The first that passes, of two lists
+-- ## What is held can be written
+
+-- nothing that waits was on air, and no PlayedDuration is longer than the longest Duration
+pub playable : (v : Which) (m : List ℕ) → Holding (see m .clock) (see m .queue) → All Playable (sessions v m)
+playable Waiting m h = all-into (λ s. s .played .0 ≡ 0) Playable (λ s e. omega arith) (see m .queue .waiting) (h .played .silent)
+playable Started m h =
+    all-into (λ s. s .played .0 ≤ longest) Playable (λ s i. omega arith) (see m .queue .started)
+    (played-now (see m .clock) (see m .queue) h)
+
+-- what is found can end
+pub found-ends : (c x : ℕ) (m : List ℕ) {v : Which} {i : ℕ} → HeldAt c x (see m .queue) v i → Holding (see m .clock) (see m .queue) →
+    (i < length (sessions v m)) × All Playable (sessions v m)
+found-ends c x m {v} h k = (found-within c x m h, playable v m k)
+
+-- one record of 14 bytes is all
+says-one : {x : Record} {m e o : List ℕ} → length (recordBytes x) ≡ 14 → Form m → o ≡ written e 0 (recordBytes x) →
+    Does (writes (x ∷ [])) 0 m e 14 m o
+says-one l f b = turns-writes (record { form = f; is = refl }) (omega (arith, l)) b
+
+-- ## A session's end, and its followers'
+
+-- no more wait after it
+fewer-wait : (v : Which) (i : ℕ) (q : Queue) → length (listed v (removeAt i (listOf v q)) q .waiting) ≤ length (q .waiting)
+fewer-wait Waiting i q = fewer-length (fewer-removeAt i (q .waiting))
+fewer-wait Started i q = omega arith
+
+module _ (v : Which) (i : ℕ) (how : Ending) (m : List ℕ) {e n o : List ℕ} {len to : ℕ} (d : Does (oneEnded v i how) len m e to n o) where
+  end-brief : to ≤ len + roomFor 1
+  unfolding oneEnded
+  end-brief = told-one how (getD (listOf v (see m .queue)) i empty) (d .tells)
+
+  -- room for those that follow it
+  pub chain-room : len + roomFor (1 + length (see m .queue .waiting)) ≤ length e → length o ≡ length e →
+      to + roomFor (length (see n .queue .waiting)) ≤ length o
+  unfolding oneEnded
+  chain-room h k =
+      omega (arith, end-brief, fewer-wait v i (see m .queue), ap (λ (s : Memory). length (s .queue .waiting)) (d .shows .is))
+
+  -- and then they end
+  pub chain-turns : (result : ℕ) {x : Session} {n′ o′ : List ℕ} {to′ : ℕ} → x ≡ getD (sessions v m) i empty → len + roomFor 1 ≤ length e →
+      Does (dismissed result (x .conn) (x .id)) to n o to′ n′ o′ → Does (chainEnded v i how result) len m e to′ n′ o′
+  unfolding chainEnded
+  chain-turns result {x} {n′} {o′} {to′} f h k =
+      let s = getD (listOf v (see m .queue)) i empty in
+      let g : x ≡ s = f ∙ ap (λ (l : List Session). getD l i empty) (sessions-list v m) in
+      turns-then (oneEnded v i how (see m .queue)) (dismissed result (s .conn) (s .id)) (omega (arith, d .tells .count, end-brief)) d
+      (subst (λ (y : Session). Does (dismissed result (y .conn) (y .id)) to n o to′ n′ o′) g k)
+
+-- ## Way for a new session
+
+evicted-chain : (t i : ℕ) (q : Queue) → i ≡ place (startsAt t) (q .waiting) → i < length (q .waiting) →
+    chainEnded Waiting i (Response 109) 109 q ≡ evicted t q
+unfolding evicted evictedAt chainEnded oneEnded
+evicted-chain t i q e h = rw e (rw (lt-ltb (place (startsAt t) (q .waiting)) (length (q .waiting)) (omega arith)))
+
+evicted-none : (t : ℕ) (q : Queue) → some (startsAt t) (q .waiting) ≡ false → quiet q ≡ evicted t q
+unfolding evicted
+evicted-none t q h = rw (sym (some-place (startsAt t) (q .waiting)) ∙ h)
+
+-- i: the place of the first from t on; b: whether one that waits starts at t
+module _ (t : ℕ) (m : List ℕ) {i : ℕ} {b : Bool} (f : i ≡ place (startsFrom t) (see m .queue .waiting))
+    (g : b ≡ some (startsAt t) (see m .queue .waiting)) where
+  abbrev w : List Session
+  w = see m .queue .waiting
+
+  pub way-free : {e : List ℕ} → b ≡ false → Form m → MadeWay t m e (record { at = i; len = 0 }) m e
+  way-free {e} h k =
+      record {
+        does = subst (λ (u : Turn). Turns e 0 u (see m) m 0 e) (evicted-none t (see m .queue) (sym g ∙ h)) (turns-quiet k);
+        goes = f ∙ sym (free-at t w (sym g ∙ h));
+      }
+
+  module _ (h : b ≡ true) (k : Holding (see m .clock) (see m .queue)) where
+    abbrev sorted : Sorted w
+    sorted = k .timed .sorted
+
+    pub way-taken : i < length w
+    way-taken = taken-within t w sorted f g h
+
+    pub way-over : {e n o : List ℕ} {r : Way} → Does (chainEnded Waiting i (Response 109) 109) 0 m e (r .len) n o →
+        r .at ≡ place (startsAfter t) (see n .queue .waiting) → MadeWay t m e r n o
+    way-over {e} {n} {o} {r} d p =
+        let same = evicted-chain t i (see m .queue) (f ∙ sym (taken-at t w sorted (sym g ∙ h))) way-taken in
+        record { does = subst (λ (u : Turn). Turns e 0 u (see m) n (r .len) o) same d; goes = p }
+
+-- ## Acceptance
+
+module _ {t : ℕ} {m e n o : List ℕ} {r : Way} (a : MadeWay t m e r n o) where
+  -- 14 bytes for each that goes
+  pub way-lean : r .len + 14 * length (see n .queue .waiting) ≤ 14 * length (see m .queue .waiting)
+  way-lean =
+      omega (
+        arith,
+        a .does .tells .count,
+        ap (λ (s : Memory). length (s .queue .waiting)) (a .does .shows .is),
+        evicted-lean t (see m .queue),
+        ap length (evicted-started t (see m .queue)),
+      )
+
+  pub way-within : r .at ≤ length (see n .queue .waiting)
+  way-within = omega (arith, a .goes, place≤ (startsAfter t) (see n .queue .waiting))
+
+-- the new one waits before the first that starts later, and its 100 stands behind the ends
+pub accept-turns : (new : Session) {m e n o n′ ys : List ℕ} {r : Way} → MadeWay (new .start .0) m e r n o →
+    Now n′ (relisted Waiting (insertAt (r .at) new (sessions Waiting n)) (see n)) → length o ≡ length e → r .len + 14 ≤ length e →
+    ys ≡ written (midOf (r .len) (length o - r .len) o) 0 (recordBytes (accepts new)) →
+    Does (accepted new) 0 m e (r .len + 14) n′ (putMid (r .len) (length o - r .len) o ys)
+unfolding accepted inserted
+accept-turns new {m} {e} {n} {o} {n′} {ys} {r} a v k h b =
+    let shows = subst (λ (i : ℕ). Now n′ (relisted Waiting (insertAt i new (sessions Waiting n)) (see n))) (a .goes) v in
+    turns-then (evicted (new .start .0) (see m .queue)) (λ u. writes (accepts new ∷ []) (withWaiting (inserted new (u .waiting)) u))
+    (omega (arith, a .does .tells .count)) (a .does) (record { shows = shows; tells = tells-part {r = accepts new} tt (omega arith) b })
+
+-- ## The answer to a Splice_Request
+
+-- no start is so late that an end wraps
+pub start-fits : (c clock : ℕ) (f : Start) (q : Queue) {t : Ninths} → Within f → Holding clock q → clock < horizon →
+    startIn c f q ≡ At t → t .0 < never
+unfolding startOf
+start-fits c clock (Timed m) q h k l e = omega (arith, start-known c (Timed m) q e .1)
+start-fits c clock (Linked p) q h k l e =
+    omega (arith, start-known c (Linked p) q e .1, start-early c (Linked p) q (omega arith) (early k l))
+
+-- of the session that r asks for: its start is known, and i is the place of the first from then on
+pub record Asks (c : ℕ) (r : Request) (q : Queue) (new : Session) (i : ℕ) : Type 0 where
+  pub known : startIn c (r .start) q ≡ At (new .start)
+  pub is : new ≡ requested c r q
+  pub at : i ≡ place (startsFrom (new .start .0)) (q .waiting)
+
+pub asks : (c : ℕ) (r : Request) (q : Queue) {t : Ninths} {new : Session} {i : ℕ} → startIn c (r .start) q ≡ At t →
+    new ≡ sessionAt (t .0) c r → i ≡ place (startsFrom (t .0)) (q .waiting) → Asks c r q new i
+unfolding requested sessionAt
+asks c r q {t} f e k =
+    let z = sym (ap (λ (s : Session). s .start) e) in
+    record {
+      known = f ∙ ap At z;
+      is = e ∙ ap (λ (n : ℕ). sessionAt n c r) (sym (start-known c (r .start) q f .1));
+      at = k ∙ ap (λ (u : Ninths). place (startsFrom (u .0)) (q .waiting)) z;
+    }
+
+-- a connection that is not full leaves room for one more
+room-left : (s : Session) (w : List Session) → OfFour s → All OfFour w → Room w → full (s .conn) w ≡ false → length w < placesOf Waiting
+room-left s w low a r f = omega (arith, sixty-four (s ∷ w) (low, a) (room-more w (s ∷ w) (s .conn) low f (λ c. omega arith) r))
+
+-- new: the session that r asks for; n: its result
+module _ (c : ℕ) (r : Request) (m : List ℕ) {new : Session} {n : ℕ} (a : new ≡ requested c r (see m .queue))
+    (f : n ≡ spliceResult (see m .clock) c r new (see m .queue)) where
+  abbrev q : Queue
+  q = see m .queue
+
+  result-is : n ≡ spliceResult (see m .clock) c r (requested c r q) q
+  result-is = f ∙ ap (λ (s : Session). spliceResult (see m .clock) c r s q) a
+
+  pub room-waiting : n ≡ 100 → c ≤ 3 → Holding (see m .clock) q → length (q .waiting) < placesOf Waiting
+  unfolding requested sessionAt
+  room-waiting h low k =
+      room-left (requested c r q) (q .waiting) low (waiting-of-four (see m .clock) q k) (k .room)
+      (passed-all (see m .clock) c r q (sym result-is ∙ h) .room)
+
+  answer-is : cond (eqb n 100) (accepted new q) (writes (SpliceResponse c n (r .id) ∷ []) q) ≡ answerSplice (see m .clock) c r q
+  unfolding answerSplice
+  answer-is = ap₂ (λ (k : ℕ) (s : Session). cond (eqb k 100) (accepted s q) (writes (SpliceResponse c k (r .id) ∷ []) q)) result-is a
+
+  module _ {e o : List ℕ} where
+    pub splice-accepted : {m′ : List ℕ} {to : ℕ} → n ≡ 100 → Does (accepted new) 0 m e to m′ o →
+        Does (answerSplice (see m .clock) c r) 0 m e to m′ o
+    splice-accepted {m′} {to} h d = subst (λ (t : Turn). Turns e 0 t (see m) m′ to o) answer-is (rw (eq-eqb n 100 h) d)
+
+    pub splice-refused : (n ≡ 100 → ⊥) → Form m → o ≡ written e 0 (recordBytes (SpliceResponse c n (r .id))) →
+        Does (answerSplice (see m .clock) c r) 0 m e 14 m o
+    splice-refused h k b =
+        subst (λ (t : Turn). Turns e 0 t (see m) m 14 o) answer-is
+        (rw (ne-eqb n 100 h) (says-one (length-record (SpliceResponse c n (r .id)) tt) k b))
+
+-- a or b: its start is not known
+pub splice-unknown : (c : ℕ) (r : Request) (m : List ℕ) {n : ℕ} {e o : List ℕ} → startIn c (r .start) (see m .queue) ≡ Never →
+    n ≡ cond (separate r) 110 121 → Form m → o ≡ written e 0 (recordBytes (SpliceResponse c n (r .id))) →
+    Does (answerSplice (see m .clock) c r) 0 m e 14 m o
+splice-unknown c r m {n} h k f b =
+    let new = requested c r (see m .queue) in
+    splice-refused c r m refl (k ∙ result-none (see m .clock) c r new (see m .queue) h) (other (separate r) k) f b
+  where
+    other : (a : Bool) → n ≡ cond a 110 121 → n ≡ 100 → ⊥
+    other true i j = omega arith
+    other false i j = omega arith
+
+-- ## Abort
 
 module _ {A : Type 0} (p : A → Bool) where
-  pub place-front : (a b : List A) → place p a < length a → place p (a ++ b) ≡ place p a
-  unfolding place
-  place-front [] b h = absurd (omega arith)
-  place-front (x ∷ a) b h = go (p x) (place-front a b) h
+  -- none passes
+  parted-none : (l : List A) → count p l ≡ 0 → (keep p l ≡ []) × (omit p l ≡ l)
+  parted-none [] h = (refl, refl)
+  parted-none (x ∷ l) h = go (p x) (parted-none l) h
     where
-      go : (t : Bool) → (place p a < length a → place p (a ++ b) ≡ place p a) → cond t 0 (suc (place p a)) < suc (length a)
-          → cond t 0 (suc (place p (a ++ b))) ≡ cond t 0 (suc (place p a))
-      go true ih k = refl
-      go false ih k = ap suc (ih (omega arith))
-
-  pub place-behind : (a b : List A) → length a ≤ place p a → place p (a ++ b) ≡ length a + place p b
-  unfolding place
-  place-behind [] b h = omega arith
-  place-behind (x ∷ a) b h = go (p x) (place-behind a b) h
-    where
-      go : (t : Bool) → (length a ≤ place p a → place p (a ++ b) ≡ length a + place p b) → suc (length a) ≤ cond t 0 (suc (place p a))
-          → cond t 0 (suc (place p (a ++ b))) ≡ suc (length a) + place p b
+      go : (b : Bool) → (count p l ≡ 0 → (keep p l ≡ []) × (omit p l ≡ l)) → bit b + count p l ≡ 0
+          → (put b x (keep p l) ≡ []) × (put (not b) x (omit p l) ≡ x ∷ l)
       go true ih k = absurd (omega arith)
-      go false ih k = omega (arith, ih (omega arith))
+      go false ih k = let z = ih (omega arith) in (z .0, ap (λ (m : List A). x ∷ m) (z .1))
 
--- one that passes is at its place
-some-within : {A : Type 0} (p : A → Bool) (l : List A) → some p l ≡ true → place p l < length l
-some-within p l h = ltb-true _ _ (sym (some-place p l) ∙ h)
-
--- ## Where a number is held
-
--- the session that is held there
-abbrev foundAt : Where → Queue → Session
-foundAt (Waiting i) q = getD (q .waiting) i empty
-foundAt (Started j) q = getD (q .started) j empty
-foundAt Nowhere q = empty
-
-abbrev pub isSomewhere : Where → Bool
-isSomewhere (Waiting i) = true
-isSomewhere (Started j) = true
-isSomewhere Nowhere = false
-
--- the second way of `if let Where::Nowhere`
-pub somewhere : (a : Where) → OneOf (0 ∷ 1 ∷ []) (tagOf the-type a) → isSomewhere a ≡ true
-somewhere (Waiting i) h = refl
-somewhere (Started j) h = refl
-somewhere Nowhere (inl e) = absurd (omega arith)
-somewhere Nowhere (inr e) = absurd (omega arith)
-
-module _ (c x : ℕ) (q : Queue) where
-  abbrev i : ℕ
-  i = place (is c x) (q .waiting)
-
-  abbrev j : ℕ
-  j = place (is c x) (q .started)
-
-  -- a fact of where it is, from the fact of each place
-  pub by-where : (P : Where → Type 0) → (i < length (q .waiting) → P (Waiting i)) → (length (q .waiting) ≤ i → j < length (q .started) → P (Started j))
-      → (length (q .waiting) ≤ i → length (q .started) ≤ j → P Nowhere) → P (whereIn c x q)
-  unfolding whereIn
-  by-where P f g h =
-      by P (ltb i (length (q .waiting))) _ _ (λ e. f (ltb-true _ _ e))
-      (λ e. by P (ltb j (length (q .started))) _ _ (λ d. g (ltb-false _ _ e) (ltb-true _ _ d)) (λ d. h (ltb-false _ _ e) (ltb-false _ _ d)))
-
-  -- the session there, or none
-  found-where : getD (held q) (place (is c x) (held q)) empty ≡ foundAt (whereIn c x q) q
-  found-where =
-      by-where (λ a. getD (held q) (place (is c x) (held q)) empty ≡ foundAt a q)
-      (λ h. ap at (place-front (is c x) (q .waiting) (q .started) h) ∙ List·getD-append (q .waiting) (q .started) empty i h)
-      (λ h k. ap at (place-behind (is c x) (q .waiting) (q .started) h) ∙ getD-append-add (q .waiting) (q .started) j empty)
-      (λ h k. List·getD-eq-default (held q) empty (omega (arith, place-behind (is c x) (q .waiting) (q .started) h, length-append (q .waiting) (q .started))))
+  -- one alone passes: that at the place i
+  parted-one : (i : ℕ) (l : List A) (d : A) → i < length l → p (getD l i d) ≡ true → count p (removeAt i l) ≡ 0
+      → (keep p l ≡ getD l i d ∷ []) × (omit p l ≡ removeAt i l)
+  unfolding removeAt
+  parted-one i [] d h e z = absurd (omega arith)
+  parted-one zero (x ∷ l) d h e z =
+      let k = parted-none l z in
+      rw e (ap (λ (m : List A). x ∷ m) (k .0), k .1)
+  parted-one (suc i) (x ∷ l) d h e z = go (p x) (parted-one i l d (omega arith) e) z
     where
-      at : ℕ → Session
-      at n = getD (held q) n empty
+      go : (b : Bool) → (count p (removeAt i l) ≡ 0 → (keep p l ≡ getD l i d ∷ []) × (omit p l ≡ removeAt i l))
+          → bit b + count p (removeAt i l) ≡ 0
+          → (put b x (keep p l) ≡ getD l i d ∷ []) × (put (not b) x (omit p l) ≡ x ∷ removeAt i l)
+      go true ih k = absurd (omega arith)
+      go false ih k = let y = ih (omega arith) in (y .0, ap (λ (m : List A). x ∷ m) (y .1))
 
-  holds-where : holds c x q ≡ isSomewhere (whereIn c x q)
-  holds-where =
-      some-place (is c x) (held q)
-      ∙ by-where (λ a. ltb (place (is c x) (held q)) (length (held q)) ≡ isSomewhere a)
-      (λ h. lt-ltb (place (is c x) (held q)) (length (held q)) (omega (arith, place-front (is c x) (q .waiting) (q .started) h, n)))
-      (λ h k. lt-ltb (place (is c x) (held q)) (length (held q)) (omega (arith, place-behind (is c x) (q .waiting) (q .started) h, n)))
-      (λ h k. le-ltb (place (is c x) (held q)) (length (held q)) (omega (arith, place-behind (is c x) (q .waiting) (q .started) h, n)))
+module _ (p : Session → Bool) where
+  abbrev cancels : List Session → List Record
+  cancels k = endings (Complete 116) (Response 116) p k
+
+  cancels-none : (k : List Session) → count p k ≡ 0 → cancels k ≡ []
+  unfolding endings
+  cancels-none [] h = refl
+  cancels-none (s ∷ k) h = go (p s) h
     where
-      n : length (held q) ≡ length (q .waiting) + length (q .started)
-      n = length-append (q .waiting) (q .started)
+      go : (b : Bool) → bit b + count p k ≡ 0 → put b (ended (Complete 116) s) (map (ended (Response 116)) (keep p k)) ≡ []
+      go true l = absurd (omega arith)
+      go false l = ap (map (ended (Response 116))) (parted-none p k (omega arith) .0)
 
-  pub held-where : (a : Where) (b : Bool) → a ≡ whereIn c x q → isSomewhere a ≡ b → b ≡ holds c x q
-  held-where a b e f = sym f ∙ ap isSomewhere e ∙ sym holds-where
-
-  -- a linked start
-  pub end-where : (a b : Where) (s : Session) → a ≡ whereIn c x q → a ≡ b → s ≡ foundAt b q → s .end .0 ≡ endOf c x (held q)
-  end-where a b s e d f = ap (λ (t : Session). t .end .0) (f ∙ ap (λ (y : Where). foundAt y q) (sym d ∙ e) ∙ sym found-where)
-
-module _ (c x : ℕ) (w k : Lot) (g : Good w) (h : Good k) where
-  abbrev both : Queue
-  both = record { waiting = used w; started = used k }
-
-  -- what is found stands where it is found
-  pub where-stands : (a b : Where) → a ≡ whereIn c x both → a ≡ b → Stands b (w .len) (k .len)
-  where-stands a b e d =
-      let n : length (used w) ≡ w .len = length-used w g in
-      let m : length (used k) ≡ k .len = length-used k h in
-      subst (λ (y : Where). Stands y (w .len) (k .len)) (sym e ∙ d)
-      (by-where c x both (λ y. Stands y (w .len) (k .len)) (λ u. omega arith) (λ u v. omega arith) (λ u v. tt))
-
-  -- the two searches of `where_held`
-  module _ (n : ℕ) (a : n ≡ place (is c x) (used w)) where
-    pub found-waiting : n < w .len → Waiting n ≡ whereIn c x both
-    unfolding whereIn
-    found-waiting l = rw (lt-ltb (place (is c x) (used w)) (length (used w)) (omega (arith, length-used w g))) (ap Waiting a)
-
-    module _ (l : w .len ≤ n) (m : ℕ) (b : m ≡ place (is c x) (used k)) where
-      none-waits : ltb (place (is c x) (used w)) (length (used w)) ≡ false
-      none-waits = le-ltb (place (is c x) (used w)) (length (used w)) (omega (arith, length-used w g))
-
-      pub found-started : m < k .len → Started m ≡ whereIn c x both
-      unfolding whereIn
-      found-started f = rw (none-waits, lt-ltb (place (is c x) (used k)) (length (used k)) (omega (arith, length-used k h))) (ap Started b)
-
-      pub found-nowhere : k .len ≤ m → Nowhere ≡ whereIn c x both
-      unfolding whereIn
-      found-nowhere f = rw (none-waits, le-ltb (place (is c x) (used k)) (length (used k)) (omega (arith, length-used k h)))
-
--- ## b. The three reasons
-
-unheld-end : (c x : ℕ) (q : Queue) → holds c x q ≡ false → endOf c x (held q) ≡ 0
-unfolding empty
-unheld-end c x q h =
-    let n : length (held q) ≤ place (is c x) (held q) = ltb-false _ _ (sym (some-place (is c x) (held q)) ∙ h) in
-    ap (λ (t : Session). t .end .0) (List·getD-eq-default (held q) empty n)
-
--- no session that is held ends at 0
-unknown-is : (c : ℕ) (f : Start) (q : Queue) (t : ℕ) → Each Proper q → t ≡ startOf c f q → startsNowhere f t ≡ unknownPrior c f q
-unfolding startOf unknownPrior
-unknown-is c (Timed m) q t a e = refl
-unknown-is c (Linked p) q t a e = ap (λ (n : ℕ). eqb n 0) e ∙ go (holds c p q) refl
-  where
-    go : (b : Bool) → holds c p q ≡ b → eqb (endOf c p (held q)) 0 ≡ not b
-    go true h =
-        let s : Proper (getD (held q) (place (is c p) (held q)) empty) =
-        all-getD Proper (held q) (place (is c p) (held q)) empty (some-within (is c p) (held q) h) (all-held Proper q a) in
-        ne-eqb (endOf c p (held q)) 0 (λ z. omega (arith, s .lasts))
-    go false h = eq-eqb (endOf c p (held q)) 0 (unheld-end c p q h)
-
-module _ (c : ℕ) (r : Request) (q : Queue) where
-  pub wrong-nobody : r .id ≡ nobody → true ≡ wrongNumber c r q
-  wrong-nobody h = rw (eq-eqb (r .id) nobody h)
-
-  module _ (somebody : r .id ≡ nobody → ⊥) (b : Bool) (f : b ≡ holds c (r .id) q) where
-    pub wrong-held : b ≡ true → true ≡ wrongNumber c r q
-    wrong-held h = rw (ne-eqb (r .id) nobody somebody, ← f, h)
-
-    pub wrong-prior : (u : Bool) (t : ℕ) → b ≡ false → Each Proper q → t ≡ startOf c (r .start) q → u ≡ startsNowhere (r .start) t → u ≡ wrongNumber c r q
-    wrong-prior u t h a e g = rw (ne-eqb (r .id) nobody somebody, ← f, h) (g ∙ unknown-is c (r .start) q t a e)
-
--- ## d. No two that wait start together, so the first from a start on decides
-
-none-at : (p : Session → Bool) (t : ℕ) (w : List Session) → All (λ u. startsAt t u ≡ false) w → some (λ u. startsAt t u && p u) w ≡ false
-none-at p t [] a = refl
-none-at p t (u ∷ w) a = rw (a .0) (none-at p t w (a .1))
-
-start-at : (p : Session → Bool) (t : ℕ) (w : List Session) → Sorted w → place (startsAt t) w < length w → some (λ u. startsAt t u && p u) w ≡ p (getD w (place (startsAt t) w) empty)
-unfolding place
-start-at p t [] o h = absurd (omega arith)
-start-at p t (s ∷ w) o h = go (startsAt t s) refl (start-at p t w (o .1)) h
-  where
-    others : startsAt t s ≡ true → All (λ u. startsAt t u ≡ false) w
-    others e =
-        let i = eqb-true t (s .start .0) e in
-        all-into (λ u. s .start .0 < u .start .0) (λ u. startsAt t u ≡ false) (λ u l. ne-eqb t (u .start .0) (λ f. omega arith)) w (o .0)
-
-    or-false : (b : Bool) → (b || false) ≡ b
-    or-false true = refl
-    or-false false = refl
-
-    go : (b : Bool) → startsAt t s ≡ b → (place (startsAt t) w < length w → some (λ u. startsAt t u && p u) w ≡ p (getD w (place (startsAt t) w) empty))
-        → cond b 0 (suc (place (startsAt t) w)) < suc (length w)
-        → ((b && p s) || some (λ u. startsAt t u && p u) w) ≡ p (getD (s ∷ w) (cond b 0 (suc (place (startsAt t) w))) empty)
-    go true e ih k = rw (none-at p t w (others e)) (or-false (p s))
-    go false e ih k = ih (omega arith)
-
-module _ (t : ℕ) where
-  none-starts : (u : List Session) → some (startsAt t) u ≡ false → All (λ s. startsAt t s ≡ false) u
-  none-starts u h = all-none (startsAt t) u (some-none (startsAt t) u h)
-
-  -- one that starts at t is the first from t on
-  pub taken-at : (u : List Session) → Sorted u → some (startsAt t) u ≡ true → place (startsAt t) u ≡ place (startsFrom t) u
-  unfolding place
-  taken-at [] o h = let z : _≡_ {A = ℕ} 0 1 = cc in absurd (omega arith)
-  taken-at (s ∷ u) o h = go (startsAt t s) refl (taken-at u (o .1)) h
+  -- by what it was: the first is on air
+  cancels-one : (i : ℕ) (k : List Session) → i < length k → p (getD k i empty) ≡ true → count p (removeAt i k) ≡ 0
+      → cancels k ≡ ended (endingAt Started i) (getD k i empty) ∷ []
+  unfolding endings removeAt
+  cancels-one i [] h e z = absurd (omega arith)
+  cancels-one zero (s ∷ k) h e z =
+      rw e (ap (λ (l : List Session). ended (Complete 116) s ∷ map (ended (Response 116)) l) (parted-none p k z .0))
+  cancels-one (suc i) (s ∷ k) h e z = go (p s) z
     where
-      earlier : some (startsAt t) u ≡ true → s .start .0 < t
-      earlier k =
-          let l = some-within (startsAt t) u k in
-          let e = eqb-true t (getD u (place (startsAt t) u) empty .start .0) (place-holds (startsAt t) u empty l) in
-          omega (arith, all-getD (λ v. s .start .0 < v .start .0) u (place (startsAt t) u) empty l (o .0))
+      go : (b : Bool) → bit b + count p (removeAt i k) ≡ 0
+          → put b (ended (Complete 116) s) (map (ended (Response 116)) (keep p k)) ≡ ended (Response 116) (getD k i empty) ∷ []
+      go true l = absurd (omega arith)
+      go false l = ap (map (ended (Response 116))) (parted-one p i k empty (omega arith) e (omega arith) .0)
 
-      go : (b : Bool) → startsAt t s ≡ b → (some (startsAt t) u ≡ true → place (startsAt t) u ≡ place (startsFrom t) u) → (b || some (startsAt t) u) ≡ true
-          → cond b 0 (suc (place (startsAt t) u)) ≡ cond (startsFrom t s) 0 (suc (place (startsFrom t) u))
-      go true e ih k = rw (le-leb t (s .start .0) (omega (arith, eqb-true t (s .start .0) e)))
-      go false e ih k = rw (lt-leb t (s .start .0) (earlier k)) (ap suc (ih k))
+  -- what is left of both lists, and who ends
+  cancelled-parts : (q : Queue) {w k v : List Session} {r : List Record} → omit p (q .waiting) ≡ w → omit p (q .started) ≡ k
+      → cancels (q .started) ≡ r → keep p (q .waiting) ≡ v
+      → _≡_ {A = Turn} (record { queue = record { waiting = w; started = k }; written = r ++ map (ended (Response 116)) v }) (cancelled p q)
+  unfolding cancelled
+  cancelled-parts q a b d e =
+      sym (λ i. record { queue = record { waiting = a i; started = b i }; written = d i ++ map (ended (Response 116)) (e i) })
 
-  -- where none starts at t, those from t on start after it
-  pub free-at : (u : List Session) → some (startsAt t) u ≡ false → place (startsAfter t) u ≡ place (startsFrom t) u
-  unfolding place
-  free-at u h = same u (none-starts u h)
+module _ (c x : ℕ) (q : Queue) (v : Which) (i : ℕ) (once : Once q) (h : HeldAt c x q v i) where
+  -- a number is held once: what ends is the session where it is held
+  cancelled-at : oneEnded v i (endingAt v i) q ≡ cancelled (is c x) q
+  unfolding oneEnded
+  cancelled-at = go v h (held-alone c x q v i once h)
     where
-      after : (s : Session) → startsAt t s ≡ false → (b : Bool) → startsFrom t s ≡ b → startsAfter t s ≡ b
-      after s e true f =
-          let n = eqb-false t (s .start .0) e in
-          let l = leb-true t (s .start .0) f in
-          lt-ltb t (s .start .0) (omega arith)
-      after s e false f = le-ltb t (s .start .0) (omega (arith, leb-false t (s .start .0) f))
+      go : (v : Which) → HeldAt c x q v i → heldCount (listed v (removeAt i (listOf v q)) q) (is c x) ≡ 0
+          → oneEnded v i (endingAt v i) q ≡ cancelled (is c x) q
+      go Waiting h z =
+          let w = parted-one (is c x) i (q .waiting) empty (h .within) (h .passes) (omega arith) in
+          let k : count (is c x) (q .started) ≡ 0 = omega arith in
+          cancelled-parts (is c x) q (w .1) (parted-none (is c x) (q .started) k .1) (cancels-none (is c x) (q .started) k) (w .0)
+      go Started h z =
+          let k : count (is c x) (removeAt i (q .started)) ≡ 0 = omega arith in
+          let w = parted-none (is c x) (q .waiting) (omega arith) in
+          cancelled-parts (is c x) q (w .1) (parted-one (is c x) i (q .started) empty (h .within) (h .passes) k .1)
+          (cancels-one (is c x) i (q .started) (h .within) (h .passes) k) (w .0)
 
-      same : (u : List Session) → All (λ s. startsAt t s ≡ false) u → place (startsAfter t) u ≡ place (startsFrom t) u
-      same [] a = refl
-      same (s ∷ u) a = rw (after s (a .0) (startsFrom t s) refl, same u (a .1))
+  -- and those that follow its number
+  pub aborted-chain : chainEnded v i (endingAt v i) 116 q ≡ aborted c x q
+  unfolding chainEnded aborted
+  aborted-chain =
+      let s = getD (listOf v q) i empty in
+      let b = and-both (eqb c (s .conn)) (eqb x (s .id)) (h .passes) in
+      let conn = eqb-true c (s .conn) (b .0) in
+      let id = eqb-true x (s .id) (b .1) in
+      λ j. andThen (cancelled-at j) (dismissed 116 (sym conn j) (sym id j))
 
-  module _ (w : Lot) (g : Good w) (o : Sorted (used w)) (i : ℕ) (f : i ≡ place (startsFrom t) (used w)) where
-    pub taken-here : (x : Session) → i < w .len → x ≡ getD (used w) i empty → startsAt t x ≡ some (startsAt t) (used w)
-    taken-here x h e = go (some (startsAt t) (used w)) refl
-      where
-        go : (b : Bool) → some (startsAt t) (used w) ≡ b → startsAt t x ≡ b
-        go true k =
-            ap (startsAt t) (e ∙ ap (λ (j : ℕ). getD (used w) j empty) (f ∙ sym (taken-at (used w) o k)))
-            ∙ place-holds (startsAt t) (used w) empty (some-within (startsAt t) (used w) k)
-        go false k =
-            ap (startsAt t) e ∙ all-getD (λ s. startsAt t s ≡ false) (used w) i empty (omega (arith, length-used w g)) (none-starts (used w) k)
+module _ (c x : ℕ) {m e : List ℕ} (f : Form m) where
+  pub abort-unknown : {o : List ℕ} → holds c x (see m .queue) ≡ false → o ≡ written e 0 (recordBytes (AbortResponse c 121 x)) →
+      Does (answerAbort c x) 0 m e 14 m o
+  unfolding answerAbort
+  abort-unknown h b = rw h (says-one (length-record (AbortResponse c 121 x) tt) f b)
 
-    pub taken-within : (b : Bool) → b ≡ some (startsAt t) (used w) → b ≡ true → i < w .len
-    taken-within b e h =
-        let k = sym e ∙ h in
-        omega (arith, length-used w g, taken-at (used w) o k, some-within (startsAt t) (used w) k)
+  -- 100, the session's end, and its followers' ends
+  pub abort-turns : {v : Which} {i to : ℕ} {how : Ending} {n o o′ : List ℕ} → Holding (see m .clock) (see m .queue) →
+      HeldAt c x (see m .queue) v i → 14 ≤ length e → o ≡ written e 0 (recordBytes (AbortResponse c 100 x)) → how ≡ endingAt v i →
+      Does (chainEnded v i how 116) 14 m o to n o′ → Does (answerAbort c x) 0 m e to n o′
+  unfolding answerAbort
+  abort-turns {v} {i} {to} {how} {n} {o} {o′} k h l b g d =
+      let q = see m .queue in
+      let y = AbortResponse c 100 x in
+      let same = ap (λ (z : Ending). chainEnded v i z 116 q) g ∙ aborted-chain c x q v i (k .once) h in
+      rw (h .known)
+      (turns-then (writes (y ∷ []) q) (aborted c x) (omega (arith, weight-one y tt)) (says-one (length-record y tt) f b)
+      (subst (λ (t : Turn). Turns o 14 t (see m) n to o′) same d))
 
-    pub taken-none : w .len ≤ i → false ≡ some (startsAt t) (used w)
-    taken-none h = go (some (startsAt t) (used w)) refl
-      where
-        go : (b : Bool) → some (startsAt t) (used w) ≡ b → false ≡ b
-        go true k = absurd (omega (arith, taken-within true (sym k) refl))
-        go false k = refl
-
-module _ (new : Session) (u : List Session) (b : Bool) (f : b ≡ some (startsAt (new .start .0)) u) where
-  pub collides-none : b ≡ false → false ≡ collides new u
-  unfolding collides
-  collides-none h = sym (none-at (λ s. not (outranks new s)) (new .start .0) u (none-starts (new .start .0) u (sym f ∙ h)))
-
-  pub collides-at : (i : ℕ) (old : Session) (r : Bool) → Sorted u → i ≡ place (startsFrom (new .start .0)) u → b ≡ true → old ≡ getD u i empty → r ≡ outranks new old → not r ≡ collides new u
-  unfolding collides
-  collides-at i old r o j h e q =
-      let k = sym f ∙ h in
-      ap not q
-      ∙ ap (λ (s : Session). not (outranks new s)) (e ∙ ap (λ (n : ℕ). getD u n empty) (j ∙ sym (taken-at (new .start .0) u o k)))
-      ∙ sym (start-at (λ s. not (outranks new s)) (new .start .0) u o (some-within (startsAt (new .start .0)) u k))
-
--- ## e. The counts
-
--- every connection is one of the four
-pub waiting-of-four : (clock : ℕ) (q : Queue) → Holding clock q → All OfFour (q .waiting)
-waiting-of-four clock q h = all-into Proper OfFour (λ s p. p .conn) (q .waiting) (h .proper .waiting)
-
--- what a tally counts is at most as many as there are places
-pub tally-fits : (q : List ℕ) (n : ℕ) (t : List ℕ) → Good (lot q n) → length q ≡ 512 → t ≡ tallied (used (lot q n)) → Few t
-tally-fits q n t g e f c h =
-    rw (f, tallied-at (used (lot q n)) c h) (omega (arith, length-used (lot q n) g, g .fits, length-places q, count≤length (of c) (used (lot q n))))
-
-module _ (w : List Session) (t : List ℕ) (e : t ≡ tallied w) (c : ℕ) (low : c ≤ 3) where
-  counts : getD t c 0 ≡ waits c w
-  counts = rw e (tallied-at w c low)
-
-  sums : sumOf (λ d. getD t d 0) ≡ raisedSum w
-  unfolding tallied
-  sums = rw e
-
-  pub full-twenty : getD t c 0 ≡ 20 → true ≡ full c w
-  unfolding full
-  full-twenty h = rw (eq-eqb (waits c w) 20 (sym counts ∙ h))
-
-  pub full-few : (getD t c 0 ≡ 20 → ⊥) → getD t c 0 < 10 → false ≡ full c w
-  unfolding full
-  full-few h l = rw (ne-eqb (waits c w) 20 (λ f. h (counts ∙ f)), lt-leb 10 (waits c w) (omega (arith, counts)))
-
-  pub full-sum : (s : ℕ) → (getD t c 0 ≡ 20 → ⊥) → 10 ≤ getD t c 0 → s ≡ sumOf (λ d. getD t d 0) → eqb s 64 ≡ full c w
-  unfolding full
-  full-sum s h l f = rw (ne-eqb (waits c w) 20 (λ z. h (counts ∙ z)), le-leb 10 (waits c w) (omega (arith, counts)), f ∙ sums)
-
--- ## "with the first that applies"
-
-module _ (clock c : ℕ) (r : Request) (new : Session) (q : Queue) where
-  pub result-110 : r .service ≡ separateService → 110 ≡ spliceResult clock c r new q
-  unfolding spliceResult
-  result-110 h = rw (eq-eqb (r .service) separateService h)
-
-  module _ (whole : r .service ≡ separateService → ⊥) (b : Bool) (f : b ≡ wrongNumber c r q) where
-    pub result-121 : b ≡ true → 121 ≡ spliceResult clock c r new q
-    unfolding spliceResult
-    result-121 h = rw (ne-eqb (r .service) separateService whole, ← f, h)
-
-    module _ (known : b ≡ false) (l : Bool) (g : l ≡ tooLate clock (r .start)) where
-      pub result-112 : l ≡ true → 112 ≡ spliceResult clock c r new q
-      unfolding spliceResult
-      result-112 h = rw (ne-eqb (r .service) separateService whole, ← f, known, ← g, h)
-
-      module _ (soon : l ≡ false) (d : Bool) (i : d ≡ collides new (q .waiting)) where
-        pub result-109 : d ≡ true → 109 ≡ spliceResult clock c r new q
-        unfolding spliceResult
-        result-109 h = rw (ne-eqb (r .service) separateService whole, ← f, known, ← g, soon, ← i, h)
-
-        module _ (free : d ≡ false) (e : Bool) (j : e ≡ full c (q .waiting)) where
-          pub result-114 : e ≡ true → 114 ≡ spliceResult clock c r new q
-          unfolding spliceResult
-          result-114 h = rw (ne-eqb (r .service) separateService whole, ← f, known, ← g, soon, ← i, free, ← j, h)
-
-          pub result-100 : e ≡ false → 100 ≡ spliceResult clock c r new q
-          unfolding spliceResult
-          result-100 h = rw (ne-eqb (r .service) separateService whole, ← f, known, ← g, soon, ← i, free, ← j, h)
-
--- ## The session that is asked for
-
-pub session-is : (t : Ninths) (c : ℕ) (r : Request) (p : ℕ) (d : Ninths) → p ≡ priorOf (r .start) → d ≡ fromTicks (r .duration)
-    → record { conn = c; id = r .id; prior = p; start = t; end = record { 0 = t .0 + d .0 }; access = r .access; over = r .over; played = record { 0 = 0 } } ≡ sessionAt (t .0) c r
-unfolding sessionAt
-session-is t c r p d e f = rw (e, f)
+-- how a covered session ends
+pub ending-covered : (i : ℕ) → (i ≡ 0 → ⊥) → Response 116 ≡ endingAt Started i
+ending-covered zero h = absurd (h refl)
+ending-covered (suc i) h = refl

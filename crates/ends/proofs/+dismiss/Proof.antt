@@ -1,19 +1,18 @@
--- One link: the first that follows is taken out and written, and the walk goes on from it (`dismissed-more`); n falls.
-use mathlib.Core.Path.{refl, _∙_}
-use Prim.Native.Nat.{ℕ, _-_, _<_}
+-- One link: the first that follows is taken out and written, and the walk goes on from it (`dismissed-more`); those that wait get fewer.
+use Prim.Native.Nat.{ℕ, _<_}
 use native.Mathlib.Omega.{arith}
 use borrow.Author.Needs.{needs}
 use borrow.Fn.Kinds.{In}
 use borrow.Fn.PlainCycle.{Measures, is, falls, and}
-use Rattle.rules.specs.Records.{SpliceResponse, recordBytes}
-use Rattle.rules.proofs.Records.{length-record}
-use Rattle.rules.proofs.Written.{written-part}
-use Rattle.places.specs.Places.{lot}
-use Rattle.places.proofs.find.Reads as find-reads
-use Rattle.places.proofs.load.Reads as load-reads
-use Rattle.places.proofs.remove_at.Reads as remove-at-reads
-use Rattle.writing.proofs.splice_response.Reads as splice-response-reads
-use Rattle.ends.proofs.Laws.{dismissed-none, dismissed-more}
+use lib.ListN.{length}
+use Rattle.rules.specs.declared.Ending.the-variants.{Response}
+use Rattle.memory.specs.Memory.{see}
+use Rattle.memory.proofs.count.Reads as count-reads
+use Rattle.memory.proofs.find.Reads as find-reads
+use Rattle.memory.proofs.load.Reads as load-reads
+use Rattle.memory.proofs.remove.Reads as remove-reads
+use Rattle.ends.proofs.Laws.{told-one, removed-less, dismissed-none, dismissed-more}
+use Rattle.ends.proofs.write_end.Reads as write-end-reads
 use Rattle.ends.proofs.dismiss.Reads as dismiss
 use Rattle.ends.proofs.dismiss.Kinds as dismiss-kinds
 use Rattle.ends.proofs.+dismiss.Lts-dismiss as lts
@@ -21,7 +20,7 @@ use Rattle.ends.proofs.+dismiss.{statement}
 use Rattle.ends.proofs.+dismiss.Tie.{close}
 
 abbrev μ-dismiss : Measures 2 dismiss-kinds.ps ℕ
-μ-dismiss κs a = a .1 .0
+μ-dismiss κs a = length (see (a .0 .now) .queue .waiting)
 
 abbrev dismiss-at : ℕ → In 2 dismiss-kinds.ps
 dismiss-at t = and 2 dismiss-kinds.ps (is 2 dismiss-kinds.ps μ-dismiss t) dismiss.Pre
@@ -34,12 +33,14 @@ abbrev claims : ℕ → lts.Claims
 claims t = (
   find-reads.Asked,
   find-reads.Learnt,
+  count-reads.Asked,
+  count-reads.Learnt,
   load-reads.Asked,
   load-reads.Learnt,
-  remove-at-reads.Asked,
-  remove-at-reads.Learnt,
-  splice-response-reads.Asked,
-  splice-response-reads.Learnt,
+  remove-reads.Asked,
+  remove-reads.Learnt,
+  write-end-reads.Asked,
+  write-end-reads.Learnt,
   dismiss-below t,
   dismiss.Post,
 )
@@ -47,36 +48,40 @@ claims t = (
 find-requires : (t : ℕ) → lts.Need-find-requires (claims t) (dismiss-at t) dismiss.Post
 find-requires t c κs = search needs
 
+count-requires : (t : ℕ) → lts.Need-count-requires (claims t) (dismiss-at t) dismiss.Post
+count-requires t c κs = search needs
+
 load-requires : (t : ℕ) → lts.Need-load-requires (claims t) (dismiss-at t) dismiss.Post
 load-requires t c κs =
-    let s = c .before .before .before .before .before .before in
-    (s .pre .1 .0, omega arith)
+    let counted = c .before .before in
+    let s = counted .before .before .before .before .before .before in
+    (s .pre .1 .0, omega (arith, c .before .if1 .taken, counted .count .ensures))
 
-remove-at-requires : (t : ℕ) → lts.Need-remove-at-requires (claims t) (dismiss-at t) dismiss.Post
-remove-at-requires t c κs = search needs
+remove-requires : (t : ℕ) → lts.Need-remove-requires (claims t) (dismiss-at t) dismiss.Post
+remove-requires t c κs =
+    let test = c .before .before .before in
+    let counted = test .before in
+    let s = counted .before .before .before .before .before .before in
+    (s .pre .1 .0, omega (arith, test .if1 .taken, counted .count .ensures))
 
-sub-splice-response : (t : ℕ) → lts.Need-sub-splice-response (claims t) (dismiss-at t) dismiss.Post
-sub-splice-response t c = search needs
-
-part-splice-response-start : (t : ℕ) → lts.Need-part-splice-response-start (claims t) (dismiss-at t) dismiss.Post
-part-splice-response-start t c = search needs
-
-part-splice-response-end : (t : ℕ) → lts.Need-part-splice-response-end (claims t) (dismiss-at t) dismiss.Post
-part-splice-response-end t c = search needs
-
-splice-response-requires : (t : ℕ) → lts.Need-splice-response-requires (claims t) (dismiss-at t) dismiss.Post
-splice-response-requires t c κs = search needs
-
-sub-dismiss : (t : ℕ) → lts.Need-sub-dismiss (claims t) (dismiss-at t) dismiss.Post
-sub-dismiss t c = search needs
-
-add-dismiss : (t : ℕ) → lts.Need-add-dismiss (claims t) (dismiss-at t) dismiss.Post
-add-dismiss t c = record { fits = omega (arith, c .before .before .before .before .before .before .before .before .before .before .before .before .before .before .before .before .before .pre .1 .1, c .before .before .before .before .before .before .before .before .before .before .before .before .if1 .taken, c .before .before .before .before .before .before .before .before .before .before .before .before .before .before .before .before .before .good) }
+write-end-requires : (t : ℕ) → lts.Need-write-end-requires (claims t) (dismiss-at t) dismiss.Post
+write-end-requires t c κs =
+    let test = c .before .before .before .before .before .before .before in
+    let counted = test .before in
+    let s = counted .before .before .before .before .before .before in
+    (tt, omega (arith, s .pre .1 .1, test .if1 .taken, counted .count .ensures))
 
 dismiss-requires : (t : ℕ) → lts.Need-dismiss-requires (claims t) (dismiss-at t) dismiss.Post
 dismiss-requires t c κs =
-    let s = c .before .before .before .before .before .before .before .before .before .before .before .before .before .before .before .before .before in
-    (omega arith, (c .before .before .before .before .before .before .before .before .remove-at .ensures .good, omega (arith, s .pre .1 .1)))
+    let wrote = c .before .before .before .before in
+    let gone = wrote .before .before .before .before in
+    let test = gone .before .before .before .before in
+    let counted = test .before in
+    let found = counted .before .before in
+    let s = found .before .before .before .before in
+    let h : found .find .result < length (see (s .args .m .now) .queue .waiting) = omega (arith, test .if1 .taken, counted .count .ensures) in
+    let n = removed-less (found .find .result) (see (s .args .m .now)) h (gone .remove .ensures) in
+    (omega (arith, s .pre .0), (gone .remove .ensures .form, omega (arith, s .pre .1 .1, told-one (Response (s .args .result)) (gone .before .before .load .result) (wrote .write-end .ensures))))
 
 same-length : (t : ℕ) → lts.Need-same-length (claims t) (dismiss-at t) dismiss.Post
 same-length t c = search needs
@@ -86,40 +91,37 @@ same-length-2 t c = search needs
 
 returns : (t : ℕ) → lts.Need-returns (claims t) (dismiss-at t) dismiss.Post
 returns t c =
-    let s = c .before .before .before .before .before .before .before .before .before .before .before .before .before .before .before .before .before .before .before .before .before .before in
-    let find = c .before .before .before .before .before .before .before .before .before .before .before .before .before .before .before .before .before .before .find in
-    let load = c .before .before .before .before .before .before .before .before .before .before .before .before .before .before .before .load in
-    let removed = c .before .before .before .before .before .before .before .before .before .before .before .before .before .remove-at in
-    let wrote = c .before .before .before .before .before .before .before .before .before .splice-response in
-    let b = SpliceResponse (s .args .conn) (s .args .result) (load .result .id) in (
-      dismissed-more (s .args .result) (s .args .conn) (s .args .id) (s .args .out .now) (s .args .len) (lot (s .args .w .now) (s .args .n)) (s .pre .1 .0) (find .result) (find .ensures)
-          (lot (removed .last .0) (s .args .n - 1)) _ _ _ _ (load .result) (c .before .before .before .before .before .before .before .before .before .before .before .before .before .before .before .before .before .if1 .taken) (load .ensures) (removed .ensures .list) (omega (arith, s .pre .1 .1, c .before .before .before .before .before .before .before .before .before .before .before .before .before .before .before .before .before .if1 .taken))
-          (written-part (s .args .len) (s .args .out .now) (wrote .last .0) (recordBytes b) (omega (arith, s .pre .1 .1, c .before .before .before .before .before .before .before .before .before .before .before .before .before .before .before .before .before .if1 .taken, length-record b tt)) (wrote .ensures))
-          (c .before .before .before .before .dismiss .ensures .0),
-      c .before .before .before .before .dismiss .ensures .1 ∙ removed .ensures .rest,
-    )
+    let on = c .before .before .before .before in
+    let wrote = on .before .before .before .before .before in
+    let gone = wrote .before .before .before .before in
+    let read = gone .before .before in
+    let test = read .before .before in
+    let counted = test .before in
+    let found = counted .before .before in
+    let s = found .before .before .before .before in
+    let h : found .find .result < length (see (s .args .m .now) .queue .waiting) = omega (arith, test .if1 .taken, counted .count .ensures) in
+    dismissed-more (s .args .result) (s .args .conn) (s .args .id) (found .find .result) (s .args .m .now) (found .find .ensures) h (omega (arith, s .pre .1 .1))
+    (read .load .ensures) (gone .remove .ensures) (wrote .write-end .ensures) (on .dismiss .ensures)
 
 same-length-3 : (t : ℕ) → lts.Need-same-length-3 (claims t) (dismiss-at t) dismiss.Post
 same-length-3 t c = search needs
 
 returns-2 : (t : ℕ) → lts.Need-returns-2 (claims t) (dismiss-at t) dismiss.Post
 returns-2 t c =
-    let s = c .before .before .before .before .before in
-    let find = c .before .find in
-    (dismissed-none (s .args .result) (s .args .conn) (s .args .id) (s .args .out .now) (s .args .len) (lot (s .args .w .now) (s .args .n)) (s .pre .1 .0) (find .result) (find .ensures) (omega arith), refl)
+    let counted = c .before in
+    let found = counted .before .before in
+    let s = found .before .before .before .before in
+    dismissed-none (s .args .result) (s .args .conn) (s .args .id) (found .find .result) (s .args .m .now) (found .find .ensures) (s .pre .1 .0)
+    (omega (arith, c .if1 .left, counted .count .ensures))
 
 pub +dismiss-spec : {M : Type 1} → statement M
 +dismiss-spec =
     close μ-dismiss λ t. lts.spec (claims t) (dismiss-at t) dismiss.Post
     (find-requires t)
+    (count-requires t)
     (load-requires t)
-    (remove-at-requires t)
-    (sub-splice-response t)
-    (part-splice-response-start t)
-    (part-splice-response-end t)
-    (splice-response-requires t)
-    (sub-dismiss t)
-    (add-dismiss t)
+    (remove-requires t)
+    (write-end-requires t)
     (dismiss-requires t)
     (same-length t)
     (same-length-2 t)

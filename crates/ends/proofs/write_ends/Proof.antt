@@ -4,37 +4,46 @@ use borrow.Author.Needs.{needs}
 use mathlib.Core.Path.{sym, subst, _∙_}
 use mathlib.Core.Logic.{⊎-elim}
 use Prim.Native.Nat.{_-_, _<_}
-use Rattle.places.specs.Places.{lot, among}
-use Rattle.ends.specs.Does.{Playable, endingOf}
-use Rattle.ends.proofs.Laws.{brief-ending}
-use Rattle.ends.proofs.Closing.{Closing, closing-none, closing-playable, closing-ends, closing-stays, closing-done}
+use lib.ListN.{length, drop}
+use Rattle.rules.specs.State.{empty}
+use Rattle.rules.proofs.Every.{all-getD}
+use Rattle.places.specs.Places.{among}
+use Rattle.memory.specs.Memory.{sessions}
+use Rattle.ends.specs.Does.{Playable}
+use Rattle.ends.proofs.Laws.{writable, tells-none}
+use Rattle.ends.proofs.Closing.{Closing, closing-none, closing-room, closing-next, closing-done}
 use Rattle.ends.proofs.write_ends.Statement.{statement}
 use Rattle.ends.proofs.write_ends.Tie as tie
 
 abbrev Inv-loop : tie.InvT-loop
-Inv-loop l n those others out₀ len how₀ to₀ i₀ out how to i = Closing (among those) (endingOf how₀) (endingOf others) (lot l n) out₀ len i (endingOf how) to out
+Inv-loop m which those ways out₀ len n how₀ to₀ i₀ out how to i =
+    Closing (among those) (ways .first) (ways .others) (sessions which m) (drop i (sessions which m)) out₀ len how to out
 
 abbrev μ-loop : tie.MeasureT-loop
-μ-loop l n those others out₀ len how₀ to₀ i₀ out how to i = n - i
+μ-loop m which those ways out₀ len n how₀ to₀ i₀ out how to i = n - i
+
+count-requires : tie.Need-count-requires Inv-loop μ-loop
+count-requires c κs = search needs
 
 loop-holds : tie.Need-loop-holds Inv-loop μ-loop
-loop-holds c =
-    let s = c .before .before in
-    closing-none _ _ _ (lot (s .args .l .now) (s .args .n)) (s .pre .0) _ _ (s .pre .1 .0) (s .pre .1 .1)
+loop-holds c = closing-none (c .before .before .before .pre .1 .1)
 
 load-requires : tie.Need-load-requires Inv-loop μ-loop
-load-requires c κs = search needs
+load-requires c κs = (c .before .before .before .before .before .pre .0, omega (arith, c .before .before .count .ensures))
 
 is-among-requires : tie.Need-is-among-requires Inv-loop μ-loop
 is-among-requires c κs = search needs
 
 write-end-requires : tie.Need-write-end-requires Inv-loop μ-loop
 write-end-requires c κs =
-    let s = c .before .before .before .before .before .before .before .before in
-    let l = c .before .before .before .before .before .loop in (
-      subst Playable (sym (c .before .before .before .load .ensures)) (closing-playable _ _ _ (lot (s .args .l .now) (s .args .n)) (s .pre .0) _ _ (l .i) (endingOf (l .how)) (l .to) (l .out) (l .inv) (omega arith)),
-      omega (arith, l .inv .room, l .inv .long),
-    )
+    let read = c .before .before .before in
+    let l = read .before .before .loop in
+    let n = read .before .before .before in
+    let s = n .before .before .before in
+    let list = sessions (s .args .which) (s .args .m .now) in
+    let k : l .i < length list = omega (arith, n .count .ensures, read .before .loop-test .taken) in
+    let a = all-getD Playable list (l .i) empty k (s .pre .1 .0) in
+    (writable (l .how) (read .load .result) (subst Playable (sym (read .load .ensures)) a), closing-room list (l .i) (l .inv) k)
 
 add-i : tie.Need-add-i Inv-loop μ-loop
 add-i c = search needs
@@ -44,15 +53,16 @@ loop-less c = search needs
 
 loop-again : tie.Need-loop-again Inv-loop μ-loop
 loop-again c =
-    let s = c .before .before .before .before .before .before .before in
-    let l = c .before .before .before .before .loop in
-    let x = c .before .before .load in
-    let k : l .i < s .args .n = c .before .before .before .loop-test .taken in
+    let read = c .before .before in
+    let l = read .before .before .loop in
+    let n = read .before .before .before in
+    let s = n .before .before .before in
+    let list = sessions (s .args .which) (s .args .m .now) in
+    let k : l .i < length list = omega (arith, n .count .ensures, read .before .loop-test .taken) in
     let m = sym (c .before .is-among .ensures) in
     ⊎-elim
-    (λ w. rw (w .5, w .6) (closing-ends _ _ _ (lot (s .args .l .now) (s .args .n)) (s .pre .0) _ _ (l .i) (endingOf (l .how)) (l .to) (l .out) (l .inv) (x .result) k (x .ensures)
-    (w .2 .result) (w .2 .last .1 .1 .0) (m ∙ w .0 .taken) (brief-ending (l .how) (x .result)) (w .2 .ensures .0) (w .2 .ensures .1)))
-    (λ w. rw (w .1, w .2) (closing-stays _ _ _ (lot (s .args .l .now) (s .args .n)) (s .pre .0) _ _ (l .i) (endingOf (l .how)) (l .to) (l .out) (l .inv) (x .result) k (x .ensures) (m ∙ w .0 .left)))
+    (λ w. rw (w .5, w .6) (closing-next list (l .i) (l .inv) k (read .load .ensures) (rw (m ∙ w .0 .taken) (w .2 .ensures))))
+    (λ w. rw (w .1, w .2) (closing-next list (l .i) (l .inv) k (read .load .ensures) (rw (m ∙ w .0 .left) tells-none)))
     (c .if1 .came)
 
 same-length : tie.Need-same-length Inv-loop μ-loop
@@ -60,9 +70,10 @@ same-length c = let l = c .before .loop in omega (arith, l .inv .long)
 
 returns : tie.Need-returns Inv-loop μ-loop
 returns c =
-    let s = c .before .before .before .before in
     let l = c .before .loop in
-    closing-done _ _ _ (lot (s .args .l .now) (s .args .n)) (s .pre .0) _ _ (l .i) (endingOf (l .how)) (l .to) (l .out) (l .inv) (omega arith)
+    let n = c .before .before in
+    let s = n .before .before .before in
+    closing-done (sessions (s .args .which) (s .args .m .now)) (l .i) (l .inv) (omega (arith, n .count .ensures, c .loop-test .left))
 
 pub write-ends-spec : {M : Type 1} → statement M
 write-ends-spec =
@@ -70,6 +81,7 @@ write-ends-spec =
     (tie.spec
     Inv-loop
     μ-loop
+    count-requires
     loop-holds
     load-requires
     is-among-requires

@@ -1,38 +1,47 @@
 -- In order of start, and with none before t, the first is the only one that can start at t (`start-turns`, `start-later`).
-use Prim.Native.Nat.{_-_}
+use mathlib.Core.Path.{sym, _∙_}
+use Prim.Native.Nat.{_<_}
 use native.Mathlib.Omega.{arith}
+use lib.ListN.{length}
+use Rattle.memory.specs.Memory.{see}
+use Rattle.ends.proofs.Laws.{removed-less}
 use Rattle.instants.proofs.Starts.{start-none, start-later, start-placed, start-turns}
 use borrow.Author.Needs.{needs}
 use Rattle.instants.proofs.start_at.Statement.{statement}
 use Rattle.instants.proofs.start_at.Tie as tie
 
-returns : tie.Need-returns
-returns c =
-    let s = c .before .before .before .before in
-    let a = s .args in
-    start-none (a .t .0) (a .out .now) (a .len) (a .w .now) (a .k .now) (a .waiting) (a .started) (s .pre .0) (s .pre .1 .0) (c .if1 .taken)
-
-load-requires : tie.Need-load-requires
-load-requires c κs =
-    let s = c .before .before .before .before .before in
-    (s .pre .0, omega arith)
-
-remove-at-requires : tie.Need-remove-at-requires
-remove-at-requires c κs = search needs
-
-sub-launch : tie.Need-sub-launch
-sub-launch c = search needs
-
-launch-requires : tie.Need-launch-requires
-launch-requires c κs =
-    let s = c .before .before .before .before .before .before .before .before .before .before .before .before .before .before .before .before in
-    let a = s .args in
-    let r = c .before .before .before .before .before .remove-at in
-    let p = start-placed (a .t .0) (a .out .now) (a .len) (a .w .now) (a .k .now) (a .waiting) (a .started) (s .pre .0) (s .pre .1 .0) (r .last .0) (a .waiting - 1) (c .before .before .before .before .before .before .before .before .before .before .load .result) (omega (arith, c .before .before .before .before .before .before .before .before .before .before .before .before .if1 .left)) (c .before .before .before .before .before .before .before .before .before .before .load .ensures) (c .before .before .before .before .before .before .before .if2 .taken) (r .ensures .list) (s .pre .1 .1 .1 .0) in
-    (r .ensures .good, (s .pre .1 .0, (p, omega (arith, s .pre .1 .1 .1 .1, c .before .before .before .before .before .before .before .before .before .before .before .before .if1 .left))))
+count-requires : tie.Need-count-requires
+count-requires c κs = search needs
 
 same-length : tie.Need-same-length
 same-length c = search needs
+
+returns : tie.Need-returns
+returns c =
+    let s = c .before .before .before .before .before in
+    start-none (s .args .t .0) (s .pre .0) (sym (c .if1 .taken) ∙ c .before .count .ensures)
+
+load-requires : tie.Need-load-requires
+load-requires c κs = search needs
+
+remove-requires : tie.Need-remove-requires
+remove-requires c κs = search needs
+
+launch-requires : tie.Need-launch-requires
+launch-requires c κs =
+    let left = c .before .before .before .before .remove in
+    let now = c .before .before .before .before .before .before in
+    let x = now .before .before .before .load in
+    let some = now .before .before .before .before .before in
+    let s = some .before .before .before .before .before in
+    let m = see (s .args .m .now) in
+    let h : 0 < length (m .queue .waiting) = omega (arith, some .if1 .left, some .before .count .ensures) in (
+      left .ensures .form,
+      (
+        start-placed m (x .result) h (x .ensures) (now .if2 .taken) (left .ensures) (s .pre .1 .1 .0),
+        omega (arith, s .pre .1 .1 .1, removed-less 0 m h (left .ensures)),
+      ),
+    )
 
 same-length-2 : tie.Need-same-length-2
 same-length-2 c = search needs
@@ -42,30 +51,36 @@ same-length-3 c = search needs
 
 returns-2 : tie.Need-returns-2
 returns-2 c =
-    let s = c .before .before .before .before .before .before .before .before .before .before .before .before .before .before .before .before .before .before .before .before .before .before .before in
-    let a = s .args in
-    let r = c .before .before .before .before .before .before .before .before .before .before .before .before .remove-at in
-    start-turns (a .t .0) (a .out .now) (a .len) (a .w .now) (a .k .now) (a .waiting) (a .started) (s .pre .0) (s .pre .1 .0) (r .last .0) (a .waiting - 1) (c .before .before .before .before .before .before .before .before .before .before .before .before .before .before .before .before .before .load .result) (omega (arith, c .before .before .before .before .before .before .before .before .before .before .before .before .before .before .before .before .before .before .before .if1 .left)) (c .before .before .before .before .before .before .before .before .before .before .before .before .before .before .before .before .before .load .ensures) (c .before .before .before .before .before .before .before .before .before .before .before .before .before .before .if2 .taken) (r .ensures .list) _ _ (c .before .before .before .before .before .before .launch .result) _ (c .before .before .before .before .before .before .launch .ensures)
+    let left = c .before .before .before .before .before .before .before .before .before .remove in
+    let now = c .before .before .before .before .before .before .before .before .before .before .before in
+    let x = now .before .before .before .load in
+    let some = now .before .before .before .before .before in
+    let s = some .before .before .before .before .before in
+    let m = see (s .args .m .now) in
+    let h : 0 < length (m .queue .waiting) = omega (arith, some .if1 .left, some .before .count .ensures) in
+    start-turns m (x .result) h (x .ensures) (now .if2 .taken) (left .ensures) (c .before .before .before .before .launch .ensures)
 
 same-length-4 : tie.Need-same-length-4
 same-length-4 c = search needs
 
 returns-3 : tie.Need-returns-3
 returns-3 c =
-    let s = c .before .before .before .before .before .before .before .before .before in
-    let a = s .args in
-    start-later (a .t .0) (a .out .now) (a .len) (a .w .now) (a .k .now) (a .waiting) (a .started) (s .pre .0) (s .pre .1 .0) (c .before .before .before .load .result) (omega (arith, c .before .before .before .before .before .if1 .left)) (c .before .before .before .load .ensures) (c .if2 .left) (s .pre .1 .1 .0)
+    let x = c .before .before .before .load in
+    let some = c .before .before .before .before .before in
+    let s = some .before .before .before .before .before in
+    let h : 0 < length (see (s .args .m .now) .queue .waiting) = omega (arith, some .if1 .left, some .before .count .ensures) in
+    start-later (s .args .t .0) (s .pre .0) (x .result) h (x .ensures) (c .if2 .left) (s .pre .1 .0)
 
 pub start-at-spec : {M : Type 1} → statement M
 start-at-spec =
     tie.close
     (tie.spec
+    count-requires
+    same-length
     returns
     load-requires
-    remove-at-requires
-    sub-launch
+    remove-requires
     launch-requires
-    same-length
     same-length-2
     same-length-3
     returns-2

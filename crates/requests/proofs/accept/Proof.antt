@@ -1,67 +1,51 @@
--- Over the one that it evicts (`accept-over`), or where none has its start (`accept-free`); the place is that of the one search.
+-- The new session goes where the way ends, and its 100 is written behind the ends (`accept-turns`).
+-- Rests on what `make_way` promises: it leaves room for both (`way-lean`).
+use Prim.Native.Nat.{_+_, _≤_}
 use native.Mathlib.Omega.{arith}
-use Rattle.places.specs.Places.{lot}
-use Rattle.places.proofs.Laws.{found-within}
-use Rattle.requests.proofs.Laws.{taken-within}
-use Rattle.requests.proofs.Work.{evict-spends, accept-over, accept-free}
+use lib.ListN.{length}
+use Rattle.requests.proofs.Laws.{way-lean, way-within, accept-turns}
 use borrow.Author.Needs.{needs}
 use Rattle.requests.proofs.accept.Statement.{statement}
 use Rattle.requests.proofs.accept.Tie as tie
 
-is-taken-requires : tie.Need-is-taken-requires
-is-taken-requires c κs =
+make-way-requires : tie.Need-make-way-requires
+make-way-requires c κs =
     let s = c .before .before .before .before in
-    (s .pre .0, (s .pre .1 .1 .0, s .pre .1 .1 .1 .0))
+    (s .pre .0, (s .pre .1 .0, (s .pre .1 .1 .0, s .pre .1 .1 .1 .1)))
 
-evict-requires : tie.Need-evict-requires
-evict-requires c κs =
-    let s = c .before .before .before .before .before .before .before .before in
-    (s .pre .0, (taken-within (s .args .new .start .0) (lot (s .args .w .now) (s .args .waiting)) (s .pre .0) (s .pre .1 .1 .0) (s .args .at) (s .pre .1 .1 .1 .0) (c .before .before .before .is-taken .result) (c .before .before .before .is-taken .ensures) (c .before .before .if1 .taken), omega (arith, s .pre .1 .1 .1 .1 .0, s .pre .1 .1 .1 .1 .1)))
-
-put-requires : tie.Need-put-requires
-put-requires c κs =
-    let s = c .before .before .before .before .before .before .before .before .before .before .before .before .before .before in
-    let v = c .before .before .before .before .before .evict in
-    let e = evict-spends (s .args .out .now) (s .args .at) (lot (s .args .w .now) (s .args .waiting)) (s .pre .0) (taken-within (s .args .new .start .0) (lot (s .args .w .now) (s .args .waiting)) (s .pre .0) (s .pre .1 .1 .0) (s .args .at) (s .pre .1 .1 .1 .0) (c .before .before .before .before .before .before .before .before .before .is-taken .result) (c .before .before .before .before .before .before .before .before .before .is-taken .ensures) (c .before .before .before .before .before .before .before .before .if1 .taken)) (lot (v .last .1 .0) (v .result .left)) (v .result .len) (v .last .1 .1 .1 .0) (v .ensures) in
-    (v .ensures .good, omega (arith, e, s .pre .1 .0, s .pre .1 .1 .1 .1 .0, s .pre .1 .1 .1 .1 .1))
+insert-requires : tie.Need-insert-requires
+insert-requires c κs =
+    let made = c .before .before .before .before .before in
+    let s = made .before .before .before .before .before in
+    let w = made .make-way .ensures in
+    (w .does .shows .form, (way-within w, omega (arith, way-lean w, s .pre .1 .1 .1 .0)))
 
 sub-splice-response : tie.Need-sub-splice-response
 sub-splice-response c =
-    let s = c .before .before .before .before .before .before .before .before .before .before .before .before .before .before .before .before .before in
-    let v = c .before .before .before .before .before .before .before .before .evict in
-    let e = evict-spends (s .args .out .now) (s .args .at) (lot (s .args .w .now) (s .args .waiting)) (s .pre .0) (taken-within (s .args .new .start .0) (lot (s .args .w .now) (s .args .waiting)) (s .pre .0) (s .pre .1 .1 .0) (s .args .at) (s .pre .1 .1 .1 .0) (c .before .before .before .before .before .before .before .before .before .before .before .before .is-taken .result) (c .before .before .before .before .before .before .before .before .before .before .before .before .is-taken .ensures) (c .before .before .before .before .before .before .before .before .before .before .before .if1 .taken)) (lot (v .last .1 .0) (v .result .left)) (v .result .len) (v .last .1 .1 .1 .0) (v .ensures) in
-    omega (arith, e, s .pre .1 .0, s .pre .1 .1 .1 .1 .0, s .pre .1 .1 .1 .1 .1)
+    let made = c .before .before .before .before .before .before .before .before in
+    let s = made .before .before .before .before .before in
+    omega (arith, way-lean (made .make-way .ensures), s .pre .1 .1 .1)
 
 part-splice-response-start : tie.Need-part-splice-response-start
 part-splice-response-start c =
-    let s = c .before .before .before .before .before .before .before .before .before .before .before .before .before .before .before .before .before in
-    let v = c .before .before .before .before .before .before .before .before .evict in
-    let e = evict-spends (s .args .out .now) (s .args .at) (lot (s .args .w .now) (s .args .waiting)) (s .pre .0) (taken-within (s .args .new .start .0) (lot (s .args .w .now) (s .args .waiting)) (s .pre .0) (s .pre .1 .1 .0) (s .args .at) (s .pre .1 .1 .1 .0) (c .before .before .before .before .before .before .before .before .before .before .before .before .is-taken .result) (c .before .before .before .before .before .before .before .before .before .before .before .before .is-taken .ensures) (c .before .before .before .before .before .before .before .before .before .before .before .if1 .taken)) (lot (v .last .1 .0) (v .result .left)) (v .result .len) (v .last .1 .1 .1 .0) (v .ensures) in
-    omega (arith, e, s .pre .1 .0, s .pre .1 .1 .1 .1 .0, s .pre .1 .1 .1 .1 .1)
+    let made = c .before .before .before .before .before .before .before .before in
+    let s = made .before .before .before .before .before in
+    omega (arith, way-lean (made .make-way .ensures), s .pre .1 .1 .1)
 
 part-splice-response-end : tie.Need-part-splice-response-end
 part-splice-response-end c = search needs
 
 splice-response-requires : tie.Need-splice-response-requires
 splice-response-requires c κs =
-    let s = c .before .before .before .before .before .before .before .before .before .before .before .before .before .before .before .before .before .before in
-    let v = c .before .before .before .before .before .before .before .before .before .evict in
-    let e = evict-spends (s .args .out .now) (s .args .at) (lot (s .args .w .now) (s .args .waiting)) (s .pre .0) (taken-within (s .args .new .start .0) (lot (s .args .w .now) (s .args .waiting)) (s .pre .0) (s .pre .1 .1 .0) (s .args .at) (s .pre .1 .1 .1 .0) (c .before .before .before .before .before .before .before .before .before .before .before .before .before .is-taken .result) (c .before .before .before .before .before .before .before .before .before .before .before .before .before .is-taken .ensures) (c .before .before .before .before .before .before .before .before .before .before .before .before .if1 .taken)) (lot (v .last .1 .0) (v .result .left)) (v .result .len) (v .last .1 .1 .1 .0) (v .ensures) in
-    omega (arith, e, s .pre .1 .0, s .pre .1 .1 .1 .1 .0, s .pre .1 .1 .1 .1 .1)
+    let made = c .before .before .before .before .before .before .before .before .before in
+    let s = made .before .before .before .before .before in
+    omega (arith, way-lean (made .make-way .ensures), s .pre .1 .1 .1)
 
-add-t21 : tie.Need-add-t21
-add-t21 c =
-    let s = c .before .before .before .before .before .before .before .before .before .before .before .before .before .before .before .before .before .before .before .before .before in
-    let v = c .before .before .before .before .before .before .before .before .before .before .before .before .evict in
-    let e = evict-spends (s .args .out .now) (s .args .at) (lot (s .args .w .now) (s .args .waiting)) (s .pre .0) (taken-within (s .args .new .start .0) (lot (s .args .w .now) (s .args .waiting)) (s .pre .0) (s .pre .1 .1 .0) (s .args .at) (s .pre .1 .1 .1 .0) (c .before .before .before .before .before .before .before .before .before .before .before .before .before .before .before .before .is-taken .result) (c .before .before .before .before .before .before .before .before .before .before .before .before .before .before .before .before .is-taken .ensures) (c .before .before .before .before .before .before .before .before .before .before .before .before .before .before .before .if1 .taken)) (lot (v .last .1 .0) (v .result .left)) (v .result .len) (v .last .1 .1 .1 .0) (v .ensures) in
-    omega (arith, e, s .pre .1 .0, s .pre .1 .1 .1 .1 .0, s .pre .1 .1 .1 .1 .1)
-
-add-t24 : tie.Need-add-t24
-add-t24 c =
-    let s = c .before .before .before .before .before .before .before .before .before .before .before .before .before .before .before .before .before .before .before .before .before in
-    let v = c .before .before .before .before .before .before .before .before .before .before .before .before .evict in
-    let e = evict-spends (s .args .out .now) (s .args .at) (lot (s .args .w .now) (s .args .waiting)) (s .pre .0) (taken-within (s .args .new .start .0) (lot (s .args .w .now) (s .args .waiting)) (s .pre .0) (s .pre .1 .1 .0) (s .args .at) (s .pre .1 .1 .1 .0) (c .before .before .before .before .before .before .before .before .before .before .before .before .before .before .before .before .is-taken .result) (c .before .before .before .before .before .before .before .before .before .before .before .before .before .before .before .before .is-taken .ensures) (c .before .before .before .before .before .before .before .before .before .before .before .before .before .before .before .if1 .taken)) (lot (v .last .1 .0) (v .result .left)) (v .result .len) (v .last .1 .1 .1 .0) (v .ensures) in
-    omega (arith, e, s .pre .1 .0, s .pre .1 .1 .1 .1 .0, s .pre .1 .1 .1 .1 .1)
+add-result : tie.Need-add-result
+add-result c =
+    let made = c .before .before .before .before .before .before .before .before .before .before .before .before in
+    let s = made .before .before .before .before .before in
+    omega (arith, way-lean (made .make-way .ensures), s .pre .1 .1 .1)
 
 same-length : tie.Need-same-length
 same-length c = search needs
@@ -71,53 +55,26 @@ same-length-2 c = search needs
 
 returns : tie.Need-returns
 returns c =
-    let s = c .before .before .before .before .before .before .before .before .before .before .before .before .before .before .before .before .before .before .before .before .before in
-    let v = c .before .before .before .before .before .before .before .before .before .before .before .before .evict in
-    let e = evict-spends (s .args .out .now) (s .args .at) (lot (s .args .w .now) (s .args .waiting)) (s .pre .0) (taken-within (s .args .new .start .0) (lot (s .args .w .now) (s .args .waiting)) (s .pre .0) (s .pre .1 .1 .0) (s .args .at) (s .pre .1 .1 .1 .0) (c .before .before .before .before .before .before .before .before .before .before .before .before .before .before .before .before .is-taken .result) (c .before .before .before .before .before .before .before .before .before .before .before .before .before .before .before .before .is-taken .ensures) (c .before .before .before .before .before .before .before .before .before .before .before .before .before .before .before .if1 .taken)) (lot (v .last .1 .0) (v .result .left)) (v .result .len) (v .last .1 .1 .1 .0) (v .ensures) in
-    accept-over (s .args .new) (s .args .out .now) (s .args .w .now) (s .args .waiting) (s .args .at) (s .pre .0) (s .pre .1 .1 .0) (s .pre .1 .1 .1 .0) (c .before .before .before .before .before .before .before .before .before .before .before .before .before .before .before .before .is-taken .result) (c .before .before .before .before .before .before .before .before .before .before .before .before .before .before .before .before .is-taken .ensures) (c .before .before .before .before .before .before .before .before .before .before .before .before .before .before .before .if1 .taken) (v .last .1 .0) _ (v .result .left) (v .result .len) (v .last .1 .1 .1 .0) (c .before .before .splice-response .last .0)
-    (v .ensures) (c .before .before .before .before .before .before .put .ensures) (omega (arith, e, s .pre .1 .0, s .pre .1 .1 .1 .1 .0, s .pre .1 .1 .1 .1 .1)) (c .before .before .splice-response .ensures)
-
-insert-at-requires : tie.Need-insert-at-requires
-insert-at-requires c κs =
-    let s = c .before .before .before .before .before .before .before in
-    (s .pre .0, (omega (arith, found-within _ (lot (s .args .w .now) (s .args .waiting)) _ (s .pre .0) (s .pre .1 .1 .1 .0)), omega (arith, s .pre .1 .0, s .pre .1 .1 .1 .1 .0)))
-
-splice-response-requires-2 : tie.Need-splice-response-requires-2
-splice-response-requires-2 c κs = search needs
-
-add-t30 : tie.Need-add-t30
-add-t30 c = search needs
-
-same-length-3 : tie.Need-same-length-3
-same-length-3 c = search needs
-
-same-length-4 : tie.Need-same-length-4
-same-length-4 c = search needs
-
-returns-2 : tie.Need-returns-2
-returns-2 c =
-    let s = c .before .before .before .before .before .before .before .before .before .before .before .before .before .before in
-    accept-free (s .args .new) (s .args .out .now) (s .args .w .now) (s .args .waiting) (s .args .at) (s .pre .0) (s .pre .1 .1 .0) (s .pre .1 .1 .1 .0) (c .before .before .before .before .before .before .before .before .before .is-taken .result) (c .before .before .before .before .before .before .before .before .before .is-taken .ensures) (c .before .before .before .before .before .before .before .before .if1 .left) _ _ (c .before .before .before .before .before .before .insert-at .ensures) (omega (arith, s .pre .1 .1 .1 .1 .1)) (c .before .before .splice-response2 .ensures)
+    let wrote = c .before .before in
+    let put = wrote .before .before .before .before in
+    let made = put .before .before .before .before .before .before in
+    let s = made .before .before .before .before .before in
+    let w = made .make-way .ensures in
+    let room : made .make-way .result .len + 14 ≤ length (s .args .out .now) = omega (arith, way-lean w, s .pre .1 .1 .1) in
+    accept-turns (s .args .new) w (put .insert .ensures) (made .make-way .kept .1 .1 .1 .0) room
+    (wrote .splice-response .ensures)
 
 pub accept-spec : {M : Type 1} → statement M
 accept-spec =
     tie.close
     (tie.spec
-    is-taken-requires
-    evict-requires
-    put-requires
+    make-way-requires
+    insert-requires
     sub-splice-response
     part-splice-response-start
     part-splice-response-end
     splice-response-requires
-    add-t21
-    add-t24
+    add-result
     same-length
     same-length-2
-    returns
-    insert-at-requires
-    splice-response-requires-2
-    add-t30
-    same-length-3
-    same-length-4
-    returns-2)
+    returns)

@@ -1,9 +1,9 @@
--- The session asked for and its result decide between acceptance and one record; one search gives its place.
+-- Without a start one record (`splice-unknown`); else the result decides between acceptance and one record.
+-- Rests on what the checks promise of the session asked for (`asks`); one search gives its place.
+use mathlib.Core.Path.{sym, _∙_}
 use native.Mathlib.Omega.{arith}
-use Rattle.rules.specs.Answers.{startOf}
-use Rattle.places.specs.Places.{lot, used}
-use Rattle.ends.specs.Does.{queueOf}
-use Rattle.requests.proofs.Work.{start-fits, starts-asked, place-asked, room-waiting, accepted-turns, refused-turns}
+use Rattle.memory.specs.Memory.{see}
+use Rattle.requests.proofs.Laws.{start-fits, asks, room-waiting, splice-accepted, splice-refused, splice-unknown}
 use borrow.Author.Needs.{needs}
 use Rattle.requests.proofs.answer_splice.Statement.{statement}
 use Rattle.requests.proofs.answer_splice.Tie as tie
@@ -11,23 +11,20 @@ use Rattle.requests.proofs.answer_splice.Tie as tie
 start-of-requires : tie.Need-start-of-requires
 start-of-requires c κs = search needs
 
-session-at-requires : tie.Need-session-at-requires
-session-at-requires c κs =
-    let s = c .before .before .before .before .before in
-    omega (arith, start-fits (s .args .conn) (s .args .clock .0) (s .args .r .start) (queueOf (s .args .w .now) (s .args .waiting) (s .args .k .now) (s .args .started)) (c .start-of .result .0) (s .pre .1 .1 .1 .1 .1 .1 .0 .start) (s .pre .1 .1 .1 .0) (s .pre .1 .1 .1 .1 .0) (c .start-of .ensures))
+enum-known-when : tie.Need-enum-known-when
+enum-known-when c = search needs
 
-find-requires : tie.Need-find-requires
-find-requires c κs = search needs
+enum-told : tie.Need-enum-told
+enum-told c = search needs
 
-splice-result-requires : tie.Need-splice-result-requires
-splice-result-requires c κs =
-    let s = c .before .before .before .before .before .before .before .before .before in
-    (s .pre .0, (s .pre .1 .0, (s .pre .1 .1 .0, (s .pre .1 .1 .1 .0, (starts-asked (c .before .before .before .before .start-of .result .0) (s .args .conn) (s .args .r) (c .before .before .before .session-at .result) (startOf (s .args .conn) (s .args .r .start) (queueOf (s .args .w .now) (s .args .waiting) (s .args .k .now) (s .args .started))) (c .before .before .before .session-at .ensures) (c .before .before .before .before .start-of .ensures), ((place-asked (c .before .before .before .before .start-of .result .0) (s .args .conn) (s .args .r) (c .before .before .before .session-at .result) (used (lot (s .args .w .now) (s .args .waiting))) (c .before .find .result) (c .before .before .before .session-at .ensures) (c .before .find .ensures)), (s .pre .1 .1 .1 .1 .1 .0, (s .pre .1 .1 .1 .1 .0, s .pre .1 .1 .1 .1 .1 .1 .0 .start))))))))
+without-start-requires : tie.Need-without-start-requires
+without-start-requires c κs = search needs
 
-accept-requires : tie.Need-accept-requires
-accept-requires c κs =
-    let s = c .before .before .before .before .before .before .before .before .before .before .before .before .before in
-    (s .pre .0, (s .pre .1 .1 .0, (s .pre .1 .1 .1 .0 .timed .sorted, ((place-asked (c .before .before .before .before .before .before .before .before .start-of .result .0) (s .args .conn) (s .args .r) (c .before .before .before .before .before .before .before .session-at .result) (used (lot (s .args .w .now) (s .args .waiting))) (c .before .before .before .before .before .find .result) (c .before .before .before .before .before .before .before .session-at .ensures) (c .before .before .before .before .before .find .ensures)), (room-waiting (s .args .clock .0) (s .args .conn) (s .args .r) (s .args .w .now) (s .args .k .now) (s .args .waiting) (s .args .started) (c .before .before .before .before .before .before .before .before .start-of .result .0) (c .before .before .before .before .before .before .before .session-at .result) (c .before .before .before .splice-result .result) (c .before .before .before .before .before .before .before .before .start-of .ensures) (c .before .before .before .before .before .before .before .session-at .ensures) (c .before .before .before .splice-result .ensures) (c .before .before .if1 .taken) (s .pre .0) (s .pre .1 .1 .1 .1 .1 .0) (s .pre .1 .1 .1 .0), s .pre .1 .1 .1 .1 .1 .1 .1)))))
+cast-splice-response : tie.Need-cast-splice-response
+cast-splice-response c = search needs
+
+splice-response-requires : tie.Need-splice-response-requires
+splice-response-requires c κs = search needs
 
 same-length : tie.Need-same-length
 same-length c = search needs
@@ -37,16 +34,57 @@ same-length-2 c = search needs
 
 returns : tie.Need-returns
 returns c =
-    let s = c .before .before .before .before .before .before .before .before .before .before .before .before .before .before .before .before .before .before in
-    accepted-turns (s .args .clock .0) (s .args .conn) (s .args .r) (s .args .w .now) (s .args .k .now) (s .args .waiting) (s .args .started) (c .before .before .before .before .before .before .before .before .before .before .before .before .before .start-of .result .0) (c .before .before .before .before .before .before .before .before .before .before .before .before .session-at .result) (c .before .before .before .before .before .before .before .before .splice-result .result) (c .before .before .before .before .before .before .before .before .before .before .before .before .before .start-of .ensures) (c .before .before .before .before .before .before .before .before .before .before .before .before .session-at .ensures) (c .before .before .before .before .before .before .before .before .splice-result .ensures) (s .args .out .now) _ (c .before .before .before .before .accept .result .left) (c .before .before .before .before .accept .result .len) _ (c .before .before .before .before .before .before .before .if1 .taken) (s .pre .1 .0) (c .before .before .before .before .accept .ensures)
+    let wrote = c .before .before in
+    let told = wrote .before .before .before in
+    let none = told .before in
+    let began = none .before .before in
+    let s = began .before .before .before .before in
+    let no = sym (began .start-of .ensures) ∙ none .enum-told .given .1 in
+    splice-unknown (s .args .conn) (s .args .r) (s .args .m .now) no (told .without-start .ensures) (s .pre .0)
+    (wrote .splice-response .ensures)
 
-cast-splice-response : tie.Need-cast-splice-response
-cast-splice-response c = search needs
+session-at-requires : tie.Need-session-at-requires
+session-at-requires c κs =
+    let known = c .before in
+    let began = known .before .before in
+    let s = began .before .before .before .before in
+    let m = see (s .args .m .now) in
+    let yes = sym (began .start-of .ensures) ∙ known .when .given .1 in
+    let a = s .pre .1 .1 .1 .1 .0 in
+    let early = start-fits (s .args .conn) (m .clock) (s .args .r .start) (m .queue) (a .start) (s .pre .1 .0) (s .pre .1 .1 .0) yes in
+    omega arith
 
-splice-response-requires : tie.Need-splice-response-requires
-splice-response-requires c κs =
-    let s = c .before .before .before .before .before .before .before .before .before .before .before .before .before in
-    omega (arith, s .pre .1 .1 .1 .1 .1 .1 .1)
+find-requires : tie.Need-find-requires
+find-requires c κs = search needs
+
+splice-result-requires : tie.Need-splice-result-requires
+splice-result-requires c κs =
+    let found = c .before in
+    let wanted = found .before .before in
+    let known = wanted .before .before in
+    let began = known .before .before in
+    let s = began .before .before .before .before in
+    let m = s .args .m .now in
+    let yes = sym (began .start-of .ensures) ∙ known .when .given .1 in
+    let a = asks (s .args .conn) (s .args .r) (see m .queue) yes (wanted .session-at .ensures) (found .find .ensures) in
+    (s .pre .0, (s .pre .1 .0, (s .pre .1 .1 .0, (s .pre .1 .1 .1 .0, (s .pre .1 .1 .1 .1 .0 .start, (a .known, a .at))))))
+
+accept-requires : tie.Need-accept-requires
+accept-requires c κs =
+    let test = c .before .before in
+    let judged = test .before in
+    let found = judged .before .before in
+    let wanted = found .before .before in
+    let known = wanted .before .before in
+    let began = known .before .before in
+    let s = began .before .before .before .before in
+    let m = s .args .m .now in
+    let yes = sym (began .start-of .ensures) ∙ known .when .given .1 in
+    let a = asks (s .args .conn) (s .args .r) (see m .queue) yes (wanted .session-at .ensures) (found .find .ensures) in
+    let four = s .pre .1 .1 .1 .0 in
+    let n = judged .splice-result .ensures in
+    let room = room-waiting (s .args .conn) (s .args .r) m (a .is) n (test .if1 .taken) four (s .pre .1 .0) in
+    (s .pre .0, (s .pre .1 .0, (a .at, (room, s .pre .1 .1 .1 .1 .1))))
 
 same-length-3 : tie.Need-same-length-3
 same-length-3 c = search needs
@@ -56,23 +94,71 @@ same-length-4 c = search needs
 
 returns-2 : tie.Need-returns-2
 returns-2 c =
-    let s = c .before .before .before .before .before .before .before .before .before .before .before .before .before .before .before .before in
-    refused-turns (s .args .clock .0) (s .args .conn) (s .args .r) (s .args .w .now) (s .args .k .now) (s .args .waiting) (s .args .started) (c .before .before .before .before .before .before .before .before .before .before .before .start-of .result .0) (c .before .before .before .before .before .before .before .before .before .before .session-at .result) (c .before .before .before .before .before .before .splice-result .result) (c .before .before .before .before .before .before .before .before .before .before .before .start-of .ensures) (c .before .before .before .before .before .before .before .before .before .before .session-at .ensures) (c .before .before .before .before .before .before .splice-result .ensures) (s .args .out .now) _ (c .before .before .before .before .before .if1 .left) (s .pre .0) (s .pre .1 .0) (c .before .before .splice-response .ensures)
+    let done = c .before .before .before .before in
+    let test = done .before .before .before in
+    let judged = test .before in
+    let found = judged .before .before in
+    let wanted = found .before .before in
+    let known = wanted .before .before in
+    let began = known .before .before in
+    let s = began .before .before .before .before in
+    let m = s .args .m .now in
+    let yes = sym (began .start-of .ensures) ∙ known .when .given .1 in
+    let a = asks (s .args .conn) (s .args .r) (see m .queue) yes (wanted .session-at .ensures) (found .find .ensures) in
+    splice-accepted (s .args .conn) (s .args .r) m (a .is) (judged .splice-result .ensures) (test .if1 .taken) (done .accept .ensures)
+
+cast-splice-response-2 : tie.Need-cast-splice-response-2
+cast-splice-response-2 c = search needs
+
+splice-response-requires-2 : tie.Need-splice-response-requires-2
+splice-response-requires-2 c κs =
+    let s = c .before .before .before .before .before .before .before .before .before .before .before .before .before .before .before in
+    omega (arith, s .pre .1 .1 .1 .1 .1)
+
+same-length-5 : tie.Need-same-length-5
+same-length-5 c = search needs
+
+same-length-6 : tie.Need-same-length-6
+same-length-6 c = search needs
+
+returns-3 : tie.Need-returns-3
+returns-3 c =
+    let wrote = c .before .before in
+    let test = wrote .before .before .before in
+    let judged = test .before in
+    let found = judged .before .before in
+    let wanted = found .before .before in
+    let known = wanted .before .before in
+    let began = known .before .before in
+    let s = began .before .before .before .before in
+    let m = s .args .m .now in
+    let yes = sym (began .start-of .ensures) ∙ known .when .given .1 in
+    let a = asks (s .args .conn) (s .args .r) (see m .queue) yes (wanted .session-at .ensures) (found .find .ensures) in
+    splice-refused (s .args .conn) (s .args .r) m (a .is) (judged .splice-result .ensures) (test .if1 .left) (s .pre .0)
+    (wrote .splice-response2 .ensures)
 
 pub answer-splice-spec : {M : Type 1} → statement M
 answer-splice-spec =
     tie.close
     (tie.spec
     start-of-requires
+    enum-known-when
+    enum-told
+    without-start-requires
+    cast-splice-response
+    splice-response-requires
+    same-length
+    same-length-2
+    returns
     session-at-requires
     find-requires
     splice-result-requires
     accept-requires
-    same-length
-    same-length-2
-    returns
-    cast-splice-response
-    splice-response-requires
     same-length-3
     same-length-4
-    returns-2)
+    returns-2
+    cast-splice-response-2
+    splice-response-requires-2
+    same-length-5
+    same-length-6
+    returns-3)

@@ -1,0 +1,34 @@
+-- Field by field; a Duration is at most 100 * 0xFFFFFFFF ninths, so that the end fits.
+use mathlib.Core.Path.{ap}
+use native.Mathlib.Omega.{arith}
+use Rattle.checks.proofs.Laws.{session-is}
+use borrow.Author.Needs.{needs}
+use Rattle.checks.proofs.session_at.Statement.{statement}
+use Rattle.checks.proofs.session_at.Tie as tie
+
+prior-of-requires : tie.Need-prior-of-requires
+prior-of-requires c κs = search needs
+
+from-ticks-requires : tie.Need-from-ticks-requires
+from-ticks-requires c κs = search needs
+
+cast-t7 : tie.Need-cast-t7
+cast-t7 c = search needs
+
+add-t8 : tie.Need-add-t8
+add-t8 c = omega (arith, ap (λ n. n .0) (c .before .before .before .from-ticks .ensures))
+
+cast-t10 : tie.Need-cast-t10
+cast-t10 c = search needs
+
+cast-t11 : tie.Need-cast-t11
+cast-t11 c = search needs
+
+returns : tie.Need-returns
+returns c =
+    let d = c .before .before .before .before .before in
+    let s = d .before .before in
+    session-is (s .args .t) (s .args .conn) (s .args .r) (d .before .prior-of .ensures) (d .from-ticks .ensures)
+
+pub session-at-spec : {M : Type 1} → statement M
+session-at-spec = tie.close (tie.spec prior-of-requires from-ticks-requires cast-t7 add-t8 cast-t10 cast-t11 returns)

@@ -1,0 +1,65 @@
+-- Either variant leaves the numbers of its one record (`came`), which is written behind the last (`tells-part`).
+use native.Mathlib.Omega.{arith}
+use borrow.Author.Needs.{needs}
+use mathlib.Core.Path.{_≡_, sym, ap, subst, _∙_}
+use mathlib.Core.Logic.{⊎-elim}
+use Rattle.rules.specs.declared.Ending.{Ending}
+use Rattle.rules.specs.Records.{SpliceComplete}
+use Rattle.rules.specs.Ends.{ended}
+use Rattle.ends.specs.Does.{Playable, Writable}
+use Rattle.ends.proofs.Laws.{failing, tells-part}
+use Rattle.ends.proofs.write_complete.Statement.{statement}
+use Rattle.ends.proofs.write_complete.Tie as tie
+
+enum-known-how : tie.Need-enum-known-how
+enum-known-how c = search needs
+
+to-ticks-requires : tie.Need-to-ticks-requires
+to-ticks-requires c κs =
+    let s = c .before .before .before .before in
+    let p : Playable (s .args .x) = subst (λ (h : Ending). Writable h (s .args .x)) (c .before .how .given .1) (s .pre .0) in
+    omega arith
+
+sub-splice-complete : tie.Need-sub-splice-complete
+sub-splice-complete c = search needs
+
+part-splice-complete-start : tie.Need-part-splice-complete-start
+part-splice-complete-start c = search needs
+
+part-splice-complete-end : tie.Need-part-splice-complete-end
+part-splice-complete-end c = search needs
+
+splice-complete-requires : tie.Need-splice-complete-requires
+splice-complete-requires c κs = search needs
+
+add-result : tie.Need-add-result
+add-result c = search needs
+
+same-length : tie.Need-same-length
+same-length c = search needs
+
+returns : tie.Need-returns
+returns c =
+    let s = c .before .before .before .before .before .before in
+    let x = s .args .x in
+    let k = c .before .before .before .before .match in
+    let q : SpliceComplete (x .conn) (k .result) (x .id) (k .flag) (k .played .0) ≡ ended (s .args .how) x =
+    ⊎-elim
+    (λ w. rw (w .4, w .5, w .6, w .3 .ensures) (sym (ap (λ (h : Ending). ended h x) (w .1 .given .1))))
+    (λ w. rw (w .1, w .2, w .3) (sym (ap (λ (h : Ending). ended h x) (failing (s .args .how) (s .pre .1 .0) (w .0 .keys2)))))
+    (k .came) in
+    rw (← q) (tells-part tt (s .pre .1 .1) (c .before .before .splice-complete .ensures))
+
+pub write-complete-spec : {M : Type 1} → statement M
+write-complete-spec =
+    tie.close
+    (tie.spec
+    enum-known-how
+    to-ticks-requires
+    sub-splice-complete
+    part-splice-complete-start
+    part-splice-complete-end
+    splice-complete-requires
+    add-result
+    same-length
+    returns)
