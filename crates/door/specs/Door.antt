@@ -1,34 +1,27 @@
--- The head in seven lent words, the reply to C, and what a call promises of both.
+-- The reply to C, and what a call of the door promises.
 use mathlib.Core.Path.{_≡_}
 use mathlib.Core.List.{List, [], _∷_}
 use Prim.Native.Nat.{ℕ}
-use lib.ListN.{length, getD}
+use lib.ListN.{length}
+use Rattle.rules.specs.State.{Splicer}
 use Rattle.rules.specs.Calls.{Called, houseNumber}
-use Rattle.answers.specs.declared.Head.{Head}
-use Rattle.answers.specs.View.{view}
+use Rattle.memory.specs.Memory.{shown}
 use Rattle.engine.specs.declared.Answer.{Answer}
 use Rattle.engine.specs.declared.Answer.the-variants.{Refused, Done}
-use Rattle.engine.specs.Lent.{Lent, answerOf}
-use Rattle.door.specs.declared.Reply.{Reply}
-
--- the clock in ninths, how many wait and have started, and a word for each connection
-abbrev pub headOf : List ℕ → Head
-headOf l =
-    record {
-      clock = record { 0 = getD l 0 0 };
-      waiting = getD l 1 0;
-      started = getD l 2 0;
-      links = getD l 3 0 ∷ getD l 4 0 ∷ getD l 5 0 ∷ getD l 6 0 ∷ [];
-    }
+use Rattle.engine.specs.Lent.{Answers}
 
 -- "A refusal returns its number": its house number, or 0 and the bytes consumed and written
-unfoldable pub replyOf : Answer → Reply
-replyOf (Refused n) = record { refused = houseNumber n; consumed = 0; written = 0 }
-replyOf (Done consumed written) = record { refused = 0; consumed = consumed; written = written }
+unfoldable pub replyOf : Answer → List ℕ
+replyOf (Refused n) = houseNumber n ∷ 0 ∷ 0 ∷ []
+replyOf (Done consumed written) = 0 ∷ consumed ∷ written ∷ []
 
--- what a call promises: the lent words show the splicer after the call, and the reply is the call's
-pub record Replies (c : Called) (r : Reply) (head name w k : List ℕ) : Type 0 where
-  pub whole : length head ≡ 7
-  pub lent : Lent (headOf head) name w k
-  pub splicer : view (headOf head) name w k ≡ c .splicer
-  pub reply : r ≡ replyOf (answerOf (c .answer))
+-- what a call promises: what the engine promises, of the lent words m and bytes b and of the buffer o, which held e; and the reply r
+-- is the engine's answer
+pub record Replies (c : Called) (e r m b o : List ℕ) : Type 0 where
+  pub answer : Answer
+  pub answers : Answers c e answer m b o
+  pub reply : r ≡ replyOf answer
+
+-- the same of a call of the splicer that the words m and the bytes b showed, lent the buffer e
+abbrev pub Hears : (ℕ → Splicer → Called) → (m b e r n c o : List ℕ) → Type 0
+Hears k m b e r n c o = Replies (k (length e) (shown m b)) e r n c o

@@ -1,180 +1,104 @@
-// The five calls of document 01 for C: lent words, bytes and numbers only. include/splicer.h declares them.
-use answers::Head;
+// The five calls of document 01 for C: lent words, bytes and numbers only; the reply goes into lent words. include/splicer.h declares
+// them. The names carry the header's version, so that a header of another version does not link.
 use engine::Answer;
-use rules::Ninths;
+use memory::BYTES;
+use memory::WORDS;
 ghost use mathlib.Core.Path.{_≡_};
-ghost use lib.ListN.{length};
-ghost use Rattle.rules.specs.Calls.{fresh, openCall, closeCall, messageCall, tickCall, bufferAfter};
-ghost use Rattle.answers.specs.View.{view};
+ghost use mathlib.Core.List.{[]};
+ghost use Rattle.rules.specs.Calls.{fresh, openCall, closeCall, messageCall, tickCall, lending};
 ghost use Rattle.engine.specs.Lent.{Lent};
-ghost use Rattle.door.specs.Door.{headOf, replyOf, Replies};
+ghost use Rattle.door.specs.Door.{replyOf, Replies, Hears};
 
-// The house number of a refusal, or 0 and the bytes consumed and written.
-#[repr(C)]
-pub struct Reply {
-    pub refused: u32,
-    pub consumed: usize,
-    pub written: usize,
-}
-
-fn reply_of(a: Answer) -> Reply
+// The house number of a refusal or 0, and the bytes consumed and written.
+fn reply_of(a: Answer) -> [u64; 3]
     ensures { λ r. ⌜ r ≡ replyOf a ⌝ }
 {
     match a {
-        Answer::Refused(n) => Reply {
-            refused: engine::house_number(n) as u32,
-            consumed: 0,
-            written: 0,
-        },
-        Answer::Done(consumed, written) => Reply {
-            refused: 0,
-            consumed: consumed,
-            written: written,
-        },
+        Answer::Refused(n) => [engine::house_number(n) as u64, 0, 0],
+        Answer::Done(consumed, written) => [0, consumed as u64, written as u64],
     }
-}
-
-fn unpacked(head: &[u64; 7]) -> Head
-    ensures { λ r. ⌜ r ≡ headOf (now (head .entry)) ⌝ }
-{
-    Head {
-        clock: Ninths(head[0]),
-        waiting: head[1] as usize,
-        started: head[2] as usize,
-        links: [head[3], head[4], head[5], head[6]],
-    }
-}
-
-fn packed(h: Head) -> [u64; 7]
-    ensures { λ r. ⌜ headOf r ≡ h ⌝ }
-    ensures whole { λ r. ⌜ length r ≡ 7 ⌝ }
-{
-    [
-        h.clock.0,
-        h.waiting as u64,
-        h.started as u64,
-        h.links[0],
-        h.links[1],
-        h.links[2],
-        h.links[3],
-    ]
-}
-
-// A tick changes no connection, so their words are left as they stand.
-fn repacked(head: &[u64; 7], m: Head) -> [u64; 7]
-    ensures { λ r. ⌜ headOf r ≡ record { clock = m .clock; waiting = m .waiting; started = m .started; links = headOf (now (head .entry)) .links } ⌝ }
-    ensures whole { λ r. ⌜ length r ≡ 7 ⌝ }
-{
-    [
-        m.clock.0,
-        m.waiting as u64,
-        m.started as u64,
-        head[3],
-        head[4],
-        head[5],
-        head[6],
-    ]
 }
 
 // Whatever stood in the words before.
 #[no_mangle]
-pub extern "C" fn splicer_fresh(
+pub extern "C" fn splicer_2_fresh(
     name: &[u8; 32],
-    head: &mut [u64; 7],
-    kept: &mut [u8; 32],
-    waiting: &mut [u64; 512],
-    started: &mut [u64; 80],
-) -> Reply
-    ensures { λ r. ⌜ Replies (fresh (now (name .entry))) r (now (head .exit)) (now (kept .exit)) (now (waiting .exit)) (now (started .exit)) ⌝ }
+    words: &mut [u64; WORDS],
+    bytes: &mut [u8; BYTES],
+    reply: &mut [u64; 3],
+)
+    ensures { λ _. ⌜ Replies (fresh (now (name .entry))) [] (now (reply .exit)) (now (words .exit)) (now (bytes .exit)) [] ⌝ }
 {
-    let t = engine::fresh(*name, kept, waiting, started);
-    let m = t.head;
-    *head = packed(m);
-    let a = t.answer;
-    reply_of(a)
+    let a = engine::fresh(name, &mut *words, &mut *bytes);
+    *reply = reply_of(a);
 }
 
 #[no_mangle]
-pub extern "C" fn splicer_open(
-    head: &mut [u64; 7],
-    kept: &[u8; 32],
-    waiting: &[u64; 512],
-    started: &[u64; 80],
+pub extern "C" fn splicer_2_open(
+    words: &mut [u64; WORDS],
+    bytes: &mut [u8; BYTES],
     conn: u32,
-) -> Reply
-    requires { ⌜ Lent (headOf (now head)) (now kept) (now waiting) (now started) ⌝ }
-    ensures { λ r. ⌜ Replies (openCall conn (view (headOf (now (head .entry))) (now (kept .entry)) (now (waiting .entry)) (now (started .entry)))) r (now (head .exit)) (now (kept .entry)) (now (waiting .entry)) (now (started .entry)) ⌝ }
+    reply: &mut [u64; 3],
+)
+    requires { ⌜ Lent (now words) (now bytes) ⌝ }
+    ensures { λ _.
+        ⌜ Hears (λ _. openCall conn) (now (words .entry)) (now (bytes .entry)) [] (now (reply .exit))
+        (now (words .exit)) (now (bytes .exit)) [] ⌝ }
 {
-    let h = unpacked(&*head);
-    let t = engine::open(h, kept, waiting, started, conn);
-    let m = t.head;
-    *head = packed(m);
-    let a = t.answer;
-    reply_of(a)
+    let a = engine::open(&mut *words, &mut *bytes, conn);
+    *reply = reply_of(a);
 }
 
 #[no_mangle]
-pub extern "C" fn splicer_close(
-    head: &mut [u64; 7],
-    kept: &[u8; 32],
-    waiting: &mut [u64; 512],
-    started: &mut [u64; 80],
+pub extern "C" fn splicer_2_close(
+    words: &mut [u64; WORDS],
+    bytes: &mut [u8; BYTES],
     conn: u32,
     out: &mut [u8],
-) -> Reply
-    requires { ⌜ Lent (headOf (now head)) (now kept) (now waiting) (now started) ⌝ }
-    ensures state { λ r. ⌜ Replies (closeCall conn (length (now (out .entry))) (view (headOf (now (head .entry))) (now (kept .entry)) (now (waiting .entry)) (now (started .entry)))) r (now (head .exit)) (now (kept .entry)) (now (waiting .exit)) (now (started .exit)) ⌝ }
-    ensures buffer { λ r. ⌜ now (out .exit) ≡ bufferAfter (closeCall conn (length (now (out .entry))) (view (headOf (now (head .entry))) (now (kept .entry)) (now (waiting .entry)) (now (started .entry))) .answer) (now (out .entry)) ⌝ }
+    reply: &mut [u64; 3],
+)
+    requires { ⌜ Lent (now words) (now bytes) ⌝ }
+    ensures { λ _.
+        ⌜ Hears (closeCall conn) (now (words .entry)) (now (bytes .entry)) (now (out .entry)) (now (reply .exit))
+        (now (words .exit)) (now (bytes .exit)) (now (out .exit)) ⌝ }
 {
-    let h = unpacked(&*head);
-    let t = engine::close(h, kept, waiting, started, conn, out);
-    let m = t.head;
-    *head = packed(m);
-    let a = t.answer;
-    reply_of(a)
+    let a = engine::close(&mut *words, &mut *bytes, conn, &mut *out);
+    *reply = reply_of(a);
 }
 
 // l: the bytes read so far.
 #[no_mangle]
-pub extern "C" fn splicer_message(
-    head: &mut [u64; 7],
-    kept: &[u8; 32],
-    waiting: &mut [u64; 512],
-    started: &mut [u64; 80],
+pub extern "C" fn splicer_2_message(
+    words: &mut [u64; WORDS],
+    bytes: &mut [u8; BYTES],
     conn: u32,
     l: &[u8],
     out: &mut [u8],
-) -> Reply
-    requires { ⌜ Lent (headOf (now head)) (now kept) (now waiting) (now started) ⌝ }
-    ensures state { λ r. ⌜ Replies (messageCall conn (now (l .entry)) (length (now (out .entry))) (view (headOf (now (head .entry))) (now (kept .entry)) (now (waiting .entry)) (now (started .entry)))) r (now (head .exit)) (now (kept .entry)) (now (waiting .exit)) (now (started .exit)) ⌝ }
-    ensures buffer { λ r. ⌜ now (out .exit) ≡ bufferAfter (messageCall conn (now (l .entry)) (length (now (out .entry))) (view (headOf (now (head .entry))) (now (kept .entry)) (now (waiting .entry)) (now (started .entry))) .answer) (now (out .entry)) ⌝ }
+    reply: &mut [u64; 3],
+)
+    requires { ⌜ Lent (now words) (now bytes) ⌝ }
+    ensures { λ _.
+        ⌜ Hears (λ room. messageCall conn (now (l .entry)) (lending room)) (now (words .entry)) (now (bytes .entry)) (now (out .entry))
+        (now (reply .exit)) (now (words .exit)) (now (bytes .exit)) (now (out .exit)) ⌝ }
 {
-    let h = unpacked(&*head);
-    let t = engine::message(h, kept, waiting, started, conn, l, out);
-    let m = t.head;
-    *head = packed(m);
-    let a = t.answer;
-    reply_of(a)
+    let a = engine::message(&mut *words, &mut *bytes, conn, l, &mut *out);
+    *reply = reply_of(a);
 }
 
 #[no_mangle]
-pub extern "C" fn splicer_tick(
-    head: &mut [u64; 7],
-    kept: &[u8; 32],
-    waiting: &mut [u64; 512],
-    started: &mut [u64; 80],
+pub extern "C" fn splicer_2_tick(
+    words: &mut [u64; WORDS],
+    bytes: &mut [u8; BYTES],
     seconds: u32,
     micros: u32,
     out: &mut [u8],
-) -> Reply
-    requires { ⌜ Lent (headOf (now head)) (now kept) (now waiting) (now started) ⌝ }
-    ensures state { λ r. ⌜ Replies (tickCall seconds micros (length (now (out .entry))) (view (headOf (now (head .entry))) (now (kept .entry)) (now (waiting .entry)) (now (started .entry)))) r (now (head .exit)) (now (kept .entry)) (now (waiting .exit)) (now (started .exit)) ⌝ }
-    ensures buffer { λ r. ⌜ now (out .exit) ≡ bufferAfter (tickCall seconds micros (length (now (out .entry))) (view (headOf (now (head .entry))) (now (kept .entry)) (now (waiting .entry)) (now (started .entry))) .answer) (now (out .entry)) ⌝ }
+    reply: &mut [u64; 3],
+)
+    requires { ⌜ Lent (now words) (now bytes) ⌝ }
+    ensures { λ _.
+        ⌜ Hears (tickCall seconds micros) (now (words .entry)) (now (bytes .entry)) (now (out .entry)) (now (reply .exit))
+        (now (words .exit)) (now (bytes .exit)) (now (out .exit)) ⌝ }
 {
-    let h = unpacked(&*head);
-    let t = engine::tick(h, kept, waiting, started, seconds, micros, out);
-    let m = t.head;
-    *head = repacked(&*head, m);
-    let a = t.answer;
-    reply_of(a)
+    let a = engine::tick(&mut *words, &mut *bytes, seconds, micros, &mut *out);
+    *reply = reply_of(a);
 }

@@ -1,55 +1,48 @@
 -- The fresh splicer: no session, all connections closed, and the name that was kept.
-use mathlib.Core.Path.{_≡_, refl, sym, ap, _∙_}
+use mathlib.Core.Path.{_≡_, sym, subst, _∙_}
 use mathlib.Core.Bool.{true, false}
-use mathlib.Core.List.{List, [], _∷_}
+use mathlib.Core.List.{List, []}
 use Prim.Native.Nat.{ℕ}
-use native.Mathlib.Omega.{arith}
 use lib.ListN.{length}
-use Rattle.rules.specs.declared.Refusal.the-variants.{Name}
+use Rattle.rules.specs.declared.Refusal.the-variants.{BadName}
 use Rattle.rules.specs.Lists.{All}
-use Rattle.rules.specs.Bytes.{Byte, NoZero, hasZero, nameIn, padded}
+use Rattle.rules.specs.Bytes.{Byte, hasZero, nameIn}
 use Rattle.rules.specs.Records.{output}
-use Rattle.rules.specs.Calls.{named, fresh}
-use Rattle.rules.proofs.Bytes.{nameIn-padded, nameIn-zero}
+use Rattle.rules.specs.State.{Splicer}
+use Rattle.rules.specs.Calls.{named, fresh, writtenBy, bufferAfter}
+use Rattle.rules.specs.Sound.{Reached}
+use Rattle.rules.proofs.Written.{written-none}
 use Rattle.rules.proofs.Sound.{reached-fresh}
-use Rattle.places.specs.Places.{zeros}
-use Rattle.places.proofs.Laws.{cleared, cleared-none}
-use Rattle.answers.specs.declared.Head.{Head}
-use Rattle.answers.specs.View.{view, Form}
+use Rattle.memory.specs.Memory.{Now, nothingShown, Named, shown}
 use Rattle.engine.specs.declared.Answer.{Answer}
 use Rattle.engine.specs.declared.Answer.the-variants.{Refused, Done}
 use Rattle.engine.specs.Lent.{answerOf, Answers}
 
--- the head that fresh gives
-abbrev pub start : Head
-start = record { clock = record { 0 = 0 }; waiting = 0; started = 0; links = 0 ∷ 0 ∷ 0 ∷ 0 ∷ [] }
-
-start-view : (m : List ℕ) → NoZero m → view start (padded m) (zeros 512) (zeros 80) ≡ named m
+begun : (m b n : List ℕ) → Now m nothingShown → Named b n → shown m b ≡ named n
 unfolding named
-start-view m z = λ i. record { name = nameIn-padded m z i; clock = 0; links = named m .links; queue = record { waiting = cleared-none 512 i; started = cleared-none 80 i } }
+begun m b n x y = λ i. record { name = y .is i; clock = x .is i .clock; links = x .is i .links; queue = x .is i .queue }
 
-start-form : (m : List ℕ) → NoZero m → Form start (padded m) (zeros 512) (zeros 80)
-start-form m z =
-    record {
-      waiting = cleared 512;
-      started = cleared 80;
-      places = refl;
-      stack = refl;
-      links = (omega arith, (omega arith, (omega arith, (omega arith, tt))));
-      stored = ap padded (sym (nameIn-padded m z));
-    }
+-- m and b: what is left in the words and the bytes
+module _ (name : List ℕ) {m b : List ℕ} (long : length name ≡ 32) (bytes : All Byte name) (none : Now m nothingShown) where
+  -- n is the name that is kept
+  fresh-as : (n : List ℕ) (a : Answer) → Named b n → fresh name .splicer ≡ named n → a ≡ answerOf (fresh name .answer)
+      → [] ≡ bufferAfter (fresh name .answer) [] → Answers (fresh name) [] a m b []
+  fresh-as n a kept e f o =
+      let v = begun m b n none kept ∙ sym e in
+      record {
+        lent = record {
+          whole = record { words = none .form; bytes = kept .stored };
+          reached = subst (λ (s : Splicer). Reached s) (sym v) (reached-fresh name long bytes);
+        };
+        splicer = v;
+        answer = f;
+        buffer = o;
+      }
 
-module _ (name : List ℕ) (long : length name ≡ 32) (bytes : All Byte name) where
-  -- m is the name that is kept
-  fresh-as : (m : List ℕ) (a : Answer) → NoZero m → fresh name .splicer ≡ named m → a ≡ answerOf (fresh name .answer) → Answers (fresh name) (record { head = start; answer = a }) (padded m) (zeros 512) (zeros 80)
-  fresh-as m a z e f =
-      let v = start-view m z ∙ sym e in
-      record { lent = record { form = start-form m z; reached = rw v (reached-fresh name long bytes) }; splicer = v; answer = f }
+  pub fresh-good : Named b (nameIn name) → hasZero name ≡ true → Answers (fresh name) [] (Done 0 0) m b []
+  unfolding fresh answerOf bufferAfter writtenBy output
+  fresh-good kept z = fresh-as (nameIn name) (Done 0 0) kept (rw z) (rw z) (rw z (sym (written-none [] 0)))
 
-  pub fresh-good : hasZero name ≡ true → Answers (fresh name) (record { head = start; answer = Done 0 0 }) (padded (nameIn name)) (zeros 512) (zeros 80)
-  unfolding fresh answerOf output
-  fresh-good z = fresh-as (nameIn name) (Done 0 0) (nameIn-zero name) (rw z) (rw z)
-
-  pub fresh-bad : hasZero name ≡ false → Answers (fresh name) (record { head = start; answer = Refused Name }) (padded []) (zeros 512) (zeros 80)
-  unfolding fresh answerOf
-  fresh-bad z = fresh-as [] (Refused Name) refl (rw z) (rw z)
+  pub fresh-bad : Named b [] → hasZero name ≡ false → Answers (fresh name) [] (Refused BadName) m b []
+  unfolding fresh answerOf bufferAfter writtenBy
+  fresh-bad kept z = fresh-as [] (Refused BadName) kept (rw z) (rw z) (rw z (sym (written-none [] 0)))

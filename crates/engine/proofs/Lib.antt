@@ -1,4 +1,3 @@
-pub mod Names
 pub mod Calls
 pub mod Beginning
 pub mod Laws

@@ -8,11 +8,11 @@ use lib.Dec.{eqb}
 use lib.ListN.{length}
 use borrow.Author.Tests.{ne-eqb, lt-leb}
 use Rattle.rules.specs.Lists.{All, put, bit}
-use Rattle.rules.specs.History.{Event, Entry, entryIs, waitingCount, book}
+use Rattle.demands.specs.History.{Event, Entry, entryIs, waitingCount, book}
 use Rattle.rules.proofs.Count.{count-append}
 use Rattle.demands.specs.Told.{fullTold, unended, entriesOf, Stands}
 use Rattle.demands.proofs.Demands as told
-use Rattle.traces.specs.Trace.{Memory, shown, aClose, Result, next, Made, made, Trace, events, calls, number}
+use Rattle.traces.specs.Trace.{Memory, shown, aClose, Result, Made, made, Trace, events, calls, number}
 use Rattle.traces.proofs.Steps.{number-is}
 use Rattle.traces.proofs.Course.{events-append, led-heard, led-wired, trace-told, trace-point}
 
@@ -21,17 +21,19 @@ pub not-full : (c : ℕ) (h : List Event) → waitingCount c h < 10 → fullTold
 unfolding fullTold
 not-full c h few = rw (ne-eqb (waitingCount c h) 20 (λ e. omega arith), lt-leb 10 (waitingCount c h) few)
 
-module _ (name : List ℕ) (h g : List Made) (m : Memory) (d : ℕ) (e : List ℕ) (r : Result) (t : Trace name (h ++ (made (aClose d e) r ∷ g)) m) (z : number r ≡ 0) where
+module _ (name : List ℕ) (h g : List Made) (m : Memory) (d : ℕ) (e : List ℕ) (r : Result)
+    (t : Trace name (h ++ (made (aClose d e) r ∷ g)) m) (z : number r ≡ 0) where
   pub closed-stands : Stands d (book (events (h ++ (made (aClose d e) r ∷ []))) []) (book (events (h ++ (made (aClose d e) r ∷ g))) [])
   closed-stands =
       let x = made (aClose d e) r in
       let p = trace-point name h (x ∷ g) m t in
       let b = p .here in
       let l = p .behind in
-      let one = led-heard (x ∷ []) b (next b r) (l .0, l .1, refl) in
+      let one = led-heard (x ∷ []) b (r .memory) (l .0, l .1, refl) in
       let all = led-heard (x ∷ g) b m l in
       rw (events-append h (x ∷ []), events-append h (x ∷ g), one, all)
-      (told.closed-stays-ended (events h) (shown b) (trace-told name h b (p .before)) d (length e) (sym (number-is b (aClose d e) r (l .1)) ∙ z) (calls g) (led-wired g (next b r) m (l .2)))
+      (told.closed-stays-ended (events h) (shown b) (trace-told name h b (p .before)) d (length e)
+      (sym (number-is b (aClose d e) r (l .1)) ∙ z) (calls g) (led-wired g (r .memory) m (l .2)))
 
 -- ## An end that is written later is of a newer session
 

@@ -4,23 +4,20 @@ use mathlib.Core.Bool.{false, cond}
 use mathlib.Core.List.{List, [], _∷_, _++_}
 use Prim.Native.Nat.{ℕ}
 use native.Mathlib.Omega.{arith}
-use Rattle.rules.specs.declared.Refusal.the-variants.{Name}
 use Rattle.rules.specs.Lists.{All}
 use Rattle.rules.specs.Bytes.{hasZero}
 use Rattle.rules.specs.Calls.{fresh, Call, call, after}
-use Rattle.rules.specs.History.{Reply, Event, history}
+use Rattle.demands.specs.History.{Reply, Event, history}
 use Rattle.rules.specs.Sound.{Wired}
 use Rattle.engine.specs.Lent.{Lent}
-use Rattle.engine.specs.declared.Said.{Said}
-use Rattle.engine.specs.declared.Answer.the-variants.{Refused}
-use Rattle.engine.proofs.Beginning.{start}
 use Rattle.engine.proofs.Laws.{answers-same, fresh-refused}
 use Rattle.demands.specs.Told.{FromFresh}
 use Rattle.demands.proofs.Refusals as refusals
-use Rattle.traces.specs.Trace.{Memory, emptyMemory, shown, Input, Typed, callOf, Result, Allowed, next, Made, made, Leads, Trace, More, Point, eventOf, events, calls, inputs, numberIn}
+use Rattle.traces.specs.Trace.{Memory, emptyMemory, shown, Input, Typed, callOf, Result, Allowed, Made, made, Leads, Trace, More, Point, eventOf, events, calls, inputs, numberIn}
 use Rattle.traces.proofs.Steps.{wired, promised, replied, number-read, memory-same, step-same}
 
-event-same : (k : Call) (x y : Reply) (h g : List Event) → x ≡ y → h ≡ g → _≡_ {A = List Event} (record { call = k; reply = x } ∷ h) (record { call = k; reply = y } ∷ g)
+event-same : (k : Call) (x y : Reply) (h g : List Event) → x ≡ y → h ≡ g
+    → _≡_ {A = List Event} (record { call = k; reply = x } ∷ h) (record { call = k; reply = y } ∷ g)
 event-same k x y h g e f = cc
 
 made-same : (i j : Input) (r s : Result) (h g : List Made) → i ≡ j → r ≡ s → h ≡ g → _≡_ {A = List Made} (made i r ∷ h) (made j s ∷ g)
@@ -35,40 +32,41 @@ events-append (x ∷ h) g = ap (λ l. eventOf x ∷ l) (events-append h g)
 
 pub led-wired : (h : List Made) (b m : Memory) → Leads b h m → All Wired (calls h)
 led-wired [] b m l = tt
-led-wired (x ∷ h) b m l = (wired (x .input) (l .0), led-wired h (next b (x .result)) m (l .2))
+led-wired (x ∷ h) b m l = (wired (x .input) (l .0), led-wired h (x .result .memory) m (l .2))
 
 pub led-heard : (h : List Made) (b m : Memory) → Leads b h m → events h ≡ history (calls h) (shown b)
 unfolding history
 led-heard [] b m l = refl
 led-heard (x ∷ h) b m l =
     event-same (callOf (x .input)) _ _ _ _ (replied b (x .input) (x .result) (l .1))
-    (led-heard h (next b (x .result)) m (l .2) ∙ ap (history (calls h)) (promised b (x .input) (x .result) (l .1) .splicer))
+    (led-heard h (x .result .memory) m (l .2) ∙ ap (history (calls h)) (promised b (x .input) (x .result) (l .1) .splicer))
 
 pub led-shown : (h : List Made) (b m : Memory) → Leads b h m → shown m ≡ after (calls h) (shown b)
 unfolding after
 led-shown [] b m l = ap shown l
 led-shown (x ∷ h) b m l =
-    led-shown h (next b (x .result)) m (l .2) ∙ ap (after (calls h)) (promised b (x .input) (x .result) (l .1) .splicer)
+    led-shown h (x .result .memory) m (l .2) ∙ ap (after (calls h)) (promised b (x .input) (x .result) (l .1) .splicer)
 
 abbrev pub LentAt : Memory → Type 0
-LentAt m = Lent (m .head) (m .name) (m .words) (m .stack)
+LentAt m = Lent (m .words) (m .bytes)
 
 led-lent : (h : List Made) (b m : Memory) → LentAt b → Leads b h m → LentAt m
 led-lent [] b m t l = rw l t
-led-lent (x ∷ h) b m t l = led-lent h (next b (x .result)) m (promised b (x .input) (x .result) (l .1) .lent) (l .2)
+led-lent (x ∷ h) b m t l = led-lent h (x .result .memory) m (promised b (x .input) (x .result) (l .1) .lent) (l .2)
 
-led-more : (h : List Made) (b m : Memory) (i : Input) (r : Result) → Leads b h m → Typed i → Allowed m i r → Leads b (h ++ (made i r ∷ [])) (next m r)
+led-more : (h : List Made) (b m : Memory) (i : Input) (r : Result) → Leads b h m → Typed i → Allowed m i r
+    → Leads b (h ++ (made i r ∷ [])) (r .memory)
 led-more [] b m i r l t a = rw (← l) (t, a, refl)
-led-more (x ∷ h) b m i r l t a = (l .0, l .1, led-more h (next b (x .result)) m i r (l .2) t a)
+led-more (x ∷ h) b m i r l t a = (l .0, l .1, led-more h (x .result .memory) m i r (l .2) t a)
 
 -- the memory after the calls
 abbrev reached : Memory → List Made → Memory
 reached b [] = b
-reached b (x ∷ h) = reached (next b (x .result)) h
+reached b (x ∷ h) = reached (x .result .memory) h
 
 led-parts : (h g : List Made) (b m : Memory) → Leads b (h ++ g) m → Leads b h (reached b h) × Leads (reached b h) g m
 led-parts [] g b m l = (refl, l)
-led-parts (x ∷ h) g b m l = let p = led-parts h g (next b (x .result)) m (l .2) in ((l .0, l .1, p .0), p .1)
+led-parts (x ∷ h) g b m l = let p = led-parts h g (x .result .memory) m (l .2) in ((l .0, l .1, p .0), p .1)
 
 led-same : (h g : List Made) (b m n : Memory) → Leads b h m → Leads b g n → inputs h ≡ inputs g → (h ≡ g) × (m ≡ n)
 led-same [] [] b m n l k e = (refl, l ∙ sym k)
@@ -78,7 +76,7 @@ led-same (x ∷ h) (y ∷ g) b m n l k e =
     let i : x .input ≡ y .input = cc in
     let more : inputs h ≡ inputs g = cc in
     let r : x .result ≡ y .result = step-same b (x .input) (x .result) (y .result) (l .1) (rw i (k .1)) in
-    let p = led-same h g (next b (x .result)) m n (l .2) (rw r (k .2)) more in
+    let p = led-same h g (x .result .memory) m n (l .2) (rw r (k .2)) more in
     (made-same (x .input) (y .input) (x .result) (y .result) h g i r (p .0), p .1)
 
 -- ## Traces
@@ -87,7 +85,8 @@ module _ (name : List ℕ) where
   pub trace-lent : (h : List Made) (m : Memory) → Trace name h m → LentAt m
   trace-lent h m t = led-lent h (t .begun) m (t .fresh .lent) (t .leads)
 
-  pub trace-history : (h : List Made) (m : Memory) → Trace name h m → (events h ≡ history (calls h) (fresh name .splicer)) × (shown m ≡ after (calls h) (fresh name .splicer))
+  pub trace-history : (h : List Made) (m : Memory) → Trace name h m
+      → (events h ≡ history (calls h) (fresh name .splicer)) × (shown m ≡ after (calls h) (fresh name .splicer))
   trace-history h m t =
       let b = t .begun in (
         led-heard h b m (t .leads) ∙ ap (history (calls h)) (t .fresh .splicer),
@@ -107,7 +106,7 @@ module _ (name : List ℕ) where
         same = p .1;
       }
 
-  pub trace-more : (h : List Made) (m : Memory) (i : Input) (r : Result) → More name h m i r → Trace name (h ++ (made i r ∷ [])) (next m r)
+  pub trace-more : (h : List Made) (m : Memory) (i : Input) (r : Result) → More name h m i r → Trace name (h ++ (made i r ∷ [])) (r .memory)
   trace-more h m i r a =
       let t = a .trace in
       record {
@@ -132,10 +131,9 @@ module _ (name : List ℕ) where
   trace-same h g m n t u e =
       let b = t .begun in
       let c = u .begun in
-      let x : Said = record { head = b .head; answer = t .answer } in
-      let y : Said = record { head = c .head; answer = u .answer } in
-      let s = answers-same (fresh name) x y (b .name) (b .words) (b .stack) (c .name) (c .words) (c .stack) (t .fresh) (u .fresh) in
-      let same : b ≡ c = memory-same x y (b .name) (b .words) (b .stack) (c .name) (c .words) (c .stack) (s .0) (s .1) (s .2) (s .3) in
+      let s = answers-same (fresh name) [] (t .answer) (u .answer) (b .words) (b .bytes) [] (c .words) (c .bytes) []
+      (t .fresh) (u .fresh) in
+      let same : b ≡ c = memory-same b c (s .1) (s .2) in
       led-same h g b m n (t .leads) (rw same (u .leads)) e
 
   -- ## Fresh
@@ -147,6 +145,5 @@ module _ (name : List ℕ) where
     pub fresh-empty : hasZero name ≡ false → t .begun ≡ emptyMemory
     fresh-empty z =
         let b = t .begun in
-        let x : Said = record { head = b .head; answer = t .answer } in
-        let s = fresh-refused name x (b .name) (b .words) (b .stack) (t .whole) (t .bytes) z (t .fresh) in
-        memory-same x (record { head = start; answer = Refused Name }) (b .name) (b .words) (b .stack) (emptyMemory .name) (emptyMemory .words) (emptyMemory .stack) (s .0) (s .1) (s .2) (s .3)
+        let s = fresh-refused name (t .answer) (b .words) (b .bytes) [] (t .whole) (t .bytes) z (t .fresh) in
+        memory-same b emptyMemory (s .1) (s .2)

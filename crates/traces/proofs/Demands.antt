@@ -1,6 +1,6 @@
--- READ THIS FIRST: the customer's demands as theorems about the calls of `engine`, each under its sentence. The only hypothesis is a trace
--- (specs/Trace): fresh, then any calls with any inputs, each result one that the call's contract allows; proofs/Cited holds it to the contracts
--- in engine/src/lib.rt. No axiom, no hole.
+-- READ THIS FIRST: the customer's demands as theorems about the calls of `engine`, each under its sentence. The only hypothesis is a
+-- trace (specs/Trace): fresh, then any calls with any inputs, each result one that the call's contract allows; proofs/Cited holds it to
+-- the contracts in engine/src/lib.rt. No axiom, no hole.
 use mathlib.Core.Path.{_≡_}
 use mathlib.Core.Bool.{true, false, cond}
 use mathlib.Core.List.{List, [], _∷_, _++_}
@@ -13,13 +13,13 @@ use Rattle.rules.specs.Lists.{All}
 use Rattle.rules.specs.Bytes.{Byte, hasZero}
 use Rattle.rules.specs.Records.{recordsIn}
 use Rattle.rules.specs.Answers.{requested, spliceResult}
-use Rattle.rules.specs.Calls.{fresh, after}
-use Rattle.rules.specs.History.{startsOf, endsOf, history, last, waitingCount, book, clockAfter}
+use Rattle.rules.specs.Calls.{lending, fresh, after}
+use Rattle.demands.specs.History.{startsOf, endsOf, history, last, waitingCount, book, clockAfter}
 use Rattle.engine.specs.declared.Answer.the-variants.{Refused}
 use Rattle.engine.specs.Lent.{Lent}
-use Rattle.demands.specs.Told.{firstNumber, checks, answers, Asks, Passes, fullTold, outsOf, withoutOwn, startedTold, unended, Ended, Stands}
+use Rattle.demands.specs.Told.{firstNumber, checks, answers, Asks, Passes, fullTold, outsOf, othersOf, startedTold, unended, Ended, Stands}
 use Rattle.demands.proofs.Demands as told
-use Rattle.traces.specs.Trace.{Memory, emptyMemory, shown, Input, aClose, aMessage, Typed, callOf, bufferOf, Result, next, Made, made, Trace, More, Point, numberIn, number, bytesOf, events, calls, inputs, Answerable, Run, AsRuled}
+use Rattle.traces.specs.Trace.{Memory, emptyMemory, shown, Input, aClose, aMessage, Typed, callOf, bufferOf, Result, Made, made, Trace, More, Point, numberIn, number, bytesOf, events, calls, inputs, Answerable, Run, AsRuled}
 use Rattle.traces.proofs.Steps.{wired, as-ruled, number-first, unchanged}
 use Rattle.traces.proofs.Course.{trace-lent, trace-history, trace-told, trace-more, trace-point, trace-same, fresh-number, fresh-empty}
 use Rattle.traces.proofs.Closed.{not-full, closed-stands, unended-newer}
@@ -32,24 +32,27 @@ pub any-calls : (name : List ℕ) → length name ≡ 32 → All Byte name → (
 any-calls = runs
 
 -- one call more gives a trace again
-pub trace-goes-on : (name : List ℕ) (h : List Made) (m : Memory) (i : Input) (r : Result) → More name h m i r → Trace name (h ++ (made i r ∷ [])) (next m r)
+pub trace-goes-on : (name : List ℕ) (h : List Made) (m : Memory) (i : Input) (r : Result) → More name h m i r
+    → Trace name (h ++ (made i r ∷ [])) (r .memory)
 trace-goes-on = trace-more
 
 -- and every point of a trace is the end of a trace, so what is said below of a trace's end is said of every point
 pub every-point : (name : List ℕ) (h g : List Made) (m : Memory) → Trace name (h ++ g) m → Point name h g m
 every-point = trace-point
 
--- the splicer is determined: the same name and the same inputs (bytes, and buffers as they were before each call) give the same results, which
--- are answers, lent words and buffers, and the same memory
-pub same-calls-same-results : (name : List ℕ) (h g : List Made) (m n : Memory) → Trace name h m → Trace name g n → inputs h ≡ inputs g → (h ≡ g) × (m ≡ n)
+-- the splicer is determined: the same name and the same inputs (bytes, and buffers as they were before each call) give the same
+-- results, which are answers, lent words and bytes, and buffers, and the same memory
+pub same-calls-same-results : (name : List ℕ) (h g : List Made) (m n : Memory) → Trace name h m → Trace name g n → inputs h ≡ inputs g
+    → (h ≡ g) × (m ≡ n)
 same-calls-same-results = trace-same
 
 -- "Over all sequences": what follows is said of the name, the calls h made since, with their results, and the memory m now
 module _ (name : List ℕ) (h : List Made) (m : Memory) where
   -- ## Demand 1
 
-  -- "every call takes every input": all that open, close, message and tick require is Lent, and it holds
-  pub every-call-may-be-made : Trace name h m → Lent (m .head) (m .name) (m .words) (m .stack)
+  -- "every call takes every input": all that open, close, message and tick require is Lent, and it holds; bring_to asks an instant
+  -- below the horizon besides, which is Typed
+  pub every-call-may-be-made : Trace name h m → Lent (m .words) (m .bytes)
   every-call-may-be-made = trace-lent name h m
 
   -- and for every input there is a result that the call's contract allows; by same-calls-same-results only one
@@ -63,12 +66,13 @@ module _ (name : List ℕ) (h : List Made) (m : Memory) where
     bad-call-number = number-first m i r (c .allowed)
 
     -- "and the splicer and the lent buffers stay as they were before it"
-    pub bad-call-changes-nothing : (n : Refusal) → r .said .answer ≡ Refused n → (next m r ≡ m) × (r .buffer ≡ bufferOf i)
+    pub bad-call-changes-nothing : (n : Refusal) → r .answer ≡ Refused n → (r .memory ≡ m) × (r .buffer ≡ bufferOf i)
     bad-call-changes-nothing = unchanged m i r (c .allowed) (trace-lent name h m (c .trace))
 
     -- no answer is longer than 3,174 bytes, so the 4,096 that a good call has are enough
     pub answers-fit : length (bytesOf r) ≤ 3174
-    answers-fit = rw (as-ruled m i r (c .allowed) .bytes) (told.answers-fit (events h) (shown m) (trace-told name h m (c .trace)) (callOf i))
+    answers-fit =
+        rw (as-ruled m i r (c .allowed) .bytes) (told.answers-fit (events h) (shown m) (trace-told name h m (c .trace)) (callOf i))
 
   -- fresh: number 9 for a name without a zero byte, and then the memory is that of an empty name, without sessions
   pub bad-name-number : (t : Trace name h m) → numberIn (t .answer) ≡ cond (hasZero name) 0 9
@@ -84,15 +88,19 @@ module _ (name : List ℕ) (h : List Made) (m : Memory) where
   answers-as-ruled i r c = as-ruled m i r (c .allowed)
 
   -- and of all calls together: their answers' bytes and refusals are those of 01's calls from a fresh splicer, and so is the splicer now
-  pub trace-as-ruled : Trace name h m → (events h ≡ history (calls h) (fresh name .splicer)) × (shown m ≡ after (calls h) (fresh name .splicer))
+  pub trace-as-ruled : Trace name h m
+      → (events h ≡ history (calls h) (fresh name .splicer)) × (shown m ≡ after (calls h) (fresh name .splicer))
   trace-as-ruled = trace-history name h m
 
   -- "An accepted request is accepted because the rules accept it; a refused one carries the first result code that applies.": connection d sends
   -- the bytes l, which are a Splice_Request q; the last record in the answer's bytes is the Splice_Response with the code of 01's a to f
-  pub first-code-applies : (d : ℕ) (l e : List ℕ) (r : Result) → More name h m (aMessage d l e) r → (q : Request) → Asks d l (length e) q (shown m)
-      → last (answers (spliceResult (shown m .clock) d q (requested d q (shown m .queue)) (shown m .queue)) d (q .id)) (recordsIn (bytesOf r)) ≡ true
+  pub first-code-applies : (d : ℕ) (l e : List ℕ) (r : Result) → More name h m (aMessage d l e) r
+      → (q : Request) → Asks d l (lending (length e)) q (shown m)
+      → last (answers (spliceResult (shown m .clock) d q (requested d q (shown m .queue)) (shown m .queue)) d (q .id))
+      (recordsIn (bytesOf r)) ≡ true
   first-code-applies d l e r c q asks =
-      rw (as-ruled m (aMessage d l e) r (c .allowed) .bytes) (told.first-code-applies (events h) (shown m) (trace-told name h m (c .trace)) d l (length e) q asks)
+      rw (as-ruled m (aMessage d l e) r (c .allowed) .bytes)
+      (told.first-code-applies (events h) (shown m) (trace-told name h m (c .trace)) d l (lending (length e)) q asks)
 
   -- ## Demand 3
 
@@ -101,12 +109,14 @@ module _ (name : List ℕ) (h : List Made) (m : Memory) where
   pub count-never-passes-20 : Trace name h m → (d : ℕ) → waitingCount d (events h) ≤ 20
   count-never-passes-20 t = told.count-never-passes-20 (events h) (shown m) (trace-told name h m t)
 
-  module _ (d : ℕ) (l e : List ℕ) (r : Result) (c : More name h m (aMessage d l e) r) (q : Request) (asks : Asks d l (length e) q (shown m)) (passes : Passes d q (shown m)) where
-    -- "A request that passes every earlier check in 01's order is refused for a full queue exactly when the count is 20, or when it is at least
-    -- 10 and the four counts, each taken as at least 10, add up to 64." Else it is accepted
+  module _ (d : ℕ) (l e : List ℕ) (r : Result) (c : More name h m (aMessage d l e) r) (q : Request)
+      (asks : Asks d l (lending (length e)) q (shown m)) (passes : Passes d q (shown m)) where
+    -- "A request that passes every earlier check in 01's order is refused for a full queue exactly when the count is 20, or when it is
+    -- at least 10 and the four counts, each taken as at least 10, add up to 64." Else it is accepted
     pub full-exactly-when : last (answers (cond (fullTold d (events h)) 114 100) d (q .id)) (recordsIn (bytesOf r)) ≡ true
     full-exactly-when =
-        rw (as-ruled m (aMessage d l e) r (c .allowed) .bytes) (told.full-exactly-when (events h) (shown m) (trace-told name h m (c .trace)) d l (length e) q asks passes)
+        rw (as-ruled m (aMessage d l e) r (c .allowed) .bytes)
+        (told.full-exactly-when (events h) (shown m) (trace-told name h m (c .trace)) d l (lending (length e)) q asks passes)
 
     -- "Reserved places hold against the other connections.": with fewer than 10 waiting it is accepted, whatever the others have
     pub reserved-places-hold : waitingCount d (events h) < 10 → last (answers 100 d (q .id)) (recordsIn (bytesOf r)) ≡ true
@@ -121,20 +131,23 @@ module _ (name : List ℕ) (h : List Made) (m : Memory) where
   module _ (i : Input) (r : Result) (c : More name h m i r) (d x : ℕ) where
     -- An end in its answer's bytes, a Splice_Request's own answer apart, is of an accepted session that had none: it is neither a second end
     -- nor the end of a number that nobody was granted
-    pub ends-are-owed : endsOf d x (withoutOwn (callOf i) (recordsIn (bytesOf r))) ≤ unended d x (book (events h) [])
+    pub ends-are-owed : endsOf d x (othersOf (callOf i) (recordsIn (bytesOf r))) ≤ unended d x (book (events h) [])
     ends-are-owed =
-        rw (as-ruled m i r (c .allowed) .bytes) (told.ends-are-owed d x (events h) (shown m) (trace-told name h m (c .trace)) (callOf i) (wired i (c .typed)))
+        rw (as-ruled m i r (c .allowed) .bytes)
+        (told.ends-are-owed d x (events h) (shown m) (trace-told name h m (c .trace)) (callOf i) (wired i (c .typed)))
 
     -- "Two operators' as-run logs listed a spot that never aired.": a SpliceComplete flag 1 is written only under a number whose start is
     -- written, since its last end or by the same call
     pub only-aired-is-listed : outsOf d x (recordsIn (bytesOf r)) ≤ startedTold d x (events h) 0 + startsOf d x (recordsIn (bytesOf r))
     only-aired-is-listed =
-        rw (as-ruled m i r (c .allowed) .bytes) (told.only-aired-is-listed d x (events h) (shown m) (trace-told name h m (c .trace)) (callOf i) (wired i (c .typed)))
+        rw (as-ruled m i r (c .allowed) .bytes)
+        (told.only-aired-is-listed d x (events h) (shown m) (trace-told name h m (c .trace)) (callOf i) (wired i (c .typed)))
 
 -- ## The incident
 
 -- "An ad server dropped its connection with its spot on air.": after the calls h connection d closes, by a good call, and the calls g follow
-module _ (name : List ℕ) (h g : List Made) (m : Memory) (d : ℕ) (e : List ℕ) (r : Result) (t : Trace name (h ++ (made (aClose d e) r ∷ g)) m) (z : number r ≡ 0) where
+module _ (name : List ℕ) (h g : List Made) (m : Memory) (d : ℕ) (e : List ℕ) (r : Result)
+    (t : Trace name (h ++ (made (aClose d e) r ∷ g)) m) (z : number r ≡ 0) where
   -- its sessions of before stand in the book as they stood at the close, each with its one end; newer are those accepted since
   pub closed-stays-ended : Stands d (book (events (h ++ (made (aClose d e) r ∷ []))) []) (book (events (h ++ (made (aClose d e) r ∷ g))) [])
   closed-stays-ended = closed-stands name h g m d e r t z
@@ -142,5 +155,6 @@ module _ (name : List ℕ) (h g : List Made) (m : Memory) (d : ℕ) (e : List �
   -- "the completion routine then wrote the old spot's end under the new SessionID": an end of the connection that the next call writes is of a
   -- newer session that has had none
   pub the-incident : (i : Input) (o : Result) → More name (h ++ (made (aClose d e) r ∷ g)) m i o → (x : ℕ)
-      → endsOf d x (withoutOwn (callOf i) (recordsIn (bytesOf o))) ≤ unended d x (closed-stays-ended .newer)
-  the-incident i o c x = le-trans (ends-are-owed name (h ++ (made (aClose d e) r ∷ g)) m i o c d x) (unended-newer d x _ _ closed-stays-ended)
+      → endsOf d x (othersOf (callOf i) (recordsIn (bytesOf o))) ≤ unended d x (closed-stays-ended .newer)
+  the-incident i o c x =
+      le-trans (ends-are-owed name (h ++ (made (aClose d e) r ∷ g)) m i o c d x) (unended-newer d x _ _ closed-stays-ended)

@@ -3,5 +3,4 @@ pub mod Steps
 pub mod Course
 pub mod Closed
 pub mod Cited
-pub mod Packed
 pub mod Answerable

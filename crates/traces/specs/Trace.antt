@@ -1,5 +1,5 @@
--- A trace: what the driver sees of the five calls of `engine`, any number of them in any order, each result one that the call's
--- contract allows. The contracts' own words (`Answers`, `view`, `bufferAfter`) stand here as they stand in engine/src/lib.rt.
+-- A trace: what the driver sees of the calls of `engine`, any number of them in any order, each result one that the call's contract
+-- allows. The contracts' own words (`Answers`, `Makes`) stand here as they stand in engine/src/lib.rt.
 use mathlib.Core.Path.{_≡_}
 use mathlib.Core.List.{List, [], _∷_, map}
 use Prim.Native.Nat.{ℕ, _<_}
@@ -7,37 +7,29 @@ use lib.ListN.{length, take, replicate}
 use Rattle.rules.specs.Lists.{All}
 use Rattle.rules.specs.Bytes.{Byte}
 use Rattle.rules.specs.State.{Splicer}
-use Rattle.rules.specs.Calls.{houseNumber, Called, fresh, openCall, closeCall, messageCall, tickCall, call, writtenBy, bufferAfter, Call, opens, closes, messages, ticks}
-use Rattle.rules.specs.History.{Reply, refusal, wrote, Event}
-use Rattle.answers.specs.declared.Head.{Head}
-use Rattle.answers.specs.View.{view}
+use Rattle.rules.specs.Calls.{houseNumber, Called, fresh, openCall, closeCall, messageCall, lending, tickCall, moveCall}
+use Rattle.rules.specs.Calls.{call, writtenBy, bufferAfter, Call, opens, closes, messages, ticks, moves}
+use Rattle.rules.specs.Sound.{horizon}
+use Rattle.demands.specs.History.{Reply, refusal, wrote, Event}
+use Rattle.memory.specs.Memory as lent
 use Rattle.engine.specs.declared.Answer.{Answer}
 use Rattle.engine.specs.declared.Answer.the-variants.{Refused, Done}
-use Rattle.engine.specs.declared.Said.{Said}
-use Rattle.engine.specs.Lent.{answerOf, Answers}
+use Rattle.engine.specs.Lent.{answerOf, Answers, Makes}
 
 -- ## What the driver holds and hands in
 
--- the splicer in memory between two calls: the head, the kept name, the words of the waiting sessions and of the started ones
+-- the splicer in memory between two calls
 pub record Memory : Type 0 where
-  pub head : Head
-  pub name : List ℕ
   pub words : List ℕ
-  pub stack : List ℕ
+  pub bytes : List ℕ
 
 -- the splicer of document 01 that it shows
 abbrev pub shown : Memory → Splicer
-shown m = view (m .head) (m .name) (m .words) (m .stack)
+shown m = lent.shown (m .words) (m .bytes)
 
--- a fresh splicer of an empty name: clock 0, no session, all connections closed, and zeros in all words
+-- a fresh splicer of an empty name: clock 0, no session, all connections closed, and zeros in all words and bytes
 abbrev pub emptyMemory : Memory
-emptyMemory =
-    record {
-      head = record { clock = record { 0 = 0 }; waiting = 0; started = 0; links = 0 ∷ 0 ∷ 0 ∷ 0 ∷ [] };
-      name = replicate 32 0;
-      words = replicate 512 0;
-      stack = replicate 80 0;
-    }
+emptyMemory = record { words = replicate lent.words 0; bytes = replicate lent.bytes 0 }
 
 -- a call and what it is handed; a buffer is what it holds before the call
 pub data Input : Type 0 where
@@ -45,20 +37,24 @@ pub data Input : Type 0 where
   aClose : (conn : ℕ) (buffer : List ℕ) → Input
   aMessage : (conn : ℕ) (l buffer : List ℕ) → Input
   aTick : (seconds micros : ℕ) (buffer : List ℕ) → Input
+  aMove : (until : ℕ) (buffer : List ℕ) → Input
 
--- what the types say of the inputs, and no more: a u32 is below 2^32, and a u8 is a byte
+-- what the types say of the inputs: a u32 is below 2^32, and a u8 is a byte. An instant is below all that a tick's time can be, which
+-- bring_to requires
 abbrev pub Typed : Input → Type 0
 Typed (anOpen conn) = conn < 4294967296
 Typed (aClose conn e) = conn < 4294967296
 Typed (aMessage conn l e) = (conn < 4294967296) × All Byte l
 Typed (aTick seconds micros e) = (seconds < 4294967296) × (micros < 4294967296)
+Typed (aMove until e) = until < horizon
 
 -- the call as document 01 has it: of a buffer, its length
 abbrev pub callOf : Input → Call
 callOf (anOpen conn) = opens conn
 callOf (aClose conn e) = closes conn (length e)
-callOf (aMessage conn l e) = messages conn l (length e)
+callOf (aMessage conn l e) = messages conn l (lending (length e))
 callOf (aTick seconds micros e) = ticks seconds micros (length e)
+callOf (aMove until e) = moves until (length e)
 
 -- open has no buffer
 abbrev pub bufferOf : Input → List ℕ
@@ -66,38 +62,27 @@ bufferOf (anOpen conn) = []
 bufferOf (aClose conn e) = e
 bufferOf (aMessage conn l e) = e
 bufferOf (aTick seconds micros e) = e
+bufferOf (aMove until e) = e
 
 -- ## What comes back
 
--- the head and the answer, and what the lent words and the buffer hold after the call
+-- the answer, and what the lent memory and the buffer hold after the call
 pub record Result : Type 0 where
-  pub said : Said
-  pub words : List ℕ
-  pub stack : List ℕ
+  pub answer : Answer
+  pub memory : Memory
   pub buffer : List ℕ
 
--- the contract of a call that only reads the lent memory and has no buffer; c: what document 01 says of the call
-pub record Reads (c : Called) (m : Memory) (r : Result) : Type 0 where
-  pub state : Answers c (r .said) (m .name) (m .words) (m .stack)
-  pub words : r .words ≡ m .words
-  pub stack : r .stack ≡ m .stack
-  pub buffer : r .buffer ≡ []
-
--- the contract of a call that changes the lent words and the buffer, which held e
-pub record Writes (c : Called) (m : Memory) (e : List ℕ) (r : Result) : Type 0 where
-  pub state : Answers c (r .said) (m .name) (r .words) (r .stack)
-  pub buffer : r .buffer ≡ bufferAfter (c .answer) e
+-- a call of the splicer that the memory m shows, lent the buffer e, promises the result r
+abbrev pub Promises : (ℕ → Splicer → Called) → Memory → (e : List ℕ) → Result → Type 0
+Promises k m e r = Makes k (m .words) (m .bytes) e (r .answer) (r .memory .words) (r .memory .bytes) (r .buffer)
 
 -- from the memory m, the call's contract allows the result r
 abbrev pub Allowed : Memory → Input → Result → Type 0
-Allowed m (anOpen conn) r = Reads (openCall conn (shown m)) m r
-Allowed m (aClose conn e) r = Writes (closeCall conn (length e) (shown m)) m e r
-Allowed m (aMessage conn l e) r = Writes (messageCall conn l (length e) (shown m)) m e r
-Allowed m (aTick seconds micros e) r = Writes (tickCall seconds micros (length e) (shown m)) m e r
-
--- the memory after a call: the kept name is lent to be read only
-abbrev pub next : Memory → Result → Memory
-next m r = record { head = r .said .head; name = m .name; words = r .words; stack = r .stack }
+Allowed m (anOpen conn) r = Promises (λ _. openCall conn) m [] r
+Allowed m (aClose conn e) r = Promises (closeCall conn) m e r
+Allowed m (aMessage conn l e) r = Promises (λ room. messageCall conn l (lending room)) m e r
+Allowed m (aTick seconds micros e) r = Promises (tickCall seconds micros) m e r
+Allowed m (aMove until e) r = Promises (moveCall until) m e r
 
 -- ## The trace
 
@@ -112,7 +97,7 @@ made i r = record { input = i; result = r }
 -- the calls h, made from the memory m one after the other, have led to the memory n
 abbrev pub Leads : Memory → List Made → Memory → Type 0
 Leads m [] n = n ≡ m
-Leads m (x ∷ h) n = Typed (x .input) × Allowed m (x .input) (x .result) × Leads (next m (x .result)) h n
+Leads m (x ∷ h) n = Typed (x .input) × Allowed m (x .input) (x .result) × Leads (x .result .memory) h n
 
 -- fresh was called with a name of 32 bytes, then the calls h were made, and the memory now is m
 pub record Trace (name : List ℕ) (h : List Made) (m : Memory) : Type 0 where
@@ -120,7 +105,7 @@ pub record Trace (name : List ℕ) (h : List Made) (m : Memory) : Type 0 where
   pub bytes : All Byte name
   pub begun : Memory
   pub answer : Answer
-  pub fresh : Answers (fresh name) (record { head = begun .head; answer = answer }) (begun .name) (begun .words) (begun .stack)
+  pub fresh : Answers (fresh name) [] answer (begun .words) (begun .bytes) []
   pub leads : Leads begun h m
 
 -- a trace, and one call more: with the input i, and the result r
@@ -148,10 +133,10 @@ bytesIn (Refused n) o = []
 bytesIn (Done consumed len) o = take len o
 
 abbrev pub number : Result → ℕ
-number r = numberIn (r .said .answer)
+number r = numberIn (r .answer)
 
 abbrev pub bytesOf : Result → List ℕ
-bytesOf r = bytesIn (r .said .answer) (r .buffer)
+bytesOf r = bytesIn (r .answer) (r .buffer)
 
 unfoldable pub replyIn : Answer → List ℕ → Reply
 replyIn (Refused n) o = refusal n
@@ -159,7 +144,7 @@ replyIn (Done consumed len) o = wrote (bytesIn (Done consumed len) o)
 
 -- a call that was made, as demand 3 takes it: the call, and the answer's bytes or the refusal
 abbrev pub eventOf : Made → Event
-eventOf x = record { call = callOf (x .input); reply = replyIn (x .result .said .answer) (x .result .buffer) }
+eventOf x = record { call = callOf (x .input); reply = replyIn (x .result .answer) (x .result .buffer) }
 
 abbrev pub events : List Made → List Event
 events h = map eventOf h
@@ -187,7 +172,7 @@ pub record Run (name : List ℕ) (is : List Input) : Type 0 where
 -- ## "every answer byte, its order and the state after it are those that 01's rules give"
 
 pub record AsRuled (m : Memory) (i : Input) (r : Result) : Type 0 where
-  pub state : shown (next m r) ≡ call (callOf i) (shown m) .splicer
-  pub answer : r .said .answer ≡ answerOf (call (callOf i) (shown m) .answer)
+  pub state : shown (r .memory) ≡ call (callOf i) (shown m) .splicer
+  pub answer : r .answer ≡ answerOf (call (callOf i) (shown m) .answer)
   pub bytes : bytesOf r ≡ writtenBy (call (callOf i) (shown m) .answer)
   pub buffer : r .buffer ≡ bufferAfter (call (callOf i) (shown m) .answer) (bufferOf i)

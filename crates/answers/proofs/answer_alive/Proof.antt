@@ -1,13 +1,21 @@
 -- The first of the started is on air (`air-none`, `air-some`).
 use mathlib.Core.Path.{sym, ap, _∙_}
 use native.Mathlib.Omega.{arith}
-use Rattle.answers.proofs.Laws.{air-none, air-some, alive-writes}
+use Rattle.rules.specs.declared.Session.{Session}
+use Rattle.memory.specs.Memory.{see}
+use Rattle.answers.proofs.Laws.{air-none, air-some, alive-says}
 use borrow.Author.Needs.{needs}
 use Rattle.answers.proofs.answer_alive.Statement.{statement}
 use Rattle.answers.proofs.answer_alive.Tie as tie
 
+clock-requires : tie.Need-clock-requires
+clock-requires c κs = search needs
+
 to-micros-requires : tie.Need-to-micros-requires
 to-micros-requires c κs = search needs
+
+count-requires : tie.Need-count-requires
+count-requires c κs = search needs
 
 alive-response-requires : tie.Need-alive-response-requires
 alive-response-requires c κs = search needs
@@ -16,12 +24,16 @@ same-length : tie.Need-same-length
 same-length c = search needs
 
 returns : tie.Need-returns
-returns c = let s = c .before .before .before .before .before .before .before .before .before in
-    let a = air-none (s .args .k .now) (s .args .h .started) (s .pre .0) (c .before .before .before .before .if1 .taken) in
-    alive-writes (s .args .out .now) (s .args .h) (s .args .conn) 1 0xFFFFFFFF _ (s .args .k .now) _ (a .0) (a .1) (c .before .before .before .before .before .before .to-micros .ensures) (c .before .before .alive-response .ensures)
+returns c =
+    let k = c .before .before .before .before .before in
+    let s = k .before .before .before .before .before .before in
+    let none = sym (k .count .ensures) ∙ c .before .before .before .before .if1 .taken in
+    let air = air-none (see (s .args .m .now) .queue .started) none in
+    alive-says (s .args .m .now) (s .args .b .now) (s .args .conn) air (k .before .before .clock .ensures)
+    (k .before .to-micros .ensures) (c .before .before .alive-response .ensures)
 
 load-requires : tie.Need-load-requires
-load-requires c κs = let s = c .before .before .before .before .before in (s .pre .0, omega arith)
+load-requires c κs = search needs
 
 alive-response-requires-2 : tie.Need-alive-response-requires-2
 alive-response-requires-2 c κs = search needs
@@ -30,15 +42,21 @@ same-length-2 : tie.Need-same-length-2
 same-length-2 c = search needs
 
 returns-2 : tie.Need-returns-2
-returns-2 c = let s = c .before .before .before .before .before .before .before .before .before .before in
-    let a = air-some (s .args .k .now) (s .args .h .started) (s .pre .0) (omega arith) in
-    alive-writes (s .args .out .now) (s .args .h) (s .args .conn) 2 _ _ (s .args .k .now) _ (a .0) (a .1 ∙ ap (λ x. x .id) (sym (c .before .before .before .before .load .ensures))) (c .before .before .before .before .before .before .before .to-micros .ensures) (c .before .before .alive-response2 .ensures)
+returns-2 c =
+    let k = c .before .before .before .before .before .before in
+    let s = k .before .before .before .before .before .before in
+    let air = air-some (see (s .args .m .now) .queue .started) (omega (arith, k .count .ensures)) in
+    let id = air .1 ∙ ap (λ (x : Session). x .id) (sym (c .before .before .before .before .load .ensures)) in
+    alive-says (s .args .m .now) (s .args .b .now) (s .args .conn) (air .0, id) (k .before .before .clock .ensures)
+    (k .before .to-micros .ensures) (c .before .before .alive-response2 .ensures)
 
 pub answer-alive-spec : {M : Type 1} → statement M
 answer-alive-spec =
     tie.close
     (tie.spec
+    clock-requires
     to-micros-requires
+    count-requires
     alive-response-requires
     same-length
     returns

@@ -1,9 +1,5 @@
--- The result decides the head (`init-writes`); the record is `init_response`'s.
-use mathlib.Core.Path.{ap, _∙_}
-use borrow.Author.Tests.{eq-eqb, ne-eqb}
-use Rattle.rules.specs.Bytes.{nameIn}
-use Rattle.rules.specs.Answers.{initResult}
-use Rattle.answers.proofs.Laws.{init-writes}
+-- The result decides the link (`init-done`, `init-failed`); the record is `init_response`'s.
+use Rattle.answers.proofs.Laws.{stored-length, stored-padded, init-done, init-failed}
 use borrow.Author.Needs.{needs}
 use Rattle.answers.proofs.answer_init.Statement.{statement}
 use Rattle.answers.proofs.answer_init.Tie as tie
@@ -11,42 +7,64 @@ use Rattle.answers.proofs.answer_init.Tie as tie
 channel-name-requires : tie.Need-channel-name-requires
 channel-name-requires c κs = search needs
 
+name-requires : tie.Need-name-requires
+name-requires c κs = search needs
+
 init-result-requires : tie.Need-init-result-requires
 init-result-requires c κs = search needs
 
+name-requires-2 : tie.Need-name-requires-2
+name-requires-2 c κs = search needs
+
 init-response-requires : tie.Need-init-response-requires
-init-response-requires c κs = search needs
+init-response-requires c κs =
+    let s = c .before .before .before .before .before .before .before .before .before in
+    let b = s .pre .0 .bytes in
+    (search needs, (stored-length b (c .name2 .ensures), stored-padded b (c .name2 .ensures)))
+
+set-link-requires : tie.Need-set-link-requires
+set-link-requires c κs = search needs
 
 same-length : tie.Need-same-length
 same-length c = search needs
 
-returns : tie.Need-returns
-returns c = let s = c .before .before .before .before .before .before .before .before .before .before in
-    let n = c .before .before .before .before .before .init-result .result in
-    let e = c .before .before .before .before .before .init-result .ensures ∙ ap (λ y. initResult (s .args .revision) y (nameIn (s .args .name .now))) (c .before .before .before .before .before .before .channel-name .ensures) in
-    init-writes (s .args .out .now) (s .args .h) _ (s .args .conn) n _ (s .args .name .now) _ e (rw (ne-eqb n 100 (c .if1 .taken))) (s .pre .1 .1 .0) (s .pre .1 .0) (c .before .before .before .init-response .ensures)
-
-with-link-requires : tie.Need-with-link-requires
-with-link-requires c κs = search needs
-
 same-length-2 : tie.Need-same-length-2
 same-length-2 c = search needs
 
+returns : tie.Need-returns
+returns c =
+    let k = c .before .before .before .before .before .before .before .before .before .before in
+    let s = k .before .before .before .before .before .before .before in
+    init-done (s .pre .0) (s .args .conn) (s .args .revision) (s .args .d .now)
+    (k .before .before .channel-name .ensures) (k .before .name .ensures)
+    (c .before .before .before .before .before .before .before .before .name2 .ensures) (k .init-result .ensures)
+    (c .before .before .before .before .before .before .before .init-response .ensures)
+    (c .before .before .before .before .if1 .taken) (c .before .before .set-link .ensures)
+
+same-length-3 : tie.Need-same-length-3
+same-length-3 c = search needs
+
 returns-2 : tie.Need-returns-2
-returns-2 c = let s = c .before .before .before .before .before .before .before .before .before .before .before in
-    let n = c .before .before .before .before .before .before .init-result .result in
-    let e = c .before .before .before .before .before .before .init-result .ensures ∙ ap (λ y. initResult (s .args .revision) y (nameIn (s .args .name .now))) (c .before .before .before .before .before .before .before .channel-name .ensures) in
-    init-writes (s .args .out .now) (s .args .h) _ (s .args .conn) n _ (s .args .name .now) _ e (c .with-link .ensures ∙ rw (eq-eqb n 100 (c .before .if1 .left))) (s .pre .1 .1 .0) (s .pre .1 .0) (c .before .before .before .before .init-response .ensures)
+returns-2 c =
+    let k = c .before .before .before .before .before .before in
+    let s = k .before .before .before .before .before .before .before in
+    init-failed (s .pre .0) (s .args .conn) (s .args .revision) (s .args .d .now)
+    (k .before .before .channel-name .ensures) (k .before .name .ensures) (c .before .before .before .before .name2 .ensures)
+    (k .init-result .ensures)
+    (c .before .before .before .init-response .ensures) (c .if1 .left)
 
 pub answer-init-spec : {M : Type 1} → statement M
 answer-init-spec =
     tie.close
     (tie.spec
     channel-name-requires
+    name-requires
     init-result-requires
+    name-requires-2
     init-response-requires
+    set-link-requires
     same-length
-    returns
-    with-link-requires
     same-length-2
+    returns
+    same-length-3
     returns-2)

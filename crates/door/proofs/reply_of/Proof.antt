@@ -1,4 +1,4 @@
--- `reply_of`: each case is the definition's.
+-- Each case is the definition's.
 use Rattle.door.specs.Door.{replyOf}
 use borrow.Author.Needs.{needs}
 use Rattle.door.proofs.reply_of.Statement.{statement}
@@ -26,4 +26,5 @@ returns-2 c = cc
 
 pub reply-of-spec : {M : Type 1} → statement M
 reply-of-spec =
-    tie.close (tie.spec enum-known-a house-number-requires cast-t7 enum-known-a-2 returns returns-2)
+    tie.close
+    (tie.spec enum-known-a house-number-requires cast-t7 enum-known-a-2 returns returns-2)

@@ -1,12 +1,9 @@
--- `close`: each return is one law of proofs/Calls; what requests asks holds of every splicer that the calls have given.
-use mathlib.Core.List.{map}
-use mathlib.Core.Path.{sym, ap, _∙_}
+-- Each return is one law of proofs/Calls; what `ends` asks holds of every splicer that the calls have given.
+use mathlib.Core.Path.{sym, _∙_}
 use lib.ListN.{length}
 use Rattle.rules.specs.Calls.{closeCall}
-use Rattle.answers.specs.declared.Head.{Head}
-use Rattle.answers.specs.View.{linkOf}
-use Rattle.engine.specs.declared.Answer.the-variants.{Done}
-use Rattle.engine.proofs.Calls.{holding, playable-waiting, playable-started, room-all, guard-refused, test-past, turnedHead, close-done}
+use Rattle.memory.specs.Memory.{see}
+use Rattle.engine.proofs.Calls.{holding, room-all, playable-waiting, playable-started, test-past, guard-refused, close-done}
 use borrow.Author.Needs.{needs}
 use Rattle.engine.proofs.close.Statement.{statement}
 use Rattle.engine.proofs.close.Tie as tie
@@ -17,38 +14,37 @@ test-open-requires c κs = search needs
 enum-known-test : tie.Need-enum-known-test
 enum-known-test c = search needs
 
-refuse-requires : tie.Need-refuse-requires
-refuse-requires c κs = search needs
+same-length : tie.Need-same-length
+same-length c = search needs
 
 returns : tie.Need-returns
 unfolding closeCall
 returns c =
-    let s = c .before .before .before .before .before .before .before .before .before in
-    let x = c .before .before .test .given in
-    guard-refused (s .args .h) (s .args .name .now) (s .args .w .now) (s .args .k .now) (s .args .conn) (s .args .out .now) _ _ (x .0 .0) _ (s .pre) (c .before .before .before .before .test-open .ensures) (x .1) (c .refuse .ensures)
+    let s = c .before .before .before .before .before .before .before .before in
+    let test-open = c .before .before .before .test-open in
+    let test = c .before .test in
+    let x = test .given in
+    guard-refused (s .args .conn) _ (x .0 .0) (s .pre) (test-open .ensures) (x .1)
 
 enum-told : tie.Need-enum-told
 enum-told c = search needs
 
-cancel-requires : tie.Need-cancel-requires
-cancel-requires c κs =
-    let s = c .before .before .before .before .before .before .before .before .before .before in
-    let f = s .pre .form in
-    let h = holding (s .args .h) (s .args .name .now) (s .args .w .now) (s .args .k .now) (s .pre) in
-    let e = test-past (s .args .conn) (length (s .args .out .now)) (map linkOf (s .args .h .links)) (sym (c .before .before .before .enum-told .given .1) ∙ c .before .before .before .before .before .test-open .ensures) in
-    (f .waiting, (f .started, (f .places, (f .stack, (playable-waiting h, (playable-started h, room-all (s .args .h) (s .args .name .now) (s .args .w .now) (s .args .k .now) (length (s .args .out .now)) (s .pre) (e .1)))))))
+end-all-of-requires : tie.Need-end-all-of-requires
+end-all-of-requires c κs =
+    let s = c .before .before .before .before .before .before .before .before .before in
+    let test-open = c .before .before .before .before .test-open in
+    let enum-told = c .before .before .enum-told in
+    let h = holding (s .pre) in
+    let roomy = test-past (s .args .conn) (length (s .args .out .now)) (see (s .args .m .now) .links) (sym (enum-told .given .1) ∙ test-open .ensures) .1 in
+    (s .pre .whole .words, (playable-waiting h, (playable-started h, room-all h roomy)))
 
-with-link-requires : tie.Need-with-link-requires
-with-link-requires c κs =
-    let s = c .before .before .before .before .before .before .before .before .before .before .before .before .before .before .before .before .before in
-    let e = test-past (s .args .conn) (length (s .args .out .now)) (map linkOf (s .args .h .links)) (sym (c .before .before .before .before .before .before .before .before .before .before .enum-told .given .1) ∙ c .before .before .before .before .before .before .before .before .before .before .before .before .test-open .ensures) in
-    e .0
-
-turned-requires : tie.Need-turned-requires
-turned-requires c κs = search needs
-
-same-length : tie.Need-same-length
-same-length c = search needs
+set-link-requires : tie.Need-set-link-requires
+set-link-requires c κs =
+    let s = c .before .before .before .before .before .before .before .before .before .before .before .before .before .before .before in
+    let test-open = c .before .before .before .before .before .before .before .before .before .before .test-open in
+    let enum-told = c .before .before .before .before .before .before .before .before .enum-told in
+    let end-all-of = c .before .before .before .before .before .end-all-of in
+    (end-all-of .ensures .shows .form, test-past (s .args .conn) (length (s .args .out .now)) (see (s .args .m .now) .links) (sym (enum-told .given .1) ∙ test-open .ensures) .0)
 
 same-length-2 : tie.Need-same-length-2
 same-length-2 c = search needs
@@ -58,9 +54,12 @@ same-length-3 c = search needs
 
 returns-2 : tie.Need-returns-2
 returns-2 c =
-    let s = c .before .before .before .before .before .before .before .before .before .before .before .before .before .before .before .before .before .before .before in
-    let t = c .before .before .before .before .before .before .before .before .cancel in
-    close-done (s .args .h) (s .args .name .now) (s .args .w .now) (s .args .k .now) (s .args .conn) (s .args .out .now) _ _ _ (t .result) _ (s .pre) (c .turned .ensures ∙ ap (λ (m : Head). record { head = turnedHead (m .clock) (m .links) (t .result); answer = Done 0 (t .result .len) }) (c .before .with-link .ensures)) (sym (c .before .before .before .before .before .before .before .before .before .before .before .before .enum-told .given .1) ∙ c .before .before .before .before .before .before .before .before .before .before .before .before .before .before .test-open .ensures) (search needs) (search needs) (t .ensures)
+    let s = c .before .before .before .before .before .before .before .before .before .before .before .before .before .before .before .before .before .before in
+    let test-open = c .before .before .before .before .before .before .before .before .before .before .before .before .before .test-open in
+    let enum-told = c .before .before .before .before .before .before .before .before .before .before .before .enum-told in
+    let end-all-of = c .before .before .before .before .before .before .before .before .end-all-of in
+    let set-link = c .before .before .set-link in
+    close-done (s .args .conn) (s .pre) (sym (enum-told .given .1) ∙ test-open .ensures) (end-all-of .ensures) (set-link .ensures)
 
 pub close-spec : {M : Type 1} → statement M
 close-spec =
@@ -68,13 +67,11 @@ close-spec =
     (tie.spec
     test-open-requires
     enum-known-test
-    refuse-requires
+    same-length
     returns
     enum-told
-    cancel-requires
-    with-link-requires
-    turned-requires
-    same-length
+    end-all-of-requires
+    set-link-requires
     same-length-2
     same-length-3
     returns-2)

@@ -1,45 +1,56 @@
--- `open`: each return is one law of proofs/Calls.
+-- Each return is one law of proofs/Calls. What the connection is, and the words after it is opened, come from memory.
+use mathlib.Core.Path.{ap}
 use native.Mathlib.Omega.{arith}
-use Rattle.engine.proofs.Calls.{open-bad, open-twice, open-done}
+use Rattle.rules.specs.State.{isOpen}
+use Rattle.engine.proofs.Calls.{not-closed, open-bad, open-twice, open-done}
 use borrow.Author.Needs.{needs}
 use Rattle.engine.proofs.open.Statement.{statement}
 use Rattle.engine.proofs.open.Tie as tie
 
-refuse-requires : tie.Need-refuse-requires
-refuse-requires c κs = search needs
-
 returns : tie.Need-returns
 returns c =
-    let s = c .before .before .before .before .before in
-    open-bad (s .args .h) (s .args .name .now) (s .args .w .now) (s .args .k .now) (s .args .conn) (s .pre) _ (c .refuse .ensures) (omega arith)
+    let s = c .before .before .before in
+    open-bad (s .args .conn) (s .pre) (omega arith)
 
-link-at-requires : tie.Need-link-at-requires
-link-at-requires c κs = search needs
+link-requires : tie.Need-link-requires
+link-requires c κs = search needs
 
-refuse-requires-2 : tie.Need-refuse-requires-2
-refuse-requires-2 c κs = search needs
+enum-told : tie.Need-enum-told
+enum-told c = search needs
+
+same-length : tie.Need-same-length
+same-length c = search needs
 
 returns-2 : tie.Need-returns-2
 returns-2 c =
-    let s = c .before .before .before .before .before .before .before in
-    open-twice (s .args .h) (s .args .name .now) (s .args .w .now) (s .args .k .now) (s .args .conn) (s .pre) _ (c .refuse2 .ensures) (omega arith) (omega (arith, c .before .before .link-at .ensures))
+    let s = c .before .before .before .before .before .before in
+    let link = c .before .link in
+    let match = c .match in
+    open-twice (s .args .conn) (s .pre) (link .result) (omega arith) (link .ensures) (not-closed (link .result) (match .keys2))
 
-with-link-requires : tie.Need-with-link-requires
-with-link-requires c κs = search needs
+set-link-requires : tie.Need-set-link-requires
+set-link-requires c κs = search needs
+
+same-length-2 : tie.Need-same-length-2
+same-length-2 c = search needs
 
 returns-3 : tie.Need-returns-3
 returns-3 c =
-    let s = c .before .before .before .before .before .before .before in
-    rw (c .with-link .ensures) (open-done (s .args .h) (s .args .name .now) (s .args .w .now) (s .args .k .now) (s .args .conn) (s .pre) (omega arith) (omega (arith, c .before .before .link-at .ensures)))
+    let s = c .before .before .before .before .before .before .before .before .before .before .before in
+    let link = c .before .before .before .before .before .before .link in
+    let enum-told = c .before .before .before .before .enum-told in
+    let set-link = c .before .before .set-link in
+    open-done (s .args .conn) (s .pre) (link .result) (omega arith) (link .ensures) (ap isOpen (enum-told .given .1)) (set-link .ensures)
 
 pub open-spec : {M : Type 1} → statement M
 open-spec =
     tie.close
     (tie.spec
-    refuse-requires
     returns
-    link-at-requires
-    refuse-requires-2
+    link-requires
+    enum-told
+    same-length
     returns-2
-    with-link-requires
+    set-link-requires
+    same-length-2
     returns-3)

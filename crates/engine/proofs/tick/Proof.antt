@@ -1,53 +1,37 @@
--- `tick`: each return is one law of proofs/Calls; what instants asks holds of every splicer that the calls have given.
+-- Each return is one law of proofs/Calls: a tick is the clock brought to its time. That the time is below the horizon comes from the types.
 use mathlib.Core.Path.{ap, _∙_}
 use native.Mathlib.Omega.{arith}
-use lib.ListN.{length}
 use Rattle.rules.specs.Units.{fromMicros}
-use Rattle.engine.proofs.Calls.{holding, room-run, tick-small, tick-micros, tick-back, tick-done}
+use Rattle.engine.proofs.Calls.{tick-small, tick-micros, tick-moves}
 use borrow.Author.Needs.{needs}
 use Rattle.engine.proofs.tick.Statement.{statement}
 use Rattle.engine.proofs.tick.Tie as tie
+
+returns : tie.Need-returns
+returns c =
+    let s = c .before .before .before .before in
+    tick-small (s .args .seconds) (s .args .micros) (s .pre) (omega arith)
+
+returns-2 : tie.Need-returns-2
+returns-2 c =
+    let s = c .before .before .before .before .before in
+    tick-micros (s .args .seconds) (s .args .micros) (s .pre) (omega arith) (omega arith)
 
 time-of-requires : tie.Need-time-of-requires
 time-of-requires c κs = search needs
 
 from-micros-requires : tie.Need-from-micros-requires
-from-micros-requires c κs = omega (arith, ap (λ y. y .0) (c .time-of .ensures), c .before .before .before .before .before .fits .seconds, c .before .before .before .before .before .fits .micros)
+from-micros-requires c κs =
+    let s = c .before .before .before .before .before .before in
+    let time-of = c .time-of in
+    omega (arith, ap (λ y. y .0) (time-of .ensures), s .fits .seconds, s .fits .micros)
 
-refuse-requires : tie.Need-refuse-requires
-refuse-requires c κs = search needs
-
-returns : tie.Need-returns
-returns c =
-    let s = c .before .before .before .before .before .before .before .before in
-    tick-small (s .args .h) (s .args .name .now) (s .args .w .now) (s .args .k .now) (s .args .seconds) (s .args .micros) (s .args .out .now) (s .pre) _ (c .refuse .ensures) (omega arith)
-
-refuse-requires-2 : tie.Need-refuse-requires-2
-refuse-requires-2 c κs = search needs
-
-returns-2 : tie.Need-returns-2
-returns-2 c =
-    let s = c .before .before .before .before .before .before .before .before .before in
-    tick-micros (s .args .h) (s .args .name .now) (s .args .w .now) (s .args .k .now) (s .args .seconds) (s .args .micros) (s .args .out .now) (s .pre) _ (c .refuse2 .ensures) (omega arith) (omega arith)
-
-refuse-requires-3 : tie.Need-refuse-requires-3
-refuse-requires-3 c κs = search needs
-
-returns-3 : tie.Need-returns-3
-returns-3 c =
+bring-to-requires : tie.Need-bring-to-requires
+bring-to-requires c κs =
     let s = c .before .before .before .before .before .before .before .before .before .before in
-    tick-back (s .args .h) (s .args .name .now) (s .args .w .now) (s .args .k .now) (s .args .seconds) (s .args .micros) (s .args .out .now) (s .pre) (c .before .before .before .before .from-micros .result) (c .before .before .before .before .from-micros .ensures ∙ ap fromMicros (c .before .before .before .before .before .time-of .ensures)) _ (c .refuse3 .ensures) (omega arith) (omega arith) (omega arith)
-
-run-requires : tie.Need-run-requires
-run-requires c κs =
-    let s = c .before .before .before .before .before .before .before .before .before .before .before .before in
-    let f = s .pre .form in
-    let h = holding (s .args .h) (s .args .name .now) (s .args .w .now) (s .args .k .now) (s .pre) in
-    let e = ap (λ y. y .0) (c .before .before .before .before .before .before .from-micros .ensures ∙ ap fromMicros (c .before .before .before .before .before .before .before .time-of .ensures)) in
-    (f .waiting, (f .started, ((f .places, f .stack), (h, ((omega arith, omega (arith, e, s .fits .seconds, s .fits .micros)), room-run (length (s .args .out .now)) h (omega arith))))))
-
-turned-requires : tie.Need-turned-requires
-turned-requires c κs = search needs
+    let time-of = c .before .before .before .before .time-of in
+    let from-micros = c .before .before .before .from-micros in
+    (s .pre, omega (arith, ap (λ y. y .0) (from-micros .ensures ∙ ap fromMicros (time-of .ensures)), s .fits .seconds))
 
 same-length : tie.Need-same-length
 same-length c = search needs
@@ -58,27 +42,26 @@ same-length-2 c = search needs
 same-length-3 : tie.Need-same-length-3
 same-length-3 c = search needs
 
-returns-4 : tie.Need-returns-4
-returns-4 c =
-    let s = c .before .before .before .before .before .before .before .before .before .before .before .before .before .before .before .before .before .before .before .before in
-    let t = c .before .before .before .before .before .before .before .run in
-    tick-done (s .args .h) (s .args .name .now) (s .args .w .now) (s .args .k .now) (s .args .seconds) (s .args .micros) (s .args .out .now) (s .pre) (c .before .before .before .before .before .before .before .before .before .before .before .before .before .before .from-micros .result) (c .before .before .before .before .before .before .before .before .before .before .before .before .before .before .from-micros .ensures ∙ ap fromMicros (c .before .before .before .before .before .before .before .before .before .before .before .before .before .before .before .time-of .ensures)) _ _ _ (t .result) _ (c .turned .ensures) (omega (arith, s .fits .seconds)) (c .before .before .before .before .before .before .before .before .before .before .before .before .before .if1 .left) (c .before .before .before .before .before .before .before .before .before .before .before .before .if2 .left) (c .before .before .before .before .before .before .before .before .before .before .before .if3 .left) (search needs) (search needs) (t .ensures)
+returns-3 : tie.Need-returns-3
+returns-3 c =
+    let s = c .before .before .before .before .before .before .before .before .before .before .before .before .before .before .before .before .before in
+    let if1 = c .before .before .before .before .before .before .before .before .before .before .before .before .before .if1 in
+    let if2 = c .before .before .before .before .before .before .before .before .before .before .before .before .if2 in
+    let time-of = c .before .before .before .before .before .before .before .before .before .before .before .time-of in
+    let from-micros = c .before .before .before .before .before .before .before .before .before .before .from-micros in
+    let bring-to = c .before .before .before .before .before .before .bring-to in
+    tick-moves (s .args .seconds) (s .args .micros) (s .pre) (from-micros .result) (from-micros .ensures ∙ ap fromMicros (time-of .ensures)) (if1 .left) (if2 .left) (bring-to .ensures)
 
 pub tick-spec : {M : Type 1} → statement M
 tick-spec =
     tie.close
     (tie.spec
+    returns
+    returns-2
     time-of-requires
     from-micros-requires
-    refuse-requires
-    returns
-    refuse-requires-2
-    returns-2
-    refuse-requires-3
-    returns-3
-    run-requires
-    turned-requires
+    bring-to-requires
     same-length
     same-length-2
     same-length-3
-    returns-4)
+    returns-3)

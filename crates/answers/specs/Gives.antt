@@ -1,0 +1,27 @@
+-- What an answer to a message gives.
+use mathlib.Core.Path.{_≡_}
+use mathlib.Core.Bool.{Bool, not, _&&_}
+use mathlib.Core.List.{List, [], _∷_}
+use Prim.Native.Nat.{ℕ}
+use lib.Dec.{eqb}
+use Rattle.rules.specs.declared.Link.{Link}
+use Rattle.rules.specs.Reading.{initRequest}
+use Rattle.rules.specs.State.{isInitialised}
+use Rattle.rules.specs.Records.{Record}
+use Rattle.rules.specs.Answers.{Answered}
+use Rattle.memory.specs.Memory.{Whole, shown}
+use Rattle.ends.specs.Does.{Tells}
+
+-- one record stands at the start of the buffer that held e
+abbrev pub Says : Record → (e : List ℕ) → ℕ → (o : List ℕ) → Type 0
+Says x e len o = Tells e 0 (x ∷ []) len o
+
+-- the memory shows the splicer after the answer, and the records stand at the start of the buffer that held e
+pub record Gives (a : Answered) (e : List ℕ) (len : ℕ) (m b o : List ℕ) : Type 0 where
+  pub whole : Whole m b
+  pub splicer : shown m b ≡ a .splicer
+  pub tells : Tells e 0 (a .written) len o
+
+-- "2. Not initialised and not Init_Request"
+abbrev pub barred : Link → ℕ → Bool
+barred l id = not (isInitialised l) && not (eqb id initRequest)
