@@ -1,2 +1,4 @@
 pub mod Runs
 pub mod Input
+pub mod Round
+pub mod Whole

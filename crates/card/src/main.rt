@@ -1,48 +1,39 @@
 // The card program of document 01: it reads calls from standard input and writes what they give to standard output.
-use answers::Head;
 use feed::Played;
+use memory::BYTES;
+use memory::WORDS;
 ghost use mathlib.Core.Path.{_≡_};
-ghost use Prim.Native.Nat.{_+_, _-_, _≤_};
-ghost use lib.ListN.{length, take, drop};
-ghost use Rattle.rules.specs.Bytes.{padded};
-ghost use Rattle.rules.specs.Card.{cardName};
-ghost use Rattle.answers.specs.View.{view};
+ghost use Prim.Native.Nat.{_+_, _≤_};
+ghost use lib.ListN.{length, take};
+ghost use Rattle.rules.specs.Bytes.{largestSize, padded};
+ghost use Rattle.rules.specs.Card.{messageEnd, cardName, cardRoom};
+ghost use Rattle.memory.specs.Memory.{shown};
 ghost use Rattle.engine.specs.Lent.{Lent};
-ghost use Rattle.card.specs.Ran.{Runs, Turned};
+ghost use Rattle.card.specs.Ran.{Ran, moved, again, Turned};
 
-// The head after a turn, the bytes that are still to be played, and whether the program goes on.
+// After a turn: the bytes that are still to be played, and whether the program goes on.
 struct Left {
-    head: Head,
     have: usize,
     more: bool,
 }
 
 // Plays the whole records of l, one behind the other, for as long as out has room for one more call.
-fn run(h: Head, name: &[u8], w: &mut [u64], k: &mut [u64], l: &[u8], out: &mut [u8]) -> Played
-    requires { ⌜ Lent h (now name) (now w) (now k) ⌝ }
-    ensures { λ r. ⌜ Runs (view h (now (name .entry)) (now (w .entry)) (now (k .entry))) (now (l .entry)) r (now (name .entry)) (now (w .exit)) (now (k .exit)) (now (out .exit)) ⌝ }
+fn run(m: &mut [u64], b: &mut [u8], l: &[u8], out: &mut [u8]) -> Played
+    requires { ⌜ Lent (now m) (now b) ⌝ }
+    requires { ⌜ cardRoom ≤ length (now out) ⌝ }
+    ensures { λ r.
+        ⌜ Ran (shown (now (m .entry)) (now (b .entry))) (now (l .entry)) r (now (m .exit)) (now (b .exit)) (now (out .exit)) ⌝ }
 {
-    let mut head = h;
     let mut used = 0;
     let mut len = 0;
     while 4096 <= out.len() - len {
         let r = feed::take(&l[used..]);
         let to = len + 4096;
-        let p = feed::play(
-            r,
-            head,
-            name,
-            &mut *w,
-            &mut *k,
-            &l[used..],
-            &mut out[len..to],
-        );
-        head = p.head;
+        let p = feed::play(r, &mut *m, &mut *b, &l[used..], &mut out[len..to]);
         used += p.used;
         len += p.len;
         if p.used == 0 || !p.more {
             return Played {
-                head: head,
                 used: used,
                 len: len,
                 more: p.more,
@@ -50,7 +41,6 @@ fn run(h: Head, name: &[u8], w: &mut [u64], k: &mut [u64], l: &[u8], out: &mut [
         }
     }
     Played {
-        head: head,
         used: used,
         len: len,
         more: true,
@@ -70,7 +60,7 @@ fn refill(input: &mut [u8], have: usize) -> usize
 // The bytes from used to end go to the front.
 fn keep(input: &mut [u8], used: usize, end: usize)
     requires { ⌜ (used ≤ end) × (end ≤ length (now input)) ⌝ }
-    ensures { λ _. ⌜ take (end - used) (now (input .exit)) ≡ take (end - used) (drop used (now (input .entry))) ⌝ }
+    ensures { λ _. ⌜ now (input .exit) ≡ moved used end (now (input .entry)) ⌝ }
 {
     let mut i = 0;
     while i < end - used {
@@ -80,52 +70,46 @@ fn keep(input: &mut [u8], used: usize, end: usize)
 }
 
 // At the end of the input nothing is read, and then nothing is played.
-fn goes_on(is_written: bool, more: bool, read: usize, used: usize) -> bool {
+fn goes_on(is_written: bool, more: bool, read: usize, used: usize) -> bool
+    ensures { λ r. ⌜ r ≡ again «is_written» more read used ⌝ }
+{
     is_written && more && (0 < read || 0 < used)
 }
 
 // Reads once, plays what is there, writes what that gives, and keeps the bytes of a cut record.
-fn turn(
-    h: Head,
-    name: &[u8],
-    w: &mut [u64],
-    k: &mut [u64],
-    input: &mut [u8],
-    have: usize,
-    out: &mut [u8],
-) -> Left
-    requires { ⌜ Lent h (now name) (now w) (now k) ⌝ }
-    requires { ⌜ have ≤ length (now input) ⌝ }
-    ensures { λ r. ⌜ Turned r (now (name .entry)) (now (w .exit)) (now (k .exit)) (now (input .exit)) ⌝ }
+fn turn(m: &mut [u64], b: &mut [u8], input: &mut [u8], have: usize, out: &mut [u8]) -> Left
+    requires { ⌜ Lent (now m) (now b) ⌝ }
+    requires { ⌜ (have ≤ length (now input)) × (messageEnd largestSize ≤ length (now input)) ⌝ }
+    requires { ⌜ cardRoom ≤ length (now out) ⌝ }
+    ensures { λ r.
+        ⌜ Turned (shown (now (m .entry)) (now (b .entry))) (take have (now (input .entry))) r
+        (now (m .exit)) (now (b .exit)) (now (input .exit)) (now (out .exit)) ⌝ }
 {
     let n = refill(&mut *input, have);
     let end = have + n;
-    let p = run(h, name, &mut *w, &mut *k, &input[..end], &mut *out);
-    let head = p.head;
+    let p = run(&mut *m, &mut *b, &input[..end], &mut *out);
     let len = p.len;
     let used = p.used;
     let is_written = io::write_all(libc::STDOUT_FILENO, &out[..len]);
     keep(&mut *input, used, end);
     Left {
-        head: head,
         have: end - used,
         more: goes_on(is_written, p.more, n, used),
     }
 }
 
 // A proved loop has to end, and nothing says that the input does. So it counts its turns down, from a number that no run uses up.
-fn turns(h: Head, name: &[u8], w: &mut [u64], k: &mut [u64], input: &mut [u8], out: &mut [u8])
-    requires { ⌜ Lent h (now name) (now w) (now k) ⌝ }
+fn turns(m: &mut [u64], b: &mut [u8], input: &mut [u8], out: &mut [u8])
+    requires { ⌜ Lent (now m) (now b) ⌝ }
+    requires { ⌜ (messageEnd largestSize ≤ length (now input)) × (cardRoom ≤ length (now out)) ⌝ }
 {
-    let mut head = h;
     let mut have = 0;
     let mut left = u64::MAX;
     while 0 < left {
-        let t = turn(head, name, &mut *w, &mut *k, &mut *input, have, &mut *out);
+        let t = turn(&mut *m, &mut *b, &mut *input, have, &mut *out);
         if !t.more {
             return;
         }
-        head = t.head;
         have = t.have;
         left -= 1;
     }
@@ -143,12 +127,10 @@ fn channel() -> [u8; 32]
 }
 
 fn main() {
-    let mut name = [0; 32];
-    let mut w = [0; 512];
-    let mut k = [0; 80];
-    let s = engine::fresh(channel(), &mut name, &mut w, &mut k);
+    let mut m = [0; WORDS];
+    let mut b = [0; BYTES];
+    engine::fresh(&channel(), &mut m, &mut b);
     let mut input = io::large_buffer();
     let mut out = io::large_buffer();
-    let head = s.head;
-    turns(head, &name, &mut w, &mut k, &mut input, &mut out);
+    turns(&mut m, &mut b, &mut input, &mut out);
 }

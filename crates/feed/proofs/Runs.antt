@@ -3,53 +3,90 @@
 use mathlib.Core.Path.{_≡_, refl, sym, subst, ap, ap₂, _∙_}
 use mathlib.Core.Bool.{Bool, true, false, cond}
 use mathlib.Core.List.{List, [], _∷_, _++_}
-use Prim.Native.Nat.{ℕ, zero, suc, _+_, _-_, _≤_}
+use Prim.Native.Nat.{ℕ, zero, suc, _+_, _≤_, _<_}
 use native.Mathlib.Omega.{arith}
 use lib.Dec.{eqb, ltb}
-use lib.ListN.{length, getD, take, drop, length-append, length-drop, List·getD-append}
+use lib.ListN.{length, take, drop, length-append, length-drop}
 use lib.Seq.{take-append-le, drop-append-le}
-use borrow.Author.Tests.{ltb-false, le-ltb}
-use Rattle.rules.specs.Bytes.{value, part, field, padded}
+use borrow.Author.Tests.{ltb-true, ltb-false, le-ltb}
+use Rattle.rules.specs.Bytes.{value, part, field, largestSize, oversize, padded}
 use Rattle.rules.specs.State.{Splicer}
 use Rattle.rules.specs.Calls.{Call, opens, closes, messages, ticks, call, fresh}
-use Rattle.rules.specs.Card.{Next, calls, ends, stops, cardRoom, cardName, next, shown, cardStep, cardRun, card}
+use Rattle.rules.specs.Card.{openMark, closeMark, messageMark, tickMark, markIn, messageFrom}
+use Rattle.rules.specs.Card.{markEnd, tickEnd, headerEnd, messageEnd}
+use Rattle.rules.specs.Card.{Next, calls, ends, stops, cardRoom, cardLoans, cardName, next, told, cardStep, cardRun, card}
 use Rattle.rules.proofs.Tests.{by, clash}
 use Rattle.feed.specs.declared.Record.{Record}
 use Rattle.feed.specs.declared.Record.the-variants.{Open, Close, Message, Oversize, Tick, Cut, Unknown}
-use Rattle.feed.specs.Feed.{sizeIn, messageIn, tickIn, recordIn, nextOf, usedBy, isCut, behind, rest}
-use Rattle.feed.proofs.Laws.{next-record}
+use Rattle.feed.specs.Feed.{whole, sizeIn, messageIn, tickIn, recordIn, nextOf, usedBy, isCut, behind, rest}
+use Rattle.feed.proofs.Laws.{size-at, next-record}
 
 -- ## A record lies within the bytes that it was found in
 
-within-message : (l : List ℕ) → usedBy (messageIn l) ≤ length l
-unfolding usedBy
-within-message l =
-    by P (ltb (length l) 10) Cut _ (λ e. omega arith)
-    (λ e. by P (ltb 4088 (sizeIn l)) (Oversize (getD l 1 0)) _ (λ f. omega (arith, ltb-false (length l) 10 e))
-    (λ f. by P (ltb (length l) (10 + sizeIn l)) Cut (Message (getD l 1 0) (sizeIn l)) (λ g. omega arith) (λ g. omega (arith, ltb-false (length l) (10 + sizeIn l) g))))
-  where
-    P : Record → Type 0
-    P r = usedBy r ≤ length l
+module _ (l : List ℕ) where
+  abbrev Fits : Record → Type 0
+  Fits r = usedBy r ≤ length l
 
-within-tick : (l : List ℕ) → usedBy (tickIn l) ≤ length l
-unfolding usedBy
-within-tick l = go (ltb (length l) 10) refl
-  where
-    go : (b : Bool) → ltb (length l) 10 ≡ b → usedBy (cond b Cut (Tick (field 2 4 l) (field 6 4 l))) ≤ length l
-    go true e = omega arith
-    go false e = omega (arith, ltb-false (length l) 10 e)
+  fits-whole : (n : ℕ) (r : Record) → (n ≤ length l → Fits r) → Fits (whole n l r)
+  unfolding usedBy
+  fits-whole n r f = by Fits (ltb (length l) n) Cut r (λ e. omega arith) (λ e. f (ltb-false (length l) n e))
 
-pub within : (l : List ℕ) → usedBy (recordIn l) ≤ length l
-unfolding recordIn usedBy
-within l =
-    by P (ltb (length l) 2) Cut _ (λ e. omega arith)
-    (λ e. by P (eqb (getD l 0 0) 0x4F) (Open (getD l 1 0)) _ (λ f. omega (arith, ltb-false (length l) 2 e))
-    (λ f. by P (eqb (getD l 0 0) 0x43) (Close (getD l 1 0)) _ (λ g. omega (arith, ltb-false (length l) 2 e))
-    (λ g. by P (eqb (getD l 0 0) 0x4D) (messageIn l) _ (λ h. within-message l)
-    (λ h. by P (eqb (getD l 0 0) 0x54) (tickIn l) Unknown (λ i. within-tick l) (λ i. omega arith)))))
-  where
-    P : Record → Type 0
-    P r = usedBy r ≤ length l
+  fits-choice : (b : Bool) (r s : Record) → Fits r → Fits s → Fits (cond b r s)
+  fits-choice b r s f g = by Fits b r s (λ e. f) (λ e. g)
+
+  fits-message : Fits (messageIn l)
+  unfolding usedBy
+  fits-message =
+      fits-whole headerEnd _ (λ h. fits-choice (oversize (messageFrom l)) _ _ h (fits-whole (messageEnd (sizeIn l)) _ (λ g. g)))
+
+  fits-tick : Fits (tickIn l)
+  unfolding usedBy
+  fits-tick = fits-whole tickEnd _ (λ h. h)
+
+  pub within : usedBy (recordIn l) ≤ length l
+  unfolding recordIn usedBy
+  within =
+      fits-whole markEnd _
+      (λ h. fits-choice (eqb (markIn l) openMark) _ _ h
+      (fits-choice (eqb (markIn l) closeMark) _ _ h
+      (fits-choice (eqb (markIn l) messageMark) _ _ fits-message
+      (fits-choice (eqb (markIn l) tickMark) _ _ fits-tick (omega arith)))))
+
+-- ## A cut record is shorter than the longest one
+
+module _ (l : List ℕ) where
+  abbrev Short : Record → Type 0
+  Short r = isCut r ≡ true → length l < messageEnd largestSize
+
+  -- it is not cut
+  other : false ≡ true → length l < messageEnd largestSize
+  other z = absurd (clash false z refl)
+
+  short-whole : (n : ℕ) (r : Record) → n ≤ messageEnd largestSize → Short r → Short (whole n l r)
+  short-whole n r h f = by Short (ltb (length l) n) Cut r (λ e z. omega (arith, ltb-true (length l) n e)) (λ e. f)
+
+  short-choice : (b : Bool) (r s : Record) → Short r → (b ≡ false → Short s) → Short (cond b r s)
+  short-choice b r s f g = by Short b r s (λ e. f) g
+
+  short-message : Short (messageIn l)
+  unfolding isCut
+  short-message =
+      short-whole headerEnd _ (omega arith)
+      (short-choice (oversize (messageFrom l)) _ _ other
+      (λ e. short-whole (messageEnd (sizeIn l)) _ (omega (arith, ltb-false largestSize (sizeIn l) e)) other))
+
+  short-record : Short (recordIn l)
+  unfolding recordIn isCut
+  short-record =
+      short-whole markEnd _ (omega arith)
+      (short-choice (eqb (markIn l) openMark) _ _ other
+      (λ d. short-choice (eqb (markIn l) closeMark) _ _ other
+      (λ e. short-choice (eqb (markIn l) messageMark) _ _ short-message
+      (λ f. short-choice (eqb (markIn l) tickMark) _ _ (short-whole tickEnd _ (omega arith) other) (λ g. other)))))
+
+  pub cut-short : recordIn l ≡ Cut → length l < messageEnd largestSize
+  unfolding isCut
+  cut-short e = short-record (ap isCut e)
 
 -- ## What is behind a record does not change it
 
@@ -61,84 +98,67 @@ module _ (l m : List ℕ) where
   field-behind : (a n : ℕ) → a + n ≤ length l → field a n (l ++ m) ≡ field a n l
   field-behind a n h = ap value (part-behind a n h)
 
-  longer : (n : ℕ) → ltb (length l) n ≡ false → ltb (length (l ++ m)) n ≡ false
-  longer n e = le-ltb (length (l ++ m)) n (simp length-append (omega (arith, ltb-false (length l) n e)))
+  size-behind : headerEnd ≤ length l → sizeIn (l ++ m) ≡ sizeIn l
+  size-behind h = sym (size-at (l ++ m)) ∙ field-behind 4 2 (omega arith) ∙ size-at l
 
-  message-behind : 2 ≤ length l → isCut (messageIn l) ≡ false → messageIn (l ++ m) ≡ messageIn l
+  -- y: what a whole record x becomes
+  abbrev Stays : Record → Record → Type 0
+  Stays x y = isCut x ≡ false → y ≡ x
+
+  stays-whole : (n : ℕ) (x y : Record) → (n ≤ length l → Stays x y) → Stays (whole n l x) (whole n (l ++ m) y)
   unfolding isCut
-  message-behind h = head (ltb (length l) 10) refl
+  stays-whole n x y f = go (ltb (length l) n) refl
     where
-      body : (d : Bool) → ltb (length l) (10 + sizeIn l) ≡ d → isCut (cond d Cut (Message (getD l 1 0) (sizeIn l))) ≡ false
-          → cond (ltb (length (l ++ m)) (10 + sizeIn l)) Cut (Message (getD l 1 0) (sizeIn l)) ≡ cond d Cut (Message (getD l 1 0) (sizeIn l))
-      body true e z = absurd (clash true refl z)
-      body false e z = rw (longer (10 + sizeIn l) e)
-
-      size : (b : Bool) → isCut (cond b (Oversize (getD l 1 0)) (cond (ltb (length l) (10 + sizeIn l)) Cut (Message (getD l 1 0) (sizeIn l)))) ≡ false
-          → cond b (Oversize (getD l 1 0)) (cond (ltb (length (l ++ m)) (10 + sizeIn l)) Cut (Message (getD l 1 0) (sizeIn l)))
-          ≡ cond b (Oversize (getD l 1 0)) (cond (ltb (length l) (10 + sizeIn l)) Cut (Message (getD l 1 0) (sizeIn l)))
-      size true z = refl
-      size false z = body (ltb (length l) (10 + sizeIn l)) refl z
-
-      head : (a : Bool) → ltb (length l) 10 ≡ a
-          → isCut (cond a Cut (cond (ltb 4088 (sizeIn l)) (Oversize (getD l 1 0)) (cond (ltb (length l) (10 + sizeIn l)) Cut (Message (getD l 1 0) (sizeIn l))))) ≡ false
-          → messageIn (l ++ m) ≡ cond a Cut (cond (ltb 4088 (sizeIn l)) (Oversize (getD l 1 0)) (cond (ltb (length l) (10 + sizeIn l)) Cut (Message (getD l 1 0) (sizeIn l))))
-      head true e z = absurd (clash true refl z)
-      head false e z =
-          rw (longer 10 e, field-behind 4 2 (omega (arith, ltb-false (length l) 10 e)), List·getD-append l m 0 1 h)
-          (size (ltb 4088 (sizeIn l)) z)
-
-  tick-behind : isCut (tickIn l) ≡ false → tickIn (l ++ m) ≡ tickIn l
-  unfolding isCut
-  tick-behind = go (ltb (length l) 10) refl
-    where
-      go : (a : Bool) → ltb (length l) 10 ≡ a → isCut (cond a Cut (Tick (field 2 4 l) (field 6 4 l))) ≡ false
-          → tickIn (l ++ m) ≡ cond a Cut (Tick (field 2 4 l) (field 6 4 l))
+      go : (b : Bool) → ltb (length l) n ≡ b → Stays (cond b Cut x) (whole n (l ++ m) y)
       go true e z = absurd (clash true refl z)
       go false e z =
-          let h = ltb-false (length l) 10 e in
-          rw (longer 10 e, field-behind 2 4 (omega arith), field-behind 6 4 (omega arith))
+          let h = ltb-false (length l) n e in
+          rw (le-ltb (length (l ++ m)) n (simp length-append (omega arith))) (f h z)
+
+  stays-choice : (b : Bool) (x y u v : Record) → Stays x u → Stays y v → Stays (cond b x y) (cond b u v)
+  stays-choice true x y u v f g = f
+  stays-choice false x y u v f g = g
+
+  message-behind : Stays (messageIn l) (messageIn (l ++ m))
+  message-behind =
+      stays-whole headerEnd _ _
+      (λ h. rw (size-behind h, field-behind 1 1 (omega arith))
+      (stays-choice (oversize (messageFrom l)) _ _ _ _ (λ z. refl) (stays-whole (messageEnd (sizeIn l)) _ _ (λ g z. refl))))
+
+  tick-behind : Stays (tickIn l) (tickIn (l ++ m))
+  tick-behind = stays-whole tickEnd _ _ (λ h z. ap₂ Tick (field-behind 2 4 (omega arith)) (field-behind 6 4 (omega arith)))
 
   pub record-behind : isCut (recordIn l) ≡ false → recordIn (l ++ m) ≡ recordIn l
-  unfolding recordIn isCut
-  record-behind = go (ltb (length l) 2) refl
-    where
-      marked : (a b d e : Bool) → 2 ≤ length l
-          → isCut (cond a (Open (getD l 1 0)) (cond b (Close (getD l 1 0)) (cond d (messageIn l) (cond e (tickIn l) Unknown)))) ≡ false
-          → cond a (Open (getD (l ++ m) 1 0)) (cond b (Close (getD (l ++ m) 1 0)) (cond d (messageIn (l ++ m)) (cond e (tickIn (l ++ m)) Unknown)))
-          ≡ cond a (Open (getD l 1 0)) (cond b (Close (getD l 1 0)) (cond d (messageIn l) (cond e (tickIn l) Unknown)))
-      marked true b d e h z = ap Open (List·getD-append l m 0 1 h)
-      marked false true d e h z = ap Close (List·getD-append l m 0 1 h)
-      marked false false true e h z = message-behind h z
-      marked false false false true h z = tick-behind z
-      marked false false false false h z = refl
-
-      go : (t : Bool) → ltb (length l) 2 ≡ t → isCut (recordIn l) ≡ false → recordIn (l ++ m) ≡ recordIn l
-      go true e = rw e (λ z. absurd (clash true refl z))
-      go false e =
-          let h = ltb-false (length l) 2 e in
-          rw (e, longer 2 e, List·getD-append l m 0 0 (omega arith))
-          (marked (eqb (getD l 0 0) 0x4F) (eqb (getD l 0 0) 0x43) (eqb (getD l 0 0) 0x4D) (eqb (getD l 0 0) 0x54) h)
+  unfolding recordIn
+  record-behind =
+      stays-whole markEnd _ _
+      (λ h. let conn = field-behind 1 1 (omega arith) in rw (field-behind 0 1 (omega arith))
+      (stays-choice (eqb (markIn l) openMark) _ _ _ _ (λ z. ap Open conn)
+      (stays-choice (eqb (markIn l) closeMark) _ _ _ _ (λ z. ap Close conn)
+      (stays-choice (eqb (markIn l) messageMark) _ _ _ _ message-behind
+      (stays-choice (eqb (markIn l) tickMark) _ _ _ _ tick-behind (λ z. refl))))))
 
   call-behind : (r : Record) → usedBy r ≤ length l → nextOf r (l ++ m) ≡ behind m (nextOf r l)
   unfolding usedBy nextOf behind
-  call-behind (Open c) h = ap (calls (opens c)) (drop-append-le 2 l m h)
-  call-behind (Close c) h = ap (calls (closes c cardRoom)) (drop-append-le 2 l m h)
+  call-behind (Open c) h = ap (calls (opens c)) (drop-append-le markEnd l m h)
+  call-behind (Close c) h = ap (calls (closes c cardRoom)) (drop-append-le markEnd l m h)
   call-behind (Message c size) h =
-      ap₂ (λ p d. calls (messages c p cardRoom) d) (part-behind 2 (8 + size) (omega arith)) (drop-append-le (10 + size) l m h)
-  call-behind (Oversize c) h = ap (λ p. ends (messages c p cardRoom)) (part-behind 2 8 (omega arith))
-  call-behind (Tick s u) h = ap (calls (ticks s u cardRoom)) (drop-append-le 10 l m h)
+      ap₂ (λ p d. calls (messages c p cardLoans) d) (part-behind 2 (8 + size) (omega arith)) (drop-append-le (messageEnd size) l m h)
+  call-behind (Oversize c) h = ap (λ p. ends (messages c p cardLoans)) (part-behind 2 8 (omega arith))
+  call-behind (Tick s u) h = ap (calls (ticks s u cardRoom)) (drop-append-le tickEnd l m h)
   call-behind Cut h = refl
   call-behind Unknown h = refl
 
   pub next-behind : isCut (recordIn l) ≡ false → next (l ++ m) ≡ behind m (next l)
   next-behind z =
-      next-record (l ++ m) ∙ ap (λ r. nextOf r (l ++ m)) (record-behind z) ∙ call-behind (recordIn l) (within l) ∙ ap (behind m) (sym (next-record l))
+      next-record (l ++ m) ∙ ap (λ r. nextOf r (l ++ m)) (record-behind z)
+      ∙ call-behind (recordIn l) (within l) ∙ ap (behind m) (sym (next-record l))
 
 -- ## Running
 
 -- each call takes at least two bytes
 abbrev Falls : List ℕ → Next → Type 0
-Falls l (calls k left) = length left + 2 ≤ length l
+Falls l (calls k left) = length left + markEnd ≤ length l
 Falls l (ends k) = Unit {0}
 Falls l stops = Unit {0}
 
@@ -165,13 +185,15 @@ fuel (suc n) zero s [] h i = refl
 fuel (suc n) zero s (b ∷ l) h i = absurd (omega arith)
 fuel (suc n) (suc m) s l h i = go (next l) (falls l) (λ k left f. fuel n m (call k s .splicer) left (omega arith) (omega arith))
   where
-    go : (x : Next) → Falls l x → ((k : Call) (left : List ℕ) → length left + 2 ≤ length l → cardRun n (call k s .splicer) left ≡ cardRun m (call k s .splicer) left)
+    go : (x : Next) → Falls l x
+        → ((k : Call) (left : List ℕ) → length left + markEnd ≤ length l
+        → cardRun n (call k s .splicer) left ≡ cardRun m (call k s .splicer) left)
         → cardStep (cardRun n) x s ≡ cardStep (cardRun m) x s
-    go (calls k left) f g = ap (λ y. shown (call k s .answer) ++ y) (g k left f)
+    go (calls k left) f g = ap (λ y. told (call k s .answer) ++ y) (g k left f)
     go (ends k) f g = refl
     go stops f g = refl
 
-pub run-rest : (n : ℕ) (s : Splicer) (l : List ℕ) → length l ≤ n → cardRun n s l ≡ rest s l
+run-rest : (n : ℕ) (s : Splicer) (l : List ℕ) → length l ≤ n → cardRun n s l ≡ rest s l
 unfolding rest
 run-rest n s l h = fuel n (length l) s l h (omega arith)
 
@@ -185,40 +207,13 @@ unfolding cardRun cardStep
 rest-step s l = sym (run-rest (suc (length l)) s l (omega arith)) ∙ go (next l) (falls l)
   where
     go : (x : Next) → Falls l x → cardStep (cardRun (length l)) x s ≡ cardStep rest x s
-    go (calls k left) f = ap (λ y. shown (call k s .answer) ++ y) (run-rest (length l) (call k s .splicer) left (omega arith))
+    go (calls k left) f = ap (λ y. told (call k s .answer) ++ y) (run-rest (length l) (call k s .splicer) left (omega arith))
     go (ends k) f = refl
     go stops f = refl
 
--- a call is made only of a whole record
-whole-record : (r : Record) (l : List ℕ) → (nextOf r l ≡ stops → ⊥) → isCut r ≡ false
-unfolding nextOf isCut
-whole-record (Open c) l h = refl
-whole-record (Close c) l h = refl
-whole-record (Message c size) l h = refl
-whole-record (Oversize c) l h = refl
-whole-record (Tick s u) l h = refl
-whole-record Cut l h = absurd (h refl)
-whole-record Unknown l h = refl
-
-whole : (l : List ℕ) → (next l ≡ stops → ⊥) → isCut (recordIn l) ≡ false
-whole l h = whole-record (recordIn l) l (λ e. h (next-record l ∙ e))
-
 -- l: the bytes at hand, m: those that come after them
-module _ (s : Splicer) (l m : List ℕ) where
-  pub ahead : isCut (recordIn l) ≡ false → rest s (l ++ m) ≡ cardStep rest (behind m (next l)) s
-  ahead z = rest-step s (l ++ m) ∙ ap (λ x. cardStep rest x s) (next-behind l m z)
-
-  pub rest-calls : (k : Call) (left : List ℕ) → next l ≡ calls k left → rest s (l ++ m) ≡ shown (call k s .answer) ++ rest (call k s .splicer) (left ++ m)
-  unfolding cardStep behind
-  rest-calls k left e = ahead (whole l (λ f. let z : _≡_ {A = ℕ} 0 1 = cc in omega arith)) ∙ ap (λ x. cardStep rest (behind m x) s) e
-
-  pub rest-ends : (k : Call) → next l ≡ ends k → rest s (l ++ m) ≡ shown (call k s .answer)
-  unfolding cardStep behind
-  rest-ends k e = ahead (whole l (λ f. let z : _≡_ {A = ℕ} 0 1 = cc in omega arith)) ∙ ap (λ x. cardStep rest (behind m x) s) e
-
-  pub rest-unknown : recordIn l ≡ Unknown → rest s (l ++ m) ≡ []
-  unfolding cardStep behind isCut nextOf
-  rest-unknown e = ahead (ap isCut e) ∙ ap (λ x. cardStep rest (behind m x) s) (next-record l ∙ ap (λ r. nextOf r l) e)
+pub ahead : (s : Splicer) (l m : List ℕ) → isCut (recordIn l) ≡ false → rest s (l ++ m) ≡ cardStep rest (behind m (next l)) s
+ahead s l m z = rest-step s (l ++ m) ∙ ap (λ x. cardStep rest x s) (next-behind l m z)
 
 -- the end of the input
 pub rest-cut : (s : Splicer) (l : List ℕ) → recordIn l ≡ Cut → rest s l ≡ []

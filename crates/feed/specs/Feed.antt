@@ -3,54 +3,59 @@ use mathlib.Core.Bool.{Bool, true, false, cond}
 use mathlib.Core.List.{List, _++_}
 use Prim.Native.Nat.{ℕ, _+_}
 use lib.Dec.{eqb, ltb}
-use lib.ListN.{length, drop, getD}
-use Rattle.rules.specs.Bytes.{part, field}
+use lib.ListN.{length, drop}
+use Rattle.rules.specs.Bytes.{part, messageSize, oversize}
 use Rattle.rules.specs.Calls.{opens, closes, messages, ticks}
 use Rattle.rules.specs.State.{Splicer}
-use Rattle.rules.specs.Card.{Next, calls, ends, stops, cardRoom, cardRun}
+use Rattle.rules.specs.Card.{openMark, closeMark, messageMark, tickMark, markIn, connIn, messageFrom, secondsIn, microsIn}
+use Rattle.rules.specs.Card.{markEnd, tickEnd, headerEnd, messageEnd, Next, calls, ends, stops, cardRoom, cardLoans, cardRun}
 use Rattle.feed.specs.declared.Record.{Record}
 use Rattle.feed.specs.declared.Record.the-variants.{Open, Close, Message, Oversize, Tick, Cut, Unknown}
 
--- the MessageSize behind a mark and a connection
+-- l has n bytes, or is cut
+abbrev pub whole : ℕ → List ℕ → Record → Record
+whole n l r = cond (ltb (length l) n) Cut r
+
+-- the MessageSize of a message
 abbrev pub sizeIn : List ℕ → ℕ
-sizeIn l = field 4 2 l
+sizeIn l = messageSize (messageFrom l)
 
 -- a message with its header, or only the header of one that is too long
 abbrev pub messageIn : List ℕ → Record
 messageIn l =
-    cond (ltb (length l) 10) Cut
-    (cond (ltb 4088 (sizeIn l)) (Oversize (getD l 1 0))
-    (cond (ltb (length l) (10 + sizeIn l)) Cut (Message (getD l 1 0) (sizeIn l))))
+    whole headerEnd l
+    (cond (oversize (messageFrom l)) (Oversize (connIn l))
+    (whole (messageEnd (sizeIn l)) l (Message (connIn l) (sizeIn l))))
 
 abbrev pub tickIn : List ℕ → Record
-tickIn l = cond (ltb (length l) 10) Cut (Tick (field 2 4 l) (field 6 4 l))
+tickIn l = whole tickEnd l (Tick (secondsIn l) (microsIn l))
 
 -- the record that l begins with
 unfoldable pub recordIn : List ℕ → Record
 recordIn l =
-    cond (ltb (length l) 2) Cut
-    (cond (eqb (getD l 0 0) 0x4F) (Open (getD l 1 0))
-    (cond (eqb (getD l 0 0) 0x43) (Close (getD l 1 0))
-    (cond (eqb (getD l 0 0) 0x4D) (messageIn l)
-    (cond (eqb (getD l 0 0) 0x54) (tickIn l) Unknown))))
+    whole markEnd l
+    (cond (eqb (markIn l) openMark) (Open (connIn l))
+    (cond (eqb (markIn l) closeMark) (Close (connIn l))
+    (cond (eqb (markIn l) messageMark) (messageIn l)
+    (cond (eqb (markIn l) tickMark) (tickIn l) Unknown))))
 
 -- the call that a record of l is
 unfoldable pub nextOf : Record → List ℕ → Next
-nextOf (Open c) l = calls (opens c) (drop 2 l)
-nextOf (Close c) l = calls (closes c cardRoom) (drop 2 l)
-nextOf (Message c size) l = calls (messages c (part 2 (8 + size) l) cardRoom) (drop (10 + size) l)
-nextOf (Oversize c) l = ends (messages c (part 2 8 l) cardRoom)
-nextOf (Tick s u) l = calls (ticks s u cardRoom) (drop 10 l)
+nextOf (Open c) l = calls (opens c) (drop markEnd l)
+nextOf (Close c) l = calls (closes c cardRoom) (drop markEnd l)
+nextOf (Message c size) l = calls (messages c (part 0 (8 + size) (messageFrom l)) cardLoans) (drop (messageEnd size) l)
+nextOf (Oversize c) l = ends (messages c (part 0 8 (messageFrom l)) cardLoans)
+nextOf (Tick s u) l = calls (ticks s u cardRoom) (drop tickEnd l)
 nextOf Cut l = stops
 nextOf Unknown l = stops
 
 -- the bytes that a record takes
 unfoldable pub usedBy : Record → ℕ
-usedBy (Open c) = 2
-usedBy (Close c) = 2
-usedBy (Message c size) = 10 + size
-usedBy (Oversize c) = 10
-usedBy (Tick s u) = 10
+usedBy (Open c) = markEnd
+usedBy (Close c) = markEnd
+usedBy (Message c size) = messageEnd size
+usedBy (Oversize c) = headerEnd
+usedBy (Tick s u) = tickEnd
 usedBy Cut = 0
 usedBy Unknown = 0
 

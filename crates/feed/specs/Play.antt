@@ -1,17 +1,16 @@
 -- One record played: what document 01's card program makes of it, and what the code promises.
 use mathlib.Core.Path.{_≡_}
 use mathlib.Core.Bool.{Bool, true, false, cond}
-use mathlib.Core.List.{List, [], _∷_, _++_}
+use mathlib.Core.List.{List, [], _++_}
 use Prim.Native.Nat.{ℕ}
 use lib.ListN.{length, drop}
 use Rattle.rules.specs.Bytes.{written}
 use Rattle.rules.specs.State.{Splicer}
-use Rattle.rules.specs.Calls.{houseNumber, Call, call}
-use Rattle.rules.specs.Card.{Next, calls, ends, stops, next, shown}
-use Rattle.answers.specs.View.{view}
+use Rattle.rules.specs.Calls.{Call, call, refused}
+use Rattle.rules.specs.Card.{Next, calls, ends, stops, next, told}
+use Rattle.memory.specs.Memory.{shown}
 use Rattle.engine.specs.declared.Answer.{Answer}
 use Rattle.engine.specs.declared.Answer.the-variants.{Refused, Done}
-use Rattle.engine.specs.declared.Said.{Said}
 use Rattle.engine.specs.Lent.{Lent}
 use Rattle.feed.specs.declared.Played.{Played}
 use Rattle.feed.specs.Feed.{recordIn, usedBy, isCut, rest}
@@ -26,7 +25,7 @@ pub record Step : Type 0 where
 
 -- a call of n bytes; b: whether the program goes on
 abbrev pub madeBy : ℕ → Bool → Call → Splicer → Step
-madeBy n b k s = record { splicer = call k s .splicer; shows = shown (call k s .answer); used = n; more = b }
+madeBy n b k s = record { splicer = call k s .splicer; shows = told (call k s .answer); used = n; more = b }
 
 -- b: whether the program goes on without a call
 unfoldable pub stepBy : ℕ → Bool → Next → Splicer → Step
@@ -42,10 +41,10 @@ stepOf l s = stepBy (usedBy (recordIn l)) (isCut (recordIn l)) (next l) s
 unfoldable pub goesOn : Step → List ℕ → List ℕ → List ℕ
 goesOn g l m = g .shows ++ cond (g .more) (rest (g .splicer) (drop (g .used) l ++ m)) []
 
--- the memory shows the splicer after the record, and what is written stands at the start of the buffer that held e
-pub record Plays (e : List ℕ) (g : Step) (r : Played) (name w k o : List ℕ) : Type 0 where
-  pub lent : Lent (r .head) name w k
-  pub splicer : view (r .head) name w k ≡ g .splicer
+-- the memory m and b shows the splicer after the record, and what is written stands at the start of the buffer o that held e
+pub record Plays (e : List ℕ) (g : Step) (r : Played) (m b o : List ℕ) : Type 0 where
+  pub lent : Lent m b
+  pub splicer : shown m b ≡ g .splicer
   pub used : r .used ≡ g .used
   pub count : r .len ≡ length (g .shows)
   pub more : r .more ≡ g .more
@@ -53,24 +52,23 @@ pub record Plays (e : List ℕ) (g : Step) (r : Played) (name w k o : List ℕ) 
 
 -- ## Behind a call of the engine
 
--- "a refusal is 0x45 and the number": what is still to be written
-unfoldable pub told : Answer → List ℕ
-told (Refused n) = 0x45 ∷ houseNumber n ∷ []
-told (Done consumed len) = []
+-- what is still to be written then: only a refusal's bytes, since a good call wrote its own
+unfoldable pub untold : Answer → List ℕ
+untold (Refused n) = told (refused n)
+untold (Done consumed len) = []
 
--- how much is written then in all
+-- how much is written in all
 unfoldable pub toldLength : Answer → ℕ
-toldLength (Refused n) = 2
+toldLength (Refused n) = length (told (refused n))
 toldLength (Done consumed len) = len
 
 -- of the buffer e
 pub record Tells (a : Answer) (e : List ℕ) (len : ℕ) (o : List ℕ) : Type 0 where
   pub count : len ≡ toldLength a
-  pub bytes : o ≡ written e 0 (told a)
+  pub bytes : o ≡ written e 0 (untold a)
 
 -- the call was of a record of n bytes; b: whether to go on
-pub record Ended (s : Said) (n : ℕ) (b : Bool) (e : List ℕ) (r : Played) (o : List ℕ) : Type 0 where
-  pub head : r .head ≡ s .head
+pub record Ended (a : Answer) (n : ℕ) (b : Bool) (e : List ℕ) (r : Played) (o : List ℕ) : Type 0 where
   pub used : r .used ≡ n
   pub more : r .more ≡ b
-  pub tells : Tells (s .answer) e (r .len) o
+  pub tells : Tells a e (r .len) o

@@ -1,12 +1,19 @@
 // The card program's input, record by record.
 mod playing;
 
-use answers::Head;
 pub use playing::play;
+use reading::LONGEST;
 use reading::numbers::number2;
 use reading::numbers::number4;
 ghost use mathlib.Core.Path.{_≡_};
 ghost use Rattle.feed.specs.Feed.{recordIn, messageIn, tickIn};
+
+// Where a record ends: an open or a close, a tick, and a message's header, behind which its data stands.
+const MARK_END: usize = 2;
+
+const TICK_END: usize = 10;
+
+const HEADER_END: usize = 10;
 
 // The record that some bytes begin with: a connection, the MessageSize, Seconds and MicroSeconds.
 pub enum Record {
@@ -19,9 +26,8 @@ pub enum Record {
     Unknown,
 }
 
-// A record played: the head after it, the bytes that it took, how much was written, and whether to go on.
+// A record played: the bytes that it took, how much was written, and whether to go on.
 pub struct Played {
-    pub head: Head,
     pub used: usize,
     pub len: usize,
     pub more: bool,
@@ -30,14 +36,14 @@ pub struct Played {
 fn take_message(l: &[u8]) -> Record
     ensures { λ r. ⌜ r ≡ messageIn (now (l .entry)) ⌝ }
 {
-    if l.len() < 10 {
+    if l.len() < HEADER_END {
         return Record::Cut;
     }
     let size = number2(l, 4);
-    if 4088 < size {
+    if LONGEST < size {
         return Record::Oversize(l[1]);
     }
-    if l.len() < 10 + size as usize {
+    if l.len() < HEADER_END + size as usize {
         return Record::Cut;
     }
     Record::Message(l[1], size)
@@ -46,7 +52,7 @@ fn take_message(l: &[u8]) -> Record
 fn take_tick(l: &[u8]) -> Record
     ensures { λ r. ⌜ r ≡ tickIn (now (l .entry)) ⌝ }
 {
-    if l.len() < 10 {
+    if l.len() < TICK_END {
         return Record::Cut;
     }
     Record::Tick(number4(l, 2), number4(l, 6))
@@ -56,7 +62,7 @@ fn take_tick(l: &[u8]) -> Record
 pub fn take(l: &[u8]) -> Record
     ensures { λ r. ⌜ r ≡ recordIn (now (l .entry)) ⌝ }
 {
-    if l.len() < 2 {
+    if l.len() < MARK_END {
         return Record::Cut;
     }
     let mark = l[0];

@@ -1,21 +1,20 @@
 -- The bytes already at the front are those from `used` on, and what is still to be moved is as it was.
+-- Rests on moving-more of proofs/Input, one more byte.
 use Prim.Native.Nat.{_-_}
 use native.Mathlib.Omega.{arith}
-use mathlib.Core.Path.{_≡_, subst}
 use borrow.Author.Needs.{needs}
-use lib.ListN.{take, drop}
-use Rattle.card.proofs.Input.{Moved, moved-none, moved-more}
+use Rattle.card.proofs.Input.{Moving, moving-none, moving-more, moving-all}
 use Rattle.card.proofs.keep.Statement.{statement}
 use Rattle.card.proofs.keep.Tie as tie
 
 abbrev Inv-loop : tie.InvT-loop
-Inv-loop input₀ used end i₀ input i = Moved input₀ used (end - used) i input
+Inv-loop input₀ used end i₀ input i = Moving input₀ used end i input
 
 abbrev μ-loop : tie.MeasureT-loop
 μ-loop input₀ used end i₀ input i = end - used - i
 
 loop-holds : tie.Need-loop-holds Inv-loop μ-loop
-loop-holds c = moved-none _ _ _
+loop-holds c = moving-none _ _ _
 
 sub-loop : tie.Need-sub-loop Inv-loop μ-loop
 sub-loop c = search needs
@@ -36,15 +35,13 @@ loop-less : tie.Need-loop-less Inv-loop μ-loop
 loop-less c = search needs
 
 loop-again : tie.Need-loop-again Inv-loop μ-loop
-loop-again c = moved-more _ _ _ _ _ (omega arith) (omega arith) (c .before .before .loop .inv)
+loop-again c = moving-more _ _ _ (omega arith) (omega arith) _ _ (omega arith) (c .before .before .loop .inv)
 
 same-length : tie.Need-same-length Inv-loop μ-loop
 same-length c = search needs
 
 returns : tie.Need-returns Inv-loop μ-loop
-returns c =
-    let e : c .before .loop .i ≡ c .before .before .args .end - c .before .before .args .used = omega (arith, c .before .loop .inv .some) in
-    subst (λ n. take n (c .before .loop .input) ≡ take n (drop (c .before .before .args .used) (c .before .before .args .input .now))) e (c .before .loop .inv .front)
+returns c = moving-all _ _ _ (omega arith) (omega arith) _ _ (omega arith) (c .before .loop .inv)
 
 pub keep-spec : {M : Type 1} → statement M
 keep-spec =

@@ -1,4 +1,5 @@
 -- The read is lent only the part behind the bytes that are still to be played.
+-- Rests on the laws of parts in proofs/Input.
 use Prim.Native.Nat.{_-_}
 use native.Mathlib.Omega.{arith}
 use lib.ListN.{length}
@@ -37,11 +38,15 @@ same-length c = search needs
 
 returns : tie.Need-returns
 returns c =
-    let xs = c .before .before .before .before .before .before .before .before .args .input .now in
-    let a = c .before .before .before .before .before .before .before .before .args .have in
-    let ys = c .before .before .before .before .before .read .last .1 .0 in
-    let e = same-len-mid a (length xs - a) xs ys (c .before .before .before .before .before .read .kept .1 .0) in
-    (part-within a (c .count .result) (putMid a (length xs - a) xs ys) (omega arith) (c .count .ensures .0 .0), front-stays a (length xs - a) xs ys (omega arith))
+    let s = c .before .before .before .before .before .before .before .before .args in
+    let a = s .have in
+    let xs = s .input .now in
+    let read = c .before .before .before .before .before .read in
+    let ys = read .last .1 .0 in
+    let e = same-len-mid a (length xs - a) xs ys (read .kept .1 .0) in (
+      part-within a (c .count .result) (putMid a (length xs - a) xs ys) (omega arith) (c .count .ensures .0 .0),
+      front-stays a (length xs - a) xs ys (omega arith),
+    )
 
 pub refill-spec : {M : Type 1} → statement M
 refill-spec =

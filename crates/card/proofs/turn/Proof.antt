@@ -1,10 +1,27 @@
 -- Each part that is lent lies within what `refill` read or `run` wrote.
+-- Rests on `run`, which plays no more than it is lent.
 use mathlib.Core.Path.{sym}
+use Prim.Native.Nat.{_+_, _≤_}
 use native.Mathlib.Omega.{arith}
 use lib.Seq.{length-take-le}
 use borrow.Author.Needs.{needs}
+use Rattle.card.proofs.Round.{turned}
 use Rattle.card.proofs.turn.Statement.{statement}
 use Rattle.card.proofs.turn.Tie as tie
+
+-- ## From where the code stands to where it stood
+
+abbrev entry : tie.After-refill → tie.Start
+entry c = c .before .before .before .before .before .before
+
+abbrev filled : tie.After-run → tie.After-refill
+filled c = c .before .before .before .before .before .before .before
+
+-- no more is played than is there
+within : (c : tie.After-run) → c .run .result .used ≤ entry (filled c) .args .have + filled c .refill .result
+within c =
+    let refill = filled c .refill in
+    omega (arith, length-take-le _ (refill .last .0) (refill .ensures .0), c .run .ensures .runs .within)
 
 refill-requires : tie.Need-refill-requires
 refill-requires c κs = search needs
@@ -16,7 +33,9 @@ slice-reshare-prefix-run : tie.Need-slice-reshare-prefix-run
 slice-reshare-prefix-run c = search needs
 
 slice-aggregate-run : tie.Need-slice-aggregate-run
-slice-aggregate-run c = sym (length-take-le _ (c .before .before .before .before .before .refill .last .0) (c .before .before .before .before .before .refill .ensures .0))
+slice-aggregate-run c =
+    let refill = c .before .before .before .before .before .refill in
+    sym (length-take-le _ (refill .last .0) (refill .ensures .0))
 
 run-requires : tie.Need-run-requires
 run-requires c κs = search needs
@@ -25,20 +44,20 @@ slice-reshare-prefix-write-all : tie.Need-slice-reshare-prefix-write-all
 slice-reshare-prefix-write-all c = search needs
 
 slice-aggregate-write-all : tie.Need-slice-aggregate-write-all
-slice-aggregate-write-all c = sym (length-take-le (c .before .before .before .before .before .before .before .before .run .result .len) (c .before .before .before .before .before .before .before .before .run .last .1 .1 .1 .1 .1 .0) (c .before .before .before .before .before .before .before .before .run .ensures .room))
+slice-aggregate-write-all c =
+    let run = c .before .before .before .before .before .before .before .run in
+    sym (length-take-le (run .result .len) (run .last .1 .1 .1 .0) (run .ensures .runs .room))
 
 write-all-requires : tie.Need-write-all-requires
 write-all-requires c κs = search needs
 
 keep-requires : tie.Need-keep-requires
 keep-requires c κs =
-    let e = length-take-le _ (c .before .before .before .before .before .before .before .before .before .before .before .before .before .before .before .before .before .refill .last .0) (c .before .before .before .before .before .before .before .before .before .before .before .before .before .before .before .before .before .refill .ensures .0) in
-    (omega (arith, c .before .before .before .before .before .before .before .before .before .before .run .ensures .within), c .before .before .before .before .before .before .before .before .before .before .before .before .before .before .before .before .before .refill .ensures .0)
+    let run = c .before .before .before .before .before .before .before .before .before in
+    (within run, filled run .refill .ensures .0)
 
-sub-t30 : tie.Need-sub-t30
-sub-t30 c =
-    let e = length-take-le _ (c .before .before .before .before .before .before .before .before .before .before .before .before .before .before .before .before .before .before .before .before .refill .last .0) (c .before .before .before .before .before .before .before .before .before .before .before .before .before .before .before .before .before .before .before .before .refill .ensures .0) in
-    omega (arith, c .before .before .before .before .before .before .before .before .before .before .before .before .before .run .ensures .within)
+sub-t27 : tie.Need-sub-t27
+sub-t27 c = within (c .before .before .before .before .before .before .before .before .before .before .before .before)
 
 goes-on-requires : tie.Need-goes-on-requires
 goes-on-requires c κs = search needs
@@ -56,7 +75,14 @@ same-length-4 : tie.Need-same-length-4
 same-length-4 c = search needs
 
 returns : tie.Need-returns
-returns c = record { lent = c .before .before .before .before .before .before .before .before .before .before .before .before .before .before .run .ensures .lent; within = omega (arith, c .before .before .before .before .before .before .before .before .before .before .before .before .before .before .before .before .before .before .before .before .before .refill .ensures .0, c .before .before .before .keep .kept .0) }
+returns c =
+    let run = c .before .before .before .before .before .before .before .before .before .before .before .before .before in
+    let refill = filled run .refill in
+    let s = entry (filled run) in
+    let keep = c .before .before .before .keep in
+    let written = c .before .before .before .before .before .write-all .result in
+    turned _ _ (s .args .input .now) (refill .last .0) written (refill .ensures .0) (refill .ensures .1) (run .run .ensures)
+    (keep .ensures) (keep .kept .0) (c .goes-on .ensures) (omega (arith, s .pre .1 .0, refill .kept .0))
 
 pub turn-spec : {M : Type 1} → statement M
 turn-spec =
@@ -71,7 +97,7 @@ turn-spec =
     slice-aggregate-write-all
     write-all-requires
     keep-requires
-    sub-t30
+    sub-t27
     goes-on-requires
     same-length
     same-length-2

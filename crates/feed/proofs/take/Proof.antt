@@ -1,72 +1,81 @@
 -- Each answer follows from the tests that led there.
+-- Rests on record-at: the definition behind its first test, with the bytes as the code reads them.
 use native.Mathlib.Omega.{arith}
 use borrow.Author.Needs.{needs}
-use borrow.Author.Tests.{lt-ltb, le-ltb, eq-eqb, ne-eqb}
+use borrow.Author.Tests.{lt-ltb, eq-eqb, ne-eqb}
 use lib.ListN.{length, getD}
+use Rattle.rules.specs.Card.{openMark, closeMark, messageMark, tickMark, markEnd}
 use Rattle.feed.specs.Feed.{recordIn}
+use Rattle.feed.proofs.Laws.{record-at}
 use Rattle.feed.proofs.take.Statement.{statement}
 use Rattle.feed.proofs.take.Tie as tie
 
--- src/lib.rt:50:9
 returns : tie.Need-returns
 unfolding recordIn
-returns c =
-    rw (lt-ltb (length (c .before .before .args .l .now)) 2 (omega arith))
+returns c = rw (lt-ltb (length (c .before .before .args .l .now)) markEnd (omega arith))
 
--- src/lib.rt:52:16
 shared-slice-read-mark : tie.Need-shared-slice-read-mark
 shared-slice-read-mark c = search needs
 
--- src/lib.rt:54:29
 shared-slice-read-t8 : tie.Need-shared-slice-read-t8
 shared-slice-read-t8 c = search needs
 
--- src/lib.rt:54:9
 returns-2 : tie.Need-returns-2
-unfolding recordIn
 returns-2 c =
     let l = c .before .before .before .before .before .args .l .now in
-    rw (le-ltb (length l) 2 (omega arith), eq-eqb (getD l 0 0) 0x4F (omega arith))
+    rw (record-at l (omega arith), eq-eqb (getD l 0 0) openMark (omega arith))
 
--- src/lib.rt:57:30
 shared-slice-read-t10 : tie.Need-shared-slice-read-t10
 shared-slice-read-t10 c = search needs
 
--- src/lib.rt:57:9
 returns-3 : tie.Need-returns-3
-unfolding recordIn
 returns-3 c =
     let l = c .before .before .before .before .before .before .args .l .now in
-    rw (le-ltb (length l) 2 (omega arith), ne-eqb (getD l 0 0) 0x4F (λ e. omega arith), eq-eqb (getD l 0 0) 0x43 (omega arith))
+    rw (
+      record-at l (omega arith),
+      ne-eqb (getD l 0 0) openMark (λ e. omega arith),
+      eq-eqb (getD l 0 0) closeMark (omega arith),
+    )
 
--- src/lib.rt:60:9
 take-message-requires : tie.Need-take-message-requires
 take-message-requires c κs = search needs
 
--- src/lib.rt:60:9
 returns-4 : tie.Need-returns-4
-unfolding recordIn
 returns-4 c =
     let l = c .before .before .before .before .before .before .before .args .l .now in
-    rw (le-ltb (length l) 2 (omega arith), ne-eqb (getD l 0 0) 0x4F (λ e. omega arith), ne-eqb (getD l 0 0) 0x43 (λ e. omega arith), eq-eqb (getD l 0 0) 0x4D (omega arith)) (c .take-message .ensures)
+    rw (
+      record-at l (omega arith),
+      ne-eqb (getD l 0 0) openMark (λ e. omega arith),
+      ne-eqb (getD l 0 0) closeMark (λ e. omega arith),
+      eq-eqb (getD l 0 0) messageMark (omega arith),
+    )
+    (c .take-message .ensures)
 
--- src/lib.rt:63:9
 take-tick-requires : tie.Need-take-tick-requires
 take-tick-requires c κs = search needs
 
--- src/lib.rt:63:9
 returns-5 : tie.Need-returns-5
-unfolding recordIn
 returns-5 c =
     let l = c .before .before .before .before .before .before .before .before .args .l .now in
-    rw (le-ltb (length l) 2 (omega arith), ne-eqb (getD l 0 0) 0x4F (λ e. omega arith), ne-eqb (getD l 0 0) 0x43 (λ e. omega arith), ne-eqb (getD l 0 0) 0x4D (λ e. omega arith), eq-eqb (getD l 0 0) 0x54 (omega arith)) (c .take-tick .ensures)
+    rw (
+      record-at l (omega arith),
+      ne-eqb (getD l 0 0) openMark (λ e. omega arith),
+      ne-eqb (getD l 0 0) closeMark (λ e. omega arith),
+      ne-eqb (getD l 0 0) messageMark (λ e. omega arith),
+      eq-eqb (getD l 0 0) tickMark (omega arith),
+    )
+    (c .take-tick .ensures)
 
--- src/lib.rt:46:1
 returns-6 : tie.Need-returns-6
-unfolding recordIn
 returns-6 c =
     let l = c .before .before .before .before .before .before .before .args .l .now in
-    rw (le-ltb (length l) 2 (omega arith), ne-eqb (getD l 0 0) 0x4F (λ e. omega arith), ne-eqb (getD l 0 0) 0x43 (λ e. omega arith), ne-eqb (getD l 0 0) 0x4D (λ e. omega arith), ne-eqb (getD l 0 0) 0x54 (λ e. omega arith))
+    rw (
+      record-at l (omega arith),
+      ne-eqb (getD l 0 0) openMark (λ e. omega arith),
+      ne-eqb (getD l 0 0) closeMark (λ e. omega arith),
+      ne-eqb (getD l 0 0) messageMark (λ e. omega arith),
+      ne-eqb (getD l 0 0) tickMark (λ e. omega arith),
+    )
 
 pub take-spec : {M : Type 1} → statement M
 take-spec =

@@ -1,9 +1,11 @@
 -- Each arm is its call of the engine and what is written behind it; the record says how many bytes it took.
-use Prim.Native.Nat.{_+_, _-_}
+-- Rests on the laws of proofs/Plays, one for each kind of arm.
+use Prim.Native.Nat.{_-_}
 use native.Mathlib.Omega.{arith}
 use Rattle.rules.specs.Bytes.{part}
-use Rattle.rules.specs.Calls.{closes, messages, ticks, call, openCall}
-use Rattle.answers.specs.View.{view}
+use Rattle.rules.specs.Calls.{closes, messages, ticks, call, lending}
+use Rattle.rules.specs.Card.{messageEnd}
+use Rattle.memory.specs.Memory.{shown}
 use Rattle.feed.specs.Feed.{nextOf, usedBy, isCut}
 use Rattle.feed.specs.Play.{stepBy}
 use Rattle.feed.proofs.Plays.{ended-plays, open-silent, made-plays, plays-as, message-plays, used-within, stopped-plays}
@@ -55,13 +57,15 @@ part-message-start c = search needs
 
 part-message-end : tie.Need-part-message-end
 unfolding usedBy
-part-message-end c = omega (arith, used-within (c .before .before .before .before .before .before .before .before .before .before .args .l .now) (c .before .before .before .before .before .before .before .before .before .before .pre .1 .0) (c .before .before .before .r3 .given .1))
+part-message-end c =
+    let s = c .before .before .before .before .before .before .before .before .before in
+    omega (arith, used-within (s .args .l .now) (s .pre .1 .0) (c .before .before .before .r3 .given .1))
 
 message-requires : tie.Need-message-requires
 message-requires c κs = search needs
 
 ended-requires-3 : tie.Need-ended-requires-3
-ended-requires-3 c κs = omega (arith, c .before .before .before .before .before .before .before .before .before .before .before .before .before .before .before .before .before .before .before .before .pre .1 .1, c .before .before .before .before .before .before .before .message .kept .1 .1 .1 .1 .1 .1 .0)
+ended-requires-3 c κs = search needs
 
 enum-known-r-4 : tie.Need-enum-known-r-4
 enum-known-r-4 c = search needs
@@ -77,13 +81,15 @@ part-message-start-2 c = search needs
 
 part-message-end-2 : tie.Need-part-message-end-2
 unfolding usedBy
-part-message-end-2 c = omega (arith, used-within (c .before .before .before .before .before .before .before .before .before .before .args .l .now) (c .before .before .before .before .before .before .before .before .before .before .pre .1 .0) (c .before .before .before .r4 .given .1))
+part-message-end-2 c =
+    let s = c .before .before .before .before .before .before .before .before .before in
+    omega (arith, used-within (s .args .l .now) (s .pre .1 .0) (c .before .before .before .r4 .given .1))
 
 message-requires-2 : tie.Need-message-requires-2
 message-requires-2 c κs = search needs
 
 ended-requires-4 : tie.Need-ended-requires-4
-ended-requires-4 c κs = omega (arith, c .before .before .before .before .before .before .before .before .before .before .before .before .before .before .before .before .before .before .before .before .pre .1 .1, c .before .before .before .before .before .before .before .message2 .kept .1 .1 .1 .1 .1 .1 .0)
+ended-requires-4 c κs = search needs
 
 enum-known-r-5 : tie.Need-enum-known-r-5
 enum-known-r-5 c = search needs
@@ -92,7 +98,7 @@ tick-requires : tie.Need-tick-requires
 tick-requires c κs = search needs
 
 ended-requires-5 : tie.Need-ended-requires-5
-ended-requires-5 c κs = omega (arith, c .before .before .before .before .before .before .before .before .before .before .before .before .before .before .before .before .before .before .before .pre .1 .1, c .before .before .before .before .before .before .before .tick .kept .1 .1 .1 .1 .1 .1 .0)
+ended-requires-5 c κs = search needs
 
 enum-told : tie.Need-enum-told
 enum-told c = search needs
@@ -118,9 +124,12 @@ same-length-3 c = search needs
 returns : tie.Need-returns
 unfolding usedBy isCut nextOf stepBy call
 returns c =
-    let a = c .before .before .before .before .before .before .before .before .before .before .before .before .before .before .before .args in
-    let s = view (a .h) (a .name .now) (a .w .now) (a .k .now) in
-    plays-as (a .l .now) s (c .before .before .before .before .before .before .before .before .before .before .before .before .before .before .before .pre .1 .0) (c .before .before .before .before .before .before .before .before .r .given .1) (ended-plays (openCall _ s) _ _ _ _ _ _ _ _ _ _ (c .before .before .before .before .«open» .ensures) (open-silent _ s (a .out .now)) (c .before .before .ended .ensures))
+    let made = c .before .before .before .before .before .before .before .before in
+    let found = made .before .before .before .before in
+    let s = found .before .before .before .before .before .before in
+    let u = shown (s .args .m .now) (s .args .b .now) in
+    plays-as (s .args .l .now) u (s .pre .1 .0) (found .r .given .1)
+    (ended-plays (made .«open» .ensures) (open-silent _ u (s .args .out .now)) (c .before .before .ended .ensures))
 
 same-length-4 : tie.Need-same-length-4
 same-length-4 c = search needs
@@ -134,9 +143,12 @@ same-length-6 c = search needs
 returns-2 : tie.Need-returns-2
 unfolding usedBy isCut nextOf stepBy call
 returns-2 c =
-    let a = c .before .before .before .before .before .before .before .before .before .before .before .before .before .before .before .before .before .before .before .before .before .before .args in
-    let s = view (a .h) (a .name .now) (a .w .now) (a .k .now) in
-    plays-as (a .l .now) s (c .before .before .before .before .before .before .before .before .before .before .before .before .before .before .before .before .before .before .before .before .before .before .pre .1 .0) (c .before .before .before .before .before .before .before .before .before .before .before .before .before .before .before .r2 .given .1) (made-plays (λ n. closes (c .before .before .before .before .before .before .before .before .before .before .before .before .before .before .before .r2 .given .0 .0) n) s (c .before .before .before .before .before .before .before .before .before .before .before .before .before .before .before .before .before .before .before .before .before .before .pre .1 .1) (c .before .before .before .before .before .before .before .before .before .before .close .ensures .0) (c .before .before .before .before .before .before .before .before .before .before .close .ensures .1) (c .before .before .ended2 .ensures))
+    let made = c .before .before .before .before .before .before .before .before .before .before in
+    let found = made .before .before .before .before .before in
+    let s = found .before .before .before .before .before .before in
+    let u = shown (s .args .m .now) (s .args .b .now) in
+    plays-as (s .args .l .now) u (s .pre .1 .0) (found .r2 .given .1)
+    (made-plays (closes (found .r2 .given .0 .0)) u (s .pre .1 .1) (made .close .ensures) (c .before .before .ended2 .ensures))
 
 same-length-7 : tie.Need-same-length-7
 same-length-7 c = search needs
@@ -150,13 +162,16 @@ same-length-9 c = search needs
 returns-3 : tie.Need-returns-3
 unfolding call
 returns-3 c =
-    let a = c .before .before .before .before .before .before .before .before .before .before .before .before .before .before .before .before .before .before .before .before .before .before .before .args in
-    let l = a .l .now in
-    let s = view (a .h) (a .name .now) (a .w .now) (a .k .now) in
-    let x = c .before .before .before .before .before .before .before .before .before .before .before .before .before .before .before .before .r3 .given .0 in
-    plays-as l s (c .before .before .before .before .before .before .before .before .before .before .before .before .before .before .before .before .before .before .before .before .before .before .before .pre .1 .0) (c .before .before .before .before .before .before .before .before .before .before .before .before .before .before .before .before .r3 .given .1)
-    (message-plays (x .0) (x .1 .0) l s
-    (made-plays (λ n. messages (x .0) (part 2 (10 + x .1 .0 - 2) l) n) s (c .before .before .before .before .before .before .before .before .before .before .before .before .before .before .before .before .before .before .before .before .before .before .before .pre .1 .1) (c .before .before .before .before .before .before .before .before .before .before .message .ensures .0) (c .before .before .before .before .before .before .before .before .before .before .message .ensures .1) (c .before .before .ended3 .ensures)))
+    let made = c .before .before .before .before .before .before .before .before .before .before in
+    let found = made .before .before .before .before .before .before in
+    let s = found .before .before .before .before .before .before in
+    let u = shown (s .args .m .now) (s .args .b .now) in
+    let l = s .args .l .now in
+    let x = found .r3 .given .0 in
+    plays-as l u (s .pre .1 .0) (found .r3 .given .1)
+    (message-plays (x .0) (x .1 .0) l u
+    (made-plays (λ n. messages (x .0) (part 2 (messageEnd (x .1 .0) - 2) l) (lending n)) u (s .pre .1 .1)
+    (made .message .ensures) (c .before .before .ended3 .ensures)))
 
 same-length-10 : tie.Need-same-length-10
 same-length-10 c = search needs
@@ -170,11 +185,13 @@ same-length-12 c = search needs
 returns-4 : tie.Need-returns-4
 unfolding usedBy isCut nextOf stepBy call
 returns-4 c =
-    let a = c .before .before .before .before .before .before .before .before .before .before .before .before .before .before .before .before .before .before .before .before .before .before .before .args in
-    let l = a .l .now in
-    let s = view (a .h) (a .name .now) (a .w .now) (a .k .now) in
-    plays-as l s (c .before .before .before .before .before .before .before .before .before .before .before .before .before .before .before .before .before .before .before .before .before .before .before .pre .1 .0) (c .before .before .before .before .before .before .before .before .before .before .before .before .before .before .before .before .r4 .given .1)
-    (made-plays (λ n. messages (c .before .before .before .before .before .before .before .before .before .before .before .before .before .before .before .before .r4 .given .0 .0) (part 2 8 l) n) s (c .before .before .before .before .before .before .before .before .before .before .before .before .before .before .before .before .before .before .before .before .before .before .before .pre .1 .1) (c .before .before .before .before .before .before .before .before .before .before .message2 .ensures .0) (c .before .before .before .before .before .before .before .before .before .before .message2 .ensures .1) (c .before .before .ended4 .ensures))
+    let made = c .before .before .before .before .before .before .before .before .before .before in
+    let found = made .before .before .before .before .before .before in
+    let s = found .before .before .before .before .before .before in
+    let u = shown (s .args .m .now) (s .args .b .now) in
+    plays-as (s .args .l .now) u (s .pre .1 .0) (found .r4 .given .1)
+    (made-plays (λ n. messages (found .r4 .given .0 .0) (part 2 8 (s .args .l .now)) (lending n)) u (s .pre .1 .1)
+    (made .message2 .ensures) (c .before .before .ended4 .ensures))
 
 same-length-13 : tie.Need-same-length-13
 same-length-13 c = search needs
@@ -188,24 +205,31 @@ same-length-15 c = search needs
 returns-5 : tie.Need-returns-5
 unfolding usedBy isCut nextOf stepBy call
 returns-5 c =
-    let a = c .before .before .before .before .before .before .before .before .before .before .before .before .before .before .before .before .before .before .before .before .before .before .args in
-    let s = view (a .h) (a .name .now) (a .w .now) (a .k .now) in
-    let x = c .before .before .before .before .before .before .before .before .before .before .before .before .before .before .before .r5 .given .0 in
-    plays-as (a .l .now) s (c .before .before .before .before .before .before .before .before .before .before .before .before .before .before .before .before .before .before .before .before .before .before .pre .1 .0) (c .before .before .before .before .before .before .before .before .before .before .before .before .before .before .before .r5 .given .1) (made-plays (λ n. ticks (x .0) (x .1 .0) n) s (c .before .before .before .before .before .before .before .before .before .before .before .before .before .before .before .before .before .before .before .before .before .before .pre .1 .1) (c .before .before .before .before .before .before .before .before .before .before .tick .ensures .0) (c .before .before .before .before .before .before .before .before .before .before .tick .ensures .1) (c .before .before .ended5 .ensures))
+    let made = c .before .before .before .before .before .before .before .before .before .before in
+    let found = made .before .before .before .before .before in
+    let s = found .before .before .before .before .before .before in
+    let u = shown (s .args .m .now) (s .args .b .now) in
+    let x = found .r5 .given .0 in
+    plays-as (s .args .l .now) u (s .pre .1 .0) (found .r5 .given .1)
+    (made-plays (ticks (x .0) (x .1 .0)) u (s .pre .1 .1) (made .tick .ensures) (c .before .before .ended5 .ensures))
 
 returns-6 : tie.Need-returns-6
 unfolding usedBy isCut nextOf stepBy
 returns-6 c =
-    let a = c .before .before .before .before .before .before .before .before .args in
-    let s = view (a .h) (a .name .now) (a .w .now) (a .k .now) in
-    plays-as (a .l .now) s (c .before .before .before .before .before .before .before .before .pre .1 .0) (c .before .enum-told .given .1) (rw (c .stopped .ensures) (stopped-plays (a .h) _ _ _ _ (a .out .now) (c .before .before .before .before .before .before .before .before .pre .0)))
+    let s = c .before .before .before .before .before .before .before in
+    let m = s .args .m .now in
+    let b = s .args .b .now in
+    plays-as (s .args .l .now) (shown m b) (s .pre .1 .0) (c .before .enum-told .given .1)
+    (rw (c .stopped .ensures) (stopped-plays _ m b (s .args .out .now) (s .pre .0)))
 
 returns-7 : tie.Need-returns-7
 unfolding usedBy isCut nextOf stepBy
 returns-7 c =
-    let a = c .before .before .before .before .before .before .before .before .args in
-    let s = view (a .h) (a .name .now) (a .w .now) (a .k .now) in
-    plays-as (a .l .now) s (c .before .before .before .before .before .before .before .before .pre .1 .0) (c .before .enum-told2 .given .1) (rw (c .stopped2 .ensures) (stopped-plays (a .h) _ _ _ _ (a .out .now) (c .before .before .before .before .before .before .before .before .pre .0)))
+    let s = c .before .before .before .before .before .before .before in
+    let m = s .args .m .now in
+    let b = s .args .b .now in
+    plays-as (s .args .l .now) (shown m b) (s .pre .1 .0) (c .before .enum-told2 .given .1)
+    (rw (c .stopped2 .ensures) (stopped-plays _ m b (s .args .out .now) (s .pre .0)))
 
 pub play-spec : {M : Type 1} → statement M
 play-spec =

@@ -1,10 +1,11 @@
 -- A refusal is two stores; what a good call wrote stands there already.
+-- Rests on `house_number`, the table of house numbers.
 use mathlib.Core.Path.{sym}
 use native.Mathlib.Omega.{arith}
-use Rattle.rules.proofs.Written.{written-none}
-use Rattle.feed.specs.Play.{told, toldLength}
-use Rattle.feed.proofs.Plays.{tells-refused}
 use borrow.Author.Needs.{needs}
+use Rattle.rules.proofs.Written.{written-none}
+use Rattle.feed.specs.Play.{untold, toldLength}
+use Rattle.feed.proofs.Plays.{tells-refused}
 use Rattle.feed.proofs.playing.tell.Statement.{statement}
 use Rattle.feed.proofs.playing.tell.Tie as tie
 
@@ -27,11 +28,16 @@ same-length : tie.Need-same-length
 same-length c = search needs
 
 returns : tie.Need-returns
-returns c = tells-refused (c .before .before .before .before .before .args .out .now) (c .house-number .result) (c .before .before .a .given .1) (c .house-number .ensures) (omega arith)
+returns c =
+    let s = c .before .before .before .before .before in
+    tells-refused (s .args .out .now) (c .house-number .result) (c .before .before .a .given .1) (c .house-number .ensures) (omega arith)
 
 returns-2 : tie.Need-returns-2
-unfolding told toldLength
-returns-2 c = record { count = rw (c .before .a2 .given .1); bytes = rw (c .before .a2 .given .1) (sym (written-none (c .before .before .before .before .args .out .now) 0)) }
+unfolding untold toldLength
+returns-2 c =
+    let e = c .before .before .before .before .args .out .now in
+    let a = c .before .a2 .given .1 in
+    record { count = rw a; bytes = rw a (sym (written-none e 0)) }
 
 pub tell-spec : {M : Type 1} → statement M
 tell-spec =
