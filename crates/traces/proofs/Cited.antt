@@ -39,10 +39,13 @@ module _ {M : Type 1} (𝓤 : URA M) (H : Heap 𝓤) (A : Atoms 𝓤) (mem : sto
   abbrev 𝓛 : Connectives 𝓤
   𝓛 = connectives 𝓤
 
-  open Connectives 𝓛 using (⌜_⌝, _∗_)
+  open Connectives 𝓛 using (⌜_⌝, _∗_, ⊤ₛ)
 
   -- fresh(name, m, b)
   module _ (κs : Lfts 3) (a : Args fresh.signature κs) (r : Res fresh.signature κs) (z : AtExit fresh.ended κs) where
+    pub fresh-requires : fresh.clauses 𝓤 H A mem run κs a .requires tt ≡ ⊤ₛ
+    fresh-requires = refl
+
     pub fresh-ensures : fresh.clauses 𝓤 H A mem run κs a .ensures tt r z
         ≡ ⌜ Answers (rules.fresh (now (a .0))) [] r (now (z .1 .0)) (now (z .1 .1 .0)) [] ⌝
     fresh-ensures = refl
