@@ -1,5 +1,5 @@
 -- What each part of an answer says of its own paths, and what the parts' promises make of the whole.
--- Rests on ends' laws of what is told, on what memory shows, and on rules' laws of names and of records' lengths.
+-- Rests on ends' laws of what is told, on what memory shows, which determines every word, and on rules' laws of names and of records' lengths.
 use mathlib.Core.Path.{_≡_, refl, sym, ap, ap₂, subst, _∙_}
 use mathlib.Core.Bool.{Bool, true, false, cond, not}
 use mathlib.Core.List.{List, [], _∷_}
@@ -25,6 +25,7 @@ use Rattle.rules.specs.Answers.{Answered, says, turns, initResult, answerInit, 
 use Rattle.rules.proofs.Bytes.{nameIn-twice}
 use Rattle.rules.proofs.Records.{sizeOf, Roomy, length-record}
 use Rattle.memory.specs.Memory.{Memory, see, Now, linked, nameSize, nameBytes, nameOf, Stored, Whole, shown}
+use Rattle.memory.proofs.Laws.{memory-same}
 use Rattle.memory.proofs.Names.{name-short}
 use Rattle.ends.specs.Does.{Turns}
 use Rattle.ends.proofs.Laws.{tells-none, tells-one}
@@ -179,3 +180,14 @@ module _ {m b : List ℕ} (w : Whole m b) (c id : ℕ) (d : List ℕ) {e : List 
         fifth k g =
             by-answer (answerRead c (read id d) d (shown m b))
             (rw (ne-eqb id 0x0000 h, bars (shown m b) c id p q i, ne-eqb id 0x000D j, ← r, k)) g
+
+-- ## "any two results it allows are proved equal"
+
+-- the lent words and the buffer included
+pub answer-same : (a : Answered) (e : List ℕ) (r s : ℕ) (m n b o p : List ℕ) → Gives a e r m b o → Gives a e s n b p →
+    (r ≡ s) × (m ≡ n) × (o ≡ p)
+answer-same a e r s m n b o p x y = (
+  x .tells .count ∙ sym (y .tells .count),
+  memory-same m b n b (x .whole) (y .whole) (x .splicer ∙ sym (y .splicer)) .0,
+  x .tells .bytes ∙ sym (y .tells .bytes),
+)

@@ -1,4 +1,5 @@
 // Answering a message, first that applies: 01's five steps, Init and Alive, and what requests answer.
+use memory::WORDS;
 use memory::Which;
 use rules::Link;
 use rules::Message;
@@ -27,7 +28,14 @@ fn init_result(revision: u16, asked: &[u8], name: &[u8]) -> u16
 }
 
 // Init: "else 100 and initialised. A failed later Init leaves the connection initialised."
-fn answer_init(m: &mut [u64], b: &[u8], conn: u32, revision: u16, d: &[u8], out: &mut [u8]) -> usize
+fn answer_init(
+    m: &mut [u64; WORDS],
+    b: &[u8],
+    conn: u32,
+    revision: u16,
+    d: &[u8],
+    out: &mut [u8],
+) -> usize
     requires { ⌜ Whole (now m) (now b) ⌝ }
     requires { ⌜ conn ≤ 3 ⌝ }
     requires { ⌜ 34 ≤ length (now d) ⌝ }
@@ -69,7 +77,14 @@ fn general(conn: u32, result: u16, out: &mut [u8]) -> usize
 }
 
 // A message of the list of four; "5. Not readable: General_Response 123."
-fn answer_read(m: &mut [u64], b: &[u8], conn: u32, id: u16, d: &[u8], out: &mut [u8]) -> usize
+fn answer_read(
+    m: &mut [u64; WORDS],
+    b: &[u8],
+    conn: u32,
+    id: u16,
+    d: &[u8],
+    out: &mut [u8],
+) -> usize
     requires { ⌜ Whole (now m) (now b) ⌝ }
     requires { ⌜ Sound (shown (now m) (now b)) ⌝ }
     requires { ⌜ conn ≤ 3 ⌝ }
@@ -101,7 +116,7 @@ fn is_barred(link: Link, id: u16) -> bool
 
 // "1. ID 0x0000: no answer. 2. Not initialised and not Init_Request: General_Response 103. 3. ID 0x000D: no answer.
 // 4. ID not in the list of four: General_Response 120."
-pub fn answer(m: &mut [u64], b: &[u8], conn: u32, id: u16, d: &[u8], out: &mut [u8]) -> usize
+pub fn answer(m: &mut [u64; WORDS], b: &[u8], conn: u32, id: u16, d: &[u8], out: &mut [u8]) -> usize
     requires { ⌜ Whole (now m) (now b) ⌝ }
     requires { ⌜ Sound (shown (now m) (now b)) ⌝ }
     requires { ⌜ conn ≤ 3 ⌝ }

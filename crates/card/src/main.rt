@@ -18,7 +18,7 @@ struct Left {
 }
 
 // Plays the whole records of l, one behind the other, for as long as out has room for one more call.
-fn run(m: &mut [u64], b: &mut [u8], l: &[u8], out: &mut [u8]) -> Played
+fn run(m: &mut [u64; WORDS], b: &mut [u8], l: &[u8], out: &mut [u8]) -> Played
     requires { ⌜ Lent (now m) (now b) ⌝ }
     requires { ⌜ cardRoom ≤ length (now out) ⌝ }
     ensures { λ r.
@@ -77,7 +77,7 @@ fn goes_on(is_written: bool, more: bool, read: usize, used: usize) -> bool
 }
 
 // Reads once, plays what is there, writes what that gives, and keeps the bytes of a cut record.
-fn turn(m: &mut [u64], b: &mut [u8], input: &mut [u8], have: usize, out: &mut [u8]) -> Left
+fn turn(m: &mut [u64; WORDS], b: &mut [u8], input: &mut [u8], have: usize, out: &mut [u8]) -> Left
     requires { ⌜ Lent (now m) (now b) ⌝ }
     requires { ⌜ (have ≤ length (now input)) × (messageEnd largestSize ≤ length (now input)) ⌝ }
     requires { ⌜ cardRoom ≤ length (now out) ⌝ }
@@ -99,7 +99,7 @@ fn turn(m: &mut [u64], b: &mut [u8], input: &mut [u8], have: usize, out: &mut [u
 }
 
 // A proved loop has to end, and nothing says that the input does. So it counts its turns down, from a number that no run uses up.
-fn turns(m: &mut [u64], b: &mut [u8], input: &mut [u8], out: &mut [u8])
+fn turns(m: &mut [u64; WORDS], b: &mut [u8], input: &mut [u8], out: &mut [u8])
     requires { ⌜ Lent (now m) (now b) ⌝ }
     requires { ⌜ (messageEnd largestSize ≤ length (now input)) × (cardRoom ≤ length (now out)) ⌝ }
 {

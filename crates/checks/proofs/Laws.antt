@@ -32,7 +32,7 @@ use Rattle.places.proofs.Laws.{tallied-at, used-fits}
 use Rattle.memory.specs.declared.Which.{Which}
 use Rattle.memory.specs.declared.Which.the-variants.{Waiting, Started}
 use Rattle.memory.specs.Memory.{slotOf, fromOf, toOf, placesOf, Form, see, sessions, listOf, listed}
-use Rattle.memory.proofs.Laws.{counted, room-at}
+use Rattle.memory.proofs.Laws.{sessions-list, counted, room-at}
 use Rattle.checks.specs.declared.Where.{Where}
 use Rattle.checks.specs.declared.Where.the-variants.{In, Nowhere}
 use Rattle.checks.specs.Found.{whereIn, endIn, startIn, Few}
@@ -163,11 +163,6 @@ module _ (c : ℕ) where
 
 -- ## As the code has it
 
--- what the words hold at a list is what they show of it
-sessions-are : (v : Which) (m : List ℕ) → sessions v m ≡ listOf v (see m .queue)
-sessions-are Waiting m = refl
-sessions-are Started m = refl
-
 -- the two searches of `where_held`: k wait, and d have started
 module _ (c x : ℕ) (q : Queue) {i k : ℕ} (a : i ≡ place (is c x) (q .waiting)) (e : k ≡ length (q .waiting)) where
   pub found-waiting : i < k → In Waiting i ≡ whereIn c x q
@@ -189,13 +184,13 @@ module _ (c x : ℕ) (q : Queue) {i k : ℕ} (a : i ≡ place (is c x) (q .waiti
 module _ (c x : ℕ) (m : List ℕ) {v : Which} {i : ℕ} (h : HeldAt c x (see m .queue) v i) where
   -- what is found can be loaded
   pub found-within : i < length (sessions v m)
-  found-within = omega (arith, h .within, ap length (sessions-are v m))
+  found-within = omega (arith, h .within, ap length (sessions-list v m))
 
   pub found-end : (s : Session) → s ≡ getD (sessions v m) i empty → At (s .end) ≡ endIn c x (see m .queue)
   unfolding endIn
   found-end s e =
       rw (h .known)
-      (ap (λ (u : Session). At (u .end)) (e ∙ ap (λ (l : List Session). getD l i empty) (sessions-are v m) ∙ sym (h .found)))
+      (ap (λ (u : Session). At (u .end)) (e ∙ ap (λ (l : List Session). getD l i empty) (sessions-list v m) ∙ sym (h .found)))
 
 pub no-end : (c x : ℕ) (q : Queue) → holds c x q ≡ false → Never ≡ endIn c x q
 unfolding endIn

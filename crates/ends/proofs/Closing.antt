@@ -1,7 +1,7 @@
--- The loops of `write_ends` and of `end_due`: some of a list are passed, and the rest decides.
+-- The loops of `end_theirs` and of `end_due`: some of a list are passed, and the rest decides.
 -- Rests on rules' laws of endings, of a record's length and of a list without one place.
 use mathlib.Core.Path.{_≡_, refl, sym, ap, subst, _∙_}
-use mathlib.Core.Bool.{Bool, true, false}
+use mathlib.Core.Bool.{Bool, true, false, not}
 use mathlib.Core.List.{List, [], _∷_, _++_, map, append-assoc, append-nil}
 use Prim.Native.Nat.{ℕ, suc, _+_, _≤_, _<_}
 use native.Mathlib.Omega.{arith}
@@ -11,19 +11,21 @@ use lib.Seq.{take-suc, take-all, take-at, drop-at, drop-cons, length-take-le, ap
 use Rattle.rules.specs.declared.Session.{Session}
 use Rattle.rules.specs.declared.Ending.{Ending}
 use Rattle.rules.specs.declared.Ninths.{Ninths}
-use Rattle.rules.specs.declared.Ending.the-variants.{Complete}
-use Rattle.rules.specs.Lists.{All, put, keep, omit, removeAt}
-use Rattle.rules.specs.State.{empty, endsAt, withStarted}
+use Rattle.rules.specs.declared.Ending.the-variants.{Complete, Response}
+use Rattle.rules.specs.Lists.{All, bit, put, keep, omit, removeAt}
+use Rattle.rules.specs.State.{empty, of, endsAt, withStarted}
 use Rattle.rules.specs.Records.{Record, output}
 use Rattle.rules.specs.Ends.{ended, endings}
 use Rattle.rules.specs.Instants.{endAt}
-use Rattle.rules.proofs.Count.{length-removeAt, endings-map}
+use Rattle.rules.proofs.Count.{length-put, length-removeAt, endings-map}
 use Rattle.rules.proofs.Every.{all-getD, fewer-all, fewer-removeAt}
 use Rattle.rules.proofs.Size.{weight-none}
 use Rattle.rules.proofs.Written.{length-written}
+use Rattle.memory.specs.declared.Which.{Which}
 use Rattle.memory.specs.declared.Which.the-variants.{Started}
-use Rattle.memory.specs.Memory.{Memory, see, queued, relisted, Form, Now}
-use Rattle.ends.specs.Does.{Playable, roomFor, Tells, Turns}
+use Rattle.memory.specs.Memory.{Memory, see, sessions, queued, relisted, Form, Now}
+use Rattle.memory.proofs.Laws.{sessions-list}
+use Rattle.ends.specs.Does.{Playable, roomFor, Tells, Turns, Does, theirsEnded}
 use Rattle.ends.proofs.Laws.{tells-none, tells-then, brief}
 
 -- ## The records
@@ -91,6 +93,56 @@ module _ {p : Session → Bool} {air cover : Ending} {l : List Session} {e : Lis
     closing-done b =
         let r : endings air cover p l ≡ v .sofar = v .ends ∙ rw (drop-of-length-le k {i = i} b) (append-nil (v .sofar)) in
         subst (λ (y : List Record). Tells e len y to o) (sym r) (v .tells)
+
+-- ## A connection's of a list: the loop of `end_theirs`
+
+-- of the sessions l: the first i are passed, and `left` of them are others'
+pub record Theirs (c : ℕ) (l : List Session) (e : List ℕ) (len i to left : ℕ) (o : List ℕ) : Type 0 where
+  pub writes : Closing (of c) (Response 116) (Response 116) l (drop i l) e len (Response 116) to o
+  pub few : left ≤ i
+  pub rest : left + length (omit (of c) (drop i l)) ≡ length (omit (of c) l)
+
+module _ {c : ℕ} {e : List ℕ} {len : ℕ} where
+  pub theirs-none : (l : List Session) → len + roomFor (length l) ≤ length e → Theirs c l e len 0 len 0 e
+  theirs-none l h = record { writes = closing-none h; few = omega arith; rest = omega arith }
+
+  module _ (l : List Session) {i to left : ℕ} {o : List ℕ} (v : Theirs c l e len i to left o) where
+    module _ {x : Session} (k : i < length l) (q : x ≡ getD l i empty) where
+      counted : bit (not (of c x)) + length (omit (of c) (drop (i + 1) l)) ≡ length (omit (of c) (drop i l))
+      counted =
+          sym (ap (λ (r : List Session). length (omit (of c) r)) (next l i k q) ∙ length-put (not (of c x)) x (omit (of c) (drop (i + 1) l)))
+
+      -- it is the connection's
+      pub theirs-goes : {to′ : ℕ} {o′ : List ℕ} → of c x ≡ true → Tells o to (ended (Response 116) x ∷ []) to′ o′ → Theirs c l e len (i + 1) to′ left o′
+      theirs-goes d t =
+          record {
+            writes = closing-next l i (v .writes) k q (rw d t);
+            few = omega (arith, v .few);
+            rest = omega (arith, v .rest, counted, ap (λ (b : Bool). bit (not b)) d);
+          }
+
+      -- it is another's
+      pub theirs-stays : of c x ≡ false → Theirs c l e len (i + 1) to (left + 1) o
+      theirs-stays d =
+          record {
+            writes = closing-next l i (v .writes) k q (rw d tells-none);
+            few = omega (arith, v .few);
+            rest = omega (arith, v .rest, counted, ap (λ (b : Bool). bit (not b)) d);
+          }
+
+    -- all are passed
+    module _ (k : length l ≤ i) where
+      pub theirs-left : left ≡ length (omit (of c) l)
+      theirs-left = omega (arith, v .rest, ap (λ (r : List Session). length (omit (of c) r)) (drop-of-length-le l {i = i} k))
+
+      theirs-told : Tells e len (map (ended (Response 116)) (keep (of c) l)) to o
+      theirs-told = rw (← (endings-map (Response 116) (of c) l)) (closing-done l i (v .writes) k)
+
+  -- and taken out
+  pub theirs-done : (w : Which) (m : List ℕ) {n o : List ℕ} {i to left : ℕ} → Theirs c (sessions w m) e len i to left o → length (sessions w m) ≤ i →
+      Now n (relisted w (omit (of c) (sessions w m)) (see m)) → Does (theirsEnded w c) len m e to n o
+  unfolding theirsEnded
+  theirs-done w m v k s = rw (← (sessions-list w m)) (record { shows = s; tells = theirs-told (sessions w m) v k })
 
 -- ## Started ones go one by one, and the others stay: the loop of `end_due`
 

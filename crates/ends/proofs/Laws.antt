@@ -1,42 +1,41 @@
 -- Laws of what this crate promises: records one behind another, and pieces of work one after another.
--- Rests on rules' laws of what is written into a buffer.
+-- Rests on rules' laws of what is written into a buffer, and on memory's: what is shown determines every word.
 use mathlib.Core.Path.{_≡_, refl, sym, ap, subst, _∙_}
+use mathlib.Core.Bool.{Bool, true, false, _||_}
 use mathlib.Core.Logic.{inl, inr}
 use mathlib.Core.List.{List, [], _∷_, _++_, map}
-use Prim.Native.Nat.{ℕ, suc, _+_, _-_, _≤_, _<_}
+use Prim.Native.Nat.{ℕ, zero, suc, _+_, _-_, _≤_, _<_}
 use native.Mathlib.Omega.{arith}
-use lib.ListN.{length, getD, length-append}
+use lib.ListN.{length, take, getD, length-append}
 use borrow.Rule.Slice.PartMut.{putMid, midOf}
 use types.Run.{OneOf}
 use denote.Enum.Declared.{tagOf}
 use Rattle.rules.specs.declared.Session.{Session}
 use Rattle.rules.specs.declared.Ending.{Ending}
 use Rattle.rules.specs.declared.Ending.the-variants.{Complete, Failed, Response}
-use Rattle.rules.specs.Lists.{omit, place, removeAt}
+use Rattle.rules.specs.Lists.{All, some, keep, place, removeAt}
+use Rattle.rules.specs.Sound.{Holding}
 use Rattle.rules.specs.State.{Queue, empty, of, follows, withWaiting}
 use Rattle.rules.specs.Bytes.{written}
 use Rattle.rules.specs.Records.{Record, recordBytes, output}
 use Rattle.rules.specs.Ends.{Turn, quiet, writes, andThen, ended, endings, Walk, dismissed, cancelled, closedBy}
 use Rattle.rules.specs.Instants.{failed}
 use Rattle.rules.proofs.Ending.{the-type}
-use Rattle.rules.proofs.Count.{length-split, length-removeAt, endings-map}
+use Rattle.rules.proofs.Tests.{by, clash}
+use Rattle.rules.proofs.All.{all-into}
+use Rattle.rules.proofs.Bounds.{longest}
+use Rattle.rules.proofs.Count.{length-split, length-removeAt}
+use Rattle.rules.proofs.Sound.{played-now}
 use Rattle.rules.proofs.Records.{sizeOf, Roomy, length-record}
-use Rattle.rules.proofs.Size.{weight-none, weight-ended, weight-endings}
+use Rattle.rules.proofs.Size.{weight-none, weight-ended, weight-all}
 use Rattle.rules.proofs.Written.{written-none, written-part, output-append, output-one, written-output}
 use Rattle.rules.proofs.Walk.{walk-none, walk-more}
-use Rattle.places.specs.declared.Those.{Those}
-use Rattle.places.specs.declared.Those.the-variants.{Of}
-use Rattle.places.specs.Places.{among}
 use Rattle.memory.specs.declared.Which.{Which}
 use Rattle.memory.specs.declared.Which.the-variants.{Waiting, Started}
-use Rattle.memory.specs.Memory.{Memory, see, sessions, listOf, queued, relisted, Form, Now}
-use Rattle.ends.specs.declared.Ways.{Ways}
-use Rattle.ends.specs.Does.{Playable, Writable, Completing, roomFor, Tells, Turns, Does, oneEnded, theseEnded}
-
--- a list of the words is that list of the queue that they show
-pub sessions-list : (v : Which) (m : List ℕ) → sessions v m ≡ listOf v (see m .queue)
-sessions-list Waiting m = refl
-sessions-list Started m = refl
+use Rattle.memory.specs.Memory.{Memory, see, sessions, listOf, listed, queued, relisted, Form, Now}
+use Rattle.memory.proofs.Laws.{sessions-list, same-words}
+use Rattle.ends.specs.Does.{Playable, Writable, Completing, roomFor, Tells, Turns, Does, oneEnded, chainEnded, endingAt}
+use Rattle.ends.specs.Does.{airEnded, theirsEnded}
 
 -- ## Records, one behind another
 
@@ -170,47 +169,146 @@ fails x m g k t d =
     turns-then (writes (ended Failed x ∷ []) (see m .queue)) (dismissed 109 (x .conn) (x .id)) (omega (arith, brief Failed x))
     (record { shows = record { form = g; is = refl }; tells = t }) d
 
--- ## Those of a list, and all of a connection
+-- ## A session's end, and its followers'
 
-module _ (v : Which) (m : List ℕ) (those : Those) (ways : Ways) {n e o : List ℕ} {len to : ℕ} where
-  -- they are taken out of it, and their ends written
-  pub these-ended : Now n (relisted v (omit (among those) (sessions v m)) (see m)) →
-      Tells e len (endings (ways .first) (ways .others) (among those) (sessions v m)) to o → Does (theseEnded v those ways) len m e to n o
-  unfolding theseEnded
-  these-ended s t = rw (← (sessions-list v m)) (record { shows = s; tells = t })
+module _ (v : Which) (i : ℕ) (how : Ending) (m : List ℕ) {e n o : List ℕ} {len to : ℕ} (d : Does (oneEnded v i how) len m e to n o) where
+  end-brief : to ≤ len + roomFor 1
+  unfolding oneEnded
+  end-brief = told-one how (getD (listOf v (see m .queue)) i empty) (d .tells)
 
-  -- so much is written at most
-  pub these-brief : Does (theseEnded v those ways) len m e to n o → to ≤ len + roomFor (length (sessions v m))
-  unfolding theseEnded
-  these-brief d =
-      let l = listOf v (see m .queue) in
-      omega (
-        arith,
-        d .tells .count,
-        weight-endings (ways .first) (ways .others) (among those) l,
-        length-split (among those) l,
-        ap length (sessions-list v m),
-      )
+  -- room for those that follow it
+  pub chain-room : let q = see m .queue in len + roomFor (1 + length (listed v (removeAt i (listOf v q)) q .waiting)) ≤ length e →
+      length o ≡ length e → to + roomFor (length (see n .queue .waiting)) ≤ length o
+  unfolding oneEnded
+  chain-room h k = omega (arith, end-brief, ap (λ (s : Memory). length (s .queue .waiting)) (d .shows .is))
 
--- the started by what they were, those that wait alike
-abbrev pub byState : Ways
-byState = record { first = Complete 116; others = Response 116 }
+  -- and then they end
+  pub chain-turns : (result : ℕ) {x : Session} {n′ o′ : List ℕ} {to′ : ℕ} → x ≡ getD (sessions v m) i empty → len + roomFor 1 ≤ length e →
+      Does (dismissed result (x .conn) (x .id)) to n o to′ n′ o′ → Does (chainEnded v i how result) len m e to′ n′ o′
+  unfolding chainEnded
+  chain-turns result {x} {n′} {o′} {to′} f h k =
+      let s = getD (listOf v (see m .queue)) i empty in
+      let g : x ≡ s = f ∙ ap (λ (l : List Session). getD l i empty) (sessions-list v m) in
+      turns-then (oneEnded v i how (see m .queue)) (dismissed result (s .conn) (s .id)) (omega (arith, d .tells .count, end-brief)) d
+      (subst (λ (y : Session). Does (dismissed result (y .conn) (y .id)) to n o to′ n′ o′) g k)
 
-abbrev pub alike : Ways
-alike = record { first = Response 116; others = Response 116 }
+-- how a covered session ends
+pub ending-covered : (i r : ℕ) → (i ≡ 0 → ⊥) → Response r ≡ endingAt i r
+ending-covered zero r h = absurd (h refl)
+ending-covered (suc i) r h = refl
 
-closed-by : (c : ℕ) (q : Queue) → closedBy c q ≡ andThen (theseEnded Started (Of c) byState q) (theseEnded Waiting (Of c) alike)
-unfolding closedBy cancelled andThen theseEnded
-closed-by c q = rw (endings-map (Response 116) (of c) (q .waiting))
+-- ## A connection's ends at its close
 
-module _ (c : ℕ) (m : List ℕ) {n e o : List ℕ} {len to : ℕ} where
-  module _ (a : Does (theseEnded Started (Of c) byState) len m e to n o) where
-    pub still-waiting : see n .queue .waiting ≡ see m .queue .waiting
-    unfolding theseEnded
-    still-waiting = ap (λ (z : Memory). z .queue .waiting) (a .shows .is)
+-- the one on air is the first of the started
+first-of : (c : ℕ) (l : List Session) {x : Session} → 0 < length l → x ≡ getD l 0 empty → some (of c) (take 1 l) ≡ of c x
+first-of c [] h e = absurd (omega arith)
+first-of c (y ∷ l) h e = rw e (go (of c y))
+  where
+    go : (b : Bool) → (b || false) ≡ b
+    go true = refl
+    go false = refl
 
-    pub closed : {n′ o′ : List ℕ} {to′ : ℕ} → len + roomFor (length (see m .queue .started)) ≤ length e →
-        Does (theseEnded Waiting (Of c) alike) to n o to′ n′ o′ → Does (closedBy c) len m e to′ n′ o′
-    closed h b =
-        rw (closed-by c (see m .queue)) (turns-then (theseEnded Started (Of c) byState (see m .queue)) (theseEnded Waiting (Of c) alike)
-        (omega (arith, a .tells .count, these-brief Started m (Of c) byState a)) a b)
+first-none : (c : ℕ) (l : List Session) → length l ≡ 0 → some (of c) (take 1 l) ≡ false
+first-none c [] h = refl
+first-none c (x ∷ l) h = absurd (omega arith)
+
+first-some : (c : ℕ) (l : List Session) → some (of c) (take 1 l) ≡ true → 0 < length l
+first-some c [] e = absurd (clash false e refl)
+first-some c (x ∷ l) e = omega arith
+
+module _ (c : ℕ) (m : List ℕ) {e : List ℕ} where
+  -- none is on air
+  pub air-none : Form m → length (see m .queue .started) ≡ 0 → Does (airEnded c) 0 m e 0 m e
+  unfolding airEnded
+  air-none f h = rw (first-none c (see m .queue .started) h) (turns-quiet f)
+
+  module _ {x : Session} (h : 0 < length (see m .queue .started)) (q : x ≡ getD (see m .queue .started) 0 empty) where
+    -- another's is
+    pub air-other : Form m → of c x ≡ false → Does (airEnded c) 0 m e 0 m e
+    unfolding airEnded
+    air-other f d = rw (first-of c (see m .queue .started) h q ∙ d) (turns-quiet f)
+
+    pub air-ends : {n o : List ℕ} {to : ℕ} → of c x ≡ true → Does (oneEnded Started 0 (Complete 116)) 0 m e to n o → Does (airEnded c) 0 m e to n o
+    unfolding airEnded
+    air-ends d t = rw (first-of c (see m .queue .started) h q ∙ d) t
+
+-- the room of those that end is enough for their records, and those that wait stay
+record Slim (q : Queue) (t : Turn) : Type 0 where
+  pub room : length (output (t .written)) + roomFor (length (t .queue .started)) ≤ roomFor (length (q .started))
+  pub wait : t .queue .waiting ≡ q .waiting
+
+air-slim : (c : ℕ) (q : Queue) → Slim q (airEnded c q)
+unfolding airEnded oneEnded
+air-slim c q =
+    let l = q .started in
+    by (Slim q) (some (of c) (take 1 l)) _ _
+    (λ d. record { room = omega (arith, brief (Complete 116) (getD l 0 empty), length-removeAt 0 l (first-some c l d)); wait = refl })
+    (λ d. record { room = omega (arith, weight-none); wait = refl })
+
+theirs-slim : (c : ℕ) (q : Queue) → Slim q (theirsEnded Started c q)
+unfolding theirsEnded
+theirs-slim c q =
+    let l = q .started in
+    record { room = omega (arith, weight-all (Response 116) (keep (of c) l), length-split (of c) l); wait = refl }
+
+-- the one on air, then the covered, then those that wait
+closed-by : (c : ℕ) (w k : List Session) →
+    let q : Queue = record { waiting = w; started = k } in
+    closedBy c q ≡ andThen (andThen (airEnded c q) (theirsEnded Started c)) (theirsEnded Waiting c)
+unfolding closedBy cancelled endings andThen airEnded theirsEnded oneEnded removeAt
+closed-by c w [] = refl
+closed-by c w (s ∷ k) = go (of c s) refl
+  where
+    go : (b : Bool) → of c s ≡ b →
+        let q : Queue = record { waiting = w; started = s ∷ k } in
+        closedBy c q ≡ andThen (andThen (airEnded c q) (theirsEnded Started c)) (theirsEnded Waiting c)
+    go true d = rw d refl
+    go false d = rw d (rw d refl)
+
+module _ (c : ℕ) (m : List ℕ) {n e o : List ℕ} {to : ℕ} (a : Does (airEnded c) 0 m e to n o) where
+  -- room for the covered
+  pub cover-room : to + roomFor (length (see n .queue .started)) ≤ roomFor (length (see m .queue .started))
+  cover-room =
+      omega (arith, a .tells .count, air-slim c (see m .queue) .room, ap (λ (s : Memory). length (s .queue .started)) (a .shows .is))
+
+  module _ {n′ o′ : List ℕ} {to′ : ℕ} (b : Does (theirsEnded Started c) to n o to′ n′ o′) where
+    -- room for those that wait
+    pub wait-room : to′ + roomFor (length (see n′ .queue .waiting)) ≤ roomFor (length (see m .queue .waiting) + length (see m .queue .started))
+    wait-room =
+        omega (
+          arith,
+          cover-room,
+          b .tells .count,
+          theirs-slim c (see n .queue) .room,
+          ap length (theirs-slim c (see n .queue) .wait),
+          ap length (air-slim c (see m .queue) .wait),
+          ap (λ (s : Memory). length (s .queue .waiting)) (a .shows .is),
+          ap (λ (s : Memory). length (s .queue .waiting)) (b .shows .is),
+        )
+
+    -- all of a connection
+    pub closed : {n″ o″ : List ℕ} {to″ : ℕ} → to′ ≤ length e → Does (theirsEnded Waiting c) to′ n′ o′ to″ n″ o″ → Does (closedBy c) 0 m e to″ n″ o″
+    closed h d =
+        let q = see m .queue in
+        let t = andThen (airEnded c q) (theirsEnded Started c) in
+        let u = turns-then (airEnded c q) (theirsEnded Started c) (omega (arith, a .tells .count, b .tells .count)) a b in
+        rw (closed-by c (q .waiting) (q .started)) (turns-then t (theirsEnded Waiting c) (omega (arith, u .tells .count)) u d)
+
+-- ## What is held can be written
+
+-- nothing that waits was on air, and no PlayedDuration is longer than the longest Duration
+pub playable : (v : Which) (m : List ℕ) → Holding (see m .clock) (see m .queue) → All Playable (sessions v m)
+playable Waiting m h = all-into (λ s. s .played .0 ≡ 0) Playable (λ s e. omega arith) (see m .queue .waiting) (h .played .silent)
+playable Started m h =
+    all-into (λ s. s .played .0 ≤ longest) Playable (λ s i. omega arith) (see m .queue .started)
+    (played-now (see m .clock) (see m .queue) h)
+
+-- ## "any two results it allows are proved equal"
+
+pub does-same : (work : Queue → Turn) (len : ℕ) (m e : List ℕ) {to to′ : ℕ} {n n′ o o′ : List ℕ} → Does work len m e to n o → Does work len m e to′ n′ o′ →
+    (to ≡ to′) × (n ≡ n′) × (o ≡ o′)
+does-same work len m e {n = n} {n′ = n′} a b = (
+  a .tells .count ∙ sym (b .tells .count),
+  same-words n n′ (a .shows .form) (b .shows .form) (a .shows .is ∙ sym (b .shows .is)),
+  a .tells .bytes ∙ sym (b .tells .bytes),
+)

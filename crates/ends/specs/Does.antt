@@ -1,22 +1,20 @@
 -- What a piece of work on the lent words promises, and the turns of the ends of one list.
 use mathlib.Core.Path.{_≡_}
-use mathlib.Core.Bool.{Bool}
-use mathlib.Core.List.{List, [], _∷_}
-use Prim.Native.Nat.{ℕ, _+_, _*_, _/_, _<_}
-use lib.ListN.{length, getD}
+use mathlib.Core.Bool.{cond}
+use mathlib.Core.List.{List, [], _∷_, map}
+use Prim.Native.Nat.{ℕ, zero, suc, _+_, _*_, _/_, _<_}
+use lib.ListN.{length, take, getD}
 use Rattle.rules.specs.declared.Session.{Session}
 use Rattle.rules.specs.declared.Ending.{Ending}
 use Rattle.rules.specs.declared.Ending.the-variants.{Complete, Failed, Response}
-use Rattle.rules.specs.Lists.{omit, removeAt}
+use Rattle.rules.specs.Lists.{some, keep, omit, removeAt}
 use Rattle.rules.specs.Bytes.{written}
 use Rattle.rules.specs.Records.{Record, output}
-use Rattle.rules.specs.State.{Queue, empty}
-use Rattle.rules.specs.Ends.{Turn, ended, endings}
-use Rattle.places.specs.declared.Those.{Those}
-use Rattle.places.specs.Places.{among}
+use Rattle.rules.specs.State.{Queue, empty, of}
+use Rattle.rules.specs.Ends.{Turn, quiet, andThen, ended, dismissed}
 use Rattle.memory.specs.declared.Which.{Which}
+use Rattle.memory.specs.declared.Which.the-variants.{Started}
 use Rattle.memory.specs.Memory.{Memory, see, listOf, listed, queued, Now}
-use Rattle.ends.specs.declared.Ways.{Ways}
 
 -- its PlayedDuration has four bytes
 abbrev pub Playable : Session → Type 0
@@ -53,17 +51,36 @@ pub record Turns (e : List ℕ) (len : ℕ) (t : Turn) (s : Memory) (n : List �
 abbrev pub Does : (Queue → Turn) → ℕ → (m e : List ℕ) → ℕ → (n o : List ℕ) → Type 0
 Does work len m e to n o = Turns e len (work (see m .queue)) (see m) n to o
 
--- ## Ends in one list
+-- ## One end and its followers'
 
 -- the session i of a list ends
 unfoldable pub oneEnded : Which → ℕ → Ending → Queue → Turn
 oneEnded v i how q =
     record { queue = listed v (removeAt i (listOf v q)) q; written = ended how (getD (listOf v q) i empty) ∷ [] }
 
--- those of a list end
-unfoldable pub theseEnded : Which → Those → Ways → Queue → Turn
-theseEnded v those ways q =
+-- the session i of a list ends, and then the waiting ones that follow it, with the result r
+unfoldable pub chainEnded : Which → ℕ → Ending → ℕ → Queue → Turn
+chainEnded v i how r q =
+    let s = getD (listOf v q) i empty in
+    andThen (oneEnded v i how q) (dismissed r (s .conn) (s .id))
+
+-- "An aborted session on air ends with SpliceComplete flag 1, result 116; a covered or waiting one with Splice_Response 116": the first
+-- of the started is on air
+abbrev pub endingAt : ℕ → ℕ → Ending
+endingAt zero r = Complete r
+endingAt (suc i) r = Response r
+
+-- ## A connection's ends at its close
+
+-- the one on air ends, if it is the connection's
+unfoldable pub airEnded : ℕ → Queue → Turn
+airEnded c q =
+    cond (some (of c) (take 1 (q .started))) (oneEnded Started 0 (Complete 116) q) (quiet q)
+
+-- the connection's of a list end, none of which is on air
+unfoldable pub theirsEnded : Which → ℕ → Queue → Turn
+theirsEnded v c q =
     record {
-      queue = listed v (omit (among those) (listOf v q)) q;
-      written = endings (ways .first) (ways .others) (among those) (listOf v q);
+      queue = listed v (omit (of c) (listOf v q)) q;
+      written = map (ended (Response 116)) (keep (of c) (listOf v q));
     }

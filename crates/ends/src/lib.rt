@@ -1,26 +1,24 @@
 // How sessions end: one record behind the other, and their list closed up.
+use memory::WORDS;
 use memory::Which;
 use places::Key;
-use places::Those;
 use rules::Ending;
 use rules::Ninths;
 use rules::Session;
 use rules::Ticks;
+ghost use mathlib.Core.Path.{_≡_};
 ghost use Prim.Native.Nat.{_+_, _≤_, _<_};
-ghost use lib.ListN.{length};
+ghost use lib.ListN.{length, getD};
 ghost use mathlib.Core.List.{[], _∷_};
 ghost use Rattle.rules.specs.Lists.{All};
-ghost use Rattle.rules.specs.Ends.{ended, endings, dismissed, closedBy};
+ghost use Rattle.rules.specs.declared.Ending.the-variants.{Response};
+ghost use Rattle.rules.specs.State.{empty};
+ghost use Rattle.rules.specs.Ends.{ended, dismissed, closedBy};
 ghost use Rattle.rules.specs.Instants.{failed, endAt};
-ghost use Rattle.places.specs.Places.{among};
+ghost use Rattle.memory.specs.declared.Which.the-variants.{Waiting, Started};
 ghost use Rattle.memory.specs.Memory.{Form, sessions, see};
-ghost use Rattle.ends.specs.Does.{Writable, Playable, Completing, roomFor, Tells, Does, oneEnded, theseEnded};
-
-// How those that end together end: the first of all by `first`, any other by `others`.
-struct Ways {
-    first: Ending,
-    others: Ending,
-}
+ghost use Rattle.ends.specs.Does.{Writable, Playable, Completing, roomFor, Tells, Does, endingAt, oneEnded, chainEnded};
+ghost use Rattle.ends.specs.Does.{airEnded, theirsEnded};
 
 // A SpliceComplete that is an end: flag 1 with the time on air, or flag 0 and 109 of a start that failed.
 fn write_complete(how: Ending, x: Session, out: &mut [u8], len: usize) -> usize
@@ -55,7 +53,7 @@ fn write_end(how: Ending, x: Session, out: &mut [u8], len: usize) -> usize
 }
 
 // The start of x fails, and those that follow it end.
-pub fn fail(m: &mut [u64], x: Session, out: &mut [u8], len: usize) -> usize
+pub fn fail(m: &mut [u64; WORDS], x: Session, out: &mut [u8], len: usize) -> usize
     requires { ⌜ Form (now m) ⌝ }
     requires { ⌜ len + roomFor (1 + length (see (now m) .queue .waiting)) ≤ length (now out) ⌝ }
     ensures { λ r. ⌜ Does (failed x) len (now (m .entry)) (now (out .entry)) r (now (m .exit)) (now (out .exit)) ⌝ }
@@ -65,8 +63,8 @@ pub fn fail(m: &mut [u64], x: Session, out: &mut [u8], len: usize) -> usize
 }
 
 // The session `at` of a list ends, and the others close up.
-pub fn end_one(
-    m: &mut [u64],
+fn end_one(
+    m: &mut [u64; WORDS],
     which: Which,
     at: usize,
     how: Ending,
@@ -75,7 +73,7 @@ pub fn end_one(
 ) -> usize
     requires { ⌜ Form (now m) ⌝ }
     requires { ⌜ at < length (sessions which (now m)) ⌝ }
-    requires { ⌜ All Playable (sessions which (now m)) ⌝ }
+    requires { ⌜ Writable how (getD (sessions which (now m)) at empty) ⌝ }
     requires { ⌜ len + roomFor 1 ≤ length (now out) ⌝ }
     ensures { λ r.
         ⌜ Does (oneEnded which at how) len (now (m .entry)) (now (out .entry)) r (now (m .exit)) (now (out .exit)) ⌝ }
@@ -85,58 +83,113 @@ pub fn end_one(
     write_end(how, x, &mut *out, len)
 }
 
-// The ends of those of a list, in their order.
-fn write_ends(
-    m: &[u64],
-    which: Which,
-    those: Those,
-    ways: Ways,
+// The waiting session `at` ends with the result, and then the ones that follow it.
+pub fn end_waiting(
+    m: &mut [u64; WORDS],
+    at: usize,
+    result: u16,
     out: &mut [u8],
     len: usize,
 ) -> usize
     requires { ⌜ Form (now m) ⌝ }
-    requires { ⌜ All Playable (sessions which (now m)) ⌝ }
-    requires { ⌜ len + roomFor (length (sessions which (now m))) ≤ length (now out) ⌝ }
-    ensures { λ r. ⌜ Tells (now (out .entry)) len
-        (endings (ways .first) (ways .others) (among those) (sessions which (now (m .entry)))) r (now (out .exit)) ⌝ }
+    requires { ⌜ at < length (see (now m) .queue .waiting) ⌝ }
+    requires { ⌜ len + roomFor (length (see (now m) .queue .waiting)) ≤ length (now out) ⌝ }
+    ensures { λ r. ⌜ Does (chainEnded Waiting at (Response result) result)
+        len (now (m .entry)) (now (out .entry)) r (now (m .exit)) (now (out .exit)) ⌝ }
 {
-    let n = memory::count(m, which);
-    let mut how = ways.first;
-    let mut to = len;
-    let mut i = 0;
-    while i < n {
-        let x = memory::load(m, which, i);
-        if places::is_among(those, x) {
-            to = write_end(how, x, &mut *out, to);
-        }
-        how = ways.others;
-        i += 1;
-    }
-    to
+    let x = memory::load(&*m, Which::Waiting, at);
+    let to = end_one(
+        &mut *m,
+        Which::Waiting,
+        at,
+        Ending::Response(result),
+        &mut *out,
+        len,
+    );
+    dismiss(&mut *m, result, x.conn, x.id, &mut *out, to)
 }
 
-// Those of a list end; the rest closes up.
-fn end_those(
-    m: &mut [u64],
-    which: Which,
-    those: Those,
-    ways: Ways,
+// How the started session `at` ends with a result: the first is on air, any other is covered.
+fn ending_at(at: usize, result: u16) -> Ending
+    ensures { λ r. ⌜ r ≡ endingAt at result ⌝ }
+{
+    if at == 0 {
+        return Ending::Complete(result);
+    }
+    Ending::Response(result)
+}
+
+// The started session `at` ends with the result, and then the waiting ones that follow it.
+pub fn end_started(
+    m: &mut [u64; WORDS],
+    at: usize,
+    result: u16,
     out: &mut [u8],
     len: usize,
 ) -> usize
     requires { ⌜ Form (now m) ⌝ }
-    requires { ⌜ All Playable (sessions which (now m)) ⌝ }
+    requires { ⌜ at < length (see (now m) .queue .started) ⌝ }
+    requires { ⌜ All Playable (see (now m) .queue .started) ⌝ }
+    requires { ⌜ len + roomFor (1 + length (see (now m) .queue .waiting)) ≤ length (now out) ⌝ }
+    ensures { λ r. ⌜ Does (chainEnded Started at (endingAt at result) result)
+        len (now (m .entry)) (now (out .entry)) r (now (m .exit)) (now (out .exit)) ⌝ }
+{
+    let x = memory::load(&*m, Which::Started, at);
+    let how = ending_at(at, result);
+    let to = end_one(&mut *m, Which::Started, at, how, &mut *out, len);
+    dismiss(&mut *m, result, x.conn, x.id, &mut *out, to)
+}
+
+// The one on air ends, if it is the connection's.
+fn end_on_air_of(m: &mut [u64; WORDS], conn: u64, out: &mut [u8]) -> usize
+    requires { ⌜ Form (now m) ⌝ }
+    requires { ⌜ All Playable (see (now m) .queue .started) ⌝ }
+    requires { ⌜ roomFor (length (see (now m) .queue .started)) ≤ length (now out) ⌝ }
+    ensures { λ r. ⌜ Does (airEnded conn) 0 (now (m .entry)) (now (out .entry)) r (now (m .exit)) (now (out .exit)) ⌝ }
+{
+    if memory::count(&*m, Which::Started) == 0 {
+        return 0;
+    }
+    let x = memory::load(&*m, Which::Started, 0);
+    if conn != x.conn {
+        return 0;
+    }
+    end_one(
+        &mut *m,
+        Which::Started,
+        0,
+        Ending::Complete(116),
+        &mut *out,
+        0,
+    )
+}
+
+// The connection's sessions of a list end, none of which is on air; the others close up.
+fn end_theirs(m: &mut [u64; WORDS], which: Which, conn: u64, out: &mut [u8], len: usize) -> usize
+    requires { ⌜ Form (now m) ⌝ }
     requires { ⌜ len + roomFor (length (sessions which (now m))) ≤ length (now out) ⌝ }
     ensures { λ r.
-        ⌜ Does (theseEnded which those ways) len (now (m .entry)) (now (out .entry)) r (now (m .exit)) (now (out .exit)) ⌝ }
+        ⌜ Does (theirsEnded which conn) len (now (m .entry)) (now (out .entry)) r (now (m .exit)) (now (out .exit)) ⌝ }
 {
-    let to = write_ends(&*m, which, those, ways, &mut *out, len);
-    memory::omit_those(&mut *m, which, those);
+    let n = memory::count(&*m, which);
+    let mut to = len;
+    let mut left = 0;
+    let mut i = 0;
+    while i < n {
+        let x = memory::load(&*m, which, i);
+        if conn == x.conn {
+            to = write_end(Ending::Response(116), x, &mut *out, to);
+        } else {
+            left += 1;
+        }
+        i += 1;
+    }
+    memory::omit_of(&mut *m, which, conn, left);
     to
 }
 
 // Those of the started whose end has come end: 100 for the one on air, 125 for the covered ones.
-pub fn end_due(m: &mut [u64], t: Ninths, out: &mut [u8], len: usize) -> usize
+pub fn end_due(m: &mut [u64; WORDS], t: Ninths, out: &mut [u8], len: usize) -> usize
     requires { ⌜ Form (now m) ⌝ }
     requires { ⌜ All Playable (see (now m) .queue .started) ⌝ }
     requires { ⌜ len + roomFor (length (see (now m) .queue .started)) ≤ length (now out) ⌝ }
@@ -147,7 +200,7 @@ pub fn end_due(m: &mut [u64], t: Ninths, out: &mut [u8], len: usize) -> usize
     let mut i = 0;
     while i < memory::count(&*m, Which::Started) {
         let x = memory::load(&*m, Which::Started, i);
-        if places::is_among(Those::EndsAt(t), x) {
+        if t.0 == x.end.0 {
             memory::remove(&mut *m, Which::Started, i);
             to = write_end(how, x, &mut *out, to);
         } else {
@@ -159,7 +212,14 @@ pub fn end_due(m: &mut [u64], t: Ninths, out: &mut [u8], len: usize) -> usize
 }
 
 // The waiting sessions that reach the number link by link end with the result.
-pub fn dismiss(m: &mut [u64], result: u16, conn: u64, id: u64, out: &mut [u8], len: usize) -> usize
+pub fn dismiss(
+    m: &mut [u64; WORDS],
+    result: u16,
+    conn: u64,
+    id: u64,
+    out: &mut [u8],
+    len: usize,
+) -> usize
     requires { ⌜ Form (now m) ⌝ }
     requires { ⌜ len + roomFor (length (see (now m) .queue .waiting)) ≤ length (now out) ⌝ }
     ensures { λ r.
@@ -177,23 +237,14 @@ pub fn dismiss(m: &mut [u64], result: u16, conn: u64, id: u64, out: &mut [u8], l
 }
 
 // All of a connection end, as by abort: the started from the highest AccessType down, then the waiting by start.
-pub fn end_all_of(m: &mut [u64], conn: u64, out: &mut [u8]) -> usize
+pub fn end_all_of(m: &mut [u64; WORDS], conn: u64, out: &mut [u8]) -> usize
     requires { ⌜ Form (now m) ⌝ }
-    requires { ⌜ All Playable (see (now m) .queue .waiting) ⌝ }
     requires { ⌜ All Playable (see (now m) .queue .started) ⌝ }
     requires { ⌜ roomFor (length (see (now m) .queue .waiting) + length (see (now m) .queue .started)) ≤ length (now out) ⌝ }
     ensures { λ r.
         ⌜ Does (closedBy conn) 0 (now (m .entry)) (now (out .entry)) r (now (m .exit)) (now (out .exit)) ⌝ }
 {
-    let those = Those::Of(conn);
-    let by_state = Ways {
-        first: Ending::Complete(116),
-        others: Ending::Response(116),
-    };
-    let alike = Ways {
-        first: Ending::Response(116),
-        others: Ending::Response(116),
-    };
-    let to = end_those(&mut *m, Which::Started, those, by_state, &mut *out, 0);
-    end_those(&mut *m, Which::Waiting, those, alike, &mut *out, to)
+    let aired = end_on_air_of(&mut *m, conn, &mut *out);
+    let to = end_theirs(&mut *m, Which::Started, conn, &mut *out, aired);
+    end_theirs(&mut *m, Which::Waiting, conn, &mut *out, to)
 }

@@ -28,11 +28,10 @@ use Rattle.rules.specs.Instants.{runAll}
 use Rattle.rules.specs.Answers.{answer}
 use Rattle.rules.specs.Calls.{Called, Call, opens, closes, messages, moves, call, noConnection, noRoom, notOpen, openCall, closeCall, framing, handled, lending, messageCall, moveCall, tickCall, ticked, refuse, does, writtenBy, bufferAfter}
 use Rattle.rules.specs.Sound.{Holding, Reached, Wired, horizon}
-use Rattle.rules.proofs.All.{all-into}
 use Rattle.rules.proofs.Written.{written-none}
-use Rattle.rules.proofs.Sound.{reached-call, reached-sound, few-wait, few-started, played-now}
+use Rattle.rules.proofs.Sound.{reached-call, reached-sound, few-wait, few-started}
 use Rattle.memory.specs.Memory.{Memory, see, Now, timed, linked, queued, nameOf, Whole, shown}
-use Rattle.ends.specs.Does.{Playable, roomFor, Tells, Turns}
+use Rattle.ends.specs.Does.{roomFor, Tells, Turns}
 use Rattle.answers.specs.Gives.{Gives}
 use Rattle.engine.specs.declared.Answer.{Answer}
 use Rattle.engine.specs.declared.Answer.the-variants.{Refused, Done}
@@ -91,12 +90,6 @@ module _ {now : ℕ} {q : Queue} (h : Holding now q) where
 
   pub room-all : {n : ℕ} → 4096 ≤ n → roomFor (length (q .waiting) + length (q .started)) ≤ n
   room-all le = omega (arith, few-wait h, few-started h)
-
-  pub playable-waiting : All Playable (q .waiting)
-  playable-waiting = all-into (λ s. s .played .0 ≡ 0) Playable (λ s e. omega arith) (q .waiting) (h .played .silent)
-
-  pub playable-started : All Playable (q .started)
-  playable-started = all-into _ Playable (λ s e. omega arith) (q .started) (played-now now q h)
 
 -- ## Open
 

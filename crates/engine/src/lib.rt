@@ -66,7 +66,7 @@ pub fn fresh(name: &[u8; 32], m: &mut [u64; WORDS], b: &mut [u8; BYTES]) -> Answ
 }
 
 // Open: 1, 6.
-pub fn open(m: &mut [u64], b: &mut [u8], conn: u32) -> Answer
+pub fn open(m: &mut [u64; WORDS], b: &mut [u8], conn: u32) -> Answer
     requires { ⌜ Lent (now m) (now b) ⌝ }
     ensures { λ r. ⌜ Makes (λ _. openCall conn) (now (m .entry)) (now (b .entry)) [] r (now (m .exit)) (now (b .exit)) [] ⌝ }
 {
@@ -100,7 +100,7 @@ fn test_open(m: &[u64], conn: u32, room: usize) -> Tested
 }
 
 // Close: 1, 2, 7.
-pub fn close(m: &mut [u64], b: &mut [u8], conn: u32, out: &mut [u8]) -> Answer
+pub fn close(m: &mut [u64; WORDS], b: &mut [u8], conn: u32, out: &mut [u8]) -> Answer
     requires { ⌜ Lent (now m) (now b) ⌝ }
     ensures { λ r.
         ⌜ Makes (closeCall conn) (now (m .entry)) (now (b .entry)) (now (out .entry)) r
@@ -116,7 +116,7 @@ pub fn close(m: &mut [u64], b: &mut [u8], conn: u32, out: &mut [u8]) -> Answer
 }
 
 // Message: 1, 2, 7, then 5 (header), 4, 5 (body); then the answer. l: the bytes read so far.
-pub fn message(m: &mut [u64], b: &mut [u8], conn: u32, l: &[u8], out: &mut [u8]) -> Answer
+pub fn message(m: &mut [u64; WORDS], b: &mut [u8], conn: u32, l: &[u8], out: &mut [u8]) -> Answer
     requires { ⌜ Lent (now m) (now b) ⌝ }
     ensures { λ r.
         ⌜ Makes (λ room. messageCall conn (now (l .entry)) (lending room)) (now (m .entry)) (now (b .entry)) (now (out .entry)) r
@@ -137,7 +137,7 @@ pub fn message(m: &mut [u64], b: &mut [u8], conn: u32, l: &[u8], out: &mut [u8])
 }
 
 // The clock brought to an instant in ninths: 2, 3.
-pub fn bring_to(m: &mut [u64], b: &mut [u8], until: Ninths, out: &mut [u8]) -> Answer
+pub fn bring_to(m: &mut [u64; WORDS], b: &mut [u8], until: Ninths, out: &mut [u8]) -> Answer
     requires { ⌜ Lent (now m) (now b) ⌝ }
     requires { ⌜ until .0 < horizon ⌝ }
     ensures { λ r.
@@ -157,7 +157,7 @@ pub fn bring_to(m: &mut [u64], b: &mut [u8], until: Ninths, out: &mut [u8]) -> A
 }
 
 // Tick: 2, 8, 3.
-pub fn tick(m: &mut [u64], b: &mut [u8], seconds: u32, micros: u32, out: &mut [u8]) -> Answer
+pub fn tick(m: &mut [u64; WORDS], b: &mut [u8], seconds: u32, micros: u32, out: &mut [u8]) -> Answer
     requires { ⌜ Lent (now m) (now b) ⌝ }
     ensures { λ r.
         ⌜ Makes (tickCall seconds micros) (now (m .entry)) (now (b .entry)) (now (out .entry)) r

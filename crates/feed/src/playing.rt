@@ -5,6 +5,7 @@ use super::Played;
 use super::Record;
 use super::TICK_END;
 use engine::Answer;
+use memory::WORDS;
 ghost use mathlib.Core.Path.{_≡_};
 ghost use Prim.Native.Nat.{_≤_};
 ghost use lib.ListN.{length};
@@ -53,7 +54,7 @@ fn stopped(more: bool) -> Played
 }
 
 // The call of a record that l begins with, and what the card program writes for it: more says whether the program goes on.
-pub fn play(r: Record, m: &mut [u64], b: &mut [u8], l: &[u8], out: &mut [u8]) -> Played
+pub fn play(r: Record, m: &mut [u64; WORDS], b: &mut [u8], l: &[u8], out: &mut [u8]) -> Played
     requires { ⌜ Lent (now m) (now b) ⌝ }
     requires { ⌜ r ≡ recordIn (now l) ⌝ }
     requires { ⌜ length (now out) ≡ 4096 ⌝ }

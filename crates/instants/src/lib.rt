@@ -1,4 +1,5 @@
 // Instants: starts, ends, being covered and on air again, and a tick's run over them.
+use memory::WORDS;
 use memory::Which;
 use rules::Ninths;
 use rules::Session;
@@ -16,7 +17,7 @@ ghost use Rattle.ends.specs.Does.{Playable, roomFor, Does};
 ghost use Rattle.instants.specs.Runs.{Meets, Placed, Lasting};
 
 // The one on air has played d ninths more: the one place where time on air is added.
-fn elapse(m: &mut [u64], d: u64)
+fn elapse(m: &mut [u64; WORDS], d: u64)
     requires { ⌜ Form (now m) ⌝ }
     requires { ⌜ Lasting d (see (now m) .queue .started) ⌝ }
     ensures { λ _. ⌜ Now (now (m .exit)) (queued (elapse d (see (now (m .entry)) .queue)) (see (now (m .entry)))) ⌝ }
@@ -43,7 +44,7 @@ fn may_start(m: &[u64], x: Session) -> bool
 }
 
 // x, which no longer waits, goes on air, or fails with those that follow it.
-fn launch(m: &mut [u64], x: Session, out: &mut [u8], len: usize) -> usize
+fn launch(m: &mut [u64; WORDS], x: Session, out: &mut [u8], len: usize) -> usize
     requires { ⌜ Form (now m) ⌝ }
     requires { ⌜ Placed (launched x (see (now m) .queue)) ⌝ }
     requires { ⌜ len + roomFor (1 + length (see (now m) .queue .waiting)) ≤ length (now out) ⌝ }
@@ -59,7 +60,7 @@ fn launch(m: &mut [u64], x: Session, out: &mut [u8], len: usize) -> usize
 }
 
 // The one possible start at t: nothing that waits starts before t, so it is the first or none.
-fn start_at(m: &mut [u64], t: Ninths, out: &mut [u8], len: usize) -> usize
+fn start_at(m: &mut [u64; WORDS], t: Ninths, out: &mut [u8], len: usize) -> usize
     requires { ⌜ Form (now m) ⌝ }
     requires { ⌜ Meets (t .0) (see (now m) .queue) ⌝ }
     requires { ⌜ Placed (startAt (t .0) (see (now m) .queue)) ⌝ }
@@ -79,7 +80,7 @@ fn start_at(m: &mut [u64], t: Ninths, out: &mut [u8], len: usize) -> usize
 }
 
 // One instant: ends first, from the highest AccessType down, then the start.
-fn at_instant(m: &mut [u64], t: Ninths, out: &mut [u8], len: usize) -> usize
+fn at_instant(m: &mut [u64; WORDS], t: Ninths, out: &mut [u8], len: usize) -> usize
     requires { ⌜ Form (now m) ⌝ }
     requires { ⌜ Meets (t .0) (see (now m) .queue) ⌝ }
     requires { ⌜ Placed (instant (t .0) (see (now m) .queue)) ⌝ }
@@ -103,7 +104,7 @@ fn next_due(m: &[u64], until: Ninths) -> When
 }
 
 // Every instant from the clock to `until`, in order of time. The clock's word stays.
-pub fn run(m: &mut [u64], until: Ninths, out: &mut [u8]) -> usize
+pub fn run(m: &mut [u64; WORDS], until: Ninths, out: &mut [u8]) -> usize
     requires { ⌜ Form (now m) ⌝ }
     requires { ⌜ Holding (see (now m) .clock) (see (now m) .queue) ⌝ }
     requires { ⌜ (see (now m) .clock ≤ until .0) × (until .0 < horizon) ⌝ }

@@ -21,7 +21,12 @@ use Rattle.places.proofs.Words.{spare-none}
 use Rattle.memory.specs.declared.Which.{Which}
 use Rattle.memory.specs.declared.Which.the-variants.{Waiting, Started}
 use Rattle.memory.specs.Memory.{clockWord, slotOf, firstLink, connections, placesOf, fromOf, toOf, spanOf, words, wordOf, linkIn, IsLink, linksOf, lotOf, sessions, Form, Memory, see, Now}
-use Rattle.memory.specs.Memory.{timed, linked, queued, listed, nothingShown, nameSize, nameOf, Stored, Whole, shown}
+use Rattle.memory.specs.Memory.{timed, linked, queued, listOf, listed, nothingShown, nameSize, nameOf, Stored, Whole, shown}
+
+-- a list of the words is that list of the queue that they show
+pub sessions-list : (v : Which) (m : List ℕ) → sessions v m ≡ listOf v (see m .queue)
+sessions-list Waiting m = refl
+sessions-list Started m = refl
 
 -- ## Parts of words
 

@@ -2,7 +2,6 @@
 // connection, the places of those that wait and of those that have started. Its bytes: the ChannelName with zeros behind its end.
 // Only this crate knows where what stands.
 use places::Key;
-use places::Those;
 use places::WIDTH;
 use rules::Link;
 use rules::Ninths;
@@ -16,8 +15,8 @@ ghost use lib.Seq.{paste};
 ghost use Rattle.rules.specs.declared.Link.the-variants.{Closed};
 ghost use Rattle.rules.specs.Bytes.{nameIn};
 ghost use Rattle.rules.specs.Lists.{All, omit, place, insertAt, removeAt};
-ghost use Rattle.rules.specs.State.{empty, Sorted, earliest};
-ghost use Rattle.places.specs.Places.{keyTest, among, OfFour, tallied};
+ghost use Rattle.rules.specs.State.{empty, of, Sorted, earliest};
+ghost use Rattle.places.specs.Places.{keyTest, OfFour, tallied};
 ghost use Rattle.memory.specs.declared.Which.the-variants.{Waiting, Started};
 ghost use Rattle.memory.specs.Memory.{slotOf, firstLink, fromOf, toOf, words, placesOf, wordOf, linkIn};
 ghost use Rattle.memory.specs.Memory.{sessions, see, Form, Now, timed, linked, relisted, nothingShown};
@@ -196,16 +195,17 @@ pub fn remove(m: &mut [u64], which: Which, at: usize)
     m[i] = (n - 1) as u64;
 }
 
-// Without those.
-pub fn omit_those(m: &mut [u64], which: Which, those: Those)
+// Without the connection's, where `left` are others'.
+pub fn omit_of(m: &mut [u64], which: Which, conn: u64, left: usize)
     requires { ⌜ Form (now m) ⌝ }
+    requires { ⌜ left ≡ length (omit (of conn) (sessions which (now m))) ⌝ }
     ensures { λ _. ⌜ Now (now (m .exit))
-        (relisted which (omit (among those) (sessions which (now (m .entry)))) (see (now (m .entry)))) ⌝ }
+        (relisted which (omit (of conn) (sessions which (now (m .entry)))) (see (now (m .entry)))) ⌝ }
 {
     let n = count(&*m, which);
     let a = from(which);
     let e = to(which);
-    let left = places::omit_those(&mut m[a..e], n, those);
+    places::omit_of(&mut m[a..e], n, conn, left);
     let i = slot(which);
     m[i] = left as u64;
 }

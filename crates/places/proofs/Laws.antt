@@ -1,7 +1,7 @@
 -- Laws of the list in lent places: it is padded with empty ones, a shift moves a hole, a loop has passed a part of it.
 use mathlib.Core.Path.{_≡_, refl, sym, ap, ap₂, subst, _∙_}
 use mathlib.Core.List.{List, [], _∷_, _++_, append-assoc}
-use mathlib.Core.Bool.{Bool, true, false}
+use mathlib.Core.Bool.{Bool, true, false, not}
 use Prim.Native.Nat.{ℕ, zero, suc, _+_, _-_, _/_, _≤_, _<_}
 use native.Mathlib.Omega.{arith}
 use native.Mathlib.Numerals.{add-one}
@@ -13,11 +13,11 @@ use borrow.Author.Tests.{eqb-true, eqb-false}
 use Rattle.rules.specs.declared.Ninths.{Ninths}
 use Rattle.rules.specs.declared.When.the-variants.{At, Never}
 use Rattle.rules.specs.declared.Session.{Session}
-use Rattle.rules.specs.Lists.{All, bit, omit, place, count, insertAt, removeAt}
+use Rattle.rules.specs.Lists.{All, bit, put, omit, place, count, insertAt, removeAt}
 use Rattle.rules.specs.State.{empty, of, Sorted, sooner, earliest}
 use Rattle.rules.proofs.All.{all-drop}
 use Rattle.rules.proofs.Tick.{earliest-none, earliest-next, earliest-last, earliest-start}
-use Rattle.rules.proofs.Count.{bit≤1, length-insertAt, length-removeAt, place≤}
+use Rattle.rules.proofs.Count.{bit≤1, length-insertAt, length-removeAt, length-split, place≤}
 use Rattle.places.specs.Places.{capacity, Lot, lot, places, spare, zeros, free, Good, used, OfFour, tallied}
 use Rattle.places.proofs.Words.{length-places, places-zero, places-same}
 
@@ -88,6 +88,20 @@ module _ {A : Type 0} where
   drop-set-here [] k i x h e = absurd (omega arith)
   drop-set-here (y ∷ l) zero i x h e = rw e refl
   drop-set-here (y ∷ l) (suc k) i x h e = drop-set-here l k (suc k) x (le-of-suc-le-suc h) refl ∙ rw e refl
+
+  -- what stays of a list is what stays of its parts
+  omit-parts : (p : A → Bool) (i : ℕ) (l : List A) → omit p l ≡ omit p (take i l) ++ omit p (drop i l)
+  omit-parts p zero l = refl
+  omit-parts p (suc i) [] = refl
+  omit-parts p (suc i) (x ∷ l) = go (not (p x)) (omit-parts p i l)
+    where
+      go : (b : Bool) → omit p l ≡ omit p (take i l) ++ omit p (drop i l) → put b x (omit p l) ≡ put b x (omit p (take i l)) ++ omit p (drop i l)
+      go true e = ap (λ r. x ∷ r) e
+      go false e = e
+
+  none-before : (l m : List A) → length (l ++ m) ≤ length m → l ++ m ≡ m
+  none-before [] m h = refl
+  none-before (x ∷ l) m h = absurd (omega (arith, length-append l m))
 
 -- ## The list in its places
 
@@ -180,13 +194,6 @@ remove-made q r at k g a d e =
     ∙ one-more k empty (removeAt at u)
     ∙ ap (λ (j : ℕ). replicate j empty ++ removeAt at u) y) (omega arith)
 
--- with a place removed there is one less
-pub len-removed : (q r : Lot) (k : ℕ) → Good q → Good r → k < q .len → used r ≡ removeAt k (used q) → suc (r .len) ≡ q .len
-len-removed q r k g h l e =
-    let n : length (used q) ≡ q .len = length-used q g in
-    let m : length (used r) ≡ r .len = length-used r h in
-    omega (arith, length-removeAt k (used q) (omega arith), ap length e)
-
 -- what a search gives is a place, or the end
 pub found-within : (p : Session → Bool) (q : Lot) (i : ℕ) → Good q → i ≡ place p (used q) → i ≤ q .len
 found-within p q i g e = omega (arith, place≤ p (used q), length-used q g)
@@ -194,6 +201,10 @@ found-within p q i g e = omega (arith, place≤ p (used q), length-used q g)
 -- no more are used than there are places
 pub used-fits : (q : List ℕ) (n : ℕ) → Good (lot q n) → n ≤ capacity q
 used-fits q n g = omega (arith, g .fits, length-places q)
+
+-- nor do more stay
+pub stay-fits : (p : Session → Bool) (q : Lot) (k : ℕ) → Good q → k ≡ length (omit p (used q)) → k ≤ q .len
+stay-fits p q k g e = omega (arith, length-split p (used q), length-used q g)
 
 -- the session `at` of the words q: its place is one of the words, and holds what the list has there
 module _ (q : List ℕ) (n at : ℕ) (g : Good (lot q n)) (h : at < n) where
@@ -402,7 +413,26 @@ module _ (p : Session → Bool) (u : List Session) (l : Lot) (i to j : ℕ) (v :
         back = ap (drop k) w ∙ drop-set-here (used l) k to x (omega (arith, v .fits)) (omega arith) ∙ ap (λ r. x ∷ r) (v .back) ∙ sym (rw (next-in, d) refl);
       }
 
-pub omitting-done : (p : Session → Bool) (u : List Session) (l : Lot) (i to : ℕ) → Omitting p u l i to → i ≤ 0 → drop to (used l) ≡ omit p u
-omitting-done p u l i to v h =
-    let z : i ≡ 0 = omega arith in
-    v .back ∙ ap (λ (k : ℕ). omit p (drop k u)) z
+-- `left` of them stay in all
+module _ (p : Session → Bool) (u : List Session) (l : Lot) (i to left : ℕ) (v : Omitting p u l i to) (e : left ≡ length (omit p u)) where
+  stays-behind : l .len - to ≡ length (omit p (drop i u))
+  stays-behind =
+      let n : length (used l) ≡ l .len = length-used l (v .good) in
+      omega (arith, length-drop to (used l), ap length (v .back))
+
+  -- with fewer behind `to`, one that stays is still ahead
+  pub omitting-ahead : l .len - left < to → 0 < i
+  omitting-ahead h = go i stays-behind
+    where
+      go : (k : ℕ) → l .len - to ≡ length (omit p (drop k u)) → 0 < k
+      go zero d = absurd (omega (arith, v .fits))
+      go (suc k) d = omega arith
+
+  -- and with as many, all that goes is before them
+  pub omitting-done : left ≤ l .len → to ≤ l .len - left → drop (l .len - left) (used l) ≡ omit p u
+  omitting-done f h =
+      let d : length (omit p (take i u) ++ omit p (drop i u)) ≡ left = ap length (sym (omit-parts p i u)) ∙ sym e in
+      let b : to ≡ l .len - left =
+      omega (arith, v .fits, stays-behind, length-append (omit p (take i u)) (omit p (drop i u))) in
+      ap (λ (k : ℕ). drop k (used l)) (sym b) ∙ v .back
+      ∙ sym (omit-parts p i u ∙ none-before (omit p (take i u)) (omit p (drop i u)) (omega (arith, v .fits, stays-behind)))

@@ -7,11 +7,9 @@ use lib.Dec.{leb}
 use lib.ListN.{length, take, drop, set, getD, replicate}
 use Rattle.rules.specs.declared.Session.{Session}
 use Rattle.rules.specs.Answers.{waits}
-use Rattle.rules.specs.State.{empty, of, is, follows, startsAfter, endsAt}
+use Rattle.rules.specs.State.{empty, is, follows, startsAfter}
 use Rattle.places.specs.declared.Key.{Key}
 use Rattle.places.specs.declared.Key.the-variants.{Held, Follows, StartsFrom, StartsAfter}
-use Rattle.places.specs.declared.Those.{Those}
-use Rattle.places.specs.declared.Those.the-variants.{Of, EndsAt}
 
 -- the words of a place
 abbrev pub width : ℕ
@@ -101,8 +99,3 @@ keyTest (Held c x) = is c x
 keyTest (Follows c x) = follows c x
 keyTest (StartsFrom t) = startsFrom (t .0)
 keyTest (StartsAfter t) = startsAfter (t .0)
-
--- the test of those that end together
-abbrev pub among : Those → Session → Bool
-among (Of c) = of c
-among (EndsAt t) = endsAt (t .0)

@@ -6,12 +6,12 @@ use rules::Session;
 use rules::When;
 ghost use mathlib.Core.Path.{_≡_};
 ghost use Prim.Native.Nat.{_+_, _-_, _≤_, _<_};
-ghost use lib.ListN.{drop, set, getD};
+ghost use lib.ListN.{length, drop, set, getD};
 ghost use Rattle.rules.specs.Lists.{All, omit, place, insertAt, removeAt};
-ghost use Rattle.rules.specs.State.{empty, Sorted, earliest};
+ghost use Rattle.rules.specs.State.{empty, of, Sorted, earliest};
 ghost use Rattle.rules.specs.Instants.{outranks};
 ghost use Rattle.rules.specs.Answers.{inserted};
-ghost use Rattle.places.specs.Places.{capacity, places, spare, lot, used, moved, Good, Made, OfFour, tallied, keyTest, among};
+ghost use Rattle.places.specs.Places.{capacity, places, spare, lot, used, moved, Good, Made, OfFour, tallied, keyTest};
 
 // The words of a place.
 pub const WIDTH: usize = 8;
@@ -22,12 +22,6 @@ pub enum Key {
     Follows(u64, u64),
     StartsFrom(Ninths),
     StartsAfter(Ninths),
-}
-
-// Those that end together: a connection's, or those whose end has come. `among` of specs/ gives each its test.
-pub enum Those {
-    Of(u64),
-    EndsAt(Ninths),
 }
 
 // What stands where no session is.
@@ -182,16 +176,6 @@ pub fn matches(key: Key, x: Session) -> bool
     }
 }
 
-// Whether x is one of those.
-pub fn is_among(those: Those, x: Session) -> bool
-    ensures { λ r. ⌜ r ≡ among those x ⌝ }
-{
-    match those {
-        Those::Of(conn) => conn == x.conn,
-        Those::EndsAt(t) => t.0 == x.end.0,
-    }
-}
-
 // The place of the first that the key looks for, or n.
 pub fn find(q: &[u64], n: usize, key: Key) -> usize
     requires { ⌜ Good (lot (now q) n) ⌝ }
@@ -208,23 +192,23 @@ pub fn find(q: &[u64], n: usize, key: Key) -> usize
     at
 }
 
-// Without those: the rest closes up, from the last on. How many stay.
-pub fn omit_those(q: &mut [u64], n: usize, those: Those) -> usize
+// Without the connection's: the `left` others close up, from the last on.
+pub fn omit_of(q: &mut [u64], n: usize, conn: u64, left: usize)
     requires { ⌜ Good (lot (now q) n) ⌝ }
-    ensures { λ r. ⌜ Made (now (q .entry)) (now (q .exit)) r (omit (among those) (used (lot (now (q .entry)) n))) ⌝ }
+    requires { ⌜ left ≡ length (omit (of conn) (used (lot (now q) n))) ⌝ }
+    ensures { λ _. ⌜ Made (now (q .entry)) (now (q .exit)) left (omit (of conn) (used (lot (now (q .entry)) n))) ⌝ }
 {
     let mut to = n;
     let mut i = n;
-    while 0 < i {
+    while n - left < to {
         i -= 1;
         let x = load(&*q, n, i);
-        if !is_among(those, x) {
+        if conn != x.conn {
             to -= 1;
             move_to(&mut *q, n, i, to);
         }
     }
-    drop_first(&mut *q, n, to);
-    n - to
+    drop_first(&mut *q, n, n - left)
 }
 
 // How many are each connection's.

@@ -4,7 +4,8 @@ ghost use Prim.Native.Nat.{_+_, _≤_};
 ghost use lib.ListN.{length};
 ghost use Rattle.rules.specs.Bytes.{dataOf};
 ghost use Rattle.rules.specs.Calls.{framing};
-ghost use Rattle.rules.specs.Reading.{channelName, splicerName, readInit, readAlive, readAbort, readStart, badSplice, separatePids, wholeRequest, readSplice, isRead, «read»};
+ghost use Rattle.rules.specs.Reading.{channelName, splicerName, readInit, readAlive, readAbort, readStart, badSplice};
+ghost use Rattle.rules.specs.Reading.{separatePids, wholeRequest, readSplice, isRead, «read»};
 
 pub mod descriptors;
 pub mod names;

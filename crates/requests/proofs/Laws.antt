@@ -25,76 +25,33 @@ use Rattle.rules.specs.Ends.{Turn, quiet, writes, andThen, ended, endings, dism
 use Rattle.rules.specs.Answers.{startOf, sessionAt, requested, separate, full}
 use Rattle.rules.specs.Answers.{spliceResult, inserted, accepts, accepted, answerSplice, answerAbort}
 use Rattle.rules.specs.Asked.{Within}
-use Rattle.rules.specs.Sound.{Room, horizon, heldCount, Once, Holding}
+use Rattle.rules.specs.Sound.{Room, horizon, Once, Holding}
 use Rattle.rules.proofs.Tests.{and-both}
-use Rattle.rules.proofs.All.{all-into}
 use Rattle.rules.proofs.Count.{some-place, place≤}
-use Rattle.rules.proofs.Every.{fewer-length, fewer-removeAt}
 use Rattle.rules.proofs.Leaving.{evicted-started}
 use Rattle.rules.proofs.Checks.{passed-all}
 use Rattle.rules.proofs.Room.{room-more, sixty-four}
 use Rattle.rules.proofs.Records.{length-record}
 use Rattle.rules.proofs.Size.{weight-one, evicted-lean}
-use Rattle.rules.proofs.Bounds.{longest, never, start-early}
-use Rattle.rules.proofs.Sound.{early, played-now}
+use Rattle.rules.proofs.Bounds.{never, start-early}
+use Rattle.rules.proofs.Sound.{early}
 use Rattle.places.specs.Places.{OfFour, startsFrom}
 use Rattle.memory.specs.declared.Which.{Which}
 use Rattle.memory.specs.declared.Which.the-variants.{Waiting, Started}
-use Rattle.memory.specs.Memory.{Memory, Form, see, sessions, listOf, listed, relisted, Now, placesOf}
-use Rattle.ends.specs.Does.{Playable, roomFor, Turns, Does, oneEnded}
-use Rattle.ends.proofs.Laws.{sessions-list, told-one, tells-part, turns-quiet, turns-writes, turns-then}
-use Rattle.checks.specs.Found.{startIn}
-use Rattle.checks.proofs.Laws.{HeldAt, held-alone, found-within, start-known, taken-at, free-at, taken-within, result-none, waiting-of-four}
+use Rattle.memory.specs.Memory.{Memory, Form, see, sessions, listOf, relisted, Now, placesOf}
+use Rattle.ends.specs.Does.{Turns, Does, oneEnded, chainEnded, endingAt}
+use Rattle.ends.proofs.Laws.{tells-part, turns-quiet, turns-writes, turns-then}
+use Rattle.checks.specs.declared.Where.{Where}
+use Rattle.checks.specs.declared.Where.the-variants.{In}
+use Rattle.checks.specs.Found.{startIn, whereIn}
+use Rattle.checks.proofs.Laws.{HeldAt, held-at, held-alone, start-known, taken-at, free-at, taken-within, result-none, waiting-of-four}
 use Rattle.requests.specs.declared.Way.{Way}
-use Rattle.requests.specs.Made.{MadeWay, chainEnded, endingAt}
-
--- ## What is held can be written
-
--- nothing that waits was on air, and no PlayedDuration is longer than the longest Duration
-pub playable : (v : Which) (m : List ℕ) → Holding (see m .clock) (see m .queue) → All Playable (sessions v m)
-playable Waiting m h = all-into (λ s. s .played .0 ≡ 0) Playable (λ s e. omega arith) (see m .queue .waiting) (h .played .silent)
-playable Started m h =
-    all-into (λ s. s .played .0 ≤ longest) Playable (λ s i. omega arith) (see m .queue .started)
-    (played-now (see m .clock) (see m .queue) h)
-
--- what is found can end
-pub found-ends : (c x : ℕ) (m : List ℕ) {v : Which} {i : ℕ} → HeldAt c x (see m .queue) v i → Holding (see m .clock) (see m .queue) →
-    (i < length (sessions v m)) × All Playable (sessions v m)
-found-ends c x m {v} h k = (found-within c x m h, playable v m k)
+use Rattle.requests.specs.Made.{MadeWay}
 
 -- one record of 14 bytes is all
 says-one : {x : Record} {m e o : List ℕ} → length (recordBytes x) ≡ 14 → Form m → o ≡ written e 0 (recordBytes x) →
     Does (writes (x ∷ [])) 0 m e 14 m o
 says-one l f b = turns-writes (record { form = f; is = refl }) (omega (arith, l)) b
-
--- ## A session's end, and its followers'
-
--- no more wait after it
-fewer-wait : (v : Which) (i : ℕ) (q : Queue) → length (listed v (removeAt i (listOf v q)) q .waiting) ≤ length (q .waiting)
-fewer-wait Waiting i q = fewer-length (fewer-removeAt i (q .waiting))
-fewer-wait Started i q = omega arith
-
-module _ (v : Which) (i : ℕ) (how : Ending) (m : List ℕ) {e n o : List ℕ} {len to : ℕ} (d : Does (oneEnded v i how) len m e to n o) where
-  end-brief : to ≤ len + roomFor 1
-  unfolding oneEnded
-  end-brief = told-one how (getD (listOf v (see m .queue)) i empty) (d .tells)
-
-  -- room for those that follow it
-  pub chain-room : len + roomFor (1 + length (see m .queue .waiting)) ≤ length e → length o ≡ length e →
-      to + roomFor (length (see n .queue .waiting)) ≤ length o
-  unfolding oneEnded
-  chain-room h k =
-      omega (arith, end-brief, fewer-wait v i (see m .queue), ap (λ (s : Memory). length (s .queue .waiting)) (d .shows .is))
-
-  -- and then they end
-  pub chain-turns : (result : ℕ) {x : Session} {n′ o′ : List ℕ} {to′ : ℕ} → x ≡ getD (sessions v m) i empty → len + roomFor 1 ≤ length e →
-      Does (dismissed result (x .conn) (x .id)) to n o to′ n′ o′ → Does (chainEnded v i how result) len m e to′ n′ o′
-  unfolding chainEnded
-  chain-turns result {x} {n′} {o′} {to′} f h k =
-      let s = getD (listOf v (see m .queue)) i empty in
-      let g : x ≡ s = f ∙ ap (λ (l : List Session). getD l i empty) (sessions-list v m) in
-      turns-then (oneEnded v i how (see m .queue)) (dismissed result (s .conn) (s .id)) (omega (arith, d .tells .count, end-brief)) d
-      (subst (λ (y : Session). Does (dismissed result (y .conn) (y .id)) to n o to′ n′ o′) g k)
 
 -- ## Way for a new session
 
@@ -278,7 +235,7 @@ module _ (p : Session → Bool) where
 
   -- by what it was: the first is on air
   cancels-one : (i : ℕ) (k : List Session) → i < length k → p (getD k i empty) ≡ true → count p (removeAt i k) ≡ 0
-      → cancels k ≡ ended (endingAt Started i) (getD k i empty) ∷ []
+      → cancels k ≡ ended (endingAt i 116) (getD k i empty) ∷ []
   unfolding endings removeAt
   cancels-one i [] h e z = absurd (omega arith)
   cancels-one zero (s ∷ k) h e z =
@@ -298,33 +255,28 @@ module _ (p : Session → Bool) where
   cancelled-parts q a b d e =
       sym (λ i. record { queue = record { waiting = a i; started = b i }; written = d i ++ map (ended (Response 116)) (e i) })
 
-module _ (c x : ℕ) (q : Queue) (v : Which) (i : ℕ) (once : Once q) (h : HeldAt c x q v i) where
-  -- a number is held once: what ends is the session where it is held
-  cancelled-at : oneEnded v i (endingAt v i) q ≡ cancelled (is c x) q
+-- a number is held once: what ends is the session where it is held
+module _ (c x : ℕ) (q : Queue) (i : ℕ) (once : Once q) where
+  waiting-cancelled : HeldAt c x q Waiting i → oneEnded Waiting i (Response 116) q ≡ cancelled (is c x) q
   unfolding oneEnded
-  cancelled-at = go v h (held-alone c x q v i once h)
-    where
-      go : (v : Which) → HeldAt c x q v i → heldCount (listed v (removeAt i (listOf v q)) q) (is c x) ≡ 0
-          → oneEnded v i (endingAt v i) q ≡ cancelled (is c x) q
-      go Waiting h z =
-          let w = parted-one (is c x) i (q .waiting) empty (h .within) (h .passes) (omega arith) in
-          let k : count (is c x) (q .started) ≡ 0 = omega arith in
-          cancelled-parts (is c x) q (w .1) (parted-none (is c x) (q .started) k .1) (cancels-none (is c x) (q .started) k) (w .0)
-      go Started h z =
-          let k : count (is c x) (removeAt i (q .started)) ≡ 0 = omega arith in
-          let w = parted-none (is c x) (q .waiting) (omega arith) in
-          cancelled-parts (is c x) q (w .1) (parted-one (is c x) i (q .started) empty (h .within) (h .passes) k .1)
-          (cancels-one (is c x) i (q .started) (h .within) (h .passes) k) (w .0)
+  waiting-cancelled h =
+      let z = held-alone c x q Waiting i once h in
+      let w = parted-one (is c x) i (q .waiting) empty (h .within) (h .passes) (omega (arith, z)) in
+      let k : count (is c x) (q .started) ≡ 0 = omega (arith, z) in
+      cancelled-parts (is c x) q (w .1) (parted-none (is c x) (q .started) k .1) (cancels-none (is c x) (q .started) k) (w .0)
 
-  -- and those that follow its number
-  pub aborted-chain : chainEnded v i (endingAt v i) 116 q ≡ aborted c x q
-  unfolding chainEnded aborted
-  aborted-chain =
-      let s = getD (listOf v q) i empty in
-      let b = and-both (eqb c (s .conn)) (eqb x (s .id)) (h .passes) in
-      let conn = eqb-true c (s .conn) (b .0) in
-      let id = eqb-true x (s .id) (b .1) in
-      λ j. andThen (cancelled-at j) (dismissed 116 (sym conn j) (sym id j))
+  started-cancelled : HeldAt c x q Started i → oneEnded Started i (endingAt i 116) q ≡ cancelled (is c x) q
+  unfolding oneEnded
+  started-cancelled h =
+      let z = held-alone c x q Started i once h in
+      let k : count (is c x) (removeAt i (q .started)) ≡ 0 = omega (arith, z) in
+      let w = parted-none (is c x) (q .waiting) (omega (arith, z)) in
+      cancelled-parts (is c x) q (w .1) (parted-one (is c x) i (q .started) empty (h .within) (h .passes) k .1)
+      (cancels-one (is c x) i (q .started) (h .within) (h .passes) k) (w .0)
+
+-- w: where the number is held; u: that list
+pub found-in : (c x : ℕ) (q : Queue) {w : Where} {v u : Which} {i : ℕ} → w ≡ whereIn c x q → w ≡ In v i → v ≡ u → HeldAt c x q u i
+found-in c x q {i = i} f g h = held-at c x q (sym f ∙ g ∙ ap (λ (z : Which). In z i) h)
 
 module _ (c x : ℕ) {m e : List ℕ} (f : Form m) where
   pub abort-unknown : {o : List ℕ} → holds c x (see m .queue) ≡ false → o ≡ written e 0 (recordBytes (AbortResponse c 121 x)) →
@@ -332,20 +284,28 @@ module _ (c x : ℕ) {m e : List ℕ} (f : Form m) where
   unfolding answerAbort
   abort-unknown h b = rw h (says-one (length-record (AbortResponse c 121 x) tt) f b)
 
-  -- 100, the session's end, and its followers' ends
-  pub abort-turns : {v : Which} {i to : ℕ} {how : Ending} {n o o′ : List ℕ} → Holding (see m .clock) (see m .queue) →
-      HeldAt c x (see m .queue) v i → 14 ≤ length e → o ≡ written e 0 (recordBytes (AbortResponse c 100 x)) → how ≡ endingAt v i →
-      Does (chainEnded v i how 116) 14 m o to n o′ → Does (answerAbort c x) 0 m e to n o′
-  unfolding answerAbort
-  abort-turns {v} {i} {to} {how} {n} {o} {o′} k h l b g d =
-      let q = see m .queue in
-      let y = AbortResponse c 100 x in
-      let same = ap (λ (z : Ending). chainEnded v i z 116 q) g ∙ aborted-chain c x q v i (k .once) h in
-      rw (h .known)
-      (turns-then (writes (y ∷ []) q) (aborted c x) (omega (arith, weight-one y tt)) (says-one (length-record y tt) f b)
-      (subst (λ (t : Turn). Turns o 14 t (see m) n to o′) same d))
+  -- 100, the end of the session where the number is held, and its followers' ends
+  module _ {i to : ℕ} {n o o′ : List ℕ} (k : Holding (see m .clock) (see m .queue)) (l : 14 ≤ length e)
+      (b : o ≡ written e 0 (recordBytes (AbortResponse c 100 x))) where
+    abort-turns : (v : Which) (how : Ending) → HeldAt c x (see m .queue) v i →
+        oneEnded v i how (see m .queue) ≡ cancelled (is c x) (see m .queue) → Does (chainEnded v i how 116) 14 m o to n o′ →
+        Does (answerAbort c x) 0 m e to n o′
+    unfolding answerAbort aborted chainEnded
+    abort-turns v how h g d =
+        let q = see m .queue in
+        let y = AbortResponse c 100 x in
+        let s = getD (listOf v q) i empty in
+        let z = and-both (eqb c (s .conn)) (eqb x (s .id)) (h .passes) in
+        let conn = eqb-true c (s .conn) (z .0) in
+        let id = eqb-true x (s .id) (z .1) in
+        rw (h .known)
+        (turns-then (writes (y ∷ []) q) (aborted c x) (omega (arith, weight-one y tt)) (says-one (length-record y tt) f b)
+        (subst (λ (t : Turn). Turns o 14 t (see m) n to o′) (λ j. andThen (g j) (dismissed 116 (sym conn j) (sym id j))) d))
 
--- how a covered session ends
-pub ending-covered : (i : ℕ) → (i ≡ 0 → ⊥) → Response 116 ≡ endingAt Started i
-ending-covered zero h = absurd (h refl)
-ending-covered (suc i) h = refl
+    pub abort-waiting : HeldAt c x (see m .queue) Waiting i → Does (chainEnded Waiting i (Response 116) 116) 14 m o to n o′ →
+        Does (answerAbort c x) 0 m e to n o′
+    abort-waiting h = abort-turns Waiting (Response 116) h (waiting-cancelled c x (see m .queue) i (k .once) h)
+
+    pub abort-started : HeldAt c x (see m .queue) Started i → Does (chainEnded Started i (endingAt i 116) 116) 14 m o to n o′ →
+        Does (answerAbort c x) 0 m e to n o′
+    abort-started h = abort-turns Started (endingAt i 116) h (started-cancelled c x (see m .queue) i (k .once) h)

@@ -1,8 +1,8 @@
 // Requests: a Splice_Request's answer with eviction and acceptance, and an Abort_Request's.
 use checks::Where;
+use memory::WORDS;
 use memory::Which;
 use places::Key;
-use rules::Ending;
 use rules::Ninths;
 use rules::Request;
 use rules::Session;
@@ -10,15 +10,15 @@ use rules::When;
 ghost use mathlib.Core.Path.{_≡_};
 ghost use Prim.Native.Nat.{_+_, _≤_, _<_};
 ghost use lib.ListN.{length};
-ghost use Rattle.rules.specs.Lists.{All, place};
+ghost use Rattle.rules.specs.Lists.{place};
 ghost use Rattle.rules.specs.Answers.{accepted, answerSplice, answerAbort};
 ghost use Rattle.rules.specs.Sound.{horizon, Holding};
 ghost use Rattle.rules.specs.Asked.{Asked};
 ghost use Rattle.places.specs.Places.{startsFrom};
-ghost use Rattle.memory.specs.Memory.{Form, see, sessions, placesOf};
+ghost use Rattle.memory.specs.Memory.{Form, see, placesOf};
 ghost use Rattle.memory.specs.declared.Which.the-variants.{Waiting};
-ghost use Rattle.ends.specs.Does.{Playable, roomFor, Does};
-ghost use Rattle.requests.specs.Made.{MadeWay, chainEnded, endingAt};
+ghost use Rattle.ends.specs.Does.{Does};
+ghost use Rattle.requests.specs.Made.{MadeWay};
 
 // Where a new session goes, and how far the output is written.
 struct Way {
@@ -26,30 +26,8 @@ struct Way {
     len: usize,
 }
 
-// The session `at` of a list ends, and then the waiting ones that follow it, with the result.
-fn end_chain(
-    m: &mut [u64],
-    which: Which,
-    at: usize,
-    how: Ending,
-    result: u16,
-    out: &mut [u8],
-    len: usize,
-) -> usize
-    requires { ⌜ Form (now m) ⌝ }
-    requires { ⌜ at < length (sessions which (now m)) ⌝ }
-    requires { ⌜ All Playable (sessions which (now m)) ⌝ }
-    requires { ⌜ len + roomFor (1 + length (see (now m) .queue .waiting)) ≤ length (now out) ⌝ }
-    ensures { λ r.
-        ⌜ Does (chainEnded which at how result) len (now (m .entry)) (now (out .entry)) r (now (m .exit)) (now (out .exit)) ⌝ }
-{
-    let x = memory::load(&*m, which, at);
-    let to = ends::end_one(&mut *m, which, at, how, &mut *out, len);
-    ends::dismiss(&mut *m, result, x.conn, x.id, &mut *out, to)
-}
-
 // f. One that waits with the start t ends first, with its followers; `at` is the place of the first from t on.
-fn make_way(m: &mut [u64], t: Ninths, at: usize, out: &mut [u8]) -> Way
+fn make_way(m: &mut [u64; WORDS], t: Ninths, at: usize, out: &mut [u8]) -> Way
     requires { ⌜ Form (now m) ⌝ }
     requires { ⌜ Holding (see (now m) .clock) (see (now m) .queue) ⌝ }
     requires { ⌜ at ≡ place (startsFrom (t .0)) (see (now m) .queue .waiting) ⌝ }
@@ -57,8 +35,7 @@ fn make_way(m: &mut [u64], t: Ninths, at: usize, out: &mut [u8]) -> Way
     ensures { λ r. ⌜ MadeWay (t .0) (now (m .entry)) (now (out .entry)) r (now (m .exit)) (now (out .exit)) ⌝ }
 {
     if checks::is_taken(&*m, t, at) {
-        let how = Ending::Response(109);
-        let to = end_chain(&mut *m, Which::Waiting, at, how, 109, &mut *out, 0);
+        let to = ends::end_waiting(&mut *m, at, 109, &mut *out, 0);
         let i = memory::find(&*m, Which::Waiting, Key::StartsAfter(t));
         return Way { at: i, len: to };
     }
@@ -66,7 +43,7 @@ fn make_way(m: &mut [u64], t: Ninths, at: usize, out: &mut [u8]) -> Way
 }
 
 // f. The new session waits, once the one that it evicts has ended; the 100 is written last.
-fn accept(m: &mut [u64], new: Session, at: usize, out: &mut [u8]) -> usize
+fn accept(m: &mut [u64; WORDS], new: Session, at: usize, out: &mut [u8]) -> usize
     requires { ⌜ Form (now m) ⌝ }
     requires { ⌜ Holding (see (now m) .clock) (see (now m) .queue) ⌝ }
     requires { ⌜ at ≡ place (startsFrom (new .start .0)) (see (now m) .queue .waiting) ⌝ }
@@ -82,7 +59,7 @@ fn accept(m: &mut [u64], new: Session, at: usize, out: &mut [u8]) -> usize
 }
 
 // The answer to a Splice_Request.
-pub fn answer_splice(m: &mut [u64], conn: u64, r: Request, out: &mut [u8]) -> usize
+pub fn answer_splice(m: &mut [u64; WORDS], conn: u64, r: Request, out: &mut [u8]) -> usize
     requires { ⌜ Form (now m) ⌝ }
     requires { ⌜ Holding (see (now m) .clock) (see (now m) .queue) ⌝ }
     requires { ⌜ see (now m) .clock < horizon ⌝ }
@@ -110,23 +87,8 @@ pub fn answer_splice(m: &mut [u64], conn: u64, r: Request, out: &mut [u8]) -> us
     14
 }
 
-// How the session at a place of a list ends, aborted: the first of the started is on air, any other is covered or waits.
-fn ending_at(which: Which, at: usize) -> Ending
-    ensures { λ r. ⌜ r ≡ endingAt which at ⌝ }
-{
-    match which {
-        Which::Waiting => Ending::Response(116),
-        Which::Started => {
-            if at == 0 {
-                return Ending::Complete(116);
-            }
-            Ending::Response(116)
-        }
-    }
-}
-
 // The answer to an Abort_Request: 121, or 100, the session's end and its followers' ends. No number is held twice: one search finds it.
-pub fn answer_abort(m: &mut [u64], conn: u64, id: u64, out: &mut [u8]) -> usize
+pub fn answer_abort(m: &mut [u64; WORDS], conn: u64, id: u64, out: &mut [u8]) -> usize
     requires { ⌜ Form (now m) ⌝ }
     requires { ⌜ Holding (see (now m) .clock) (see (now m) .queue) ⌝ }
     requires { ⌜ see (now m) .clock < horizon ⌝ }
@@ -139,6 +101,8 @@ pub fn answer_abort(m: &mut [u64], conn: u64, id: u64, out: &mut [u8]) -> usize
         return 14;
     };
     writing::abort_response(&mut *out, conn, 100, id);
-    let how = ending_at(which, at);
-    end_chain(&mut *m, which, at, how, 116, &mut *out, 14)
+    match which {
+        Which::Waiting => ends::end_waiting(&mut *m, at, 116, &mut *out, 14),
+        Which::Started => ends::end_started(&mut *m, at, 116, &mut *out, 14),
+    }
 }

@@ -6,7 +6,8 @@ ghost use mathlib.Core.Path.{_≡_};
 ghost use Prim.Native.Nat.{_≤_};
 ghost use lib.ListN.{length};
 ghost use Rattle.rules.specs.Bytes.{bytes, written, nameIn, padded};
-ghost use Rattle.rules.specs.Records.{framed, timeBytes, recordBytes, General, InitResponse, AliveResponse, SpliceResponse, SpliceComplete, AbortResponse};
+ghost use Rattle.rules.specs.Records.{framed, timeBytes, recordBytes};
+ghost use Rattle.rules.specs.Records.{General, InitResponse, AliveResponse, SpliceResponse, SpliceComplete, AbortResponse};
 ghost use Rattle.writing.specs.Header.{headerOf, Turned};
 
 // ---- parts of a record. "All numbers are big-endian."
@@ -104,7 +105,8 @@ pub fn init_response(out: &mut [u8], conn: u64, result: u16, name: &[u8])
     requires { ⌜ 44 ≤ length (now out) ⌝ }
     requires { ⌜ length (now name) ≡ 32 ⌝ }
     requires { ⌜ now name ≡ padded (nameIn (now name)) ⌝ }
-    ensures { λ _. ⌜ now (out .exit) ≡ written (now (out .entry)) 0 (recordBytes (InitResponse conn result (nameIn (now (name .entry))))) ⌝ }
+    ensures { λ _.
+        ⌜ now (out .exit) ≡ written (now (out .entry)) 0 (recordBytes (InitResponse conn result (nameIn (now (name .entry))))) ⌝ }
 {
     header(&mut *out, conn, 0x0002, 34, result);
     put2(&mut out[10..], 2);

@@ -18,7 +18,7 @@ name-requires-2 c κs = search needs
 
 init-response-requires : tie.Need-init-response-requires
 init-response-requires c κs =
-    let s = c .before .before .before .before .before .before .before .before .before in
+    let s = c .before .before .before .before .before .before .before .before in
     let b = s .pre .0 .bytes in
     (search needs, (stored-length b (c .name2 .ensures), stored-padded b (c .name2 .ensures)))
 
@@ -28,26 +28,23 @@ set-link-requires c κs = search needs
 same-length : tie.Need-same-length
 same-length c = search needs
 
-same-length-2 : tie.Need-same-length-2
-same-length-2 c = search needs
-
 returns : tie.Need-returns
 returns c =
-    let k = c .before .before .before .before .before .before .before .before .before .before in
-    let s = k .before .before .before .before .before .before .before in
+    let k = c .before .before .before .before .before .before .before .before in
+    let s = k .before .before .before .before .before .before in
     init-done (s .pre .0) (s .args .conn) (s .args .revision) (s .args .d .now)
     (k .before .before .channel-name .ensures) (k .before .name .ensures)
-    (c .before .before .before .before .before .before .before .before .name2 .ensures) (k .init-result .ensures)
-    (c .before .before .before .before .before .before .before .init-response .ensures)
-    (c .before .before .before .before .if1 .taken) (c .before .before .set-link .ensures)
+    (c .before .before .before .before .before .before .name2 .ensures) (k .init-result .ensures)
+    (c .before .before .before .before .before .init-response .ensures)
+    (c .before .before .if1 .taken) (c .set-link .ensures)
 
-same-length-3 : tie.Need-same-length-3
-same-length-3 c = search needs
+same-length-2 : tie.Need-same-length-2
+same-length-2 c = search needs
 
 returns-2 : tie.Need-returns-2
 returns-2 c =
     let k = c .before .before .before .before .before .before in
-    let s = k .before .before .before .before .before .before .before in
+    let s = k .before .before .before .before .before .before in
     init-failed (s .pre .0) (s .args .conn) (s .args .revision) (s .args .d .now)
     (k .before .before .channel-name .ensures) (k .before .name .ensures) (c .before .before .before .before .name2 .ensures)
     (k .init-result .ensures)
@@ -64,7 +61,6 @@ answer-init-spec =
     init-response-requires
     set-link-requires
     same-length
-    same-length-2
     returns
-    same-length-3
+    same-length-2
     returns-2)

@@ -21,7 +21,7 @@ enum-known-message c = search needs
 answer-init-requires : tie.Need-answer-init-requires
 answer-init-requires c κs =
     let r = c .before .before .before .before .before in
-    let s = r .before .before .before .before .before in
+    let s = r .before .before .before .before in
     let e = sym (r .read .ensures) ∙ c .before .before .before .message .given .1 in
     let l = init-length (s .args .id) (s .args .d .now) _ e in
     (s .pre .0, (s .pre .1 .1 .0, (omega (arith, l), omega (arith, s .pre .1 .1 .1))))
@@ -38,7 +38,7 @@ enum-known-message-2 c = search needs
 answer-splice-requires : tie.Need-answer-splice-requires
 answer-splice-requires c κs =
     let r = c .before .before .before .before .before in
-    let s = r .before .before .before .before .before in
+    let s = r .before .before .before .before in
     let h = s .pre .1 .0 in
     let e = sym (r .read .ensures) ∙ c .before .before .before .message2 .given .1 in
     let a = all-at Byte 0 (s .args .d .now) (λ i. omega (arith, r .before .before .shared-slice-known2 .given i)) in
@@ -63,71 +63,59 @@ general-requires c κs = search needs
 same-length : tie.Need-same-length
 same-length c = search needs
 
-same-length-2 : tie.Need-same-length-2
-same-length-2 c = search needs
-
 returns : tie.Need-returns
 unfolding answerRead
 returns c =
-    let r = c .before .before .before .before .before .before .before .before .before .before in
-    let s = r .before .before .before .before .before in
+    let r = c .before .before .before .before .before .before .before .before in
+    let s = r .before .before .before .before in
     reads (shown (s .args .m .now) (s .args .b .now)) (s .args .conn) (s .args .id) (s .args .d .now)
-    (r .read .ensures) (c .before .before .before .before .before .before .before .before .message .given .1)
-    (c .before .before .before .before .answer-init .ensures)
+    (r .read .ensures) (c .before .before .before .before .before .before .message .given .1)
+    (c .before .before .answer-init .ensures)
 
-same-length-3 : tie.Need-same-length-3
-same-length-3 c = search needs
-
-same-length-4 : tie.Need-same-length-4
-same-length-4 c = search needs
+same-length-2 : tie.Need-same-length-2
+same-length-2 c = search needs
 
 returns-2 : tie.Need-returns-2
 unfolding answerRead
 returns-2 c =
-    let r = c .before .before .before .before .before .before .before in
-    let s = r .before .before .before .before .before in
+    let r = c .before .before .before .before .before .before .before .before in
+    let s = r .before .before .before .before in
     reads (shown (s .args .m .now) (s .args .b .now)) (s .args .conn) (s .args .id) (s .args .d .now)
-    (r .read .ensures) (c .before .before .before .before .before .enum-told .given .1)
+    (r .read .ensures) (c .before .before .before .before .before .before .enum-told .given .1)
     (said (s .pre .0) (c .before .before .answer-alive .ensures))
 
-same-length-5 : tie.Need-same-length-5
-same-length-5 c = search needs
-
-same-length-6 : tie.Need-same-length-6
-same-length-6 c = search needs
+same-length-3 : tie.Need-same-length-3
+same-length-3 c = search needs
 
 returns-3 : tie.Need-returns-3
 unfolding answerRead
 returns-3 c =
-    let r = c .before .before .before .before .before .before .before .before .before .before in
-    let s = r .before .before .before .before .before in
+    let r = c .before .before .before .before .before .before .before .before in
+    let s = r .before .before .before .before in
     reads (shown (s .args .m .now) (s .args .b .now)) (s .args .conn) (s .args .id) (s .args .d .now)
-    (r .read .ensures) (c .before .before .before .before .before .before .before .before .message2 .given .1)
-    (turned (s .pre .0) (c .before .before .before .before .answer-splice .ensures))
+    (r .read .ensures) (c .before .before .before .before .before .before .message2 .given .1)
+    (turned (s .pre .0) (c .before .before .answer-splice .ensures))
 
-same-length-7 : tie.Need-same-length-7
-same-length-7 c = search needs
-
-same-length-8 : tie.Need-same-length-8
-same-length-8 c = search needs
+same-length-4 : tie.Need-same-length-4
+same-length-4 c = search needs
 
 returns-4 : tie.Need-returns-4
 unfolding answerRead
 returns-4 c =
-    let r = c .before .before .before .before .before .before .before .before .before .before in
-    let s = r .before .before .before .before .before in
+    let r = c .before .before .before .before .before .before .before .before in
+    let s = r .before .before .before .before in
     reads (shown (s .args .m .now) (s .args .b .now)) (s .args .conn) (s .args .id) (s .args .d .now)
-    (r .read .ensures) (c .before .before .before .before .before .before .before .before .message3 .given .1)
-    (turned (s .pre .0) (c .before .before .before .before .answer-abort .ensures))
+    (r .read .ensures) (c .before .before .before .before .before .before .message3 .given .1)
+    (turned (s .pre .0) (c .before .before .answer-abort .ensures))
 
-same-length-9 : tie.Need-same-length-9
-same-length-9 c = search needs
+same-length-5 : tie.Need-same-length-5
+same-length-5 c = search needs
 
 returns-5 : tie.Need-returns-5
 unfolding answerRead
 returns-5 c =
     let r = c .before .before .before .before .before .before in
-    let s = r .before .before .before .before .before in
+    let s = r .before .before .before .before in
     reads (shown (s .args .m .now) (s .args .b .now)) (s .args .conn) (s .args .id) (s .args .d .now)
     (r .read .ensures) (c .before .before .before .before .enum-told2 .given .1)
     (said (s .pre .0) (c .before .before .general .ensures))
@@ -149,16 +137,12 @@ answer-read-spec =
     enum-told-2
     general-requires
     same-length
-    same-length-2
     returns
-    same-length-3
-    same-length-4
+    same-length-2
     returns-2
-    same-length-5
-    same-length-6
+    same-length-3
     returns-3
-    same-length-7
-    same-length-8
+    same-length-4
     returns-4
-    same-length-9
+    same-length-5
     returns-5)

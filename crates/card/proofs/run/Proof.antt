@@ -29,16 +29,16 @@ abbrev μ-loop : tie.MeasureT-loop
 -- ## From where the code stands to where it stood
 
 abbrev entry : tie.At-loop Inv-loop μ-loop → tie.Start Inv-loop μ-loop
-entry c = c .before .before .before .before .before
+entry c = c .before .before .before .before
 
 abbrev tested : tie.After-play Inv-loop μ-loop → tie.In-loop Inv-loop μ-loop
 tested c = c .before .before .before .before .before .before .before
 
 abbrev stops : tie.Joined1 Inv-loop μ-loop → tie.After-play Inv-loop μ-loop
-stops c = c .before .before .before .before .before .before .before .before .before .before
+stops c = c .before .before .before .before .before .before .before .before
 
 abbrev goes : tie.Else2 Inv-loop μ-loop → tie.After-play Inv-loop μ-loop
-goes c = c .before .before .before .before .before .before .before .before .before .before .before .before
+goes c = c .before .before .before .before .before .before .before .before .before .before
 
 -- ## One turn
 
@@ -61,7 +61,7 @@ more c =
     (runs-more (inv .0) (c .play .ensures) whole (fits (tested c)), runs-long (inv .0) (c .play .ensures) whole ∙ inv .1)
 
 loop-holds : tie.Need-loop-holds Inv-loop μ-loop
-loop-holds c = (runs-none _ _ _ _ (c .before .before .before .before .pre .0), omega arith, omega arith, omega arith, λ e. omega arith)
+loop-holds c = (runs-none _ _ _ _ (c .before .before .before .pre .0), omega arith, omega arith, omega arith, λ e. omega arith)
 
 sub-loop : tie.Need-sub-loop Inv-loop μ-loop
 sub-loop c = search needs
@@ -107,27 +107,22 @@ play-requires c κs =
 
 add-used : tie.Need-add-used Inv-loop μ-loop
 add-used c =
-    let play = c .before .before .before .before .before .before .before in
+    let play = c .before .before .before .before .before in
     omega (arith, more play .0 .within, tested play .before .loop .inv .2)
 
 add-len : tie.Need-add-len Inv-loop μ-loop
 add-len c =
-    let play = c .before .before .before .before .before .before .before .before in
+    let play = c .before .before .before .before .before .before in
     let r = more play in
     omega (arith, r .0 .room, r .1, tested play .before .loop .inv .3)
 
 same-length : tie.Need-same-length Inv-loop μ-loop
 same-length c =
     let play = stops c in
-    play .play .ensures .lent .whole .words .whole ∙ sym (entry (tested play .before) .pre .0 .whole .words .whole)
-
-same-length-2 : tie.Need-same-length-2 Inv-loop μ-loop
-same-length-2 c =
-    let play = stops c in
     play .play .ensures .lent .whole .bytes .whole ∙ sym (entry (tested play .before) .pre .0 .whole .bytes .whole)
 
-same-length-3 : tie.Need-same-length-3 Inv-loop μ-loop
-same-length-3 c = more (stops c) .1
+same-length-2 : tie.Need-same-length-2 Inv-loop μ-loop
+same-length-2 c = more (stops c) .1
 
 returns : tie.Need-returns Inv-loop μ-loop
 returns c =
@@ -146,14 +141,11 @@ loop-again c =
     let inv = tested (goes c) .before .loop .inv in
     (runs-on (r .0) (not-false _ (c .if2 .left)), r .1, inv .2, inv .3, λ e. absurd (omega (arith, c .before .before .if1 .left)))
 
+same-length-3 : tie.Need-same-length-3 Inv-loop μ-loop
+same-length-3 c = c .before .loop .inv .0 .lent .whole .bytes .whole ∙ sym (entry (c .before) .pre .0 .whole .bytes .whole)
+
 same-length-4 : tie.Need-same-length-4 Inv-loop μ-loop
-same-length-4 c = c .before .loop .inv .0 .lent .whole .words .whole ∙ sym (entry (c .before) .pre .0 .whole .words .whole)
-
-same-length-5 : tie.Need-same-length-5 Inv-loop μ-loop
-same-length-5 c = c .before .loop .inv .0 .lent .whole .bytes .whole ∙ sym (entry (c .before) .pre .0 .whole .bytes .whole)
-
-same-length-6 : tie.Need-same-length-6 Inv-loop μ-loop
-same-length-6 c = c .before .loop .inv .1
+same-length-4 c = c .before .loop .inv .1
 
 returns-2 : tie.Need-returns-2 Inv-loop μ-loop
 returns-2 c =
@@ -185,11 +177,9 @@ run-spec =
     add-len
     same-length
     same-length-2
-    same-length-3
     returns
     loop-less
     loop-again
+    same-length-3
     same-length-4
-    same-length-5
-    same-length-6
     returns-2)

@@ -12,7 +12,7 @@ use Rattle.card.proofs.turn.Tie as tie
 -- ## From where the code stands to where it stood
 
 abbrev entry : tie.After-refill → tie.Start
-entry c = c .before .before .before .before .before .before
+entry c = c .before .before .before .before .before
 
 abbrev filled : tie.After-run → tie.After-refill
 filled c = c .before .before .before .before .before .before .before
@@ -45,7 +45,7 @@ slice-reshare-prefix-write-all c = search needs
 
 slice-aggregate-write-all : tie.Need-slice-aggregate-write-all
 slice-aggregate-write-all c =
-    let run = c .before .before .before .before .before .before .before .run in
+    let run = c .before .before .before .before .before .run in
     sym (length-take-le (run .result .len) (run .last .1 .1 .1 .0) (run .ensures .runs .room))
 
 write-all-requires : tie.Need-write-all-requires
@@ -53,11 +53,11 @@ write-all-requires c κs = search needs
 
 keep-requires : tie.Need-keep-requires
 keep-requires c κs =
-    let run = c .before .before .before .before .before .before .before .before .before in
+    let run = c .before .before .before .before .before .before .before in
     (within run, filled run .refill .ensures .0)
 
-sub-t27 : tie.Need-sub-t27
-sub-t27 c = within (c .before .before .before .before .before .before .before .before .before .before .before .before)
+sub-t26 : tie.Need-sub-t26
+sub-t26 c = within (c .before .before .before .before .before .before .before .before .before .before)
 
 goes-on-requires : tie.Need-goes-on-requires
 goes-on-requires c κs = search needs
@@ -71,12 +71,9 @@ same-length-2 c = search needs
 same-length-3 : tie.Need-same-length-3
 same-length-3 c = search needs
 
-same-length-4 : tie.Need-same-length-4
-same-length-4 c = search needs
-
 returns : tie.Need-returns
 returns c =
-    let run = c .before .before .before .before .before .before .before .before .before .before .before .before .before in
+    let run = c .before .before .before .before .before .before .before .before .before .before .before in
     let refill = filled run .refill in
     let s = entry (filled run) in
     let keep = c .before .before .before .keep in
@@ -97,10 +94,9 @@ turn-spec =
     slice-aggregate-write-all
     write-all-requires
     keep-requires
-    sub-t27
+    sub-t26
     goes-on-requires
     same-length
     same-length-2
     same-length-3
-    same-length-4
     returns)

@@ -18,16 +18,16 @@ abbrev μ-loop : tie.MeasureT-loop
 -- ## From where the code stands to where it stood
 
 abbrev entry : tie.At-loop Inv-loop μ-loop → tie.Start Inv-loop μ-loop
-entry c = c .before .before .before .before .before
+entry c = c .before .before .before .before
 
 abbrev tested : tie.After-turn Inv-loop μ-loop → tie.In-loop Inv-loop μ-loop
 tested c = c .before .before .before .before .before
 
 abbrev stops : tie.Then1 Inv-loop μ-loop → tie.After-turn Inv-loop μ-loop
-stops c = c .before .before .before .before .before .before .before .before .before .before
+stops c = c .before .before .before .before .before .before .before .before
 
 abbrev goes : tie.Else1 Inv-loop μ-loop → tie.After-turn Inv-loop μ-loop
-goes c = c .before .before .before .before .before .before .before .before .before .before
+goes c = c .before .before .before .before .before .before .before .before
 
 -- ## One turn
 
@@ -44,7 +44,7 @@ next c =
     (t .ensures .ran .runs .lent, t .ensures .within, t .kept .1 .1 .0 ∙ inv .2, t .kept .1 .1 .1 .1 .0 ∙ inv .3)
 
 loop-holds : tie.Need-loop-holds Inv-loop μ-loop
-loop-holds c = (c .before .before .before .before .pre .0, omega arith, omega arith, omega arith)
+loop-holds c = (c .before .before .before .pre .0, omega arith, omega arith, omega arith)
 
 turn-requires : tie.Need-turn-requires Inv-loop μ-loop
 turn-requires c κs =
@@ -56,18 +56,13 @@ turn-requires c κs =
 same-length : tie.Need-same-length Inv-loop μ-loop
 same-length c =
     let turn = stops c in
-    turn .turn .ensures .ran .runs .lent .whole .words .whole ∙ sym (entry (tested turn .before) .pre .0 .whole .words .whole)
-
-same-length-2 : tie.Need-same-length-2 Inv-loop μ-loop
-same-length-2 c =
-    let turn = stops c in
     turn .turn .ensures .ran .runs .lent .whole .bytes .whole ∙ sym (entry (tested turn .before) .pre .0 .whole .bytes .whole)
 
-same-length-3 : tie.Need-same-length-3 Inv-loop μ-loop
-same-length-3 c = next (stops c) .2
+same-length-2 : tie.Need-same-length-2 Inv-loop μ-loop
+same-length-2 c = next (stops c) .2
 
-same-length-4 : tie.Need-same-length-4 Inv-loop μ-loop
-same-length-4 c = next (stops c) .3
+same-length-3 : tie.Need-same-length-3 Inv-loop μ-loop
+same-length-3 c = next (stops c) .3
 
 returns : tie.Need-returns Inv-loop μ-loop
 returns c = tt
@@ -81,17 +76,14 @@ loop-less c = omega (arith, tested (goes c) .loop-test .taken)
 loop-again : tie.Need-loop-again Inv-loop μ-loop
 loop-again c = next (goes c)
 
+same-length-4 : tie.Need-same-length-4 Inv-loop μ-loop
+same-length-4 c = c .before .loop .inv .0 .whole .bytes .whole ∙ sym (entry (c .before) .pre .0 .whole .bytes .whole)
+
 same-length-5 : tie.Need-same-length-5 Inv-loop μ-loop
-same-length-5 c = c .before .loop .inv .0 .whole .words .whole ∙ sym (entry (c .before) .pre .0 .whole .words .whole)
+same-length-5 c = c .before .loop .inv .2
 
 same-length-6 : tie.Need-same-length-6 Inv-loop μ-loop
-same-length-6 c = c .before .loop .inv .0 .whole .bytes .whole ∙ sym (entry (c .before) .pre .0 .whole .bytes .whole)
-
-same-length-7 : tie.Need-same-length-7 Inv-loop μ-loop
-same-length-7 c = c .before .loop .inv .2
-
-same-length-8 : tie.Need-same-length-8 Inv-loop μ-loop
-same-length-8 c = c .before .loop .inv .3
+same-length-6 c = c .before .loop .inv .3
 
 returns-2 : tie.Need-returns-2 Inv-loop μ-loop
 returns-2 c = tt
@@ -107,13 +99,11 @@ turns-spec =
     same-length
     same-length-2
     same-length-3
-    same-length-4
     returns
     sub-left
     loop-less
     loop-again
+    same-length-4
     same-length-5
     same-length-6
-    same-length-7
-    same-length-8
     returns-2)

@@ -1,4 +1,5 @@
 -- One link: the first that follows is taken out and written, and the walk goes on from it (`dismissed-more`); those that wait get fewer.
+-- Rests on what `write_end` and memory promise, and on its own promise for fewer that wait.
 use Prim.Native.Nat.{ℕ, _<_}
 use native.Mathlib.Omega.{arith}
 use borrow.Author.Needs.{needs}
@@ -53,66 +54,54 @@ count-requires t c κs = search needs
 
 load-requires : (t : ℕ) → lts.Need-load-requires (claims t) (dismiss-at t) dismiss.Post
 load-requires t c κs =
-    let counted = c .before .before in
-    let s = counted .before .before .before .before .before .before in
-    (s .pre .1 .0, omega (arith, c .before .if1 .taken, counted .count .ensures))
+    let test = c .before .before in
+    (test .before .before .before .before .before .before .before .before .pre .1 .0, omega (arith, test .if1 .taken, test .before .count .ensures))
 
 remove-requires : (t : ℕ) → lts.Need-remove-requires (claims t) (dismiss-at t) dismiss.Post
 remove-requires t c κs =
-    let test = c .before .before .before in
-    let counted = test .before in
-    let s = counted .before .before .before .before .before .before in
-    (s .pre .1 .0, omega (arith, test .if1 .taken, counted .count .ensures))
+    let test = c .before .before .before .before in
+    (test .before .before .before .before .before .before .before .before .pre .1 .0, omega (arith, test .if1 .taken, test .before .count .ensures))
 
 write-end-requires : (t : ℕ) → lts.Need-write-end-requires (claims t) (dismiss-at t) dismiss.Post
 write-end-requires t c κs =
-    let test = c .before .before .before .before .before .before .before in
-    let counted = test .before in
-    let s = counted .before .before .before .before .before .before in
-    (tt, omega (arith, s .pre .1 .1, test .if1 .taken, counted .count .ensures))
+    let test = c .before .before .before .before .before .before in
+    (tt, omega (arith, test .before .before .before .before .before .before .before .before .pre .1 .1, test .if1 .taken, test .before .count .ensures))
 
 dismiss-requires : (t : ℕ) → lts.Need-dismiss-requires (claims t) (dismiss-at t) dismiss.Post
 dismiss-requires t c κs =
     let wrote = c .before .before .before .before in
-    let gone = wrote .before .before .before .before in
-    let test = gone .before .before .before .before in
-    let counted = test .before in
-    let found = counted .before .before in
+    let gone = wrote .before .before in
+    let read = gone .before .before in
+    let test = read .before .before .before in
+    let found = test .before .before .before .before in
     let s = found .before .before .before .before in
-    let h : found .find .result < length (see (s .args .m .now) .queue .waiting) = omega (arith, test .if1 .taken, counted .count .ensures) in
+    let h : found .find .result < length (see (s .args .m .now) .queue .waiting) = omega (arith, test .if1 .taken, test .before .count .ensures) in
     let n = removed-less (found .find .result) (see (s .args .m .now)) h (gone .remove .ensures) in
-    (omega (arith, s .pre .0), (gone .remove .ensures .form, omega (arith, s .pre .1 .1, told-one (Response (s .args .result)) (gone .before .before .load .result) (wrote .write-end .ensures))))
+    let w = told-one (Response (s .args .result)) (read .load .result) (wrote .write-end .ensures) in
+    (omega (arith, s .pre .0), (gone .remove .ensures .form, omega (arith, s .pre .1 .1, w, wrote .write-end .kept .1 .1 .0)))
 
 same-length : (t : ℕ) → lts.Need-same-length (claims t) (dismiss-at t) dismiss.Post
 same-length t c = search needs
 
-same-length-2 : (t : ℕ) → lts.Need-same-length-2 (claims t) (dismiss-at t) dismiss.Post
-same-length-2 t c = search needs
-
 returns : (t : ℕ) → lts.Need-returns (claims t) (dismiss-at t) dismiss.Post
 returns t c =
-    let on = c .before .before .before .before in
+    let on = c .before .before in
     let wrote = on .before .before .before .before .before in
-    let gone = wrote .before .before .before .before in
+    let gone = wrote .before .before in
     let read = gone .before .before in
-    let test = read .before .before in
-    let counted = test .before in
-    let found = counted .before .before in
+    let test = read .before .before .before in
+    let found = test .before .before .before .before in
     let s = found .before .before .before .before in
-    let h : found .find .result < length (see (s .args .m .now) .queue .waiting) = omega (arith, test .if1 .taken, counted .count .ensures) in
+    let h : found .find .result < length (see (s .args .m .now) .queue .waiting) = omega (arith, test .if1 .taken, test .before .count .ensures) in
     dismissed-more (s .args .result) (s .args .conn) (s .args .id) (found .find .result) (s .args .m .now) (found .find .ensures) h (omega (arith, s .pre .1 .1))
     (read .load .ensures) (gone .remove .ensures) (wrote .write-end .ensures) (on .dismiss .ensures)
 
-same-length-3 : (t : ℕ) → lts.Need-same-length-3 (claims t) (dismiss-at t) dismiss.Post
-same-length-3 t c = search needs
-
 returns-2 : (t : ℕ) → lts.Need-returns-2 (claims t) (dismiss-at t) dismiss.Post
 returns-2 t c =
-    let counted = c .before in
-    let found = counted .before .before in
+    let found = c .before .before .before .before in
     let s = found .before .before .before .before in
     dismissed-none (s .args .result) (s .args .conn) (s .args .id) (found .find .result) (s .args .m .now) (found .find .ensures) (s .pre .1 .0)
-    (omega (arith, c .if1 .left, counted .count .ensures))
+    (omega (arith, c .if1 .left, c .before .count .ensures))
 
 pub +dismiss-spec : {M : Type 1} → statement M
 +dismiss-spec =
@@ -124,7 +113,5 @@ pub +dismiss-spec : {M : Type 1} → statement M
     (write-end-requires t)
     (dismiss-requires t)
     (same-length t)
-    (same-length-2 t)
     (returns t)
-    (same-length-3 t)
     (returns-2 t)

@@ -1,8 +1,9 @@
 -- One turn of `Leaving`: the session at the place i goes with its end written, or stays and is passed; those not passed get fewer.
+-- Rests on what `write_end` and memory promise.
 use native.Mathlib.Omega.{arith}
 use borrow.Author.Needs.{needs}
-use mathlib.Core.Path.{sym, _∙_}
 use Prim.Native.Nat.{_-_, _<_}
+use borrow.Author.Tests.{eq-eqb, ne-eqb}
 use lib.ListN.{length}
 use Rattle.rules.specs.declared.Ending.the-variants.{Complete}
 use Rattle.rules.specs.State.{endsAt}
@@ -20,29 +21,26 @@ abbrev μ-loop : tie.MeasureT-loop
 μ-loop m₀ t out₀ len how₀ to₀ i₀ m out how to i = length (see m .queue .started) - i
 
 loop-holds : tie.Need-loop-holds Inv-loop μ-loop
-loop-holds c = let s = c .before .before in leaving-none (s .pre .0) (s .pre .1 .0) (s .pre .1 .1)
+loop-holds c = let s = c .before in leaving-none (s .pre .0) (s .pre .1 .0) (s .pre .1 .1)
 
 count-requires : tie.Need-count-requires Inv-loop μ-loop
-count-requires c κs = c .before .loop .inv .form
+count-requires c κs = c .before .before .loop .inv .form
 
 load-requires : tie.Need-load-requires Inv-loop μ-loop
 load-requires c κs =
-    let test = c .before in
-    (test .before .before .before .loop .inv .form, omega (arith, test .if1 .taken, test .before .count .ensures))
-
-is-among-requires : tie.Need-is-among-requires Inv-loop μ-loop
-is-among-requires c κs = search needs
+    let test = c .before .before in
+    (test .before .before .before .before .loop .inv .form, omega (arith, test .if1 .taken, test .before .count .ensures))
 
 remove-requires : tie.Need-remove-requires Inv-loop μ-loop
 remove-requires c κs =
-    let test = c .before .before .before .before .before in
-    (test .before .before .before .loop .inv .form, omega (arith, test .if1 .taken, test .before .count .ensures))
+    let test = c .before .before .before .before .before .before .before in
+    (test .before .before .before .before .loop .inv .form, omega (arith, test .if1 .taken, test .before .count .ensures))
 
 write-end-requires : tie.Need-write-end-requires Inv-loop μ-loop
 write-end-requires c κs =
-    let read = c .before .before .before .before .before .before .before in
-    let test = read .before .before in
-    let l = test .before .before .before .loop in
+    let read = c .before .before .before .before .before .before in
+    let test = read .before .before .before in
+    let l = test .before .before .before .before .loop in
     let list = see (l .m) .queue .started in
     let k : l .i < length list = omega (arith, test .if1 .taken, test .before .count .ensures) in
     let a = leaving-playable (l .inv) k (read .load .ensures) in
@@ -53,48 +51,42 @@ add-i c = search needs
 
 loop-less : tie.Need-loop-less Inv-loop μ-loop
 loop-less c =
-    let gone = c .before .before .before .before .before .before in
-    let test = gone .before .before .before .before .before .before in
-    let l = test .before .before .before .loop in
+    let gone = c .before .before .before .before in
+    let test = gone .before .before .before .before .before .before .before .before in
+    let l = test .before .before .before .before .loop in
     let k : l .i < length (see (l .m) .queue .started) = omega (arith, test .if1 .taken, test .before .count .ensures) in
     omega (arith, leaving-less (l .i) (l .m) k (gone .remove .ensures))
 
 loop-again : tie.Need-loop-again Inv-loop μ-loop
 loop-again c =
     let wrote = c .before .before in
-    let gone = wrote .before .before .before .before in
+    let gone = wrote .before .before in
     let asked = gone .before .before in
-    let read = asked .before .before in
-    let test = read .before .before in
-    let l = test .before .before .before .loop in
+    let read = asked .before .before .before in
+    let test = read .before .before .before in
+    let l = test .before .before .before .before .loop in
     leaving-goes (l .inv) (omega (arith, test .if1 .taken, test .before .count .ensures)) (read .load .ensures)
-    (sym (asked .before .is-among .ensures) ∙ asked .if2 .taken) (gone .remove .ensures) (wrote .write-end .ensures)
+    (eq-eqb _ _ (asked .if2 .taken)) (gone .remove .ensures) (wrote .write-end .ensures)
 
 loop-less-2 : tie.Need-loop-less-2 Inv-loop μ-loop
 loop-less-2 c =
-    let test = c .before .before .before .before in
+    let test = c .before .before .before .before .before .before in
     omega (arith, test .if1 .taken, test .before .count .ensures)
 
 loop-again-2 : tie.Need-loop-again-2 Inv-loop μ-loop
 loop-again-2 c =
-    let read = c .before .before in
-    let test = read .before .before in
-    let l = test .before .before .before .loop in
-    leaving-stays (l .inv) (omega (arith, test .if1 .taken, test .before .count .ensures)) (read .load .ensures)
-    (sym (c .before .is-among .ensures) ∙ c .if2 .left)
+    let read = c .before .before .before in
+    let test = read .before .before .before in
+    let l = test .before .before .before .before .loop in
+    leaving-stays (l .inv) (omega (arith, test .if1 .taken, test .before .count .ensures)) (read .load .ensures) (ne-eqb _ _ (c .if2 .left))
 
 same-length : tie.Need-same-length Inv-loop μ-loop
-same-length c =
-    let l = c .before .before .before in
-    omega (arith, l .loop .inv .form .whole, l .before .before .before .pre .0 .whole)
-
-same-length-2 : tie.Need-same-length-2 Inv-loop μ-loop
-same-length-2 c = c .before .before .before .loop .inv .writes .long
+same-length c = c .before .before .before .before .loop .inv .writes .long
 
 returns : tie.Need-returns Inv-loop μ-loop
 returns c =
-    let l = c .before .before .before in
-    leaving-done (l .before .before .before .args .t) (l .loop .inv) (omega (arith, c .if1 .left, c .before .count .ensures))
+    let l = c .before .before .before .before in
+    leaving-done (l .before .before .args .t) (l .loop .inv) (omega (arith, c .if1 .left, c .before .count .ensures))
 
 pub end-due-spec : {M : Type 1} → statement M
 end-due-spec =
@@ -105,7 +97,6 @@ end-due-spec =
     loop-holds
     count-requires
     load-requires
-    is-among-requires
     remove-requires
     write-end-requires
     add-i
@@ -114,5 +105,4 @@ end-due-spec =
     loop-less-2
     loop-again-2
     same-length
-    same-length-2
     returns)

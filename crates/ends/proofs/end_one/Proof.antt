@@ -1,12 +1,9 @@
 -- The session is read, taken out, and its end written (`one-ended`).
-use native.Mathlib.Omega.{arith}
+-- Rests on what `write_end` and memory promise.
 use borrow.Author.Needs.{needs}
 use mathlib.Core.Path.{sym, subst}
-use Rattle.rules.specs.State.{empty}
-use Rattle.rules.proofs.Every.{all-getD}
-use Rattle.memory.specs.Memory.{sessions}
-use Rattle.ends.specs.Does.{Playable}
-use Rattle.ends.proofs.Laws.{writable, one-ended}
+use Rattle.ends.specs.Does.{Writable}
+use Rattle.ends.proofs.Laws.{one-ended}
 use Rattle.ends.proofs.end_one.Statement.{statement}
 use Rattle.ends.proofs.end_one.Tie as tie
 
@@ -18,25 +15,19 @@ remove-requires c κs = search needs
 
 write-end-requires : tie.Need-write-end-requires
 write-end-requires c κs =
-    let read = c .before .before .before .before .before in
+    let read = c .before .before .before in
     let s = read .before .before .before .before in
-    let a = all-getD Playable (sessions (s .args .which) (s .args .m .now)) (s .args .at) empty (s .pre .1 .0) (s .pre .1 .1 .0) in
-    (writable (s .args .how) (read .load .result) (subst Playable (sym (read .load .ensures)) a), s .pre .1 .1 .1)
+    (subst (Writable (s .args .how)) (sym (read .load .ensures)) (s .pre .1 .1 .0), s .pre .1 .1 .1)
 
 same-length : tie.Need-same-length
 same-length c = search needs
 
-same-length-2 : tie.Need-same-length-2
-same-length-2 c = search needs
-
 returns : tie.Need-returns
 returns c =
-    let taken = c .before .before .before .before .before .before in
+    let taken = c .before .before .before .before in
     let read = taken .before .before in
     let s = read .before .before .before .before in
     one-ended (s .args .which) (s .args .m .now) (s .args .at) (s .args .how) (read .load .ensures) (taken .remove .ensures) (c .before .before .write-end .ensures)
 
 pub end-one-spec : {M : Type 1} → statement M
-end-one-spec =
-    tie.close
-    (tie.spec load-requires remove-requires write-end-requires same-length same-length-2 returns)
+end-one-spec = tie.close (tie.spec load-requires remove-requires write-end-requires same-length returns)

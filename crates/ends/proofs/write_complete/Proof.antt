@@ -1,7 +1,8 @@
 -- Either variant leaves the numbers of its one record (`came`), which is written behind the last (`tells-part`).
+-- Rests on what units and writing promise.
 use native.Mathlib.Omega.{arith}
 use borrow.Author.Needs.{needs}
-use mathlib.Core.Path.{_≡_, sym, ap, subst, _∙_}
+use mathlib.Core.Path.{_≡_, sym, ap, subst}
 use mathlib.Core.Logic.{⊎-elim}
 use Rattle.rules.specs.declared.Ending.{Ending}
 use Rattle.rules.specs.Records.{SpliceComplete}

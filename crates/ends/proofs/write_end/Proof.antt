@@ -1,4 +1,5 @@
 -- A SpliceComplete (`write_complete`), or a Splice_Response written behind the last record (`tells-part`).
+-- Rests on what `write_complete` and writing promise.
 use native.Mathlib.Omega.{arith}
 use borrow.Author.Needs.{needs}
 use Rattle.ends.proofs.Laws.{completing, tells-part}

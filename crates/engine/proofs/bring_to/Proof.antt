@@ -7,14 +7,11 @@ use Rattle.engine.proofs.bring_to.Tie as tie
 
 returns : tie.Need-returns
 returns c =
-    let s = c .before .before .before .before in
+    let s = c .before .before .before in
     move-small (s .args .until .0) (s .pre .0) (omega arith)
 
 clock-requires : tie.Need-clock-requires
 clock-requires c κs = search needs
-
-same-length : tie.Need-same-length
-same-length c = search needs
 
 returns-2 : tie.Need-returns-2
 returns-2 c =
@@ -25,7 +22,7 @@ returns-2 c =
 run-requires : tie.Need-run-requires
 run-requires c κs =
     let s = c .before .before .before .before .before .before .before .before .before .before .before in
-    let if1 = c .before .before .before .before .before .before .before .if1 in
+    let if1 = c .before .before .before .before .before .before .before .before .if1 in
     let clock = c .before .before .before .before .before .clock in
     let h = holding (s .pre .0) in
     (s .pre .0 .whole .words, (h, ((omega (arith, clock .ensures), s .pre .1), room-run h (if1 .left))))
@@ -33,20 +30,17 @@ run-requires c κs =
 set-clock-requires : tie.Need-set-clock-requires
 set-clock-requires c κs = search needs
 
-same-length-2 : tie.Need-same-length-2
-same-length-2 c = search needs
-
-same-length-3 : tie.Need-same-length-3
-same-length-3 c = search needs
+same-length : tie.Need-same-length
+same-length c = search needs
 
 returns-3 : tie.Need-returns-3
 returns-3 c =
-    let s = c .before .before .before .before .before .before .before .before .before .before .before .before .before .before .before .before .before .before .before .before in
-    let if1 = c .before .before .before .before .before .before .before .before .before .before .before .before .before .before .before .before .if1 in
-    let clock = c .before .before .before .before .before .before .before .before .before .before .before .before .before .before .clock in
-    let if2 = c .before .before .before .before .before .before .before .before .before .before .before .if2 in
-    let run = c .before .before .before .before .before .before .before .before .run in
-    let set-clock = c .before .before .set-clock in
+    let s = c .before .before .before .before .before .before .before .before .before .before .before .before .before .before .before .before in
+    let if1 = c .before .before .before .before .before .before .before .before .before .before .before .before .before .if1 in
+    let clock = c .before .before .before .before .before .before .before .before .before .before .clock in
+    let if2 = c .before .before .before .before .before .before .before .if2 in
+    let run = c .before .before .before .before .run in
+    let set-clock = c .set-clock in
     move-done (s .args .until .0) (s .pre .0) (s .pre .1) (if1 .left) (omega (arith, clock .ensures, if2 .left)) (run .ensures) (set-clock .ensures)
 
 pub bring-to-spec : {M : Type 1} → statement M
@@ -55,10 +49,8 @@ bring-to-spec =
     (tie.spec
     returns
     clock-requires
-    same-length
     returns-2
     run-requires
     set-clock-requires
-    same-length-2
-    same-length-3
+    same-length
     returns-3)

@@ -2,8 +2,10 @@
 use mathlib.Core.Path.{sym, _∙_}
 use lib.ListN.{length}
 use Rattle.rules.specs.Calls.{closeCall}
+use Rattle.memory.specs.declared.Which.the-variants.{Started}
 use Rattle.memory.specs.Memory.{see}
-use Rattle.engine.proofs.Calls.{holding, room-all, playable-waiting, playable-started, test-past, guard-refused, close-done}
+use Rattle.ends.proofs.Laws.{playable}
+use Rattle.engine.proofs.Calls.{holding, room-all, test-past, guard-refused, close-done}
 use borrow.Author.Needs.{needs}
 use Rattle.engine.proofs.close.Statement.{statement}
 use Rattle.engine.proofs.close.Tie as tie
@@ -13,9 +15,6 @@ test-open-requires c κs = search needs
 
 enum-known-test : tie.Need-enum-known-test
 enum-known-test c = search needs
-
-same-length : tie.Need-same-length
-same-length c = search needs
 
 returns : tie.Need-returns
 unfolding closeCall
@@ -36,29 +35,26 @@ end-all-of-requires c κs =
     let enum-told = c .before .before .enum-told in
     let h = holding (s .pre) in
     let roomy = test-past (s .args .conn) (length (s .args .out .now)) (see (s .args .m .now) .links) (sym (enum-told .given .1) ∙ test-open .ensures) .1 in
-    (s .pre .whole .words, (playable-waiting h, (playable-started h, room-all h roomy)))
+    (s .pre .whole .words, (playable Started (s .args .m .now) h, room-all h roomy))
 
 set-link-requires : tie.Need-set-link-requires
 set-link-requires c κs =
-    let s = c .before .before .before .before .before .before .before .before .before .before .before .before .before .before .before in
-    let test-open = c .before .before .before .before .before .before .before .before .before .before .test-open in
-    let enum-told = c .before .before .before .before .before .before .before .before .enum-told in
-    let end-all-of = c .before .before .before .before .before .end-all-of in
+    let s = c .before .before .before .before .before .before .before .before .before .before .before .before .before in
+    let test-open = c .before .before .before .before .before .before .before .before .test-open in
+    let enum-told = c .before .before .before .before .before .before .enum-told in
+    let end-all-of = c .before .before .before .end-all-of in
     (end-all-of .ensures .shows .form, test-past (s .args .conn) (length (s .args .out .now)) (see (s .args .m .now) .links) (sym (enum-told .given .1) ∙ test-open .ensures) .0)
 
-same-length-2 : tie.Need-same-length-2
-same-length-2 c = search needs
-
-same-length-3 : tie.Need-same-length-3
-same-length-3 c = search needs
+same-length : tie.Need-same-length
+same-length c = search needs
 
 returns-2 : tie.Need-returns-2
 returns-2 c =
-    let s = c .before .before .before .before .before .before .before .before .before .before .before .before .before .before .before .before .before .before in
-    let test-open = c .before .before .before .before .before .before .before .before .before .before .before .before .before .test-open in
-    let enum-told = c .before .before .before .before .before .before .before .before .before .before .before .enum-told in
-    let end-all-of = c .before .before .before .before .before .before .before .before .end-all-of in
-    let set-link = c .before .before .set-link in
+    let s = c .before .before .before .before .before .before .before .before .before .before .before .before .before .before in
+    let test-open = c .before .before .before .before .before .before .before .before .before .test-open in
+    let enum-told = c .before .before .before .before .before .before .before .enum-told in
+    let end-all-of = c .before .before .before .before .end-all-of in
+    let set-link = c .set-link in
     close-done (s .args .conn) (s .pre) (sym (enum-told .given .1) ∙ test-open .ensures) (end-all-of .ensures) (set-link .ensures)
 
 pub close-spec : {M : Type 1} → statement M
@@ -67,11 +63,9 @@ close-spec =
     (tie.spec
     test-open-requires
     enum-known-test
-    same-length
     returns
     enum-told
     end-all-of-requires
     set-link-requires
-    same-length-2
-    same-length-3
+    same-length
     returns-2)

@@ -19,9 +19,6 @@ test-open-requires c κs = search needs
 enum-known-test : tie.Need-enum-known-test
 enum-known-test c = search needs
 
-same-length : tie.Need-same-length
-same-length c = search needs
-
 returns : tie.Need-returns
 unfolding messageCall
 returns c =
@@ -65,11 +62,8 @@ answer-requires c κs =
 cast-t18 : tie.Need-cast-t18
 cast-t18 c = search needs
 
-add-t25 : tie.Need-add-t25
-add-t25 c = search needs
-
-same-length-2 : tie.Need-same-length-2
-same-length-2 c = search needs
+add-t24 : tie.Need-add-t24
+add-t24 c = search needs
 
 returns-2 : tie.Need-returns-2
 returns-2 c =
@@ -81,25 +75,22 @@ returns-2 c =
     let x = n .given in
     message-unframed (s .args .conn) (s .pre) (sym (enum-told .given .1) ∙ test-open .ensures) (s .args .l .now) (x .0 .0) (frame .ensures) (x .1)
 
-same-length-3 : tie.Need-same-length-3
-same-length-3 c = search needs
+same-length : tie.Need-same-length
+same-length c = search needs
 
-same-length-4 : tie.Need-same-length-4
-same-length-4 c = search needs
-
-same-length-5 : tie.Need-same-length-5
-same-length-5 c = search needs
+same-length-2 : tie.Need-same-length-2
+same-length-2 c = search needs
 
 returns-3 : tie.Need-returns-3
 returns-3 c =
-    let s = c .before .before .before .before .before .before .before .before .before .before .before .before .before .before .before .before .before .before .before .before .before in
-    let shared-slice-known = c .before .before .before .before .before .before .before .before .before .before .before .before .before .before .before .before .before .before .shared-slice-known in
-    let test-open = c .before .before .before .before .before .before .before .before .before .before .before .before .before .before .before .test-open in
-    let enum-told = c .before .before .before .before .before .before .before .before .before .before .before .before .before .enum-told in
-    let frame = c .before .before .before .before .before .before .before .before .before .before .before .before .frame in
-    let id = c .before .before .before .before .before .before .before .before .before .before .id in
-    let data-of = c .before .before .before .before .before .before .before .before .data-of in
-    let answer = c .before .before .before .before .answer in
+    let s = c .before .before .before .before .before .before .before .before .before .before .before .before .before .before .before .before .before .before .before in
+    let shared-slice-known = c .before .before .before .before .before .before .before .before .before .before .before .before .before .before .before .before .before .shared-slice-known in
+    let test-open = c .before .before .before .before .before .before .before .before .before .before .before .before .before .test-open in
+    let enum-told = c .before .before .before .before .before .before .before .before .before .before .before .enum-told in
+    let frame = c .before .before .before .before .before .before .before .before .before .before .frame in
+    let id = c .before .before .before .before .before .before .before .before .id in
+    let data-of = c .before .before .before .before .before .before .data-of in
+    let answer = c .before .before .answer in
     let x = id .given in
     let y = all-at Byte 0 (s .args .l .now) (λ i. omega (arith, shared-slice-known .given i)) in
     message-done (s .args .conn) (s .pre) (sym (enum-told .given .1) ∙ test-open .ensures) (s .args .l .now) (x .0 .0) (x .0 .1 .0) y (frame .ensures) (x .1) (data-of .ensures) (answer .ensures)
@@ -110,7 +101,6 @@ message-spec =
     (tie.spec
     test-open-requires
     enum-known-test
-    same-length
     returns
     enum-told
     frame-requires
@@ -120,10 +110,8 @@ message-spec =
     data-of-requires
     answer-requires
     cast-t18
-    add-t25
-    same-length-2
+    add-t24
     returns-2
-    same-length-3
-    same-length-4
-    same-length-5
+    same-length
+    same-length-2
     returns-3)

@@ -9,7 +9,7 @@ use Rattle.engine.proofs.open.Tie as tie
 
 returns : tie.Need-returns
 returns c =
-    let s = c .before .before .before in
+    let s = c .before .before in
     open-bad (s .args .conn) (s .pre) (omega arith)
 
 link-requires : tie.Need-link-requires
@@ -17,9 +17,6 @@ link-requires c κs = search needs
 
 enum-told : tie.Need-enum-told
 enum-told c = search needs
-
-same-length : tie.Need-same-length
-same-length c = search needs
 
 returns-2 : tie.Need-returns-2
 returns-2 c =
@@ -31,15 +28,12 @@ returns-2 c =
 set-link-requires : tie.Need-set-link-requires
 set-link-requires c κs = search needs
 
-same-length-2 : tie.Need-same-length-2
-same-length-2 c = search needs
-
 returns-3 : tie.Need-returns-3
 returns-3 c =
-    let s = c .before .before .before .before .before .before .before .before .before .before .before in
-    let link = c .before .before .before .before .before .before .link in
-    let enum-told = c .before .before .before .before .enum-told in
-    let set-link = c .before .before .set-link in
+    let s = c .before .before .before .before .before .before .before .before .before in
+    let link = c .before .before .before .before .link in
+    let enum-told = c .before .before .enum-told in
+    let set-link = c .set-link in
     open-done (s .args .conn) (s .pre) (link .result) (omega arith) (link .ensures) (ap isOpen (enum-told .given .1)) (set-link .ensures)
 
 pub open-spec : {M : Type 1} → statement M
@@ -49,8 +43,6 @@ open-spec =
     returns
     link-requires
     enum-told
-    same-length
     returns-2
     set-link-requires
-    same-length-2
     returns-3)

@@ -8,27 +8,23 @@ use Rattle.engine.proofs.tick.Statement.{statement}
 use Rattle.engine.proofs.tick.Tie as tie
 
 returns : tie.Need-returns
-returns c =
-    let s = c .before .before .before .before in
-    tick-small (s .args .seconds) (s .args .micros) (s .pre) (omega arith)
+returns c = search (needs, tick-small)
 
 returns-2 : tie.Need-returns-2
-returns-2 c =
-    let s = c .before .before .before .before .before in
-    tick-micros (s .args .seconds) (s .args .micros) (s .pre) (omega arith) (omega arith)
+returns-2 c = search (needs, tick-micros)
 
 time-of-requires : tie.Need-time-of-requires
 time-of-requires c κs = search needs
 
 from-micros-requires : tie.Need-from-micros-requires
 from-micros-requires c κs =
-    let s = c .before .before .before .before .before .before in
+    let s = c .before .before .before .before .before in
     let time-of = c .time-of in
     omega (arith, ap (λ y. y .0) (time-of .ensures), s .fits .seconds, s .fits .micros)
 
 bring-to-requires : tie.Need-bring-to-requires
 bring-to-requires c κs =
-    let s = c .before .before .before .before .before .before .before .before .before .before in
+    let s = c .before .before .before .before .before .before .before .before .before in
     let time-of = c .before .before .before .before .time-of in
     let from-micros = c .before .before .before .from-micros in
     (s .pre, omega (arith, ap (λ y. y .0) (from-micros .ensures ∙ ap fromMicros (time-of .ensures)), s .fits .seconds))
@@ -39,17 +35,14 @@ same-length c = search needs
 same-length-2 : tie.Need-same-length-2
 same-length-2 c = search needs
 
-same-length-3 : tie.Need-same-length-3
-same-length-3 c = search needs
-
 returns-3 : tie.Need-returns-3
 returns-3 c =
-    let s = c .before .before .before .before .before .before .before .before .before .before .before .before .before .before .before .before .before in
-    let if1 = c .before .before .before .before .before .before .before .before .before .before .before .before .before .if1 in
-    let if2 = c .before .before .before .before .before .before .before .before .before .before .before .before .if2 in
-    let time-of = c .before .before .before .before .before .before .before .before .before .before .before .time-of in
-    let from-micros = c .before .before .before .before .before .before .before .before .before .before .from-micros in
-    let bring-to = c .before .before .before .before .before .before .bring-to in
+    let s = c .before .before .before .before .before .before .before .before .before .before .before .before .before .before in
+    let if1 = c .before .before .before .before .before .before .before .before .before .before .before .if1 in
+    let if2 = c .before .before .before .before .before .before .before .before .before .before .if2 in
+    let time-of = c .before .before .before .before .before .before .before .before .before .time-of in
+    let from-micros = c .before .before .before .before .before .before .before .before .from-micros in
+    let bring-to = c .before .before .before .before .bring-to in
     tick-moves (s .args .seconds) (s .args .micros) (s .pre) (from-micros .result) (from-micros .ensures ∙ ap fromMicros (time-of .ensures)) (if1 .left) (if2 .left) (bring-to .ensures)
 
 pub tick-spec : {M : Type 1} → statement M
@@ -63,5 +56,4 @@ tick-spec =
     bring-to-requires
     same-length
     same-length-2
-    same-length-3
     returns-3)

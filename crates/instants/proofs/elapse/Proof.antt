@@ -12,9 +12,6 @@ use Rattle.instants.proofs.elapse.Tie as tie
 count-requires : tie.Need-count-requires
 count-requires c κs = search needs
 
-same-length : tie.Need-same-length
-same-length c = search needs
-
 returns : tie.Need-returns
 returns c =
     let s = c .before .before .before .before in
@@ -25,7 +22,7 @@ load-requires c κs = search needs
 
 add-played : tie.Need-add-played
 add-played c =
-    let on = c .before .before .before in
+    let on = c .before .before .before .before in
     let s = on .before .before .before .before in
     let x = c .before .load in
     let m = see (s .args .m .now) in
@@ -35,27 +32,22 @@ add-played c =
 replace-requires : tie.Need-replace-requires
 replace-requires c κs = search needs
 
-same-length-2 : tie.Need-same-length-2
-same-length-2 c = search needs
-
 returns-2 : tie.Need-returns-2
 returns-2 c =
-    let x = c .before .before .before .before .before .before .load in
-    let on = c .before .before .before .before .before .before .before .before in
+    let x = c .before .before .before .before .load in
+    let on = c .before .before .before .before .before .before .before in
     let s = on .before .before .before .before in
     let m = see (s .args .m .now) in
     let h : 0 < length (m .queue .started) = omega (arith, on .if1 .left, on .before .count .ensures) in
-    elapsed-some (s .args .d) m (x .result) h (x .ensures) (c .before .before .replace .ensures)
+    elapsed-some (s .args .d) m (x .result) h (x .ensures) (c .replace .ensures)
 
 pub elapse-spec : {M : Type 1} → statement M
 elapse-spec =
     tie.close
     (tie.spec
     count-requires
-    same-length
     returns
     load-requires
     add-played
     replace-requires
-    same-length-2
     returns-2)

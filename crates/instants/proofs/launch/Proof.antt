@@ -39,28 +39,22 @@ fail-requires c κs = let s = c .before .before .before .before .before .before 
 same-length : tie.Need-same-length
 same-length c = search needs
 
+returns : tie.Need-returns
+returns c =
+    let wrote = c .before .before .before .before .splice-complete in
+    let may = c .before .before .before .before .before .before in
+    let s = may .before .before .before .before .before in
+    launched-on (s .args .x) (sym (may .before .may-start .ensures) ∙ may .if1 .taken) (c .insert .ensures)
+    (tells-part tt (omega (arith, s .pre .1 .1)) (wrote .ensures))
+
 same-length-2 : tie.Need-same-length-2
 same-length-2 c = search needs
 
-returns : tie.Need-returns
-returns c =
-    let wrote = c .before .before .before .before .before .before .splice-complete in
-    let may = c .before .before .before .before .before .before .before .before in
-    let s = may .before .before .before .before .before in
-    launched-on (s .args .x) (sym (may .before .may-start .ensures) ∙ may .if1 .taken) (c .before .before .insert .ensures)
-    (tells-part tt (omega (arith, s .pre .1 .1)) (wrote .ensures))
-
-same-length-3 : tie.Need-same-length-3
-same-length-3 c = search needs
-
-same-length-4 : tie.Need-same-length-4
-same-length-4 c = search needs
-
 returns-2 : tie.Need-returns-2
 returns-2 c =
-    let may = c .before .before .before .before .before .before .before in
+    let may = c .before .before .before .before .before in
     let f = sym (may .before .may-start .ensures) ∙ may .if1 .left in
-    launched-off (may .before .before .before .before .before .args .x) f (c .before .before .before .before .fail .ensures)
+    launched-off (may .before .before .before .before .before .args .x) f (c .before .before .fail .ensures)
 
 pub launch-spec : {M : Type 1} → statement M
 launch-spec =
@@ -75,8 +69,6 @@ launch-spec =
     add-result
     fail-requires
     same-length
-    same-length-2
     returns
-    same-length-3
-    same-length-4
+    same-length-2
     returns-2)

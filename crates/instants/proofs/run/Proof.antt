@@ -29,7 +29,7 @@ loop-holds c =
     (first-turn (s .pre .0) (s .pre .1 .0) (s .pre .1 .1 .0 .0) (s .pre .1 .1 .1))
 
 next-due-requires : tie.Need-next-due-requires Inv-loop μ-loop
-next-due-requires c κs = let v = c .before .loop .inv in (v .form, v .holding .timed .sorted)
+next-due-requires c κs = let v = c .before .before .loop .inv in (v .form, v .holding .timed .sorted)
 
 enum-known-due : tie.Need-enum-known-due Inv-loop μ-loop
 enum-known-due c = search needs
@@ -38,11 +38,11 @@ enum-told : tie.Need-enum-told Inv-loop μ-loop
 enum-told c = search needs
 
 sub-elapse : tie.Need-sub-elapse Inv-loop μ-loop
-sub-elapse c = omega (arith, c .before .before .before .before .before .before .before .loop .inv .time)
+sub-elapse c = omega (arith, c .before .before .before .before .before .before .before .before .loop .inv .time)
 
 elapse-requires : tie.Need-elapse-requires Inv-loop μ-loop
 elapse-requires c κs =
-    let at = c .before .before .before .before .before .before .before in
+    let at = c .before .before .before .before .before .before .before .before in
     let s = at .before .before .before .before .before in
     let v = at .loop .inv in
     (v .form, turn-lasting v (s .args .until .0) (v .time) (s .pre .1 .1 .0 .1))
@@ -50,56 +50,53 @@ elapse-requires c κs =
 same-length : tie.Need-same-length Inv-loop μ-loop
 same-length c = search needs
 
-same-length-2 : tie.Need-same-length-2 Inv-loop μ-loop
-same-length-2 c = search needs
-
 returns : tie.Need-returns Inv-loop μ-loop
 returns c =
-    let none = c .before .before .before .before .before .before in
+    let none = c .before .before .before .before in
     let next = none .before .before in
     let d = sym (next .next-due .ensures) ∙ none .enum-told .given .1 in
-    last-turn (next .before .before .loop .inv) d (c .before .before .elapse .ensures)
+    last-turn (next .before .before .before .loop .inv) d (c .elapse .ensures)
 
 sub-elapse-2 : tie.Need-sub-elapse-2 Inv-loop μ-loop
 sub-elapse-2 c =
     let some = c .before .before .before .before in
     let next = some .before .before in
-    omega (arith, turn-after (next .before .before .loop .inv) (sym (next .next-due .ensures) ∙ some .due .given .1))
+    omega (arith, turn-after (next .before .before .before .loop .inv) (sym (next .next-due .ensures) ∙ some .due .given .1))
 
 elapse-requires-2 : tie.Need-elapse-requires-2 Inv-loop μ-loop
 elapse-requires-2 c κs =
     let some = c .before .before .before .before in
     let next = some .before .before in
-    let s = next .before .before .before .before .before .before .before in
-    let v = next .before .before .loop .inv in
+    let s = next .before .before .before .before .before .before .before .before in
+    let v = next .before .before .before .loop .inv in
     let d = sym (next .next-due .ensures) ∙ some .due .given .1 in
     let t = some .due .given .0 .0 .0 in
     (v .form, turn-lasting v t (omega (arith, turn-after v d)) (omega (arith, turn-time v d, s .pre .1 .1 .0 .1)))
 
 at-instant-requires : tie.Need-at-instant-requires Inv-loop μ-loop
 at-instant-requires c κs =
-    let some = c .before .before .before .before .before .before .before .before .before in
+    let some = c .before .before .before .before .before .before .before in
     let next = some .before .before in
-    let v = next .before .before .loop .inv in
+    let v = next .before .before .before .loop .inv in
     let d = sym (next .next-due .ensures) ∙ some .due .given .1 in
-    let f = c .before .before .before .before .elapse2 .ensures in
+    let f = c .before .before .elapse2 .ensures in
     (f .form, (turn-meets v d f, (turn-placed v d f, (turn-playable v d f, turn-room v d f))))
 
 loop-less : tie.Need-loop-less Inv-loop μ-loop
 loop-less c =
-    let then = c .before .before .before .before .before .before .before .before .before in
+    let then = c .before .before .before .before .before in
     let some = then .before .before .before .before .before in
     let next = some .before .before in
     let d = sym (next .next-due .ensures) ∙ some .due .given .1 in
-    turn-less (next .before .before .loop .inv) d (then .elapse2 .ensures) (c .before .before .before .before .at-instant .ensures)
+    turn-less (next .before .before .before .loop .inv) d (then .elapse2 .ensures) (c .before .before .at-instant .ensures)
 
 loop-again : tie.Need-loop-again Inv-loop μ-loop
 loop-again c =
-    let then = c .before .before .before .before .before .before .before .before .before in
+    let then = c .before .before .before .before .before in
     let some = then .before .before .before .before .before in
     let next = some .before .before in
     let d = sym (next .next-due .ensures) ∙ some .due .given .1 in
-    turn-next (next .before .before .loop .inv) d (then .elapse2 .ensures) (c .before .before .before .before .at-instant .ensures)
+    turn-next (next .before .before .before .loop .inv) d (then .elapse2 .ensures) (c .before .before .at-instant .ensures)
 
 pub run-spec : {M : Type 1} → statement M
 run-spec =
@@ -115,7 +112,6 @@ run-spec =
     sub-elapse
     elapse-requires
     same-length
-    same-length-2
     returns
     sub-elapse-2
     elapse-requires-2

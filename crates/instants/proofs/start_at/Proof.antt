@@ -13,9 +13,6 @@ use Rattle.instants.proofs.start_at.Tie as tie
 count-requires : tie.Need-count-requires
 count-requires c κs = search needs
 
-same-length : tie.Need-same-length
-same-length c = search needs
-
 returns : tie.Need-returns
 returns c =
     let s = c .before .before .before .before .before in
@@ -29,10 +26,10 @@ remove-requires c κs = search needs
 
 launch-requires : tie.Need-launch-requires
 launch-requires c κs =
-    let left = c .before .before .before .before .remove in
-    let now = c .before .before .before .before .before .before in
+    let left = c .before .before .remove in
+    let now = c .before .before .before .before in
     let x = now .before .before .before .load in
-    let some = now .before .before .before .before .before in
+    let some = now .before .before .before .before .before .before in
     let s = some .before .before .before .before .before in
     let m = see (s .args .m .now) in
     let h : 0 < length (m .queue .waiting) = omega (arith, some .if1 .left, some .before .count .ensures) in (
@@ -43,30 +40,24 @@ launch-requires c κs =
       ),
     )
 
-same-length-2 : tie.Need-same-length-2
-same-length-2 c = search needs
-
-same-length-3 : tie.Need-same-length-3
-same-length-3 c = search needs
+same-length : tie.Need-same-length
+same-length c = search needs
 
 returns-2 : tie.Need-returns-2
 returns-2 c =
-    let left = c .before .before .before .before .before .before .before .before .before .remove in
-    let now = c .before .before .before .before .before .before .before .before .before .before .before in
+    let left = c .before .before .before .before .before .remove in
+    let now = c .before .before .before .before .before .before .before in
     let x = now .before .before .before .load in
-    let some = now .before .before .before .before .before in
+    let some = now .before .before .before .before .before .before in
     let s = some .before .before .before .before .before in
     let m = see (s .args .m .now) in
     let h : 0 < length (m .queue .waiting) = omega (arith, some .if1 .left, some .before .count .ensures) in
-    start-turns m (x .result) h (x .ensures) (now .if2 .taken) (left .ensures) (c .before .before .before .before .launch .ensures)
-
-same-length-4 : tie.Need-same-length-4
-same-length-4 c = search needs
+    start-turns m (x .result) h (x .ensures) (now .if2 .taken) (left .ensures) (c .before .before .launch .ensures)
 
 returns-3 : tie.Need-returns-3
 returns-3 c =
     let x = c .before .before .before .load in
-    let some = c .before .before .before .before .before in
+    let some = c .before .before .before .before .before .before in
     let s = some .before .before .before .before .before in
     let h : 0 < length (see (s .args .m .now) .queue .waiting) = omega (arith, some .if1 .left, some .before .count .ensures) in
     start-later (s .args .t .0) (s .pre .0) (x .result) h (x .ensures) (c .if2 .left) (s .pre .1 .0)
@@ -76,13 +67,10 @@ start-at-spec =
     tie.close
     (tie.spec
     count-requires
-    same-length
     returns
     load-requires
     remove-requires
     launch-requires
-    same-length-2
-    same-length-3
+    same-length
     returns-2
-    same-length-4
     returns-3)

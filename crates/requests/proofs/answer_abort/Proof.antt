@@ -1,11 +1,13 @@
--- 121 (`abort-unknown`), or 100 and behind it the ends of the session where it is held and of its followers (`abort-turns`).
--- Rests on where the number is held, once (`held-at`).
+-- 121 (`abort-unknown`), or 100 and behind it the ends of the session where it is held and of its followers (`abort-waiting`, `abort-started`).
+-- Rests on where the number is held, once (`found-in`).
 use mathlib.Core.Path.{sym, _∙_}
 use native.Mathlib.Omega.{arith}
 use Rattle.rules.proofs.Sound.{few-wait}
+use Rattle.memory.specs.declared.Which.the-variants.{Started}
 use Rattle.memory.specs.Memory.{see}
-use Rattle.checks.proofs.Laws.{held-at, held-nowhere}
-use Rattle.requests.proofs.Laws.{found-ends, abort-unknown, abort-turns}
+use Rattle.ends.proofs.Laws.{playable}
+use Rattle.checks.proofs.Laws.{held-nowhere}
+use Rattle.requests.proofs.Laws.{found-in, abort-unknown, abort-waiting, abort-started}
 use borrow.Author.Needs.{needs}
 use Rattle.requests.proofs.answer_abort.Statement.{statement}
 use Rattle.requests.proofs.answer_abort.Tie as tie
@@ -25,9 +27,6 @@ abort-response-requires c κs = search needs
 same-length : tie.Need-same-length
 same-length c = search needs
 
-same-length-2 : tie.Need-same-length-2
-same-length-2 c = search needs
-
 returns : tie.Need-returns
 returns c =
     let wrote = c .before .before in
@@ -41,38 +40,70 @@ returns c =
 abort-response-requires-2 : tie.Need-abort-response-requires-2
 abort-response-requires-2 c κs = search needs
 
-ending-at-requires : tie.Need-ending-at-requires
-ending-at-requires c κs = search needs
+enum-told-2 : tie.Need-enum-told-2
+enum-told-2 c = search needs
 
-end-chain-requires : tie.Need-end-chain-requires
-end-chain-requires c κs =
-    let wrote = c .before .before .before .before .before in
+end-waiting-requires : tie.Need-end-waiting-requires
+end-waiting-requires c κs =
+    let way = c .before .before in
+    let wrote = way .before .before .before .before in
     let found = wrote .before .before .before in
     let looked = found .before .before in
     let s = looked .before .before .before .before in
     let m = s .args .m .now in
-    let h = held-at (s .args .conn) (s .args .id) (see m .queue) (sym (looked .where-held .ensures) ∙ found .held .given .1) in
-    let a = found-ends (s .args .conn) (s .args .id) m h (s .pre .1 .0) in
-    (s .pre .0, (a .0, (a .1, omega (arith, few-wait (s .pre .1 .0), s .pre .1 .1 .1, wrote .abort-response2 .kept .0))))
+    let e = looked .where-held .ensures in
+    let h = found-in (s .args .conn) (s .args .id) (see m .queue) e (found .held .given .1) (way .enum-told2 .given .1) in
+    (s .pre .0, (omega (arith, h .within), omega (arith, few-wait (s .pre .1 .0), s .pre .1 .1 .1, wrote .abort-response2 .kept .0)))
+
+enum-told-3 : tie.Need-enum-told-3
+enum-told-3 c = search needs
+
+end-started-requires : tie.Need-end-started-requires
+end-started-requires c κs =
+    let way = c .before .before in
+    let wrote = way .before .before .before .before in
+    let found = wrote .before .before .before in
+    let looked = found .before .before in
+    let s = looked .before .before .before .before in
+    let m = s .args .m .now in
+    let e = looked .where-held .ensures in
+    let h = found-in (s .args .conn) (s .args .id) (see m .queue) e (found .held .given .1) (way .enum-told3 .given .1) in
+    let p = playable Started m (s .pre .1 .0) in
+    (s .pre .0, (omega (arith, h .within), (p, omega (arith, few-wait (s .pre .1 .0), s .pre .1 .1 .1, wrote .abort-response2 .kept .0))))
+
+same-length-2 : tie.Need-same-length-2
+same-length-2 c = search needs
+
+returns-2 : tie.Need-returns-2
+returns-2 c =
+    let done = c .before .before in
+    let way = done .before .before .before in
+    let wrote = way .before .before .before .before in
+    let found = wrote .before .before .before in
+    let looked = found .before .before in
+    let s = looked .before .before .before .before in
+    let m = s .args .m .now in
+    let e = looked .where-held .ensures in
+    let h = found-in (s .args .conn) (s .args .id) (see m .queue) e (found .held .given .1) (way .enum-told2 .given .1) in
+    abort-waiting (s .args .conn) (s .args .id) (s .pre .0) (s .pre .1 .0) (omega (arith, s .pre .1 .1 .1))
+    (wrote .abort-response2 .ensures) h (done .end-waiting .ensures)
 
 same-length-3 : tie.Need-same-length-3
 same-length-3 c = search needs
 
-same-length-4 : tie.Need-same-length-4
-same-length-4 c = search needs
-
-returns-2 : tie.Need-returns-2
-returns-2 c =
-    let done = c .before .before .before .before in
+returns-3 : tie.Need-returns-3
+returns-3 c =
+    let done = c .before .before in
     let way = done .before .before .before in
-    let wrote = way .before .before .before in
+    let wrote = way .before .before .before .before in
     let found = wrote .before .before .before in
     let looked = found .before .before in
     let s = looked .before .before .before .before in
     let m = s .args .m .now in
-    let h = held-at (s .args .conn) (s .args .id) (see m .queue) (sym (looked .where-held .ensures) ∙ found .held .given .1) in
-    abort-turns (s .args .conn) (s .args .id) (s .pre .0) (s .pre .1 .0) h (omega (arith, s .pre .1 .1 .1))
-    (wrote .abort-response2 .ensures) (way .ending-at .ensures) (done .end-chain .ensures)
+    let e = looked .where-held .ensures in
+    let h = found-in (s .args .conn) (s .args .id) (see m .queue) e (found .held .given .1) (way .enum-told3 .given .1) in
+    abort-started (s .args .conn) (s .args .id) (s .pre .0) (s .pre .1 .0) (omega (arith, s .pre .1 .1 .1))
+    (wrote .abort-response2 .ensures) h (done .end-started .ensures)
 
 pub answer-abort-spec : {M : Type 1} → statement M
 answer-abort-spec =
@@ -83,11 +114,13 @@ answer-abort-spec =
     enum-told
     abort-response-requires
     same-length
-    same-length-2
     returns
     abort-response-requires-2
-    ending-at-requires
-    end-chain-requires
+    enum-told-2
+    end-waiting-requires
+    enum-told-3
+    end-started-requires
+    same-length-2
+    returns-2
     same-length-3
-    same-length-4
-    returns-2)
+    returns-3)

@@ -29,9 +29,6 @@ splice-response-requires c κs = search needs
 same-length : tie.Need-same-length
 same-length c = search needs
 
-same-length-2 : tie.Need-same-length-2
-same-length-2 c = search needs
-
 returns : tie.Need-returns
 returns c =
     let wrote = c .before .before in
@@ -59,8 +56,8 @@ find-requires c κs = search needs
 
 splice-result-requires : tie.Need-splice-result-requires
 splice-result-requires c κs =
-    let found = c .before in
-    let wanted = found .before .before in
+    let found = c .before .before in
+    let wanted = found .before .before .before in
     let known = wanted .before .before in
     let began = known .before .before in
     let s = began .before .before .before .before in
@@ -73,8 +70,8 @@ accept-requires : tie.Need-accept-requires
 accept-requires c κs =
     let test = c .before .before in
     let judged = test .before in
-    let found = judged .before .before in
-    let wanted = found .before .before in
+    let found = judged .before .before .before in
+    let wanted = found .before .before .before in
     let known = wanted .before .before in
     let began = known .before .before in
     let s = began .before .before .before .before in
@@ -86,19 +83,16 @@ accept-requires c κs =
     let room = room-waiting (s .args .conn) (s .args .r) m (a .is) n (test .if1 .taken) four (s .pre .1 .0) in
     (s .pre .0, (s .pre .1 .0, (a .at, (room, s .pre .1 .1 .1 .1 .1))))
 
-same-length-3 : tie.Need-same-length-3
-same-length-3 c = search needs
-
-same-length-4 : tie.Need-same-length-4
-same-length-4 c = search needs
+same-length-2 : tie.Need-same-length-2
+same-length-2 c = search needs
 
 returns-2 : tie.Need-returns-2
 returns-2 c =
-    let done = c .before .before .before .before in
+    let done = c .before .before in
     let test = done .before .before .before in
     let judged = test .before in
-    let found = judged .before .before in
-    let wanted = found .before .before in
+    let found = judged .before .before .before in
+    let wanted = found .before .before .before in
     let known = wanted .before .before in
     let began = known .before .before in
     let s = began .before .before .before .before in
@@ -112,22 +106,21 @@ cast-splice-response-2 c = search needs
 
 splice-response-requires-2 : tie.Need-splice-response-requires-2
 splice-response-requires-2 c κs =
-    let s = c .before .before .before .before .before .before .before .before .before .before .before .before .before .before .before in
+    let judged = c .before .before .before in
+    let known = judged .before .before .before .before .before .before .before .before in
+    let s = known .before .before .before .before .before .before in
     omega (arith, s .pre .1 .1 .1 .1 .1)
 
-same-length-5 : tie.Need-same-length-5
-same-length-5 c = search needs
-
-same-length-6 : tie.Need-same-length-6
-same-length-6 c = search needs
+same-length-3 : tie.Need-same-length-3
+same-length-3 c = search needs
 
 returns-3 : tie.Need-returns-3
 returns-3 c =
     let wrote = c .before .before in
     let test = wrote .before .before .before in
     let judged = test .before in
-    let found = judged .before .before in
-    let wanted = found .before .before in
+    let found = judged .before .before .before in
+    let wanted = found .before .before .before in
     let known = wanted .before .before in
     let began = known .before .before in
     let s = began .before .before .before .before in
@@ -148,17 +141,14 @@ answer-splice-spec =
     cast-splice-response
     splice-response-requires
     same-length
-    same-length-2
     returns
     session-at-requires
     find-requires
     splice-result-requires
     accept-requires
-    same-length-3
-    same-length-4
+    same-length-2
     returns-2
     cast-splice-response-2
     splice-response-requires-2
-    same-length-5
-    same-length-6
+    same-length-3
     returns-3)

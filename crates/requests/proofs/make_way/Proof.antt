@@ -1,9 +1,8 @@
 -- One that has the start ends with its followers (`way-over`); where none has it nothing is done (`way-free`).
--- Rests on what `is_taken`, `end_chain` and one search promise.
+-- Rests on what `is_taken`, `end_waiting` and one search promise.
 use native.Mathlib.Omega.{arith}
 use Rattle.rules.proofs.Sound.{few-wait}
-use Rattle.memory.specs.declared.Which.the-variants.{Waiting}
-use Rattle.requests.proofs.Laws.{playable, way-free, way-taken, way-over}
+use Rattle.requests.proofs.Laws.{way-free, way-taken, way-over}
 use borrow.Author.Needs.{needs}
 use Rattle.requests.proofs.make_way.Statement.{statement}
 use Rattle.requests.proofs.make_way.Tie as tie
@@ -13,37 +12,30 @@ is-taken-requires c κs =
     let s = c .before .before .before in
     (s .pre .0, (s .pre .1 .0 .timed .sorted, s .pre .1 .1 .0))
 
-end-chain-requires : tie.Need-end-chain-requires
-end-chain-requires c κs =
+end-waiting-requires : tie.Need-end-waiting-requires
+end-waiting-requires c κs =
     let test = c .before .before in
     let asked = test .before in
     let s = asked .before .before .before .before in
-    let m = s .args .m .now in
     let i = way-taken (s .args .t .0) (s .args .m .now) (s .pre .1 .1 .0) (asked .is-taken .ensures) (test .if1 .taken) (s .pre .1 .0) in
-    (s .pre .0, (i, (playable Waiting m (s .pre .1 .0), omega (arith, few-wait (s .pre .1 .0), s .pre .1 .1 .1))))
+    (s .pre .0, (omega (arith, i), omega (arith, few-wait (s .pre .1 .0), s .pre .1 .1 .1)))
 
 find-requires : tie.Need-find-requires
 find-requires c κs =
-    let done = c .before .before .before .before .before in
-    done .end-chain .ensures .shows .form
+    let done = c .before .before .before .before in
+    done .end-waiting .ensures .shows .form
 
 same-length : tie.Need-same-length
 same-length c = search needs
 
-same-length-2 : tie.Need-same-length-2
-same-length-2 c = search needs
-
 returns : tie.Need-returns
 returns c =
-    let done = c .before .before .before .before .before .before in
+    let done = c .before .before .before .before .before in
     let test = done .before .before .before in
     let asked = test .before in
     let s = asked .before .before .before .before in
     way-over (s .args .t .0) (s .args .m .now) (s .pre .1 .1 .0) (asked .is-taken .ensures) (test .if1 .taken) (s .pre .1 .0)
-    (done .end-chain .ensures) (c .find .ensures)
-
-same-length-3 : tie.Need-same-length-3
-same-length-3 c = search needs
+    (done .end-waiting .ensures) (c .find .ensures)
 
 returns-2 : tie.Need-returns-2
 returns-2 c =
@@ -56,10 +48,8 @@ make-way-spec =
     tie.close
     (tie.spec
     is-taken-requires
-    end-chain-requires
+    end-waiting-requires
     find-requires
     same-length
-    same-length-2
     returns
-    same-length-3
     returns-2)

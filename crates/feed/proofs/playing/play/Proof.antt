@@ -58,7 +58,7 @@ part-message-start c = search needs
 part-message-end : tie.Need-part-message-end
 unfolding usedBy
 part-message-end c =
-    let s = c .before .before .before .before .before .before .before .before .before in
+    let s = c .before .before .before .before .before .before .before .before in
     omega (arith, used-within (s .args .l .now) (s .pre .1 .0) (c .before .before .before .r3 .given .1))
 
 message-requires : tie.Need-message-requires
@@ -82,7 +82,7 @@ part-message-start-2 c = search needs
 part-message-end-2 : tie.Need-part-message-end-2
 unfolding usedBy
 part-message-end-2 c =
-    let s = c .before .before .before .before .before .before .before .before .before in
+    let s = c .before .before .before .before .before .before .before .before in
     omega (arith, used-within (s .args .l .now) (s .pre .1 .0) (c .before .before .before .r4 .given .1))
 
 message-requires-2 : tie.Need-message-requires-2
@@ -118,21 +118,31 @@ same-length c = search needs
 same-length-2 : tie.Need-same-length-2
 same-length-2 c = search needs
 
-same-length-3 : tie.Need-same-length-3
-same-length-3 c = search needs
-
 returns : tie.Need-returns
 unfolding usedBy isCut nextOf stepBy call
 returns c =
-    let made = c .before .before .before .before .before .before .before .before in
+    let made = c .before .before .before .before .before .before in
     let found = made .before .before .before .before in
-    let s = found .before .before .before .before .before .before in
+    let s = found .before .before .before .before .before in
     let u = shown (s .args .m .now) (s .args .b .now) in
     plays-as (s .args .l .now) u (s .pre .1 .0) (found .r .given .1)
     (ended-plays (made .«open» .ensures) (open-silent _ u (s .args .out .now)) (c .before .before .ended .ensures))
 
+same-length-3 : tie.Need-same-length-3
+same-length-3 c = search needs
+
 same-length-4 : tie.Need-same-length-4
 same-length-4 c = search needs
+
+returns-2 : tie.Need-returns-2
+unfolding usedBy isCut nextOf stepBy call
+returns-2 c =
+    let made = c .before .before .before .before .before .before .before .before in
+    let found = made .before .before .before .before .before in
+    let s = found .before .before .before .before .before in
+    let u = shown (s .args .m .now) (s .args .b .now) in
+    plays-as (s .args .l .now) u (s .pre .1 .0) (found .r2 .given .1)
+    (made-plays (closes (found .r2 .given .0 .0)) u (s .pre .1 .1) (made .close .ensures) (c .before .before .ended2 .ensures))
 
 same-length-5 : tie.Need-same-length-5
 same-length-5 c = search needs
@@ -140,31 +150,12 @@ same-length-5 c = search needs
 same-length-6 : tie.Need-same-length-6
 same-length-6 c = search needs
 
-returns-2 : tie.Need-returns-2
-unfolding usedBy isCut nextOf stepBy call
-returns-2 c =
-    let made = c .before .before .before .before .before .before .before .before .before .before in
-    let found = made .before .before .before .before .before in
-    let s = found .before .before .before .before .before .before in
-    let u = shown (s .args .m .now) (s .args .b .now) in
-    plays-as (s .args .l .now) u (s .pre .1 .0) (found .r2 .given .1)
-    (made-plays (closes (found .r2 .given .0 .0)) u (s .pre .1 .1) (made .close .ensures) (c .before .before .ended2 .ensures))
-
-same-length-7 : tie.Need-same-length-7
-same-length-7 c = search needs
-
-same-length-8 : tie.Need-same-length-8
-same-length-8 c = search needs
-
-same-length-9 : tie.Need-same-length-9
-same-length-9 c = search needs
-
 returns-3 : tie.Need-returns-3
 unfolding call
 returns-3 c =
-    let made = c .before .before .before .before .before .before .before .before .before .before in
+    let made = c .before .before .before .before .before .before .before .before in
     let found = made .before .before .before .before .before .before in
-    let s = found .before .before .before .before .before .before in
+    let s = found .before .before .before .before .before in
     let u = shown (s .args .m .now) (s .args .b .now) in
     let l = s .args .l .now in
     let x = found .r3 .given .0 in
@@ -173,41 +164,35 @@ returns-3 c =
     (made-plays (λ n. messages (x .0) (part 2 (messageEnd (x .1 .0) - 2) l) (lending n)) u (s .pre .1 .1)
     (made .message .ensures) (c .before .before .ended3 .ensures)))
 
-same-length-10 : tie.Need-same-length-10
-same-length-10 c = search needs
+same-length-7 : tie.Need-same-length-7
+same-length-7 c = search needs
 
-same-length-11 : tie.Need-same-length-11
-same-length-11 c = search needs
-
-same-length-12 : tie.Need-same-length-12
-same-length-12 c = search needs
+same-length-8 : tie.Need-same-length-8
+same-length-8 c = search needs
 
 returns-4 : tie.Need-returns-4
 unfolding usedBy isCut nextOf stepBy call
 returns-4 c =
-    let made = c .before .before .before .before .before .before .before .before .before .before in
+    let made = c .before .before .before .before .before .before .before .before in
     let found = made .before .before .before .before .before .before in
-    let s = found .before .before .before .before .before .before in
+    let s = found .before .before .before .before .before in
     let u = shown (s .args .m .now) (s .args .b .now) in
     plays-as (s .args .l .now) u (s .pre .1 .0) (found .r4 .given .1)
     (made-plays (λ n. messages (found .r4 .given .0 .0) (part 2 8 (s .args .l .now)) (lending n)) u (s .pre .1 .1)
     (made .message2 .ensures) (c .before .before .ended4 .ensures))
 
-same-length-13 : tie.Need-same-length-13
-same-length-13 c = search needs
+same-length-9 : tie.Need-same-length-9
+same-length-9 c = search needs
 
-same-length-14 : tie.Need-same-length-14
-same-length-14 c = search needs
-
-same-length-15 : tie.Need-same-length-15
-same-length-15 c = search needs
+same-length-10 : tie.Need-same-length-10
+same-length-10 c = search needs
 
 returns-5 : tie.Need-returns-5
 unfolding usedBy isCut nextOf stepBy call
 returns-5 c =
-    let made = c .before .before .before .before .before .before .before .before .before .before in
+    let made = c .before .before .before .before .before .before .before .before in
     let found = made .before .before .before .before .before in
-    let s = found .before .before .before .before .before .before in
+    let s = found .before .before .before .before .before in
     let u = shown (s .args .m .now) (s .args .b .now) in
     let x = found .r5 .given .0 in
     plays-as (s .args .l .now) u (s .pre .1 .0) (found .r5 .given .1)
@@ -216,7 +201,7 @@ returns-5 c =
 returns-6 : tie.Need-returns-6
 unfolding usedBy isCut nextOf stepBy
 returns-6 c =
-    let s = c .before .before .before .before .before .before .before in
+    let s = c .before .before .before .before .before .before in
     let m = s .args .m .now in
     let b = s .args .b .now in
     plays-as (s .args .l .now) (shown m b) (s .pre .1 .0) (c .before .enum-told .given .1)
@@ -225,7 +210,7 @@ returns-6 c =
 returns-7 : tie.Need-returns-7
 unfolding usedBy isCut nextOf stepBy
 returns-7 c =
-    let s = c .before .before .before .before .before .before .before in
+    let s = c .before .before .before .before .before .before in
     let m = s .args .m .now in
     let b = s .args .b .now in
     plays-as (s .args .l .now) (shown m b) (s .pre .1 .0) (c .before .enum-told2 .given .1)
@@ -268,23 +253,18 @@ play-spec =
     stopped-requires-2
     same-length
     same-length-2
-    same-length-3
     returns
+    same-length-3
     same-length-4
+    returns-2
     same-length-5
     same-length-6
-    returns-2
+    returns-3
     same-length-7
     same-length-8
-    same-length-9
-    returns-3
-    same-length-10
-    same-length-11
-    same-length-12
     returns-4
-    same-length-13
-    same-length-14
-    same-length-15
+    same-length-9
+    same-length-10
     returns-5
     returns-6
     returns-7)

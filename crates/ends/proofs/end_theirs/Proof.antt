@@ -1,0 +1,94 @@
+-- One turn of `Theirs`: the session at the place i is the connection's, and its end is written, or is counted; then they are taken out.
+-- Rests on what `write_end` and memory promise.
+use native.Mathlib.Omega.{arith}
+use borrow.Author.Needs.{needs}
+use borrow.Author.Tests.{eq-eqb, ne-eqb}
+use mathlib.Core.Logic.{⊎-elim}
+use Prim.Native.Nat.{_-_, _<_}
+use lib.ListN.{length}
+use Rattle.memory.specs.Memory.{sessions}
+use Rattle.ends.proofs.Closing.{Theirs, theirs-none, theirs-goes, theirs-stays, theirs-left, theirs-done, closing-room}
+use Rattle.ends.proofs.end_theirs.Statement.{statement}
+use Rattle.ends.proofs.end_theirs.Tie as tie
+
+abbrev Inv-loop : tie.InvT-loop
+Inv-loop m which conn out₀ len n to₀ left₀ i₀ out to left i = Theirs conn (sessions which m) out₀ len i to left out
+
+abbrev μ-loop : tie.MeasureT-loop
+μ-loop m which conn out₀ len n to₀ left₀ i₀ out to left i = n - i
+
+count-requires : tie.Need-count-requires Inv-loop μ-loop
+count-requires c κs = search needs
+
+loop-holds : tie.Need-loop-holds Inv-loop μ-loop
+loop-holds c = let s = c .before .before .before .before in theirs-none (sessions (s .args .which) (s .args .m .now)) (s .pre .1)
+
+load-requires : tie.Need-load-requires Inv-loop μ-loop
+load-requires c κs =
+    let n = c .before .before .before .before in
+    (n .before .before .before .before .pre .0, omega (arith, n .count .ensures, c .before .before .loop-test .taken))
+
+write-end-requires : tie.Need-write-end-requires Inv-loop μ-loop
+write-end-requires c κs =
+    let l = c .before .before .before .before .before .before .before .loop in
+    let n = c .before .before .before .before .before .before .before .before in
+    let a = n .before .before .before .before .args in
+    let list = sessions (a .which) (a .m .now) in
+    let k : l .i < length list = omega (arith, n .count .ensures, c .before .before .before .before .before .before .loop-test .taken) in
+    (tt, closing-room list (l .i) (l .inv .writes) k)
+
+add-left : tie.Need-add-left Inv-loop μ-loop
+add-left c = search needs
+
+add-i : tie.Need-add-i Inv-loop μ-loop
+add-i c = search needs
+
+loop-less : tie.Need-loop-less Inv-loop μ-loop
+loop-less c = search needs
+
+loop-again : tie.Need-loop-again Inv-loop μ-loop
+loop-again c =
+    let read = c .before .before in
+    let l = read .before .before .before .before .loop in
+    let n = read .before .before .before .before .before in
+    let a = n .before .before .before .before .args in
+    let list = sessions (a .which) (a .m .now) in
+    let k : l .i < length list = omega (arith, n .count .ensures, read .before .before .before .loop-test .taken) in
+    ⊎-elim
+    (λ w. rw (w .5, w .6, w .7) (theirs-goes list (l .inv) k (read .load .ensures) (eq-eqb _ _ (w .0 .taken)) (w .2 .ensures)))
+    (λ w. rw (w .1, w .2, w .3) (theirs-stays list (l .inv) k (read .load .ensures) (ne-eqb _ _ (w .0 .left))))
+    (c .if1 .came)
+
+omit-of-requires : tie.Need-omit-of-requires Inv-loop μ-loop
+omit-of-requires c κs =
+    let n = c .before .before .before in
+    let s = n .before .before .before .before in
+    let list = sessions (s .args .which) (s .args .m .now) in
+    (s .pre .0, theirs-left list (c .before .before .loop .inv) (omega (arith, n .count .ensures, c .before .loop-test .left)))
+
+same-length : tie.Need-same-length Inv-loop μ-loop
+same-length c = c .before .before .before .loop .inv .writes .long
+
+returns : tie.Need-returns Inv-loop μ-loop
+returns c =
+    let n = c .before .before .before .before in
+    let a = n .before .before .before .before .args in
+    theirs-done (a .which) (a .m .now) (c .before .before .before .loop .inv) (omega (arith, n .count .ensures, c .before .before .loop-test .left)) (c .omit-of .ensures)
+
+pub end-theirs-spec : {M : Type 1} → statement M
+end-theirs-spec =
+    tie.close
+    (tie.spec
+    Inv-loop
+    μ-loop
+    count-requires
+    loop-holds
+    load-requires
+    write-end-requires
+    add-left
+    add-i
+    loop-less
+    loop-again
+    omit-of-requires
+    same-length
+    returns)
