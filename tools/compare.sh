@@ -1,5 +1,6 @@
 #!/bin/sh
-# compare.sh: the second program's own tests, the scenarios, and random streams; against the card program once it is linked.
+# compare.sh: the second program's own tests, the scenarios, and random streams, whole and in pieces; against the card program once it
+# is linked.
 # The last line is 'N passed, M failed'.
 set -eu
 cd "$(dirname "$0")/.."
@@ -18,6 +19,7 @@ if [ -x target/bin/card ]; then
     card="sh tools/run-program.sh target/bin/card"
     ran scenarios "$model" scenario --card "$card" "$@" || :
     ran fuzz "$model" fuzz --seed 280 --n 200 --card "$card" || :
+    ran pieces "$model" pieces --seed 280 --n 12 --card "$card" || :
 else
     ran scenarios "$model" scenario "$@" || :
     ran fuzz "$model" fuzz --seed 280 --n 200 || :

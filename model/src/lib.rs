@@ -16,6 +16,7 @@ pub mod fuzz;
 pub mod gen;
 pub mod instants;
 pub mod people;
+pub mod pieces;
 pub mod reading;
 pub mod records;
 pub mod rules;

@@ -1,7 +1,7 @@
 //! The independent second program of the splicer core. See `model help`.
 
 use model::faults::Fault;
-use model::{asrun, card, cases, fuzz, option, people, scenario};
+use model::{asrun, card, cases, fuzz, option, people, pieces, scenario};
 use std::io::{Read, Write};
 
 const HELP: &str = "\
@@ -13,6 +13,7 @@ model scenario --tables DIR FILE...          writes scenarios as tables of antt
 model gen --seed S --n N --out DIR           writes N generated streams as files
 model fuzz --seed S --n N [--card CMD] [--table] [--floors off]
                                              N generated streams through both programs
+model pieces --seed S --n N --card CMD       N generated streams through the card program, in pieces
 model faults --seed S --n N                  shows that each deliberate fault is noticed
 model decode IN OUT                          a recording's calls and answers as lines
 model asrun IN OUT                           a recording's as-run list and timeline
@@ -40,6 +41,7 @@ fn command(args: &[String]) -> Result<bool, String> {
         "scenario" => run_scenario(rest),
         "gen" => run_gen(rest),
         "fuzz" => run_fuzz(rest),
+        "pieces" => run_pieces(rest),
         "faults" => run_faults(rest),
         "decode" => run_recording(rest, people::decode),
         "asrun" => run_recording(rest, asrun::as_run),
@@ -152,6 +154,14 @@ fn run_fuzz(args: &[String]) -> Result<bool, String> {
     };
     nothing_left(&args)?;
     fuzz::fuzz(&plan)
+}
+
+fn run_pieces(args: &[String]) -> Result<bool, String> {
+    let mut args = args.to_vec();
+    let (seed, n) = (required(&mut args, "--seed")?, required(&mut args, "--n")?);
+    let card = option(&mut args, "--card")?.ok_or("--card is missing")?;
+    nothing_left(&args)?;
+    pieces::pieces(seed, n, &card)
 }
 
 fn run_faults(args: &[String]) -> Result<bool, String> {

@@ -1,0 +1,55 @@
+//! The command `pieces`: the card program's input arrives in pieces, and its output does not change.
+
+use crate::card;
+use crate::compare;
+use crate::gen;
+
+/// How the input is cut: the first piece and all others, in bytes.
+const CUTS: [(usize, usize); 5] = [(1, 1), (7, 7), (101, 101), (4096, 4096), (1, 4096)];
+
+fn cut(input: &[u8], (first, others): (usize, usize)) -> Vec<&[u8]> {
+    let (head, rest) = input.split_at(first.min(input.len()));
+    std::iter::once(head)
+        .filter(|head| !head.is_empty())
+        .chain(rest.chunks(others))
+        .collect()
+}
+
+/// Runs the card program on N streams in every cut; a line for each cut, and how many passed.
+pub fn pieces(seed: u64, n: u64, card: &str) -> Result<bool, String> {
+    let mut failed = 0;
+    for sizes in CUTS {
+        let mut differ = 0;
+        for index in 0..n {
+            let input = gen::stream(seed, index);
+            let output = compare::run_in_pieces(card, &cut(&input, sizes))?;
+            let same = output.bytes == card::run(&input, None).output();
+            if !same || output.trouble.is_some() {
+                println!("seed {seed} stream {index}, pieces of {sizes:?}: differs");
+                differ += 1;
+            }
+        }
+        let (first, others) = sizes;
+        println!("pieces: first {first}, then {others} bytes: {n} streams, {differ} differ");
+        failed += u64::from(differ > 0);
+    }
+    println!("{} passed, {failed} failed", CUTS.len() as u64 - failed);
+    Ok(failed == 0)
+}
+
+#[cfg(test)]
+mod tests {
+    use super::*;
+
+    #[test]
+    fn a_cut_input_is_the_input() {
+        let input: Vec<u8> = (0..=255).collect();
+        for sizes in CUTS {
+            let pieces = cut(&input, sizes);
+            assert_eq!(pieces.concat(), input);
+            assert_eq!(pieces[0].len(), sizes.0.min(input.len()));
+            assert!(pieces[1..].iter().all(|p| p.len() <= sizes.1));
+        }
+        assert!(cut(&[], (1, 1)).is_empty());
+    }
+}

@@ -1,0 +1,67 @@
+#!/bin/sh
+# wrong-cards.sh: what no promise of the card program can say (that `main` reads, writes and loops, and `turns` hands on what `turn` left)
+# is seen by runs. Each edit of crates/card/wrong-runs makes a wrong program of it, built here WITHOUT proof; the run with input in pieces
+# (model pieces) must notice it. Needs target/model/release/model (tools/compare.sh builds it). The last line is 'N passed, M failed'.
+set -eu
+cd "$(dirname "$0")/.."
+kit=${RATTLE_HOME:-$(cd "$(dirname "$(readlink -f "$(command -v rt)")")/.." && pwd -P)}
+own=$kit/on/$(uname -m)
+target=x86_64-unknown-linux-gnu
+model=target/model/release/model
+work=$PWD/target/wrong-cards
+here=$PWD
+passed=0
+failed=0
+[ -x "$model" ] || { echo "wrong-cards.sh: $model is missing: sh tools/compare.sh builds it" >&2; exit 1; }
+
+# changed EDIT FILE: the text of FILE with the edit made; its old text must stand there once
+changed() {
+    awk -v edit="$1" '
+    BEGIN {
+        while ((getline line < edit) > 0) {
+            if (line ~ /^old: /) { part = "old"; old = substr(line, 6) }
+            else if (line ~ /^new: /) { part = "new"; new = substr(line, 6) }
+            else if (line ~ /^(#|file: )/) part = ""
+            else if (part == "old") old = old "\n" line
+            else if (part == "new") new = new "\n" line
+        }
+    }
+    { text = text $0 "\n" }
+    END {
+        at = index(text, old)
+        if (!at || index(substr(text, at + 1), old)) exit 1
+        printf "%s%s%s", substr(text, 1, at - 1), new, substr(text, at + length(old))
+    }' "$2"
+}
+
+# built EDIT: the wrong program $work/card
+built() {
+    rm -rf "$work"
+    mkdir -p "$work/repo/crates/card/src"
+    cp crates.txt "$work/repo/"
+    for crate in "$here"/crates/*; do
+        [ "$(basename "$crate")" = card ] || ln -s "$crate" "$work/repo/crates/"
+    done
+    changed "$1" crates/card/src/main.rt >"$work/repo/crates/card/src/main.rt" || return 1
+    (cd "$work/repo" && sh "$here/tools/kept-module.sh" "$work" try card) >"$work/log" 2>&1 || [ -f "$work/module.bc" ] || return 1
+    "$own/toolchain/bin/clang" --target=$target -march=x86-64 --no-default-config -no-canonical-prefixes -x ir -c -fPIC -O3 \
+        "$work/module.bc" -o "$work/card.o" 2>>"$work/log" || return 1
+    "$own/bin/rattle-link" --target $target --toolchain "$own/toolchain" -o "$work/card" "$work/card.o" >>"$work/log" 2>&1
+}
+
+for edit in crates/card/wrong-runs/*.edit; do
+    name=$(basename "$edit" .edit)
+    if ! built "$edit"; then
+        tail -n 5 "$work/log" 2>/dev/null || :
+        echo "wrong-cards: $name was not built"
+        failed=$((failed + 1))
+    elif "$model" pieces --seed 280 --n 2 --card "sh tools/run-program.sh $work/card" >"$work/said" 2>&1; then
+        echo "wrong-cards: $name was NOT noticed"
+        failed=$((failed + 1))
+    else
+        echo "wrong-cards: $name noticed: $(grep -m 1 ': differs' "$work/said")"
+        passed=$((passed + 1))
+    fi
+done
+echo "$passed passed, $failed failed"
+[ "$failed" -eq 0 ]
