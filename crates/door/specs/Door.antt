@@ -1,10 +1,12 @@
--- The reply to C, and what a call of the door promises.
+-- The reply to C, what a call of the door promises, and what C hands in and sees.
 use mathlib.Core.Path.{_≡_}
 use mathlib.Core.List.{List, [], _∷_}
-use Prim.Native.Nat.{ℕ}
+use Prim.Native.Nat.{ℕ, _<_}
 use lib.ListN.{length}
+use Rattle.rules.specs.Lists.{All}
+use Rattle.rules.specs.Bytes.{Byte}
 use Rattle.rules.specs.State.{Splicer}
-use Rattle.rules.specs.Calls.{Called, houseNumber}
+use Rattle.rules.specs.Calls.{Called, houseNumber, Call, opens, closes, messages, lending, ticks, call}
 use Rattle.memory.specs.Memory.{shown}
 use Rattle.engine.specs.declared.Answer.{Answer}
 use Rattle.engine.specs.declared.Answer.the-variants.{Refused, Done}
@@ -25,3 +27,44 @@ pub record Replies (c : Called) (e r m b o : List ℕ) : Type 0 where
 -- the same of a call of the splicer that the words m and the bytes b showed, lent the buffer e
 abbrev pub Hears : (ℕ → Splicer → Called) → (m b e r n c o : List ℕ) → Type 0
 Hears k m b e r n c o = Replies (k (length e) (shown m b)) e r n c o
+
+-- ## What C hands in, and what it sees
+
+-- a call and what it is handed beside the lent words and bytes; a buffer is what it holds before the call
+pub data Input : Type 0 where
+  anOpen : (conn : ℕ) → Input
+  aClose : (conn : ℕ) (buffer : List ℕ) → Input
+  aMessage : (conn : ℕ) (l buffer : List ℕ) → Input
+  aTick : (seconds micros : ℕ) (buffer : List ℕ) → Input
+
+-- what the types say of the inputs: a u32 is below 2^32, and a u8 is a byte
+abbrev pub Typed : Input → Type 0
+Typed (anOpen conn) = conn < 4294967296
+Typed (aClose conn e) = conn < 4294967296
+Typed (aMessage conn l e) = (conn < 4294967296) × All Byte l
+Typed (aTick seconds micros e) = (seconds < 4294967296) × (micros < 4294967296)
+
+-- the call as document 01 has it: of a buffer, its length
+abbrev pub callOf : Input → Call
+callOf (anOpen conn) = opens conn
+callOf (aClose conn e) = closes conn (length e)
+callOf (aMessage conn l e) = messages conn l (lending (length e))
+callOf (aTick seconds micros e) = ticks seconds micros (length e)
+
+-- open has no buffer
+abbrev pub bufferOf : Input → List ℕ
+bufferOf (anOpen conn) = []
+bufferOf (aClose conn e) = e
+bufferOf (aMessage conn l e) = e
+bufferOf (aTick seconds micros e) = e
+
+-- after a call: the reply's words, and what the lent words, bytes and buffer hold
+pub record Seen : Type 0 where
+  pub reply : List ℕ
+  pub words : List ℕ
+  pub bytes : List ℕ
+  pub buffer : List ℕ
+
+-- lent the words m and the bytes b, the call's contract allows that C sees r
+abbrev pub Allowed : (m b : List ℕ) → Input → Seen → Type 0
+Allowed m b i r = Replies (call (callOf i) (shown m b)) (bufferOf i) (r .reply) (r .words) (r .bytes) (r .buffer)

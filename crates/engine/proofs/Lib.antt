@@ -1,3 +1,4 @@
 pub mod Calls
 pub mod Beginning
 pub mod Laws
+pub mod Held
