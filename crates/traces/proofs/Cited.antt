@@ -1,5 +1,6 @@
--- The contracts in engine/src/lib.rt, as the toolchain reads them, are what specs/Trace says of the calls. Each by computing: whoever
--- edits one side alone is refused here. a: what a call is handed, z: what the lent memory is at its end, r: what it returns.
+-- The contracts in engine/src/lib.rt, as the toolchain reads them, are `Allowed` of specs/Trace, and the parameters' types are `Typed`.
+-- The contracts by computing, so each is implied by the other: whoever edits one side alone is refused here. a: what a call is handed,
+-- z: what the lent memory is at its end, r: what it returns.
 use mathlib.Core.Path.{_≡_, refl}
 use mathlib.Core.List.{List, []}
 use Prim.Native.Nat.{ℕ}
@@ -12,19 +13,24 @@ use ghost.Atoms.{Atoms}
 use contract.Lifetimes.{Lfts}
 use contract.Monad.{Fun}
 use contract.Notation.{Connectives, connectives}
+use denote.Builtin.{u8, Ref, SliceRef, Array}
 use denote.Ref.{now}
+use denote.Signature.{typeAt}
 use denote.Triple.Clauses.{AtExit}
 use denote.Triple.Entry.{Args, Res}
+use Rattle.rules.specs.Lists.{All}
 use Rattle.rules.specs.Calls as rules
+use Rattle.rules.specs.Calls.{call}
 use Rattle.engine.specs.declared.Answer.{Answer}
 use Rattle.engine.specs.Lent.{Answers}
+use Rattle.engine.proofs.Held.{kind, Holds, Same, both, number-held, bytes-held}
 use Rattle.engine.proofs.fresh as fresh
 use Rattle.engine.proofs.«open» as opening
 use Rattle.engine.proofs.close as close
 use Rattle.engine.proofs.message as message
 use Rattle.engine.proofs.tick as tick
 use Rattle.engine.proofs.bring_to as bringing
-use Rattle.traces.specs.Trace.{Memory, anOpen, aClose, aMessage, aTick, aMove, Typed, Result, Allowed}
+use Rattle.traces.specs.Trace.{Memory, shown, Input, anOpen, aClose, aMessage, aTick, aMove, Typed, callOf, bufferOf, Result, Allowed}
 use Rattle.traces.proofs.Course.{LentAt}
 
 -- the memory that a call is handed
@@ -112,3 +118,40 @@ module _ {M : Type 1} (𝓤 : URA M) (H : Heap 𝓤) (A : Atoms 𝓤) (mem : sto
     pub move-ensures : bringing.clauses 𝓤 H A mem run κs a .ensures tt r z
         ≡ ⌜ Allowed move-at (aMove (a .1 .1 .0 .0) (now (a .1 .1 .1 .0))) (ended r (now (z .0)) (now (z .1 .0)) (now (z .1 .1 .1 .0))) ⌝
     move-ensures = refl
+
+-- ## What Allowed says is of the call `callOf`
+
+pub called : (m : Memory) (i : Input) (r : Result)
+    → Allowed m i r ≡ Answers (call (callOf i) (shown m)) (bufferOf i) (r .answer) (r .memory .words) (r .memory .bytes) (r .buffer)
+unfolding call
+called m (anOpen conn) r = refl
+called m (aClose conn e) r = refl
+called m (aMessage conn l e) r = refl
+called m (aTick seconds micros e) r = refl
+called m (aMove until e) r = refl
+
+-- ## Typed is what the parameters' types say, and no more; of bring_to it is what it requires (move-requires)
+
+-- a name is a &[u8; 32]
+pub name-typed : (κs : Lfts 3) → kind fresh.signature κs 0 ≡ typeAt {n = 3} (Ref 0 tt (Array u8 tt 32) tt) κs
+name-typed κs = refl
+
+pub open-typed : (κs : Lfts 2) (conn : ℕ) → Same (Holds (kind opening.signature κs 2) conn) (Typed (anOpen conn))
+open-typed κs conn = number-held conn
+
+module _ (κs : Lfts 3) (e : List ℕ) where
+  pub close-typed : (conn : ℕ) → Same (Holds (kind close.signature κs 2) conn) (Typed (aClose conn e))
+  close-typed conn = number-held conn
+
+  pub tick-typed : (seconds micros : ℕ)
+      → Same (Holds (kind tick.signature κs 2) seconds × Holds (kind tick.signature κs 3) micros) (Typed (aTick seconds micros e))
+  tick-typed seconds micros = both (number-held seconds) (number-held micros)
+
+module _ (κs : Lfts 4) where
+  -- l is a &[u8]
+  pub bytes-typed : kind message.signature κs 3 ≡ typeAt {n = 4} (SliceRef 2 tt u8 tt) κs
+  bytes-typed = refl
+
+  pub message-typed : (conn : ℕ) (l e : List ℕ)
+      → Same (Holds (kind message.signature κs 2) conn × All (Holds u8) l) (Typed (aMessage conn l e))
+  message-typed conn l e = both (number-held conn) (bytes-held l)
