@@ -1,0 +1,185 @@
+-- READ THIS FIRST: the customer's demands as theorems about the calls of `door`, from the words that C sees, each under its sentence. The
+-- only hypothesis is a trace (specs/Driven): fresh, then any calls with any inputs, each result one that the call's contract allows;
+-- door/proofs/Cited holds it to the contracts in door/src/lib.rt. Each cites the same theorem of traces. No axiom, no hole.
+use mathlib.Core.Path.{_≡_, sym, _∙_, subst}
+use mathlib.Core.Bool.{true, false, cond}
+use mathlib.Core.List.{List, [], _∷_, _++_}
+use Prim.Native.Nat.{ℕ, _+_, _≤_, _<_}
+use native.Mathlib.Nat.{le-trans}
+use lib.ListN.{length}
+use Rattle.rules.specs.declared.Request.{Request}
+use Rattle.rules.specs.Lists.{All}
+use Rattle.rules.specs.Bytes.{Byte, hasZero}
+use Rattle.rules.specs.Records.{recordsIn}
+use Rattle.rules.specs.Answers.{requested, spliceResult}
+use Rattle.rules.specs.Calls.{lending, fresh, after}
+use Rattle.demands.specs.History.{startsOf, endsOf, history, last, waitingCount, book, clockAfter}
+use Rattle.demands.specs.Told.{firstNumber, checks, answers, Asks, Passes, fullTold, outsOf, othersOf, startedTold, unended, Ended, Stands}
+use Rattle.engine.specs.Lent.{Lent}
+use Rattle.door.specs.Door.{Input, aClose, aMessage, Typed, callOf, bufferOf, Seen}
+use Rattle.traces.specs.Trace.{Memory, emptyMemory, shown}
+use Rattle.traces.specs.Trace as engine
+use Rattle.traces.proofs.Steps.{memory-same}
+use Rattle.traces.proofs.Closed.{not-full, unended-newer}
+use Rattle.traces.proofs.Demands as called
+use Rattle.driven.specs.Driven.{left, Made, made, Trace, More, Point, numberIn, number, bytesOf, events, calls, inputs, Answerable, Run, AsRuled, inside, within}
+use Rattle.driven.proofs.Inside.{trace-inside, trace-events, more-inside, within-append, calls-inside, call-handed, buffer-handed, number-inside, bytes-inside, reply-ruled}
+use Rattle.door.proofs.Laws.{refused-unchanged}
+use Rattle.driven.proofs.Course.{answerable, runs, trace-more, trace-point, trace-same}
+
+-- ## "On a splicer that came from fresh and the calls after it"
+
+-- any name of 32 bytes and any inputs: "Over all sequences of opens, closes, messages and ticks from a fresh splicer"
+pub any-calls : (name : List ℕ) → length name ≡ 32 → All Byte name → (is : List Input) → All Typed is → Run name is
+any-calls = runs
+
+-- one call more gives a trace again
+pub trace-goes-on : (name : List ℕ) (h : List Made) (m : Memory) (i : Input) (r : Seen) → More name h m i r
+    → Trace name (h ++ (made i r ∷ [])) (left r)
+trace-goes-on = trace-more
+
+-- and every point of a trace is the end of a trace, so what is said below of a trace's end is said of every point
+pub every-point : (name : List ℕ) (h g : List Made) (m : Memory) → Trace name (h ++ g) m → Point name h g m
+every-point = trace-point
+
+-- the splicer is determined: the same name and the same inputs (bytes, and buffers as they were before each call) give the same
+-- replies, lent words and bytes, and buffers, and the same memory
+pub same-calls-same-results : (name : List ℕ) (h g : List Made) (m n : Memory) → Trace name h m → Trace name g n → inputs h ≡ inputs g
+    → (h ≡ g) × (m ≡ n)
+same-calls-same-results = trace-same
+
+-- it is a trace of the engine's calls, with the same inputs, memory and buffers
+pub calls-of-the-engine : (name : List ℕ) (h : List Made) (m : Memory) → Trace name h m → engine.Trace name (within h) m
+calls-of-the-engine = trace-inside
+
+-- "Over all sequences": what follows is said of the name, the calls h made since, with what C saw, and the memory m now
+module _ (name : List ℕ) (h : List Made) (m : Memory) where
+  -- ## Demand 1
+
+  -- "every call takes every input": all that open, close, message and tick require is Lent, and it holds
+  pub every-call-may-be-made : Trace name h m → Lent (m .words) (m .bytes)
+  every-call-may-be-made t = called.every-call-may-be-made name (within h) m (trace-inside name h m t)
+
+  -- and for every input there is a result that the call's contract allows; by same-calls-same-results only one
+  pub every-call-is-answered : Trace name h m → (i : Input) → Typed i → Answerable m i
+  every-call-is-answered t = answerable m (every-call-may-be-made t)
+
+  -- the next call, with the input i, and what C sees after it, r
+  module _ (i : Input) (r : Seen) (c : More name h m i r) where
+    -- "A bad call gets its number from document 01": the first that applies, in 01's order; 0 stands for a good call
+    pub bad-call-number : number r ≡ firstNumber (checks (callOf i) (shown m))
+    bad-call-number =
+        rw (call-handed i)
+        (number-inside (c .allowed) ∙ called.bad-call-number name (within h) m _ _ (more-inside name h m i r c))
+
+    -- "and the splicer and the lent buffers stay as they were before it"
+    pub bad-call-changes-nothing : 0 < number r → (left r ≡ m) × (r .buffer ≡ bufferOf i)
+    bad-call-changes-nothing bad =
+        let u = refused-unchanged (callOf i) (m .words) (m .bytes) (bufferOf i) (r .reply) (r .words) (r .bytes) (r .buffer)
+        (every-call-may-be-made (c .trace)) (c .allowed) bad in
+        (memory-same (left r) m (u .0) (u .1), u .2)
+
+    -- no answer is longer than 3,174 bytes, so the 4,096 that a good call has are enough
+    pub answers-fit : length (bytesOf r) ≤ 3174
+    answers-fit = rw (bytes-inside (c .allowed)) (called.answers-fit name (within h) m _ _ (more-inside name h m i r c))
+
+  -- fresh: number 9 for a name without a zero byte, and then the memory is that of an empty name, without sessions
+  pub bad-name-number : (t : Trace name h m) → numberIn (t .reply) ≡ cond (hasZero name) 0 9
+  bad-name-number t = number-inside (t .fresh) ∙ called.bad-name-number name (within h) m (trace-inside name h m t)
+
+  pub bad-name-gives-empty : (t : Trace name h m) → hasZero name ≡ false → t .begun ≡ emptyMemory
+  bad-name-gives-empty t = called.bad-name-gives-empty name (within h) m (trace-inside name h m t)
+
+  -- ## Demand 2
+
+  -- "every answer byte, its order and the state after it are those that 01's rules give": of the next call
+  pub answers-as-ruled : (i : Input) (r : Seen) → More name h m i r → AsRuled m i r
+  answers-as-ruled i r c =
+      let a = called.answers-as-ruled name (within h) m _ _ (more-inside name h m i r c) in
+      record {
+        state = rw (call-handed i) (a .state);
+        reply = reply-ruled (c .allowed);
+        bytes = rw (call-handed i) (bytes-inside (c .allowed) ∙ a .bytes);
+        buffer = rw (call-handed i, buffer-handed i) (a .buffer);
+      }
+
+  -- and of all calls together: their answers' bytes and refusals are those of 01's calls from a fresh splicer, and so is the splicer now
+  pub trace-as-ruled : Trace name h m
+      → (events h ≡ history (calls h) (fresh name .splicer)) × (shown m ≡ after (calls h) (fresh name .splicer))
+  trace-as-ruled t =
+      rw (trace-events name h m t, calls-inside h) (called.trace-as-ruled name (within h) m (trace-inside name h m t))
+
+  -- "An accepted request is accepted because the rules accept it; a refused one carries the first result code that applies.": connection d sends
+  -- the bytes l, which are a Splice_Request q; the last record in the answer's bytes is the Splice_Response with the code of 01's a to f
+  pub first-code-applies : (d : ℕ) (l e : List ℕ) (r : Seen) → More name h m (aMessage d l e) r
+      → (q : Request) → Asks d l (lending (length e)) q (shown m)
+      → last (answers (spliceResult (shown m .clock) d q (requested d q (shown m .queue)) (shown m .queue)) d (q .id))
+      (recordsIn (bytesOf r)) ≡ true
+  first-code-applies d l e r c q asks =
+      rw (bytes-inside (c .allowed))
+      (called.first-code-applies name (within h) m d l e (inside r) (more-inside name h m (aMessage d l e) r c) q asks)
+
+  -- ## Demand 3
+
+  -- "take a connection's waiting sessions from the answers alone: accepted since it was opened, less those whose start or end was written.
+  -- That count never passes 20."
+  pub count-never-passes-20 : Trace name h m → (d : ℕ) → waitingCount d (events h) ≤ 20
+  count-never-passes-20 t d =
+      rw (trace-events name h m t) (called.count-never-passes-20 name (within h) m (trace-inside name h m t) d)
+
+  module _ (d : ℕ) (l e : List ℕ) (r : Seen) (c : More name h m (aMessage d l e) r) (q : Request)
+      (asks : Asks d l (lending (length e)) q (shown m)) (passes : Passes d q (shown m)) where
+    -- "A request that passes every earlier check in 01's order is refused for a full queue exactly when the count is 20, or when it is
+    -- at least 10 and the four counts, each taken as at least 10, add up to 64." Else it is accepted
+    pub full-exactly-when : last (answers (cond (fullTold d (events h)) 114 100) d (q .id)) (recordsIn (bytesOf r)) ≡ true
+    full-exactly-when =
+        rw (trace-events name h m (c .trace), bytes-inside (c .allowed))
+        (called.full-exactly-when name (within h) m d l e (inside r) (more-inside name h m (aMessage d l e) r c) q asks passes)
+
+    -- "Reserved places hold against the other connections.": with fewer than 10 waiting it is accepted, whatever the others have
+    pub reserved-places-hold : waitingCount d (events h) < 10 → last (answers 100 d (q .id)) (recordsIn (bytesOf r)) ≡ true
+    reserved-places-hold few = rw (not-full d (events h) few) at full-exactly-when
+
+  -- "No accepted session gets a second end, and each gets exactly one end, at the latest when the clock is brought to its end time or its
+  -- connection closes."
+  pub one-end : Trace name h m → All (Ended (clockAfter (events h) 0)) (book (events h) [])
+  one-end t = rw (trace-events name h m t) (called.one-end name (within h) m (trace-inside name h m t))
+
+  -- the next call, of any connection d and any number x
+  module _ (i : Input) (r : Seen) (c : More name h m i r) (d x : ℕ) where
+    -- An end in its answer's bytes, a Splice_Request's own answer apart, is of an accepted session that had none: it is neither a second end
+    -- nor the end of a number that nobody was granted
+    pub ends-are-owed : endsOf d x (othersOf (callOf i) (recordsIn (bytesOf r))) ≤ unended d x (book (events h) [])
+    ends-are-owed =
+        rw (trace-events name h m (c .trace), call-handed i, bytes-inside (c .allowed))
+        (called.ends-are-owed name (within h) m _ _ (more-inside name h m i r c) d x)
+
+    -- "Two operators' as-run logs listed a spot that never aired.": a SpliceComplete flag 1 is written only under a number whose start is
+    -- written, since its last end or by the same call
+    pub only-aired-is-listed : outsOf d x (recordsIn (bytesOf r)) ≤ startedTold d x (events h) 0 + startsOf d x (recordsIn (bytesOf r))
+    only-aired-is-listed =
+        rw (trace-events name h m (c .trace), bytes-inside (c .allowed))
+        (called.only-aired-is-listed name (within h) m _ _ (more-inside name h m i r c) d x)
+
+-- ## The incident
+
+-- "An ad server dropped its connection with its spot on air.": after the calls h connection d closes, by a good call, and the calls g follow
+module _ (name : List ℕ) (h g : List Made) (m : Memory) (d : ℕ) (e : List ℕ) (r : Seen)
+    (t : Trace name (h ++ (made (aClose d e) r ∷ g)) m) (z : number r ≡ 0) where
+  -- its sessions of before stand in the book as they stood at the close, each with its one end; newer are those accepted since
+  pub closed-stays-ended : Stands d (book (events (h ++ (made (aClose d e) r ∷ []))) []) (book (events (h ++ (made (aClose d e) r ∷ g))) [])
+  closed-stays-ended =
+      let x = made (aClose d e) r in
+      let p = trace-point name h (x ∷ g) m t in
+      let l = p .behind in
+      let one = trace-more name h (p .here) (aClose d e) r (record { trace = p .before; typed = l .0; allowed = l .1 }) in
+      rw (trace-events name _ _ one, trace-events name _ _ t, within-append h (x ∷ []), within-append h (x ∷ g))
+      (called.closed-stays-ended name (within h) (within g) m d e (inside r)
+      (subst (λ k. engine.Trace name k m) (within-append h (x ∷ g)) (trace-inside name _ m t)) (sym (number-inside (l .1)) ∙ z))
+
+  -- "the completion routine then wrote the old spot's end under the new SessionID": an end of the connection that the next call writes is of a
+  -- newer session that has had none
+  pub the-incident : (i : Input) (o : Seen) → More name (h ++ (made (aClose d e) r ∷ g)) m i o → (x : ℕ)
+      → endsOf d x (othersOf (callOf i) (recordsIn (bytesOf o))) ≤ unended d x (closed-stays-ended .newer)
+  the-incident i o c x =
+      le-trans (ends-are-owed name (h ++ (made (aClose d e) r ∷ g)) m i o c d x) (unended-newer d x _ _ closed-stays-ended)
