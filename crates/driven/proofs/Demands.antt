@@ -1,6 +1,6 @@
 -- READ THIS FIRST: the customer's demands as theorems about the calls of `door`, from the words that C sees, each under its sentence. The
 -- only hypothesis is a trace (specs/Driven): fresh, then any calls with any inputs, each result one that the call's contract allows;
--- door/proofs/Cited holds it to the contracts in door/src/lib.rt. Each cites the same theorem of traces. No axiom, no hole.
+-- door/proofs/Cited holds it to the contracts in door/src/lib.rt. Rests on the theorems of the same names in traces. No axiom, no hole.
 use mathlib.Core.Path.{_≡_, sym, _∙_, subst}
 use mathlib.Core.Bool.{true, false, cond}
 use mathlib.Core.List.{List, [], _∷_, _++_}
