@@ -134,7 +134,8 @@ pub fn splice_response(out: &mut [u8], conn: u64, result: u16, id: u64)
 // SpliceTypeFlag is 0 for a start and 1 for an end; Bitrate is "always 0 here".
 pub fn splice_complete(out: &mut [u8], conn: u64, result: u16, id: u64, flag: u8, played: Ticks)
     requires { ⌜ 23 ≤ length (now out) ⌝ }
-    ensures { λ _. ⌜ now (out .exit) ≡ written (now (out .entry)) 0 (recordBytes (SpliceComplete conn result id flag (played .0))) ⌝ }
+    ensures { λ _.
+        ⌜ now (out .exit) ≡ written (now (out .entry)) 0 (recordBytes (SpliceComplete conn result id flag (played .0))) ⌝ }
 {
     header(&mut *out, conn, 0x0009, 13, result);
     put4(&mut out[10..], id);
