@@ -15,13 +15,13 @@ use Rattle.rules.specs.Records.{Record, recordsIn}
 use Rattle.rules.specs.Ends.{Turn, quiet, writes, andThen, evicted, closedBy}
 use Rattle.rules.specs.Answers.{requested, accepts, accepted}
 use Rattle.rules.specs.Calls.{Answer, refused, good, Called, Call, opens, closes, messages, ticks, moves, ticked, call, writtenBy, after, named, fresh}
-use Rattle.demands.specs.History.{Event, Entry, entryIs, isStart, startsOf, endsOf, replyOf, history, front, book}
+use Rattle.demands.specs.History.{Event, Entry, entryIs, isStart, startsOf, endsOf, replyOf, history, front, othersOf, book}
 use Rattle.rules.specs.Sound.{heldCount, Once, Wired, Sound}
 use Rattle.rules.proofs.Tests.{by}
 use Rattle.rules.proofs.Count.{count-append}
 use Rattle.rules.proofs.Fitted.{recordsOf}
 use Rattle.rules.proofs.Sound.{sound-call, sound-fresh, sound-found}
-use Rattle.demands.specs.Told.{FromFresh, isOut, outsOf, othersOf, startedReplied, startedTold, unended}
+use Rattle.demands.specs.Told.{FromFresh, isOut, outsOf, startedReplied, startedTold, unended}
 use Rattle.demands.proofs.Laws.{tally, Law, plain-law, quiet-law, evicted-law, closedBy-law, answered-law, tick-law}
 use Rattle.demands.proofs.Cases.{cases}
 use Rattle.demands.proofs.Waiting.{front-last}

@@ -3,7 +3,8 @@
 use mathlib.Core.Path.{_≡_, refl}
 use mathlib.Core.Bool.{true, false, cond}
 use mathlib.Core.List.{List, [], _∷_, _++_}
-use Prim.Native.Nat.{ℕ, _+_, _≤_}
+use mathlib.Core.Logic.{_⊎_}
+use Prim.Native.Nat.{ℕ, _+_, _≤_, _<_}
 use lib.ListN.{length}
 use Rattle.rules.specs.declared.Request.{Request}
 use Rattle.rules.specs.declared.Refusal.{Refusal}
@@ -14,12 +15,12 @@ use Rattle.rules.specs.State.{Splicer}
 use Rattle.rules.specs.Records.{recordsIn}
 use Rattle.rules.specs.Answers.{requested, spliceResult}
 use Rattle.rules.specs.Calls.{refused, refuse, writtenBy, named, fresh, Loans, Call, closes, messages, call, after}
-use Rattle.demands.specs.History.{Event, startsOf, endsOf, history, last, waitingCount, book, clockAfter}
+use Rattle.demands.specs.History.{Event, startsOf, endsOf, history, ownAnswer, othersOf, waitingCount, book, clockAfter}
 use Rattle.rules.specs.Sound.{Wired}
 use Rattle.rules.proofs.Sound.{sound-size}
-use Rattle.demands.specs.Told.{FromFresh, Unchanged, firstNumber, checks, numberOf, answers, Asks, Passes, fullTold, outsOf, othersOf, startedTold, unended, Ended, Stands}
+use Rattle.demands.specs.Told.{FromFresh, Unchanged, firstNumber, checks, numberOf, answers, Asks, Passes, earlierCode, fullTold, outsOf, startedTold, unended, Ended, Stands}
 use Rattle.demands.proofs.Refusals.{unchanged, first-number, fresh-number, fresh-refused}
-use Rattle.demands.proofs.Room.{from-sound, count-room, own-answer, full-answer}
+use Rattle.demands.proofs.Room.{from-sound, count-room, own-answer, passes-or-earlier, full-answer}
 use Rattle.demands.proofs.Once.{all-ended}
 use Rattle.demands.proofs.Aired.{ends-accepted, outs-started}
 use Rattle.demands.proofs.Closed.{from-more, close-stands}
@@ -61,8 +62,14 @@ answers-fit h s f k = sound-size s (from-sound h s f) k
 -- "An accepted request is accepted because the rules accept it; a refused one carries the first result code that applies.": the last record in
 -- the bytes of the answer is the Splice_Response with the code of 01's a to f
 pub first-code-applies : (h : List Event) (s : Splicer) → FromFresh h s → (c : ℕ) (l : List ℕ) (loans : Loans) (r : Request) → Asks c l loans r s
-    → last (answers (spliceResult (s .clock) c r (requested c r (s .queue)) (s .queue)) c (r .id)) (recordsIn (writtenBy (call (messages c l loans) s .answer))) ≡ true
+    → ownAnswer (answers (spliceResult (s .clock) c r (requested c r (s .queue)) (s .queue)) c (r .id)) (recordsIn (writtenBy (call (messages c l loans) s .answer))) ≡ true
 first-code-applies h s f c l loans r a = own-answer c l loans r s a h f
+
+-- A request that is read passes a to d, or its answer is the first of their codes that applies. proofs/Witness has one of each
+pub earlier-or-passes : (h : List Event) (s : Splicer) → FromFresh h s → (c : ℕ) (l : List ℕ) (loans : Loans) (r : Request) → Asks c l loans r s
+    → Passes c r s ⊎ ((0 < earlierCode c r s)
+    × (ownAnswer (answers (earlierCode c r s) c (r .id)) (recordsIn (writtenBy (call (messages c l loans) s .answer))) ≡ true))
+earlier-or-passes h s f c l loans r a = passes-or-earlier c l loans r s a h f
 
 -- ## Demand 3
 
@@ -74,7 +81,7 @@ count-never-passes-20 = count-room
 -- "A request that passes every earlier check in 01's order is refused for a full queue exactly when the count is 20, or when it is at least 10
 -- and the four counts, each taken as at least 10, add up to 64." Else it is accepted
 pub full-exactly-when : (h : List Event) (s : Splicer) → FromFresh h s → (c : ℕ) (l : List ℕ) (loans : Loans) (r : Request) → Asks c l loans r s → Passes c r s
-    → last (answers (cond (fullTold c h) 114 100) c (r .id)) (recordsIn (writtenBy (call (messages c l loans) s .answer))) ≡ true
+    → ownAnswer (answers (cond (fullTold c h) 114 100) c (r .id)) (recordsIn (writtenBy (call (messages c l loans) s .answer))) ≡ true
 full-exactly-when = full-answer
 
 -- "No accepted session gets a second end, and each gets exactly one end, at the latest when the clock is brought to its end time or its

@@ -1,9 +1,10 @@
 -- A Splice_Request's own answer, from the answer's bytes: the first code that applies, and 114 as the answers' counts say.
 -- Rests on Waiting (the answers' counts are the splicer's) and on the bytes giving back their records.
 use mathlib.Core.Path.{_≡_, refl, _∙_}
-use mathlib.Core.Bool.{true, false, cond}
+use mathlib.Core.Bool.{Bool, true, false, cond}
 use mathlib.Core.List.{List}
-use Prim.Native.Nat.{ℕ, _+_, _≤_}
+use mathlib.Core.Logic.{_⊎_, inl, inr}
+use Prim.Native.Nat.{ℕ, _+_, _≤_, _<_}
 use native.Mathlib.Omega.{arith}
 use lib.Dec.{eqb}
 use Rattle.rules.specs.declared.Request.{Request}
@@ -14,13 +15,13 @@ use Rattle.rules.specs.declared.Link.the-variants.{Closed, Opened, Initialised}
 use Rattle.rules.specs.State.{Splicer, linkOf, isOpen, isInitialised, withQueue}
 use Rattle.rules.specs.Records.{recordsIn}
 use Rattle.rules.specs.Ends.{Turn, andThen, evicted}
-use Rattle.rules.specs.Answers.{sessionAt, requested, full, spliceResult, accepts, accepted, answerSplice, answerRead, answer}
+use Rattle.rules.specs.Answers.{sessionAt, requested, separate, wrongNumber, tooLate, collides, full, spliceResult, accepts, accepted, answerSplice, answerRead, answer}
 use Rattle.rules.specs.Calls.{does, handled, messageCall, Loans, messages, call, writtenBy}
-use Rattle.demands.specs.History.{Event, last, waitingCount}
+use Rattle.demands.specs.History.{Event, last, ownAnswer, waitingCount}
 use Rattle.rules.specs.Sound.{Sound}
 use Rattle.rules.proofs.Tests.{by, clash, eqb-same}
 use Rattle.rules.proofs.Sound.{reached-sound, sound-found}
-use Rattle.demands.specs.Told.{FromFresh, answers, Asks, Passes, fullTold}
+use Rattle.demands.specs.Told.{FromFresh, answers, Asks, Passes, firstNumber, earlierCode, fullTold}
 use Rattle.demands.proofs.Waiting.{last-last, waiting-counted}
 
 pub from-sound : (h : List Event) (s : Splicer) → FromFresh h s → Sound s
@@ -52,8 +53,30 @@ module _ (c : ℕ) (l : List ℕ) (loans : Loans) (r : Request) (s : Splicer) (a
 
   -- "a refused one carries the first result code that applies"
   pub own-answer : (h : List Event) → FromFresh h s
-      → last (answers (spliceResult (s .clock) c r (requested c r (s .queue)) (s .queue)) c (r .id)) (recordsIn (writtenBy (call (messages c l loans) s .answer))) ≡ true
+      → ownAnswer (answers (spliceResult (s .clock) c r (requested c r (s .queue)) (s .queue)) c (r .id)) (recordsIn (writtenBy (call (messages c l loans) s .answer))) ≡ true
   own-answer h f = rw (sound-found s (messages c l loans) (a .bytes) (from-sound h s f), splice-call) own
+
+  -- "passes every earlier check in 01's order", or the first of them that applies gives the code
+  pub passes-or-earlier : (h : List Event) → FromFresh h s
+      → Passes c r s ⊎ ((0 < earlierCode c r s)
+      × (ownAnswer (answers (earlierCode c r s) c (r .id)) (recordsIn (writtenBy (call (messages c l loans) s .answer))) ≡ true))
+  unfolding spliceResult earlierCode firstNumber
+  passes-or-earlier h f =
+      go (separate r) (wrongNumber c r (s .queue)) (tooLate (s .clock) (r .start)) (collides (requested c r (s .queue)) (s .queue .waiting)) refl refl refl refl
+    where
+      given : ℕ → Type 0
+      given n = ownAnswer (answers n c (r .id)) (recordsIn (writtenBy (call (messages c l loans) s .answer))) ≡ true
+
+      told : given (spliceResult (s .clock) c r (requested c r (s .queue)) (s .queue))
+      told = own-answer h f
+
+      go : (x y z w : Bool) → separate r ≡ x → wrongNumber c r (s .queue) ≡ y → tooLate (s .clock) (r .start) ≡ z
+          → collides (requested c r (s .queue)) (s .queue .waiting) ≡ w → Passes c r s ⊎ ((0 < earlierCode c r s) × given (earlierCode c r s))
+      go false false false false ea eb ec ed = inl (record { a = ea; b = eb; c′ = ec; d = ed })
+      go true y z w ea eb ec ed = inr (rw ea (omega arith), rw ea (rw ea at told))
+      go false true z w ea eb ec ed = inr (rw (ea, eb) (omega arith), rw (ea, eb) (rw (ea, eb) at told))
+      go false false true w ea eb ec ed = inr (rw (ea, eb, ec) (omega arith), rw (ea, eb, ec) (rw (ea, eb, ec) at told))
+      go false false false true ea eb ec ed = inr (rw (ea, eb, ec, ed) (omega arith), rw (ea, eb, ec, ed) (rw (ea, eb, ec, ed) at told))
 
 -- what check e looks at is what the answers say
 full-counted : (h : List Event) (s : Splicer) → FromFresh h s → (c : ℕ) → full c (s .queue .waiting) ≡ fullTold c h
@@ -66,5 +89,5 @@ unfolding spliceResult
 passed-code h s f c r p = rw (p .a, p .b, p .c′, p .d, full-counted h s f c)
 
 pub full-answer : (h : List Event) (s : Splicer) → FromFresh h s → (c : ℕ) (l : List ℕ) (loans : Loans) (r : Request) → Asks c l loans r s → Passes c r s
-    → last (answers (cond (fullTold c h) 114 100) c (r .id)) (recordsIn (writtenBy (call (messages c l loans) s .answer))) ≡ true
+    → ownAnswer (answers (cond (fullTold c h) 114 100) c (r .id)) (recordsIn (writtenBy (call (messages c l loans) s .answer))) ≡ true
 full-answer h s f c l loans r a p = rw (← (passed-code h s f c r p)) (own-answer c l loans r s a h f)

@@ -33,7 +33,7 @@ unfoldable pub isStart : ℕ → ℕ → Record → Bool
 isStart c x r = tells (λ n flag. eqb flag 0 && eqb n 100) (λ n. false) c x r
 
 -- "A session's end is its SpliceComplete with flag 1, or its SpliceComplete with flag 0 and 109, or a Splice_Response 109
--- (evicted, or its prior ended so or failed) or 116"; "that isn't a Splice_Request's own answer": see `othersOf`
+-- (evicted, or its prior ended so or failed) or 116"; of those "that isn't a Splice_Request's own answer" among a call's records: `othersOf`
 unfoldable pub isEnd : ℕ → ℕ → Record → Bool
 isEnd c x r = tells (λ n flag. eqb flag 1 || (eqb flag 0 && eqb n 109)) (λ n. eqb n 109 || eqb n 116) c x r
 
@@ -70,7 +70,7 @@ unfoldable pub history : List Call → Splicer → List Event
 history [] s = []
 history (k ∷ ks) s = record { call = k; reply = replyOf (call k s .answer) } ∷ history ks (call k s .splicer)
 
--- ## The waiting sessions of a connection: "accepted since it was opened, less those whose start or end was written"
+-- ## A Splice_Request's own answer: the last record of its call
 
 module _ {A : Type 0} where
   -- all but the last
@@ -85,13 +85,27 @@ module _ {A : Type 0} where
   last p (x ∷ []) = p x
   last p (x ∷ y ∷ l) = last p (y ∷ l)
 
--- A Splice_Request's own answer is the last record of its call. The others of a message l's call:
+-- it passes the test; rs: the records of the call
+abbrev pub ownAnswer : (Record → Bool) → List Record → Bool
+ownAnswer p rs = last p rs
+
+-- the other records of the call of a message l
 abbrev pub othersIn : List ℕ → List Record → List Record
 othersIn l rs = cond (isSplice l) (front rs) rs
 
+-- and of any call
+unfoldable pub othersOf : Call → List Record → List Record
+othersOf (opens c) rs = rs
+othersOf (closes c room) rs = rs
+othersOf (messages c l loans) rs = othersIn l rs
+othersOf (ticks seconds micros room) rs = rs
+othersOf (moves until room) rs = rs
+
+-- ## The waiting sessions of a connection: "accepted since it was opened, less those whose start or end was written"
+
 -- the message l of connection d is a Splice_Request, and its own answer is 100
 abbrev pub grantedIn : ℕ → List ℕ → List Record → Bool
-grantedIn d l rs = isSplice l && last (isYes d (sessionID (dataIn l))) rs
+grantedIn d l rs = isSplice l && ownAnswer (isYes d (sessionID (dataIn l))) rs
 
 -- the numbers of c that wait after a message l of connection d, if those of w did before
 unfoldable pub waitAnswered : ℕ → ℕ → List ℕ → List Record → List ℕ → List ℕ

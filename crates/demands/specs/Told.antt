@@ -16,7 +16,7 @@ use Rattle.rules.specs.State.{Splicer, linkOf, isOpen, isInitialised}
 use Rattle.rules.specs.Records.{Record, recordsIn}
 use Rattle.rules.specs.Answers.{fullBy, requested, separate, wrongNumber, tooLate, collides}
 use Rattle.rules.specs.Calls.{houseNumber, Answer, refused, good, Called, writtenBy, consumedBy, bufferAfter, noConnection, noRoom, notOpen, fresh, framing, Loans, Call, opens, closes, messages, ticks, moves, after}
-use Rattle.demands.specs.History.{Reply, refusal, wrote, Event, Entry, entryIs, startsOf, endsOf, history, waitingCount, tells, othersIn}
+use Rattle.demands.specs.History.{Reply, refusal, wrote, Event, Entry, entryIs, startsOf, endsOf, history, waitingCount, tells, othersOf}
 use Rattle.rules.specs.Sound.{Wired}
 
 -- "Over all sequences of opens, closes, messages and ticks from a fresh splicer": h, the calls with their answers, and s, the splicer
@@ -30,7 +30,7 @@ pub record FromFresh (h : List Event) (s : Splicer) : Type 0 where
   pub heard : h ≡ history calls (fresh name .splicer)
   pub same : s ≡ after calls (fresh name .splicer)
 
--- ## A Splice_Request's own answer
+-- ## The answer to a Splice_Request
 
 -- a Splice_Response with the result n to number x of connection c
 unfoldable pub answers : ℕ → ℕ → ℕ → Record → Bool
@@ -39,6 +39,7 @@ answers n c x r = tells (λ m flag. false) (λ m. eqb n m) c x r
 -- the bytes l of connection c begin with a whole Splice_Request that is read as r, and nothing before the checks a to f stops it
 pub record Asks (c : ℕ) (l : List ℕ) (loans : Loans) (r : Request) (s : Splicer) : Type 0 where
   pub bytes : All Byte l
+  -- the call is not refused
   pub low : noConnection c ≡ false
   pub roomy : noRoom (loans .room) ≡ false
   pub ready : isInitialised (linkOf c s) ≡ true
@@ -49,6 +50,7 @@ pub record Asks (c : ℕ) (l : List ℕ) (loans : Loans) (r : Request) (s : Spli
 pub record Passes (c : ℕ) (r : Request) (s : Splicer) : Type 0 where
   pub a : separate r ≡ false
   pub b : wrongNumber c r (s .queue) ≡ false
+  -- c is the connection
   pub c′ : tooLate (s .clock) (r .start) ≡ false
   pub d : collides (requested c r (s .queue)) (s .queue .waiting) ≡ false
 
@@ -56,9 +58,9 @@ pub record Passes (c : ℕ) (r : Request) (s : Splicer) : Type 0 where
 unfoldable pub fullTold : ℕ → List Event → Bool
 fullTold c h = fullBy (λ d. waitingCount d h) c
 
--- ## House numbers
+-- ## Numbers and codes, the first that applies
 
--- a check of 01's table: its number, and whether it applies
+-- a check of 01: its number, and whether it applies
 pub record Check : Type 0 where
   pub number : ℕ
   pub applies : Bool
@@ -70,6 +72,12 @@ firstNumber (k ∷ l) = cond (k .applies) (k .number) (firstNumber l)
 
 abbrev pub check : ℕ → Bool → Check
 check n b = record { number = n; applies = b }
+
+-- the code of the first of a to d that applies, or 0
+unfoldable pub earlierCode : ℕ → Request → Splicer → ℕ
+earlierCode c r s =
+    firstNumber (check 110 (separate r) ∷ check 121 (wrongNumber c r (s .queue)) ∷ check 112 (tooLate (s .clock) (r .start))
+    ∷ check 109 (collides (requested c r (s .queue)) (s .queue .waiting)) ∷ [])
 
 -- "Order: open 1, 6; close 1, 2, 7; message 1, 2, 7, 5 (header), 4, 5 (body); tick 2, 8, 3."
 unfoldable pub checks : Call → Splicer → List Check
@@ -102,14 +110,6 @@ isOut c x r = tells (λ n flag. eqb flag 1) (λ n. false) c x r
 
 abbrev pub outsOf : ℕ → ℕ → List Record → ℕ
 outsOf c x rs = count (isOut c x) rs
-
--- a call's records, without a Splice_Request's own answer
-unfoldable pub othersOf : Call → List Record → List Record
-othersOf (opens c) rs = rs
-othersOf (closes c room) rs = rs
-othersOf (messages c l loans) rs = othersIn l rs
-othersOf (ticks seconds micros room) rs = rs
-othersOf (moves until room) rs = rs
 
 -- the session of number x of connection c has started and not ended, from the answers: 1, or else 0
 unfoldable pub startedReplied : ℕ → ℕ → Call → Reply → ℕ → ℕ
