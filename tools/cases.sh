@@ -1,30 +1,35 @@
 #!/bin/sh
-# cases.sh [--check]: writes the scenarios as tables of the crate cases, where the prover holds the definitions to them. Scenario,
-# Rooms, Rehearsed and Worked there are written by hand.
+# cases.sh [--check]: writes the scenarios as tables of the crate cases, where the prover holds the definitions to them. Scenario and
+# the tables named in `hand` there are written by hand.
 # With --check it changes nothing and says whether the crate has these tables. The last line is then 'N passed, M failed'.
 set -eu
 cd "$(dirname "$0")/.."
 specs=crates/cases/specs
+hand='Layouts Rooms Rehearsed Histories Worked'
 made=target/cases
 rm -rf "$made"
 mkdir -p "$made"
 CARGO_TARGET_DIR=target/model cargo build --quiet --release --offline --manifest-path model/Cargo.toml
 target/model/release/model scenario --tables "$made" model/scenarios/*.txt
 
-# the modules of rules that the card program is written in, and their definitions
+# the modules of rules that the card program is written in, that of demand 3, and their definitions
 modules='Lists Bytes Reading State Records Ends Instants Answers Calls Card'
-names=$(for m in $modules; do
-    sed -nE "s/^ *unfoldable pub ([^ ]+).*/$m.\\1/p" "crates/rules/specs/$m.antt"
-done | tr '\n' ' ')
+names=$({
+    for m in $modules; do
+        sed -nE "s/^ *unfoldable pub ([^ ]+).*/$m.\\1/p" "crates/rules/specs/$m.antt"
+    done
+    sed -nE 's/^ *unfoldable pub ([^ ]+).*/History.\1/p' crates/demands/specs/History.antt
+} | tr '\n' ' ')
 {
     echo '-- The definitions that the tables are computed with, made by tools/cases.sh: `unfolding computing` unfolds them all.'
     echo 'use Prim.Native.Nat.{ℕ}'
     for m in $modules; do echo "use Rattle.rules.specs.$m"; done
+    echo 'use Rattle.demands.specs.History'
     echo 'use Rattle.cases.specs.Scenario.{digit, hex, row, input, output, same, Written}'
     printf '\nunfoldable pub computing : ℕ\nunfolding digit hex row input output same Written %s\ncomputing = 0\n' "${names% }"
 } >"$made/Computing.antt"
-for file in Scenario Rooms Rehearsed Worked; do cp "$specs/$file.antt" "$made/"; done
-(cd "$made" && printf 'pub mod %s\n' Scenario Computing Rooms Rehearsed Worked && ls | sed -n 's/^\(Case-.*\)\.antt$/pub mod \1/p') >target/cases.list
+for file in Scenario $hand; do cp "$specs/$file.antt" "$made/"; done
+(cd "$made" && printf 'pub mod %s\n' Scenario Computing $hand && ls | sed -n 's/^\(Case-.*\)\.antt$/pub mod \1/p') >target/cases.list
 mv target/cases.list "$made/Lib.antt"
 
 if [ "${1:-}" = --check ]; then

@@ -1,7 +1,9 @@
 pub mod Scenario
 pub mod Computing
+pub mod Layouts
 pub mod Rooms
 pub mod Rehearsed
+pub mod Histories
 pub mod Worked
 pub mod Case-01-card-cut-header
 pub mod Case-01-card-cut-mark

@@ -1,21 +1,19 @@
--- 01, "Rehearsed situations": P1 to P14 in one table under one statement, worked through the calls, from the bytes of a request to the records in the answer's bytes. Assumes nothing.
+-- 01, "Rehearsed situations": P1 to P14 in one table under one statement, worked through the calls, from the bytes of a request to the
+-- records in the answer's bytes. A row also says how many sessions of each connection wait before its last call. Assumes nothing.
 use mathlib.Core.Path.{_≡_, refl}
 use mathlib.Core.List.{List, [], _∷_, _++_, map}
 use Prim.Native.Nat.{ℕ, zero, suc, _+_, _*_}
 use lib.ListN.{length, replicate}
 use Rattle.rules.specs.declared.Session.{Session}
-use Rattle.rules.specs.Lists.{place, insertAt, removeAt}
-use Rattle.rules.specs.Bytes.{bytes, value, valueFrom, padded}
+use Rattle.rules.specs.Bytes.{bytes, padded}
 use Rattle.rules.specs.Reading
-use Rattle.rules.specs.State
 use Rattle.rules.specs.Records
 use Rattle.rules.specs.Records.{Record, recordsIn}
-use Rattle.rules.specs.Ends
-use Rattle.rules.specs.Instants
 use Rattle.rules.specs.Answers
 use Rattle.rules.specs.Calls
 use Rattle.rules.specs.Calls.{Call, Called, opens, messages, ticks, call}
 use Rattle.rules.specs.Card
+use Rattle.cases.specs.Computing.{computing}
 
 -- ## Messages
 
@@ -75,15 +73,21 @@ ends r = holds (map (λ (s : Session). s .end .0) (r .splicer .queue .waiting))
 air : Called → Seen
 air r = holds (map (λ (s : Session). s .id) (r .splicer .queue .started))
 
--- P: the number of the situation
+-- each connection's waiting sessions
+waitingFour : Called → List ℕ
+waitingFour r = map (λ c. Answers.waits c (r .splicer .queue .waiting)) (0 ∷ 1 ∷ 2 ∷ 3 ∷ [])
+
+-- P: the number of the situation; waiting: the four counts that the calls before have given, which its premise speaks of
 record Row : Type 0 where
   P : ℕ
-  calls : List Call
+  before : List Call
+  waiting : List ℕ
+  last : Call
   sees : Called → Seen
   wants : Seen
 
-row : ℕ → List Call → (Called → Seen) → Seen → Row
-row n ks f l = record { P = n; calls = ks; sees = f; wants = l }
+row : ℕ → List Call → List ℕ → Call → (Called → Seen) → Seen → Row
+row n ks w k f x = record { P = n; before = ks; waiting = w; last = k; sees = f; wants = x }
 
 -- ## The table
 
@@ -105,13 +109,16 @@ queued a b c d = load 0 a ++ (load 1 b ++ (load 2 c ++ load 3 d))
 new : Call
 new = timed 0 99 1003 0 1 0 90000
 
--- a spot of 30 s with AccessType 3 at 1,003 s, aborted at a time
-shown : ℕ → ℕ → List Call
-shown s u = timed 0 3 1003 0 3 0 2700000 ∷ to s u ∷ aborts 0 3 ∷ []
+four : (a b c d : ℕ) → List ℕ
+four a b c d = a ∷ b ∷ c ∷ d ∷ []
 
--- a 4 on air from 1,003 s, and at 1,006 s a start with an AccessType and OverridePlaying
+-- a spot of 30 s with AccessType 3 at 1,003 s, and the clock at a time
+shown : ℕ → ℕ → List Call
+shown s u = timed 0 3 1003 0 3 0 2700000 ∷ to s u ∷ []
+
+-- a 4 on air from 1,003 s, and for 1,006 s a waiting one with an AccessType and OverridePlaying
 against : ℕ → ℕ → List Call
-against a o = timed 0 4 1003 0 4 0 2700000 ∷ to 1003 0 ∷ timed 0 5 1006 0 a o 90000 ∷ to 1006 0 ∷ []
+against a o = timed 0 4 1003 0 4 0 2700000 ∷ to 1003 0 ∷ timed 0 5 1006 0 a o 90000 ∷ []
 
 -- Splice_Response and SpliceComplete_Response of connection 0, and its Abort_Response
 responds : (result id : ℕ) → Record
@@ -120,35 +127,38 @@ responds r x = Records.SpliceResponse 0 r x
 completes : (result id flag played : ℕ) → Record
 completes r x f d = Records.SpliceComplete 0 r x f d
 
--- the answer to the abort in `shown`, with the ticks played
+-- the answer to an abort of the one `shown`, with the ticks played
 stopped : ℕ → Seen
 stopped d = wrote (Records.AbortResponse 0 100 3 ∷ completes 116 3 1 d ∷ [])
 
 table : List Row
 table =
-    row 1 (new ∷ []) said (wrote (responds 100 99 ∷ []))
-    ∷ row 2 (timed 0 99 1002 999999 1 0 90000 ∷ []) said (wrote (responds 112 99 ∷ []))
-    ∷ row 3 (queued 9 20 20 14 ++ (new ∷ [])) said (wrote (responds 100 99 ∷ []))
-    ∷ row 4 (queued 10 20 20 14 ++ (new ∷ [])) said (wrote (responds 114 99 ∷ []))
-    ∷ row 5 (queued 19 0 0 0 ++ (new ∷ [])) said (wrote (responds 100 99 ∷ []))
-    ∷ row 6 (queued 20 0 0 0 ++ (new ∷ [])) said (wrote (responds 114 99 ∷ []))
-    ∷ row 7 (timed 0 3 1003 0 3 0 90000 ∷ timed 0 5 1003 0 5 0 90000 ∷ []) said (wrote (responds 109 3 ∷ responds 100 5 ∷ []))
-    ∷ row 8 (timed 0 3 1003 0 3 0 90000 ∷ timed 0 5 1003 0 3 0 90000 ∷ []) said (wrote (responds 109 5 ∷ []))
-    ∷ row 9 (timed 0 3 1003 0 3 0 2700000 ∷ []) ends (holds (9297000000 ∷ []))
-    ∷ row 10 (shown 1013 0) said (stopped 900000)
-    ∷ row 11 (shown 1003 11) said (stopped 0)
-    ∷ row 11 (shown 1003 12) said (stopped 1)
-    ∷ row 12 (against 4 1) said (wrote (completes 109 5 0 0 ∷ []))
-    ∷ row 12 (against 4 1) air (holds (4 ∷ []))
-    ∷ row 13 (against 5 0) said (wrote (completes 109 5 0 0 ∷ []))
-    ∷ row 13 (against 5 0) air (holds (4 ∷ []))
-    ∷ row 14 (against 5 1) said (wrote (completes 100 5 0 0 ∷ []))
-    ∷ row 14 (against 5 1) air (holds (5 ∷ 4 ∷ []))
+    row 1 [] (four 0 0 0 0) new said (wrote (responds 100 99 ∷ []))
+    ∷ row 2 [] (four 0 0 0 0) (timed 0 99 1002 999999 1 0 90000) said (wrote (responds 112 99 ∷ []))
+    ∷ row 3 (queued 9 20 20 14) (four 9 20 20 14) new said (wrote (responds 100 99 ∷ []))
+    ∷ row 4 (queued 10 20 20 14) (four 10 20 20 14) new said (wrote (responds 114 99 ∷ []))
+    ∷ row 5 (queued 19 0 0 0) (four 19 0 0 0) new said (wrote (responds 100 99 ∷ []))
+    ∷ row 6 (queued 20 0 0 0) (four 20 0 0 0) new said (wrote (responds 114 99 ∷ []))
+    ∷ row 7 (timed 0 3 1003 0 3 0 90000 ∷ []) (four 1 0 0 0) (timed 0 5 1003 0 5 0 90000) said (wrote (responds 109 3 ∷ responds 100 5 ∷ []))
+    ∷ row 8 (timed 0 3 1003 0 3 0 90000 ∷ []) (four 1 0 0 0) (timed 0 5 1003 0 3 0 90000) said (wrote (responds 109 5 ∷ []))
+    ∷ row 9 [] (four 0 0 0 0) (timed 0 3 1003 0 3 0 2700000) ends (holds (9297000000 ∷ []))
+    ∷ row 10 (shown 1013 0) (four 0 0 0 0) (aborts 0 3) said (stopped 900000)
+    ∷ row 11 (shown 1003 11) (four 0 0 0 0) (aborts 0 3) said (stopped 0)
+    ∷ row 11 (shown 1003 12) (four 0 0 0 0) (aborts 0 3) said (stopped 1)
+    ∷ row 12 (against 4 1) (four 1 0 0 0) (to 1006 0) said (wrote (completes 109 5 0 0 ∷ []))
+    ∷ row 12 (against 4 1) (four 1 0 0 0) (to 1006 0) air (holds (4 ∷ []))
+    ∷ row 13 (against 5 0) (four 1 0 0 0) (to 1006 0) said (wrote (completes 109 5 0 0 ∷ []))
+    ∷ row 13 (against 5 0) (four 1 0 0 0) (to 1006 0) air (holds (4 ∷ []))
+    ∷ row 14 (against 5 1) (four 1 0 0 0) (to 1006 0) said (wrote (completes 100 5 0 0 ∷ []))
+    ∷ row 14 (against 5 1) (four 1 0 0 0) (to 1006 0) air (holds (5 ∷ 4 ∷ []))
     ∷ []
 
-shows : Row → Seen
-shows r = r .sees (plays (ready ++ r .calls) card)
+-- the four counts before the last call, and what is seen of it
+shows : Row → List ℕ × Seen
+shows r =
+    let b = plays (ready ++ r .before) card in
+    (waitingFour b, r .sees (call (r .last) (b .splicer)))
 
-rehearsed : map shows table ≡ map (λ r. r .wants) table
-unfolding sent from initOf asks timed aborts to card plays said ends air row up ready load queued new shown against responds completes stopped table shows place insertAt removeAt bytes value valueFrom Reading.readInit Reading.readAbort Reading.wellFormed Reading.readStart Reading.readSplice Reading.read State.empty State.due Records.framed Records.recordBytes Records.output Records.recordIn Records.recordsUpTo Records.recordsIn Ends.andThen Ends.endings Ends.walk Ends.followers Ends.dismissed Ends.evictedAt Ends.evicted Ends.cancelled Ends.aborted Instants.mayStart Instants.launched Instants.startAt Instants.endAt Instants.instant Instants.onAir Instants.elapse Instants.run Instants.runAll Answers.initResult Answers.answerInit Answers.answerAbort Answers.startOf Answers.sessionAt Answers.requested Answers.unknownPrior Answers.tooLate Answers.collides Answers.full Answers.spliceResult Answers.inserted Answers.accepted Answers.answerSplice Answers.answerRead Answers.answer Calls.writtenBy Calls.named Calls.fresh Calls.openCall Calls.framing Calls.handled Calls.messageCall Calls.ticked Calls.moveCall Calls.tickCall Calls.call Card.cardName
+rehearsed : map shows table ≡ map (λ r. (r .waiting, r .wants)) table
+unfolding sent from initOf asks timed aborts to card plays said ends air waitingFour row up ready load queued new four shown against responds completes stopped table shows computing
 rehearsed = refl

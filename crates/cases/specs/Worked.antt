@@ -1,38 +1,18 @@
--- Worked cases of 01 and of the demands beside P1 to P14, from bytes to bytes.
+-- Worked cases of 01 and of the demands beside P1 to P14, from the bytes of requests to the records in the answers' bytes. Assumes nothing.
 use mathlib.Core.Path.{_≡_, refl}
 use mathlib.Core.List.{List, [], _∷_, _++_, map}
 use Prim.Native.Nat.{ℕ}
 use lib.ListN.{length, replicate}
-use Rattle.rules.specs.Lists.{place, insertAt, removeAt}
-use Rattle.rules.specs.Bytes.{bytes, value, valueFrom}
-use Rattle.rules.specs.Reading
-use Rattle.rules.specs.State
+use Rattle.rules.specs.Bytes.{bytes}
 use Rattle.rules.specs.State.{Splicer}
-use Rattle.rules.specs.Records
 use Rattle.rules.specs.Records.{Record, InitResponse, SpliceResponse, SpliceComplete, AbortResponse, recordsIn}
-use Rattle.rules.specs.Ends
-use Rattle.rules.specs.Instants
-use Rattle.rules.specs.Answers
 use Rattle.rules.specs.Calls
 use Rattle.rules.specs.Calls.{Call, opens, closes}
 use Rattle.rules.specs.Card
 use Rattle.demands.specs.History
 use Rattle.demands.specs.History.{Event, Entry}
+use Rattle.cases.specs.Computing.{computing}
 use Rattle.cases.specs.Rehearsed.{sent, from, initOf, asks, timed, linked, aborts, to, card, plays, up, ready, load, queued}
-
--- ## 01, "Whole case"
-
-input : List ℕ
-input =
-    0x4F ∷ 0x00 ∷ 0x4D ∷ 0x00 ∷ 0x00 ∷ 0x05 ∷ 0x00 ∷ 0x08 ∷ 0xFF ∷ 0xFF ∷ 0xFF ∷ 0xFF
-    ∷ 0x00 ∷ 0x00 ∷ 0x00 ∷ 0x00 ∷ 0x00 ∷ 0x00 ∷ 0x00 ∷ 0x00 ∷ 0x43 ∷ 0x00 ∷ 0x43 ∷ 0x00 ∷ []
-
-given : List ℕ
-given = 0x52 ∷ 0x00 ∷ 0x00 ∷ 0x00 ∷ 0x00 ∷ 0x00 ∷ 0x00 ∷ 0x67 ∷ 0xFF ∷ 0xFF ∷ 0x45 ∷ 0x07 ∷ []
-
-whole-case : Card.card input ≡ given
-unfolding input given Card.card Card.cardRun Card.cardStep Card.next Card.nextMessage Card.told Card.cardName bytes value valueFrom Reading.readInit Reading.readAlive Reading.readAbort Reading.wellFormed Reading.readStart Reading.readSplice Reading.read Records.framed Records.recordBytes Records.output Ends.endings Ends.cancelled Ends.closedBy Answers.answerRead Answers.answer Calls.houseNumber Calls.named Calls.fresh Calls.openCall Calls.closeCall Calls.framing Calls.handled Calls.messageCall Calls.call Calls.writtenBy
-whole-case = refl
 
 -- ## What a case looks at
 
@@ -156,5 +136,5 @@ cases =
     ∷ []
 
 worked : map (λ c. c .seen) cases ≡ map (λ c. c .wants) cases
-unfolding fullBefore sent from initOf asks timed aborts to card plays up ready load queued linked known joined played says counting accepts begins stops lastWrites cases events counts Records.framed Records.recordBytes Records.output Records.recordIn Records.recordsUpTo Records.recordsIn Ends.closedBy Calls.closeCall Calls.answers History.isStart History.isEnd History.isYes History.history History.front History.last History.waitAnswered History.waitAfter History.waitReplied History.waitingTold History.waitingCount History.credited History.endTold History.startTold History.entryOf History.bookAnswered History.shut History.bookAfter History.bookReplied History.book place insertAt removeAt bytes value valueFrom Reading.readInit Reading.readAbort Reading.wellFormed Reading.readStart Reading.readSplice Reading.read State.empty State.due Ends.andThen Ends.endings Ends.walk Ends.followers Ends.dismissed Ends.evictedAt Ends.evicted Ends.cancelled Ends.aborted Instants.mayStart Instants.launched Instants.startAt Instants.endAt Instants.instant Instants.onAir Instants.elapse Instants.run Instants.runAll Answers.initResult Answers.answerInit Answers.answerAbort Answers.startOf Answers.sessionAt Answers.requested Answers.unknownPrior Answers.tooLate Answers.collides Answers.full Answers.spliceResult Answers.inserted Answers.accepted Answers.answerSplice Answers.answerRead Answers.answer Calls.houseNumber Calls.named Calls.fresh Calls.openCall Calls.framing Calls.handled Calls.messageCall Calls.ticked Calls.moveCall Calls.tickCall Calls.call Calls.writtenBy Card.cardName ended three sixtyFour through incident behindZero oneTick onlyDirect handOver slot History.endAsked
+unfolding fullBefore sent from initOf asks timed aborts to card plays up ready load queued linked known joined played says counting accepts begins stops lastWrites cases events counts ended three sixtyFour through incident behindZero oneTick onlyDirect handOver slot computing
 worked = refl
