@@ -25,8 +25,8 @@ names=$({
     echo 'use Prim.Native.Nat.{ℕ}'
     for m in $modules; do echo "use Rattle.rules.specs.$m"; done
     echo 'use Rattle.demands.specs.History'
-    echo 'use Rattle.cases.specs.Scenario.{digit, hex, row, input, output, same, Written}'
-    printf '\nunfoldable pub computing : ℕ\nunfolding digit hex row input output same Written %s\ncomputing = 0\n' "${names% }"
+    echo 'use Rattle.cases.specs.Scenario.{digit, hex, row, input, output, joined, eachStep, eachRun, outputs, oneMore, callsIn, size, same, fits, Written}'
+    printf '\nunfoldable pub computing : ℕ\nunfolding digit hex row input output joined eachStep eachRun outputs oneMore callsIn size same fits Written %s\ncomputing = 0\n' "${names% }"
 } >"$made/Computing.antt"
 for file in Scenario $hand; do cp "$specs/$file.antt" "$made/"; done
 (cd "$made" && printf 'pub mod %s\n' Scenario Computing $hand && ls | sed -n 's/^\(Case-.*\)\.antt$/pub mod \1/p') >target/cases.list

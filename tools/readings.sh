@@ -1,38 +1,66 @@
 #!/bin/sh
-# readings.sh: tries the wrong readings of crates/cases/readings/*.edit, edits of the definitions in crates/rules. Each must be refused
-# by the tables of the crate cases alone: definitions and tables are put into one crate of a scratch repository under target/, with no
-# law and no other worked case beside them. The last line is 'N passed, M failed'.
+# readings.sh [--all | LABEL..]: tries wrong readings of document 01, edits of the definitions in crates/rules and of demands' History: those of
+# crates/cases/readings, as the gate does; with --all those of crates/cases/more-readings too; or the named ones.
+# Each edit names a table of the crate cases, and that table alone must refuse it: definitions and table are put into one crate of a scratch
+# repository under target/, with no law and no other table beside them. The last line is 'N passed, M failed'.
 set -eu
 cd "$(dirname "$0")/.."
 work=target/readings
-crate=$work/crates/rules
 rm -rf "$work"
-mkdir -p "$crate/must-fail"
-cp -R crates/rules/src "$crate/src"
-cp -R crates/rules/specs "$crate/specs"
-cp crates/cases/readings/*.edit "$crate/must-fail/"
-echo 'rules:' >"$work/crates.txt"
-for table in crates/cases/specs/*.antt; do
-    file=$(basename "$table")
-    case $file in Lib.antt | Worked.antt) continue ;; esac
-    sed 's/Rattle\.cases\.specs\./Rattle.rules.specs./; s/Rattle\.rules\.specs\./Rattle.rules.specs./' \
-        "$table" >"$crate/specs/$file"
-done
-{
-    cat crates/rules/specs/Lib.antt
-    grep -v Worked crates/cases/specs/Lib.antt
-} >"$crate/specs/Lib.antt"
+mkdir -p "$work/crates"
 
-edits=$(find "$crate/must-fail" -name '*.edit' | wc -l)
-status=0
-(cd "$work" && rt check rules >check.log 2>&1) || status=1
-if [ "$status" -ne 0 ]; then
-    tail -n 20 "$work/check.log" | cut -c 1-400
-    echo "0 passed, $edits failed"
-    exit 1
-fi
-(cd "$work" && rt must-fail rules) >"$work/edits.log" 2>&1 || status=1
-grep '^rt: must-fail' "$work/edits.log"
-refused=$(grep -c 'refused, as it must be' "$work/edits.log" || true)
+case ${1:-} in
+'') set -- crates/cases/readings/*.edit ;;
+--all) set -- crates/cases/readings/*.edit crates/cases/more-readings/*.edit ;;
+*) set -- $(for label; do ls crates/cases/*readings/"$label.edit"; done) ;;
+esac
+
+# crate_of TABLE: the name of its crate
+crate_of() { echo "$1" | tr 'A-Z-' 'a-z_'; }
+
+# moved TABLE FILE: the text of a file, with all modules in the table's crate
+moved() {
+    sed -E "s/Rattle·(rules·specs|demands·specs|cases·specs)\.specs\./Rattle·$(crate_of "$1")·specs.specs./g
+        s/Rattle·(rules|demands)\.specs\./Rattle·$(crate_of "$1")·specs.specs./g" "$2"
+}
+
+# make TABLE: its crate
+make() {
+    crate=$work/crates/$(crate_of "$1")
+    mkdir -p "$crate/specs" "$crate/must-fail"
+    cp -R crates/rules/src "$crate/src"
+    for file in crates/rules/specs/*.antt crates/demands/specs/History.antt; do
+        case $file in */Lib.antt | */Sound.antt | */Asked.antt) continue ;; esac
+        moved "$1" "$file" >"$crate/specs/$(basename "$file")"
+    done
+    for table in Scenario Computing $(sed -nE 's/^use Rattle\.cases\.specs\.([A-Za-z0-9-]+).*/\1/p' "crates/cases/specs/$1.antt") "$1"; do
+        moved "$1" "crates/cases/specs/$table.antt" >"$crate/specs/$table.antt"
+    done
+    ls "$crate/specs" | sed -n 's/\.antt$//p' | sed 's/^/pub mod /' >"$work/lib"
+    mv "$work/lib" "$crate/specs/Lib.antt"
+    echo "$(crate_of "$1"):" >>"$work/crates.txt"
+}
+
+edits=0
+for edit; do
+    table=$(sed -n 's/^# table: //p' "$edit")
+    [ -f "crates/cases/specs/$table.antt" ] || { echo "readings.sh: $edit names no table" >&2; exit 2; }
+    [ -d "$work/crates/$(crate_of "$table")" ] || make "$table"
+    moved "$table" "$edit" >"$work/crates/$(crate_of "$table")/must-fail/$(basename "$edit")"
+    edits=$((edits + 1))
+done
+
+(cd "$work" && rt must-fail) >"$work/log" 2>&1 || true
+grep '^rt: must-fail' "$work/log" || tail -n 20 "$work/log" | cut -c 1-400
+refused=0
+for edit; do
+    table=$(sed -n 's/^# table: //p' "$edit")
+    label=$(basename "$edit" .edit)
+    if grep -qF "rt: must-fail $(crate_of "$table")/$label: refused, as it must be (first at specs/$table.antt:" "$work/log"; then
+        refused=$((refused + 1))
+    else
+        echo "readings.sh: $label is not refused by $table"
+    fi
+done
 echo "$refused passed, $((edits - refused)) failed"
-[ "$refused" -eq "$edits" ] && [ "$status" -eq 0 ]
+[ "$refused" -eq "$edits" ]

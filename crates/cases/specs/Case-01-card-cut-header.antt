@@ -1,11 +1,9 @@
 -- model/scenarios/01-card-cut-header.txt, made by tools/cases.sh. Line numbers are that file's.
 -- Document 01, "The card program": it stops at a cut record.
 -- Shows: a header cut before its eighth byte is no call, though it already says 0x0FF9.
-use mathlib.Core.Path.{_≡_}
 use mathlib.Core.List.{List, [], _∷_}
 use Prim.Native.String.{_++_}
-use Rattle.rules.specs.Card.{card}
-use Rattle.cases.specs.Scenario.{Row, row, input, output, holds}
+use Rattle.cases.specs.Scenario.{Row, row, Holds, holds}
 use Rattle.cases.specs.Computing.{computing}
 
 unfoldable pub rows : List Row
@@ -18,6 +16,6 @@ rows =
     ∷ row 7 "> raw 4D 00 0005 0FF9 FFFF FF" "4D00 0005 0FF9 FFFF FF" ""
     ∷ []
 
-pub same : card (input rows) ≡ output rows
+pub same : Holds rows
 unfolding rows computing
 same = holds rows (tt, tt)

@@ -2,11 +2,9 @@
 -- Document 01, "The card program": it stops at a cut record.
 -- Shows: a mark alone, without its connection, is a cut record: the close isn't made, and
 -- the waiting session's end isn't written.
-use mathlib.Core.Path.{_≡_}
 use mathlib.Core.List.{List, [], _∷_}
 use Prim.Native.String.{_++_}
-use Rattle.rules.specs.Card.{card}
-use Rattle.cases.specs.Scenario.{Row, row, input, output, holds}
+use Rattle.cases.specs.Scenario.{Row, row, Holds, holds}
 use Rattle.cases.specs.Computing.{computing}
 
 unfoldable pub rows : List Row
@@ -23,6 +21,6 @@ rows =
     ∷ row 11 "> raw 43" "43" ""
     ∷ []
 
-pub same : card (input rows) ≡ output rows
+pub same : Holds rows
 unfolding rows computing
 same = holds rows (tt, tt)

@@ -1,11 +1,9 @@
 -- model/scenarios/01-card-cut-message.txt, made by tools/cases.sh. Line numbers are that file's.
 -- Document 01, "The card program": it stops at a cut record.
 -- Shows: a message cut in its data writes nothing, no refusal either, and is not handled.
-use mathlib.Core.Path.{_≡_}
 use mathlib.Core.List.{List, [], _∷_}
 use Prim.Native.String.{_++_}
-use Rattle.rules.specs.Card.{card}
-use Rattle.cases.specs.Scenario.{Row, row, input, output, holds}
+use Rattle.cases.specs.Scenario.{Row, row, Holds, holds}
 use Rattle.cases.specs.Computing.{computing}
 
 unfoldable pub rows : List Row
@@ -18,6 +16,6 @@ rows =
     ∷ row 8 "> raw 4D 00 0005 0008 FFFF FFFF 00000000" "4D00 0005 0008 FFFF FFFF 00000000" ""
     ∷ []
 
-pub same : card (input rows) ≡ output rows
+pub same : Holds rows
 unfolding rows computing
 same = holds rows (tt, tt)

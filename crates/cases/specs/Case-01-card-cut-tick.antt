@@ -1,11 +1,9 @@
 -- model/scenarios/01-card-cut-tick.txt, made by tools/cases.sh. Line numbers are that file's.
 -- Document 01, "The card program": it stops at a cut record.
 -- Shows: a tick of nine bytes instead of ten moves nothing: the start at 1003 s isn't written.
-use mathlib.Core.Path.{_≡_}
 use mathlib.Core.List.{List, [], _∷_}
 use Prim.Native.String.{_++_}
-use Rattle.rules.specs.Card.{card}
-use Rattle.cases.specs.Scenario.{Row, row, input, output, holds}
+use Rattle.cases.specs.Scenario.{Row, row, Holds, holds}
 use Rattle.cases.specs.Computing.{computing}
 
 unfoldable pub rows : List Row
@@ -22,6 +20,6 @@ rows =
     ∷ row 11 "> raw 54 00 000003EB 000000" "5400 000003EB 000000" ""
     ∷ []
 
-pub same : card (input rows) ≡ output rows
+pub same : Holds rows
 unfolding rows computing
 same = holds rows (tt, tt)

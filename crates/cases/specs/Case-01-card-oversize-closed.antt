@@ -2,11 +2,9 @@
 -- Document 01, "The card program": a header with MessageSize above 4,088, connection closed.
 -- Shows: the refusal is the first of the call's order (1, 2, 7, 5, 4), here 7; it stops all
 -- the same, so the second refusal 7 (close 1) isn't written.
-use mathlib.Core.Path.{_≡_}
 use mathlib.Core.List.{List, [], _∷_}
 use Prim.Native.String.{_++_}
-use Rattle.rules.specs.Card.{card}
-use Rattle.cases.specs.Scenario.{Row, row, input, output, holds}
+use Rattle.cases.specs.Scenario.{Row, row, Holds, holds}
 use Rattle.cases.specs.Computing.{computing}
 
 unfoldable pub rows : List Row
@@ -14,6 +12,6 @@ rows =
     row 5 "> raw 4D 01 0005 0FF9 FFFF FFFF 43 01" "4D01 0005 0FF9 FFFF FFFF 4301" "4507"
     ∷ []
 
-pub same : card (input rows) ≡ output rows
+pub same : Holds rows
 unfolding rows computing
 same = holds rows (tt, tt)

@@ -2,11 +2,9 @@
 -- Document 01, "The card program": it stops at another mark.
 -- Shows: behind an unknown mark (0x58) nothing is read; the two closes of connection 1
 -- would write refusal 7 twice.
-use mathlib.Core.Path.{_≡_}
 use mathlib.Core.List.{List, [], _∷_}
 use Prim.Native.String.{_++_}
-use Rattle.rules.specs.Card.{card}
-use Rattle.cases.specs.Scenario.{Row, row, input, output, holds}
+use Rattle.cases.specs.Scenario.{Row, row, Holds, holds}
 use Rattle.cases.specs.Computing.{computing}
 
 unfoldable pub rows : List Row
@@ -20,6 +18,6 @@ rows =
     ∷ row 9 "> raw 58 00 43 01 43 01" "58004301 4301" ""
     ∷ []
 
-pub same : card (input rows) ≡ output rows
+pub same : Holds rows
 unfolding rows computing
 same = holds rows (tt, tt)

@@ -3,11 +3,9 @@
 -- Shows: the started sessions from the highest AccessType down, each by what it was before
 -- the close; then the waiting ones by start, followers among them, each once.
 -- (The driver doesn't send these records but logs them.)
-use mathlib.Core.Path.{_≡_}
 use mathlib.Core.List.{List, [], _∷_}
 use Prim.Native.String.{_++_}
-use Rattle.rules.specs.Card.{card}
-use Rattle.cases.specs.Scenario.{Row, row, input, output, holds}
+use Rattle.cases.specs.Scenario.{Row, row, Holds, holds}
 use Rattle.cases.specs.Computing.{computing}
 
 unfoldable pub rows : List Row
@@ -120,6 +118,6 @@ rows =
     ∷ row 101 "> tick 1470" "5400 000005BE 00000000" "5201 0009 000D 0064 FFFF 00000001 01 00000000 002932E0"
     ∷ []
 
-pub same : card (input rows) ≡ output rows
+pub same : Holds rows
 unfolding rows computing
 same = holds rows (tt, tt)

@@ -2,11 +2,9 @@
 -- Document 01, followers of a covered session: "A covered session's end time doesn't move."
 -- Shows: a follower starts at its prior's end time, covered or not; whether it goes on air
 -- is judged against the one on air then.
-use mathlib.Core.Path.{_≡_}
 use mathlib.Core.List.{List, [], _∷_}
 use Prim.Native.String.{_++_}
-use Rattle.rules.specs.Card.{card}
-use Rattle.cases.specs.Scenario.{Row, row, input, output, holds}
+use Rattle.cases.specs.Scenario.{Row, row, Holds, holds}
 use Rattle.cases.specs.Computing.{computing}
 
 unfoldable pub rows : List Row
@@ -93,6 +91,6 @@ rows =
     ++ "5200 0009 000D 0064 FFFF 00000006 01 00000000 000DBBA0")
     ∷ []
 
-pub same : card (input rows) ≡ output rows
+pub same : Holds rows
 unfolding rows computing
 same = holds rows (tt, tt)

@@ -1,11 +1,9 @@
 -- model/scenarios/01-end-of-time-on-air.txt, made by tools/cases.sh. Line numbers are that file's.
 -- Document 01, the last seconds of the clock: a session on air that no tick can end.
 -- Shows: its PlayedDuration at the abort; its follower, which never could start, ends too.
-use mathlib.Core.Path.{_≡_}
 use mathlib.Core.List.{List, [], _∷_}
 use Prim.Native.String.{_++_}
-use Rattle.rules.specs.Card.{card}
-use Rattle.cases.specs.Scenario.{Row, row, input, output, holds}
+use Rattle.cases.specs.Scenario.{Row, row, Holds, holds}
 use Rattle.cases.specs.Computing.{computing}
 
 unfoldable pub rows : List Row
@@ -32,6 +30,6 @@ rows =
     ++ "5200 0008 0004 0074 FFFF 00000002")
     ∷ []
 
-pub same : card (input rows) ≡ output rows
+pub same : Holds rows
 unfolding rows computing
 same = holds rows (tt, tt)

@@ -2,11 +2,9 @@
 -- Document 01, the largest numbers: Duration 0xFFFFFFFF and the last seconds of the clock.
 -- Shows: nothing overflows; a session whose end lies past the clock's last microsecond is
 -- accepted, and ends at the latest with its connection.
-use mathlib.Core.Path.{_≡_}
 use mathlib.Core.List.{List, [], _∷_}
 use Prim.Native.String.{_++_}
-use Rattle.rules.specs.Card.{card}
-use Rattle.cases.specs.Scenario.{Row, row, input, output, holds}
+use Rattle.cases.specs.Scenario.{Row, row, Holds, holds}
 use Rattle.cases.specs.Computing.{computing}
 
 unfoldable pub rows : List Row
@@ -56,6 +54,6 @@ rows =
     ++ "5200 0008 0004 0074 FFFF 00000005")
     ∷ []
 
-pub same : card (input rows) ≡ output rows
+pub same : Holds rows
 unfolding rows computing
 same = holds rows (tt, tt)

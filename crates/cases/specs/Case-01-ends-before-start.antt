@@ -1,11 +1,9 @@
 -- model/scenarios/01-ends-before-start.txt, made by tools/cases.sh. Line numbers are that file's.
 -- Document 01, "Instants": at one instant ends come first, then the one possible start.
 -- Shows: a start is judged against the one on air after the ends of its instant.
-use mathlib.Core.Path.{_≡_}
 use mathlib.Core.List.{List, [], _∷_}
 use Prim.Native.String.{_++_}
-use Rattle.rules.specs.Card.{card}
-use Rattle.cases.specs.Scenario.{Row, row, input, output, holds}
+use Rattle.cases.specs.Scenario.{Row, row, Holds, holds}
 use Rattle.cases.specs.Computing.{computing}
 
 unfoldable pub rows : List Row
@@ -88,6 +86,6 @@ rows =
     ++ "5202 0009 000D 0064 FFFF 00000004 01 00000000 000DBBA0")
     ∷ []
 
-pub same : card (input rows) ≡ output rows
+pub same : Holds rows
 unfolding rows computing
 same = holds rows (tt, tt)

@@ -2,11 +2,9 @@
 -- Document 01, check f: "it and its waiting followers end (109), written before the 100".
 -- Shows: an eviction takes the whole chain behind the evicted one, whatever AccessType the
 -- followers have, within its connection; what stands before it stays.
-use mathlib.Core.Path.{_≡_}
 use mathlib.Core.List.{List, [], _∷_}
 use Prim.Native.String.{_++_}
-use Rattle.rules.specs.Card.{card}
-use Rattle.cases.specs.Scenario.{Row, row, input, output, holds}
+use Rattle.cases.specs.Scenario.{Row, row, Holds, holds}
 use Rattle.cases.specs.Computing.{computing}
 
 unfoldable pub rows : List Row
@@ -94,6 +92,6 @@ rows =
     ++ "5201 0009 000D 0064 FFFF 00000002 01 00000000 002932E0")
     ∷ []
 
-pub same : card (input rows) ≡ output rows
+pub same : Holds rows
 unfolding rows computing
 same = holds rows (tt, tt)

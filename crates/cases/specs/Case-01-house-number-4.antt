@@ -3,11 +3,9 @@
 -- Shows: 4,088 = 0x0FF8 bytes of data are read (an Init_Request whose last 4,022 bytes are
 -- unread), 4,089 = 0x0FF9 is refusal 4 at the header; the card program stops there, so
 -- the two closes behind it, which would write refusal 7, aren't made.
-use mathlib.Core.Path.{_≡_}
 use mathlib.Core.List.{List, [], _∷_}
 use Prim.Native.String.{_++_}
-use Rattle.rules.specs.Card.{card}
-use Rattle.cases.specs.Scenario.{Row, row, input, output, holds}
+use Rattle.cases.specs.Scenario.{Row, row, Holds, holds}
 use Rattle.cases.specs.Computing.{computing}
 
 unfoldable pub rows : List Row
@@ -108,6 +106,6 @@ rows =
     ∷ row 13 "> raw 4D 00 0005 0FF9 FFFF FFFF 43 00 43 00" "4D00 0005 0FF9 FFFF FFFF 43004300" "4504"
     ∷ []
 
-pub same : card (input rows) ≡ output rows
+pub same : Holds rows
 unfolding rows computing
 same = holds rows (tt, tt)

@@ -4,11 +4,9 @@
 -- changes nothing. (4: 01-house-number-4.txt. 2 and 9 concern the lent buffer and the name
 -- of fresh, which no line sets; 5 is a call that the card program never makes, since a
 -- message cut short ends its input: 01-card-cut-message.txt and 01-card-cut-header.txt.)
-use mathlib.Core.Path.{_≡_}
 use mathlib.Core.List.{List, [], _∷_}
 use Prim.Native.String.{_++_}
-use Rattle.rules.specs.Card.{card}
-use Rattle.cases.specs.Scenario.{Row, row, input, output, holds}
+use Rattle.cases.specs.Scenario.{Row, row, Holds, holds}
 use Rattle.cases.specs.Computing.{computing}
 
 unfoldable pub rows : List Row
@@ -73,6 +71,6 @@ rows =
     ∷ row 99 "> alive 0" "4D00 0005 0008 FFFF FFFF 00000000 00000000" "5200 0000 0000 0067 FFFF"
     ∷ []
 
-pub same : card (input rows) ≡ output rows
+pub same : Holds rows
 unfolding rows computing
 same = holds rows (tt, tt)

@@ -8,11 +8,9 @@
 --   connection 1, AccessType 4:  1: 1020..1030 s flag 1, 2 follows (1030 s) flag 0, 3 follows 2 (1040 s)
 --   connection 2, AccessType 6:  1: 1035..1075 s flag 1
 --   connection 3, AccessType 9:  1: 1042..1047 s flag 1; AccessType 0: 2: 1075..1085 s
-use mathlib.Core.Path.{_≡_}
 use mathlib.Core.List.{List, [], _∷_}
 use Prim.Native.String.{_++_}
-use Rattle.rules.specs.Card.{card}
-use Rattle.cases.specs.Scenario.{Row, row, input, output, holds}
+use Rattle.cases.specs.Scenario.{Row, row, Holds, holds}
 use Rattle.cases.specs.Computing.{computing}
 
 unfoldable pub rows : List Row
@@ -132,6 +130,6 @@ rows =
     ∷ row 109 "> tick 2100" "5400 00000834 00000000" ""
     ∷ []
 
-pub same : card (input rows) ≡ output rows
+pub same : Holds rows
 unfolding rows computing
 same = holds rows (tt, tt)

@@ -2,11 +2,9 @@
 -- Document 01, "Bytes": the clock and all instants are kept in ninths of a microsecond.
 -- Shows: second = 9,000,000, microsecond = 9, tick = 100 ninths; one tick is 11 1/9 us. No
 -- rounding of a start or an end, one rounding down of PlayedDuration.
-use mathlib.Core.Path.{_≡_}
 use mathlib.Core.List.{List, [], _∷_}
 use Prim.Native.String.{_++_}
-use Rattle.rules.specs.Card.{card}
-use Rattle.cases.specs.Scenario.{Row, row, input, output, holds}
+use Rattle.cases.specs.Scenario.{Row, row, Holds, holds}
 use Rattle.cases.specs.Computing.{computing}
 
 unfoldable pub rows : List Row
@@ -145,6 +143,6 @@ rows =
     ∷ row 132 "> tick 1060.000100" "5400 00000424 00000064" "5200 0009 000D 0064 FFFF 00000013 01 00000000 00000001"
     ∷ []
 
-pub same : card (input rows) ≡ output rows
+pub same : Holds rows
 unfolding rows computing
 same = holds rows (tt, tt)

@@ -1,11 +1,9 @@
 -- model/scenarios/01-rehearsed-P1-P2.txt, made by tools/cases.sh. Line numbers are that file's.
 -- Document 01, rehearsed situations P1 and P2: clock 1,000 s, connection 0 initialised.
 -- Shows: a start of 1,003 s is 100, one of 1,002 s 999,999 us is 112.
-use mathlib.Core.Path.{_≡_}
 use mathlib.Core.List.{List, [], _∷_}
 use Prim.Native.String.{_++_}
-use Rattle.rules.specs.Card.{card}
-use Rattle.cases.specs.Scenario.{Row, row, input, output, holds}
+use Rattle.cases.specs.Scenario.{Row, row, Holds, holds}
 use Rattle.cases.specs.Computing.{computing}
 
 unfoldable pub rows : List Row
@@ -28,6 +26,6 @@ rows =
     ∷ row 20 "> tick 1013" "5400 000003F5 00000000" "5200 0009 000D 0064 FFFF 00000001 01 00000000 000DBBA0"
     ∷ []
 
-pub same : card (input rows) ≡ output rows
+pub same : Holds rows
 unfolding rows computing
 same = holds rows (tt, tt)

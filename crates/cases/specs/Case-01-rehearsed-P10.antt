@@ -1,11 +1,9 @@
 -- model/scenarios/01-rehearsed-P10.txt, made by tools/cases.sh. Line numbers are that file's.
 -- Document 01, rehearsed situation P10: as P9, aborted at 1,013 s, never covered.
 -- Shows: 900,000 played, since 1,013 s - 1,003 s = 10 s = 90,000,000 ninths / 100.
-use mathlib.Core.Path.{_≡_}
 use mathlib.Core.List.{List, [], _∷_}
 use Prim.Native.String.{_++_}
-use Rattle.rules.specs.Card.{card}
-use Rattle.cases.specs.Scenario.{Row, row, input, output, holds}
+use Rattle.cases.specs.Scenario.{Row, row, Holds, holds}
 use Rattle.cases.specs.Computing.{computing}
 
 unfoldable pub rows : List Row
@@ -27,6 +25,6 @@ rows =
     ∷ row 16 "> tick 1033" "5400 00000409 00000000" ""
     ∷ []
 
-pub same : card (input rows) ≡ output rows
+pub same : Holds rows
 unfolding rows computing
 same = holds rows (tt, tt)

@@ -1,11 +1,9 @@
 -- model/scenarios/01-rehearsed-P11.txt, made by tools/cases.sh. Line numbers are that file's.
 -- Document 01, rehearsed situation P11: on air for 11 us and for 12 us.
 -- Shows: 11 us = 99 ninths, 99 / 100 = 0 ticks; 12 us = 108 ninths, 108 / 100 = 1 tick.
-use mathlib.Core.Path.{_≡_}
 use mathlib.Core.List.{List, [], _∷_}
 use Prim.Native.String.{_++_}
-use Rattle.rules.specs.Card.{card}
-use Rattle.cases.specs.Scenario.{Row, row, input, output, holds}
+use Rattle.cases.specs.Scenario.{Row, row, Holds, holds}
 use Rattle.cases.specs.Computing.{computing}
 
 unfoldable pub rows : List Row
@@ -42,6 +40,6 @@ rows =
     ++ "5200 0009 000D 0074 FFFF 00000003 01 00000000 00000000")
     ∷ []
 
-pub same : card (input rows) ≡ output rows
+pub same : Holds rows
 unfolding rows computing
 same = holds rows (tt, tt)

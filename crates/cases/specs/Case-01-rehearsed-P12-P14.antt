@@ -2,11 +2,9 @@
 -- Document 01, rehearsed situations P12, P13 and P14: a start against a 4 on air.
 -- Shows: 4 with override fails, 5 without override fails, 5 with override goes on air and
 -- the 4 is covered. One clock serves for all three.
-use mathlib.Core.Path.{_≡_}
 use mathlib.Core.List.{List, [], _∷_}
 use Prim.Native.String.{_++_}
-use Rattle.rules.specs.Card.{card}
-use Rattle.cases.specs.Scenario.{Row, row, input, output, holds}
+use Rattle.cases.specs.Scenario.{Row, row, Holds, holds}
 use Rattle.cases.specs.Computing.{computing}
 
 unfoldable pub rows : List Row
@@ -49,6 +47,6 @@ rows =
     ∷ row 41 "> tick 1093" "5400 00000445 00000000" "5200 0009 000D 0064 FFFF 00000001 01 00000000 006DDD00"
     ∷ []
 
-pub same : card (input rows) ≡ output rows
+pub same : Holds rows
 unfolding rows computing
 same = holds rows (tt, tt)

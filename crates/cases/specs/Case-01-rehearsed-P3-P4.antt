@@ -2,11 +2,9 @@
 -- Document 01, rehearsed situations P3 and P4: waiting 9, 20, 20, 14 and 10, 20, 20, 14.
 -- Shows: with 9 waiting connection 0 still gets its tenth reserved place (100); with 10 and
 -- the sum 10 + 20 + 20 + 14 = 64 it doesn't get an eleventh (114).
-use mathlib.Core.Path.{_≡_}
 use mathlib.Core.List.{List, [], _∷_}
 use Prim.Native.String.{_++_}
-use Rattle.rules.specs.Card.{card}
-use Rattle.cases.specs.Scenario.{Row, row, input, output, holds}
+use Rattle.cases.specs.Scenario.{Row, row, Holds, holds}
 use Rattle.cases.specs.Computing.{computing}
 
 unfoldable pub rows : List Row
@@ -238,6 +236,6 @@ rows =
     "5203 0008 0004 0072 FFFF 0000000F"
     ∷ []
 
-pub same : card (input rows) ≡ output rows
+pub same : Holds rows
 unfolding rows computing
 same = holds rows (tt, tt)

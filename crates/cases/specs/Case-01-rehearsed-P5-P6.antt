@@ -2,11 +2,9 @@
 -- Document 01, rehearsed situations P5 and P6: waiting 19, 0, 0, 0 and 20, 0, 0, 0.
 -- Shows: the twentieth of one connection is accepted (19 + 10 + 10 + 10 = 49 is no 64), the
 -- twenty-first is not, though 20 + 10 + 10 + 10 = 50 is no 64 either.
-use mathlib.Core.Path.{_≡_}
 use mathlib.Core.List.{List, [], _∷_}
 use Prim.Native.String.{_++_}
-use Rattle.rules.specs.Card.{card}
-use Rattle.cases.specs.Scenario.{Row, row, input, output, holds}
+use Rattle.cases.specs.Scenario.{Row, row, Holds, holds}
 use Rattle.cases.specs.Computing.{computing}
 
 unfoldable pub rows : List Row
@@ -131,6 +129,6 @@ rows =
     ++ "5200 0009 000D 0064 FFFF 00000015 01 00000000 00015F90")
     ∷ []
 
-pub same : card (input rows) ≡ output rows
+pub same : Holds rows
 unfolding rows computing
 same = holds rows (tt, tt)

@@ -2,11 +2,9 @@
 -- Document 01, rehearsed situations P7 and P8: two requests for one start.
 -- Shows: AccessType 5 against a waiting 3: 109 for the old, 100 for the new, in that order;
 -- 3 against a waiting 3: 109 for the new. On one connection and across two.
-use mathlib.Core.Path.{_≡_}
 use mathlib.Core.List.{List, [], _∷_}
 use Prim.Native.String.{_++_}
-use Rattle.rules.specs.Card.{card}
-use Rattle.cases.specs.Scenario.{Row, row, input, output, holds}
+use Rattle.cases.specs.Scenario.{Row, row, Holds, holds}
 use Rattle.cases.specs.Computing.{computing}
 
 unfoldable pub rows : List Row
@@ -60,6 +58,6 @@ rows =
     ++ "5201 0009 000D 0064 FFFF 00000001 01 00000000 000DBBA0")
     ∷ []
 
-pub same : card (input rows) ≡ output rows
+pub same : Holds rows
 unfolding rows computing
 same = holds rows (tt, tt)

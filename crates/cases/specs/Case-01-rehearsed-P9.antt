@@ -2,11 +2,9 @@
 -- Document 01, rehearsed situation P9: start 1,003 s, Duration 2,700,000.
 -- Shows: the end is 1,003 x 9,000,000 + 2,700,000 x 100 = 9,027,000,000 + 270,000,000 =
 -- 9,297,000,000 ninths = 1,033 s, and not a microsecond earlier.
-use mathlib.Core.Path.{_≡_}
 use mathlib.Core.List.{List, [], _∷_}
 use Prim.Native.String.{_++_}
-use Rattle.rules.specs.Card.{card}
-use Rattle.cases.specs.Scenario.{Row, row, input, output, holds}
+use Rattle.cases.specs.Scenario.{Row, row, Holds, holds}
 use Rattle.cases.specs.Computing.{computing}
 
 unfoldable pub rows : List Row
@@ -28,6 +26,6 @@ rows =
     ∷ row 16 "> tick 1033" "5400 00000409 00000000" "5200 0009 000D 0064 FFFF 00000001 01 00000000 002932E0"
     ∷ []
 
-pub same : card (input rows) ≡ output rows
+pub same : Holds rows
 unfolding rows computing
 same = holds rows (tt, tt)

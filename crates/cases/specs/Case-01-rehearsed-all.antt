@@ -1,11 +1,9 @@
 -- model/scenarios/01-rehearsed-all.txt, made by tools/cases.sh. Line numbers are that file's.
 -- Document 01, "Rehearsed situations", P1 to P14 one behind the other on one splicer. The clock stands at 1,000 s for P1 to P8; the later
 -- ones need it to move, so their times are later by whole seconds. Between two situations the connections are closed and opened again.
-use mathlib.Core.Path.{_≡_}
 use mathlib.Core.List.{List, [], _∷_}
 use Prim.Native.String.{_++_}
-use Rattle.rules.specs.Card.{card}
-use Rattle.cases.specs.Scenario.{Row, row, input, output, holds}
+use Rattle.cases.specs.Scenario.{Row, row, Holds, holds}
 use Rattle.cases.specs.Computing.{computing}
 
 unfoldable pub rows : List Row
@@ -512,6 +510,6 @@ rows =
     "4504"
     ∷ []
 
-pub same : card (input rows) ≡ output rows
+pub same : Holds rows
 unfolding rows computing
 same = holds rows (tt, tt)

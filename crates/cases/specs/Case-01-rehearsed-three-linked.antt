@@ -1,11 +1,9 @@
 -- model/scenarios/01-rehearsed-three-linked.txt, made by tools/cases.sh. Line numbers are that file's.
 -- Document 01, rehearsed: "Three linked sessions, the first aborted: all three end."
 -- Shows: not only the direct follower ends; with the first waiting, on air and covered.
-use mathlib.Core.Path.{_≡_}
 use mathlib.Core.List.{List, [], _∷_}
 use Prim.Native.String.{_++_}
-use Rattle.rules.specs.Card.{card}
-use Rattle.cases.specs.Scenario.{Row, row, input, output, holds}
+use Rattle.cases.specs.Scenario.{Row, row, Holds, holds}
 use Rattle.cases.specs.Computing.{computing}
 
 unfoldable pub rows : List Row
@@ -77,6 +75,6 @@ rows =
     ∷ row 57 "> tick 1050" "5400 0000041A 00000000" "5201 0009 000D 0064 FFFF 00000001 01 00000000 000DBBA0"
     ∷ []
 
-pub same : card (input rows) ≡ output rows
+pub same : Holds rows
 unfolding rows computing
 same = holds rows (tt, tt)

@@ -2,11 +2,9 @@
 -- Document 01, "Answering a message" and Splice's checks a to f: the first that applies.
 -- Shows: requests with several faults at once get the first result code of the order
 -- 103, 123, 110, 121, 112, 109, 114, 100.
-use mathlib.Core.Path.{_≡_}
 use mathlib.Core.List.{List, [], _∷_}
 use Prim.Native.String.{_++_}
-use Rattle.rules.specs.Card.{card}
-use Rattle.cases.specs.Scenario.{Row, row, input, output, holds}
+use Rattle.cases.specs.Scenario.{Row, row, Holds, holds}
 use Rattle.cases.specs.Computing.{computing}
 
 unfoldable pub rows : List Row
@@ -152,6 +150,6 @@ rows =
     ++ "5200 0009 000D 0064 FFFF 0000001E 00 00000000 00000000")
     ∷ []
 
-pub same : card (input rows) ≡ output rows
+pub same : Holds rows
 unfolding rows computing
 same = holds rows (tt, tt)

@@ -2,11 +2,9 @@
 -- Document 01, "The card program", whole case.
 -- Shows: open 0, an Alive_Request before Init (103), close 0, close 0 again (refusal 7), in
 -- the bytes of 01; then the same as calls.
-use mathlib.Core.Path.{_≡_}
 use mathlib.Core.List.{List, [], _∷_}
 use Prim.Native.String.{_++_}
-use Rattle.rules.specs.Card.{card}
-use Rattle.cases.specs.Scenario.{Row, row, input, output, holds}
+use Rattle.cases.specs.Scenario.{Row, row, Holds, holds}
 use Rattle.cases.specs.Computing.{computing}
 
 unfoldable pub rows : List Row
@@ -37,6 +35,6 @@ rows =
     ∷ row 25 "> close 0" "4300" "4507"
     ∷ []
 
-pub same : card (input rows) ≡ output rows
+pub same : Holds rows
 unfolding rows computing
 same = holds rows (tt, tt)

@@ -5,11 +5,9 @@
 -- second avail in which the next request arrives while the one before is on air.
 --
 -- 01 leads elsewhere: no Cue_Request and no ExtendedData in this release.
-use mathlib.Core.Path.{_≡_}
 use mathlib.Core.List.{List, [], _∷_}
 use Prim.Native.String.{_++_}
-use Rattle.rules.specs.Card.{card}
-use Rattle.cases.specs.Scenario.{Row, row, input, output, holds}
+use Rattle.cases.specs.Scenario.{Row, row, Holds, holds}
 use Rattle.cases.specs.Computing.{computing}
 
 unfoldable pub rows : List Row
@@ -74,6 +72,6 @@ rows =
     "5200 0006 0010 0064 FFFF 00000001 FFFFFFFF 000004DD 00000000"
     ∷ []
 
-pub same : card (input rows) ≡ output rows
+pub same : Holds rows
 unfolding rows computing
 same = holds rows (tt, tt)

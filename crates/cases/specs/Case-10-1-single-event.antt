@@ -5,11 +5,9 @@
 --
 -- 01 leads elsewhere: the splicer sends no Cue_Request in this release (CR 7); a server's
 --   Cue_Response is taken without an answer. ExtendedData_Request is 120 (CR 8).
-use mathlib.Core.Path.{_≡_}
 use mathlib.Core.List.{List, [], _∷_}
 use Prim.Native.String.{_++_}
-use Rattle.rules.specs.Card.{card}
-use Rattle.cases.specs.Scenario.{Row, row, input, output, holds}
+use Rattle.cases.specs.Scenario.{Row, row, Holds, holds}
 use Rattle.cases.specs.Computing.{computing}
 
 unfoldable pub rows : List Row
@@ -44,6 +42,6 @@ rows =
     ∷ row 37 "> close 0" "4300" ""
     ∷ []
 
-pub same : card (input rows) ≡ output rows
+pub same : Holds rows
 unfolding rows computing
 same = holds rows (tt, tt)

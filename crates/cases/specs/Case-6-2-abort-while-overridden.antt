@@ -6,11 +6,9 @@
 -- 01 leads elsewhere: 7.8 wants no SpliceComplete without a splice-out, and "an error
 --   message for each aborted SessionID" without naming one. 01: Splice_Response 116. The
 --   ten seconds that session 100 was on air are therefore not reported.
-use mathlib.Core.Path.{_≡_}
 use mathlib.Core.List.{List, [], _∷_}
 use Prim.Native.String.{_++_}
-use Rattle.rules.specs.Card.{card}
-use Rattle.cases.specs.Scenario.{Row, row, input, output, holds}
+use Rattle.cases.specs.Scenario.{Row, row, Holds, holds}
 use Rattle.cases.specs.Computing.{computing}
 
 unfoldable pub rows : List Row
@@ -56,6 +54,6 @@ rows =
     ∷ row 44 "> tick 1060" "5400 00000424 00000000" ""
     ∷ []
 
-pub same : card (input rows) ≡ output rows
+pub same : Holds rows
 unfolding rows computing
 same = holds rows (tt, tt)

@@ -3,11 +3,9 @@
 -- Shows: the failures at 1020 s and 1040 s are written between start and end of Server 1.
 --
 -- 01 leads elsewhere: as in 6.2-figure-6-3-equal.txt.
-use mathlib.Core.Path.{_≡_}
 use mathlib.Core.List.{List, [], _∷_}
 use Prim.Native.String.{_++_}
-use Rattle.rules.specs.Card.{card}
-use Rattle.cases.specs.Scenario.{Row, row, input, output, holds}
+use Rattle.cases.specs.Scenario.{Row, row, Holds, holds}
 use Rattle.cases.specs.Computing.{computing}
 
 unfoldable pub rows : List Row
@@ -40,6 +38,6 @@ rows =
     ++ "5200 0009 000D 0064 FFFF 00000064 01 00000000 0036EE80")
     ∷ []
 
-pub same : card (input rows) ≡ output rows
+pub same : Holds rows
 unfolding rows computing
 same = holds rows (tt, tt)

@@ -7,11 +7,9 @@
 -- 01 leads elsewhere: J.280's flag 1 interrupts "the same or lower priority". 01 asks for
 --   a higher AccessType than that of the one on air; otherwise the start fails, flag 0
 --   with 109. (CR 4 brings the equal one back.)
-use mathlib.Core.Path.{_≡_}
 use mathlib.Core.List.{List, [], _∷_}
 use Prim.Native.String.{_++_}
-use Rattle.rules.specs.Card.{card}
-use Rattle.cases.specs.Scenario.{Row, row, input, output, holds}
+use Rattle.cases.specs.Scenario.{Row, row, Holds, holds}
 use Rattle.cases.specs.Computing.{computing}
 
 unfoldable pub rows : List Row
@@ -52,6 +50,6 @@ rows =
     ∷ row 46 "> tick 1060" "5400 00000424 00000000" ""
     ∷ []
 
-pub same : card (input rows) ≡ output rows
+pub same : Holds rows
 unfolding rows computing
 same = holds rows (tt, tt)

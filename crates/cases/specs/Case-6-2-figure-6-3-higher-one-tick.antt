@@ -4,11 +4,9 @@
 -- with the same numbers as one tick per instant (6.2-figure-6-3-higher.txt).
 --
 -- 01 leads elsewhere: as in 6.2-figure-6-3-higher.txt.
-use mathlib.Core.Path.{_≡_}
 use mathlib.Core.List.{List, [], _∷_}
 use Prim.Native.String.{_++_}
-use Rattle.rules.specs.Card.{card}
-use Rattle.cases.specs.Scenario.{Row, row, input, output, holds}
+use Rattle.cases.specs.Scenario.{Row, row, Holds, holds}
 use Rattle.cases.specs.Computing.{computing}
 
 unfoldable pub rows : List Row
@@ -46,6 +44,6 @@ rows =
     "5201 0006 0010 0064 FFFF 00000001 FFFFFFFF 00000424 00000000"
     ∷ []
 
-pub same : card (input rows) ≡ output rows
+pub same : Holds rows
 unfolding rows computing
 same = holds rows (tt, tt)

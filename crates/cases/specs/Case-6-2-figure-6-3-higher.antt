@@ -12,11 +12,9 @@
 --   on air again; it has one start and one end, so that the as-run log counts once.
 -- 01 leads elsewhere: at t5 J.280 names no message. In 01 Server 1 gets its one end
 --   there, flag 1 with 125 because it is covered at that moment.
-use mathlib.Core.Path.{_≡_}
 use mathlib.Core.List.{List, [], _∷_}
 use Prim.Native.String.{_++_}
-use Rattle.rules.specs.Card.{card}
-use Rattle.cases.specs.Scenario.{Row, row, input, output, holds}
+use Rattle.cases.specs.Scenario.{Row, row, Holds, holds}
 use Rattle.cases.specs.Computing.{computing}
 
 unfoldable pub rows : List Row
@@ -63,6 +61,6 @@ rows =
     "5200 0006 0010 0064 FFFF 00000001 FFFFFFFF 00000424 00000000"
     ∷ []
 
-pub same : card (input rows) ≡ output rows
+pub same : Holds rows
 unfolding rows computing
 same = holds rows (tt, tt)

@@ -5,11 +5,9 @@
 --
 -- 01 leads elsewhere: "(unless the OverridePlaying flag is set)" does not hold in 01's
 --   check d; with flag 1 the second request of the same AccessType gets 109 too.
-use mathlib.Core.Path.{_≡_}
 use mathlib.Core.List.{List, [], _∷_}
 use Prim.Native.String.{_++_}
-use Rattle.rules.specs.Card.{card}
-use Rattle.cases.specs.Scenario.{Row, row, input, output, holds}
+use Rattle.cases.specs.Scenario.{Row, row, Holds, holds}
 use Rattle.cases.specs.Computing.{computing}
 
 unfoldable pub rows : List Row
@@ -56,6 +54,6 @@ rows =
     ++ "5200 0009 000D 0064 FFFF 0000000B 01 00000000 000DBBA0")
     ∷ []
 
-pub same : card (input rows) ≡ output rows
+pub same : Holds rows
 unfolding rows computing
 same = holds rows (tt, tt)

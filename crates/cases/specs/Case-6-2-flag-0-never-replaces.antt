@@ -3,11 +3,9 @@
 -- replaced, "even if the new request is of a higher priority".
 -- Shows: a 9 with flag 0 fails against a 3 on air, and its waiting follower ends with it;
 -- at the instant the 3 ends, even a 0 with flag 0 goes on air, because ends come first.
-use mathlib.Core.Path.{_≡_}
 use mathlib.Core.List.{List, [], _∷_}
 use Prim.Native.String.{_++_}
-use Rattle.rules.specs.Card.{card}
-use Rattle.cases.specs.Scenario.{Row, row, input, output, holds}
+use Rattle.cases.specs.Scenario.{Row, row, Holds, holds}
 use Rattle.cases.specs.Computing.{computing}
 
 unfoldable pub rows : List Row
@@ -62,6 +60,6 @@ rows =
     ++ "5201 0009 000D 0064 FFFF 00000006 01 00000000 000DBBA0")
     ∷ []
 
-pub same : card (input rows) ≡ output rows
+pub same : Holds rows
 unfolding rows computing
 same = holds rows (tt, tt)

@@ -4,11 +4,9 @@
 -- the later and lower ones are told at once, and nothing is evicted.
 --
 -- 01 leads elsewhere: the second 7 gets 109 with flag 1 as well (see 6.2-priorities.txt).
-use mathlib.Core.Path.{_≡_}
 use mathlib.Core.List.{List, [], _∷_}
 use Prim.Native.String.{_++_}
-use Rattle.rules.specs.Card.{card}
-use Rattle.cases.specs.Scenario.{Row, row, input, output, holds}
+use Rattle.cases.specs.Scenario.{Row, row, Holds, holds}
 use Rattle.cases.specs.Computing.{computing}
 
 unfoldable pub rows : List Row
@@ -54,6 +52,6 @@ rows =
     ∷ row 41 "> tick 1040" "5400 00000410 00000000" "5202 0009 000D 0064 FFFF 00000003 01 00000000 002932E0"
     ∷ []
 
-pub same : card (input rows) ≡ output rows
+pub same : Holds rows
 unfolding rows computing
 same = holds rows (tt, tt)

@@ -8,11 +8,9 @@
 --   shows at the later start, as SpliceComplete flag 0 with 109.
 -- 01 leads elsewhere: server 2 cannot link to server 1's session; J.280 7.5 would answer
 --   123, 01's check b answers 121.
-use mathlib.Core.Path.{_≡_}
 use mathlib.Core.List.{List, [], _∷_}
 use Prim.Native.String.{_++_}
-use Rattle.rules.specs.Card.{card}
-use Rattle.cases.specs.Scenario.{Row, row, input, output, holds}
+use Rattle.cases.specs.Scenario.{Row, row, Holds, holds}
 use Rattle.cases.specs.Computing.{computing}
 
 unfoldable pub rows : List Row
@@ -70,6 +68,6 @@ rows =
     ++ "5201 0009 000D 0064 FFFF 00000002 01 00000000 002932E0")
     ∷ []
 
-pub same : card (input rows) ≡ output rows
+pub same : Holds rows
 unfolding rows computing
 same = holds rows (tt, tt)

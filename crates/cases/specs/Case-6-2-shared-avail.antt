@@ -3,11 +3,9 @@
 -- Shows: server 1 uses 1010 s to 1040 s, server 2 uses 1040 s to 1070 s; at the join the
 -- end is written before the start, so no flag and no priority is needed. Both servers
 -- happen to use SessionID 1: a number belongs to its connection.
-use mathlib.Core.Path.{_≡_}
 use mathlib.Core.List.{List, [], _∷_}
 use Prim.Native.String.{_++_}
-use Rattle.rules.specs.Card.{card}
-use Rattle.cases.specs.Scenario.{Row, row, input, output, holds}
+use Rattle.cases.specs.Scenario.{Row, row, Holds, holds}
 use Rattle.cases.specs.Computing.{computing}
 
 unfoldable pub rows : List Row
@@ -41,6 +39,6 @@ rows =
     "5200 0006 0010 0064 FFFF 00000001 FFFFFFFF 0000042E 00000000"
     ∷ []
 
-pub same : card (input rows) ≡ output rows
+pub same : Holds rows
 unfolding rows computing
 same = holds rows (tt, tt)

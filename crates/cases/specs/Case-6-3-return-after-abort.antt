@@ -4,11 +4,9 @@
 -- that one's PlayedDuration counts only its own two stretches on air.
 --
 -- 01 leads elsewhere: being on air again writes nothing (J.280 6.2 t3: splice-in, 125).
-use mathlib.Core.Path.{_≡_}
 use mathlib.Core.List.{List, [], _∷_}
 use Prim.Native.String.{_++_}
-use Rattle.rules.specs.Card.{card}
-use Rattle.cases.specs.Scenario.{Row, row, input, output, holds}
+use Rattle.cases.specs.Scenario.{Row, row, Holds, holds}
 use Rattle.cases.specs.Computing.{computing}
 
 unfoldable pub rows : List Row
@@ -47,6 +45,6 @@ rows =
     "5201 0006 0010 0064 FFFF 00000001 FFFFFFFF 0000042E 00000000"
     ∷ []
 
-pub same : card (input rows) ≡ output rows
+pub same : Holds rows
 unfolding rows computing
 same = holds rows (tt, tt)

@@ -5,11 +5,9 @@
 --
 -- 01 leads elsewhere: J.280 doesn't say what a closed connection does to its sessions. 01
 --   ends them, because nobody is left to abort them (DEMANDS, "Overruled").
-use mathlib.Core.Path.{_≡_}
 use mathlib.Core.List.{List, [], _∷_}
 use Prim.Native.String.{_++_}
-use Rattle.rules.specs.Card.{card}
-use Rattle.cases.specs.Scenario.{Row, row, input, output, holds}
+use Rattle.cases.specs.Scenario.{Row, row, Holds, holds}
 use Rattle.cases.specs.Computing.{computing}
 
 unfoldable pub rows : List Row
@@ -50,6 +48,6 @@ rows =
     ∷ row 36 "> tick 1070" "5400 0000042E 00000000" "5200 0009 000D 0064 FFFF 00000001 01 00000000 004B87F0"
     ∷ []
 
-pub same : card (input rows) ≡ output rows
+pub same : Holds rows
 unfolding rows computing
 same = holds rows (tt, tt)

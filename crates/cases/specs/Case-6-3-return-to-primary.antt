@@ -6,11 +6,9 @@
 --
 -- 01 leads elsewhere: the covered session's end is Splice_Response 116 at a close, and
 --   SpliceComplete flag 1 with 125 when its own time is over; J.280 names neither.
-use mathlib.Core.Path.{_≡_}
 use mathlib.Core.List.{List, [], _∷_}
 use Prim.Native.String.{_++_}
-use Rattle.rules.specs.Card.{card}
-use Rattle.cases.specs.Scenario.{Row, row, input, output, holds}
+use Rattle.cases.specs.Scenario.{Row, row, Holds, holds}
 use Rattle.cases.specs.Computing.{computing}
 
 unfoldable pub rows : List Row
@@ -86,6 +84,6 @@ rows =
     "5201 0006 0010 0064 FFFF 00000001 FFFFFFFF 000004D8 00000000"
     ∷ []
 
-pub same : card (input rows) ≡ output rows
+pub same : Holds rows
 unfolding rows computing
 same = holds rows (tt, tt)

@@ -3,11 +3,9 @@
 -- Shows: at one instant the ends go from the highest AccessType down; the highest covered
 -- session that doesn't end at that instant is on air again; and a start at the same
 -- instant is judged against that one. Then: the middle one aborted while covered.
-use mathlib.Core.Path.{_≡_}
 use mathlib.Core.List.{List, [], _∷_}
 use Prim.Native.String.{_++_}
-use Rattle.rules.specs.Card.{card}
-use Rattle.cases.specs.Scenario.{Row, row, input, output, holds}
+use Rattle.cases.specs.Scenario.{Row, row, Holds, holds}
 use Rattle.cases.specs.Computing.{computing}
 
 unfoldable pub rows : List Row
@@ -89,6 +87,6 @@ rows =
     ∷ row 73 "> tick 1170" "5400 00000492 00000000" "5200 0009 000D 0064 FFFF 0000000B 01 00000000 0036EE80"
     ∷ []
 
-pub same : card (input rows) ≡ output rows
+pub same : Holds rows
 unfolding rows computing
 same = holds rows (tt, tt)

@@ -4,11 +4,9 @@
 --
 -- 01 leads elsewhere: J.280's 103 is an Init_Response or Splice_Response; 01 sends it as
 --   General_Response to everything but an Init_Request on a connection not initialised.
-use mathlib.Core.Path.{_≡_}
 use mathlib.Core.List.{List, [], _∷_}
 use Prim.Native.String.{_++_}
-use Rattle.rules.specs.Card.{card}
-use Rattle.cases.specs.Scenario.{Row, row, input, output, holds}
+use Rattle.cases.specs.Scenario.{Row, row, Holds, holds}
 use Rattle.cases.specs.Computing.{computing}
 
 unfoldable pub rows : List Row
@@ -54,6 +52,6 @@ rows =
     ∷ row 52 "> close 0" "4300" ""
     ∷ []
 
-pub same : card (input rows) ≡ output rows
+pub same : Holds rows
 unfolding rows computing
 same = holds rows (tt, tt)

@@ -10,11 +10,9 @@
 -- 01 leads elsewhere: SpliceComplete with flag 0 holds Bitrate 0 and PlayedDuration 0
 --   (Table 7-8: time()); 13 bytes either way.
 -- 01 leads elsewhere: Result_Extension is FFFF in every answer, with 123 too.
-use mathlib.Core.Path.{_≡_}
 use mathlib.Core.List.{List, [], _∷_}
 use Prim.Native.String.{_++_}
-use Rattle.rules.specs.Card.{card}
-use Rattle.cases.specs.Scenario.{Row, row, input, output, holds}
+use Rattle.cases.specs.Scenario.{Row, row, Holds, holds}
 use Rattle.cases.specs.Computing.{computing}
 
 unfoldable pub rows : List Row
@@ -76,6 +74,6 @@ rows =
     ∷ row 78 "> raw 43 00" "4300" ""
     ∷ []
 
-pub same : card (input rows) ≡ output rows
+pub same : Holds rows
 unfolding rows computing
 same = holds rows (tt, tt)

@@ -7,11 +7,9 @@
 -- 01 leads elsewhere: 123 comes as General_Response with Result_Extension 0xFFFF; App. I
 --   puts the field's position there.
 -- 01 leads elsewhere: SplicerName isn't compared (J.280 has 118 for an unknown one).
-use mathlib.Core.Path.{_≡_}
 use mathlib.Core.List.{List, [], _∷_}
 use Prim.Native.String.{_++_}
-use Rattle.rules.specs.Card.{card}
-use Rattle.cases.specs.Scenario.{Row, row, input, output, holds}
+use Rattle.cases.specs.Scenario.{Row, row, Holds, holds}
 use Rattle.cases.specs.Computing.{computing}
 
 unfoldable pub rows : List Row
@@ -96,6 +94,6 @@ rows =
     "5200 0006 0010 0064 FFFF 00000001 FFFFFFFF 000003E8 00000000"
     ∷ []
 
-pub same : card (input rows) ≡ output rows
+pub same : Holds rows
 unfolding rows computing
 same = holds rows (tt, tt)

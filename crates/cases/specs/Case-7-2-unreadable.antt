@@ -6,11 +6,9 @@
 -- 01 leads elsewhere: Result_Extension is 0xFFFF (App. I: position of the bad field), and
 --   129 or 130 (size, syntax) are never given: all is 123.
 -- 01 leads elsewhere: Duration 0 (J.280 7.5.1: until the next request) isn't readable.
-use mathlib.Core.Path.{_≡_}
 use mathlib.Core.List.{List, [], _∷_}
 use Prim.Native.String.{_++_}
-use Rattle.rules.specs.Card.{card}
-use Rattle.cases.specs.Scenario.{Row, row, input, output, holds}
+use Rattle.cases.specs.Scenario.{Row, row, Holds, holds}
 use Rattle.cases.specs.Computing.{computing}
 
 unfoldable pub rows : List Row
@@ -121,6 +119,6 @@ rows =
     ∷ row 111 "> tick 1030" "5400 00000406 00000000" "5200 0009 000D 0064 FFFF 00000003 01 00000000 000DBB9F"
     ∷ []
 
-pub same : card (input rows) ≡ output rows
+pub same : Holds rows
 unfolding rows computing
 same = holds rows (tt, tt)

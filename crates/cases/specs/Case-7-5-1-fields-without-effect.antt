@@ -8,11 +8,9 @@
 -- 01 leads elsewhere: Duration 0 (until the next request) is 123.
 -- 01 leads elsewhere: separate PIDs (ServiceID 0xFFFF) are refused for now, 110, in the
 --   Splice_Response and not in a SpliceComplete (CR 1 reads them).
-use mathlib.Core.Path.{_≡_}
 use mathlib.Core.List.{List, [], _∷_}
 use Prim.Native.String.{_++_}
-use Rattle.rules.specs.Card.{card}
-use Rattle.cases.specs.Scenario.{Row, row, input, output, holds}
+use Rattle.cases.specs.Scenario.{Row, row, Holds, holds}
 use Rattle.cases.specs.Computing.{computing}
 
 unfoldable pub rows : List Row
@@ -90,6 +88,6 @@ rows =
     ++ "5200 0009 000D 0064 FFFF 00000006 01 00000000 00015F90")
     ∷ []
 
-pub same : card (input rows) ≡ output rows
+pub same : Holds rows
 unfolding rows computing
 same = holds rows (tt, tt)

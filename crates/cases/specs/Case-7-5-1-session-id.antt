@@ -5,11 +5,9 @@
 --
 -- 01 leads elsewhere: J.280's rule about reuse after an ExtendedData_Response has no
 --   counterpart, since 0x0003 isn't read (until CR 8).
-use mathlib.Core.Path.{_≡_}
 use mathlib.Core.List.{List, [], _∷_}
 use Prim.Native.String.{_++_}
-use Rattle.rules.specs.Card.{card}
-use Rattle.cases.specs.Scenario.{Row, row, input, output, holds}
+use Rattle.cases.specs.Scenario.{Row, row, Holds, holds}
 use Rattle.cases.specs.Computing.{computing}
 
 unfoldable pub rows : List Row
@@ -104,6 +102,6 @@ rows =
     ++ "5200 0009 000D 0064 FFFF FFFFFFFE 01 00000000 000DBBA0")
     ∷ []
 
-pub same : card (input rows) ≡ output rows
+pub same : Holds rows
 unfolding rows computing
 same = holds rows (tt, tt)

@@ -7,11 +7,9 @@
 --
 -- 01 leads elsewhere: a piece that is covered when its time is over isn't played in its
 --   entirety; its splice-out has 125 and the time it was on air.
-use mathlib.Core.Path.{_≡_}
 use mathlib.Core.List.{List, [], _∷_}
 use Prim.Native.String.{_++_}
-use Rattle.rules.specs.Card.{card}
-use Rattle.cases.specs.Scenario.{Row, row, input, output, holds}
+use Rattle.cases.specs.Scenario.{Row, row, Holds, holds}
 use Rattle.cases.specs.Computing.{computing}
 
 unfoldable pub rows : List Row
@@ -77,6 +75,6 @@ rows =
     ∷ row 62 "> tick 1150" "5400 0000047E 00000000" "5201 0009 000D 0064 FFFF 0000003C 01 00000000 002932E0"
     ∷ []
 
-pub same : card (input rows) ≡ output rows
+pub same : Holds rows
 unfolding rows computing
 same = holds rows (tt, tt)

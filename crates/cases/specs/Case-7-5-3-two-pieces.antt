@@ -4,11 +4,9 @@
 -- start of the second. Once with a tick per instant, once with one tick for all.
 --
 -- 01 leads elsewhere: flag 0 carries Bitrate 0 and PlayedDuration 0, not time().
-use mathlib.Core.Path.{_≡_}
 use mathlib.Core.List.{List, [], _∷_}
 use Prim.Native.String.{_++_}
-use Rattle.rules.specs.Card.{card}
-use Rattle.cases.specs.Scenario.{Row, row, input, output, holds}
+use Rattle.cases.specs.Scenario.{Row, row, Holds, holds}
 use Rattle.cases.specs.Computing.{computing}
 
 unfoldable pub rows : List Row
@@ -45,6 +43,6 @@ rows =
     ++ "5200 0009 000D 0064 FFFF 00000002 01 00000000 00149970")
     ∷ []
 
-pub same : card (input rows) ≡ output rows
+pub same : Holds rows
 unfolding rows computing
 same = holds rows (tt, tt)

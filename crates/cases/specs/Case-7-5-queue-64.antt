@@ -5,11 +5,9 @@
 -- refused exactly when the sum is 64. (DEMANDS, 3)
 --
 -- 01 leads elsewhere: J.280 knows no common bound; its "minimum of 10" is 01's reserved 10.
-use mathlib.Core.Path.{_≡_}
 use mathlib.Core.List.{List, [], _∷_}
 use Prim.Native.String.{_++_}
-use Rattle.rules.specs.Card.{card}
-use Rattle.cases.specs.Scenario.{Row, row, input, output, holds}
+use Rattle.cases.specs.Scenario.{Row, row, Holds, holds}
 use Rattle.cases.specs.Computing.{computing}
 
 unfoldable pub rows : List Row
@@ -279,6 +277,6 @@ rows =
     "5200 0008 0004 0072 FFFF 00000015"
     ∷ []
 
-pub same : card (input rows) ≡ output rows
+pub same : Holds rows
 unfolding rows computing
 same = holds rows (tt, tt)

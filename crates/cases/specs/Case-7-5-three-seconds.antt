@@ -4,11 +4,9 @@
 -- clock with its microseconds; a linked start has no such rule.
 --
 -- 01 leads elsewhere: J.280 leaves the outcome of a late request open; 01 refuses it (112).
-use mathlib.Core.Path.{_≡_}
 use mathlib.Core.List.{List, [], _∷_}
 use Prim.Native.String.{_++_}
-use Rattle.rules.specs.Card.{card}
-use Rattle.cases.specs.Scenario.{Row, row, input, output, holds}
+use Rattle.cases.specs.Scenario.{Row, row, Holds, holds}
 use Rattle.cases.specs.Computing.{computing}
 
 unfoldable pub rows : List Row
@@ -67,6 +65,6 @@ rows =
     ∷ row 53 "> tick 1006" "5400 000003EE 00000000" "5200 0009 000D 0064 FFFF 00000002 01 00000000 00015F90"
     ∷ []
 
-pub same : card (input rows) ≡ output rows
+pub same : Holds rows
 unfolding rows computing
 same = holds rows (tt, tt)

@@ -5,11 +5,9 @@
 --
 -- 01 leads elsewhere: State 0 (no output) is never given, for pictures and sound stay with
 --   the card.
-use mathlib.Core.Path.{_≡_}
 use mathlib.Core.List.{List, [], _∷_}
 use Prim.Native.String.{_++_}
-use Rattle.rules.specs.Card.{card}
-use Rattle.cases.specs.Scenario.{Row, row, input, output, holds}
+use Rattle.cases.specs.Scenario.{Row, row, Holds, holds}
 use Rattle.cases.specs.Computing.{computing}
 
 unfoldable pub rows : List Row
@@ -80,6 +78,6 @@ rows =
     "5200 0006 0010 0064 FFFF 00000001 FFFFFFFF FFFFFFFF 000F423F"
     ∷ []
 
-pub same : card (input rows) ≡ output rows
+pub same : Holds rows
 unfolding rows computing
 same = holds rows (tt, tt)

@@ -2,11 +2,9 @@
 -- J.280 clause 7.8: the first of three linked insertions aborted before it started; "If no
 -- splice-out was needed then no SpliceComplete_Response message shall be reported."
 -- Shows: three Splice_Response 116 in order of start, though requested with other numbers.
-use mathlib.Core.Path.{_≡_}
 use mathlib.Core.List.{List, [], _∷_}
 use Prim.Native.String.{_++_}
-use Rattle.rules.specs.Card.{card}
-use Rattle.cases.specs.Scenario.{Row, row, input, output, holds}
+use Rattle.cases.specs.Scenario.{Row, row, Holds, holds}
 use Rattle.cases.specs.Computing.{computing}
 
 unfoldable pub rows : List Row
@@ -47,6 +45,6 @@ rows =
     ++ "5200 0009 000D 0064 FFFF 00000028 01 00000000 000DBBA0")
     ∷ []
 
-pub same : card (input rows) ≡ output rows
+pub same : Holds rows
 unfolding rows computing
 same = holds rows (tt, tt)

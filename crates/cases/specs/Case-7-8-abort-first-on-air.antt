@@ -6,11 +6,9 @@
 -- 01 leads elsewhere: the error message is Splice_Response 116 (J.280 doesn't name one).
 -- 01 leads elsewhere: "the next splice requires the PriorSession to be 0xFFFFFFFF" follows
 --   in 01 from nothing being held: a PriorSession would be 121.
-use mathlib.Core.Path.{_≡_}
 use mathlib.Core.List.{List, [], _∷_}
 use Prim.Native.String.{_++_}
-use Rattle.rules.specs.Card.{card}
-use Rattle.cases.specs.Scenario.{Row, row, input, output, holds}
+use Rattle.cases.specs.Scenario.{Row, row, Holds, holds}
 use Rattle.cases.specs.Computing.{computing}
 
 unfoldable pub rows : List Row
@@ -58,6 +56,6 @@ rows =
     ++ "5200 0009 000D 0064 FFFF 00000004 01 00000000 000DBBA0")
     ∷ []
 
-pub same : card (input rows) ≡ output rows
+pub same : Holds rows
 unfolding rows computing
 same = holds rows (tt, tt)

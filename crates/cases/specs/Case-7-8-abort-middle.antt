@@ -3,11 +3,9 @@
 -- Shows: an abort reaches what follows, never what went before.
 --
 -- 01 leads elsewhere: the error messages are Splice_Response 116.
-use mathlib.Core.Path.{_≡_}
 use mathlib.Core.List.{List, [], _∷_}
 use Prim.Native.String.{_++_}
-use Rattle.rules.specs.Card.{card}
-use Rattle.cases.specs.Scenario.{Row, row, input, output, holds}
+use Rattle.cases.specs.Scenario.{Row, row, Holds, holds}
 use Rattle.cases.specs.Computing.{computing}
 
 unfoldable pub rows : List Row
@@ -80,6 +78,6 @@ rows =
     ++ "5200 0009 000D 0064 FFFF 00000002 01 00000000 000DBBA0")
     ∷ []
 
-pub same : card (input rows) ≡ output rows
+pub same : Holds rows
 unfolding rows computing
 same = holds rows (tt, tt)

@@ -3,11 +3,9 @@
 -- API connection".
 -- Shows: with the same SessionIDs and the same links on two connections, an abort touches
 -- only its own; and nobody can abort another connection's session (121).
-use mathlib.Core.Path.{_≡_}
 use mathlib.Core.List.{List, [], _∷_}
 use Prim.Native.String.{_++_}
-use Rattle.rules.specs.Card.{card}
-use Rattle.cases.specs.Scenario.{Row, row, input, output, holds}
+use Rattle.cases.specs.Scenario.{Row, row, Holds, holds}
 use Rattle.cases.specs.Computing.{computing}
 
 unfoldable pub rows : List Row
@@ -55,6 +53,6 @@ rows =
     ++ "5201 0009 000D 0064 FFFF 00000003 01 00000000 000DBBA0")
     ∷ []
 
-pub same : card (input rows) ≡ output rows
+pub same : Holds rows
 unfolding rows computing
 same = holds rows (tt, tt)

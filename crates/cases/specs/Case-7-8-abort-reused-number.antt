@@ -3,11 +3,9 @@
 -- Shows: the link of a started session counts no more. Its prior's number may have a new
 -- holder, and an abort of that one must not reach the started session or what follows it.
 -- (01: "a started session's PriorSession no longer counts".)
-use mathlib.Core.Path.{_≡_}
 use mathlib.Core.List.{List, [], _∷_}
 use Prim.Native.String.{_++_}
-use Rattle.rules.specs.Card.{card}
-use Rattle.cases.specs.Scenario.{Row, row, input, output, holds}
+use Rattle.cases.specs.Scenario.{Row, row, Holds, holds}
 use Rattle.cases.specs.Computing.{computing}
 
 unfoldable pub rows : List Row
@@ -79,6 +77,6 @@ rows =
     ∷ row 65 "> tick 1290" "5400 0000050A 00000000" "5200 0009 000D 0064 FFFF 00000002 01 00000000 005265C0"
     ∷ []
 
-pub same : card (input rows) ≡ output rows
+pub same : Holds rows
 unfolding rows computing
 same = holds rows (tt, tt)

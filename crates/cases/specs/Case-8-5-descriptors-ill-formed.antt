@@ -4,11 +4,9 @@
 -- left over. Nothing of the request is kept: the same SessionID is good afterwards.
 --
 -- 01 leads elsewhere: 123 is a General_Response with Result_Extension 0xFFFF.
-use mathlib.Core.Path.{_≡_}
 use mathlib.Core.List.{List, [], _∷_}
 use Prim.Native.String.{_++_}
-use Rattle.rules.specs.Card.{card}
-use Rattle.cases.specs.Scenario.{Row, row, input, output, holds}
+use Rattle.cases.specs.Scenario.{Row, row, Holds, holds}
 use Rattle.cases.specs.Computing.{computing}
 
 unfoldable pub rows : List Row
@@ -102,6 +100,6 @@ rows =
     "5200 0000 0000 007B FFFF"
     ∷ []
 
-pub same : card (input rows) ≡ output rows
+pub same : Holds rows
 unfolding rows computing
 same = holds rows (tt, tt)

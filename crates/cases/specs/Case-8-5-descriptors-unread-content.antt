@@ -4,11 +4,9 @@
 --
 -- 01 leads elsewhere: "Their content … has no effect here." J.280 would have 123, 124 or
 --   130. (CR 5 will read muxpriority_descriptor: its lines here become 123 then.)
-use mathlib.Core.Path.{_≡_}
 use mathlib.Core.List.{List, [], _∷_}
 use Prim.Native.String.{_++_}
-use Rattle.rules.specs.Card.{card}
-use Rattle.cases.specs.Scenario.{Row, row, input, output, holds}
+use Rattle.cases.specs.Scenario.{Row, row, Holds, holds}
 use Rattle.cases.specs.Computing.{computing}
 
 unfoldable pub rows : List Row
@@ -53,6 +51,6 @@ rows =
     "5200 0008 0004 0064 FFFF 00000008"
     ∷ []
 
-pub same : card (input rows) ≡ output rows
+pub same : Holds rows
 unfolding rows computing
 same = holds rows (tt, tt)

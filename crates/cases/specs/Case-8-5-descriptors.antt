@@ -7,11 +7,9 @@
 -- 01 leads elsewhere: 124 (Descriptor Not Implemented) is never given.
 -- 01 leads elsewhere: descriptors meant for Init_Request or Cue_Request are taken in a
 --   Splice_Request like any other.
-use mathlib.Core.Path.{_≡_}
 use mathlib.Core.List.{List, [], _∷_}
 use Prim.Native.String.{_++_}
-use Rattle.rules.specs.Card.{card}
-use Rattle.cases.specs.Scenario.{Row, row, input, output, holds}
+use Rattle.cases.specs.Scenario.{Row, row, Holds, holds}
 use Rattle.cases.specs.Computing.{computing}
 
 unfoldable pub rows : List Row
@@ -112,6 +110,6 @@ rows =
     ++ "5200 0009 000D 0064 FFFF 00000003 00 00000000 00000000")
     ∷ []
 
-pub same : card (input rows) ≡ output rows
+pub same : Holds rows
 unfolding rows computing
 same = holds rows (tt, tt)

@@ -6,11 +6,9 @@
 --
 -- 01 leads elsewhere: 103 and 120 come as General_Response, 110 and 116 (of a covered or
 --   waiting session) as Splice_Response; 125 is only the end of a covered session.
-use mathlib.Core.Path.{_≡_}
 use mathlib.Core.List.{List, [], _∷_}
 use Prim.Native.String.{_++_}
-use Rattle.rules.specs.Card.{card}
-use Rattle.cases.specs.Scenario.{Row, row, input, output, holds}
+use Rattle.cases.specs.Scenario.{Row, row, Holds, holds}
 use Rattle.cases.specs.Computing.{computing}
 
 unfoldable pub rows : List Row
@@ -90,6 +88,6 @@ rows =
     ∷ row 81 "> tick 1060" "5400 00000424 00000000" "5201 0009 000D 0064 FFFF 00000005 01 00000000 001B7740"
     ∷ []
 
-pub same : card (input rows) ≡ output rows
+pub same : Holds rows
 unfolding rows computing
 same = holds rows (tt, tt)

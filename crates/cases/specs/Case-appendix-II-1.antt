@@ -5,11 +5,9 @@
 --
 -- 01 leads elsewhere: Hardware_Config isn't read and port_selection has no effect, so the
 --   ports stand here in comments only.
-use mathlib.Core.Path.{_≡_}
 use mathlib.Core.List.{List, [], _∷_}
 use Prim.Native.String.{_++_}
-use Rattle.rules.specs.Card.{card}
-use Rattle.cases.specs.Scenario.{Row, row, input, output, holds}
+use Rattle.cases.specs.Scenario.{Row, row, Holds, holds}
 use Rattle.cases.specs.Computing.{computing}
 
 unfoldable pub rows : List Row
@@ -77,6 +75,6 @@ rows =
     ∷ row 67 "> tick 1210" "5400 000004BA 00000000" "5200 0009 000D 0064 FFFF 00000001 01 00000000 000DBBA0"
     ∷ []
 
-pub same : card (input rows) ≡ output rows
+pub same : Holds rows
 unfolding rows computing
 same = holds rows (tt, tt)

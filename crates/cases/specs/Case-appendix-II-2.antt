@@ -5,11 +5,9 @@
 --
 -- 01 leads elsewhere: Hardware_Config isn't read and port_selection has no effect.
 -- (The appendix ends with port 2000 although its base port is 3000: a slip of the text.)
-use mathlib.Core.Path.{_≡_}
 use mathlib.Core.List.{List, [], _∷_}
 use Prim.Native.String.{_++_}
-use Rattle.rules.specs.Card.{card}
-use Rattle.cases.specs.Scenario.{Row, row, input, output, holds}
+use Rattle.cases.specs.Scenario.{Row, row, Holds, holds}
 use Rattle.cases.specs.Computing.{computing}
 
 unfoldable pub rows : List Row
@@ -48,6 +46,6 @@ rows =
     ++ "5200 0009 000D 0064 FFFF 00000001 01 00000000 002932E0")
     ∷ []
 
-pub same : card (input rows) ≡ output rows
+pub same : Holds rows
 unfolding rows computing
 same = holds rows (tt, tt)

@@ -3,11 +3,9 @@
 -- times over, and its new session is on air at the old one's end time.
 -- Shows: an end belongs to the session its connection last accepted under that number; no
 -- session ends twice, and none ends in another's name.
-use mathlib.Core.Path.{_≡_}
 use mathlib.Core.List.{List, [], _∷_}
 use Prim.Native.String.{_++_}
-use Rattle.rules.specs.Card.{card}
-use Rattle.cases.specs.Scenario.{Row, row, input, output, holds}
+use Rattle.cases.specs.Scenario.{Row, row, Holds, holds}
 use Rattle.cases.specs.Computing.{computing}
 
 unfoldable pub rows : List Row
@@ -71,6 +69,6 @@ rows =
     "5201 0006 0010 0064 FFFF 00000001 FFFFFFFF 0000046E 00000000"
     ∷ []
 
-pub same : card (input rows) ≡ output rows
+pub same : Holds rows
 unfolding rows computing
 same = holds rows (tt, tt)

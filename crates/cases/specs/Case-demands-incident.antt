@@ -8,11 +8,9 @@
 --
 -- 01 leads elsewhere: J.280 is silent about sessions of a closed connection. 01 ends them
 --   with 116 and writes the record; the driver logs it, for nobody is there to get it.
-use mathlib.Core.Path.{_≡_}
 use mathlib.Core.List.{List, [], _∷_}
 use Prim.Native.String.{_++_}
-use Rattle.rules.specs.Card.{card}
-use Rattle.cases.specs.Scenario.{Row, row, input, output, holds}
+use Rattle.cases.specs.Scenario.{Row, row, Holds, holds}
 use Rattle.cases.specs.Computing.{computing}
 
 unfoldable pub rows : List Row
@@ -70,6 +68,6 @@ rows =
     ∷ row 68 "> tick 1200" "5400 000004B0 00000000" ""
     ∷ []
 
-pub same : card (input rows) ≡ output rows
+pub same : Holds rows
 unfolding rows computing
 same = holds rows (tt, tt)

@@ -16,11 +16,9 @@
 --
 -- 01 leads elsewhere: a spot gets no record when another covers it nor when it is on air
 --   again (J.280 6.2 sends 125 each time); a dropped connection ends its sessions.
-use mathlib.Core.Path.{_≡_}
 use mathlib.Core.List.{List, [], _∷_}
 use Prim.Native.String.{_++_}
-use Rattle.rules.specs.Card.{card}
-use Rattle.cases.specs.Scenario.{Row, row, input, output, holds}
+use Rattle.cases.specs.Scenario.{Row, row, Holds, holds}
 use Rattle.cases.specs.Computing.{computing}
 
 unfoldable pub rows : List Row
@@ -255,6 +253,6 @@ rows =
     ∷ row 252 "> close 1" "4301" ""
     ∷ []
 
-pub same : card (input rows) ≡ output rows
+pub same : Holds rows
 unfolding rows computing
 same = holds rows (tt, tt)

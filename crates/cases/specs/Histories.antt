@@ -99,8 +99,9 @@ evicting = two ++ (timed 1 1 1003 0 5 0 900000 ∷ [])
 failing : List Call
 failing = timed 0 4 1003 0 4 0 2700000 ∷ timed 0 5 1006 0 4 1 900000 ∷ linked 0 6 5 900000 ∷ to 1006 0 ∷ []
 
+-- 2 follows its own connection's 1
 aborting : List Call
-aborting = two ++ (timed 1 1 1100 0 1 0 900000 ∷ aborts 0 1 ∷ [])
+aborting = timed 0 1 1003 0 1 0 900000 ∷ timed 1 1 1100 0 1 0 900000 ∷ linked 0 2 1 900000 ∷ aborts 0 1 ∷ []
 
 -- 7 is on air and 8 waits when their connection closes; connection 1 has a 7 too
 closing : List Call
@@ -153,7 +154,7 @@ rows =
     ∷ row again (four 1 0 0 0) (line 0 2 (s 1011) 0 0 ∷ line 0 1 (s 1004) 1 0 ∷ []) (s 1004)
     ∷ row evicting (four 0 1 0 0) (line 1 1 (s 1013) 0 0 ∷ line 0 2 (s 1023) 1 0 ∷ line 0 1 (s 1013) 1 0 ∷ []) (s 1000)
     ∷ row failing (four 0 0 0 0) (line 0 6 (s 1026) 1 0 ∷ line 0 5 (s 1016) 1 0 ∷ line 0 4 (s 1033) 0 0 ∷ []) (s 1006)
-    ∷ row aborting (four 0 1 0 0) (line 1 1 (s 1110) 0 0 ∷ line 0 2 (s 1023) 1 0 ∷ line 0 1 (s 1013) 1 0 ∷ []) (s 1000)
+    ∷ row aborting (four 0 1 0 0) (line 0 2 (s 1023) 1 0 ∷ line 1 1 (s 1110) 0 0 ∷ line 0 1 (s 1013) 1 0 ∷ []) (s 1000)
     ∷ row closing (four 0 1 0 0) (line 1 7 (s 1070) 0 0 ∷ line 0 8 (s 1060) 1 1 ∷ line 0 7 (s 1033) 1 1 ∷ []) (s 1010)
     -- "It counts for the session that its connection last accepted under that SessionID"
     ∷ row reopening (four 1 1 0 0) (line 0 7 (s 1030) 0 0 ∷ line 1 7 (s 1070) 0 0 ∷ line 0 8 (s 1060) 1 1 ∷ line 0 7 (s 1033) 1 1 ∷ []) (s 1010)

@@ -36,12 +36,6 @@ lastWrites ks = length (recordsIn (Calls.writtenBy (plays (ready ++ ks) card .an
 events : List Call → List Event
 events ks = History.history (ready ++ ks) (card .splicer)
 
--- each connection's waiting sessions, from the answers
-counts : List Call → List ℕ
-counts ks =
-    let h = events ks in
-    History.waitingCount 0 h ∷ History.waitingCount 1 h ∷ History.waitingCount 2 h ∷ History.waitingCount 3 h ∷ []
-
 -- the ends of each session accepted, from the answers
 ended : List Call → List ℕ
 ended ks = map (λ (e : Entry). e .ends) (History.book (events ks) [])
@@ -67,11 +61,8 @@ three : List Call
 three = timed 0 1 1003 0 1 0 90000 ∷ linked 0 2 1 90000 ∷ linked 0 3 2 90000 ∷ aborts 0 1 ∷ []
 
 -- 64 waiting, worked through by one tick
-sixtyFour : List Call
-sixtyFour = queued 10 20 20 14
-
 through : List Call
-through = sixtyFour ++ (to 3000 0 ∷ [])
+through = queued 10 20 20 14 ++ (to 3000 0 ∷ [])
 
 -- the incident of the minutes: a connection closes with its spot on air, and the number comes again
 incident : List Call
@@ -119,8 +110,6 @@ stops c r x d = SpliceComplete c r x 1 d
 cases : List Case
 cases =
     says three (accepts 0 1 ∷ accepts 0 2 ∷ accepts 0 3 ∷ AbortResponse 0 100 1 ∷ SpliceResponse 0 116 1 ∷ SpliceResponse 0 116 2 ∷ SpliceResponse 0 116 3 ∷ [])
-    ∷ counting (counts sixtyFour) (10 ∷ 20 ∷ 20 ∷ 14 ∷ [])
-    ∷ counting (counts through) (0 ∷ 0 ∷ 0 ∷ 0 ∷ [])
     ∷ counting (lastWrites through) (128 ∷ [])
     ∷ counting (ended through) (replicate 64 1)
     ∷ says incident (accepts 0 7 ∷ begins 0 7 ∷ stops 0 116 7 630000 ∷ InitResponse 0 100 Card.cardName ∷ accepts 0 7 ∷ begins 0 7 ∷ stops 0 100 7 900000 ∷ [])
@@ -136,5 +125,5 @@ cases =
     ∷ []
 
 worked : map (λ c. c .seen) cases ≡ map (λ c. c .wants) cases
-unfolding fullBefore sent from initOf asks timed aborts to card plays up ready load queued linked known joined played says counting accepts begins stops lastWrites cases events counts ended three sixtyFour through incident behindZero oneTick onlyDirect handOver slot computing
+unfolding fullBefore sent from initOf asks timed aborts to card plays up ready load queued linked known joined played says counting accepts begins stops lastWrites cases events ended three through incident behindZero oneTick onlyDirect handOver slot computing
 worked = refl
