@@ -1,12 +1,14 @@
 -- Demand 3's definitions (demands' History) on histories worked by hand: what calls and answers tell of the waiting sessions, of the
 -- accepted ones and their ends, and of the clock. Assumes nothing.
 use mathlib.Core.Path.{_≡_, refl}
+use mathlib.Core.Bool.{true}
 use mathlib.Core.List.{List, [], _∷_, _++_, map}
 use Prim.Native.Nat.{ℕ, _*_}
+use lib.ListN.{length}
 use Rattle.rules.specs.Lists.{bit}
 use Rattle.rules.specs.Records.{Record, General, InitResponse, AliveResponse, SpliceResponse, SpliceComplete, AbortResponse}
 use Rattle.rules.specs.Calls.{Call, opens, closes, moves}
-use Rattle.demands.specs.History.{isStart, isEnd, isYes, Reply, wrote, Event, Entry, history, waitingCount, book, clockAfter}
+use Rattle.demands.specs.History.{isStart, isEnd, isYes, ownAnswer, othersOf, wrote, Event, Entry, history, waitingCount, book, clockAfter}
 use Rattle.cases.specs.Scenario.{hex}
 use Rattle.cases.specs.Computing.{computing}
 use Rattle.cases.specs.Rehearsed.{sent, from, initOf, asks, timed, linked, aborts, to, card, up, ready}
@@ -48,6 +50,24 @@ marks =
 marked : map (λ m. bit (isStart 1 7 (m .told)) ∷ bit (isEnd 1 7 (m .told)) ∷ bit (isYes 1 7 (m .told)) ∷ []) marks ≡ map (λ m. m .wants) marks
 unfolding mark marks computing
 marked = refl
+
+-- ## A Splice_Request's own answer, the last record of its call, and the others
+
+-- of three records, those that are not the own answer of a call
+left : Call → List Record
+left k = othersOf k (SpliceResponse 0 109 1 ∷ SpliceResponse 0 109 2 ∷ SpliceResponse 1 100 3 ∷ [])
+
+own : ownAnswer (isYes 1 3) (SpliceResponse 0 109 1 ∷ SpliceResponse 1 100 3 ∷ []) ≡ true
+unfolding computing
+own = refl
+
+others : map (λ k. length (left k)) (timed 1 3 1003 0 1 0 90000 ∷ aborts 0 1 ∷ opens 0 ∷ closes 0 4096 ∷ to 1003 0 ∷ moves 9027000000 4096 ∷ []) ≡ 2 ∷ 3 ∷ 3 ∷ 3 ∷ 3 ∷ 3 ∷ []
+unfolding left sent from asks timed aborts to computing
+others = refl
+
+first-two : left (timed 1 3 1003 0 1 0 90000) ≡ SpliceResponse 0 109 1 ∷ SpliceResponse 0 109 2 ∷ []
+unfolding left sent from asks timed computing
+first-two = refl
 
 -- ## Histories
 
@@ -149,6 +169,7 @@ rows : List Row
 rows =
     row two (four 2 0 0 0) (line 0 2 (s 1023) 0 0 ∷ line 0 1 (s 1013) 0 0 ∷ []) (s 1000)
     ∷ row (two ++ (to 1003 0 ∷ [])) (four 1 0 0 0) (line 0 2 (s 1023) 0 0 ∷ line 0 1 (s 1013) 0 0 ∷ []) (s 1003)
+    ∷ row (two ++ (moves 9027000000 4096 ∷ [])) (four 1 0 0 0) (line 0 2 (s 1023) 0 0 ∷ line 0 1 (s 1013) 0 0 ∷ []) (s 1003)
     ∷ row (two ++ (to 1013 0 ∷ [])) (four 0 0 0 0) (line 0 2 (s 1023) 0 0 ∷ line 0 1 (s 1013) 1 0 ∷ []) (s 1013)
     -- "that isn't a Splice_Request's own answer"
     ∷ row again (four 1 0 0 0) (line 0 2 (s 1011) 0 0 ∷ line 0 1 (s 1004) 1 0 ∷ []) (s 1004)
