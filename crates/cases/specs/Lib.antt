@@ -18,6 +18,7 @@ pub mod Case-01-covered-follower
 pub mod Case-01-end-of-time-on-air
 pub mod Case-01-end-of-time
 pub mod Case-01-ends-before-start
+pub mod Case-01-every-byte
 pub mod Case-01-eviction-followers
 pub mod Case-01-house-number-4
 pub mod Case-01-house-numbers
