@@ -13,8 +13,8 @@ use Rattle.rules.specs.Bytes.{Byte, hasZero}
 use Rattle.rules.specs.Records.{recordsIn}
 use Rattle.rules.specs.Answers.{requested, spliceResult}
 use Rattle.rules.specs.Calls.{lending, fresh, after}
-use Rattle.demands.specs.History.{startsOf, endsOf, history, last, waitingCount, book, clockAfter}
-use Rattle.demands.specs.Told.{firstNumber, checks, answers, Asks, Passes, fullTold, outsOf, othersOf, startedTold, unended, Ended, Stands}
+use Rattle.demands.specs.History.{startsOf, endsOf, history, last, othersOf, waitingCount, book, clockAfter}
+use Rattle.demands.specs.Told.{firstNumber, checks, answers, Asks, Passes, fullTold, outsOf, startedTold, unended, Ended, Stands}
 use Rattle.engine.specs.Lent.{Lent}
 use Rattle.door.specs.Door.{Input, aClose, aMessage, Typed, callOf, bufferOf, Seen}
 use Rattle.traces.specs.Trace.{Memory, emptyMemory, shown}
