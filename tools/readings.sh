@@ -14,6 +14,7 @@ case ${1:-} in
 --all) set -- crates/cases/readings/*.edit crates/cases/more-readings/*.edit ;;
 *) set -- $(for label; do ls crates/cases/*readings/"$label.edit"; done) ;;
 esac
+[ $# -gt 0 ] || exit 2
 
 # crate_of TABLE: the name of its crate
 crate_of() { echo "$1" | tr 'A-Z-' 'a-z_'; }
@@ -24,8 +25,8 @@ moved() {
         s/Rattle·(rules|demands)\.specs\./Rattle·$(crate_of "$1")·specs.specs./g" "$2"
 }
 
-# make TABLE: its crate
-make() {
+# build TABLE: its crate
+build() {
     crate=$work/crates/$(crate_of "$1")
     mkdir -p "$crate/specs" "$crate/must-fail"
     cp -R crates/rules/src "$crate/src"
@@ -45,7 +46,7 @@ edits=0
 for edit; do
     table=$(sed -n 's/^# table: //p' "$edit")
     [ -f "crates/cases/specs/$table.antt" ] || { echo "readings.sh: $edit names no table" >&2; exit 2; }
-    [ -d "$work/crates/$(crate_of "$table")" ] || make "$table"
+    [ -d "$work/crates/$(crate_of "$table")" ] || build "$table"
     moved "$table" "$edit" >"$work/crates/$(crate_of "$table")/must-fail/$(basename "$edit")"
     edits=$((edits + 1))
 done
