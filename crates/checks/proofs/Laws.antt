@@ -1,5 +1,5 @@
 -- Laws behind the checks of a request: where a number is held, what start is known, the waiting with one start, the room that is left.
--- Rests on the rules' laws of places and counts, and on the tally of `places`.
+-- Rests on the rules' laws of places and counts, and on the counts of `memory`.
 use mathlib.Core.Path.{_≡_, refl, sym, ap, subst, _∙_}
 use mathlib.Core.Bool.{Bool, true, false, cond, not, _&&_, _||_}
 use mathlib.Core.List.{List, [], _∷_, _++_}
@@ -22,17 +22,17 @@ use Rattle.rules.specs.Lists.{All, bit, some, place, removeAt}
 use Rattle.rules.specs.State.{Queue, empty, of, is, startsAt, startsAfter, held, holds, Sorted}
 use Rattle.rules.specs.Instants.{outranks}
 use Rattle.rules.specs.Answers.{endOf, startOf, unknownPrior, wrongNumber, collides, waits, raisedSum, full, spliceResult, sessionAt, priorOf, separate, tooLate, sumOf}
-use Rattle.rules.specs.Sound.{Proper, Holding, heldCount, Once}
+use Rattle.rules.specs.Sound.{heldCount, Once}
 use Rattle.rules.proofs.Tests.{clash, by}
 use Rattle.rules.proofs.All.{all-into}
 use Rattle.rules.proofs.Count.{count≤length, count-removeAt, place-holds, some-none, some-place}
 use Rattle.rules.proofs.Every.{all-getD, all-none}
-use Rattle.places.specs.Places.{OfFour, startsFrom, tallied}
-use Rattle.places.proofs.Laws.{tallied-at, used-fits}
+use Rattle.places.specs.Places.{startsFrom}
+use Rattle.places.proofs.Laws.{used-fits}
 use Rattle.memory.specs.declared.Which.{Which}
 use Rattle.memory.specs.declared.Which.the-variants.{Waiting, Started}
-use Rattle.memory.specs.Memory.{slotOf, fromOf, toOf, placesOf, Form, see, sessions, listOf, listed}
-use Rattle.memory.proofs.Laws.{sessions-list, counted, room-at}
+use Rattle.memory.specs.Memory.{slotOf, fromOf, toOf, placesOf, tallied, Form, see, sessions, listOf, listed}
+use Rattle.memory.proofs.Laws.{sessions-list, counted, room-at, tallied-at}
 use Rattle.checks.specs.declared.Where.{Where}
 use Rattle.checks.specs.declared.Where.the-variants.{In, Nowhere}
 use Rattle.checks.specs.Found.{whereIn, endIn, startIn, Few}
@@ -303,10 +303,6 @@ module _ (new : Session) (u : List Session) {b : Bool} (f : b ≡ some (startsAt
       ∙ sym (start-at (λ s. not (outranks new s)) t u o (some-within (startsAt t) u k))
 
 -- ## e. The counts
-
--- every connection is one of the four
-pub waiting-of-four : (clock : ℕ) (q : Queue) → Holding clock q → All OfFour (q .waiting)
-waiting-of-four clock q h = all-into Proper OfFour (λ s p. p .conn) (q .waiting) (h .proper .waiting)
 
 -- no more wait than there are places
 pub waiting-fits : (m : List ℕ) → Form m → length (sessions Waiting m) ≤ placesOf Waiting

@@ -11,14 +11,14 @@ ghost use mathlib.Core.Bool.{cond, _||_};
 ghost use lib.Dec.{eqb};
 ghost use Prim.Native.Nat.{_+_, _≤_, _<_};
 ghost use lib.ListN.{getD};
-ghost use Rattle.rules.specs.Lists.{All, some, place};
+ghost use Rattle.rules.specs.Lists.{some, place};
 ghost use Rattle.rules.specs.State.{startsAt, holds, Sorted};
 ghost use Rattle.rules.specs.Answers.{priorOf, sessionAt, separate, tooLate, collides, raised, sumOf, full, spliceResult};
 ghost use Rattle.rules.specs.declared.When.the-variants.{At};
 ghost use Rattle.rules.specs.Reading.{nobody};
 ghost use Rattle.rules.specs.Sound.{horizon, Holding};
 ghost use Rattle.rules.specs.Asked.{Within};
-ghost use Rattle.places.specs.Places.{OfFour, startsFrom};
+ghost use Rattle.places.specs.Places.{startsFrom};
 ghost use Rattle.memory.specs.Memory.{Form, see};
 ghost use Rattle.checks.specs.Found.{whereIn, endIn, startIn, Few};
 
@@ -151,14 +151,14 @@ fn is_too_late(clock: Ninths, start: Start) -> bool
 }
 
 // A count, raised to 10 if lower.
-fn raise(n: usize) -> usize
+fn raise(n: u64) -> u64
     ensures { λ r. ⌜ r ≡ raised n ⌝ }
 {
     if n < 10 { 10 } else { n }
 }
 
 // The four counts, each raised to 10 if lower.
-fn raised_sum(t: [usize; 4]) -> usize
+fn raised_sum(t: [u64; 4]) -> u64
     requires { ⌜ Few t ⌝ }
     ensures { λ r. ⌜ r ≡ sumOf (λ c. getD t c 0) ⌝ }
 {
@@ -172,7 +172,6 @@ fn raised_sum(t: [usize; 4]) -> usize
 // e. Whether the connection's queue is full.
 fn is_full(m: &[u64], conn: u64) -> bool
     requires { ⌜ Form (now m) ⌝ }
-    requires { ⌜ All OfFour (see (now m) .queue .waiting) ⌝ }
     requires { ⌜ conn ≤ 3 ⌝ }
     ensures { λ r. ⌜ r ≡ full conn (see (now (m .entry)) .queue .waiting) ⌝ }
 {

@@ -143,3 +143,9 @@ pub record Stands (c : ℕ) (es fs : List Entry) : Type 0 where
   pub newer : List Entry
   pub same : entriesOf c fs ≡ newer ++ entriesOf c es
   pub ended : All (λ e. e .ends ≡ 1) (entriesOf c es)
+
+-- ## Document 02, CR 2
+
+-- each connection's waiting sessions, from the answers
+abbrev pub countsTold : List Event → List ℕ
+countsTold h = waitingCount 0 h ∷ waitingCount 1 h ∷ waitingCount 2 h ∷ waitingCount 3 h ∷ []

@@ -1,4 +1,4 @@
-// The five calls of document 01 for C: lent words, bytes and numbers only; the reply goes into lent words. include/splicer.h declares
+// The calls of document 01 for C, and what a card reads: lent words, bytes and numbers only; the reply goes into lent words. include/splicer.h declares
 // them. The names carry the header's version, so that a header of another version does not link.
 use engine::Answer;
 use memory::BYTES;
@@ -6,7 +6,7 @@ use memory::WORDS;
 ghost use mathlib.Core.Path.{_≡_};
 ghost use mathlib.Core.List.{[]};
 ghost use Rattle.rules.specs.Calls.{fresh, openCall, closeCall, messageCall, tickCall, lending};
-ghost use Rattle.engine.specs.Lent.{Lent};
+ghost use Rattle.engine.specs.Lent.{Lent, Counts};
 ghost use Rattle.door.specs.Door.{replyOf, Replies, Hears};
 
 // The house number of a refusal or 0, and the bytes consumed and written.
@@ -21,7 +21,7 @@ fn reply_of(a: Answer) -> [u64; 3]
 
 // Whatever stood in the words before.
 #[no_mangle]
-pub extern "C" fn splicer_2_fresh(
+pub extern "C" fn splicer_3_fresh(
     name: &[u8; 32],
     words: &mut [u64; WORDS],
     bytes: &mut [u8; BYTES],
@@ -34,7 +34,7 @@ pub extern "C" fn splicer_2_fresh(
 }
 
 #[no_mangle]
-pub extern "C" fn splicer_2_open(
+pub extern "C" fn splicer_3_open(
     words: &mut [u64; WORDS],
     bytes: &mut [u8; BYTES],
     conn: u32,
@@ -50,7 +50,7 @@ pub extern "C" fn splicer_2_open(
 }
 
 #[no_mangle]
-pub extern "C" fn splicer_2_close(
+pub extern "C" fn splicer_3_close(
     words: &mut [u64; WORDS],
     bytes: &mut [u8; BYTES],
     conn: u32,
@@ -68,7 +68,7 @@ pub extern "C" fn splicer_2_close(
 
 // l: the bytes read so far.
 #[no_mangle]
-pub extern "C" fn splicer_2_message(
+pub extern "C" fn splicer_3_message(
     words: &mut [u64; WORDS],
     bytes: &mut [u8; BYTES],
     conn: u32,
@@ -86,7 +86,7 @@ pub extern "C" fn splicer_2_message(
 }
 
 #[no_mangle]
-pub extern "C" fn splicer_2_tick(
+pub extern "C" fn splicer_3_tick(
     words: &mut [u64; WORDS],
     bytes: &mut [u8; BYTES],
     seconds: u32,
@@ -101,4 +101,17 @@ pub extern "C" fn splicer_2_tick(
 {
     let a = engine::tick(&mut *words, &mut *bytes, seconds, micros, &mut *out);
     *reply = reply_of(a);
+}
+
+// 02, CR 2: how many wait of each connection. It only reads, and nothing is refused.
+#[no_mangle]
+pub extern "C" fn splicer_3_waiting(
+    words: &[u64; WORDS],
+    bytes: &[u8; BYTES],
+    counts: &mut [u64; 4],
+)
+    requires { ⌜ Lent (now words) (now bytes) ⌝ }
+    ensures { λ _. ⌜ Counts (now (words .entry)) (now (bytes .entry)) (now (counts .exit)) ⌝ }
+{
+    *counts = engine::waiting(words, bytes);
 }

@@ -14,8 +14,9 @@ use Rattle.rules.specs.Records.{recordsIn}
 use Rattle.rules.specs.Answers.{requested, spliceResult}
 use Rattle.rules.specs.Calls.{lending, fresh, after}
 use Rattle.demands.specs.History.{startsOf, endsOf, history, last, othersOf, waitingCount, book, clockAfter}
-use Rattle.demands.specs.Told.{firstNumber, checks, answers, Asks, Passes, fullTold, outsOf, startedTold, unended, Ended, Stands}
-use Rattle.engine.specs.Lent.{Lent}
+use Rattle.demands.specs.Told.{firstNumber, checks, answers, Asks, Passes, fullTold, countsTold, outsOf, startedTold, unended, Ended, Stands}
+use Rattle.memory.specs.Memory.{countsOf}
+use Rattle.engine.specs.Lent.{Lent, Counts}
 use Rattle.door.specs.Door.{Input, aClose, aMessage, Typed, callOf, bufferOf, Seen}
 use Rattle.traces.specs.Trace.{Memory, emptyMemory, shown}
 use Rattle.traces.specs.Trace as engine
@@ -183,3 +184,14 @@ module _ (name : List ℕ) (h g : List Made) (m : Memory) (d : ℕ) (e : List �
       → endsOf d x (othersOf (callOf i) (recordsIn (bytesOf o))) ≤ unended d x (closed-stays-ended .newer)
   the-incident i o c x =
       le-trans (ends-are-owed name (h ++ (made (aClose d e) r ∷ g)) m i o c d x) (unended-newer d x _ _ closed-stays-ended)
+
+-- ## Document 02, CR 2
+
+module _ (name : List ℕ) (h : List Made) (m : Memory) where
+  -- "Demand 3 still counts from the answers, and the stored number is shown equal to that."
+  pub stored-as-told : Trace name h m → countsOf (m .words) ≡ countsTold (events h)
+  stored-as-told t = rw (trace-events name h m t) (called.stored-as-told name (within h) m (trace-inside name h m t))
+
+  -- and so are the four words that C reads: whatever the read's contract allows
+  pub read-as-told : Trace name h m → (r : List ℕ) → Counts (m .words) (m .bytes) r → r ≡ countsTold (events h)
+  read-as-told t = rw (trace-events name h m t) (called.read-as-told name (within h) m (trace-inside name h m t))

@@ -167,6 +167,7 @@ fn end_on_air_of(m: &mut [u64; WORDS], conn: u64, out: &mut [u8]) -> usize
 // The connection's sessions of a list end, none of which is on air; the others close up.
 fn end_theirs(m: &mut [u64; WORDS], which: Which, conn: u64, out: &mut [u8], len: usize) -> usize
     requires { ⌜ Form (now m) ⌝ }
+    requires { ⌜ conn ≤ 3 ⌝ }
     requires { ⌜ len + roomFor (length (sessions which (now m))) ≤ length (now out) ⌝ }
     ensures { λ r.
         ⌜ Does (theirsEnded which conn) len (now (m .entry)) (now (out .entry)) r (now (m .exit)) (now (out .exit)) ⌝ }
@@ -240,6 +241,7 @@ pub fn dismiss(
 pub fn end_all_of(m: &mut [u64; WORDS], conn: u64, out: &mut [u8]) -> usize
     requires { ⌜ Form (now m) ⌝ }
     requires { ⌜ All Playable (see (now m) .queue .started) ⌝ }
+    requires { ⌜ conn ≤ 3 ⌝ }
     requires { ⌜ roomFor (length (see (now m) .queue .waiting) + length (see (now m) .queue .started)) ≤ length (now out) ⌝ }
     ensures { λ r.
         ⌜ Does (closedBy conn) 0 (now (m .entry)) (now (out .entry)) r (now (m .exit)) (now (out .exit)) ⌝ }

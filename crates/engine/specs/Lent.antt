@@ -12,7 +12,7 @@ use Rattle.rules.specs.State.{Splicer, isOpen}
 use Rattle.rules.specs.Calls.{Called, refused, good, noConnection, noRoom, bufferAfter}
 use Rattle.rules.specs.Calls as calls
 use Rattle.rules.specs.Sound.{Reached}
-use Rattle.memory.specs.Memory.{Whole, shown}
+use Rattle.memory.specs.Memory.{Whole, shown, tallied}
 use Rattle.engine.specs.declared.Answer.{Answer}
 use Rattle.engine.specs.declared.Answer.the-variants.{Refused, Done}
 use Rattle.engine.specs.declared.Tested.{Tested}
@@ -46,3 +46,7 @@ openTest c room links =
     cond (noConnection c) (Bad NoConnection)
     (cond (noRoom room) (Bad NoRoom)
     (cond (not (isOpen (getD links c Closed))) (Bad NotOpen) Good))
+
+-- 02, CR 2: the four waiting counts r that are read of the memory m and b
+abbrev pub Counts : (m b r : List ℕ) → Type 0
+Counts m b r = r ≡ tallied (shown m b .queue .waiting)

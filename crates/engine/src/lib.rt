@@ -13,7 +13,7 @@ ghost use Rattle.rules.specs.Bytes.{Byte, hasZero};
 ghost use Rattle.rules.specs.Calls.{houseNumber, fresh, openCall, closeCall, messageCall, moveCall, tickCall, lending};
 ghost use Rattle.rules.specs.Sound.{horizon};
 ghost use Rattle.memory.specs.Memory.{Form, see};
-ghost use Rattle.engine.specs.Lent.{Lent, Answers, Makes, openTest};
+ghost use Rattle.engine.specs.Lent.{Lent, Answers, Makes, openTest, Counts};
 
 // What a call answers: a refusal, or the bytes consumed and the bytes written.
 pub enum Answer {
@@ -63,6 +63,14 @@ pub fn fresh(name: &[u8; 32], m: &mut [u64; WORDS], b: &mut [u8; BYTES]) -> Answ
     }
     memory::clear_name(&mut *b);
     Answer::Refused(Refusal::BadName)
+}
+
+// 02, CR 2: "how many of its sessions wait", for each connection. It only reads.
+pub fn waiting(m: &[u64; WORDS], b: &[u8]) -> [u64; 4]
+    requires { ⌜ Lent (now m) (now b) ⌝ }
+    ensures { λ r. ⌜ Counts (now (m .entry)) (now (b .entry)) r ⌝ }
+{
+    memory::tally(m)
 }
 
 // Open: 1, 6.

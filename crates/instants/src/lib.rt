@@ -28,7 +28,7 @@ fn elapse(m: &mut [u64; WORDS], d: u64)
     let mut x = memory::load(&*m, Which::Started, 0);
     let played = x.played.0 + d;
     x.played.0 = played;
-    memory::replace(&mut *m, Which::Started, 0, x)
+    memory::replace(&mut *m, 0, x)
 }
 
 // Whether x may go on air: nothing is, or x overrides one that it outranks.

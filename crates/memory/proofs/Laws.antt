@@ -1,27 +1,33 @@
 -- What each change of the words leaves of all else, and that what memory shows determines every word and byte.
 -- Rests on the laws of parts of lists, and on places' words-same: the sessions and the zeros before them determine their words.
 use mathlib.Core.Path.{_≡_, refl, sym, ap, ap₂, subst, _∙_}
+use mathlib.Core.Bool.{Bool, true, false, not}
 use mathlib.Core.List.{List, [], _∷_, _++_, map}
 use Prim.Native.Nat.{ℕ, zero, suc, _+_, _-_, _*_, _≤_, _<_}
 use native.Mathlib.Omega.{arith}
+use lib.Dec.{eqb}
 use lib.ListN.{length, take, drop, set, getD, replicate, length-set, length-replicate, length-drop, take-append-drop, List·getD-map}
-use lib.Seq.{length-take-le, take-all, take-at, drop-at, take-add, take-take, take-set-lt, drop-drop, drop-cons, getD-take, getD-drop, drop-set-lt, drop-set-add, getD-set-same, getD-set-other, set-getD}
+use lib.Seq.{length-take-le, take-all, take-at, drop-at, take-add, take-take, take-set-lt, take-set-le, drop-drop, drop-cons, getD-take, getD-drop, drop-set-lt, drop-set-add, getD-set-same, getD-set-other, set-getD, ext-getD}
 use borrow.Rule.Slice.PartMut.{putMid, postOf, same-len-mid, mid-len, take-put, drop-put}
-use borrow.Author.Tests.{ne-eqb}
+use borrow.Author.Tests.{eqb-true, eqb-false, eq-eqb, ne-eqb}
 use Rattle.rules.specs.declared.Session.{Session}
 use Rattle.rules.specs.declared.Link.{Link}
 use Rattle.rules.specs.declared.Link.the-variants.{Closed, Opened, Initialised}
-use Rattle.rules.specs.Lists.{All}
+use Rattle.rules.specs.Lists.{All, bit, omit, insertAt, removeAt}
 use Rattle.rules.specs.Bytes.{part, padded}
-use Rattle.rules.specs.State.{Splicer}
-use Rattle.rules.proofs.All.{all-replicate}
+use Rattle.rules.specs.Answers.{waits}
+use Rattle.rules.specs.State.{Queue, Splicer, empty, of}
+use Rattle.rules.specs.Sound.{Proper, Holding}
+use Rattle.rules.proofs.All.{all-replicate, all-into}
+use Rattle.rules.proofs.Count.{count-insertAt, count-removeAt, count-omitted, count-other}
+use Rattle.rules.proofs.Every.{all-getD, all-insertAt, all-keep, fewer-all, fewer-removeAt}
 use Rattle.places.specs.Places.{Lot, lot, Good, used, width, capacity, zeros}
 use Rattle.places.proofs.Laws.{length-used, words-same, cleared, cleared-none}
 use Rattle.places.proofs.Words.{spare-none}
 use Rattle.memory.specs.declared.Which.{Which}
 use Rattle.memory.specs.declared.Which.the-variants.{Waiting, Started}
-use Rattle.memory.specs.Memory.{clockWord, slotOf, firstLink, connections, placesOf, fromOf, toOf, spanOf, words, wordOf, linkIn, IsLink, linksOf, lotOf, sessions, Form, Memory, see, Now}
-use Rattle.memory.specs.Memory.{timed, linked, queued, listOf, listed, nothingShown, nameSize, nameOf, Stored, Whole, shown}
+use Rattle.memory.specs.Memory.{clockWord, slotOf, firstCount, firstLink, connections, placesOf, fromOf, toOf, spanOf, words, wordOf, linkIn, IsLink, linksOf, countsOf, lotOf, sessions, OfFour, tallied, Form, Memory, see, Now}
+use Rattle.memory.specs.Memory.{timed, linked, listOf, relisted, nothingShown, nameSize, nameOf, Stored, Whole, shown}
 
 -- a list of the words is that list of the queue that they show
 pub sessions-list : (v : Which) (m : List ℕ) → sessions v m ≡ listOf v (see m .queue)
@@ -77,6 +83,15 @@ set-behind m i n b j h = ap (take j) (drop-set-lt b m i n h)
 set-within : (m : List ℕ) (n b i j : ℕ) → i < j → part b j (set m (b + i) n) ≡ set (part b j m) i n
 set-within m n b i j h = ap (take j) (drop-set-add b m i n) ∙ take-set-lt j (drop b m) i n h
 
+set-before : (m : List ℕ) (i n b j : ℕ) → b + j ≤ i → part b j (set m i n) ≡ part b j m
+set-before m i n b j h =
+    let e : i ≡ b + (i - b) = omega arith in
+    ap (λ (k : ℕ). part b j (set m k n)) e ∙ ap (take j) (drop-set-add b m (i - b) n) ∙ take-set-le j (drop b m) (i - b) n (omega arith)
+
+-- a word of a part, wherever it is read
+part-at : (m : List ℕ) (b i j : ℕ) → i < j → getD m (b + i) 0 ≡ getD (part b j m) i 0
+part-at m b i j h = sym (getD-drop b m i 0) ∙ sym (getD-take j (drop b m) i 0 h)
+
 -- a part of zeros
 take-zeros : (k n : ℕ) → k ≤ n → take k (zeros n) ≡ zeros k
 take-zeros zero n h = refl
@@ -127,28 +142,114 @@ all-set [] c n h a = tt
 all-set (x ∷ l) zero n h a = (h, a .1)
 all-set (x ∷ l) (suc c) n h a = (a .0, all-set l c n h (a .1))
 
--- the word of connection c, wherever it is read
+-- the word of connection c
 pub link-at : (m : List ℕ) (c : ℕ) → c ≤ 3 → linkIn (getD m (firstLink + c) 0) ≡ getD (see m .links) c Closed
-link-at m c h =
-    ap linkIn (sym (getD-drop firstLink m c 0) ∙ sym (getD-take connections (drop firstLink m) c 0 (omega arith)))
-    ∙ sym (List·getD-map linkIn (linksOf m) c 0)
+link-at m c h = ap linkIn (part-at m firstLink c connections (omega arith)) ∙ sym (List·getD-map linkIn (linksOf m) c 0)
+
+-- the counts, word by word
+pub counts-read : (m : List ℕ) → length m ≡ words →
+    getD m firstCount 0 ∷ getD m (firstCount + 1) 0 ∷ getD m (firstCount + 2) 0 ∷ getD m (firstCount + 3) 0 ∷ [] ≡ countsOf m
+counts-read m w =
+    let n : length (countsOf m) ≡ connections = length-take-le connections (drop firstCount m) (omega (arith, w, length-drop firstCount m)) in
+    ext-getD 0 _ (countsOf m) (sym n) (λ i h. each i h ∙ part-at m firstCount i connections h)
+  where
+    each : (i : ℕ) → i < connections → getD (getD m firstCount 0 ∷ getD m (firstCount + 1) 0 ∷ getD m (firstCount + 2) 0 ∷ getD m (firstCount + 3) 0 ∷ []) i 0 ≡ getD m (firstCount + i) 0
+    each zero h = refl
+    each (suc zero) h = refl
+    each (suc (suc zero)) h = refl
+    each (suc (suc (suc zero))) h = refl
+    each (suc (suc (suc (suc i)))) h = absurd (omega arith)
+
+-- ## The tally of a list
+
+pub tallied-at : (l : List Session) (c : ℕ) → c ≤ 3 → getD (tallied l) c 0 ≡ waits c l
+unfolding tallied
+tallied-at l zero h = refl
+tallied-at l (suc zero) h = refl
+tallied-at l (suc (suc zero)) h = refl
+tallied-at l (suc (suc (suc zero))) h = refl
+tallied-at l (suc (suc (suc (suc c)))) h = absurd (omega arith)
+
+-- another count of connection c, and the others' as they were
+tallied-set : (l u : List Session) (c n : ℕ) → c ≤ 3 → n ≡ waits c u → ((d : ℕ) → (d ≡ c → ⊥) → waits d l ≡ waits d u) → set (tallied l) c n ≡ tallied u
+unfolding tallied
+tallied-set l u c n h e o =
+    ext-getD 0 (set (tallied l) c n) (tallied u) (length-set (tallied l) c n)
+    (λ d k. each d (omega (arith, length-set (tallied l) c n)) (eqb d c) refl ∙ sym (tallied-at u d (omega (arith, length-set (tallied l) c n))))
+  where
+    each : (d : ℕ) → d ≤ 3 → (b : Bool) → eqb d c ≡ b → getD (set (tallied l) c n) d 0 ≡ waits d u
+    each d k true q =
+        let q : d ≡ c = eqb-true d c q in
+        rw q (getD-set-same (tallied l) c n 0 (omega arith) ∙ e)
+    each d k false q =
+        let q = eqb-false d c q in
+        getD-set-other (tallied l) c d n 0 q ∙ tallied-at l d k ∙ o d q
+
+-- every connection is one of the four
+pub waiting-of-four : (clock : ℕ) (q : Queue) → Holding clock q → All OfFour (q .waiting)
+waiting-of-four clock q h = all-into Proper OfFour (λ s p. p .conn) (q .waiting) (h .proper .waiting)
+
+its-own : (s : Session) → bit (of (s .conn) s) ≡ 1
+its-own s = ap bit (eq-eqb (s .conn) (s .conn) refl)
+
+tallied-insert : (i : ℕ) (x : Session) (l : List Session) → OfFour x → set (tallied l) (x .conn) (waits (x .conn) l + 1) ≡ tallied (insertAt i x l)
+tallied-insert i x l h =
+    let c = x .conn in
+    tallied-set l (insertAt i x l) c (waits c l + 1) h (omega (arith, count-insertAt (of c) i x l, its-own x))
+    (λ d n. omega (arith, count-insertAt (of d) i x l, ap bit (ne-eqb d c n)))
+
+-- the session i is one of its connection's
+stands : (i : ℕ) (l : List Session) (x : Session) → i < length l → x ≡ getD l i empty → (d : ℕ) → waits d l ≡ bit (of d x) + waits d (removeAt i l)
+stands i l x h e d = rw e (count-removeAt (of d) i l empty h)
+
+pub one-waits : (i : ℕ) (l : List Session) (x : Session) → i < length l → x ≡ getD l i empty → 1 ≤ waits (x .conn) l
+one-waits i l x h e = omega (arith, stands i l x h e (x .conn), its-own x)
+
+tallied-remove : (i : ℕ) (l : List Session) (x : Session) → i < length l → x ≡ getD l i empty → OfFour x →
+    set (tallied l) (x .conn) (waits (x .conn) l - 1) ≡ tallied (removeAt i l)
+tallied-remove i l x h e f =
+    let c = x .conn in
+    tallied-set l (removeAt i l) c (waits c l - 1) f (omega (arith, stands i l x h e c, its-own x))
+    (λ d n. omega (arith, stands i l x h e d, ap bit (ne-eqb d c n)))
+
+tallied-omit : (c : ℕ) (l : List Session) → c ≤ 3 → set (tallied l) c 0 ≡ tallied (omit (of c) l)
+tallied-omit c l h =
+    tallied-set l (omit (of c) l) c 0 h (sym (count-omitted (of c) l))
+    (λ d n. sym (count-other (of d) (of c) (λ x e. ne-eqb d (x .conn) (λ q. n (q ∙ sym (eqb-true c (x .conn) e)))) l))
 
 -- ## What the parts of the words show, all of them show
 
+-- all but the counts
+pub record Shown (m : List ℕ) (s : Memory) : Type 0 where
+  pub whole : length m ≡ words
+  pub waiting : Good (lotOf Waiting m)
+  pub started : Good (lotOf Started m)
+  pub links : All IsLink (linksOf m)
+  pub is : see m ≡ s
+
+pub shown-as : {m : List ℕ} {s r : Memory} → Shown m s → s ≡ r → Shown m r
+shown-as {m} g e = subst (λ (s : Memory). Shown m s) e g
+
 module _ (m : List ℕ) (t : ℕ) (l : List ℕ) (w k : Lot) where
   pub shows : length m ≡ words → getD m clockWord 0 ≡ t → linksOf m ≡ l → lotOf Waiting m ≡ w → lotOf Started m ≡ k → All IsLink l → Good w → Good k →
-      Now m (record { clock = t; links = map linkIn l; queue = record { waiting = used w; started = used k } })
+      Shown m (record { clock = t; links = map linkIn l; queue = record { waiting = used w; started = used k } })
   shows whole clock links waiting started a g h =
       record {
-        form =
-            record {
-              whole = whole;
-              waiting = subst (λ (x : Lot). Good x) (sym waiting) g;
-              started = subst (λ (x : Lot). Good x) (sym started) h;
-              links = subst (λ (x : List ℕ). All IsLink x) (sym links) a;
-            };
+        whole = whole;
+        waiting = subst (λ (x : Lot). Good x) (sym waiting) g;
+        started = subst (λ (x : Lot). Good x) (sym started) h;
+        links = subst (λ (x : List ℕ). All IsLink x) (sym links) a;
         is = λ i. record { clock = clock i; links = map linkIn (links i); queue = record { waiting = used (waiting i); started = used (started i) } };
       }
+
+-- and the counts are those of the waiting w
+pub with-counts : {m : List ℕ} {s : Memory} (w : List Session) → Shown m s → w ≡ s .queue .waiting → All OfFour w → countsOf m ≡ tallied w → Now m s
+with-counts {m} w g y a e =
+    let z : w ≡ sessions Waiting m = y ∙ sym (ap (λ (s : Memory). s .queue .waiting) (g .is)) in
+    record {
+      form = record { whole = g .whole; waiting = g .waiting; started = g .started; links = g .links; ofFour = subst (λ (l : List Session). All OfFour l) z a; counts = e ∙ ap tallied z };
+      is = g .is;
+    }
 
 pub a-lot : {x y : List ℕ} {n k : ℕ} → x ≡ y → n ≡ k → lot x n ≡ lot y k
 a-lot e f = ap₂ (λ (x : List ℕ) (k : ℕ). lot x k) e f
@@ -168,7 +269,7 @@ within Started m f = (omega arith, omega (arith, f .whole))
 
 -- the places ys with n used ones, in place of a list and its count: all else shows as it did
 changed : (v : Which) (m ys : List ℕ) (n : ℕ) → Form m → length ys ≡ spanOf v → Good (lot ys n) →
-    Now (set (putMid (fromOf v) (spanOf v) m ys) (slotOf v) n) (queued (listed v (used (lot ys n)) (see m .queue)) (see m))
+    Shown (set (putMid (fromOf v) (spanOf v) m ys) (slotOf v) n) (relisted v (used (lot ys n)) (see m))
 changed Waiting m ys n f l g =
     let a = fromOf Waiting in
     let e = toOf Waiting in
@@ -204,10 +305,21 @@ changed Started m ys n f l g =
     (a-lot (set-behind p i n a (e - a) (omega arith) ∙ put-here m ys a e (h .0) (h .1) l) (getD-set-same p i n 0 (omega (arith, lp))))
     (f .links) (f .waiting) g
 
--- the words before a list stay when it is put back
-slot-word : (v : Which) (m ys : List ℕ) → Form m → getD (putMid (fromOf v) (spanOf v) m ys) (slotOf v) 0 ≡ getD m (slotOf v) 0
-slot-word Waiting m ys f = put-word′ m ys (fromOf Waiting) (spanOf Waiting) (omega (arith, f .whole)) (slotOf Waiting) (omega arith)
-slot-word Started m ys f = put-word′ m ys (fromOf Started) (spanOf Started) (omega (arith, f .whole)) (slotOf Started) (omega arith)
+changed-counts : (v : Which) (m ys : List ℕ) (n : ℕ) → Form m → length ys ≡ spanOf v → countsOf (set (putMid (fromOf v) (spanOf v) m ys) (slotOf v) n) ≡ countsOf m
+changed-counts v m ys n f l =
+    let h = within v m f in
+    let b = before v in
+    set-behind (putMid (fromOf v) (spanOf v) m ys) (slotOf v) n firstCount connections (b .0)
+    ∙ put-before m ys (fromOf v) (toOf v) (h .0) (h .1) l firstCount connections (b .1)
+  where
+    before : (v : Which) → (slotOf v < firstCount) × (firstCount + connections ≤ fromOf v)
+    before Waiting = (omega arith, omega arith)
+    before Started = (omega arith, omega arith)
+
+-- the list v has become u in the words x, and the counts are still those of before
+pub record Changed (v : Which) (m x : List ℕ) (u : List Session) : Type 0 where
+  pub shown : Shown x (relisted v u (see m))
+  pub counts : countsOf x ≡ countsOf m
 
 -- ## As the code has it: a, e and i are the bounds and the slot, n the count
 
@@ -222,20 +334,10 @@ module _ (v : Which) {m : List ℕ} {a e : ℕ} (p : a ≡ fromOf v) (q : e ≡ 
     span : length ys ≡ spanOf v
     span = l ∙ rw (p, q) (mid-len (fromOf v) (toOf v) m (within v m f .1))
 
-    pub changed-at : (n : ℕ) {i : ℕ} {u : List Session} → i ≡ slotOf v → Good (lot ys n) → used (lot ys n) ≡ u →
-        Now (set (putMid a (e - a) m ys) i n) (queued (listed v u (see m .queue)) (see m))
-    changed-at n s g h =
-        rw (p, q, s) (subst (λ (z : List Session). Now (set (putMid (fromOf v) (spanOf v) m ys) (slotOf v) n) (queued (listed v z (see m .queue)) (see m))) h (changed v m ys n f span g))
-
-    pub replaced-at : {n : ℕ} {u : List Session} → n ≡ length (sessions v m) → Good (lot ys n) → used (lot ys n) ≡ u →
-        Now (putMid a (e - a) m ys) (queued (listed v u (see m .queue)) (see m))
-    replaced-at {n} {u} k g h =
-        let x = putMid (fromOf v) (spanOf v) m ys in
-        let w : n ≡ getD x (slotOf v) 0 = k ∙ sym (counted v m f) ∙ sym (slot-word v m ys f) in
-        rw (p, q) (
-        subst (λ (z : List ℕ). Now z (queued (listed v u (see m .queue)) (see m))) (ap (set x (slotOf v)) w ∙ set-getD x (slotOf v) 0)
-        (subst (λ (z : List Session). Now (set x (slotOf v) n) (queued (listed v z (see m .queue)) (see m))) h (changed v m ys n f span g))
-        )
+    pub changed-at : (n : ℕ) {i : ℕ} {u : List Session} → i ≡ slotOf v → Good (lot ys n) → used (lot ys n) ≡ u → Changed v m (set (putMid a (e - a) m ys) i n) u
+    changed-at n {i} {u} s g h =
+        rw (p, q, s)
+        (record { shown = subst (λ (z : List Session). Shown (set (putMid (fromOf v) (spanOf v) m ys) (slotOf v) n) (relisted v z (see m))) h (changed v m ys n f span g); counts = changed-counts v m ys n f span })
 
 -- a place is left
 pub room-at : (v : Which) {m : List ℕ} {a e : ℕ} → a ≡ fromOf v → e ≡ toOf v → Form m → capacity (part a (e - a) m) ≡ placesOf v
@@ -248,32 +350,98 @@ few Started = omega arith
 
 -- ## One word of the head
 
+recounted : (m : List ℕ) (s : Memory) (c n : ℕ) → c ≤ 3 → Shown m s → Shown (set m (firstCount + c) n) s
+recounted m s c n h g =
+    let i = firstCount + c in
+    shown-as (shows (set m i n) (see m .clock) (linksOf m) (lotOf Waiting m) (lotOf Started m)
+    (length-set m i n ∙ g .whole)
+    (getD-set-other m i clockWord n 0 (λ z. omega (arith, z)))
+    (set-behind m i n firstLink connections (omega arith))
+    (a-lot (set-behind m i n (fromOf Waiting) (spanOf Waiting) (omega arith)) (getD-set-other m i (slotOf Waiting) n 0 (λ z. omega (arith, z))))
+    (a-lot (set-behind m i n (fromOf Started) (spanOf Started) (omega arith)) (getD-set-other m i (slotOf Started) n 0 (λ z. omega (arith, z))))
+    (g .links) (g .waiting) (g .started)) (g .is)
+
 pub timed-now : (m : List ℕ) (t : ℕ) → Form m → Now (set m clockWord t) (timed t (see m))
 timed-now m t f =
-    shows (set m clockWord t) t (linksOf m) (lotOf Waiting m) (lotOf Started m)
+    with-counts (sessions Waiting m) (shows (set m clockWord t) t (linksOf m) (lotOf Waiting m) (lotOf Started m)
     (length-set m clockWord t ∙ f .whole)
     (getD-set-same m clockWord t 0 (omega (arith, f .whole)))
     (set-behind m clockWord t firstLink connections (omega arith))
     (a-lot (set-behind m clockWord t (fromOf Waiting) (spanOf Waiting) (omega arith)) (getD-set-other m clockWord (slotOf Waiting) t 0 (λ z. omega (arith, z))))
     (a-lot (set-behind m clockWord t (fromOf Started) (spanOf Started) (omega arith)) (getD-set-other m clockWord (slotOf Started) t 0 (λ z. omega (arith, z))))
-    (f .links) (f .waiting) (f .started)
+    (f .links) (f .waiting) (f .started)) refl (f .ofFour) (set-behind m clockWord t firstCount connections (omega arith) ∙ f .counts)
 
 pub linked-now : (m : List ℕ) (c : ℕ) (l : Link) (n : ℕ) → c ≤ 3 → n ≡ wordOf l → Form m → Now (set m (firstLink + c) n) (linked c l (see m))
 linked-now m c l n h e f =
     let i = firstLink + c in
     let y : map linkIn (set (linksOf m) c n) ≡ set (see m .links) c l =
     link-set (linksOf m) c n ∙ ap (set (see m .links) c) (ap linkIn e ∙ link-word l) in
-    subst (λ (z : List Link). Now (set m i n) (record { clock = see m .clock; links = z; queue = see m .queue })) y
+    with-counts (sessions Waiting m) (subst (λ (z : List Link). Shown (set m i n) (record { clock = see m .clock; links = z; queue = see m .queue })) y
     (shows (set m i n) (see m .clock) (set (linksOf m) c n) (lotOf Waiting m) (lotOf Started m)
     (length-set m i n ∙ f .whole)
     (getD-set-other m i clockWord n 0 (λ z. omega (arith, z)))
     (set-within m n firstLink c connections (omega arith))
     (a-lot (set-behind m i n (fromOf Waiting) (spanOf Waiting) (omega arith)) (getD-set-other m i (slotOf Waiting) n 0 (λ z. omega (arith, z))))
     (a-lot (set-behind m i n (fromOf Started) (spanOf Started) (omega arith)) (getD-set-other m i (slotOf Started) n 0 (λ z. omega (arith, z))))
-    (all-set (linksOf m) c n (subst (λ (k : ℕ). IsLink k) (sym e) (is-link l)) (f .links)) (f .waiting) (f .started))
+    (all-set (linksOf m) c n (subst (λ (k : ℕ). IsLink k) (sym e) (is-link l)) (f .links)) (f .waiting) (f .started))) refl (f .ofFour) (set-before m i n firstCount connections (omega arith) ∙ f .counts)
+
+-- ## A list that changed, and the counts with it
+
+pub started-now : {v : Which} {m x : List ℕ} {u : List Session} → v ≡ Started → Form m → Changed v m x u → Now x (relisted v u (see m))
+started-now {m = m} {u = u} w f g =
+    with-counts (sessions Waiting m) (g .shown) (ap (λ (k : Which). relisted k u (see m) .queue .waiting) (sym w)) (f .ofFour) (g .counts ∙ f .counts)
+
+-- the started ones are put back, as many as they were
+pub replaced-now : {m : List ℕ} (ys : List ℕ) {n : ℕ} {u : List Session} → Form m → length ys ≡ length (part (fromOf Started) (spanOf Started) m) →
+    n ≡ length (sessions Started m) → Good (lot ys n) → used (lot ys n) ≡ u → Now (putMid (fromOf Started) (spanOf Started) m ys) (relisted Started u (see m))
+replaced-now {m} ys {n} {u} f l k g h =
+    let i = slotOf Started in
+    let x = putMid (fromOf Started) (spanOf Started) m ys in
+    let w : n ≡ getD x i 0 =
+    k ∙ sym (counted Started m f) ∙ sym (put-word′ m ys (fromOf Started) (spanOf Started) (omega (arith, f .whole)) i (omega arith)) in
+    subst (λ (z : List ℕ). Now z (relisted Started u (see m))) (ap (set x i) w ∙ set-getD x i 0)
+    (started-now refl f (changed-at Started refl refl f ys l n refl g h))
+
+module _ {v : Which} {m : List ℕ} (w : v ≡ Waiting) (f : Form m) where
+  all-four : All OfFour (sessions v m)
+  all-four = subst (λ (k : Which). All OfFour (sessions k m)) (sym w) (f .ofFour)
+
+  pub one-of-four : (i : ℕ) (s : Session) → i < length (sessions v m) → s ≡ getD (sessions v m) i empty → OfFour s
+  one-of-four i s h e = rw e (all-getD OfFour (sessions v m) i empty h all-four)
+
+module _ {v : Which} {m x : List ℕ} {u : List Session} (w : v ≡ Waiting) (f : Form m) (g : Changed v m x u) where
+  counts-were : countsOf x ≡ tallied (sessions v m)
+  counts-were = g .counts ∙ f .counts ∙ ap (λ (k : Which). tallied (sessions k m)) (sym w)
+
+  -- the count of connection c, still to be changed
+  pub count-word : (c : ℕ) → c ≤ 3 → getD x (firstCount + c) 0 ≡ waits c (sessions v m)
+  count-word c h = part-at x firstCount c connections (omega arith) ∙ ap (λ (l : List ℕ). getD l c 0) counts-were ∙ tallied-at (sessions v m) c h
+
+  counts-now : (c n : ℕ) → c ≤ 3 → All OfFour u → set (tallied (sessions v m)) c n ≡ tallied u → Now (set x (firstCount + c) n) (relisted v u (see m))
+  counts-now c n h a e =
+      with-counts u (recounted x (relisted v u (see m)) c n h (g .shown)) (ap (λ (k : Which). relisted k u (see m) .queue .waiting) (sym w)) a
+      (set-within x n firstCount c connections (omega arith) ∙ ap (λ (l : List ℕ). set l c n) counts-were ∙ e)
+
+module _ {v : Which} {m x : List ℕ} (w : v ≡ Waiting) (f : Form m) where
+  pub inserted-now : (i : ℕ) (s : Session) → OfFour s → Changed v m x (insertAt i s (sessions v m)) →
+      Now (set x (firstCount + s .conn) (getD x (firstCount + s .conn) 0 + 1)) (relisted v (insertAt i s (sessions v m)) (see m))
+  inserted-now i s h g =
+      rw (count-word w f g (s .conn) h)
+      (counts-now w f g (s .conn) (waits (s .conn) (sessions v m) + 1) h (all-insertAt OfFour i s (sessions v m) h (all-four w f)) (tallied-insert i s (sessions v m) h))
+
+  pub removed-now : (i : ℕ) (s : Session) → i < length (sessions v m) → s ≡ getD (sessions v m) i empty → Changed v m x (removeAt i (sessions v m)) →
+      Now (set x (firstCount + s .conn) (getD x (firstCount + s .conn) 0 - 1)) (relisted v (removeAt i (sessions v m)) (see m))
+  removed-now i s h e g =
+      let k = one-of-four w f i s h e in
+      rw (count-word w f g (s .conn) k)
+      (counts-now w f g (s .conn) (waits (s .conn) (sessions v m) - 1) k (fewer-all OfFour (fewer-removeAt i (sessions v m)) (all-four w f)) (tallied-remove i (sessions v m) s h e k))
+
+  pub omitted-now : (c : ℕ) → c ≤ 3 → Changed v m x (omit (of c) (sessions v m)) → Now (set x (firstCount + c) 0) (relisted v (omit (of c) (sessions v m)) (see m))
+  omitted-now c h g = counts-now w f g c 0 h (all-keep OfFour (λ s. not (of c s)) (sessions v m) (all-four w f)) (tallied-omit c (sessions v m) h)
 
 -- all words are zeros
 pub cleared-now : Now (zeros words) nothingShown
+unfolding tallied
 cleared-now =
     let w = cleared (spanOf Waiting) in
     let k = cleared (spanOf Started) in
@@ -281,10 +449,8 @@ cleared-now =
     (length-replicate {A = ℕ} words 0) refl (part-zeros firstLink connections words (omega arith))
     (a-lot (part-zeros (fromOf Waiting) (spanOf Waiting) words (omega arith)) refl) (a-lot (part-zeros (fromOf Started) (spanOf Started) words (omega arith)) refl)
     (all-replicate {A = ℕ} IsLink connections 0 (omega arith)) w k in
-    record {
-      form = s .form;
-      is = s .is ∙ λ i. record { clock = 0; links = replicate connections Closed; queue = record { waiting = cleared-none (spanOf Waiting) i; started = cleared-none (spanOf Started) i } };
-    }
+    with-counts [] (shown-as s (λ i. record { clock = 0; links = replicate connections Closed; queue = record { waiting = cleared-none (spanOf Waiting) i; started = cleared-none (spanOf Started) i } }))
+    refl tt (part-zeros firstCount connections words (omega arith))
 
 -- ## What is shown determines every word and byte
 
@@ -294,7 +460,7 @@ placed v m = part (fromOf v) (spanOf v) m
 
 -- the words are their parts
 parts : (m : List ℕ) → length m ≡ words →
-    m ≡ getD m clockWord 0 ∷ getD m (slotOf Waiting) 0 ∷ getD m (slotOf Started) 0 ∷ (linksOf m ++ (placed Waiting m ++ placed Started m))
+    m ≡ getD m clockWord 0 ∷ getD m (slotOf Waiting) 0 ∷ getD m (slotOf Started) 0 ∷ (countsOf m ++ (linksOf m ++ (placed Waiting m ++ placed Started m)))
 parts m w =
     let s = fromOf Started in
     let tail : drop s m ≡ placed Started m = sym (take-all (spanOf Started) (drop s m) (omega (arith, w, length-drop s m))) in
@@ -303,10 +469,12 @@ parts m w =
     ∙ ap (λ (z : List ℕ). placed Waiting m ++ z) (drop-drop (spanOf Waiting) (fromOf Waiting) m ∙ tail) in
     let links : drop firstLink m ≡ linksOf m ++ (placed Waiting m ++ placed Started m) =
     sym (take-append-drop connections (drop firstLink m)) ∙ ap (λ (z : List ℕ). linksOf m ++ z) (drop-drop connections firstLink m ∙ rest) in
+    let counts : drop firstCount m ≡ countsOf m ++ (linksOf m ++ (placed Waiting m ++ placed Started m)) =
+    sym (take-append-drop connections (drop firstCount m)) ∙ ap (λ (z : List ℕ). countsOf m ++ z) (drop-drop connections firstCount m ∙ links) in
     drop-cons m 0 0 (omega arith)
     ∙ ap (λ (z : List ℕ). getD m 0 0 ∷ z) (drop-cons m 1 0 (omega arith))
     ∙ ap (λ (z : List ℕ). getD m 0 0 ∷ getD m 1 0 ∷ z) (drop-cons m 2 0 (omega arith))
-    ∙ ap (λ (z : List ℕ). getD m 0 0 ∷ getD m 1 0 ∷ getD m 2 0 ∷ z) links
+    ∙ ap (λ (z : List ℕ). getD m 0 0 ∷ getD m 1 0 ∷ getD m 2 0 ∷ z) counts
 
 -- as many words, holding the same sessions, are the same words, and as many of their places are used
 lot-same : (v : Which) (m n : List ℕ) → Form m → Form n → sessions v m ≡ sessions v n →
@@ -329,8 +497,9 @@ same-words m n f g e =
     let links = links-same (linksOf m) (linksOf n) (f .links) (g .links) (ap (λ (s : Memory). s .links) e) in
     let waiting = lot-same Waiting m n f g (ap (λ (s : Memory). s .queue .waiting) e) in
     let started = lot-same Started m n f g (ap (λ (s : Memory). s .queue .started) e) in
+    let counts : countsOf m ≡ countsOf n = f .counts ∙ ap (λ (s : Memory). tallied (s .queue .waiting)) e ∙ sym (g .counts) in
     parts m (f .whole)
-    ∙ (λ i. clock i ∷ waiting .1 i ∷ started .1 i ∷ (links i ++ (waiting .0 i ++ started .0 i)))
+    ∙ (λ i. clock i ∷ waiting .1 i ∷ started .1 i ∷ (counts i ++ (links i ++ (waiting .0 i ++ started .0 i))))
     ∙ sym (parts n (g .whole))
 
 pub same-bytes : (b c : List ℕ) → Stored b → Stored c → nameOf b ≡ nameOf c → b ≡ c

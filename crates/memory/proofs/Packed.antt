@@ -13,8 +13,8 @@ use Rattle.rules.specs.Lists.{All}
 use Rattle.rules.specs.State.{empty}
 use Rattle.places.specs.Places.{width, capacity, rows, places, lot, used, Good}
 use Rattle.memory.specs.declared.Which.the-variants.{Waiting, Started}
-use Rattle.memory.specs.Memory.{connections, placesOf, fromOf, words, wordOf, linkIn, IsLink, Memory, Now}
-use Rattle.memory.proofs.Laws.{link-word, is-link, shows, a-lot}
+use Rattle.memory.specs.Memory.{connections, placesOf, fromOf, words, wordOf, linkIn, IsLink, Memory, OfFour, tallied, Now}
+use Rattle.memory.proofs.Laws.{link-word, is-link, shown-as, shows, with-counts, a-lot}
 
 -- ## A list of sessions
 
@@ -84,10 +84,10 @@ words-links (x ∷ l) = (is-link x, words-links l)
 pub stood : Memory → List ℕ
 stood s =
     s .clock ∷ length (s .queue .waiting) ∷ length (s .queue .started) ∷
-    (map wordOf (s .links) ++ (packed (placesOf Waiting) (s .queue .waiting) ++ packed (placesOf Started) (s .queue .started)))
+    (tallied (s .queue .waiting) ++ (map wordOf (s .links) ++ (packed (placesOf Waiting) (s .queue .waiting) ++ packed (placesOf Started) (s .queue .started))))
 
 module _ (s : Memory) (four : length (s .links) ≡ connections) (few : length (s .queue .waiting) ≤ placesOf Waiting)
-    (less : length (s .queue .started) ≤ placesOf Started) where
+    (less : length (s .queue .started) ≤ placesOf Started) (ofFour : All OfFour (s .queue .waiting)) where
   abbrev l : List ℕ
   l = map wordOf (s .links)
 
@@ -107,7 +107,7 @@ module _ (s : Memory) (four : length (s .links) ≡ connections) (few : length (
   long-k = length-packed (placesOf Started) (s .queue .started) less
 
   behind-l : drop (fromOf Waiting) (stood s) ≡ w ++ k
-  unfolding stood
+  unfolding stood tallied
   behind-l = drop-at l (w ++ k) connections long-l
 
   behind-w : drop (fromOf Started) (stood s) ≡ k
@@ -117,11 +117,11 @@ module _ (s : Memory) (four : length (s .links) ≡ connections) (few : length (
       ∙ drop-at w k (placesOf Waiting * width) long-w
 
   long : length (stood s) ≡ words
-  unfolding stood
+  unfolding stood tallied
   long = omega (arith, length-append l (w ++ k), length-append w k, long-l, long-w, long-k)
 
   pub stood-now : Now (stood s) s
-  unfolding stood
+  unfolding stood tallied
   stood-now =
       let n = length (s .queue .waiting) in
       let j = length (s .queue .started) in
@@ -130,16 +130,12 @@ module _ (s : Memory) (four : length (s .links) ≡ connections) (few : length (
       (a-lot (ap (take (placesOf Started * width)) behind-w ∙ take-all (placesOf Started * width) k (omega (arith, long-k))) refl)
       (words-links (s .links)) (packed-good (placesOf Waiting) (s .queue .waiting) few)
       (packed-good (placesOf Started) (s .queue .started) less) in
-      record {
-        form = x .form;
-        is =
-            x .is
-            ∙ λ i. record {
-              clock = s .clock;
-              links = links-words (s .links) i;
-              queue = record {
-                waiting = packed-used (placesOf Waiting) (s .queue .waiting) few i;
-                started = packed-used (placesOf Started) (s .queue .started) less i;
-              };
-            };
-      }
+      with-counts (s .queue .waiting) (shown-as x
+      (λ i. record {
+        clock = s .clock;
+        links = links-words (s .links) i;
+        queue = record {
+          waiting = packed-used (placesOf Waiting) (s .queue .waiting) few i;
+          started = packed-used (placesOf Started) (s .queue .started) less i;
+        };
+      })) refl ofFour refl

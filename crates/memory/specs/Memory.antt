@@ -1,7 +1,7 @@
 -- Where what stands in the lent words and bytes, what they show, and what is asked of them.
 use mathlib.Core.Path.{_≡_}
 use mathlib.Core.Bool.{cond}
-use mathlib.Core.List.{List, [], map}
+use mathlib.Core.List.{List, [], _∷_, map}
 use Prim.Native.Nat.{ℕ, _+_, _-_, _*_, _≤_}
 use lib.Dec.{eqb}
 use lib.ListN.{length, set, getD, replicate}
@@ -10,12 +10,14 @@ use Rattle.rules.specs.declared.Link.{Link}
 use Rattle.rules.specs.declared.Link.the-variants.{Closed, Opened, Initialised}
 use Rattle.rules.specs.Lists.{All}
 use Rattle.rules.specs.Bytes.{part, nameIn, padded}
+use Rattle.rules.specs.Answers.{waits}
 use Rattle.rules.specs.State.{Queue, Splicer, withWaiting, withStarted}
 use Rattle.places.specs.Places.{Lot, lot, Good, used, width}
 use Rattle.memory.specs.declared.Which.{Which}
 use Rattle.memory.specs.declared.Which.the-variants.{Waiting, Started}
 
--- ## Where what stands in the words: the clock, how many wait, how many have started, a word for each connection, the places
+-- ## Where what stands in the words: the clock, how many wait, how many have started, how many of those that wait are each connection's, a
+-- word for each connection, the places
 
 abbrev pub clockWord : ℕ
 clockWord = 0
@@ -25,11 +27,15 @@ abbrev pub slotOf : Which → ℕ
 slotOf Waiting = 1
 slotOf Started = 2
 
-abbrev pub firstLink : ℕ
-firstLink = 3
-
 abbrev pub connections : ℕ
 connections = 4
+
+-- how many of those that wait are each connection's
+abbrev pub firstCount : ℕ
+firstCount = 3
+
+abbrev pub firstLink : ℕ
+firstLink = firstCount + connections
 
 abbrev pub placesOf : Which → ℕ
 placesOf Waiting = 64
@@ -69,6 +75,10 @@ IsLink n = n ≤ wordOf Initialised
 abbrev pub linksOf : List ℕ → List ℕ
 linksOf m = part firstLink connections m
 
+-- the connections' counts
+abbrev pub countsOf : List ℕ → List ℕ
+countsOf m = part firstCount connections m
+
 -- the places of a list, and how many are used
 abbrev pub lotOf : Which → List ℕ → Lot
 lotOf v m = lot (part (fromOf v) (spanOf v) m) (getD m (slotOf v) 0)
@@ -91,12 +101,27 @@ see m =
       queue = record { waiting = sessions Waiting m; started = sessions Started m };
     }
 
--- the free places are empty, in each list
+-- each connection is one of four
+abbrev pub OfFour : Session → Type 0
+OfFour s = s .conn ≤ 3
+
+-- what a list asks of a session: one that waits is counted for its connection
+abbrev pub Countable : Which → Session → Type 0
+Countable Waiting s = OfFour s
+Countable Started s = Unit {0}
+
+-- 02, CR 2: how many are each connection's
+unfoldable pub tallied : List Session → List ℕ
+tallied l = waits 0 l ∷ waits 1 l ∷ waits 2 l ∷ waits 3 l ∷ []
+
+-- the free places are empty, in each list; "the stored number" of each connection is that of its sessions that wait
 pub record Form (m : List ℕ) : Type 0 where
   pub whole : length m ≡ words
   pub waiting : Good (lotOf Waiting m)
   pub started : Good (lotOf Started m)
   pub links : All IsLink (linksOf m)
+  pub ofFour : All OfFour (sessions Waiting m)
+  pub counts : countsOf m ≡ tallied (sessions Waiting m)
 
 -- the words show just that
 pub record Now (m : List ℕ) (s : Memory) : Type 0 where

@@ -1,6 +1,6 @@
-// A splicer in two pieces that the caller lends. Its words: the clock, how many wait, how many have started, a word for each
-// connection, the places of those that wait and of those that have started. Its bytes: the ChannelName with zeros behind its end.
-// Only this crate knows where what stands.
+// A splicer in two pieces that the caller lends. Its words: the clock, how many wait, how many have started, how many of those that
+// wait are each connection's, a word for each connection, the places of those that wait and of those that have started. Its bytes: the
+// ChannelName with zeros behind its end. Only this crate knows where what stands.
 use places::Key;
 use places::WIDTH;
 use rules::Link;
@@ -14,12 +14,12 @@ ghost use lib.ListN.{length, set, getD};
 ghost use lib.Seq.{paste};
 ghost use Rattle.rules.specs.declared.Link.the-variants.{Closed};
 ghost use Rattle.rules.specs.Bytes.{nameIn};
-ghost use Rattle.rules.specs.Lists.{All, omit, place, insertAt, removeAt};
+ghost use Rattle.rules.specs.Lists.{omit, place, insertAt, removeAt};
 ghost use Rattle.rules.specs.State.{empty, of, Sorted, earliest};
-ghost use Rattle.places.specs.Places.{keyTest, OfFour, tallied};
+ghost use Rattle.places.specs.Places.{keyTest};
 ghost use Rattle.memory.specs.declared.Which.the-variants.{Waiting, Started};
 ghost use Rattle.memory.specs.Memory.{slotOf, firstLink, fromOf, toOf, words, placesOf, wordOf, linkIn};
-ghost use Rattle.memory.specs.Memory.{sessions, see, Form, Now, timed, linked, relisted, nothingShown};
+ghost use Rattle.memory.specs.Memory.{sessions, see, Form, Now, timed, linked, relisted, nothingShown, Countable, tallied};
 ghost use Rattle.memory.specs.Memory.{nameBytes, Stored, Named};
 
 // Where what stands in the words.
@@ -29,9 +29,11 @@ const WAITING: usize = 1;
 
 const STARTED: usize = 2;
 
-const LINKS: usize = 3;
-
 const CONNECTIONS: usize = 4;
+
+const COUNTS: usize = 3;
+
+const LINKS: usize = COUNTS + CONNECTIONS;
 
 pub const WAITING_PLACES: usize = 64;
 
@@ -126,14 +128,12 @@ pub fn find(m: &[u64], which: Which, key: Key) -> usize
     places::find(&m[a..e], n, key)
 }
 
-// How many of the waiting are each connection's.
-pub fn tally(m: &[u64]) -> [usize; 4]
+// 02, CR 2: how many of the waiting are each connection's, as they are kept.
+pub fn tally(m: &[u64]) -> [u64; 4]
     requires { ⌜ Form (now m) ⌝ }
-    requires { ⌜ All OfFour (sessions Waiting (now m)) ⌝ }
     ensures { λ r. ⌜ r ≡ tallied (sessions Waiting (now (m .entry))) ⌝ }
 {
-    let n = count(m, Which::Waiting);
-    places::tally(&m[WAITING_FROM..STARTED_FROM], n)
+    [m[COUNTS], m[COUNTS + 1], m[COUNTS + 2], m[COUNTS + 3]]
 }
 
 // The first end of the started.
@@ -155,22 +155,21 @@ pub fn first_start(m: &[u64]) -> When
     places::first_start(&m[WAITING_FROM..STARTED_FROM], n)
 }
 
-// x in place of the session `at`.
-pub fn replace(m: &mut [u64], which: Which, at: usize, x: Session)
+// x in place of the started session `at`.
+pub fn replace(m: &mut [u64], at: usize, x: Session)
     requires { ⌜ Form (now m) ⌝ }
-    requires { ⌜ at < length (sessions which (now m)) ⌝ }
-    ensures { λ _. ⌜ Now (now (m .exit)) (relisted which (set (sessions which (now (m .entry))) at x) (see (now (m .entry)))) ⌝ }
+    requires { ⌜ at < length (sessions Started (now m)) ⌝ }
+    ensures { λ _. ⌜ Now (now (m .exit)) (relisted Started (set (sessions Started (now (m .entry))) at x) (see (now (m .entry)))) ⌝ }
 {
-    let n = count(&*m, which);
-    let a = from(which);
-    let e = to(which);
-    places::replace_at(&mut m[a..e], n, at, x)
+    let n = count(&*m, Which::Started);
+    places::replace_at(&mut m[STARTED_FROM..WORDS], n, at, x)
 }
 
-// x before the session `at`.
+// x before the session `at`. One that waits counts for its connection.
 pub fn insert(m: &mut [u64], which: Which, at: usize, x: Session)
     requires { ⌜ Form (now m) ⌝ }
     requires { ⌜ (at ≤ length (sessions which (now m))) × (length (sessions which (now m)) < placesOf which) ⌝ }
+    requires { ⌜ Countable which x ⌝ }
     ensures { λ _. ⌜ Now (now (m .exit)) (relisted which (insertAt at x (sessions which (now (m .entry)))) (see (now (m .entry)))) ⌝ }
 {
     let n = count(&*m, which);
@@ -179,26 +178,36 @@ pub fn insert(m: &mut [u64], which: Which, at: usize, x: Session)
     places::insert_at(&mut m[a..e], n, at, x);
     let i = slot(which);
     m[i] = (n + 1) as u64;
+    if let Which::Waiting = which {
+        let c = COUNTS + x.conn as usize;
+        m[c] += 1;
+    }
 }
 
-// Without the session `at`.
+// Without the session `at`, which no longer counts.
 pub fn remove(m: &mut [u64], which: Which, at: usize)
     requires { ⌜ Form (now m) ⌝ }
     requires { ⌜ at < length (sessions which (now m)) ⌝ }
     ensures { λ _. ⌜ Now (now (m .exit)) (relisted which (removeAt at (sessions which (now (m .entry)))) (see (now (m .entry)))) ⌝ }
 {
+    let gone = load(&*m, which, at);
     let n = count(&*m, which);
     let a = from(which);
     let e = to(which);
     places::remove_at(&mut m[a..e], n, at);
     let i = slot(which);
     m[i] = (n - 1) as u64;
+    if let Which::Waiting = which {
+        let c = COUNTS + gone.conn as usize;
+        m[c] -= 1;
+    }
 }
 
 // Without the connection's, where `left` are others'.
 pub fn omit_of(m: &mut [u64], which: Which, conn: u64, left: usize)
     requires { ⌜ Form (now m) ⌝ }
     requires { ⌜ left ≡ length (omit (of conn) (sessions which (now m))) ⌝ }
+    requires { ⌜ conn ≤ 3 ⌝ }
     ensures { λ _. ⌜ Now (now (m .exit))
         (relisted which (omit (of conn) (sessions which (now (m .entry)))) (see (now (m .entry)))) ⌝ }
 {
@@ -208,6 +217,10 @@ pub fn omit_of(m: &mut [u64], which: Which, conn: u64, left: usize)
     places::omit_of(&mut m[a..e], n, conn, left);
     let i = slot(which);
     m[i] = left as u64;
+    if let Which::Waiting = which {
+        let c = COUNTS + conn as usize;
+        m[c] = 0;
+    }
 }
 
 // The clock.

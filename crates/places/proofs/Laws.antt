@@ -1,5 +1,5 @@
 -- Laws of the list in lent places: it is padded with empty ones, a shift moves a hole, a loop has passed a part of it.
-use mathlib.Core.Path.{_≡_, refl, sym, ap, ap₂, subst, _∙_}
+use mathlib.Core.Path.{_≡_, refl, sym, ap, ap₂, _∙_}
 use mathlib.Core.List.{List, [], _∷_, _++_, append-assoc}
 use mathlib.Core.Bool.{Bool, true, false, not}
 use Prim.Native.Nat.{ℕ, zero, suc, _+_, _-_, _/_, _≤_, _<_}
@@ -7,18 +7,15 @@ use native.Mathlib.Omega.{arith}
 use native.Mathlib.Numerals.{add-one}
 use native.Mathlib.Nat.{not-suc-le-zero, le-of-suc-le-suc}
 use lib.ListN.{length, take, drop, set, getD, replicate, length-append, length-set, length-take, length-drop, length-replicate, take-append-drop, drop-of-length-le}
-use lib.Seq.{getD-set-same, getD-set-other, ext-getD, drop-cons, drop-drop, take-length, length-take-le, take-take, getD-take, take-append-add, drop-append-add, take-at, drop-at, getD-drop, take-set-le, drop-set-add}
-use lib.Dec.{eqb}
-use borrow.Author.Tests.{eqb-true, eqb-false}
+use lib.Seq.{drop-cons, drop-drop, take-length, length-take-le, take-take, getD-take, take-append-add, drop-append-add, take-at, drop-at, getD-drop, take-set-le, drop-set-add}
 use Rattle.rules.specs.declared.Ninths.{Ninths}
 use Rattle.rules.specs.declared.When.the-variants.{At, Never}
 use Rattle.rules.specs.declared.Session.{Session}
-use Rattle.rules.specs.Lists.{All, bit, put, omit, place, count, insertAt, removeAt}
-use Rattle.rules.specs.State.{empty, of, Sorted, sooner, earliest}
-use Rattle.rules.proofs.All.{all-drop}
+use Rattle.rules.specs.Lists.{put, omit, place, insertAt, removeAt}
+use Rattle.rules.specs.State.{empty, Sorted, sooner, earliest}
 use Rattle.rules.proofs.Tick.{earliest-none, earliest-next, earliest-last, earliest-start}
-use Rattle.rules.proofs.Count.{bit≤1, length-insertAt, length-removeAt, length-split, place≤}
-use Rattle.places.specs.Places.{capacity, Lot, lot, places, spare, zeros, free, Good, used, OfFour, tallied}
+use Rattle.rules.proofs.Count.{length-insertAt, length-removeAt, length-split, place≤}
+use Rattle.places.specs.Places.{capacity, Lot, lot, places, spare, zeros, free, Good, used}
 use Rattle.places.proofs.Words.{length-places, places-zero, places-same}
 
 -- ## Lists
@@ -232,10 +229,6 @@ module _ (q : List ℕ) (n at : ℕ) (g : Good (lot q n)) (h : at < n) where
 abbrev pub Sought : (Session → Bool) → Lot → ℕ → Type 0
 Sought p q i = (i ≤ q .len) × (place p (used q) ≡ i + place p (drop i (used q)))
 
--- n among the first i
-abbrev pub Counted : (Session → Bool) → Lot → ℕ → ℕ → Type 0
-Counted p q i n = (i ≤ q .len) × (count p (used q) ≡ n + count p (drop i (used q)))
-
 -- b among the first i
 abbrev pub Earliest : (Session → Ninths) → Lot → ℕ → Ninths → Type 0
 Earliest f q i b = (i ≤ q .len) × (earliest f (used q) ≡ sooner (At b) (earliest f (drop i (used q))))
@@ -274,75 +267,6 @@ unfolding place
 sought-out p q i g h s =
     let f : place p (drop i (used q)) ≡ 0 = rw (at-end q i g h) refl in
     omega (arith, s .1)
-
-pub counted-none : (p : Session → Bool) (q : Lot) → Counted p q 0 0
-counted-none p q = (omega arith, omega arith)
-
-pub counted-more : (p : Session → Bool) (b : Bool) (q : Lot) (i n k : ℕ) (d : Session) → Good q → i < q .len → p (getD (used q) i d) ≡ b → k ≡ n + bit b →
-    Counted p q i n → Counted p q (i + 1) k
-counted-more p b q i n k d g h e m s =
-    let f : count p (drop i (used q)) ≡ bit b + count p (drop (i + 1) (used q)) = rw (head q i d g h, e) refl in
-    (omega arith, omega (arith, s .1))
-
-pub counted-out : (p : Session → Bool) (q : Lot) (i n : ℕ) → Good q → q .len ≤ i → Counted p q i n → n ≡ count p (used q)
-counted-out p q i n g h s =
-    let f : count p (drop i (used q)) ≡ 0 = rw (at-end q i g h) refl in
-    omega (arith, s .1)
-
--- ## A tally: each connection's among the first i
-
-pub record Tally (q : Lot) (i : ℕ) (t : List ℕ) : Type 0 where
-  pub four : length t ≡ 4
-  pub each : (c : ℕ) → Counted (of c) q i (getD t c 0)
-  pub few : (c : ℕ) → getD t c 0 ≤ i
-
--- the place's connection is one of the four
-pub of-four : (q : Lot) (i : ℕ) (x : Session) → Good q → i < q .len → x ≡ getD (used q) i empty → All OfFour (used q) → OfFour x
-of-four q i x g h e a = rw e (subst (All OfFour) (head q i empty g h) (all-drop OfFour i (used q) a) .0)
-
-pub tally-none : (q : Lot) → Tally q 0 (zeros 4)
-tally-none q =
-    record {
-      four = refl;
-      each = λ c. rw (none 4 c) (counted-none (of c) q);
-      few = λ c. omega (arith, none 4 c);
-    }
-  where
-    none : (n c : ℕ) → getD (zeros n) c 0 ≡ 0
-    none zero c = refl
-    none (suc n) zero = refl
-    none (suc n) (suc c) = none n c
-
-pub tally-more : (q : Lot) (i : ℕ) (t : List ℕ) (x : Session) → Good q → i < q .len → x ≡ getD (used q) i empty → OfFour x →
-    Tally q i t → Tally q (i + 1) (set t (x .conn) (getD t (x .conn) 0 + 1))
-tally-more q i t x g h e low s =
-    record {
-      four = length-set t k (getD t k 0 + 1) ∙ s .four;
-      each = λ c. counted-more (of c) (eqb c k) q i (getD t c 0) _ empty g h (ap (of c) (sym e)) (counts c (eqb c k) refl) (s .each c);
-      few = λ c. omega (arith, s .few c, counts c (eqb c k) refl, bit≤1 (eqb c k));
-    }
-  where
-    k : ℕ
-    k = x .conn
-
-    counts : (c : ℕ) (b : Bool) → eqb c k ≡ b → getD (set t k (getD t k 0 + 1)) c 0 ≡ getD t c 0 + bit b
-    counts c true f =
-        let f : c ≡ k = eqb-true c k f in
-        rw f (getD-set-same t k (getD t k 0 + 1) 0 (omega (arith, s .four)))
-    counts c false f = getD-set-other t k c (getD t k 0 + 1) 0 (eqb-false c k f) ∙ omega arith
-
-pub tallied-at : (l : List Session) (c : ℕ) → c ≤ 3 → getD (tallied l) c 0 ≡ count (of c) l
-unfolding tallied
-tallied-at l zero h = refl
-tallied-at l (suc zero) h = refl
-tallied-at l (suc (suc zero)) h = refl
-tallied-at l (suc (suc (suc zero))) h = refl
-tallied-at l (suc (suc (suc (suc c)))) h = absurd (omega arith)
-
-pub tally-out : (q : Lot) (i : ℕ) (t : List ℕ) → Good q → q .len ≤ i → Tally q i t → t ≡ tallied (used q)
-unfolding tallied
-tally-out q i t g h s =
-    ext-getD 0 t (tallied (used q)) (s .four) (λ c l. counted-out (of c) q i (getD t c 0) g h (s .each c) ∙ sym (tallied-at (used q) c (omega (arith, s .four))))
 
 -- ## The first end, and the first start of those in order of start
 

@@ -6,7 +6,6 @@ use Prim.Native.Nat.{ℕ, zero, suc, _-_, _*_, _/_, _≤_}
 use lib.Dec.{leb}
 use lib.ListN.{length, take, drop, set, getD, replicate}
 use Rattle.rules.specs.declared.Session.{Session}
-use Rattle.rules.specs.Answers.{waits}
 use Rattle.rules.specs.State.{empty, is, follows, startsAfter}
 use Rattle.places.specs.declared.Key.{Key}
 use Rattle.places.specs.declared.Key.the-variants.{Held, Follows, StartsFrom, StartsAfter}
@@ -80,14 +79,6 @@ pub record Made (e o : List ℕ) (n : ℕ) (u : List Session) : Type 0 where
   pub good : Good (lot o n)
   pub list : used (lot o n) ≡ u
   pub rest : spare o ≡ spare e
-
--- each connection is one of four
-abbrev pub OfFour : Session → Type 0
-OfFour s = s .conn ≤ 3
-
--- how many are each connection's
-unfoldable pub tallied : List Session → List ℕ
-tallied l = waits 0 l ∷ waits 1 l ∷ waits 2 l ∷ waits 3 l ∷ []
 
 -- s starts at t or later
 abbrev pub startsFrom : ℕ → Session → Bool

@@ -7,11 +7,11 @@ use rules::When;
 ghost use mathlib.Core.Path.{_≡_};
 ghost use Prim.Native.Nat.{_+_, _-_, _≤_, _<_};
 ghost use lib.ListN.{length, drop, set, getD};
-ghost use Rattle.rules.specs.Lists.{All, omit, place, insertAt, removeAt};
+ghost use Rattle.rules.specs.Lists.{omit, place, insertAt, removeAt};
 ghost use Rattle.rules.specs.State.{empty, of, Sorted, earliest};
 ghost use Rattle.rules.specs.Instants.{outranks};
 ghost use Rattle.rules.specs.Answers.{inserted};
-ghost use Rattle.places.specs.Places.{capacity, places, spare, lot, used, moved, Good, Made, OfFour, tallied, keyTest};
+ghost use Rattle.places.specs.Places.{capacity, places, spare, lot, used, moved, Good, Made, keyTest};
 
 // The words of a place.
 pub const WIDTH: usize = 8;
@@ -209,23 +209,6 @@ pub fn omit_of(q: &mut [u64], n: usize, conn: u64, left: usize)
         }
     }
     drop_first(&mut *q, n, n - left)
-}
-
-// How many are each connection's.
-pub fn tally(q: &[u64], n: usize) -> [usize; 4]
-    requires { ⌜ Good (lot (now q) n) ⌝ }
-    requires { ⌜ All OfFour (used (lot (now q) n)) ⌝ }
-    ensures { λ r. ⌜ r ≡ tallied (used (lot (now (q .entry)) n)) ⌝ }
-{
-    let mut t = [0; 4];
-    let mut i = 0;
-    while i < n {
-        let x = load(q, n, i);
-        let c = x.conn as usize;
-        t[c] += 1;
-        i += 1;
-    }
-    t
 }
 
 // The first end.

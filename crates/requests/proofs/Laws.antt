@@ -35,16 +35,16 @@ use Rattle.rules.proofs.Records.{length-record}
 use Rattle.rules.proofs.Size.{weight-one, evicted-lean}
 use Rattle.rules.proofs.Bounds.{never, start-early}
 use Rattle.rules.proofs.Sound.{early}
-use Rattle.places.specs.Places.{OfFour, startsFrom}
+use Rattle.places.specs.Places.{startsFrom}
 use Rattle.memory.specs.declared.Which.{Which}
 use Rattle.memory.specs.declared.Which.the-variants.{Waiting, Started}
-use Rattle.memory.specs.Memory.{Memory, Form, see, sessions, listOf, relisted, Now, placesOf}
+use Rattle.memory.specs.Memory.{Memory, Form, see, sessions, listOf, relisted, Now, placesOf, OfFour}
 use Rattle.ends.specs.Does.{Turns, Does, oneEnded, chainEnded, endingAt}
 use Rattle.ends.proofs.Laws.{tells-part, turns-quiet, turns-writes, turns-then}
 use Rattle.checks.specs.declared.Where.{Where}
 use Rattle.checks.specs.declared.Where.the-variants.{In}
 use Rattle.checks.specs.Found.{startIn, whereIn}
-use Rattle.checks.proofs.Laws.{HeldAt, held-at, held-alone, start-known, taken-at, free-at, taken-within, result-none, waiting-of-four}
+use Rattle.checks.proofs.Laws.{HeldAt, held-at, held-alone, start-known, taken-at, free-at, taken-within, result-none}
 use Rattle.requests.specs.declared.Way.{Way}
 use Rattle.requests.specs.Made.{MadeWay}
 
@@ -158,10 +158,14 @@ module _ (c : ℕ) (r : Request) (m : List ℕ) {new : Session} {n : ℕ} (a : n
   result-is : n ≡ spliceResult (see m .clock) c r (requested c r q) q
   result-is = f ∙ ap (λ (s : Session). spliceResult (see m .clock) c r s q) a
 
-  pub room-waiting : n ≡ 100 → c ≤ 3 → Holding (see m .clock) q → length (q .waiting) < placesOf Waiting
+  pub four : c ≤ 3 → OfFour new
   unfolding requested sessionAt
-  room-waiting h low k =
-      room-left (requested c r q) (q .waiting) low (waiting-of-four (see m .clock) q k) (k .room)
+  four low = rw a low
+
+  pub room-waiting : n ≡ 100 → c ≤ 3 → Form m → Holding (see m .clock) q → length (q .waiting) < placesOf Waiting
+  unfolding requested sessionAt
+  room-waiting h low k j =
+      room-left (requested c r q) (q .waiting) low (k .ofFour) (j .room)
       (passed-all (see m .clock) c r q (sym result-is ∙ h) .room)
 
   answer-is : cond (eqb n 100) (accepted new q) (writes (SpliceResponse c n (r .id) ∷ []) q) ≡ answerSplice (see m .clock) c r q

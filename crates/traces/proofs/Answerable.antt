@@ -15,7 +15,7 @@ use Rattle.rules.specs.Sound.{Reached}
 use Rattle.rules.proofs.Bytes.{nameIn-zero}
 use Rattle.rules.proofs.Sound.{few-wait, few-started, reached-call, reached-sound}
 use Rattle.memory.specs.Memory as lent
-use Rattle.memory.proofs.Laws.{cleared-now}
+use Rattle.memory.proofs.Laws.{waiting-of-four, cleared-now}
 use Rattle.memory.proofs.Names.{named, name-short}
 use Rattle.memory.proofs.Packed.{stood, stood-now}
 use Rattle.engine.specs.declared.Answer.{Answer}
@@ -43,7 +43,8 @@ answered : (c : Called) (e : List ℕ) → Reached (c .splicer)
 answered c e r =
     let s = c .splicer in
     let x = reached-sound s r in
-    let w = stood-now (seen s) (x .linking .four) (few-wait (x .holding)) (few-started (x .holding)) in
+    let w = stood-now (seen s) (x .linking .four) (few-wait (x .holding)) (few-started (x .holding))
+    (waiting-of-four (s .clock) (s .queue) (x .holding)) in
     let b = named (s .name) (x .linking .zeros) (omega (arith, x .linking .short)) in
     let same : shown (memoryOf s) ≡ s =
     λ i. record { name = b .is i; clock = w .is i .clock; links = w .is i .links; queue = w .is i .queue } in

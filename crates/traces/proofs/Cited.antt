@@ -22,7 +22,7 @@ use Rattle.rules.specs.Lists.{All}
 use Rattle.rules.specs.Calls as rules
 use Rattle.rules.specs.Calls.{call}
 use Rattle.engine.specs.declared.Answer.{Answer}
-use Rattle.engine.specs.Lent.{Answers}
+use Rattle.engine.specs.Lent.{Answers, Counts}
 use Rattle.engine.proofs.Held.{kind, Holds, Same, both, number-held, bytes-held}
 use Rattle.engine.proofs.fresh as fresh
 use Rattle.engine.proofs.«open» as opening
@@ -30,6 +30,7 @@ use Rattle.engine.proofs.close as close
 use Rattle.engine.proofs.message as message
 use Rattle.engine.proofs.tick as tick
 use Rattle.engine.proofs.bring_to as bringing
+use Rattle.engine.proofs.waiting as waiting
 use Rattle.traces.specs.Trace.{Memory, shown, Input, anOpen, aClose, aMessage, aTick, aMove, Typed, callOf, bufferOf, Result, Allowed}
 use Rattle.traces.proofs.Course.{LentAt}
 
@@ -118,6 +119,14 @@ module _ {M : Type 1} (𝓤 : URA M) (H : Heap 𝓤) (A : Atoms 𝓤) (mem : sto
     pub move-ensures : bringing.clauses 𝓤 H A mem run κs a .ensures tt r z
         ≡ ⌜ Allowed move-at (aMove (a .1 .1 .0 .0) (now (a .1 .1 .1 .0))) (ended r (now (z .0)) (now (z .1 .0)) (now (z .1 .1 .1 .0))) ⌝
     move-ensures = refl
+
+  -- waiting(m, b)
+  module _ (κs : Lfts 2) (a : Args waiting.signature κs) (r : Res waiting.signature κs) (z : AtExit waiting.ended κs) where
+    pub waiting-requires : waiting.clauses 𝓤 H A mem run κs a .requires tt ≡ ⌜ LentAt (at (now (a .0)) (now (a .1 .0))) ⌝
+    waiting-requires = refl
+
+    pub waiting-ensures : waiting.clauses 𝓤 H A mem run κs a .ensures tt r z ≡ ⌜ Counts (now (a .0)) (now (a .1 .0)) r ⌝
+    waiting-ensures = refl
 
 -- ## What Allowed says is of the call `callOf`
 

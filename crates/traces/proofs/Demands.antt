@@ -1,7 +1,7 @@
 -- The customer's demands as theorems about the calls of `engine`, each under its sentence; driven/proofs/Demands has them of the calls for
 -- C. The only hypothesis is a trace (specs/Trace): fresh, then any calls with any inputs, each result one that the call's contract allows;
 -- proofs/Cited holds it to the contracts in engine/src/lib.rt. No axiom, no hole.
-use mathlib.Core.Path.{_≡_}
+use mathlib.Core.Path.{_≡_, sym, _∙_}
 use mathlib.Core.Bool.{true, false, cond}
 use mathlib.Core.List.{List, [], _∷_, _++_}
 use Prim.Native.Nat.{ℕ, _+_, _≤_, _<_}
@@ -16,9 +16,11 @@ use Rattle.rules.specs.Answers.{requested, spliceResult}
 use Rattle.rules.specs.Calls.{lending, fresh, after}
 use Rattle.demands.specs.History.{startsOf, endsOf, history, last, othersOf, waitingCount, book, clockAfter}
 use Rattle.engine.specs.declared.Answer.the-variants.{Refused}
-use Rattle.engine.specs.Lent.{Lent}
-use Rattle.demands.specs.Told.{firstNumber, checks, answers, Asks, Passes, fullTold, outsOf, startedTold, unended, Ended, Stands}
+use Rattle.memory.specs.Memory.{countsOf, tallied}
+use Rattle.engine.specs.Lent.{Lent, Counts}
+use Rattle.demands.specs.Told.{firstNumber, checks, answers, Asks, Passes, fullTold, countsTold, outsOf, startedTold, unended, Ended, Stands}
 use Rattle.demands.proofs.Demands as told
+use Rattle.demands.proofs.Waiting.{waiting-counted}
 use Rattle.traces.specs.Trace.{Memory, emptyMemory, shown, Input, aClose, aMessage, Typed, callOf, bufferOf, Result, Made, made, Trace, More, Point, numberIn, number, bytesOf, events, calls, inputs, Answerable, Run, AsRuled}
 use Rattle.traces.proofs.Steps.{wired, as-ruled, number-first, unchanged}
 use Rattle.traces.proofs.Course.{trace-lent, trace-history, trace-told, trace-more, trace-point, trace-same, fresh-number, fresh-empty}
@@ -158,3 +160,17 @@ module _ (name : List ℕ) (h g : List Made) (m : Memory) (d : ℕ) (e : List �
       → endsOf d x (othersOf (callOf i) (recordsIn (bytesOf o))) ≤ unended d x (closed-stays-ended .newer)
   the-incident i o c x =
       le-trans (ends-are-owed name (h ++ (made (aClose d e) r ∷ g)) m i o c d x) (unended-newer d x _ _ closed-stays-ended)
+
+-- ## Document 02, CR 2
+
+module _ (name : List ℕ) (h : List Made) (m : Memory) where
+  -- "Demand 3 still counts from the answers, and the stored number is shown equal to that."
+  pub stored-as-told : Trace name h m → countsOf (m .words) ≡ countsTold (events h)
+  unfolding tallied
+  stored-as-told t =
+      let n = waiting-counted (events h) (shown m) (trace-told name h m t) in
+      rw (n 0, n 1, n 2, n 3) (trace-lent name h m t .whole .words .counts)
+
+  -- and so is what is read: every result that the read's contract allows
+  pub read-as-told : Trace name h m → (r : List ℕ) → Counts (m .words) (m .bytes) r → r ≡ countsTold (events h)
+  read-as-told t r c = c ∙ sym (trace-lent name h m t .whole .words .counts) ∙ stored-as-told t

@@ -17,13 +17,13 @@ array-read-n c = search needs
 returns : tie.Need-returns
 returns c =
     let s = c .before .before .before in
-    full-twenty (see (s .args .m .now) .queue .waiting) (c .before .tally .ensures) (s .args .conn) (s .pre .1 .1) (c .if1 .taken)
+    full-twenty (see (s .args .m .now) .queue .waiting) (c .before .tally .ensures) (s .args .conn) (s .pre .1) (c .if1 .taken)
 
 returns-2 : tie.Need-returns-2
 returns-2 c =
     let counted = c .before .before in
     let s = counted .before .before in
-    full-few (see (s .args .m .now) .queue .waiting) (counted .tally .ensures) (s .args .conn) (s .pre .1 .1)
+    full-few (see (s .args .m .now) .queue .waiting) (counted .tally .ensures) (s .args .conn) (s .pre .1)
     (c .before .if1 .left) (c .if2 .taken)
 
 raised-sum-requires : tie.Need-raised-sum-requires
@@ -36,7 +36,7 @@ returns-3 : tie.Need-returns-3
 returns-3 c =
     let counted = c .before .before .before in
     let s = counted .before .before in
-    full-sum (see (s .args .m .now) .queue .waiting) (counted .tally .ensures) (s .args .conn) (s .pre .1 .1)
+    full-sum (see (s .args .m .now) .queue .waiting) (counted .tally .ensures) (s .args .conn) (s .pre .1)
     (c .before .before .if1 .left) (c .before .if2 .left) (c .raised-sum .ensures)
 
 pub is-full-spec : {M : Type 1} → statement M

@@ -1,6 +1,6 @@
 -- The tests are asked in the order of a to e; the start is known, so that b asks nothing of the prior.
 use Rattle.memory.specs.Memory.{see}
-use Rattle.checks.proofs.Laws.{waiting-of-four, result-110, result-121, result-112, result-109, result-114, result-100}
+use Rattle.checks.proofs.Laws.{result-110, result-121, result-112, result-109, result-114, result-100}
 use borrow.Author.Needs.{needs}
 use Rattle.checks.proofs.splice_result.Statement.{statement}
 use Rattle.checks.proofs.splice_result.Tie as tie
@@ -66,8 +66,7 @@ returns-4 c =
 is-full-requires : tie.Need-is-full-requires
 is-full-requires c κs =
     let s = c .before .before .before .before .before .before .before .before .before .before .before in
-    let m = see (s .args .m .now) in
-    (s .pre .0, (waiting-of-four (m .clock) (m .queue) (s .pre .1 .0), s .pre .1 .1 .1 .0))
+    (s .pre .0, s .pre .1 .1 .1 .0)
 
 returns-5 : tie.Need-returns-5
 returns-5 c =

@@ -21,7 +21,7 @@ count-requires : tie.Need-count-requires Inv-loop μ-loop
 count-requires c κs = search needs
 
 loop-holds : tie.Need-loop-holds Inv-loop μ-loop
-loop-holds c = let s = c .before .before .before .before in theirs-none (sessions (s .args .which) (s .args .m .now)) (s .pre .1)
+loop-holds c = let s = c .before .before .before .before in theirs-none (sessions (s .args .which) (s .args .m .now)) (s .pre .1 .1)
 
 load-requires : tie.Need-load-requires Inv-loop μ-loop
 load-requires c κs =
@@ -64,7 +64,8 @@ omit-of-requires c κs =
     let n = c .before .before .before in
     let s = n .before .before .before .before in
     let list = sessions (s .args .which) (s .args .m .now) in
-    (s .pre .0, theirs-left list (c .before .before .loop .inv) (omega (arith, n .count .ensures, c .before .loop-test .left)))
+    let left = theirs-left list (c .before .before .loop .inv) (omega (arith, n .count .ensures, c .before .loop-test .left)) in
+    (s .pre .0, (left, s .pre .1 .0))
 
 same-length : tie.Need-same-length Inv-loop μ-loop
 same-length c = c .before .before .before .loop .inv .writes .long

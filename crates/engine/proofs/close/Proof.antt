@@ -34,8 +34,8 @@ end-all-of-requires c κs =
     let test-open = c .before .before .before .before .test-open in
     let enum-told = c .before .before .enum-told in
     let h = holding (s .pre) in
-    let roomy = test-past (s .args .conn) (length (s .args .out .now)) (see (s .args .m .now) .links) (sym (enum-told .given .1) ∙ test-open .ensures) .1 in
-    (s .pre .whole .words, (playable Started (s .args .m .now) h, room-all h roomy))
+    let past = test-past (s .args .conn) (length (s .args .out .now)) (see (s .args .m .now) .links) (sym (enum-told .given .1) ∙ test-open .ensures) in
+    (s .pre .whole .words, (playable Started (s .args .m .now) h, (past .0, room-all h (past .1))))
 
 set-link-requires : tie.Need-set-link-requires
 set-link-requires c κs =

@@ -28,7 +28,7 @@ insert-requires c κs =
     let may = c .before .before .before .before .before in
     let s = may .before .before .before .before .before in
     let f = sym (may .before .may-start .ensures) ∙ may .if1 .taken in
-    (s .pre .0, (omega arith, on-placed (s .args .x) (see (s .args .m .now) .queue) f (s .pre .1 .0)))
+    (s .pre .0, ((omega arith, on-placed (s .args .x) (see (s .args .m .now) .queue) f (s .pre .1 .0)), tt))
 
 add-result : tie.Need-add-result
 add-result c = search needs

@@ -1,12 +1,20 @@
--- The part comes back changed, and then the count: all else shows as before (`changed-at`).
+-- The part comes back changed, and then the count: all else shows as before (`changed-at`). One that waits has its connection's count
+-- changed with it (`removed-now`).
 use mathlib.Core.Path.{ap, _∙_}
+use Prim.Native.Nat.{_-_}
 use native.Mathlib.Omega.{arith}
+use lib.ListN.{set}
+use borrow.Rule.Slice.PartMut.{putMid}
 use Rattle.rules.specs.Lists.{removeAt}
 use Rattle.places.specs.Places.{Lot, used}
-use Rattle.memory.proofs.Laws.{lot-at, good-at, changed-at}
+use Rattle.memory.specs.Memory.{sessions, OfFour}
+use Rattle.memory.proofs.Laws.{lot-at, good-at, Changed, changed-at, started-now, one-of-four, one-waits, removed-now, count-word}
 use borrow.Author.Needs.{needs}
 use Rattle.memory.proofs.remove.Statement.{statement}
 use Rattle.memory.proofs.remove.Tie as tie
+
+load-requires : tie.Need-load-requires
+load-requires c κs = search needs
 
 count-requires : tie.Need-count-requires
 count-requires c κs = search needs
@@ -31,7 +39,7 @@ part-remove-at-end c = search needs
 
 remove-at-requires : tie.Need-remove-at-requires
 remove-at-requires c κs =
-    let s = c .before .before .before .before .before .before in
+    let s = c .before .before .before .before .before .before .before .before in
     let count = c .before .before .before .count in
     let from = c .before .before .from in
     let to = c .before .to in
@@ -49,25 +57,82 @@ mul-m c = search needs
 slice-write-m : tie.Need-slice-write-m
 slice-write-m c = search needs
 
+-- the words so far: what is left to do is the connection's count
+so-far : (c : tie.After-slot) →
+    let s = c .before .before .before .before .before .before .before .before .before .before .before .before in
+    let count = c .before .before .before .before .before .before .before .count in
+    let from = c .before .before .before .before .before .before .from in
+    let to = c .before .before .before .before .before .to in
+    let remove-at = c .before .before .before .remove-at in
+    Changed (s .args .which) (s .args .m .now) (set (putMid (from .result) (to .result - from .result) (s .args .m .now) (remove-at .last .0)) (c .slot .result) (count .result - 1))
+    (removeAt (s .args .at) (sessions (s .args .which) (s .args .m .now)))
+so-far c =
+    let s = c .before .before .before .before .before .before .before .before .before .before .before .before in
+    let count = c .before .before .before .before .before .before .before .count in
+    let from = c .before .before .before .before .before .before .from in
+    let to = c .before .before .before .before .before .to in
+    let remove-at = c .before .before .before .remove-at in
+    let l = lot-at (s .args .which) (from .ensures .0) (to .ensures .0) (s .pre .0) (count .ensures) in
+    changed-at (s .args .which) (from .ensures .0) (to .ensures .0) (s .pre .0) (remove-at .last .0) (remove-at .kept .0) (count .result - 1) (c .slot .ensures .0)
+    (remove-at .ensures .good) (remove-at .ensures .list ∙ ap (λ (x : Lot). removeAt (s .args .at) (used x)) l)
+
+enum-told : tie.Need-enum-told
+enum-told c = search needs
+
+low : (c : tie.After-enum-told) → OfFour (c .before .before .before .before .before .before .before .before .before .before .before .load .result)
+low c =
+    let slot = c .before .before in
+    let s = slot .before .before .before .before .before .before .before .before .before .before .before .before in
+    one-of-four (c .enum-told .given .1) (s .pre .0) (s .args .at) (slot .before .before .before .before .before .before .before .before .before .load .result) (s .pre .1) (slot .before .before .before .before .before .before .before .before .before .load .ensures)
+
+add-c : tie.Need-add-c
+add-c c = omega (arith, low c)
+
+mul-m-2 : tie.Need-mul-m-2
+mul-m-2 c = omega (arith, low c)
+
+slice-read-m : tie.Need-slice-read-m
+slice-read-m c = omega (arith, low (c .before), so-far (c .before .before .before) .shown .whole)
+
+-- one of its connection's stands in the list
+sub-m-2 : tie.Need-sub-m-2
+sub-m-2 c =
+    let slot = c .before .before .before in
+    let s = slot .before .before .before .before .before .before .before .before .before .before .before .before in
+    let load = slot .before .before .before .before .before .before .before .before .before .load in
+    let word = count-word (c .before .enum-told .given .1) (s .pre .0) (so-far slot) (load .result .conn) (low (c .before)) in
+    omega (arith, word, one-waits (s .args .at) (sessions (s .args .which) (s .args .m .now)) (load .result) (s .pre .1) (load .ensures))
+
+slice-write-m-2 : tie.Need-slice-write-m-2
+slice-write-m-2 c = slice-read-m c
+
+enum-told-2 : tie.Need-enum-told-2
+enum-told-2 c = search needs
+
 same-length : tie.Need-same-length
 same-length c = search needs
 
 returns : tie.Need-returns
 returns c =
-    let s = c .before .before .before .before .before .before .before .before .before .before in
-    let count = c .before .before .before .before .before .before .before .count in
-    let from = c .before .before .before .before .before .before .from in
-    let to = c .before .before .before .before .before .to in
-    let remove-at = c .before .before .before .remove-at in
-    let slot = c .slot in
-    let l = lot-at (s .args .which) (from .ensures .0) (to .ensures .0) (s .pre .0) (count .ensures) in
-    changed-at (s .args .which) (from .ensures .0) (to .ensures .0) (s .pre .0) (remove-at .last .0) (remove-at .kept .0) _ (slot .ensures .0)
-    (remove-at .ensures .good) (remove-at .ensures .list ∙ ap (λ (x : Lot). removeAt (s .args .at) (used x)) l)
+    let slot = c .before .before .before in
+    let s = slot .before .before .before .before .before .before .before .before .before .before .before .before in
+    let load = slot .before .before .before .before .before .before .before .before .before .load in
+    removed-now (c .before .enum-told .given .1) (s .pre .0) (s .args .at) (load .result) (s .pre .1) (load .ensures) (so-far slot)
+
+same-length-2 : tie.Need-same-length-2
+same-length-2 c = search needs
+
+returns-2 : tie.Need-returns-2
+returns-2 c =
+    let slot = c .before .before in
+    let s = slot .before .before .before .before .before .before .before .before .before .before .before .before in
+    started-now (c .enum-told2 .given .1) (s .pre .0) (so-far slot)
 
 pub remove-spec : {M : Type 1} → statement M
 remove-spec =
     tie.close
     (tie.spec
+    load-requires
     count-requires
     from-requires
     to-requires
@@ -80,5 +145,14 @@ remove-spec =
     sub-m
     mul-m
     slice-write-m
+    enum-told
+    add-c
+    mul-m-2
+    slice-read-m
+    sub-m-2
+    slice-write-m-2
+    enum-told-2
     same-length
-    returns)
+    returns
+    same-length-2
+    returns-2)

@@ -1,37 +1,44 @@
--- The part that is lent is the list's lot (`lot-at`).
-use mathlib.Core.Path.{refl, sym, ap, subst, _∙_}
-use Rattle.rules.specs.Lists.{All}
-use Rattle.places.specs.Places.{Lot, used, OfFour, tallied}
-use Rattle.memory.specs.declared.Which.the-variants.{Waiting}
-use Rattle.memory.proofs.Laws.{lot-at, good-at}
+-- The four words are the counts (`counts-read`).
+use mathlib.Core.Path.{_∙_}
+use Rattle.memory.proofs.Laws.{counts-read}
 use borrow.Author.Needs.{needs}
 use Rattle.memory.proofs.tally.Statement.{statement}
 use Rattle.memory.proofs.tally.Tie as tie
 
-count-requires : tie.Need-count-requires
-count-requires c κs = search needs
+shared-slice-read-t3 : tie.Need-shared-slice-read-t3
+shared-slice-read-t3 c = search needs
 
-sub-tally : tie.Need-sub-tally
-sub-tally c = search needs
+add-t4 : tie.Need-add-t4
+add-t4 c = search needs
 
-part-tally-start : tie.Need-part-tally-start
-part-tally-start c = search needs
+mul-t5 : tie.Need-mul-t5
+mul-t5 c = search needs
 
-part-tally-end : tie.Need-part-tally-end
-part-tally-end c = search needs
+shared-slice-read-t7 : tie.Need-shared-slice-read-t7
+shared-slice-read-t7 c = search needs
 
-tally-requires : tie.Need-tally-requires
-tally-requires c κs =
-    let s = c .before .before .before in
-    let count = c .before .count in
-    let l = lot-at Waiting refl refl (s .pre .0) (count .ensures) in
-    (good-at Waiting refl refl (s .pre .0) (count .ensures), subst (λ (x : Lot). All OfFour (used x)) (sym l) (s .pre .1))
+add-t8 : tie.Need-add-t8
+add-t8 c = search needs
+
+mul-t9 : tie.Need-mul-t9
+mul-t9 c = search needs
+
+shared-slice-read-t11 : tie.Need-shared-slice-read-t11
+shared-slice-read-t11 c = search needs
+
+add-t12 : tie.Need-add-t12
+add-t12 c = search needs
+
+mul-t13 : tie.Need-mul-t13
+mul-t13 c = search needs
+
+shared-slice-read-t15 : tie.Need-shared-slice-read-t15
+shared-slice-read-t15 c = search needs
 
 returns : tie.Need-returns
 returns c =
     let s = c .before .before .before .before in
-    let count = c .before .before .count in
-    c .tally .ensures ∙ ap (λ (x : Lot). tallied (used x)) (lot-at Waiting refl refl (s .pre .0) (count .ensures))
+    counts-read (s .args .m .now) (s .pre .whole) ∙ s .pre .counts
 
 pub tally-spec : {M : Type 1} → statement M
-tally-spec = tie.close (tie.spec count-requires sub-tally part-tally-start part-tally-end tally-requires returns)
+tally-spec = tie.close (tie.spec shared-slice-read-t3 add-t4 mul-t5 shared-slice-read-t7 add-t8 mul-t9 shared-slice-read-t11 add-t12 mul-t13 shared-slice-read-t15 returns)
