@@ -67,6 +67,16 @@ static void report(const char *call, uint32_t of, struct splicer_reply reply) {
     }
 }
 
+/* How many sessions of each connection wait: cheap at any time between two calls. */
+static void counts(void) {
+    struct splicer_waiting w = splicer_call_waiting(&channel);
+    printf("waiting:");
+    for (uint32_t conn = 0; conn < SPLICER_CONNECTIONS; conn++) {
+        printf(" %u", (unsigned)w.count[conn]);
+    }
+    printf("\n");
+}
+
 static void connected(uint32_t conn) {
     report("open", conn, splicer_call_open(&channel, conn));
 }
@@ -179,6 +189,7 @@ int main(void) {
     /* a higher AccessType of another server over the first: 7 from 1,020 s for 10 s */
     end = splice(wire, 7, timed, 1020, 900000, 2, 1);
     heard(1, wire, (size_t)(end - wire));
+    counts();
     ticks(1010, 0);
     ticks(1025, 0);
     ticks(1024, 999999);
@@ -186,11 +197,13 @@ int main(void) {
     heard(0, wire, (size_t)(end - wire));
     end = abort_request(wire, 7);
     heard(1, wire, (size_t)(end - wire));
+    counts();
     ticks(1040, 0);
     ticks(1043, 0);
 
     /* the first server is gone while its second spot is on air */
     dropped(0);
+    counts();
     dropped(0);
     /* a header that announces more than a message may hold */
     end = header(wire, SPLICER_ALIVE_REQUEST, 4089);

@@ -35,7 +35,7 @@ extern "C" {
 /* The version of struct splicer and of the archive's functions. Their names carry it, and every call below refers to such a name, so
  * a header and an archive of two versions do not link. */
 enum {
-    SPLICER_VERSION = 2
+    SPLICER_VERSION = 3
 };
 
 /* Sizes. A message is a header of 8 bytes and at most 4,088 bytes of data. A buffer of SPLICER_OUT bytes takes the records of any
@@ -47,7 +47,7 @@ enum {
     SPLICER_MESSAGE = 4096,
     SPLICER_OUT = 4096,
     SPLICER_MARK = 2,
-    SPLICER_WORDS = 599,
+    SPLICER_WORDS = 603,
     SPLICER_BYTES = 32,
     SPLICER_REPLY = 3
 };
@@ -99,7 +99,7 @@ enum splicer_result {
 };
 
 /* One output channel. Opaque: its content is the core's, and unused places are zero. words: 0 the clock in ninths of a microsecond, 1 how
- * many wait, 2 how many have started, 3 to 6 the connections; then 64 places of 8 words for those that wait, then 10 for those that have
+ * many wait, 2 how many have started, 3 to 6 how many wait of each connection, 7 to 10 the connections; then 64 places of 8 words for those that wait, then 10 for those that have
  * started. In both the used places are the last ones, the first session next to the free places. bytes: the ChannelName. */
 struct splicer {
     uint64_t words[SPLICER_WORDS];
@@ -113,21 +113,28 @@ struct splicer_reply {
     size_t written;
 };
 
+/* For each connection the sessions that wait: accepted, and neither started nor ended. */
+struct splicer_waiting {
+    uint64_t count[SPLICER_CONNECTIONS];
+};
+
 /* The archive is made for machines on which these hold. */
 SPLICER_ASSERT(sizeof(size_t) == 8, "a length is 8 bytes");
-SPLICER_ASSERT(sizeof(struct splicer) == 4824, "size of struct splicer");
+SPLICER_ASSERT(sizeof(struct splicer) == 4856, "size of struct splicer");
 SPLICER_ASSERT(SPLICER_ALIGN(struct splicer) == 8, "alignment of struct splicer");
-SPLICER_ASSERT(SPLICER_OFFSET(struct splicer, bytes) == 4792, "layout of struct splicer");
+SPLICER_ASSERT(SPLICER_OFFSET(struct splicer, bytes) == 4824, "layout of struct splicer");
+SPLICER_ASSERT(sizeof(struct splicer_waiting) == 32, "size of struct splicer_waiting");
 
 /* The archive's functions, over the parts of a struct splicer. Drivers use the splicer_call_ functions below. Pointers and numbers only:
  * nothing is passed or returned by value that two compilers could pass in two ways. reply, SPLICER_REPLY words, gets the house number or
  * 0, the bytes consumed and the bytes written. */
-void splicer_2_fresh(const uint8_t *name, uint64_t *words, uint8_t *bytes, uint64_t *reply);
-void splicer_2_open(uint64_t *words, uint8_t *bytes, uint32_t conn, uint64_t *reply);
-void splicer_2_close(uint64_t *words, uint8_t *bytes, uint32_t conn, uint8_t *out, size_t room, uint64_t *reply);
-void splicer_2_message(uint64_t *words, uint8_t *bytes, uint32_t conn, const uint8_t *in, size_t length, uint8_t *out, size_t room,
+void splicer_3_fresh(const uint8_t *name, uint64_t *words, uint8_t *bytes, uint64_t *reply);
+void splicer_3_open(uint64_t *words, uint8_t *bytes, uint32_t conn, uint64_t *reply);
+void splicer_3_close(uint64_t *words, uint8_t *bytes, uint32_t conn, uint8_t *out, size_t room, uint64_t *reply);
+void splicer_3_message(uint64_t *words, uint8_t *bytes, uint32_t conn, const uint8_t *in, size_t length, uint8_t *out, size_t room,
                        uint64_t *reply);
-void splicer_2_tick(uint64_t *words, uint8_t *bytes, uint32_t seconds, uint32_t micros, uint8_t *out, size_t room, uint64_t *reply);
+void splicer_3_tick(uint64_t *words, uint8_t *bytes, uint32_t seconds, uint32_t micros, uint8_t *out, size_t room, uint64_t *reply);
+void splicer_3_waiting(const uint64_t *words, const uint8_t *bytes, uint64_t *counts);
 
 /* The words of a reply as a struct. */
 static inline struct splicer_reply splicer_reply_of(const uint64_t *reply) {
@@ -141,21 +148,21 @@ static inline struct splicer_reply splicer_reply_of(const uint64_t *reply) {
 /* Makes a splicer, whatever s held: clock 0, all connections closed. name: 32 bytes, a zero among them (else 9). */
 static inline struct splicer_reply splicer_call_fresh(struct splicer *s, const uint8_t *name) {
     uint64_t reply[SPLICER_REPLY];
-    splicer_2_fresh(name, s->words, s->bytes, reply);
+    splicer_3_fresh(name, s->words, s->bytes, reply);
     return splicer_reply_of(reply);
 }
 
 /* A server has connected. Refused: 1, 6. */
 static inline struct splicer_reply splicer_call_open(struct splicer *s, uint32_t conn) {
     uint64_t reply[SPLICER_REPLY];
-    splicer_2_open(s->words, s->bytes, conn, reply);
+    splicer_3_open(s->words, s->bytes, conn, reply);
     return splicer_reply_of(reply);
 }
 
 /* The connection is gone. The records are not sent but logged. Refused: 1, 2, 7. */
 static inline struct splicer_reply splicer_call_close(struct splicer *s, uint32_t conn, uint8_t *out, size_t room) {
     uint64_t reply[SPLICER_REPLY];
-    splicer_2_close(s->words, s->bytes, conn, out, room, reply);
+    splicer_3_close(s->words, s->bytes, conn, out, room, reply);
     return splicer_reply_of(reply);
 }
 
@@ -163,15 +170,22 @@ static inline struct splicer_reply splicer_call_close(struct splicer *s, uint32_
 static inline struct splicer_reply splicer_call_message(struct splicer *s, uint32_t conn, const uint8_t *in, size_t length, uint8_t *out,
                                                         size_t room) {
     uint64_t reply[SPLICER_REPLY];
-    splicer_2_message(s->words, s->bytes, conn, in, length, out, room, reply);
+    splicer_3_message(s->words, s->bytes, conn, in, length, out, room, reply);
     return splicer_reply_of(reply);
 }
 
 /* Brings the clock to a time and does what is due until then. Refused: 2, 8, 3. */
 static inline struct splicer_reply splicer_call_tick(struct splicer *s, uint32_t seconds, uint32_t micros, uint8_t *out, size_t room) {
     uint64_t reply[SPLICER_REPLY];
-    splicer_2_tick(s->words, s->bytes, seconds, micros, out, room, reply);
+    splicer_3_tick(s->words, s->bytes, seconds, micros, out, room, reply);
     return splicer_reply_of(reply);
+}
+
+/* How many sessions of each connection wait. It only reads, in a few instructions however many wait, and nothing is refused. */
+static inline struct splicer_waiting splicer_call_waiting(const struct splicer *s) {
+    struct splicer_waiting w;
+    splicer_3_waiting(s->words, s->bytes, w.count);
+    return w;
 }
 
 /* A record in an output buffer: whom it is for, what it says, and the message as it is sent. The pointers lead into the buffer. */

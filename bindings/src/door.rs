@@ -1,4 +1,4 @@
-//! The archive's five functions, as `include/splicer.h` declares them: their link names carry the
+//! The archive's functions, as `include/splicer.h` declares them: their link names carry the
 //! version, so that this crate and an archive of two versions do not link.
 
 use crate::Refusal;
@@ -28,13 +28,13 @@ pub fn replied(call: impl FnOnce(*mut u64)) -> Result<Counts, Refusal> {
 }
 
 extern "C" {
-    #[link_name = "splicer_2_fresh"]
+    #[link_name = "splicer_3_fresh"]
     pub fn fresh(name: *const u8, words: *mut u64, bytes: *mut u8, reply: *mut u64);
 
-    #[link_name = "splicer_2_open"]
+    #[link_name = "splicer_3_open"]
     pub fn open(words: *mut u64, bytes: *mut u8, conn: u32, reply: *mut u64);
 
-    #[link_name = "splicer_2_close"]
+    #[link_name = "splicer_3_close"]
     pub fn close(
         words: *mut u64,
         bytes: *mut u8,
@@ -44,7 +44,7 @@ extern "C" {
         reply: *mut u64,
     );
 
-    #[link_name = "splicer_2_message"]
+    #[link_name = "splicer_3_message"]
     pub fn message(
         words: *mut u64,
         bytes: *mut u8,
@@ -56,7 +56,7 @@ extern "C" {
         reply: *mut u64,
     );
 
-    #[link_name = "splicer_2_tick"]
+    #[link_name = "splicer_3_tick"]
     pub fn tick(
         words: *mut u64,
         bytes: *mut u8,
@@ -66,4 +66,7 @@ extern "C" {
         room: usize,
         reply: *mut u64,
     );
+
+    #[link_name = "splicer_3_waiting"]
+    pub fn waiting(words: *const u64, bytes: *const u8, counts: *mut u64);
 }

@@ -8,7 +8,7 @@
 //! call overlaps nothing. Any connection, bytes, time and length of a buffer may be handed in: the
 //! call tests them and answers with a house number, a [`Refusal`].
 //!
-//! What each unsafe call rests on: the parts have the lengths that the core takes (599 words and 32
+//! What each unsafe call rests on: the parts have the lengths that the core takes (603 words and 32
 //! bytes, by their types), and a state came from `fresh` and was changed by the calls only, since its
 //! fields are private. The reason beside each call says the rest.
 #![no_std]
@@ -21,7 +21,7 @@ use core::fmt;
 pub use records::{message_id, records, result, Record, Records};
 
 /// The version of the state and of the archive's functions, whose names carry it.
-pub const VERSION: u32 = 2;
+pub const VERSION: u32 = 3;
 /// Connections of a channel: 0 to 3.
 pub const CONNECTIONS: usize = 4;
 /// Bytes of a ChannelName.
@@ -35,7 +35,7 @@ pub const OUT: usize = 4096;
 /// Bytes of the mark before each record.
 pub const MARK: usize = 2;
 /// Words of a [`Splicer`]'s memory.
-pub const WORDS: usize = 599;
+pub const WORDS: usize = 603;
 /// Bytes of a [`Splicer`]'s memory, behind its words.
 pub const BYTES: usize = 32;
 
@@ -51,9 +51,9 @@ pub struct Splicer {
 
 // The numbers that the header asserts of its struct.
 const _: () = assert!(size_of::<usize>() == 8);
-const _: () = assert!(size_of::<Splicer>() == 4824);
+const _: () = assert!(size_of::<Splicer>() == 4856);
 const _: () = assert!(align_of::<Splicer>() == 8);
-const _: () = assert!(core::mem::offset_of!(Splicer, bytes) == 4792);
+const _: () = assert!(core::mem::offset_of!(Splicer, bytes) == 4824);
 
 /// Document 01's house numbers: why a call was refused. A refused call wrote nothing, consumed
 /// nothing and changed nothing.
@@ -205,6 +205,16 @@ impl Splicer {
             door::tick(words, bytes, seconds, micros, at, room, reply);
         })?;
         Ok(&out[..done.written])
+    }
+
+    /// How many sessions of each connection wait: accepted, and neither started nor ended. It only
+    /// reads, in a few instructions however many wait.
+    pub fn waiting(&self) -> [u64; CONNECTIONS] {
+        let mut counts = [0; CONNECTIONS];
+        let (words, bytes) = (self.words.as_ptr(), self.bytes.as_ptr());
+        // SAFETY: the state came from fresh; the counts are a local of their own, so apart.
+        unsafe { door::waiting(words, bytes, counts.as_mut_ptr()) };
+        counts
     }
 
     /// What is lent to every call.

@@ -128,9 +128,11 @@ fn a_session_plays_and_is_aborted() {
     let handled = channel.message(0, &both[41..], &mut out).unwrap();
     let late = (0, message_id::SPLICE_RESPONSE, result::TOO_LATE);
     assert_eq!(told(handled.written), [late]);
+    assert_eq!(channel.waiting(), [1, 0, 0, 0]);
     let complete = message_id::SPLICE_COMPLETE_RESPONSE;
     let written = channel.tick(1013, 0, &mut out).unwrap();
     assert_eq!(told(written), [(0, complete, result::SUCCESSFUL)]);
+    assert_eq!(channel.waiting(), [0; 4], "it has started");
     let mut other = channel.clone();
     let handled = channel.message(0, &abort(1), &mut out).unwrap();
     let ends = [

@@ -5,7 +5,7 @@ use splicer::{message_id, result, Refusal};
 
 const HEADER_TEXT: &str = include_str!("../../include/splicer.h");
 const DOOR_TEXT: &str = include_str!("../src/door.rs");
-const CALLS: [&str; 5] = ["fresh", "open", "close", "message", "tick"];
+const CALLS: [&str; 6] = ["fresh", "open", "close", "message", "tick", "waiting"];
 
 /// Every `SPLICER_NAME = number` of the header's enums.
 fn of_header() -> Vec<(String, u32)> {
@@ -130,6 +130,7 @@ fn of_header_call(name: &str) -> Vec<&'static str> {
     let version = splicer::VERSION;
     let list = between(HEADER_TEXT, &format!("void splicer_{version}_{name}("), ")");
     let kinds = [
+        ("const uint64_t *", "*const u64"),
         ("const uint8_t *", "*const u8"),
         ("uint8_t *", "*mut u8"),
         ("uint64_t *", "*mut u64"),
@@ -171,8 +172,11 @@ fn the_header_refers_to_versioned_names_only() {
     for name in CALLS {
         let call = format!("splicer_{version}_{name}(");
         assert_eq!(HEADER_TEXT.matches(&call).count(), 2, "{call}");
-        let inline = format!("splicer_call_{name}(struct splicer *s");
+        let inline = format!("splicer_call_{name}(");
         let body = between(HEADER_TEXT, &inline, "\n}");
+        // A call that only reads takes the splicer as const.
+        let lent = body.trim_start_matches("const ");
+        assert!(lent.starts_with("struct splicer *s"), "{name}");
         assert!(body.contains(&format!("    {call}")), "{name}");
     }
     let functions = HEADER_TEXT.lines().filter(|line| {

@@ -35,11 +35,11 @@ static uint8_t outs[ENGINES][BUFFER];
 /* the reply goes to lent words; the other two return theirs, through memory as well */
 INLINE void core_call(uint64_t *reply, const struct call *c) {
     switch (c->kind) {
-    case FRESH: splicer_2_fresh(c->in, core.words, core.bytes, reply); break;
-    case OPEN: splicer_2_open(core.words, core.bytes, c->conn, reply); break;
-    case CLOSE: splicer_2_close(core.words, core.bytes, c->conn, outs[CORE], c->room, reply); break;
-    case MESSAGE: splicer_2_message(core.words, core.bytes, c->conn, c->in, c->length, outs[CORE], c->room, reply); break;
-    case TICK: splicer_2_tick(core.words, core.bytes, c->seconds, c->micros, outs[CORE], c->room, reply); break;
+    case FRESH: splicer_3_fresh(c->in, core.words, core.bytes, reply); break;
+    case OPEN: splicer_3_open(core.words, core.bytes, c->conn, reply); break;
+    case CLOSE: splicer_3_close(core.words, core.bytes, c->conn, outs[CORE], c->room, reply); break;
+    case MESSAGE: splicer_3_message(core.words, core.bytes, c->conn, c->in, c->length, outs[CORE], c->room, reply); break;
+    case TICK: splicer_3_tick(core.words, core.bytes, c->seconds, c->micros, outs[CORE], c->room, reply); break;
     default: reply[0] = reply[1] = reply[2] = 0; break;
     }
 }
