@@ -54,6 +54,17 @@ fn ninths(seconds: u32, micros: u32) -> u64 {
     u64::from(seconds) * SECOND + u64::from(micros) * 9
 }
 
+/// The fewest bytes of data that are readable in any message of this kind.
+fn least(kind: u16) -> usize {
+    match kind {
+        id::INIT_REQUEST => 66,
+        id::ALIVE_REQUEST => 8,
+        id::SPLICE_REQUEST => 18,
+        id::ABORT_REQUEST => 4,
+        _ => 0,
+    }
+}
+
 impl Books {
     /// Enters a call and its answer.
     pub fn call(&mut self, act: &Act, said: &Said) -> Kept {
@@ -154,6 +165,7 @@ impl Books {
             return Ok(());
         }
         let data = &message[HEADER..];
+        must(data.len() >= least(kind), "unreadable and answered")?;
         match (kind, list) {
             (id::INIT_REQUEST, [answer]) => self.init(conn, data, answer),
             (id::ALIVE_REQUEST, [answer]) => self.alive(conn, answer),
@@ -311,6 +323,13 @@ impl Books {
             counts[usize::from(session.conn)] += 1;
         }
         counts
+    }
+
+    /// Demand 3: a connection's waiting sessions "from the answers alone: accepted since it was
+    /// opened, less those whose start or end was written".
+    pub fn waiting(&self, found: [u64; CONNECTIONS]) -> Kept {
+        let counted = self.counts().map(|n| n as u64);
+        must(found == counted, "another count of those that wait")
     }
 
     fn find(&self, conn: u8, session: u32) -> Option<usize> {

@@ -107,14 +107,16 @@ fn everything(plan: &Plan, list: &[Stream]) -> Vec<bool> {
     for wrong in wrong::all() {
         results.push(noticed(plan, list, wrong));
     }
-    for fault in BOOKED {
-        results.push(booked(list, *fault));
+    let faults = BOOKED.iter().map(|fault| Wrong::Model(*fault));
+    let by_records: Vec<Wrong> = faults.chain(wrong::counting()).collect();
+    for wrong in &by_records {
+        results.push(booked(list, *wrong));
     }
     let unnoticed = results[1..].iter().filter(|good| !**good).count();
     println!(
         "beside: {} faults, and {} of them by the records alone: {unnoticed} not noticed",
         wrong::all().len(),
-        BOOKED.len()
+        by_records.len()
     );
     results
 }
@@ -175,9 +177,9 @@ fn noticed(plan: &Plan, list: &[Stream], wrong: Wrong) -> bool {
 }
 
 /// Shows that the books notice a fault by themselves.
-fn booked(list: &[Stream], fault: Fault) -> bool {
-    let line = Wrong::Model(fault).line();
-    let found = run::booked(list, fault);
+fn booked(list: &[Stream], wrong: Wrong) -> bool {
+    let line = wrong.line();
+    let found = run::booked(list, wrong);
     match &found {
         Some(text) => println!("noticed in {text}: {line}"),
         None => println!("NOT NOTICED by the records alone: {line}"),

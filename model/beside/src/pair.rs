@@ -2,16 +2,17 @@
 
 use crate::books::Books;
 use crate::calls::{ask_core, ask_model, Act, Call, Desk, Said};
-use crate::wrong::Wrong;
+use crate::wrong::{Drift, Wrong};
 use model::counts::Counts;
 use model::rules;
-use splicer::{NAME, OUT};
+use splicer::{CONNECTIONS, NAME, OUT};
 
 #[derive(Clone)]
 pub struct Pair {
     pub core: splicer::Splicer,
     pub model: rules::Splicer,
     books: Books,
+    drift: Drift,
 }
 
 impl Pair {
@@ -25,8 +26,25 @@ impl Pair {
                 "fresh: core {refused:?}, second program {number:?}"
             ));
         }
-        let books = Books::default();
-        Ok(Pair { core, model, books })
+        let pair = Pair {
+            core,
+            model,
+            books: Books::default(),
+            drift: Drift::default(),
+        };
+        pair.same_waiting(pair.core.waiting())?;
+        Ok(pair)
+    }
+
+    /// The waiting counts read from the core are those of the second program's own list.
+    fn same_waiting(&self, found: [u64; CONNECTIONS]) -> Result<(), String> {
+        let wanted = self.model.waiting_counts().map(|n| n as u64);
+        if found != wanted {
+            return Err(format!(
+                "waiting: core {found:?}, second program {wanted:?}"
+            ));
+        }
+        Ok(())
     }
 
     /// Makes the call on both and compares all that is seen of it.
@@ -50,7 +68,11 @@ impl Pair {
         if before.is_some_and(|before| before != self.core) {
             return Err(format!("refused {} and changed its state", found.refused));
         }
+        // After every call, refused ones too.
+        let waiting = wrong.waiting(act, &found, self.core.waiting(), &mut self.drift);
+        self.same_waiting(waiting)?;
         self.books.call(act, &found)?;
+        self.books.waiting(waiting)?;
         Ok(found)
     }
 

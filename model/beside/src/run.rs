@@ -4,10 +4,9 @@ use crate::acts::{self, Stream, LONGEST};
 use crate::books::Books;
 use crate::calls::{ask_model, Act, Desk};
 use crate::pair::Pair;
-use crate::wrong::Wrong;
+use crate::wrong::{Drift, Wrong};
 use model::counts::Counts;
 use model::draw::Rng;
-use model::faults::Fault;
 use model::rules;
 
 /// Splicers alive at once in a thread, their calls interleaved.
@@ -209,14 +208,18 @@ fn share_state(lanes: &mut [Lane], at: usize) {
 }
 
 /// Where the books alone find a fault of the second program, without comparing it with anything.
-pub fn booked(list: &[Stream], fault: Fault) -> Option<String> {
+pub fn booked(list: &[Stream], wrong: Wrong) -> Option<String> {
     for stream in list {
         let (mut model, _) = rules::Splicer::fresh(&stream.name);
-        model.fault = Some(fault);
+        model.fault = wrong.of_model();
         let mut books = Books::default();
+        let mut drift = Drift::default();
         for (at, act) in stream.acts.iter().enumerate() {
             let said = ask_model(&mut model, act);
-            if let Err(text) = books.call(act, &said) {
+            let counted = model.waiting_counts().map(|n| n as u64);
+            let waiting = wrong.waiting(act, &said, counted, &mut drift);
+            let kept = books.call(act, &said).and_then(|()| books.waiting(waiting));
+            if let Err(text) = kept {
                 let index = stream.index;
                 return Some(format!("stream {index}, call {}, {text}", at + 1));
             }

@@ -3,7 +3,8 @@
 
 use crate::calls::{Act, Call, Desk, Said};
 use model::faults::{Fault, FAULTS};
-use splicer::{Refusal, Splicer, HEADER, NAME, OUT};
+use splicer::{message_id as id, records, Record};
+use splicer::{Refusal, Splicer, CONNECTIONS, HEADER, NAME, OUT};
 
 #[derive(Clone, Copy, Debug, PartialEq, Eq)]
 pub enum Wrong {
@@ -33,11 +34,53 @@ pub const OWN: &[(&str, &str)] = &[
     ("shared", "two splicers with one state"),
 ];
 
+/// Faults in the waiting counts that the core is read to keep.
+pub const COUNTING: &[(&str, &str)] = &[
+    ("count-start", "a start leaves its session counted"),
+    (
+        "count-failed-start",
+        "a failed start leaves its session counted",
+    ),
+    (
+        "count-failed-followers",
+        "a failed start leaves its followers counted",
+    ),
+    ("count-evicted", "an eviction leaves its session counted"),
+    (
+        "count-evicted-followers",
+        "an eviction leaves the followers counted",
+    ),
+    (
+        "count-aborted-followers",
+        "an abort leaves the followers counted",
+    ),
+    (
+        "count-elsewhere",
+        "an acceptance raises the next connection's count",
+    ),
+    ("count-close", "a close leaves its count as it was"),
+];
+
+/// How far a fault's waiting counts have gone from the true ones, and the true ones before the call.
+#[derive(Clone, Default)]
+pub struct Drift {
+    by: [i64; CONNECTIONS],
+    before: [u64; CONNECTIONS],
+}
+
 /// Every fault that must be noticed.
 pub fn all() -> Vec<Wrong> {
     let model = FAULTS.iter().map(|(fault, _)| Wrong::Model(*fault));
-    let own = OWN.iter().map(|(name, _)| Wrong::Core(name));
-    model.chain(own).collect()
+    model.chain(own()).chain(counting()).collect()
+}
+
+fn own() -> impl Iterator<Item = Wrong> {
+    OWN.iter().map(|(name, _)| Wrong::Core(name))
+}
+
+/// The faults in the waiting counts: the records alone give them away too.
+pub fn counting() -> impl Iterator<Item = Wrong> {
+    COUNTING.iter().map(|(name, _)| Wrong::Core(name))
 }
 
 /// The fault of this name.
@@ -55,7 +98,7 @@ impl Wrong {
             Wrong::Nothing => "no fault".to_string(),
             Wrong::Model(fault) => format!("{}: {}", fault.name(), fault.text()),
             Wrong::Core(name) => {
-                let text = OWN.iter().find(|(n, _)| *n == name);
+                let text = OWN.iter().chain(COUNTING).find(|(n, _)| *n == name);
                 format!("{name}: {}", text.map_or("", |(_, t)| t))
             }
         }
@@ -122,5 +165,59 @@ impl Wrong {
             }
             _ => {}
         }
+    }
+
+    /// The waiting counts that the core is seen to keep after a call: those it has, or a fault's.
+    pub fn waiting(
+        self,
+        act: &Act,
+        said: &Said,
+        now: [u64; CONNECTIONS],
+        drift: &mut Drift,
+    ) -> [u64; CONNECTIONS] {
+        let Wrong::Core(name) = self else {
+            return now;
+        };
+        let list: Vec<Record> = records(&said.written).collect();
+        for (place, record) in list.iter().enumerate() {
+            if forgets(&act.call, place, list.len(), record) == name {
+                drift.by[usize::from(record.connection)] += 1;
+            }
+        }
+        match (&act.call, list.last()) {
+            (Call::Close(conn), _) if name == "count-close" && said.refused == 0 => {
+                drift.by[*conn as usize] += drift.before[*conn as usize] as i64;
+            }
+            (Call::Message(conn, bytes), Some(answer))
+                if name == "count-elsewhere" && is_splice(bytes) && answer.result == 100 =>
+            {
+                drift.by[*conn as usize] -= 1;
+                drift.by[(*conn as usize + 1) % CONNECTIONS] += 1;
+            }
+            _ => {}
+        }
+        drift.before = now;
+        std::array::from_fn(|at| now[at].wrapping_add_signed(drift.by[at]))
+    }
+}
+
+fn is_splice(bytes: &[u8]) -> bool {
+    bytes[..2] == id::SPLICE_REQUEST.to_be_bytes()
+}
+
+/// The fault that does not lower the count at this record, the one at `place` of a call's `all`.
+fn forgets(call: &Call, place: usize, all: usize, record: &Record) -> &'static str {
+    let complete = record.message_id == id::SPLICE_COMPLETE_RESPONSE;
+    match (call, complete, record.result) {
+        (Call::Tick(..), true, 100) if record.data[4] == 0 => "count-start",
+        (Call::Tick(..), true, 109) => "count-failed-start",
+        (Call::Tick(..), false, _) => "count-failed-followers",
+        // A Splice_Request's own answer is the last record; the evicted one comes first.
+        (Call::Message(_, bytes), false, 109) if is_splice(bytes) && place + 1 < all => {
+            ["count-evicted", "count-evicted-followers"][usize::from(place > 0)]
+        }
+        // Behind an Abort_Response and the end of the aborted one.
+        (Call::Message(..), false, 116) if place > 1 => "count-aborted-followers",
+        _ => "",
     }
 }
