@@ -19,8 +19,8 @@ const HEADER: usize = 8;
 const LARGEST_DATA: usize = 4_088;
 const SMALLEST_OUTPUT: usize = 4_096;
 const ALL_WAITING: usize = 64;
-const OWN_WAITING: usize = 20;
-const SURE_WAITING: usize = 10;
+const OWN_WAITING: u64 = 20;
+const SURE_WAITING: u64 = 10;
 const ACCESS_TYPES: usize = 10;
 const LAST_MICROSECOND: u32 = 999_999;
 const REVISION: u16 = 2;
@@ -450,6 +450,8 @@ pub struct InPlace {
     links: [Link; CONNECTIONS],
     /// By start.
     waiting: List<Session, ALL_WAITING>,
+    /// How many of them each connection has.
+    counts: [u64; CONNECTIONS],
     /// By AccessType; the last is on air.
     started: List<Started, ACCESS_TYPES>,
 }
@@ -462,6 +464,7 @@ impl InPlace {
             name,
             links: [Link::Closed; CONNECTIONS],
             waiting: List::new(),
+            counts: [0; CONNECTIONS],
             started: List::new(),
         }
     }
@@ -544,7 +547,7 @@ impl InPlace {
         if self.waiting.first().is_none_or(|session| session.start != now) {
             return;
         }
-        let session = self.waiting.remove(0);
+        let session = self.take_waiting(0);
         let plays = match self.started.last() {
             Some(on_air) => session.overrides && session.access > on_air.session.access,
             None => true,
@@ -558,14 +561,23 @@ impl InPlace {
         }
     }
 
+    /// Takes a waiting session out of the list; its connection has one less.
+    fn take_waiting(&mut self, index: usize) -> Session {
+        let session = self.waiting.remove(index);
+        self.counts[usize::from(session.connection)] -= 1;
+        session
+    }
+
     /// Ends the followers of a session. Each stands behind the one it is linked to, so one pass finds them all.
     fn end_followers(&mut self, connection: u8, id: u32, result: u16, out: &mut Output) {
+        let count = &mut self.counts[usize::from(connection)];
         let mut prior = id;
         self.waiting.retain(|session| {
             let follows = session.follows(connection, prior);
             if follows {
                 out.splice(connection, result, session.id);
                 prior = session.id;
+                *count -= 1;
             }
             !follows
         });
@@ -588,6 +600,7 @@ impl InPlace {
             }
             !ends
         });
+        self.counts[usize::from(connection)] = 0;
     }
 
     fn abort_started(started: &Started, on_air: bool, out: &mut Output) {
@@ -642,7 +655,7 @@ impl InPlace {
             out.abort(connection, code::SUCCESSFUL, id);
             Self::abort_started(&ended, on_air, out);
         } else if let Some(index) = self.waiting.iter().position(|session| session.is(connection, id)) {
-            self.waiting.remove(index);
+            self.take_waiting(index);
             out.abort(connection, code::SUCCESSFUL, id);
             out.splice(connection, code::ABORTED, id);
         } else {
@@ -657,6 +670,7 @@ impl InPlace {
                 self.evict(session.start, out);
                 let place = self.waiting.partition_point(|other| other.start < session.start);
                 self.waiting.insert(place, session);
+                self.counts[usize::from(connection)] += 1;
                 code::SUCCESSFUL
             }
             Err(result) => result,
@@ -700,19 +714,15 @@ impl InPlace {
     }
 
     fn is_full(&self, connection: u8) -> bool {
-        let mut counts = [0; CONNECTIONS];
-        for session in self.waiting.iter() {
-            counts[usize::from(session.connection)] += 1;
-        }
-        let own = counts[usize::from(connection)];
-        let reserved: usize = counts.iter().map(|&count| count.max(SURE_WAITING)).sum();
-        own >= OWN_WAITING || (own >= SURE_WAITING && reserved >= ALL_WAITING)
+        let own = self.counts[usize::from(connection)];
+        let reserved: u64 = self.counts.iter().map(|&count| count.max(SURE_WAITING)).sum();
+        own >= OWN_WAITING || (own >= SURE_WAITING && reserved >= ALL_WAITING as u64)
     }
 
     /// Ends the waiting session with this start, if there is one, and its followers.
     fn evict(&mut self, start: Ninths, out: &mut Output) {
         if let Some(index) = self.waiting.iter().position(|session| session.start == start) {
-            let evicted = self.waiting.remove(index);
+            let evicted = self.take_waiting(index);
             out.splice(evicted.connection, code::COLLISION, evicted.id);
             self.end_followers(evicted.connection, evicted.id, code::COLLISION, out);
         }
@@ -799,6 +809,12 @@ pub unsafe extern "C" fn inplace_message(
 pub unsafe extern "C" fn inplace_tick(s: &mut InPlace, seconds: u32, micros: u32, out: *mut u8, room: usize) -> Reply {
     let out = unsafe { slice::from_raw_parts_mut(out, room) };
     s.tick(seconds, micros, out).map_or_else(Reply::refusal, |written| Reply::good(0, written))
+}
+
+/// How many sessions of each connection wait.
+#[no_mangle]
+pub extern "C" fn inplace_waiting(s: &InPlace, counts: &mut [u64; CONNECTIONS]) {
+    *counts = s.counts;
 }
 
 #[panic_handler]

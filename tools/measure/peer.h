@@ -1,5 +1,5 @@
 /* A splicer in plain C, in place, as one would write it by hand: what the proved core's instruction counts are held against.
- * Document 01's rules in full; waiting sessions in an array by start, started ones in an array by AccessType. */
+ * Document 01's rules in full; waiting sessions in an array by start and counted by connection, started ones in an array by AccessType. */
 #include "splicer.h"
 
 void *memcpy(void *to, const void *from, size_t n);
@@ -14,7 +14,7 @@ struct session {
 };
 
 struct peer {
-    uint64_t clock;
+    uint64_t clock, counts[4];
     uint32_t waits, starts;
     uint8_t link[4], name[32];
     struct session waiting[64], started[10];
@@ -80,12 +80,14 @@ static void end_followers(struct peer *p, struct sink *o, uint8_t conn, uint32_t
             kept++;
         }
     }
+    p->counts[conn] -= p->waits - kept;
     p->waits = kept;
 }
 
 static void starts_now(struct peer *p, struct sink *o) {
     struct session s = p->waiting[0];
     drop(p->waiting, &p->waits, 0);
+    p->counts[s.conn]--;
     if (p->starts == 0 || (s.over && s.access > p->started[0].access)) {
         memmove(p->started + 1, p->started, p->starts * sizeof s);
         p->started[0] = s;
@@ -177,6 +179,7 @@ static void answer_abort(struct peer *p, struct sink *o, uint8_t conn, const uin
     } else {
         says(o, s, 116);
         drop(p->waiting, &p->waits, (uint32_t)(s - p->waiting));
+        p->counts[conn]--;
     }
     end_followers(p, o, conn, id, 116);
 }
@@ -203,6 +206,7 @@ __attribute__((noinline)) struct splicer_reply peer_close(struct peer *p, uint32
         }
     }
     p->waits = kept;
+    p->counts[conn] = 0;
     p->link[conn] = 0;
     return (struct splicer_reply){0, 0, o.length};
 }
@@ -218,23 +222,22 @@ static int well_formed(const uint8_t *d, size_t n) {
 }
 
 static uint32_t splice_result(struct peer *p, const struct session *s, const struct session *prior) {
-    uint32_t counts[4] = {0, 0, 0, 0}, sum = 0;
+    uint64_t own = p->counts[s->conn], sum = 0;
     if (s->id == nobody || held(p, s->conn, s->id) || (s->prior != nobody && !prior)) {
         return 121;
     }
     if (s->prior == nobody && s->start < p->clock + 27000000) {
         return 112;
     }
-    for (uint32_t i = 0; i < p->waits; i++) {
+    for (uint32_t i = 0; i < p->waits && p->waiting[i].start <= s->start; i++) {
         if (p->waiting[i].start == s->start && p->waiting[i].access >= s->access) {
             return 109;
         }
-        counts[p->waiting[i].conn]++;
     }
-    for (int c = 0; c < 4; c++) {
-        sum += counts[c] < 10 ? 10 : counts[c];
+    for (int c = 0; c < 4 && own >= 10; c++) {
+        sum += p->counts[c] < 10 ? 10 : p->counts[c];
     }
-    return counts[s->conn] >= 20 || (counts[s->conn] >= 10 && sum >= 64) ? 114 : 100;
+    return own >= 20 || sum >= 64 ? 114 : 100;
 }
 
 /* 1 if the data is readable */
@@ -264,15 +267,20 @@ static int answer_splice(struct peer *p, struct sink *o, uint8_t conn, const uin
             struct session old = p->waiting[at];
             says(o, &old, 109);
             drop(p->waiting, &p->waits, at);
+            p->counts[old.conn]--;
             end_followers(p, o, old.conn, old.id, 109);
         }
         memmove(p->waiting + at + 1, p->waiting + at, (p->waits - at) * sizeof s);
         p->waiting[at] = s;
         p->waits++;
+        p->counts[conn]++;
     }
     says(o, &s, result);
     return 1;
 }
+
+/* how many sessions of each connection wait */
+__attribute__((noinline)) void peer_waiting(const struct peer *p, uint64_t *counts) { memcpy(counts, p->counts, sizeof p->counts); }
 
 static int answer_init(struct peer *p, struct sink *o, uint8_t conn, const uint8_t *d, size_t n) {
     if (n < 66 || !memchr(d + 2, 0, 32) || !memchr(d + 34, 0, 32)) {
