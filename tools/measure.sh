@@ -7,7 +7,7 @@
 #   size    code and state
 #   agree   random calls by all three, compared (RANDOM_CALLS, 300,000 for each of three seeds)
 #   programs  instructions of the card program and of the second program, both x86-64, on the same generated streams
-# Before anything is measured, replies and buffers of all three are compared on the call and on all calls that made its state.
+# Before anything is measured, replies, buffers and waiting counts of all three are compared on the call and on all calls that made its state.
 # How the states are made, so that they favour no engine: tools/measure/cases.h.
 # ARCHIVE names another archive than that of `rt staticlib door`, as the unproved one of tools/try-archive.sh.
 # Needs Debian's qemu-user and gcc (once, for the plugin; the kit's own emulator takes no plugin) and a rustc with the library for
@@ -137,6 +137,8 @@ counts() {
     row 'close with 20 waiting and 1 on air' close 20
     row 'Init_Request' init 0
     row 'Alive_Request' alive 0
+    row 'read of the waiting counts, 0 waiting' read 0
+    row 'read of the waiting counts, 64 waiting' read 64
 }
 
 # deep CALL TITLE CASE N
@@ -169,6 +171,7 @@ stack() {
     deep tick '64 sessions start and end' play 64
     deep tick 'a start fails, 19 followers' fail 19
     deep tick 'full splicer: 4 chains fail, 10 started end' fulltick 10
+    deep waiting '64 waiting' read 64
 }
 
 # the frame: pushed registers, the room below them and the return address; what a leaf keeps below its stack pointer (at most 128) is not in it
@@ -265,4 +268,4 @@ for part; do
     esac
 done
 echo
-[ $rows -eq 0 ] || echo "$rows cases, replies and buffers of all three equal in each"
+[ $rows -eq 0 ] || echo "$rows cases, replies, buffers and waiting counts of all three equal in each"

@@ -1,4 +1,5 @@
-/* bench agree CASE N: says whether replies and buffers of the three engines are equal over a case of cases.h and all calls that led to it.
+/* bench agree CASE N: says whether replies, buffers and waiting counts of the three engines are equal over a case of cases.h and all calls
+ *   that led to it.
  * bench count CASE N WHO CALLS DO: restores the state and, if DO is 1, makes the call, CALLS times, by core, rust or c. The
  *   difference of DO 1 and 0 in instructions is the call's own.
  * bench time CASE N: nanoseconds of a call by core, rust and c: blocks in turns, least times, the restoring taken off.

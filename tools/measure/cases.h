@@ -118,6 +118,13 @@ static struct call case_busy(uint32_t n) {
     return tick(1011);
 }
 
+/* the four counts, with n in all */
+static struct call case_read(uint32_t n) {
+    waiting(n);
+    wrong |= counts[CORE][0] + counts[CORE][1] + counts[CORE][2] + counts[CORE][3] != n;
+    return plain(WAITING, 0, 0);
+}
+
 static struct call case_splice(uint32_t n) {
     waiting(n);
     return ranked(splice(3, 1000, TIMED, 1015 + 10 * (n / 2), SECOND), 5, 0);
@@ -199,7 +206,7 @@ static const struct {
              {"close", case_close},       {"init", case_init},           {"alive", case_alive},         {"fresh", case_fresh},
              {"open", case_open},         {"air", case_air},             {"fail", case_fail},           {"evict", case_evict},
              {"play", case_play},         {"fulltick", case_fulltick},   {"fullclose", case_fullclose}, {"fullabort", case_fullabort},
-             {"fullevict", case_fullevict}};
+             {"fullevict", case_fullevict}, {"read", case_read}};
 
 /* the state of a case, and its call */
 static struct call prepared(const char *name, uint32_t n) {

@@ -11,8 +11,9 @@ struct splicer_reply inplace_open(void *s, uint32_t conn);
 struct splicer_reply inplace_close(void *s, uint32_t conn, uint8_t *out, size_t room);
 struct splicer_reply inplace_message(void *s, uint32_t conn, const uint8_t *in, size_t length, uint8_t *out, size_t room);
 struct splicer_reply inplace_tick(void *s, uint32_t seconds, uint32_t micros, uint8_t *out, size_t room);
+void inplace_waiting(const void *s, uint64_t *counts);
 
-enum kind { NOTHING, FRESH, OPEN, CLOSE, MESSAGE, TICK };
+enum kind { NOTHING, FRESH, OPEN, CLOSE, MESSAGE, TICK, WAITING };
 enum who { CORE, RUST, PLAIN_C, ENGINES };
 enum { BUFFER = 4200, RUST_WORDS = 1024, GOOD_ROOM = 4096 };
 
@@ -28,6 +29,8 @@ static struct splicer core, core_base;
 static uint64_t rust[RUST_WORDS], rust_base[RUST_WORDS];
 static struct peer peer, peer_base;
 static uint8_t outs[ENGINES][BUFFER];
+/* what the read of the waiting counts gave; its reply is that of no call */
+static uint64_t counts[ENGINES][SPLICER_CONNECTIONS];
 
 #define INLINE static inline __attribute__((always_inline))
 #define APART __attribute__((noinline)) static
@@ -40,6 +43,7 @@ INLINE void core_call(uint64_t *reply, const struct call *c) {
     case CLOSE: splicer_3_close(core.words, core.bytes, c->conn, outs[CORE], c->room, reply); break;
     case MESSAGE: splicer_3_message(core.words, core.bytes, c->conn, c->in, c->length, outs[CORE], c->room, reply); break;
     case TICK: splicer_3_tick(core.words, core.bytes, c->seconds, c->micros, outs[CORE], c->room, reply); break;
+    case WAITING: splicer_3_waiting(core.words, core.bytes, counts[CORE]); /* fall through: no reply */
     default: reply[0] = reply[1] = reply[2] = 0; break;
     }
 }
@@ -51,6 +55,7 @@ INLINE struct splicer_reply rust_call(const struct call *c) {
     case CLOSE: return inplace_close(rust, c->conn, outs[RUST], c->room);
     case MESSAGE: return inplace_message(rust, c->conn, c->in, c->length, outs[RUST], c->room);
     case TICK: return inplace_tick(rust, c->seconds, c->micros, outs[RUST], c->room);
+    case WAITING: inplace_waiting(rust, counts[RUST]); /* fall through: no reply */
     default: return (struct splicer_reply){0, 0, 0};
     }
 }
@@ -84,6 +89,7 @@ INLINE struct splicer_reply peer_call(const struct call *c) {
     case CLOSE: return peer_close(&peer, c->conn, outs[PLAIN_C], c->room);
     case MESSAGE: return peer_message(&peer, c->conn, c->in, c->length, outs[PLAIN_C], c->room);
     case TICK: return peer_tick(&peer, c->seconds, c->micros, outs[PLAIN_C], c->room);
+    case WAITING: peer_waiting(&peer, counts[PLAIN_C]); /* fall through: no reply */
     default: return (struct splicer_reply){0, 0, 0};
     }
 }
@@ -113,7 +119,22 @@ static int unlike(struct splicer_reply a, struct splicer_reply b) {
     return a.refused != b.refused || a.consumed != b.consumed || a.written != b.written;
 }
 
-/* the call by all three from buffers that are alike; replies and whole buffers are compared */
+/* the waiting counts by all three, from words that are not alike */
+static void compare_counts(void) {
+    static const struct call read = {.kind = WAITING};
+    uint64_t reply[SPLICER_REPLY];
+    for (int i = 0; i < ENGINES; i++) {
+        memset(counts[i], 0xE0 + i, sizeof counts[i]);
+    }
+    by_core(reply, &read);
+    by_rust(&read);
+    by_peer(&read);
+    for (int i = 1; i < ENGINES; i++) {
+        differ |= memcmp(counts[CORE], counts[i], sizeof counts[i]) != 0;
+    }
+}
+
+/* the call by all three from buffers that are alike; replies and whole buffers are compared, and the waiting counts after it */
 static struct splicer_reply all(const struct call *c) {
     for (int i = 0; i < ENGINES; i++) {
         memset(outs[i], 0xEE, BUFFER);
@@ -123,5 +144,6 @@ static struct splicer_reply all(const struct call *c) {
     struct splicer_reply a = splicer_reply_of(reply), b = by_rust(c), d = by_peer(c);
     differ |= unlike(a, b) || memcmp(outs[CORE], outs[RUST], BUFFER);
     differ |= unlike(a, d) || memcmp(outs[CORE], outs[PLAIN_C], BUFFER);
+    compare_counts();
     return a;
 }
