@@ -17,15 +17,15 @@ use Rattle.rules.specs.State.{empty, of, endsAt, withStarted}
 use Rattle.rules.specs.Records.{Record, output}
 use Rattle.rules.specs.Ends.{ended, endings}
 use Rattle.rules.specs.Instants.{endAt}
-use Rattle.rules.proofs.Count.{length-put, length-removeAt, endings-map}
-use Rattle.rules.proofs.Every.{all-getD, fewer-all, fewer-removeAt}
+use Rattle.rules.proofs.Count.{length-put, endings-map}
+use Rattle.rules.proofs.Every.{fewer-all, fewer-removeAt}
 use Rattle.rules.proofs.Size.{weight-none}
 use Rattle.rules.proofs.Written.{length-written}
 use Rattle.memory.specs.declared.Which.{Which}
 use Rattle.memory.specs.declared.Which.the-variants.{Started}
 use Rattle.memory.specs.Memory.{Memory, see, sessions, queued, relisted, Form, Now}
 use Rattle.memory.proofs.Laws.{sessions-list}
-use Rattle.ends.specs.Does.{Playable, roomFor, Tells, Turns, Does, theirsEnded}
+use Rattle.ends.specs.Does.{Playable, roomFor, Tells, Turns, Does, oneEnded, theirsEnded}
 use Rattle.ends.proofs.Laws.{tells-none, tells-then, brief}
 
 -- ## The records
@@ -46,8 +46,8 @@ put-brief true h x = brief h x
 put-brief false h x = omega (arith, weight-none)
 
 -- the next of a list
-next : (l : List Session) (i : ℕ) {x : Session} → i < length l → x ≡ getD l i empty → drop i l ≡ x ∷ drop (i + 1) l
-next l i h e = rw (add-one i, e) (drop-cons l i empty h)
+next : (l : List Session) (i : ℕ) → i < length l → drop i l ≡ getD l i empty ∷ drop (i + 1) l
+next l i h = rw (add-one i) (drop-cons l i empty h)
 
 -- of the sessions l and the buffer e, written up to len: those before `rest` are passed, and h is for the next end
 pub record Closing (p : Session → Bool) (air cover : Ending) (l rest : List Session) (e : List ℕ) (len : ℕ) (h : Ending) (to : ℕ)
@@ -69,13 +69,15 @@ module _ {p : Session → Bool} {air cover : Ending} {l : List Session} {e : Lis
     closing-room b = omega (arith, v .room, v .long, ap length (drop-cons k i empty b))
 
     -- the next ends or stays
-    pub closing-next : {x : Session} {to′ : ℕ} {o′ : List ℕ} → i < length k → x ≡ getD k i empty →
+    pub closing-next : {to′ : ℕ} {o′ : List ℕ} → i < length k →
+        let x = getD k i empty in
         Tells o to (put (p x) (ended h x) []) to′ o′ → Closing p air cover l (drop (i + 1) k) e len cover to′ o′
-    closing-next {x} {to′} {o′} b q t =
+    closing-next b t =
+        let x = getD k i empty in
         let one = put (p x) (ended h x) [] in
         let rest = drop (i + 1) k in
         let f : length (output one) ≤ roomFor 1 = put-brief (p x) h x in
-        let n : length (drop i k) ≡ suc (length rest) = ap length (next k i b q) in
+        let n : length (drop i k) ≡ suc (length rest) = ap length (next k i b) in
         record {
           room = omega (arith, v .room, t .count);
           long = ap length (t .bytes) ∙ length-written o to (output one) (omega (arith, v .room, v .long)) ∙ v .long;
@@ -83,7 +85,7 @@ module _ {p : Session → Bool} {air cover : Ending} {l : List Session} {e : Lis
           tells = tells-then (omega (arith, v .room, v .tells .count)) (v .tells) t;
           ends =
               v .ends
-              ∙ ap (λ (y : List Record). v .sofar ++ y) (ap (endings h cover p) (next k i b q) ∙ endings-next h cover p x rest)
+              ∙ ap (λ (y : List Record). v .sofar ++ y) (ap (endings h cover p) (next k i b) ∙ endings-next h cover p x rest)
               ∙ sym (append-assoc (v .sofar) one (endings cover cover p rest));
         }
 
@@ -107,25 +109,27 @@ module _ {c : ℕ} {e : List ℕ} {len : ℕ} where
   theirs-none l h = record { writes = closing-none h; few = omega arith; rest = omega arith }
 
   module _ (l : List Session) {i to left : ℕ} {o : List ℕ} (v : Theirs c l e len i to left o) where
-    module _ {x : Session} (k : i < length l) (q : x ≡ getD l i empty) where
-      counted : bit (not (of c x)) + length (omit (of c) (drop (i + 1) l)) ≡ length (omit (of c) (drop i l))
+    module _ (k : i < length l) where
+      counted : bit (not (of c (getD l i empty))) + length (omit (of c) (drop (i + 1) l)) ≡ length (omit (of c) (drop i l))
       counted =
-          sym (ap (λ (r : List Session). length (omit (of c) r)) (next l i k q) ∙ length-put (not (of c x)) x (omit (of c) (drop (i + 1) l)))
+          let x = getD l i empty in
+          sym (ap (λ (r : List Session). length (omit (of c) r)) (next l i k) ∙ length-put (not (of c x)) x (omit (of c) (drop (i + 1) l)))
 
       -- it is the connection's
-      pub theirs-goes : {to′ : ℕ} {o′ : List ℕ} → of c x ≡ true → Tells o to (ended (Response 116) x ∷ []) to′ o′ → Theirs c l e len (i + 1) to′ left o′
-      theirs-goes d t =
+      pub theirs-goes : {x : Session} {to′ : ℕ} {o′ : List ℕ} → of c (getD l i empty) ≡ true → x ≡ getD l i empty →
+          Tells o to (ended (Response 116) x ∷ []) to′ o′ → Theirs c l e len (i + 1) to′ left o′
+      theirs-goes d q t =
           record {
-            writes = closing-next l i (v .writes) k q (rw d t);
+            writes = closing-next l i (v .writes) k (rw (d, ← q) t);
             few = omega (arith, v .few);
             rest = omega (arith, v .rest, counted, ap (λ (b : Bool). bit (not b)) d);
           }
 
       -- it is another's
-      pub theirs-stays : of c x ≡ false → Theirs c l e len (i + 1) to (left + 1) o
+      pub theirs-stays : of c (getD l i empty) ≡ false → Theirs c l e len (i + 1) to (left + 1) o
       theirs-stays d =
           record {
-            writes = closing-next l i (v .writes) k q (rw d tells-none);
+            writes = closing-next l i (v .writes) k (rw d tells-none);
             few = omega (arith, v .few);
             rest = omega (arith, v .rest, counted, ap (λ (b : Bool). bit (not b)) d);
           }
@@ -174,32 +178,30 @@ module _ {p : Session → Bool} {air cover : Ending} {e : List ℕ} {len : ℕ} 
     abbrev l : List Session
     l = see m .queue .started
 
-    module _ {x : Session} (k : i < length l) (q : x ≡ getD l i empty) where
-      pub leaving-playable : Playable x
-      leaving-playable = subst Playable (sym q) (all-getD Playable l i empty k (v .playable))
-
-      -- it goes, and n is without it
-      pub leaving-goes : {n : List ℕ} {to′ : ℕ} {o′ : List ℕ} → p x ≡ true → Now n (relisted Started (removeAt i l) (see m)) →
-          Tells o to (ended h x ∷ []) to′ o′ → Leaving p air cover s e len n i cover to′ o′
-      leaving-goes {n} {to′} {o′} d u t =
-          let g : removeAt i l ≡ see n .queue .started = sym (ap (λ (z : Memory). z .queue .started) (u .is)) in
+    module _ (k : i < length l) where
+      -- it ends, and n is without it
+      pub leaving-goes : {n : List ℕ} {to′ : ℕ} {o′ : List ℕ} → p (getD l i empty) ≡ true → Does (oneEnded Started i h) to m o to′ n o′ →
+          Leaving p air cover s e len n i cover to′ o′
+      unfolding oneEnded
+      leaving-goes {n} {to′} {o′} d u =
+          let g : removeAt i l ≡ see n .queue .started = sym (ap (λ (z : Memory). z .queue .started) (u .shows .is)) in
           let tk : take i l ≡ take i (see n .queue .started) = sym (taken l i k) ∙ ap (take i) g in
           let dr : drop (i + 1) l ≡ drop i (see n .queue .started) = sym (dropped l i k) ∙ ap (drop i) g in
           record {
-            form = u .form;
+            form = u .shows .form;
             kept =
-                u .is
+                u .shows .is
                 ∙ ap (λ (z : Memory). queued (withStarted (removeAt i l) (z .queue)) z) (v .kept)
                 ∙ ap (λ (r : List Session). queued (withStarted r (s .queue)) s) g;
             playable = subst (All Playable) g (fewer-all Playable (fewer-removeAt i l) (v .playable));
-            stay = v .stay ∙ rw (next l i k q, d, tk, dr) refl;
+            stay = v .stay ∙ rw (next l i k, d, tk, dr) refl;
             writes =
                 subst (λ (r : List Session). Closing p air cover (s .queue .started) r e len cover to′ o′) dr
-                (closing-next l i (v .writes) k q (rw d t));
+                (closing-next l i (v .writes) k (rw d (u .tells)));
           }
 
       -- it stays
-      pub leaving-stays : p x ≡ false → Leaving p air cover s e len m (i + 1) cover to o
+      pub leaving-stays : p (getD l i empty) ≡ false → Leaving p air cover s e len m (i + 1) cover to o
       leaving-stays d =
           record {
             form = v .form;
@@ -207,16 +209,9 @@ module _ {p : Session → Bool} {air cover : Ending} {e : List ℕ} {len : ℕ} 
             playable = v .playable;
             stay =
                 v .stay
-                ∙ rw (next l i k q, d) (rw (add-one i, take-suc l i empty k, ← q) (sym (append-snoc (take i l) x (omit p (drop (suc i) l)))));
-            writes = closing-next l i (v .writes) k q (rw d tells-none);
+                ∙ rw (next l i k, d) (rw (add-one i, take-suc l i empty k) (sym (append-snoc (take i l) (getD l i empty) (omit p (drop (suc i) l)))));
+            writes = closing-next l i (v .writes) k (rw d tells-none);
           }
-
--- one of the started is gone
-pub leaving-less : (i : ℕ) (m : List ℕ) {n : List ℕ} → i < length (see m .queue .started) →
-    Now n (relisted Started (removeAt i (see m .queue .started)) (see m)) →
-    suc (length (see n .queue .started)) ≡ length (see m .queue .started)
-leaving-less i m h n =
-    ap (λ (z : Memory). suc (length (z .queue .started))) (n .is) ∙ length-removeAt i (see m .queue .started) h
 
 -- all are passed
 pub leaving-done : (t : Ninths) {s : Memory} {e o m : List ℕ} {len i to : ℕ} {h : Ending} →

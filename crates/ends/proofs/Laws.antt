@@ -131,20 +131,32 @@ pub one-ended : (v : Which) (m : List ℕ) (i : ℕ) (h : Ending) {n e o : List 
 unfolding oneEnded
 one-ended v m i h q s t = rw (← (sessions-list v m), ← q) (record { shows = s; tells = t })
 
--- ## Followers, link by link: the two answers of `dismiss`
-
 -- one of those that wait is gone
 pub removed-less : (i : ℕ) (s : Memory) {m : List ℕ} → i < length (s .queue .waiting) →
     Now m (queued (withWaiting (removeAt i (s .queue .waiting)) (s .queue)) s) → suc (length (see m .queue .waiting)) ≡ length (s .queue .waiting)
 removed-less i s h n =
     ap (λ (z : Memory). suc (length (z .queue .waiting))) (n .is) ∙ length-removeAt i (s .queue .waiting) h
 
+-- so much is written at most
+pub end-brief : (v : Which) (i : ℕ) (how : Ending) (m : List ℕ) {e n o : List ℕ} {len to : ℕ} → Does (oneEnded v i how) len m e to n o → to ≤ len + roomFor 1
+unfolding oneEnded
+end-brief v i how m d = told-one how (getD (listOf v (see m .queue)) i empty) (d .tells)
+
+-- its list has one less
+pub one-less : (v : Which) (i : ℕ) (how : Ending) (m : List ℕ) {e n o : List ℕ} {len to : ℕ} → i < length (sessions v m) →
+    Does (oneEnded v i how) len m e to n o → suc (length (sessions v n)) ≡ length (sessions v m)
+unfolding oneEnded
+one-less Waiting i how m h d = removed-less i (see m) h (d .shows)
+one-less Started i how m h d =
+    ap (λ (z : Memory). suc (length (z .queue .started))) (d .shows .is) ∙ length-removeAt i (see m .queue .started) h
+
+-- ## Followers, link by link: the two answers of `dismiss`
+
 module _ (r c x : ℕ) (i : ℕ) where
-  -- the one at the place i goes, and then those that follow it
+  -- the one at the place i ends, and then those that follow it
   link : (q : Queue) → i ≡ place (follows c x) (q .waiting) → i < length (q .waiting) →
-      let s = getD (q .waiting) i empty in
-      dismissed r c x q ≡ andThen (writes (ended (Response r) s ∷ []) (withWaiting (removeAt i (q .waiting)) q)) (dismissed r c (s .id))
-  unfolding dismissed andThen
+      dismissed r c x q ≡ andThen (oneEnded Waiting i (Response r) q) (dismissed r c (getD (q .waiting) i empty .id))
+  unfolding dismissed andThen oneEnded
   link q f h =
       ap (λ (w : Walk). record { queue = withWaiting (w .left) q; written = map (ended (Response r)) (w .gone) }) (walk-more c x (q .waiting) i f h)
 
@@ -153,13 +165,13 @@ module _ (r c x : ℕ) (i : ℕ) where
     unfolding dismissed
     dismissed-none g h = rw (walk-none c x (see m .queue .waiting) i f h) (turns-quiet g)
 
-    pub dismissed-more : {n n′ o o′ : List ℕ} {mid to : ℕ} {s : Session} → i < length (see m .queue .waiting) → len + roomFor 1 ≤ length e →
-        s ≡ getD (see m .queue .waiting) i empty → Now n (relisted Waiting (removeAt i (see m .queue .waiting)) (see m)) →
-        Tells e len (ended (Response r) s ∷ []) mid o → Does (dismissed r c (s .id)) mid n o to n′ o′ → Does (dismissed r c x) len m e to n′ o′
-    dismissed-more {s = s} h k q u t d =
+    pub dismissed-more : {n n′ o o′ : List ℕ} {mid to y : ℕ} → i < length (see m .queue .waiting) → len + roomFor 1 ≤ length e →
+        y ≡ getD (see m .queue .waiting) i empty .id → Does (oneEnded Waiting i (Response r)) len m e mid n o → Does (dismissed r c y) mid n o to n′ o′ →
+        Does (dismissed r c x) len m e to n′ o′
+    dismissed-more {y = y} h k q d w =
         rw (link (see m .queue) f h, ← q) (
-        turns-then (writes (ended (Response r) s ∷ []) (withWaiting (removeAt i (see m .queue .waiting)) (see m .queue))) (dismissed r c (s .id))
-        (omega (arith, brief (Response r) s)) (record { shows = u; tells = t }) d
+        turns-then (oneEnded Waiting i (Response r) (see m .queue)) (dismissed r c y)
+        (omega (arith, d .tells .count, end-brief Waiting i (Response r) m d)) d w
         )
 
 -- x fails: its own end, and then those that follow it
@@ -172,25 +184,20 @@ fails x m g k t d =
 -- ## A session's end, and its followers'
 
 module _ (v : Which) (i : ℕ) (how : Ending) (m : List ℕ) {e n o : List ℕ} {len to : ℕ} (d : Does (oneEnded v i how) len m e to n o) where
-  end-brief : to ≤ len + roomFor 1
-  unfolding oneEnded
-  end-brief = told-one how (getD (listOf v (see m .queue)) i empty) (d .tells)
-
   -- room for those that follow it
   pub chain-room : let q = see m .queue in len + roomFor (1 + length (listed v (removeAt i (listOf v q)) q .waiting)) ≤ length e →
       length o ≡ length e → to + roomFor (length (see n .queue .waiting)) ≤ length o
   unfolding oneEnded
-  chain-room h k = omega (arith, end-brief, ap (λ (s : Memory). length (s .queue .waiting)) (d .shows .is))
+  chain-room h k = omega (arith, end-brief v i how m d, ap (λ (s : Memory). length (s .queue .waiting)) (d .shows .is))
 
   -- and then they end
-  pub chain-turns : (result : ℕ) {x : Session} {n′ o′ : List ℕ} {to′ : ℕ} → x ≡ getD (sessions v m) i empty → len + roomFor 1 ≤ length e →
-      Does (dismissed result (x .conn) (x .id)) to n o to′ n′ o′ → Does (chainEnded v i how result) len m e to′ n′ o′
+  pub chain-turns : (result : ℕ) {c x : ℕ} {n′ o′ : List ℕ} {to′ : ℕ} → c ≡ getD (sessions v m) i empty .conn → x ≡ getD (sessions v m) i empty .id →
+      len + roomFor 1 ≤ length e → Does (dismissed result c x) to n o to′ n′ o′ → Does (chainEnded v i how result) len m e to′ n′ o′
   unfolding chainEnded
-  chain-turns result {x} {n′} {o′} {to′} f h k =
+  chain-turns result f g h k =
       let s = getD (listOf v (see m .queue)) i empty in
-      let g : x ≡ s = f ∙ ap (λ (l : List Session). getD l i empty) (sessions-list v m) in
-      turns-then (oneEnded v i how (see m .queue)) (dismissed result (s .conn) (s .id)) (omega (arith, d .tells .count, end-brief)) d
-      (subst (λ (y : Session). Does (dismissed result (y .conn) (y .id)) to n o to′ n′ o′) g k)
+      turns-then (oneEnded v i how (see m .queue)) (dismissed result (s .conn) (s .id)) (omega (arith, d .tells .count, end-brief v i how m d)) d
+      (rw (← (sessions-list v m), ← f, ← g) k)
 
 -- how a covered session ends
 pub ending-covered : (i r : ℕ) → (i ≡ 0 → ⊥) → Response r ≡ endingAt i r
@@ -200,9 +207,9 @@ ending-covered (suc i) r h = refl
 -- ## A connection's ends at its close
 
 -- the one on air is the first of the started
-first-of : (c : ℕ) (l : List Session) {x : Session} → 0 < length l → x ≡ getD l 0 empty → some (of c) (take 1 l) ≡ of c x
-first-of c [] h e = absurd (omega arith)
-first-of c (y ∷ l) h e = rw e (go (of c y))
+first-of : (c : ℕ) (l : List Session) → 0 < length l → some (of c) (take 1 l) ≡ of c (getD l 0 empty)
+first-of c [] h = absurd (omega arith)
+first-of c (x ∷ l) h = go (of c x)
   where
     go : (b : Bool) → (b || false) ≡ b
     go true = refl
@@ -222,15 +229,16 @@ module _ (c : ℕ) (m : List ℕ) {e : List ℕ} where
   unfolding airEnded
   air-none f h = rw (first-none c (see m .queue .started) h) (turns-quiet f)
 
-  module _ {x : Session} (h : 0 < length (see m .queue .started)) (q : x ≡ getD (see m .queue .started) 0 empty) where
+  module _ (h : 0 < length (see m .queue .started)) where
     -- another's is
-    pub air-other : Form m → of c x ≡ false → Does (airEnded c) 0 m e 0 m e
+    pub air-other : Form m → of c (getD (see m .queue .started) 0 empty) ≡ false → Does (airEnded c) 0 m e 0 m e
     unfolding airEnded
-    air-other f d = rw (first-of c (see m .queue .started) h q ∙ d) (turns-quiet f)
+    air-other f d = rw (first-of c (see m .queue .started) h ∙ d) (turns-quiet f)
 
-    pub air-ends : {n o : List ℕ} {to : ℕ} → of c x ≡ true → Does (oneEnded Started 0 (Complete 116)) 0 m e to n o → Does (airEnded c) 0 m e to n o
+    pub air-ends : {n o : List ℕ} {to : ℕ} → of c (getD (see m .queue .started) 0 empty) ≡ true → Does (oneEnded Started 0 (Complete 116)) 0 m e to n o →
+        Does (airEnded c) 0 m e to n o
     unfolding airEnded
-    air-ends d t = rw (first-of c (see m .queue .started) h q ∙ d) t
+    air-ends d t = rw (first-of c (see m .queue .started) h ∙ d) t
 
 -- the room of those that end is enough for their records, and those that wait stay
 record Slim (q : Queue) (t : Turn) : Type 0 where

@@ -97,7 +97,8 @@ pub fn end_waiting(
     ensures { λ r. ⌜ Does (chainEnded Waiting at (Response result) result)
         len (now (m .entry)) (now (out .entry)) r (now (m .exit)) (now (out .exit)) ⌝ }
 {
-    let x = memory::load(&*m, Which::Waiting, at);
+    let conn = memory::conn_at(&*m, Which::Waiting, at);
+    let id = memory::id_at(&*m, Which::Waiting, at);
     let to = end_one(
         &mut *m,
         Which::Waiting,
@@ -106,7 +107,7 @@ pub fn end_waiting(
         &mut *out,
         len,
     );
-    dismiss(&mut *m, result, x.conn, x.id, &mut *out, to)
+    dismiss(&mut *m, result, conn, id, &mut *out, to)
 }
 
 // How the started session `at` ends with a result: the first is on air, any other is covered.
@@ -134,10 +135,11 @@ pub fn end_started(
     ensures { λ r. ⌜ Does (chainEnded Started at (endingAt at result) result)
         len (now (m .entry)) (now (out .entry)) r (now (m .exit)) (now (out .exit)) ⌝ }
 {
-    let x = memory::load(&*m, Which::Started, at);
+    let conn = memory::conn_at(&*m, Which::Started, at);
+    let id = memory::id_at(&*m, Which::Started, at);
     let how = ending_at(at, result);
     let to = end_one(&mut *m, Which::Started, at, how, &mut *out, len);
-    dismiss(&mut *m, result, x.conn, x.id, &mut *out, to)
+    dismiss(&mut *m, result, conn, id, &mut *out, to)
 }
 
 // The one on air ends, if it is the connection's.
@@ -150,8 +152,7 @@ fn end_on_air_of(m: &mut [u64; WORDS], conn: u64, out: &mut [u8]) -> usize
     if memory::count(&*m, Which::Started) == 0 {
         return 0;
     }
-    let x = memory::load(&*m, Which::Started, 0);
-    if conn != x.conn {
+    if conn != memory::conn_at(&*m, Which::Started, 0) {
         return 0;
     }
     end_one(
@@ -177,8 +178,8 @@ fn end_theirs(m: &mut [u64; WORDS], which: Which, conn: u64, out: &mut [u8], len
     let mut left = 0;
     let mut i = 0;
     while i < n {
-        let x = memory::load(&*m, which, i);
-        if conn == x.conn {
+        if conn == memory::conn_at(&*m, which, i) {
+            let x = memory::load(&*m, which, i);
             to = write_end(Ending::Response(116), x, &mut *out, to);
         } else {
             left += 1;
@@ -200,16 +201,28 @@ pub fn end_due(m: &mut [u64; WORDS], t: Ninths, out: &mut [u8], len: usize) -> u
     let mut to = len;
     let mut i = 0;
     while i < memory::count(&*m, Which::Started) {
-        let x = memory::load(&*m, Which::Started, i);
-        if t.0 == x.end.0 {
-            memory::remove(&mut *m, Which::Started, i);
-            to = write_end(how, x, &mut *out, to);
+        let end = memory::end_at(&*m, Which::Started, i);
+        if t.0 == end.0 {
+            to = end_one(&mut *m, Which::Started, i, how, &mut *out, to);
         } else {
             i += 1;
         }
         how = Ending::Complete(125);
     }
     to
+}
+
+// The follower `at` ends with the result. Apart, so that `dismiss` keeps no session over its recursive call.
+fn end_follower(m: &mut [u64; WORDS], at: usize, result: u16, out: &mut [u8], len: usize) -> usize
+    requires { ⌜ Form (now m) ⌝ }
+    requires { ⌜ at < length (see (now m) .queue .waiting) ⌝ }
+    requires { ⌜ len + roomFor 1 ≤ length (now out) ⌝ }
+    ensures { λ r. ⌜ Does (oneEnded Waiting at (Response result))
+        len (now (m .entry)) (now (out .entry)) r (now (m .exit)) (now (out .exit)) ⌝ }
+{
+    let x = memory::load(&*m, Which::Waiting, at);
+    memory::remove(&mut *m, Which::Waiting, at);
+    write_end(Ending::Response(result), x, &mut *out, len)
 }
 
 // The waiting sessions that reach the number link by link end with the result.
@@ -228,10 +241,9 @@ pub fn dismiss(
 {
     let i = memory::find(&*m, Which::Waiting, Key::Follows(conn, id));
     if i < memory::count(&*m, Which::Waiting) {
-        let x = memory::load(&*m, Which::Waiting, i);
-        memory::remove(&mut *m, Which::Waiting, i);
-        let to = write_end(Ending::Response(result), x, &mut *out, len);
-        dismiss(m, result, conn, x.id, out, to)
+        let next = memory::id_at(&*m, Which::Waiting, i);
+        let to = end_follower(&mut *m, i, result, &mut *out, len);
+        dismiss(m, result, conn, next, out, to)
     } else {
         len
     }

@@ -10,19 +10,22 @@ use lib.ListN.{length, take, drop, set, getD, replicate, length-set, length-repl
 use lib.Seq.{length-take-le, take-all, take-at, drop-at, take-add, take-take, take-set-lt, take-set-le, drop-drop, drop-cons, getD-take, getD-drop, drop-set-lt, drop-set-add, getD-set-same, getD-set-other, set-getD, ext-getD}
 use borrow.Rule.Slice.PartMut.{putMid, postOf, same-len-mid, mid-len, take-put, drop-put}
 use borrow.Author.Tests.{eqb-true, eqb-false, eq-eqb, ne-eqb}
+use Rattle.rules.specs.declared.Ninths.{Ninths}
+use Rattle.rules.specs.declared.When.the-variants.{At}
 use Rattle.rules.specs.declared.Session.{Session}
 use Rattle.rules.specs.declared.Link.{Link}
 use Rattle.rules.specs.declared.Link.the-variants.{Closed, Opened, Initialised}
 use Rattle.rules.specs.Lists.{All, bit, omit, insertAt, removeAt}
 use Rattle.rules.specs.Bytes.{part, padded}
 use Rattle.rules.specs.Answers.{waits}
-use Rattle.rules.specs.State.{Queue, Splicer, empty, of}
+use Rattle.rules.specs.State.{Queue, Splicer, empty, of, Sorted, sooner, earliest}
 use Rattle.rules.specs.Sound.{Proper, Holding}
 use Rattle.rules.proofs.All.{all-replicate, all-into}
 use Rattle.rules.proofs.Count.{count-insertAt, count-removeAt, count-omitted, count-other}
-use Rattle.rules.proofs.Every.{all-getD, all-insertAt, all-keep, fewer-all, fewer-removeAt}
-use Rattle.places.specs.Places.{Lot, lot, Good, used, width, capacity, zeros}
-use Rattle.places.proofs.Laws.{length-used, words-same, cleared, cleared-none}
+use Rattle.rules.proofs.Tick.{earliest-first, earliest-start, sooner-second}
+use Rattle.rules.proofs.Every.{each-at, all-getD, all-insertAt, all-keep, fewer-all, fewer-removeAt}
+use Rattle.places.specs.Places.{Lot, lot, Good, used, width, capacity, zeros, leastEnd}
+use Rattle.places.proofs.Laws.{length-used, words-same, cleared, cleared-none, Leading, least-leads}
 use Rattle.places.proofs.Words.{spare-none}
 use Rattle.memory.specs.declared.Which.{Which}
 use Rattle.memory.specs.declared.Which.the-variants.{Waiting, Started}
@@ -198,24 +201,51 @@ tallied-insert i x l h =
     tallied-set l (insertAt i x l) c (waits c l + 1) h (omega (arith, count-insertAt (of c) i x l, its-own x))
     (λ d n. omega (arith, count-insertAt (of d) i x l, ap bit (ne-eqb d c n)))
 
--- the session i is one of its connection's
-stands : (i : ℕ) (l : List Session) (x : Session) → i < length l → x ≡ getD l i empty → (d : ℕ) → waits d l ≡ bit (of d x) + waits d (removeAt i l)
-stands i l x h e d = rw e (count-removeAt (of d) i l empty h)
+-- the session i is connection c's
+module _ (i : ℕ) (l : List Session) (c : ℕ) (h : i < length l) (e : c ≡ getD l i empty .conn) where
+  counts-for : bit (of c (getD l i empty)) ≡ 1
+  counts-for = ap bit (eq-eqb c (getD l i empty .conn) e)
 
-pub one-waits : (i : ℕ) (l : List Session) (x : Session) → i < length l → x ≡ getD l i empty → 1 ≤ waits (x .conn) l
-one-waits i l x h e = omega (arith, stands i l x h e (x .conn), its-own x)
+  pub one-waits : 1 ≤ waits c l
+  one-waits = omega (arith, count-removeAt (of c) i l empty h, counts-for)
 
-tallied-remove : (i : ℕ) (l : List Session) (x : Session) → i < length l → x ≡ getD l i empty → OfFour x →
-    set (tallied l) (x .conn) (waits (x .conn) l - 1) ≡ tallied (removeAt i l)
-tallied-remove i l x h e f =
-    let c = x .conn in
-    tallied-set l (removeAt i l) c (waits c l - 1) f (omega (arith, stands i l x h e c, its-own x))
-    (λ d n. omega (arith, stands i l x h e d, ap bit (ne-eqb d c n)))
+  tallied-remove : c ≤ 3 → set (tallied l) c (waits c l - 1) ≡ tallied (removeAt i l)
+  tallied-remove f =
+      tallied-set l (removeAt i l) c (waits c l - 1) f (omega (arith, count-removeAt (of c) i l empty h, counts-for))
+      (λ d n. omega (arith, count-removeAt (of d) i l empty h, ap bit (ne-eqb d (getD l i empty .conn) (λ q. n (q ∙ sym e)))))
 
 tallied-omit : (c : ℕ) (l : List Session) → c ≤ 3 → set (tallied l) c 0 ≡ tallied (omit (of c) l)
 tallied-omit c l h =
     tallied-set l (omit (of c) l) c 0 h (sym (count-omitted (of c) l))
     (λ d n. sym (count-other (of d) (of c) (λ x e. ne-eqb d (x .conn) (λ q. n (q ∙ sym (eqb-true c (x .conn) e)))) l))
+
+-- ## The first start and the first end
+
+-- the first start of those in order of start
+pub first-earliest : (l : List Session) (t : Ninths) → Sorted l → 0 < length l → t ≡ getD l 0 empty .start → At t ≡ earliest (λ s. s .start) l
+first-earliest l t o h e = ap At e ∙ sym (earliest-start l empty o h)
+
+leading-earliest : (l : List Session) (b : ℕ) → Leading l (length l) b → earliest (λ s. s .end) l ≡ At (getD l b empty .end)
+leading-earliest [] b v = absurd (omega (arith, v .among))
+leading-earliest (s ∷ l) zero v =
+    earliest-first (λ u. u .end) (s .end) l (each-at (λ u. s .end .0 ≤ u .end .0) empty l (λ j h. v .least (suc j) (omega arith)))
+leading-earliest (s ∷ l) (suc b) v =
+    let w : Leading l (length l) b =
+    record {
+      among = omega (arith, v .among);
+      fits = omega arith;
+      least = λ j h. v .least (suc j) (omega arith);
+      first = λ j h. v .first (suc j) (omega arith);
+    } in
+    ap (sooner (At (s .end))) (leading-earliest l b w) ∙ sooner-second (s .end) (getD l b empty .end) (v .first 0 (omega arith))
+
+-- the end at the place that `places::least_end` gives
+module _ (l : List Session) (i : ℕ) (h : 0 < length l) (e : i ≡ leastEnd l) where
+  pub least-within : i < length l
+  least-within = omega (arith, least-leads l h .among)
+
+  pub least-earliest : (t : Ninths) → t ≡ getD l i empty .end → At t ≡ earliest (λ s. s .end) l
+  least-earliest t k = ap At (k ∙ ap (λ (j : ℕ). getD l j empty .end) e) ∙ sym (leading-earliest l (leastEnd l) (least-leads l h))
 
 -- ## What the parts of the words show, all of them show
 
@@ -406,8 +436,8 @@ module _ {v : Which} {m : List ℕ} (w : v ≡ Waiting) (f : Form m) where
   all-four : All OfFour (sessions v m)
   all-four = subst (λ (k : Which). All OfFour (sessions k m)) (sym w) (f .ofFour)
 
-  pub one-of-four : (i : ℕ) (s : Session) → i < length (sessions v m) → s ≡ getD (sessions v m) i empty → OfFour s
-  one-of-four i s h e = rw e (all-getD OfFour (sessions v m) i empty h all-four)
+  pub one-of-four : (i c : ℕ) → i < length (sessions v m) → c ≡ getD (sessions v m) i empty .conn → c ≤ 3
+  one-of-four i c h e = rw e (all-getD OfFour (sessions v m) i empty h all-four)
 
 module _ {v : Which} {m x : List ℕ} {u : List Session} (w : v ≡ Waiting) (f : Form m) (g : Changed v m x u) where
   counts-were : countsOf x ≡ tallied (sessions v m)
@@ -429,12 +459,12 @@ module _ {v : Which} {m x : List ℕ} (w : v ≡ Waiting) (f : Form m) where
       rw (count-word w f g (s .conn) h)
       (counts-now w f g (s .conn) (waits (s .conn) (sessions v m) + 1) h (all-insertAt OfFour i s (sessions v m) h (all-four w f)) (tallied-insert i s (sessions v m) h))
 
-  pub removed-now : (i : ℕ) (s : Session) → i < length (sessions v m) → s ≡ getD (sessions v m) i empty → Changed v m x (removeAt i (sessions v m)) →
-      Now (set x (firstCount + s .conn) (getD x (firstCount + s .conn) 0 - 1)) (relisted v (removeAt i (sessions v m)) (see m))
-  removed-now i s h e g =
-      let k = one-of-four w f i s h e in
-      rw (count-word w f g (s .conn) k)
-      (counts-now w f g (s .conn) (waits (s .conn) (sessions v m) - 1) k (fewer-all OfFour (fewer-removeAt i (sessions v m)) (all-four w f)) (tallied-remove i (sessions v m) s h e k))
+  pub removed-now : (i c : ℕ) → i < length (sessions v m) → c ≡ getD (sessions v m) i empty .conn → Changed v m x (removeAt i (sessions v m)) →
+      Now (set x (firstCount + c) (getD x (firstCount + c) 0 - 1)) (relisted v (removeAt i (sessions v m)) (see m))
+  removed-now i c h e g =
+      let k = one-of-four w f i c h e in
+      rw (count-word w f g c k)
+      (counts-now w f g c (waits c (sessions v m) - 1) k (fewer-all OfFour (fewer-removeAt i (sessions v m)) (all-four w f)) (tallied-remove i (sessions v m) c h e k))
 
   pub omitted-now : (c : ℕ) → c ≤ 3 → Changed v m x (omit (of c) (sessions v m)) → Now (set x (firstCount + c) 0) (relisted v (omit (of c) (sessions v m)) (see m))
   omitted-now c h g = counts-now w f g c 0 h (all-keep OfFour (λ s. not (of c s)) (sessions v m) (all-four w f)) (tallied-omit c (sessions v m) h)

@@ -117,6 +117,42 @@ pub fn load(m: &[u64], which: Which, at: usize) -> Session
     places::load(&m[a..e], n, at)
 }
 
+// The connection of the session `at`.
+pub fn conn_at(m: &[u64], which: Which, at: usize) -> u64
+    requires { ⌜ Form (now m) ⌝ }
+    requires { ⌜ at < length (sessions which (now m)) ⌝ }
+    ensures { λ r. ⌜ r ≡ getD (sessions which (now (m .entry))) at empty .conn ⌝ }
+{
+    let n = count(m, which);
+    let a = from(which);
+    let e = to(which);
+    places::conn_at(&m[a..e], n, at)
+}
+
+// The number of the session `at`.
+pub fn id_at(m: &[u64], which: Which, at: usize) -> u64
+    requires { ⌜ Form (now m) ⌝ }
+    requires { ⌜ at < length (sessions which (now m)) ⌝ }
+    ensures { λ r. ⌜ r ≡ getD (sessions which (now (m .entry))) at empty .id ⌝ }
+{
+    let n = count(m, which);
+    let a = from(which);
+    let e = to(which);
+    places::id_at(&m[a..e], n, at)
+}
+
+// The end of the session `at`.
+pub fn end_at(m: &[u64], which: Which, at: usize) -> Ninths
+    requires { ⌜ Form (now m) ⌝ }
+    requires { ⌜ at < length (sessions which (now m)) ⌝ }
+    ensures { λ r. ⌜ r ≡ getD (sessions which (now (m .entry))) at empty .end ⌝ }
+{
+    let n = count(m, which);
+    let a = from(which);
+    let e = to(which);
+    places::end_at(&m[a..e], n, at)
+}
+
 // The place of the first that the key looks for, or how many there are.
 pub fn find(m: &[u64], which: Which, key: Key) -> usize
     requires { ⌜ Form (now m) ⌝ }
@@ -142,7 +178,12 @@ pub fn least_end(m: &[u64]) -> When
     ensures { λ r. ⌜ r ≡ earliest (λ s. s .end) (sessions Started (now (m .entry))) ⌝ }
 {
     let n = count(m, Which::Started);
-    places::least_end(&m[STARTED_FROM..WORDS], n)
+    if n == 0 {
+        return When::Never;
+    }
+    let q = &m[STARTED_FROM..WORDS];
+    let i = places::least_end(q, n);
+    When::At(places::end_at(q, n, i))
 }
 
 // The first start of the waiting, which stand in order of start.
@@ -152,7 +193,10 @@ pub fn first_start(m: &[u64]) -> When
     ensures { λ r. ⌜ r ≡ earliest (λ s. s .start) (sessions Waiting (now (m .entry))) ⌝ }
 {
     let n = count(m, Which::Waiting);
-    places::first_start(&m[WAITING_FROM..STARTED_FROM], n)
+    if n == 0 {
+        return When::Never;
+    }
+    When::At(places::start_at(&m[WAITING_FROM..STARTED_FROM], n, 0))
 }
 
 // x in place of the started session `at`.
@@ -190,7 +234,7 @@ pub fn remove(m: &mut [u64], which: Which, at: usize)
     requires { ⌜ at < length (sessions which (now m)) ⌝ }
     ensures { λ _. ⌜ Now (now (m .exit)) (relisted which (removeAt at (sessions which (now (m .entry)))) (see (now (m .entry)))) ⌝ }
 {
-    let gone = load(&*m, which, at);
+    let whose = conn_at(&*m, which, at);
     let n = count(&*m, which);
     let a = from(which);
     let e = to(which);
@@ -198,7 +242,7 @@ pub fn remove(m: &mut [u64], which: Which, at: usize)
     let i = slot(which);
     m[i] = (n - 1) as u64;
     if let Which::Waiting = which {
-        let c = COUNTS + gone.conn as usize;
+        let c = COUNTS + whose as usize;
         m[c] -= 1;
     }
 }

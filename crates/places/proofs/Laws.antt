@@ -1,22 +1,22 @@
 -- Laws of the list in lent places: it is padded with empty ones, a shift moves a hole, a loop has passed a part of it.
-use mathlib.Core.Path.{_≡_, refl, sym, ap, ap₂, _∙_}
+use mathlib.Core.Path.{_≡_, refl, sym, ap, ap₂, subst, _∙_}
 use mathlib.Core.List.{List, [], _∷_, _++_, append-assoc}
-use mathlib.Core.Bool.{Bool, true, false, not}
-use Prim.Native.Nat.{ℕ, zero, suc, _+_, _-_, _/_, _≤_, _<_}
+use mathlib.Core.Bool.{Bool, true, false, not, _||_}
+use Prim.Native.Nat.{ℕ, zero, suc, _+_, _-_, _*_, _/_, _≤_, _<_}
 use native.Mathlib.Omega.{arith}
 use native.Mathlib.Numerals.{add-one}
 use native.Mathlib.Nat.{not-suc-le-zero, le-of-suc-le-suc}
+use borrow.Author.Tests.{ltb-true, ltb-false, lt-ltb, le-ltb}
+use lib.Dec.{ltb}
 use lib.ListN.{length, take, drop, set, getD, replicate, length-append, length-set, length-take, length-drop, length-replicate, take-append-drop, drop-of-length-le}
 use lib.Seq.{drop-cons, drop-drop, take-length, length-take-le, take-take, getD-take, take-append-add, drop-append-add, take-at, drop-at, getD-drop, take-set-le, drop-set-add}
-use Rattle.rules.specs.declared.Ninths.{Ninths}
-use Rattle.rules.specs.declared.When.the-variants.{At, Never}
 use Rattle.rules.specs.declared.Session.{Session}
-use Rattle.rules.specs.Lists.{put, omit, place, insertAt, removeAt}
-use Rattle.rules.specs.State.{empty, Sorted, sooner, earliest}
-use Rattle.rules.proofs.Tick.{earliest-none, earliest-next, earliest-last, earliest-start}
+use Rattle.rules.specs.Lists.{put, omit, some, place, insertAt, removeAt}
+use Rattle.rules.specs.State.{empty}
 use Rattle.rules.proofs.Count.{length-insertAt, length-removeAt, length-split, place≤}
-use Rattle.places.specs.Places.{capacity, Lot, lot, places, spare, zeros, free, Good, used}
-use Rattle.places.proofs.Words.{length-places, places-zero, places-same}
+use Rattle.rules.proofs.Every.{each-at, none-some}
+use Rattle.places.specs.Places.{capacity, Lot, lot, places, spare, zeros, free, Good, used, endsFirst, leastEnd}
+use Rattle.places.proofs.Words.{length-places, loaded, load-is, places-zero, places-same}
 
 -- ## Lists
 
@@ -96,9 +96,33 @@ module _ {A : Type 0} where
       go true e = ap (λ r. x ∷ r) e
       go false e = e
 
+  -- the first that passes the test
+  first-place : (p : A → Bool) (l : List A) (i : ℕ) (d : A) → i < length l → p (getD l i d) ≡ true → ((j : ℕ) → j < i → p (getD l j d) ≡ false) → i ≡ place p l
+  unfolding place
+  first-place p [] i d h e f = absurd (omega arith)
+  first-place p (x ∷ l) zero d h e f = rw e refl
+  first-place p (x ∷ l) (suc i) d h e f = rw (f 0 (omega arith)) (ap suc (first-place p l i d (omega arith) e (λ j k. f (suc j) (omega arith))))
+
+  some-at : (p : A → Bool) (l : List A) (i : ℕ) (d : A) → i < length l → p (getD l i d) ≡ true → some p l ≡ true
+  some-at p [] i d h e = absurd (omega arith)
+  some-at p (x ∷ l) zero d h e = rw e refl
+  some-at p (x ∷ l) (suc i) d h e = go (p x) (some-at p l i d (omega arith) e)
+    where
+      go : (b : Bool) → some p l ≡ true → (b || some p l) ≡ true
+      go true f = refl
+      go false f = f
+
   none-before : (l m : List A) → length (l ++ m) ≤ length m → l ++ m ≡ m
   none-before [] m h = refl
   none-before (x ∷ l) m h = absurd (omega (arith, length-append l m))
+
+-- one below i + 1 is below i, or i
+up-to : {P : Type 0} (i j : ℕ) → j < i + 1 → (j < i → P) → (j ≡ i → P) → P
+up-to {P} i j h f g = go (ltb j i) refl
+  where
+    go : (b : Bool) → ltb j i ≡ b → P
+    go true e = f (ltb-true j i e)
+    go false e = g (omega (arith, ltb-false j i e))
 
 -- ## The list in its places
 
@@ -211,6 +235,9 @@ module _ (q : List ℕ) (n at : ℕ) (g : Good (lot q n)) (h : at < n) where
   pub slot-read : (d : Session) → getD (places q) (capacity q - n + at) d ≡ getD (used (lot q n)) at d
   slot-read d = ap (λ (m : ℕ). getD (places q) (m - n + at) d) (sym (length-places q)) ∙ sym (getD-drop (free (lot q n)) (places q) at d)
 
+  pub slot-word : loaded q ((capacity q - n + at) * 8) ≡ getD (used (lot q n)) at empty
+  slot-word = load-is q (capacity q - n + at) empty slot-within ∙ slot-read empty
+
   pub slot-set : (r : List Session) (x : Session) → r ≡ set (places q) (capacity q - n + at) x →
       Good (record { items = r; len = n }) × (used (record { items = r; len = n }) ≡ set (used (lot q n)) at x)
   slot-set r x e =
@@ -228,10 +255,6 @@ module _ (q : List ℕ) (n at : ℕ) (g : Good (lot q n)) (h : at < n) where
 
 abbrev pub Sought : (Session → Bool) → Lot → ℕ → Type 0
 Sought p q i = (i ≤ q .len) × (place p (used q) ≡ i + place p (drop i (used q)))
-
--- b among the first i
-abbrev pub Earliest : (Session → Ninths) → Lot → ℕ → Ninths → Type 0
-Earliest f q i b = (i ≤ q .len) × (earliest f (used q) ≡ sooner (At b) (earliest f (drop i (used q))))
 
 -- the session i is the head of the rest
 pub head : (q : Lot) (i : ℕ) (d : Session) → Good q → i < q .len → drop i (used q) ≡ getD (used q) i d ∷ drop (i + 1) (used q)
@@ -268,29 +291,68 @@ sought-out p q i g h s =
     let f : place p (drop i (used q)) ≡ 0 = rw (at-end q i g h) refl in
     omega (arith, s .1)
 
--- ## The first end, and the first start of those in order of start
+-- ## The place of the first end: best is among the first i, ends first of them, and none before it ends as early
 
-pub earliest-empty : (f : Session → Ninths) (q : Lot) → Good q → q .len ≤ 0 → Never ≡ earliest f (used q)
-earliest-empty f q g h = sym (earliest-none f (used q) (omega (arith, length-used q g)))
+abbrev endOf : List Session → ℕ → ℕ
+endOf u i = getD u i empty .end .0
 
-module _ (f : Session → Ninths) (q : Lot) (g : Good q) where
-  pub earliest-one : (x : Session) → 0 < q .len → x ≡ getD (used q) 0 empty → Earliest f q 1 (f x)
-  earliest-one x h e = (omega arith, rw e (ap (earliest f) (head q 0 empty g h)))
+pub record Leading (u : List Session) (i best : ℕ) : Type 0 where
+  pub among : best < i
+  pub fits : i ≤ length u
+  pub least : (j : ℕ) → j < i → endOf u best ≤ endOf u j
+  pub first : (j : ℕ) → j < best → endOf u best < endOf u j
 
-  -- c is the sooner of b and the session i
-  pub earliest-more : (i : ℕ) (b c : Ninths) (x : Session) → i < q .len → x ≡ getD (used q) i empty → sooner (At b) (At (f x)) ≡ At c → Earliest f q i b → Earliest f q (i + 1) c
-  earliest-more i b c x h e k s = (
-    omega arith,
-    s .1
-        ∙ earliest-next f (At b) (used q) i empty (omega (arith, length-used q g))
-        ∙ rw (add-one, ← e, k) refl,
-  )
+pub leading-none : (u : List Session) → 0 < length u → Leading u 1 0
+leading-none u h =
+    record {
+      among = omega arith;
+      fits = omega arith;
+      least = λ j k. let e : j ≡ 0 = omega arith in omega (arith, ap (endOf u) e);
+      first = λ j k. absurd (omega arith);
+    }
 
-  pub earliest-out : (i : ℕ) (b : Ninths) → q .len ≤ i → Earliest f q i b → At b ≡ earliest f (used q)
-  earliest-out i b h s = sym (s .1 ∙ earliest-last f (At b) (used q) i (omega (arith, length-used q g)))
+module _ (u : List Session) (i best : ℕ) (h : i < length u) (v : Leading u i best) where
+  -- the session i ends earlier than all before it, or not
+  pub leading-next : endOf u i < endOf u best → Leading u (i + 1) i
+  leading-next e =
+      record {
+        among = omega arith;
+        fits = omega arith;
+        least = λ j k. up-to i j k (λ m. omega (arith, v .least j m)) (λ m. omega (arith, ap (endOf u) m));
+        first = λ j k. omega (arith, v .least j k);
+      }
 
-pub first-earliest : (q : Lot) (x : Session) → Good q → 0 < q .len → Sorted (used q) → x ≡ getD (used q) 0 empty → At (x .start) ≡ earliest (λ s. s .start) (used q)
-first-earliest q x g h o e = ap (λ (s : Session). At (s .start)) e ∙ sym (earliest-start (used q) empty o (omega (arith, length-used q g)))
+  pub leading-stays : endOf u best ≤ endOf u i → Leading u (i + 1) best
+  leading-stays e =
+      record {
+        among = omega (arith, v .among);
+        fits = omega arith;
+        least = λ j k. up-to i j k (v .least j) (λ m. omega (arith, ap (endOf u) m));
+        first = v .first;
+      }
+
+pub leading-out : (u : List Session) (i best : ℕ) → length u ≤ i → Leading u i best → best ≡ leastEnd u
+unfolding leastEnd
+leading-out u i best h v =
+    first-place (endsFirst u) u best empty (omega (arith, v .among, v .fits))
+    (ap not (none-some _ u (each-at _ empty u (λ j k. le-ltb (endOf u j) (endOf u best) (v .least j (omega arith))))))
+    (λ j k. ap not (some-at _ u best empty (omega (arith, v .among, v .fits)) (lt-ltb (endOf u best) (endOf u j) (v .first j k))))
+
+-- where there is one, one ends first
+leads : (u : List Session) (k : ℕ) → k < length u → (b : ℕ) × Leading u (k + 1) b
+leads u zero h = (0, leading-none u h)
+leads u (suc k) h = let v = leads u k (omega arith) in go (v .0) (v .1) (ltb (endOf u (suc k)) (endOf u (v .0))) refl
+  where
+    go : (b : ℕ) → Leading u (k + 1) b → (t : Bool) → ltb (endOf u (suc k)) (endOf u b) ≡ t → (b : ℕ) × Leading u (suc k + 1) b
+    go b v true e = (suc k, leading-next u (suc k) b h (rw add-one at v) (ltb-true (endOf u (suc k)) (endOf u b) e))
+    go b v false e = (b, leading-stays u (suc k) b h (rw add-one at v) (ltb-false (endOf u (suc k)) (endOf u b) e))
+
+pub least-leads : (u : List Session) → 0 < length u → Leading u (length u) (leastEnd u)
+least-leads u h =
+    let e : length u - 1 + 1 ≡ length u = omega arith in
+    let v = leads u (length u - 1) (omega arith) in
+    let w : Leading u (length u) (v .0) = subst (λ (i : ℕ). Leading u i (v .0)) e (v .1) in
+    subst (λ (b : ℕ). Leading u (length u) b) (leading-out u (length u) (v .0) (omega arith) w) w
 
 -- ## Closing up, from the last on: the first i are as they were, and behind `to` stands what stays of the others
 

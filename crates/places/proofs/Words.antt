@@ -41,7 +41,7 @@ next0 i = omega arith
 abbrev pub loaded : List ℕ → ℕ → Session
 loaded q b =
     record {
-      conn = getD q b 0;
+      conn = getD q (b + 0) 0;
       id = getD q (b + 1) 0;
       prior = getD q (b + 2) 0;
       start = record { 0 = getD q (b + 3) 0 };
@@ -54,7 +54,7 @@ loaded q b =
 -- what is left when x is written there
 abbrev pub stored : List ℕ → ℕ → Session → List ℕ
 stored q b x =
-    set (set (set (set (set (set (set (set q b (x .conn)) (b + 1) (x .id)) (b + 2) (x .prior)) (b + 3) (x .start .0))
+    set (set (set (set (set (set (set (set q (b + 0) (x .conn)) (b + 1) (x .id)) (b + 2) (x .prior)) (b + 3) (x .start .0))
     (b + 4) (x .end .0)) (b + 5) (x .access)) (b + 6) (x .overrides)) (b + 7) (x .played .0)
 
 rows-loaded : (n i : ℕ) (q : List ℕ) (d : Session) → i < n → 8 * n ≤ length q → loaded q (i * 8) ≡ getD (rows n q) i d
@@ -64,7 +64,7 @@ rows-loaded (suc n) zero q d h m = refl
 rows-loaded (suc n) (suc i) q d h m =
     split8 (λ q. 8 * n ≤ length (drop 8 q) → loaded q (suc i * 8) ≡ getD (rows (suc n) q) (suc i) d) q (omega arith)
     (λ a b c e f g j k l. λ m′.
-    rw (next i 1, next i 2, next i 3, next i 4, next i 5, next i 6, next i 7, next0 i) (rows-loaded n i l d (le-of-suc-le-suc h) m′))
+    rw (next i 0, next i 1, next i 2, next i 3, next i 4, next i 5, next i 6, next i 7) (rows-loaded n i l d (le-of-suc-le-suc h) m′))
     (simp length-drop (omega arith))
 
 rows-stored : (n i : ℕ) (q : List ℕ) (x : Session) → i < n → 8 * n ≤ length q → rows n (stored q (i * 8) x) ≡ set (rows n q) i x
@@ -75,7 +75,7 @@ rows-stored (suc n) zero q x h m =
 rows-stored (suc n) (suc i) q x h m =
     split8 (λ q. 8 * n ≤ length (drop 8 q) → rows (suc n) (stored q (suc i * 8) x) ≡ set (rows (suc n) q) (suc i) x) q (omega arith)
     (λ a b c e f g j k l. λ m′.
-    rw (next i 1, next i 2, next i 3, next i 4, next i 5, next i 6, next i 7, next0 i)
+    rw (next i 0, next i 1, next i 2, next i 3, next i 4, next i 5, next i 6, next i 7)
     (ap (λ r. row (a ∷ b ∷ c ∷ e ∷ f ∷ g ∷ j ∷ k ∷ l) ∷ r) (rows-stored n i l x (le-of-suc-le-suc h) m′)))
     (simp length-drop (omega arith))
 
@@ -91,7 +91,6 @@ pub store-spare : (q : List ℕ) (i : ℕ) (x : Session) → i < capacity q → 
 store-spare q i x h =
     let n : length (stored q (i * 8) x) ≡ length q = simp length-set in
     let b : (j : ℕ) → j < 8 → i * 8 + j < capacity q * width = λ j k. omega arith in
-    let z : i * 8 < capacity q * width = omega arith in
     let m = capacity q * width in
     rw n
     (drop-set-lt m _ (i * 8 + 7) _ (b 7 (omega arith))
@@ -101,7 +100,7 @@ store-spare q i x h =
     ∙ drop-set-lt m _ (i * 8 + 3) _ (b 3 (omega arith))
     ∙ drop-set-lt m _ (i * 8 + 2) _ (b 2 (omega arith))
     ∙ drop-set-lt m _ (i * 8 + 1) _ (b 1 (omega arith))
-    ∙ drop-set-lt m _ (i * 8) _ z)
+    ∙ drop-set-lt m _ (i * 8 + 0) _ (b 0 (omega arith)))
 
 -- the words are determined by what their places hold and the spare ones
 rows-same : (n : ℕ) (p q : List ℕ) → n * 8 ≤ length p → n * 8 ≤ length q → rows n p ≡ rows n q → drop (n * 8) p ≡ drop (n * 8) q → p ≡ q

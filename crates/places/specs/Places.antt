@@ -1,11 +1,12 @@
 -- The sessions that lent words hold, what is asked of the words, and what a search looks for.
 use mathlib.Core.Path.{_≡_}
 use mathlib.Core.List.{List, [], _∷_}
-use mathlib.Core.Bool.{Bool}
+use mathlib.Core.Bool.{Bool, not}
 use Prim.Native.Nat.{ℕ, zero, suc, _-_, _*_, _/_, _≤_}
-use lib.Dec.{leb}
+use lib.Dec.{leb, ltb}
 use lib.ListN.{length, take, drop, set, getD, replicate}
 use Rattle.rules.specs.declared.Session.{Session}
+use Rattle.rules.specs.Lists.{some, place}
 use Rattle.rules.specs.State.{empty, is, follows, startsAfter}
 use Rattle.places.specs.declared.Key.{Key}
 use Rattle.places.specs.declared.Key.the-variants.{Held, Follows, StartsFrom, StartsAfter}
@@ -90,3 +91,11 @@ keyTest (Held c x) = is c x
 keyTest (Follows c x) = follows c x
 keyTest (StartsFrom t) = startsFrom (t .0)
 keyTest (StartsAfter t) = startsAfter (t .0)
+
+-- nothing of l ends before s
+abbrev pub endsFirst : List Session → Session → Bool
+endsFirst l s = not (some (λ x. ltb (x .end .0) (s .end .0)) l)
+
+-- the place of the session that ends first; of several that end together the first
+unfoldable pub leastEnd : List Session → ℕ
+leastEnd l = place (endsFirst l) l

@@ -3,18 +3,33 @@
 // most often, and then no other moves.
 use rules::Ninths;
 use rules::Session;
-use rules::When;
 ghost use mathlib.Core.Path.{_≡_};
 ghost use Prim.Native.Nat.{_+_, _-_, _≤_, _<_};
 ghost use lib.ListN.{length, drop, set, getD};
 ghost use Rattle.rules.specs.Lists.{omit, place, insertAt, removeAt};
-ghost use Rattle.rules.specs.State.{empty, of, Sorted, earliest};
+ghost use Rattle.rules.specs.State.{empty, of};
 ghost use Rattle.rules.specs.Instants.{outranks};
 ghost use Rattle.rules.specs.Answers.{inserted};
-ghost use Rattle.places.specs.Places.{capacity, places, spare, lot, used, moved, Good, Made, keyTest};
+ghost use Rattle.places.specs.Places.{capacity, places, spare, lot, used, moved, Good, Made, keyTest, leastEnd};
 
-// The words of a place.
+// The words of a place, and which of them is which field.
 pub const WIDTH: usize = 8;
+
+const CONN: usize = 0;
+
+const ID: usize = 1;
+
+const PRIOR: usize = 2;
+
+const START: usize = 3;
+
+const END: usize = 4;
+
+const ACCESS: usize = 5;
+
+const OVERRIDES: usize = 6;
+
+const PLAYED: usize = 7;
 
 // What a search looks for: `keyTest` of specs/ gives each its test.
 pub enum Key {
@@ -47,14 +62,14 @@ fn read_row(q: &[u64], i: usize) -> Session
 {
     let b = i * WIDTH;
     Session {
-        conn: q[b],
-        id: q[b + 1],
-        prior: q[b + 2],
-        start: Ninths(q[b + 3]),
-        end: Ninths(q[b + 4]),
-        access: q[b + 5],
-        overrides: q[b + 6],
-        played: Ninths(q[b + 7]),
+        conn: q[b + CONN],
+        id: q[b + ID],
+        prior: q[b + PRIOR],
+        start: Ninths(q[b + START]),
+        end: Ninths(q[b + END]),
+        access: q[b + ACCESS],
+        overrides: q[b + OVERRIDES],
+        played: Ninths(q[b + PLAYED]),
     }
 }
 
@@ -65,14 +80,14 @@ fn write_row(q: &mut [u64], i: usize, x: Session)
     ensures rest { λ _. ⌜ spare (now (q .exit)) ≡ spare (now (q .entry)) ⌝ }
 {
     let b = i * WIDTH;
-    q[b] = x.conn;
-    q[b + 1] = x.id;
-    q[b + 2] = x.prior;
-    q[b + 3] = x.start.0;
-    q[b + 4] = x.end.0;
-    q[b + 5] = x.access;
-    q[b + 6] = x.overrides;
-    q[b + 7] = x.played.0;
+    q[b + CONN] = x.conn;
+    q[b + ID] = x.id;
+    q[b + PRIOR] = x.prior;
+    q[b + START] = x.start.0;
+    q[b + END] = x.end.0;
+    q[b + ACCESS] = x.access;
+    q[b + OVERRIDES] = x.overrides;
+    q[b + PLAYED] = x.played.0;
 }
 
 // The session `at` of the n that are used.
@@ -83,6 +98,56 @@ pub fn load(q: &[u64], n: usize, at: usize) -> Session
 {
     let free = q.len() / WIDTH - n;
     read_row(q, free + at)
+}
+
+// The connection of the session `at`.
+pub fn conn_at(q: &[u64], n: usize, at: usize) -> u64
+    requires { ⌜ Good (lot (now q) n) ⌝ }
+    requires { ⌜ at < n ⌝ }
+    ensures { λ r. ⌜ r ≡ getD (used (lot (now (q .entry)) n)) at empty .conn ⌝ }
+{
+    let b = (q.len() / WIDTH - n + at) * WIDTH;
+    q[b + CONN]
+}
+
+// The number of the session `at`.
+pub fn id_at(q: &[u64], n: usize, at: usize) -> u64
+    requires { ⌜ Good (lot (now q) n) ⌝ }
+    requires { ⌜ at < n ⌝ }
+    ensures { λ r. ⌜ r ≡ getD (used (lot (now (q .entry)) n)) at empty .id ⌝ }
+{
+    let b = (q.len() / WIDTH - n + at) * WIDTH;
+    q[b + ID]
+}
+
+// The PriorSession of the session `at`.
+pub fn prior_at(q: &[u64], n: usize, at: usize) -> u64
+    requires { ⌜ Good (lot (now q) n) ⌝ }
+    requires { ⌜ at < n ⌝ }
+    ensures { λ r. ⌜ r ≡ getD (used (lot (now (q .entry)) n)) at empty .prior ⌝ }
+{
+    let b = (q.len() / WIDTH - n + at) * WIDTH;
+    q[b + PRIOR]
+}
+
+// The start of the session `at`.
+pub fn start_at(q: &[u64], n: usize, at: usize) -> Ninths
+    requires { ⌜ Good (lot (now q) n) ⌝ }
+    requires { ⌜ at < n ⌝ }
+    ensures { λ r. ⌜ r ≡ getD (used (lot (now (q .entry)) n)) at empty .start ⌝ }
+{
+    let b = (q.len() / WIDTH - n + at) * WIDTH;
+    Ninths(q[b + START])
+}
+
+// The end of the session `at`.
+pub fn end_at(q: &[u64], n: usize, at: usize) -> Ninths
+    requires { ⌜ Good (lot (now q) n) ⌝ }
+    requires { ⌜ at < n ⌝ }
+    ensures { λ r. ⌜ r ≡ getD (used (lot (now (q .entry)) n)) at empty .end ⌝ }
+{
+    let b = (q.len() / WIDTH - n + at) * WIDTH;
+    Ninths(q[b + END])
 }
 
 // x in place of the session `at`.
@@ -164,15 +229,23 @@ pub fn outranks(new: Session, old: Session) -> bool
     old.access < new.access
 }
 
-// Whether x is one that the key looks for.
-pub fn matches(key: Key, x: Session) -> bool
-    ensures { λ r. ⌜ r ≡ keyTest key x ⌝ }
+// Whether the session `at` is one that the key looks for.
+fn matches_at(q: &[u64], n: usize, at: usize, key: Key) -> bool
+    requires { ⌜ Good (lot (now q) n) ⌝ }
+    requires { ⌜ at < n ⌝ }
+    ensures { λ r. ⌜ r ≡ keyTest key (getD (used (lot (now (q .entry)) n)) at empty) ⌝ }
 {
     match key {
-        Key::Held(conn, id) => conn == x.conn && id == x.id,
-        Key::Follows(conn, id) => conn == x.conn && id == x.prior,
-        Key::StartsFrom(t) => t.0 <= x.start.0,
-        Key::StartsAfter(t) => t.0 < x.start.0,
+        Key::Held(conn, id) => conn == conn_at(q, n, at) && id == id_at(q, n, at),
+        Key::Follows(conn, id) => conn == conn_at(q, n, at) && id == prior_at(q, n, at),
+        Key::StartsFrom(t) => {
+            let s = start_at(q, n, at);
+            t.0 <= s.0
+        }
+        Key::StartsAfter(t) => {
+            let s = start_at(q, n, at);
+            t.0 < s.0
+        }
     }
 }
 
@@ -183,8 +256,7 @@ pub fn find(q: &[u64], n: usize, key: Key) -> usize
 {
     let mut at = 0;
     while at < n {
-        let x = load(q, n, at);
-        if matches(key, x) {
+        if matches_at(q, n, at, key) {
             return at;
         }
         at += 1;
@@ -202,8 +274,7 @@ pub fn omit_of(q: &mut [u64], n: usize, conn: u64, left: usize)
     let mut i = n;
     while n - left < to {
         i -= 1;
-        let x = load(&*q, n, i);
-        if conn != x.conn {
+        if conn != conn_at(&*q, n, i) {
             to -= 1;
             move_to(&mut *q, n, i, to);
         }
@@ -211,40 +282,23 @@ pub fn omit_of(q: &mut [u64], n: usize, conn: u64, left: usize)
     drop_first(&mut *q, n, n - left)
 }
 
-// The first end.
-pub fn least_end(q: &[u64], n: usize) -> When
+// The place of the session that ends first; of several that end together the first.
+pub fn least_end(q: &[u64], n: usize) -> usize
     requires { ⌜ Good (lot (now q) n) ⌝ }
-    ensures { λ r. ⌜ r ≡ earliest (λ s. s .end) (used (lot (now (q .entry)) n)) ⌝ }
+    requires { ⌜ 0 < n ⌝ }
+    ensures { λ r. ⌜ r ≡ leastEnd (used (lot (now (q .entry)) n)) ⌝ }
 {
-    if n == 0 {
-        return When::Never;
-    }
-    let first = load(q, n, 0);
-    let mut best = first.end;
+    let mut best = 0;
     let mut i = 1;
     while i < n {
-        let x = load(q, n, i);
-        let t = x.end;
-        if t.0 < best.0 {
-            best = t;
+        let t = end_at(q, n, i);
+        let least = end_at(q, n, best);
+        if t.0 < least.0 {
+            best = i;
         }
         i += 1;
     }
-    When::At(best)
-}
-
-// The first start of those that stand in order of start: only the first is read.
-pub fn first_start(q: &[u64], n: usize) -> When
-    requires { ⌜ Good (lot (now q) n) ⌝ }
-    requires { ⌜ Sorted (used (lot (now q) n)) ⌝ }
-    ensures { λ r. ⌜ r ≡ earliest (λ s. s .start) (used (lot (now (q .entry)) n)) ⌝ }
-{
-    if n == 0 {
-        return When::Never;
-    }
-    let first = load(q, n, 0);
-    let t = first.start;
-    When::At(t)
+    best
 }
 
 // x before the first that starts later.

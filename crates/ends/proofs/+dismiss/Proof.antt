@@ -1,5 +1,5 @@
--- One link: the first that follows is taken out and written, and the walk goes on from it (`dismissed-more`); those that wait get fewer.
--- Rests on what `write_end` and memory promise, and on its own promise for fewer that wait.
+-- One link: the first that follows ends, and the walk goes on from its number (`dismissed-more`); those that wait get fewer.
+-- Rests on what `end_follower` and memory promise, and on its own promise for fewer that wait.
 use Prim.Native.Nat.{ℕ, _<_}
 use native.Mathlib.Omega.{arith}
 use borrow.Author.Needs.{needs}
@@ -7,13 +7,13 @@ use borrow.Fn.Kinds.{In}
 use borrow.Fn.PlainCycle.{Measures, is, falls, and}
 use lib.ListN.{length}
 use Rattle.rules.specs.declared.Ending.the-variants.{Response}
+use Rattle.memory.specs.declared.Which.the-variants.{Waiting}
 use Rattle.memory.specs.Memory.{see}
 use Rattle.memory.proofs.count.Reads as count-reads
 use Rattle.memory.proofs.find.Reads as find-reads
-use Rattle.memory.proofs.load.Reads as load-reads
-use Rattle.memory.proofs.remove.Reads as remove-reads
-use Rattle.ends.proofs.Laws.{told-one, removed-less, dismissed-none, dismissed-more}
-use Rattle.ends.proofs.write_end.Reads as write-end-reads
+use Rattle.memory.proofs.id_at.Reads as id-at-reads
+use Rattle.ends.proofs.Laws.{end-brief, one-less, dismissed-none, dismissed-more}
+use Rattle.ends.proofs.end_follower.Reads as end-follower-reads
 use Rattle.ends.proofs.dismiss.Reads as dismiss
 use Rattle.ends.proofs.dismiss.Kinds as dismiss-kinds
 use Rattle.ends.proofs.+dismiss.Lts-dismiss as lts
@@ -36,12 +36,10 @@ claims t = (
   find-reads.Learnt,
   count-reads.Asked,
   count-reads.Learnt,
-  load-reads.Asked,
-  load-reads.Learnt,
-  remove-reads.Asked,
-  remove-reads.Learnt,
-  write-end-reads.Asked,
-  write-end-reads.Learnt,
+  id-at-reads.Asked,
+  id-at-reads.Learnt,
+  end-follower-reads.Asked,
+  end-follower-reads.Learnt,
   dismiss-below t,
   dismiss.Post,
 )
@@ -52,33 +50,30 @@ find-requires t c κs = search needs
 count-requires : (t : ℕ) → lts.Need-count-requires (claims t) (dismiss-at t) dismiss.Post
 count-requires t c κs = search needs
 
-load-requires : (t : ℕ) → lts.Need-load-requires (claims t) (dismiss-at t) dismiss.Post
-load-requires t c κs =
+id-at-requires : (t : ℕ) → lts.Need-id-at-requires (claims t) (dismiss-at t) dismiss.Post
+id-at-requires t c κs =
     let test = c .before .before in
     (test .before .before .before .before .before .before .before .before .pre .1 .0, omega (arith, test .if1 .taken, test .before .count .ensures))
 
-remove-requires : (t : ℕ) → lts.Need-remove-requires (claims t) (dismiss-at t) dismiss.Post
-remove-requires t c κs =
-    let test = c .before .before .before .before in
-    (test .before .before .before .before .before .before .before .before .pre .1 .0, omega (arith, test .if1 .taken, test .before .count .ensures))
-
-write-end-requires : (t : ℕ) → lts.Need-write-end-requires (claims t) (dismiss-at t) dismiss.Post
-write-end-requires t c κs =
-    let test = c .before .before .before .before .before .before in
-    (tt, omega (arith, test .before .before .before .before .before .before .before .before .pre .1 .1, test .if1 .taken, test .before .count .ensures))
+end-follower-requires : (t : ℕ) → lts.Need-end-follower-requires (claims t) (dismiss-at t) dismiss.Post
+end-follower-requires t c κs =
+    let test = c .before .before .before .before .before in
+    let p = test .before .before .before .before .before .before .before .before .pre .1 in
+    (p .0, (omega (arith, test .if1 .taken, test .before .count .ensures), omega (arith, p .1, test .if1 .taken, test .before .count .ensures)))
 
 dismiss-requires : (t : ℕ) → lts.Need-dismiss-requires (claims t) (dismiss-at t) dismiss.Post
 dismiss-requires t c κs =
-    let wrote = c .before .before .before .before in
-    let gone = wrote .before .before in
-    let read = gone .before .before in
-    let test = read .before .before .before in
+    let gone = c .before .before .before .before in
+    let test = gone .before .before .before .before .before .before in
     let found = test .before .before .before .before in
     let s = found .before .before .before .before in
-    let h : found .find .result < length (see (s .args .m .now) .queue .waiting) = omega (arith, test .if1 .taken, test .before .count .ensures) in
-    let n = removed-less (found .find .result) (see (s .args .m .now)) h (gone .remove .ensures) in
-    let w = told-one (Response (s .args .result)) (read .load .result) (wrote .write-end .ensures) in
-    (omega (arith, s .pre .0), (gone .remove .ensures .form, omega (arith, s .pre .1 .1, w, wrote .write-end .kept .1 .1 .0)))
+    let i = found .find .result in
+    let m = s .args .m .now in
+    let how = Response (s .args .result) in
+    let d = gone .end-follower .ensures in
+    let h : i < length (see m .queue .waiting) = omega (arith, test .if1 .taken, test .before .count .ensures) in
+    let n = one-less Waiting i how m h d in
+    (omega (arith, s .pre .0, n), (d .shows .form, omega (arith, s .pre .1 .1, n, end-brief Waiting i how m d, gone .end-follower .kept .1 .1 .1 .0)))
 
 same-length : (t : ℕ) → lts.Need-same-length (claims t) (dismiss-at t) dismiss.Post
 same-length t c = search needs
@@ -86,15 +81,14 @@ same-length t c = search needs
 returns : (t : ℕ) → lts.Need-returns (claims t) (dismiss-at t) dismiss.Post
 returns t c =
     let on = c .before .before in
-    let wrote = on .before .before .before .before .before in
-    let gone = wrote .before .before in
-    let read = gone .before .before in
+    let gone = on .before .before .before .before .before in
+    let read = gone .before .before .before in
     let test = read .before .before .before in
     let found = test .before .before .before .before in
     let s = found .before .before .before .before in
     let h : found .find .result < length (see (s .args .m .now) .queue .waiting) = omega (arith, test .if1 .taken, test .before .count .ensures) in
     dismissed-more (s .args .result) (s .args .conn) (s .args .id) (found .find .result) (s .args .m .now) (found .find .ensures) h (omega (arith, s .pre .1 .1))
-    (read .load .ensures) (gone .remove .ensures) (wrote .write-end .ensures) (on .dismiss .ensures)
+    (read .id-at .ensures) (gone .end-follower .ensures) (on .dismiss .ensures)
 
 returns-2 : (t : ℕ) → lts.Need-returns-2 (claims t) (dismiss-at t) dismiss.Post
 returns-2 t c =
@@ -108,9 +102,8 @@ pub +dismiss-spec : {M : Type 1} → statement M
     close μ-dismiss λ t. lts.spec (claims t) (dismiss-at t) dismiss.Post
     (find-requires t)
     (count-requires t)
-    (load-requires t)
-    (remove-requires t)
-    (write-end-requires t)
+    (id-at-requires t)
+    (end-follower-requires t)
     (dismiss-requires t)
     (same-length t)
     (returns t)

@@ -1,16 +1,20 @@
 -- One turn of `Leaving`: the session at the place i goes with its end written, or stays and is passed; those not passed get fewer.
--- Rests on what `write_end` and memory promise.
+-- Rests on what `end_one` and memory promise.
 use native.Mathlib.Omega.{arith}
 use borrow.Author.Needs.{needs}
+use mathlib.Core.Path.{sym, ap, _∙_}
 use Prim.Native.Nat.{_-_, _<_}
 use borrow.Author.Tests.{eq-eqb, ne-eqb}
 use lib.ListN.{length}
+use Rattle.rules.specs.declared.Ninths.{Ninths}
 use Rattle.rules.specs.declared.Ending.the-variants.{Complete}
-use Rattle.rules.specs.State.{endsAt}
+use Rattle.rules.specs.State.{empty, endsAt}
+use Rattle.rules.proofs.Every.{all-getD}
+use Rattle.memory.specs.declared.Which.the-variants.{Started}
 use Rattle.memory.specs.Memory.{see}
-use Rattle.ends.proofs.Laws.{writable}
-use Rattle.ends.proofs.Closing.{Leaving, leaving-none, leaving-goes, leaving-stays, leaving-done}
-use Rattle.ends.proofs.Closing.{leaving-playable, leaving-less, closing-room}
+use Rattle.ends.specs.Does.{Playable}
+use Rattle.ends.proofs.Laws.{writable, one-less}
+use Rattle.ends.proofs.Closing.{Leaving, leaving-none, leaving-goes, leaving-stays, leaving-done, closing-room}
 use Rattle.ends.proofs.end_due.Statement.{statement}
 use Rattle.ends.proofs.end_due.Tie as tie
 
@@ -26,47 +30,40 @@ loop-holds c = let s = c .before in leaving-none (s .pre .0) (s .pre .1 .0) (s .
 count-requires : tie.Need-count-requires Inv-loop μ-loop
 count-requires c κs = c .before .before .loop .inv .form
 
-load-requires : tie.Need-load-requires Inv-loop μ-loop
-load-requires c κs =
+end-at-requires : tie.Need-end-at-requires Inv-loop μ-loop
+end-at-requires c κs =
     let test = c .before .before in
     (test .before .before .before .before .loop .inv .form, omega (arith, test .if1 .taken, test .before .count .ensures))
 
-remove-requires : tie.Need-remove-requires Inv-loop μ-loop
-remove-requires c κs =
-    let test = c .before .before .before .before .before .before .before in
-    (test .before .before .before .before .loop .inv .form, omega (arith, test .if1 .taken, test .before .count .ensures))
-
-write-end-requires : tie.Need-write-end-requires Inv-loop μ-loop
-write-end-requires c κs =
-    let read = c .before .before .before .before .before .before in
-    let test = read .before .before .before in
+end-one-requires : tie.Need-end-one-requires Inv-loop μ-loop
+end-one-requires c κs =
+    let test = c .before .before .before .before .before .before .before .before in
     let l = test .before .before .before .before .loop in
     let list = see (l .m) .queue .started in
     let k : l .i < length list = omega (arith, test .if1 .taken, test .before .count .ensures) in
-    let a = leaving-playable (l .inv) k (read .load .ensures) in
-    (writable (l .how) (read .load .result) a, closing-room list (l .i) (l .inv .writes) k)
+    let p = all-getD Playable list (l .i) empty k (l .inv .playable) in
+    (l .inv .form, (k, (writable (l .how) _ p, closing-room list (l .i) (l .inv .writes) k)))
 
 add-i : tie.Need-add-i Inv-loop μ-loop
 add-i c = search needs
 
 loop-less : tie.Need-loop-less Inv-loop μ-loop
 loop-less c =
-    let gone = c .before .before .before .before in
-    let test = gone .before .before .before .before .before .before .before .before in
+    let one = c .before .before in
+    let test = one .before .before .before .before .before .before .before .before .before in
     let l = test .before .before .before .before .loop in
     let k : l .i < length (see (l .m) .queue .started) = omega (arith, test .if1 .taken, test .before .count .ensures) in
-    omega (arith, leaving-less (l .i) (l .m) k (gone .remove .ensures))
+    omega (arith, one-less Started (l .i) (l .how) (l .m) k (one .end-one .ensures))
 
 loop-again : tie.Need-loop-again Inv-loop μ-loop
 loop-again c =
-    let wrote = c .before .before in
-    let gone = wrote .before .before in
-    let asked = gone .before .before in
+    let one = c .before .before in
+    let asked = one .before .before .before in
     let read = asked .before .before .before in
     let test = read .before .before .before in
     let l = test .before .before .before .before .loop in
-    leaving-goes (l .inv) (omega (arith, test .if1 .taken, test .before .count .ensures)) (read .load .ensures)
-    (eq-eqb _ _ (asked .if2 .taken)) (gone .remove .ensures) (wrote .write-end .ensures)
+    leaving-goes (l .inv) (omega (arith, test .if1 .taken, test .before .count .ensures))
+    (eq-eqb _ _ (asked .if2 .taken ∙ ap (λ (t : Ninths). t .0) (read .end-at .ensures))) (one .end-one .ensures)
 
 loop-less-2 : tie.Need-loop-less-2 Inv-loop μ-loop
 loop-less-2 c =
@@ -78,7 +75,8 @@ loop-again-2 c =
     let read = c .before .before .before in
     let test = read .before .before .before in
     let l = test .before .before .before .before .loop in
-    leaving-stays (l .inv) (omega (arith, test .if1 .taken, test .before .count .ensures)) (read .load .ensures) (ne-eqb _ _ (c .if2 .left))
+    leaving-stays (l .inv) (omega (arith, test .if1 .taken, test .before .count .ensures))
+    (ne-eqb _ _ (λ e. c .if2 .left (e ∙ sym (ap (λ (t : Ninths). t .0) (read .end-at .ensures)))))
 
 same-length : tie.Need-same-length Inv-loop μ-loop
 same-length c = c .before .before .before .before .loop .inv .writes .long
@@ -96,9 +94,8 @@ end-due-spec =
     μ-loop
     loop-holds
     count-requires
-    load-requires
-    remove-requires
-    write-end-requires
+    end-at-requires
+    end-one-requires
     add-i
     loop-less
     loop-again

@@ -3,6 +3,7 @@
 use native.Mathlib.Omega.{arith}
 use borrow.Author.Needs.{needs}
 use borrow.Author.Tests.{eq-eqb, ne-eqb}
+use mathlib.Core.Path.{sym, _∙_}
 use Prim.Native.Nat.{_<_}
 use lib.ListN.{length}
 use Rattle.rules.specs.State.{empty}
@@ -21,22 +22,22 @@ returns c =
     let s = c .before .before .before .before .before in
     air-none (s .args .conn) (s .args .m .now) (s .pre .0) (omega (arith, c .if1 .taken, c .before .count .ensures))
 
-load-requires : tie.Need-load-requires
-load-requires c κs =
+conn-at-requires : tie.Need-conn-at-requires
+conn-at-requires c κs =
     let test = c .before .before in
     (test .before .before .before .before .before .pre .0, omega (arith, test .if1 .left, test .before .count .ensures))
 
 returns-2 : tie.Need-returns-2
 returns-2 c =
-    let read = c .before .before in
+    let read = c .before in
     let test = read .before .before .before in
     let s = test .before .before .before .before .before in
     let h : 0 < length (see (s .args .m .now) .queue .started) = omega (arith, test .if1 .left, test .before .count .ensures) in
-    air-other (s .args .conn) (s .args .m .now) h (read .load .ensures) (s .pre .0) (ne-eqb _ _ (c .if2 .taken))
+    air-other (s .args .conn) (s .args .m .now) h (s .pre .0) (ne-eqb _ _ (λ e. c .if2 .taken (e ∙ sym (read .conn-at .ensures))))
 
 end-one-requires : tie.Need-end-one-requires
 end-one-requires c κs =
-    let test = c .before .before .before .before .before .before .before in
+    let test = c .before .before .before .before .before .before in
     let s = test .before .before .before .before .before in
     let l = see (s .args .m .now) .queue .started in
     let h : 0 < length l = omega (arith, test .if1 .left, test .before .count .ensures) in
@@ -50,13 +51,13 @@ returns-3 : tie.Need-returns-3
 returns-3 c =
     let one = c .before .before in
     let asked = one .before .before .before in
-    let read = asked .before .before in
+    let read = asked .before in
     let test = read .before .before .before in
     let s = test .before .before .before .before .before in
     let h : 0 < length (see (s .args .m .now) .queue .started) = omega (arith, test .if1 .left, test .before .count .ensures) in
-    air-ends (s .args .conn) (s .args .m .now) h (read .load .ensures) (eq-eqb _ _ (asked .if2 .left)) (one .end-one .ensures)
+    air-ends (s .args .conn) (s .args .m .now) h (eq-eqb _ _ (asked .if2 .left ∙ read .conn-at .ensures)) (one .end-one .ensures)
 
 pub end-on-air-of-spec : {M : Type 1} → statement M
 end-on-air-of-spec =
     tie.close
-    (tie.spec count-requires returns load-requires returns-2 end-one-requires same-length returns-3)
+    (tie.spec count-requires returns conn-at-requires returns-2 end-one-requires same-length returns-3)

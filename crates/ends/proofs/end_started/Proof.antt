@@ -11,22 +11,25 @@ use Rattle.ends.proofs.Laws.{writable, chain-room, chain-turns}
 use Rattle.ends.proofs.end_started.Statement.{statement}
 use Rattle.ends.proofs.end_started.Tie as tie
 
-load-requires : tie.Need-load-requires
-load-requires c κs = search needs
+conn-at-requires : tie.Need-conn-at-requires
+conn-at-requires c κs = search needs
+
+id-at-requires : tie.Need-id-at-requires
+id-at-requires c κs = search needs
 
 ending-at-requires : tie.Need-ending-at-requires
 ending-at-requires c κs = search needs
 
 end-one-requires : tie.Need-end-one-requires
 end-one-requires c κs =
-    let s = c .before .before .before .before .before .before .before in
+    let s = c .before .before .before .before .before .before .before .before .before .before in
     let p = all-getD Playable (see (s .args .m .now) .queue .started) (s .args .at) empty (s .pre .1 .0) (s .pre .1 .1 .0) in
     (s .pre .0, (s .pre .1 .0, (writable (c .before .before .ending-at .result) _ p, omega (arith, s .pre .1 .1 .1))))
 
 dismiss-requires : tie.Need-dismiss-requires
 dismiss-requires c κs =
     let one = c .before .before .before .before in
-    let s = one .before .before .before .before .before .before .before .before in
+    let s = one .before .before .before .before .before .before .before .before .before .before .before in
     let a = s .args in
     let how = one .before .before .before .ending-at .result in
     let d = one .end-one .ensures in
@@ -40,15 +43,16 @@ returns c =
     let then = c .before .before in
     let one = then .before .before .before .before .before in
     let asked = one .before .before .before in
-    let read = asked .before in
-    let s = read .before .before .before .before in
+    let id = asked .before in
+    let conn = id .before .before .before in
+    let s = conn .before .before .before .before in
     let a = s .args in
     rw (← (asked .ending-at .ensures)) (
-    chain-turns Started (a .at) (asked .ending-at .result) (a .m .now) (one .end-one .ensures) (a .result) (read .load .ensures)
-    (omega (arith, s .pre .1 .1 .1)) (then .dismiss .ensures)
+    chain-turns Started (a .at) (asked .ending-at .result) (a .m .now) (one .end-one .ensures) (a .result) (conn .conn-at .ensures)
+    (id .id-at .ensures) (omega (arith, s .pre .1 .1 .1)) (then .dismiss .ensures)
     )
 
 pub end-started-spec : {M : Type 1} → statement M
 end-started-spec =
     tie.close
-    (tie.spec load-requires ending-at-requires end-one-requires dismiss-requires same-length returns)
+    (tie.spec conn-at-requires id-at-requires ending-at-requires end-one-requires dismiss-requires same-length returns)

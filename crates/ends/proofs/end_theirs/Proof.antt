@@ -3,6 +3,7 @@
 use native.Mathlib.Omega.{arith}
 use borrow.Author.Needs.{needs}
 use borrow.Author.Tests.{eq-eqb, ne-eqb}
+use mathlib.Core.Path.{sym, _∙_}
 use mathlib.Core.Logic.{⊎-elim}
 use Prim.Native.Nat.{_-_, _<_}
 use lib.ListN.{length}
@@ -23,18 +24,26 @@ count-requires c κs = search needs
 loop-holds : tie.Need-loop-holds Inv-loop μ-loop
 loop-holds c = let s = c .before .before .before .before in theirs-none (sessions (s .args .which) (s .args .m .now)) (s .pre .1 .1)
 
+conn-at-requires : tie.Need-conn-at-requires Inv-loop μ-loop
+conn-at-requires c κs =
+    let test = c .before .before in
+    let n = test .before .before in
+    (n .before .before .before .before .pre .0, omega (arith, n .count .ensures, test .loop-test .taken))
+
 load-requires : tie.Need-load-requires Inv-loop μ-loop
 load-requires c κs =
-    let n = c .before .before .before .before in
-    (n .before .before .before .before .pre .0, omega (arith, n .count .ensures, c .before .before .loop-test .taken))
+    let test = c .before .before .before .before .before .before in
+    let n = test .before .before in
+    (n .before .before .before .before .pre .0, omega (arith, n .count .ensures, test .loop-test .taken))
 
 write-end-requires : tie.Need-write-end-requires Inv-loop μ-loop
 write-end-requires c κs =
-    let l = c .before .before .before .before .before .before .before .loop in
-    let n = c .before .before .before .before .before .before .before .before in
+    let test = c .before .before .before .before .before .before .before .before in
+    let l = test .before .loop in
+    let n = test .before .before in
     let a = n .before .before .before .before .args in
     let list = sessions (a .which) (a .m .now) in
-    let k : l .i < length list = omega (arith, n .count .ensures, c .before .before .before .before .before .before .loop-test .taken) in
+    let k : l .i < length list = omega (arith, n .count .ensures, test .loop-test .taken) in
     (tt, closing-room list (l .i) (l .inv .writes) k)
 
 add-left : tie.Need-add-left Inv-loop μ-loop
@@ -48,15 +57,16 @@ loop-less c = search needs
 
 loop-again : tie.Need-loop-again Inv-loop μ-loop
 loop-again c =
-    let read = c .before .before in
-    let l = read .before .before .before .before .loop in
-    let n = read .before .before .before .before .before in
+    let read = c .before in
+    let test = read .before .before .before in
+    let l = test .before .loop in
+    let n = test .before .before in
     let a = n .before .before .before .before .args in
     let list = sessions (a .which) (a .m .now) in
-    let k : l .i < length list = omega (arith, n .count .ensures, read .before .before .before .loop-test .taken) in
+    let k : l .i < length list = omega (arith, n .count .ensures, test .loop-test .taken) in
     ⊎-elim
-    (λ w. rw (w .5, w .6, w .7) (theirs-goes list (l .inv) k (read .load .ensures) (eq-eqb _ _ (w .0 .taken)) (w .2 .ensures)))
-    (λ w. rw (w .1, w .2, w .3) (theirs-stays list (l .inv) k (read .load .ensures) (ne-eqb _ _ (w .0 .left))))
+    (λ w. rw (w .8, w .9, w .10) (theirs-goes list (l .inv) k (eq-eqb _ _ (w .0 .taken ∙ read .conn-at .ensures)) (w .3 .ensures) (w .5 .ensures)))
+    (λ w. rw (w .1, w .2, w .3) (theirs-stays list (l .inv) k (ne-eqb _ _ (λ e. w .0 .left (e ∙ sym (read .conn-at .ensures))))))
     (c .if1 .came)
 
 omit-of-requires : tie.Need-omit-of-requires Inv-loop μ-loop
@@ -84,6 +94,7 @@ end-theirs-spec =
     μ-loop
     count-requires
     loop-holds
+    conn-at-requires
     load-requires
     write-end-requires
     add-left

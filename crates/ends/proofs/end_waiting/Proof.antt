@@ -10,18 +10,21 @@ use Rattle.ends.proofs.Laws.{chain-room, chain-turns}
 use Rattle.ends.proofs.end_waiting.Statement.{statement}
 use Rattle.ends.proofs.end_waiting.Tie as tie
 
-load-requires : tie.Need-load-requires
-load-requires c κs = search needs
+conn-at-requires : tie.Need-conn-at-requires
+conn-at-requires c κs = search needs
+
+id-at-requires : tie.Need-id-at-requires
+id-at-requires c κs = search needs
 
 end-one-requires : tie.Need-end-one-requires
 end-one-requires c κs =
-    let s = c .before .before .before .before .before .before in
+    let s = c .before .before .before .before .before .before .before .before .before in
     (s .pre .0, (s .pre .1 .0, (tt, omega (arith, s .pre .1))))
 
 dismiss-requires : tie.Need-dismiss-requires
 dismiss-requires c κs =
     let one = c .before .before .before .before in
-    let s = one .before .before .before .before .before .before .before in
+    let s = one .before .before .before .before .before .before .before .before .before .before in
     let a = s .args in
     let gone = length-removeAt (a .at) (see (a .m .now) .queue .waiting) (s .pre .1 .0) in
     let d = one .end-one .ensures in
@@ -34,11 +37,12 @@ returns : tie.Need-returns
 returns c =
     let then = c .before .before in
     let one = then .before .before .before .before .before in
-    let read = one .before .before .before in
-    let s = read .before .before .before .before in
+    let id = one .before .before .before in
+    let conn = id .before .before .before in
+    let s = conn .before .before .before .before in
     let a = s .args in
-    chain-turns Waiting (a .at) (Response (a .result)) (a .m .now) (one .end-one .ensures) (a .result) (read .load .ensures)
-    (omega (arith, s .pre .1)) (then .dismiss .ensures)
+    chain-turns Waiting (a .at) (Response (a .result)) (a .m .now) (one .end-one .ensures) (a .result) (conn .conn-at .ensures)
+    (id .id-at .ensures) (omega (arith, s .pre .1)) (then .dismiss .ensures)
 
 pub end-waiting-spec : {M : Type 1} → statement M
-end-waiting-spec = tie.close (tie.spec load-requires end-one-requires dismiss-requires same-length returns)
+end-waiting-spec = tie.close (tie.spec conn-at-requires id-at-requires end-one-requires dismiss-requires same-length returns)

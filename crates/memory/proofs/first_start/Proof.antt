@@ -1,9 +1,13 @@
--- The part that is lent is the list's lot (`lot-at`).
-use mathlib.Core.Path.{refl, sym, ap, subst, _∙_}
-use Rattle.rules.specs.State.{Sorted, earliest}
+-- The part that is lent is the list's lot (`lot-at`); of those in order of start the first is the earliest (`first-earliest`).
+use native.Mathlib.Omega.{arith}
+use mathlib.Core.Path.{refl, sym, ap, _∙_}
+use lib.ListN.{getD}
+use Rattle.rules.specs.State.{empty}
+use Rattle.rules.proofs.Tick.{earliest-none}
 use Rattle.places.specs.Places.{Lot, used}
 use Rattle.memory.specs.declared.Which.the-variants.{Waiting}
-use Rattle.memory.proofs.Laws.{lot-at, good-at}
+use Rattle.memory.specs.Memory.{sessions}
+use Rattle.memory.proofs.Laws.{lot-at, good-at, first-earliest}
 use borrow.Author.Needs.{needs}
 use Rattle.memory.proofs.first_start.Statement.{statement}
 use Rattle.memory.proofs.first_start.Tie as tie
@@ -11,27 +15,31 @@ use Rattle.memory.proofs.first_start.Tie as tie
 count-requires : tie.Need-count-requires
 count-requires c κs = search needs
 
-sub-first-start : tie.Need-sub-first-start
-sub-first-start c = search needs
-
-part-first-start-start : tie.Need-part-first-start-start
-part-first-start-start c = search needs
-
-part-first-start-end : tie.Need-part-first-start-end
-part-first-start-end c = search needs
-
-first-start-requires : tie.Need-first-start-requires
-first-start-requires c κs =
-    let s = c .before .before .before in
-    let count = c .before .count in
-    let l = lot-at Waiting refl refl (s .pre .0) (count .ensures) in
-    (good-at Waiting refl refl (s .pre .0) (count .ensures), subst (λ (x : Lot). Sorted (used x)) (sym l) (s .pre .1))
-
 returns : tie.Need-returns
 returns c =
+    let s = c .before .before .before in
+    sym (earliest-none _ (sessions Waiting (s .args .m .now)) (omega (arith, c .before .count .ensures)))
+
+sub-start-at : tie.Need-sub-start-at
+sub-start-at c = search needs
+
+part-start-at-start : tie.Need-part-start-at-start
+part-start-at-start c = search needs
+
+part-start-at-end : tie.Need-part-start-at-end
+part-start-at-end c = search needs
+
+start-at-requires : tie.Need-start-at-requires
+start-at-requires c κs =
     let s = c .before .before .before .before in
-    let count = c .before .before .count in
-    c .first-start .ensures ∙ ap (λ (x : Lot). earliest (λ y. y .start) (used x)) (lot-at Waiting refl refl (s .pre .0) (count .ensures))
+    (good-at Waiting refl refl (s .pre .0) (c .before .before .count .ensures), omega arith)
+
+returns-2 : tie.Need-returns-2
+returns-2 c =
+    let s = c .before .before .before .before .before in
+    let count = c .before .before .before .count in
+    first-earliest (sessions Waiting (s .args .m .now)) (c .start-at .result) (s .pre .1) (omega (arith, count .ensures))
+    (c .start-at .ensures ∙ ap (λ (x : Lot). getD (used x) 0 empty .start) (lot-at Waiting refl refl (s .pre .0) (count .ensures)))
 
 pub first-start-spec : {M : Type 1} → statement M
-first-start-spec = tie.close (tie.spec count-requires sub-first-start part-first-start-start part-first-start-end first-start-requires returns)
+first-start-spec = tie.close (tie.spec count-requires returns sub-start-at part-start-at-start part-start-at-end start-at-requires returns-2)

@@ -1,20 +1,20 @@
 -- The part comes back changed, and then the count: all else shows as before (`changed-at`). One that waits has its connection's count
 -- changed with it (`removed-now`).
 use mathlib.Core.Path.{ap, _∙_}
-use Prim.Native.Nat.{_-_}
+use Prim.Native.Nat.{_-_, _≤_}
 use native.Mathlib.Omega.{arith}
 use lib.ListN.{set}
 use borrow.Rule.Slice.PartMut.{putMid}
 use Rattle.rules.specs.Lists.{removeAt}
 use Rattle.places.specs.Places.{Lot, used}
-use Rattle.memory.specs.Memory.{sessions, OfFour}
+use Rattle.memory.specs.Memory.{sessions}
 use Rattle.memory.proofs.Laws.{lot-at, good-at, Changed, changed-at, started-now, one-of-four, one-waits, removed-now, count-word}
 use borrow.Author.Needs.{needs}
 use Rattle.memory.proofs.remove.Statement.{statement}
 use Rattle.memory.proofs.remove.Tie as tie
 
-load-requires : tie.Need-load-requires
-load-requires c κs = search needs
+conn-at-requires : tie.Need-conn-at-requires
+conn-at-requires c κs = search needs
 
 count-requires : tie.Need-count-requires
 count-requires c κs = search needs
@@ -79,11 +79,11 @@ so-far c =
 enum-told : tie.Need-enum-told
 enum-told c = search needs
 
-low : (c : tie.After-enum-told) → OfFour (c .before .before .before .before .before .before .before .before .before .before .before .load .result)
+low : (c : tie.After-enum-told) → c .before .before .before .before .before .before .before .before .before .before .before .conn-at .result ≤ 3
 low c =
     let slot = c .before .before in
     let s = slot .before .before .before .before .before .before .before .before .before .before .before .before in
-    one-of-four (c .enum-told .given .1) (s .pre .0) (s .args .at) (slot .before .before .before .before .before .before .before .before .before .load .result) (s .pre .1) (slot .before .before .before .before .before .before .before .before .before .load .ensures)
+    one-of-four (c .enum-told .given .1) (s .pre .0) (s .args .at) (slot .before .before .before .before .before .before .before .before .before .conn-at .result) (s .pre .1) (slot .before .before .before .before .before .before .before .before .before .conn-at .ensures)
 
 add-c : tie.Need-add-c
 add-c c = omega (arith, low c)
@@ -99,9 +99,9 @@ sub-m-2 : tie.Need-sub-m-2
 sub-m-2 c =
     let slot = c .before .before .before in
     let s = slot .before .before .before .before .before .before .before .before .before .before .before .before in
-    let load = slot .before .before .before .before .before .before .before .before .before .load in
-    let word = count-word (c .before .enum-told .given .1) (s .pre .0) (so-far slot) (load .result .conn) (low (c .before)) in
-    omega (arith, word, one-waits (s .args .at) (sessions (s .args .which) (s .args .m .now)) (load .result) (s .pre .1) (load .ensures))
+    let conn = slot .before .before .before .before .before .before .before .before .before .conn-at in
+    let word = count-word (c .before .enum-told .given .1) (s .pre .0) (so-far slot) (conn .result) (low (c .before)) in
+    omega (arith, word, one-waits (s .args .at) (sessions (s .args .which) (s .args .m .now)) (conn .result) (s .pre .1) (conn .ensures))
 
 slice-write-m-2 : tie.Need-slice-write-m-2
 slice-write-m-2 c = slice-read-m c
@@ -116,8 +116,8 @@ returns : tie.Need-returns
 returns c =
     let slot = c .before .before .before in
     let s = slot .before .before .before .before .before .before .before .before .before .before .before .before in
-    let load = slot .before .before .before .before .before .before .before .before .before .load in
-    removed-now (c .before .enum-told .given .1) (s .pre .0) (s .args .at) (load .result) (s .pre .1) (load .ensures) (so-far slot)
+    let conn = slot .before .before .before .before .before .before .before .before .before .conn-at in
+    removed-now (c .before .enum-told .given .1) (s .pre .0) (s .args .at) (conn .result) (s .pre .1) (conn .ensures) (so-far slot)
 
 same-length-2 : tie.Need-same-length-2
 same-length-2 c = search needs
@@ -132,7 +132,7 @@ pub remove-spec : {M : Type 1} → statement M
 remove-spec =
     tie.close
     (tie.spec
-    load-requires
+    conn-at-requires
     count-requires
     from-requires
     to-requires

@@ -1,7 +1,7 @@
 -- No place before i passes the test, and the rest decides (`Sought`).
 use native.Mathlib.Omega.{arith}
 use borrow.Author.Needs.{needs}
-use mathlib.Core.Path.{sym, ap, _∙_}
+use mathlib.Core.Path.{sym, _∙_}
 use Prim.Native.Nat.{_-_}
 use Rattle.rules.specs.State.{empty}
 use Rattle.places.specs.Places.{lot, keyTest}
@@ -18,20 +18,15 @@ abbrev μ-loop : tie.MeasureT-loop
 loop-holds : tie.Need-loop-holds Inv-loop μ-loop
 loop-holds c = sought-none _ (lot (c .before .args .q .now) (c .before .args .n))
 
-load-requires : tie.Need-load-requires Inv-loop μ-loop
-load-requires c κs =
-    let s = c .before .before .before in
-    (s .pre, c .loop-test .taken)
-
-matches-requires : tie.Need-matches-requires Inv-loop μ-loop
-matches-requires c κs = search needs
+matches-at-requires : tie.Need-matches-at-requires Inv-loop μ-loop
+matches-at-requires c κs = let s = c .before .before .before in (s .pre, c .loop-test .taken)
 
 returns : tie.Need-returns Inv-loop μ-loop
 returns c =
-    let s = c .before .before .before .before .before .before in
-    let l = c .before .before .before .before .loop in
+    let s = c .before .before .before .before .before in
+    let l = c .before .before .before .loop in
     sought-hit _ (lot (s .args .q .now) (s .args .n)) (l .at) empty (s .pre) (omega arith)
-    (ap (keyTest (s .args .key)) (sym (c .before .before .load .ensures)) ∙ sym (c .before .matches .ensures) ∙ c .if1 .taken) (l .inv)
+    (sym (c .before .matches-at .ensures) ∙ c .if1 .taken) (l .inv)
 
 add-at : tie.Need-add-at Inv-loop μ-loop
 add-at c = search needs
@@ -41,10 +36,10 @@ loop-less c = search needs
 
 loop-again : tie.Need-loop-again Inv-loop μ-loop
 loop-again c =
-    let s = c .before .before .before .before .before .before in
-    let l = c .before .before .before .before .loop in
+    let s = c .before .before .before .before .before in
+    let l = c .before .before .before .loop in
     sought-more _ (lot (s .args .q .now) (s .args .n)) (l .at) empty (s .pre) (omega arith)
-    (ap (keyTest (s .args .key)) (sym (c .before .before .load .ensures)) ∙ sym (c .before .matches .ensures) ∙ c .if1 .left) (l .inv)
+    (sym (c .before .matches-at .ensures) ∙ c .if1 .left) (l .inv)
 
 returns-2 : tie.Need-returns-2 Inv-loop μ-loop
 returns-2 c =
@@ -58,8 +53,7 @@ find-spec =
     Inv-loop
     μ-loop
     loop-holds
-    load-requires
-    matches-requires
+    matches-at-requires
     returns
     add-at
     loop-less

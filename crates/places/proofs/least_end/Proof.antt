@@ -1,39 +1,35 @@
--- `best` is the earliest among the first i, and the rest is to come (`Earliest`).
+-- `best` ends first of the first i (`Leading`): each turn it is the session i, or stays.
 use native.Mathlib.Omega.{arith}
-use mathlib.Core.Path.{sym, ap, _∙_}
+use mathlib.Core.Path.{sym, ap, subst}
 use mathlib.Core.Logic.{⊎-elim}
-use Prim.Native.Nat.{_-_}
-use Rattle.rules.specs.declared.When.the-variants.{At}
-use Rattle.rules.proofs.Tick.{sooner-first, sooner-second}
-use Rattle.places.specs.Places.{lot}
-use Rattle.places.proofs.Laws.{Earliest, earliest-empty, earliest-one, earliest-more, earliest-out}
+use Prim.Native.Nat.{ℕ, _+_, _-_, _<_}
+use lib.ListN.{length}
+use Rattle.rules.specs.declared.Ninths.{Ninths}
 use borrow.Author.Needs.{needs}
+use Rattle.places.specs.Places.{lot, used}
+use Rattle.places.proofs.Laws.{length-used, Leading, leading-none, leading-next, leading-stays, leading-out}
 use Rattle.places.proofs.least_end.Statement.{statement}
 use Rattle.places.proofs.least_end.Tie as tie
 
 abbrev Inv-loop : tie.InvT-loop
-Inv-loop q n best₀ i₀ best i = Earliest (λ s. s .end) (lot q n) i best
+Inv-loop q n best₀ i₀ best i = Leading (used (lot q n)) i best
 
 abbrev μ-loop : tie.MeasureT-loop
 μ-loop q n best₀ i₀ best i = n - i
 
-returns : tie.Need-returns Inv-loop μ-loop
-returns c = let s = c .before .before in earliest-empty _ (lot (s .args .q .now) (s .args .n)) (s .pre) (omega arith)
-
-load-requires : tie.Need-load-requires Inv-loop μ-loop
-load-requires c κs =
-    let s = c .before .before in
-    (s .pre, omega arith)
-
 loop-holds : tie.Need-loop-holds Inv-loop μ-loop
 loop-holds c =
-    let s = c .before .before .before .before in
-    earliest-one _ (lot (s .args .q .now) (s .args .n)) (s .pre) (c .before .load .result) (omega arith) (c .before .load .ensures)
+    let s = c .before in
+    let q = lot (s .args .q .now) (s .args .n) in
+    leading-none (used q) (omega (arith, length-used q (s .pre .0), s .pre .1))
 
-load-requires-2 : tie.Need-load-requires-2 Inv-loop μ-loop
-load-requires-2 c κs =
-    let s = c .before .before .before .before .before .before in
-    (s .pre, c .loop-test .taken)
+end-at-requires : tie.Need-end-at-requires Inv-loop μ-loop
+end-at-requires c κs = let s = c .before .before .before in (s .pre .0, c .loop-test .taken)
+
+end-at-requires-2 : tie.Need-end-at-requires-2 Inv-loop μ-loop
+end-at-requires-2 c κs =
+    let s = c .before .before .before .before in
+    (s .pre .0, omega (arith, c .before .loop-test .taken, c .before .before .loop .inv .among))
 
 add-i : tie.Need-add-i Inv-loop μ-loop
 add-i c = search needs
@@ -43,21 +39,24 @@ loop-less c = search needs
 
 loop-again : tie.Need-loop-again Inv-loop μ-loop
 loop-again c =
-    let x = c .before .before .before .before .load2 in
+    let s = c .before .before .before .before .before .before .before .before in
     let l = c .before .before .before .before .before .before .loop in
-    let s = c .before .before .before .before .before .before .before .before .before .before .before in
-    let q = lot (s .args .q .now) (s .args .n) in
-    let t = x .result .end in
+    let g = s .pre .0 in
+    let u = used (lot (s .args .q .now) (s .args .n)) in
+    let here = ap (λ (t : Ninths). t .0) (c .before .before .before .before .end-at .ensures) in
+    let best = ap (λ (t : Ninths). t .0) (c .before .before .before .end-at2 .ensures) in
+    let h : l .i < length u = omega (arith, length-used (lot (s .args .q .now) (s .args .n)) g, c .before .before .before .before .before .loop-test .taken) in
     ⊎-elim
-    (λ w. earliest-more (λ y. y .end) q (s .pre) (l .i) (l .best) _ (x .result) (omega arith) (x .ensures) (sooner-second (l .best) t (omega (arith, w .0)) ∙ ap At (sym (w .1))) (l .inv))
-    (λ w. earliest-more (λ y. y .end) q (s .pre) (l .i) (l .best) _ (x .result) (omega arith) (x .ensures) (sooner-first (l .best) t (omega (arith, w .0)) ∙ ap At (sym (w .1))) (l .inv))
-    (c .if2 .came)
+    (λ w. subst (λ (b : ℕ). Leading u (l .i + 1) b) (sym (w .1)) (leading-next u (l .i) (l .best) h (l .inv) (omega (arith, w .0, here, best))))
+    (λ w. subst (λ (b : ℕ). Leading u (l .i + 1) b) (sym (w .1)) (leading-stays u (l .i) (l .best) h (l .inv) (omega (arith, w .0, here, best))))
+    (c .if1 .came)
 
-returns-2 : tie.Need-returns-2 Inv-loop μ-loop
-returns-2 c =
-    let s = c .before .before .before .before .before .before in
+returns : tie.Need-returns Inv-loop μ-loop
+returns c =
+    let s = c .before .before .before in
     let l = c .before .loop in
-    earliest-out _ (lot (s .args .q .now) (s .args .n)) (s .pre) (l .i) (l .best) (omega arith) (l .inv)
+    let q = lot (s .args .q .now) (s .args .n) in
+    leading-out (used q) (l .i) (l .best) (omega (arith, length-used q (s .pre .0))) (l .inv)
 
 pub least-end-spec : {M : Type 1} → statement M
 least-end-spec =
@@ -65,11 +64,10 @@ least-end-spec =
     (tie.spec
     Inv-loop
     μ-loop
-    returns
-    load-requires
     loop-holds
-    load-requires-2
+    end-at-requires
+    end-at-requires-2
     add-i
     loop-less
     loop-again
-    returns-2)
+    returns)

@@ -3,7 +3,7 @@
 use native.Mathlib.Omega.{arith}
 use borrow.Author.Needs.{needs}
 use borrow.Author.Tests.{eq-eqb, ne-eqb}
-use mathlib.Core.Path.{_≡_, refl, sym, ap, subst, _∙_}
+use mathlib.Core.Path.{_≡_, refl, sym, subst, _∙_}
 use mathlib.Core.Bool.{true, false}
 use Prim.Native.Nat.{ℕ, _-_}
 use lib.ListN.{length, getD}
@@ -32,44 +32,44 @@ sub-i c =
     let l = c .before .loop in
     omitting-ahead (of (s .args .conn)) _ (lot (l .q) (s .args .n)) (l .i) (l .to) (s .args .left) (l .inv .0) (s .pre .1) (omega (arith, l .inv .0 .ahead))
 
-load-requires : tie.Need-load-requires Inv-loop μ-loop
-load-requires c κs = let l = c .before .before .loop in (l .inv .0 .good, omega (arith, l .inv .0 .ahead, l .inv .0 .fits))
+conn-at-requires : tie.Need-conn-at-requires Inv-loop μ-loop
+conn-at-requires c κs = let l = c .before .before .loop in (l .inv .0 .good, omega (arith, l .inv .0 .ahead, l .inv .0 .fits))
 
 sub-to : tie.Need-sub-to Inv-loop μ-loop
 sub-to c = search needs
 
 move-to-requires : tie.Need-move-to-requires Inv-loop μ-loop
 move-to-requires c κs =
-    let l = c .before .before .before .before .before .before .loop in
+    let l = c .before .before .before .before .before .loop in
     (l .inv .0 .good, (omega (arith, l .inv .0 .ahead, l .inv .0 .fits), omega (arith, l .inv .0 .ahead, l .inv .0 .fits)))
 
 loop-less : tie.Need-loop-less Inv-loop μ-loop
-loop-less c = omega (arith, sub-i (c .before .before .before .before .before .before .before .before))
+loop-less c = omega (arith, sub-i (c .before .before .before .before .before .before .before))
 
 loop-again : tie.Need-loop-again Inv-loop μ-loop
 loop-again c =
-    let s = c .before .before .before .before .before .before .before .before .before .before .before in
-    let l = c .before .before .before .before .before .before .before .before .before .loop in
+    let s = c .before .before .before .before .before .before .before .before .before .before in
+    let l = c .before .before .before .before .before .before .before .before .loop in
     let v = l .inv .0 in
     let m = c .before .before .move-to .ensures in
-    let a = sub-i (c .before .before .before .before .before .before .before .before) in
+    let a = sub-i (c .before .before .before .before .before .before .before) in
     let d : of (s .args .conn) (getD (used (lot (l .q) (s .args .n))) (l .i - 1) empty) ≡ false =
-    ap (of (s .args .conn)) (sym (c .before .before .before .before .before .before .load .ensures)) ∙ ne-eqb _ _ (c .before .before .before .before .if1 .taken) in (
+    ne-eqb _ _ (λ e. c .before .before .before .before .if1 .taken (e ∙ sym (c .before .before .before .before .before .conn-at .ensures))) in (
       omitting-stays _ _ (lot (l .q) (s .args .n)) (l .i) (l .to) (l .i - 1) v (omega (arith, a)) (lot (c .before .before .move-to .last .0) (s .args .n)) (l .to - 1) (omega (arith, v .ahead)) d (m .good) refl (m .list),
       omega arith,
       m .rest ∙ l .inv .2,
     )
 
 loop-less-2 : tie.Need-loop-less-2 Inv-loop μ-loop
-loop-less-2 c = omega (arith, sub-i (c .before .before .before .before))
+loop-less-2 c = omega (arith, sub-i (c .before .before .before))
 
 loop-again-2 : tie.Need-loop-again-2 Inv-loop μ-loop
 loop-again-2 c =
-    let s = c .before .before .before .before .before .before .before in
-    let l = c .before .before .before .before .before .loop in
-    let a = sub-i (c .before .before .before .before) in
+    let s = c .before .before .before .before .before .before in
+    let l = c .before .before .before .before .loop in
+    let a = sub-i (c .before .before .before) in
     let d : of (s .args .conn) (getD (used (lot (l .q) (s .args .n))) (l .i - 1) empty) ≡ true =
-    ap (of (s .args .conn)) (sym (c .before .before .load .ensures)) ∙ eq-eqb _ _ (c .if1 .left) in
+    eq-eqb _ _ (c .if1 .left ∙ c .before .conn-at .ensures) in
     (omitting-goes _ _ (lot (l .q) (s .args .n)) (l .i) (l .to) (l .i - 1) (l .inv .0) (omega (arith, a)) d, l .inv .1, l .inv .2)
 
 sub-drop-first : tie.Need-sub-drop-first Inv-loop μ-loop
@@ -102,7 +102,7 @@ omit-of-spec =
     loop-holds
     sub-loop
     sub-i
-    load-requires
+    conn-at-requires
     sub-to
     move-to-requires
     loop-less

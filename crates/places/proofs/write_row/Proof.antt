@@ -9,14 +9,17 @@ use Rattle.places.proofs.write_row.Tie as tie
 mul-b : tie.Need-mul-b
 mul-b c = search needs
 
+add-q : tie.Need-add-q
+add-q c = search needs
+
 mul-q : tie.Need-mul-q
 mul-q c = search needs
 
 slice-write-q : tie.Need-slice-write-q
 slice-write-q c = search needs
 
-add-q : tie.Need-add-q
-add-q c = search needs
+add-q-2 : tie.Need-add-q-2
+add-q-2 c = search needs
 
 mul-q-2 : tie.Need-mul-q-2
 mul-q-2 c = search needs
@@ -24,8 +27,8 @@ mul-q-2 c = search needs
 slice-write-q-2 : tie.Need-slice-write-q-2
 slice-write-q-2 c = simp length-set (omega arith)
 
-add-q-2 : tie.Need-add-q-2
-add-q-2 c = search needs
+add-q-3 : tie.Need-add-q-3
+add-q-3 c = search needs
 
 mul-q-3 : tie.Need-mul-q-3
 mul-q-3 c = search needs
@@ -33,8 +36,8 @@ mul-q-3 c = search needs
 slice-write-q-3 : tie.Need-slice-write-q-3
 slice-write-q-3 c = simp length-set (omega arith)
 
-add-q-3 : tie.Need-add-q-3
-add-q-3 c = search needs
+add-q-4 : tie.Need-add-q-4
+add-q-4 c = search needs
 
 mul-q-4 : tie.Need-mul-q-4
 mul-q-4 c = search needs
@@ -42,8 +45,8 @@ mul-q-4 c = search needs
 slice-write-q-4 : tie.Need-slice-write-q-4
 slice-write-q-4 c = simp length-set (omega arith)
 
-add-q-4 : tie.Need-add-q-4
-add-q-4 c = search needs
+add-q-5 : tie.Need-add-q-5
+add-q-5 c = search needs
 
 mul-q-5 : tie.Need-mul-q-5
 mul-q-5 c = search needs
@@ -51,8 +54,8 @@ mul-q-5 c = search needs
 slice-write-q-5 : tie.Need-slice-write-q-5
 slice-write-q-5 c = simp length-set (omega arith)
 
-add-q-5 : tie.Need-add-q-5
-add-q-5 c = search needs
+add-q-6 : tie.Need-add-q-6
+add-q-6 c = search needs
 
 mul-q-6 : tie.Need-mul-q-6
 mul-q-6 c = search needs
@@ -60,8 +63,8 @@ mul-q-6 c = search needs
 slice-write-q-6 : tie.Need-slice-write-q-6
 slice-write-q-6 c = simp length-set (omega arith)
 
-add-q-6 : tie.Need-add-q-6
-add-q-6 c = search needs
+add-q-7 : tie.Need-add-q-7
+add-q-7 c = search needs
 
 mul-q-7 : tie.Need-mul-q-7
 mul-q-7 c = search needs
@@ -69,8 +72,8 @@ mul-q-7 c = search needs
 slice-write-q-7 : tie.Need-slice-write-q-7
 slice-write-q-7 c = simp length-set (omega arith)
 
-add-q-7 : tie.Need-add-q-7
-add-q-7 c = search needs
+add-q-8 : tie.Need-add-q-8
+add-q-8 c = search needs
 
 mul-q-8 : tie.Need-mul-q-8
 mul-q-8 c = search needs
@@ -89,27 +92,28 @@ write-row-spec =
     tie.close
     (tie.spec
     mul-b
+    add-q
     mul-q
     slice-write-q
-    add-q
+    add-q-2
     mul-q-2
     slice-write-q-2
-    add-q-2
+    add-q-3
     mul-q-3
     slice-write-q-3
-    add-q-3
+    add-q-4
     mul-q-4
     slice-write-q-4
-    add-q-4
+    add-q-5
     mul-q-5
     slice-write-q-5
-    add-q-5
+    add-q-6
     mul-q-6
     slice-write-q-6
-    add-q-6
+    add-q-7
     mul-q-7
     slice-write-q-7
-    add-q-7
+    add-q-8
     mul-q-8
     slice-write-q-8
     same-length
