@@ -1,9 +1,11 @@
 #!/bin/sh
-# measure.sh [counts|stack|frames|size|agree|programs]..: the proved core against two engines of the same rules (tools/measure): inplace.rs, plain Rust
+# measure.sh [counts|stack|frames|frames0|size|agree|programs]..: the proved core against two engines of the same rules (tools/measure): inplace.rs, plain Rust
 # as one writes it, and peer.h, tuned C. All parts without a word. Prints tables for docs/MEASURES.md:
 #   counts  instructions of a call (exact; only a library copy takes some more or less by where its memory lies) and the ratio of times beside them
 #   stack   bytes of stack that a call reached, from the caller's stack pointer down; library functions were bound before
 #   frames  code and frame of each function of the core, by objdump
+#   frames0 frames on three ways of the same module compiled without an optimiser (-O0), and their sums: what a compiler that inlines
+#           nothing needs. Of the sources as they stand (tools/try-archive.sh); no part of what is measured without a word
 #   size    code and state
 #   agree   random calls by all three, compared (RANDOM_CALLS, 300,000 for each of three seeds)
 #   programs  instructions of the card program and of the second program, both x86-64, on the same generated streams
@@ -175,17 +177,56 @@ stack() {
 }
 
 # the frame: pushed registers, the room below them and the return address; what a leaf keeps below its stack pointer (at most 128) is not in it
-frames() {
-    echo '| Function of the core | Bytes of code | Frame |'
-    echo '|---|---|---|'
-    "$objdump" -d --no-show-raw-insn "$core" | awk '
-    function out() { if (name != "") printf "| %s | %d | %d |\n", name, last - first, frame + 8 }
+# framed: of a disassembly, a line for each function: name, bytes of code, frame
+framed() {
+    awk '
+    function out() { if (name != "") print name, last - first, frame + 8 }
     /^[0-9a-f]+ <.*>:$/ { out(); name = $2; sub(/^</, "", name); sub(/>:$/, "", name); frame = 0; body = 0; first = -1; next }
     /^ *[0-9a-f]+:/ { at = $1; sub(/:$/, "", at); at = hex(at); if (first < 0) first = at; last = at }
     !body && /push / { frame += 8; next }
     !body && /sub .*,%rsp/ { v = $0; sub(/.*\$0x/, "", v); sub(/,%rsp.*/, "", v); frame += hex(v); body = 1 }
     function hex(s,   i, n) { n = 0; for (i = 1; i <= length(s); i++) n = n * 16 + index("0123456789abcdef", substr(s, i, 1)) - 1; return n }
     END { out() }'
+}
+
+frames() {
+    echo '| Function of the core | Bytes of code | Frame |'
+    echo '|---|---|---|'
+    "$objdump" -d --no-show-raw-insn "$core" | framed | awk '{ printf "| %s | %d | %d |\n", $1, $2, $3 }'
+}
+
+# way TITLE NAME[*TIMES]..: a row for each function on the way, and their sum; a name that is not there is an error
+way() {
+    title=$1
+    shift
+    sum=0
+    for step; do
+        name=${step%%\**}
+        times=1
+        [ "$name" = "$step" ] || times=${step##*\*}
+        frame=$(awk -v name="$name" '$1 == name { print $2 }' "$work/frames0")
+        [ -n "$frame" ] || fail "no function $name in the module"
+        sum=$((sum + frame * times))
+        echo "| $title | $name | $frame | $times |"
+    done
+    echo "| $title | together | $sum | |"
+}
+
+frames0() {
+    quiet sh tools/try-archive.sh "$work/libtry.a"
+    quiet "$tools/bin/clang" --target=$target -march=x86-64 --no-default-config -no-canonical-prefixes -x ir -c -O0 target/try/door.ll \
+        -o "$work/door0.o"
+    "$objdump" -d --no-show-raw-insn "$work/door0.o" | framed | awk '{ print $1, $3 }' >"$work/frames0"
+    abort="door::splicer_3_message engine::message answers::answer answers::answer_read requests::answer_abort ends::end_started"
+    evict="door::splicer_3_message engine::message answers::answer answers::answer_read requests::answer_splice requests::accept requests::make_way"
+    below="ends::end_follower memory::remove places::remove_at places::read_row"
+    echo '| Way, at -O0 | Function | Frame | Times |'
+    echo '|---|---|---|---|'
+    way 'the due search below run' instants::next_due memory::least_end places::least_end places::end_at
+    # shellcheck disable=SC2086
+    way 'an abort with 20 followers' $abort 'ends::dismiss*20' $below
+    # shellcheck disable=SC2086
+    way 'a Splice_Request evicts one with 19' $evict ends::end_waiting 'ends::dismiss*19' $below
 }
 
 # code FILE MEMBER: bytes of machine code in the sections .text of an archive's members whose name has MEMBER in it
@@ -263,7 +304,7 @@ versions
 for part; do
     echo
     case $part in
-    counts | stack | frames | size | agree | programs) $part ;;
+    counts | stack | frames | frames0 | size | agree | programs) $part ;;
     *) fail "no part '$part'" ;;
     esac
 done
