@@ -6,11 +6,13 @@ use mathlib.Core.Bool.{true, false, cond}
 use mathlib.Core.List.{List, [], _∷_, _++_}
 use Prim.Native.Nat.{ℕ, _+_, _≤_, _<_}
 use native.Mathlib.Nat.{le-trans}
-use lib.ListN.{length}
+use lib.ListN.{length, getD}
 use Rattle.rules.specs.declared.Request.{Request}
+use Rattle.rules.specs.declared.When.the-variants.{At}
 use Rattle.rules.specs.Lists.{All}
 use Rattle.rules.specs.Bytes.{Byte, hasZero}
 use Rattle.rules.specs.Records.{recordsIn}
+use Rattle.rules.specs.State.{empty, Sorted, due}
 use Rattle.rules.specs.Answers.{requested, spliceResult}
 use Rattle.rules.specs.Calls.{lending, fresh, after}
 use Rattle.demands.specs.History.{startsOf, endsOf, history, last, othersOf, waitingCount, book, clockAfter}
@@ -195,3 +197,16 @@ module _ (name : List ℕ) (h : List Made) (m : Memory) where
   -- and so are the four words that C reads: whatever the read's contract allows
   pub read-as-told : Trace name h m → (r : List ℕ) → Counts (m .words) (m .bytes) r → r ≡ countsTold (events h)
   read-as-told t = rw (trace-events name h m t) (called.read-as-told name (within h) m (trace-inside name h m t))
+
+-- ## Document 02, CR 10
+
+module _ (name : List ℕ) (h : List Made) (m : Memory) where
+  -- "Keep the waiting sessions ordered by start": those that the waiting words hold, first place first, rise strictly in start, and each
+  -- starts after the clock
+  pub waiting-in-order : Trace name h m → Sorted (shown m .queue .waiting) × All (λ s. shown m .clock < s .start .0) (shown m .queue .waiting)
+  waiting-in-order t = called.waiting-in-order name (within h) m (trace-inside name h m t)
+
+  -- so the first of them is the next start of all: with none started it is what is due next
+  pub first-is-next : Trace name h m → 0 < length (shown m .queue .waiting) → shown m .queue .started ≡ [] →
+      due (shown m .queue) ≡ At (getD (shown m .queue .waiting) 0 empty .start)
+  first-is-next t = called.first-is-next name (within h) m (trace-inside name h m t)

@@ -1,19 +1,25 @@
 -- The customer's demands as theorems about the calls of `engine`, each under its sentence; driven/proofs/Demands has them of the calls for
 -- C. The only hypothesis is a trace (specs/Trace): fresh, then any calls with any inputs, each result one that the call's contract allows;
 -- proofs/Cited holds it to the contracts in engine/src/lib.rt. No axiom, no hole.
-use mathlib.Core.Path.{_≡_, sym, _∙_}
+use mathlib.Core.Path.{_≡_, sym, ap, _∙_}
 use mathlib.Core.Bool.{true, false, cond}
 use mathlib.Core.List.{List, [], _∷_, _++_}
 use Prim.Native.Nat.{ℕ, _+_, _≤_, _<_}
 use native.Mathlib.Nat.{le-trans}
-use lib.ListN.{length}
+use lib.ListN.{length, getD}
 use Rattle.rules.specs.declared.Request.{Request}
 use Rattle.rules.specs.declared.Refusal.{Refusal}
+use Rattle.rules.specs.declared.When.the-variants.{At, Never}
 use Rattle.rules.specs.Lists.{All}
 use Rattle.rules.specs.Bytes.{Byte, hasZero}
 use Rattle.rules.specs.Records.{recordsIn}
+use Rattle.rules.specs.State.{empty, Sorted, sooner, due}
+use Rattle.rules.specs.Sound.{Later}
 use Rattle.rules.specs.Answers.{requested, spliceResult}
 use Rattle.rules.specs.Calls.{lending, fresh, after}
+use Rattle.rules.proofs.All.{all-into}
+use Rattle.rules.proofs.Sound.{reached-sound}
+use Rattle.rules.proofs.Tick.{earliest-start}
 use Rattle.demands.specs.History.{startsOf, endsOf, history, last, othersOf, waitingCount, book, clockAfter}
 use Rattle.engine.specs.declared.Answer.the-variants.{Refused}
 use Rattle.memory.specs.Memory.{countsOf, tallied}
@@ -174,3 +180,21 @@ module _ (name : List ℕ) (h : List Made) (m : Memory) where
   -- and so is what is read: every result that the read's contract allows
   pub read-as-told : Trace name h m → (r : List ℕ) → Counts (m .words) (m .bytes) r → r ≡ countsTold (events h)
   read-as-told t r c = c ∙ sym (trace-lent name h m t .whole .words .counts) ∙ stored-as-told t
+
+-- ## Document 02, CR 10
+
+module _ (name : List ℕ) (h : List Made) (m : Memory) where
+  -- "Keep the waiting sessions ordered by start": those that the waiting words hold, first place first, rise strictly in start, and each
+  -- starts after the clock
+  pub waiting-in-order : Trace name h m → Sorted (shown m .queue .waiting) × All (λ s. shown m .clock < s .start .0) (shown m .queue .waiting)
+  waiting-in-order t =
+      let k = reached-sound (shown m) (trace-lent name h m t .reached) .holding .timed in
+      (k .sorted, all-into (Later (shown m .clock)) (λ s. shown m .clock < s .start .0) (λ s l. l .0) (shown m .queue .waiting) (k .later))
+
+  -- so the first of them is the next start of all: with none started it is what is due next
+  pub first-is-next : Trace name h m → 0 < length (shown m .queue .waiting) → shown m .queue .started ≡ [] →
+      due (shown m .queue) ≡ At (getD (shown m .queue .waiting) 0 empty .start)
+  unfolding due
+  first-is-next t some none =
+      let w = shown m .queue .waiting in
+      rw none (ap (sooner Never) (earliest-start w empty (waiting-in-order t .0) some))
