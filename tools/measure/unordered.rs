@@ -1,0 +1,775 @@
+//! An engine in place for the rules of document 01, written from the documents alone, as a yardstick: plain Rust, and the waiting sessions
+//! in an array without order. A new one goes behind the last, one that goes is replaced by the last, and each question about them is a scan.
+#![no_std]
+
+use core::{mem::MaybeUninit, slice};
+
+const CONNECTIONS: usize = 4;
+const WAITING: usize = 64;
+/// The places that each connection is sure of, and those it can have.
+const SURE: u8 = 10;
+const MOST: u8 = 20;
+/// A session starts over another one only with a higher AccessType, and there are ten of them.
+const STARTED: usize = 10;
+const ROOM: usize = 4096;
+const HEADER: usize = 8;
+const LARGEST: usize = 4088;
+
+/// "None" as a SessionID or PriorSession.
+const NONE: u32 = u32::MAX;
+/// A scan goes over so many places at a time. The free ones have nobody as their owner and never as their start.
+const BLOCK: usize = 8;
+const NOBODY: u8 = u8::MAX;
+
+// Instants and durations are in ninths of a microsecond, and all below 2^56.
+const SECOND: u64 = 9_000_000;
+const MICROSECOND: u64 = 9;
+const TICK: u64 = 100;
+const NEVER: u64 = u64::MAX >> 1;
+
+const GENERAL_RESPONSE: u16 = 0x0000;
+const INIT_REQUEST: u16 = 0x0001;
+const INIT_RESPONSE: u16 = 0x0002;
+const ALIVE_REQUEST: u16 = 0x0005;
+const ALIVE_RESPONSE: u16 = 0x0006;
+const SPLICE_REQUEST: u16 = 0x0007;
+const SPLICE_RESPONSE: u16 = 0x0008;
+const SPLICE_COMPLETE: u16 = 0x0009;
+const CUE_RESPONSE: u16 = 0x000D;
+const ABORT_REQUEST: u16 = 0x000E;
+const ABORT_RESPONSE: u16 = 0x000F;
+
+const REVISION: u16 = 2;
+
+#[derive(Clone, Copy, PartialEq)]
+#[repr(u8)]
+enum Line {
+    Closed,
+    Open,
+    Initialised,
+}
+
+/// What a waiting session needs only when it starts or is met.
+#[derive(Clone, Copy)]
+#[repr(C)]
+struct Plan {
+    duration: u32,
+    access: u8,
+    overrides: bool,
+}
+
+/// A session among all.
+#[derive(Clone, Copy, PartialEq)]
+#[repr(C)]
+struct Id {
+    session: u32,
+    owner: u8,
+}
+
+#[derive(Clone, Copy)]
+#[repr(C)]
+struct Started {
+    end: u64,
+    /// Time on air, without the present stay.
+    played: u64,
+    id: Id,
+    access: u8,
+}
+
+#[repr(C, align(64))]
+pub struct Splicer {
+    /// The waiting sessions in columns.
+    starts: [u64; WAITING],
+    sessions: [u32; WAITING],
+    priors: [u32; WAITING],
+    owners: [u8; WAITING],
+    plans: [Plan; WAITING],
+    /// The started ones, AccessType rising: the last is on air, those before it are covered.
+    started: [Started; STARTED],
+    waits: usize,
+    plays: usize,
+    clock: u64,
+    /// Since when the one on air has been there.
+    since: u64,
+    lines: [Line; CONNECTIONS],
+    name: [u8; 32],
+}
+
+#[repr(C)]
+pub struct Reply {
+    refused: u32,
+    consumed: usize,
+    written: usize,
+}
+
+impl Reply {
+    fn refused(number: u32) -> Self {
+        Reply {
+            refused: number,
+            consumed: 0,
+            written: 0,
+        }
+    }
+
+    fn good(consumed: usize, written: usize) -> Self {
+        Reply {
+            refused: 0,
+            consumed,
+            written,
+        }
+    }
+}
+
+fn be16<const N: usize>(bytes: &[u8; N], at: usize) -> u16 {
+    u16::from_be_bytes([bytes[at], bytes[at + 1]])
+}
+
+fn be32<const N: usize>(bytes: &[u8; N], at: usize) -> u32 {
+    u32::from_be_bytes([bytes[at], bytes[at + 1], bytes[at + 2], bytes[at + 3]])
+}
+
+fn instant(seconds: u32, micros: u32) -> u64 {
+    u64::from(seconds) * SECOND + u64::from(micros) * MICROSECOND
+}
+
+/// The lent output buffer, written from its begin on.
+struct Output {
+    first: *mut u8,
+    next: *mut u8,
+}
+
+impl Output {
+    /// # Safety
+    /// `first` has `ROOM` bytes. No call writes more than 3,174: 64 starts and 74 ends of 23 bytes.
+    unsafe fn new(first: *mut u8) -> Self {
+        Output { first, next: first }
+    }
+
+    fn written(&self) -> usize {
+        self.next as usize - self.first as usize
+    }
+
+    #[inline(always)]
+    fn put<const N: usize>(&mut self, connection: u8, message: u16, result: u16, data: [u8; N]) {
+        let header = 0x52 << 56
+            | u64::from(connection) << 48
+            | u64::from(message) << 32
+            | (N as u64) << 16
+            | u64::from(result);
+        // SAFETY: as `new` says.
+        unsafe {
+            self.next.cast::<[u8; 8]>().write(header.to_be_bytes());
+            self.next.add(8).cast::<[u8; 2]>().write([0xFF; 2]);
+            self.next.add(10).cast::<[u8; N]>().write(data);
+            self.next = self.next.add(10 + N);
+        }
+    }
+
+    fn general(&mut self, connection: u8, result: u16) {
+        self.put(connection, GENERAL_RESPONSE, result, []);
+    }
+
+    fn splice(&mut self, id: Id, result: u16) {
+        self.put(id.owner, SPLICE_RESPONSE, result, id.session.to_be_bytes());
+    }
+
+    fn complete(&mut self, id: Id, flag: u8, result: u16, played: u64) {
+        let [a, b, c, d] = id.session.to_be_bytes();
+        let [w, x, y, z] = ((played / TICK) as u32).to_be_bytes();
+        let data = [a, b, c, d, flag, 0, 0, 0, 0, w, x, y, z];
+        self.put(id.owner, SPLICE_COMPLETE, result, data);
+    }
+}
+
+/// Whether descriptors fill these bytes exactly.
+fn well_formed(mut rest: &[u8]) -> bool {
+    while let [_, length, behind @ ..] = rest {
+        let length = usize::from(*length);
+        if !(4..=254).contains(&length) || behind.len() < length {
+            return false;
+        }
+        rest = &behind[length..];
+    }
+    rest.is_empty()
+}
+
+/// Whether two names are the same up to the first zero. One of them has a zero.
+fn same_name(one: &[u8; 32], other: &[u8]) -> bool {
+    for (a, b) in one.iter().zip(other) {
+        if a != b {
+            return false;
+        }
+        if *a == 0 {
+            return true;
+        }
+    }
+    false
+}
+
+fn has_zero(name: &[u8; 32]) -> bool {
+    name.iter().fold(false, |found, &b| found | (b == 0))
+}
+
+impl Splicer {
+    fn started(&self) -> &[Started] {
+        &self.started[..self.plays]
+    }
+
+    fn id(&self, place: usize) -> Id {
+        Id {
+            session: self.sessions[place],
+            owner: self.owners[place],
+        }
+    }
+
+    /// The blocks of a column that have waiting sessions.
+    fn blocks<'a, T>(&self, column: &'a [T; WAITING]) -> &'a [[T; BLOCK]] {
+        &column.as_chunks().0[..(self.waits + BLOCK - 1) / BLOCK]
+    }
+
+    /// The place of a connection where a column of numbers has this one.
+    fn find(&self, column: &[u32; WAITING], id: Id) -> Option<usize> {
+        let blocks = self.blocks(column).iter().zip(self.blocks(&self.owners));
+        for (block, (numbers, owners)) in blocks.enumerate() {
+            let mut both = numbers.iter().zip(owners);
+            if let Some(at) =
+                both.position(|(&number, &owner)| number == id.session && owner == id.owner)
+            {
+                return Some(block * BLOCK + at);
+            }
+        }
+        None
+    }
+
+    fn waiting(&self, id: Id) -> Option<usize> {
+        self.find(&self.sessions, id)
+    }
+
+    /// The waiting session with this start; there is at most one.
+    fn starting_at(&self, start: u64) -> Option<usize> {
+        for (block, starts) in self.blocks(&self.starts).iter().enumerate() {
+            if let Some(at) = starts.iter().position(|&other| other == start) {
+                return Some(block * BLOCK + at);
+            }
+        }
+        None
+    }
+
+    /// Whether a start is not after `now`: its difference to the next instant has the top bit then. One lane for each place of a block.
+    fn start_due(&self, now: u64) -> bool {
+        let mut lanes = [0; BLOCK];
+        for starts in self.blocks(&self.starts) {
+            for (lane, start) in lanes.iter_mut().zip(starts) {
+                *lane |= start.wrapping_sub(now + 1);
+            }
+        }
+        lanes.iter().fold(0, |any, lane| any | lane) >> 63 != 0
+    }
+
+    /// The first start and its place.
+    fn first_start(&self) -> (u64, usize) {
+        let mut first = NEVER;
+        let mut block = 0;
+        for (at, starts) in self.blocks(&self.starts).iter().enumerate() {
+            if starts.iter().any(|&start| start < first) {
+                first = starts.iter().fold(first, |first, &start| first.min(start));
+                block = at;
+            }
+        }
+        let place = self.starts[block * BLOCK..]
+            .iter()
+            .position(|&start| start == first);
+        (first, block * BLOCK + place.unwrap_or(0))
+    }
+
+    fn first_end(&self) -> u64 {
+        self.started()
+            .iter()
+            .fold(NEVER, |first, one| first.min(one.end))
+    }
+
+    fn count(&self, connection: u8) -> u8 {
+        self.owners
+            .iter()
+            .fold(0, |count, &one| count + u8::from(one == connection))
+    }
+
+    fn full(&self, connection: u8) -> bool {
+        let own = self.count(connection);
+        own >= SURE
+            && (own >= MOST
+                || (0..CONNECTIONS as u8)
+                    .map(|one| self.count(one).max(SURE))
+                    .sum::<u8>()
+                    >= WAITING as u8)
+    }
+
+    fn remove(&mut self, place: usize) {
+        let last = self.waits - 1;
+        self.waits = last;
+        self.starts[place] = self.starts[last];
+        self.sessions[place] = self.sessions[last];
+        self.priors[place] = self.priors[last];
+        self.owners[place] = self.owners[last];
+        self.plans[place] = self.plans[last];
+        self.starts[last] = NEVER;
+        self.owners[last] = NOBODY;
+    }
+
+    /// Takes a started session out; those above it move down.
+    fn finish(&mut self, place: usize) {
+        for at in place + 1..self.plays {
+            self.started[at - 1] = self.started[at];
+        }
+        self.plays -= 1;
+    }
+
+    /// The time on air, up to `now`, of the one on air, whose stay ends with it.
+    fn leave_air(&mut self, place: usize, now: u64) -> u64 {
+        let played = self.started[place].played + (now - self.since);
+        self.since = now;
+        played
+    }
+
+    fn end_waiting(&mut self, place: usize, result: u16, out: &mut Output) {
+        let id = self.id(place);
+        out.splice(id, result);
+        self.remove(place);
+        self.end_followers(id, result, out);
+    }
+
+    /// No two waiting sessions have one start, so at most one names a session as its prior, and the chain is in order of start.
+    fn end_followers(&mut self, mut id: Id, result: u16, out: &mut Output) {
+        while let Some(place) = self.find(&self.priors, id) {
+            id = self.id(place);
+            out.splice(id, result);
+            self.remove(place);
+        }
+    }
+
+    fn tick(&mut self, now: u64, out: &mut Output) {
+        let due = self.start_due(now);
+        if due || self.first_end() <= now {
+            self.instants(now, due, out);
+        }
+        self.clock = now;
+    }
+
+    #[inline(never)]
+    fn instants(&mut self, now: u64, mut due: bool, out: &mut Output) {
+        loop {
+            let (start, place) = if due { self.first_start() } else { (NEVER, 0) };
+            let mut end = self.first_end();
+            while end <= start && end <= now {
+                self.ends(end, out);
+                end = self.first_end();
+            }
+            if !due {
+                return;
+            }
+            self.start(place, out);
+            due = self.start_due(now);
+        }
+    }
+
+    fn ends(&mut self, now: u64, out: &mut Output) {
+        let top = self.plays - 1;
+        for place in (0..=top).rev() {
+            let Started {
+                end, played, id, ..
+            } = self.started[place];
+            if end != now {
+                continue;
+            }
+            if place == top {
+                let played = self.leave_air(place, now);
+                out.complete(id, 1, 100, played);
+            } else {
+                out.complete(id, 1, 125, played);
+            }
+            self.finish(place);
+        }
+    }
+
+    fn start(&mut self, place: usize, out: &mut Output) {
+        let start = self.starts[place];
+        let id = self.id(place);
+        let plan = self.plans[place];
+        self.remove(place);
+        if let Some(top) = self.plays.checked_sub(1) {
+            if !plan.overrides || plan.access <= self.started[top].access {
+                out.complete(id, 0, 109, 0);
+                return self.end_followers(id, 109, out);
+            }
+            self.started[top].played = self.leave_air(top, start);
+        }
+        out.complete(id, 0, 100, 0);
+        self.since = start;
+        self.started[self.plays] = Started {
+            end: start + u64::from(plan.duration) * TICK,
+            played: 0,
+            id,
+            access: plan.access,
+        };
+        self.plays += 1;
+    }
+
+    /// Ends a started session before its time, by what it is (`top`: the last place before the call).
+    fn cut(&mut self, place: usize, top: usize, out: &mut Output) {
+        let id = self.started[place].id;
+        if place == top {
+            let played = self.leave_air(place, self.clock);
+            out.complete(id, 1, 116, played);
+        } else {
+            out.splice(id, 116);
+        }
+        self.finish(place);
+    }
+
+    fn close(&mut self, connection: u8, out: &mut Output) {
+        let plays = self.plays;
+        for place in (0..plays).rev() {
+            if self.started[place].id.owner == connection {
+                self.cut(place, plays - 1, out);
+            }
+        }
+        // In order of start: the start above the place.
+        let mut order = [0; MOST as usize];
+        let mut found = 0;
+        for place in 0..self.waits {
+            if self.owners[place] == connection {
+                order[found] = self.starts[place] << 8 | place as u64;
+                found += 1;
+            }
+        }
+        let order = &mut order[..found];
+        order.sort_unstable();
+        for key in &*order {
+            out.splice(self.id(*key as usize % WAITING), 116);
+        }
+        for place in (0..self.waits).rev() {
+            if self.owners[place] == connection {
+                self.remove(place);
+            }
+        }
+        self.lines[usize::from(connection)] = Line::Closed;
+    }
+
+    fn message(&mut self, connection: u8, message: u16, data: &[u8], out: &mut Output) {
+        if message == GENERAL_RESPONSE {
+            return;
+        }
+        if message != INIT_REQUEST && self.lines[usize::from(connection)] != Line::Initialised {
+            return out.general(connection, 103);
+        }
+        let read = match message {
+            INIT_REQUEST => self.init(connection, data, out),
+            ALIVE_REQUEST => self.alive(connection, data, out),
+            SPLICE_REQUEST => self.splice(connection, data, out),
+            ABORT_REQUEST => self.abort(connection, data, out),
+            CUE_RESPONSE => return,
+            _ => return out.general(connection, 120),
+        };
+        if read.is_none() {
+            out.general(connection, 123);
+        }
+    }
+
+    // The four answers: `None`, and nothing is done, if the data is not readable.
+
+    fn init(&mut self, connection: u8, data: &[u8], out: &mut Output) -> Option<()> {
+        let (revision, names) = data.split_first_chunk::<2>()?;
+        let (channel, names) = names.split_first_chunk::<32>()?;
+        let splicer = names.first_chunk::<32>()?;
+        if !has_zero(channel) || !has_zero(splicer) {
+            return None;
+        }
+        let result = if u16::from_be_bytes(*revision) != REVISION {
+            102
+        } else if !same_name(&self.name, channel) {
+            104
+        } else {
+            self.lines[usize::from(connection)] = Line::Initialised;
+            100
+        };
+        let mut answer = [0; 34];
+        answer[..2].copy_from_slice(&REVISION.to_be_bytes());
+        answer[2..].copy_from_slice(&self.name);
+        out.put(connection, INIT_RESPONSE, result, answer);
+        Some(())
+    }
+
+    fn alive(&mut self, connection: u8, data: &[u8], out: &mut Output) -> Option<()> {
+        if data.len() != 8 {
+            return None;
+        }
+        let (state, session) = match self.started().last() {
+            Some(one) => (2, one.id.session),
+            None => (1, NONE),
+        };
+        let seconds = (self.clock / SECOND) as u32;
+        let micros = (self.clock % SECOND / MICROSECOND) as u32;
+        let mut answer = [0; 16];
+        answer[..8].copy_from_slice(&(state << 32 | u64::from(session)).to_be_bytes());
+        answer[8..12].copy_from_slice(&seconds.to_be_bytes());
+        answer[12..].copy_from_slice(&micros.to_be_bytes());
+        out.put(connection, ALIVE_RESPONSE, 100, answer);
+        Some(())
+    }
+
+    fn abort(&mut self, connection: u8, data: &[u8], out: &mut Output) -> Option<()> {
+        let session: [u8; 4] = data.try_into().ok()?;
+        let id = Id {
+            session: u32::from_be_bytes(session),
+            owner: connection,
+        };
+        if let Some(place) = self.started().iter().position(|one| one.id == id) {
+            out.put(connection, ABORT_RESPONSE, 100, session);
+            self.cut(place, self.plays - 1, out);
+            self.end_followers(id, 116, out);
+        } else if let Some(place) = self.waiting(id) {
+            out.put(connection, ABORT_RESPONSE, 100, session);
+            self.end_waiting(place, 116, out);
+        } else {
+            out.put(connection, ABORT_RESPONSE, 121, session);
+        }
+        Some(())
+    }
+
+    fn splice(&mut self, connection: u8, data: &[u8], out: &mut Output) -> Option<()> {
+        let head = data.first_chunk::<18>()?;
+        let id = Id {
+            session: be32(head, 0),
+            owner: connection,
+        };
+        if be16(head, 16) == 0xFFFF {
+            out.splice(id, 110);
+            return Some(());
+        }
+        let (fields, descriptors) = data.split_first_chunk::<33>()?;
+        let prior = be32(fields, 4);
+        let micros = be32(fields, 12);
+        let [access, overrides, returns] = [fields[30], fields[31], fields[32]];
+        let plan = Plan {
+            duration: be32(fields, 18),
+            access,
+            overrides: overrides == 1,
+        };
+        if plan.duration == 0
+            || access > 9
+            || overrides > 1
+            || returns > 1
+            || (prior == NONE && micros > 999_999)
+            || !well_formed(descriptors)
+        {
+            return None;
+        }
+        let time = instant(be32(fields, 8), micros);
+        let result = self.accept(id, prior, time, plan, out);
+        out.splice(id, result);
+        Some(())
+    }
+
+    /// Checks b to f.
+    fn accept(&mut self, id: Id, prior: u32, time: u64, plan: Plan, out: &mut Output) -> u16 {
+        if id.session == NONE || self.held(id) {
+            return 121;
+        }
+        let start = if prior != NONE {
+            let prior = Id {
+                session: prior,
+                ..id
+            };
+            match self.end_of(prior) {
+                Some(end) => end,
+                None => return 121,
+            }
+        } else if time < self.clock + 3 * SECOND {
+            return 112;
+        } else {
+            time
+        };
+        let met = self.starting_at(start);
+        if met.is_some_and(|place| self.plans[place].access >= plan.access) {
+            return 109;
+        }
+        if self.full(id.owner) {
+            return 114;
+        }
+        if let Some(place) = met {
+            self.end_waiting(place, 109, out);
+        }
+        let place = self.waits;
+        self.starts[place] = start;
+        self.sessions[place] = id.session;
+        self.priors[place] = prior;
+        self.owners[place] = id.owner;
+        self.plans[place] = plan;
+        self.waits += 1;
+        100
+    }
+
+    fn held(&self, id: Id) -> bool {
+        self.waiting(id).is_some() || self.started().iter().any(|one| one.id == id)
+    }
+
+    /// When this session ends, if it is held.
+    fn end_of(&self, id: Id) -> Option<u64> {
+        if let Some(place) = self.waiting(id) {
+            return Some(self.starts[place] + u64::from(self.plans[place].duration) * TICK);
+        }
+        let one = self.started().iter().find(|one| one.id == id)?;
+        Some(one.end)
+    }
+}
+
+// The calls. A buffer is looked at only after the refusals that could concern it.
+
+#[no_mangle]
+pub extern "C" fn unordered_size() -> usize {
+    size_of::<Splicer>()
+}
+
+#[no_mangle]
+pub extern "C" fn unordered_fresh(s: &mut MaybeUninit<Splicer>, name: &[u8; 32]) -> Reply {
+    let length = name.iter().position(|&b| b == 0);
+    let mut kept = [0; 32];
+    if let Some(length) = length {
+        kept[..length].copy_from_slice(&name[..length]);
+    }
+    s.write(Splicer {
+        starts: [NEVER; WAITING],
+        sessions: [0; WAITING],
+        priors: [0; WAITING],
+        owners: [NOBODY; WAITING],
+        plans: [Plan {
+            duration: 0,
+            access: 0,
+            overrides: false,
+        }; WAITING],
+        started: [Started {
+            end: 0,
+            played: 0,
+            id: Id {
+                session: 0,
+                owner: 0,
+            },
+            access: 0,
+        }; STARTED],
+        waits: 0,
+        plays: 0,
+        clock: 0,
+        since: 0,
+        lines: [Line::Closed; CONNECTIONS],
+        name: kept,
+    });
+    match length {
+        Some(_) => Reply::good(0, 0),
+        None => Reply::refused(9),
+    }
+}
+
+#[no_mangle]
+pub extern "C" fn unordered_open(s: &mut Splicer, connection: u32) -> Reply {
+    match s.lines.get_mut(connection as usize) {
+        None => Reply::refused(1),
+        Some(line) if *line != Line::Closed => Reply::refused(6),
+        Some(line) => {
+            *line = Line::Open;
+            Reply::good(0, 0)
+        }
+    }
+}
+
+/// # Safety
+/// `out` has `room` bytes.
+#[no_mangle]
+pub unsafe extern "C" fn unordered_close(
+    s: &mut Splicer,
+    connection: u32,
+    out: *mut u8,
+    room: usize,
+) -> Reply {
+    let Some(&line) = s.lines.get(connection as usize) else {
+        return Reply::refused(1);
+    };
+    if room < ROOM {
+        return Reply::refused(2);
+    }
+    if line == Line::Closed {
+        return Reply::refused(7);
+    }
+    let mut out = Output::new(out);
+    s.close(connection as u8, &mut out);
+    Reply::good(0, out.written())
+}
+
+/// # Safety
+/// `input` has `length` bytes, `out` has `room` bytes.
+#[no_mangle]
+pub unsafe extern "C" fn unordered_message(
+    s: &mut Splicer,
+    connection: u32,
+    input: *const u8,
+    length: usize,
+    out: *mut u8,
+    room: usize,
+) -> Reply {
+    let Some(&line) = s.lines.get(connection as usize) else {
+        return Reply::refused(1);
+    };
+    if room < ROOM {
+        return Reply::refused(2);
+    }
+    if line == Line::Closed {
+        return Reply::refused(7);
+    }
+    if length < HEADER {
+        return Reply::refused(5);
+    }
+    let header = &*input.cast::<[u8; HEADER]>();
+    let size = usize::from(be16(header, 2));
+    if size > LARGEST {
+        return Reply::refused(4);
+    }
+    if length < HEADER + size {
+        return Reply::refused(5);
+    }
+    let data = slice::from_raw_parts(input.add(HEADER), size);
+    let mut out = Output::new(out);
+    s.message(connection as u8, be16(header, 0), data, &mut out);
+    Reply::good(HEADER + size, out.written())
+}
+
+/// # Safety
+/// `out` has `room` bytes.
+#[no_mangle]
+pub unsafe extern "C" fn unordered_tick(
+    s: &mut Splicer,
+    seconds: u32,
+    micros: u32,
+    out: *mut u8,
+    room: usize,
+) -> Reply {
+    if room < ROOM {
+        return Reply::refused(2);
+    }
+    if micros > 999_999 {
+        return Reply::refused(8);
+    }
+    let now = instant(seconds, micros);
+    if now < s.clock {
+        return Reply::refused(3);
+    }
+    let mut out = Output::new(out);
+    s.tick(now, &mut out);
+    Reply::good(0, out.written())
+}
+
+#[panic_handler]
+fn panic(_: &core::panic::PanicInfo) -> ! {
+    loop {}
+}
+
+#[no_mangle]
+pub extern "C" fn rust_eh_personality() {}
