@@ -4,6 +4,10 @@
 
 use std::collections::{BTreeMap, BTreeSet};
 
+/// Whether branches are counted. They are not where this program's engine is measured: what only
+/// serves the table is left out there. No rule depends on it.
+pub const COUNTED: bool = !cfg!(feature = "uncounted");
+
 pub const FULL_BY_20: [&str; 4] = [
     "Splice e 114 by 20, connection 0",
     "Splice e 114 by 20, connection 1",
@@ -263,13 +267,20 @@ pub fn floors() -> Vec<(&'static str, u64)> {
 impl Counts {
     pub fn new() -> Counts {
         Counts {
-            hits: floors().into_iter().map(|(name, _)| (name, 0)).collect(),
+            hits: if COUNTED {
+                floors().into_iter().map(|(name, _)| (name, 0)).collect()
+            } else {
+                BTreeMap::new()
+            },
             accepted: BTreeSet::new(),
         }
     }
 
     /// One more for this branch. A name outside the table is a mistake in this program.
     pub fn hit(&mut self, branch: &'static str) {
+        if !COUNTED {
+            return;
+        }
         let place = self.hits.get_mut(branch);
         *place.unwrap_or_else(|| panic!("branch not in the table: {branch}")) += 1;
     }

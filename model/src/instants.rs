@@ -1,6 +1,6 @@
 //! Starts, ends and followers: 01's "Instants" and what follows it.
 
-use crate::counts;
+use crate::counts::{self, COUNTED};
 use crate::faults::Fault;
 use crate::records::{Record, What};
 use crate::rules::{Session, Splicer, State, MICROSECOND, TICK};
@@ -72,12 +72,11 @@ impl Splicer {
             self.end(session, time, out);
         }
         let covered = |s: &&Session| s.state == State::Covered;
-        let highest = self
-            .sessions
-            .iter()
-            .filter(covered)
-            .max_by_key(|s| s.access);
-        let skipped = highest.is_some_and(ends_now);
+        let highest = || {
+            let all = self.sessions.iter();
+            all.filter(covered).max_by_key(|s| s.access)
+        };
+        let skipped = COUNTED && highest().is_some_and(ends_now);
         self.sessions.retain(|s| !ends_now(s));
         // "the highest covered session not ending at that instant is on air again"
         if self.on_air_again(time) && skipped {
@@ -152,7 +151,7 @@ impl Splicer {
     /// PlayedDuration 0, and go on air. Otherwise it fails: SpliceComplete flag 0, result 109,
     /// PlayedDuration 0, and its waiting followers end."
     fn start(&mut self, session: &Session, time: u64, out: &mut Vec<Record>) {
-        if self.on_air().is_some_and(|s| s.since == time) {
+        if COUNTED && self.on_air().is_some_and(|s| s.since == time) {
             self.hit("start against one on air again at the same instant");
         }
         if !self.may_start(session) {
@@ -176,9 +175,11 @@ impl Splicer {
             }
         }
         self.complete(session, 100, 0, 0, out);
-        let started = |s: &&Session| s.state != State::Waiting;
-        let depth = self.sessions.iter().filter(started).count();
-        self.hit(counts::DEPTH[depth.clamp(1, 10) - 1]);
+        if COUNTED {
+            let started = |s: &&Session| s.state != State::Waiting;
+            let depth = self.sessions.iter().filter(started).count();
+            self.hit(counts::DEPTH[depth.clamp(1, 10) - 1]);
+        }
     }
 
     fn may_start(&mut self, session: &Session) -> bool {
@@ -289,7 +290,7 @@ impl Splicer {
     /// then the session's end and after it its followers' ends".
     pub fn abort(&mut self, conn: u8, id: u32, out: &mut Vec<Record>) {
         let Some(session) = self.held(conn, id).cloned() else {
-            let elsewhere = self.sessions.iter().any(|s| s.id == id);
+            let elsewhere = COUNTED && self.sessions.iter().any(|s| s.id == id);
             let branch = [
                 "Abort 121 not held",
                 "Abort 121 held by another connection only",
@@ -385,6 +386,9 @@ impl Splicer {
     /// The number of the aborted session is also the PriorSession of a started one, which has
     /// waiting followers of its own: they must not end.
     fn count_reused(&mut self, session: &Session) {
+        if !COUNTED {
+            return;
+        }
         let named = |s: &&Session| {
             s.state != State::Waiting && s.conn == session.conn && s.prior == session.id
         };
@@ -395,6 +399,9 @@ impl Splicer {
     }
 
     fn count_tick(&mut self, until: u64) {
+        if !COUNTED {
+            return;
+        }
         if until == self.clock {
             self.hit("tick to the present time");
         }

@@ -5,7 +5,7 @@
 //! `fault` is none in the true program. One of `faults.rs` switches in that deliberate fault, so
 //! that the generator can be shown to notice it.
 
-use crate::counts::Counts;
+use crate::counts::{Counts, COUNTED};
 use crate::faults::Fault;
 use crate::reading::{self, Request, SpliceFields};
 use crate::records::{Record, What};
@@ -235,8 +235,10 @@ impl Splicer {
                 self.general(conn, 123, out);
             }
             Ok(request) => {
-                for branch in reading::kept_boundaries(id, data) {
-                    self.hit(branch);
+                if COUNTED {
+                    for branch in reading::kept_boundaries(id, data) {
+                        self.hit(branch);
+                    }
                 }
                 self.obey(conn, request, out);
             }
@@ -388,7 +390,8 @@ impl Splicer {
             });
             return true;
         }
-        if self.sessions.iter().any(|s| elsewhere(s, fields.id)) {
+        let looked_at = COUNTED || self.faulty(Fault::OthersNumbersHeld);
+        if looked_at && self.sessions.iter().any(|s| elsewhere(s, fields.id)) {
             self.hit("Splice b SessionID held by another connection only");
             if self.faulty(Fault::OthersNumbersHeld) {
                 return true;
@@ -397,7 +400,7 @@ impl Splicer {
         if fields.prior == NONE || self.held(conn, fields.prior).is_some() {
             return false;
         }
-        if self.sessions.iter().any(|s| elsewhere(s, fields.prior)) {
+        if COUNTED && self.sessions.iter().any(|s| elsewhere(s, fields.prior)) {
             self.hit("Splice b 121 PriorSession held by another connection only");
         } else {
             self.hit("Splice b 121 PriorSession not held");
@@ -494,7 +497,8 @@ impl Splicer {
             own >= most || (own >= least && sum >= 64)
         };
         self.count_queue(conn, own, sum, full);
-        if full
+        if COUNTED
+            && full
             && self
                 .sessions
                 .iter()
@@ -545,12 +549,6 @@ impl Splicer {
     fn accept(&mut self, conn: u8, fields: &SpliceFields, out: &mut Vec<Record>) {
         let start = self.start_of(conn, fields);
         self.count_accepted(conn, fields, start);
-        let same = |s: &&Session| s.state == State::Waiting && s.start == start;
-        if let Some(other) = self.sessions.iter().find(same) {
-            let branches = ["Splice f evicts another's", "Splice f evicts its own"];
-            let own = other.conn == conn;
-            self.hit(branches[own as usize]);
-        }
         self.evict(start, out);
         self.sessions.push(Session {
             conn,
@@ -567,7 +565,16 @@ impl Splicer {
     }
 
     fn count_accepted(&mut self, conn: u8, fields: &SpliceFields, start: u64) {
+        if !COUNTED {
+            return;
+        }
         self.counts.accepted(conn, fields.id);
+        let same = |s: &&Session| s.state == State::Waiting && s.start == start;
+        if let Some(other) = self.sessions.iter().find(same) {
+            let branches = ["Splice f evicts another's", "Splice f evicts its own"];
+            let own = other.conn == conn;
+            self.hit(branches[own as usize]);
+        }
         let prior = self.held(conn, fields.prior).map(|s| s.state);
         self.hit(match prior {
             None => "Splice f 100 timed",
