@@ -766,6 +766,15 @@ pub unsafe extern "C" fn unordered_tick(
     Reply::good(0, out.written())
 }
 
+/// How many sessions of each connection wait: it keeps no counts, so this is a scan too.
+#[no_mangle]
+pub extern "C" fn unordered_waiting(s: &Splicer, counts: &mut [u64; CONNECTIONS]) {
+    *counts = [0; CONNECTIONS];
+    for &owner in &s.owners[..s.waits] {
+        counts[usize::from(owner)] += 1;
+    }
+}
+
 #[panic_handler]
 fn panic(_: &core::panic::PanicInfo) -> ! {
     loop {}

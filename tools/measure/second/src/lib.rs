@@ -131,3 +131,9 @@ pub unsafe extern "C" fn second_tick(
         Err(number) => Reply::refusal(number),
     }
 }
+
+/// How many sessions of each connection wait, counted in its list.
+#[no_mangle]
+pub extern "C" fn second_waiting(s: &Box<Engine>, counts: &mut [u64; 4]) {
+    *counts = s.0.waiting_counts().map(|n| n as u64);
+}
