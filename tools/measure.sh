@@ -1,20 +1,21 @@
 #!/bin/sh
-# measure.sh [counts|stack|frames|frames0|size|agree|programs]..: the proved core against two engines of the same rules (tools/measure): inplace.rs, plain Rust
-# as one writes it, and peer.h, tuned C. All parts without a word. Prints tables for docs/MEASURES.md:
+# measure.sh [counts|stack|frames|frames0|size|agree|programs]..: the proved core against other engines of the same rules (tools/measure): inplace.rs,
+# plain Rust as one writes it, and peer.h, tuned C; for agree also unordered.rs, Rust in place without order, and the second program's own
+# engine (second/). All parts without a word. Prints tables for docs/MEASURES.md:
 #   counts  instructions of a call (exact; only a library copy takes some more or less by where its memory lies) and the ratio of times beside them
 #   stack   bytes of stack that a call reached, from the caller's stack pointer down; library functions were bound before
 #   frames  code and frame of each function of the core, by objdump
 #   frames0 frames on three ways of the same module compiled without an optimiser (-O0), and their sums: what a compiler that inlines
 #           nothing needs. Of the sources as they stand (tools/try-archive.sh); no part of what is measured without a word
 #   size    code and state
-#   agree   random calls by all three, compared (RANDOM_CALLS, 300,000 for each of three seeds)
+#   agree   random calls by all five, compared (RANDOM_CALLS, 300,000 for each of three seeds)
 #   programs  instructions of the card program and of the second program, both x86-64, on the same generated streams
-# Before anything is measured, replies, buffers and waiting counts of all three are compared on the call and on all calls that made its state.
+# Before anything is measured, replies, buffers and waiting counts of all five are compared on the call and on all calls that made its state.
 # How the states are made, so that they favour no engine: tools/measure/cases.h.
 # ARCHIVE names another archive than that of `rt staticlib door`, as the unproved one of tools/try-archive.sh.
-# Needs Debian's qemu-user and gcc (once, for the plugin; the kit's own emulator takes no plugin) and a rustc with the library for
-# x86-64 (RUSTC names one; Debian 12: rustc-web and libstd-rust-web-dev:amd64), on Arm gcc-x86-64-linux-gnu too (objdump, and the linker
-# for programs); programs needs cargo. `sh tools/setup.sh x86` installs them. No part of the gate.
+# Needs Debian's qemu-user and gcc (once, for the plugin; the kit's own emulator takes no plugin), cargo and a rustc with the library for
+# x86-64 (RUSTC names one; Debian 12: rustc-web and libstd-rust-web-dev:amd64), on Arm gcc-x86-64-linux-gnu too (objdump, objcopy, and the
+# linker for programs). `sh tools/setup.sh x86` installs them. No part of the gate.
 set -eu
 cd "$(dirname "$0")/.."
 work=target/measure
@@ -25,9 +26,11 @@ tools=$own/toolchain
 target=x86_64-unknown-linux-gnu
 core=${ARCHIVE:-target/staticlib/libdoor.a}
 rust=$work/libinplace.a
+unordered=$work/libunordered.a
+second=$work/second/$target/release/libsecond.a
 RT_JOBS=${RT_JOBS:-1}
 export RT_JOBS
-rows=0 calls=2000
+rows=0 calls=2000 second_calls=100
 
 fail() {
     echo "measure.sh: $*" >&2
@@ -50,19 +53,30 @@ find_rustc() {
     fail "no rustc here has the library for $target"
 }
 
-find_objdump() {
-    command -v x86_64-linux-gnu-objdump || command -v objdump || fail "no objdump"
+# binutils NAME: one of them that knows x86-64
+binutils() {
+    command -v "x86_64-linux-gnu-$1" || command -v "$1" || fail "no $1"
+}
+
+# in_place NAME: an engine in place, an archive without libraries that has its own panic handler. That stays its own, so that two of them
+# and the second program, which has the standard library's, can be linked together.
+in_place() {
+    quiet "$rustc" --edition 2021 --crate-type staticlib --crate-name "$1" -C opt-level=3 -C panic=abort --target $target \
+        -D warnings -o "$work/lib$1.a" "tools/measure/$1.rs"
+    quiet "$objcopy" --wildcard --localize-symbol='*rust_begin_unwind' --localize-symbol=rust_eh_personality "$work/lib$1.a"
 }
 
 build() {
     if [ -z "${ARCHIVE:-}" ]; then
         quiet rt staticlib door
     fi
-    quiet "$rustc" --edition 2021 --crate-type staticlib --crate-name inplace -C opt-level=3 -C panic=abort --target $target \
-        -o "$rust" tools/measure/inplace.rs
+    in_place inplace
+    in_place unordered
+    quiet env RUSTC="$rustc" CARGO_TARGET_DIR="$work/second" cargo build --release --offline --target $target \
+        --manifest-path tools/measure/second/Cargo.toml
     quiet "$tools/bin/clang" --target=$target -march=x86-64 -std=c11 -Wall -Wextra -Werror -O3 -fPIC -DSPLICER_NO_STANDARD_HEADERS \
         -Iinclude -Itools/measure -c tools/measure/bench.c -o "$work/bench.o"
-    quiet "$own/bin/rattle-link" --target $target --toolchain "$tools" -o "$work/bench" "$work/bench.o" "$core" "$rust"
+    quiet "$own/bin/rattle-link" --target $target --toolchain "$tools" -o "$work/bench" "$work/bench.o" "$core" "$rust" "$unordered" "$second"
     quiet gcc -O2 -shared -fPIC tools/measure/insns.c -o "$work/insns.so"
 }
 
@@ -87,7 +101,7 @@ bench() {
     sh tools/run-program.sh "$work/bench" "$@"
 }
 
-# agreed CASE N: stops if the three differ
+# agreed CASE N: stops if the five differ
 agreed() {
     bench agree "$1" "$2" >"$work/said" || fail "$(cat "$work/said")"
     rows=$((rows + 1))
@@ -101,10 +115,12 @@ counted() {
 
 # call CASE N WHO: instructions of the case's call; the restored state and the bench's own way to a call taken off
 call() {
-    with=$(counted "$1" "$2" "$3" $calls 1)
-    without=$(counted "$1" "$2" "$3" $calls 0)
+    times_called=$calls
+    [ "$3" != second ] || times_called=$second_calls
+    with=$(counted "$1" "$2" "$3" $times_called 1)
+    without=$(counted "$1" "$2" "$3" $times_called 0)
     [ -n "$with" ] && [ -n "$without" ] || fail "no count for $1 $2 $3"
-    echo $(((with - without + calls / 2) / calls))
+    echo $(((with - without + times_called / 2) / times_called))
 }
 
 ratio() {
@@ -117,7 +133,7 @@ row() {
     a=$(call "$2" "$3" core)
     b=$(call "$2" "$3" rust)
     c=$(call "$2" "$3" c)
-    bench time "$2" "$3" >"$work/times"
+    bench time "$2" "$3" core rust c >"$work/times"
     read -r ta tb tc <"$work/times"
     echo "| $1 | $a | $b | $c | $(ratio "$a" "$b") | $(ratio "$a" "$c") | $(ratio "$ta" "$tb") | $ta : $tb : $tc |"
 }
@@ -252,7 +268,7 @@ size() {
 agree() {
     for seed in 1 2 3; do
         bench random $seed "${RANDOM_CALLS:-300000}" >"$work/said" || fail "$(cat "$work/said")"
-        echo "seed $seed, ${RANDOM_CALLS:-300000} random calls: the three agree. $(tr '\n' ' ' <"$work/said")"
+        echo "seed $seed, ${RANDOM_CALLS:-300000} random calls: the five agree. $(tr '\n' ' ' <"$work/said")"
     done
 }
 
@@ -280,14 +296,14 @@ programs() {
     quiet env RUSTC="$rustc" CARGO_TARGET_DIR="$work/model" CARGO_TARGET_X86_64_UNKNOWN_LINUX_GNU_LINKER=$linker \
         cargo build --release --offline --target $target --manifest-path model/Cargo.toml
     quiet rt check card
-    second=$work/model/$target/release/model
+    program=$work/model/$target/release/model
     rm -rf "$work/streams"
     mkdir -p "$work/streams"
-    quiet qemu-x86_64 "$second" gen --seed 9 --n 20 --out "$work/streams"
-    made=$(qemu-x86_64 "$second" fuzz --seed 9 --n 20 --floors off | grep -oE '[0-9,]+ calls' | head -n 1 | tr -d ', a-z')
+    quiet qemu-x86_64 "$program" gen --seed 9 --n 20 --out "$work/streams"
+    made=$(qemu-x86_64 "$program" fuzz --seed 9 --n 20 --floors off | grep -oE '[0-9,]+ calls' | head -n 1 | tr -d ', a-z')
     [ -n "$made" ] || fail "no count of calls"
     a=$(streamed "$tools/lib/ld-linux-x86-64.so.2" --library-path "$tools/lib" target/bin/card)
-    b=$(streamed "$second" card)
+    b=$(streamed "$program" card)
     echo '| 20 streams of seed 9 | Instructions | A call |'
     echo '|---|---|---|'
     echo "| card program | $a | $((a / made)) |"
@@ -297,7 +313,8 @@ programs() {
 }
 
 rustc=$(find_rustc)
-objdump=$(find_objdump)
+objdump=$(binutils objdump)
+objcopy=$(binutils objcopy)
 build
 versions
 [ $# -gt 0 ] || set -- counts stack frames size agree programs
@@ -309,4 +326,4 @@ for part; do
     esac
 done
 echo
-[ $rows -eq 0 ] || echo "$rows cases, replies, buffers and waiting counts of all three equal in each"
+[ $rows -eq 0 ] || echo "$rows cases, replies, buffers and waiting counts of all five equal in each"

@@ -1,11 +1,12 @@
-/* bench agree CASE N: says whether replies, buffers and waiting counts of the three engines are equal over a case of cases.h and all calls
- *   that led to it.
- * bench count CASE N WHO CALLS DO: restores the state and, if DO is 1, makes the call, CALLS times, by core, rust or c. The
+/* WHO is core, rust, c, unordered or second.
+ * bench agree CASE N: says whether replies, buffers and waiting counts of all engines are equal over a case of cases.h and all calls that
+ *   led to it.
+ * bench count CASE N WHO CALLS DO: restores the state and, if DO is 1, makes the call, CALLS times, by WHO. The
  *   difference of DO 1 and 0 in instructions is the call's own.
- * bench time CASE N: nanoseconds of a call by core, rust and c: blocks in turns, least times, the restoring taken off.
+ * bench time CASE N WHO..: nanoseconds of a call by each of them: blocks in turns, least times, the restoring taken off.
  * bench stack CASE N: bytes of stack that the call of core, rust and c reached.
- * bench random SEED CALLS: random calls by all three, compared.
- * bench size: bytes of the three states. */
+ * bench random SEED CALLS: random calls by all, compared.
+ * bench size: bytes of the states of core, rust and c. */
 int printf(const char *format, ...);
 int atoi(const char *s);
 #include "cases.h"
@@ -16,7 +17,7 @@ struct moment {
 };
 int clock_gettime(int clock, struct moment *at);
 
-enum { BLOCK = 2000, ROUNDS = 60, PAINTED = 65536, MONOTONIC = 1 };
+enum { BLOCK = 2000, SECOND_BLOCK = 100, ROUNDS = 60, PAINTED = 65536, MONOTONIC = 1 };
 
 INLINE void repeat(const struct call *c, enum who who, int calls) {
     uint64_t reply[SPLICER_REPLY];
@@ -26,6 +27,10 @@ INLINE void repeat(const struct call *c, enum who who, int calls) {
             by_core(reply, c);
         } else if (who == RUST) {
             by_rust(c);
+        } else if (who == UNORDERED) {
+            by_unordered(c);
+        } else if (who == MODEL) {
+            by_second(c);
         } else {
             by_peer(c);
         }
@@ -36,26 +41,45 @@ INLINE void repeat(const struct call *c, enum who who, int calls) {
 APART void repeat_core(const struct call *c, int calls) { repeat(c, CORE, calls); }
 APART void repeat_rust(const struct call *c, int calls) { repeat(c, RUST, calls); }
 APART void repeat_peer(const struct call *c, int calls) { repeat(c, PLAIN_C, calls); }
-static void (*const repeats[ENGINES])(const struct call *c, int calls) = {repeat_core, repeat_rust, repeat_peer};
+APART void repeat_unordered(const struct call *c, int calls) { repeat(c, UNORDERED, calls); }
+APART void repeat_second(const struct call *c, int calls) { repeat(c, MODEL, calls); }
+static void (*const repeats[ENGINES])(const struct call *c, int calls) = {repeat_core, repeat_rust, repeat_peer, repeat_unordered,
+                                                                         repeat_second};
 
 static double block(const struct call *c, int who) {
     struct moment from, to;
+    int calls = who == MODEL ? SECOND_BLOCK : BLOCK;
     clock_gettime(MONOTONIC, &from);
-    repeats[who](c, BLOCK);
+    repeats[who](c, calls);
     clock_gettime(MONOTONIC, &to);
-    return ((double)(to.seconds - from.seconds) * 1e9 + (double)(to.nanoseconds - from.nanoseconds)) / BLOCK;
+    return ((double)(to.seconds - from.seconds) * 1e9 + (double)(to.nanoseconds - from.nanoseconds)) / calls;
 }
 
-static void say_times(const struct call *c) {
+static int engine_of(const char *name) {
+    int who = CORE;
+    while (who < ENGINES && strcmp(name, names[who]) != 0) {
+        who++;
+    }
+    return who;
+}
+
+static void say_times(const struct call *c, int n, char **asked) {
     const struct call none = plain(NOTHING, 0, 0), *calls[2] = {&none, c};
-    double least[ENGINES][2] = {{1e9, 1e9}, {1e9, 1e9}, {1e9, 1e9}};
+    double least[ENGINES][2];
+    for (int i = 0; i < 2 * ENGINES; i++) {
+        least[i / 2][i % 2] = 1e9;
+    }
     for (int round = 0; round < ROUNDS; round++) {
-        for (int i = 0; i < 2 * ENGINES; i++) {
-            double t = block(calls[i % 2], i / 2), *l = &least[i / 2][i % 2];
+        for (int i = 0; i < 2 * n; i++) {
+            int who = engine_of(asked[i / 2]);
+            double t = block(calls[i % 2], who), *l = &least[who][i % 2];
             *l = t < *l ? t : *l;
         }
     }
-    printf("%.0f %.0f %.0f\n", least[CORE][1] - least[CORE][0], least[RUST][1] - least[RUST][0], least[PLAIN_C][1] - least[PLAIN_C][0]);
+    for (int i = 0; i < n; i++) {
+        const double *l = least[engine_of(asked[i])];
+        printf("%.0f%c", l[1] - l[0], i + 1 < n ? ' ' : '\n');
+    }
 }
 
 /* fills the stack below this frame; returns its end */
@@ -98,20 +122,22 @@ APART size_t peer_stack(const struct call *c, uint8_t colour) {
 
 /* two colours, since a call may write one of them */
 static void say_stack(const struct call *c) {
-    static size_t (*const stacks[ENGINES])(const struct call *c, uint8_t colour) = {core_stack, rust_stack, peer_stack};
-    for (int who = 0; who < ENGINES; who++) {
+    enum { SHOWN = 3 };
+    static size_t (*const stacks[SHOWN])(const struct call *c, uint8_t colour) = {core_stack, rust_stack, peer_stack};
+    for (int who = 0; who < SHOWN; who++) {
         restore((enum who)who);
         size_t a = stacks[who](c, 0xA5);
         restore((enum who)who);
         size_t b = stacks[who](c, 0x5A);
-        printf("%zu%c", a > b ? a : b, who + 1 < ENGINES ? ' ' : '\n');
+        printf("%zu%c", a > b ? a : b, who + 1 < SHOWN ? ' ' : '\n');
     }
 }
 
 static int say_agreement(const char *name, const char *n, size_t written) {
     uint32_t result = written ? splicer_u16(outs[CORE] + 6) : 0;
-    printf("%s %s: %zu bytes, first result %u, %s%s\n", name, n, written, result, differ ? "the engines DIFFER" : "all agree",
+    printf("%s %s: %zu bytes, first result %u, %s%s", name, n, written, result, differ ? "the engines DIFFER:" : "all agree",
            wrong ? ", the state is NOT as meant" : "");
+    say_unlike();
     return differ || wrong;
 }
 
@@ -123,21 +149,28 @@ static int take(int argc, char **argv) {
     if (differ || wrong || strcmp(argv[1], "agree") == 0) {
         return say_agreement(argv[2], argv[3], written);
     }
+    for (int i = 4; i < (strcmp(argv[1], "count") == 0 ? 5 : argc); i++) {
+        if (engine_of(argv[i]) == ENGINES) {
+            return 2;
+        }
+    }
     if (strcmp(argv[1], "time") == 0) {
-        say_times(&c);
+        say_times(&c, argc - 4 < ENGINES ? argc - 4 : ENGINES, argv + 4);
     } else if (strcmp(argv[1], "stack") == 0) {
         say_stack(&c);
     } else if (argc == 7) {
-        int who = strcmp(argv[4], "core") == 0 ? CORE : strcmp(argv[4], "rust") == 0 ? RUST : PLAIN_C;
-        repeats[who](atoi(argv[6]) ? &c : &none, atoi(argv[5]));
+        repeats[engine_of(argv[4])](atoi(argv[6]) ? &c : &none, atoi(argv[5]));
     }
     return 0;
 }
 
 int main(int argc, char **argv) {
+    if (inplace_size() > sizeof rust || unordered_size() > sizeof unordered || second_size() > sizeof second) {
+        return 3;
+    }
     if (argc == 2 && strcmp(argv[1], "size") == 0) {
         printf("%zu %zu %zu\n", sizeof core, inplace_size(), sizeof peer);
-        return inplace_size() > sizeof rust;
+        return 0;
     }
     if (argc == 4 && strcmp(argv[1], "random") == 0) {
         return random_run((uint32_t)atoi(argv[2]), (uint32_t)atoi(argv[3]));

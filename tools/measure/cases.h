@@ -1,4 +1,4 @@
-/* The states that are measured, each made by calls that all three engines take, and the call that is measured on it.
+/* The states that are measured, each made by calls that all engines take, and the call that is measured on it.
  *
  * All start at 1,000 s with the four connections initialised. So that the waiting sessions favour no engine, they are accepted in a mixed
  * order (every 11th place, round and round), and along their starts connections 0 to 3, AccessTypes 0 to 9 and OverridePlaying 0 and 1 take

@@ -1,21 +1,33 @@
-/* The three engines behind one form of call: the proved core through its C door, the engine in plain Rust (inplace.rs), the tuned one in
- * plain C (peer.h). */
+/* The engines behind one form of call: the proved core through its C door; two in place in plain Rust, with its waiting sessions by start
+ * (inplace.rs) and without order (unordered.rs); the second program's own (second/); a tuned one in plain C (peer.h). All but the last are
+ * called by their C names, each state begins at a multiple of 64. */
 #include "peer.h"
 
 int memcmp(const void *a, const void *b, size_t n);
 void *memset(void *to, int byte, size_t n);
 
-size_t inplace_size(void);
-struct splicer_reply inplace_fresh(void *s, const uint8_t *name);
-struct splicer_reply inplace_open(void *s, uint32_t conn);
-struct splicer_reply inplace_close(void *s, uint32_t conn, uint8_t *out, size_t room);
-struct splicer_reply inplace_message(void *s, uint32_t conn, const uint8_t *in, size_t length, uint8_t *out, size_t room);
-struct splicer_reply inplace_tick(void *s, uint32_t seconds, uint32_t micros, uint8_t *out, size_t room);
-void inplace_waiting(const void *s, uint64_t *counts);
+/* the C names of an engine in Rust */
+#define NAMED(engine)                                                                                                                     \
+    size_t engine##_size(void);                                                                                                           \
+    struct splicer_reply engine##_fresh(void *s, const uint8_t *name);                                                                    \
+    struct splicer_reply engine##_open(void *s, uint32_t conn);                                                                           \
+    struct splicer_reply engine##_close(void *s, uint32_t conn, uint8_t *out, size_t room);                                               \
+    struct splicer_reply engine##_message(void *s, uint32_t conn, const uint8_t *in, size_t length, uint8_t *out, size_t room);           \
+    struct splicer_reply engine##_tick(void *s, uint32_t seconds, uint32_t micros, uint8_t *out, size_t room);                            \
+    void engine##_waiting(const void *s, uint64_t *counts)
+
+NAMED(inplace);
+NAMED(unordered);
+NAMED(second);
+/* its state holds a list elsewhere, so it copies itself */
+void second_keep(void *base, const void *s);
+void second_restore(void *s, const void *base);
 
 enum kind { NOTHING, FRESH, OPEN, CLOSE, MESSAGE, TICK, WAITING };
-enum who { CORE, RUST, PLAIN_C, ENGINES };
+enum who { CORE, RUST, PLAIN_C, UNORDERED, MODEL, ENGINES };
 enum { BUFFER = 4200, RUST_WORDS = 1024, GOOD_ROOM = 4096 };
+
+static const char *const names[ENGINES] = {"core", "rust", "c", "unordered", "second"};
 
 /* one call, whoever takes it; in: the message, or the name for fresh */
 struct call {
@@ -25,9 +37,17 @@ struct call {
     uint8_t in[BUFFER];
 };
 
-static struct splicer core, core_base;
-static uint64_t rust[RUST_WORDS], rust_base[RUST_WORDS];
-static struct peer peer, peer_base;
+#define STATE static _Alignas(64)
+STATE struct splicer core;
+STATE struct splicer core_base;
+STATE uint64_t rust[RUST_WORDS];
+STATE uint64_t rust_base[RUST_WORDS];
+STATE struct peer peer;
+STATE struct peer peer_base;
+STATE uint64_t unordered[RUST_WORDS];
+STATE uint64_t unordered_base[RUST_WORDS];
+STATE uint64_t second[1];
+STATE uint64_t second_base[1];
 static uint8_t outs[ENGINES][BUFFER];
 /* what the read of the waiting counts gave; its reply is that of no call */
 static uint64_t counts[ENGINES][SPLICER_CONNECTIONS];
@@ -35,7 +55,7 @@ static uint64_t counts[ENGINES][SPLICER_CONNECTIONS];
 #define INLINE static inline __attribute__((always_inline))
 #define APART __attribute__((noinline)) static
 
-/* the reply goes to lent words; the other two return theirs, through memory as well */
+/* the reply goes to lent words; the others return theirs, through memory as well */
 INLINE void core_call(uint64_t *reply, const struct call *c) {
     switch (c->kind) {
     case FRESH: splicer_3_fresh(c->in, core.words, core.bytes, reply); break;
@@ -48,17 +68,22 @@ INLINE void core_call(uint64_t *reply, const struct call *c) {
     }
 }
 
-INLINE struct splicer_reply rust_call(const struct call *c) {
-    switch (c->kind) {
-    case FRESH: return inplace_fresh(rust, c->in);
-    case OPEN: return inplace_open(rust, c->conn);
-    case CLOSE: return inplace_close(rust, c->conn, outs[RUST], c->room);
-    case MESSAGE: return inplace_message(rust, c->conn, c->in, c->length, outs[RUST], c->room);
-    case TICK: return inplace_tick(rust, c->seconds, c->micros, outs[RUST], c->room);
-    case WAITING: inplace_waiting(rust, counts[RUST]); /* fall through: no reply */
-    default: return (struct splicer_reply){0, 0, 0};
+#define BY_NAME(function, engine, state, who)                                                                                             \
+    INLINE struct splicer_reply function(const struct call *c) {                                                                          \
+        switch (c->kind) {                                                                                                                \
+        case FRESH: return engine##_fresh(state, c->in);                                                                                  \
+        case OPEN: return engine##_open(state, c->conn);                                                                                  \
+        case CLOSE: return engine##_close(state, c->conn, outs[who], c->room);                                                            \
+        case MESSAGE: return engine##_message(state, c->conn, c->in, c->length, outs[who], c->room);                                      \
+        case TICK: return engine##_tick(state, c->seconds, c->micros, outs[who], c->room);                                                \
+        case WAITING: engine##_waiting(state, counts[who]); /* fall through: no reply */                                                  \
+        default: return (struct splicer_reply){0, 0, 0};                                                                                  \
+        }                                                                                                                                 \
     }
-}
+
+BY_NAME(rust_call, inplace, rust, RUST)
+BY_NAME(unordered_call, unordered, unordered, UNORDERED)
+BY_NAME(second_call, second, second, MODEL)
 
 /* peer.h has neither fresh nor open: these only make the state, and their figures say nothing */
 APART struct splicer_reply peer_fresh(const uint8_t *name) {
@@ -97,29 +122,37 @@ INLINE struct splicer_reply peer_call(const struct call *c) {
 APART void by_core(uint64_t *reply, const struct call *c) { core_call(reply, c); }
 APART struct splicer_reply by_rust(const struct call *c) { return rust_call(c); }
 APART struct splicer_reply by_peer(const struct call *c) { return peer_call(c); }
+APART struct splicer_reply by_unordered(const struct call *c) { return unordered_call(c); }
+APART struct splicer_reply by_second(const struct call *c) { return second_call(c); }
 
 static void keep_states(void) {
     core_base = core;
     memcpy(rust_base, rust, inplace_size());
     peer_base = peer;
+    memcpy(unordered_base, unordered, unordered_size());
+    second_keep(second_base, second);
 }
 
 INLINE void restore(enum who who) {
     switch (who) {
     case CORE: core = core_base; break;
     case RUST: memcpy(rust, rust_base, inplace_size()); break;
+    case UNORDERED: memcpy(unordered, unordered_base, unordered_size()); break;
+    case MODEL: second_restore(second, second_base); break;
     default: peer = peer_base; break;
     }
     __asm__ volatile("" ::: "memory");
 }
 
+/* differ: a bit for each engine that is unlike the core */
 static int differ, wrong;
 
-static int unlike(struct splicer_reply a, struct splicer_reply b) {
-    return a.refused != b.refused || a.consumed != b.consumed || a.written != b.written;
+static void compare(enum who who, struct splicer_reply a, struct splicer_reply b) {
+    int unlike = a.refused != b.refused || a.consumed != b.consumed || a.written != b.written;
+    differ |= (unlike || memcmp(outs[CORE], outs[who], BUFFER)) << who;
 }
 
-/* the waiting counts by all three, from words that are not alike */
+/* the waiting counts by all, from words that are not alike */
 static void compare_counts(void) {
     static const struct call read = {.kind = WAITING};
     uint64_t reply[SPLICER_REPLY];
@@ -129,21 +162,25 @@ static void compare_counts(void) {
     by_core(reply, &read);
     by_rust(&read);
     by_peer(&read);
+    by_unordered(&read);
+    by_second(&read);
     for (int i = 1; i < ENGINES; i++) {
-        differ |= memcmp(counts[CORE], counts[i], sizeof counts[i]) != 0;
+        differ |= (memcmp(counts[CORE], counts[i], sizeof counts[i]) != 0) << i;
     }
 }
 
-/* the call by all three from buffers that are alike; replies and whole buffers are compared, and the waiting counts after it */
+/* the call by all from buffers that are alike; replies and whole buffers are compared, and the waiting counts after it */
 static struct splicer_reply all(const struct call *c) {
     for (int i = 0; i < ENGINES; i++) {
         memset(outs[i], 0xEE, BUFFER);
     }
     uint64_t reply[SPLICER_REPLY] = {99, 99, 99};
     by_core(reply, c);
-    struct splicer_reply a = splicer_reply_of(reply), b = by_rust(c), d = by_peer(c);
-    differ |= unlike(a, b) || memcmp(outs[CORE], outs[RUST], BUFFER);
-    differ |= unlike(a, d) || memcmp(outs[CORE], outs[PLAIN_C], BUFFER);
+    struct splicer_reply a = splicer_reply_of(reply);
+    compare(RUST, a, by_rust(c));
+    compare(PLAIN_C, a, by_peer(c));
+    compare(UNORDERED, a, by_unordered(c));
+    compare(MODEL, a, by_second(c));
     compare_counts();
     return a;
 }

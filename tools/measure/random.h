@@ -1,4 +1,4 @@
-/* Random calls, good and bad, that all three engines take in turn. Times and SessionIDs are few, so that starts meet, chains
+/* Random calls, good and bad, that all engines take in turn. Times and SessionIDs are few, so that starts meet, chains
  * grow and queues fill. */
 static uint64_t seed;
 
@@ -113,6 +113,16 @@ static struct call any_call(void) {
 
 static uint32_t refusals[10], results[200];
 
+/* the engines that are unlike the core */
+static void say_unlike(void) {
+    for (int who = 0; who < ENGINES; who++) {
+        if (differ >> who & 1) {
+            printf(" %s", names[who]);
+        }
+    }
+    printf("\n");
+}
+
 static void tally(struct splicer_reply r) {
     struct splicer_record record;
     size_t at = 0;
@@ -159,7 +169,8 @@ static int random_run(uint32_t from, uint32_t calls) {
         tally(r);
         clock_now = r.refused && c.kind != FRESH ? clock_now : c.kind == TICK ? c.seconds : c.kind == FRESH ? 0 : clock_now;
         if (differ) {
-            printf("call %u of seed %u DIFFERS: kind %d\n", i, from, c.kind);
+            printf("call %u of seed %u DIFFERS: kind %d", i, from, c.kind);
+            say_unlike();
         }
     }
     say_tally();
