@@ -1,8 +1,9 @@
 #!/bin/sh
-# measure.sh [counts|stack|frames|frames0|size|agree|programs]..: the proved core against other engines of the same rules (tools/measure): inplace.rs,
-# plain Rust as one writes it, and peer.h, tuned C; for agree also unordered.rs, Rust in place without order, and the second program's own
+# measure.sh [counts|ticks|stack|frames|frames0|size|agree|programs]..: the proved core against other engines of the same rules (tools/measure): inplace.rs,
+# plain Rust as one writes it, and peer.h, tuned C; for ticks also unordered.rs, Rust in place without order, and the second program's own
 # engine (second/). All parts without a word. Prints tables for docs/MEASURES.md:
 #   counts  instructions of a call (exact; only a library copy takes some more or less by where its memory lies) and the ratio of times beside them
+#   ticks   the same of ticks and of accepted requests, with 0, 10 and 64 waiting, by all five
 #   stack   bytes of stack that a call reached, from the caller's stack pointer down; library functions were bound before
 #   frames  code and frame of each function of the core, by objdump
 #   frames0 frames on three ways of the same module compiled without an optimiser (-O0), and their sums: what a compiler that inlines
@@ -157,6 +158,55 @@ counts() {
     row 'Alive_Request' alive 0
     row 'read of the waiting counts, 0 waiting' read 0
     row 'read of the waiting counts, 64 waiting' read 64
+}
+
+# row_of_five TITLE CASE N
+row_of_five() {
+    agreed "$2" "$3"
+    a=$(call "$2" "$3" core)
+    b=$(call "$2" "$3" rust)
+    c=$(call "$2" "$3" unordered)
+    d=$(call "$2" "$3" second)
+    e=$(call "$2" "$3" c)
+    bench time "$2" "$3" core rust unordered second c >"$work/times"
+    read -r ta tb tc td te <"$work/times"
+    echo "| $1 | $a | $b | $c | $d | $e | $(ratio "$a" "$b") | $(ratio "$a" "$c") | $(ratio "$a" "$d") | $(ratio "$a" "$e") | $(ratio "$ta" "$tc") | $ta : $tb : $tc : $td : $te |"
+}
+
+ticks() {
+    echo "| Call | Core | Rust, ordered | Rust, unordered | Second | C | Core/ordered | Core/unordered | Core/second | Core/C | Core/unordered, time ($times) | ns ($times), core : ordered : unordered : second : C |"
+    echo '|---|---|---|---|---|---|---|---|---|---|---|---|'
+    row_of_five 'tick, idle, nothing on air, 0 waiting' idle 0
+    row_of_five 'tick, idle, nothing on air, 10 waiting' idle 10
+    row_of_five 'tick, idle, nothing on air, 64 waiting' idle 64
+    row_of_five 'tick, idle, 1 on air, 0 waiting' airidle 0
+    row_of_five 'tick, idle, 1 on air, 10 waiting' airidle 10
+    row_of_five 'tick, idle, 1 on air, 64 waiting' airidle 64
+    row_of_five 'tick, a start, 1 waiting' start 1
+    row_of_five 'tick, a start, 10 waiting' start 10
+    row_of_five 'tick, a start, 64 waiting' start 64
+    row_of_five 'tick, an end, 0 waiting' end 0
+    row_of_five 'tick, an end, 10 waiting' end 10
+    row_of_five 'tick, an end, 64 waiting' end 64
+    row_of_five 'tick, an end and a start, 1 waiting' busy 1
+    row_of_five 'tick, an end and a start, 10 waiting' busy 10
+    row_of_five 'tick, an end and a start, 64 waiting' busy 64
+    row_of_five 'tick, a start fails, no follower, 1 waiting' clash 1
+    row_of_five 'tick, a start fails, no follower, 10 waiting' clash 10
+    row_of_five 'tick, a start fails, no follower, 64 waiting' clash 64
+    row_of_five 'tick, a start fails, 19 followers, 20 waiting' fail 19
+    row_of_five 'tick, a start fails, 19 followers, 64 waiting' amid 44
+    row_of_five 'tick, 10 starts and 10 ends' play 10
+    row_of_five 'tick, 64 starts and 64 ends' play 64
+    row_of_five 'tick, idle, 10 started, 0 waiting' deepidle 10
+    row_of_five 'tick, the one on air of 10 started ends, 0 waiting' deepend 10
+    row_of_five 'Splice_Request accepted, 0 waiting' splice 0
+    row_of_five 'Splice_Request accepted in front of 10' front 10
+    row_of_five 'Splice_Request accepted in the middle of 10' splice 10
+    row_of_five 'Splice_Request accepted behind 10' behind 10
+    row_of_five 'Splice_Request accepted in front of 63' front 63
+    row_of_five 'Splice_Request accepted in the middle of 63' splice 63
+    row_of_five 'Splice_Request accepted behind 63' behind 63
 }
 
 # deep CALL TITLE CASE N
@@ -317,11 +367,11 @@ objdump=$(binutils objdump)
 objcopy=$(binutils objcopy)
 build
 versions
-[ $# -gt 0 ] || set -- counts stack frames size agree programs
+[ $# -gt 0 ] || set -- counts ticks stack frames size agree programs
 for part; do
     echo
     case $part in
-    counts | stack | frames | frames0 | size | agree | programs) $part ;;
+    counts | ticks | stack | frames | frames0 | size | agree | programs) $part ;;
     *) fail "no part '$part'" ;;
     esac
 done

@@ -2,8 +2,8 @@
  *
  * All start at 1,000 s with the four connections initialised. So that the waiting sessions favour no engine, they are accepted in a mixed
  * order (every 11th place, round and round), and along their starts connections 0 to 3, AccessTypes 0 to 9 and OverridePlaying 0 and 1 take
- * turns; a new request falls in the middle of them. An engine that keeps them by start, by arrival or by connection has none of them
- * where it would be cheapest. */
+ * turns; a new request falls in the middle of them, or, where the case says so, in front of or behind them. An engine that keeps them by
+ * start, by arrival or by connection has none of them where it would be cheapest. */
 #include "engines.h"
 
 int strcmp(const char *a, const char *b);
@@ -94,13 +94,18 @@ static void on_air(uint32_t conn, uint32_t ticks) {
     run(tick(1004));
 }
 
-/* ten started, AccessTypes 0 to 9, nine of them covered; then chains of 20, 20, 14 and `last` wait */
+/* n started, AccessTypes 0 and up, all but the last covered; the last plays `ticks`, the others 4,000 s */
+static void stacked(uint32_t n, uint32_t ticks) {
+    for (uint32_t a = 0; a < n; a++) {
+        accepted(ranked(splice(a % 4, 2000 + a, TIMED, 1003 + a, a + 1 < n ? 4000 * SECOND : ticks), a, 1));
+    }
+    run(tick(1003 + n));
+}
+
+/* ten started, nine of them covered; then chains of 20, 20, 14 and `last` wait */
 static void full(uint32_t last) {
     static const uint32_t counts[3] = {20, 20, 14};
-    for (uint32_t a = 0; a < 10; a++) {
-        accepted(ranked(splice(a % 4, 2000 + a, TIMED, 1003 + a, 4000 * SECOND), a, 1));
-    }
-    run(tick(1013));
+    stacked(10, 4000 * SECOND);
     for (uint32_t c = 0; c < 4; c++) {
         chain(c, 100 * c, c < 3 ? counts[c] : last, TIMED, 1020 + c);
     }
@@ -109,6 +114,37 @@ static void full(uint32_t last) {
 static struct call case_idle(uint32_t n) {
     waiting(n);
     return tick(1001);
+}
+
+/* nothing due, 1000 on air */
+static struct call case_airidle(uint32_t n) {
+    on_air(0, 1000 * SECOND);
+    waiting(n);
+    return tick(1005);
+}
+
+/* nothing on air; of the n that wait the first starts at 1,010 s */
+static struct call case_start(uint32_t n) {
+    waiting(n);
+    return tick(1011);
+}
+
+/* 1000 is on air and ends at 1,008 s, before the first start */
+static struct call case_end(uint32_t n) {
+    on_air(0, 5 * SECOND);
+    waiting(n);
+    return tick(1009);
+}
+
+/* nothing due, n started; and the one on air of them ends */
+static struct call case_deepidle(uint32_t n) {
+    stacked(n, 4000 * SECOND);
+    return tick(1100);
+}
+
+static struct call case_deepend(uint32_t n) {
+    stacked(n, 60 * SECOND);
+    return tick(1100);
 }
 
 /* 1000 is on air and ends at 1,008 s; of the n that wait the first starts at 1,010 s */
@@ -128,6 +164,16 @@ static struct call case_read(uint32_t n) {
 static struct call case_splice(uint32_t n) {
     waiting(n);
     return ranked(splice(3, 1000, TIMED, 1015 + 10 * (n / 2), SECOND), 5, 0);
+}
+
+static struct call case_front(uint32_t n) {
+    waiting(n);
+    return ranked(splice(3, 1000, TIMED, 1005, SECOND), 5, 0);
+}
+
+static struct call case_behind(uint32_t n) {
+    waiting(n);
+    return ranked(splice(3, 1000, TIMED, 1015 + 10 * n, SECOND), 5, 0);
 }
 
 static struct call case_abort(uint32_t n) {
@@ -164,6 +210,26 @@ static struct call case_air(uint32_t n) {
 static struct call case_fail(uint32_t n) {
     on_air(1, 1000 * SECOND);
     chain(0, 0, n + 1, TIMED, 1010);
+    return tick(1011);
+}
+
+/* the first of the n that wait fails, since 1000 is on air; it has no follower */
+static struct call case_clash(uint32_t n) {
+    on_air(0, 1000 * SECOND);
+    waiting(n);
+    return tick(1011);
+}
+
+/* a start that fails and its 19 followers, and among them, by start and by arrival, 44 of the other connections: 64 wait */
+static struct call case_amid(uint32_t n) {
+    on_air(1, 1000 * SECOND);
+    for (uint32_t i = 0; i < n; i++) {
+        uint32_t k = 13 * i % n;
+        if (i % 2 == 0 && i / 2 < 20) {
+            accepted(splice(0, 100 + i / 2, i ? 99 + i / 2 : TIMED, 1010, 10 * SECOND));
+        }
+        accepted(ranked(splice(1 + k % 3, k, TIMED, 1015 + 10 * k, 5 * SECOND), k % 10, k % 2));
+    }
     return tick(1011);
 }
 
@@ -206,7 +272,9 @@ static const struct {
              {"close", case_close},       {"init", case_init},           {"alive", case_alive},         {"fresh", case_fresh},
              {"open", case_open},         {"air", case_air},             {"fail", case_fail},           {"evict", case_evict},
              {"play", case_play},         {"fulltick", case_fulltick},   {"fullclose", case_fullclose}, {"fullabort", case_fullabort},
-             {"fullevict", case_fullevict}, {"read", case_read}};
+             {"fullevict", case_fullevict}, {"airidle", case_airidle},   {"start", case_start},         {"end", case_end},
+             {"front", case_front},       {"behind", case_behind},       {"clash", case_clash},         {"amid", case_amid},
+             {"deepidle", case_deepidle}, {"deepend", case_deepend},     {"read", case_read}};
 
 /* the state of a case, and its call */
 static struct call prepared(const char *name, uint32_t n) {
