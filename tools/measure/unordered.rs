@@ -1,8 +1,10 @@
 //! An engine in place for the rules of document 01, written from the documents alone, as a yardstick: plain Rust, and the waiting sessions
-//! in an array without order. A new one goes behind the last, one that goes is replaced by the last, and each question about them is a scan.
+//! in an array without order. A new one goes behind the last, one that goes is replaced by the last, and each question about them is a scan,
+//! one by one.
 #![no_std]
 
-use core::{mem::MaybeUninit, slice};
+use core::mem::{size_of, MaybeUninit};
+use core::slice;
 
 const CONNECTIONS: usize = 4;
 const WAITING: usize = 64;
@@ -17,15 +19,12 @@ const LARGEST: usize = 4088;
 
 /// "None" as a SessionID or PriorSession.
 const NONE: u32 = u32::MAX;
-/// A scan goes over so many places at a time. The free ones have nobody as their owner and never as their start.
-const BLOCK: usize = 8;
-const NOBODY: u8 = u8::MAX;
 
 // Instants and durations are in ninths of a microsecond, and all below 2^56.
 const SECOND: u64 = 9_000_000;
 const MICROSECOND: u64 = 9;
 const TICK: u64 = 100;
-const NEVER: u64 = u64::MAX >> 1;
+const NEVER: u64 = u64::MAX;
 
 const GENERAL_RESPONSE: u16 = 0x0000;
 const INIT_REQUEST: u16 = 0x0001;
@@ -222,23 +221,15 @@ impl Splicer {
         }
     }
 
-    /// The blocks of a column that have waiting sessions.
-    fn blocks<'a, T>(&self, column: &'a [T; WAITING]) -> &'a [[T; BLOCK]] {
-        &column.as_chunks().0[..(self.waits + BLOCK - 1) / BLOCK]
+    /// The part of a column that has waiting sessions.
+    fn used<'a, T>(&self, column: &'a [T; WAITING]) -> &'a [T] {
+        &column[..self.waits]
     }
 
     /// The place of a connection where a column of numbers has this one.
     fn find(&self, column: &[u32; WAITING], id: Id) -> Option<usize> {
-        let blocks = self.blocks(column).iter().zip(self.blocks(&self.owners));
-        for (block, (numbers, owners)) in blocks.enumerate() {
-            let mut both = numbers.iter().zip(owners);
-            if let Some(at) =
-                both.position(|(&number, &owner)| number == id.session && owner == id.owner)
-            {
-                return Some(block * BLOCK + at);
-            }
-        }
-        None
+        let mut both = self.used(column).iter().zip(self.used(&self.owners));
+        both.position(|(&number, &owner)| number == id.session && owner == id.owner)
     }
 
     fn waiting(&self, id: Id) -> Option<usize> {
@@ -247,39 +238,24 @@ impl Splicer {
 
     /// The waiting session with this start; there is at most one.
     fn starting_at(&self, start: u64) -> Option<usize> {
-        for (block, starts) in self.blocks(&self.starts).iter().enumerate() {
-            if let Some(at) = starts.iter().position(|&other| other == start) {
-                return Some(block * BLOCK + at);
-            }
-        }
-        None
+        let mut starts = self.used(&self.starts).iter();
+        starts.position(|&other| other == start)
     }
 
-    /// Whether a start is not after `now`: its difference to the next instant has the top bit then. One lane for each place of a block.
+    /// Whether a start is not after `now`.
     fn start_due(&self, now: u64) -> bool {
-        let mut lanes = [0; BLOCK];
-        for starts in self.blocks(&self.starts) {
-            for (lane, start) in lanes.iter_mut().zip(starts) {
-                *lane |= start.wrapping_sub(now + 1);
-            }
-        }
-        lanes.iter().fold(0, |any, lane| any | lane) >> 63 != 0
+        self.used(&self.starts).iter().any(|&start| start <= now)
     }
 
     /// The first start and its place.
     fn first_start(&self) -> (u64, usize) {
-        let mut first = NEVER;
-        let mut block = 0;
-        for (at, starts) in self.blocks(&self.starts).iter().enumerate() {
-            if starts.iter().any(|&start| start < first) {
-                first = starts.iter().fold(first, |first, &start| first.min(start));
-                block = at;
+        let mut first = (NEVER, 0);
+        for (place, &start) in self.used(&self.starts).iter().enumerate() {
+            if start < first.0 {
+                first = (start, place);
             }
         }
-        let place = self.starts[block * BLOCK..]
-            .iter()
-            .position(|&start| start == first);
-        (first, block * BLOCK + place.unwrap_or(0))
+        first
     }
 
     fn first_end(&self) -> u64 {
@@ -289,7 +265,7 @@ impl Splicer {
     }
 
     fn count(&self, connection: u8) -> u8 {
-        self.owners
+        self.used(&self.owners)
             .iter()
             .fold(0, |count, &one| count + u8::from(one == connection))
     }
@@ -312,8 +288,6 @@ impl Splicer {
         self.priors[place] = self.priors[last];
         self.owners[place] = self.owners[last];
         self.plans[place] = self.plans[last];
-        self.starts[last] = NEVER;
-        self.owners[last] = NOBODY;
     }
 
     /// Takes a started session out; those above it move down.
@@ -638,10 +612,10 @@ pub extern "C" fn unordered_fresh(s: &mut MaybeUninit<Splicer>, name: &[u8; 32])
         kept[..length].copy_from_slice(&name[..length]);
     }
     s.write(Splicer {
-        starts: [NEVER; WAITING],
+        starts: [0; WAITING],
         sessions: [0; WAITING],
         priors: [0; WAITING],
-        owners: [NOBODY; WAITING],
+        owners: [0; WAITING],
         plans: [Plan {
             duration: 0,
             access: 0,
