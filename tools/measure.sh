@@ -3,7 +3,7 @@
 # plain Rust as one writes it, and peer.h, tuned C; for ticks also unordered.rs, Rust in place without order, and the second program's own
 # engine (second/). All parts without a word. Prints tables for docs/MEASURES.md:
 #   counts  instructions of a call (exact; only a library copy takes some more or less by where its memory lies) and the ratio of times beside them
-#   ticks   the same of ticks and of accepted requests, with 0, 10 and 64 waiting, by all five
+#   ticks   the same of ticks, of accepted requests and of the read of the waiting counts, with 0, 10 and 64 waiting, by all five
 #   stack   bytes of stack that a call reached, from the caller's stack pointer down; library functions were bound before
 #   frames  code and frame of each function of the core, by objdump
 #   frames0 frames on three ways of the same module compiled without an optimiser (-O0), and their sums: what a compiler that inlines
@@ -207,6 +207,9 @@ ticks() {
     row_of_five 'Splice_Request accepted in front of 63' front 63
     row_of_five 'Splice_Request accepted in the middle of 63' splice 63
     row_of_five 'Splice_Request accepted behind 63' behind 63
+    row_of_five 'read of the waiting counts, 0 waiting' read 0
+    row_of_five 'read of the waiting counts, 10 waiting' read 10
+    row_of_five 'read of the waiting counts, 64 waiting' read 64
 }
 
 # deep CALL TITLE CASE N
