@@ -9,7 +9,6 @@ ghost use lib.ListN.{length, drop, set, getD};
 ghost use Rattle.rules.specs.Lists.{omit, place, insertAt, removeAt};
 ghost use Rattle.rules.specs.State.{empty, of};
 ghost use Rattle.rules.specs.Instants.{outranks};
-ghost use Rattle.rules.specs.Answers.{inserted};
 ghost use Rattle.places.specs.Places.{capacity, places, spare, lot, used, moved, Good, Made, keyTest, leastEnd};
 
 // The words of a place, and which of them is which field.
@@ -121,7 +120,7 @@ pub fn id_at(q: &[u64], n: usize, at: usize) -> u64
 }
 
 // The PriorSession of the session `at`.
-pub fn prior_at(q: &[u64], n: usize, at: usize) -> u64
+fn prior_at(q: &[u64], n: usize, at: usize) -> u64
     requires { ⌜ Good (lot (now q) n) ⌝ }
     requires { ⌜ at < n ⌝ }
     ensures { λ r. ⌜ r ≡ getD (used (lot (now (q .entry)) n)) at empty .prior ⌝ }
@@ -299,15 +298,4 @@ pub fn least_end(q: &[u64], n: usize) -> usize
         i += 1;
     }
     best
-}
-
-// x before the first that starts later.
-pub fn put(q: &mut [u64], n: usize, x: Session)
-    requires { ⌜ Good (lot (now q) n) ⌝ }
-    requires { ⌜ n < capacity (now q) ⌝ }
-    ensures { λ _. ⌜ Made (now (q .entry)) (now (q .exit)) (n + 1) (inserted x (used (lot (now (q .entry)) n))) ⌝ }
-{
-    let t = x.start;
-    let at = find(&*q, n, Key::StartsAfter(t));
-    insert_at(&mut *q, n, at, x)
 }

@@ -6,8 +6,7 @@ use mathlib.Core.List.{List, [], _∷_, _++_}
 use Prim.Native.Nat.{ℕ, zero, suc, _+_, _-_, _*_, _≤_, _<_}
 use native.Mathlib.Omega.{arith}
 use lib.Dec.{eqb, ltb, leb}
-use lib.ListN.{length, getD, drop, drop-of-length-le}
-use lib.Seq.{drop-cons}
+use lib.ListN.{length, getD}
 use borrow.Author.Tests.{ltb-false, ltb-true, le-leb, lt-leb, le-ltb, lt-ltb}
 use Rattle.rules.specs.declared.Ninths.{Ninths}
 use Rattle.rules.specs.declared.When.{When}
@@ -31,28 +30,12 @@ sooner-one P Never b x y = y
 sooner-one P (At t) Never x y = x
 sooner-one P (At t) (At u) x y = by P (leb (t .0) (u .0)) _ _ (λ e. x) (λ e. y)
 
-pub sooner-none : (a : When) → sooner a Never ≡ a
-sooner-none (At t) = refl
-sooner-none Never = refl
-
 module _ (t u : Ninths) where
   pub sooner-first : t .0 ≤ u .0 → sooner (At t) (At u) ≡ At t
   sooner-first h = rw (le-leb (t .0) (u .0) h)
 
   pub sooner-second : u .0 < t .0 → sooner (At t) (At u) ≡ At u
   sooner-second h = rw (lt-leb (t .0) (u .0) h)
-
-pub sooner-assoc : (a b c : When) → sooner (sooner a b) c ≡ sooner a (sooner b c)
-sooner-assoc Never b c = refl
-sooner-assoc (At t) Never c = refl
-sooner-assoc (At t) (At u) Never = sooner-none (sooner (At t) (At u))
-sooner-assoc (At t) (At u) (At v) = go (leb (t .0) (u .0)) refl (leb (u .0) (v .0)) refl
-  where
-    go : (a : Bool) → leb (t .0) (u .0) ≡ a → (b : Bool) → leb (u .0) (v .0) ≡ b → sooner (cond a (At t) (At u)) (At v) ≡ sooner (At t) (cond b (At u) (At v))
-    go true e true f = sooner-first t v (omega (arith, tests)) ∙ sym (sooner-first t u (omega (arith, tests)))
-    go true e false f = refl
-    go false e true f = sooner-first u v (omega (arith, tests)) ∙ sym (sooner-second t u (omega (arith, tests)))
-    go false e false f = sooner-second u v (omega (arith, tests)) ∙ sym (sooner-second t v (omega (arith, tests)))
 
 -- a is not later than the time n
 abbrev pub By : When → ℕ → Type 0
@@ -81,14 +64,6 @@ module _ (f : Session → Ninths) where
   earliest-first t [] a = refl
   earliest-first t (s ∷ l) a =
       sooner-one (λ w. sooner (At t) w ≡ At t) (At (f s)) (earliest f l) (sooner-first t (f s) (a .0)) (earliest-first t l (a .1))
-
-  -- from the place i on, a being the sooner of what was before
-  pub earliest-next : (a : When) (l : List Session) (i : ℕ) (d : Session) → i < length l
-      → sooner a (earliest f (drop i l)) ≡ sooner (sooner a (At (f (getD l i d)))) (earliest f (drop (suc i) l))
-  earliest-next a l i d h = ap (λ m. sooner a (earliest f m)) (drop-cons l i d h) ∙ sym (sooner-assoc a (At (f (getD l i d))) (earliest f (drop (suc i) l)))
-
-  pub earliest-last : (a : When) (l : List Session) (i : ℕ) → length l ≤ i → sooner a (earliest f (drop i l)) ≡ a
-  earliest-last a l i h = ap (λ m. sooner a (earliest f m)) (drop-of-length-le l {i = i} h) ∙ sooner-none a
 
   earliest-all : (l : List Session) → All (λ s. By (earliest f l) (f s .0)) l
   earliest-all [] = tt
