@@ -12,7 +12,7 @@ use Rattle.rules.specs.declared.When.the-variants.{At}
 use Rattle.rules.specs.Lists.{All}
 use Rattle.rules.specs.Bytes.{Byte, hasZero}
 use Rattle.rules.specs.Records.{recordsIn}
-use Rattle.rules.specs.State.{empty, Sorted, due}
+use Rattle.rules.specs.State.{empty, Sorted, earliest, due}
 use Rattle.rules.specs.Answers.{requested, spliceResult}
 use Rattle.rules.specs.Calls.{lending, fresh, after}
 use Rattle.demands.specs.History.{startsOf, endsOf, history, last, othersOf, waitingCount, book, clockAfter}
@@ -206,7 +206,12 @@ module _ (name : List ℕ) (h : List Made) (m : Memory) where
   pub waiting-in-order : Trace name h m → Sorted (shown m .queue .waiting) × All (λ s. shown m .clock < s .start .0) (shown m .queue .waiting)
   waiting-in-order t = called.waiting-in-order name (within h) m (trace-inside name h m t)
 
-  -- so the first of them is the next start of all: with none started it is what is due next
+  -- so the first of them is the next start of all
+  pub first-starts-next : Trace name h m → 0 < length (shown m .queue .waiting) →
+      earliest (λ s. s .start) (shown m .queue .waiting) ≡ At (getD (shown m .queue .waiting) 0 empty .start)
+  first-starts-next t = called.first-starts-next name (within h) m (trace-inside name h m t)
+
+  -- and with none started it is what is due next
   pub first-is-next : Trace name h m → 0 < length (shown m .queue .waiting) → shown m .queue .started ≡ [] →
       due (shown m .queue) ≡ At (getD (shown m .queue .waiting) 0 empty .start)
   first-is-next t = called.first-is-next name (within h) m (trace-inside name h m t)

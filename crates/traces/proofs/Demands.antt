@@ -13,7 +13,7 @@ use Rattle.rules.specs.declared.When.the-variants.{At, Never}
 use Rattle.rules.specs.Lists.{All}
 use Rattle.rules.specs.Bytes.{Byte, hasZero}
 use Rattle.rules.specs.Records.{recordsIn}
-use Rattle.rules.specs.State.{empty, Sorted, sooner, due}
+use Rattle.rules.specs.State.{empty, Sorted, sooner, earliest, due}
 use Rattle.rules.specs.Sound.{Later}
 use Rattle.rules.specs.Answers.{requested, spliceResult}
 use Rattle.rules.specs.Calls.{lending, fresh, after}
@@ -191,10 +191,13 @@ module _ (name : List ℕ) (h : List Made) (m : Memory) where
       let k = reached-sound (shown m) (trace-lent name h m t .reached) .holding .timed in
       (k .sorted, all-into (Later (shown m .clock)) (λ s. shown m .clock < s .start .0) (λ s l. l .0) (shown m .queue .waiting) (k .later))
 
-  -- so the first of them is the next start of all: with none started it is what is due next
+  -- so the first of them is the next start of all
+  pub first-starts-next : Trace name h m → 0 < length (shown m .queue .waiting) →
+      earliest (λ s. s .start) (shown m .queue .waiting) ≡ At (getD (shown m .queue .waiting) 0 empty .start)
+  first-starts-next t some = earliest-start (shown m .queue .waiting) empty (waiting-in-order t .0) some
+
+  -- and with none started it is what is due next
   pub first-is-next : Trace name h m → 0 < length (shown m .queue .waiting) → shown m .queue .started ≡ [] →
       due (shown m .queue) ≡ At (getD (shown m .queue .waiting) 0 empty .start)
   unfolding due
-  first-is-next t some none =
-      let w = shown m .queue .waiting in
-      rw none (ap (sooner Never) (earliest-start w empty (waiting-in-order t .0) some))
+  first-is-next t some none = rw none (ap (sooner Never) (first-starts-next t some))
