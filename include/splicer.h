@@ -99,8 +99,8 @@ enum splicer_result {
 };
 
 /* One output channel. Opaque: its content is the core's, and unused places are zero. words: 0 the clock in ninths of a microsecond, 1 how
- * many wait, 2 how many have started, 3 to 6 how many wait of each connection, 7 to 10 the connections; then 64 places of 8 words for those that wait, then 10 for those that have
- * started. In both the used places are the last ones, the first session next to the free places. bytes: the ChannelName. */
+ * many wait, 2 how many have started, 3 to 6 how many wait of each connection, 7 to 10 the connections; then 64 places of 8 words for
+ * those that wait, then 10 for those that have started. In both the used places are the last ones, the first session next to the free places. bytes: the ChannelName. */
 struct splicer {
     uint64_t words[SPLICER_WORDS];
     uint8_t bytes[SPLICER_BYTES];

@@ -271,18 +271,18 @@ way() {
     sum=0
     for step; do
         name=${step%%\**}
-        times=1
-        [ "$name" = "$step" ] || times=${step##*\*}
+        often=1
+        [ "$name" = "$step" ] || often=${step##*\*}
         frame=$(awk -v name="$name" '$1 == name { print $2 }' "$work/frames0")
         [ -n "$frame" ] || fail "no function $name in the module"
-        sum=$((sum + frame * times))
-        echo "| $title | $name | $frame | $times |"
+        sum=$((sum + frame * often))
+        echo "| $title | $name | $frame | $often |"
     done
     echo "| $title | together | $sum | |"
 }
 
 frames0() {
-    quiet sh tools/try-archive.sh "$work/libtry.a"
+    quiet sh tools/try-archive.sh
     quiet "$tools/bin/clang" --target=$target -march=x86-64 --no-default-config -no-canonical-prefixes -x ir -c -O0 target/try/door.ll \
         -o "$work/door0.o"
     "$objdump" -d --no-show-raw-insn "$work/door0.o" | framed | awk '{ print $1, $3 }' >"$work/frames0"

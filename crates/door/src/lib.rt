@@ -1,5 +1,5 @@
-// The calls of document 01 for C, and what a card reads: lent words, bytes and numbers only; the reply goes into lent words. include/splicer.h declares
-// them. The names carry the header's version, so that a header of another version does not link.
+// The calls of document 01 for C, and what a card reads: lent words, bytes and numbers only; the reply goes into lent words.
+// include/splicer.h declares them. The names carry the header's version, so that a header of another version does not link.
 use engine::Answer;
 use memory::BYTES;
 use memory::WORDS;

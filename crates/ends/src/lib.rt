@@ -212,7 +212,8 @@ pub fn end_due(m: &mut [u64; WORDS], t: Ninths, out: &mut [u8], len: usize) -> u
     to
 }
 
-// The follower `at` ends with the result. Apart, so that `dismiss` keeps no session over its recursive call.
+// The follower `at` ends with the result. Of this list alone, apart from `end_one`, the compiler takes it into `dismiss`, which so keeps no
+// session over its recursive call.
 fn end_follower(m: &mut [u64; WORDS], at: usize, result: u16, out: &mut [u8], len: usize) -> usize
     requires { ⌜ Form (now m) ⌝ }
     requires { ⌜ at < length (see (now m) .queue .waiting) ⌝ }
