@@ -1,17 +1,15 @@
 -- Laws of 01's numbers and strings, over the width: what is written big-endian is read back, parts of an append, and names.
-use mathlib.Core.Path.{_≡_, refl, sym, ap, ap₂, _∙_}
+use mathlib.Core.Path.{_≡_, refl, sym, ap, _∙_}
 use mathlib.Core.Bool.{Bool, true, false, cond}
-use mathlib.Core.List.{List, [], _∷_, _++_, append-assoc, append-nil}
+use mathlib.Core.List.{List, [], _∷_, _++_, append-nil}
 use Prim.Native.Nat.{ℕ, zero, suc, _+_, _-_, _*_, _/_, _%_, _^_, _≤_, _<_}
 use native.Mathlib.Omega.{arith}
-use native.Mathlib.Nat.{add-zero, add-mul, mul-assoc, pow-succ', pow-le-pow-right, mul-le-mul-right}
+use native.Mathlib.Nat.{add-mul, mul-assoc, pow-succ', pow-le-pow-right, mul-le-mul-right}
 use lib.Dec.{eqb}
-use lib.ListN.{length, take, drop, replicate, length-append, length-take, length-drop, length-replicate}
-use lib.Seq.{take-at, take-append-le, drop-append-le, drop-append-add}
-use borrow.Author.Tests.{eqb-true, eq-eqb}
+use lib.ListN.{length, drop, replicate, length-append, length-take, length-replicate}
 use Rattle.rules.specs.Lists.{same}
-use Rattle.rules.specs.Bytes.{bytes, valueFrom, value, part, field, hasZero, nameIn, sameName, padded}
-use Rattle.rules.proofs.Tests.{clash, or-none, and-both}
+use Rattle.rules.specs.Bytes.{bytes, valueFrom, value, part, field, hasZero, nameIn, padded}
+use Rattle.rules.proofs.Tests.{clash, or-none}
 use Rattle.rules.proofs.All.{All, all-append, all-take, all-drop, all-replicate}
 pub use Rattle.rules.specs.Bytes.{Byte, NoZero}
 
@@ -64,50 +62,7 @@ value-below (b ∷ l) a =
     let m : b * p ≤ 255 * p = mul-le-mul-right p (omega (arith, a .0)) in
     omega (arith, add-mul (0 * 256) b p, pow-succ' 256 (length l), value-below l (a .1))
 
-bytes-behind : (n a : ℕ) (l : List ℕ) → All Byte l → bytes (n + length l) (valueFrom a l) ≡ bytes n a ++ l
-unfolding bytes valueFrom
-bytes-behind n a [] h = ap (λ k. bytes k a) (add-zero n) ∙ sym (append-nil (bytes n a))
-bytes-behind n a (b ∷ l) h =
-    let i : bytes (suc n + length l) (valueFrom (a * 256 + b) l) ≡ bytes (suc n) (a * 256 + b) ++ l = bytes-behind (suc n) (a * 256 + b) l (h .1) in
-    let m : (a * 256 + b) / 256 ≡ a = omega (arith, h .0) in
-    let d : (a * 256 + b) % 256 ≡ b = omega (arith, h .0) in
-    let k : n + suc (length l) ≡ suc n + length l = omega arith in
-    ap (λ k. bytes k (valueFrom (a * 256 + b) l)) k ∙ i ∙ append-assoc (bytes n ((a * 256 + b) / 256)) ((a * 256 + b) % 256 ∷ []) l
-    ∙ rw (m, d)
-
--- and the writer gives back the bytes that were read
-pub bytes-value : (n : ℕ) (l : List ℕ) → All Byte l → length l ≡ n → bytes n (value l) ≡ l
-unfolding bytes value
-bytes-value n l h e =
-    let k : n ≡ 0 + length l = omega arith in
-    ap (λ k. bytes k (valueFrom 0 l)) k ∙ bytes-behind 0 0 l h
-
 -- ## Parts
-
-module _ (x y : List ℕ) (a n : ℕ) where
-  -- a part that lies in the first
-  pub part-first : a + n ≤ length x → part a n (x ++ y) ≡ part a n x
-  part-first h =
-      ap (take n) (drop-append-le a x y (omega arith))
-      ∙ take-append-le n (drop a x) y (simp length-drop (omega arith))
-
-  pub field-first : a + n ≤ length x → field a n (x ++ y) ≡ field a n x
-  field-first h = ap value (part-first h)
-
-  -- a part that lies in the second, b from its start
-  pub part-second : (b : ℕ) → a ≡ length x + b → part a n (x ++ y) ≡ part b n y
-  part-second b e = ap (λ k. part k n (x ++ y)) e ∙ ap (take n) (drop-append-add x y b)
-
-  pub field-second : (b : ℕ) → a ≡ length x + b → field a n (x ++ y) ≡ field b n y
-  field-second b e = ap value (part-second b e)
-
--- the whole of the first
-pub part-whole : (x y : List ℕ) (n : ℕ) → length x ≡ n → part 0 n (x ++ y) ≡ x
-part-whole x y n e = take-at x y n e
-
--- a number that was written in front is read there
-pub field-bytes : (n x : ℕ) (y : List ℕ) → x < 256 ^ n → field 0 n (bytes n x ++ y) ≡ x
-field-bytes n x y h = ap value (part-whole (bytes n x) y n (length-bytes n x)) ∙ value-bytes n x h
 
 pub part-byte : (a n : ℕ) (l : List ℕ) → All Byte l → All Byte (part a n l)
 part-byte a n l h = all-take Byte n (drop a l) (all-drop Byte a l h)
@@ -176,22 +131,3 @@ pub padded-byte : (name : List ℕ) → All Byte name → All Byte (padded name)
 padded-byte name a = all-append Byte name (replicate (32 - length name) 0) a (all-replicate Byte (32 - length name) 0 (omega arith))
 
 -- ## The same name
-
-pub same-true : (l m : List ℕ) → same l m ≡ true → l ≡ m
-same-true [] [] e = refl
-same-true [] (y ∷ m) e = absurd (clash false e refl)
-same-true (x ∷ l) [] e = absurd (clash false e refl)
-same-true (x ∷ l) (y ∷ m) e =
-    let b = and-both (eqb x y) (same l m) e in
-    ap₂ _∷_ (eqb-true x y (b .0)) (same-true l m (b .1))
-
-pub same-self : (l : List ℕ) → same l l ≡ true
-same-self [] = refl
-same-self (x ∷ l) = rw (eq-eqb x x refl) (same-self l)
-
--- "bytes after it don't count when names are compared"
-pub sameName-true : (a b : List ℕ) → sameName a b ≡ true → nameIn a ≡ nameIn b
-sameName-true a b e = same-true (nameIn a) (nameIn b) e
-
-pub sameName-eq : (a b : List ℕ) → nameIn a ≡ nameIn b → sameName a b ≡ true
-sameName-eq a b e = ap (same (nameIn a)) (sym e) ∙ same-self (nameIn a)

@@ -175,11 +175,3 @@ module _ (d : List ℕ) (r : Request) (h : readSplice d ≡ Splice r) (k : separ
 abbrev pub StartBelow : Start → Type 0
 StartBelow (Timed t) = t .0 < 4294967296 * 1000001
 StartBelow (Linked p) = p < 4294967296
-
-pub start-below : (d : List ℕ) → All Byte d → StartBelow (readStart d)
-unfolding readStart
-start-below d a = go (eqb (priorSession d) nobody)
-  where
-    go : (b : Bool) → StartBelow (cond b (Timed (timeOf (seconds d) (microSeconds d))) (Linked (priorSession d)))
-    go true = omega (arith, field-below 8 4 d a, field-below 12 4 d a)
-    go false = field-below 4 4 d a

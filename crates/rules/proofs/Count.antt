@@ -5,7 +5,7 @@ use mathlib.Core.List.{List, [], _∷_, _++_, map}
 use Prim.Native.Nat.{ℕ, zero, suc, _+_, _≤_, _<_}
 use native.Mathlib.Omega.{arith}
 use lib.Dec.{ltb, leb·suc-suc}
-use lib.ListN.{length, getD, length-map}
+use lib.ListN.{length, getD}
 use borrow.Author.Tests.{lt-ltb, le-ltb}
 use Rattle.rules.specs.declared.Session.{Session}
 use Rattle.rules.specs.declared.Ending.{Ending}
@@ -203,11 +203,6 @@ unfolding endings
 count-endings P Q air cover ha hc p [] = refl
 count-endings P Q air cover ha hc p (s ∷ k) =
     simp (count-put, count-map, ha, count-same (λ (u : Session). P (ended cover u)) Q hc)
-
-pub length-endings : (air cover : Ending) (p : Session → Bool) (k : List Session) → length (endings air cover p k) ≡ length (keep p k)
-unfolding endings
-length-endings air cover p [] = refl
-length-endings air cover p (s ∷ k) = simp (length-put, length-map)
 
 -- where both end alike
 pub endings-map : (h : Ending) (p : Session → Bool) (k : List Session) → endings h h p k ≡ map (ended h) (keep p k)

@@ -29,7 +29,7 @@ use Rattle.rules.proofs.Records.{Fits, read-back}
 use Rattle.rules.proofs.Readings.{splice-grants}
 use Rattle.rules.proofs.Cases.{Answering, cases}
 use Rattle.rules.specs.Asked.{Asked}
-use Rattle.rules.proofs.Every.{all-keep, all-both, all-getD, fewer-all, fewer-removeAt, Each, FewerHeld, fewer-each}
+use Rattle.rules.proofs.Every.{all-keep, all-both, all-getD, fewer-all, fewer-removeAt, Each, fewer-each}
 use Rattle.rules.proofs.Walk.{followers-gone}
 use Rattle.rules.proofs.Leaving.{endAt-fewer, cancelled-fewer}
 use Rattle.rules.proofs.Always.{Wired}
@@ -53,9 +53,6 @@ Short s = s .played .0 / 100 < 4294967296
 pub record Tellable (q : Queue) : Type 0 where
   pub numbered : Each Numbered q
   pub short : All Short (q .started)
-
-tell-fewer : (q r : Queue) → FewerHeld q r → Tellable q → Tellable r
-tell-fewer q r f h = record { numbered = fewer-each Numbered q r f (h .numbered); short = fewer-all Short (f .started) (h .short) }
 
 response-fits : (r : ℕ) (s : Session) → r < 65536 → Numbered s → Fits (ended (Response r) s)
 response-fits r s h a = ((omega (arith, a .0), h), a .1)

@@ -49,11 +49,6 @@ pub closedBy-fewer : (c : ℕ) (q : Queue) → FewerHeld q (closedBy c q .queue)
 unfolding closedBy
 closedBy-fewer c q = cancelled-fewer q (of c)
 
--- eviction and a walk leave the started ones as they are
-pub dismissed-started : (r c x : ℕ) (q : Queue) → dismissed r c x q .queue .started ≡ q .started
-unfolding dismissed
-dismissed-started r c x q = refl
-
 pub evicted-started : (t : ℕ) (q : Queue) → evicted t q .queue .started ≡ q .started
 unfolding evicted evictedAt andThen dismissed
 evicted-started t q =

@@ -1,22 +1,20 @@
 -- What reading grants of a message read from bytes, and the laws of the descriptors' walk.
 use mathlib.Core.Path.{_≡_, refl, sym, ap, subst, _∙_}
-use mathlib.Core.Bool.{Bool, true, false, not, _&&_, _||_}
+use mathlib.Core.Bool.{true, false, not, _&&_, _||_}
 use mathlib.Core.List.{List}
 use Prim.Native.Nat.{ℕ, zero, suc, _+_, _-_, _≤_, _<_}
 use native.Mathlib.Omega.{arith}
-use lib.Dec.{eqb, leb, ltb}
-use lib.ListN.{length, getD, drop, length-drop}
-use lib.Seq.{getD-drop, drop-drop}
-use borrow.Author.Tests.{eqb-false, ltb-false, leb-true, eq-eqb, ne-eqb, le-leb}
+use lib.Dec.{eqb, ltb}
+use lib.ListN.{length, drop, length-drop}
+use lib.Seq.{drop-drop}
+use borrow.Author.Tests.{eqb-false, ltb-false, eq-eqb, ne-eqb}
 use Rattle.rules.specs.declared.Request.{Request}
-use Rattle.rules.specs.declared.Message.the-variants.{Splice, Abort}
+use Rattle.rules.specs.declared.Message.the-variants.{Splice}
 use Rattle.rules.specs.Reading.{nobody, separateService, initRequest, aliveRequest, spliceRequest, abortRequest, badInit, badSplice, readInit, readAlive, readAbort, readStart, readSplice, read, priorSession, serviceID, duration, accessType, overridePlaying, separatePids, wholeRequest, descriptorsFill, descriptorsOf, descriptorLength, descriptorFits, wellFormed}
-use Rattle.rules.specs.Answers.{separate}
 use Rattle.rules.specs.Asked.{Within, Asked, Reads}
 use Rattle.rules.proofs.Tests.{by, or-none}
 use Rattle.rules.proofs.All.{All}
 use Rattle.rules.proofs.Bytes.{Byte, field-below}
-use Rattle.rules.proofs.Checks.{Granted, granted, Fitting, fitting, read-splice}
 
 -- ## Messages
 
@@ -61,13 +59,6 @@ module _ (d : List ℕ) (a : All Byte d) where
   pub splice-grants : (id : ℕ) (r : Request) → read id d ≡ Splice r → Asked r
   splice-grants id r e = subst Reads e (read-grants id)
 
-  pub abort-grants : (id x : ℕ) → read id d ≡ Abort x → x < 4294967296
-  abort-grants id x e = subst Reads e (read-grants id)
-
-  -- a request that is not for separate PIDs: Duration not 0, MicroSeconds checked
-  pub whole-grants : (id : ℕ) (r : Request) → read id d ≡ Splice r → separate r ≡ false → Granted r × Fitting r
-  whole-grants id r e k = let s = read-splice id d r e in (granted d r s k, fitting d r s k a)
-
 -- ## Descriptors
 
 eqb-zero : (l : List ℕ) → length l ≤ 0 → eqb (length l) 0 ≡ true
@@ -104,30 +95,3 @@ fill-step l i h =
     sym (wellFormed-fill (suc (length m)) m (omega arith))
     ∙ ap (λ t. t || (descriptorFits m && wellFormed (length m) (drop n m))) (ne-eqb (length m) 0 (λ z. omega arith))
     ∙ ap (λ t. descriptorFits m && t) (wellFormed-fill (length m) (drop n m) (omega arith) ∙ ap descriptorsFill (drop-drop n i l))
-
--- the same as a loop has it, n being the length byte of the descriptor at the place i
-module _ (l : List ℕ) (i n : ℕ) (e : n ≡ getD l (i + 1) 0) where
-  length-at : descriptorLength (drop i l) ≡ n
-  length-at = getD-drop i l 1 0 ∙ sym e
-
-  fits-at : descriptorFits (drop i l) ≡ (leb 4 n && (leb n 254 && leb (2 + n) (length l - i)))
-  fits-at = rw (length-at, length-drop i l)
-
-  pub fill-more : 4 ≤ n → n ≤ 254 → i + (2 + n) ≤ length l → descriptorsFill (drop i l) ≡ descriptorsFill (drop (i + (2 + n)) l)
-  fill-more a b c =
-      let f : descriptorFits (drop i l) ≡ true = fits-at ∙ rw (le-leb 4 n a, le-leb n 254 b, le-leb (2 + n) (length l - i) (omega arith)) in
-      fill-step l i (omega arith)
-      ∙ ap (λ t. t && descriptorsFill (drop (i + (2 + descriptorLength (drop i l))) l)) f
-      ∙ ap (λ k. descriptorsFill (drop (i + (2 + k)) l)) length-at
-
-  pub fill-bad : i < length l → (4 ≤ n → n ≤ 254 → i + (2 + n) ≤ length l → ⊥) → descriptorsFill (drop i l) ≡ false
-  fill-bad h f =
-      fill-step l i h
-      ∙ ap (λ t. t && descriptorsFill (drop (i + (2 + descriptorLength (drop i l))) l))
-      (fits-at ∙ go (leb 4 n) (leb n 254) (leb (2 + n) (length l - i)) refl refl refl)
-    where
-      go : (a b c : Bool) → leb 4 n ≡ a → leb n 254 ≡ b → leb (2 + n) (length l - i) ≡ c → (a && (b && c)) ≡ false
-      go false b c p q r = refl
-      go true false c p q r = refl
-      go true true false p q r = refl
-      go true true true p q r = absurd (f (leb-true 4 n p) (leb-true n 254 q) (let z = leb-true (2 + n) (length l - i) r in omega arith))

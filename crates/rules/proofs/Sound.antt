@@ -2,7 +2,7 @@
 -- them (Wired), and that the name has 32 bytes.
 use mathlib.Core.Path.{_≡_, refl, sym, ap, _∙_}
 use mathlib.Core.List.{List, [], _∷_, _++_}
-use Prim.Native.Nat.{ℕ, suc, _+_, _-_, _≤_, _<_}
+use Prim.Native.Nat.{ℕ, _+_, _-_, _≤_, _<_}
 use native.Mathlib.Omega.{arith}
 use lib.ListN.{length}
 use Rattle.rules.specs.declared.Ninths.{Ninths}
@@ -15,18 +15,18 @@ use Rattle.rules.specs.Calls.{Called, writtenBy, named, fresh, Call, cal
 use Rattle.rules.proofs.Tests.{by}
 use Rattle.rules.proofs.All.{All, all-into, all-append}
 use Rattle.rules.proofs.Bytes.{Byte}
-use Rattle.rules.proofs.Every.{all-both, Each, FewerHeld, fewer-each}
+use Rattle.rules.proofs.Every.{all-both, Each}
 use Rattle.rules.proofs.Cases.{Brings, tick, move}
 use Rattle.rules.proofs.Always.{Wired, Kept, KeptHeld, held-kept, call-kept, always}
 use Rattle.rules.proofs.Tick.{Due, meets, due-first, due-meets, elapse-due, moved}
-use Rattle.rules.proofs.Sessions.{fewer-held, each-elapse, each-instant, waiting-instant}
-use Rattle.rules.proofs.Timed.{OnTime, timed-fewer, meets-after}
-use Rattle.rules.proofs.Aired.{Played, elapse-played, played-fewer, Aired, aired-kept, moved-aired, rest-aired}
-use Rattle.rules.proofs.Ranked.{Falling, fewer-falling, falling-kept, falling-instant, falling-onAir, ten}
+use Rattle.rules.proofs.Sessions.{each-elapse, each-instant, waiting-instant}
+use Rattle.rules.proofs.Timed.{meets-after}
+use Rattle.rules.proofs.Aired.{elapse-played, Aired, aired-kept, moved-aired}
+use Rattle.rules.proofs.Ranked.{Falling, falling-kept, falling-instant, falling-onAir, ten}
 use Rattle.rules.proofs.Room.{Room, room-kept, room-fewer, room-none, sixty-four}
-use Rattle.rules.proofs.Held.{Proper, Small, small-plays, small-kept, Once, Linking, linking-kept, linking-fresh}
+use Rattle.rules.proofs.Held.{Proper, Small, small-plays, small-kept, Linking, linking-kept, linking-fresh}
 use Rattle.rules.proofs.Priors.{Chained, Orderly, orderly}
-use Rattle.rules.proofs.Chained.{chained-kept, moved-chained, rest-chained}
+use Rattle.rules.proofs.Chained.{chained-kept, moved-chained}
 use Rattle.rules.proofs.Bounds.{horizon, longest, never, ends-early}
 use Rattle.rules.proofs.Fitted.{recordsOf, found}
 use Rattle.rules.proofs.Size.{call-size}
@@ -58,28 +58,6 @@ module _ {now : ℕ} {q : Queue} where
   pub early : Holding now q → now < horizon → Each (λ s. s .end .0 < never) q
   early h e = ends-early now q e (h .timed) (h .played) (h .proper) (h .small) (h .tied) (few-wait h)
 
--- what stays when any sessions go, before their followers do: all but the links
-pub record Loose (now : ℕ) (q : Queue) : Type 0 where
-  pub timed : OnTime now q
-  pub played : Played now q
-  pub falling : Falling (q .started)
-  pub room : Room (q .waiting)
-  pub proper : Each Proper q
-  pub small : Each Small q
-  pub once : Once q
-
-pub loose : (now : ℕ) (q r : Queue) → FewerHeld q r → Holding now q → Loose now r
-loose now q r f h =
-    record {
-      timed = timed-fewer now q r f (h .timed);
-      played = played-fewer now q r f (h .played);
-      falling = fewer-falling (f .started) (h .falling);
-      room = room-fewer (q .waiting) (r .waiting) (f .waiting) (h .room);
-      proper = fewer-each Proper q r f (h .proper);
-      small = fewer-each Small q r f (h .small);
-      once = λ c x. omega (arith, h .once c x, fewer-held (is c x) q r f);
-    }
-
 -- from one instant of a tick to the next
 pub holding-moved : (now t : ℕ) (q : Queue) → Due t q → 0 < meets t q → Holding now q → Holding t (instant t (elapse (t - now) q) .queue)
 unfolding elapse
@@ -109,13 +87,6 @@ played-then now t q le d h =
     (all-both (λ s. (s .start .0 + s .played .0 ≤ t) × (t ≤ s .end .0)) Small (u .started)
     (all-both (λ s. s .start .0 + s .played .0 ≤ t) (λ s. t ≤ s .end .0) (u .started) (elapse-played now t q le (h .played) .since) (elapse-due t (t - now) q d .ends))
     (each-elapse Small small-plays (t - now) q (h .small) .started))
-
--- from the last instant of a tick to its time
-pub holding-rest : (now until : ℕ) (q : Queue) → now ≤ until → Due (suc until) q → Holding now q → Holding until (elapse (until - now) q)
-unfolding elapse
-holding-rest now until q le d h =
-    joined (rest-chained now until q d (chained h)) (rest-aired now until q le d (aired h)) (falling-onAir (until - now) (q .started) (h .falling)) (h .room)
-    (each-elapse Small small-plays (until - now) q (h .small))
 
 pub holding-kept : KeptHeld Wired Holding
 holding-kept =
