@@ -227,7 +227,7 @@ fn end_follower(m: &mut [u64; WORDS], at: usize, result: u16, out: &mut [u8], le
 }
 
 // The waiting sessions that reach the number link by link end with the result.
-pub fn dismiss(
+fn dismiss(
     m: &mut [u64; WORDS],
     result: u16,
     conn: u64,

@@ -35,9 +35,9 @@ const COUNTS: usize = 3;
 
 const LINKS: usize = COUNTS + CONNECTIONS;
 
-pub const WAITING_PLACES: usize = 64;
+const WAITING_PLACES: usize = 64;
 
-pub const STARTED_PLACES: usize = 10;
+const STARTED_PLACES: usize = 10;
 
 const WAITING_FROM: usize = LINKS + CONNECTIONS;
 
@@ -53,7 +53,7 @@ const OPENED: u64 = 1;
 const INITIALISED: u64 = 2;
 
 // The bytes of the name, and all of them.
-pub const NAME: usize = 32;
+const NAME: usize = 32;
 
 pub const BYTES: usize = NAME;
 

@@ -39,7 +39,7 @@ pub enum Key {
 }
 
 // What stands where no session is.
-pub fn nothing() -> Session
+fn nothing() -> Session
     ensures { λ r. ⌜ r ≡ empty ⌝ }
 {
     Session {

@@ -78,7 +78,7 @@ fn splicer_name(d: &[u8]) -> &[u8]
     &d[34..66]
 }
 
-pub fn read_init(d: &[u8]) -> Message
+fn read_init(d: &[u8]) -> Message
     ensures { λ r. ⌜ r ≡ readInit (now (d .entry)) ⌝ }
 {
     if d.len() < 66 {
@@ -94,7 +94,7 @@ pub fn read_init(d: &[u8]) -> Message
 }
 
 // "An Alive time is not checked."
-pub fn read_alive(d: &[u8]) -> Message
+fn read_alive(d: &[u8]) -> Message
     ensures { λ r. ⌜ r ≡ readAlive (now (d .entry)) ⌝ }
 {
     if d.len() == 8 {
@@ -103,7 +103,7 @@ pub fn read_alive(d: &[u8]) -> Message
     Message::Unreadable
 }
 
-pub fn read_abort(d: &[u8]) -> Message
+fn read_abort(d: &[u8]) -> Message
     ensures { λ r. ⌜ r ≡ readAbort (now (d .entry)) ⌝ }
 {
     if d.len() == 4 {
@@ -180,7 +180,7 @@ fn whole_request(d: &[u8], start: Start) -> Request
 }
 
 // Each field is read before the tests on it, the start before the ServiceID parts the ways: its bytes are then one load.
-pub fn read_splice(d: &[u8]) -> Message
+fn read_splice(d: &[u8]) -> Message
     ensures { λ r. ⌜ r ≡ readSplice (now (d .entry)) ⌝ }
 {
     if d.len() < 18 {
