@@ -1,7 +1,8 @@
 #!/bin/sh
 # wrong-cards.sh: what no promise of the card program can say (that `main` reads, writes and loops, and `turns` hands on what `turn` left)
 # is seen by runs. Each edit of crates/card/wrong-runs makes a wrong program of it, built here WITHOUT proof; the run with input in pieces
-# (model pieces) must notice it. Needs target/model/release/model (tools/compare.sh builds it). The last line is 'N passed, M failed'.
+# (model pieces) must notice it, and must pass the program of the source as it stands, built in the same way. Needs
+# target/model/release/model (tools/compare.sh builds it). The last line is 'N passed, M failed'.
 set -eu
 cd "$(dirname "$0")/.."
 kit=${RATTLE_HOME:-$(cd "$(dirname "$(readlink -f "$(command -v rt)")")/.." && pwd -P)}
@@ -34,7 +35,7 @@ changed() {
     }' "$2"
 }
 
-# built EDIT: the wrong program $work/card
+# built [EDIT]: the program $work/card, wrong by the edit if there is one
 built() {
     rm -rf "$work"
     mkdir -p "$work/repo/crates/card/src"
@@ -42,25 +43,46 @@ built() {
     for crate in "$here"/crates/*; do
         [ "$(basename "$crate")" = card ] || ln -s "$crate" "$work/repo/crates/"
     done
-    changed "$1" crates/card/src/main.rt >"$work/repo/crates/card/src/main.rt" || return 1
-    (cd "$work/repo" && sh "$here/tools/kept-module.sh" "$work" try card) >"$work/log" 2>&1 || [ -f "$work/module.bc" ] || return 1
+    if [ $# -eq 0 ]; then
+        cp crates/card/src/main.rt "$work/repo/crates/card/src/main.rt"
+    else
+        changed "$1" crates/card/src/main.rt >"$work/repo/crates/card/src/main.rt" || return 1
+    fi
+    (cd "$work/repo" && sh "$here/tools/kept-module.sh" "$work" try card </dev/null) >"$work/log" 2>&1 || [ -f "$work/module.bc" ] || return 1
     "$own/toolchain/bin/clang" --target=$target -march=x86-64 --no-default-config -no-canonical-prefixes -x ir -c -fPIC -O3 \
         "$work/module.bc" -o "$work/card.o" 2>>"$work/log" || return 1
     "$own/bin/rattle-link" --target $target --toolchain "$own/toolchain" -o "$work/card" "$work/card.o" >>"$work/log" 2>&1
 }
 
+# runs: with input in pieces, as the gate runs the proved program
+runs() {
+    "$model" pieces --seed 280 --n 2 --card "sh tools/run-program.sh $work/card" >"$work/said" 2>&1
+}
+
+# said GOOD TEXT: counts it
+said() {
+    echo "wrong-cards: $2"
+    if "$1"; then passed=$((passed + 1)); else failed=$((failed + 1)); fi
+}
+
+if built && runs; then
+    said true 'the source as it stands passes'
+else
+    cat "$work/log" "$work/said" 2>/dev/null | tail -n 5
+    said false 'the source as it stands does NOT pass'
+fi
 for edit in crates/card/wrong-runs/*.edit; do
     name=$(basename "$edit" .edit)
     if ! built "$edit"; then
         tail -n 5 "$work/log" 2>/dev/null || :
-        echo "wrong-cards: $name was not built"
-        failed=$((failed + 1))
-    elif "$model" pieces --seed 280 --n 2 --card "sh tools/run-program.sh $work/card" >"$work/said" 2>&1; then
-        echo "wrong-cards: $name was NOT noticed"
-        failed=$((failed + 1))
+        said false "$name was not built"
+    elif runs; then
+        said false "$name was NOT noticed"
+    elif line=$(grep -m 1 ': differs' "$work/said"); then
+        said true "$name noticed: $line"
     else
-        echo "wrong-cards: $name noticed: $(grep -m 1 ': differs' "$work/said")"
-        passed=$((passed + 1))
+        tail -n 5 "$work/said"
+        said false "$name did not run"
     fi
 done
 echo "$passed passed, $failed failed"

@@ -32,7 +32,10 @@ pub fn run_in_pieces(command: &str, pieces: &[&[u8]]) -> Result<Output, String> 
         let _ = given
             .iter()
             .try_for_each(|piece| ours.send(piece).map(|_| ()));
-        let _ = ours.send(&[]);
+        // once for each read behind the end
+        for _ in 0..8 {
+            let _ = ours.send(&[]);
+        }
     })
 }
 
