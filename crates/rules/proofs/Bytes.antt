@@ -1,5 +1,5 @@
 -- Laws of 01's numbers and strings, over the width: what is written big-endian is read back, parts of an append, and names.
-use mathlib.Core.Path.{_≡_, refl, sym, ap, _∙_}
+use mathlib.Core.Path.{_≡_, refl, sym, ap, ap₂, _∙_}
 use mathlib.Core.Bool.{Bool, true, false, cond}
 use mathlib.Core.List.{List, [], _∷_, _++_, append-nil}
 use Prim.Native.Nat.{ℕ, zero, suc, _+_, _-_, _*_, _/_, _%_, _^_, _≤_, _<_}
@@ -7,9 +7,10 @@ use native.Mathlib.Omega.{arith}
 use native.Mathlib.Nat.{add-mul, mul-assoc, pow-succ', pow-le-pow-right, mul-le-mul-right}
 use lib.Dec.{eqb}
 use lib.ListN.{length, drop, replicate, length-append, length-take, length-replicate}
+use borrow.Author.Tests.{eqb-true, eq-eqb}
 use Rattle.rules.specs.Lists.{same}
-use Rattle.rules.specs.Bytes.{bytes, valueFrom, value, part, field, hasZero, nameIn, padded}
-use Rattle.rules.proofs.Tests.{clash, or-none}
+use Rattle.rules.specs.Bytes.{bytes, valueFrom, value, part, field, hasZero, nameIn, sameName, padded}
+use Rattle.rules.proofs.Tests.{clash, or-none, and-both}
 use Rattle.rules.proofs.All.{All, all-append, all-take, all-drop, all-replicate}
 pub use Rattle.rules.specs.Bytes.{Byte, NoZero}
 
@@ -131,3 +132,22 @@ pub padded-byte : (name : List ℕ) → All Byte name → All Byte (padded name)
 padded-byte name a = all-append Byte name (replicate (32 - length name) 0) a (all-replicate Byte (32 - length name) 0 (omega arith))
 
 -- ## The same name
+
+pub same-true : (l m : List ℕ) → same l m ≡ true → l ≡ m
+same-true [] [] e = refl
+same-true [] (y ∷ m) e = absurd (clash false e refl)
+same-true (x ∷ l) [] e = absurd (clash false e refl)
+same-true (x ∷ l) (y ∷ m) e =
+    let b = and-both (eqb x y) (same l m) e in
+    ap₂ _∷_ (eqb-true x y (b .0)) (same-true l m (b .1))
+
+pub same-self : (l : List ℕ) → same l l ≡ true
+same-self [] = refl
+same-self (x ∷ l) = rw (eq-eqb x x refl) (same-self l)
+
+-- "bytes after it don't count when names are compared"
+pub sameName-true : (a b : List ℕ) → sameName a b ≡ true → nameIn a ≡ nameIn b
+sameName-true a b e = same-true (nameIn a) (nameIn b) e
+
+pub sameName-eq : (a b : List ℕ) → nameIn a ≡ nameIn b → sameName a b ≡ true
+sameName-eq a b e = ap (same (nameIn a)) (sym e) ∙ same-self (nameIn a)
