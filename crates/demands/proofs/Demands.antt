@@ -4,7 +4,7 @@ use mathlib.Core.Path.{_≡_, refl}
 use mathlib.Core.Bool.{true, false, cond}
 use mathlib.Core.List.{List, [], _∷_, _++_}
 use mathlib.Core.Logic.{_⊎_}
-use Prim.Native.Nat.{ℕ, _+_, _≤_, _<_}
+use Prim.Native.Nat.{ℕ, _+_, _≤_}
 use lib.ListN.{length}
 use Rattle.rules.specs.declared.Request.{Request}
 use Rattle.rules.specs.declared.Refusal.{Refusal}
@@ -67,7 +67,7 @@ first-code-applies h s f c l loans r a = own-answer c l loans r s a h f
 
 -- A request that is read passes a to d, or its answer is the first of their codes that applies. proofs/Witness has one of each
 pub earlier-or-passes : (h : List Event) (s : Splicer) → FromFresh h s → (c : ℕ) (l : List ℕ) (loans : Loans) (r : Request) → Asks c l loans r s
-    → Passes c r s ⊎ ((0 < earlierCode c r s)
+    → Passes c r s ⊎ ((earlierCode c r s ≡ 100 → ⊥)
     × (ownAnswer (answers (earlierCode c r s) c (r .id)) (recordsIn (writtenBy (call (messages c l loans) s .answer))) ≡ true))
 earlier-or-passes h s f c l loans r a = passes-or-earlier c l loans r s a h f
 

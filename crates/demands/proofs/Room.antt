@@ -4,7 +4,7 @@ use mathlib.Core.Path.{_≡_, refl, _∙_}
 use mathlib.Core.Bool.{Bool, true, false, cond}
 use mathlib.Core.List.{List}
 use mathlib.Core.Logic.{_⊎_, inl, inr}
-use Prim.Native.Nat.{ℕ, _+_, _≤_, _<_}
+use Prim.Native.Nat.{ℕ, _+_, _≤_}
 use native.Mathlib.Omega.{arith}
 use lib.Dec.{eqb}
 use Rattle.rules.specs.declared.Request.{Request}
@@ -21,7 +21,7 @@ use Rattle.demands.specs.History.{Event, last, ownAnswer, waitingCount}
 use Rattle.rules.specs.Sound.{Sound}
 use Rattle.rules.proofs.Tests.{by, clash, eqb-same}
 use Rattle.rules.proofs.Sound.{reached-sound, sound-found}
-use Rattle.demands.specs.Told.{FromFresh, answers, Asks, Passes, firstNumber, earlierCode, fullTold}
+use Rattle.demands.specs.Told.{FromFresh, answers, Asks, Passes, earlierCode, fullTold}
 use Rattle.demands.proofs.Waiting.{last-last, waiting-counted}
 
 pub from-sound : (h : List Event) (s : Splicer) → FromFresh h s → Sound s
@@ -58,9 +58,9 @@ module _ (c : ℕ) (l : List ℕ) (loans : Loans) (r : Request) (s : Splicer) (a
 
   -- "passes every earlier check in 01's order", or the first of them that applies gives the code
   pub passes-or-earlier : (h : List Event) → FromFresh h s
-      → Passes c r s ⊎ ((0 < earlierCode c r s)
+      → Passes c r s ⊎ ((earlierCode c r s ≡ 100 → ⊥)
       × (ownAnswer (answers (earlierCode c r s) c (r .id)) (recordsIn (writtenBy (call (messages c l loans) s .answer))) ≡ true))
-  unfolding spliceResult earlierCode firstNumber
+  unfolding spliceResult earlierCode
   passes-or-earlier h f =
       go (separate r) (wrongNumber c r (s .queue)) (tooLate (s .clock) (r .start)) (collides (requested c r (s .queue)) (s .queue .waiting)) refl refl refl refl
     where
@@ -71,12 +71,12 @@ module _ (c : ℕ) (l : List ℕ) (loans : Loans) (r : Request) (s : Splicer) (a
       told = own-answer h f
 
       go : (x y z w : Bool) → separate r ≡ x → wrongNumber c r (s .queue) ≡ y → tooLate (s .clock) (r .start) ≡ z
-          → collides (requested c r (s .queue)) (s .queue .waiting) ≡ w → Passes c r s ⊎ ((0 < earlierCode c r s) × given (earlierCode c r s))
+          → collides (requested c r (s .queue)) (s .queue .waiting) ≡ w → Passes c r s ⊎ ((earlierCode c r s ≡ 100 → ⊥) × given (earlierCode c r s))
       go false false false false ea eb ec ed = inl (record { a = ea; b = eb; c′ = ec; d = ed })
-      go true y z w ea eb ec ed = inr (rw ea (omega arith), rw ea (rw ea at told))
-      go false true z w ea eb ec ed = inr (rw (ea, eb) (omega arith), rw (ea, eb) (rw (ea, eb) at told))
-      go false false true w ea eb ec ed = inr (rw (ea, eb, ec) (omega arith), rw (ea, eb, ec) (rw (ea, eb, ec) at told))
-      go false false false true ea eb ec ed = inr (rw (ea, eb, ec, ed) (omega arith), rw (ea, eb, ec, ed) (rw (ea, eb, ec, ed) at told))
+      go true y z w ea eb ec ed = inr (rw ea (λ z. omega (arith, z)), rw ea (rw ea at told))
+      go false true z w ea eb ec ed = inr (rw (ea, eb) (λ z. omega (arith, z)), rw (ea, eb) (rw (ea, eb) at told))
+      go false false true w ea eb ec ed = inr (rw (ea, eb, ec) (λ z. omega (arith, z)), rw (ea, eb, ec) (rw (ea, eb, ec) at told))
+      go false false false true ea eb ec ed = inr (rw (ea, eb, ec, ed) (λ z. omega (arith, z)), rw (ea, eb, ec, ed) (rw (ea, eb, ec, ed) at told))
 
 -- what check e looks at is what the answers say
 full-counted : (h : List Event) (s : Splicer) → FromFresh h s → (c : ℕ) → full c (s .queue .waiting) ≡ fullTold c h

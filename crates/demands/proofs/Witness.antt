@@ -1,11 +1,11 @@
 -- One request that Asks and Passes, and one that Asks and is stopped earlier, each from a fresh splicer by calls: the demands on a Splice_Request
 -- speak of something. Rests on computing alone.
 use mathlib.Core.Path.{_≡_, refl}
-use mathlib.Core.Bool.{Bool, true, false, cond, _&&_}
+use mathlib.Core.Bool.{Bool, true, false, _&&_}
 use mathlib.Core.List.{List, [], _∷_, _++_}
 use Prim.Native.Nat.{ℕ}
 use lib.Dec.{T, ltb, ltb→lt}
-use lib.ListN.{length, replicate}
+use lib.ListN.{replicate}
 use Rattle.rules.specs.declared.Request.{Request}
 use Rattle.rules.specs.Lists.{All}
 use Rattle.rules.specs.Bytes

@@ -14,7 +14,7 @@ use Rattle.rules.specs.Bytes.{Byte, messageSize, oversize}
 use Rattle.rules.specs.Reading.{spliceRequest, readSplice, dataIn}
 use Rattle.rules.specs.State.{Splicer, linkOf, isOpen, isInitialised}
 use Rattle.rules.specs.Records.{Record, recordsIn}
-use Rattle.rules.specs.Answers.{fullBy, requested, separate, wrongNumber, tooLate, collides}
+use Rattle.rules.specs.Answers.{fullBy, firstOf, requested, separate, wrongNumber, tooLate, collides}
 use Rattle.rules.specs.Calls.{houseNumber, Answer, refused, good, Called, writtenBy, consumedBy, bufferAfter, noConnection, noRoom, notOpen, fresh, framing, Loans, Call, opens, closes, messages, ticks, moves, after}
 use Rattle.demands.specs.History.{Reply, refusal, wrote, Event, Entry, entryIs, startsOf, endsOf, history, waitingCount, tells, othersOf}
 use Rattle.rules.specs.Sound.{Wired}
@@ -73,11 +73,10 @@ firstNumber (k ∷ l) = cond (k .applies) (k .number) (firstNumber l)
 abbrev pub check : ℕ → Bool → Check
 check n b = record { number = n; applies = b }
 
--- the code of the first of a to d that applies, or 0
+-- the code of the first of a to d that applies; 100 if none does
 unfoldable pub earlierCode : ℕ → Request → Splicer → ℕ
 earlierCode c r s =
-    firstNumber (check 110 (separate r) ∷ check 121 (wrongNumber c r (s .queue)) ∷ check 112 (tooLate (s .clock) (r .start))
-    ∷ check 109 (collides (requested c r (s .queue)) (s .queue .waiting)) ∷ [])
+    firstOf (separate r) (wrongNumber c r (s .queue)) (tooLate (s .clock) (r .start)) (collides (requested c r (s .queue)) (s .queue .waiting)) false
 
 -- "Order: open 1, 6; close 1, 2, 7; message 1, 2, 7, 5 (header), 4, 5 (body); tick 2, 8, 3."
 unfoldable pub checks : Call → Splicer → List Check
