@@ -15,8 +15,8 @@ use Rattle.rules.specs.declared.Link.the-variants.{Closed, Opened, Initialised}
 use Rattle.rules.specs.State.{Splicer, holds, linkOf, isOpen, withQueue, withLink}
 use Rattle.rules.specs.Records.{Record, General, InitResponse, SpliceResponse, AbortResponse}
 use Rattle.rules.specs.Ends.{andThen, aborted, closedBy}
-use Rattle.rules.specs.Answers.{turns, requested, accepted, aliveResponse}
-use Rattle.rules.specs.Calls.{Called, refuse, does, ticked, Loans, Call, opens, closes, messages, ticks, moves, call}
+use Rattle.rules.specs.Answers.{requested, grants, splices, aliveResponse}
+use Rattle.rules.specs.Calls.{Called, refuse, does, replies, ticked, Loans, Call, opens, closes, messages, ticks, moves, call}
 use Rattle.demands.specs.History.{isStart, isEnd, isYes}
 use Rattle.rules.proofs.Tests.{by}
 use Rattle.rules.proofs.Checks.{Passed, read-whole}
@@ -44,8 +44,7 @@ pub record Cases (s : Splicer) (P : Call → Called → Type 0) : Type 0 where
   pub declining : (c : ℕ) (l : List ℕ) (loans : Loans) (n : ℕ) (r : Record) → isSplice l ≡ true → isYes c (sessionID (dataIn l)) r ≡ false → Offair r → P (messages c l loans) (does n (r ∷ []) s)
   pub accepting : (c : ℕ) (l : List ℕ) (loans : Loans) (n : ℕ) → isSplice l ≡ true → readSplice (dataIn l) ≡ Splice (wholeRequest (dataIn l))
       → Passed (s .clock) c (wholeRequest (dataIn l)) (s .queue)
-      → P (messages c l loans) (does n (accepted (requested c (wholeRequest (dataIn l)) (s .queue)) (s .queue) .written)
-      (withQueue (accepted (requested c (wholeRequest (dataIn l)) (s .queue)) (s .queue) .queue) s))
+      → P (messages c l loans) (replies n (splices (grants (requested c (wholeRequest (dataIn l)) (s .queue)) (s .queue)) s))
   pub ticking : (seconds micros room : ℕ) → s .clock ≤ fromMicros (timeOf seconds micros) .0
       → P (ticks seconds micros room) (ticked (fromMicros (timeOf seconds micros) .0) s)
   pub moving : (until room : ℕ) → s .clock ≤ until → P (moves until room) (ticked until s)
@@ -64,7 +63,7 @@ module _ (s : Splicer) (P : Call → Called → Type 0) (k : Cases s P) where
         go false e = k .saying c l loans n (r ∷ []) e p
 
     -- a request that is accepted was read whole
-    accept-case : (r : Request) → isSplice l ≡ true → readSplice (dataIn l) ≡ Splice r → Passed (s .clock) c r (s .queue) → rules.Handles P c l loans (turns (accepted (requested c r (s .queue)) (s .queue)) s)
+    accept-case : (r : Request) → isSplice l ≡ true → readSplice (dataIn l) ≡ Splice r → Passed (s .clock) c r (s .queue) → rules.Handles P c l loans (splices (grants (requested c r (s .queue)) (s .queue)) s)
     accept-case r e f p = let w = read-whole (dataIn l) r f (p .whole) .0 in rw w (k .accepting c l loans n e (rw w at f) (rw w at p))
 
     message-case : rules.Answering c l s (rules.Handles P c l loans)

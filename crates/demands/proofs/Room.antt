@@ -12,11 +12,11 @@ use Rattle.rules.specs.Bytes.{messageSize}
 use Rattle.rules.specs.Reading.{read}
 use Rattle.rules.specs.declared.Link.{Link}
 use Rattle.rules.specs.declared.Link.the-variants.{Closed, Opened, Initialised}
-use Rattle.rules.specs.State.{Splicer, linkOf, isOpen, isInitialised, withQueue}
+use Rattle.rules.specs.State.{Splicer, linkOf, isOpen, isInitialised}
 use Rattle.rules.specs.Records.{recordsIn}
-use Rattle.rules.specs.Ends.{Turn, andThen, evicted}
-use Rattle.rules.specs.Answers.{sessionAt, requested, separate, wrongNumber, tooLate, collides, full, spliceResult, accepts, accepted, answerSplice, answerRead, answer}
-use Rattle.rules.specs.Calls.{does, handled, messageCall, Loans, messages, call, writtenBy}
+use Rattle.rules.specs.Ends.{andThen, evicted}
+use Rattle.rules.specs.Answers.{sessionAt, requested, separate, wrongNumber, tooLate, collides, full, spliceResult, accepts, accepted, Spliced, splices, answerSplice, answerRead, answer}
+use Rattle.rules.specs.Calls.{replies, handled, messageCall, Loans, messages, call, writtenBy}
 use Rattle.demands.specs.History.{Event, last, ownAnswer, waitingCount}
 use Rattle.rules.specs.Sound.{Sound}
 use Rattle.rules.proofs.Tests.{by, clash, eqb-same}
@@ -37,17 +37,17 @@ ready-open Opened e = refl
 ready-open Initialised e = refl
 
 module _ (c : ℕ) (l : List ℕ) (loans : Loans) (r : Request) (s : Splicer) (a : Asks c l loans r s) where
-  splice-call : call (messages c l loans) s
-      ≡ does (8 + messageSize l) (answerSplice (s .clock) c r (s .queue) .written) (withQueue (answerSplice (s .clock) c r (s .queue) .queue) s)
+  pub splice-call : call (messages c l loans) s
+      ≡ replies (8 + messageSize l) (splices (answerSplice (s .clock) c r (s .queue)) s)
   unfolding call messageCall handled answer answerRead read
   splice-call = rw (a .low, a .roomy, ready-open (linkOf c s) (a .ready), a .framed, a .ready, a .readable)
 
-  own : last (answers (spliceResult (s .clock) c r (requested c r (s .queue)) (s .queue)) c (r .id)) (answerSplice (s .clock) c r (s .queue) .written) ≡ true
+  own : last (answers (spliceResult (s .clock) c r (requested c r (s .queue)) (s .queue)) c (r .id)) (answerSplice (s .clock) c r (s .queue) .turn .written) ≡ true
   unfolding answerSplice accepted andThen last answers requested sessionAt
   own =
       let n = spliceResult (s .clock) c r (requested c r (s .queue)) (s .queue) in
       let new = requested c r (s .queue) in
-      by (λ (t : Turn). last (answers n c (r .id)) (t .written) ≡ true) (eqb n 100) _ _
+      by (λ (a : Spliced). last (answers n c (r .id)) (a .turn .written) ≡ true) (eqb n 100) _ _
       (λ e. last-last (answers n c (r .id)) (evicted (new .start .0) (s .queue) .written) (accepts new) ∙ rw (e, eqb-same c, eqb-same (r .id)))
       (λ e. rw (eqb-same n, eqb-same c, eqb-same (r .id)))
 

@@ -16,7 +16,7 @@ use Rattle.rules.specs.State.{Splicer, linkOf, isOpen, isInitialised}
 use Rattle.rules.specs.Records.{Record, recordsIn}
 use Rattle.rules.specs.Answers.{fullBy, firstOf, requested, separate, wrongNumber, tooLate, collides}
 use Rattle.rules.specs.Calls.{houseNumber, Answer, refused, good, Called, writtenBy, consumedBy, bufferAfter, noConnection, noRoom, notOpen, fresh, framing, Loans, Call, opens, closes, messages, ticks, moves, after}
-use Rattle.demands.specs.History.{Reply, refusal, wrote, Event, Entry, entryIs, startsOf, endsOf, history, waitingCount, tells, othersOf}
+use Rattle.demands.specs.History.{Reply, refusal, wrote, Event, Entry, entryIs, startsOf, endsOf, history, grantedIn, waitingCount, tells, othersOf}
 use Rattle.rules.specs.Sound.{Wired}
 
 -- "Over all sequences of opens, closes, messages and ticks from a fresh splicer": h, the calls with their answers, and s, the splicer
@@ -148,3 +148,13 @@ pub record Stands (c : ℕ) (es fs : List Entry) : Type 0 where
 -- each connection's waiting sessions, from the answers
 abbrev pub countsTold : List Event → List ℕ
 countsTold h = waitingCount 0 h ∷ waitingCount 1 h ∷ waitingCount 2 h ∷ waitingCount 3 h ∷ []
+
+-- ## Document 02, CR 11
+
+-- the call is a Splice_Request answered with 100; rs: the records of its answer
+unfoldable pub grantedBy : Call → List Record → Bool
+grantedBy (opens c) rs = false
+grantedBy (closes c room) rs = false
+grantedBy (messages c l loans) rs = grantedIn c l rs
+grantedBy (ticks seconds micros room) rs = false
+grantedBy (moves until room) rs = false

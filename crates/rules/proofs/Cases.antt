@@ -20,8 +20,8 @@ use Rattle.rules.specs.Reading.{initRequest, aliveRequest, spliceRequest
 use Rattle.rules.specs.State.{Splicer, holds, linkOf, isOpen, isInitialised, withQueue, withLink}
 use Rattle.rules.specs.Records.{General, InitResponse, SpliceResponse, AbortResponse}
 use Rattle.rules.specs.Ends.{Turn, andThen, writes, aborted, closedBy}
-use Rattle.rules.specs.Answers.{Answered, says, turns, requested, separate, wrongNumber, tooLate, collides, full, firstOf, spliceResult, accepted, answerSplice, answerAbort, initResult, answerInit, aliveResponse, answerRead, answer}
-use Rattle.rules.specs.Calls.{Called, refuse, does, noConnection, noRoom, notOpen, openCall, closeCall, framing, handled, messageCall, ticked, moveCall, tickCall, Loans, Call, opens, closes, messages, ticks, moves, call}
+use Rattle.rules.specs.Answers.{Answered, says, turns, requested, separate, wrongNumber, tooLate, collides, full, firstOf, spliceResult, Spliced, grants, splices, answerSplice, answerAbort, initResult, answerInit, aliveResponse, answerRead, answer}
+use Rattle.rules.specs.Calls.{Called, refuse, does, replies, noConnection, noRoom, notOpen, openCall, closeCall, framing, handled, messageCall, ticked, moveCall, tickCall, Loans, Call, opens, closes, messages, ticks, moves, call}
 use Rattle.rules.proofs.Tests.{by}
 use Rattle.rules.proofs.Checks.{Passed, passed-all}
 
@@ -43,11 +43,11 @@ pub record Answering (c : ℕ) (l : List ℕ) (s : Splicer) (D : Answered → Ty
   pub declining : (r : Request) (v : ℕ) → isSplice l ≡ true → readSplice (dataIn l) ≡ Splice r → v < 65536 → eqb v 100 ≡ false
       → D (says (SpliceResponse c v (r .id) ∷ []) s)
   pub accepting : (r : Request) → isSplice l ≡ true → readSplice (dataIn l) ≡ Splice r → Passed (s .clock) c r (s .queue)
-      → D (turns (accepted (requested c r (s .queue)) (s .queue)) s)
+      → D (splices (grants (requested c r (s .queue)) (s .queue)) s)
 
 -- the call k of the message l gives an answer that P holds of
 abbrev pub Handles : (Call → Called → Type 0) → ℕ → List ℕ → Loans → Answered → Type 0
-Handles P c l loans a = P (messages c l loans) (does (8 + messageSize l) (a .written) (a .splicer))
+Handles P c l loans a = P (messages c l loans) (replies (8 + messageSize l) a)
 
 -- what has to be shown of a call k to s and what comes of it
 pub record Cases (s : Splicer) (P : Call → Called → Type 0) : Type 0 where
@@ -83,13 +83,13 @@ module _ (c : ℕ) (l : List ℕ) (s : Splicer) (D : Answered → Type 0) (k : A
   unfolding answerAbort
   abort-case x e f = by (λ (t : Turn). D (turns t s)) (holds c x (s .queue)) _ _ (λ i. k .aborting x e f i) (λ i. k .unknown x e f)
 
-  splice-case : (r : Request) → isSplice l ≡ true → readSplice (dataIn l) ≡ Splice r → D (turns (answerSplice (s .clock) c r (s .queue)) s)
+  splice-case : (r : Request) → isSplice l ≡ true → readSplice (dataIn l) ≡ Splice r → D (splices (answerSplice (s .clock) c r (s .queue)) s)
   unfolding answerSplice spliceResult
   splice-case r e f =
       let q = s .queue in
       let v = spliceResult (s .clock) c r (requested c r q) q in
       let low : v < 65536 = first-below (separate r) (wrongNumber c r q) (tooLate (s .clock) (r .start)) (collides (requested c r q) (q .waiting)) (full c (q .waiting)) in
-      by (λ (t : Turn). D (turns t s)) (eqb v 100) _ _
+      by (λ (a : Spliced). D (splices a s)) (eqb v 100) _ _
       (λ i. k .accepting r e f (passed-all (s .clock) c r q (eqb-true v 100 i))) (λ i. k .declining r v e f low i)
 
   read-case : D (answerRead c (read (messageID l) (dataIn l)) (dataIn l) s)

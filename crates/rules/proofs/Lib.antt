@@ -10,6 +10,7 @@ pub mod Checks
 pub mod Cases
 pub mod Always
 pub mod Leaving
+pub mod Moves
 pub mod Tick
 pub mod Readings
 pub mod Timed

@@ -1,5 +1,5 @@
 -- 01, "Answering a message, first that applies".
-use mathlib.Core.Bool.{Bool, false, cond, not, _&&_, _||_}
+use mathlib.Core.Bool.{Bool, true, false, cond, not, _&&_, _||_}
 use mathlib.Core.List.{List, [], _∷_}
 use Prim.Native.Nat.{ℕ, _+_, max}
 use lib.Dec.{eqb, leb, ltb}
@@ -20,18 +20,20 @@ use Rattle.rules.specs.Records.{Record, General, InitResponse, AliveResp
 use Rattle.rules.specs.Ends.{Turn, andThen, writes, evicted, aborted}
 use Rattle.rules.specs.Instants.{outranks}
 
--- the splicer after an answer, and the records of the answer
+-- the splicer after an answer, and the records of the answer; 02, CR 11: whether it accepted a request, and how many places that shifted
 pub record Answered : Type 0 where
   pub splicer : Splicer
   pub written : List Record
+  pub accepted : Bool
+  pub moved : ℕ
 
 -- nothing changes
 abbrev pub says : List Record → Splicer → Answered
-says rs s = record { splicer = s; written = rs }
+says rs s = record { splicer = s; written = rs; accepted = false; moved = 0 }
 
 -- what a turn did to the sessions held
 abbrev pub turns : Turn → Splicer → Answered
-turns t s = record { splicer = withQueue (t .queue) s; written = t .written }
+turns t s = record { splicer = withQueue (t .queue) s; written = t .written; accepted = false; moved = 0 }
 
 -- ## Init
 
@@ -165,11 +167,32 @@ accepts s = SpliceResponse (s .conn) 100 (s .id)
 unfoldable pub accepted : Session → Queue → Turn
 accepted s q = andThen (evicted (s .start .0) q) (λ u. writes (accepts s ∷ []) (withWaiting (inserted s (u .waiting)) u))
 
-unfoldable pub answerSplice : ℕ → ℕ → Request → Queue → Turn
+-- what a Splice_Request did; 02, CR 11: whether it was accepted, and how many places that shifted
+pub record Spliced : Type 0 where
+  pub turn : Turn
+  pub accepted : Bool
+  pub moved : ℕ
+
+-- 02, CR 11: "the waiting sessions, after any eviction, whose start is later than the new one's"
+unfoldable pub later : Session → Queue → ℕ
+later s q = count (startsAfter (s .start .0)) (evicted (s .start .0) q .queue .waiting)
+
+abbrev pub grants : Session → Queue → Spliced
+grants s q = record { turn = accepted s q; accepted = true; moved = later s q }
+
+-- 02, CR 11: "A request not accepted reports 0."
+abbrev pub declines : ℕ → ℕ → Request → Queue → Spliced
+declines c n r q = record { turn = writes (SpliceResponse c n (r .id) ∷ []) q; accepted = false; moved = 0 }
+
+unfoldable pub answerSplice : ℕ → ℕ → Request → Queue → Spliced
 answerSplice clock c r q =
     let new = requested c r q in
     let n = spliceResult clock c r new q in
-    cond (eqb n 100) (accepted new q) (writes (SpliceResponse c n (r .id) ∷ []) q)
+    cond (eqb n 100) (grants new q) (declines c n r q)
+
+abbrev pub splices : Spliced → Splicer → Answered
+splices a s =
+    record { splicer = withQueue (a .turn .queue) s; written = a .turn .written; accepted = a .accepted; moved = a .moved }
 
 -- ## The answer
 
@@ -177,7 +200,7 @@ answerSplice clock c r q =
 unfoldable pub answerRead : ℕ → Message → List ℕ → Splicer → Answered
 answerRead c (Init revision) d s = answerInit c revision d s
 answerRead c Alive d s = says (aliveResponse c s ∷ []) s
-answerRead c (Splice r) d s = turns (answerSplice (s .clock) c r (s .queue)) s
+answerRead c (Splice r) d s = splices (answerSplice (s .clock) c r (s .queue)) s
 answerRead c (Abort x) d s = turns (answerAbort c x (s .queue)) s
 answerRead c Unreadable d s = says (General c 123 ∷ []) s
 

@@ -1,5 +1,5 @@
 -- 01, "Calls and house numbers".
-use mathlib.Core.Bool.{Bool, cond, not}
+use mathlib.Core.Bool.{Bool, false, cond, not}
 use mathlib.Core.List.{List, [], _∷_}
 use Prim.Native.Nat.{ℕ, _+_}
 use lib.Dec.{ltb}
@@ -14,7 +14,7 @@ use Rattle.rules.specs.Bytes.{messageID, messageSize, oversize, dataOf, 
 use Rattle.rules.specs.State.{Splicer, linkOf, isOpen, withLink, withQueue, withClock}
 use Rattle.rules.specs.Records.{Record, output}
 use Rattle.rules.specs.Ends.{closedBy}
-use Rattle.rules.specs.Answers.{answer}
+use Rattle.rules.specs.Answers.{Answered, answer}
 use Rattle.rules.specs.Instants.{runAll}
 
 -- the table of house numbers
@@ -35,17 +35,25 @@ pub data Answer : Type 0 where
   refused : Refusal → Answer
   good : (consumed : ℕ) (records : List Record) → Answer
 
--- the splicer after a call, and what the call answers
+-- the splicer after a call, and what the call answers; 02, CR 11: whether it accepted a request, and "how many places an acceptance
+-- shifts": "Report that number with the call."
 pub record Called : Type 0 where
   pub splicer : Splicer
   pub answer : Answer
+  pub accepted : Bool
+  pub moved : ℕ
 
 -- "and changes no state"
 abbrev pub refuse : Refusal → Splicer → Called
-refuse n s = record { splicer = s; answer = refused n }
+refuse n s = record { splicer = s; answer = refused n; accepted = false; moved = 0 }
 
 abbrev pub does : ℕ → List Record → Splicer → Called
-does consumed rs s = record { splicer = s; answer = good consumed rs }
+does consumed rs s = record { splicer = s; answer = good consumed rs; accepted = false; moved = 0 }
+
+-- a message of that many bytes was answered
+abbrev pub replies : ℕ → Answered → Called
+replies consumed a =
+    record { splicer = a .splicer; answer = good consumed (a .written); accepted = a .accepted; moved = a .moved }
 
 -- what an answer writes into the output buffer
 unfoldable pub writtenBy : Answer → List ℕ
@@ -116,9 +124,7 @@ framing l =
 -- "Message handles the first message only, and each is handed on as its own part of what was read."
 unfoldable pub handled : ℕ → Framing → List ℕ → Splicer → Called
 handled c (Unframed n) l s = refuse n s
-handled c (Framed id size) l s =
-    let a = answer c id (dataOf size l) s in
-    does (8 + size) (a .written) (a .splicer)
+handled c (Framed id size) l s = replies (8 + size) (answer c id (dataOf size l) s)
 
 -- what a message call is lent; room: the length of its output buffer
 pub record Loans : Type 0 where
