@@ -1,6 +1,6 @@
 -- What each change of the words leaves of all else, and that what memory shows determines every word and byte.
 -- Rests on the laws of parts of lists, and on places' words-same: the sessions and the zeros before them determine their words.
-use mathlib.Core.Path.{_≡_, refl, sym, ap, ap₂, subst, _∙_}
+use mathlib.Core.Path.{_≡_, refl, sym, ap, subst, _∙_}
 use mathlib.Core.Bool.{Bool, true, false, not}
 use mathlib.Core.List.{List, [], _∷_, _++_, map}
 use Prim.Native.Nat.{ℕ, zero, suc, _+_, _-_, _*_, _≤_, _<_}
@@ -18,19 +18,20 @@ use Rattle.rules.specs.declared.Link.the-variants.{Closed, Opened, Initialised}
 use Rattle.rules.specs.Lists.{All, bit, omit, insertAt, removeAt}
 use Rattle.rules.specs.Bytes.{part, padded}
 use Rattle.rules.specs.Answers.{waits}
-use Rattle.rules.specs.State.{Queue, Splicer, empty, of, Sorted, sooner, earliest}
+use Rattle.rules.specs.State.{Queue, Splicer, empty, of, Sorted, sooner, earliest, withWaiting}
 use Rattle.rules.specs.Sound.{Proper, Holding}
 use Rattle.rules.proofs.All.{all-replicate, all-into}
 use Rattle.rules.proofs.Count.{count-insertAt, count-removeAt, count-omitted, count-other}
 use Rattle.rules.proofs.Tick.{earliest-first, earliest-start, sooner-second}
 use Rattle.rules.proofs.Every.{each-at, all-getD, all-insertAt, all-keep, fewer-all, fewer-removeAt}
-use Rattle.places.specs.Places.{Lot, lot, Good, used, width, capacity, zeros, leastEnd}
+use Rattle.places.specs.Places.{Lot, lot, Good, used, width, capacity, zeros, Ring, next, leastEnd}
 use Rattle.places.proofs.Laws.{length-used, words-same, cleared, cleared-none, Leading, least-leads}
 use Rattle.places.proofs.Words.{spare-none}
+use Rattle.places.proofs.Ring.{ring-full}
 use Rattle.memory.specs.declared.Which.{Which}
 use Rattle.memory.specs.declared.Which.the-variants.{Waiting, Started}
-use Rattle.memory.specs.Memory.{clockWord, slotOf, firstCount, firstLink, connections, placesOf, fromOf, toOf, spanOf, words, wordOf, linkIn, IsLink, linksOf, countsOf, lotOf, sessions, OfFour, tallied, Form, Memory, see, Now}
-use Rattle.memory.specs.Memory.{timed, linked, listOf, relisted, nothingShown, nameSize, nameOf, Stored, Whole, shown}
+use Rattle.memory.specs.Memory.{clockWord, slotOf, ringWord, firstCount, firstLink, connections, placesOf, fromOf, toOf, spanOf, words, wordOf, linkIn, IsLink, linksOf, countsOf, ringOf, lotOf, sessions, OfFour, tallied, Form, Memory, see, Now}
+use Rattle.memory.specs.Memory.{timed, linked, listOf, relisted, onward, nothingShown, nameSize, nameOf, Stored, Whole, shown}
 
 -- a list of the words is that list of the queue that they show
 pub sessions-list : (v : Which) (m : List ℕ) → sessions v m ≡ listOf v (see m .queue)
@@ -254,22 +255,25 @@ pub record Shown (m : List ℕ) (s : Memory) : Type 0 where
   pub whole : length m ≡ words
   pub waiting : Good (lotOf Waiting m)
   pub started : Good (lotOf Started m)
+  pub ring : ringOf Waiting m < placesOf Waiting
   pub links : All IsLink (linksOf m)
   pub is : see m ≡ s
 
 pub shown-as : {m : List ℕ} {s r : Memory} → Shown m s → s ≡ r → Shown m r
 shown-as {m} g e = subst (λ (s : Memory). Shown m s) e g
 
-module _ (m : List ℕ) (t : ℕ) (l : List ℕ) (w k : Lot) where
-  pub shows : length m ≡ words → getD m clockWord 0 ≡ t → linksOf m ≡ l → lotOf Waiting m ≡ w → lotOf Started m ≡ k → All IsLink l → Good w → Good k →
-      Shown m (record { clock = t; links = map linkIn l; queue = record { waiting = used w; started = used k } })
-  shows whole clock links waiting started a g h =
+module _ (m : List ℕ) (t : ℕ) (l : List ℕ) (r : ℕ) (w k : Lot) where
+  pub shows : length m ≡ words → getD m clockWord 0 ≡ t → linksOf m ≡ l → getD m ringWord 0 ≡ r → lotOf Waiting m ≡ w → lotOf Started m ≡ k →
+      All IsLink l → r < placesOf Waiting → Good w → Good k →
+      Shown m (record { clock = t; links = map linkIn l; queue = record { waiting = used w; started = used k }; ringEnd = r })
+  shows whole clock links ring waiting started a n g h =
       record {
         whole = whole;
         waiting = subst (λ (x : Lot). Good x) (sym waiting) g;
         started = subst (λ (x : Lot). Good x) (sym started) h;
+        ring = omega (arith, ring);
         links = subst (λ (x : List ℕ). All IsLink x) (sym links) a;
-        is = λ i. record { clock = clock i; links = map linkIn (links i); queue = record { waiting = used (waiting i); started = used (started i) } };
+        is = λ i. record { clock = clock i; links = map linkIn (links i); queue = record { waiting = used (waiting i); started = used (started i) }; ringEnd = ring i };
       }
 
 -- and the counts are those of the waiting w
@@ -277,12 +281,20 @@ pub with-counts : {m : List ℕ} {s : Memory} (w : List Session) → Shown m s �
 with-counts {m} w g y a e =
     let z : w ≡ sessions Waiting m = y ∙ sym (ap (λ (s : Memory). s .queue .waiting) (g .is)) in
     record {
-      form = record { whole = g .whole; waiting = g .waiting; started = g .started; links = g .links; ofFour = subst (λ (l : List Session). All OfFour l) z a; counts = e ∙ ap tallied z };
+      form = record {
+        whole = g .whole;
+        waiting = g .waiting;
+        started = g .started;
+        ring = g .ring;
+        links = g .links;
+        ofFour = subst (λ (l : List Session). All OfFour l) z a;
+        counts = e ∙ ap tallied z;
+      };
       is = g .is;
     }
 
-pub a-lot : {x y : List ℕ} {n k : ℕ} → x ≡ y → n ≡ k → lot x n ≡ lot y k
-a-lot e f = ap₂ (λ (x : List ℕ) (k : ℕ). lot x k) e f
+pub a-lot : {x y : List ℕ} {d e n k : ℕ} → x ≡ y → d ≡ e → n ≡ k → lot x d n ≡ lot y e k
+a-lot f g h = λ i. lot (f i) (g i) (h i)
 
 -- ## A list and its count
 
@@ -297,26 +309,48 @@ within : (v : Which) (m : List ℕ) → Form m → (fromOf v ≤ toOf v) × (toO
 within Waiting m f = (omega arith, omega (arith, f .whole))
 within Started m f = (omega arith, omega (arith, f .whole))
 
--- the places ys with n used ones, in place of a list and its count: all else shows as it did
-changed : (v : Which) (m ys : List ℕ) (n : ℕ) → Form m → length ys ≡ spanOf v → Good (lot ys n) →
-    Shown (set (putMid (fromOf v) (spanOf v) m ys) (slotOf v) n) (relisted v (used (lot ys n)) (see m))
-changed Waiting m ys n f l g =
+-- the places ys with n used ones, the ring's end r, in place of those that wait: all else shows as it did
+changed-waiting : (m ys : List ℕ) (n r : ℕ) → Form m → length ys ≡ spanOf Waiting → r < placesOf Waiting → Good (lot ys r n) →
+    Shown (set (set (putMid (fromOf Waiting) (spanOf Waiting) m ys) (slotOf Waiting) n) ringWord r)
+    (record { clock = see m .clock; links = see m .links; queue = withWaiting (used (lot ys r n)) (see m .queue); ringEnd = r })
+changed-waiting m ys n r f l c g =
     let a = fromOf Waiting in
     let e = toOf Waiting in
     let i = slotOf Waiting in
     let o = slotOf Started in
     let h = within Waiting m f in
     let p = putMid a (e - a) m ys in
+    let x = set p i n in
     let lp : length p ≡ words = length-put m ys a e (h .0) (h .1) l ∙ f .whole in
-    shows (set p i n) (see m .clock) (linksOf m) (lot ys n) (lotOf Started m)
-    (length-set p i n ∙ lp)
-    (getD-set-other p i clockWord n 0 (λ z. omega (arith, z)) ∙ put-word m ys a e (h .0) (h .1) l clockWord (omega arith))
-    (set-behind p i n firstLink connections (omega arith) ∙ put-before m ys a e (h .0) (h .1) l firstLink connections (omega arith))
-    (a-lot (set-behind p i n a (e - a) (omega arith) ∙ put-here m ys a e (h .0) (h .1) l) (getD-set-same p i n 0 (omega (arith, lp))))
-    (a-lot (set-behind p i n (fromOf Started) (spanOf Started) (omega arith)
-    ∙ put-behind m ys a e (h .0) (h .1) l (fromOf Started) (spanOf Started) (omega arith))
-    (getD-set-other p i o n 0 (λ z. omega (arith, z)) ∙ put-word m ys a e (h .0) (h .1) l o (omega arith)))
-    (f .links) g (f .started)
+    let lx : length x ≡ words = length-set p i n ∙ lp in
+    let kept : (j : ℕ) → (j ≡ i → ⊥) → (j ≡ ringWord → ⊥) → j < a → getD (set x ringWord r) j 0 ≡ getD m j 0 =
+    λ j u v w. getD-set-other x ringWord j r 0 v ∙ getD-set-other p i j n 0 u ∙ put-word m ys a e (h .0) (h .1) l j w in
+    let past : (b k : ℕ) → ringWord < b → part b k (set x ringWord r) ≡ part b k p =
+    λ b k w. set-behind x ringWord r b k w ∙ set-behind p i n b k (omega arith) in
+    shows (set x ringWord r) (see m .clock) (linksOf m) r (lot ys r n) (lotOf Started m)
+    (length-set x ringWord r ∙ lx)
+    (kept clockWord (λ z. omega (arith, z)) (λ z. omega (arith, z)) (omega arith))
+    (past firstLink connections (omega arith) ∙ put-before m ys a e (h .0) (h .1) l firstLink connections (omega arith))
+    (getD-set-same x ringWord r 0 (omega (arith, lx)))
+    (a-lot (past a (e - a) (omega arith) ∙ put-here m ys a e (h .0) (h .1) l) (getD-set-same x ringWord r 0 (omega (arith, lx)))
+    (getD-set-other x ringWord i r 0 (λ z. omega (arith, z)) ∙ getD-set-same p i n 0 (omega (arith, lp))))
+    (a-lot (past (fromOf Started) (spanOf Started) (omega arith)
+    ∙ put-behind m ys a e (h .0) (h .1) l (fromOf Started) (spanOf Started) (omega arith)) refl
+    (kept o (λ z. omega (arith, z)) (λ z. omega (arith, z)) (omega arith)))
+    (f .links) c g (f .started)
+
+-- the places ys with n used ones, in place of a list and its count: all else shows as it did
+changed : (v : Which) (m ys : List ℕ) (n : ℕ) → Form m → length ys ≡ spanOf v → Good (lot ys (ringOf v m) n) →
+    Shown (set (putMid (fromOf v) (spanOf v) m ys) (slotOf v) n) (relisted v (used (lot ys (ringOf v m) n)) (see m))
+changed Waiting m ys n f l g =
+    let r = ringOf Waiting m in
+    let h = within Waiting m f in
+    let p = putMid (fromOf Waiting) (spanOf Waiting) m ys in
+    let x = set p (slotOf Waiting) n in
+    let w : r ≡ getD x ringWord 0 =
+    sym (getD-set-other p (slotOf Waiting) ringWord n 0 (λ z. omega (arith, z)) ∙ put-word m ys (fromOf Waiting) (toOf Waiting) (h .0) (h .1) l ringWord (omega arith)) in
+    subst (λ (z : List ℕ). Shown z (relisted Waiting (used (lot ys r n)) (see m))) (ap (set x ringWord) w ∙ set-getD x ringWord 0)
+    (changed-waiting m ys n r f l (f .ring) g)
 changed Started m ys n f l g =
     let a = fromOf Started in
     let e = toOf Started in
@@ -325,15 +359,18 @@ changed Started m ys n f l g =
     let h = within Started m f in
     let p = putMid a (e - a) m ys in
     let lp : length p ≡ words = length-put m ys a e (h .0) (h .1) l ∙ f .whole in
-    shows (set p i n) (see m .clock) (linksOf m) (lotOf Waiting m) (lot ys n)
+    let kept : (j : ℕ) → (j ≡ i → ⊥) → j < a → getD (set p i n) j 0 ≡ getD m j 0 =
+    λ j u w. getD-set-other p i j n 0 u ∙ put-word m ys a e (h .0) (h .1) l j w in
+    shows (set p i n) (see m .clock) (linksOf m) (ringOf Waiting m) (lotOf Waiting m) (lot ys 0 n)
     (length-set p i n ∙ lp)
-    (getD-set-other p i clockWord n 0 (λ z. omega (arith, z)) ∙ put-word m ys a e (h .0) (h .1) l clockWord (omega arith))
+    (kept clockWord (λ z. omega (arith, z)) (omega arith))
     (set-behind p i n firstLink connections (omega arith) ∙ put-before m ys a e (h .0) (h .1) l firstLink connections (omega arith))
+    (kept ringWord (λ z. omega (arith, z)) (omega arith))
     (a-lot (set-behind p i n (fromOf Waiting) (spanOf Waiting) (omega arith)
     ∙ put-before m ys a e (h .0) (h .1) l (fromOf Waiting) (spanOf Waiting) (omega arith))
-    (getD-set-other p i o n 0 (λ z. omega (arith, z)) ∙ put-word m ys a e (h .0) (h .1) l o (omega arith)))
-    (a-lot (set-behind p i n a (e - a) (omega arith) ∙ put-here m ys a e (h .0) (h .1) l) (getD-set-same p i n 0 (omega (arith, lp))))
-    (f .links) (f .waiting) g
+    (kept ringWord (λ z. omega (arith, z)) (omega arith)) (kept o (λ z. omega (arith, z)) (omega arith)))
+    (a-lot (set-behind p i n a (e - a) (omega arith) ∙ put-here m ys a e (h .0) (h .1) l) refl (getD-set-same p i n 0 (omega (arith, lp))))
+    (f .links) (f .ring) (f .waiting) g
 
 changed-counts : (v : Which) (m ys : List ℕ) (n : ℕ) → Form m → length ys ≡ spanOf v → countsOf (set (putMid (fromOf v) (spanOf v) m ys) (slotOf v) n) ≡ countsOf m
 changed-counts v m ys n f l =
@@ -346,91 +383,121 @@ changed-counts v m ys n f l =
     before Waiting = (omega arith, omega arith)
     before Started = (omega arith, omega arith)
 
--- the list v has become u in the words x, and the counts are still those of before
-pub record Changed (v : Which) (m x : List ℕ) (u : List Session) : Type 0 where
-  pub shown : Shown x (relisted v u (see m))
+-- the list v has become u in the words x, by an acceptance or not, and the counts are still those of before
+pub record Changed (a : Bool) (v : Which) (m x : List ℕ) (u : List Session) : Type 0 where
+  pub shown : Shown x (onward a (relisted v u (see m)))
   pub counts : countsOf x ≡ countsOf m
 
--- ## As the code has it: a, e and i are the bounds and the slot, n the count
+-- ## As the code has it: a, e and i are the bounds and the slot, r the ring's end, n the count
 
-module _ (v : Which) {m : List ℕ} {a e : ℕ} (p : a ≡ fromOf v) (q : e ≡ toOf v) (f : Form m) where
-  pub lot-at : {n : ℕ} → n ≡ length (sessions v m) → lot (part a (e - a) m) n ≡ lotOf v m
-  lot-at k = rw (p, q) (ap (lot (part (fromOf v) (spanOf v) m)) (k ∙ sym (counted v m f)))
+module _ (v : Which) {m : List ℕ} {a e r : ℕ} (p : a ≡ fromOf v) (q : e ≡ toOf v) (o : r ≡ ringOf v m) (f : Form m) where
+  pub lot-at : {n : ℕ} → n ≡ length (sessions v m) → lot (part a (e - a) m) r n ≡ lotOf v m
+  lot-at k = rw (p, q) (a-lot {x = part (fromOf v) (spanOf v) m} refl o (k ∙ sym (counted v m f)))
 
-  pub good-at : {n : ℕ} → n ≡ length (sessions v m) → Good (lot (part a (e - a) m) n)
+  pub good-at : {n : ℕ} → n ≡ length (sessions v m) → Good (lot (part a (e - a) m) r n)
   good-at k = subst (λ (x : Lot). Good x) (sym (lot-at k)) (good v m f)
 
   module _ (ys : List ℕ) (l : length ys ≡ length (part a (e - a) m)) where
     span : length ys ≡ spanOf v
     span = l ∙ rw (p, q) (mid-len (fromOf v) (toOf v) m (within v m f .1))
 
-    pub changed-at : (n : ℕ) {i : ℕ} {u : List Session} → i ≡ slotOf v → Good (lot ys n) → used (lot ys n) ≡ u → Changed v m (set (putMid a (e - a) m ys) i n) u
+    pub changed-at : (n : ℕ) {i : ℕ} {u : List Session} → i ≡ slotOf v → Good (lot ys r n) → used (lot ys r n) ≡ u → Changed false v m (set (putMid a (e - a) m ys) i n) u
     changed-at n {i} {u} s g h =
         rw (p, q, s)
-        (record { shown = subst (λ (z : List Session). Shown (set (putMid (fromOf v) (spanOf v) m ys) (slotOf v) n) (relisted v z (see m))) h (changed v m ys n f span g); counts = changed-counts v m ys n f span })
+        (record {
+          shown = subst (λ (z : List Session). Shown (set (putMid (fromOf v) (spanOf v) m ys) (slotOf v) n) (relisted v z (see m))) (ap (λ (k : ℕ). used (lot ys k n)) (sym o) ∙ h)
+              (changed v m ys n f span (subst (λ (k : ℕ). Good (lot ys k n)) o g));
+          counts = changed-counts v m ys n f span;
+        })
+
+-- an acceptance: the ring's end goes one on with it
+pub accepted-at : {m : List ℕ} (ys : List ℕ) {r : ℕ} (n : ℕ) {u : List Session} → r ≡ ringOf Waiting m → Form m →
+    length ys ≡ length (part (fromOf Waiting) (spanOf Waiting) m) → Good (lot ys (next r) n) → used (lot ys (next r) n) ≡ u →
+    Changed true Waiting m (set (set (putMid (fromOf Waiting) (spanOf Waiting) m ys) (slotOf Waiting) n) ringWord (next r)) u
+accepted-at {m} ys {r} n {u} o f l g h =
+    let y = span Waiting refl refl o f ys l in
+    let x = set (putMid (fromOf Waiting) (spanOf Waiting) m ys) (slotOf Waiting) n in
+    record {
+      shown = shown-as (changed-waiting m ys n (next r) f y (omega arith) g)
+          (λ i. record { clock = see m .clock; links = see m .links; queue = withWaiting (h i) (see m .queue); ringEnd = next (o i) });
+      counts = set-behind x ringWord (next r) firstCount connections (omega arith) ∙ changed-counts Waiting m ys n f y;
+    }
 
 -- a place is left
 pub room-at : (v : Which) {m : List ℕ} {a e : ℕ} → a ≡ fromOf v → e ≡ toOf v → Form m → capacity (part a (e - a) m) ≡ placesOf v
 room-at Waiting {m} p q f = rw (p, q) (omega (arith, mid-len (fromOf Waiting) (toOf Waiting) m (within Waiting m f .1)))
 room-at Started {m} p q f = rw (p, q) (omega (arith, mid-len (fromOf Started) (toOf Started) m (within Started m f .1)))
 
-pub few : (v : Which) → placesOf v ≤ 64
-few Waiting = omega arith
-few Started = omega arith
+-- the places go round, or end before the place 0
+pub ring-at : (v : Which) {m : List ℕ} {a e r : ℕ} → a ≡ fromOf v → e ≡ toOf v → r ≡ ringOf v m → Form m → Ring (capacity (part a (e - a) m)) r
+ring-at Waiting {m} {a} {e} {r} p q o f = ring-full (capacity (part a (e - a) m)) r (room-at Waiting p q f) (omega (arith, o, f .ring))
+ring-at Started {m} {a} {e} {r} p q o f = subst (λ (k : ℕ). Ring (capacity (part a (e - a) m)) k) (sym o) (omega (arith, room-at Started p q f))
 
 -- ## One word of the head
 
 recounted : (m : List ℕ) (s : Memory) (c n : ℕ) → c ≤ 3 → Shown m s → Shown (set m (firstCount + c) n) s
 recounted m s c n h g =
     let i = firstCount + c in
-    shown-as (shows (set m i n) (see m .clock) (linksOf m) (lotOf Waiting m) (lotOf Started m)
+    shown-as (shows (set m i n) (see m .clock) (linksOf m) (ringOf Waiting m) (lotOf Waiting m) (lotOf Started m)
     (length-set m i n ∙ g .whole)
-    (getD-set-other m i clockWord n 0 (λ z. omega (arith, z)))
+    (other clockWord (omega arith))
     (set-behind m i n firstLink connections (omega arith))
-    (a-lot (set-behind m i n (fromOf Waiting) (spanOf Waiting) (omega arith)) (getD-set-other m i (slotOf Waiting) n 0 (λ z. omega (arith, z))))
-    (a-lot (set-behind m i n (fromOf Started) (spanOf Started) (omega arith)) (getD-set-other m i (slotOf Started) n 0 (λ z. omega (arith, z))))
-    (g .links) (g .waiting) (g .started)) (g .is)
+    (other ringWord (omega arith))
+    (a-lot (set-behind m i n (fromOf Waiting) (spanOf Waiting) (omega arith)) (other ringWord (omega arith)) (other (slotOf Waiting) (omega arith)))
+    (a-lot (set-behind m i n (fromOf Started) (spanOf Started) (omega arith)) refl (other (slotOf Started) (omega arith)))
+    (g .links) (g .ring) (g .waiting) (g .started)) (g .is)
+  where
+    other : (j : ℕ) → j < firstCount → getD (set m (firstCount + c) n) j 0 ≡ getD m j 0
+    other j k = getD-set-other m (firstCount + c) j n 0 (λ z. omega (arith, z))
 
 pub timed-now : (m : List ℕ) (t : ℕ) → Form m → Now (set m clockWord t) (timed t (see m))
 timed-now m t f =
-    with-counts (sessions Waiting m) (shows (set m clockWord t) t (linksOf m) (lotOf Waiting m) (lotOf Started m)
+    with-counts (sessions Waiting m) (shows (set m clockWord t) t (linksOf m) (ringOf Waiting m) (lotOf Waiting m) (lotOf Started m)
     (length-set m clockWord t ∙ f .whole)
     (getD-set-same m clockWord t 0 (omega (arith, f .whole)))
     (set-behind m clockWord t firstLink connections (omega arith))
-    (a-lot (set-behind m clockWord t (fromOf Waiting) (spanOf Waiting) (omega arith)) (getD-set-other m clockWord (slotOf Waiting) t 0 (λ z. omega (arith, z))))
-    (a-lot (set-behind m clockWord t (fromOf Started) (spanOf Started) (omega arith)) (getD-set-other m clockWord (slotOf Started) t 0 (λ z. omega (arith, z))))
-    (f .links) (f .waiting) (f .started)) refl (f .ofFour) (set-behind m clockWord t firstCount connections (omega arith) ∙ f .counts)
+    (other ringWord (omega arith))
+    (a-lot (set-behind m clockWord t (fromOf Waiting) (spanOf Waiting) (omega arith)) (other ringWord (omega arith)) (other (slotOf Waiting) (omega arith)))
+    (a-lot (set-behind m clockWord t (fromOf Started) (spanOf Started) (omega arith)) refl (other (slotOf Started) (omega arith)))
+    (f .links) (f .ring) (f .waiting) (f .started)) refl (f .ofFour) (set-behind m clockWord t firstCount connections (omega arith) ∙ f .counts)
+  where
+    other : (j : ℕ) → clockWord < j → getD (set m clockWord t) j 0 ≡ getD m j 0
+    other j k = getD-set-other m clockWord j t 0 (λ z. omega (arith, z))
 
 pub linked-now : (m : List ℕ) (c : ℕ) (l : Link) (n : ℕ) → c ≤ 3 → n ≡ wordOf l → Form m → Now (set m (firstLink + c) n) (linked c l (see m))
 linked-now m c l n h e f =
     let i = firstLink + c in
     let y : map linkIn (set (linksOf m) c n) ≡ set (see m .links) c l =
     link-set (linksOf m) c n ∙ ap (set (see m .links) c) (ap linkIn e ∙ link-word l) in
-    with-counts (sessions Waiting m) (subst (λ (z : List Link). Shown (set m i n) (record { clock = see m .clock; links = z; queue = see m .queue })) y
-    (shows (set m i n) (see m .clock) (set (linksOf m) c n) (lotOf Waiting m) (lotOf Started m)
+    with-counts (sessions Waiting m) (subst (λ (z : List Link). Shown (set m i n) (record { clock = see m .clock; links = z; queue = see m .queue; ringEnd = see m .ringEnd })) y
+    (shows (set m i n) (see m .clock) (set (linksOf m) c n) (ringOf Waiting m) (lotOf Waiting m) (lotOf Started m)
     (length-set m i n ∙ f .whole)
-    (getD-set-other m i clockWord n 0 (λ z. omega (arith, z)))
+    (other clockWord (omega arith))
     (set-within m n firstLink c connections (omega arith))
-    (a-lot (set-behind m i n (fromOf Waiting) (spanOf Waiting) (omega arith)) (getD-set-other m i (slotOf Waiting) n 0 (λ z. omega (arith, z))))
-    (a-lot (set-behind m i n (fromOf Started) (spanOf Started) (omega arith)) (getD-set-other m i (slotOf Started) n 0 (λ z. omega (arith, z))))
-    (all-set (linksOf m) c n (subst (λ (k : ℕ). IsLink k) (sym e) (is-link l)) (f .links)) (f .waiting) (f .started))) refl (f .ofFour) (set-before m i n firstCount connections (omega arith) ∙ f .counts)
+    (other ringWord (omega arith))
+    (a-lot (set-behind m i n (fromOf Waiting) (spanOf Waiting) (omega arith)) (other ringWord (omega arith)) (other (slotOf Waiting) (omega arith)))
+    (a-lot (set-behind m i n (fromOf Started) (spanOf Started) (omega arith)) refl (other (slotOf Started) (omega arith)))
+    (all-set (linksOf m) c n (subst (λ (k : ℕ). IsLink k) (sym e) (is-link l)) (f .links)) (f .ring) (f .waiting) (f .started))) refl (f .ofFour) (set-before m i n firstCount connections (omega arith) ∙ f .counts)
+  where
+    other : (j : ℕ) → j < firstCount → getD (set m (firstLink + c) n) j 0 ≡ getD m j 0
+    other j k = getD-set-other m (firstLink + c) j n 0 (λ z. omega (arith, z))
 
 -- ## A list that changed, and the counts with it
 
-pub started-now : {v : Which} {m x : List ℕ} {u : List Session} → v ≡ Started → Form m → Changed v m x u → Now x (relisted v u (see m))
+pub started-now : {v : Which} {m x : List ℕ} {u : List Session} → v ≡ Started → Form m → Changed false v m x u → Now x (relisted v u (see m))
 started-now {m = m} {u = u} w f g =
     with-counts (sessions Waiting m) (g .shown) (ap (λ (k : Which). relisted k u (see m) .queue .waiting) (sym w)) (f .ofFour) (g .counts ∙ f .counts)
 
 -- the started ones are put back, as many as they were
 pub replaced-now : {m : List ℕ} (ys : List ℕ) {n : ℕ} {u : List Session} → Form m → length ys ≡ length (part (fromOf Started) (spanOf Started) m) →
-    n ≡ length (sessions Started m) → Good (lot ys n) → used (lot ys n) ≡ u → Now (putMid (fromOf Started) (spanOf Started) m ys) (relisted Started u (see m))
+    n ≡ length (sessions Started m) → Good (lot ys 0 n) → used (lot ys 0 n) ≡ u → Now (putMid (fromOf Started) (spanOf Started) m ys) (relisted Started u (see m))
 replaced-now {m} ys {n} {u} f l k g h =
     let i = slotOf Started in
     let x = putMid (fromOf Started) (spanOf Started) m ys in
     let w : n ≡ getD x i 0 =
     k ∙ sym (counted Started m f) ∙ sym (put-word′ m ys (fromOf Started) (spanOf Started) (omega (arith, f .whole)) i (omega arith)) in
     subst (λ (z : List ℕ). Now z (relisted Started u (see m))) (ap (set x i) w ∙ set-getD x i 0)
-    (started-now refl f (changed-at Started refl refl f ys l n refl g h))
+    (started-now refl f (changed-at Started refl refl refl f ys l n refl g h))
 
 module _ {v : Which} {m : List ℕ} (w : v ≡ Waiting) (f : Form m) where
   all-four : All OfFour (sessions v m)
@@ -439,7 +506,7 @@ module _ {v : Which} {m : List ℕ} (w : v ≡ Waiting) (f : Form m) where
   pub one-of-four : (i c : ℕ) → i < length (sessions v m) → c ≡ getD (sessions v m) i empty .conn → c ≤ 3
   one-of-four i c h e = rw e (all-getD OfFour (sessions v m) i empty h all-four)
 
-module _ {v : Which} {m x : List ℕ} {u : List Session} (w : v ≡ Waiting) (f : Form m) (g : Changed v m x u) where
+module _ {a : Bool} {v : Which} {m x : List ℕ} {u : List Session} (w : v ≡ Waiting) (f : Form m) (g : Changed a v m x u) where
   counts-were : countsOf x ≡ tallied (sessions v m)
   counts-were = g .counts ∙ f .counts ∙ ap (λ (k : Which). tallied (sessions k m)) (sym w)
 
@@ -447,26 +514,28 @@ module _ {v : Which} {m x : List ℕ} {u : List Session} (w : v ≡ Waiting) (f 
   pub count-word : (c : ℕ) → c ≤ 3 → getD x (firstCount + c) 0 ≡ waits c (sessions v m)
   count-word c h = part-at x firstCount c connections (omega arith) ∙ ap (λ (l : List ℕ). getD l c 0) counts-were ∙ tallied-at (sessions v m) c h
 
-  counts-now : (c n : ℕ) → c ≤ 3 → All OfFour u → set (tallied (sessions v m)) c n ≡ tallied u → Now (set x (firstCount + c) n) (relisted v u (see m))
-  counts-now c n h a e =
-      with-counts u (recounted x (relisted v u (see m)) c n h (g .shown)) (ap (λ (k : Which). relisted k u (see m) .queue .waiting) (sym w)) a
+  counts-now : (c n : ℕ) → c ≤ 3 → All OfFour u → set (tallied (sessions v m)) c n ≡ tallied u → Now (set x (firstCount + c) n) (onward a (relisted v u (see m)))
+  counts-now c n h z e =
+      with-counts u (recounted x (onward a (relisted v u (see m))) c n h (g .shown)) (ap (λ (k : Which). relisted k u (see m) .queue .waiting) (sym w)) z
       (set-within x n firstCount c connections (omega arith) ∙ ap (λ (l : List ℕ). set l c n) counts-were ∙ e)
 
-module _ {v : Which} {m x : List ℕ} (w : v ≡ Waiting) (f : Form m) where
-  pub inserted-now : (i : ℕ) (s : Session) → OfFour s → Changed v m x (insertAt i s (sessions v m)) →
-      Now (set x (firstCount + s .conn) (getD x (firstCount + s .conn) 0 + 1)) (relisted v (insertAt i s (sessions v m)) (see m))
-  inserted-now i s h g =
-      rw (count-word w f g (s .conn) h)
-      (counts-now w f g (s .conn) (waits (s .conn) (sessions v m) + 1) h (all-insertAt OfFour i s (sessions v m) h (all-four w f)) (tallied-insert i s (sessions v m) h))
+-- the waiting with one more, accepted
+pub accepted-now : {m x : List ℕ} (i : ℕ) (s : Session) → Form m → OfFour s → Changed true Waiting m x (insertAt i s (sessions Waiting m)) →
+    Now (set x (firstCount + s .conn) (getD x (firstCount + s .conn) 0 + 1)) (onward true (relisted Waiting (insertAt i s (sessions Waiting m)) (see m)))
+accepted-now {m} i s f h g =
+    let l = sessions Waiting m in
+    rw (count-word refl f g (s .conn) h)
+    (counts-now refl f g (s .conn) (waits (s .conn) l + 1) h (all-insertAt OfFour i s l h (f .ofFour)) (tallied-insert i s l h))
 
-  pub removed-now : (i c : ℕ) → i < length (sessions v m) → c ≡ getD (sessions v m) i empty .conn → Changed v m x (removeAt i (sessions v m)) →
+module _ {v : Which} {m x : List ℕ} (w : v ≡ Waiting) (f : Form m) where
+  pub removed-now : (i c : ℕ) → i < length (sessions v m) → c ≡ getD (sessions v m) i empty .conn → Changed false v m x (removeAt i (sessions v m)) →
       Now (set x (firstCount + c) (getD x (firstCount + c) 0 - 1)) (relisted v (removeAt i (sessions v m)) (see m))
   removed-now i c h e g =
       let k = one-of-four w f i c h e in
       rw (count-word w f g c k)
       (counts-now w f g c (waits c (sessions v m) - 1) k (fewer-all OfFour (fewer-removeAt i (sessions v m)) (all-four w f)) (tallied-remove i (sessions v m) c h e k))
 
-  pub omitted-now : (c : ℕ) → c ≤ 3 → Changed v m x (omit (of c) (sessions v m)) → Now (set x (firstCount + c) 0) (relisted v (omit (of c) (sessions v m)) (see m))
+  pub omitted-now : (c : ℕ) → c ≤ 3 → Changed false v m x (omit (of c) (sessions v m)) → Now (set x (firstCount + c) 0) (relisted v (omit (of c) (sessions v m)) (see m))
   omitted-now c h g = counts-now w f g c 0 h (all-keep OfFour (λ s. not (of c s)) (sessions v m) (all-four w f)) (tallied-omit c (sessions v m) h)
 
 -- all words are zeros
@@ -475,11 +544,12 @@ unfolding tallied
 cleared-now =
     let w = cleared (spanOf Waiting) in
     let k = cleared (spanOf Started) in
-    let s = shows (zeros words) 0 (zeros connections) (lot (zeros (spanOf Waiting)) 0) (lot (zeros (spanOf Started)) 0)
-    (length-replicate {A = ℕ} words 0) refl (part-zeros firstLink connections words (omega arith))
-    (a-lot (part-zeros (fromOf Waiting) (spanOf Waiting) words (omega arith)) refl) (a-lot (part-zeros (fromOf Started) (spanOf Started) words (omega arith)) refl)
-    (all-replicate {A = ℕ} IsLink connections 0 (omega arith)) w k in
-    with-counts [] (shown-as s (λ i. record { clock = 0; links = replicate connections Closed; queue = record { waiting = cleared-none (spanOf Waiting) i; started = cleared-none (spanOf Started) i } }))
+    let s = shows (zeros words) 0 (zeros connections) 0 (lot (zeros (spanOf Waiting)) 0 0) (lot (zeros (spanOf Started)) 0 0)
+    (length-replicate {A = ℕ} words 0) refl (part-zeros firstLink connections words (omega arith)) refl
+    (a-lot (part-zeros (fromOf Waiting) (spanOf Waiting) words (omega arith)) refl refl)
+    (a-lot (part-zeros (fromOf Started) (spanOf Started) words (omega arith)) refl refl)
+    (all-replicate {A = ℕ} IsLink connections 0 (omega arith)) (omega arith) w k in
+    with-counts [] (shown-as s (λ i. record { clock = 0; links = replicate connections Closed; queue = record { waiting = cleared-none (spanOf Waiting) i; started = cleared-none (spanOf Started) i }; ringEnd = 0 }))
     refl tt (part-zeros firstCount connections words (omega arith))
 
 -- ## What is shown determines every word and byte
@@ -490,7 +560,7 @@ placed v m = part (fromOf v) (spanOf v) m
 
 -- the words are their parts
 parts : (m : List ℕ) → length m ≡ words →
-    m ≡ getD m clockWord 0 ∷ getD m (slotOf Waiting) 0 ∷ getD m (slotOf Started) 0 ∷ (countsOf m ++ (linksOf m ++ (placed Waiting m ++ placed Started m)))
+    m ≡ getD m clockWord 0 ∷ getD m (slotOf Waiting) 0 ∷ getD m (slotOf Started) 0 ∷ getD m ringWord 0 ∷ (countsOf m ++ (linksOf m ++ (placed Waiting m ++ placed Started m)))
 parts m w =
     let s = fromOf Started in
     let tail : drop s m ≡ placed Started m = sym (take-all (spanOf Started) (drop s m) (omega (arith, w, length-drop s m))) in
@@ -504,15 +574,18 @@ parts m w =
     drop-cons m 0 0 (omega arith)
     ∙ ap (λ (z : List ℕ). getD m 0 0 ∷ z) (drop-cons m 1 0 (omega arith))
     ∙ ap (λ (z : List ℕ). getD m 0 0 ∷ getD m 1 0 ∷ z) (drop-cons m 2 0 (omega arith))
-    ∙ ap (λ (z : List ℕ). getD m 0 0 ∷ getD m 1 0 ∷ getD m 2 0 ∷ z) counts
+    ∙ ap (λ (z : List ℕ). getD m 0 0 ∷ getD m 1 0 ∷ getD m 2 0 ∷ z) (drop-cons m 3 0 (omega arith))
+    ∙ ap (λ (z : List ℕ). getD m 0 0 ∷ getD m 1 0 ∷ getD m 2 0 ∷ getD m 3 0 ∷ z) counts
 
--- as many words, holding the same sessions, are the same words, and as many of their places are used
-lot-same : (v : Which) (m n : List ℕ) → Form m → Form n → sessions v m ≡ sessions v n →
+-- as many words, holding the same sessions up to the same end, are the same words, and as many of their places are used
+lot-same : (v : Which) (m n : List ℕ) → Form m → Form n → ringOf v m ≡ ringOf v n → sessions v m ≡ sessions v n →
     (placed v m ≡ placed v n) × (getD m (slotOf v) 0 ≡ getD n (slotOf v) 0)
-lot-same v m n f g e =
+lot-same v m n f g r e =
     let x : length (placed v m) ≡ spanOf v = mid-len (fromOf v) (toOf v) m (within v m f .1) in
-    let y : length (placed v n) ≡ spanOf v = mid-len (fromOf v) (toOf v) n (within v n g .1) in (
-      words-same _ _ _ _ (good v m f) (good v n g) (x ∙ sym y) e
+    let y : length (placed v n) ≡ spanOf v = mid-len (fromOf v) (toOf v) n (within v n g .1) in
+    let k = getD n (slotOf v) 0 in (
+      words-same _ _ _ _ _ (good v m f) (subst (λ (j : ℕ). Good (lot (placed v n) j k)) (sym r) (good v n g)) (x ∙ sym y)
+          (e ∙ ap (λ (j : ℕ). used (lot (placed v n) j k)) (sym r))
           (spare-none (placesOf v) (placed v m) (x ∙ spans v) ∙ sym (spare-none (placesOf v) (placed v n) (y ∙ spans v))),
       counted v m f ∙ ap length e ∙ sym (counted v n g),
     )
@@ -525,11 +598,12 @@ pub same-words : (m n : List ℕ) → Form m → Form n → see m ≡ see n → 
 same-words m n f g e =
     let clock : getD m clockWord 0 ≡ getD n clockWord 0 = ap (λ (s : Memory). s .clock) e in
     let links = links-same (linksOf m) (linksOf n) (f .links) (g .links) (ap (λ (s : Memory). s .links) e) in
-    let waiting = lot-same Waiting m n f g (ap (λ (s : Memory). s .queue .waiting) e) in
-    let started = lot-same Started m n f g (ap (λ (s : Memory). s .queue .started) e) in
+    let ring : getD m ringWord 0 ≡ getD n ringWord 0 = ap (λ (s : Memory). s .ringEnd) e in
+    let waiting = lot-same Waiting m n f g ring (ap (λ (s : Memory). s .queue .waiting) e) in
+    let started = lot-same Started m n f g refl (ap (λ (s : Memory). s .queue .started) e) in
     let counts : countsOf m ≡ countsOf n = f .counts ∙ ap (λ (s : Memory). tallied (s .queue .waiting)) e ∙ sym (g .counts) in
     parts m (f .whole)
-    ∙ (λ i. clock i ∷ waiting .1 i ∷ started .1 i ∷ (counts i ++ (links i ++ (waiting .0 i ++ started .0 i))))
+    ∙ (λ i. clock i ∷ waiting .1 i ∷ started .1 i ∷ ring i ∷ (counts i ++ (links i ++ (waiting .0 i ++ started .0 i))))
     ∙ sym (parts n (g .whole))
 
 pub same-bytes : (b c : List ℕ) → Stored b → Stored c → nameOf b ≡ nameOf c → b ≡ c
@@ -540,9 +614,10 @@ same-bytes b c f g e =
     ∙ sym (g .name)
     ∙ take-all nameSize c (omega (arith, g .whole))
 
-pub memory-same : (m b n c : List ℕ) → Whole m b → Whole n c → shown m b ≡ shown n c → (m ≡ n) × (b ≡ c)
-memory-same m b n c f g e = (
-  same-words m n (f .words) (g .words) (λ i. record { clock = e i .clock; links = e i .links; queue = e i .queue }),
+-- and a splicer with where the ring ends
+pub memory-same : (m b n c : List ℕ) → Whole m b → Whole n c → see m .ringEnd ≡ see n .ringEnd → shown m b ≡ shown n c → (m ≡ n) × (b ≡ c)
+memory-same m b n c f g r e = (
+  same-words m n (f .words) (g .words) (λ i. record { clock = e i .clock; links = e i .links; queue = e i .queue; ringEnd = r i }),
   same-bytes b c (f .bytes) (g .bytes) (ap (λ (s : Splicer). s .name) e),
 )
 

@@ -1,17 +1,17 @@
--- Whatever is to be shown stands in some words: the head, and in each list zeros before eight words for each session.
+-- Whatever is to be shown stands in some words: the head, and in each list zeros before eight words for each session, up to the ring's end.
 -- Rests on `shows` of Laws.
 use mathlib.Core.Path.{_≡_, refl, sym, ap, _∙_}
 use mathlib.Core.List.{List, [], _∷_, _++_, map}
-use Prim.Native.Nat.{ℕ, zero, suc, _+_, _-_, _*_, _≤_}
+use Prim.Native.Nat.{ℕ, _+_, _-_, _*_, _≤_, _<_}
 use native.Mathlib.Omega.{arith}
-use native.Mathlib.Nat.{zero-add, suc-add}
-use lib.ListN.{length, take, drop, replicate, length-append, length-replicate, length-map}
+use lib.ListN.{length, take, drop, replicate, length-append, length-replicate, length-map, length-drop, take-append-drop}
 use lib.Seq.{take-at, drop-at, take-all, drop-drop}
 use Rattle.rules.specs.declared.Session.{Session}
 use Rattle.rules.specs.declared.Link.{Link}
 use Rattle.rules.specs.Lists.{All}
 use Rattle.rules.specs.State.{empty}
-use Rattle.places.specs.Places.{width, capacity, rows, places, lot, used, Good}
+use Rattle.places.specs.Places.{width, capacity, rows, places, turned, lot, used, Good}
+use Rattle.places.proofs.Ring.{length-turned}
 use Rattle.memory.specs.declared.Which.the-variants.{Waiting, Started}
 use Rattle.memory.specs.Memory.{connections, placesOf, fromOf, words, wordOf, linkIn, IsLink, Memory, OfFour, tallied, Now}
 use Rattle.memory.proofs.Laws.{link-word, is-link, shown-as, shows, with-counts, a-lot}
@@ -23,50 +23,64 @@ abbrev standing : Session → List ℕ → List ℕ
 standing x l =
     x .conn ∷ x .id ∷ x .prior ∷ x .start .0 ∷ x .end .0 ∷ x .access ∷ x .overrides ∷ x .played .0 ∷ l
 
--- f free places, then the sessions u
-unfoldable behind : ℕ → List Session → List ℕ
-behind zero [] = []
-behind zero (x ∷ u) = standing x (behind zero u)
-behind (suc f) u = standing empty (behind f u)
+-- the words of each
+unfoldable flat : List Session → List ℕ
+flat [] = []
+flat (x ∷ l) = standing x (flat l)
 
--- the sessions u in n places
-packed : ℕ → List Session → List ℕ
-packed n u = behind (n - length u) u
+-- n places, the sessions u last of them, in their order
+abbrev filled : ℕ → List Session → List Session
+filled n u = replicate (n - length u) empty ++ u
 
-length-behind : (f : ℕ) (u : List Session) → length (behind f u) ≡ (f + length u) * width
-unfolding behind
-length-behind zero [] = refl
-length-behind zero (x ∷ u) = omega (arith, length-behind zero u)
-length-behind (suc f) u = omega (arith, length-behind f u)
+-- the sessions u in n places, up to the place e
+packed : (n e : ℕ) → List Session → List ℕ
+packed n e u = flat (turned (n - e) (filled n u))
 
-rows-behind : (f : ℕ) (u : List Session) → rows (f + length u) (behind f u) ≡ replicate f empty ++ u
-unfolding rows behind empty
-rows-behind zero [] = refl
-rows-behind zero (x ∷ u) = rw (zero-add (suc (length u))) (ap (λ l. x ∷ l) (rw (zero-add (length u)) at (rows-behind zero u)))
-rows-behind (suc f) u = rw (suc-add f (length u)) (ap (λ l. empty ∷ l) (rows-behind f u))
+length-flat : (l : List Session) → length (flat l) ≡ length l * width
+unfolding flat
+length-flat [] = refl
+length-flat (x ∷ l) = omega (arith, length-flat l)
 
-module _ (n : ℕ) (u : List Session) (h : length u ≤ n) where
-  length-packed : length (packed n u) ≡ n * width
+rows-flat : (l : List Session) → rows (length l) (flat l) ≡ l
+unfolding rows flat
+rows-flat [] = refl
+rows-flat (x ∷ l) = ap (λ r. x ∷ r) (rows-flat l)
+
+places-flat : (l : List Session) → places (flat l) ≡ l
+places-flat l =
+    let k : capacity (flat l) ≡ length l = omega (arith, length-flat l) in
+    ap (λ (k : ℕ). rows k (flat l)) k ∙ rows-flat l
+
+-- turned on by the rest, it stands as before
+turned-back : (e k : ℕ) (l : List Session) → e + k ≡ length l → turned k (turned e l) ≡ l
+unfolding turned
+turned-back e k l h =
+    let n : length (drop e l) ≡ k = length-drop e l ∙ omega arith in
+    rw (drop-at (drop e l) (take e l) k n, take-at (drop e l) (take e l) k n) (take-append-drop e l)
+
+module _ (n e : ℕ) (u : List Session) (h : length u ≤ n) (r : e ≤ n) where
+  length-filled : length (filled n u) ≡ n
+  length-filled = simp (length-append, length-replicate) (omega arith)
+
+  length-packed : length (packed n e u) ≡ n * width
   unfolding packed
-  length-packed = omega (arith, length-behind (n - length u) u)
+  length-packed = omega (arith, length-flat (turned (n - e) (filled n u)), length-turned (n - e) (filled n u), length-filled)
 
-  items : places (packed n u) ≡ replicate (n - length u) empty ++ u
+  items : turned e (places (packed n e u)) ≡ filled n u
   unfolding packed
-  items =
-      let k : capacity (packed n u) ≡ n - length u + length u = omega (arith, length-packed) in
-      ap (λ (k : ℕ). rows k (packed n u)) k ∙ rows-behind (n - length u) u
+  items = ap (turned e) (places-flat (turned (n - e) (filled n u))) ∙ turned-back (n - e) e (filled n u) (omega (arith, length-filled))
 
-  full : length (places (packed n u)) ≡ n
-  full = ap length items ∙ simp (length-append, length-replicate) (omega arith)
+  full : length (turned e (places (packed n e u))) ≡ n
+  full = ap length items ∙ length-filled
 
-  packed-good : Good (lot (packed n u) (length u))
+  packed-good : Good (lot (packed n e u) e (length u))
   packed-good =
       record {
         fits = omega (arith, full);
         clear = rw (full, items) (take-at (replicate (n - length u) empty) u (n - length u) (length-replicate (n - length u) empty));
       }
 
-  packed-used : used (lot (packed n u) (length u)) ≡ u
+  packed-used : used (lot (packed n e u) e (length u)) ≡ u
   packed-used = rw (full, items) (drop-at (replicate (n - length u) empty) u (n - length u) (length-replicate (n - length u) empty))
 
 -- ## The connections
@@ -83,28 +97,28 @@ words-links (x ∷ l) = (is-link x, words-links l)
 
 pub stood : Memory → List ℕ
 stood s =
-    s .clock ∷ length (s .queue .waiting) ∷ length (s .queue .started) ∷
-    (tallied (s .queue .waiting) ++ (map wordOf (s .links) ++ (packed (placesOf Waiting) (s .queue .waiting) ++ packed (placesOf Started) (s .queue .started))))
+    s .clock ∷ length (s .queue .waiting) ∷ length (s .queue .started) ∷ s .ringEnd ∷
+    (tallied (s .queue .waiting) ++ (map wordOf (s .links) ++ (packed (placesOf Waiting) (s .ringEnd) (s .queue .waiting) ++ packed (placesOf Started) 0 (s .queue .started))))
 
 module _ (s : Memory) (four : length (s .links) ≡ connections) (few : length (s .queue .waiting) ≤ placesOf Waiting)
-    (less : length (s .queue .started) ≤ placesOf Started) (ofFour : All OfFour (s .queue .waiting)) where
+    (less : length (s .queue .started) ≤ placesOf Started) (ofFour : All OfFour (s .queue .waiting)) (ring : s .ringEnd < placesOf Waiting) where
   abbrev l : List ℕ
   l = map wordOf (s .links)
 
   abbrev w : List ℕ
-  w = packed (placesOf Waiting) (s .queue .waiting)
+  w = packed (placesOf Waiting) (s .ringEnd) (s .queue .waiting)
 
   abbrev k : List ℕ
-  k = packed (placesOf Started) (s .queue .started)
+  k = packed (placesOf Started) 0 (s .queue .started)
 
   long-l : length l ≡ connections
   long-l = length-map (s .links) wordOf ∙ four
 
   long-w : length w ≡ placesOf Waiting * width
-  long-w = length-packed (placesOf Waiting) (s .queue .waiting) few
+  long-w = length-packed (placesOf Waiting) (s .ringEnd) (s .queue .waiting) few (omega arith)
 
   long-k : length k ≡ placesOf Started * width
-  long-k = length-packed (placesOf Started) (s .queue .started) less
+  long-k = length-packed (placesOf Started) 0 (s .queue .started) less (omega arith)
 
   behind-l : drop (fromOf Waiting) (stood s) ≡ w ++ k
   unfolding stood tallied
@@ -125,17 +139,18 @@ module _ (s : Memory) (four : length (s .links) ≡ connections) (few : length (
   stood-now =
       let n = length (s .queue .waiting) in
       let j = length (s .queue .started) in
-      let x = shows (stood s) (s .clock) l (lot w n) (lot k j) long refl (take-at l (w ++ k) connections long-l)
-      (a-lot (ap (take (placesOf Waiting * width)) behind-l ∙ take-at w k (placesOf Waiting * width) long-w) refl)
-      (a-lot (ap (take (placesOf Started * width)) behind-w ∙ take-all (placesOf Started * width) k (omega (arith, long-k))) refl)
-      (words-links (s .links)) (packed-good (placesOf Waiting) (s .queue .waiting) few)
-      (packed-good (placesOf Started) (s .queue .started) less) in
+      let x = shows (stood s) (s .clock) l (s .ringEnd) (lot w (s .ringEnd) n) (lot k 0 j) long refl (take-at l (w ++ k) connections long-l) refl
+      (a-lot (ap (take (placesOf Waiting * width)) behind-l ∙ take-at w k (placesOf Waiting * width) long-w) refl refl)
+      (a-lot (ap (take (placesOf Started * width)) behind-w ∙ take-all (placesOf Started * width) k (omega (arith, long-k))) refl refl)
+      (words-links (s .links)) ring (packed-good (placesOf Waiting) (s .ringEnd) (s .queue .waiting) few (omega arith))
+      (packed-good (placesOf Started) 0 (s .queue .started) less (omega arith)) in
       with-counts (s .queue .waiting) (shown-as x
       (λ i. record {
         clock = s .clock;
         links = links-words (s .links) i;
         queue = record {
-          waiting = packed-used (placesOf Waiting) (s .queue .waiting) few i;
-          started = packed-used (placesOf Started) (s .queue .started) less i;
+          waiting = packed-used (placesOf Waiting) (s .ringEnd) (s .queue .waiting) few (omega arith) i;
+          started = packed-used (placesOf Started) 0 (s .queue .started) less (omega arith) i;
         };
+        ringEnd = s .ringEnd;
       })) refl ofFour refl

@@ -1,8 +1,8 @@
 -- Where what stands in the lent words and bytes, what they show, and what is asked of them.
 use mathlib.Core.Path.{_≡_}
-use mathlib.Core.Bool.{cond}
+use mathlib.Core.Bool.{Bool, cond}
 use mathlib.Core.List.{List, [], _∷_, map}
-use Prim.Native.Nat.{ℕ, _+_, _-_, _*_, _≤_}
+use Prim.Native.Nat.{ℕ, _+_, _-_, _*_, _≤_, _<_}
 use lib.Dec.{eqb}
 use lib.ListN.{length, set, getD, replicate}
 use Rattle.rules.specs.declared.Session.{Session}
@@ -12,12 +12,12 @@ use Rattle.rules.specs.Lists.{All}
 use Rattle.rules.specs.Bytes.{part, nameIn, padded}
 use Rattle.rules.specs.Answers.{waits}
 use Rattle.rules.specs.State.{Queue, Splicer, withWaiting, withStarted}
-use Rattle.places.specs.Places.{Lot, lot, Good, used, width}
+use Rattle.places.specs.Places.{Lot, lot, Good, used, width, places, turned, round, next}
 use Rattle.memory.specs.declared.Which.{Which}
 use Rattle.memory.specs.declared.Which.the-variants.{Waiting, Started}
 
--- ## Where what stands in the words: the clock, how many wait, how many have started, how many of those that wait are each connection's, a
--- word for each connection, the places
+-- ## Where what stands in the words: the clock, how many wait, how many have started, where the ring of those that wait ends, how many of
+-- them are each connection's, a word for each connection, the places
 
 abbrev pub clockWord : ℕ
 clockWord = 0
@@ -27,18 +27,22 @@ abbrev pub slotOf : Which → ℕ
 slotOf Waiting = 1
 slotOf Started = 2
 
+-- the place behind the last of those that wait, "where the ring ends"
+abbrev pub ringWord : ℕ
+ringWord = 3
+
 abbrev pub connections : ℕ
 connections = 4
 
 -- how many of those that wait are each connection's
 abbrev pub firstCount : ℕ
-firstCount = 3
+firstCount = 4
 
 abbrev pub firstLink : ℕ
 firstLink = firstCount + connections
 
 abbrev pub placesOf : Which → ℕ
-placesOf Waiting = 64
+placesOf Waiting = round
 placesOf Started = 10
 
 -- the first word of the places, and the word behind their last
@@ -79,9 +83,18 @@ linksOf m = part firstLink connections m
 abbrev pub countsOf : List ℕ → List ℕ
 countsOf m = part firstCount connections m
 
+-- where the places of a list end: the started never come round
+abbrev pub ringOf : Which → List ℕ → ℕ
+ringOf Waiting m = getD m ringWord 0
+ringOf Started m = 0
+
 -- the places of a list, and how many are used
 abbrev pub lotOf : Which → List ℕ → Lot
-lotOf v m = lot (part (fromOf v) (spanOf v) m) (getD m (slotOf v) 0)
+lotOf v m = lot (part (fromOf v) (spanOf v) m) (ringOf v m) (getD m (slotOf v) 0)
+
+-- the places of those that wait from the place e on, round the ring, used or free
+abbrev pub placesFrom : ℕ → List ℕ → List Session
+placesFrom e m = turned e (places (part (fromOf Waiting) (spanOf Waiting) m))
 
 -- ## What the words show
 
@@ -89,6 +102,7 @@ pub record Memory : Type 0 where
   pub clock : ℕ
   pub links : List Link
   pub queue : Queue
+  pub ringEnd : ℕ
 
 abbrev pub sessions : Which → List ℕ → List Session
 sessions v m = used (lotOf v m)
@@ -99,16 +113,12 @@ see m =
       clock = getD m clockWord 0;
       links = map linkIn (linksOf m);
       queue = record { waiting = sessions Waiting m; started = sessions Started m };
+      ringEnd = ringOf Waiting m;
     }
 
 -- each connection is one of four
 abbrev pub OfFour : Session → Type 0
 OfFour s = s .conn ≤ 3
-
--- what a list asks of a session: one that waits is counted for its connection
-abbrev pub Countable : Which → Session → Type 0
-Countable Waiting s = OfFour s
-Countable Started s = Unit {0}
 
 -- 02, CR 2: how many are each connection's
 unfoldable pub tallied : List Session → List ℕ
@@ -119,6 +129,7 @@ pub record Form (m : List ℕ) : Type 0 where
   pub whole : length m ≡ words
   pub waiting : Good (lotOf Waiting m)
   pub started : Good (lotOf Started m)
+  pub ring : ringOf Waiting m < placesOf Waiting
   pub links : All IsLink (linksOf m)
   pub ofFour : All OfFour (sessions Waiting m)
   pub counts : countsOf m ≡ tallied (sessions Waiting m)
@@ -131,13 +142,13 @@ pub record Now (m : List ℕ) (s : Memory) : Type 0 where
 -- ## With one part made anew
 
 abbrev pub timed : ℕ → Memory → Memory
-timed t s = record { clock = t; links = s .links; queue = s .queue }
+timed t s = record { clock = t; links = s .links; queue = s .queue; ringEnd = s .ringEnd }
 
 abbrev pub linked : ℕ → Link → Memory → Memory
-linked c l s = record { clock = s .clock; links = set (s .links) c l; queue = s .queue }
+linked c l s = record { clock = s .clock; links = set (s .links) c l; queue = s .queue; ringEnd = s .ringEnd }
 
 abbrev pub queued : Queue → Memory → Memory
-queued q s = record { clock = s .clock; links = s .links; queue = q }
+queued q s = record { clock = s .clock; links = s .links; queue = q; ringEnd = s .ringEnd }
 
 abbrev pub listOf : Which → Queue → List Session
 listOf Waiting q = q .waiting
@@ -150,9 +161,18 @@ listed Started l q = withStarted l q
 abbrev pub relisted : Which → List Session → Memory → Memory
 relisted v l s = queued (listed v l (s .queue)) s
 
--- clock 0, all connections closed, no session
+-- 02, CR 11: an acceptance takes the place where the ring ends, and the ring then ends one on; nothing else moves that
+abbrev pub shifted : Bool → ℕ → ℕ
+shifted a e = cond a (next e) e
+
+abbrev pub onward : Bool → Memory → Memory
+onward a s =
+    record { clock = s .clock; links = s .links; queue = s .queue; ringEnd = shifted a (s .ringEnd) }
+
+-- clock 0, all connections closed, no session, the ring at its place 0
 abbrev pub nothingShown : Memory
-nothingShown = record { clock = 0; links = replicate connections Closed; queue = record { waiting = []; started = [] } }
+nothingShown =
+    record { clock = 0; links = replicate connections Closed; queue = record { waiting = []; started = [] }; ringEnd = 0 }
 
 -- ## The bytes: the ChannelName, with zeros behind its end
 

@@ -1,6 +1,6 @@
-// A splicer in two pieces that the caller lends. Its words: the clock, how many wait, how many have started, how many of those that
-// wait are each connection's, a word for each connection, the places of those that wait and of those that have started. Its bytes: the
-// ChannelName with zeros behind its end. Only this crate knows where what stands.
+// A splicer in two pieces that the caller lends. Its words: the clock, how many wait, how many have started, where the ring of those that
+// wait ends, how many of them are each connection's, a word for each connection, the places of those that wait and of those that have
+// started. Its bytes: the ChannelName with zeros behind its end. Only this crate knows where what stands.
 use places::Key;
 use places::WIDTH;
 use rules::Link;
@@ -8,18 +8,20 @@ use rules::Ninths;
 use rules::Session;
 use rules::When;
 ghost use mathlib.Core.Path.{_≡_};
-ghost use mathlib.Core.List.{[]};
-ghost use Prim.Native.Nat.{_≤_, _<_};
-ghost use lib.ListN.{length, set, getD};
+ghost use mathlib.Core.Bool.{true};
+ghost use mathlib.Core.List.{[], _∷_};
+ghost use Prim.Native.Nat.{_+_, _-_, _≤_, _<_};
+ghost use lib.ListN.{length, getD};
 ghost use lib.Seq.{paste};
 ghost use Rattle.rules.specs.declared.Link.the-variants.{Closed};
 ghost use Rattle.rules.specs.Bytes.{nameIn};
 ghost use Rattle.rules.specs.Lists.{omit, place, insertAt, removeAt};
 ghost use Rattle.rules.specs.State.{empty, of, Sorted, earliest};
-ghost use Rattle.places.specs.Places.{keyTest};
+ghost use Rattle.rules.specs.Instants.{onAir};
+ghost use Rattle.places.specs.Places.{keyTest, startsFrom, round};
 ghost use Rattle.memory.specs.declared.Which.the-variants.{Waiting, Started};
-ghost use Rattle.memory.specs.Memory.{slotOf, firstLink, fromOf, toOf, words, placesOf, wordOf, linkIn};
-ghost use Rattle.memory.specs.Memory.{sessions, see, Form, Now, timed, linked, relisted, nothingShown, Countable, tallied};
+ghost use Rattle.memory.specs.Memory.{slotOf, ringOf, firstLink, fromOf, toOf, words, placesOf, wordOf, linkIn};
+ghost use Rattle.memory.specs.Memory.{sessions, see, Form, Now, timed, linked, relisted, onward, nothingShown, OfFour, tallied};
 ghost use Rattle.memory.specs.Memory.{nameBytes, Stored, Named};
 
 // Where what stands in the words.
@@ -29,9 +31,11 @@ const WAITING: usize = 1;
 
 const STARTED: usize = 2;
 
+const RING_END: usize = 3;
+
 const CONNECTIONS: usize = 4;
 
-const COUNTS: usize = 3;
+const COUNTS: usize = 4;
 
 const LINKS: usize = COUNTS + CONNECTIONS;
 
@@ -96,6 +100,18 @@ fn to(which: Which) -> usize
     }
 }
 
+// The place where its ring ends: the started never come round.
+fn ring_end(m: &[u64], which: Which) -> usize
+    requires { ⌜ Form (now m) ⌝ }
+    ensures { λ r. ⌜ r ≡ ringOf which (now (m .entry)) ⌝ }
+    ensures within { λ r. ⌜ r < round ⌝ }
+{
+    match which {
+        Which::Waiting => m[RING_END] as usize,
+        Which::Started => 0,
+    }
+}
+
 // How many there are.
 pub fn count(m: &[u64], which: Which) -> usize
     requires { ⌜ Form (now m) ⌝ }
@@ -112,9 +128,10 @@ pub fn load(m: &[u64], which: Which, at: usize) -> Session
     ensures { λ r. ⌜ r ≡ getD (sessions which (now (m .entry))) at empty ⌝ }
 {
     let n = count(m, which);
+    let r = ring_end(m, which);
     let a = from(which);
     let e = to(which);
-    places::load(&m[a..e], n, at)
+    places::load(&m[a..e], r, n, at)
 }
 
 // The connection of the session `at`.
@@ -124,9 +141,10 @@ pub fn conn_at(m: &[u64], which: Which, at: usize) -> u64
     ensures { λ r. ⌜ r ≡ getD (sessions which (now (m .entry))) at empty .conn ⌝ }
 {
     let n = count(m, which);
+    let r = ring_end(m, which);
     let a = from(which);
     let e = to(which);
-    places::conn_at(&m[a..e], n, at)
+    places::conn_at(&m[a..e], r, n, at)
 }
 
 // The number of the session `at`.
@@ -136,21 +154,20 @@ pub fn id_at(m: &[u64], which: Which, at: usize) -> u64
     ensures { λ r. ⌜ r ≡ getD (sessions which (now (m .entry))) at empty .id ⌝ }
 {
     let n = count(m, which);
+    let r = ring_end(m, which);
     let a = from(which);
     let e = to(which);
-    places::id_at(&m[a..e], n, at)
+    places::id_at(&m[a..e], r, n, at)
 }
 
-// The end of the session `at`.
-pub fn end_at(m: &[u64], which: Which, at: usize) -> Ninths
+// The end of the started session `at`.
+pub fn end_at(m: &[u64], at: usize) -> Ninths
     requires { ⌜ Form (now m) ⌝ }
-    requires { ⌜ at < length (sessions which (now m)) ⌝ }
-    ensures { λ r. ⌜ r ≡ getD (sessions which (now (m .entry))) at empty .end ⌝ }
+    requires { ⌜ at < length (sessions Started (now m)) ⌝ }
+    ensures { λ r. ⌜ r ≡ getD (sessions Started (now (m .entry))) at empty .end ⌝ }
 {
-    let n = count(m, which);
-    let a = from(which);
-    let e = to(which);
-    places::end_at(&m[a..e], n, at)
+    let n = count(m, Which::Started);
+    places::end_at(&m[STARTED_FROM..WORDS], n, at)
 }
 
 // The place of the first that the key looks for, or how many there are.
@@ -159,9 +176,10 @@ pub fn find(m: &[u64], which: Which, key: Key) -> usize
     ensures { λ r. ⌜ r ≡ place (keyTest key) (sessions which (now (m .entry))) ⌝ }
 {
     let n = count(m, which);
+    let r = ring_end(m, which);
     let a = from(which);
     let e = to(which);
-    places::find(&m[a..e], n, key)
+    places::find(&m[a..e], r, n, key)
 }
 
 // 02, CR 2: how many of the waiting are each connection's, as they are kept.
@@ -196,36 +214,60 @@ pub fn first_start(m: &[u64]) -> When
     if n == 0 {
         return When::Never;
     }
-    When::At(places::start_at(&m[WAITING_FROM..STARTED_FROM], n, 0))
+    let r = ring_end(m, Which::Waiting);
+    When::At(places::start_at(&m[WAITING_FROM..STARTED_FROM], r, n, 0))
 }
 
-// x in place of the started session `at`.
-pub fn replace(m: &mut [u64], at: usize, x: Session)
+// The first of the started has played d ninths more.
+pub fn play(m: &mut [u64], d: u64)
     requires { ⌜ Form (now m) ⌝ }
-    requires { ⌜ at < length (sessions Started (now m)) ⌝ }
-    ensures { λ _. ⌜ Now (now (m .exit)) (relisted Started (set (sessions Started (now (m .entry))) at x) (see (now (m .entry)))) ⌝ }
+    requires { ⌜ 0 < length (sessions Started (now m)) ⌝ }
+    requires { ⌜ getD (sessions Started (now m)) 0 empty .played .0 + d < 18446744073709551616 ⌝ }
+    ensures { λ _. ⌜ Now (now (m .exit)) (relisted Started (onAir d (sessions Started (now (m .entry)))) (see (now (m .entry)))) ⌝ }
 {
     let n = count(&*m, Which::Started);
-    places::replace_at(&mut m[STARTED_FROM..WORDS], n, at, x)
+    places::play(&mut m[STARTED_FROM..WORDS], n, d)
 }
 
-// x before the session `at`. One that waits counts for its connection.
-pub fn insert(m: &mut [u64], which: Which, at: usize, x: Session)
+// The place of the first of the waiting that starts at t or later, or how many there are; they stand in order of start.
+pub fn find_start(m: &[u64], t: Ninths) -> usize
     requires { ⌜ Form (now m) ⌝ }
-    requires { ⌜ (at ≤ length (sessions which (now m))) × (length (sessions which (now m)) < placesOf which) ⌝ }
-    requires { ⌜ Countable which x ⌝ }
-    ensures { λ _. ⌜ Now (now (m .exit)) (relisted which (insertAt at x (sessions which (now (m .entry)))) (see (now (m .entry)))) ⌝ }
+    requires { ⌜ Sorted (sessions Waiting (now m)) ⌝ }
+    ensures { λ r. ⌜ r ≡ place (startsFrom (t .0)) (sessions Waiting (now (m .entry))) ⌝ }
 {
-    let n = count(&*m, which);
-    let a = from(which);
-    let e = to(which);
-    places::insert_at(&mut m[a..e], n, at, x);
-    let i = slot(which);
-    m[i] = (n + 1) as u64;
-    if let Which::Waiting = which {
-        let c = COUNTS + x.conn as usize;
-        m[c] += 1;
-    }
+    let n = count(m, Which::Waiting);
+    let r = ring_end(m, Which::Waiting);
+    places::find_from(&m[WAITING_FROM..STARTED_FROM], r, n, t)
+}
+
+// x before the session `at` of those that wait, counted for its connection, and the ring's end one on. How many places were shifted.
+pub fn accept(m: &mut [u64], at: usize, x: Session) -> usize
+    requires { ⌜ Form (now m) ⌝ }
+    requires { ⌜ (at ≤ length (sessions Waiting (now m))) × (length (sessions Waiting (now m)) < placesOf Waiting) ⌝ }
+    requires { ⌜ OfFour x ⌝ }
+    ensures shows { λ _.
+        ⌜ Now (now (m .exit)) (onward true (relisted Waiting (insertAt at x (sessions Waiting (now (m .entry)))) (see (now (m .entry))))) ⌝ }
+    ensures moves { λ r. ⌜ r ≡ length (sessions Waiting (now (m .entry))) - at ⌝ }
+{
+    let n = count(&*m, Which::Waiting);
+    let r = ring_end(&*m, Which::Waiting);
+    let moves = places::insert_at(&mut m[WAITING_FROM..STARTED_FROM], r, n, at, x);
+    m[WAITING] = (n + 1) as u64;
+    m[RING_END] = ((r + 1) % WAITING_PLACES) as u64;
+    let c = COUNTS + x.conn as usize;
+    m[c] += 1;
+    moves
+}
+
+// x before the first of the started.
+pub fn push(m: &mut [u64], x: Session)
+    requires { ⌜ Form (now m) ⌝ }
+    requires { ⌜ length (sessions Started (now m)) < placesOf Started ⌝ }
+    ensures { λ _. ⌜ Now (now (m .exit)) (relisted Started (x ∷ sessions Started (now (m .entry))) (see (now (m .entry)))) ⌝ }
+{
+    let n = count(&*m, Which::Started);
+    places::push(&mut m[STARTED_FROM..WORDS], n, x);
+    m[STARTED] = (n + 1) as u64;
 }
 
 // Without the session `at`, which no longer counts.
@@ -236,9 +278,10 @@ pub fn remove(m: &mut [u64], which: Which, at: usize)
 {
     let whose = conn_at(&*m, which, at);
     let n = count(&*m, which);
+    let r = ring_end(&*m, which);
     let a = from(which);
     let e = to(which);
-    places::remove_at(&mut m[a..e], n, at);
+    places::remove_at(&mut m[a..e], r, n, at);
     let i = slot(which);
     m[i] = (n - 1) as u64;
     if let Which::Waiting = which {
@@ -256,9 +299,10 @@ pub fn omit_of(m: &mut [u64], which: Which, conn: u64, left: usize)
         (relisted which (omit (of conn) (sessions which (now (m .entry)))) (see (now (m .entry)))) ⌝ }
 {
     let n = count(&*m, which);
+    let r = ring_end(&*m, which);
     let a = from(which);
     let e = to(which);
-    places::omit_of(&mut m[a..e], n, conn, left);
+    places::omit_of(&mut m[a..e], r, n, conn, left);
     let i = slot(which);
     m[i] = left as u64;
     if let Which::Waiting = which {
@@ -327,7 +371,7 @@ pub fn set_link(m: &mut [u64], c: u32, l: Link)
     m[at] = word_of(l);
 }
 
-// Clock 0, all connections closed, no session.
+// Clock 0, all connections closed, no session, the ring at its place 0.
 pub fn clear(m: &mut [u64; WORDS])
     ensures { λ _. ⌜ Now (now (m .exit)) nothingShown ⌝ }
 {

@@ -1,54 +1,29 @@
--- Laws of the list in lent places: it is padded with empty ones, a shift moves a hole, a loop has passed a part of it.
+-- Laws of the list in a ring of places: it is padded with empty ones, a loop has passed a part of it, a search has halved it.
+-- Rests on Words and Ring: the place i of the ring is a row of the words.
 use mathlib.Core.Path.{_≡_, refl, sym, ap, ap₂, subst, _∙_}
 use mathlib.Core.List.{List, [], _∷_, _++_, append-assoc}
-use mathlib.Core.Bool.{Bool, true, false, not, _||_}
-use Prim.Native.Nat.{ℕ, zero, suc, _+_, _-_, _*_, _/_, _≤_, _<_}
+use mathlib.Core.Bool.{Bool, true, false, cond, not, _||_}
+use Prim.Native.Nat.{ℕ, zero, suc, _+_, _-_, _*_, _/_, _%_, _≤_, _<_}
 use native.Mathlib.Omega.{arith}
 use native.Mathlib.Numerals.{add-one}
 use native.Mathlib.Nat.{not-suc-le-zero, le-of-suc-le-suc}
-use borrow.Author.Tests.{ltb-true, ltb-false, lt-ltb, le-ltb}
+use borrow.Author.Tests.{ltb-true, ltb-false, lt-ltb, le-ltb, le-leb, lt-leb}
 use lib.Dec.{ltb}
 use lib.ListN.{length, take, drop, set, getD, replicate, length-append, length-set, length-take, length-drop, length-replicate, take-append-drop, drop-of-length-le}
 use lib.Seq.{drop-cons, drop-drop, take-length, length-take-le, take-take, getD-take, take-append-add, drop-append-add, take-at, drop-at, getD-drop, take-set-le, drop-set-add}
 use Rattle.rules.specs.declared.Session.{Session}
 use Rattle.rules.specs.Lists.{put, omit, some, place, insertAt, removeAt}
-use Rattle.rules.specs.State.{empty}
+use Rattle.rules.specs.State.{empty, Sorted}
+use Rattle.rules.specs.Instants.{playing, onAir}
 use Rattle.rules.proofs.Count.{length-insertAt, length-removeAt, length-split, place≤}
-use Rattle.rules.proofs.Every.{each-at, none-some}
-use Rattle.places.specs.Places.{capacity, Lot, lot, places, spare, zeros, free, Good, used, endsFirst, leastEnd}
-use Rattle.places.proofs.Words.{length-places, loaded, load-is, places-zero, places-same}
+use Rattle.rules.proofs.Every.{all-getD, each-at, none-some}
+use Rattle.places.specs.Places.{width, capacity, Row, round, turned, Ring, Lot, lot, places, spare, zeros, free, Good, Made, used, startsFrom, endsFirst, leastEnd}
+use Rattle.places.proofs.Words.{length-places, loaded, load-is, store-is, store-spare, store-played, places-zero, places-same}
+use Rattle.places.proofs.Ring.{size, turned-none, turned-same, flat-set, row-of, row-read}
 
 -- ## Lists
 
 module _ {A : Type 0} where
-  -- a hole moves: what stood before it, or behind it, goes in, and the rest stays
-  before : (l : List A) (i : ℕ) (d : A) → suc i < length l → removeAt i (set l (suc i) (getD l i d)) ≡ removeAt (suc i) l
-  unfolding removeAt
-  before [] i d h = absurd (not-suc-le-zero h)
-  before (x ∷ []) zero d h = absurd (omega arith)
-  before (x ∷ y ∷ l) zero d h = refl
-  before (x ∷ l) (suc i) d h = ap (λ r. x ∷ r) (before l i d (le-of-suc-le-suc h))
-
-  behind : (l : List A) (i : ℕ) (d : A) → suc i < length l → removeAt (suc i) (set l i (getD l (suc i) d)) ≡ removeAt i l
-  unfolding removeAt
-  behind [] i d h = absurd (not-suc-le-zero h)
-  behind (x ∷ []) zero d h = absurd (omega arith)
-  behind (x ∷ y ∷ l) zero d h = refl
-  behind (x ∷ l) (suc i) d h = ap (λ r. x ∷ r) (behind l i d (le-of-suc-le-suc h))
-
-  pub hole-before : (l : List A) (i k : ℕ) (d : A) → k ≡ suc i → k < length l → removeAt i (set l k (getD l i d)) ≡ removeAt k l
-  hole-before l i k d e h = rw e (before l i d (omega arith))
-
-  pub hole-behind : (l : List A) (i k : ℕ) (d : A) → k ≡ suc i → k < length l → removeAt k (set l i (getD l k d)) ≡ removeAt i l
-  hole-behind l i k d e h = rw e (behind l i d (omega arith))
-
-  -- and is filled
-  pub hole-filled : (l : List A) (i : ℕ) (x : A) → i < length l → set l i x ≡ insertAt i x (removeAt i l)
-  unfolding insertAt removeAt
-  hole-filled [] i x h = absurd (not-suc-le-zero h)
-  hole-filled (y ∷ l) zero x h = refl
-  hole-filled (y ∷ l) (suc i) x h = ap (λ r. y ∷ r) (hole-filled l i x (le-of-suc-le-suc h))
-
   -- behind the front p of a list
   insertAt-add : (p l : List A) (n : ℕ) (x : A) → insertAt (length p + n) x (p ++ l) ≡ p ++ insertAt n x l
   unfolding insertAt
@@ -69,10 +44,10 @@ module _ {A : Type 0} where
   one-more zero x l = refl
   one-more (suc n) x l = ap (λ r. x ∷ r) (one-more n x l)
 
-  one-less : (n : ℕ) (x : A) (l : List A) → removeAt n (x ∷ (replicate n x ++ l)) ≡ replicate n x ++ l
-  unfolding removeAt
-  one-less zero x l = refl
-  one-less (suc n) x l = ap (λ r. x ∷ r) (one-less n x l)
+  -- the last of them is another
+  last-of : (n : ℕ) (x y : A) (l : List A) → set (replicate (suc n) x ++ l) n y ≡ replicate n x ++ (y ∷ l)
+  last-of zero x y l = refl
+  last-of (suc n) x y l = ap (λ r. x ∷ r) (last-of n x y l)
 
   -- the first goes
   pub removeAt-drop : (k i : ℕ) (l : List A) → i ≡ suc k → removeAt 0 (drop k l) ≡ drop i l
@@ -127,14 +102,14 @@ up-to {P} i j h f g = go (ltb j i) refl
 -- ## The list in its places
 
 -- the list u in the last of m places
-unfoldable pad : ℕ → List Session → List Session
+unfoldable pub pad : ℕ → List Session → List Session
 pad m u = replicate (m - length u) empty ++ u
 
 pub length-used : (q : Lot) → Good q → length (used q) ≡ q .len
 length-used q g = length-drop (free q) (q .items) ∙ omega (arith, g .fits)
 
 -- good places are their list, padded
-padded : (q : Lot) → Good q → q .items ≡ pad (length (q .items)) (used q)
+pub padded : (q : Lot) → Good q → q .items ≡ pad (length (q .items)) (used q)
 unfolding pad
 padded q g =
     sym (take-append-drop (free q) (q .items))
@@ -160,37 +135,56 @@ same p q g h m e =
     let len : p .len ≡ q .len = sym (length-used p g) ∙ ap length e ∙ length-used q h in
     λ i. record { items = items i; len = len i }
 
--- and, with the spare ones, every word
-pub words-same : (p q : List ℕ) (m n : ℕ) → Good (lot p m) → Good (lot q n) → length p ≡ length q → used (lot p m) ≡ used (lot q n) → spare p ≡ spare q → p ≡ q
-words-same p q m n g h l e d =
-    let s = same (lot p m) (lot q n) g h (length-places p ∙ ap (λ (i : ℕ). i / 8) l ∙ sym (length-places q)) e in
-    places-same p q l (ap (λ r. r .items) s) d
+-- and, with the spare ones and the ring's end, every word
+pub words-same : (p q : List ℕ) (e m n : ℕ) → Good (lot p e m) → Good (lot q e n) → length p ≡ length q → used (lot p e m) ≡ used (lot q e n) → spare p ≡ spare q → p ≡ q
+words-same p q e m n g h l u d =
+    let k : capacity p ≡ capacity q = ap (λ (i : ℕ). i / width) l in
+    let s = same (lot p e m) (lot q e n) g h (size p e ∙ k ∙ sym (size q e)) u in
+    places-same p q l (turned-same e (places p) (places q) (length-places p ∙ k ∙ sym (length-places q)) (ap (λ r. r .items) s)) d
 
 -- zeros are good, and hold nothing
-pub cleared : (m : ℕ) → Good (lot (zeros m) 0)
+pub cleared : (m : ℕ) → Good (lot (zeros m) 0 0)
 cleared m =
-    let e : capacity (zeros m) ≡ length (places (zeros m)) = sym (length-places (zeros m)) in
-    let z : length (places (zeros m)) - 0 ≡ length (places (zeros m)) = omega arith in
-    record { fits = omega arith; clear = rw z (take-length (places (zeros m)) ∙ places-zero m ∙ ap (λ (i : ℕ). replicate i empty) e) }
+    let l = turned 0 (places (zeros m)) in
+    let e : capacity (zeros m) ≡ length l = sym (size (zeros m) 0) in
+    let z : length l - 0 ≡ length l = omega arith in
+    record {
+      fits = omega arith;
+      clear = rw z (take-length l ∙ turned-none (places (zeros m)) ∙ places-zero m ∙ ap (λ (i : ℕ). replicate i empty) e);
+    }
 
--- what `insert_at` leaves: the hole, that was before the first, is x before the session `at`
-pub insert-made : (q : Lot) (r : List Session) (at k : ℕ) (x : Session) → Good q → q .len < length (q .items) → suc k ≡ free q → at ≤ q .len →
-    r ≡ insertAt (k + at) x (removeAt k (q .items)) →
+-- what `insert_at` leaves: the first of the free places goes, and x comes before the session `at`
+pub insert-made : (q : Lot) (r : List Session) (at k : ℕ) (x : Session) → Good q → suc k ≡ free q → at ≤ q .len →
+    r ≡ insertAt (k + at) x (drop 1 (q .items)) →
     Good (record { items = r; len = q .len + 1 }) × (used (record { items = r; len = q .len + 1 }) ≡ insertAt at x (used q))
 unfolding pad
-insert-made q r at k x g l d a e =
+insert-made q r at k x g d a e =
     let u = used q in
     let m = length (q .items) in
     let n : length u ≡ q .len = length-used q g in
     let c : length (insertAt at x u) ≡ suc (length u) = length-insertAt at x u in
     let z : m - length u ≡ suc k = omega arith in
     let p = replicate k empty in
-    let f : removeAt k (q .items) ≡ p ++ u = ap (removeAt k) (padded q g ∙ ap (λ (j : ℕ). replicate j empty ++ u) z) ∙ one-less k empty u in
+    let f : drop 1 (q .items) ≡ p ++ u = ap (drop 1) (padded q g ∙ ap (λ (j : ℕ). replicate j empty ++ u) z) in
     let i : insertAt (k + at) x (p ++ u) ≡ p ++ insertAt at x u =
     ap (λ (j : ℕ). insertAt (j + at) x (p ++ u)) (sym (length-replicate k empty)) ∙ insertAt-add p u at x in
     let y : k ≡ m - length (insertAt at x u) = omega arith in
     made m (insertAt at x u) (record { items = r; len = q .len + 1 }) (omega arith)
     (e ∙ ap (insertAt (k + at) x) f ∙ i ∙ ap (λ (j : ℕ). replicate j empty ++ insertAt at x u) y) (omega arith)
+
+-- what `push` leaves: the last of the free places is x
+pub push-made : (q : Lot) (r : List Session) (k : ℕ) (x : Session) → Good q → suc k ≡ free q → r ≡ set (q .items) k x →
+    Good (record { items = r; len = q .len + 1 }) × (used (record { items = r; len = q .len + 1 }) ≡ x ∷ used q)
+unfolding pad
+push-made q r k x g d e =
+    let u = used q in
+    let m = length (q .items) in
+    let n : length u ≡ q .len = length-used q g in
+    let z : m - length u ≡ suc k = omega arith in
+    let f : q .items ≡ replicate (suc k) empty ++ u = padded q g ∙ ap (λ (j : ℕ). replicate j empty ++ u) z in
+    let y : k ≡ m - suc (length u) = omega arith in
+    made m (x ∷ u) (record { items = r; len = q .len + 1 }) (omega arith)
+    (e ∙ ap (λ l. set l k x) f ∙ last-of k empty x u ∙ ap (λ (j : ℕ). replicate j empty ++ (x ∷ u)) y) (omega arith)
 
 -- what `remove_at` leaves: the hole, that was the session `at`, is empty before the first
 pub remove-made : (q : Lot) (r : List Session) (at k : ℕ) → Good q → at < q .len → k ≡ free q →
@@ -215,41 +209,80 @@ remove-made q r at k g a d e =
     ∙ one-more k empty (removeAt at u)
     ∙ ap (λ (j : ℕ). replicate j empty ++ removeAt at u) y) (omega arith)
 
--- what a search gives is a place, or the end
-pub found-within : (p : Session → Bool) (q : Lot) (i : ℕ) → Good q → i ≡ place p (used q) → i ≤ q .len
-found-within p q i g e = omega (arith, place≤ p (used q), length-used q g)
-
 -- no more are used than there are places
-pub used-fits : (q : List ℕ) (n : ℕ) → Good (lot q n) → n ≤ capacity q
-used-fits q n g = omega (arith, g .fits, length-places q)
+pub used-fits : (q : List ℕ) (e n : ℕ) → Good (lot q e n) → n ≤ capacity q
+used-fits q e n g = omega (arith, g .fits, size q e)
 
 -- nor do more stay
 pub stay-fits : (p : Session → Bool) (q : Lot) (k : ℕ) → Good q → k ≡ length (omit p (used q)) → k ≤ q .len
 stay-fits p q k g e = omega (arith, length-split p (used q), length-used q g)
 
--- the session `at` of the words q: its place is one of the words, and holds what the list has there
-module _ (q : List ℕ) (n at : ℕ) (g : Good (lot q n)) (h : at < n) where
+-- the session `at` of the words q: its place is one of the ring, and holds what the list has there
+module _ (q : List ℕ) (e n at : ℕ) (g : Good (lot q e n)) (h : at < n) where
   pub slot-within : capacity q - n + at < capacity q
-  slot-within = omega (arith, g .fits, length-places q)
+  slot-within = omega (arith, used-fits q e n g)
 
-  pub slot-read : (d : Session) → getD (places q) (capacity q - n + at) d ≡ getD (used (lot q n)) at d
-  slot-read d = ap (λ (m : ℕ). getD (places q) (m - n + at) d) (sym (length-places q)) ∙ sym (getD-drop (free (lot q n)) (places q) at d)
+  pub slot-read : (d : Session) → getD (turned e (places q)) (capacity q - n + at) d ≡ getD (used (lot q e n)) at d
+  slot-read d = ap (λ (m : ℕ). getD (turned e (places q)) (m - n + at) d) (sym (size q e)) ∙ sym (getD-drop (free (lot q e n)) (turned e (places q)) at d)
 
-  pub slot-word : loaded q ((capacity q - n + at) * 8) ≡ getD (used (lot q n)) at empty
-  slot-word = load-is q (capacity q - n + at) empty slot-within ∙ slot-read empty
-
-  pub slot-set : (r : List Session) (x : Session) → r ≡ set (places q) (capacity q - n + at) x →
-      Good (record { items = r; len = n }) × (used (record { items = r; len = n }) ≡ set (used (lot q n)) at x)
-  slot-set r x e =
-      let k = length (places q) - n in
-      let f : r ≡ set (places q) (k + at) x = e ∙ ap (λ (m : ℕ). set (places q) (m - n + at) x) (sym (length-places q)) in
-      let m : length r ≡ length (places q) = ap length f ∙ length-set (places q) (k + at) x in (
+  pub slot-set : (r : List Session) (x : Session) → r ≡ set (turned e (places q)) (capacity q - n + at) x →
+      Good (record { items = r; len = n }) × (used (record { items = r; len = n }) ≡ set (used (lot q e n)) at x)
+  slot-set r x c =
+      let l = turned e (places q) in
+      let k = length l - n in
+      let f : r ≡ set l (k + at) x = c ∙ ap (λ (m : ℕ). set l (m - n + at) x) (sym (size q e)) in
+      let m : length r ≡ length l = ap length f ∙ length-set l (k + at) x in (
         record {
           fits = omega (arith, g .fits);
-          clear = rw m (ap (take k) f ∙ take-set-le k (places q) (k + at) x (omega arith) ∙ g .clear);
+          clear = rw m (ap (take k) f ∙ take-set-le k l (k + at) x (omega arith) ∙ g .clear);
         },
-        rw m (ap (drop k) f ∙ drop-set-add k (places q) at x),
+        rw m (ap (drop k) f ∙ drop-set-add k l at x),
       )
+
+  -- b is its first word
+  module _ (b : ℕ) (r : Ring (capacity q) e) (w : b ≡ (e + (capacity q - n + at)) % round * width) where
+    pub slot-row : Row b q
+    slot-row = row-of q e (capacity q - n + at) b r slot-within w
+
+    pub slot-place : getD (places q) (b / width) empty ≡ getD (used (lot q e n)) at empty
+    slot-place = row-read q e (capacity q - n + at) b r slot-within w empty ∙ slot-read empty
+
+    pub slot-word : loaded q b ≡ getD (used (lot q e n)) at empty
+    slot-word = load-is q b empty slot-row ∙ slot-place
+
+-- in places that never come round: b is its first word
+module _ (q : List ℕ) (n at : ℕ) (g : Good (lot q 0 n)) (h : at < n) (b : ℕ) (w : b ≡ (capacity q - n + at) * width) where
+  pub flat-row : Row b q
+  flat-row = (omega arith, omega (arith, slot-within q 0 n at g h))
+
+  pub flat-word : loaded q b ≡ getD (used (lot q 0 n)) at empty
+  flat-word =
+      let i : b / width ≡ capacity q - n + at = omega arith in
+      load-is q b empty flat-row
+      ∙ ap₂ (λ (l : List Session) (j : ℕ). getD l j empty) (sym (turned-none (places q))) i
+      ∙ slot-read q 0 n at g h empty
+
+-- what `play` leaves: the first has played on
+first-plays : (d : ℕ) (u : List Session) → 0 < length u → set u 0 (playing d (getD u 0 empty)) ≡ onAir d u
+unfolding onAir
+first-plays d [] h = absurd (not-suc-le-zero h)
+first-plays d (x ∷ u) h = refl
+
+pub play-made : (q : List ℕ) (n d b : ℕ) → Good (lot q 0 n) → 0 < n → b ≡ (capacity q - n) * width →
+    Made q (set q (b + 7) (getD q (b + 7) 0 + d)) 0 n (onAir d (used (lot q 0 n)))
+play-made q n d b g h w =
+    let v : b ≡ (capacity q - n + 0) * width = omega arith in
+    let r = flat-row q n 0 g h b v in
+    let x = playing d (loaded q b) in
+    let y = store-played q b d in
+    let p = ap places (sym y) ∙ store-is q b x r in
+    let m = slot-set q 0 n 0 g h _ x (flat-set q b (capacity q - n + 0) x (omega arith) _ p) in
+    let u = used (lot q 0 n) in
+    record {
+      good = m .0;
+      list = m .1 ∙ ap (λ s. set u 0 (playing d s)) (flat-word q n 0 g h b v) ∙ first-plays d u (omega (arith, length-used (lot q 0 n) g));
+      rest = ap spare (sym y) ∙ store-spare q b x r;
+    }
 
 -- ## Loops over the used places: i of them are passed, and the rest decides
 
@@ -267,8 +300,8 @@ at-end q i g h =
     let n : length (used q) ≡ q .len = length-used q g in
     drop-of-length-le (used q) {i = i} (omega arith)
 
-pub cleared-none : (m : ℕ) → used (lot (zeros m) 0) ≡ []
-cleared-none m = at-end (lot (zeros m) 0) 0 (cleared m) (omega arith)
+pub cleared-none : (m : ℕ) → used (lot (zeros m) 0 0) ≡ []
+cleared-none m = at-end (lot (zeros m) 0 0) 0 (cleared m) (omega arith)
 
 pub sought-none : (p : Session → Bool) (q : Lot) → Sought p q 0
 sought-none p q = (omega arith, omega arith)
@@ -290,6 +323,40 @@ unfolding place
 sought-out p q i g h s =
     let f : place p (drop i (used q)) ≡ 0 = rw (at-end q i g h) refl in
     omega (arith, s .1)
+
+-- ## A search by halving: the place lies from `low` on, and not behind `high`
+
+abbrev pub Halved : ℕ → Lot → ℕ → ℕ → Type 0
+Halved t q low high = (low ≤ place (startsFrom t) (used q)) × (place (startsFrom t) (used q) ≤ high) × (high ≤ q .len)
+
+place-before : (p : Session → Bool) (l : List Session) (i : ℕ) (d : Session) → p (getD l i d) ≡ true → i < length l → place p l ≤ i
+unfolding place
+place-before p [] i d e h = absurd (not-suc-le-zero h)
+place-before p (x ∷ l) zero d e h = rw e (omega arith)
+place-before p (x ∷ l) (suc i) d e h = go (p x) (place-before p l i d e (le-of-suc-le-suc h))
+  where
+    go : (b : Bool) → place p l ≤ i → cond b 0 (suc (place p l)) ≤ suc i
+    go true k = omega arith
+    go false k = omega arith
+
+place-behind : (t : ℕ) (l : List Session) (i : ℕ) (d : Session) → Sorted l → getD l i d .start .0 < t → i < length l → i < place (startsFrom t) l
+unfolding place
+place-behind t [] i d o e h = absurd (not-suc-le-zero h)
+place-behind t (x ∷ l) zero d o e h = rw (lt-leb t (x .start .0) e) (omega arith)
+place-behind t (x ∷ l) (suc i) d o e h =
+    let k = le-of-suc-le-suc h in
+    rw (lt-leb t (x .start .0) (omega (arith, all-getD (λ u. x .start .0 < u .start .0) l i d k (o .0)))) (omega (arith, place-behind t l i d (o .1) e k))
+
+pub halved-all : (t : ℕ) (q : Lot) → Good q → Halved t q 0 (q .len)
+halved-all t q g = (omega arith, omega (arith, place≤ (startsFrom t) (used q), length-used q g), omega arith)
+
+module _ (t : ℕ) (q : Lot) (low high mid : ℕ) (g : Good q) (h : mid < high) (s : Halved t q low high) where
+  pub halved-low : getD (used q) mid empty .start .0 < t → Sorted (used q) → Halved t q (mid + 1) high
+  halved-low e o = (omega (arith, place-behind t (used q) mid empty o e (omega (arith, length-used q g, s .2))), s .1, s .2)
+
+  pub halved-high : t ≤ getD (used q) mid empty .start .0 → Halved t q low mid
+  halved-high e =
+      (s .0, place-before (startsFrom t) (used q) mid empty (le-leb t (getD (used q) mid empty .start .0) e) (omega (arith, length-used q g, s .2)), omega (arith, s .2))
 
 -- ## The place of the first end: best is among the first i, ends first of them, and none before it ends as early
 

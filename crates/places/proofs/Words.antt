@@ -1,14 +1,15 @@
 -- Laws of the places of lent words: a place is read and written as an element of a list.
 use mathlib.Core.Path.{_≡_, refl, ap, _∙_}
 use mathlib.Core.List.{List, [], _∷_}
-use Prim.Native.Nat.{ℕ, zero, suc, _+_, _*_, _≤_, _<_}
+use Prim.Native.Nat.{ℕ, zero, suc, _+_, _*_, _/_, _%_, _≤_, _<_}
 use native.Mathlib.Omega.{arith}
 use native.Mathlib.Nat.{le-of-suc-le-suc}
 use lib.ListN.{length, drop, set, getD, replicate, length-set, length-drop, drop-of-length-le}
-use lib.Seq.{getD-drop, drop-set-lt}
+use lib.Seq.{getD-drop, set-getD, drop-set-lt}
 use Rattle.rules.specs.declared.Session.{Session}
 use Rattle.rules.specs.State.{empty}
-use Rattle.places.specs.Places.{capacity, width, row, rows, places, spare, zeros}
+use Rattle.rules.specs.Instants.{playing}
+use Rattle.places.specs.Places.{capacity, width, row, Row, rows, places, spare, zeros}
 
 pub length-rows : (n : ℕ) (q : List ℕ) → length (rows n q) ≡ n
 unfolding rows
@@ -79,28 +80,38 @@ rows-stored (suc n) (suc i) q x h m =
     (ap (λ r. row (a ∷ b ∷ c ∷ e ∷ f ∷ g ∷ j ∷ k ∷ l) ∷ r) (rows-stored n i l x (le-of-suc-le-suc h) m′)))
     (simp length-drop (omega arith))
 
-pub load-is : (q : List ℕ) (i : ℕ) (d : Session) → i < capacity q → loaded q (i * 8) ≡ getD (places q) i d
-load-is q i d h = rows-loaded (capacity q) i q d h (omega arith)
+whole : (b : ℕ) → b % width ≡ 0 → b ≡ b / width * width
+whole b h = omega arith
 
-pub store-is : (q : List ℕ) (i : ℕ) (x : Session) → i < capacity q → places (stored q (i * 8) x) ≡ set (places q) i x
-store-is q i x h =
-    let n : length (stored q (i * 8) x) ≡ length q = simp length-set in
-    rw n (rows-stored (capacity q) i q x h (omega arith))
+-- the words from the first of a place on
+pub load-is : (q : List ℕ) (b : ℕ) (d : Session) → Row b q → loaded q b ≡ getD (places q) (b / width) d
+load-is q b d r = ap (loaded q) (whole b (r .0)) ∙ rows-loaded (capacity q) (b / width) q d (r .1) (omega arith)
 
-pub store-spare : (q : List ℕ) (i : ℕ) (x : Session) → i < capacity q → spare (stored q (i * 8) x) ≡ spare q
-store-spare q i x h =
-    let n : length (stored q (i * 8) x) ≡ length q = simp length-set in
-    let b : (j : ℕ) → j < 8 → i * 8 + j < capacity q * width = λ j k. omega arith in
+pub store-is : (q : List ℕ) (b : ℕ) (x : Session) → Row b q → places (stored q b x) ≡ set (places q) (b / width) x
+store-is q b x r =
+    let n : length (stored q b x) ≡ length q = simp length-set in
+    rw n (ap (λ (i : ℕ). rows (capacity q) (stored q i x)) (whole b (r .0)) ∙ rows-stored (capacity q) (b / width) q x (r .1) (omega arith))
+
+pub store-spare : (q : List ℕ) (b : ℕ) (x : Session) → Row b q → spare (stored q b x) ≡ spare q
+store-spare q b x r =
+    let n : length (stored q b x) ≡ length q = simp length-set in
     let m = capacity q * width in
+    let w : (j : ℕ) → j < 8 → b + j < m = λ j k. omega (arith, r .0, r .1) in
     rw n
-    (drop-set-lt m _ (i * 8 + 7) _ (b 7 (omega arith))
-    ∙ drop-set-lt m _ (i * 8 + 6) _ (b 6 (omega arith))
-    ∙ drop-set-lt m _ (i * 8 + 5) _ (b 5 (omega arith))
-    ∙ drop-set-lt m _ (i * 8 + 4) _ (b 4 (omega arith))
-    ∙ drop-set-lt m _ (i * 8 + 3) _ (b 3 (omega arith))
-    ∙ drop-set-lt m _ (i * 8 + 2) _ (b 2 (omega arith))
-    ∙ drop-set-lt m _ (i * 8 + 1) _ (b 1 (omega arith))
-    ∙ drop-set-lt m _ (i * 8 + 0) _ (b 0 (omega arith)))
+    (drop-set-lt m _ (b + 7) _ (w 7 (omega arith))
+    ∙ drop-set-lt m _ (b + 6) _ (w 6 (omega arith))
+    ∙ drop-set-lt m _ (b + 5) _ (w 5 (omega arith))
+    ∙ drop-set-lt m _ (b + 4) _ (w 4 (omega arith))
+    ∙ drop-set-lt m _ (b + 3) _ (w 3 (omega arith))
+    ∙ drop-set-lt m _ (b + 2) _ (w 2 (omega arith))
+    ∙ drop-set-lt m _ (b + 1) _ (w 1 (omega arith))
+    ∙ drop-set-lt m _ (b + 0) _ (w 0 (omega arith)))
+
+-- where only the playing goes on, the other words stay
+pub store-played : (q : List ℕ) (b d : ℕ) → stored q b (playing d (loaded q b)) ≡ set q (b + 7) (getD q (b + 7) 0 + d)
+store-played q b d =
+    rw (set-getD q (b + 0) 0, set-getD q (b + 1) 0, set-getD q (b + 2) 0, set-getD q (b + 3) 0, set-getD q (b + 4) 0, set-getD q (b + 5) 0, set-getD q (b + 6) 0)
+    refl
 
 -- the words are determined by what their places hold and the spare ones
 rows-same : (n : ℕ) (p q : List ℕ) → n * 8 ≤ length p → n * 8 ≤ length q → rows n p ≡ rows n q → drop (n * 8) p ≡ drop (n * 8) q → p ≡ q

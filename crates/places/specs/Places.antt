@@ -1,15 +1,15 @@
 -- The sessions that lent words hold, what is asked of the words, and what a search looks for.
 use mathlib.Core.Path.{_≡_}
-use mathlib.Core.List.{List, [], _∷_}
+use mathlib.Core.List.{List, [], _∷_, _++_}
 use mathlib.Core.Bool.{Bool, not}
-use Prim.Native.Nat.{ℕ, zero, suc, _-_, _*_, _/_, _≤_}
+use Prim.Native.Nat.{ℕ, zero, suc, _+_, _-_, _*_, _/_, _%_, _≤_, _<_}
 use lib.Dec.{leb, ltb}
 use lib.ListN.{length, take, drop, set, getD, replicate}
 use Rattle.rules.specs.declared.Session.{Session}
 use Rattle.rules.specs.Lists.{some, place}
-use Rattle.rules.specs.State.{empty, is, follows, startsAfter}
+use Rattle.rules.specs.State.{empty, is, follows}
 use Rattle.places.specs.declared.Key.{Key}
-use Rattle.places.specs.declared.Key.the-variants.{Held, Follows, StartsFrom, StartsAfter}
+use Rattle.places.specs.declared.Key.the-variants.{Held, Follows}
 
 -- the words of a place
 abbrev pub width : ℕ
@@ -33,6 +33,10 @@ row q =
       played = record { 0 = getD q 7 0 };
     }
 
+-- b is the first word of a place of the words q
+abbrev pub Row : (b : ℕ) (q : List ℕ) → Type 0
+Row b q = (b % width ≡ 0) × (b / width < capacity q)
+
 -- n sessions, one behind the other
 unfoldable pub rows : ℕ → List ℕ → List Session
 rows zero q = []
@@ -50,15 +54,33 @@ spare q = drop (capacity q * width) q
 abbrev pub zeros : ℕ → List ℕ
 zeros n = replicate n 0
 
+-- what a ring of places goes round at
+abbrev pub round : ℕ
+round = 64
+
+-- the places from e on, and round the end
+unfoldable pub turned : ℕ → List Session → List Session
+turned e l = drop e l ++ take e l
+
+-- k places that end before the place e: all that a ring has, or no more than those from its place 0 on
+abbrev pub Ring : (k e : ℕ) → Type 0
+Ring k zero = k ≤ round
+Ring k (suc e) = (k ≡ round) × (suc e < round)
+
+-- the next place
+abbrev pub next : ℕ → ℕ
+next e = (e + 1) % round
+
 -- places, and how many of them are used
 pub record Lot : Type 0 where
   pub items : List Session
   pub len : ℕ
 
-abbrev pub lot : List ℕ → ℕ → Lot
-lot q n = record { items = places q; len = n }
+-- of the words q: the ring's end is e, and n places are used
+abbrev pub lot : List ℕ → ℕ → ℕ → Lot
+lot q e n = record { items = turned e (places q); len = n }
 
--- the places that stand free, before the used ones: so the first session goes, or one comes before it, and no other moves
+-- the places that stand free, before the used ones: so the first session goes and no other moves
 abbrev pub free : Lot → ℕ
 free l = length (l .items) - l .len
 
@@ -75,11 +97,11 @@ pub record Good (l : Lot) : Type 0 where
   pub fits : l .len ≤ length (l .items)
   pub clear : take (free l) (l .items) ≡ replicate (free l) empty
 
--- what a function makes of the words e: n places of the words o hold u, and the spare words are as they were
-pub record Made (e o : List ℕ) (n : ℕ) (u : List Session) : Type 0 where
-  pub good : Good (lot o n)
-  pub list : used (lot o n) ≡ u
-  pub rest : spare o ≡ spare e
+-- what a function makes of the words p: n places of the words o, up to the ring's end e, hold u, and the spare words are as they were
+pub record Made (p o : List ℕ) (e n : ℕ) (u : List Session) : Type 0 where
+  pub good : Good (lot o e n)
+  pub list : used (lot o e n) ≡ u
+  pub rest : spare o ≡ spare p
 
 -- s starts at t or later
 abbrev pub startsFrom : ℕ → Session → Bool
@@ -89,8 +111,6 @@ startsFrom t s = leb t (s .start .0)
 abbrev pub keyTest : Key → Session → Bool
 keyTest (Held c x) = is c x
 keyTest (Follows c x) = follows c x
-keyTest (StartsFrom t) = startsFrom (t .0)
-keyTest (StartsAfter t) = startsAfter (t .0)
 
 -- nothing of l ends before s
 abbrev pub endsFirst : List Session → Session → Bool

@@ -1,18 +1,26 @@
-// Sessions in words that the caller lends, WIDTH words to a place: the used places last, each place before them all zeros.
-// The waiting ones stand in 64 places, in order of start, and the started ones in 10: in both it is the first that goes or comes
-// most often, and then no other moves.
+// Sessions in a ring of places that the caller lends, WIDTH words to a place: the used ones last before the place `ring_end`, and from
+// there on to the first of them each place all zeros. Those that wait stand in 64 places, in order of start: one that is accepted takes
+// the place `ring_end`, those that start later move one on, and the ring's end with them. The started ones stand in 10 that never
+// come round.
 use rules::Ninths;
 use rules::Session;
 ghost use mathlib.Core.Path.{_≡_};
-ghost use Prim.Native.Nat.{_+_, _-_, _≤_, _<_};
+ghost use mathlib.Core.List.{_∷_};
+ghost use Prim.Native.Nat.{_+_, _-_, _/_, _≤_, _<_};
 ghost use lib.ListN.{length, drop, set, getD};
 ghost use Rattle.rules.specs.Lists.{omit, place, insertAt, removeAt};
-ghost use Rattle.rules.specs.State.{empty, of};
-ghost use Rattle.rules.specs.Instants.{outranks};
-ghost use Rattle.places.specs.Places.{capacity, places, spare, lot, used, moved, Good, Made, keyTest, leastEnd};
+ghost use Rattle.rules.specs.State.{empty, of, Sorted};
+ghost use Rattle.rules.specs.Instants.{outranks, onAir};
+ghost use Rattle.places.specs.Places.{width, capacity, Row, places, spare, round, turned, Ring, next, lot, used, moved};
+ghost use Rattle.places.specs.Places.{Good, Made, keyTest, startsFrom, leastEnd};
 
 // The words of a place, and which of them is which field.
 pub const WIDTH: usize = 8;
+
+// How many places a ring has, and their words.
+const ROUND: usize = 64;
+
+const RING_WORDS: usize = ROUND * WIDTH;
 
 const CONN: usize = 0;
 
@@ -34,8 +42,6 @@ const PLAYED: usize = 7;
 pub enum Key {
     Held(u64, u64),
     Follows(u64, u64),
-    StartsFrom(Ninths),
-    StartsAfter(Ninths),
 }
 
 // What stands where no session is.
@@ -54,12 +60,11 @@ fn nothing() -> Session
     }
 }
 
-// The session in the words of the place i.
-fn read_row(q: &[u64], i: usize) -> Session
-    requires { ⌜ i < capacity (now q) ⌝ }
-    ensures { λ r. ⌜ r ≡ getD (places (now (q .entry))) i empty ⌝ }
+// The session in the words from b on, the first of a place.
+fn read_row(q: &[u64], b: usize) -> Session
+    requires { ⌜ Row b (now q) ⌝ }
+    ensures { λ r. ⌜ r ≡ getD (places (now (q .entry))) (b / width) empty ⌝ }
 {
-    let b = i * WIDTH;
     Session {
         conn: q[b + CONN],
         id: q[b + ID],
@@ -72,13 +77,12 @@ fn read_row(q: &[u64], i: usize) -> Session
     }
 }
 
-// x in the words of the place i.
-fn write_row(q: &mut [u64], i: usize, x: Session)
-    requires { ⌜ i < capacity (now q) ⌝ }
-    ensures list { λ _. ⌜ places (now (q .exit)) ≡ set (places (now (q .entry))) i x ⌝ }
+// x in the words from b on, the first of a place.
+fn write_row(q: &mut [u64], b: usize, x: Session)
+    requires { ⌜ Row b (now q) ⌝ }
+    ensures list { λ _. ⌜ places (now (q .exit)) ≡ set (places (now (q .entry))) (b / width) x ⌝ }
     ensures rest { λ _. ⌜ spare (now (q .exit)) ≡ spare (now (q .entry)) ⌝ }
 {
-    let b = i * WIDTH;
     q[b + CONN] = x.conn;
     q[b + ID] = x.id;
     q[b + PRIOR] = x.prior;
@@ -89,134 +93,167 @@ fn write_row(q: &mut [u64], i: usize, x: Session)
     q[b + PLAYED] = x.played.0;
 }
 
+// The place i of the ring, counted from `ring_end`, used or free.
+fn read_at(q: &[u64], ring_end: usize, i: usize) -> Session
+    requires { ⌜ Ring (capacity (now q)) «ring_end» ⌝ }
+    requires { ⌜ i < capacity (now q) ⌝ }
+    ensures { λ r. ⌜ r ≡ getD (turned «ring_end» (places (now (q .entry)))) i empty ⌝ }
+{
+    read_row(q, (ring_end + i) % ROUND * WIDTH)
+}
+
+// x there.
+fn write_at(q: &mut [u64], ring_end: usize, i: usize, x: Session)
+    requires { ⌜ Ring (capacity (now q)) «ring_end» ⌝ }
+    requires { ⌜ i < capacity (now q) ⌝ }
+    ensures list { λ _. ⌜ turned «ring_end» (places (now (q .exit))) ≡ set (turned «ring_end» (places (now (q .entry)))) i x ⌝ }
+    ensures rest { λ _. ⌜ spare (now (q .exit)) ≡ spare (now (q .entry)) ⌝ }
+{
+    write_row(&mut *q, (ring_end + i) % ROUND * WIDTH, x)
+}
+
 // The session `at` of the n that are used.
-pub fn load(q: &[u64], n: usize, at: usize) -> Session
-    requires { ⌜ Good (lot (now q) n) ⌝ }
+pub fn load(q: &[u64], ring_end: usize, n: usize, at: usize) -> Session
+    requires { ⌜ Good (lot (now q) «ring_end» n) ⌝ }
+    requires { ⌜ Ring (capacity (now q)) «ring_end» ⌝ }
     requires { ⌜ at < n ⌝ }
-    ensures { λ r. ⌜ r ≡ getD (used (lot (now (q .entry)) n)) at empty ⌝ }
+    ensures { λ r. ⌜ r ≡ getD (used (lot (now (q .entry)) «ring_end» n)) at empty ⌝ }
 {
     let free = q.len() / WIDTH - n;
-    read_row(q, free + at)
+    read_at(q, ring_end, free + at)
 }
 
 // The connection of the session `at`.
-pub fn conn_at(q: &[u64], n: usize, at: usize) -> u64
-    requires { ⌜ Good (lot (now q) n) ⌝ }
+pub fn conn_at(q: &[u64], ring_end: usize, n: usize, at: usize) -> u64
+    requires { ⌜ Good (lot (now q) «ring_end» n) ⌝ }
+    requires { ⌜ Ring (capacity (now q)) «ring_end» ⌝ }
     requires { ⌜ at < n ⌝ }
-    ensures { λ r. ⌜ r ≡ getD (used (lot (now (q .entry)) n)) at empty .conn ⌝ }
+    ensures { λ r. ⌜ r ≡ getD (used (lot (now (q .entry)) «ring_end» n)) at empty .conn ⌝ }
 {
-    let b = (q.len() / WIDTH - n + at) * WIDTH;
+    let b = (ring_end + (q.len() / WIDTH - n + at)) % ROUND * WIDTH;
     q[b + CONN]
 }
 
 // The number of the session `at`.
-pub fn id_at(q: &[u64], n: usize, at: usize) -> u64
-    requires { ⌜ Good (lot (now q) n) ⌝ }
+pub fn id_at(q: &[u64], ring_end: usize, n: usize, at: usize) -> u64
+    requires { ⌜ Good (lot (now q) «ring_end» n) ⌝ }
+    requires { ⌜ Ring (capacity (now q)) «ring_end» ⌝ }
     requires { ⌜ at < n ⌝ }
-    ensures { λ r. ⌜ r ≡ getD (used (lot (now (q .entry)) n)) at empty .id ⌝ }
+    ensures { λ r. ⌜ r ≡ getD (used (lot (now (q .entry)) «ring_end» n)) at empty .id ⌝ }
 {
-    let b = (q.len() / WIDTH - n + at) * WIDTH;
+    let b = (ring_end + (q.len() / WIDTH - n + at)) % ROUND * WIDTH;
     q[b + ID]
 }
 
-// The PriorSession of the session `at`.
-fn prior_at(q: &[u64], n: usize, at: usize) -> u64
-    requires { ⌜ Good (lot (now q) n) ⌝ }
-    requires { ⌜ at < n ⌝ }
-    ensures { λ r. ⌜ r ≡ getD (used (lot (now (q .entry)) n)) at empty .prior ⌝ }
-{
-    let b = (q.len() / WIDTH - n + at) * WIDTH;
-    q[b + PRIOR]
-}
-
 // The start of the session `at`.
-pub fn start_at(q: &[u64], n: usize, at: usize) -> Ninths
-    requires { ⌜ Good (lot (now q) n) ⌝ }
+pub fn start_at(q: &[u64], ring_end: usize, n: usize, at: usize) -> Ninths
+    requires { ⌜ Good (lot (now q) «ring_end» n) ⌝ }
+    requires { ⌜ Ring (capacity (now q)) «ring_end» ⌝ }
     requires { ⌜ at < n ⌝ }
-    ensures { λ r. ⌜ r ≡ getD (used (lot (now (q .entry)) n)) at empty .start ⌝ }
+    ensures { λ r. ⌜ r ≡ getD (used (lot (now (q .entry)) «ring_end» n)) at empty .start ⌝ }
 {
-    let b = (q.len() / WIDTH - n + at) * WIDTH;
+    let b = (ring_end + (q.len() / WIDTH - n + at)) % ROUND * WIDTH;
     Ninths(q[b + START])
 }
 
-// The end of the session `at`.
+// The end of the session `at`, in places that never come round.
 pub fn end_at(q: &[u64], n: usize, at: usize) -> Ninths
-    requires { ⌜ Good (lot (now q) n) ⌝ }
+    requires { ⌜ Good (lot (now q) 0 n) ⌝ }
     requires { ⌜ at < n ⌝ }
-    ensures { λ r. ⌜ r ≡ getD (used (lot (now (q .entry)) n)) at empty .end ⌝ }
+    ensures { λ r. ⌜ r ≡ getD (used (lot (now (q .entry)) 0 n)) at empty .end ⌝ }
 {
     let b = (q.len() / WIDTH - n + at) * WIDTH;
     Ninths(q[b + END])
 }
 
-// x in place of the session `at`.
-pub fn replace_at(q: &mut [u64], n: usize, at: usize, x: Session)
-    requires { ⌜ Good (lot (now q) n) ⌝ }
-    requires { ⌜ at < n ⌝ }
-    ensures { λ _. ⌜ Made (now (q .entry)) (now (q .exit)) n (set (used (lot (now (q .entry)) n)) at x) ⌝ }
+// The first of places that never come round has played d ninths more.
+pub fn play(q: &mut [u64], n: usize, d: u64)
+    requires { ⌜ Good (lot (now q) 0 n) ⌝ }
+    requires { ⌜ 0 < n ⌝ }
+    requires { ⌜ getD (used (lot (now q) 0 n)) 0 empty .played .0 + d < 18446744073709551616 ⌝ }
+    ensures { λ _. ⌜ Made (now (q .entry)) (now (q .exit)) 0 n (onAir d (used (lot (now (q .entry)) 0 n))) ⌝ }
 {
-    let free = q.len() / WIDTH - n;
-    write_row(&mut *q, free + at, x)
+    let b = (q.len() / WIDTH - n) * WIDTH;
+    q[b + PLAYED] += d;
 }
 
 // The session `from` in place of the session `to` too.
-fn move_to(q: &mut [u64], n: usize, from: usize, to: usize)
-    requires { ⌜ Good (lot (now q) n) ⌝ }
+fn move_to(q: &mut [u64], ring_end: usize, n: usize, from: usize, to: usize)
+    requires { ⌜ Good (lot (now q) «ring_end» n) ⌝ }
+    requires { ⌜ Ring (capacity (now q)) «ring_end» ⌝ }
     requires { ⌜ (from < n) × (to < n) ⌝ }
-    ensures { λ _. ⌜ Made (now (q .entry)) (now (q .exit)) n (moved from to (used (lot (now (q .entry)) n))) ⌝ }
+    ensures { λ _. ⌜ Made (now (q .entry)) (now (q .exit)) «ring_end» n (moved from to (used (lot (now (q .entry)) «ring_end» n))) ⌝ }
 {
     if from == to {
         return;
     }
-    let x = load(&*q, n, from);
-    replace_at(&mut *q, n, to, x)
+    let free = q.len() / WIDTH - n;
+    let x = read_at(&*q, ring_end, free + from);
+    write_at(&mut *q, ring_end, free + to, x)
 }
 
-// x before the session `at`: those before it move one place towards the free ones.
-pub fn insert_at(q: &mut [u64], n: usize, at: usize, x: Session)
-    requires { ⌜ Good (lot (now q) n) ⌝ }
-    requires { ⌜ (at ≤ n) × (n < capacity (now q)) ⌝ }
-    ensures { λ _. ⌜ Made (now (q .entry)) (now (q .exit)) (n + 1) (insertAt at x (used (lot (now (q .entry)) n))) ⌝ }
+// x before the session `at`, and the ring's end one on: those from `at` on move one place on, and those before it stay. How many moved.
+pub fn insert_at(q: &mut [u64], ring_end: usize, n: usize, at: usize, x: Session) -> usize
+    requires { ⌜ Good (lot (now q) «ring_end» n) ⌝ }
+    requires { ⌜ (capacity (now q) ≡ round) × («ring_end» < round) × (at ≤ n) × (n < round) ⌝ }
+    ensures made { λ _.
+        ⌜ Made (now (q .entry)) (now (q .exit)) (next «ring_end») (n + 1) (insertAt at x (used (lot (now (q .entry)) «ring_end» n))) ⌝ }
+    ensures moves { λ r. ⌜ r ≡ n - at ⌝ }
 {
-    let last_free = q.len() / WIDTH - n - 1;
-    let to = last_free + at;
-    let mut hole = last_free;
-    while hole < to {
-        let behind = hole + 1;
-        let y = read_row(&*q, behind);
-        write_row(&mut *q, hole, y);
-        hole = behind;
-    }
-    write_row(&mut *q, to, x)
-}
-
-// Without the session `at`: those before it move one place away from the free ones, and the place that gets free is cleared.
-pub fn remove_at(q: &mut [u64], n: usize, at: usize)
-    requires { ⌜ Good (lot (now q) n) ⌝ }
-    requires { ⌜ at < n ⌝ }
-    ensures { λ _. ⌜ Made (now (q .entry)) (now (q .exit)) (n - 1) (removeAt at (used (lot (now (q .entry)) n))) ⌝ }
-{
-    let first = q.len() / WIDTH - n;
-    let mut hole = first + at;
-    while first < hole {
-        let before = hole - 1;
+    let mut hole = ring_end * WIDTH;
+    let mut moves: usize = 0;
+    while moves < n - at {
+        let before = (hole + RING_WORDS - WIDTH) % RING_WORDS;
         let y = read_row(&*q, before);
         write_row(&mut *q, hole, y);
         hole = before;
+        moves += 1;
+    }
+    write_row(&mut *q, hole, x);
+    moves
+}
+
+// x before the first, in places that never come round: it takes the last of the free ones, and no other moves.
+pub fn push(q: &mut [u64], n: usize, x: Session)
+    requires { ⌜ Good (lot (now q) 0 n) ⌝ }
+    requires { ⌜ n < capacity (now q) ⌝ }
+    ensures { λ _. ⌜ Made (now (q .entry)) (now (q .exit)) 0 (n + 1) (x ∷ used (lot (now (q .entry)) 0 n)) ⌝ }
+{
+    let last_free = q.len() / WIDTH - n - 1;
+    write_row(&mut *q, last_free * WIDTH, x)
+}
+
+// Without the session `at`: those before it move one place away from the free ones, and the place that gets free is cleared.
+pub fn remove_at(q: &mut [u64], ring_end: usize, n: usize, at: usize)
+    requires { ⌜ Good (lot (now q) «ring_end» n) ⌝ }
+    requires { ⌜ Ring (capacity (now q)) «ring_end» ⌝ }
+    requires { ⌜ at < n ⌝ }
+    ensures { λ _. ⌜ Made (now (q .entry)) (now (q .exit)) «ring_end» (n - 1) (removeAt at (used (lot (now (q .entry)) «ring_end» n))) ⌝ }
+{
+    let first = q.len() / WIDTH - n;
+    let mut hole = (ring_end + (first + at)) % ROUND * WIDTH;
+    let mut left = at;
+    while 0 < left {
+        let before = (hole + RING_WORDS - WIDTH) % RING_WORDS;
+        let y = read_row(&*q, before);
+        write_row(&mut *q, hole, y);
+        hole = before;
+        left -= 1;
     }
     let none = nothing();
-    write_row(&mut *q, first, none)
+    write_row(&mut *q, hole, none)
 }
 
 // Without the first k.
-fn drop_first(q: &mut [u64], n: usize, k: usize)
-    requires { ⌜ Good (lot (now q) n) ⌝ }
+fn drop_first(q: &mut [u64], ring_end: usize, n: usize, k: usize)
+    requires { ⌜ Good (lot (now q) «ring_end» n) ⌝ }
+    requires { ⌜ Ring (capacity (now q)) «ring_end» ⌝ }
     requires { ⌜ k ≤ n ⌝ }
-    ensures { λ _. ⌜ Made (now (q .entry)) (now (q .exit)) (n - k) (drop k (used (lot (now (q .entry)) n))) ⌝ }
+    ensures { λ _. ⌜ Made (now (q .entry)) (now (q .exit)) «ring_end» (n - k) (drop k (used (lot (now (q .entry)) «ring_end» n))) ⌝ }
 {
     let mut i = 0;
     while i < k {
-        remove_at(&mut *q, n - i, 0);
+        remove_at(&mut *q, ring_end, n - i, 0);
         i += 1;
     }
 }
@@ -228,64 +265,80 @@ pub fn outranks(new: Session, old: Session) -> bool
     old.access < new.access
 }
 
-// Whether the session `at` is one that the key looks for.
-fn matches_at(q: &[u64], n: usize, at: usize, key: Key) -> bool
-    requires { ⌜ Good (lot (now q) n) ⌝ }
-    requires { ⌜ at < n ⌝ }
-    ensures { λ r. ⌜ r ≡ keyTest key (getD (used (lot (now (q .entry)) n)) at empty) ⌝ }
+// Whether the session in the words from b on is one that the key looks for.
+fn matches_row(q: &[u64], b: usize, key: Key) -> bool
+    requires { ⌜ Row b (now q) ⌝ }
+    ensures { λ r. ⌜ r ≡ keyTest key (getD (places (now (q .entry))) (b / width) empty) ⌝ }
 {
     match key {
-        Key::Held(conn, id) => conn == conn_at(q, n, at) && id == id_at(q, n, at),
-        Key::Follows(conn, id) => conn == conn_at(q, n, at) && id == prior_at(q, n, at),
-        Key::StartsFrom(t) => {
-            let s = start_at(q, n, at);
-            t.0 <= s.0
-        }
-        Key::StartsAfter(t) => {
-            let s = start_at(q, n, at);
-            t.0 < s.0
-        }
+        Key::Held(conn, id) => id == q[b + ID] && conn == q[b + CONN],
+        Key::Follows(conn, id) => id == q[b + PRIOR] && conn == q[b + CONN],
     }
 }
 
 // The place of the first that the key looks for, or n.
-pub fn find(q: &[u64], n: usize, key: Key) -> usize
-    requires { ⌜ Good (lot (now q) n) ⌝ }
-    ensures { λ r. ⌜ r ≡ place (keyTest key) (used (lot (now (q .entry)) n)) ⌝ }
+pub fn find(q: &[u64], ring_end: usize, n: usize, key: Key) -> usize
+    requires { ⌜ Good (lot (now q) «ring_end» n) ⌝ }
+    requires { ⌜ Ring (capacity (now q)) «ring_end» ⌝ }
+    ensures { λ r. ⌜ r ≡ place (keyTest key) (used (lot (now (q .entry)) «ring_end» n)) ⌝ }
 {
+    let mut b = (ring_end + (q.len() / WIDTH - n)) % ROUND * WIDTH;
     let mut at = 0;
     while at < n {
-        if matches_at(q, n, at, key) {
+        if matches_row(q, b, key) {
             return at;
         }
+        b = (b + WIDTH) % RING_WORDS;
         at += 1;
     }
     at
 }
 
+// The place of the first that starts at t or later, or n, of sessions in order of start: by halving.
+pub fn find_from(q: &[u64], ring_end: usize, n: usize, t: Ninths) -> usize
+    requires { ⌜ Good (lot (now q) «ring_end» n) ⌝ }
+    requires { ⌜ Ring (capacity (now q)) «ring_end» ⌝ }
+    requires { ⌜ Sorted (used (lot (now q) «ring_end» n)) ⌝ }
+    ensures { λ r. ⌜ r ≡ place (startsFrom (t .0)) (used (lot (now (q .entry)) «ring_end» n)) ⌝ }
+{
+    let mut low: usize = 0;
+    let mut high = n;
+    while low < high {
+        let mid = low + (high - low) / 2;
+        let s = start_at(q, ring_end, n, mid);
+        if s.0 < t.0 {
+            low = mid + 1;
+        } else {
+            high = mid;
+        }
+    }
+    low
+}
+
 // Without the connection's: the `left` others close up, from the last on.
-pub fn omit_of(q: &mut [u64], n: usize, conn: u64, left: usize)
-    requires { ⌜ Good (lot (now q) n) ⌝ }
-    requires { ⌜ left ≡ length (omit (of conn) (used (lot (now q) n))) ⌝ }
-    ensures { λ _. ⌜ Made (now (q .entry)) (now (q .exit)) left (omit (of conn) (used (lot (now (q .entry)) n))) ⌝ }
+pub fn omit_of(q: &mut [u64], ring_end: usize, n: usize, conn: u64, left: usize)
+    requires { ⌜ Good (lot (now q) «ring_end» n) ⌝ }
+    requires { ⌜ Ring (capacity (now q)) «ring_end» ⌝ }
+    requires { ⌜ left ≡ length (omit (of conn) (used (lot (now q) «ring_end» n))) ⌝ }
+    ensures { λ _. ⌜ Made (now (q .entry)) (now (q .exit)) «ring_end» left (omit (of conn) (used (lot (now (q .entry)) «ring_end» n))) ⌝ }
 {
     let mut to = n;
     let mut i = n;
     while n - left < to {
         i -= 1;
-        if conn != conn_at(&*q, n, i) {
+        if conn != conn_at(&*q, ring_end, n, i) {
             to -= 1;
-            move_to(&mut *q, n, i, to);
+            move_to(&mut *q, ring_end, n, i, to);
         }
     }
-    drop_first(&mut *q, n, n - left)
+    drop_first(&mut *q, ring_end, n, n - left)
 }
 
-// The place of the session that ends first; of several that end together the first.
+// The place of the session that ends first; of several that end together the first. In places that never come round.
 pub fn least_end(q: &[u64], n: usize) -> usize
-    requires { ⌜ Good (lot (now q) n) ⌝ }
+    requires { ⌜ Good (lot (now q) 0 n) ⌝ }
     requires { ⌜ 0 < n ⌝ }
-    ensures { λ r. ⌜ r ≡ leastEnd (used (lot (now (q .entry)) n)) ⌝ }
+    ensures { λ r. ⌜ r ≡ leastEnd (used (lot (now (q .entry)) 0 n)) ⌝ }
 {
     let mut best = 0;
     let mut i = 1;

@@ -32,14 +32,14 @@ part-q-end c = search needs
 least-end-requires : tie.Need-least-end-requires
 least-end-requires c κs =
     let s = c .before .before .before .before in
-    (good-at Started refl refl (s .pre) (c .before .before .count .ensures), omega arith)
+    (good-at Started refl refl refl (s .pre) (c .before .before .count .ensures), omega arith)
 
 end-at-requires : tie.Need-end-at-requires
 end-at-requires c κs =
     let s = c .before .before .before .before .before in
     let count = c .before .before .before .count in
-    let at = c .least-end .ensures ∙ ap (λ (x : Lot). leastEnd (used x)) (lot-at Started refl refl (s .pre) (count .ensures)) in (
-      good-at Started refl refl (s .pre) (count .ensures),
+    let at = c .least-end .ensures ∙ ap (λ (x : Lot). leastEnd (used x)) (lot-at Started refl refl refl (s .pre) (count .ensures)) in (
+      good-at Started refl refl refl (s .pre) (count .ensures),
       omega (arith, count .ensures, least-within (sessions Started (s .args .m .now)) (c .least-end .result) (omega (arith, count .ensures)) at),
     )
 
@@ -47,7 +47,7 @@ returns-2 : tie.Need-returns-2
 returns-2 c =
     let s = c .before .before .before .before .before .before in
     let count = c .before .before .before .before .count in
-    let l = lot-at Started refl refl (s .pre) (count .ensures) in
+    let l = lot-at Started refl refl refl (s .pre) (count .ensures) in
     let i = c .before .least-end in
     let at = i .ensures ∙ ap (λ (x : Lot). leastEnd (used x)) l in
     least-earliest (sessions Started (s .args .m .now)) (i .result) (omega (arith, count .ensures)) at (c .end-at .result)

@@ -1,55 +1,75 @@
--- Without its hole the list is that of the beginning without the last free place (`hole-behind`), and x fills the hole.
+-- In the ring turned by one the hole is the last place (`turned-taken`). Each turn it moves one down (`shifts`), and without it the
+-- list stays; then x fills it.
 use native.Mathlib.Omega.{arith}
-use borrow.Author.Needs.{needs}
 use mathlib.Core.Path.{_≡_, refl, ap, _∙_}
-use Prim.Native.Nat.{_+_, _-_, _≤_, _<_}
-use lib.ListN.{length}
+use Prim.Native.Nat.{ℕ, _+_, _-_, _*_, _%_, _≤_}
+use lib.ListN.{length, drop}
 use Rattle.rules.specs.Lists.{insertAt, removeAt}
-use Rattle.rules.specs.State.{empty}
-use Rattle.places.specs.Places.{capacity, lot, places, spare}
+use Rattle.places.specs.Places.{width, capacity, places, spare, round, turned, next, lot}
 use Rattle.places.proofs.Words.{length-places}
-use Rattle.places.proofs.Laws.{hole-behind, hole-filled, insert-made}
+use Rattle.places.proofs.Ring.{size, ring-next, row-of, fills, shifts, turned-taken}
+use Rattle.places.proofs.Laws.{insert-made}
+use borrow.Author.Needs.{needs}
 use Rattle.places.proofs.insert_at.Statement.{statement}
 use Rattle.places.proofs.insert_at.Tie as tie
 
 abbrev Inv-loop : tie.InvT-loop
-Inv-loop q₀ n at x last to hole₀ q hole = (hole ≤ to) × (to < capacity q) × (length q ≡ length q₀) × (removeAt hole (places q) ≡ removeAt last (places q₀)) × (spare q ≡ spare q₀)
+Inv-loop q₀ ring-end n at x hole₀ moves₀ q hole moves = (moves ≤ n - at) × (hole ≡ (next ring-end + (round - 1 - moves)) % round * width) × (length q ≡ length q₀) × (removeAt (round - 1 - moves) (turned (next ring-end) (places q)) ≡ removeAt (round - 1) (turned (next ring-end) (places q₀))) × (spare q ≡ spare q₀)
 
 abbrev μ-loop : tie.MeasureT-loop
-μ-loop q₀ n at x last to hole₀ q hole = to - hole
+μ-loop q₀ ring-end n at x hole₀ moves₀ q hole moves = n - at - moves
 
-sub-last-free : tie.Need-sub-last-free Inv-loop μ-loop
-sub-last-free c = search needs
-
-sub-last-free-2 : tie.Need-sub-last-free-2 Inv-loop μ-loop
-sub-last-free-2 c = search needs
-
-add-to : tie.Need-add-to Inv-loop μ-loop
-add-to c = search needs
+mul-hole : tie.Need-mul-hole Inv-loop μ-loop
+mul-hole c = search needs
 
 loop-holds : tie.Need-loop-holds Inv-loop μ-loop
-loop-holds c = (search needs, search needs, search needs, refl, refl)
+loop-holds c = (omega arith, omega arith, refl, refl, refl)
 
-add-behind : tie.Need-add-behind Inv-loop μ-loop
-add-behind c = search needs
+sub-loop : tie.Need-sub-loop Inv-loop μ-loop
+sub-loop c = search needs
+
+add-before : tie.Need-add-before Inv-loop μ-loop
+add-before c = search needs
+
+sub-before : tie.Need-sub-before Inv-loop μ-loop
+sub-before c = search needs
 
 read-row-requires : tie.Need-read-row-requires Inv-loop μ-loop
-read-row-requires c κs = search needs
+read-row-requires c κs =
+    let s = c .before .before .before .before in
+    let l = c .before .before .loop in
+    let e = s .args .ring-end in
+    row-of (l .q) (next e) (round - 1 - (l .moves + 1)) _ (ring-next (capacity (l .q)) e (omega arith)) (omega arith) (omega arith)
 
 write-row-requires : tie.Need-write-row-requires Inv-loop μ-loop
-write-row-requires c κs = search needs
+write-row-requires c κs =
+    let s = c .before .before .before .before .before .before in
+    let l = c .before .before .before .before .loop in
+    let e = s .args .ring-end in
+    row-of (l .q) (next e) (round - 1 - l .moves) (l .hole) (ring-next (capacity (l .q)) e (omega arith)) (omega arith) (l .inv .1)
+
+add-moves : tie.Need-add-moves Inv-loop μ-loop
+add-moves c = search needs
 
 loop-less : tie.Need-loop-less Inv-loop μ-loop
-loop-less c = search needs
+loop-less c = omega arith
 
 loop-again : tie.Need-loop-again Inv-loop μ-loop
 loop-again c =
     let l = c .before .before .before .before .before .before .before .loop in
-    let h : l .hole + 1 < length (places (l .q)) = omega (arith, length-places (l .q)) in
-    (omega arith, omega arith, omega arith, rw (c .before .before .write-row .ensures .0, c .before .before .before .before .read-row .ensures) (hole-behind (places (l .q)) (l .hole) (l .hole + 1) empty (omega arith) h) ∙ l .inv .3, c .before .before .write-row .ensures .1 ∙ l .inv .4)
+    let s = c .before .before .before .before .before .before .before .before .before in
+    let e = s .args .ring-end in
+    let a = (l .hole + round * width - width) % (round * width) in
+    let w = c .before .before .write-row .ensures in
+    let t = shifts (l .q) (next e) (round - 1 - (l .moves + 1)) (round - 1 - l .moves) a (l .hole) (ring-next (capacity (l .q)) e (omega arith)) (omega arith) (omega arith) (omega arith) (l .inv .1) _ _ (c .before .before .before .before .read-row .ensures) (w .0) in
+    (omega arith, omega arith, omega arith, t ∙ l .inv .3, w .1 ∙ l .inv .4)
 
 write-row-requires-2 : tie.Need-write-row-requires-2 Inv-loop μ-loop
-write-row-requires-2 c κs = search needs
+write-row-requires-2 c κs =
+    let s = c .before .before .before .before in
+    let l = c .before .before .loop in
+    let e = s .args .ring-end in
+    row-of (l .q) (next e) (round - 1 - l .moves) (l .hole) (ring-next (capacity (l .q)) e (omega arith)) (omega arith) (l .inv .1)
 
 same-length : tie.Need-same-length Inv-loop μ-loop
 same-length c = search needs
@@ -58,12 +78,18 @@ returns : tie.Need-returns Inv-loop μ-loop
 returns c =
     let s = c .before .before .before .before .before .before .before in
     let l = c .before .before .before .before .before .loop in
-    let k = capacity (s .args .q .now) - s .args .n - 1 in
-    let e : l .hole ≡ k + s .args .at = omega arith in
-    let h : k + s .args .at < length (places (l .q)) = omega (arith, length-places (l .q)) in
-    let m = insert-made (lot (s .args .q .now) (s .args .n)) _ (s .args .at) k (s .args .x) (s .pre .0) (omega (arith, length-places (s .args .q .now))) (omega (arith, length-places (s .args .q .now))) (s .pre .1 .0)
-    (c .before .before .write-row2 .ensures .0 ∙ hole-filled (places (l .q)) (k + s .args .at) (s .args .x) h ∙ ap (insertAt (k + s .args .at) (s .args .x)) (rw e at (l .inv .3))) in
-    record { good = m .0; list = m .1; rest = c .before .before .write-row2 .ensures .1 ∙ l .inv .4 }
+    let p = s .args .q .now in
+    let e = s .args .ring-end in
+    let x = s .args .x in
+    let k = round - 1 - s .args .n in
+    let i = round - 1 - l .moves in
+    let z : i ≡ k + s .args .at = omega arith in
+    let w = c .before .before .write-row2 .ensures in
+    let r = fills (l .q) (next e) i (l .hole) (ring-next (capacity (l .q)) e (omega arith)) (omega arith) (l .inv .1) _ x (w .0) in
+    let d = l .inv .3 ∙ turned-taken e (places p) (omega (arith, length-places p)) (s .pre .1 .1) in
+    let m = insert-made (lot p e (s .args .n)) _ (s .args .at) k x (s .pre .0) (omega (arith, size p e)) (s .pre .1 .2)
+    (r ∙ ap (insertAt i x) d ∙ ap (λ (j : ℕ). insertAt j x (drop 1 (turned e (places p)))) z) in
+    (record { good = m .0; list = m .1; rest = w .1 ∙ l .inv .4 }, omega arith)
 
 pub insert-at-spec : {M : Type 1} → statement M
 insert-at-spec =
@@ -71,13 +97,14 @@ insert-at-spec =
     (tie.spec
     Inv-loop
     μ-loop
-    sub-last-free
-    sub-last-free-2
-    add-to
+    mul-hole
     loop-holds
-    add-behind
+    sub-loop
+    add-before
+    sub-before
     read-row-requires
     write-row-requires
+    add-moves
     loop-less
     loop-again
     write-row-requires-2

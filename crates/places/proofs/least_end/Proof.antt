@@ -12,7 +12,7 @@ use Rattle.places.proofs.least_end.Statement.{statement}
 use Rattle.places.proofs.least_end.Tie as tie
 
 abbrev Inv-loop : tie.InvT-loop
-Inv-loop q n best₀ i₀ best i = Leading (used (lot q n)) i best
+Inv-loop q n best₀ i₀ best i = Leading (used (lot q 0 n)) i best
 
 abbrev μ-loop : tie.MeasureT-loop
 μ-loop q n best₀ i₀ best i = n - i
@@ -20,7 +20,7 @@ abbrev μ-loop : tie.MeasureT-loop
 loop-holds : tie.Need-loop-holds Inv-loop μ-loop
 loop-holds c =
     let s = c .before in
-    let q = lot (s .args .q .now) (s .args .n) in
+    let q = lot (s .args .q .now) 0 (s .args .n) in
     leading-none (used q) (omega (arith, length-used q (s .pre .0), s .pre .1))
 
 end-at-requires : tie.Need-end-at-requires Inv-loop μ-loop
@@ -42,10 +42,10 @@ loop-again c =
     let s = c .before .before .before .before .before .before .before .before in
     let l = c .before .before .before .before .before .before .loop in
     let g = s .pre .0 in
-    let u = used (lot (s .args .q .now) (s .args .n)) in
+    let u = used (lot (s .args .q .now) 0 (s .args .n)) in
     let here = ap (λ (t : Ninths). t .0) (c .before .before .before .before .end-at .ensures) in
     let best = ap (λ (t : Ninths). t .0) (c .before .before .before .end-at2 .ensures) in
-    let h : l .i < length u = omega (arith, length-used (lot (s .args .q .now) (s .args .n)) g, c .before .before .before .before .before .loop-test .taken) in
+    let h : l .i < length u = omega (arith, length-used (lot (s .args .q .now) 0 (s .args .n)) g, c .before .before .before .before .before .loop-test .taken) in
     ⊎-elim
     (λ w. subst (λ (b : ℕ). Leading u (l .i + 1) b) (sym (w .1)) (leading-next u (l .i) (l .best) h (l .inv) (omega (arith, w .0, here, best))))
     (λ w. subst (λ (b : ℕ). Leading u (l .i + 1) b) (sym (w .1)) (leading-stays u (l .i) (l .best) h (l .inv) (omega (arith, w .0, here, best))))
@@ -55,7 +55,7 @@ returns : tie.Need-returns Inv-loop μ-loop
 returns c =
     let s = c .before .before .before in
     let l = c .before .loop in
-    let q = lot (s .args .q .now) (s .args .n) in
+    let q = lot (s .args .q .now) 0 (s .args .n) in
     leading-out (used q) (l .i) (l .best) (omega (arith, length-used q (s .pre .0))) (l .inv)
 
 pub least-end-spec : {M : Type 1} → statement M

@@ -1,13 +1,10 @@
--- Rests on `store-is`: eight words written from i * 8 on are the place i.
+-- Rests on `store-is`: eight words written from the first of a place on are that place.
 use native.Mathlib.Omega.{arith}
 use lib.ListN.{length-set}
 use Rattle.places.proofs.Words.{store-is, store-spare}
 use borrow.Author.Needs.{needs}
 use Rattle.places.proofs.write_row.Statement.{statement}
 use Rattle.places.proofs.write_row.Tie as tie
-
-mul-b : tie.Need-mul-b
-mul-b c = search needs
 
 add-q : tie.Need-add-q
 add-q c = search needs
@@ -85,13 +82,12 @@ same-length : tie.Need-same-length
 same-length c = simp length-set
 
 returns : tie.Need-returns
-returns c = let a = c .args in (store-is (a .q .now) (a .i) (a .x) (c .pre), store-spare (a .q .now) (a .i) (a .x) (c .pre))
+returns c = let a = c .args in (store-is (a .q .now) (a .b) (a .x) (c .pre), store-spare (a .q .now) (a .b) (a .x) (c .pre))
 
 pub write-row-spec : {M : Type 1} → statement M
 write-row-spec =
     tie.close
     (tie.spec
-    mul-b
     add-q
     mul-q
     slice-write-q
