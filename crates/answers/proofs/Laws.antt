@@ -21,7 +21,7 @@ use Rattle.rules.specs.Reading.{nobody, channelName, isRead, read}
 use Rattle.rules.specs.State.{Splicer, empty, linkOf, withLink}
 use Rattle.rules.specs.Records.{Record, General, InitResponse, AliveResponse, recordBytes}
 use Rattle.rules.specs.Ends.{Turn}
-use Rattle.rules.specs.Answers.{Answered, says, turns, initResult, answerInit, airState, airID, aliveResponse, answerRead, answer}
+use Rattle.rules.specs.Answers.{Answered, Spliced, says, turns, splices, initResult, answerInit, airState, airID, aliveResponse, answerRead, answer}
 use Rattle.rules.proofs.Bytes.{nameIn-twice}
 use Rattle.rules.proofs.Records.{sizeOf, Roomy, length-record}
 use Rattle.memory.specs.Memory.{Memory, see, Now, linked, nameSize, nameBytes, nameOf, Stored, Whole, shown}
@@ -29,7 +29,9 @@ use Rattle.memory.proofs.Laws.{memory-same}
 use Rattle.memory.proofs.Names.{name-short}
 use Rattle.ends.specs.Does.{Turns}
 use Rattle.ends.proofs.Laws.{tells-none, tells-one}
-use Rattle.answers.specs.Gives.{Says, Gives, barred}
+use Rattle.requests.specs.declared.Given.{Given}
+use Rattle.requests.specs.Made.{Splices}
+use Rattle.answers.specs.Gives.{Says, Gives, unmoved, barred}
 
 -- one record at the start of the buffer
 pub says-one : {e : List ℕ} {x : Record} {n : ℕ} {o : List ℕ} → Roomy x → n ≡ sizeOf x → o ≡ written e 0 (recordBytes x) → Says x e n o
@@ -43,21 +45,26 @@ named name s = record { name = name; clock = s .clock; links = s .links; queue =
 
 module _ {m b : List ℕ} (w : Whole m b) {e : List ℕ} where
   -- no answer
-  pub silent : Gives (says [] (shown m b)) e 0 m b e
-  silent = record { whole = w; splicer = refl; tells = tells-none }
+  pub silent : Gives (says [] (shown m b)) (see m .ringEnd) e (unmoved 0) m b e
+  silent = record { whole = w; splicer = refl; ring = refl; tells = tells-none; moved = refl }
 
   -- one record, and nothing changes
-  pub said : {x : Record} {n : ℕ} {o : List ℕ} → Says x e n o → Gives (says (x ∷ []) (shown m b)) e n m b o
-  said t = record { whole = w; splicer = refl; tells = t }
+  pub said : {x : Record} {n : ℕ} {o : List ℕ} → Says x e n o → Gives (says (x ∷ []) (shown m b)) (see m .ringEnd) e (unmoved n) m b o
+  said t = record { whole = w; splicer = refl; ring = refl; tells = t; moved = refl }
 
   -- what a request did to the sessions
-  pub turned : {t : Turn} {n : List ℕ} {to : ℕ} {o : List ℕ} → Turns e 0 t (see m) n to o → Gives (turns t (shown m b)) e to n b o
-  turned g =
+  pub spliced : {a : Spliced} {n : List ℕ} {r : Given} {o : List ℕ} → Splices a m e r n o → Gives (splices a (shown m b)) (see m .ringEnd) e r n b o
+  spliced g =
       record {
-        whole = record { words = g .shows .form; bytes = w .bytes };
-        splicer = ap (named (nameOf b)) (g .shows .is);
-        tells = g .tells;
+        whole = record { words = g .does .shows .form; bytes = w .bytes };
+        splicer = ap (named (nameOf b)) (g .does .shows .is);
+        ring = ap (λ (s : Memory). s .ringEnd) (g .does .shows .is);
+        tells = g .does .tells;
+        moved = g .moved;
       }
+
+  pub turned : {t : Turn} {n : List ℕ} {to : ℕ} {o : List ℕ} → Turns e 0 t (see m) n to o → Gives (turns t (shown m b)) (see m .ringEnd) e (unmoved to) n b o
+  turned {t} g = spliced {a = record { turn = t; accepted = false; moved = 0 }} (record { does = g; moved = refl })
 
 -- ## Init
 
@@ -86,26 +93,28 @@ module _ {m b : List ℕ} (w : Whole m b) (c revision : ℕ) (d : List ℕ) {e :
     (ro : o ≡ written e 0 (recordBytes (InitResponse c r (nameIn y)))) where
   -- n: the words after the answer
   init-gives : {n : List ℕ} → Whole n b → shown n b ≡ cond (eqb r 100) (withLink c Initialised (shown m b)) (shown m b) →
-      Gives (answerInit c revision d (shown m b)) e 44 n b o
+      see n .ringEnd ≡ see m .ringEnd → Gives (answerInit c revision d (shown m b)) (see m .ringEnd) e (unmoved 44) n b o
   unfolding answerInit
-  init-gives k h =
+  init-gives k h g =
       let p : r ≡ initResult revision (channelName d) (nameOf b) = rr ∙ ap₂ (λ (y z : List ℕ). initResult revision y (nameIn z)) ra rx in
       record {
         whole = k;
         splicer = h ∙ ap (λ (k : ℕ). cond (eqb k 100) (withLink c Initialised (shown m b)) (shown m b)) p;
+        ring = g;
+        moved = refl;
         tells = says-one (omega (arith, name-short (nameBytes b), stored-length (w .bytes) refl)) refl
             (ro ∙ ap₂ (λ (k : ℕ) (z : List ℕ). written e 0 (recordBytes (InitResponse c k (nameIn z)))) p ry);
       }
 
   -- "else 100 and initialised"
-  pub init-done : {n : List ℕ} → r ≡ 100 → Now n (linked c Initialised (see m)) → Gives (answerInit c revision d (shown m b)) e 44 n b o
+  pub init-done : {n : List ℕ} → r ≡ 100 → Now n (linked c Initialised (see m)) → Gives (answerInit c revision d (shown m b)) (see m .ringEnd) e (unmoved 44) n b o
   init-done i h =
       init-gives (record { words = h .form; bytes = w .bytes })
-      (ap (named (nameOf b)) (h .is) ∙ rw (eq-eqb r 100 i))
+      (ap (named (nameOf b)) (h .is) ∙ rw (eq-eqb r 100 i)) (ap (λ (s : Memory). s .ringEnd) (h .is))
 
   -- "A failed later Init leaves the connection initialised."
-  pub init-failed : (r ≡ 100 → ⊥) → Gives (answerInit c revision d (shown m b)) e 44 m b o
-  init-failed i = init-gives w (rw (ne-eqb r 100 i))
+  pub init-failed : (r ≡ 100 → ⊥) → Gives (answerInit c revision d (shown m b)) (see m .ringEnd) e (unmoved 44) m b o
+  init-failed i = init-gives w (rw (ne-eqb r 100 i)) refl
 
 -- ## Alive
 
@@ -132,50 +141,54 @@ alive-says m b c {e} {o} {x} {i} a p q h =
 -- ## A message that is read
 
 -- y: the message that was read; x: what it is
-pub reads : (s : Splicer) (c id : ℕ) (d : List ℕ) {e : List ℕ} {to : ℕ} {n b o : List ℕ} {y x : Message} → y ≡ read id d → y ≡ x →
-    Gives (answerRead c x d s) e to n b o → Gives (answerRead c (read id d) d s) e to n b o
-reads s c id d {e} {to} {n} {b} {o} p q g = subst (λ (z : Message). Gives (answerRead c z d s) e to n b o) (sym q ∙ p) g
+pub reads : (s : Splicer) (c id : ℕ) (d : List ℕ) {at : ℕ} {e : List ℕ} {r : Given} {n b o : List ℕ} {y x : Message} → y ≡ read id d → y ≡ x →
+    Gives (answerRead c x d s) at e r n b o → Gives (answerRead c (read id d) d s) at e r n b o
+reads s c id d {at} {e} {r} {n} {b} {o} p q g = subst (λ (z : Message). Gives (answerRead c z d s) at e r n b o) (sym q ∙ p) g
 
 -- ## "first that applies"
 
 bars : (s : Splicer) (c id : ℕ) {l : Link} {t v : Bool} → l ≡ linkOf c s → t ≡ barred l id → t ≡ v → barred (linkOf c s) id ≡ v
 bars s c id p q i = ap (λ (y : Link). barred y id) (sym p) ∙ sym q ∙ i
 
+-- of an answer from the memory m and b
+abbrev GivesOf : (m b e : List ℕ) → Answered → Given → (n o : List ℕ) → Type 0
+GivesOf m b e a r n o = Gives a (see m .ringEnd) e r n b o
+
 module _ {m b : List ℕ} (w : Whole m b) (c id : ℕ) (d : List ℕ) {e : List ℕ} where
-  by-answer : (a : Answered) {to : ℕ} {n o : List ℕ} → answer c id d (shown m b) ≡ a → Gives a e to n b o →
-      Gives (answer c id d (shown m b)) e to n b o
-  by-answer a {to} {n} {o} p g = subst (λ (y : Answered). Gives y e to n b o) (sym p) g
+  by-answer : (a : Answered) {r : Given} {n o : List ℕ} → answer c id d (shown m b) ≡ a → GivesOf m b e a r n o →
+      GivesOf m b e (answer c id d (shown m b)) r n o
+  by-answer a {r} {n} {o} p g = subst (λ (y : Answered). GivesOf m b e y r n o) (sym p) g
 
   -- "1. ID 0x0000: no answer."
-  pub first : id ≡ 0x0000 → Gives (answer c id d (shown m b)) e 0 m b e
+  pub first : id ≡ 0x0000 → GivesOf m b e (answer c id d (shown m b)) (unmoved 0) m e
   unfolding answer
   first z = by-answer (says [] (shown m b)) (rw z) (silent w)
 
   -- l: what the connection is; t: whether that bars the message
   module _ (h : id ≡ 0x0000 → ⊥) {l : Link} {t : Bool} (p : l ≡ linkOf c (shown m b)) (q : t ≡ barred l id) where
     -- "2. Not initialised and not Init_Request: General_Response 103."
-    pub second : t ≡ true → {to : ℕ} {o : List ℕ} → Says (General c 103) e to o → Gives (answer c id d (shown m b)) e to m b o
+    pub second : t ≡ true → {to : ℕ} {o : List ℕ} → Says (General c 103) e to o → GivesOf m b e (answer c id d (shown m b)) (unmoved to) m o
     unfolding answer
     second i g = by-answer (says (General c 103 ∷ []) (shown m b)) (rw (ne-eqb id 0x0000 h, bars (shown m b) c id p q i)) (said w g)
 
     module _ (i : t ≡ false) where
       -- "3. ID 0x000D: no answer."
-      pub third : id ≡ 0x000D → Gives (answer c id d (shown m b)) e 0 m b e
+      pub third : id ≡ 0x000D → GivesOf m b e (answer c id d (shown m b)) (unmoved 0) m e
       unfolding answer
       third z = by-answer (says [] (shown m b)) (rw (ne-eqb id 0x0000 h, bars (shown m b) c id p q i, eq-eqb id 0x000D z)) (silent w)
 
       -- v: whether it is in the list of four
-      module _ (j : id ≡ 0x000D → ⊥) {v : Bool} (r : v ≡ isRead id) {to : ℕ} {o : List ℕ} where
+      module _ (j : id ≡ 0x000D → ⊥) {v : Bool} (r : v ≡ isRead id) {o : List ℕ} where
         -- "4. ID not in the list of four: General_Response 120."
-        pub fourth : not v ≡ true → Says (General c 120) e to o → Gives (answer c id d (shown m b)) e to m b o
+        pub fourth : {to : ℕ} → not v ≡ true → Says (General c 120) e to o → GivesOf m b e (answer c id d (shown m b)) (unmoved to) m o
         unfolding answer
         fourth k g =
             by-answer (says (General c 120 ∷ []) (shown m b))
             (rw (ne-eqb id 0x0000 h, bars (shown m b) c id p q i, ne-eqb id 0x000D j, ← r, k)) (said w g)
 
         -- a message of the list of four
-        pub fifth : {n : List ℕ} → not v ≡ false → Gives (answerRead c (read id d) d (shown m b)) e to n b o →
-            Gives (answer c id d (shown m b)) e to n b o
+        pub fifth : {g : Given} {n : List ℕ} → not v ≡ false → GivesOf m b e (answerRead c (read id d) d (shown m b)) g n o →
+            GivesOf m b e (answer c id d (shown m b)) g n o
         unfolding answer
         fifth k g =
             by-answer (answerRead c (read id d) d (shown m b))
@@ -184,10 +197,10 @@ module _ {m b : List ℕ} (w : Whole m b) (c id : ℕ) (d : List ℕ) {e : List 
 -- ## "any two results it allows are proved equal"
 
 -- the lent words and the buffer included
-pub answer-same : (a : Answered) (e : List ℕ) (r s : ℕ) (m n b o p : List ℕ) → Gives a e r m b o → Gives a e s n b p →
+pub answer-same : (a : Answered) (at : ℕ) (e : List ℕ) (r s : Given) (m n b o p : List ℕ) → Gives a at e r m b o → Gives a at e s n b p →
     (r ≡ s) × (m ≡ n) × (o ≡ p)
-answer-same a e r s m n b o p x y = (
-  x .tells .count ∙ sym (y .tells .count),
-  memory-same m b n b (x .whole) (y .whole) (x .splicer ∙ sym (y .splicer)) .0,
+answer-same a at e r s m n b o p x y = (
+  (λ i. record { len = (x .tells .count ∙ sym (y .tells .count)) i; moved = (x .moved ∙ sym (y .moved)) i }),
+  memory-same m b n b (x .whole) (y .whole) (x .ring ∙ sym (y .ring)) (x .splicer ∙ sym (y .splicer)) .0,
   x .tells .bytes ∙ sym (y .tells .bytes),
 )

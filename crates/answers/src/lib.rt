@@ -1,6 +1,7 @@
 // Answering a message, first that applies: 01's five steps, Init and Alive, and what requests answer.
 use memory::WORDS;
 use memory::Which;
+use requests::Given;
 use rules::Link;
 use rules::Message;
 ghost use mathlib.Core.Path.{_≡_};
@@ -11,8 +12,8 @@ ghost use Rattle.rules.specs.Reading.{«read»};
 ghost use Rattle.rules.specs.Records.{General};
 ghost use Rattle.rules.specs.Answers.{initResult, answerInit, aliveResponse, answerRead, answer};
 ghost use Rattle.rules.specs.Sound.{Sound};
-ghost use Rattle.memory.specs.Memory.{Whole, shown};
-ghost use Rattle.answers.specs.Gives.{Gives, Says, barred};
+ghost use Rattle.memory.specs.Memory.{Whole, see, shown};
+ghost use Rattle.answers.specs.Gives.{Gives, Says, unmoved, barred};
 
 // Init: "Revision not 2 gives 102, another name 104, else 100".
 fn init_result(revision: u16, asked: &[u8], name: &[u8]) -> u16
@@ -41,8 +42,8 @@ fn answer_init(
     requires { ⌜ 34 ≤ length (now d) ⌝ }
     requires { ⌜ 44 ≤ length (now out) ⌝ }
     ensures { λ r.
-        ⌜ Gives (answerInit conn revision (now (d .entry)) (shown (now (m .entry)) (now (b .entry)))) (now (out .entry)) r
-        (now (m .exit)) (now (b .entry)) (now (out .exit)) ⌝ }
+        ⌜ Gives (answerInit conn revision (now (d .entry)) (shown (now (m .entry)) (now (b .entry)))) (see (now (m .entry)) .ringEnd)
+        (now (out .entry)) (unmoved r) (now (m .exit)) (now (b .entry)) (now (out .exit)) ⌝ }
 {
     let r = init_result(revision, reading::channel_name(d), memory::name(b));
     writing::init_response(&mut *out, conn as u64, r, memory::name(b));
@@ -84,22 +85,34 @@ fn answer_read(
     id: u16,
     d: &[u8],
     out: &mut [u8],
-) -> usize
+) -> Given
     requires { ⌜ Whole (now m) (now b) ⌝ }
     requires { ⌜ Sound (shown (now m) (now b)) ⌝ }
     requires { ⌜ conn ≤ 3 ⌝ }
     requires { ⌜ 4096 ≤ length (now out) ⌝ }
     ensures { λ r.
         ⌜ Gives (answerRead conn («read» id (now (d .entry))) (now (d .entry)) (shown (now (m .entry)) (now (b .entry))))
-        (now (out .entry)) r (now (m .exit)) (now (b .entry)) (now (out .exit)) ⌝ }
+        (see (now (m .entry)) .ringEnd) (now (out .entry)) r (now (m .exit)) (now (b .entry)) (now (out .exit)) ⌝ }
 {
     let message = reading::read(id, d);
     match message {
-        Message::Init(revision) => answer_init(&mut *m, b, conn, revision, d, &mut *out),
-        Message::Alive => answer_alive(&*m, b, conn, &mut *out),
+        Message::Init(revision) => Given {
+            len: answer_init(&mut *m, b, conn, revision, d, &mut *out),
+            moved: 0,
+        },
+        Message::Alive => Given {
+            len: answer_alive(&*m, b, conn, &mut *out),
+            moved: 0,
+        },
         Message::Splice(r) => requests::answer_splice(&mut *m, conn as u64, r, &mut *out),
-        Message::Abort(x) => requests::answer_abort(&mut *m, conn as u64, x as u64, &mut *out),
-        Message::Unreadable => general(conn, 123, &mut *out),
+        Message::Abort(x) => Given {
+            len: requests::answer_abort(&mut *m, conn as u64, x as u64, &mut *out),
+            moved: 0,
+        },
+        Message::Unreadable => Given {
+            len: general(conn, 123, &mut *out),
+            moved: 0,
+        },
     }
 }
 
@@ -116,27 +129,33 @@ fn is_barred(link: Link, id: u16) -> bool
 
 // "1. ID 0x0000: no answer. 2. Not initialised and not Init_Request: General_Response 103. 3. ID 0x000D: no answer.
 // 4. ID not in the list of four: General_Response 120."
-pub fn answer(m: &mut [u64; WORDS], b: &[u8], conn: u32, id: u16, d: &[u8], out: &mut [u8]) -> usize
+pub fn answer(m: &mut [u64; WORDS], b: &[u8], conn: u32, id: u16, d: &[u8], out: &mut [u8]) -> Given
     requires { ⌜ Whole (now m) (now b) ⌝ }
     requires { ⌜ Sound (shown (now m) (now b)) ⌝ }
     requires { ⌜ conn ≤ 3 ⌝ }
     requires { ⌜ 4096 ≤ length (now out) ⌝ }
     ensures { λ r.
-        ⌜ Gives (answer conn id (now (d .entry)) (shown (now (m .entry)) (now (b .entry)))) (now (out .entry)) r
-        (now (m .exit)) (now (b .entry)) (now (out .exit)) ⌝ }
+        ⌜ Gives (answer conn id (now (d .entry)) (shown (now (m .entry)) (now (b .entry)))) (see (now (m .entry)) .ringEnd)
+        (now (out .entry)) r (now (m .exit)) (now (b .entry)) (now (out .exit)) ⌝ }
 {
     if id == 0x0000 {
-        return 0;
+        return Given { len: 0, moved: 0 };
     }
     let link = memory::link(&*m, conn);
     if is_barred(link, id) {
-        return general(conn, 103, &mut *out);
+        return Given {
+            len: general(conn, 103, &mut *out),
+            moved: 0,
+        };
     }
     if id == 0x000D {
-        return 0;
+        return Given { len: 0, moved: 0 };
     }
     if !reading::is_read(id) {
-        return general(conn, 120, &mut *out);
+        return Given {
+            len: general(conn, 120, &mut *out),
+            moved: 0,
+        };
     }
     answer_read(&mut *m, b, conn, id, d, &mut *out)
 }

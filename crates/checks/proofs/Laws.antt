@@ -31,7 +31,7 @@ use Rattle.places.specs.Places.{startsFrom}
 use Rattle.places.proofs.Laws.{used-fits}
 use Rattle.memory.specs.declared.Which.{Which}
 use Rattle.memory.specs.declared.Which.the-variants.{Waiting, Started}
-use Rattle.memory.specs.Memory.{slotOf, fromOf, toOf, placesOf, tallied, Form, see, sessions, listOf, listed}
+use Rattle.memory.specs.Memory.{slotOf, ringOf, fromOf, toOf, placesOf, tallied, Form, see, sessions, listOf, listed}
 use Rattle.memory.proofs.Laws.{sessions-list, counted, room-at, tallied-at}
 use Rattle.checks.specs.declared.Where.{Where}
 use Rattle.checks.specs.declared.Where.the-variants.{In, Nowhere}
@@ -308,7 +308,7 @@ module _ (new : Session) (u : List Session) {b : Bool} (f : b ≡ some (startsAt
 pub waiting-fits : (m : List ℕ) → Form m → length (sessions Waiting m) ≤ placesOf Waiting
 waiting-fits m f =
     let v = Waiting in
-    let fits = used-fits (part (fromOf v) (toOf v - fromOf v) m) (getD m (slotOf v) 0) (f .waiting) in
+    let fits = used-fits (part (fromOf v) (toOf v - fromOf v) m) (ringOf v m) (getD m (slotOf v) 0) (f .waiting) in
     omega (arith, counted v m f, room-at v refl refl f)
 
 pub few-each : (t : List ℕ) → Few t → (getD t 0 0 ≤ 64) × (getD t 1 0 ≤ 64) × (getD t 2 0 ≤ 64) × (getD t 3 0 ≤ 64)

@@ -17,12 +17,12 @@ use Rattle.rules.specs.State.{empty, of, endsAt, withStarted}
 use Rattle.rules.specs.Records.{Record, output}
 use Rattle.rules.specs.Ends.{ended, endings}
 use Rattle.rules.specs.Instants.{endAt}
-use Rattle.rules.proofs.Count.{length-put, endings-map}
+use Rattle.rules.proofs.Count.{length-put, length-split, endings-map}
 use Rattle.rules.proofs.Every.{fewer-all, fewer-removeAt}
 use Rattle.rules.proofs.Size.{weight-none}
 use Rattle.rules.proofs.Written.{length-written}
 use Rattle.memory.specs.declared.Which.{Which}
-use Rattle.memory.specs.declared.Which.the-variants.{Started}
+use Rattle.memory.specs.declared.Which.the-variants.{Waiting, Started}
 use Rattle.memory.specs.Memory.{Memory, see, sessions, queued, relisted, Form, Now}
 use Rattle.memory.proofs.Laws.{sessions-list}
 use Rattle.ends.specs.Does.{Playable, roomFor, Tells, Turns, Does, oneEnded, theirsEnded}
@@ -98,6 +98,20 @@ module _ {p : Session → Bool} {air cover : Ending} {l : List Session} {e : Lis
 
 -- ## A connection's of a list: the loop of `end_theirs`
 
+-- a list as long as before is without none
+omit-none : (p : Session → Bool) (l : List Session) → length l ≤ length (omit p l) → omit p l ≡ l
+omit-none p [] h = refl
+omit-none p (x ∷ l) h = go (p x) h (omit-none p l)
+  where
+    go : (b : Bool) → suc (length l) ≤ length (put (not b) x (omit p l)) → (length l ≤ length (omit p l) → omit p l ≡ l) → put (not b) x (omit p l) ≡ x ∷ l
+    go true k f = absurd (omega (arith, k, length-split p l))
+    go false k f = ap (λ (r : List Session). x ∷ r) (f (omega (arith, k)))
+
+-- a list put where it stands
+relisted-same : (w : Which) (m : List ℕ) → relisted w (sessions w m) (see m) ≡ see m
+relisted-same Waiting m = refl
+relisted-same Started m = refl
+
 -- of the sessions l: the first i are passed, and `left` of them are others'
 pub record Theirs (c : ℕ) (l : List Session) (e : List ℕ) (len i to left : ℕ) (o : List ℕ) : Type 0 where
   pub writes : Closing (of c) (Response 116) (Response 116) l (drop i l) e len (Response 116) to o
@@ -147,6 +161,14 @@ module _ {c : ℕ} {e : List ℕ} {len : ℕ} where
       Now n (relisted w (omit (of c) (sessions w m)) (see m)) → Does (theirsEnded w c) len m e to n o
   unfolding theirsEnded
   theirs-done w m v k s = rw (← (sessions-list w m)) (record { shows = s; tells = theirs-told (sessions w m) v k })
+
+  -- or none is theirs, and the words stay
+  pub theirs-spared : (w : Which) (m : List ℕ) {o : List ℕ} {i to left : ℕ} → Form m → Theirs c (sessions w m) e len i to left o → length (sessions w m) ≤ i →
+      length (sessions w m) ≤ left → Does (theirsEnded w c) len m e to m o
+  theirs-spared w m f v k h =
+      let l = sessions w m in
+      let all : omit (of c) l ≡ l = omit-none (of c) l (omega (arith, h, theirs-left l v k)) in
+      theirs-done w m v k (record { form = f; is = sym (ap (λ (r : List Session). relisted w r (see m)) all ∙ relisted-same w m) })
 
 -- ## Started ones go one by one, and the others stay: the loop of `end_due`
 

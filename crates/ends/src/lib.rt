@@ -62,25 +62,43 @@ pub fn fail(m: &mut [u64; WORDS], x: Session, out: &mut [u8], len: usize) -> usi
     dismiss(&mut *m, 109, x.conn, x.id, &mut *out, to)
 }
 
-// The session `at` of a list ends, and the others close up.
-fn end_one(
+// The started session `at` ends, and the others close up.
+fn end_one_started(
     m: &mut [u64; WORDS],
-    which: Which,
     at: usize,
     how: Ending,
     out: &mut [u8],
     len: usize,
 ) -> usize
     requires { ⌜ Form (now m) ⌝ }
-    requires { ⌜ at < length (sessions which (now m)) ⌝ }
-    requires { ⌜ Writable how (getD (sessions which (now m)) at empty) ⌝ }
+    requires { ⌜ at < length (see (now m) .queue .started) ⌝ }
+    requires { ⌜ Writable how (getD (see (now m) .queue .started) at empty) ⌝ }
     requires { ⌜ len + roomFor 1 ≤ length (now out) ⌝ }
-    ensures { λ r.
-        ⌜ Does (oneEnded which at how) len (now (m .entry)) (now (out .entry)) r (now (m .exit)) (now (out .exit)) ⌝ }
+    ensures { λ r. ⌜ Does (oneEnded Started at how) len (now (m .entry)) (now (out .entry)) r (now (m .exit)) (now (out .exit)) ⌝ }
 {
-    let x = memory::load(&*m, which, at);
-    memory::remove(&mut *m, which, at);
+    let x = memory::load(&*m, Which::Started, at);
+    memory::remove(&mut *m, Which::Started, at);
     write_end(how, x, &mut *out, len)
+}
+
+// The waiting session `at` ends with the result, and the others close up. A function of its own: the compiler takes it into `dismiss`,
+// which so keeps no session over its recursive call.
+fn end_one_waiting(
+    m: &mut [u64; WORDS],
+    at: usize,
+    result: u16,
+    out: &mut [u8],
+    len: usize,
+) -> usize
+    requires { ⌜ Form (now m) ⌝ }
+    requires { ⌜ at < length (see (now m) .queue .waiting) ⌝ }
+    requires { ⌜ len + roomFor 1 ≤ length (now out) ⌝ }
+    ensures { λ r. ⌜ Does (oneEnded Waiting at (Response result))
+        len (now (m .entry)) (now (out .entry)) r (now (m .exit)) (now (out .exit)) ⌝ }
+{
+    let x = memory::load(&*m, Which::Waiting, at);
+    memory::remove(&mut *m, Which::Waiting, at);
+    write_end(Ending::Response(result), x, &mut *out, len)
 }
 
 // The waiting session `at` ends with the result, and then the ones that follow it.
@@ -99,14 +117,7 @@ pub fn end_waiting(
 {
     let conn = memory::conn_at(&*m, Which::Waiting, at);
     let id = memory::id_at(&*m, Which::Waiting, at);
-    let to = end_one(
-        &mut *m,
-        Which::Waiting,
-        at,
-        Ending::Response(result),
-        &mut *out,
-        len,
-    );
+    let to = end_one_waiting(&mut *m, at, result, &mut *out, len);
     dismiss(&mut *m, result, conn, id, &mut *out, to)
 }
 
@@ -138,7 +149,7 @@ pub fn end_started(
     let conn = memory::conn_at(&*m, Which::Started, at);
     let id = memory::id_at(&*m, Which::Started, at);
     let how = ending_at(at, result);
-    let to = end_one(&mut *m, Which::Started, at, how, &mut *out, len);
+    let to = end_one_started(&mut *m, at, how, &mut *out, len);
     dismiss(&mut *m, result, conn, id, &mut *out, to)
 }
 
@@ -155,14 +166,7 @@ fn end_on_air_of(m: &mut [u64; WORDS], conn: u64, out: &mut [u8]) -> usize
     if conn != memory::conn_at(&*m, Which::Started, 0) {
         return 0;
     }
-    end_one(
-        &mut *m,
-        Which::Started,
-        0,
-        Ending::Complete(116),
-        &mut *out,
-        0,
-    )
+    end_one_started(&mut *m, 0, Ending::Complete(116), &mut *out, 0)
 }
 
 // The connection's sessions of a list end, none of which is on air; the others close up.
@@ -186,7 +190,9 @@ fn end_theirs(m: &mut [u64; WORDS], which: Which, conn: u64, out: &mut [u8], len
         }
         i += 1;
     }
-    memory::omit_of(&mut *m, which, conn, left);
+    if left < n {
+        memory::omit_of(&mut *m, which, conn, left);
+    }
     to
 }
 
@@ -201,29 +207,15 @@ pub fn end_due(m: &mut [u64; WORDS], t: Ninths, out: &mut [u8], len: usize) -> u
     let mut to = len;
     let mut i = 0;
     while i < memory::count(&*m, Which::Started) {
-        let end = memory::end_at(&*m, Which::Started, i);
+        let end = memory::end_at(&*m, i);
         if t.0 == end.0 {
-            to = end_one(&mut *m, Which::Started, i, how, &mut *out, to);
+            to = end_one_started(&mut *m, i, how, &mut *out, to);
         } else {
             i += 1;
         }
         how = Ending::Complete(125);
     }
     to
-}
-
-// The follower `at` ends with the result. Of this list alone, apart from `end_one`, the compiler takes it into `dismiss`, which so keeps no
-// session over its recursive call.
-fn end_follower(m: &mut [u64; WORDS], at: usize, result: u16, out: &mut [u8], len: usize) -> usize
-    requires { ⌜ Form (now m) ⌝ }
-    requires { ⌜ at < length (see (now m) .queue .waiting) ⌝ }
-    requires { ⌜ len + roomFor 1 ≤ length (now out) ⌝ }
-    ensures { λ r. ⌜ Does (oneEnded Waiting at (Response result))
-        len (now (m .entry)) (now (out .entry)) r (now (m .exit)) (now (out .exit)) ⌝ }
-{
-    let x = memory::load(&*m, Which::Waiting, at);
-    memory::remove(&mut *m, Which::Waiting, at);
-    write_end(Ending::Response(result), x, &mut *out, len)
 }
 
 // The waiting sessions that reach the number link by link end with the result.
@@ -243,7 +235,7 @@ fn dismiss(
     let i = memory::find(&*m, Which::Waiting, Key::Follows(conn, id));
     if i < memory::count(&*m, Which::Waiting) {
         let next = memory::id_at(&*m, Which::Waiting, i);
-        let to = end_follower(&mut *m, i, result, &mut *out, len);
+        let to = end_one_waiting(&mut *m, i, result, &mut *out, len);
         dismiss(m, result, conn, next, out, to)
     } else {
         len

@@ -6,15 +6,15 @@ use mathlib.Core.List.{List, [], _∷_}
 use Prim.Native.Nat.{ℕ, suc, _+_, _≤_, _<_}
 use native.Mathlib.Omega.{arith}
 use lib.Dec.{eqb}
-use lib.ListN.{length, getD, set}
+use lib.ListN.{length, getD}
 use borrow.Author.Tests.{eq-eqb, ne-eqb, lt-ltb, le-ltb}
 use Rattle.rules.specs.declared.Session.{Session}
 use Rattle.rules.specs.declared.Ending.the-variants.{Complete}
-use Rattle.rules.specs.Lists.{All, place, insertAt, removeAt}
+use Rattle.rules.specs.Lists.{All, place, removeAt}
 use Rattle.rules.specs.State.{Queue, Sorted, empty, startsAt, endsAt, toCome}
 use Rattle.rules.specs.Records.{output}
 use Rattle.rules.specs.Ends.{Turn, andThen}
-use Rattle.rules.specs.Instants.{outranks, mayStart, began, failed, launched, startAt, endAt, instant, playing, onAir, elapse}
+use Rattle.rules.specs.Instants.{outranks, mayStart, began, failed, launched, startAt, endAt, instant, onAir, elapse}
 use Rattle.rules.proofs.All.{all-into}
 use Rattle.rules.proofs.Every.{all-getD}
 use Rattle.rules.proofs.Count.{length-split}
@@ -32,26 +32,17 @@ unfolding onAir
 on-none d [] h = refl
 on-none d (s ∷ l) h = absurd (omega (arith, h))
 
-on-first : (d : ℕ) (l : List Session) → 0 < length l → set l 0 (playing d (getD l 0 empty)) ≡ onAir d l
-unfolding onAir
-on-first d [] h = absurd (omega arith)
-on-first d (s ∷ l) h = refl
-
 module _ (d : ℕ) where
   pub elapsed-none : {m : List ℕ} → Form m → 0 ≡ length (see m .queue .started) → Now m (queued (elapse d (see m .queue)) (see m))
   unfolding elapse
   elapsed-none {m} f z = record { form = f; is = ap (λ l. relisted Started l (see m)) (on-none d (see m .queue .started) z) }
 
-  module _ (s : Memory) (x : Session) (h : 0 < length (s .queue .started)) (e : x ≡ getD (s .queue .started) 0 empty) where
-    pub elapsed-some : {m : List ℕ} → Now m (relisted Started (set (s .queue .started) 0 (playing d x)) s) →
-        Now m (queued (elapse d (s .queue)) s)
-    unfolding elapse
-    elapsed-some v =
-        let k = s .queue .started in
-        record { form = v .form; is = v .is ∙ ap (λ l. relisted Started l s) (ap (λ y. set k 0 (playing d y)) e ∙ on-first d k h) }
+  pub elapsed-some : (s : Memory) {m : List ℕ} → Now m (relisted Started (onAir d (s .queue .started)) s) → Now m (queued (elapse d (s .queue)) s)
+  unfolding elapse
+  elapsed-some s v = v
 
-    pub first-lasting : Lasting d (s .queue .started) → Lasts d x
-    first-lasting a = rw e (all-getD (Lasts d) (s .queue .started) 0 empty h a)
+  pub first-lasting : (l : List Session) → 0 < length l → Lasting d l → Lasts d (getD l 0 empty)
+  first-lasting l h a = all-getD (Lasts d) l 0 empty h a
 
 -- ## Whether one may start
 
@@ -77,9 +68,9 @@ unfolding launched
 on-placed x q f h = omega (arith, rw f at h)
 
 module _ (x : Session) {e : List ℕ} {len : ℕ} {s : Memory} {m o : List ℕ} {to : ℕ} where
-  pub launched-on : mayStart x (s .queue .started) ≡ true → Now m (relisted Started (insertAt 0 x (s .queue .started)) s) →
+  pub launched-on : mayStart x (s .queue .started) ≡ true → Now m (relisted Started (x ∷ s .queue .started) s) →
       Tells e len (began x ∷ []) to o → Turns e len (launched x (s .queue)) s m to o
-  unfolding launched insertAt
+  unfolding launched
   launched-on f n b = rw f (record { shows = n; tells = b })
 
   -- it fails

@@ -25,10 +25,7 @@ fn elapse(m: &mut [u64; WORDS], d: u64)
     if memory::count(&*m, Which::Started) == 0 {
         return;
     }
-    let mut x = memory::load(&*m, Which::Started, 0);
-    let played = x.played.0 + d;
-    x.played.0 = played;
-    memory::replace(&mut *m, 0, x)
+    memory::play(&mut *m, d)
 }
 
 // Whether x may go on air: nothing is, or x overrides one that it outranks.
@@ -52,7 +49,7 @@ fn launch(m: &mut [u64; WORDS], x: Session, out: &mut [u8], len: usize) -> usize
 {
     if may_start(&*m, x) {
         writing::splice_complete(&mut out[len..], x.conn, 100, x.id, 0, Ticks(0));
-        memory::insert(&mut *m, Which::Started, 0, x);
+        memory::push(&mut *m, x);
         len + 23
     } else {
         ends::fail(&mut *m, x, &mut *out, len)

@@ -18,17 +18,20 @@ use Rattle.rules.specs.declared.Request.{Request}
 use Rattle.rules.specs.declared.Ending.{Ending}
 use Rattle.rules.specs.declared.Ending.the-variants.{Complete, Response}
 use Rattle.rules.specs.Lists.{All, bit, put, keep, omit, some, count, place, insertAt, removeAt}
-use Rattle.rules.specs.State.{Queue, empty, is, startsAt, startsAfter, withWaiting, holds, Sorted}
+use Rattle.rules.specs.State.{Queue, empty, is, startsAt, startsAfter, holds, Sorted}
 use Rattle.rules.specs.Bytes.{written}
 use Rattle.rules.specs.Records.{Record, SpliceResponse, AbortResponse, recordBytes}
-use Rattle.rules.specs.Ends.{Turn, quiet, writes, andThen, ended, endings, dismissed, evictedAt, evicted, cancelled, aborted}
+use Rattle.rules.specs.Ends.{Turn, writes, andThen, ended, endings, dismissed, evictedAt, evicted, cancelled, aborted}
 use Rattle.rules.specs.Answers.{startOf, sessionAt, requested, separate, full}
-use Rattle.rules.specs.Answers.{spliceResult, inserted, accepts, accepted, answerSplice, answerAbort}
+use Rattle.rules.specs.Answers.{spliceResult, inserted, accepts, accepted, later, Spliced, grants, declines, answerSplice, answerAbort}
 use Rattle.rules.specs.Asked.{Within}
 use Rattle.rules.specs.Sound.{Room, horizon, Once, Holding}
 use Rattle.rules.proofs.Tests.{and-both}
-use Rattle.rules.proofs.Count.{some-place, place≤}
-use Rattle.rules.proofs.Leaving.{evicted-started}
+use Rattle.rules.proofs.Count.{place≤}
+use Rattle.rules.proofs.Every.{all-none, none-some, fewer-sorted}
+use Rattle.rules.proofs.Leaving.{evicted-fewer, evicted-started}
+use Rattle.rules.proofs.Timed.{evicted-free}
+use Rattle.rules.proofs.Moves.{evicted-none, later-behind}
 use Rattle.rules.proofs.Checks.{passed-all}
 use Rattle.rules.proofs.Room.{room-more, sixty-four}
 use Rattle.rules.proofs.Records.{length-record}
@@ -38,20 +41,25 @@ use Rattle.rules.proofs.Sound.{early}
 use Rattle.places.specs.Places.{startsFrom}
 use Rattle.memory.specs.declared.Which.{Which}
 use Rattle.memory.specs.declared.Which.the-variants.{Waiting, Started}
-use Rattle.memory.specs.Memory.{Memory, Form, see, sessions, listOf, relisted, Now, placesOf, OfFour}
+use Rattle.memory.specs.Memory.{Memory, Form, see, sessions, listOf, relisted, onward, Now, placesOf, OfFour}
 use Rattle.ends.specs.Does.{Turns, Does, oneEnded, chainEnded, endingAt}
-use Rattle.ends.proofs.Laws.{tells-part, turns-quiet, turns-writes, turns-then}
+use Rattle.ends.proofs.Laws.{tells-part, tells-then, turns-quiet, turns-writes, turns-then}
 use Rattle.checks.specs.declared.Where.{Where}
 use Rattle.checks.specs.declared.Where.the-variants.{In}
 use Rattle.checks.specs.Found.{startIn, whereIn}
 use Rattle.checks.proofs.Laws.{HeldAt, held-at, held-alone, start-known, taken-at, free-at, taken-within, result-none}
 use Rattle.requests.specs.declared.Way.{Way}
-use Rattle.requests.specs.Made.{MadeWay}
+use Rattle.requests.specs.declared.Given.{Given}
+use Rattle.requests.specs.Made.{MadeWay, Splices}
 
 -- one record of 14 bytes is all
 says-one : {x : Record} {m e o : List ℕ} → length (recordBytes x) ≡ 14 → Form m → o ≡ written e 0 (recordBytes x) →
     Does (writes (x ∷ [])) 0 m e 14 m o
 says-one l f b = turns-writes (record { form = f; is = refl }) (omega (arith, l)) b
+
+-- one that shifted no place
+abbrev nothing-moved : Given
+nothing-moved = record { len = 14; moved = 0 }
 
 -- ## Way for a new session
 
@@ -60,9 +68,18 @@ evicted-chain : (t i : ℕ) (q : Queue) → i ≡ place (startsAt t) (q .waiting
 unfolding evicted evictedAt chainEnded oneEnded
 evicted-chain t i q e h = rw e (rw (lt-ltb (place (startsAt t) (q .waiting)) (length (q .waiting)) (omega arith)))
 
-evicted-none : (t : ℕ) (q : Queue) → some (startsAt t) (q .waiting) ≡ false → quiet q ≡ evicted t q
-unfolding evicted
-evicted-none t q h = rw (sym (some-place (startsAt t) (q .waiting)) ∙ h)
+-- what is left of those that wait: in order still, and none starts at t
+module _ (t : ℕ) (m n : List ℕ) {e o : List ℕ} {to : ℕ} (d : Does (evicted t) 0 m e to n o) (k : Sorted (see m .queue .waiting)) where
+  left : see n .queue .waiting ≡ evicted t (see m .queue) .queue .waiting
+  left = ap (λ (s : Memory). s .queue .waiting) (d .shows .is)
+
+  still : Sorted (see n .queue .waiting)
+  still = rw left (fewer-sorted (evicted-fewer t (see m .queue) .waiting) k)
+
+  gone : some (startsAt t) (see n .queue .waiting) ≡ false
+  gone =
+      let w = evicted t (see m .queue) .queue .waiting in
+      rw left (none-some (startsAt t) w (all-none (startsAt t) w (evicted-free t (see m .queue) k)))
 
 -- i: the place of the first from t on; b: whether one that waits starts at t
 module _ (t : ℕ) (m : List ℕ) {i : ℕ} {b : Bool} (f : i ≡ place (startsFrom t) (see m .queue .waiting))
@@ -85,10 +102,17 @@ module _ (t : ℕ) (m : List ℕ) {i : ℕ} {b : Bool} (f : i ≡ place (startsF
     way-taken = taken-within t w sorted f g h
 
     pub way-over : {e n o : List ℕ} {r : Way} → Does (chainEnded Waiting i (Response 109) 109) 0 m e (r .len) n o →
-        r .at ≡ place (startsAfter t) (see n .queue .waiting) → MadeWay t m e r n o
+        r .at ≡ place (startsFrom t) (see n .queue .waiting) → MadeWay t m e r n o
     way-over {e} {n} {o} {r} d p =
         let same = evicted-chain t i (see m .queue) (f ∙ sym (taken-at t w sorted (sym g ∙ h))) way-taken in
-        record { does = subst (λ (u : Turn). Turns e 0 u (see m) n (r .len) o) same d; goes = p }
+        let u : Does (evicted t) 0 m e (r .len) n o = subst (λ (u : Turn). Turns e 0 u (see m) n (r .len) o) same d in
+        record { does = u; goes = p ∙ sym (free-at t (see n .queue .waiting) (gone t m n u sorted)) }
+
+    -- those that wait are in order still: one more search may halve them
+    pub way-sorted : {e n o : List ℕ} {to : ℕ} → Does (chainEnded Waiting i (Response 109) 109) 0 m e to n o → Sorted (see n .queue .waiting)
+    way-sorted {e} {n} {o} {to} d =
+        let same = evicted-chain t i (see m .queue) (f ∙ sym (taken-at t w sorted (sym g ∙ h))) way-taken in
+        still t m n (subst (λ (u : Turn). Turns e 0 u (see m) n to o) same d) sorted
 
 -- ## Acceptance
 
@@ -107,16 +131,32 @@ module _ {t : ℕ} {m e n o : List ℕ} {r : Way} (a : MadeWay t m e r n o) wher
   pub way-within : r .at ≤ length (see n .queue .waiting)
   way-within = omega (arith, a .goes, place≤ (startsAfter t) (see n .queue .waiting))
 
--- the new one waits before the first that starts later, and its 100 stands behind the ends
-pub accept-turns : (new : Session) {m e n o n′ ys : List ℕ} {r : Way} → MadeWay (new .start .0) m e r n o →
-    Now n′ (relisted Waiting (insertAt (r .at) new (sessions Waiting n)) (see n)) → length o ≡ length e → r .len + 14 ≤ length e →
+  -- "the waiting sessions, after any eviction, whose start is later": those from the place on
+  way-later : Sorted (see m .queue .waiting) → length (see n .queue .waiting) - r .at ≡ count (startsAfter t) (see n .queue .waiting)
+  way-later k =
+      let w = see n .queue .waiting in
+      ap (λ (i : ℕ). length w - i) (a .goes) ∙ later-behind t w (still t m n (a .does) k)
+
+-- the new one waits before the first that starts later, its 100 stands behind the ends, and those that start later have moved
+pub accept-turns : (new : Session) {m e n o n′ ys : List ℕ} {r : Way} {moves : ℕ} → MadeWay (new .start .0) m e r n o → Sorted (see m .queue .waiting) →
+    Now n′ (onward true (relisted Waiting (insertAt (r .at) new (sessions Waiting n)) (see n))) →
+    moves ≡ length (sessions Waiting n) - r .at → length o ≡ length e → r .len + 14 ≤ length e →
     ys ≡ written (midOf (r .len) (length o - r .len) o) 0 (recordBytes (accepts new)) →
-    Does (accepted new) 0 m e (r .len + 14) n′ (putMid (r .len) (length o - r .len) o ys)
-unfolding accepted inserted
-accept-turns new {m} {e} {n} {o} {n′} {ys} {r} a v k h b =
-    let shows = subst (λ (i : ℕ). Now n′ (relisted Waiting (insertAt i new (sessions Waiting n)) (see n))) (a .goes) v in
-    turns-then (evicted (new .start .0) (see m .queue)) (λ u. writes (accepts new ∷ []) (withWaiting (inserted new (u .waiting)) u))
-    (omega (arith, a .does .tells .count)) (a .does) (record { shows = shows; tells = tells-part {r = accepts new} tt (omega arith) b })
+    Splices (grants new (see m .queue)) m e (record { len = r .len + 14; moved = moves }) n′ (putMid (r .len) (length o - r .len) o ys)
+unfolding accepted andThen inserted later
+accept-turns new {m} {e} {n} {o} {n′} {ys} {r} a j v c k h b =
+    let t = new .start .0 in
+    let put : (i : ℕ) → Memory → Memory = λ i s. onward true (relisted Waiting (insertAt i new (s .queue .waiting)) s) in
+    let after : Memory → Memory = λ s. put (place (startsAfter t) (s .queue .waiting)) s in
+    record {
+      does =
+          record {
+            shows = record { form = v .form; is = v .is ∙ ap (λ (i : ℕ). put i (see n)) (a .goes) ∙ ap after (a .does .shows .is) };
+            tells =
+                tells-then (omega (arith, a .does .tells .count)) (a .does .tells) (tells-part {r = accepts new} tt (omega arith) b);
+          };
+      moved = c ∙ way-later a j ∙ ap (λ (s : Memory). count (startsAfter t) (s .queue .waiting)) (a .does .shows .is);
+    }
 
 -- ## The answer to a Splice_Request
 
@@ -168,25 +208,25 @@ module _ (c : ℕ) (r : Request) (m : List ℕ) {new : Session} {n : ℕ} (a : n
       room-left (requested c r q) (q .waiting) low (k .ofFour) (j .room)
       (passed-all (see m .clock) c r q (sym result-is ∙ h) .room)
 
-  answer-is : cond (eqb n 100) (accepted new q) (writes (SpliceResponse c n (r .id) ∷ []) q) ≡ answerSplice (see m .clock) c r q
+  answer-is : cond (eqb n 100) (grants new q) (declines c n r q) ≡ answerSplice (see m .clock) c r q
   unfolding answerSplice
-  answer-is = ap₂ (λ (k : ℕ) (s : Session). cond (eqb k 100) (accepted s q) (writes (SpliceResponse c k (r .id) ∷ []) q)) result-is a
+  answer-is = ap₂ (λ (k : ℕ) (s : Session). cond (eqb k 100) (grants s q) (declines c k r q)) result-is a
 
   module _ {e o : List ℕ} where
-    pub splice-accepted : {m′ : List ℕ} {to : ℕ} → n ≡ 100 → Does (accepted new) 0 m e to m′ o →
-        Does (answerSplice (see m .clock) c r) 0 m e to m′ o
-    splice-accepted {m′} {to} h d = subst (λ (t : Turn). Turns e 0 t (see m) m′ to o) answer-is (rw (eq-eqb n 100 h) d)
+    pub splice-accepted : {m′ : List ℕ} {g : Given} → n ≡ 100 → Splices (grants new q) m e g m′ o →
+        Splices (answerSplice (see m .clock) c r q) m e g m′ o
+    splice-accepted {m′} {g} h d = subst (λ (t : Spliced). Splices t m e g m′ o) answer-is (rw (eq-eqb n 100 h) d)
 
     pub splice-refused : (n ≡ 100 → ⊥) → Form m → o ≡ written e 0 (recordBytes (SpliceResponse c n (r .id))) →
-        Does (answerSplice (see m .clock) c r) 0 m e 14 m o
+        Splices (answerSplice (see m .clock) c r q) m e nothing-moved m o
     splice-refused h k b =
-        subst (λ (t : Turn). Turns e 0 t (see m) m 14 o) answer-is
-        (rw (ne-eqb n 100 h) (says-one (length-record (SpliceResponse c n (r .id)) tt) k b))
+        subst (λ (t : Spliced). Splices t m e nothing-moved m o) answer-is
+        (rw (ne-eqb n 100 h) (record { does = says-one (length-record (SpliceResponse c n (r .id)) tt) k b; moved = refl }))
 
 -- a or b: its start is not known
 pub splice-unknown : (c : ℕ) (r : Request) (m : List ℕ) {n : ℕ} {e o : List ℕ} → startIn c (r .start) (see m .queue) ≡ Never →
     n ≡ cond (separate r) 110 121 → Form m → o ≡ written e 0 (recordBytes (SpliceResponse c n (r .id))) →
-    Does (answerSplice (see m .clock) c r) 0 m e 14 m o
+    Splices (answerSplice (see m .clock) c r (see m .queue)) m e nothing-moved m o
 splice-unknown c r m {n} h k f b =
     let new = requested c r (see m .queue) in
     splice-refused c r m refl (k ∙ result-none (see m .clock) c r new (see m .queue) h) (other (separate r) k) f b

@@ -2,7 +2,6 @@
 use checks::Where;
 use memory::WORDS;
 use memory::Which;
-use places::Key;
 use rules::Ninths;
 use rules::Request;
 use rules::Session;
@@ -11,14 +10,20 @@ ghost use mathlib.Core.Path.{_≡_};
 ghost use Prim.Native.Nat.{_+_, _≤_, _<_};
 ghost use lib.ListN.{length};
 ghost use Rattle.rules.specs.Lists.{place};
-ghost use Rattle.rules.specs.Answers.{accepted, answerSplice, answerAbort};
+ghost use Rattle.rules.specs.Answers.{grants, answerSplice, answerAbort};
 ghost use Rattle.rules.specs.Sound.{horizon, Holding};
 ghost use Rattle.rules.specs.Asked.{Asked};
 ghost use Rattle.places.specs.Places.{startsFrom};
 ghost use Rattle.memory.specs.Memory.{Form, see, placesOf, OfFour};
 ghost use Rattle.memory.specs.declared.Which.the-variants.{Waiting};
 ghost use Rattle.ends.specs.Does.{Does};
-ghost use Rattle.requests.specs.Made.{MadeWay};
+ghost use Rattle.requests.specs.Made.{MadeWay, Splices};
+
+// What an answer gave: how far the output is written, and how many places an acceptance shifted.
+pub struct Given {
+    pub len: usize,
+    pub moved: usize,
+}
 
 // Where a new session goes, and how far the output is written.
 struct Way {
@@ -36,31 +41,36 @@ fn make_way(m: &mut [u64; WORDS], t: Ninths, at: usize, out: &mut [u8]) -> Way
 {
     if checks::is_taken(&*m, t, at) {
         let to = ends::end_waiting(&mut *m, at, 109, &mut *out, 0);
-        let i = memory::find(&*m, Which::Waiting, Key::StartsAfter(t));
+        let i = memory::find_start(&*m, t);
         return Way { at: i, len: to };
     }
     Way { at: at, len: 0 }
 }
 
 // f. The new session waits, once the one that it evicts has ended; the 100 is written last.
-fn accept(m: &mut [u64; WORDS], new: Session, at: usize, out: &mut [u8]) -> usize
+fn accept(m: &mut [u64; WORDS], new: Session, at: usize, out: &mut [u8]) -> Given
     requires { ⌜ Form (now m) ⌝ }
     requires { ⌜ Holding (see (now m) .clock) (see (now m) .queue) ⌝ }
     requires { ⌜ at ≡ place (startsFrom (new .start .0)) (see (now m) .queue .waiting) ⌝ }
     requires { ⌜ length (see (now m) .queue .waiting) < placesOf Waiting ⌝ }
     requires { ⌜ OfFour new ⌝ }
     requires { ⌜ 4096 ≤ length (now out) ⌝ }
-    ensures { λ r. ⌜ Does (accepted new) 0 (now (m .entry)) (now (out .entry)) r (now (m .exit)) (now (out .exit)) ⌝ }
+    ensures { λ r. ⌜ Splices (grants new (see (now (m .entry)) .queue))
+        (now (m .entry)) (now (out .entry)) r (now (m .exit)) (now (out .exit)) ⌝ }
 {
     let way = make_way(&mut *m, new.start, at, &mut *out);
     let len = way.len;
-    memory::insert(&mut *m, Which::Waiting, way.at, new);
+    let moved = memory::accept(&mut *m, way.at, new);
     writing::splice_response(&mut out[len..], new.conn, 100, new.id);
-    len + 14
+    let to = len + 14;
+    Given {
+        len: to,
+        moved: moved,
+    }
 }
 
 // The answer to a Splice_Request.
-pub fn answer_splice(m: &mut [u64; WORDS], conn: u64, r: Request, out: &mut [u8]) -> usize
+pub fn answer_splice(m: &mut [u64; WORDS], conn: u64, r: Request, out: &mut [u8]) -> Given
     requires { ⌜ Form (now m) ⌝ }
     requires { ⌜ Holding (see (now m) .clock) (see (now m) .queue) ⌝ }
     requires { ⌜ see (now m) .clock < horizon ⌝ }
@@ -68,24 +78,24 @@ pub fn answer_splice(m: &mut [u64; WORDS], conn: u64, r: Request, out: &mut [u8]
     requires { ⌜ Asked r ⌝ }
     requires { ⌜ 4096 ≤ length (now out) ⌝ }
     ensures { λ n.
-        ⌜ Does (answerSplice (see (now (m .entry)) .clock) conn r) 0 (now (m .entry)) (now (out .entry)) n
-        (now (m .exit)) (now (out .exit)) ⌝ }
+        ⌜ Splices (answerSplice (see (now (m .entry)) .clock) conn r (see (now (m .entry)) .queue))
+        (now (m .entry)) (now (out .entry)) n (now (m .exit)) (now (out .exit)) ⌝ }
 {
     let start = r.start;
     let when = checks::start_of(&*m, conn, start);
     let When::At(t) = when else {
         let n = checks::without_start(r);
         writing::splice_response(&mut *out, conn, n, r.id as u64);
-        return 14;
+        return Given { len: 14, moved: 0 };
     };
     let new = checks::session_at(t, conn, r);
-    let at = memory::find(&*m, Which::Waiting, Key::StartsFrom(t));
+    let at = memory::find_start(&*m, t);
     let n = checks::splice_result(&*m, conn, r, new, at);
     if n == 100 {
         return accept(&mut *m, new, at, &mut *out);
     }
     writing::splice_response(&mut *out, conn, n, r.id as u64);
-    14
+    Given { len: 14, moved: 0 }
 }
 
 // The answer to an Abort_Request: 121, or 100, the session's end and its followers' ends. No number is held twice: one search finds it.

@@ -7,7 +7,7 @@ use Rattle.rules.proofs.All.{all-at}
 use Rattle.rules.proofs.Readings.{splice-grants}
 use Rattle.memory.specs.Memory.{shown}
 use Rattle.reading.proofs.Laws.{init-length}
-use Rattle.answers.proofs.Laws.{said, turned, reads}
+use Rattle.answers.proofs.Laws.{said, turned, spliced, reads}
 use borrow.Author.Needs.{needs}
 use Rattle.answers.proofs.answer_read.Statement.{statement}
 use Rattle.answers.proofs.answer_read.Tie as tie
@@ -94,7 +94,7 @@ returns-3 c =
     let s = r .before .before .before .before in
     reads (shown (s .args .m .now) (s .args .b .now)) (s .args .conn) (s .args .id) (s .args .d .now)
     (r .read .ensures) (c .before .before .before .before .before .before .message2 .given .1)
-    (turned (s .pre .0) (c .before .before .answer-splice .ensures))
+    (spliced (s .pre .0) (c .before .before .answer-splice .ensures))
 
 same-length-4 : tie.Need-same-length-4
 same-length-4 c = search needs

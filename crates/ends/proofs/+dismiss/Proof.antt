@@ -1,5 +1,5 @@
 -- One link: the first that follows ends, and the walk goes on from its number (`dismissed-more`); those that wait get fewer.
--- Rests on what `end_follower` and memory promise, and on its own promise for fewer that wait.
+-- Rests on what `end_one_waiting` and memory promise, and on its own promise for fewer that wait.
 use Prim.Native.Nat.{ℕ, _<_}
 use native.Mathlib.Omega.{arith}
 use borrow.Author.Needs.{needs}
@@ -13,7 +13,7 @@ use Rattle.memory.proofs.count.Reads as count-reads
 use Rattle.memory.proofs.find.Reads as find-reads
 use Rattle.memory.proofs.id_at.Reads as id-at-reads
 use Rattle.ends.proofs.Laws.{end-brief, one-less, dismissed-none, dismissed-more}
-use Rattle.ends.proofs.end_follower.Reads as end-follower-reads
+use Rattle.ends.proofs.end_one_waiting.Reads as end-one-waiting-reads
 use Rattle.ends.proofs.dismiss.Reads as dismiss
 use Rattle.ends.proofs.dismiss.Kinds as dismiss-kinds
 use Rattle.ends.proofs.+dismiss.Lts-dismiss as lts
@@ -38,8 +38,8 @@ claims t = (
   count-reads.Learnt,
   id-at-reads.Asked,
   id-at-reads.Learnt,
-  end-follower-reads.Asked,
-  end-follower-reads.Learnt,
+  end-one-waiting-reads.Asked,
+  end-one-waiting-reads.Learnt,
   dismiss-below t,
   dismiss.Post,
 )
@@ -55,8 +55,8 @@ id-at-requires t c κs =
     let test = c .before .before in
     (test .before .before .before .before .before .before .before .before .pre .1 .0, omega (arith, test .if1 .taken, test .before .count .ensures))
 
-end-follower-requires : (t : ℕ) → lts.Need-end-follower-requires (claims t) (dismiss-at t) dismiss.Post
-end-follower-requires t c κs =
+end-one-waiting-requires : (t : ℕ) → lts.Need-end-one-waiting-requires (claims t) (dismiss-at t) dismiss.Post
+end-one-waiting-requires t c κs =
     let test = c .before .before .before .before .before in
     let p = test .before .before .before .before .before .before .before .before .pre .1 in
     (p .0, (omega (arith, test .if1 .taken, test .before .count .ensures), omega (arith, p .1, test .if1 .taken, test .before .count .ensures)))
@@ -70,10 +70,10 @@ dismiss-requires t c κs =
     let i = found .find .result in
     let m = s .args .m .now in
     let how = Response (s .args .result) in
-    let d = gone .end-follower .ensures in
+    let d = gone .end-one-waiting .ensures in
     let h : i < length (see m .queue .waiting) = omega (arith, test .if1 .taken, test .before .count .ensures) in
     let n = one-less Waiting i how m h d in
-    (omega (arith, s .pre .0, n), (d .shows .form, omega (arith, s .pre .1 .1, n, end-brief Waiting i how m d, gone .end-follower .kept .1 .1 .1 .0)))
+    (omega (arith, s .pre .0, n), (d .shows .form, omega (arith, s .pre .1 .1, n, end-brief Waiting i how m d, gone .end-one-waiting .kept .1 .1 .1 .0)))
 
 same-length : (t : ℕ) → lts.Need-same-length (claims t) (dismiss-at t) dismiss.Post
 same-length t c = search needs
@@ -88,7 +88,7 @@ returns t c =
     let s = found .before .before .before .before in
     let h : found .find .result < length (see (s .args .m .now) .queue .waiting) = omega (arith, test .if1 .taken, test .before .count .ensures) in
     dismissed-more (s .args .result) (s .args .conn) (s .args .id) (found .find .result) (s .args .m .now) (found .find .ensures) h (omega (arith, s .pre .1 .1))
-    (read .id-at .ensures) (gone .end-follower .ensures) (on .dismiss .ensures)
+    (read .id-at .ensures) (gone .end-one-waiting .ensures) (on .dismiss .ensures)
 
 returns-2 : (t : ℕ) → lts.Need-returns-2 (claims t) (dismiss-at t) dismiss.Post
 returns-2 t c =
@@ -103,7 +103,7 @@ pub +dismiss-spec : {M : Type 1} → statement M
     (find-requires t)
     (count-requires t)
     (id-at-requires t)
-    (end-follower-requires t)
+    (end-one-waiting-requires t)
     (dismiss-requires t)
     (same-length t)
     (returns t)

@@ -1,5 +1,5 @@
 -- One turn of `Leaving`: the session at the place i goes with its end written, or stays and is passed; those not passed get fewer.
--- Rests on what `end_one` and memory promise.
+-- Rests on what `end_one_started` and memory promise.
 use native.Mathlib.Omega.{arith}
 use borrow.Author.Needs.{needs}
 use mathlib.Core.Path.{sym, ap, _∙_}
@@ -35,8 +35,8 @@ end-at-requires c κs =
     let test = c .before .before in
     (test .before .before .before .before .loop .inv .form, omega (arith, test .if1 .taken, test .before .count .ensures))
 
-end-one-requires : tie.Need-end-one-requires Inv-loop μ-loop
-end-one-requires c κs =
+end-one-started-requires : tie.Need-end-one-started-requires Inv-loop μ-loop
+end-one-started-requires c κs =
     let test = c .before .before .before .before .before .before .before .before in
     let l = test .before .before .before .before .loop in
     let list = see (l .m) .queue .started in
@@ -53,7 +53,7 @@ loop-less c =
     let test = one .before .before .before .before .before .before .before .before .before in
     let l = test .before .before .before .before .loop in
     let k : l .i < length (see (l .m) .queue .started) = omega (arith, test .if1 .taken, test .before .count .ensures) in
-    omega (arith, one-less Started (l .i) (l .how) (l .m) k (one .end-one .ensures))
+    omega (arith, one-less Started (l .i) (l .how) (l .m) k (one .end-one-started .ensures))
 
 loop-again : tie.Need-loop-again Inv-loop μ-loop
 loop-again c =
@@ -63,7 +63,7 @@ loop-again c =
     let test = read .before .before .before in
     let l = test .before .before .before .before .loop in
     leaving-goes (l .inv) (omega (arith, test .if1 .taken, test .before .count .ensures))
-    (eq-eqb _ _ (asked .if2 .taken ∙ ap (λ (t : Ninths). t .0) (read .end-at .ensures))) (one .end-one .ensures)
+    (eq-eqb _ _ (asked .if2 .taken ∙ ap (λ (t : Ninths). t .0) (read .end-at .ensures))) (one .end-one-started .ensures)
 
 loop-less-2 : tie.Need-loop-less-2 Inv-loop μ-loop
 loop-less-2 c =
@@ -95,7 +95,7 @@ end-due-spec =
     loop-holds
     count-requires
     end-at-requires
-    end-one-requires
+    end-one-started-requires
     add-i
     loop-less
     loop-again

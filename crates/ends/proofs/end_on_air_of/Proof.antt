@@ -1,5 +1,5 @@
 -- None is on air, another's is, or the connection's, which ends (`air-none`, `air-other`, `air-ends`).
--- Rests on what `end_one` promises.
+-- Rests on what `end_one_started` promises.
 use native.Mathlib.Omega.{arith}
 use borrow.Author.Needs.{needs}
 use borrow.Author.Tests.{eq-eqb, ne-eqb}
@@ -35,8 +35,8 @@ returns-2 c =
     let h : 0 < length (see (s .args .m .now) .queue .started) = omega (arith, test .if1 .left, test .before .count .ensures) in
     air-other (s .args .conn) (s .args .m .now) h (s .pre .0) (ne-eqb _ _ (λ e. c .if2 .taken (e ∙ sym (read .conn-at .ensures))))
 
-end-one-requires : tie.Need-end-one-requires
-end-one-requires c κs =
+end-one-started-requires : tie.Need-end-one-started-requires
+end-one-started-requires c κs =
     let test = c .before .before .before .before .before .before in
     let s = test .before .before .before .before .before in
     let l = see (s .args .m .now) .queue .started in
@@ -55,9 +55,9 @@ returns-3 c =
     let test = read .before .before .before in
     let s = test .before .before .before .before .before in
     let h : 0 < length (see (s .args .m .now) .queue .started) = omega (arith, test .if1 .left, test .before .count .ensures) in
-    air-ends (s .args .conn) (s .args .m .now) h (eq-eqb _ _ (asked .if2 .left ∙ read .conn-at .ensures)) (one .end-one .ensures)
+    air-ends (s .args .conn) (s .args .m .now) h (eq-eqb _ _ (asked .if2 .left ∙ read .conn-at .ensures)) (one .end-one-started .ensures)
 
 pub end-on-air-of-spec : {M : Type 1} → statement M
 end-on-air-of-spec =
     tie.close
-    (tie.spec count-requires returns conn-at-requires returns-2 end-one-requires same-length returns-3)
+    (tie.spec count-requires returns conn-at-requires returns-2 end-one-started-requires same-length returns-3)

@@ -1,5 +1,5 @@
 -- The session's end, and behind it those of the ones that follow its number (`chain-turns`).
--- Rests on what `ending_at`, `end_one` and `dismiss` promise.
+-- Rests on what `ending_at`, `end_one_started` and `dismiss` promise.
 use native.Mathlib.Omega.{arith}
 use borrow.Author.Needs.{needs}
 use Rattle.rules.specs.State.{empty}
@@ -20,8 +20,8 @@ id-at-requires c κs = search needs
 ending-at-requires : tie.Need-ending-at-requires
 ending-at-requires c κs = search needs
 
-end-one-requires : tie.Need-end-one-requires
-end-one-requires c κs =
+end-one-started-requires : tie.Need-end-one-started-requires
+end-one-started-requires c κs =
     let s = c .before .before .before .before .before .before .before .before .before .before in
     let p = all-getD Playable (see (s .args .m .now) .queue .started) (s .args .at) empty (s .pre .1 .0) (s .pre .1 .1 .0) in
     (s .pre .0, (s .pre .1 .0, (writable (c .before .before .ending-at .result) _ p, omega (arith, s .pre .1 .1 .1))))
@@ -32,7 +32,7 @@ dismiss-requires c κs =
     let s = one .before .before .before .before .before .before .before .before .before .before .before in
     let a = s .args in
     let how = one .before .before .before .ending-at .result in
-    let d = one .end-one .ensures in
+    let d = one .end-one-started .ensures in
     (d .shows .form, chain-room Started (a .at) how (a .m .now) d (s .pre .1 .1 .1) (search needs))
 
 same-length : tie.Need-same-length
@@ -48,11 +48,11 @@ returns c =
     let s = conn .before .before .before .before in
     let a = s .args in
     rw (← (asked .ending-at .ensures)) (
-    chain-turns Started (a .at) (asked .ending-at .result) (a .m .now) (one .end-one .ensures) (a .result) (conn .conn-at .ensures)
+    chain-turns Started (a .at) (asked .ending-at .result) (a .m .now) (one .end-one-started .ensures) (a .result) (conn .conn-at .ensures)
     (id .id-at .ensures) (omega (arith, s .pre .1 .1 .1)) (then .dismiss .ensures)
     )
 
 pub end-started-spec : {M : Type 1} → statement M
 end-started-spec =
     tie.close
-    (tie.spec conn-at-requires id-at-requires ending-at-requires end-one-requires dismiss-requires same-length returns)
+    (tie.spec conn-at-requires id-at-requires ending-at-requires end-one-started-requires dismiss-requires same-length returns)

@@ -8,7 +8,7 @@ use mathlib.Core.Logic.{⊎-elim}
 use Prim.Native.Nat.{_-_, _<_}
 use lib.ListN.{length}
 use Rattle.memory.specs.Memory.{sessions}
-use Rattle.ends.proofs.Closing.{Theirs, theirs-none, theirs-goes, theirs-stays, theirs-left, theirs-done, closing-room}
+use Rattle.ends.proofs.Closing.{Theirs, theirs-none, theirs-goes, theirs-stays, theirs-left, theirs-done, theirs-spared, closing-room}
 use Rattle.ends.proofs.end_theirs.Statement.{statement}
 use Rattle.ends.proofs.end_theirs.Tie as tie
 
@@ -71,20 +71,32 @@ loop-again c =
 
 omit-of-requires : tie.Need-omit-of-requires Inv-loop μ-loop
 omit-of-requires c κs =
-    let n = c .before .before .before in
+    let n = c .before .before .before .before in
     let s = n .before .before .before .before in
     let list = sessions (s .args .which) (s .args .m .now) in
-    let left = theirs-left list (c .before .before .loop .inv) (omega (arith, n .count .ensures, c .before .loop-test .left)) in
+    let left = theirs-left list (c .before .before .before .loop .inv) (omega (arith, n .count .ensures, c .before .before .loop-test .left)) in
     (s .pre .0, (left, s .pre .1 .0))
 
 same-length : tie.Need-same-length Inv-loop μ-loop
-same-length c = c .before .before .before .loop .inv .writes .long
+same-length c = c .before .before .before .before .loop .inv .writes .long
 
 returns : tie.Need-returns Inv-loop μ-loop
 returns c =
-    let n = c .before .before .before .before in
+    let l = c .before .before .before .before in
+    let n = l .before in
     let a = n .before .before .before .before .args in
-    theirs-done (a .which) (a .m .now) (c .before .before .before .loop .inv) (omega (arith, n .count .ensures, c .before .before .loop-test .left)) (c .omit-of .ensures)
+    theirs-done (a .which) (a .m .now) (l .loop .inv) (omega (arith, n .count .ensures, c .before .before .before .loop-test .left)) (c .omit-of .ensures)
+
+same-length-2 : tie.Need-same-length-2 Inv-loop μ-loop
+same-length-2 c = c .before .before .loop .inv .writes .long
+
+returns-2 : tie.Need-returns-2 Inv-loop μ-loop
+returns-2 c =
+    let l = c .before .before in
+    let n = l .before in
+    let s = n .before .before .before .before in
+    theirs-spared (s .args .which) (s .args .m .now) (s .pre .0) (l .loop .inv)
+    (omega (arith, n .count .ensures, c .before .loop-test .left)) (omega (arith, n .count .ensures, c .if2 .left))
 
 pub end-theirs-spec : {M : Type 1} → statement M
 end-theirs-spec =
@@ -103,4 +115,6 @@ end-theirs-spec =
     loop-again
     omit-of-requires
     same-length
-    returns)
+    returns
+    same-length-2
+    returns-2)

@@ -1,5 +1,5 @@
 -- The session's end, and behind it those of the ones that follow its number (`chain-turns`).
--- Rests on what `end_one` and `dismiss` promise.
+-- Rests on what `end_one_waiting` and `dismiss` promise.
 use native.Mathlib.Omega.{arith}
 use borrow.Author.Needs.{needs}
 use Rattle.rules.specs.declared.Ending.the-variants.{Response}
@@ -16,10 +16,10 @@ conn-at-requires c κs = search needs
 id-at-requires : tie.Need-id-at-requires
 id-at-requires c κs = search needs
 
-end-one-requires : tie.Need-end-one-requires
-end-one-requires c κs =
+end-one-waiting-requires : tie.Need-end-one-waiting-requires
+end-one-waiting-requires c κs =
     let s = c .before .before .before .before .before .before .before .before .before in
-    (s .pre .0, (s .pre .1 .0, (tt, omega (arith, s .pre .1))))
+    (s .pre .0, (s .pre .1 .0, omega (arith, s .pre .1)))
 
 dismiss-requires : tie.Need-dismiss-requires
 dismiss-requires c κs =
@@ -27,7 +27,7 @@ dismiss-requires c κs =
     let s = one .before .before .before .before .before .before .before .before .before .before in
     let a = s .args in
     let gone = length-removeAt (a .at) (see (a .m .now) .queue .waiting) (s .pre .1 .0) in
-    let d = one .end-one .ensures in
+    let d = one .end-one-waiting .ensures in
     (d .shows .form, chain-room Waiting (a .at) (Response (a .result)) (a .m .now) d (omega (arith, s .pre .1 .1, gone)) (search needs))
 
 same-length : tie.Need-same-length
@@ -41,8 +41,8 @@ returns c =
     let conn = id .before .before .before in
     let s = conn .before .before .before .before in
     let a = s .args in
-    chain-turns Waiting (a .at) (Response (a .result)) (a .m .now) (one .end-one .ensures) (a .result) (conn .conn-at .ensures)
+    chain-turns Waiting (a .at) (Response (a .result)) (a .m .now) (one .end-one-waiting .ensures) (a .result) (conn .conn-at .ensures)
     (id .id-at .ensures) (omega (arith, s .pre .1)) (then .dismiss .ensures)
 
 pub end-waiting-spec : {M : Type 1} → statement M
-end-waiting-spec = tie.close (tie.spec conn-at-requires id-at-requires end-one-requires dismiss-requires same-length returns)
+end-waiting-spec = tie.close (tie.spec conn-at-requires id-at-requires end-one-waiting-requires dismiss-requires same-length returns)

@@ -17,37 +17,18 @@ returns c =
     let s = c .before .before .before .before in
     elapsed-none (s .args .d) (s .pre .0) (sym (c .if1 .taken) ∙ c .before .count .ensures)
 
-load-requires : tie.Need-load-requires
-load-requires c κs = search needs
-
-add-played : tie.Need-add-played
-add-played c =
-    let on = c .before .before .before .before in
+play-requires : tie.Need-play-requires
+play-requires c κs =
+    let on = c .before in
     let s = on .before .before .before .before in
-    let x = c .before .load in
-    let m = see (s .args .m .now) in
-    let h : 0 < length (m .queue .started) = omega (arith, on .if1 .left, on .before .count .ensures) in
-    omega (arith, first-lasting (s .args .d) m (x .result) h (x .ensures) (s .pre .1))
-
-replace-requires : tie.Need-replace-requires
-replace-requires c κs = search needs
+    let l = see (s .args .m .now) .queue .started in
+    let h : 0 < length l = omega (arith, on .if1 .left, on .before .count .ensures) in
+    (s .pre .0, (h, first-lasting (s .args .d) l h (s .pre .1)))
 
 returns-2 : tie.Need-returns-2
 returns-2 c =
-    let x = c .before .before .before .before .load in
-    let on = c .before .before .before .before .before .before .before in
-    let s = on .before .before .before .before in
-    let m = see (s .args .m .now) in
-    let h : 0 < length (m .queue .started) = omega (arith, on .if1 .left, on .before .count .ensures) in
-    elapsed-some (s .args .d) m (x .result) h (x .ensures) (c .replace .ensures)
+    let a = c .before .before .before .before .before .before .args in
+    elapsed-some (a .d) (see (a .m .now)) (c .play .ensures)
 
 pub elapse-spec : {M : Type 1} → statement M
-elapse-spec =
-    tie.close
-    (tie.spec
-    count-requires
-    returns
-    load-requires
-    add-played
-    replace-requires
-    returns-2)
+elapse-spec = tie.close (tie.spec count-requires returns play-requires returns-2)

@@ -23,12 +23,12 @@ part-splice-complete-end c = search needs
 splice-complete-requires : tie.Need-splice-complete-requires
 splice-complete-requires c κs = search needs
 
-insert-requires : tie.Need-insert-requires
-insert-requires c κs =
+push-requires : tie.Need-push-requires
+push-requires c κs =
     let may = c .before .before .before .before .before in
     let s = may .before .before .before .before .before in
     let f = sym (may .before .may-start .ensures) ∙ may .if1 .taken in
-    (s .pre .0, ((omega arith, on-placed (s .args .x) (see (s .args .m .now) .queue) f (s .pre .1 .0)), tt))
+    (s .pre .0, on-placed (s .args .x) (see (s .args .m .now) .queue) f (s .pre .1 .0))
 
 add-result : tie.Need-add-result
 add-result c = search needs
@@ -44,7 +44,7 @@ returns c =
     let wrote = c .before .before .before .before .splice-complete in
     let may = c .before .before .before .before .before .before in
     let s = may .before .before .before .before .before in
-    launched-on (s .args .x) (sym (may .before .may-start .ensures) ∙ may .if1 .taken) (c .insert .ensures)
+    launched-on (s .args .x) (sym (may .before .may-start .ensures) ∙ may .if1 .taken) (c .push .ensures)
     (tells-part tt (omega (arith, s .pre .1 .1)) (wrote .ensures))
 
 same-length-2 : tie.Need-same-length-2
@@ -65,7 +65,7 @@ launch-spec =
     part-splice-complete-start
     part-splice-complete-end
     splice-complete-requires
-    insert-requires
+    push-requires
     add-result
     fail-requires
     same-length

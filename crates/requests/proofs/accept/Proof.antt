@@ -13,8 +13,8 @@ make-way-requires c κs =
     let s = c .before .before .before in
     (s .pre .0, (s .pre .1 .0, (s .pre .1 .1 .0, s .pre .1 .1 .1 .1 .1)))
 
-insert-requires : tie.Need-insert-requires
-insert-requires c κs =
+accept-requires : tie.Need-accept-requires
+accept-requires c κs =
     let made = c .before .before .before in
     let s = made .before .before .before .before in
     let w = made .make-way .ensures in
@@ -41,8 +41,8 @@ splice-response-requires c κs =
     let s = made .before .before .before .before in
     omega (arith, way-lean (made .make-way .ensures), s .pre .1 .1 .1 .1 .1)
 
-add-result : tie.Need-add-result
-add-result c =
+add-to : tie.Need-add-to
+add-to c =
     let made = c .before .before .before .before .before .before .before .before in
     let s = made .before .before .before .before in
     omega (arith, way-lean (made .make-way .ensures), s .pre .1 .1 .1 .1 .1)
@@ -58,19 +58,19 @@ returns c =
     let s = made .before .before .before .before in
     let w = made .make-way .ensures in
     let room : made .make-way .result .len + 14 ≤ length (s .args .out .now) = omega (arith, way-lean w, s .pre .1 .1 .1 .1 .1) in
-    accept-turns (s .args .new) w (put .insert .ensures) (made .make-way .kept .1 .1 .1 .0) room
-    (wrote .splice-response .ensures)
+    accept-turns (s .args .new) w (s .pre .1 .0 .timed .sorted) (put .accept .ensures .0) (put .accept .ensures .1)
+    (made .make-way .kept .1 .1 .1 .0) room (wrote .splice-response .ensures)
 
 pub accept-spec : {M : Type 1} → statement M
 accept-spec =
     tie.close
     (tie.spec
     make-way-requires
-    insert-requires
+    accept-requires
     sub-splice-response
     part-splice-response-start
     part-splice-response-end
     splice-response-requires
-    add-result
+    add-to
     same-length
     returns)

@@ -51,8 +51,10 @@ session-at-requires c κs =
     let early = start-fits (s .args .conn) (m .clock) (s .args .r .start) (m .queue) (a .start) (s .pre .1 .0) (s .pre .1 .1 .0) yes in
     omega arith
 
-find-requires : tie.Need-find-requires
-find-requires c κs = search needs
+find-start-requires : tie.Need-find-start-requires
+find-start-requires c κs =
+    let s = c .before .before .before .before .before .before .before .before .before .before in
+    (s .pre .0, s .pre .1 .0 .timed .sorted)
 
 splice-result-requires : tie.Need-splice-result-requires
 splice-result-requires c κs =
@@ -63,7 +65,7 @@ splice-result-requires c κs =
     let s = began .before .before .before .before in
     let m = s .args .m .now in
     let yes = sym (began .start-of .ensures) ∙ known .when .given .1 in
-    let a = asks (s .args .conn) (s .args .r) (see m .queue) yes (wanted .session-at .ensures) (found .find .ensures) in
+    let a = asks (s .args .conn) (s .args .r) (see m .queue) yes (wanted .session-at .ensures) (found .find-start .ensures) in
     (s .pre .0, (s .pre .1 .0, (s .pre .1 .1 .0, (s .pre .1 .1 .1 .0, (s .pre .1 .1 .1 .1 .0 .start, (a .known, a .at))))))
 
 accept-requires : tie.Need-accept-requires
@@ -77,7 +79,7 @@ accept-requires c κs =
     let s = began .before .before .before .before in
     let m = s .args .m .now in
     let yes = sym (began .start-of .ensures) ∙ known .when .given .1 in
-    let a = asks (s .args .conn) (s .args .r) (see m .queue) yes (wanted .session-at .ensures) (found .find .ensures) in
+    let a = asks (s .args .conn) (s .args .r) (see m .queue) yes (wanted .session-at .ensures) (found .find-start .ensures) in
     let low = s .pre .1 .1 .1 .0 in
     let n = judged .splice-result .ensures in
     let room = room-waiting (s .args .conn) (s .args .r) m (a .is) n (test .if1 .taken) low (s .pre .0) (s .pre .1 .0) in
@@ -99,7 +101,7 @@ returns-2 c =
     let s = began .before .before .before .before in
     let m = s .args .m .now in
     let yes = sym (began .start-of .ensures) ∙ known .when .given .1 in
-    let a = asks (s .args .conn) (s .args .r) (see m .queue) yes (wanted .session-at .ensures) (found .find .ensures) in
+    let a = asks (s .args .conn) (s .args .r) (see m .queue) yes (wanted .session-at .ensures) (found .find-start .ensures) in
     splice-accepted (s .args .conn) (s .args .r) m (a .is) (judged .splice-result .ensures) (test .if1 .taken) (done .accept .ensures)
 
 cast-splice-response-2 : tie.Need-cast-splice-response-2
@@ -127,7 +129,7 @@ returns-3 c =
     let s = began .before .before .before .before in
     let m = s .args .m .now in
     let yes = sym (began .start-of .ensures) ∙ known .when .given .1 in
-    let a = asks (s .args .conn) (s .args .r) (see m .queue) yes (wanted .session-at .ensures) (found .find .ensures) in
+    let a = asks (s .args .conn) (s .args .r) (see m .queue) yes (wanted .session-at .ensures) (found .find-start .ensures) in
     splice-refused (s .args .conn) (s .args .r) m (a .is) (judged .splice-result .ensures) (test .if1 .left) (s .pre .0)
     (wrote .splice-response2 .ensures)
 
@@ -144,7 +146,7 @@ answer-splice-spec =
     same-length
     returns
     session-at-requires
-    find-requires
+    find-start-requires
     splice-result-requires
     accept-requires
     same-length-2

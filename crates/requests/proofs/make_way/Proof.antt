@@ -2,7 +2,7 @@
 -- Rests on what `is_taken`, `end_waiting` and one search promise.
 use native.Mathlib.Omega.{arith}
 use Rattle.rules.proofs.Sound.{few-wait}
-use Rattle.requests.proofs.Laws.{way-free, way-taken, way-over}
+use Rattle.requests.proofs.Laws.{way-free, way-taken, way-over, way-sorted}
 use borrow.Author.Needs.{needs}
 use Rattle.requests.proofs.make_way.Statement.{statement}
 use Rattle.requests.proofs.make_way.Tie as tie
@@ -20,10 +20,15 @@ end-waiting-requires c κs =
     let i = way-taken (s .args .t .0) (s .args .m .now) (s .pre .1 .1 .0) (asked .is-taken .ensures) (test .if1 .taken) (s .pre .1 .0) in
     (s .pre .0, (omega (arith, i), omega (arith, few-wait (s .pre .1 .0), s .pre .1 .1 .1)))
 
-find-requires : tie.Need-find-requires
-find-requires c κs =
+find-start-requires : tie.Need-find-start-requires
+find-start-requires c κs =
     let done = c .before .before .before .before in
-    done .end-waiting .ensures .shows .form
+    let test = done .before .before .before in
+    let asked = test .before in
+    let s = asked .before .before .before .before in
+    let d = done .end-waiting .ensures in
+    let sorted = way-sorted (s .args .t .0) (s .args .m .now) (s .pre .1 .1 .0) (asked .is-taken .ensures) (test .if1 .taken) (s .pre .1 .0) d in
+    (d .shows .form, sorted)
 
 same-length : tie.Need-same-length
 same-length c = search needs
@@ -35,7 +40,7 @@ returns c =
     let asked = test .before in
     let s = asked .before .before .before .before in
     way-over (s .args .t .0) (s .args .m .now) (s .pre .1 .1 .0) (asked .is-taken .ensures) (test .if1 .taken) (s .pre .1 .0)
-    (done .end-waiting .ensures) (c .find .ensures)
+    (done .end-waiting .ensures) (c .find-start .ensures)
 
 returns-2 : tie.Need-returns-2
 returns-2 c =
@@ -49,7 +54,7 @@ make-way-spec =
     (tie.spec
     is-taken-requires
     end-waiting-requires
-    find-requires
+    find-start-requires
     same-length
     returns
     returns-2)

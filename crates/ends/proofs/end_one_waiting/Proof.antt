@@ -1,11 +1,11 @@
--- As `end_one`, of one that waits: it is read, taken out, and its end written (`one-ended`).
+-- As `end_one_started`, of one that waits: it is read, taken out, and its end written (`one-ended`).
 -- Rests on what `write_end` and memory promise.
 use borrow.Author.Needs.{needs}
 use Rattle.rules.specs.declared.Ending.the-variants.{Response}
 use Rattle.memory.specs.declared.Which.the-variants.{Waiting}
 use Rattle.ends.proofs.Laws.{one-ended}
-use Rattle.ends.proofs.end_follower.Statement.{statement}
-use Rattle.ends.proofs.end_follower.Tie as tie
+use Rattle.ends.proofs.end_one_waiting.Statement.{statement}
+use Rattle.ends.proofs.end_one_waiting.Tie as tie
 
 load-requires : tie.Need-load-requires
 load-requires c κs = search needs
@@ -27,5 +27,5 @@ returns c =
     one-ended Waiting (s .args .m .now) (s .args .at) (Response (s .args .result)) (read .load .ensures) (taken .remove .ensures)
     (c .before .before .write-end .ensures)
 
-pub end-follower-spec : {M : Type 1} → statement M
-end-follower-spec = tie.close (tie.spec load-requires remove-requires write-end-requires same-length returns)
+pub end-one-waiting-spec : {M : Type 1} → statement M
+end-one-waiting-spec = tie.close (tie.spec load-requires remove-requires write-end-requires same-length returns)

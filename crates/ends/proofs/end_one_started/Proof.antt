@@ -2,10 +2,11 @@
 -- Rests on what `write_end` and memory promise.
 use borrow.Author.Needs.{needs}
 use mathlib.Core.Path.{sym, subst}
+use Rattle.memory.specs.declared.Which.the-variants.{Started}
 use Rattle.ends.specs.Does.{Writable}
 use Rattle.ends.proofs.Laws.{one-ended}
-use Rattle.ends.proofs.end_one.Statement.{statement}
-use Rattle.ends.proofs.end_one.Tie as tie
+use Rattle.ends.proofs.end_one_started.Statement.{statement}
+use Rattle.ends.proofs.end_one_started.Tie as tie
 
 load-requires : tie.Need-load-requires
 load-requires c κs = search needs
@@ -27,7 +28,7 @@ returns c =
     let taken = c .before .before .before .before in
     let read = taken .before .before in
     let s = read .before .before .before .before in
-    one-ended (s .args .which) (s .args .m .now) (s .args .at) (s .args .how) (read .load .ensures) (taken .remove .ensures) (c .before .before .write-end .ensures)
+    one-ended Started (s .args .m .now) (s .args .at) (s .args .how) (read .load .ensures) (taken .remove .ensures) (c .before .before .write-end .ensures)
 
-pub end-one-spec : {M : Type 1} → statement M
-end-one-spec = tie.close (tie.spec load-requires remove-requires write-end-requires same-length returns)
+pub end-one-started-spec : {M : Type 1} → statement M
+end-one-started-spec = tie.close (tie.spec load-requires remove-requires write-end-requires same-length returns)
