@@ -53,14 +53,14 @@ part-room len o h = mid-len len (len + cardRoom) o h ∙ omega arith
 
 -- one more record, played into a part of the buffer
 module _ {s : Splicer} {l : List ℕ} {used len : ℕ} {m b o : List ℕ}
-    (r : Runs s l (record { used = used; len = len; more = true }) m b o) {p : Played} {n c ys : List ℕ}
-    (q : Plays (midOf len (room len) o) (stepOf (midOf used (length l - used) l) (shown m b)) p n c ys)
+    (r : Runs s l (record { used = used; len = len; more = true }) m b o) {p : Played} {ring : ℕ} {n c ys : List ℕ}
+    (q : Plays ring (midOf len (room len) o) (stepOf (midOf used (length l - used) l) (shown m b)) p n c ys)
     (whole : length ys ≡ length (midOf len (room len) o)) where
   -- of the bytes that are left
-  at : Plays (midOf len (room len) o) (stepOf (drop used l) (shown m b)) p n c ys
+  at : Plays ring (midOf len (room len) o) (stepOf (drop used l) (shown m b)) p n c ys
   at =
       let tail = take-all (length l - used) (drop used l) (simp length-drop (omega arith)) in
-      subst (λ y. Plays (midOf len (room len) o) (stepOf y (shown m b)) p n c ys) tail q
+      subst (λ y. Plays ring (midOf len (room len) o) (stepOf y (shown m b)) p n c ys) tail q
 
   pub runs-long : length (putMid len (room len) o ys) ≡ length o
   runs-long = same-len-mid len (room len) o ys whole

@@ -16,9 +16,10 @@ use Rattle.feed.specs.Feed.{recordIn, rest}
 use Rattle.feed.specs.Play.{Step, goesOn}
 use Rattle.card.specs.declared.Left.{Left}
 
--- the step that some records of the bytes at hand make together; m, b and o: the memory and the output buffer after them
+-- the step that some records of the bytes at hand make together; m, b and o: the memory and the output buffer after them. Whether one of
+-- them accepted a request is not asked (`goesOn`).
 abbrev pub stepMade : Played → List ℕ → List ℕ → List ℕ → Step
-stepMade r m b o = record { splicer = shown m b; shows = take (r .len) o; used = r .used; more = r .more }
+stepMade r m b o = record { splicer = shown m b; accepted = false; shows = take (r .len) o; used = r .used; more = r .more }
 
 -- some records of l were played, from the splicer s on
 pub record Runs (s : Splicer) (l : List ℕ) (r : Played) (m b o : List ℕ) : Type 0 where

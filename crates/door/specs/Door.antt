@@ -7,26 +7,26 @@ use Rattle.rules.specs.Lists.{All}
 use Rattle.rules.specs.Bytes.{Byte}
 use Rattle.rules.specs.State.{Splicer}
 use Rattle.rules.specs.Calls.{Called, houseNumber, Call, opens, closes, messages, lending, ticks, call}
-use Rattle.memory.specs.Memory.{shown}
+use Rattle.memory.specs.Memory.{see, shown}
 use Rattle.engine.specs.declared.Answer.{Answer}
 use Rattle.engine.specs.declared.Answer.the-variants.{Refused, Done}
 use Rattle.engine.specs.Lent.{Answers}
 
--- "A refusal returns its number": its house number, or 0 and the bytes consumed and written
+-- "A refusal returns its number": its house number, or 0 and the bytes consumed and written; 02, CR 11: and the places shifted
 unfoldable pub replyOf : Answer → List ℕ
-replyOf (Refused n) = houseNumber n ∷ 0 ∷ 0 ∷ []
-replyOf (Done consumed written) = 0 ∷ consumed ∷ written ∷ []
+replyOf (Refused n) = houseNumber n ∷ 0 ∷ 0 ∷ 0 ∷ []
+replyOf (Done consumed written moved) = 0 ∷ consumed ∷ written ∷ moved ∷ []
 
--- what a call promises: what the engine promises, of the lent words m and bytes b and of the buffer o, which held e; and the reply r
--- is the engine's answer
-pub record Replies (c : Called) (e r m b o : List ℕ) : Type 0 where
+-- what a call promises: what the engine promises, of the lent words m and bytes b, of the ring that ended at the place `at`, and of the
+-- buffer o, which held e; and the reply r is the engine's answer
+pub record Replies (c : Called) (at : ℕ) (e r m b o : List ℕ) : Type 0 where
   pub answer : Answer
-  pub answers : Answers c e answer m b o
+  pub answers : Answers c at e answer m b o
   pub reply : r ≡ replyOf answer
 
 -- the same of a call of the splicer that the words m and the bytes b showed, lent the buffer e
 abbrev pub Hears : (ℕ → Splicer → Called) → (m b e r n c o : List ℕ) → Type 0
-Hears k m b e r n c o = Replies (k (length e) (shown m b)) e r n c o
+Hears k m b e r n c o = Replies (k (length e) (shown m b)) (see m .ringEnd) e r n c o
 
 -- ## What C hands in, and what it sees
 
@@ -67,4 +67,4 @@ pub record Seen : Type 0 where
 
 -- lent the words m and the bytes b, the call's contract allows that C sees r
 abbrev pub Allowed : (m b : List ℕ) → Input → Seen → Type 0
-Allowed m b i r = Replies (call (callOf i) (shown m b)) (bufferOf i) (r .reply) (r .words) (r .bytes) (r .buffer)
+Allowed m b i r = Replies (call (callOf i) (shown m b)) (see m .ringEnd) (bufferOf i) (r .reply) (r .words) (r .bytes) (r .buffer)

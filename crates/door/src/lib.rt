@@ -9,36 +9,41 @@ ghost use Rattle.rules.specs.Calls.{fresh, openCall, closeCall, messageCall, ti
 ghost use Rattle.engine.specs.Lent.{Lent, Counts};
 ghost use Rattle.door.specs.Door.{replyOf, Replies, Hears};
 
-// The house number of a refusal or 0, and the bytes consumed and written.
-fn reply_of(a: Answer) -> [u64; 3]
+// The house number of a refusal or 0, the bytes consumed and written, and how many places an acceptance shifted.
+fn reply_of(a: Answer) -> [u64; 4]
     ensures { λ r. ⌜ r ≡ replyOf a ⌝ }
 {
     match a {
-        Answer::Refused(n) => [engine::house_number(n) as u64, 0, 0],
-        Answer::Done(consumed, written) => [0, consumed as u64, written as u64],
+        Answer::Refused(n) => [engine::house_number(n) as u64, 0, 0, 0],
+        Answer::Done(consumed, written, moved) => [
+            0,
+            consumed as u64,
+            written as u64,
+            moved as u64,
+        ],
     }
 }
 
 // Whatever stood in the words before.
 #[no_mangle]
-pub extern "C" fn splicer_3_fresh(
+pub extern "C" fn splicer_4_fresh(
     name: &[u8; 32],
     words: &mut [u64; WORDS],
     bytes: &mut [u8; BYTES],
-    reply: &mut [u64; 3],
+    reply: &mut [u64; 4],
 )
-    ensures { λ _. ⌜ Replies (fresh (now (name .entry))) [] (now (reply .exit)) (now (words .exit)) (now (bytes .exit)) [] ⌝ }
+    ensures { λ _. ⌜ Replies (fresh (now (name .entry))) 0 [] (now (reply .exit)) (now (words .exit)) (now (bytes .exit)) [] ⌝ }
 {
     let a = engine::fresh(name, &mut *words, &mut *bytes);
     *reply = reply_of(a);
 }
 
 #[no_mangle]
-pub extern "C" fn splicer_3_open(
+pub extern "C" fn splicer_4_open(
     words: &mut [u64; WORDS],
     bytes: &mut [u8; BYTES],
     conn: u32,
-    reply: &mut [u64; 3],
+    reply: &mut [u64; 4],
 )
     requires { ⌜ Lent (now words) (now bytes) ⌝ }
     ensures { λ _.
@@ -50,12 +55,12 @@ pub extern "C" fn splicer_3_open(
 }
 
 #[no_mangle]
-pub extern "C" fn splicer_3_close(
+pub extern "C" fn splicer_4_close(
     words: &mut [u64; WORDS],
     bytes: &mut [u8; BYTES],
     conn: u32,
     out: &mut [u8],
-    reply: &mut [u64; 3],
+    reply: &mut [u64; 4],
 )
     requires { ⌜ Lent (now words) (now bytes) ⌝ }
     ensures { λ _.
@@ -68,13 +73,13 @@ pub extern "C" fn splicer_3_close(
 
 // l: the bytes read so far.
 #[no_mangle]
-pub extern "C" fn splicer_3_message(
+pub extern "C" fn splicer_4_message(
     words: &mut [u64; WORDS],
     bytes: &mut [u8; BYTES],
     conn: u32,
     l: &[u8],
     out: &mut [u8],
-    reply: &mut [u64; 3],
+    reply: &mut [u64; 4],
 )
     requires { ⌜ Lent (now words) (now bytes) ⌝ }
     ensures { λ _.
@@ -86,13 +91,13 @@ pub extern "C" fn splicer_3_message(
 }
 
 #[no_mangle]
-pub extern "C" fn splicer_3_tick(
+pub extern "C" fn splicer_4_tick(
     words: &mut [u64; WORDS],
     bytes: &mut [u8; BYTES],
     seconds: u32,
     micros: u32,
     out: &mut [u8],
-    reply: &mut [u64; 3],
+    reply: &mut [u64; 4],
 )
     requires { ⌜ Lent (now words) (now bytes) ⌝ }
     ensures { λ _.
@@ -105,7 +110,7 @@ pub extern "C" fn splicer_3_tick(
 
 // 02, CR 2: how many wait of each connection. It only reads, and nothing is refused.
 #[no_mangle]
-pub extern "C" fn splicer_3_waiting(
+pub extern "C" fn splicer_4_waiting(
     words: &[u64; WORDS],
     bytes: &[u8; BYTES],
     counts: &mut [u64; 4],

@@ -4,20 +4,21 @@
 use mathlib.Core.Path.{_≡_, sym, _∙_, subst}
 use mathlib.Core.Bool.{true, false, cond}
 use mathlib.Core.List.{List, [], _∷_, _++_}
-use Prim.Native.Nat.{ℕ, _+_, _≤_, _<_}
+use Prim.Native.Nat.{ℕ, _+_, _-_, _≤_, _<_}
 use native.Mathlib.Nat.{le-trans}
-use lib.ListN.{length, getD}
+use lib.ListN.{length, take, getD}
 use Rattle.rules.specs.declared.Request.{Request}
 use Rattle.rules.specs.declared.When.the-variants.{At}
-use Rattle.rules.specs.Lists.{All}
+use Rattle.rules.specs.Lists.{All, some, count}
 use Rattle.rules.specs.Bytes.{Byte, hasZero}
 use Rattle.rules.specs.Records.{recordsIn}
-use Rattle.rules.specs.State.{empty, Sorted, earliest, due}
+use Rattle.rules.specs.State.{empty, Sorted, startsAt, startsAfter, earliest, due}
 use Rattle.rules.specs.Answers.{requested, spliceResult}
 use Rattle.rules.specs.Calls.{lending, fresh, after}
 use Rattle.demands.specs.History.{startsOf, endsOf, history, ownAnswer, othersOf, waitingCount, book, clockAfter}
-use Rattle.demands.specs.Told.{firstNumber, checks, answers, Asks, Passes, fullTold, countsTold, outsOf, startedTold, unended, Ended, Stands}
-use Rattle.memory.specs.Memory.{countsOf}
+use Rattle.demands.specs.Told.{firstNumber, checks, answers, Asks, Passes, fullTold, countsTold, grantedBy, outsOf, startedTold, unended, Ended, Stands}
+use Rattle.places.specs.Places.{round, next}
+use Rattle.memory.specs.Memory.{see, placesFrom, countsOf}
 use Rattle.engine.specs.Lent.{Lent, Counts}
 use Rattle.door.specs.Door.{Input, aClose, aMessage, Typed, callOf, bufferOf, Seen}
 use Rattle.traces.specs.Trace.{Memory, emptyMemory, shown}
@@ -25,8 +26,8 @@ use Rattle.traces.specs.Trace as engine
 use Rattle.traces.proofs.Steps.{memory-same}
 use Rattle.traces.proofs.Closed.{not-full, unended-newer}
 use Rattle.traces.proofs.Demands as called
-use Rattle.driven.specs.Driven.{left, Made, made, Trace, More, Point, numberIn, number, bytesOf, events, calls, inputs, Answerable, Run, AsRuled, inside, within}
-use Rattle.driven.proofs.Inside.{trace-inside, trace-events, more-inside, within-append, calls-inside, call-handed, buffer-handed, number-inside, bytes-inside, reply-ruled}
+use Rattle.driven.specs.Driven.{left, Made, made, Trace, More, Point, numberIn, number, moved, bytesOf, events, calls, inputs, Answerable, Run, AsRuled, inside, within}
+use Rattle.driven.proofs.Inside.{trace-inside, trace-events, more-inside, within-append, calls-inside, call-handed, buffer-handed, number-inside, moved-inside, bytes-inside, reply-ruled}
 use Rattle.door.proofs.Laws.{refused-unchanged}
 use Rattle.driven.proofs.Course.{answerable, runs, trace-more, trace-point, trace-same}
 
@@ -215,3 +216,40 @@ module _ (name : List ℕ) (h : List Made) (m : Memory) where
   pub first-is-next : Trace name h m → 0 < length (shown m .queue .waiting) → shown m .queue .started ≡ [] →
       due (shown m .queue) ≡ At (getD (shown m .queue .waiting) 0 empty .start)
   first-is-next t = called.first-is-next name (within h) m (trace-inside name h m t)
+
+-- ## Document 02, CR 11
+
+module _ (name : List ℕ) (h : List Made) (m : Memory) where
+  -- "Report that number with the call. [..] A request not accepted reports 0.": nor does any call report more that is no Splice_Request answered with 100
+  pub unmoved-else : (i : Input) (r : Seen) → More name h m i r → grantedBy (callOf i) (recordsIn (bytesOf r)) ≡ false → moved r ≡ 0
+  unmoved-else i r c g =
+      moved-inside (c .allowed)
+      ∙ called.unmoved-else name (within h) m _ _ (more-inside name h m i r c) (rw (call-handed i, bytes-inside (c .allowed)) at g)
+
+  -- "and is at most 63", of every call
+  pub at-most-63 : (i : Input) (r : Seen) → More name h m i r → moved r ≤ 63
+  at-most-63 i r c = rw (moved-inside (c .allowed)) (called.at-most-63 name (within h) m _ _ (more-inside name h m i r c))
+
+  -- connection d sends the bytes l, which are a Splice_Request q, and the last record in the answer's bytes is its 100
+  module _ (d : ℕ) (l e : List ℕ) (r : Seen) (c : More name h m (aMessage d l e) r) (q : Request)
+      (asks : Asks d l (lending (length e)) q (shown m)) (yes : ownAnswer (answers 100 d (q .id)) (recordsIn (bytesOf r)) ≡ true) where
+    abbrev start : ℕ
+    start = requested d q (shown m .queue) .start .0
+
+    granted : ownAnswer (answers 100 d (q .id)) (recordsIn (engine.bytesOf (inside r))) ≡ true
+    granted = rw (bytes-inside (c .allowed)) at yes
+
+    -- "It equals the waiting sessions, after any eviction, whose start is later than the new one's": of those that wait after the call
+    pub moved-is-later : moved r ≡ count (startsAfter start) (shown (left r) .queue .waiting)
+    moved-is-later =
+        moved-inside (c .allowed)
+        ∙ called.moved-is-later name (within h) m d l e (inside r) (more-inside name h m (aMessage d l e) r c) q asks granted
+
+    -- "how many places an acceptance shifts": where it evicts nobody, of the lent places, from the ring's new end on, all but the last
+    -- `moved` and its own hold what they held
+    pub places-stay : some (startsAt start) (shown m .queue .waiting) ≡ false
+        → let k = next (see (m .words) .ringEnd) in
+        take (round - (moved r + 1)) (placesFrom k (r .words)) ≡ take (round - (moved r + 1)) (placesFrom k (m .words))
+    places-stay free =
+        rw (moved-inside (c .allowed))
+        (called.places-stay name (within h) m d l e (inside r) (more-inside name h m (aMessage d l e) r c) q asks granted free)

@@ -18,7 +18,7 @@ use Rattle.door.specs.Door.{replyOf, Replies, Input, anOpen, aClose, aMessage, 
 use Rattle.door.proofs.Laws.{reply-is}
 use Rattle.traces.specs.Trace.{Memory}
 use Rattle.traces.specs.Trace as engine
-use Rattle.driven.specs.Driven.{left, Made, made, Leads, Trace, More, numberIn, writtenIn, number, refusals, refusalAmong, replyIn, eventOf, events, calls, wordsOf, handed, answerIn, inside, within}
+use Rattle.driven.specs.Driven.{left, Made, made, Leads, Trace, More, numberIn, writtenIn, movedIn, number, refusals, refusalAmong, replyIn, eventOf, events, calls, wordsOf, handed, answerIn, inside, within}
 
 -- ## The reply's words
 
@@ -39,38 +39,46 @@ refusal-read BadName = (refl, refl)
 number-told : (a : Answer) → numberIn (replyOf a) ≡ engine.numberIn a
 unfolding replyOf engine.numberIn
 number-told (Refused n) = refl
-number-told (Done consumed written) = refl
+number-told (Done consumed written moved) = refl
 
 answer-read : (a : Answer) → answerIn (replyOf a) ≡ a
 unfolding replyOf
 answer-read (Refused n) = rw (refusal-read n .0, refusal-read n .1) refl
-answer-read (Done consumed written) = refl
+answer-read (Done consumed written moved) = refl
+
+moved-told : (a : Answer) → movedIn (replyOf a) ≡ engine.movedIn a
+unfolding replyOf engine.movedIn
+moved-told (Refused n) = refl
+moved-told (Done consumed written moved) = refl
 
 bytes-told : (a : Answer) (o : List ℕ) → take (writtenIn (replyOf a)) o ≡ engine.bytesIn a o
 unfolding replyOf engine.bytesIn
 bytes-told (Refused n) o = refl
-bytes-told (Done consumed written) o = refl
+bytes-told (Done consumed written moved) o = refl
 
 reply-told : (a : Answer) (o : List ℕ) → replyIn (replyOf a) o ≡ engine.replyIn a o
 unfolding replyOf engine.replyIn engine.bytesIn
 reply-told (Refused n) o = rw (refusal-read n .0, refusal-read n .1) refl
-reply-told (Done consumed written) o = refl
+reply-told (Done consumed written moved) o = refl
 
 -- and what document 01 says
-words-ruled : (a : rules.Answer) → replyOf (answerOf a) ≡ wordsOf a
+words-ruled : (a : rules.Answer) (k : ℕ) → replyOf (answerOf a k) ≡ wordsOf a k
 unfolding replyOf answerOf numberOf consumedBy writtenBy
-words-ruled (refused n) = refl
-words-ruled (good consumed rs) = refl
+words-ruled (refused n) k = refl
+words-ruled (good consumed rs) k = refl
 
 -- ## One call
 
-module _ {c : Called} {e r m b o : List ℕ} (x : Replies c e r m b o) where
+module _ {c : Called} {at : ℕ} {e r m b o : List ℕ} (x : Replies c at e r m b o) where
   -- the engine's promise, with the answer that C reads
-  pub told : Answers c e (answerIn r) m b o
+  pub told : Answers c at e (answerIn r) m b o
   told = rw (x .reply, answer-read (x .answer)) (x .answers)
 
   pub number-inside : numberIn r ≡ engine.numberIn (answerIn r)
   number-inside = rw (x .reply, answer-read (x .answer)) (number-told (x .answer))
+
+  pub moved-inside : movedIn r ≡ engine.movedIn (answerIn r)
+  moved-inside = rw (x .reply, answer-read (x .answer)) (moved-told (x .answer))
 
   pub bytes-inside : take (writtenIn r) o ≡ engine.bytesIn (answerIn r) o
   bytes-inside = rw (x .reply, answer-read (x .answer)) (bytes-told (x .answer) o)
@@ -78,8 +86,8 @@ module _ {c : Called} {e r m b o : List ℕ} (x : Replies c e r m b o) where
   reply-inside : replyIn r o ≡ engine.replyIn (answerIn r) o
   reply-inside = rw (x .reply, answer-read (x .answer)) (reply-told (x .answer) o)
 
-  pub reply-ruled : r ≡ wordsOf (c .answer)
-  reply-ruled = reply-is x ∙ words-ruled (c .answer)
+  pub reply-ruled : r ≡ wordsOf (c .answer) (c .moved)
+  reply-ruled = reply-is x ∙ words-ruled (c .answer) (c .moved)
 
 pub call-handed : (i : Input) → callOf i ≡ engine.callOf (handed i)
 call-handed (anOpen conn) = refl

@@ -45,7 +45,7 @@ pub record Trace (name : List ℕ) (h : List Made) (m : Memory) : Type 0 where
   pub bytes : All Byte name
   pub begun : Memory
   pub reply : List ℕ
-  pub fresh : Replies (fresh name) [] reply (begun .words) (begun .bytes) []
+  pub fresh : Replies (fresh name) 0 [] reply (begun .words) (begun .bytes) []
   pub leads : Leads begun h m
 
 -- a trace, and one call more: with the input i, after which C sees r
@@ -73,8 +73,15 @@ consumedIn w = getD w 1 0
 abbrev pub writtenIn : List ℕ → ℕ
 writtenIn w = getD w 2 0
 
+-- 02, CR 11, "how many places an acceptance shifts": the fourth word
+abbrev pub movedIn : List ℕ → ℕ
+movedIn w = getD w 3 0
+
 abbrev pub number : Seen → ℕ
 number r = numberIn (r .reply)
+
+abbrev pub moved : Seen → ℕ
+moved r = movedIn (r .reply)
 
 -- the bytes written: the first of the buffer, as many as the reply says
 abbrev pub bytesOf : Seen → List ℕ
@@ -120,13 +127,18 @@ pub record Run (name : List ℕ) (is : List Input) : Type 0 where
 
 -- ## "every answer byte, its order and the state after it are those that 01's rules give"
 
--- the number or 0, the bytes consumed and the bytes written
-abbrev pub wordsOf : rules.Answer → List ℕ
-wordsOf a = numberOf a ∷ consumedBy a ∷ length (writtenBy a) ∷ []
+-- the places shifted, which a refusal has none of
+abbrev pub movedBy : rules.Answer → ℕ → ℕ
+movedBy (rules.refused n) moved = 0
+movedBy (rules.good consumed rs) moved = moved
+
+-- the number or 0, the bytes consumed and the bytes written, and the places shifted
+abbrev pub wordsOf : rules.Answer → (moved : ℕ) → List ℕ
+wordsOf a moved = numberOf a ∷ consumedBy a ∷ length (writtenBy a) ∷ movedBy a moved ∷ []
 
 pub record AsRuled (m : Memory) (i : Input) (r : Seen) : Type 0 where
   pub state : shown (left r) ≡ call (callOf i) (shown m) .splicer
-  pub reply : r .reply ≡ wordsOf (call (callOf i) (shown m) .answer)
+  pub reply : r .reply ≡ wordsOf (call (callOf i) (shown m) .answer) (call (callOf i) (shown m) .moved)
   pub bytes : bytesOf r ≡ writtenBy (call (callOf i) (shown m) .answer)
   pub buffer : r .buffer ≡ bufferAfter (call (callOf i) (shown m) .answer) (bufferOf i)
 
@@ -140,7 +152,7 @@ handed (aTick seconds micros e) = engine.aTick seconds micros e
 
 -- the engine's answer, from the reply's words
 abbrev pub answerIn : List ℕ → Answer
-answerIn w = cond (eqb (numberIn w) 0) (Done (consumedIn w) (writtenIn w)) (Refused (refusalAmong refusals (numberIn w)))
+answerIn w = cond (eqb (numberIn w) 0) (Done (consumedIn w) (writtenIn w) (movedIn w)) (Refused (refusalAmong refusals (numberIn w)))
 
 abbrev pub inside : Seen → engine.Result
 inside r = record { answer = answerIn (r .reply); memory = left r; buffer = r .buffer }

@@ -1,6 +1,6 @@
 -- The fresh splicer: no session, all connections closed, and the name that was kept.
-use mathlib.Core.Path.{_≡_, sym, subst, _∙_}
-use mathlib.Core.Bool.{true, false}
+use mathlib.Core.Path.{_≡_, sym, ap, subst, _∙_}
+use mathlib.Core.Bool.{Bool, true, false}
 use mathlib.Core.List.{List, []}
 use Prim.Native.Nat.{ℕ}
 use lib.ListN.{length}
@@ -13,7 +13,7 @@ use Rattle.rules.specs.Calls.{named, fresh, writtenBy, bufferAfter}
 use Rattle.rules.specs.Sound.{Reached}
 use Rattle.rules.proofs.Written.{written-none}
 use Rattle.rules.proofs.Sound.{reached-fresh}
-use Rattle.memory.specs.Memory.{Now, nothingShown, Named, shown}
+use Rattle.memory.specs.Memory.{Memory, Now, nothingShown, shifted, Named, shown}
 use Rattle.engine.specs.declared.Answer.{Answer}
 use Rattle.engine.specs.declared.Answer.the-variants.{Refused, Done}
 use Rattle.engine.specs.Lent.{answerOf, Answers}
@@ -25,9 +25,9 @@ begun m b n x y = λ i. record { name = y .is i; clock = x .is i .clock; links =
 -- m and b: what is left in the words and the bytes
 module _ (name : List ℕ) {m b : List ℕ} (long : length name ≡ 32) (bytes : All Byte name) (none : Now m nothingShown) where
   -- n is the name that is kept
-  fresh-as : (n : List ℕ) (a : Answer) → Named b n → fresh name .splicer ≡ named n → a ≡ answerOf (fresh name .answer)
-      → [] ≡ bufferAfter (fresh name .answer) [] → Answers (fresh name) [] a m b []
-  fresh-as n a kept e f o =
+  fresh-as : (n : List ℕ) (a : Answer) → Named b n → fresh name .splicer ≡ named n → fresh name .accepted ≡ false
+      → a ≡ answerOf (fresh name .answer) (fresh name .moved) → [] ≡ bufferAfter (fresh name .answer) [] → Answers (fresh name) 0 [] a m b []
+  fresh-as n a kept e g f o =
       let v = begun m b n none kept ∙ sym e in
       record {
         lent = record {
@@ -35,14 +35,15 @@ module _ (name : List ℕ) {m b : List ℕ} (long : length name ≡ 32) (bytes :
           reached = subst (λ (s : Splicer). Reached s) (sym v) (reached-fresh name long bytes);
         };
         splicer = v;
+        ring = ap (λ (s : Memory). s .ringEnd) (none .is) ∙ sym (ap (λ (y : Bool). shifted y 0) g);
         answer = f;
         buffer = o;
       }
 
-  pub fresh-good : Named b (nameIn name) → hasZero name ≡ true → Answers (fresh name) [] (Done 0 0) m b []
+  pub fresh-good : Named b (nameIn name) → hasZero name ≡ true → Answers (fresh name) 0 [] (Done 0 0 0) m b []
   unfolding fresh answerOf bufferAfter writtenBy output
-  fresh-good kept z = fresh-as (nameIn name) (Done 0 0) kept (rw z) (rw z) (rw z (sym (written-none [] 0)))
+  fresh-good kept z = fresh-as (nameIn name) (Done 0 0 0) kept (rw z) (rw z) (rw z) (rw z (sym (written-none [] 0)))
 
-  pub fresh-bad : Named b [] → hasZero name ≡ false → Answers (fresh name) [] (Refused BadName) m b []
+  pub fresh-bad : Named b [] → hasZero name ≡ false → Answers (fresh name) 0 [] (Refused BadName) m b []
   unfolding fresh answerOf bufferAfter writtenBy
-  fresh-bad kept z = fresh-as [] (Refused BadName) kept (rw z) (rw z) (rw z (sym (written-none [] 0)))
+  fresh-bad kept z = fresh-as [] (Refused BadName) kept (rw z) (rw z) (rw z) (rw z (sym (written-none [] 0)))

@@ -1,6 +1,6 @@
 -- What each call's proof says of its own paths: the refusals in their order, and the memory after a call that is done.
 -- Rests on what holds of every splicer that fresh and the calls since have given (rules' proofs/Sound).
-use mathlib.Core.Path.{_≡_, refl, sym, ap, subst, _∙_}
+use mathlib.Core.Path.{_≡_, refl, sym, ap, ap₂, subst, _∙_}
 use mathlib.Core.Bool.{Bool, true, false, cond, not}
 use mathlib.Core.List.{List, [], _∷_}
 use mathlib.Core.Logic.{inl, inr}
@@ -22,17 +22,18 @@ use Rattle.rules.specs.Lists.{All}
 use Rattle.rules.specs.Bytes.{Byte, dataOf}
 use Rattle.rules.specs.Units.{timeOf, fromMicros}
 use Rattle.rules.specs.State.{Queue, Splicer, isOpen, linkOf, toCome, withLink}
-use Rattle.rules.specs.Records.{Record, output}
+use Rattle.rules.specs.Records.{output}
 use Rattle.rules.specs.Ends.{Turn, closedBy}
 use Rattle.rules.specs.Instants.{runAll}
-use Rattle.rules.specs.Answers.{answer}
-use Rattle.rules.specs.Calls.{Called, Call, opens, closes, messages, moves, call, noConnection, noRoom, notOpen, openCall, closeCall, framing, handled, lending, messageCall, moveCall, tickCall, ticked, refuse, does, writtenBy, bufferAfter}
+use Rattle.rules.specs.Answers.{Answered, says, answer}
+use Rattle.rules.specs.Calls.{Called, Call, opens, closes, messages, moves, call, noConnection, noRoom, notOpen, openCall, closeCall, framing, handled, lending, messageCall, moveCall, tickCall, ticked, refuse, does, replies, writtenBy, bufferAfter}
 use Rattle.rules.specs.Sound.{Holding, Reached, Wired, horizon}
 use Rattle.rules.proofs.Written.{written-none}
 use Rattle.rules.proofs.Sound.{reached-call, reached-sound, few-wait, few-started}
-use Rattle.memory.specs.Memory.{Memory, see, Now, timed, linked, queued, nameOf, Whole, shown}
-use Rattle.ends.specs.Does.{roomFor, Tells, Turns}
-use Rattle.answers.specs.Gives.{Gives}
+use Rattle.memory.specs.Memory.{Memory, see, Now, timed, linked, queued, shifted, nameOf, shown}
+use Rattle.ends.specs.Does.{roomFor, Turns}
+use Rattle.requests.specs.declared.Given.{Given}
+use Rattle.answers.specs.Gives.{Gives, unmoved}
 use Rattle.engine.specs.declared.Answer.{Answer}
 use Rattle.engine.specs.declared.Answer.the-variants.{Refused, Done}
 use Rattle.engine.specs.declared.Tested.{Tested}
@@ -42,13 +43,14 @@ use Rattle.engine.specs.Lent.{Lent, answerOf, Answers, openTest}
 -- ## A refusal, and a call that is done
 
 -- "A refusal .. writes nothing .. and changes no state"
-pub refused-as : {m b e : List ℕ} (c : Called) (n : Refusal) → Lent m b → c ≡ refuse n (shown m b) → Answers c e (Refused n) m b e
+pub refused-as : {m b e : List ℕ} (c : Called) (n : Refusal) → Lent m b → c ≡ refuse n (shown m b) → Answers c (see m .ringEnd) e (Refused n) m b e
 unfolding answerOf bufferAfter writtenBy
 refused-as {m} {b} {e} c n l f =
     record {
       lent = l;
       splicer = sym (ap (λ y. y .splicer) f);
-      answer = sym (ap (λ y. answerOf (y .answer)) f);
+      ring = sym (ap (λ y. shifted (y .accepted) (see m .ringEnd)) f);
+      answer = sym (ap (λ y. answerOf (y .answer) (y .moved)) f);
       buffer = sym (ap (λ y. bufferAfter (y .answer) e) f ∙ written-none e 0);
     }
 
@@ -57,27 +59,35 @@ abbrev told : List ℕ → Memory → Splicer
 told b s = record { name = nameOf b; clock = s .clock; links = s .links; queue = s .queue }
 
 -- k is called of the memory m and b, and lent the buffer e: the memory is v and c after it, and "bytes beyond those written stay unchanged"
-done-as : (k : Call) {m b e : List ℕ} (consumed : ℕ) {len : ℕ} (rs : List Record) (t : Splicer) {v c o : List ℕ} → Lent m b → Wired k
-    → call k (shown m b) ≡ does consumed rs t → Whole v c → shown v c ≡ t → Tells e 0 rs len o
-    → Answers (call k (shown m b)) e (Done consumed len) v c o
+done-as : (k : Call) {m b e : List ℕ} (consumed : ℕ) (a : Answered) {r : Given} {v c o : List ℕ} → Lent m b → Wired k
+    → call k (shown m b) ≡ replies consumed a → Gives a (see m .ringEnd) e r v c o
+    → Answers (call k (shown m b)) (see m .ringEnd) e (Done consumed (r .len) (r .moved)) v c o
 unfolding answerOf bufferAfter writtenBy
-done-as k {m} {b} {e} consumed {len} rs t {v} {c} l wired f w p x =
-    let q : shown v c ≡ call k (shown m b) .splicer = p ∙ sym (ap (λ y. y .splicer) f) in
-    let n : len ≡ length (output rs) = omega (arith, x .count) in
+done-as k {m} {b} {e} consumed a {r} {v} {c} l wired f g =
+    let q : shown v c ≡ call k (shown m b) .splicer = g .splicer ∙ sym (ap (λ y. y .splicer) f) in
+    let n : r .len ≡ length (output (a .written)) = omega (arith, g .tells .count) in
     record {
-      lent = record { whole = w; reached = subst (λ (s : Splicer). Reached s) (sym q) (reached-call (shown m b) k wired (l .reached)) };
+      lent = record { whole = g .whole; reached = subst (λ (s : Splicer). Reached s) (sym q) (reached-call (shown m b) k wired (l .reached)) };
       splicer = q;
-      answer = ap (λ y. Done consumed y) n ∙ sym (ap (λ y. answerOf (y .answer)) f);
-      buffer = x .bytes ∙ sym (ap (λ y. bufferAfter (y .answer) e) f);
+      ring = g .ring ∙ sym (ap (λ y. shifted (y .accepted) (see m .ringEnd)) f);
+      answer = ap₂ (λ (y z : ℕ). Done consumed y z) n (g .moved) ∙ sym (ap (λ y. answerOf (y .answer) (y .moved)) f);
+      buffer = g .tells .bytes ∙ sym (ap (λ y. bufferAfter (y .answer) e) f);
     }
 
--- a turn of the queue, and then one change f of what the words show
-turned-as : (k : Call) {m b e : List ℕ} (f : Memory → Memory) (t : Turn) {n v o : List ℕ} {len : ℕ} → Lent m b → Wired k
-    → call k (shown m b) ≡ does 0 (t .written) (told b (f (queued (t .queue) (see m))))
-    → Turns e 0 t (see m) n len o → Now v (f (see n)) → Answers (call k (shown m b)) e (Done 0 len) v b o
-turned-as k {m} {b} f t l wired g x y =
-    done-as k 0 (t .written) (told b (f (queued (t .queue) (see m)))) l wired g
-    (record { words = y .form; bytes = l .whole .bytes }) (ap (told b) (y .is ∙ ap f (x .shows .is))) (x .tells)
+-- a turn of the queue, and then one change f of what the words show, which leaves the ring's end
+turned-as : (k : Call) {m b e : List ℕ} (f : Memory → Memory) (t : Turn) {n v o : List ℕ} {len : ℕ} → ((s : Memory) → f s .ringEnd ≡ s .ringEnd)
+    → Lent m b → Wired k → call k (shown m b) ≡ does 0 (t .written) (told b (f (queued (t .queue) (see m))))
+    → Turns e 0 t (see m) n len o → Now v (f (see n)) → Answers (call k (shown m b)) (see m .ringEnd) e (Done 0 len 0) v b o
+turned-as k {m} {b} f t stays l wired g x y =
+    let is = y .is ∙ ap f (x .shows .is) in
+    done-as k 0 (says (t .written) (told b (f (queued (t .queue) (see m))))) {r = unmoved _} l wired g
+    (record {
+      whole = record { words = y .form; bytes = l .whole .bytes };
+      splicer = ap (told b) is;
+      ring = ap (λ (s : Memory). s .ringEnd) is ∙ stays (queued (t .queue) (see m));
+      tells = x .tells;
+      moved = refl;
+    })
 
 -- ## What the work of a call may rely on
 
@@ -115,20 +125,25 @@ module _ (c : ℕ) (s : Splicer) where
 
 -- a: what the connection is
 module _ {m b : List ℕ} (c : ℕ) (l : Lent m b) where
-  pub open-bad : 3 < c → Answers (openCall c (shown m b)) [] (Refused NoConnection) m b []
+  pub open-bad : 3 < c → Answers (openCall c (shown m b)) (see m .ringEnd) [] (Refused NoConnection) m b []
   open-bad e = refused-as (openCall c (shown m b)) NoConnection l (open-none c (shown m b) e)
 
   module _ (a : Link) (low : c ≤ 3) (is : a ≡ getD (see m .links) c Closed) where
-    pub open-twice : isOpen a ≡ true → Answers (openCall c (shown m b)) [] (Refused AlreadyOpen) m b []
+    pub open-twice : isOpen a ≡ true → Answers (openCall c (shown m b)) (see m .ringEnd) [] (Refused AlreadyOpen) m b []
     open-twice f = refused-as (openCall c (shown m b)) AlreadyOpen l (open-again c (shown m b) low (ap isOpen (sym is) ∙ f))
 
     pub open-done : {v : List ℕ} → isOpen a ≡ false → Now v (linked c Opened (see m))
-        → Answers (openCall c (shown m b)) [] (Done 0 0) v b []
+        → Answers (openCall c (shown m b)) (see m .ringEnd) [] (Done 0 0 0) v b []
     unfolding call output
     open-done f n =
-        done-as (opens c) 0 [] (withLink c Opened (shown m b)) l tt (open-good c (shown m b) low (ap isOpen (sym is) ∙ f))
-        (record { words = n .form; bytes = l .whole .bytes }) (ap (told b) (n .is))
-        (record { count = refl; bytes = sym (written-none [] 0) })
+        done-as (opens c) 0 (says [] (withLink c Opened (shown m b))) {r = unmoved 0} l tt (open-good c (shown m b) low (ap isOpen (sym is) ∙ f))
+        (record {
+          whole = record { words = n .form; bytes = l .whole .bytes };
+          splicer = ap (told b) (n .is);
+          ring = ap (λ (s : Memory). s .ringEnd) (n .is);
+          tells = record { count = refl; bytes = sym (written-none [] 0) };
+          moved = refl;
+        })
 
 -- ## 1, 2, 7: close and message
 
@@ -183,7 +198,7 @@ test-past c room links e = go (noConnection c) (noRoom room) (not (isOpen (getD 
 
 -- x: what the call would do; t: the test's answer
 pub guard-refused : {m b e : List ℕ} (c : ℕ) (x : Called) (n : Refusal) {t : Tested} → Lent m b → t ≡ openTest c (length e) (see m .links)
-    → t ≡ Bad n → Answers (guarded c (length e) (shown m b) x) e (Refused n) m b e
+    → t ≡ Bad n → Answers (guarded c (length e) (shown m b) x) (see m .ringEnd) e (Refused n) m b e
 guard-refused {m} {b} {e} c x n l f g =
     refused-as (guarded c (length e) (shown m b) x) n l (guarded-is c (length e) (shown m b) x (Bad n) (sym g ∙ f))
 
@@ -194,31 +209,30 @@ message-framed c room s d f e i = guarded-is c room s _ Good e ∙ ap (λ y. han
 
 module _ {m b e : List ℕ} (c : ℕ) (l : Lent m b) (good : Good ≡ openTest c (length e) (see m .links)) where
   pub close-done : {n v o : List ℕ} {len : ℕ} → Turns e 0 (closedBy c (see m .queue)) (see m) n len o → Now v (linked c Closed (see n))
-      → Answers (closeCall c (length e) (shown m b)) e (Done 0 len) v b o
+      → Answers (closeCall c (length e) (shown m b)) (see m .ringEnd) e (Done 0 len 0) v b o
   unfolding closeCall call
   close-done =
-      turned-as (closes c (length e)) (linked c Closed) (closedBy c (see m .queue)) l tt (guarded-is c (length e) (shown m b) _ Good good)
+      turned-as (closes c (length e)) (linked c Closed) (closedBy c (see m .queue)) (λ s. refl) l tt (guarded-is c (length e) (shown m b) _ Good good)
 
   -- d is what was read
 
   pub message-unframed : (d : List ℕ) (n : Refusal) {f : Framing} → f ≡ framing d → f ≡ Unframed n
-      → Answers (messageCall c d (lending (length e)) (shown m b)) e (Refused n) m b e
+      → Answers (messageCall c d (lending (length e)) (shown m b)) (see m .ringEnd) e (Refused n) m b e
   unfolding handled
   message-unframed d n i u =
       refused-as (messageCall c d (lending (length e)) (shown m b)) n l
       (message-framed c (length e) (shown m b) d (Unframed n) good (sym i ∙ u))
 
   -- p: the data that was handed on
-  pub message-done : (d : List ℕ) {v o p : List ℕ} (id size : ℕ) {len : ℕ} {f : Framing} → All Byte d → f ≡ framing d → f ≡ Framed id size
-      → p ≡ dataOf size d → Gives (answer c id p (shown m b)) e len v b o
-      → Answers (messageCall c d (lending (length e)) (shown m b)) e (Done (8 + size) len) v b o
+  pub message-done : (d : List ℕ) {v o p : List ℕ} (id size : ℕ) {r : Given} {f : Framing} → All Byte d → f ≡ framing d → f ≡ Framed id size
+      → p ≡ dataOf size d → Gives (answer c id p (shown m b)) (see m .ringEnd) e r v b o
+      → Answers (messageCall c d (lending (length e)) (shown m b)) (see m .ringEnd) e (Done (8 + size) (r .len) (r .moved)) v b o
   unfolding handled call
   message-done d {p = p} id size y i u z g =
       let s = shown m b in
       let q = message-framed c (length e) s d (Framed id size) good (sym i ∙ u)
-      ∙ ap (λ x. does (8 + size) (answer c id x s .written) (answer c id x s .splicer)) (sym z) in
-      done-as (messages c d (lending (length e))) (8 + size) (answer c id p s .written) (answer c id p s .splicer) l y q
-      (g .whole) (g .splicer) (g .tells)
+      ∙ ap (λ x. replies (8 + size) (answer c id x s)) (sym z) in
+      done-as (messages c d (lending (length e))) (8 + size) (answer c id p s) l y q g
 
 -- ## The clock brought to until
 
@@ -236,18 +250,18 @@ module _ (until room : ℕ) (s : Splicer) where
   move-good e f = rw (le-ltb room 4096 e, le-ltb until (s .clock) f)
 
 module _ {m b e : List ℕ} (until : ℕ) (l : Lent m b) where
-  pub move-small : length e < 4096 → Answers (moveCall until (length e) (shown m b)) e (Refused NoRoom) m b e
+  pub move-small : length e < 4096 → Answers (moveCall until (length e) (shown m b)) (see m .ringEnd) e (Refused NoRoom) m b e
   move-small h = refused-as (moveCall until (length e) (shown m b)) NoRoom l (move-none until (length e) (shown m b) h)
 
-  pub move-back : 4096 ≤ length e → until < see m .clock → Answers (moveCall until (length e) (shown m b)) e (Refused ClockBack) m b e
+  pub move-back : 4096 ≤ length e → until < see m .clock → Answers (moveCall until (length e) (shown m b)) (see m .ringEnd) e (Refused ClockBack) m b e
   move-back h i = refused-as (moveCall until (length e) (shown m b)) ClockBack l (move-before until (length e) (shown m b) h i)
 
   pub move-done : {n v o : List ℕ} {len : ℕ} → until < horizon → 4096 ≤ length e → see m .clock ≤ until
       → Turns e 0 (runAll (see m .clock) until (see m .queue)) (see m) n len o → Now v (timed until (see n))
-      → Answers (moveCall until (length e) (shown m b)) e (Done 0 len) v b o
+      → Answers (moveCall until (length e) (shown m b)) (see m .ringEnd) e (Done 0 len 0) v b o
   unfolding call ticked
   move-done early h i =
-      turned-as (moves until (length e)) (timed until) (runAll (see m .clock) until (see m .queue)) l early
+      turned-as (moves until (length e)) (timed until) (runAll (see m .clock) until (see m .queue)) (λ s. refl) l early
       (move-good until (length e) (shown m b) h i)
 
 -- ## Tick
@@ -266,19 +280,19 @@ module _ (seconds micros room : ℕ) (s : Splicer) where
   tick-good e f = rw (le-ltb room 4096 e, le-ltb 999999 micros f)
 
 module _ {m b e : List ℕ} (seconds micros : ℕ) (l : Lent m b) where
-  pub tick-small : length e < 4096 → Answers (tickCall seconds micros (length e) (shown m b)) e (Refused NoRoom) m b e
+  pub tick-small : length e < 4096 → Answers (tickCall seconds micros (length e) (shown m b)) (see m .ringEnd) e (Refused NoRoom) m b e
   tick-small h = refused-as (tickCall seconds micros (length e) (shown m b)) NoRoom l (tick-none seconds micros (length e) (shown m b) h)
 
   pub tick-micros : 4096 ≤ length e → 999999 < micros
-      → Answers (tickCall seconds micros (length e) (shown m b)) e (Refused BadMicros) m b e
+      → Answers (tickCall seconds micros (length e) (shown m b)) (see m .ringEnd) e (Refused BadMicros) m b e
   tick-micros h i =
       refused-as (tickCall seconds micros (length e) (shown m b)) BadMicros l (tick-over seconds micros (length e) (shown m b) h i)
 
   -- it is the clock brought to its time
   pub tick-moves : (until : Ninths) {r : Answer} {v c o : List ℕ} → until ≡ fromMicros (timeOf seconds micros)
-      → 4096 ≤ length e → micros ≤ 999999 → Answers (moveCall (until .0) (length e) (shown m b)) e r v c o
-      → Answers (tickCall seconds micros (length e) (shown m b)) e r v c o
+      → 4096 ≤ length e → micros ≤ 999999 → Answers (moveCall (until .0) (length e) (shown m b)) (see m .ringEnd) e r v c o
+      → Answers (tickCall seconds micros (length e) (shown m b)) (see m .ringEnd) e r v c o
   tick-moves until {r} {v} {c} {o} same h i a =
       let q : moveCall (until .0) (length e) (shown m b) ≡ tickCall seconds micros (length e) (shown m b) =
       ap (λ (t : Ninths). moveCall (t .0) (length e) (shown m b)) same ∙ sym (tick-good seconds micros (length e) (shown m b) h i) in
-      subst (λ (x : Called). Answers x e r v c o) q a
+      subst (λ (x : Called). Answers x (see m .ringEnd) e r v c o) q a

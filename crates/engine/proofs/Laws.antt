@@ -15,11 +15,12 @@ use Rattle.rules.specs.Lists.{All}
 use Rattle.rules.specs.Units.{badMicros, timeOf, fromMicros}
 use Rattle.rules.specs.Bytes.{Byte, hasZero}
 use Rattle.rules.specs.State.{Splicer, isOpen, linkOf}
-use Rattle.rules.specs.Calls.{Called, Call, opens, closes, messages, ticks, moves, call, refused, good, refuse, does, bufferAfter, noConnection, noRoom, notOpen, openCall, closeCall, messageCall, framing, handled, moveCall, tickCall, ticked, fresh}
+use Rattle.rules.specs.Answers.{Answered, says}
+use Rattle.rules.specs.Calls.{Called, Call, opens, closes, messages, ticks, moves, call, refused, good, refuse, does, replies, bufferAfter, noConnection, noRoom, notOpen, openCall, closeCall, messageCall, framing, handled, moveCall, tickCall, ticked, fresh}
 use Rattle.rules.specs.Calls as calls
 use Rattle.rules.specs.Records.{Record}
 use Rattle.rules.proofs.Tests.{by}
-use Rattle.memory.specs.Memory.{words, bytes, shown}
+use Rattle.memory.specs.Memory.{words, bytes, see, shown}
 use Rattle.memory.proofs.Laws.{memory-same, cleared-now}
 use Rattle.memory.proofs.Names.{named}
 use Rattle.engine.specs.declared.Answer.{Answer}
@@ -34,10 +35,10 @@ use Rattle.engine.proofs.Calls.{refused-as, guarded}
 pub buffer-same : (a : calls.Answer) (e o p : List ℕ) → o ≡ bufferAfter a e → p ≡ bufferAfter a e → o ≡ p
 buffer-same a e o p f g = f ∙ sym g
 
-pub answers-same : (c : Called) (e : List ℕ) (r s : Answer) (m b o n d p : List ℕ) → Answers c e r m b o → Answers c e s n d p
+pub answers-same : (c : Called) (at : ℕ) (e : List ℕ) (r s : Answer) (m b o n d p : List ℕ) → Answers c at e r m b o → Answers c at e s n d p
     → (r ≡ s) × (m ≡ n) × (b ≡ d) × (o ≡ p)
-answers-same c e r s m b o n d p x y =
-    let k = memory-same m b n d (x .lent .whole) (y .lent .whole) (x .splicer ∙ sym (y .splicer)) in
+answers-same c at e r s m b o n d p x y =
+    let k = memory-same m b n d (x .lent .whole) (y .lent .whole) (x .ring ∙ sym (y .ring)) (x .splicer ∙ sym (y .splicer)) in
     (x .answer ∙ sym (y .answer), k .0, k .1, buffer-same (c .answer) e o p (x .buffer) (y .buffer))
 
 -- ## "A refusal returns its number, writes nothing, consumes nothing and changes no state."
@@ -50,13 +51,16 @@ module _ (s : Splicer) (n : Refusal) where
   keeps-refuse : (m : Refusal) → Keeps (refuse m s)
   keeps-refuse m e = cc
 
+  keeps-replies : (consumed : ℕ) (a : Answered) → Keeps (replies consumed a)
+  keeps-replies consumed a e = let z : _≡_ {A = ℕ} 0 1 = cc in absurd (omega arith)
+
   keeps-does : (consumed : ℕ) (rs : List Record) (t : Splicer) → Keeps (does consumed rs t)
-  keeps-does consumed rs t e = let z : _≡_ {A = ℕ} 0 1 = cc in absurd (omega arith)
+  keeps-does consumed rs t = keeps-replies consumed (says rs t)
 
   keeps-handled : (c : ℕ) (f : Framing) (l : List ℕ) → Keeps (handled c f l s)
   unfolding handled
   keeps-handled c (Unframed m) l = keeps-refuse m
-  keeps-handled c (Framed id size) l = keeps-does _ _ _
+  keeps-handled c (Framed id size) l = keeps-replies _ _
 
   -- a test, and what follows it
   keeps-test : (b : Bool) (m : Refusal) (c : Called) → Keeps c → Keeps (cond b (refuse m s) c)
@@ -81,23 +85,23 @@ module _ (s : Splicer) (n : Refusal) where
       (keeps-test (badMicros micros) BadMicros _ (keeps-move (fromMicros (timeOf seconds micros) .0) room))
   call-refused (moves until room) = keeps-move until room
 
-refused-answer : (a : calls.Answer) (n : Refusal) → Refused n ≡ answerOf a → a ≡ refused n
+refused-answer : (a : calls.Answer) (moved : ℕ) (n : Refusal) → Refused n ≡ answerOf a moved → a ≡ refused n
 unfolding answerOf
-refused-answer (refused m) n e = cc
-refused-answer (good consumed rs) n e = let z : _≡_ {A = ℕ} 0 1 = cc in absurd (omega arith)
+refused-answer (refused m) moved n e = cc
+refused-answer (good consumed rs) moved n e = let z : _≡_ {A = ℕ} 0 1 = cc in absurd (omega arith)
 
 -- of every result that the contract of a call other than fresh allows: the words, the bytes and the buffer are as they were
 pub refused-unchanged : (k : Call) (n : Refusal) (m b e : List ℕ) (r : Answer) (v c o : List ℕ) → Lent m b
-    → Answers (call k (shown m b)) e r v c o → r ≡ Refused n → (v ≡ m) × (c ≡ b) × (o ≡ e)
+    → Answers (call k (shown m b)) (see m .ringEnd) e r v c o → r ≡ Refused n → (v ≡ m) × (c ≡ b) × (o ≡ e)
 refused-unchanged k n m b e r v c o l a f =
     let x = call k (shown m b) in
-    let y = call-refused (shown m b) n k (refused-answer (x .answer) n (sym f ∙ a .answer)) in
-    let z = answers-same x e r (Refused n) v c o m b e a (refused-as x n l y) in
+    let y = call-refused (shown m b) n k (refused-answer (x .answer) (x .moved) n (sym f ∙ a .answer)) in
+    let z = answers-same x (see m .ringEnd) e r (Refused n) v c o m b e a (refused-as x n l y) in
     (z .1, z .2, z .3)
 
 -- "A refused fresh gives, with number 9, the splicer of an empty name."
 pub fresh-refused : (name : List ℕ) (r : Answer) (m b o : List ℕ) → length name ≡ 32 → All Byte name → hasZero name ≡ false
-    → Answers (fresh name) [] r m b o → (r ≡ Refused BadName) × (m ≡ replicate words 0) × (b ≡ replicate bytes 0) × (o ≡ [])
+    → Answers (fresh name) 0 [] r m b o → (r ≡ Refused BadName) × (m ≡ replicate words 0) × (b ≡ replicate bytes 0) × (o ≡ [])
 fresh-refused name r m b o long wide z a =
-    answers-same (fresh name) [] r (Refused BadName) m b o (replicate words 0) (replicate bytes 0) [] a
+    answers-same (fresh name) 0 [] r (Refused BadName) m b o (replicate words 0) (replicate bytes 0) [] a
     (fresh-bad name long wide cleared-now (named [] refl (omega arith)) z)

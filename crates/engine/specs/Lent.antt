@@ -12,7 +12,7 @@ use Rattle.rules.specs.State.{Splicer, isOpen}
 use Rattle.rules.specs.Calls.{Called, refused, good, noConnection, noRoom, bufferAfter}
 use Rattle.rules.specs.Calls as calls
 use Rattle.rules.specs.Sound.{Reached}
-use Rattle.memory.specs.Memory.{Whole, shown, tallied}
+use Rattle.memory.specs.Memory.{see, shifted, Whole, shown, tallied}
 use Rattle.engine.specs.declared.Answer.{Answer}
 use Rattle.engine.specs.declared.Answer.the-variants.{Refused, Done}
 use Rattle.engine.specs.declared.Tested.{Tested}
@@ -23,22 +23,23 @@ pub record Lent (m b : List ℕ) : Type 0 where
   pub whole : Whole m b
   pub reached : Reached (shown m b)
 
--- an answer of document 01 as the code has it: the refusal, or the bytes consumed and written
-unfoldable pub answerOf : calls.Answer → Answer
-answerOf (refused n) = Refused n
-answerOf (good consumed rs) = Done consumed (length (output rs))
+-- an answer of document 01 as the code has it: the refusal, or the bytes consumed and written; 02, CR 11: and the places shifted
+unfoldable pub answerOf : calls.Answer → (moved : ℕ) → Answer
+answerOf (refused n) moved = Refused n
+answerOf (good consumed rs) moved = Done consumed (length (output rs)) moved
 
 -- what a call promises: the memory m and b shows the splicer after the call, the answer is the call's, and so is the whole
--- content o of the output buffer, which held e
-pub record Answers (c : Called) (e : List ℕ) (r : Answer) (m b o : List ℕ) : Type 0 where
+-- content o of the output buffer, which held e; the ring, which ended at the place `at`, has moved on with an acceptance alone
+pub record Answers (c : Called) (at : ℕ) (e : List ℕ) (r : Answer) (m b o : List ℕ) : Type 0 where
   pub lent : Lent m b
   pub splicer : shown m b ≡ c .splicer
-  pub answer : r ≡ answerOf (c .answer)
+  pub ring : see m .ringEnd ≡ shifted (c .accepted) at
+  pub answer : r ≡ answerOf (c .answer) (c .moved)
   pub buffer : o ≡ bufferAfter (c .answer) e
 
 -- the same of a call of the splicer that the memory m and b showed, lent the buffer e; n, c and o: the memory and the buffer after it
 abbrev pub Makes : (ℕ → Splicer → Called) → (m b e : List ℕ) → Answer → (n c o : List ℕ) → Type 0
-Makes k m b e r n c o = Answers (k (length e) (shown m b)) e r n c o
+Makes k m b e r n c o = Answers (k (length e) (shown m b)) (see m .ringEnd) e r n c o
 
 -- "close 1, 2, 7; message 1, 2, 7": what the two test before their work, by the states of the connections
 unfoldable pub openTest : ℕ → ℕ → List Link → Tested

@@ -15,10 +15,10 @@ ghost use Rattle.rules.specs.Sound.{horizon};
 ghost use Rattle.memory.specs.Memory.{Form, see};
 ghost use Rattle.engine.specs.Lent.{Lent, Answers, Makes, openTest, Counts};
 
-// What a call answers: a refusal, or the bytes consumed and the bytes written.
+// What a call answers: a refusal, or the bytes consumed, the bytes written, and how many places an acceptance shifted.
 pub enum Answer {
     Refused(Refusal),
-    Done(usize, usize),
+    Done(usize, usize, usize),
 }
 
 // Whether a call may go on to its work.
@@ -54,12 +54,12 @@ fn is_ended(name: &[u8]) -> bool
 
 // Fresh: clock 0, all connections closed. 9 for a name without a zero, which gives the splicer of an empty name.
 pub fn fresh(name: &[u8; 32], m: &mut [u64; WORDS], b: &mut [u8; BYTES]) -> Answer
-    ensures { λ r. ⌜ Answers (fresh (now (name .entry))) [] r (now (m .exit)) (now (b .exit)) [] ⌝ }
+    ensures { λ r. ⌜ Answers (fresh (now (name .entry))) 0 [] r (now (m .exit)) (now (b .exit)) [] ⌝ }
 {
     memory::clear(&mut *m);
     if is_ended(name) {
         memory::keep_name(&mut *b, name);
-        return Answer::Done(0, 0);
+        return Answer::Done(0, 0, 0);
     }
     memory::clear_name(&mut *b);
     Answer::Refused(Refusal::BadName)
@@ -86,7 +86,7 @@ pub fn open(m: &mut [u64; WORDS], b: &mut [u8], conn: u32) -> Answer
         return Answer::Refused(Refusal::AlreadyOpen);
     };
     memory::set_link(&mut *m, conn, Link::Opened);
-    Answer::Done(0, 0)
+    Answer::Done(0, 0, 0)
 }
 
 // 1, 2, 7: what close and message test before their work.
@@ -120,7 +120,7 @@ pub fn close(m: &mut [u64; WORDS], b: &mut [u8], conn: u32, out: &mut [u8]) -> A
     }
     let len = ends::end_all_of(&mut *m, conn as u64, &mut *out);
     memory::set_link(&mut *m, conn, Link::Closed);
-    Answer::Done(0, len)
+    Answer::Done(0, len, 0)
 }
 
 // Message: 1, 2, 7, then 5 (header), 4, 5 (body); then the answer. l: the bytes read so far.
@@ -138,8 +138,8 @@ pub fn message(m: &mut [u64; WORDS], b: &mut [u8], conn: u32, l: &[u8], out: &mu
         Framing::Unframed(n) => Answer::Refused(n),
         Framing::Framed(id, size) => {
             let d = reading::data_of(l, size as usize);
-            let len = answers::answer(&mut *m, &*b, conn, id, d, &mut *out);
-            Answer::Done(8 + size as usize, len)
+            let given = answers::answer(&mut *m, &*b, conn, id, d, &mut *out);
+            Answer::Done(8 + size as usize, given.len, given.moved)
         }
     }
 }
@@ -161,7 +161,7 @@ pub fn bring_to(m: &mut [u64; WORDS], b: &mut [u8], until: Ninths, out: &mut [u8
     }
     let len = instants::run(&mut *m, until, &mut *out);
     memory::set_clock(&mut *m, until);
-    Answer::Done(0, len)
+    Answer::Done(0, len, 0)
 }
 
 // Tick: 2, 8, 3.

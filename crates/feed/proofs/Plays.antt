@@ -16,7 +16,7 @@ use Rattle.rules.specs.Calls as five
 use Rattle.rules.specs.Card.{messageEnd, Next, calls, ends, stops, cardRoom, cardLoans, next, told, cardStep}
 use Rattle.rules.proofs.Tests.{by, clash}
 use Rattle.rules.proofs.Written.{written-none}
-use Rattle.memory.specs.Memory.{shown}
+use Rattle.memory.specs.Memory.{see, shown}
 use Rattle.memory.proofs.Laws.{memory-same}
 use Rattle.engine.specs.declared.Answer.{Answer}
 use Rattle.engine.specs.declared.Answer.the-variants.{Refused}
@@ -37,29 +37,30 @@ unfolding untold told toldLength written
 tells-refused {a} {n} e x f g h = record { count = rw f; bytes = rw (f, g) (sets-eq (told (refused n)) e 0 h) }
 
 -- e: the buffer before the call, o: after it, p: with the refusal's mark
-tells-bytes : (a : five.Answer) (e o p : List ℕ) → o ≡ bufferAfter a e → p ≡ written o 0 (untold (answerOf a))
+tells-bytes : (a : five.Answer) (k : ℕ) (e o p : List ℕ) → o ≡ bufferAfter a e → p ≡ written o 0 (untold (answerOf a k))
     → p ≡ written e 0 (told a)
 unfolding bufferAfter writtenBy answerOf untold told
-tells-bytes (refused n) e o p f g = g ∙ ap (λ y. written y 0 (told (refused n))) (f ∙ written-none e 0)
-tells-bytes (good consumed rs) e o p f g = g ∙ written-none o 0 ∙ f
+tells-bytes (refused n) k e o p f g = g ∙ ap (λ y. written y 0 (told (refused n))) (f ∙ written-none e 0)
+tells-bytes (good consumed rs) k e o p f g = g ∙ written-none o 0 ∙ f
 
-tells-count : (a : five.Answer) → toldLength (answerOf a) ≡ length (told a)
+tells-count : (a : five.Answer) (k : ℕ) → toldLength (answerOf a k) ≡ length (told a)
 unfolding writtenBy answerOf toldLength told
-tells-count (refused n) = refl
-tells-count (good consumed rs) = refl
+tells-count (refused n) k = refl
+tells-count (good consumed rs) k = refl
 
 -- e: the buffer that the call was lent; o: the whole one after it; d: before it
-pub ended-plays : {c : Called} {e : List ℕ} {a : Answer} {m b i : List ℕ} → Answers c e a m b i
+pub ended-plays : {c : Called} {at : ℕ} {e : List ℕ} {a : Answer} {m b i : List ℕ} → Answers c at e a m b i
     → {d o : List ℕ} → o ≡ bufferAfter (c .answer) d → {n : ℕ} {t : Bool} {r : Played} {p : List ℕ} → Ended a n t o r p
-    → Plays d (record { splicer = c .splicer; shows = told (c .answer); used = n; more = t }) r m b p
+    → Plays at d (record { splicer = c .splicer; accepted = c .accepted; shows = told (c .answer); used = n; more = t }) r m b p
 ended-plays {c} a {d} {o} f {p = p} g =
     record {
       lent = a .lent;
       splicer = a .splicer;
+      ring = a .ring;
       used = g .used;
-      count = g .tells .count ∙ ap toldLength (a .answer) ∙ tells-count (c .answer);
+      count = g .tells .count ∙ ap toldLength (a .answer) ∙ tells-count (c .answer) (c .moved);
       more = g .more;
-      bytes = tells-bytes (c .answer) d o p f (g .tells .bytes ∙ ap (λ y. written o 0 (untold y)) (a .answer));
+      bytes = tells-bytes (c .answer) (c .moved) d o p f (g .tells .bytes ∙ ap (λ y. written o 0 (untold y)) (a .answer));
     }
 
 -- open writes nothing
@@ -72,11 +73,11 @@ open-silent c s e =
 
 -- a call with the whole buffer lent
 pub made-plays : (f : ℕ → Call) (s : Splicer) {e : List ℕ} → length e ≡ cardRoom
-    → {a : Answer} {m b o : List ℕ} → Answers (call (f (length e)) s) e a m b o
+    → {at : ℕ} {a : Answer} {m b o : List ℕ} → Answers (call (f (length e)) s) at e a m b o
     → {n : ℕ} {t : Bool} {r : Played} {p : List ℕ} → Ended a n t o r p
-    → Plays e (madeBy n t (f cardRoom) s) r m b p
-made-plays f s {e} h {m = m} {b = b} a {n} {t} {r} {p} d =
-    subst (λ i. Plays e (madeBy n t (f i) s) r m b p) h (ended-plays a (a .buffer) d)
+    → Plays at e (madeBy n t (f cardRoom) s) r m b p
+made-plays f s {e} h {at = at} {m = m} {b = b} a {n} {t} {r} {p} d =
+    subst (λ i. Plays at e (madeBy n t (f i) s) r m b p) h (ended-plays a (a .buffer) d)
 
 -- ## A record and its step
 
@@ -89,36 +90,36 @@ unfolding stepOf
 step-record l s = ap (λ x. stepBy (usedBy (recordIn l)) (isCut (recordIn l)) x s) (sym (next-record l))
 
 -- x: what the record was found to be
-pub plays-as : {k x : Record} (l : List ℕ) (s : Splicer) {r : Played} {e m b p : List ℕ} → k ≡ recordIn l → k ≡ x
-    → Plays e (stepIn x l s) r m b p → Plays e (stepOf l s) r m b p
-plays-as {k} {x} l s {r} {e} {m} {b} {p} f g d =
-    subst (λ y. Plays e y r m b p) (ap (λ y. stepIn y l s) (sym g ∙ f) ∙ step-record l s) d
+pub plays-as : {k x : Record} (l : List ℕ) (s : Splicer) {at : ℕ} {r : Played} {e m b p : List ℕ} → k ≡ recordIn l → k ≡ x
+    → Plays at e (stepIn x l s) r m b p → Plays at e (stepOf l s) r m b p
+plays-as {k} {x} l s {at} {r} {e} {m} {b} {p} f g d =
+    subst (λ y. Plays at e y r m b p) (ap (λ y. stepIn y l s) (sym g ∙ f) ∙ step-record l s) d
 
-pub message-plays : (c size : ℕ) (l : List ℕ) (s : Splicer) {r : Played} {e m b p : List ℕ}
-    → Plays e (madeBy (messageEnd size) true (messages c (part 2 (messageEnd size - 2) l) cardLoans) s) r m b p
-    → Plays e (stepIn (Message c size) l s) r m b p
+pub message-plays : (c size : ℕ) (l : List ℕ) (s : Splicer) {at : ℕ} {r : Played} {e m b p : List ℕ}
+    → Plays at e (madeBy (messageEnd size) true (messages c (part 2 (messageEnd size - 2) l) cardLoans) s) r m b p
+    → Plays at e (stepIn (Message c size) l s) r m b p
 unfolding stepBy usedBy isCut nextOf
-message-plays c size l s {r} {e} {m} {b} {p} d =
+message-plays c size l s {at} {r} {e} {m} {b} {p} d =
     let i : messageEnd size - 2 ≡ 8 + size = omega arith in
-    subst (λ z. Plays e (madeBy (messageEnd size) true (messages c (part 2 z l) cardLoans) s) r m b p) i d
+    subst (λ z. Plays at e (madeBy (messageEnd size) true (messages c (part 2 z l) cardLoans) s) r m b p) i d
 
 pub used-within : {k x : Record} (l : List ℕ) → k ≡ recordIn l → k ≡ x → usedBy x ≤ length l
 used-within l f g = subst (λ y. usedBy y ≤ length l) (sym f ∙ g) (within l)
 
 pub stopped-plays : (t : Bool) (m b e : List ℕ) → Lent m b
-    → Plays e (record { splicer = shown m b; shows = []; used = 0; more = t }) (record { used = 0; len = 0; more = t }) m b e
+    → Plays (see m .ringEnd) e (record { splicer = shown m b; accepted = false; shows = []; used = 0; more = t }) (record { used = 0; len = 0; more = t }) m b e
 stopped-plays t m b e l =
-    record { lent = l; splicer = refl; used = refl; count = refl; more = refl; bytes = sym (written-none e 0) }
+    record { lent = l; splicer = refl; ring = refl; used = refl; count = refl; more = refl; bytes = sym (written-none e 0) }
 
 played-same : (a b c d : ℕ) (t u : Bool) → a ≡ b → c ≡ d → t ≡ u
     → _≡_ {A = Played} (record { used = a; len = c; more = t }) (record { used = b; len = d; more = u })
 played-same a b c d t u p q r = cc
 
 -- any two results that the promise allows are equal
-pub plays-same : (g : Step) (r q : Played) (m b n c e o p : List ℕ) → Plays e g r m b o → Plays e g q n c p
+pub plays-same : (g : Step) (at : ℕ) (r q : Played) (m b n c e o p : List ℕ) → Plays at e g r m b o → Plays at e g q n c p
     → (r ≡ q) × (m ≡ n) × (b ≡ c) × (o ≡ p)
-plays-same g r q m b n c e o p x y =
-    let same = memory-same m b n c (x .lent .whole) (y .lent .whole) (x .splicer ∙ sym (y .splicer)) in (
+plays-same g at r q m b n c e o p x y =
+    let same = memory-same m b n c (x .lent .whole) (y .lent .whole) (x .ring ∙ sym (y .ring)) (x .splicer ∙ sym (y .splicer)) in (
       played-same _ _ _ _ _ _ (x .used ∙ sym (y .used)) (x .count ∙ sym (y .count)) (x .more ∙ sym (y .more)),
       same .0,
       same .1,

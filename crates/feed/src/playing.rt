@@ -9,7 +9,7 @@ use memory::WORDS;
 ghost use mathlib.Core.Path.{_≡_};
 ghost use Prim.Native.Nat.{_≤_};
 ghost use lib.ListN.{length};
-ghost use Rattle.memory.specs.Memory.{shown};
+ghost use Rattle.memory.specs.Memory.{see, shown};
 ghost use Rattle.engine.specs.Lent.{Lent};
 ghost use Rattle.feed.specs.Feed.{recordIn};
 ghost use Rattle.feed.specs.Play.{stepOf, Plays, Tells, Ended};
@@ -25,7 +25,7 @@ fn tell(a: Answer, out: &mut [u8]) -> usize
             out[1] = engine::house_number(n);
             2
         }
-        Answer::Done(_, len) => len,
+        Answer::Done(_, len, _) => len,
     }
 }
 
@@ -59,7 +59,7 @@ pub fn play(r: Record, m: &mut [u64; WORDS], b: &mut [u8], l: &[u8], out: &mut [
     requires { ⌜ r ≡ recordIn (now l) ⌝ }
     requires { ⌜ length (now out) ≡ 4096 ⌝ }
     ensures { λ p.
-        ⌜ Plays (now (out .entry)) (stepOf (now (l .entry)) (shown (now (m .entry)) (now (b .entry)))) p
+        ⌜ Plays (see (now (m .entry)) .ringEnd) (now (out .entry)) (stepOf (now (l .entry)) (shown (now (m .entry)) (now (b .entry)))) p
         (now (m .exit)) (now (b .exit)) (now (out .exit)) ⌝ }
 {
     match r {

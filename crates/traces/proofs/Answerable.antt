@@ -3,7 +3,7 @@
 use mathlib.Core.Path.{_≡_, refl, sym, ap, subst}
 use mathlib.Core.Bool.{Bool, true, false}
 use mathlib.Core.List.{List, [], _∷_}
-use Prim.Native.Nat.{ℕ}
+use Prim.Native.Nat.{ℕ, _<_}
 use native.Mathlib.Omega.{arith}
 use lib.ListN.{length, replicate}
 use Rattle.rules.specs.declared.Refusal.the-variants.{BadName}
@@ -14,6 +14,7 @@ use Rattle.rules.specs.Calls.{Called, call, bufferAfter, fresh}
 use Rattle.rules.specs.Sound.{Reached}
 use Rattle.rules.proofs.Bytes.{nameIn-zero}
 use Rattle.rules.proofs.Sound.{few-wait, few-started, reached-call, reached-sound}
+use Rattle.places.specs.Places.{round}
 use Rattle.memory.specs.Memory as lent
 use Rattle.memory.proofs.Laws.{waiting-of-four, cleared-now}
 use Rattle.memory.proofs.Names.{named, name-short}
@@ -28,25 +29,37 @@ use Rattle.traces.proofs.Steps.{wired, promised}
 
 -- ## A memory for every splicer that the calls have given
 
-abbrev seen : Splicer → lent.Memory
-seen s = record { clock = s .clock; links = s .links; queue = s .queue }
+-- with the ring's end at the place `at`
+abbrev seen : ℕ → Splicer → lent.Memory
+seen at s = record { clock = s .clock; links = s .links; queue = s .queue; ringEnd = at }
 
-abbrev memoryOf : Splicer → Memory
-memoryOf s = record { words = stood (seen s); bytes = padded (s .name) }
+abbrev memoryOf : ℕ → Splicer → Memory
+memoryOf at s = record { words = stood (seen at s); bytes = padded (s .name) }
 
 -- what document 01 says of a call, with the buffer e
-abbrev resultOf : Called → List ℕ → Result
-resultOf c e = record { answer = answerOf (c .answer); memory = memoryOf (c .splicer); buffer = bufferAfter (c .answer) e }
+abbrev resultOf : Called → ℕ → List ℕ → Result
+resultOf c at e =
+    record {
+      answer = answerOf (c .answer) (c .moved);
+      memory = memoryOf (lent.shifted (c .accepted) at) (c .splicer);
+      buffer = bufferAfter (c .answer) e;
+    }
 
-answered : (c : Called) (e : List ℕ) → Reached (c .splicer)
-    → Answers c e (answerOf (c .answer)) (stood (seen (c .splicer))) (padded (c .splicer .name)) (bufferAfter (c .answer) e)
-answered c e r =
+within : (a : Bool) (at : ℕ) → at < round → lent.shifted a at < round
+within true at h = omega arith
+within false at h = h
+
+answered : (c : Called) (at : ℕ) (e : List ℕ) → at < round → Reached (c .splicer)
+    → let k = lent.shifted (c .accepted) at in
+    Answers c at e (answerOf (c .answer) (c .moved)) (stood (seen k (c .splicer))) (padded (c .splicer .name)) (bufferAfter (c .answer) e)
+answered c at e low r =
     let s = c .splicer in
+    let k = lent.shifted (c .accepted) at in
     let x = reached-sound s r in
-    let w = stood-now (seen s) (x .linking .four) (few-wait (x .holding)) (few-started (x .holding))
-    (waiting-of-four (s .clock) (s .queue) (x .holding)) in
+    let w = stood-now (seen k s) (x .linking .four) (few-wait (x .holding)) (few-started (x .holding))
+    (waiting-of-four (s .clock) (s .queue) (x .holding)) (within (c .accepted) at low) in
     let b = named (s .name) (x .linking .zeros) (omega (arith, x .linking .short)) in
-    let same : shown (memoryOf s) ≡ s =
+    let same : shown (memoryOf k s) ≡ s =
     λ i. record { name = b .is i; clock = w .is i .clock; links = w .is i .links; queue = w .is i .queue } in
     record {
       lent = record {
@@ -54,6 +67,7 @@ answered c e r =
         reached = subst (λ (t : Splicer). Reached t) (sym same) r;
       };
       splicer = same;
+      ring = ap (λ (y : lent.Memory). y .ringEnd) (w .is);
       answer = refl;
       buffer = refl;
     }
@@ -62,17 +76,25 @@ module _ (m : Memory) (l : Lent (m .words) (m .bytes)) where
   given : (i : Input) → Typed i → Reached (call (callOf i) (shown m) .splicer)
   given i t = reached-call (shown m) (callOf i) (wired i t) (l .reached)
 
+  abbrev at : ℕ
+  at = lent.see (m .words) .ringEnd
+
   abbrev found : Input → Result
-  found i = resultOf (call (callOf i) (shown m)) (bufferOf i)
+  found i = resultOf (call (callOf i) (shown m)) at (bufferOf i)
+
+  allows : (i : Input) → Typed i
+      → let r = found i in
+      Answers (call (callOf i) (shown m)) at (bufferOf i) (r .answer) (r .memory .words) (r .memory .bytes) (r .buffer)
+  allows i t = answered (call (callOf i) (shown m)) at (bufferOf i) (l .whole .words .ring) (given i t)
 
   pub answerable : (i : Input) → Typed i → Answerable m i
   unfolding call
-  answerable (anOpen c) t = record { result = found (anOpen c); allowed = answered _ [] (given (anOpen c) t) }
-  answerable (aClose c e) t = record { result = found (aClose c e); allowed = answered _ e (given (aClose c e) t) }
-  answerable (aMessage c b e) t = record { result = found (aMessage c b e); allowed = answered _ e (given (aMessage c b e) t) }
+  answerable (anOpen c) t = record { result = found (anOpen c); allowed = allows (anOpen c) t }
+  answerable (aClose c e) t = record { result = found (aClose c e); allowed = allows (aClose c e) t }
+  answerable (aMessage c b e) t = record { result = found (aMessage c b e); allowed = allows (aMessage c b e) t }
   answerable (aTick seconds micros e) t =
-      record { result = found (aTick seconds micros e); allowed = answered _ e (given (aTick seconds micros e) t) }
-  answerable (aMove until e) t = record { result = found (aMove until e); allowed = answered _ e (given (aMove until e) t) }
+      record { result = found (aTick seconds micros e); allowed = allows (aTick seconds micros e) t }
+  answerable (aMove until e) t = record { result = found (aMove until e); allowed = allows (aMove until e) t }
 
 -- ## Any calls
 
@@ -95,7 +117,7 @@ module _ (name : List ℕ) (long : length name ≡ 32) (bytes : All Byte name) w
   pub runs : (is : List Input) → All Typed is → Run name is
   runs is t = go (hasZero name) refl
     where
-      from : (b : List ℕ) (a : Answer) → Answers (fresh name) [] a (replicate lent.words 0) b [] → Run name is
+      from : (b : List ℕ) (a : Answer) → Answers (fresh name) 0 [] a (replicate lent.words 0) b [] → Run name is
       from b a p =
           let begun : Memory = record { words = replicate lent.words 0; bytes = b } in
           let d = led is begun (p .lent) t in
@@ -108,7 +130,7 @@ module _ (name : List ℕ) (long : length name ≡ 32) (bytes : All Byte name) w
 
       go : (z : Bool) → hasZero name ≡ z → Run name is
       go true e =
-          from (padded (nameIn name)) (Done 0 0)
+          from (padded (nameIn name)) (Done 0 0 0)
           (fresh-good name long bytes cleared-now (named (nameIn name) (nameIn-zero name) (omega (arith, name-short name))) e)
       go false e =
           from (padded []) (Refused BadName)

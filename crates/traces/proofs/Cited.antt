@@ -21,6 +21,7 @@ use denote.Triple.Entry.{Args, Res}
 use Rattle.rules.specs.Lists.{All}
 use Rattle.rules.specs.Calls as rules
 use Rattle.rules.specs.Calls.{call}
+use Rattle.memory.specs.Memory.{see}
 use Rattle.engine.specs.declared.Answer.{Answer}
 use Rattle.engine.specs.Lent.{Answers, Counts}
 use Rattle.engine.proofs.Held.{kind, Holds, Same, both, number-held, bytes-held}
@@ -54,7 +55,7 @@ module _ {M : Type 1} (𝓤 : URA M) (H : Heap 𝓤) (A : Atoms 𝓤) (mem : sto
     fresh-requires = refl
 
     pub fresh-ensures : fresh.clauses 𝓤 H A mem run κs a .ensures tt r z
-        ≡ ⌜ Answers (rules.fresh (now (a .0))) [] r (now (z .1 .0)) (now (z .1 .1 .0)) [] ⌝
+        ≡ ⌜ Answers (rules.fresh (now (a .0))) 0 [] r (now (z .1 .0)) (now (z .1 .1 .0)) [] ⌝
     fresh-ensures = refl
 
   -- open(m, b, conn)
@@ -131,7 +132,7 @@ module _ {M : Type 1} (𝓤 : URA M) (H : Heap 𝓤) (A : Atoms 𝓤) (mem : sto
 -- ## What Allowed says is of the call `callOf`
 
 pub called : (m : Memory) (i : Input) (r : Result)
-    → Allowed m i r ≡ Answers (call (callOf i) (shown m)) (bufferOf i) (r .answer) (r .memory .words) (r .memory .bytes) (r .buffer)
+    → Allowed m i r ≡ Answers (call (callOf i) (shown m)) (see (m .words) .ringEnd) (bufferOf i) (r .answer) (r .memory .words) (r .memory .bytes) (r .buffer)
 unfolding call
 called m (anOpen conn) r = refl
 called m (aClose conn e) r = refl

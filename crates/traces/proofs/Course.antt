@@ -131,7 +131,7 @@ module _ (name : List ℕ) where
   trace-same h g m n t u e =
       let b = t .begun in
       let c = u .begun in
-      let s = answers-same (fresh name) [] (t .answer) (u .answer) (b .words) (b .bytes) [] (c .words) (c .bytes) []
+      let s = answers-same (fresh name) 0 [] (t .answer) (u .answer) (b .words) (b .bytes) [] (c .words) (c .bytes) []
       (t .fresh) (u .fresh) in
       let same : b ≡ c = memory-same b c (s .1) (s .2) in
       led-same h g b m n (t .leads) (rw same (u .leads)) e
@@ -140,7 +140,7 @@ module _ (name : List ℕ) where
 
   module _ (h : List Made) (m : Memory) (t : Trace name h m) where
     pub fresh-number : numberIn (t .answer) ≡ cond (hasZero name) 0 9
-    fresh-number = rw (t .fresh .answer) (number-read (fresh name .answer) ∙ refusals.fresh-number name)
+    fresh-number = rw (t .fresh .answer) (number-read (fresh name .answer) (fresh name .moved) ∙ refusals.fresh-number name)
 
     pub fresh-empty : hasZero name ≡ false → t .begun ≡ emptyMemory
     fresh-empty z =

@@ -4,16 +4,16 @@
 use mathlib.Core.Path.{_≡_, sym, ap, _∙_}
 use mathlib.Core.Bool.{true, false, cond}
 use mathlib.Core.List.{List, [], _∷_, _++_}
-use Prim.Native.Nat.{ℕ, _+_, _≤_, _<_}
+use Prim.Native.Nat.{ℕ, _+_, _-_, _≤_, _<_}
 use native.Mathlib.Nat.{le-trans}
-use lib.ListN.{length, getD}
+use lib.ListN.{length, take, getD}
 use Rattle.rules.specs.declared.Request.{Request}
 use Rattle.rules.specs.declared.Refusal.{Refusal}
 use Rattle.rules.specs.declared.When.the-variants.{At, Never}
-use Rattle.rules.specs.Lists.{All}
+use Rattle.rules.specs.Lists.{All, some, count}
 use Rattle.rules.specs.Bytes.{Byte, hasZero}
 use Rattle.rules.specs.Records.{recordsIn}
-use Rattle.rules.specs.State.{empty, Sorted, sooner, earliest, due}
+use Rattle.rules.specs.State.{Splicer, empty, Sorted, startsAt, startsAfter, sooner, earliest, due}
 use Rattle.rules.specs.Sound.{Later}
 use Rattle.rules.specs.Answers.{requested, spliceResult}
 use Rattle.rules.specs.Calls.{lending, fresh, after}
@@ -22,16 +22,19 @@ use Rattle.rules.proofs.Sound.{reached-sound}
 use Rattle.rules.proofs.Tick.{earliest-start}
 use Rattle.demands.specs.History.{startsOf, endsOf, history, ownAnswer, othersOf, waitingCount, book, clockAfter}
 use Rattle.engine.specs.declared.Answer.the-variants.{Refused}
-use Rattle.memory.specs.Memory.{countsOf, tallied}
+use Rattle.places.specs.Places.{round, next}
+use Rattle.memory.specs.Memory.{see, placesFrom, countsOf, tallied}
 use Rattle.engine.specs.Lent.{Lent, Counts}
-use Rattle.demands.specs.Told.{firstNumber, checks, answers, Asks, Passes, fullTold, countsTold, outsOf, startedTold, unended, Ended, Stands}
+use Rattle.demands.specs.Told.{firstNumber, checks, answers, Asks, Passes, fullTold, countsTold, grantedBy, outsOf, startedTold, unended, Ended, Stands}
 use Rattle.demands.proofs.Demands as told
 use Rattle.demands.proofs.Waiting.{waiting-counted}
-use Rattle.traces.specs.Trace.{Memory, emptyMemory, shown, Input, aClose, aMessage, Typed, callOf, bufferOf, Result, Made, made, Trace, More, Point, numberIn, number, bytesOf, events, calls, inputs, Answerable, Run, AsRuled}
+use Rattle.demands.proofs.Moved as shifting
+use Rattle.traces.specs.Trace.{Memory, emptyMemory, shown, Input, aClose, aMessage, Typed, callOf, bufferOf, Result, Made, made, Trace, More, Point, numberIn, number, moved, bytesOf, events, calls, inputs, Answerable, Run, AsRuled}
 use Rattle.traces.proofs.Steps.{wired, as-ruled, number-first, unchanged}
 use Rattle.traces.proofs.Course.{trace-lent, trace-history, trace-told, trace-more, trace-point, trace-same, fresh-number, fresh-empty}
 use Rattle.traces.proofs.Closed.{not-full, closed-stands, unended-newer}
 use Rattle.traces.proofs.Answerable.{answerable, runs}
+use Rattle.traces.proofs.Moved.{moved-is, last-code, others-stay}
 
 -- ## "On a splicer that came from fresh and the calls after it"
 
@@ -201,3 +204,40 @@ module _ (name : List ℕ) (h : List Made) (m : Memory) where
       due (shown m .queue) ≡ At (getD (shown m .queue .waiting) 0 empty .start)
   unfolding due
   first-is-next t some none = rw none (ap (sooner Never) (first-starts-next t some))
+
+-- ## Document 02, CR 11
+
+module _ (name : List ℕ) (h : List Made) (m : Memory) where
+  -- "Report that number with the call. [..] A request not accepted reports 0.": nor does any call report more that is no Splice_Request answered with 100
+  pub unmoved-else : (i : Input) (r : Result) → More name h m i r → grantedBy (callOf i) (recordsIn (bytesOf r)) ≡ false → moved r ≡ 0
+  unmoved-else i r c g =
+      moved-is m i r (c .allowed)
+      ∙ shifting.unmoved-else (events h) (shown m) (trace-told name h m (c .trace)) (callOf i) (wired i (c .typed)) (rw (as-ruled m i r (c .allowed) .bytes) at g)
+
+  -- "and is at most 63", of every call
+  pub at-most-63 : (i : Input) (r : Result) → More name h m i r → moved r ≤ 63
+  at-most-63 i r c =
+      rw (moved-is m i r (c .allowed)) (shifting.at-most-63 (events h) (shown m) (trace-told name h m (c .trace)) (callOf i) (wired i (c .typed)))
+
+  -- connection d sends the bytes l, which are a Splice_Request q, and the last record in the answer's bytes is its 100
+  module _ (d : ℕ) (l e : List ℕ) (r : Result) (c : More name h m (aMessage d l e) r) (q : Request)
+      (asks : Asks d l (lending (length e)) q (shown m)) (yes : ownAnswer (answers 100 d (q .id)) (recordsIn (bytesOf r)) ≡ true) where
+    abbrev start : ℕ
+    start = requested d q (shown m .queue) .start .0
+
+    code : spliceResult (shown m .clock) d q (requested d q (shown m .queue)) (shown m .queue) ≡ 100
+    code = last-code (recordsIn (bytesOf r)) _ _ d (q .id) (first-code-applies name h m d l e r c q asks) yes
+
+    -- "It equals the waiting sessions, after any eviction, whose start is later than the new one's": of those that wait after the call
+    pub moved-is-later : moved r ≡ count (startsAfter start) (shown (r .memory) .queue .waiting)
+    moved-is-later =
+        moved-is m (aMessage d l e) r (c .allowed)
+        ∙ shifting.moved-is-later d l (lending (length e)) q (shown m) asks code
+        ∙ ap (λ (s : Splicer). count (startsAfter start) (s .queue .waiting)) (sym (as-ruled m (aMessage d l e) r (c .allowed) .state))
+
+    -- "how many places an acceptance shifts": where it evicts nobody, of the lent places, from the ring's new end on, all but the last
+    -- `moved` and its own hold what they held
+    pub places-stay : some (startsAt start) (shown m .queue .waiting) ≡ false
+        → let k = next (see (m .words) .ringEnd) in
+        take (round - (moved r + 1)) (placesFrom k (r .memory .words)) ≡ take (round - (moved r + 1)) (placesFrom k (m .words))
+    places-stay = others-stay m (trace-lent name h m (c .trace)) d l e r (c .allowed) q asks code

@@ -4,3 +4,4 @@ pub mod Course
 pub mod Closed
 pub mod Cited
 pub mod Answerable
+pub mod Moved

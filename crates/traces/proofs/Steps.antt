@@ -11,6 +11,7 @@ use Rattle.rules.specs.Calls.{Called, call, refused, good, writtenBy, bufferAft
 use Rattle.rules.specs.Calls as rules
 use Rattle.demands.specs.History.{wrote, replyOf}
 use Rattle.rules.specs.Sound.{Wired}
+use Rattle.memory.specs.Memory.{see}
 use Rattle.engine.specs.declared.Answer.{Answer}
 use Rattle.engine.specs.declared.Answer.the-variants.{Refused}
 use Rattle.engine.specs.Lent.{Lent, answerOf, Answers}
@@ -30,20 +31,20 @@ wired (aMove until e) t = t
 
 -- ## What the driver reads in an answer of document 01
 
-bytes-read : (a : rules.Answer) (e : List ℕ) → bytesIn (answerOf a) (bufferAfter a e) ≡ writtenBy a
+bytes-read : (a : rules.Answer) (k : ℕ) (e : List ℕ) → bytesIn (answerOf a k) (bufferAfter a e) ≡ writtenBy a
 unfolding bytesIn answerOf bufferAfter writtenBy written
-bytes-read (refused n) e = refl
-bytes-read (good consumed rs) e = take-append-seam (output rs) (drop (0 + length (output rs)) e)
+bytes-read (refused n) k e = refl
+bytes-read (good consumed rs) k e = take-append-seam (output rs) (drop (0 + length (output rs)) e)
 
-reply-read : (a : rules.Answer) (e : List ℕ) → replyIn (answerOf a) (bufferAfter a e) ≡ replyOf a
-unfolding replyIn answerOf
-reply-read (refused n) e = refl
-reply-read (good consumed rs) e = ap (λ l. wrote l) (bytes-read (good consumed rs) e)
+reply-read : (a : rules.Answer) (k : ℕ) (e : List ℕ) → replyIn (answerOf a k) (bufferAfter a e) ≡ replyOf a
+unfolding replyIn answerOf bytesIn
+reply-read (refused n) k e = refl
+reply-read (good consumed rs) k e = ap (λ l. wrote l) (bytes-read (good consumed rs) k e)
 
-pub number-read : (a : rules.Answer) → numberIn (answerOf a) ≡ numberOf a
+pub number-read : (a : rules.Answer) (k : ℕ) → numberIn (answerOf a k) ≡ numberOf a
 unfolding numberIn answerOf numberOf
-number-read (refused n) = refl
-number-read (good consumed rs) = refl
+number-read (refused n) k = refl
+number-read (good consumed rs) k = refl
 
 pub memory-same : (m n : Memory) → m .words ≡ n .words → m .bytes ≡ n .bytes → m ≡ n
 memory-same m n e f = λ i. record { words = e i; bytes = f i }
@@ -57,7 +58,7 @@ module _ (m : Memory) where
 
   -- the contracts, as one
   pub promised : (i : Input) (r : Result) → Allowed m i r
-      → Answers (says i) (bufferOf i) (r .answer) (r .memory .words) (r .memory .bytes) (r .buffer)
+      → Answers (says i) (see (m .words) .ringEnd) (bufferOf i) (r .answer) (r .memory .words) (r .memory .bytes) (r .buffer)
   unfolding call
   promised (anOpen c) r a = a
   promised (aClose c e) r a = a
@@ -72,15 +73,15 @@ module _ (m : Memory) where
         record {
           state = p .splicer;
           answer = p .answer;
-          bytes = rw (p .answer, p .buffer) (bytes-read (says i .answer) (bufferOf i));
+          bytes = rw (p .answer, p .buffer) (bytes-read (says i .answer) (says i .moved) (bufferOf i));
           buffer = p .buffer;
         }
 
     pub replied : replyIn (r .answer) (r .buffer) ≡ replyOf (says i .answer)
-    replied = rw (promised i r a .answer, promised i r a .buffer) (reply-read (says i .answer) (bufferOf i))
+    replied = rw (promised i r a .answer, promised i r a .buffer) (reply-read (says i .answer) (says i .moved) (bufferOf i))
 
     pub number-is : number r ≡ numberOf (says i .answer)
-    number-is = rw (promised i r a .answer) (number-read (says i .answer))
+    number-is = rw (promised i r a .answer) (number-read (says i .answer) (says i .moved))
 
     pub number-first : number r ≡ firstNumber (checks (callOf i) (shown m))
     number-first = number-is ∙ first-number (shown m) (callOf i)
@@ -95,6 +96,6 @@ module _ (m : Memory) where
   -- "any two results it allows are proved equal"
   pub step-same : (i : Input) (r s : Result) → Allowed m i r → Allowed m i s → r ≡ s
   step-same i r s a b =
-      let u = answers-same (says i) (bufferOf i) (r .answer) (s .answer) (r .memory .words) (r .memory .bytes) (r .buffer)
+      let u = answers-same (says i) (see (m .words) .ringEnd) (bufferOf i) (r .answer) (s .answer) (r .memory .words) (r .memory .bytes) (r .buffer)
       (s .memory .words) (s .memory .bytes) (s .buffer) (promised i r a) (promised i s b) in
       result-same r s (u .0) (memory-same (r .memory) (s .memory) (u .1) (u .2)) (u .3)

@@ -105,7 +105,7 @@ pub record Trace (name : List ℕ) (h : List Made) (m : Memory) : Type 0 where
   pub bytes : All Byte name
   pub begun : Memory
   pub answer : Answer
-  pub fresh : Answers (fresh name) [] answer (begun .words) (begun .bytes) []
+  pub fresh : Answers (fresh name) 0 [] answer (begun .words) (begun .bytes) []
   pub leads : Leads begun h m
 
 -- a trace, and one call more: with the input i, and the result r
@@ -125,22 +125,30 @@ pub record Point (name : List ℕ) (h g : List Made) (m : Memory) : Type 0 where
 -- the number of a refusal; 0 stands for a good call
 unfoldable pub numberIn : Answer → ℕ
 numberIn (Refused n) = houseNumber n
-numberIn (Done consumed len) = 0
+numberIn (Done consumed len moved) = 0
 
 -- the bytes written: the first of the buffer, as many as the answer says
 unfoldable pub bytesIn : Answer → List ℕ → List ℕ
 bytesIn (Refused n) o = []
-bytesIn (Done consumed len) o = take len o
+bytesIn (Done consumed len moved) o = take len o
+
+-- 02, CR 11, "how many places an acceptance shifts"; a refusal shifts none
+unfoldable pub movedIn : Answer → ℕ
+movedIn (Refused n) = 0
+movedIn (Done consumed len moved) = moved
 
 abbrev pub number : Result → ℕ
 number r = numberIn (r .answer)
+
+abbrev pub moved : Result → ℕ
+moved r = movedIn (r .answer)
 
 abbrev pub bytesOf : Result → List ℕ
 bytesOf r = bytesIn (r .answer) (r .buffer)
 
 unfoldable pub replyIn : Answer → List ℕ → Reply
 replyIn (Refused n) o = refusal n
-replyIn (Done consumed len) o = wrote (bytesIn (Done consumed len) o)
+replyIn (Done consumed len moved) o = wrote (take len o)
 
 -- a call that was made, as demand 3 takes it: the call, and the answer's bytes or the refusal
 abbrev pub eventOf : Made → Event
@@ -173,6 +181,6 @@ pub record Run (name : List ℕ) (is : List Input) : Type 0 where
 
 pub record AsRuled (m : Memory) (i : Input) (r : Result) : Type 0 where
   pub state : shown (r .memory) ≡ call (callOf i) (shown m) .splicer
-  pub answer : r .answer ≡ answerOf (call (callOf i) (shown m) .answer)
+  pub answer : r .answer ≡ answerOf (call (callOf i) (shown m) .answer) (call (callOf i) (shown m) .moved)
   pub bytes : bytesOf r ≡ writtenBy (call (callOf i) (shown m) .answer)
   pub buffer : r .buffer ≡ bufferAfter (call (callOf i) (shown m) .answer) (bufferOf i)

@@ -10,8 +10,8 @@ enum-known-a c = search needs
 house-number-requires : tie.Need-house-number-requires
 house-number-requires c κs = search needs
 
-cast-t7 : tie.Need-cast-t7
-cast-t7 c = search needs
+cast-t8 : tie.Need-cast-t8
+cast-t8 c = search needs
 
 enum-known-a-2 : tie.Need-enum-known-a-2
 enum-known-a-2 c = search needs
@@ -27,4 +27,4 @@ returns-2 c = cc
 pub reply-of-spec : {M : Type 1} → statement M
 reply-of-spec =
     tie.close
-    (tie.spec enum-known-a house-number-requires cast-t7 enum-known-a-2 returns returns-2)
+    (tie.spec enum-known-a house-number-requires cast-t8 enum-known-a-2 returns returns-2)
