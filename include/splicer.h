@@ -128,13 +128,13 @@ SPLICER_ASSERT(sizeof(struct splicer_waiting) == 32, "size of struct splicer_wai
 /* The archive's functions, over the parts of a struct splicer. Drivers use the splicer_call_ functions below. Pointers and numbers only:
  * nothing is passed or returned by value that two compilers could pass in two ways. reply, SPLICER_REPLY words, gets the house number or
  * 0, the bytes consumed and the bytes written. */
-void splicer_3_fresh(const uint8_t *name, uint64_t *words, uint8_t *bytes, uint64_t *reply);
-void splicer_3_open(uint64_t *words, uint8_t *bytes, uint32_t conn, uint64_t *reply);
-void splicer_3_close(uint64_t *words, uint8_t *bytes, uint32_t conn, uint8_t *out, size_t room, uint64_t *reply);
-void splicer_3_message(uint64_t *words, uint8_t *bytes, uint32_t conn, const uint8_t *in, size_t length, uint8_t *out, size_t room,
+void splicer_4_fresh(const uint8_t *name, uint64_t *words, uint8_t *bytes, uint64_t *reply);
+void splicer_4_open(uint64_t *words, uint8_t *bytes, uint32_t conn, uint64_t *reply);
+void splicer_4_close(uint64_t *words, uint8_t *bytes, uint32_t conn, uint8_t *out, size_t room, uint64_t *reply);
+void splicer_4_message(uint64_t *words, uint8_t *bytes, uint32_t conn, const uint8_t *in, size_t length, uint8_t *out, size_t room,
                        uint64_t *reply);
-void splicer_3_tick(uint64_t *words, uint8_t *bytes, uint32_t seconds, uint32_t micros, uint8_t *out, size_t room, uint64_t *reply);
-void splicer_3_waiting(const uint64_t *words, const uint8_t *bytes, uint64_t *counts);
+void splicer_4_tick(uint64_t *words, uint8_t *bytes, uint32_t seconds, uint32_t micros, uint8_t *out, size_t room, uint64_t *reply);
+void splicer_4_waiting(const uint64_t *words, const uint8_t *bytes, uint64_t *counts);
 
 /* The words of a reply as a struct. */
 static inline struct splicer_reply splicer_reply_of(const uint64_t *reply) {
@@ -148,21 +148,21 @@ static inline struct splicer_reply splicer_reply_of(const uint64_t *reply) {
 /* Makes a splicer, whatever s held: clock 0, all connections closed. name: 32 bytes, a zero among them (else 9). */
 static inline struct splicer_reply splicer_call_fresh(struct splicer *s, const uint8_t *name) {
     uint64_t reply[SPLICER_REPLY];
-    splicer_3_fresh(name, s->words, s->bytes, reply);
+    splicer_4_fresh(name, s->words, s->bytes, reply);
     return splicer_reply_of(reply);
 }
 
 /* A server has connected. Refused: 1, 6. */
 static inline struct splicer_reply splicer_call_open(struct splicer *s, uint32_t conn) {
     uint64_t reply[SPLICER_REPLY];
-    splicer_3_open(s->words, s->bytes, conn, reply);
+    splicer_4_open(s->words, s->bytes, conn, reply);
     return splicer_reply_of(reply);
 }
 
 /* The connection is gone. The records are not sent but logged. Refused: 1, 2, 7. */
 static inline struct splicer_reply splicer_call_close(struct splicer *s, uint32_t conn, uint8_t *out, size_t room) {
     uint64_t reply[SPLICER_REPLY];
-    splicer_3_close(s->words, s->bytes, conn, out, room, reply);
+    splicer_4_close(s->words, s->bytes, conn, out, room, reply);
     return splicer_reply_of(reply);
 }
 
@@ -170,21 +170,21 @@ static inline struct splicer_reply splicer_call_close(struct splicer *s, uint32_
 static inline struct splicer_reply splicer_call_message(struct splicer *s, uint32_t conn, const uint8_t *in, size_t length, uint8_t *out,
                                                         size_t room) {
     uint64_t reply[SPLICER_REPLY];
-    splicer_3_message(s->words, s->bytes, conn, in, length, out, room, reply);
+    splicer_4_message(s->words, s->bytes, conn, in, length, out, room, reply);
     return splicer_reply_of(reply);
 }
 
 /* Brings the clock to a time and does what is due until then. Refused: 2, 8, 3. */
 static inline struct splicer_reply splicer_call_tick(struct splicer *s, uint32_t seconds, uint32_t micros, uint8_t *out, size_t room) {
     uint64_t reply[SPLICER_REPLY];
-    splicer_3_tick(s->words, s->bytes, seconds, micros, out, room, reply);
+    splicer_4_tick(s->words, s->bytes, seconds, micros, out, room, reply);
     return splicer_reply_of(reply);
 }
 
 /* How many sessions of each connection wait. It only reads, in a few instructions however many wait, and nothing is refused. */
 static inline struct splicer_waiting splicer_call_waiting(const struct splicer *s) {
     struct splicer_waiting w;
-    splicer_3_waiting(s->words, s->bytes, w.count);
+    splicer_4_waiting(s->words, s->bytes, w.count);
     return w;
 }
 

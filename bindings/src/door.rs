@@ -28,13 +28,13 @@ pub fn replied(call: impl FnOnce(*mut u64)) -> Result<Counts, Refusal> {
 }
 
 extern "C" {
-    #[link_name = "splicer_3_fresh"]
+    #[link_name = "splicer_4_fresh"]
     pub fn fresh(name: *const u8, words: *mut u64, bytes: *mut u8, reply: *mut u64);
 
-    #[link_name = "splicer_3_open"]
+    #[link_name = "splicer_4_open"]
     pub fn open(words: *mut u64, bytes: *mut u8, conn: u32, reply: *mut u64);
 
-    #[link_name = "splicer_3_close"]
+    #[link_name = "splicer_4_close"]
     pub fn close(
         words: *mut u64,
         bytes: *mut u8,
@@ -44,7 +44,7 @@ extern "C" {
         reply: *mut u64,
     );
 
-    #[link_name = "splicer_3_message"]
+    #[link_name = "splicer_4_message"]
     pub fn message(
         words: *mut u64,
         bytes: *mut u8,
@@ -56,7 +56,7 @@ extern "C" {
         reply: *mut u64,
     );
 
-    #[link_name = "splicer_3_tick"]
+    #[link_name = "splicer_4_tick"]
     pub fn tick(
         words: *mut u64,
         bytes: *mut u8,
@@ -67,6 +67,6 @@ extern "C" {
         reply: *mut u64,
     );
 
-    #[link_name = "splicer_3_waiting"]
+    #[link_name = "splicer_4_waiting"]
     pub fn waiting(words: *const u64, bytes: *const u8, counts: *mut u64);
 }
