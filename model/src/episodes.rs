@@ -388,12 +388,18 @@ fn fill_all(gen: &mut Gen) {
         [20, 17, 17, 10],
         [11, 20, 13, 20],
         [19, 15, 20, 10],
+        [16, 16, 16, 15],
+        [20, 17, 17, 9],
+        [20, 20, 10, 13],
     ];
     let set = gen.rng.pick(&sets);
     let turn = gen.rng.below(4) as usize;
     let mut at = gen.ahead(10);
     for (i, count) in set.iter().enumerate() {
         at = fill_to(gen, ((i + turn) % 4) as u8, *count, at);
+    }
+    if gen.rng.chance(70) {
+        in_front(gen);
     }
     for conn in 0..4 {
         at += even(gen);
@@ -409,6 +415,16 @@ fn fill_all(gen: &mut Gen) {
     }
     if gen.rng.chance(70) {
         gen.tick_to(at + 20 * even(gen));
+    }
+}
+
+/// Each connection in turn asks for a start before all that wait: with 63 waiting, one place is left.
+fn in_front(gen: &mut Gen) {
+    let turn = gen.rng.below(4) as u8;
+    let units = gen.rng.below(2);
+    for i in 0..4 {
+        let at = gen.ahead(units + u64::from(i));
+        one_more(gen, (i + turn) % 4, at);
     }
 }
 

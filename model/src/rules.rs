@@ -53,6 +53,8 @@ pub struct Splicer {
     pub open: [bool; 4],
     pub initialised: [bool; 4],
     pub sessions: Vec<Session>,
+    /// 02, CR 11: the places that the last call's acceptance shifts.
+    pub moved: usize,
     pub fault: Option<Fault>,
     pub counts: Counts,
 }
@@ -72,6 +74,7 @@ impl Splicer {
             open: [false; 4],
             initialised: [false; 4],
             sessions: Vec::new(),
+            moved: 0,
             fault: None,
             counts: Counts::new(),
         };
@@ -102,6 +105,7 @@ impl Splicer {
 
     /// "Order: open 1, 6". "Opening leaves the connection not initialised."
     pub fn open(&mut self, conn: u8) -> Result<(), u8> {
+        self.moved = 0;
         if conn > 3 {
             return self.refuse("open 1 connection above 3", 1);
         }
@@ -118,6 +122,7 @@ impl Splicer {
 
     /// "Order: close 1, 2, 7".
     pub fn close(&mut self, conn: u8, room: usize) -> Result<Vec<Record>, u8> {
+        self.moved = 0;
         if conn > 3 {
             return self.refuse("close 1 connection above 3", 1);
         }
@@ -143,6 +148,8 @@ impl Splicer {
         bytes: &[u8],
         room: usize,
     ) -> Result<(Vec<Record>, usize), u8> {
+        // 02, CR 11: "A request not accepted reports 0."
+        self.moved = 0;
         if conn > 3 {
             return self.refuse("message 1 connection above 3", 1);
         }
@@ -174,6 +181,7 @@ impl Splicer {
 
     /// "Order: tick 2, 8, 3". "A tick to the present time is good and writes nothing."
     pub fn tick(&mut self, seconds: u32, micros: u32, room: usize) -> Result<Vec<Record>, u8> {
+        self.moved = 0;
         if room < ROOM {
             return self.refuse("tick 2 output buffer too small", 2);
         }
@@ -549,7 +557,10 @@ impl Splicer {
     fn accept(&mut self, conn: u8, fields: &SpliceFields, out: &mut Vec<Record>) {
         let start = self.start_of(conn, fields);
         self.count_accepted(conn, fields, start);
+        let before = self.later(start);
         self.evict(start, out);
+        self.moved = self.later(start);
+        self.count_moved(before, fields);
         self.sessions.push(Session {
             conn,
             id: fields.id,
@@ -562,6 +573,31 @@ impl Splicer {
             played: 0,
             since: 0,
         });
+    }
+
+    /// 02, CR 11: "the waiting sessions, after any eviction, whose start is later than the new
+    /// one's".
+    fn later(&self, start: u64) -> usize {
+        let waiting = |s: &&Session| s.state == State::Waiting;
+        let all = self.sessions.iter().filter(waiting);
+        all.filter(|s| s.start > start).count()
+    }
+
+    fn count_moved(&mut self, before: usize, fields: &SpliceFields) {
+        let waiting = |s: &Session| s.state == State::Waiting;
+        self.hit(match self.moved {
+            0 if self.sessions.iter().any(waiting) => "Splice f moved 0, behind others",
+            0 => "Splice f moved 0, none waiting",
+            1..=9 => "Splice f moved 1 to 9",
+            10..=62 => "Splice f moved 10 to 62",
+            _ => "Splice f moved 63",
+        });
+        if self.moved < before {
+            self.hit("Splice f moved, lowered by an eviction");
+        }
+        if self.moved > 0 && fields.prior != NONE {
+            self.hit("Splice f moved for a linked request");
+        }
     }
 
     fn count_accepted(&mut self, conn: u8, fields: &SpliceFields, start: u64) {

@@ -559,3 +559,91 @@ fn the_waiting_counts_after_each_event() {
         assert_eq!(rehearsed(&text).waiting_counts(), counts, "{step}");
     }
 }
+
+/// The places moved by each call behind the rehearsed situation, 0 for calls that are refused.
+fn moves(text: &str) -> Vec<usize> {
+    let steps = scenario::parse(&format!("{REHEARSED}{text}")).unwrap();
+    let (mut splicer, _) = Splicer::fresh(&card::channel_name());
+    let mut list = Vec::new();
+    for step in &steps {
+        let (call, _) = card::next_call(&step.input).unwrap();
+        assert_eq!(
+            hex(&card::make(&mut splicer, &call)),
+            hex(&step.expected),
+            "{}",
+            step.text
+        );
+        list.push(splicer.moved);
+    }
+    assert_eq!(list[..3], [0, 0, 0]);
+    list.split_off(3)
+}
+
+#[test]
+fn moved_counts_the_waiting_that_start_later() {
+    let text = "> splice 0 id=1 at=1010 duration=90000
+         < 0 Splice_Response 100 id=1
+         > splice 0 id=2 at=1030 duration=90000
+         < 0 Splice_Response 100 id=2
+         > splice 0 id=3 at=1020 duration=90000
+         < 0 Splice_Response 100 id=3
+         > splice 0 id=4 at=1005 duration=90000
+         < 0 Splice_Response 100 id=4
+         > splice 0 id=5 at=1005 duration=90000
+         < 0 Splice_Response 109 id=5
+         > splice 0 id=6 prior=1 duration=90000
+         < 0 Splice_Response 100 id=6
+         > alive 0
+         < 0 Alive_Response 100 state=1 id=0xFFFFFFFF time=1000.000000
+         > tick 1010
+         < 0 SpliceComplete_Response 100 id=4 flag=0 played=0
+         < 0 SpliceComplete_Response 100 id=4 flag=1 played=90000
+         < 0 SpliceComplete_Response 100 id=1 flag=0 played=0
+         > splice 0 id=4 at=1015 duration=90000
+         < 0 Splice_Response 100 id=4
+         > open 0
+         < refused 6
+         > close 0
+         < 0 SpliceComplete_Response 116 id=1 flag=1 played=0
+         < 0 Splice_Response 116 id=6
+         < 0 Splice_Response 116 id=4
+         < 0 Splice_Response 116 id=3
+         < 0 Splice_Response 116 id=2";
+    // After the tick 6 (1,011 s), 3 (1,020 s) and 2 (1,030 s) wait; the new 4 stands before the two
+    // last. 1 is on air and does not count.
+    assert_eq!(moves(text), [0, 0, 1, 3, 0, 2, 0, 0, 2, 0, 0]);
+}
+
+#[test]
+fn moved_is_counted_after_the_eviction() {
+    let text = "> open 1
+         > init 1
+         < 1 Init_Response 100
+         > splice 1 id=1 at=1010 duration=90000 access=3
+         < 1 Splice_Response 100 id=1
+         > splice 1 id=2 prior=1 duration=90000
+         < 1 Splice_Response 100 id=2
+         > splice 1 id=3 prior=2 duration=90000
+         < 1 Splice_Response 100 id=3
+         > splice 0 id=4 at=1011.500000 duration=90000
+         < 0 Splice_Response 100 id=4
+         > splice 0 id=5 at=1010 duration=90000 access=4
+         < 1 Splice_Response 109 id=1
+         < 1 Splice_Response 109 id=2
+         < 1 Splice_Response 109 id=3
+         < 0 Splice_Response 100 id=5";
+    // Before the eviction 2, 4 and 3 would be later; after it only 4.
+    assert_eq!(moves(text), [0, 0, 0, 0, 0, 1, 1]);
+}
+
+#[test]
+fn at_most_63_are_moved() {
+    let (mut splicer, _) = Splicer::fresh(&card::channel_name());
+    let text = format!("{REHEARSED}{}", waiting([9, 20, 20, 14]));
+    let last = "> splice 0 id=50 at=1003 duration=1\n< 0 Splice_Response 100 id=50";
+    for step in scenario::parse(&format!("{text}{last}")).unwrap() {
+        let (call, _) = card::next_call(&step.input).unwrap();
+        card::make(&mut splicer, &call);
+    }
+    assert_eq!(splicer.moved, 63);
+}

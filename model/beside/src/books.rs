@@ -31,6 +31,8 @@ pub struct Books {
     open: [bool; CONNECTIONS],
     initialised: [bool; CONNECTIONS],
     held: Vec<Held>,
+    /// The places that the present call's acceptance shifts (02, CR 11).
+    moved: usize,
 }
 
 type Kept = Result<(), String>;
@@ -71,10 +73,11 @@ impl Books {
         must(said.refused == self.refusal(act), "another house number")?;
         if said.refused != 0 {
             return must(
-                said.consumed == 0 && said.written.is_empty(),
-                "refused and wrote",
+                said.consumed == 0 && said.written.is_empty() && said.moved == 0,
+                "refused and wrote or moved",
             );
         }
+        self.moved = 0;
         must(said.written.len() <= LONGEST_ANSWER, "a long answer")?;
         let mut walk = records(&said.written);
         let list: Vec<Record> = walk.by_ref().collect();
@@ -92,6 +95,7 @@ impl Books {
             }
             Call::Tick(seconds, micros) => self.ticked(ninths(*seconds, *micros), &list)?,
         }
+        must(said.moved == self.moved, "another number of places moved")?;
         if list.is_empty() {
             return Ok(());
         }
@@ -260,8 +264,12 @@ impl Books {
         Ok(())
     }
 
-    /// "End is start plus Duration."
+    /// "End is start plus Duration." 02, CR 11: moved "equals the waiting sessions, after any
+    /// eviction, whose start is later than the new one's, and is at most 63".
     fn accepted(&mut self, conn: u8, data: &[u8], start: u64) -> Kept {
+        let waiting = self.held.iter().filter(|s| !s.started);
+        self.moved = waiting.filter(|s| s.start > start).count();
+        must(self.moved <= 63, "more than 63 places moved")?;
         let mut waiting = self.held.iter().filter(|s| !s.started);
         must(
             waiting.all(|s| s.start != start),

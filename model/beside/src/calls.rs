@@ -19,20 +19,23 @@ pub struct Act {
     pub room: usize,
 }
 
-/// What a call gave: its house number or 0, the bytes consumed and the bytes written.
+/// What a call gave: its house number or 0, the bytes consumed, the bytes written and the places
+/// that an acceptance shifted (02, CR 11).
 #[derive(Clone, Debug, PartialEq, Eq)]
 pub struct Said {
     pub refused: u8,
     pub consumed: usize,
     pub written: Vec<u8>,
+    pub moved: usize,
 }
 
 impl Said {
-    fn good(consumed: usize, written: Vec<u8>) -> Said {
+    fn good(consumed: usize, written: Vec<u8>, moved: usize) -> Said {
         Said {
             refused: 0,
             consumed,
             written,
+            moved,
         }
     }
 
@@ -41,12 +44,18 @@ impl Said {
             refused: number,
             consumed: 0,
             written: Vec::new(),
+            moved: 0,
         }
     }
 
     pub fn line(&self) -> String {
         match self.refused {
-            0 => format!("consumed {} wrote {}", self.consumed, hex(&self.written)),
+            0 => format!(
+                "consumed {} moved {} wrote {}",
+                self.consumed,
+                self.moved,
+                hex(&self.written)
+            ),
             number => format!("refused {number}"),
         }
     }
@@ -82,23 +91,27 @@ pub fn ask_model(model: &mut rules::Splicer, act: &Act) -> Said {
         Call::Tick(seconds, micros) => model.tick(*seconds, *micros, act.room).map(|r| (r, 0)),
     };
     match result {
-        Ok((written, consumed)) => Said::good(consumed, records::all_bytes(&written)),
-        Err(number) => Said::refusal(number),
+        Ok((written, consumed)) => Said::good(consumed, records::all_bytes(&written), model.moved),
+        // 02, CR 11: it must be 0 after a refusal too.
+        Err(number) => Said {
+            moved: model.moved,
+            ..Said::refusal(number)
+        },
     }
 }
 
-/// The core's answer, with `out` lent to it.
+/// The core's answer, with `out` lent to it. Only a message can move places (02, CR 11).
 pub fn ask_core(core: &mut splicer::Splicer, call: &Call, out: &mut [u8]) -> Said {
     let result = match call {
-        Call::Open(conn) => core.open(*conn).map(|()| (&[][..], 0)),
-        Call::Close(conn) => core.close(*conn, out).map(|w| (w, 0)),
+        Call::Open(conn) => core.open(*conn).map(|()| (&[][..], 0, 0)),
+        Call::Close(conn) => core.close(*conn, out).map(|w| (w, 0, 0)),
         Call::Message(conn, bytes) => core
             .message(*conn, bytes, out)
-            .map(|h| (h.written, h.consumed)),
-        Call::Tick(seconds, micros) => core.tick(*seconds, *micros, out).map(|w| (w, 0)),
+            .map(|h| (h.written, h.consumed, h.moved as usize)),
+        Call::Tick(seconds, micros) => core.tick(*seconds, *micros, out).map(|w| (w, 0, 0)),
     };
     match result {
-        Ok((written, consumed)) => Said::good(consumed, written.to_vec()),
+        Ok((written, consumed, moved)) => Said::good(consumed, written.to_vec(), moved),
         Err(refusal) => Said::refusal(refusal.number()),
     }
 }

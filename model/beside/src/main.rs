@@ -1,5 +1,5 @@
 //! The second program and the proved core, called side by side in one process. After every call the
-//! refusal, the bytes consumed and written and the rest of the memory are compared.
+//! refusal, the bytes consumed and written, the places moved and the rest of the memory are compared.
 
 mod acts;
 mod books;
@@ -108,7 +108,7 @@ fn everything(plan: &Plan, list: &[Stream]) -> Vec<bool> {
         results.push(noticed(plan, list, wrong));
     }
     let faults = BOOKED.iter().map(|fault| Wrong::Model(*fault));
-    let by_records: Vec<Wrong> = faults.chain(wrong::counting()).collect();
+    let by_records: Vec<Wrong> = faults.chain(wrong::reporting()).collect();
     for wrong in &by_records {
         results.push(booked(list, *wrong));
     }

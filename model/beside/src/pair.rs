@@ -5,6 +5,7 @@ use crate::calls::{ask_core, ask_model, Act, Call, Desk, Said};
 use crate::wrong::{Drift, Wrong};
 use model::counts::Counts;
 use model::rules;
+use model::scenario::message;
 use splicer::{CONNECTIONS, NAME, OUT};
 
 #[derive(Clone)]
@@ -54,6 +55,7 @@ impl Pair {
         let handed = wrong.handed(act);
         let mut found = ask_core(&mut self.core, &handed.call, desk.buffer(handed.room));
         wrong.told(act, &mut found, &mut self.core, desk);
+        wrong.moved(act, &mut found, self.core.waiting());
         if found != wanted {
             let (found, wanted) = (found.line(), wanted.line());
             return Err(format!("core: {found}\nsecond program: {wanted}"));
@@ -113,16 +115,50 @@ impl Pair {
         Ok(5)
     }
 
-    /// With all connections closed it shows what a fresh splicer of this name and clock shows, so it
-    /// is equal to that one: nothing is left behind in unused places.
+    /// With all connections closed it does what a fresh splicer of this name and clock does. Their
+    /// memory may differ in where the waiting places begin (02, CR 11), so both are called on.
     fn emptied(&self, desk: &mut Desk) -> Result<(), String> {
         let (mut empty, _) = splicer::Splicer::fresh(&self.model.name);
-        let time = self.model.clock / rules::MICROSECOND;
-        let (seconds, micros) = ((time / 1_000_000) as u32, (time % 1_000_000) as u32);
-        let said = ask_core(&mut empty, &Call::Tick(seconds, micros), desk.buffer(OUT));
-        if desk.touched(said.written.len()) || empty != self.core {
+        let mut core = self.core.clone();
+        let seconds = (self.model.clock / rules::SECOND) as u32;
+        let micros = (self.model.clock % rules::SECOND / rules::MICROSECOND) as u32;
+        ask_core(&mut empty, &Call::Tick(seconds, micros), desk.buffer(OUT));
+        let mut same = core.waiting() == empty.waiting();
+        for call in afresh(&self.model.name, seconds) {
+            let found = ask_core(&mut core, &call, desk.buffer(OUT));
+            same &= !desk.touched(found.written.len());
+            let wanted = ask_core(&mut empty, &call, desk.buffer(OUT));
+            same &= !desk.touched(wanted.written.len()) && found == wanted;
+            same &= core.waiting() == empty.waiting();
+        }
+        if !same {
             return Err("all closed, and not as a fresh one at this time".to_string());
         }
         Ok(())
     }
+}
+
+/// Calls on a splicer whose connections are all closed: requests before and behind one another, and a
+/// tick over some of them.
+fn afresh(name: &[u8; NAME], seconds: u32) -> Vec<Call> {
+    let mut calls = Vec::new();
+    for conn in 0..CONNECTIONS as u32 {
+        calls.push(Call::Open(conn));
+        let init = [&[0, 2], &name[..], &[0; NAME]].concat();
+        calls.push(Call::Message(conn, message(0x0001, init)));
+        for id in 0..5 {
+            let ahead = 10 + (id * 7 + conn * 3) % 20;
+            let mut data = vec![0; 33];
+            data[..4].copy_from_slice(&id.to_be_bytes());
+            data[4..8].fill(0xFF);
+            data[8..12].copy_from_slice(&seconds.saturating_add(ahead).to_be_bytes());
+            data[20] = 1;
+            data[30] = id as u8;
+            calls.push(Call::Message(conn, message(0x0007, data)));
+        }
+    }
+    calls.push(Call::Tick(seconds.saturating_add(20), 999_999));
+    calls.push(Call::Message(3, message(0x0005, vec![0; 8])));
+    calls.extend((0..CONNECTIONS as u32).map(Call::Close));
+    calls
 }

@@ -215,8 +215,9 @@ pub fn booked(list: &[Stream], wrong: Wrong) -> Option<String> {
         let mut books = Books::default();
         let mut drift = Drift::default();
         for (at, act) in stream.acts.iter().enumerate() {
-            let said = ask_model(&mut model, act);
+            let mut said = ask_model(&mut model, act);
             let counted = model.waiting_counts().map(|n| n as u64);
+            wrong.moved(act, &mut said, counted);
             let waiting = wrong.waiting(act, &said, counted, &mut drift);
             let kept = books.call(act, &said).and_then(|()| books.waiting(waiting));
             if let Err(text) = kept {

@@ -61,6 +61,15 @@ pub const COUNTING: &[(&str, &str)] = &[
     ("count-close", "a close leaves its count as it was"),
 ];
 
+/// Faults in the number of places that the core says an acceptance shifted (02, CR 11).
+pub const MOVING: &[(&str, &str)] = &[
+    ("moved-earlier", "moved counts those that start earlier"),
+    ("moved-all", "moved counts all that wait"),
+    ("moved-evicted", "moved counts the followers evicted"),
+    ("moved-itself", "moved counts the new session too"),
+    ("moved-refused", "1 moved by a request with 109"),
+];
+
 /// How far a fault's waiting counts have gone from the true ones, and the true ones before the call.
 #[derive(Clone, Default)]
 pub struct Drift {
@@ -71,16 +80,17 @@ pub struct Drift {
 /// Every fault that must be noticed.
 pub fn all() -> Vec<Wrong> {
     let model = FAULTS.iter().map(|(fault, _)| Wrong::Model(*fault));
-    model.chain(own()).chain(counting()).collect()
+    model.chain(own()).chain(reporting()).collect()
 }
 
 fn own() -> impl Iterator<Item = Wrong> {
     OWN.iter().map(|(name, _)| Wrong::Core(name))
 }
 
-/// The faults in the waiting counts: the records alone give them away too.
-pub fn counting() -> impl Iterator<Item = Wrong> {
-    COUNTING.iter().map(|(name, _)| Wrong::Core(name))
+/// The faults in the numbers beside the records: the records alone give them away too.
+pub fn reporting() -> impl Iterator<Item = Wrong> {
+    let all = COUNTING.iter().chain(MOVING);
+    all.map(|(name, _)| Wrong::Core(name))
 }
 
 /// The fault of this name.
@@ -98,7 +108,8 @@ impl Wrong {
             Wrong::Nothing => "no fault".to_string(),
             Wrong::Model(fault) => format!("{}: {}", fault.name(), fault.text()),
             Wrong::Core(name) => {
-                let text = OWN.iter().chain(COUNTING).find(|(n, _)| *n == name);
+                let mut all = OWN.iter().chain(COUNTING).chain(MOVING);
+                let text = all.find(|(n, _)| *n == name);
                 format!("{name}: {}", text.map_or("", |(_, t)| t))
             }
         }
@@ -163,6 +174,27 @@ impl Wrong {
             "refused-changes" if said.refused != 0 => {
                 let _ = (0..4).find(|conn| core.open(*conn).is_ok());
             }
+            _ => {}
+        }
+    }
+
+    /// Spoils the number of places moved. `now` are the waiting counts after the call.
+    pub fn moved(self, act: &Act, said: &mut Said, now: [u64; CONNECTIONS]) {
+        let (Wrong::Core(name), Call::Message(_, bytes)) = (self, &act.call) else {
+            return;
+        };
+        if said.refused != 0 || !is_splice(bytes) {
+            return;
+        }
+        let list: Vec<Record> = records(&said.written).collect();
+        let code = list.last().map_or(0, |answer| answer.result);
+        let others = now.iter().sum::<u64>().saturating_sub(1) as usize;
+        match (name, code) {
+            ("moved-earlier", 100) => said.moved = others - said.moved,
+            ("moved-all", 100) => said.moved = others,
+            ("moved-evicted", 100) => said.moved += list.len().saturating_sub(2),
+            ("moved-itself", 100) => said.moved += 1,
+            ("moved-refused", 109) => said.moved = 1,
             _ => {}
         }
     }
