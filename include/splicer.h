@@ -35,7 +35,7 @@ extern "C" {
 /* The version of struct splicer and of the archive's functions. Their names carry it, and every call below refers to such a name, so
  * a header and an archive of two versions do not link. */
 enum {
-    SPLICER_VERSION = 3
+    SPLICER_VERSION = 4
 };
 
 /* Sizes. A message is a header of 8 bytes and at most 4,088 bytes of data. A buffer of SPLICER_OUT bytes takes the records of any
@@ -47,9 +47,9 @@ enum {
     SPLICER_MESSAGE = 4096,
     SPLICER_OUT = 4096,
     SPLICER_MARK = 2,
-    SPLICER_WORDS = 603,
+    SPLICER_WORDS = 604,
     SPLICER_BYTES = 32,
-    SPLICER_REPLY = 3
+    SPLICER_REPLY = 4
 };
 
 /* Document 01's house numbers: why a call was refused. A refused call wrote nothing, consumed nothing and changed nothing; only a
@@ -99,16 +99,21 @@ enum splicer_result {
 };
 
 /* One output channel. Opaque: its content is the core's, and unused places are zero. words: 0 the clock in ninths of a microsecond, 1 how
- * many wait, 2 how many have started, 3 to 6 how many wait of each connection, 7 to 10 the connections; then 64 places of 8 words for
- * those that wait, then 10 for those that have started. In both the used places are the last ones, the first session next to the free places. bytes: the ChannelName. */
+ * many wait, 2 how many have started, 3 the place where the ring of those that wait ends, 4 to 7 how many wait of each connection, 8 to 11
+ * the connections; then 64 places of 8 words for those that wait, then 10 for those that have started. Those that wait stand in order of
+ * start in a ring, the last of them before the place of word 3, which goes one on with each acceptance; those that have started stand at
+ * the end of their places, the first next to the free ones. bytes: the ChannelName. */
 struct splicer {
     uint64_t words[SPLICER_WORDS];
     uint8_t bytes[SPLICER_BYTES];
 };
 
-/* What a call answers: the house number of its refusal, or 0 and the bytes consumed of `in` and written to `out`. */
+/* What a call answers: the house number of its refusal, or 0 and the bytes consumed of `in` and written to `out`. moved: for a
+ * Splice_Request answered with 100 how many places its acceptance shifted, which is how many sessions that wait, after any eviction, start
+ * later than the new one, at most 63; 0 for all else. */
 struct splicer_reply {
     uint32_t refused;
+    uint32_t moved;
     size_t consumed;
     size_t written;
 };
@@ -120,14 +125,19 @@ struct splicer_waiting {
 
 /* The archive is made for machines on which these hold. */
 SPLICER_ASSERT(sizeof(size_t) == 8, "a length is 8 bytes");
-SPLICER_ASSERT(sizeof(struct splicer) == 4856, "size of struct splicer");
+SPLICER_ASSERT(sizeof(struct splicer) == 4864, "size of struct splicer");
 SPLICER_ASSERT(SPLICER_ALIGN(struct splicer) == 8, "alignment of struct splicer");
-SPLICER_ASSERT(SPLICER_OFFSET(struct splicer, bytes) == 4824, "layout of struct splicer");
+SPLICER_ASSERT(SPLICER_OFFSET(struct splicer, bytes) == 4832, "layout of struct splicer");
+SPLICER_ASSERT(sizeof(struct splicer_reply) == 24, "size of struct splicer_reply");
+SPLICER_ASSERT(SPLICER_OFFSET(struct splicer_reply, refused) == 0, "layout of struct splicer_reply");
+SPLICER_ASSERT(SPLICER_OFFSET(struct splicer_reply, moved) == 4, "layout of struct splicer_reply");
+SPLICER_ASSERT(SPLICER_OFFSET(struct splicer_reply, consumed) == 8, "layout of struct splicer_reply");
+SPLICER_ASSERT(SPLICER_OFFSET(struct splicer_reply, written) == 16, "layout of struct splicer_reply");
 SPLICER_ASSERT(sizeof(struct splicer_waiting) == 32, "size of struct splicer_waiting");
 
 /* The archive's functions, over the parts of a struct splicer. Drivers use the splicer_call_ functions below. Pointers and numbers only:
  * nothing is passed or returned by value that two compilers could pass in two ways. reply, SPLICER_REPLY words, gets the house number or
- * 0, the bytes consumed and the bytes written. */
+ * 0, the bytes consumed, the bytes written and the places shifted. */
 void splicer_4_fresh(const uint8_t *name, uint64_t *words, uint8_t *bytes, uint64_t *reply);
 void splicer_4_open(uint64_t *words, uint8_t *bytes, uint32_t conn, uint64_t *reply);
 void splicer_4_close(uint64_t *words, uint8_t *bytes, uint32_t conn, uint8_t *out, size_t room, uint64_t *reply);
@@ -140,6 +150,7 @@ void splicer_4_waiting(const uint64_t *words, const uint8_t *bytes, uint64_t *co
 static inline struct splicer_reply splicer_reply_of(const uint64_t *reply) {
     struct splicer_reply r;
     r.refused = (uint32_t)reply[0];
+    r.moved = (uint32_t)reply[3];
     r.consumed = (size_t)reply[1];
     r.written = (size_t)reply[2];
     return r;
