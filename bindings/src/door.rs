@@ -3,24 +3,29 @@
 
 use crate::Refusal;
 
-/// Words of a reply: the house number of a refusal or 0, the bytes consumed and the bytes written.
-pub const REPLY: usize = 3;
+/// Words of a reply: the house number of a refusal or 0, the bytes consumed, the bytes written and
+/// the places that an acceptance shifted.
+pub const REPLY: usize = 4;
 
 /// What a good call did.
 pub struct Counts {
     pub consumed: usize,
     pub written: usize,
+    pub moved: u32,
 }
 
 /// Lends the words of a reply to a call. Gives what it did, or why it was refused.
 pub fn replied(call: impl FnOnce(*mut u64)) -> Result<Counts, Refusal> {
     let mut reply = [0; REPLY];
     call(reply.as_mut_ptr());
-    let [number, consumed, written] = reply;
+    let [number, consumed, written, moved] = reply;
     if number == 0 {
-        // A length is 8 bytes: lib.rs asserts it.
-        let (consumed, written) = (consumed as usize, written as usize);
-        return Ok(Counts { consumed, written });
+        // A length is 8 bytes: lib.rs asserts it. At most 63 places are shifted.
+        return Ok(Counts {
+            consumed: consumed as usize,
+            written: written as usize,
+            moved: moved as u32,
+        });
     }
     // The core gives no number above 9; another archive is better noticed here.
     let refusal = u32::try_from(number).ok().and_then(Refusal::of);

@@ -8,7 +8,7 @@
 //! call overlaps nothing. Any connection, bytes, time and length of a buffer may be handed in: the
 //! call tests them and answers with a house number, a [`Refusal`].
 //!
-//! What each unsafe call rests on: the parts have the lengths that the core takes (603 words and 32
+//! What each unsafe call rests on: the parts have the lengths that the core takes (604 words and 32
 //! bytes, by their types), and a state came from `fresh` and was changed by the calls only, since its
 //! fields are private. The reason beside each call says the rest.
 #![no_std]
@@ -21,7 +21,7 @@ use core::fmt;
 pub use records::{message_id, records, result, Record, Records};
 
 /// The version of the state and of the archive's functions, whose names carry it.
-pub const VERSION: u32 = 3;
+pub const VERSION: u32 = 4;
 /// Connections of a channel: 0 to 3.
 pub const CONNECTIONS: usize = 4;
 /// Bytes of a ChannelName.
@@ -35,13 +35,16 @@ pub const OUT: usize = 4096;
 /// Bytes of the mark before each record.
 pub const MARK: usize = 2;
 /// Words of a [`Splicer`]'s memory.
-pub const WORDS: usize = 603;
+pub const WORDS: usize = 604;
 /// Bytes of a [`Splicer`]'s memory, behind its words.
 pub const BYTES: usize = 32;
 
 /// One output channel.
 ///
-/// Two splicers are equal if they show the same: the core keeps unused places zero.
+/// Two splicers are equal if their memory is. The same calls from `fresh` on give equal splicers, and
+/// equal ones answer every call alike and stay equal. Two that show the same (clock, connections,
+/// sessions and name) answer every call alike too, and are equal exactly if as many requests, or 64, 128
+/// and so on more, were accepted in the one as in the other: the ring of places goes one on with each.
 #[derive(Clone, PartialEq, Eq)]
 #[repr(C)]
 pub struct Splicer {
@@ -51,9 +54,9 @@ pub struct Splicer {
 
 // The numbers that the header asserts of its struct.
 const _: () = assert!(size_of::<usize>() == 8);
-const _: () = assert!(size_of::<Splicer>() == 4856);
+const _: () = assert!(size_of::<Splicer>() == 4864);
 const _: () = assert!(align_of::<Splicer>() == 8);
-const _: () = assert!(core::mem::offset_of!(Splicer, bytes) == 4824);
+const _: () = assert!(core::mem::offset_of!(Splicer, bytes) == 4832);
 
 /// Document 01's house numbers: why a call was refused. A refused call wrote nothing, consumed
 /// nothing and changed nothing.
@@ -118,6 +121,10 @@ pub struct Handled<'o> {
     pub consumed: usize,
     /// The records, at the front of the lent output buffer. They may be none.
     pub written: &'o [u8],
+    /// For a Splice_Request answered with 100 the places that its acceptance shifted: the sessions
+    /// that wait, after any eviction, and start later than the new one, at most 63. Else 0; the other
+    /// calls shift none.
+    pub moved: u32,
 }
 
 /// A text as a ChannelName, with zeros behind it. One of 32 bytes or more leaves no zero byte, and
@@ -188,6 +195,7 @@ impl Splicer {
         Ok(Handled {
             consumed: done.consumed,
             written: &out[..done.written],
+            moved: done.moved,
         })
     }
 
