@@ -115,6 +115,9 @@ static void heard(uint32_t conn, const uint8_t *bytes, size_t n) {
             box->length = 0;
             return;
         }
+        if (reply.moved != 0) {
+            printf("  places shifted: %u\n", reply.moved);
+        }
         deliver("send to", reply.written);
         box->length -= reply.consumed;
         memmove(box->bytes, box->bytes + reply.consumed, box->length);
