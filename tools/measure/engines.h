@@ -64,7 +64,7 @@ INLINE void core_call(uint64_t *reply, const struct call *c) {
     case MESSAGE: splicer_4_message(core.words, core.bytes, c->conn, c->in, c->length, outs[CORE], c->room, reply); break;
     case TICK: splicer_4_tick(core.words, core.bytes, c->seconds, c->micros, outs[CORE], c->room, reply); break;
     case WAITING: splicer_4_waiting(core.words, core.bytes, counts[CORE]); /* fall through: no reply */
-    default: reply[0] = reply[1] = reply[2] = 0; break;
+    default: reply[0] = reply[1] = reply[2] = reply[3] = 0; break;
     }
 }
 
@@ -77,7 +77,7 @@ INLINE void core_call(uint64_t *reply, const struct call *c) {
         case MESSAGE: return engine##_message(state, c->conn, c->in, c->length, outs[who], c->room);                                      \
         case TICK: return engine##_tick(state, c->seconds, c->micros, outs[who], c->room);                                                \
         case WAITING: engine##_waiting(state, counts[who]); /* fall through: no reply */                                                  \
-        default: return (struct splicer_reply){0, 0, 0};                                                                                  \
+        default: return (struct splicer_reply){0, 0, 0, 0};                                                                               \
         }                                                                                                                                 \
     }
 
@@ -93,18 +93,18 @@ APART struct splicer_reply peer_fresh(const uint8_t *name) {
         n++;
     }
     if (n == 32) {
-        return (struct splicer_reply){9, 0, 0};
+        return (struct splicer_reply){9, 0, 0, 0};
     }
     memcpy(peer.name, name, n);
-    return (struct splicer_reply){0, 0, 0};
+    return (struct splicer_reply){0, 0, 0, 0};
 }
 
 APART struct splicer_reply peer_open(uint32_t conn) {
     if (conn > 3 || peer.link[conn]) {
-        return (struct splicer_reply){conn > 3 ? 1 : 6, 0, 0};
+        return (struct splicer_reply){conn > 3 ? 1 : 6, 0, 0, 0};
     }
     peer.link[conn] = 1;
-    return (struct splicer_reply){0, 0, 0};
+    return (struct splicer_reply){0, 0, 0, 0};
 }
 
 INLINE struct splicer_reply peer_call(const struct call *c) {
@@ -115,7 +115,7 @@ INLINE struct splicer_reply peer_call(const struct call *c) {
     case MESSAGE: return peer_message(&peer, c->conn, c->in, c->length, outs[PLAIN_C], c->room);
     case TICK: return peer_tick(&peer, c->seconds, c->micros, outs[PLAIN_C], c->room);
     case WAITING: peer_waiting(&peer, counts[PLAIN_C]); /* fall through: no reply */
-    default: return (struct splicer_reply){0, 0, 0};
+    default: return (struct splicer_reply){0, 0, 0, 0};
     }
 }
 
@@ -148,7 +148,7 @@ INLINE void restore(enum who who) {
 static int differ, wrong;
 
 static void compare(enum who who, struct splicer_reply a, struct splicer_reply b) {
-    int unlike = a.refused != b.refused || a.consumed != b.consumed || a.written != b.written;
+    int unlike = a.refused != b.refused || a.consumed != b.consumed || a.written != b.written || a.moved != b.moved;
     differ |= (unlike || memcmp(outs[CORE], outs[who], BUFFER)) << who;
 }
 
@@ -174,7 +174,7 @@ static struct splicer_reply all(const struct call *c) {
     for (int i = 0; i < ENGINES; i++) {
         memset(outs[i], 0xEE, BUFFER);
     }
-    uint64_t reply[SPLICER_REPLY] = {99, 99, 99};
+    uint64_t reply[SPLICER_REPLY] = {99, 99, 99, 99};
     by_core(reply, c);
     struct splicer_reply a = splicer_reply_of(reply);
     compare(RUST, a, by_rust(c));

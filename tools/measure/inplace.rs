@@ -359,6 +359,8 @@ impl Request {
 struct Output<'a> {
     buffer: &'a mut [u8],
     written: usize,
+    /// The places that an acceptance shifts (02, CR 11).
+    moved: u32,
 }
 
 impl<'a> Output<'a> {
@@ -366,7 +368,7 @@ impl<'a> Output<'a> {
         if buffer.len() < SMALLEST_OUTPUT {
             return Err(Refusal::NoRoom);
         }
-        Ok(Output { buffer, written: 0 })
+        Ok(Output { buffer, written: 0, moved: 0 })
     }
 
     fn put(&mut self, bytes: &[u8]) {
@@ -489,7 +491,7 @@ impl InPlace {
         Ok(out.written)
     }
 
-    fn message(&mut self, conn: u32, input: &[u8], buffer: &mut [u8]) -> Result<(usize, usize), Refusal> {
+    fn message(&mut self, conn: u32, input: &[u8], buffer: &mut [u8]) -> Result<Reply, Refusal> {
         let link = *self.links.get(conn as usize).ok_or(Refusal::NoConnection)?;
         let mut out = Output::new(buffer)?;
         if link == Link::Closed {
@@ -497,7 +499,7 @@ impl InPlace {
         }
         let (message_id, data) = frame(input)?;
         self.answer(conn as u8, message_id, data, &mut out);
-        Ok((HEADER + data.len(), out.written))
+        Ok(Reply { refused: 0, moved: out.moved, consumed: HEADER + data.len(), written: out.written })
     }
 
     fn tick(&mut self, seconds: u32, micros: u32, buffer: &mut [u8]) -> Result<usize, Refusal> {
@@ -669,6 +671,7 @@ impl InPlace {
             Ok(session) => {
                 self.evict(session.start, out);
                 let place = self.waiting.partition_point(|other| other.start < session.start);
+                out.moved = (self.waiting.len() - place) as u32;
                 self.waiting.insert(place, session);
                 self.counts[usize::from(connection)] += 1;
                 code::SUCCESSFUL
@@ -745,17 +748,18 @@ fn frame(input: &[u8]) -> Result<(u16, &[u8]), Refusal> {
 #[repr(C)]
 pub struct Reply {
     refused: u32,
+    moved: u32,
     consumed: usize,
     written: usize,
 }
 
 impl Reply {
     fn refusal(refusal: Refusal) -> Self {
-        Reply { refused: refusal as u32, consumed: 0, written: 0 }
+        Reply { refused: refusal as u32, moved: 0, consumed: 0, written: 0 }
     }
 
     fn good(consumed: usize, written: usize) -> Self {
-        Reply { refused: 0, consumed, written }
+        Reply { refused: 0, moved: 0, consumed, written }
     }
 }
 
@@ -800,7 +804,7 @@ pub unsafe extern "C" fn inplace_message(
     room: usize,
 ) -> Reply {
     let (input, out) = unsafe { (slice::from_raw_parts(input, length), slice::from_raw_parts_mut(out, room)) };
-    s.message(conn, input, out).map_or_else(Reply::refusal, |(consumed, written)| Reply::good(consumed, written))
+    s.message(conn, input, out).unwrap_or_else(Reply::refusal)
 }
 
 /// # Safety

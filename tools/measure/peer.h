@@ -20,9 +20,11 @@ struct peer {
     struct session waiting[64], started[10];
 };
 
+/* the records, and the places that an acceptance shifts */
 struct sink {
     uint8_t *out;
     size_t length;
+    uint32_t moved;
 };
 
 static const uint32_t nobody = 0xFFFFFFFF;
@@ -115,10 +117,10 @@ static void ends_at(struct peer *p, struct sink *o, uint64_t t) {
 }
 
 __attribute__((noinline)) struct splicer_reply peer_tick(struct peer *p, uint32_t seconds, uint32_t micros, uint8_t *out, size_t room) {
-    struct sink o = {out, 0};
+    struct sink o = {out, 0, 0};
     uint64_t until = (uint64_t)seconds * 9000000 + (uint64_t)micros * 9, now = p->clock;
     if (room < 4096 || micros > 999999 || until < now) {
-        return (struct splicer_reply){room < 4096 ? 2 : micros > 999999 ? 8 : 3, 0, 0};
+        return (struct splicer_reply){room < 4096 ? 2 : micros > 999999 ? 8 : 3, 0, 0, 0};
     }
     for (;;) {
         uint64_t t = p->waits ? p->waiting[0].start : ~(uint64_t)0;
@@ -141,7 +143,7 @@ __attribute__((noinline)) struct splicer_reply peer_tick(struct peer *p, uint32_
         p->started[0].played += until - now;
     }
     p->clock = until;
-    return (struct splicer_reply){0, 0, o.length};
+    return (struct splicer_reply){0, 0, 0, o.length};
 }
 
 static struct session *held(struct peer *p, uint8_t conn, uint32_t id) {
@@ -185,9 +187,9 @@ static void answer_abort(struct peer *p, struct sink *o, uint8_t conn, const uin
 }
 
 __attribute__((noinline)) struct splicer_reply peer_close(struct peer *p, uint32_t conn, uint8_t *out, size_t room) {
-    struct sink o = {out, 0};
+    struct sink o = {out, 0, 0};
     if (conn > 3 || room < 4096 || p->link[conn] == 0) {
-        return (struct splicer_reply){conn > 3 ? 1 : room < 4096 ? 2 : 7, 0, 0};
+        return (struct splicer_reply){conn > 3 ? 1 : room < 4096 ? 2 : 7, 0, 0, 0};
     }
     int first = 1;
     for (uint32_t i = 0; i < p->starts; first = 0) {
@@ -208,7 +210,7 @@ __attribute__((noinline)) struct splicer_reply peer_close(struct peer *p, uint32
     p->waits = kept;
     p->counts[conn] = 0;
     p->link[conn] = 0;
-    return (struct splicer_reply){0, 0, o.length};
+    return (struct splicer_reply){0, 0, 0, o.length};
 }
 
 static int well_formed(const uint8_t *d, size_t n) {
@@ -270,7 +272,8 @@ static int answer_splice(struct peer *p, struct sink *o, uint8_t conn, const uin
             p->counts[old.conn]--;
             end_followers(p, o, old.conn, old.id, 109);
         }
-        memmove(p->waiting + at + 1, p->waiting + at, (p->waits - at) * sizeof s);
+        o->moved = p->waits - at;
+        memmove(p->waiting + at + 1, p->waiting + at, o->moved * sizeof s);
         p->waiting[at] = s;
         p->waits++;
         p->counts[conn]++;
@@ -306,13 +309,13 @@ static void answer_alive(struct peer *p, struct sink *o, uint8_t conn) {
 
 __attribute__((noinline)) struct splicer_reply peer_message(struct peer *p, uint32_t conn, const uint8_t *in, size_t length, uint8_t *out,
                                                             size_t room) {
-    struct sink o = {out, 0};
+    struct sink o = {out, 0, 0};
     if (conn > 3 || room < 4096 || p->link[conn] == 0) {
-        return (struct splicer_reply){conn > 3 ? 1 : room < 4096 ? 2 : 7, 0, 0};
+        return (struct splicer_reply){conn > 3 ? 1 : room < 4096 ? 2 : 7, 0, 0, 0};
     }
     size_t n = length < 8 ? 0 : splicer_u16(in + 2);
     if (length < 8 || n > 4088 || length < 8 + n) {
-        return (struct splicer_reply){length >= 8 && n > 4088 ? 4 : 5, 0, 0};
+        return (struct splicer_reply){length >= 8 && n > 4088 ? 4 : 5, 0, 0, 0};
     }
     uint32_t id = splicer_u16(in);
     const uint8_t *d = in + 8;
@@ -340,5 +343,5 @@ __attribute__((noinline)) struct splicer_reply peer_message(struct peer *p, uint
     if (!readable) {
         framed(&o, (uint8_t)conn, SPLICER_GENERAL_RESPONSE, 123, 0);
     }
-    return (struct splicer_reply){0, 8 + n, o.length};
+    return (struct splicer_reply){0, o.moved, 8 + n, o.length};
 }

@@ -97,6 +97,8 @@ pub struct Splicer {
 #[repr(C)]
 pub struct Reply {
     refused: u32,
+    /// The places that an acceptance shifts in a list by start (02, CR 11).
+    moved: u32,
     consumed: usize,
     written: usize,
 }
@@ -105,6 +107,7 @@ impl Reply {
     fn refused(number: u32) -> Self {
         Reply {
             refused: number,
+            moved: 0,
             consumed: 0,
             written: 0,
         }
@@ -113,6 +116,7 @@ impl Reply {
     fn good(consumed: usize, written: usize) -> Self {
         Reply {
             refused: 0,
+            moved: 0,
             consumed,
             written,
         }
@@ -135,13 +139,18 @@ fn instant(seconds: u32, micros: u32) -> u64 {
 struct Output {
     first: *mut u8,
     next: *mut u8,
+    moved: u32,
 }
 
 impl Output {
     /// # Safety
     /// `first` has `ROOM` bytes. No call writes more than 3,174: 64 starts and 74 ends of 23 bytes.
     unsafe fn new(first: *mut u8) -> Self {
-        Output { first, next: first }
+        Output {
+            first,
+            next: first,
+            moved: 0,
+        }
     }
 
     fn written(&self) -> usize {
@@ -256,6 +265,12 @@ impl Splicer {
             }
         }
         first
+    }
+
+    /// 02, CR 11: the waiting sessions "whose start is later than the new one's".
+    fn later(&self, start: u64) -> u32 {
+        let starts = self.used(&self.starts).iter();
+        starts.fold(0, |count, &other| count + u32::from(other > start))
     }
 
     fn first_end(&self) -> u64 {
@@ -573,6 +588,7 @@ impl Splicer {
         if let Some(place) = met {
             self.end_waiting(place, 109, out);
         }
+        out.moved = self.later(start);
         let place = self.waits;
         self.starts[place] = start;
         self.sessions[place] = id.session;
@@ -712,7 +728,10 @@ pub unsafe extern "C" fn unordered_message(
     let data = slice::from_raw_parts(input.add(HEADER), size);
     let mut out = Output::new(out);
     s.message(connection as u8, be16(header, 0), data, &mut out);
-    Reply::good(HEADER + size, out.written())
+    Reply {
+        moved: out.moved,
+        ..Reply::good(HEADER + size, out.written())
+    }
 }
 
 /// # Safety

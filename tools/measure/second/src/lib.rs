@@ -16,6 +16,7 @@ pub struct Engine(Splicer);
 #[repr(C)]
 pub struct Reply {
     refused: u32,
+    moved: u32,
     consumed: usize,
     written: usize,
 }
@@ -24,6 +25,7 @@ impl Reply {
     fn refusal(number: u8) -> Reply {
         Reply {
             refused: number.into(),
+            moved: 0,
             consumed: 0,
             written: 0,
         }
@@ -36,6 +38,7 @@ impl Reply {
         out.copy_from_nonoverlapping(bytes.as_ptr(), bytes.len());
         Reply {
             refused: 0,
+            moved: 0,
             consumed,
             written: bytes.len(),
         }
@@ -111,7 +114,10 @@ pub unsafe extern "C" fn second_message(
 ) -> Reply {
     let bytes = slice::from_raw_parts(input, length);
     match s.0.message(byte(conn), bytes, room) {
-        Ok((records, consumed)) => Reply::good(&records, consumed, out),
+        Ok((records, consumed)) => Reply {
+            moved: s.0.moved as u32,
+            ..Reply::good(&records, consumed, out)
+        },
         Err(number) => Reply::refusal(number),
     }
 }
