@@ -288,7 +288,7 @@ frames0() {
     "$objdump" -d --no-show-raw-insn "$work/door0.o" | framed | awk '{ print $1, $3 }' >"$work/frames0"
     abort="door::splicer_4_message engine::message answers::answer answers::answer_read requests::answer_abort ends::end_started"
     evict="door::splicer_4_message engine::message answers::answer answers::answer_read requests::answer_splice requests::accept requests::make_way"
-    below="ends::end_follower memory::remove places::remove_at places::read_row"
+    below="ends::end_one_waiting memory::remove places::remove_at places::read_row"
     echo '| Way, at -O0 | Function | Frame | Times |'
     echo '|---|---|---|---|'
     way 'the due search below run' instants::next_due memory::least_end places::least_end places::end_at
