@@ -5,6 +5,7 @@ pub mod Rooms
 pub mod Rehearsed
 pub mod Histories
 pub mod Worked
+pub mod Moved
 pub mod Case-01-card-cut-header
 pub mod Case-01-card-cut-mark
 pub mod Case-01-card-cut-message
