@@ -246,7 +246,8 @@ pub fn accept(m: &mut [u64], at: usize, x: Session) -> usize
     requires { ⌜ (at ≤ length (sessions Waiting (now m))) × (length (sessions Waiting (now m)) < placesOf Waiting) ⌝ }
     requires { ⌜ OfFour x ⌝ }
     ensures shows { λ _.
-        ⌜ Now (now (m .exit)) (onward true (relisted Waiting (insertAt at x (sessions Waiting (now (m .entry)))) (see (now (m .entry))))) ⌝ }
+        ⌜ Now (now (m .exit))
+        (onward true (relisted Waiting (insertAt at x (sessions Waiting (now (m .entry)))) (see (now (m .entry))))) ⌝ }
     ensures moves { λ r. ⌜ r ≡ length (sessions Waiting (now (m .entry))) - at ⌝ }
 {
     let n = count(&*m, Which::Waiting);
