@@ -85,11 +85,31 @@ impl Day {
     }
 
     fn records(&mut self, items: &[Item]) {
-        for item in items {
+        for (index, item) in items.iter().enumerate() {
             if let Item::Record(record) = item {
-                self.record(record);
+                let behind = self.next_start(&items[index + 1..]);
+                self.record(record, behind);
             }
         }
+    }
+
+    /// The instant of the first start among these records.
+    fn next_start(&mut self, items: &[Item]) -> Option<u64> {
+        let started = |item: &Item| match item {
+            Item::Record(Record {
+                conn,
+                what:
+                    What::Complete {
+                        id,
+                        flag: 0,
+                        result: 100,
+                        ..
+                    },
+            }) => Some((*conn, *id)),
+            _ => None,
+        };
+        let (conn, id) = items.iter().find_map(started)?;
+        self.last(conn, id).map(|row| row.start)
     }
 
     fn answered(&mut self, conn: u8, fields: &SpliceFields, result: u16) {
@@ -119,7 +139,9 @@ impl Day {
         self.rows.iter_mut().rev().find(own)
     }
 
-    fn record(&mut self, record: &Record) {
+    /// `behind` is the instant of the next start of the same call. 02, CR 4: one that a start
+    /// ends has its end before that start's record, and not at its end time.
+    fn record(&mut self, record: &Record, behind: Option<u64>) {
         let clock = self.clock;
         let (id, result, flag, played) = match record.what {
             What::Complete {
@@ -137,7 +159,9 @@ impl Day {
         };
         let time = match (flag, result) {
             (Some(0), _) => row.start,
-            (Some(_), 100 | 125) => row.end,
+            (Some(_), 100) => row.end,
+            (Some(_), 125) => behind.map_or(row.end, |start| start.min(row.end)),
+            (None, 125) => behind.unwrap_or(clock),
             _ => clock,
         };
         if (flag, result) == (Some(0), 100) {
@@ -294,6 +318,32 @@ mod tests {
             }
         }
         assert!(ended > 1_000, "{ended}");
+    }
+
+    #[test]
+    fn a_spot_ended_by_an_equal_one() {
+        let text = "> open 0\n> init 0\n> tick 1000\n\
+             > splice 0 id=1 at=1003 duration=900000 access=4\n\
+             > splice 0 id=2 prior=1 duration=90000\n\
+             > splice 0 id=3 at=1005 duration=180000 access=4 override=1\n\
+             > tick 1020\n";
+        let input = scenario::input_of(&scenario::parse(text).unwrap());
+        let output = card::run(&input, None).output();
+        let (text, _) = as_run(&input, &output);
+        let lines: Vec<String> = text
+            .lines()
+            .map(|l| l.split_whitespace().collect::<Vec<_>>().join(" "))
+            .collect();
+        for line in [
+            "0 1 1003.000000 1005.000000 180000 125 (Channel Override)",
+            "0 3 1005.000000 1007.000000 180000 100 (Successful Response)",
+            "0 2 1013.000000 1005.000000 125 (Channel Override)",
+            "1003.000000 1005.000000 connection 0 session 1",
+            "1005.000000 1007.000000 connection 0 session 3",
+            "1007.000000 1020.000000 primary channel",
+        ] {
+            assert!(lines.contains(&line.to_string()), "{line}\n{text}");
+        }
     }
 
     #[test]

@@ -105,13 +105,13 @@ impl Books {
 
     /// 01: "A session's end is its SpliceComplete with flag 1, or its SpliceComplete with flag
     /// 0 and 109, or a Splice_Response 109 [...] or 116 that isn't a Splice_Request's own
-    /// answer."
+    /// answer." 02, CR 4: "Demand 3's one end now includes these records", so 125 too.
     fn record(&mut self, record: &Record) {
         let (id, ends) = match record.what {
             What::Complete {
                 id, flag, result, ..
             } => (id, flag == 1 || result == 109),
-            What::Splice { id, .. } => (id, true),
+            What::Splice { id, result } => (id, [109, 116, 125].contains(&result)),
             _ => return,
         };
         let Some(session) = self.last(record.conn, id) else {
@@ -173,6 +173,7 @@ mod tests {
             Fault::InstantLeftOver,
             Fault::ElevenReserved,
             Fault::CoveredEndMoves,
+            Fault::EqualResumed,
         ];
         for fault in faults {
             let breaks = |index| {

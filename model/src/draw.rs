@@ -93,7 +93,9 @@ impl Gen {
         self.tick_to(second * 1_000_000 + micros);
         if self.at_the_top {
             self.unit = self.rng.pick(&[1, 11, 100, 1_000, 10_000]);
-            let back = self.rng.between(1_000, 400_000);
+            // The longest Duration is 47,721 s.
+            let most = self.rng.pick(&[40_000, 400_000]);
+            let back = self.rng.between(1_000, most);
             self.tick_to(TOP - back * 1_000_000);
         }
     }

@@ -23,7 +23,7 @@ const fn theme(favourites: &'static [Episode]) -> Theme {
 #[rustfmt::skip]
 pub const ALL: &[Episode] = &[
     request, request, request, request, chain, chain, collide, collide, abort_one, abort_one,
-    close_one, step, step, step, step, step, stack, fill, reuse, evict, failing, covered, late,
+    close_one, step, step, step, step, step, stack, fill, reuse, evict, failing, covered, equals, late,
     order, ninth, extreme, wrong_numbers, alive, damage::init, damage::alive_and_abort,
     damage::splice, damage::unknown, damage::refused, damage::largest,
 ];
@@ -42,7 +42,8 @@ pub const THEMES: &[Theme] = &[
     theme(&[close_one, request, chain, damage::refused, stack, step]),
     theme(&[reuse, covered, failing, evict, step]),
     theme(&[covered, failing, stack, abort_one, close_one, step]),
-    Theme { favourites: &[request, chain, extreme, top, step, stack], at_the_top: true },
+    Theme { favourites: &[request, chain, extreme, top, step, stack, equals], at_the_top: true },
+    theme(&[equals, equals, evict, collide, step, abort_one]),
 ];
 
 const HELD: [State; 3] = [State::Waiting, State::OnAir, State::Covered];
@@ -537,6 +538,46 @@ fn covered(gen: &mut Gen) {
         _ => {}
     }
     walk(gen, at + 25 * gen.unit);
+}
+
+/// Up to ten deep, and then starts with the AccessType of the one on air, which has followers.
+fn equals(gen: &mut Gen) {
+    if gen.rng.chance(60) {
+        gen.clear();
+    }
+    let depth = gen.rng.pick(&[1, 1, 2, 3, 10]);
+    let lowest = gen.rng.between(0, 10 - depth);
+    let step = even(gen);
+    let base = gen.ahead(2);
+    let mut top = (0, 0);
+    for i in 0..depth {
+        let conn = gen.conn();
+        let mut ask = gen.timed(conn, base + i * step);
+        ask.access = (lowest + i) as u8;
+        ask.overrides = 1;
+        ask.duration = ((depth + 30) * step * 9 / 100) as u32;
+        if gen.at_the_top && gen.rng.chance(30) {
+            ask.duration = NONE;
+        }
+        gen.ask(conn, &ask);
+        top = (conn, ask.id);
+    }
+    let count = gen.rng.below(4);
+    link(gen, top.0, top.1, count);
+    let mut at = base + depth * step;
+    for _ in 0..gen.rng.between(1, 3) {
+        let conn = gen.rng.pick(&[top.0, gen.model.sessions.len() as u8 % 4]);
+        gen.ready(conn);
+        let mut ask = gen.timed(conn, at);
+        ask.access = (lowest + depth - 1) as u8;
+        ask.overrides = gen.rng.chance(85) as u8;
+        gen.ask(conn, &ask);
+        let count = gen.rng.below(3);
+        link(gen, conn, ask.id, count);
+        at += gen.rng.pick(&[step, 2 * step, 10 * step]);
+    }
+    walk(gen, at);
+    disturb(gen);
 }
 
 /// Starts around 3 s after the clock, and long before it.

@@ -4,6 +4,7 @@ use crate::counts::{self, COUNTED};
 use crate::faults::Fault;
 use crate::records::{Record, What};
 use crate::rules::{Session, Splicer, State, MICROSECOND, TICK};
+use std::cmp::Ordering;
 
 impl Splicer {
     /// "A tick works through every start and end not later than its time, in order of time."
@@ -45,8 +46,13 @@ impl Splicer {
             self.ends(time, out);
             return;
         }
+        let ending = |s: &&Session| s.end == time;
+        let before = self.on_air().filter(ending).map(|s| s.access);
         let ended = self.ends(time, out);
-        if start.is_some() {
+        if let Some(session) = &start {
+            if COUNTED && session.overrides && before == Some(session.access) && ended > 0 {
+                self.hit("start behind the end of an equal one on air");
+            }
             match ended {
                 0 => {}
                 1 => self.hit("instant with one end and a start"),
@@ -149,7 +155,8 @@ impl Splicer {
     /// "Start: with nothing on air, or with OverridePlaying 1 and AccessType higher than the
     /// one on air (which becomes covered), write SpliceComplete flag 0, result 100,
     /// PlayedDuration 0, and go on air. Otherwise it fails: SpliceComplete flag 0, result 109,
-    /// PlayedDuration 0, and its waiting followers end."
+    /// PlayedDuration 0, and its waiting followers end." 02, CR 4: an equal one on air ends
+    /// "all before the new start's record".
     fn start(&mut self, session: &Session, time: u64, out: &mut Vec<Record>) {
         if COUNTED && self.on_air().is_some_and(|s| s.since == time) {
             self.hit("start against one on air again at the same instant");
@@ -163,6 +170,22 @@ impl Splicer {
             }
             return;
         }
+        let first = out.len();
+        self.end_equal(session, time, out);
+        self.go_on_air(session, time);
+        self.complete(session, 100, 0, 0, out);
+        if self.faulty(Fault::EqualEndsBehindStart) {
+            out[first..].rotate_right(1);
+        }
+        if COUNTED {
+            let started = |s: &&Session| s.state != State::Waiting;
+            let depth = self.sessions.iter().filter(started).count();
+            self.hit(counts::DEPTH[depth.clamp(1, 10) - 1]);
+        }
+    }
+
+    /// "(which becomes covered)"
+    fn go_on_air(&mut self, session: &Session, time: u64) {
         for other in &mut self.sessions {
             if other.state == State::OnAir {
                 other.played += time - other.since;
@@ -174,11 +197,57 @@ impl Splicer {
                 other.since = time;
             }
         }
-        self.complete(session, 100, 0, 0, out);
-        if COUNTED {
-            let started = |s: &&Session| s.state != State::Waiting;
-            let depth = self.sessions.iter().filter(started).count();
-            self.hit(counts::DEPTH[depth.clamp(1, 10) - 1]);
+    }
+
+    /// 02, CR 4: "at a start the equal one on air ends at once, SpliceComplete flag 1, result
+    /// 125, and its waiting followers end with Splice_Response 125". "It isn't resumed".
+    fn end_equal(&mut self, session: &Session, time: u64, out: &mut Vec<Record>) {
+        let equal = |s: &&Session| s.access == session.access;
+        let Some(old) = self.on_air().filter(equal).cloned() else {
+            return;
+        };
+        if self.faulty(Fault::EqualCovered) {
+            return;
+        }
+        let until = match self.fault {
+            Some(Fault::EqualPlayedToItsEnd) => old.end,
+            _ => time,
+        };
+        let result = [125, 100][self.faulty(Fault::EqualEnds100) as usize];
+        let played = self.played(&old, until);
+        self.complete(&old, result, 1, played, out);
+        if !self.faulty(Fault::EqualResumed) {
+            self.remove(&old);
+        }
+        let mut ended = 0;
+        if !self.faulty(Fault::EqualLeavesFollowers) {
+            let result = [125, 109][self.faulty(Fault::EqualFollowers109) as usize];
+            ended = self.end_followers(&old, result, out);
+        }
+        self.count_equal(session, &old, time, ended);
+    }
+
+    fn count_equal(&mut self, session: &Session, old: &Session, time: u64, ended: usize) {
+        self.hit(counts::EQUAL_FOLLOWERS[ended.min(2)]);
+        let branches = [
+            "start over an equal of another's",
+            "start over its own equal",
+        ];
+        self.hit(branches[(old.conn == session.conn) as usize]);
+        let covered = |s: &&Session| s.state == State::Covered;
+        match self.sessions.iter().filter(covered).count() {
+            0 => {}
+            9 => self.hit("start over an equal one, ten deep"),
+            _ => self.hit("start over an equal one above covered ones"),
+        }
+        if old.played > 0 {
+            self.hit("start over an equal one that was covered before");
+        }
+        if old.since == time {
+            self.hit("start over an equal one on air again at the same instant");
+        }
+        if old.end > u64::from(u32::MAX) * 9_000_000 + 999_999 * 9 {
+            self.hit("start over an equal one that would end past the range");
         }
     }
 
@@ -187,17 +256,22 @@ impl Splicer {
             self.hit("start with nothing on air");
             return true;
         };
-        let higher = session.access > access
-            || (self.faulty(Fault::EqualOverrides) && session.access == access);
-        let branch = match (session.overrides, session.access.cmp(&access)) {
-            (true, std::cmp::Ordering::Greater) => "start overrides a lower one",
-            (true, std::cmp::Ordering::Equal) => "start fails, same AccessType with override",
-            (true, std::cmp::Ordering::Less) => "start fails, lower AccessType with override",
-            (false, std::cmp::Ordering::Greater) => "start fails, higher AccessType, no override",
-            (false, _) => "start fails, not higher, no override",
+        let order = session.access.cmp(&access);
+        let branch = match (session.overrides, order) {
+            (true, Ordering::Greater) => "start overrides a lower one",
+            (true, Ordering::Equal) => "start overrides an equal one",
+            (true, Ordering::Less) => "start fails, lower AccessType with override",
+            (false, Ordering::Greater) => "start fails, higher AccessType, no override",
+            (false, Ordering::Equal) => "start fails, same AccessType, no override",
+            (false, Ordering::Less) => "start fails, lower AccessType, no override",
         };
         self.hit(branch);
-        session.overrides && higher
+        // 02, CR 4: "With the flag at 1, an equal AccessType now wins".
+        match (self.fault, order) {
+            (Some(Fault::EqualFailsAtStart), Ordering::Equal) => false,
+            (Some(Fault::EqualStartsWithoutFlag), Ordering::Equal) => true,
+            _ => session.overrides && order != Ordering::Less,
+        }
     }
 
     /// "Bitrate 4 (always 0 here)".
@@ -256,7 +330,7 @@ impl Splicer {
     }
 
     /// "Followers' ends are Splice_Response 109, or 116 after an abort or close, in order of
-    /// start." Gives their number.
+    /// start." 02, CR 4: 125 of one ended by an equal start. Gives their number.
     fn end_followers(&mut self, of: &Session, result: u16, out: &mut Vec<Record>) -> usize {
         let result = if self.faulty(Fault::AbortedFollowers109) {
             109
@@ -272,17 +346,23 @@ impl Splicer {
     }
 
     /// "A waiting session with the same start [...] is evicted first: it and its waiting
-    /// followers end (109)".
-    pub fn evict(&mut self, start: u64, out: &mut Vec<Record>) {
+    /// followers end (109)". `access` is the new one's.
+    pub fn evict(&mut self, start: u64, access: u8, out: &mut Vec<Record>) {
         let same = |s: &&Session| s.state == State::Waiting && s.start == start;
         let Some(session) = self.sessions.iter().find(same).cloned() else {
             return;
         };
-        self.splice_response(&session, 109, out);
+        let equal = session.access == access;
+        let result = match self.fault {
+            Some(Fault::EqualEvicted125) if equal => 125,
+            _ => 109,
+        };
+        self.splice_response(&session, result, out);
         self.remove(&session);
         if !self.faulty(Fault::EvictionLeavesFollowers) {
-            let ended = self.end_followers(&session, 109, out);
-            self.hit(counts::EVICTED_FOLLOWERS[ended.min(2)]);
+            let ended = self.end_followers(&session, result, out);
+            let branches = [counts::EVICTED_FOLLOWERS, counts::EQUAL_EVICTED_FOLLOWERS];
+            self.hit(branches[equal as usize][ended.min(2)]);
         }
     }
 

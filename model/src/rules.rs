@@ -441,12 +441,17 @@ impl Splicer {
     }
 
     /// d. "109: a waiting session of any connection has the same start and the same or a
-    /// higher AccessType."
+    /// higher AccessType." 02, CR 4: "109 at check d, for equals, only at flag 0".
     fn collides(&mut self, conn: u8, fields: &SpliceFields) -> bool {
         let start = self.start_of(conn, fields);
+        let passes = match self.fault {
+            Some(Fault::EqualPassesWithoutFlag) => true,
+            Some(Fault::EqualRefused) => false,
+            _ => fields.overrides == 1,
+        };
+        let least = fields.access + u8::from(passes);
         let other = self.sessions.iter().find(|s| {
             let reach = !self.faulty(Fault::OwnCollisionsOnly) || s.conn == conn;
-            let least = fields.access + u8::from(self.faulty(Fault::EqualEvicts));
             let same = s.start == start
                 || (self.faulty(Fault::CollisionInMicroseconds) && s.start / 9 == start / 9);
             s.state == State::Waiting && same && s.access >= least && reach
@@ -484,7 +489,8 @@ impl Splicer {
         let mut counts = self.waiting_counts();
         if self.faulty(Fault::CountedAfterEviction) {
             let mut later = self.clone();
-            later.evict(later.start_of(conn, fields), &mut Vec::new());
+            let start = later.start_of(conn, fields);
+            later.evict(start, fields.access, &mut Vec::new());
             counts = later.waiting_counts();
         }
         let own = counts[conn as usize];
@@ -554,11 +560,12 @@ impl Splicer {
 
     /// f. "100. A waiting session with the same start, then lower, is evicted first: it and
     /// its waiting followers end (109), written before the 100." "End is start plus Duration."
+    /// 02, CR 4: "f evicts the waiting equal as it does a lower one".
     fn accept(&mut self, conn: u8, fields: &SpliceFields, out: &mut Vec<Record>) {
         let start = self.start_of(conn, fields);
         self.count_accepted(conn, fields, start);
         let before = self.later(start);
-        self.evict(start, out);
+        self.evict(start, fields.access, out);
         self.moved = self.later(start);
         self.count_moved(before, fields);
         self.sessions.push(Session {
@@ -607,9 +614,13 @@ impl Splicer {
         self.counts.accepted(conn, fields.id);
         let same = |s: &&Session| s.state == State::Waiting && s.start == start;
         if let Some(other) = self.sessions.iter().find(same) {
-            let branches = ["Splice f evicts another's", "Splice f evicts its own"];
-            let own = other.conn == conn;
-            self.hit(branches[own as usize]);
+            let branch = match (other.conn == conn, other.access == fields.access) {
+                (true, true) => "Splice f evicts an equal of its own",
+                (true, false) => "Splice f evicts its own",
+                (false, true) => "Splice f evicts an equal of another's",
+                (false, false) => "Splice f evicts another's",
+            };
+            self.hit(branch);
         }
         let prior = self.held(conn, fields.prior).map(|s| s.state);
         self.hit(match prior {

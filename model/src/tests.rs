@@ -137,8 +137,16 @@ fn p11_eleven_and_twelve_microseconds() {
 
 #[test]
 fn p12_to_p14_starts_against_one_on_air() {
-    // AccessType, OverridePlaying, the start's result.
-    for (access, overrides, result) in [(4, 1, 109), (5, 0, 109), (5, 1, 100)] {
+    // AccessType, OverridePlaying, what the start writes, who is left.
+    let ended = "< 0 SpliceComplete_Response 125 id=1 flag=1 played=180000\n";
+    let both = [(1, State::Covered), (2, State::OnAir)];
+    let cases = [
+        // P12 as 02, CR 4, has it: "on air, the old one ended"
+        (4, 1, ended, 100, &both[1..]),
+        (5, 0, "", 109, &[(1, State::OnAir)][..]),
+        (5, 1, "", 100, &both[..]),
+    ];
+    for (access, overrides, before, result, left) in cases {
         let splicer = rehearsed(&format!(
             "> splice 0 id=1 at=1003 duration=900000 access=4
              < 0 Splice_Response 100 id=1
@@ -146,15 +154,58 @@ fn p12_to_p14_starts_against_one_on_air() {
              < 0 Splice_Response 100 id=2
              > tick 1005
              < 0 SpliceComplete_Response 100 id=1 flag=0 played=0
-             < 0 SpliceComplete_Response {result} id=2 flag=0 played=0"
+             {before}< 0 SpliceComplete_Response {result} id=2 flag=0 played=0"
         ));
         let states: Vec<(u32, State)> = splicer.sessions.iter().map(|s| (s.id, s.state)).collect();
-        if result == 100 {
-            assert_eq!(states, [(1, State::Covered), (2, State::OnAir)]);
-        } else {
-            assert_eq!(states, [(1, State::OnAir)]);
-        }
+        assert_eq!(states, left);
     }
+}
+
+#[test]
+fn an_equal_start_ends_the_one_on_air_and_its_followers() {
+    // 1 (access 3) is covered by 2 (access 6) from 1,004 s on; 5 (6) ends 2 at 1,006 s.
+    let splicer = rehearsed(
+        "> splice 0 id=1 at=1003 duration=900000 access=3
+         < 0 Splice_Response 100 id=1
+         > splice 0 id=2 at=1004 duration=900000 access=6 override=1
+         < 0 Splice_Response 100 id=2
+         > splice 0 id=3 prior=2 duration=90000
+         < 0 Splice_Response 100 id=3
+         > splice 0 id=4 prior=3 duration=90000
+         < 0 Splice_Response 100 id=4
+         > splice 0 id=5 at=1006 duration=90000 access=6 override=1
+         < 0 Splice_Response 100 id=5
+         > tick 1006
+         < 0 SpliceComplete_Response 100 id=1 flag=0 played=0
+         < 0 SpliceComplete_Response 100 id=2 flag=0 played=0
+         < 0 SpliceComplete_Response 125 id=2 flag=1 played=180000
+         < 0 Splice_Response 125 id=3
+         < 0 Splice_Response 125 id=4
+         < 0 SpliceComplete_Response 100 id=5 flag=0 played=0
+         > tick 1007
+         < 0 SpliceComplete_Response 100 id=5 flag=1 played=90000
+         > alive 0
+         < 0 Alive_Response 100 state=2 id=1 time=1007.000000",
+    );
+    assert_eq!(splicer.sessions.len(), 1);
+}
+
+#[test]
+fn an_equal_request_with_the_flag_evicts() {
+    rehearsed(
+        "> splice 0 id=1 at=1010 duration=90000 access=3 override=1
+         < 0 Splice_Response 100 id=1
+         > splice 0 id=2 prior=1 duration=90000
+         < 0 Splice_Response 100 id=2
+         > splice 0 id=3 at=1010 duration=90000 access=3
+         < 0 Splice_Response 109 id=3
+         > splice 0 id=3 at=1010 duration=90000 access=3 override=1
+         < 0 Splice_Response 109 id=1
+         < 0 Splice_Response 109 id=2
+         < 0 Splice_Response 100 id=3
+         > splice 0 id=4 at=1010 duration=90000 access=2 override=1
+         < 0 Splice_Response 109 id=4",
+    );
 }
 
 #[test]
@@ -284,7 +335,7 @@ fn a_failed_start_ends_its_followers() {
     rehearsed(
         "> splice 0 id=1 at=1003 duration=900000 access=4
          < 0 Splice_Response 100 id=1
-         > splice 0 id=2 at=1005 duration=90000 access=4 override=1
+         > splice 0 id=2 at=1005 duration=90000 access=4
          < 0 Splice_Response 100 id=2
          > splice 0 id=3 prior=2 duration=90000 access=9 override=1
          < 0 Splice_Response 100 id=3

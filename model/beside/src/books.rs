@@ -6,6 +6,7 @@ use crate::calls::{Act, Call, Said};
 use splicer::{message_id as id, records, result, Record, CONNECTIONS, HEADER, OUT};
 
 const NONE: u32 = 0xFFFF_FFFF;
+const COMPLETE: u16 = id::SPLICE_COMPLETE_RESPONSE;
 /// 01: "in ninths of a microsecond, a second is 9,000,000, a microsecond 9, a tick 100".
 const SECOND: u64 = 9_000_000;
 /// No answer is longer (docs/DEMANDS.md, `answers-fit`).
@@ -144,12 +145,50 @@ impl Books {
     /// "A tick works through every start and end not later than its time".
     fn ticked(&mut self, time: u64, list: &[Record]) -> Kept {
         self.clock = time;
-        for record in list {
+        for (place, record) in list.iter().enumerate() {
             must(record.result != result::ABORTED, "a tick aborted")?;
+            if record.result == result::OVERRIDDEN {
+                self.overridden(&list[..place], record, &list[place + 1..])?;
+            }
             self.session(record)?;
         }
         let due = |s: &Held| if s.started { s.end } else { s.start };
         must(self.held.iter().all(|s| due(s) > time), "due and not done")
+    }
+
+    /// 02, CR 4: "at a start the equal one on air ends at once, SpliceComplete flag 1, result 125,
+    /// and its waiting followers end with Splice_Response 125, all before the new start's record".
+    fn overridden(&self, before: &[Record], record: &Record, behind: &[Record]) -> Kept {
+        let start = behind
+            .iter()
+            .find(|r| !is_kind(r, id::SPLICE_RESPONSE, 125));
+        let start = start.filter(|r| is_kind(r, COMPLETE, 100) && r.data[4] == 0);
+        let new = start.and_then(|r| self.of(r));
+        if record.message_id == id::SPLICE_RESPONSE {
+            let ended = before.iter().rfind(|r| r.message_id == COMPLETE);
+            let ended = ended.is_some_and(|r| r.result == 125 && r.connection == record.connection);
+            return must(ended && new.is_some(), "125 of no follower");
+        }
+        let Some(old) = self.of(record) else {
+            return must(false, "a record of a session that is not held");
+        };
+        let wins = |s: &Held| s.start >= old.end || (s.overrides && s.access == old.access);
+        must(
+            new.is_none_or(wins),
+            "ended at once by another than an equal",
+        )?;
+        let at_once = new.is_some_and(|s| s.start < old.end);
+        let highest = self.on_air().map(|top| (top.conn, top.id)) == Some((old.conn, old.id));
+        // One that ends with the one above it may be the highest by then.
+        let with_it = before.last().is_some_and(|r| r.data.get(4) == Some(&1));
+        must(highest || !at_once, "ended at once and not on air")?;
+        must(at_once || !highest || with_it, "on air and ended by nobody")
+    }
+
+    /// The session of a record.
+    fn of(&self, record: &Record) -> Option<&Held> {
+        let place = self.find(record.connection, word(record.data, 0))?;
+        Some(&self.held[place])
     }
 
     /// "Answering a message, first that applies", as far as records show it.
@@ -305,7 +344,9 @@ impl Books {
             return result::TOO_LATE;
         }
         let mut waiting = self.held.iter().filter(|s| !s.started);
-        if waiting.any(|s| s.start == start && s.access >= data[30]) {
+        // 02, CR 4: "109 at check d, for equals, only at flag 0".
+        let least = data[30] + data[31];
+        if waiting.any(|s| s.start == start && s.access >= least) {
             return result::COLLISION;
         }
         let counts = self.counts();
@@ -345,7 +386,8 @@ impl Books {
         self.held.iter().position(own)
     }
 
-    /// Only a higher AccessType covers, so the highest started session is the one on air.
+    /// Only a higher AccessType covers, and an equal one ends, so the highest started session is the
+    /// one on air.
     fn on_air(&self) -> Option<&Held> {
         let started = self.held.iter().filter(|s| s.started);
         started.max_by_key(|s| s.access)
@@ -358,7 +400,7 @@ impl Books {
             return must(false, "a record of a session that is not held");
         };
         let s = &self.held[place];
-        let flag = (record.message_id == id::SPLICE_COMPLETE_RESPONSE).then(|| record.data[4]);
+        let flag = (record.message_id == COMPLETE).then(|| record.data[4]);
         let played = flag.map_or(0, |_| word(record.data, 9));
         must(played <= s.duration, "played longer than its Duration")?;
         let highest = self.on_air().map(|top| (top.access, top.conn, top.id));
@@ -367,11 +409,11 @@ impl Books {
                 !s.started && highest.is_none_or(|(a, ..)| s.overrides && s.access > a)
             }
             (Some(0), 109) => {
-                !s.started && highest.is_some_and(|(a, ..)| !s.overrides || s.access <= a)
+                !s.started && highest.is_some_and(|(a, ..)| !s.overrides || s.access < a)
             }
             (Some(1), 100) => highest == Some((s.access, s.conn, s.id)),
             (Some(1), 116 | 125) => s.started,
-            (None, 109) => !s.started,
+            (None, 109 | 125) => !s.started,
             (None, 116) => true,
             _ => false,
         };
@@ -385,6 +427,19 @@ impl Books {
         Ok(())
     }
 
+    /// 02, CR 4: "no two started sessions ever have the same AccessType".
+    fn apart(&self) -> Kept {
+        let mut list: Vec<u8> = self
+            .held
+            .iter()
+            .filter(|s| s.started)
+            .map(|s| s.access)
+            .collect();
+        list.sort();
+        let equal = list.windows(2).any(|two| two[0] == two[1]);
+        must(!equal, "two started with one AccessType")
+    }
+
     /// After every call that wrote: the places, and each waiting linked session behind the one it names.
     fn holds(&self) -> Kept {
         let counts = self.counts();
@@ -392,6 +447,7 @@ impl Books {
         let all: usize = counts.iter().sum();
         must(all <= 64, "more than 64 waiting")?;
         must(self.held.len() - all <= 10, "more than 10 started")?;
+        self.apart()?;
         for (place, s) in self.held.iter().enumerate() {
             must(
                 self.open[usize::from(s.conn)],
@@ -429,7 +485,7 @@ fn well_formed(record: &Record) -> Kept {
         id::INIT_RESPONSE => 34,
         id::ALIVE_RESPONSE => 16,
         id::SPLICE_RESPONSE | id::ABORT_RESPONSE => 4,
-        id::SPLICE_COMPLETE_RESPONSE => 13,
+        COMPLETE => 13,
         _ => return must(false, "a MessageID that is not written"),
     };
     must(record.data.len() == size, "a record of another size")?;

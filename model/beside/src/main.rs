@@ -26,7 +26,7 @@ const FOR_A_FAULT: u64 = 52;
 const BOOKED: &[Fault] = &[
     Fault::OnlyDirectFollower,
     Fault::CountedAfterEviction,
-    Fault::EqualOverrides,
+    Fault::EqualStartsWithoutFlag,
     Fault::ThreeSecondsTooLate,
     Fault::OwnCollisionsOnly,
     Fault::CoveredEnd100,
@@ -45,7 +45,7 @@ const BOOKED: &[Fault] = &[
     Fault::ReopenedInitialised,
     Fault::ClockBeforeMicros,
     Fault::LowestOnAirAgain,
-    Fault::EqualEvicts,
+    Fault::EqualPassesWithoutFlag,
     Fault::OthersNumbersHeld,
     Fault::AliveOwnOnly,
     Fault::InstantLeftOver,
@@ -59,6 +59,15 @@ const BOOKED: &[Fault] = &[
     Fault::LinkedStartRounded,
     Fault::NothingAfterClose,
     Fault::ZeroAnsweredBeforeInit,
+    Fault::EqualRefused,
+    Fault::EqualEvicted125,
+    Fault::EqualFailsAtStart,
+    Fault::EqualCovered,
+    Fault::EqualResumed,
+    Fault::EqualFollowers109,
+    Fault::EqualLeavesFollowers,
+    Fault::EqualEnds100,
+    Fault::EqualEndsBehindStart,
 ];
 
 fn main() {

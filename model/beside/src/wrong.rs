@@ -45,6 +45,10 @@ pub const COUNTING: &[(&str, &str)] = &[
         "count-failed-followers",
         "a failed start leaves its followers counted",
     ),
+    (
+        "count-ended-followers",
+        "an equal start leaves the ended one's followers counted",
+    ),
     ("count-evicted", "an eviction leaves its session counted"),
     (
         "count-evicted-followers",
@@ -243,6 +247,7 @@ fn forgets(call: &Call, place: usize, all: usize, record: &Record) -> &'static s
     match (call, complete, record.result) {
         (Call::Tick(..), true, 100) if record.data[4] == 0 => "count-start",
         (Call::Tick(..), true, 109) => "count-failed-start",
+        (Call::Tick(..), false, 125) => "count-ended-followers",
         (Call::Tick(..), false, _) => "count-failed-followers",
         // A Splice_Request's own answer is the last record; the evicted one comes first.
         (Call::Message(_, bytes), false, 109) if is_splice(bytes) && place + 1 < all => {
