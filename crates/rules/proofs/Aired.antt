@@ -11,14 +11,14 @@ use Rattle.rules.specs.declared.Session.{Session}
 use Rattle.rules.specs.Lists.{place, removeAt}
 use Rattle.rules.specs.State.{Queue, empty, startsAt, withWaiting}
 use Rattle.rules.specs.Ends.{Turn, andThen, evicted, dismissed}
-use Rattle.rules.specs.Instants.{mayStart, launched, startAt, endAt, instant, onAir, elapse}
+use Rattle.rules.specs.Instants.{mayStart, ousted, launched, startAt, endAt, instant, onAir, elapse}
 use Rattle.rules.specs.Answers.{sessionAt, requested, accepted}
 use Rattle.rules.specs.Calls.{Call}
 use Rattle.rules.proofs.Tests.{by}
 use Rattle.rules.proofs.All.{All, all-into}
 use Rattle.rules.proofs.Count.{place-holds}
 use Rattle.rules.proofs.Every.{all-getD, all-inserted, fewer-removeAt, fewer-all, FewerHeld}
-use Rattle.rules.proofs.Leaving.{dismissed-fewer, endAt-fewer, evicted-fewer, aborted-fewer, closedBy-fewer}
+use Rattle.rules.proofs.Leaving.{dismissed-fewer, ousted-fewer, endAt-fewer, evicted-fewer, aborted-fewer, closedBy-fewer}
 use Rattle.rules.proofs.Always.{KeptHeld}
 use Rattle.rules.proofs.Tick.{Due, meets, elapse-due, tick-through}
 use Rattle.rules.proofs.Timed.{OnTime, timed-fewer, instant-timed, elapse-timed, wait-timed, meets-after, accept-timed}
@@ -63,7 +63,9 @@ instant-played t q h =
     one l =
         let b = eqb-true t (s .start .0) (place-holds (startsAt t) (u .waiting) empty l) in
         let a = all-getD (λ x. x .played .0 ≡ 0) (u .waiting) i empty l (g .silent) in
-        by (λ (r : Turn). Played t (r .queue)) (mayStart s (v .started)) _ _ (λ e. record { silent = left; since = (omega arith, g .since) })
+        by (λ (r : Turn). Played t (r .queue)) (mayStart s (v .started)) _ _
+        (λ e. let k = played-fewer t v (ousted s v .queue) (ousted-fewer s v) (record { silent = left; since = g .since }) in
+        record { silent = k .silent; since = (omega arith, k .since) })
         (λ e. played-fewer t v _ (dismissed-fewer v 109 (s .conn) (s .id)) (record { silent = left; since = g .since }))
 
 pub record Aired (now : ℕ) (q : Queue) : Type 0 where

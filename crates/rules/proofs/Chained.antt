@@ -16,14 +16,15 @@ use Rattle.rules.specs.Lists.{bit, keep, omit, count, place, removeAt}
 use Rattle.rules.specs.Reading.{nobody}
 use Rattle.rules.specs.State.{Queue, Splicer, empty, of, is, follows, startsAt, endsAt, held, holds, withWaiting, withStarted}
 use Rattle.rules.specs.Ends.{Turn, Walk, andThen, followers, dismissed, evictedAt, evicted, cancelled, aborted, closedBy}
-use Rattle.rules.specs.Instants.{mayStart, launched, startAt, endAt, instant, elapse, runAll}
+use Rattle.rules.specs.Instants.{mayStart, meetsEqual, ousted, launched, startAt, endAt, instant, elapse, runAll}
 use Rattle.rules.specs.Answers.{startOf, priorOf, sessionAt, requested, unknownPrior, accepted}
 use Rattle.rules.specs.Calls.{Call, fresh, after}
 use Rattle.rules.proofs.Tests.{clash, by, failed, and-both, both-and, eqb-same}
 use Rattle.rules.proofs.All.{All, all-append, all-into}
 use Rattle.rules.proofs.Count.{count-append, count-split, count-other, count-removeAt, place-holds, place-none, some-place, some-one}
-use Rattle.rules.proofs.Every.{all-any, all-both, all-kept, all-getD, none-all, all-counted, all-inserted, fewer-keep, fewer-removeAt, fewer-all, Each, all-held}
+use Rattle.rules.proofs.Every.{all-any, all-keep, all-both, all-kept, all-getD, none-all, all-counted, all-inserted, fewer-keep, fewer-removeAt, fewer-all, Each, all-held}
 use Rattle.rules.proofs.Walk.{followed, followers-gone}
+use Rattle.rules.proofs.Leaving.{meets-some}
 use Rattle.rules.proofs.Always.{Admitted, KeptHeld, held-always}
 use Rattle.rules.proofs.Tick.{Due, elapse-due, tick-through}
 use Rattle.rules.proofs.Sessions.{heldCount, count-held, each-instant, each-elapse, held-instant, held-elapse, held-accepted}
@@ -91,13 +92,26 @@ ended-other t s k h =
 own-is : (s : Session) → is (s .conn) (s .id) s ≡ true
 own-is s = both-and (eqb (s .conn) (s .conn)) (eqb (s .id) (s .id)) (eqb-same (s .conn)) (eqb-same (s .id))
 
+-- with s about to start, the equal one on air ends, and all that were tied to it
+ousted-tied : (s : Session) (q : Queue) → All Proper (q .started) → Orderly (q .waiting) → All (Tied (λ p. count p (s ∷ []) + heldCount q p)) (q .waiting)
+    → All (Tied (λ p. count p (ousted s q .queue .waiting) + count p (s ∷ ousted s q .queue .started))) (ousted s q .queue .waiting)
+unfolding ousted andThen dismissed
+ousted-tied s q a o t =
+    let air = getD (q .started) 0 empty in
+    let u = withStarted (s ∷ removeAt 0 (q .started)) q in
+    by (λ (r : Turn). All (Tied (λ p. count p (r .queue .waiting) + count p (s ∷ r .queue .started))) (r .queue .waiting)) (meetsEqual s (q .started)) _ _
+    (λ e. let l = meets-some s (q .started) e in
+    dismissed-tied 125 (air .conn) (air .id) u (air ∷ []) (all-getD Proper (q .started) 0 empty l a .somebody) o (own-is air, tt)
+    (tied-more (λ p. count p (s ∷ []) + heldCount q p) (λ p. count p (air ∷ []) + heldCount u p) (λ p. omega (arith, count-removeAt p 0 (q .started) empty l)) (q .waiting) t))
+    (λ e. tied-more (λ p. count p (s ∷ []) + heldCount q p) (λ p. count p (q .waiting) + count p (s ∷ q .started)) (λ p. omega arith) (q .waiting) t)
+
 -- s, which no longer waits, starts or fails
-launched-tied : (s : Session) (q : Queue) → Proper s → Orderly (q .waiting) → All (Tied (λ p. count p (s ∷ []) + heldCount q p)) (q .waiting)
+launched-tied : (s : Session) (q : Queue) → Proper s → All Proper (q .started) → Orderly (q .waiting) → All (Tied (λ p. count p (s ∷ []) + heldCount q p)) (q .waiting)
     → All (Tied (heldCount (launched s q .queue))) (launched s q .queue .waiting)
 unfolding launched andThen
-launched-tied s q a o t =
+launched-tied s q a k o t =
     by (λ (r : Turn). All (Tied (heldCount (r .queue))) (r .queue .waiting)) (mayStart s (q .started)) _ _
-    (λ e. tied-more (λ p. count p (s ∷ []) + heldCount q p) (λ p. count p (q .waiting) + count p (s ∷ q .started)) (λ p. omega arith) (q .waiting) t)
+    (λ e. ousted-tied s q k o t)
     (λ e. dismissed-tied 109 (s .conn) (s .id) q (s ∷ []) (a .somebody) o (own-is s, tt) t)
 
 instant-tied : (now t : ℕ) (q : Queue) → Chained now q → Due t q → All (Tied (heldCount (instant t q .queue))) (instant t q .queue .waiting)
@@ -122,7 +136,7 @@ instant-tied now t q h d =
 
     one : i < length (q .waiting) → All (Tied (heldCount (launched s (withWaiting w u) .queue))) (launched s (withWaiting w u) .queue .waiting)
     one l =
-        launched-tied s (withWaiting w u) (all-getD Proper (q .waiting) i empty l (h .proper .waiting)) (orderly-fewer (q .waiting) w (fewer-removeAt i (q .waiting)) (orderly now q h))
+        launched-tied s (withWaiting w u) (all-getD Proper (q .waiting) i empty l (h .proper .waiting)) (all-keep Proper (λ v. not (endsAt t v)) (q .started) (h .proper .started)) (orderly-fewer (q .waiting) w (fewer-removeAt i (q .waiting)) (orderly now q h))
         (ended-tied t (heldCount q) (λ p. count p (s ∷ []) + heldCount (withWaiting w u) p)
         (λ v lt. omega (arith, ended-other t v (q .started) lt, count-removeAt (isPrior v) i (q .waiting) empty l)) w
         (after-t t w (fewer-all (λ v. t ≤ v .start .0) (fewer-removeAt i (q .waiting)) (d .starts)) (starts-removed t (q .waiting) (h .timed .sorted) l))

@@ -16,10 +16,10 @@ use Rattle.rules.specs.declared.Message.the-variants.{Splice}
 use Rattle.rules.specs.Lists.{put, keep, place, removeAt}
 use Rattle.rules.specs.Bytes.{messageSize}
 use Rattle.rules.specs.Reading.{read, readSplice, dataIn, sessionID, spliceRequest}
-use Rattle.rules.specs.State.{Queue, Splicer, empty, of, is, startsAt, endsAt, due, notAfter, withWaiting}
+use Rattle.rules.specs.State.{Queue, Splicer, empty, of, is, startsAt, endsAt, due, notAfter, withWaiting, withStarted}
 use Rattle.rules.specs.Records.{Record, output, recordsIn}
 use Rattle.rules.specs.Ends.{Turn, andThen, ended, endings, followers, dismissed, evictedAt, evicted, cancelled, aborted, closedBy}
-use Rattle.rules.specs.Instants.{mayStart, began, launched, startAt, endAt, instant, elapse, run, runAll}
+use Rattle.rules.specs.Instants.{mayStart, began, meetsEqual, ousted, launched, startAt, endAt, instant, elapse, run, runAll}
 use Rattle.rules.specs.Answers.{airState, airID, aliveResponse, sessionAt, requested, accepts, accepted, answer}
 use Rattle.rules.specs.Calls.{Answer, refused, good, ticked, Call, call, writtenBy}
 use Rattle.rules.proofs.Tests.{by}
@@ -29,9 +29,9 @@ use Rattle.rules.proofs.Records.{Fits, read-back}
 use Rattle.rules.proofs.Readings.{splice-grants}
 use Rattle.rules.proofs.Cases.{Answering, cases}
 use Rattle.rules.specs.Asked.{Asked}
-use Rattle.rules.proofs.Every.{all-keep, all-both, all-getD, fewer-all, fewer-removeAt, Each, fewer-each}
+use Rattle.rules.proofs.Every.{all-keep, all-both, all-getD, fewer-all, fewer-removeAt, Each, FewerHeld, fewer-each}
 use Rattle.rules.proofs.Walk.{followers-gone}
-use Rattle.rules.proofs.Leaving.{endAt-fewer, cancelled-fewer}
+use Rattle.rules.proofs.Leaving.{meets-some, removed-fewer, endAt-fewer, cancelled-fewer}
 use Rattle.rules.proofs.Always.{Wired}
 use Rattle.rules.proofs.Tick.{Due, meets, due-first, due-meets, elapse-due, moved, by-next}
 use Rattle.rules.proofs.Timed.{meets-after}
@@ -88,6 +88,9 @@ all-endings Q air cover f g p (s ∷ k) a = go (p s)
 both : (q : Queue) → Tellable q → All (λ s. Numbered s × Short s) (q .started)
 both q h = all-both Numbered Short (q .started) (h .numbered .started) (h .short)
 
+tell-fewer : (q r : Queue) → FewerHeld q r → Tellable q → Tellable r
+tell-fewer q r f h = record { numbered = fewer-each Numbered q r f (h .numbered); short = fewer-all Short (f .started) (h .short) }
+
 dismissed-fits : (r c x : ℕ) (q : Queue) → r < 65536 → Each Numbered q → All Fits (dismissed r c x q .written)
 unfolding dismissed
 dismissed-fits r c x q e h =
@@ -130,19 +133,33 @@ accepted-fits s q f h = all-append Fits (evicted (s .start .0) q .written) (acce
 
 -- ## Instants
 
-launched-fits : (s : Session) (q : Queue) → Numbered s → Each Numbered q → All Fits (launched s q .written)
+ousted-fits : (s : Session) (q : Queue) → Tellable q → All Fits (ousted s q .written)
+unfolding ousted andThen
+ousted-fits s q h =
+    let air = getD (q .started) 0 empty in
+    let u = withStarted (removeAt 0 (q .started)) q in
+    by (λ (r : Turn). All Fits (r .written)) (meetsEqual s (q .started)) _ _
+    (λ e. let a = all-getD (λ v. Numbered v × Short v) (q .started) 0 empty (meets-some s (q .started) e) (both q h) in (
+      out-fits 125 air (omega arith) (a .0) (a .1),
+      dismissed-fits 125 (air .conn) (air .id) u (omega arith)
+          (record { waiting = h .numbered .waiting; started = fewer-all Numbered (fewer-removeAt 0 (q .started)) (h .numbered .started) }),
+    ))
+    (λ e. tt)
+
+launched-fits : (s : Session) (q : Queue) → Numbered s → Tellable q → All Fits (launched s q .written)
 unfolding launched andThen
 launched-fits s q a h =
-    by (λ (r : Turn). All Fits (r .written)) (mayStart s (q .started)) _ _ (λ e. (began-fits s a, tt))
-    (λ e. (failed-fits s a, dismissed-fits 109 (s .conn) (s .id) q (omega arith) h))
+    by (λ (r : Turn). All Fits (r .written)) (mayStart s (q .started)) _ _
+    (λ e. all-append Fits (ousted s q .written) (began s ∷ []) (ousted-fits s q h) (began-fits s a, tt))
+    (λ e. (failed-fits s a, dismissed-fits 109 (s .conn) (s .id) q (omega arith) (h .numbered)))
 
-startAt-fits : (t : ℕ) (q : Queue) → Each Numbered q → All Fits (startAt t q .written)
+startAt-fits : (t : ℕ) (q : Queue) → Tellable q → All Fits (startAt t q .written)
 unfolding startAt
 startAt-fits t q h =
     let i = place (startsAt t) (q .waiting) in
     by (λ (r : Turn). All Fits (r .written)) (ltb i (length (q .waiting))) _ _
-    (λ e. launched-fits (getD (q .waiting) i empty) (withWaiting (removeAt i (q .waiting)) q) (all-getD Numbered (q .waiting) i empty (ltb-true i (length (q .waiting)) e) (h .waiting))
-    (record { waiting = fewer-all Numbered (fewer-removeAt i (q .waiting)) (h .waiting); started = h .started }))
+    (λ e. launched-fits (getD (q .waiting) i empty) (withWaiting (removeAt i (q .waiting)) q) (all-getD Numbered (q .waiting) i empty (ltb-true i (length (q .waiting)) e) (h .numbered .waiting))
+    (tell-fewer q _ (removed-fewer q i) h))
     (λ e. tt)
 
 endAt-fits : (t : ℕ) (q : Queue) → Tellable q → All Fits (endAt t q .written)
@@ -155,7 +172,7 @@ instant-fits : (t : ℕ) (q : Queue) → Tellable q → All Fits (instant t q .w
 unfolding instant andThen
 instant-fits t q h =
     all-append Fits (endAt t q .written) (startAt t (endAt t q .queue) .written) (endAt-fits t q h)
-    (startAt-fits t (endAt t q .queue) (fewer-each Numbered q (endAt t q .queue) (endAt-fewer q t) (h .numbered)))
+    (startAt-fits t (endAt t q .queue) (tell-fewer q (endAt t q .queue) (endAt-fewer q t) h))
 
 -- ## A tick
 

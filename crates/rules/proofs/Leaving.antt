@@ -1,15 +1,17 @@
 -- Ends, followers, eviction, abort and close leave fewer sessions, in their order. Assumes nothing.
 use mathlib.Core.Path.{_≡_, refl}
-use mathlib.Core.Bool.{Bool, not}
-use Prim.Native.Nat.{ℕ}
+use mathlib.Core.Bool.{Bool, true, false, not}
+use mathlib.Core.List.{List, [], _∷_}
+use Prim.Native.Nat.{ℕ, _<_}
+use native.Mathlib.Omega.{arith}
 use lib.Dec.{ltb}
 use lib.ListN.{length, getD}
 use Rattle.rules.specs.declared.Session.{Session}
 use Rattle.rules.specs.Lists.{place, removeAt}
-use Rattle.rules.specs.State.{Queue, empty, of, is, startsAt, endsAt, withWaiting}
+use Rattle.rules.specs.State.{Queue, empty, of, is, startsAt, endsAt, withWaiting, withStarted}
 use Rattle.rules.specs.Ends.{Turn, andThen, dismissed, evictedAt, evicted, cancelled, aborted, closedBy}
-use Rattle.rules.specs.Instants.{endAt}
-use Rattle.rules.proofs.Tests.{by}
+use Rattle.rules.specs.Instants.{meetsEqual, ousted, endAt}
+use Rattle.rules.proofs.Tests.{clash, by}
 use Rattle.rules.proofs.Every.{fewer-same, fewer-keep, fewer-removeAt, FewerHeld, held-then, held-same}
 use Rattle.rules.proofs.Walk.{followed}
 
@@ -48,6 +50,21 @@ aborted-fewer c x q = held-then q _ _ (cancelled-fewer q (is c x)) (dismissed-fe
 pub closedBy-fewer : (c : ℕ) (q : Queue) → FewerHeld q (closedBy c q .queue)
 unfolding closedBy
 closedBy-fewer c q = cancelled-fewer q (of c)
+
+-- an equal one on air is there
+pub meets-some : (s : Session) (k : List Session) → meetsEqual s k ≡ true → 0 < length k
+unfolding meetsEqual
+meets-some s [] e = absurd (clash false e refl)
+meets-some s (a ∷ k) e = omega arith
+
+pub ousted-fewer : (s : Session) (q : Queue) → FewerHeld q (ousted s q .queue)
+unfolding ousted andThen
+ousted-fewer s q =
+    let air = getD (q .started) 0 empty in
+    let u = withStarted (removeAt 0 (q .started)) q in
+    by (λ (r : Turn). FewerHeld q (r .queue)) (meetsEqual s (q .started)) _ _
+    (λ e. held-then q u _ (record { waiting = fewer-same (q .waiting); started = fewer-removeAt 0 (q .started) }) (dismissed-fewer u 125 (air .conn) (air .id)))
+    (λ e. held-same q)
 
 pub evicted-started : (t : ℕ) (q : Queue) → evicted t q .queue .started ≡ q .started
 unfolding evicted evictedAt andThen dismissed

@@ -1,20 +1,21 @@
 -- The AccessTypes of the started fall strictly and are at most 9, so at most ten have started. Assumes nothing.
-use mathlib.Core.Path.{_≡_}
-use mathlib.Core.Bool.{true}
-use mathlib.Core.List.{List, [], _∷_}
+use mathlib.Core.Path.{_≡_, refl}
+use mathlib.Core.Bool.{true, false}
+use mathlib.Core.List.{List, [], _∷_, _++_, map}
 use Prim.Native.Nat.{ℕ, _+_, _*_, _≤_, _<_}
 use native.Mathlib.Omega.{arith}
 use lib.Dec.{eqb, ltb}
 use lib.ListN.{length, getD}
-use borrow.Author.Tests.{ltb-true}
+use borrow.Author.Tests.{eqb-true, eqb-false, eq-eqb, ltb-true, lt-ltb}
 use Rattle.rules.specs.declared.Session.{Session}
+use Rattle.rules.specs.declared.Ending.the-variants.{Complete, Response}
 use Rattle.rules.specs.Lists.{place, removeAt}
 use Rattle.rules.specs.State.{Queue, empty, startsAt, withWaiting}
-use Rattle.rules.specs.Ends.{Turn, andThen, dismissed}
-use Rattle.rules.specs.Instants.{outranks, mayStart, launched, startAt, endAt, instant, onAir, elapse, runAll}
+use Rattle.rules.specs.Ends.{Turn, andThen, ended, followers, dismissed}
+use Rattle.rules.specs.Instants.{outranks, mayStart, began, meetsEqual, ousted, launched, startAt, endAt, instant, onAir, elapse, runAll}
 use Rattle.rules.specs.Answers.{requested, accepted}
 use Rattle.rules.specs.Calls.{Call, fresh, after}
-use Rattle.rules.proofs.Tests.{by, and-both}
+use Rattle.rules.proofs.Tests.{clash, by, and-both}
 use Rattle.rules.proofs.All.{All, all-into}
 use Rattle.rules.proofs.Every.{Fewer, none, less, stay, fewer-all}
 use Rattle.rules.proofs.Leaving.{endAt-fewer, evicted-started, aborted-fewer, closedBy-fewer}
@@ -27,21 +28,39 @@ fewer-falling none f = tt
 fewer-falling (less h) f = fewer-falling h (f .1)
 fewer-falling (stay {x = s} h) f = (fewer-all (λ u. u .access < s .access) h (f .0), fewer-falling h (f .1))
 
-falling-push : (s : Session) (k : List Session) → mayStart s k ≡ true → Falling k → Falling (s ∷ k)
-unfolding mayStart
-falling-push s [] e f = (tt, tt)
-falling-push s (a ∷ k) e f =
-    let h = ltb-true (a .access) (s .access) (and-both (eqb (s .overrides) 1) (outranks s a) e .1) in
+-- one that may start and meets no equal one is above all
+falling-push : (s : Session) (k : List Session) → mayStart s k ≡ true → meetsEqual s k ≡ false → Falling k → Falling (s ∷ k)
+unfolding mayStart meetsEqual
+falling-push s [] e n f = (tt, tt)
+falling-push s (a ∷ k) e n f =
+    let b = and-both (eqb (s .overrides) 1) (outranks s a) e in
+    let o = eqb-true (s .overrides) 1 (b .0) in
+    let l = ltb-true (a .access) (s .access + s .overrides) (b .1) in
+    let d = eqb-false (a .access) (s .access) n in
+    let h : a .access < s .access = omega arith in
     ((h, all-into (λ u. u .access < a .access) (λ u. u .access < s .access) (λ u i. omega arith) k (f .0)), f)
+
+-- one that meets an equal one takes its place
+falling-equal : (s : Session) (k : List Session) → meetsEqual s k ≡ true → Falling k → Falling (s ∷ removeAt 0 k)
+unfolding meetsEqual removeAt
+falling-equal s [] e f = absurd (clash false e refl)
+falling-equal s (a ∷ k) e f =
+    let h = eqb-true (a .access) (s .access) e in
+    (all-into (λ u. u .access < a .access) (λ u. u .access < s .access) (λ u i. omega arith) k (f .0), f .1)
 
 pub falling-onAir : (d : ℕ) (k : List Session) → Falling k → Falling (onAir d k)
 unfolding onAir
 falling-onAir d [] f = f
 falling-onAir d (s ∷ k) f = f
 
+falling-ousted : (s : Session) (q : Queue) → mayStart s (q .started) ≡ true → Falling (q .started) → Falling (s ∷ ousted s q .queue .started)
+unfolding ousted andThen dismissed
+falling-ousted s q m f =
+    by (λ (r : Turn). Falling (s ∷ r .queue .started)) (meetsEqual s (q .started)) _ _ (λ e. falling-equal s (q .started) e f) (λ e. falling-push s (q .started) m e f)
+
 falling-launched : (s : Session) (q : Queue) → Falling (q .started) → Falling (launched s q .queue .started)
 unfolding launched andThen dismissed
-falling-launched s q f = by (λ (r : Turn). Falling (r .queue .started)) (mayStart s (q .started)) _ _ (λ e. falling-push s (q .started) e f) (λ e. f)
+falling-launched s q f = by (λ (r : Turn). Falling (r .queue .started)) (mayStart s (q .started)) _ _ (λ e. falling-ousted s q e f) (λ e. f)
 
 pub falling-instant : (t : ℕ) (q : Queue) → Falling (q .started) → Falling (instant t q .queue .started)
 unfolding instant andThen startAt
@@ -73,6 +92,18 @@ falling-kept =
 
 pub falling-always : (ks : List Call) (name : List ℕ) → Falling (after ks (fresh name .splicer) .queue .started)
 falling-always = held-always (λ now q. Falling (q .started)) falling-kept tt
+
+-- ## A start that ends an equal one
+
+-- "SpliceComplete flag 1, result 125, and its waiting followers end with Splice_Response 125, all before the new start's record": these records and
+-- no others, in this order; the covered ones stay as they were, under the new one
+pub equal-start : (s air : Session) (w k : List Session) → s .overrides ≡ 1 → air .access ≡ s .access
+    → let f = followers (air .conn) (air .id) w in
+    launched s (record { waiting = w; started = air ∷ k })
+    ≡ record { queue = record { waiting = f .left; started = s ∷ k }; written = ended (Complete 125) air ∷ (map (ended (Response 125)) (f .gone) ++ (began s ∷ [])) }
+unfolding launched mayStart meetsEqual ousted andThen dismissed removeAt
+equal-start s air w k o e =
+    rw (eq-eqb (s .overrides) 1 o, lt-ltb (air .access) (s .access + s .overrides) (omega arith), eq-eqb (air .access) (s .access) e) refl
 
 -- ## At most ten
 

@@ -11,13 +11,13 @@ use Rattle.rules.specs.declared.Request.{Request}
 use Rattle.rules.specs.Lists.{bit, count, place, removeAt}
 use Rattle.rules.specs.State.{Queue, Splicer, empty, startsAt, startsAfter, held, withWaiting}
 use Rattle.rules.specs.Ends.{Turn, andThen, evicted}
-use Rattle.rules.specs.Instants.{mayStart, launched, startAt, endAt, instant, playing, elapse, runAll}
+use Rattle.rules.specs.Instants.{mayStart, ousted, launched, startAt, endAt, instant, playing, elapse, runAll}
 use Rattle.rules.specs.Answers.{requested, accepted, inserted}
 use Rattle.rules.specs.Calls.{Call}
 use Rattle.rules.proofs.Tests.{by}
 use Rattle.rules.proofs.Count.{count-append, count-removeAt, count-insertAt}
 use Rattle.rules.proofs.Every.{all-getD, all-inserted, Fewer, fewer-same, fewer-then, fewer-removeAt, fewer-all, fewer-count, Each, FewerHeld, fewer-each}
-use Rattle.rules.proofs.Leaving.{dismissed-fewer, endAt-fewer, evicted-fewer, aborted-fewer, closedBy-fewer}
+use Rattle.rules.proofs.Leaving.{dismissed-fewer, ousted-fewer, endAt-fewer, evicted-fewer, aborted-fewer, closedBy-fewer}
 use Rattle.rules.proofs.Always.{Admitted, KeptHeld}
 use Rattle.rules.proofs.Tick.{all-onAir, count-onAir, run-law}
 pub use Rattle.rules.specs.Sound.{heldCount}
@@ -32,7 +32,8 @@ module _ (P : Session → Type 0) (plays : (d : ℕ) (s : Session) → P s → P
   each-launched : (s : Session) (q : Queue) → P s → Each P q → Each P (launched s q .queue)
   unfolding launched andThen
   each-launched s q a h =
-      by (λ (r : Turn). Each P (r .queue)) (mayStart s (q .started)) _ _ (λ e. record { waiting = h .waiting; started = (a, h .started) })
+      by (λ (r : Turn). Each P (r .queue)) (mayStart s (q .started)) _ _
+      (λ e. let k = fewer-each P q (ousted s q .queue) (ousted-fewer s q) h in record { waiting = k .waiting; started = (a, k .started) })
       (λ e. fewer-each P q _ (dismissed-fewer q 109 (s .conn) (s .id)) h)
 
   each-startAt : (t : ℕ) (q : Queue) → Each P q → Each P (startAt t q .queue)
@@ -96,7 +97,8 @@ module _ (p : Session → Bool) (plays : (d : ℕ) (s : Session) → p (playing 
   held-launched : (s : Session) (q : Queue) → heldCount (launched s q .queue) p ≤ bit (p s) + heldCount q p
   unfolding launched andThen
   held-launched s q =
-      by (λ (r : Turn). heldCount (r .queue) p ≤ bit (p s) + heldCount q p) (mayStart s (q .started)) _ _ (λ e. omega arith)
+      by (λ (r : Turn). heldCount (r .queue) p ≤ bit (p s) + heldCount q p) (mayStart s (q .started)) _ _
+      (λ e. omega (arith, fewer-held p q (ousted s q .queue) (ousted-fewer s q)))
       (λ e. omega (arith, fewer-held p q _ (dismissed-fewer q 109 (s .conn) (s .id))))
 
   held-startAt : (t : ℕ) (q : Queue) → heldCount (startAt t q .queue) p ≤ heldCount q p
@@ -130,7 +132,7 @@ module _ (p : Session → Bool) (plays : (d : ℕ) (s : Session) → p (playing 
 waiting-launched : (s : Session) (q : Queue) → Fewer (q .waiting) (launched s q .queue .waiting)
 unfolding launched andThen
 waiting-launched s q =
-    by (λ (r : Turn). Fewer (q .waiting) (r .queue .waiting)) (mayStart s (q .started)) _ _ (λ e. fewer-same (q .waiting)) (λ e. dismissed-fewer q 109 (s .conn) (s .id) .waiting)
+    by (λ (r : Turn). Fewer (q .waiting) (r .queue .waiting)) (mayStart s (q .started)) _ _ (λ e. ousted-fewer s q .waiting) (λ e. dismissed-fewer q 109 (s .conn) (s .id) .waiting)
 
 waiting-startAt : (t : ℕ) (q : Queue) → Fewer (q .waiting) (startAt t q .queue .waiting)
 unfolding startAt

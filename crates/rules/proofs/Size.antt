@@ -11,10 +11,10 @@ use Rattle.rules.specs.declared.Session.{Session}
 use Rattle.rules.specs.declared.Ending.{Ending}
 use Rattle.rules.specs.declared.Ending.the-variants.{Complete, Failed, Response}
 use Rattle.rules.specs.Lists.{put, keep, place, removeAt}
-use Rattle.rules.specs.State.{Queue, Splicer, empty, of, is, startsAt, endsAt, toCome, withWaiting}
+use Rattle.rules.specs.State.{Queue, Splicer, empty, of, is, startsAt, endsAt, toCome, withWaiting, withStarted}
 use Rattle.rules.specs.Records.{Record, General, InitResponse, AliveResponse, SpliceResponse, AbortResponse, output}
 use Rattle.rules.specs.Ends.{Turn, quiet, andThen, ended, endings, followers, dismissed, evictedAt, evicted, cancelled, aborted, closedBy}
-use Rattle.rules.specs.Instants.{mayStart, began, launched, startAt, endAt, instant, runAll}
+use Rattle.rules.specs.Instants.{mayStart, began, meetsEqual, ousted, launched, startAt, endAt, instant, runAll}
 use Rattle.rules.specs.Answers.{Answered, requested, accepts, accepted, aliveResponse, answer}
 use Rattle.rules.specs.Calls.{writtenBy, ticked, Call, call}
 use Rattle.rules.proofs.Tests.{by}
@@ -23,6 +23,7 @@ use Rattle.rules.proofs.Count.{length-split, length-removeAt}
 use Rattle.rules.proofs.Records.{sizeOf, Roomy, length-output}
 use Rattle.rules.proofs.Written.{output-append}
 use Rattle.rules.proofs.Walk.{followed}
+use Rattle.rules.proofs.Leaving.{meets-some}
 use Rattle.rules.proofs.Tick.{elapse-toCome, run-law}
 
 -- the bytes of some records
@@ -118,10 +119,22 @@ Brief q t = weight (t .written) + 23 * toCome (t .queue) ≤ 23 * toCome q
 pub brief-join : (q : Queue) (t u : Turn) → Brief q t → Brief (t .queue) u → Brief q (record { queue = u .queue; written = t .written ++ u .written })
 brief-join q t u a b = omega (arith, a, b, weight-append (t .written) (u .written))
 
+pub ousted-brief : (s : Session) (q : Queue) → Brief q (ousted s q)
+unfolding ousted andThen dismissed
+ousted-brief s q =
+    let air = getD (q .started) 0 empty in
+    let u = withStarted (removeAt 0 (q .started)) q in
+    by (Brief q) (meetsEqual s (q .started)) _ _
+    (λ e. brief-join q (record { queue = u; written = ended (Complete 125) air ∷ [] }) (dismissed 125 (air .conn) (air .id) u)
+    (omega (arith, weight-one (ended (Complete 125) air) tt, length-removeAt 0 (q .started) (meets-some s (q .started) e)))
+    (omega (arith, weight-responses 125 (followers (air .conn) (air .id) (q .waiting) .gone), followed (air .conn) (air .id) (q .waiting) .lengths)))
+    (λ e. omega (arith, weight-none))
+
 pub launched-brief : (s : Session) (q : Queue) → weight (launched s q .written) + 23 * toCome (launched s q .queue) ≤ 23 * (2 + toCome q)
 unfolding launched andThen dismissed
 launched-brief s q =
-    by (λ (r : Turn). weight (r .written) + 23 * toCome (r .queue) ≤ 23 * (2 + toCome q)) (mayStart s (q .started)) _ _ (λ e. omega (arith, weight-one (began s) tt))
+    by (λ (r : Turn). weight (r .written) + 23 * toCome (r .queue) ≤ 23 * (2 + toCome q)) (mayStart s (q .started)) _ _
+    (λ e. omega (arith, weight-append (ousted s q .written) (began s ∷ []), weight-one (began s) tt, ousted-brief s q))
     (λ e. let f = followers (s .conn) (s .id) (q .waiting) in
     omega (
       arith,
@@ -139,12 +152,13 @@ startAt-brief t q =
     (λ e. omega (arith, launched-brief (getD (q .waiting) i empty) (withWaiting (removeAt i (q .waiting)) q), length-removeAt i (q .waiting) (ltb-true i (length (q .waiting)) e)))
     (λ e. omega (arith, weight-none))
 
+pub endAt-brief : (t : ℕ) (q : Queue) → Brief q (endAt t q)
+unfolding endAt
+endAt-brief t q = omega (arith, weight-endings (Complete 100) (Complete 125) (endsAt t) (q .started), length-split (endsAt t) (q .started))
+
 pub instant-brief : (t : ℕ) (q : Queue) → Brief q (instant t q)
-unfolding instant andThen endAt
-instant-brief t q =
-    brief-join q (endAt t q) (startAt t (endAt t q .queue))
-    (omega (arith, weight-endings (Complete 100) (Complete 125) (endsAt t) (q .started), length-split (endsAt t) (q .started)))
-    (startAt-brief t (endAt t q .queue))
+unfolding instant andThen
+instant-brief t q = brief-join q (endAt t q) (startAt t (endAt t q .queue)) (endAt-brief t q) (startAt-brief t (endAt t q .queue))
 
 pub tick-brief : (now until : ℕ) (q : Queue) → Brief q (runAll now until q)
 unfolding runAll

@@ -20,7 +20,7 @@ use Rattle.rules.proofs.Tests.{tests, by, eqb-same}
 use Rattle.rules.proofs.All.{All, all-into}
 use Rattle.rules.proofs.Count.{length-removeAt, length-split, length-keep, place-none}
 use Rattle.rules.proofs.Every.{fewer-length}
-use Rattle.rules.proofs.Leaving.{dismissed-fewer}
+use Rattle.rules.proofs.Leaving.{dismissed-fewer, ousted-fewer}
 
 -- ## The sooner of two
 
@@ -228,7 +228,8 @@ module _ (t d : ℕ) (q : Queue) where
 launched-less : (s : Session) (q : Queue) → toCome (launched s q .queue) ≤ suc (toCome q)
 unfolding launched andThen
 launched-less s q =
-    by (λ (r : Turn). toCome (r .queue) ≤ suc (toCome q)) (mayStart s (q .started)) _ _ (λ e. omega arith)
+    by (λ (r : Turn). toCome (r .queue) ≤ suc (toCome q)) (mayStart s (q .started)) _ _
+    (λ e. let f = ousted-fewer s q in omega (arith, fewer-length (f .waiting), fewer-length (f .started)))
     (λ e. let f = dismissed-fewer q 109 (s .conn) (s .id) in omega (arith, fewer-length (f .waiting), fewer-length (f .started)))
 
 startAt-less : (t : ℕ) (q : Queue) → (toCome (startAt t q .queue) ≤ toCome q) × (0 < count (startsAt t) (q .waiting) → toCome (startAt t q .queue) < toCome q)

@@ -17,14 +17,14 @@ use Rattle.rules.specs.declared.Request.{Request}
 use Rattle.rules.specs.Lists.{bit, omit, count, place, removeAt}
 use Rattle.rules.specs.State.{due, notAfter, Queue, Splicer, empty, is, startsAt, endsAt, held, holds, withWaiting, withStarted}
 use Rattle.rules.specs.Ends.{Turn, andThen, evictedAt, evicted}
-use Rattle.rules.specs.Instants.{mayStart, launched, startAt, endAt, instant, elapse, runAll}
+use Rattle.rules.specs.Instants.{mayStart, ousted, launched, startAt, endAt, instant, elapse, runAll}
 use Rattle.rules.specs.Answers.{endOf, startOf, sessionAt, requested, unknownPrior, tooLate, accepted}
 use Rattle.rules.specs.Calls.{Call, after, fresh}
 use Rattle.rules.proofs.Tests.{tests, by}
 use Rattle.rules.proofs.All.{All, all-into}
 use Rattle.rules.proofs.Count.{count-removeAt, place-holds, place-none, some-place}
 use Rattle.rules.proofs.Every.{all-both, all-kept, all-getD, all-none, none-all, Fewer, fewer-removeAt, fewer-all, fewer-count, Sorted, fewer-sorted, sorted-inserted, all-inserted, Each, FewerHeld, all-held}
-use Rattle.rules.proofs.Leaving.{dismissed-fewer, evicted-fewer, aborted-fewer, closedBy-fewer}
+use Rattle.rules.proofs.Leaving.{dismissed-fewer, ousted-fewer, evicted-fewer, aborted-fewer, closedBy-fewer}
 use Rattle.rules.proofs.Tick.{due-time, due-meets, Due, meets, all-onAir, elapse-due, tick-through}
 use Rattle.rules.proofs.Always.{Admitted, grants, KeptHeld, held-always}
 pub use Rattle.rules.specs.Sound.{Later, OnTime}
@@ -83,7 +83,8 @@ module _ (t : ℕ) where
   launched-timed : (s : Session) (q : Queue) → OnTime t q → t < s .end .0 → OnTime t (launched s q .queue)
   unfolding launched andThen
   launched-timed s q h e =
-      by (λ (r : Turn). OnTime t (r .queue)) (mayStart s (q .started)) _ _ (λ f. record { sorted = h .sorted; later = h .later; ends = (e, h .ends) })
+      by (λ (r : Turn). OnTime t (r .queue)) (mayStart s (q .started)) _ _
+      (λ f. let k = timed-fewer t q (ousted s q .queue) (ousted-fewer s q) h in record { sorted = k .sorted; later = k .later; ends = (e, k .ends) })
       (λ f. timed-fewer t q _ (dismissed-fewer q 109 (s .conn) (s .id)) h)
 
   startAt-timed : (now : ℕ) (q : Queue) → Sorted (q .waiting) → All (Later now) (q .waiting) → All (λ s. t ≤ s .start .0) (q .waiting) → All (λ s. t < s .end .0) (q .started)

@@ -121,7 +121,7 @@ unfoldable pub tooLate : ℕ → Start → Bool
 tooLate clock (Timed t) = ltb (fromMicros t .0) (clock + fromMicros (timeOf 3 0) .0)
 tooLate clock (Linked p) = false
 
--- d. "109: a waiting session of any connection has the same start and the same or a higher AccessType."
+-- d. "109: a waiting session of any connection has the same start and the same or a higher AccessType." 02: "for equals, only at flag 0"
 unfoldable pub collides : Session → List Session → Bool
 collides new w = some (λ s. startsAt (new .start .0) s && not (outranks new s)) w
 
@@ -163,7 +163,7 @@ inserted s w = insertAt (place (startsAfter (s .start .0)) w) s w
 abbrev pub accepts : Session → Record
 accepts s = SpliceResponse (s .conn) 100 (s .id)
 
--- "f. 100. A waiting session with the same start, then lower, is evicted first", "written before the 100"
+-- "f. 100. A waiting session with the same start, then lower" (02: or equal) "is evicted first", "written before the 100"
 unfoldable pub accepted : Session → Queue → Turn
 accepted s q = andThen (evicted (s .start .0) q) (λ u. writes (accepts s ∷ []) (withWaiting (inserted s (u .waiting)) u))
 

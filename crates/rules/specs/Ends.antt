@@ -30,7 +30,7 @@ writes rs q = record { queue = q; written = rs }
 -- ## The end of a session
 
 -- "A session's end is its SpliceComplete with flag 1, or its SpliceComplete with flag 0 and 109, or a Splice_Response 109 (evicted, or its
--- prior ended so or failed) or 116". "PlayedDuration is time on air only, summed in ninths, divided by 100, rounded down."
+-- prior ended so or failed) or 116", 02: or 125. "PlayedDuration is time on air only, summed in ninths, divided by 100, rounded down."
 abbrev pub ended : Ending → Session → Record
 ended (Complete r) s = SpliceComplete (s .conn) r (s .id) 1 (toTicks (s .played) .0)
 ended Failed s = SpliceComplete (s .conn) 109 (s .id) 0 0
@@ -62,7 +62,7 @@ walk (suc n) c x w =
 unfoldable pub followers : ℕ → ℕ → List Session → Walk
 followers c x w = walk (length w) c x w
 
--- "Followers' ends are Splice_Response 109, or 116 after an abort or close, in order of start."
+-- "Followers' ends are Splice_Response 109, or 116 after an abort or close, in order of start." 02: 125 after an end by an equal one's start
 unfoldable pub dismissed : (result conn id : ℕ) → Queue → Turn
 dismissed r c x q =
     let f = followers c x (q .waiting) in
@@ -76,7 +76,7 @@ evictedAt i q =
     let s = getD (q .waiting) i empty in
     andThen (writes (ended (Response 109) s ∷ []) (withWaiting (removeAt i (q .waiting)) q)) (dismissed 109 (s .conn) (s .id))
 
--- "A waiting session with the same start, then lower, is evicted first: it and its waiting followers end (109)"
+-- "A waiting session with the same start, then lower" (02: or equal) "is evicted first: it and its waiting followers end (109)"
 unfoldable pub evicted : ℕ → Queue → Turn
 evicted t q =
     let i = place (startsAt t) (q .waiting) in

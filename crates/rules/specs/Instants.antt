@@ -1,5 +1,5 @@
--- 01, Instants: starts and ends, and a tick as a recursion over instants.
-use mathlib.Core.Bool.{Bool, true, cond, _&&_}
+-- 01, Instants, with 02, CR 4: starts and ends, and a tick as a recursion over instants.
+use mathlib.Core.Bool.{Bool, true, false, cond, _&&_}
 use mathlib.Core.List.{List, [], _∷_}
 use Prim.Native.Nat.{ℕ, zero, suc, _+_, _-_}
 use lib.Dec.{eqb, ltb}
@@ -13,11 +13,12 @@ use Rattle.rules.specs.State.{Queue, empty, startsAt, endsAt, due, notAf
 use Rattle.rules.specs.Records.{Record, SpliceComplete}
 use Rattle.rules.specs.Ends.{Turn, quiet, andThen, writes, ended, endings, dismissed}
 
--- a new session outranks an old one: the one place where equal AccessTypes are decided
+-- a new session outranks an old one: the one place where equal AccessTypes are decided. 02: "With the flag at 1, an equal AccessType now wins";
+-- the flag is the new one's
 abbrev pub outranks : Session → Session → Bool
-outranks new old = ltb (old .access) (new .access)
+outranks new old = ltb (old .access) (new .access + new .overrides)
 
--- "with nothing on air, or with OverridePlaying 1 and AccessType higher than the one on air"
+-- "with nothing on air, or with OverridePlaying 1 and AccessType higher than the one on air", or equal
 unfoldable pub mayStart : Session → List Session → Bool
 mayStart s [] = true
 mayStart s (air ∷ k) = eqb (s .overrides) 1 && outranks s air
@@ -30,11 +31,25 @@ began s = SpliceComplete (s .conn) 100 (s .id) 0 0
 abbrev pub failed : Session → Queue → Turn
 failed s q = andThen (writes (ended Failed s ∷ []) q) (dismissed 109 (s .conn) (s .id))
 
--- s, which no longer waits, goes on air (the one on air becomes covered), or fails
+-- the one on air, if any, has the AccessType of s
+unfoldable pub meetsEqual : Session → List Session → Bool
+meetsEqual s [] = false
+meetsEqual s (air ∷ k) = eqb (air .access) (s .access)
+
+-- 02: "at a start the equal one on air ends at once, SpliceComplete flag 1, result 125, and its waiting followers end with
+-- Splice_Response 125 .. It isn't resumed"
+unfoldable pub ousted : Session → Queue → Turn
+ousted s q =
+    let air = getD (q .started) 0 empty in
+    cond (meetsEqual s (q .started))
+    (andThen (writes (ended (Complete 125) air ∷ []) (withStarted (removeAt 0 (q .started)) q)) (dismissed 125 (air .conn) (air .id)))
+    (quiet q)
+
+-- s, which no longer waits, goes on air (an equal one on air ends, "all before the new start's record"; a lower one becomes covered), or fails
 unfoldable pub launched : Session → Queue → Turn
 launched s q =
     cond (mayStart s (q .started))
-    (writes (began s ∷ []) (withStarted (s ∷ q .started) q))
+    (andThen (ousted s q) (λ u. writes (began s ∷ []) (withStarted (s ∷ u .started) u)))
     (failed s q)
 
 -- "the one possible start"

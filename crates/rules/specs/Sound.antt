@@ -41,7 +41,7 @@ pub record Played (now : ℕ) (q : Queue) : Type 0 where
   pub silent : All (λ s. s .played .0 ≡ 0) (q .waiting)
   pub since : All (Since now) (q .started)
 
--- AccessTypes fall strictly
+-- AccessTypes fall strictly: no two are the same
 abbrev pub Falling : List Session → Type 0
 Falling [] = Unit {0}
 Falling (s ∷ k) = All (λ u. u .access < s .access) k × Falling k
