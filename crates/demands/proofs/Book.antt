@@ -49,7 +49,7 @@ unfolding isEnd
 end-one c x c′ x′ (General d n) f e = refl
 end-one c x c′ x′ (InitResponse d n name) f e = refl
 end-one c x c′ x′ (AliveResponse d n a y t) f e = refl
-end-one c x c′ x′ (SpliceResponse d n y) f e = other-one (eqb n 109 || eqb n 116) c x c′ x′ d y f e
+end-one c x c′ x′ (SpliceResponse d n y) f e = other-one (eqb n 109 || (eqb n 116 || eqb n 125)) c x c′ x′ d y f e
 end-one c x c′ x′ (SpliceComplete d n y k p) f e = other-one (eqb k 1 || (eqb k 0 && eqb n 109)) c x c′ x′ d y f e
 end-one c x c′ x′ (AbortResponse d n y) f e = refl
 

@@ -11,14 +11,15 @@ use Rattle.rules.specs.declared.Session.{Session}
 use Rattle.rules.specs.declared.Ending.{Ending}
 use Rattle.rules.specs.declared.Ending.the-variants.{Complete, Failed, Response}
 use Rattle.rules.specs.Lists.{bit, keep, count, place, removeAt}
-use Rattle.rules.specs.State.{sameNumber, Queue, empty, of, is, startsAt, endsAt, toCome, withWaiting}
+use Rattle.rules.specs.State.{sameNumber, Queue, empty, of, is, startsAt, endsAt, toCome, withWaiting, withStarted}
 use Rattle.rules.specs.Records.{Record, General, InitResponse, AliveResponse, SpliceResponse, SpliceComplete, AbortResponse}
 use Rattle.rules.specs.Ends.{Turn, quiet, writes, andThen, ended, endings, followers, dismissed, evictedAt, evicted, cancelled, aborted, closedBy}
-use Rattle.rules.specs.Instants.{mayStart, launched, startAt, endAt, instant, elapse, runAll}
+use Rattle.rules.specs.Instants.{mayStart, began, meetsEqual, ousted, launched, startAt, endAt, instant, elapse, runAll}
 use Rattle.demands.specs.History.{isStart, isEnd, startsOf, endsOf}
 use Rattle.rules.proofs.Tests.{by}
 use Rattle.rules.proofs.Count.{count-append, count-split, count-none, count-le, count-map, count-endings, count-removeAt}
 use Rattle.rules.proofs.Walk.{followed}
+use Rattle.rules.proofs.Leaving.{meets-some}
 use Rattle.rules.proofs.Tick.{count-onAir, run-law}
 use Rattle.demands.specs.Told.{isOut, outsOf}
 
@@ -51,6 +52,10 @@ module _ (c x : ℕ) where
   ends-116 : (l : List Session) → endsOf c x (map (ended (Response 116)) l) ≡ tally c x l
   unfolding isEnd
   ends-116 l = count-map (isEnd c x) (ended (Response 116)) l
+
+  ends-125 : (l : List Session) → endsOf c x (map (ended (Response 125)) l) ≡ tally c x l
+  unfolding isEnd
+  ends-125 l = count-map (isEnd c x) (ended (Response 125)) l
 
   starts-responses : (r : ℕ) (l : List Session) → startsOf c x (map (ended (Response r)) l) ≡ 0
   unfolding isStart
@@ -177,11 +182,28 @@ module _ (c x : ℕ) where
 
   -- ## Instants
 
+  -- the equal one on air and its followers
+  ousted-law : (s : Session) (q : Queue) → Law c x q (ousted s q)
+  unfolding ousted andThen isEnd isStart isOut
+  ousted-law s q =
+      let air = getD (q .started) 0 empty in
+      let u = withStarted (removeAt 0 (q .started)) q in
+      by (Law c x q) (meetsEqual s (q .started)) _ _
+      (λ e. let k = count-removeAt (is c x) 0 (q .started) empty (meets-some s (q .started) e) in
+      join-law q (writes (ended (Complete 125) air ∷ []) u) (dismissed 125 (air .conn) (air .id) u)
+      (record { kept = omega arith; grown = omega arith; begun = omega arith; aired = omega arith }) (dismissed-law 125 (air .conn) (air .id) u ends-125))
+      (λ e. quiet-law q)
+
   -- s, which no longer waits
   launched-law : (s : Session) (w : List Session) (q : Queue) → tally c x w ≡ tally c x (s ∷ q .waiting) → Law c x (withWaiting w q) (launched s q)
   unfolding launched andThen isEnd isStart isOut
   launched-law s w q h =
-      by (Law c x (withWaiting w q)) (mayStart s (q .started)) _ _ (λ e. record { kept = omega arith; grown = omega arith; begun = omega arith; aired = omega arith })
+      by (Law c x (withWaiting w q)) (mayStart s (q .started)) _ _
+      (λ e. let l = ousted-law s q in
+      let ends = count-append (isEnd c x) (ousted s q .written) (began s ∷ []) in
+      let starts = count-append (isStart c x) (ousted s q .written) (began s ∷ []) in
+      let outs = count-append (isOut c x) (ousted s q .written) (began s ∷ []) in
+      record { kept = omega (arith, l .kept); grown = omega (arith, l .grown); begun = omega (arith, l .begun); aired = omega (arith, l .aired) })
       (λ e. join-law (withWaiting w q) (writes (ended Failed s ∷ []) q) (dismissed 109 (s .conn) (s .id) q)
       (record { kept = omega arith; grown = omega arith; begun = omega arith; aired = omega arith }) (dismissed-law 109 (s .conn) (s .id) q ends-109))
 
