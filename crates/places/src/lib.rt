@@ -258,11 +258,11 @@ fn drop_first(q: &mut [u64], ring_end: usize, n: usize, k: usize)
     }
 }
 
-// Whether a new session outranks an old one.
+// Whether a new session outranks an old one: a higher one does, and with the flag at 1 an equal one.
 pub fn outranks(new: Session, old: Session) -> bool
     ensures { λ r. ⌜ r ≡ outranks new old ⌝ }
 {
-    old.access < new.access
+    old.access < new.access || old.access - new.access < new.overrides
 }
 
 // Whether the session in the words from b on is one that the key looks for.
