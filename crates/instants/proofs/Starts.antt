@@ -9,20 +9,20 @@ use lib.Dec.{eqb}
 use lib.ListN.{length, getD}
 use borrow.Author.Tests.{eq-eqb, ne-eqb, lt-ltb, le-ltb}
 use Rattle.rules.specs.declared.Session.{Session}
-use Rattle.rules.specs.declared.Ending.the-variants.{Complete}
 use Rattle.rules.specs.Lists.{All, place, removeAt}
-use Rattle.rules.specs.State.{Queue, Sorted, empty, startsAt, endsAt, toCome}
+use Rattle.rules.specs.State.{Queue, Sorted, empty, startsAt, toCome, withStarted}
 use Rattle.rules.specs.Records.{output}
-use Rattle.rules.specs.Ends.{Turn, andThen}
-use Rattle.rules.specs.Instants.{outranks, mayStart, began, failed, launched, startAt, endAt, instant, onAir, elapse}
+use Rattle.rules.specs.Ends.{Turn, writes, andThen}
+use Rattle.rules.specs.Instants.{outranks, mayStart, began, failed, meetsEqual, ousted, launched, startAt, endAt, instant}
+use Rattle.rules.specs.Instants.{onAir, elapse}
 use Rattle.rules.proofs.All.{all-into}
-use Rattle.rules.proofs.Every.{all-getD}
-use Rattle.rules.proofs.Count.{length-split}
-use Rattle.rules.proofs.Size.{weight-endings}
+use Rattle.rules.proofs.Every.{all-getD, fewer-all}
+use Rattle.rules.proofs.Leaving.{endAt-fewer}
+use Rattle.rules.proofs.Size.{ousted-brief, endAt-brief}
 use Rattle.memory.specs.declared.Which.the-variants.{Waiting, Started}
 use Rattle.memory.specs.Memory.{Memory, Form, see, queued, relisted, placesOf, Now}
-use Rattle.ends.specs.Does.{roomFor, Tells, Turns}
-use Rattle.ends.proofs.Laws.{turns-quiet, turns-then, turns-over}
+use Rattle.ends.specs.Does.{Playable, roomFor, Tells, Turns, Does, oneEnded, chainEnded, endingAt}
+use Rattle.ends.proofs.Laws.{turns-quiet, turns-then, turns-over, removed-less}
 use Rattle.instants.specs.Runs.{Meets, Placed, Lasts, Lasting}
 
 -- ## Time on air: the two answers of `elapse`
@@ -60,19 +60,65 @@ pub may-over : (x air : Session) (l : List Session) {b c : Bool} → 0 < length 
     eqb (x .overrides) 1 ≡ b → outranks x air ≡ c → (b && c) ≡ mayStart x l
 may-over x air l h e f o = sym (may-first x l h ∙ rw (← e, f, o) refl)
 
+-- ## The end of an equal one: the answers of `oust`
+
+meets-none : (x : Session) (l : List Session) → 0 ≡ length l → meetsEqual x l ≡ false
+unfolding meetsEqual
+meets-none x [] h = refl
+meets-none x (s ∷ l) h = absurd (omega (arith, h))
+
+meets-first : (x : Session) (l : List Session) → 0 < length l → meetsEqual x l ≡ eqb (getD l 0 empty .access) (x .access)
+unfolding meetsEqual
+meets-first x [] h = absurd (omega arith)
+meets-first x (s ∷ l) h = refl
+
+module _ (x : Session) (m : List ℕ) {e : List ℕ} {len : ℕ} where
+  ousted-not : Form m → meetsEqual x (see m .queue .started) ≡ false → Does (ousted x) len m e len m e
+  unfolding ousted
+  ousted-not g f = rw f (turns-quiet g)
+
+  pub ousted-none : Form m → 0 ≡ length (see m .queue .started) → Does (ousted x) len m e len m e
+  ousted-none g h = ousted-not g (meets-none x (see m .queue .started) h)
+
+  module _ (air : Session) (h : 0 < length (see m .queue .started)) (f : air ≡ getD (see m .queue .started) 0 empty) where
+    pub ousted-other : Form m → (air .access ≡ x .access → ⊥) → Does (ousted x) len m e len m e
+    ousted-other g n =
+        let k = see m .queue .started in
+        ousted-not g (meets-first x k h ∙ ne-eqb (getD k 0 empty .access) (x .access) (λ z. n (ap (λ (s : Session). s .access) f ∙ z)))
+
+    pub ousted-equal : {n o : List ℕ} {to : ℕ} → air .access ≡ x .access →
+        Does (chainEnded Started 0 (endingAt 0 125) 125) len m e to n o → Does (ousted x) len m e to n o
+    unfolding ousted chainEnded oneEnded
+    ousted-equal y d =
+        let k = see m .queue .started in
+        rw (meets-first x k h ∙ eq-eqb (getD k 0 empty .access) (x .access) (ap (λ (s : Session). s .access) (sym f) ∙ y)) d
+
 -- ## A start
 
--- it goes on air: there is a place for it
-pub on-placed : (x : Session) (q : Queue) → mayStart x (q .started) ≡ true → Placed (launched x q) → length (q .started) < placesOf Started
-unfolding launched
-on-placed x q f h = omega (arith, rw f at h)
+-- `oust` left m
+module _ (x : Session) {e : List ℕ} {len : ℕ} {s : Memory} {m o : List ℕ} {mid : ℕ}
+    (d : Turns e len (ousted x (s .queue)) s m mid o) where
+  -- there is room for its record
+  pub on-room : len + roomFor (2 + toCome (s .queue)) ≤ length e → mid + roomFor 1 ≤ length e
+  on-room h = omega (arith, d .tells .count, ousted-brief x (s .queue))
+
+  module _ (f : mayStart x (s .queue .started) ≡ true) where
+    -- and, with an equal one out, a place
+    pub on-placed : Placed (launched x (s .queue)) → length (see m .queue .started) < placesOf Started
+    unfolding launched andThen
+    on-placed h = omega (arith, rw f at h, ap (λ (z : Memory). length (z .queue .started)) (d .shows .is))
+
+    -- it goes on air
+    pub launched-on : len + roomFor (2 + toCome (s .queue)) ≤ length e → {m′ o′ : List ℕ} {to : ℕ} →
+        Now m′ (relisted Started (x ∷ see m .queue .started) (see m)) → Tells o mid (began x ∷ []) to o′ →
+        Turns e len (launched x (s .queue)) s m′ to o′
+    unfolding launched
+    launched-on h n b =
+        rw f
+        (turns-then (ousted x (s .queue)) (λ u. writes (began x ∷ []) (withStarted (x ∷ u .started) u))
+        (omega (arith, ousted-brief x (s .queue))) d (record { shows = n; tells = b }))
 
 module _ (x : Session) {e : List ℕ} {len : ℕ} {s : Memory} {m o : List ℕ} {to : ℕ} where
-  pub launched-on : mayStart x (s .queue .started) ≡ true → Now m (relisted Started (x ∷ s .queue .started) s) →
-      Tells e len (began x ∷ []) to o → Turns e len (launched x (s .queue)) s m to o
-  unfolding launched
-  launched-on f n b = rw f (record { shows = n; tells = b })
-
   -- it fails
   pub launched-off : mayStart x (s .queue .started) ≡ false → Turns e len (failed x (s .queue)) s m to o →
       Turns e len (launched x (s .queue)) s m to o
@@ -132,6 +178,13 @@ module _ {t : ℕ} (s : Memory) (x : Session) (h : 0 < length (s .queue .waiting
       let p : place (startsAt t) w ≡ 0 = first-now t w h (ap (λ s. s .start .0) (sym f) ∙ y) in
       rw (p, lt-ltb 0 (length w) h, ← f) (ap (λ (z : Memory). launched x (z .queue)) (sym (u .is)))
 
+  -- its start and its end are no longer to come
+  pub start-room : 2 + toCome (see m .queue) ≡ toCome (s .queue)
+  start-room = omega (arith, removed-less 0 s h u, ap (λ (z : Memory). length (z .queue .started)) (u .is))
+
+  pub start-playable : All Playable (s .queue .started) → All Playable (see m .queue .started)
+  start-playable a = subst (λ (z : Memory). All Playable (z .queue .started)) (sym (u .is)) a
+
   pub start-placed : Placed (startAt t (s .queue)) → Placed (launched x (see m .queue))
   start-placed p = subst Placed start-launched p
 
@@ -146,18 +199,17 @@ module _ {t : ℕ} (s : Memory) (x : Session) (h : 0 < length (s .queue .waiting
 
 module _ (t : ℕ) {e : List ℕ} {len : ℕ} {s : Memory} {m : List ℕ} {to : ℕ} {o : List ℕ}
     (d : Turns e len (endAt t (s .queue)) s m to o) (h : len + roomFor (toCome (s .queue)) ≤ length e) where
-  -- each that has started has room for its end
-  brief : length (output (endAt t (s .queue) .written)) ≤ roomFor (length (s .queue .started))
-  unfolding endAt
-  brief = let k = s .queue .started in omega (arith, weight-endings (Complete 100) (Complete 125) (endsAt t) k, length-split (endsAt t) k)
-
   -- nothing that waits ends
   waiting : see m .queue .waiting ≡ s .queue .waiting
   unfolding endAt
   waiting = ap (λ (z : Memory). z .queue .waiting) (d .shows .is)
 
-  pub instant-room : to + roomFor (length (see m .queue .waiting)) ≤ length e
-  instant-room = omega (arith, brief, d .tells .count, h, ap length waiting)
+  pub instant-room : to + roomFor (toCome (see m .queue)) ≤ length e
+  instant-room = omega (arith, endAt-brief t (s .queue), d .tells .count, h, ap (λ (z : Memory). toCome (z .queue)) (d .shows .is))
+
+  pub instant-playable : All Playable (s .queue .started) → All Playable (see m .queue .started)
+  instant-playable a =
+      subst (λ (z : Memory). All Playable (z .queue .started)) (sym (d .shows .is)) (fewer-all Playable (endAt-fewer (s .queue) t .started) a)
 
   pub instant-meets : Meets t (s .queue) → Meets t (see m .queue)
   instant-meets v =
@@ -170,4 +222,4 @@ module _ (t : ℕ) {e : List ℕ} {len : ℕ} {s : Memory} {m : List ℕ} {to : 
   pub instant-turns : {m′ : List ℕ} {r : ℕ} {o′ : List ℕ} → Turns o to (startAt t (see m .queue)) (see m) m′ r o′ →
       Turns e len (instant t (s .queue)) s m′ r o′
   unfolding instant
-  instant-turns v = turns-then (endAt t (s .queue)) (startAt t) (omega (arith, brief, h)) d v
+  instant-turns v = turns-then (endAt t (s .queue)) (startAt t) (omega (arith, endAt-brief t (s .queue), h)) d v

@@ -14,7 +14,7 @@ pub record Meets (t : ℕ) (q : Queue) : Type 0 where
   pub sorted : Sorted (q .waiting)
   pub starts : All (λ s. t ≤ s .start .0) (q .waiting)
 
--- there is a place for each that has started after the work
+-- there is a place for each that has started after the work; before it ten may have, if it ends an equal one first
 abbrev pub Placed : Turn → Type 0
 Placed t = length (t .queue .started) ≤ placesOf Started
 

@@ -10,7 +10,7 @@ ghost use Prim.Native.Nat.{_+_, _≤_, _<_};
 ghost use lib.ListN.{length};
 ghost use Rattle.rules.specs.Lists.{All};
 ghost use Rattle.rules.specs.State.{due, notAfter, toCome, Sorted};
-ghost use Rattle.rules.specs.Instants.{mayStart, launched, startAt, instant, elapse, runAll};
+ghost use Rattle.rules.specs.Instants.{mayStart, ousted, launched, startAt, instant, elapse, runAll};
 ghost use Rattle.rules.specs.Sound.{Holding, horizon};
 ghost use Rattle.memory.specs.Memory.{Form, see, queued, Now};
 ghost use Rattle.ends.specs.Does.{Playable, roomFor, Does};
@@ -40,17 +40,36 @@ fn may_start(m: &[u64], x: Session) -> bool
     x.overrides == 1 && places::outranks(x, air)
 }
 
+// An equal one on air ends at once, before the start of x, and then the waiting ones that follow it.
+fn oust(m: &mut [u64; WORDS], x: Session, out: &mut [u8], len: usize) -> usize
+    requires { ⌜ Form (now m) ⌝ }
+    requires { ⌜ All Playable (see (now m) .queue .started) ⌝ }
+    requires { ⌜ len + roomFor (1 + length (see (now m) .queue .waiting)) ≤ length (now out) ⌝ }
+    ensures { λ r. ⌜ Does (ousted x) len (now (m .entry)) (now (out .entry)) r (now (m .exit)) (now (out .exit)) ⌝ }
+{
+    if memory::count(&*m, Which::Started) == 0 {
+        return len;
+    }
+    let air = memory::load(&*m, Which::Started, 0);
+    if air.access == x.access {
+        return ends::end_started(&mut *m, 0, 125, &mut *out, len);
+    }
+    len
+}
+
 // x, which no longer waits, goes on air, or fails with those that follow it.
 fn launch(m: &mut [u64; WORDS], x: Session, out: &mut [u8], len: usize) -> usize
     requires { ⌜ Form (now m) ⌝ }
     requires { ⌜ Placed (launched x (see (now m) .queue)) ⌝ }
-    requires { ⌜ len + roomFor (1 + length (see (now m) .queue .waiting)) ≤ length (now out) ⌝ }
+    requires { ⌜ All Playable (see (now m) .queue .started) ⌝ }
+    requires { ⌜ len + roomFor (2 + toCome (see (now m) .queue)) ≤ length (now out) ⌝ }
     ensures { λ r. ⌜ Does (launched x) len (now (m .entry)) (now (out .entry)) r (now (m .exit)) (now (out .exit)) ⌝ }
 {
     if may_start(&*m, x) {
-        writing::splice_complete(&mut out[len..], x.conn, 100, x.id, 0, Ticks(0));
+        let to = oust(&mut *m, x, &mut *out, len);
+        writing::splice_complete(&mut out[to..], x.conn, 100, x.id, 0, Ticks(0));
         memory::push(&mut *m, x);
-        len + 23
+        to + 23
     } else {
         ends::fail(&mut *m, x, &mut *out, len)
     }
@@ -61,7 +80,8 @@ fn start_at(m: &mut [u64; WORDS], t: Ninths, out: &mut [u8], len: usize) -> usiz
     requires { ⌜ Form (now m) ⌝ }
     requires { ⌜ Meets (t .0) (see (now m) .queue) ⌝ }
     requires { ⌜ Placed (startAt (t .0) (see (now m) .queue)) ⌝ }
-    requires { ⌜ len + roomFor (length (see (now m) .queue .waiting)) ≤ length (now out) ⌝ }
+    requires { ⌜ All Playable (see (now m) .queue .started) ⌝ }
+    requires { ⌜ len + roomFor (toCome (see (now m) .queue)) ≤ length (now out) ⌝ }
     ensures { λ r. ⌜ Does (startAt (t .0)) len (now (m .entry)) (now (out .entry)) r (now (m .exit)) (now (out .exit)) ⌝ }
 {
     if memory::count(&*m, Which::Waiting) == 0 {

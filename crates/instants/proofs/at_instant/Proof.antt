@@ -1,6 +1,6 @@
 -- The ends and the start, one after the other (`instant-turns`).
 use native.Mathlib.Omega.{arith}
-use Rattle.instants.proofs.Starts.{instant-room, instant-meets, instant-placed, instant-turns}
+use Rattle.instants.proofs.Starts.{instant-room, instant-meets, instant-placed, instant-playable, instant-turns}
 use borrow.Author.Needs.{needs}
 use Rattle.instants.proofs.at_instant.Statement.{statement}
 use Rattle.instants.proofs.at_instant.Tie as tie
@@ -16,7 +16,10 @@ start-at-requires c κs =
     let room = s .pre .1 .1 .1 .1 in
     let e = ends .end-due .ensures in (
       e .shows .form,
-      (instant-meets t e room (s .pre .1 .0), (instant-placed t e room (s .pre .1 .1 .0), omega (arith, instant-room t e room))),
+      (
+        instant-meets t e room (s .pre .1 .0),
+        (instant-placed t e room (s .pre .1 .1 .0), (instant-playable t e room (s .pre .1 .1 .1 .0), omega (arith, instant-room t e room))),
+      ),
     )
 
 same-length : tie.Need-same-length

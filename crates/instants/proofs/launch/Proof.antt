@@ -1,9 +1,10 @@
--- It goes on air, where there is a place for it (`on-placed`), and its record is written (`launched-on`); or it fails (`launched-off`).
+-- It goes on air once an equal one is out: there is a place for it (`on-placed`) and room for its record (`on-room`, `launched-on`); or it
+-- fails (`launched-off`).
 use mathlib.Core.Path.{sym, _∙_}
 use native.Mathlib.Omega.{arith}
 use Rattle.memory.specs.Memory.{see}
 use Rattle.ends.proofs.Laws.{tells-part}
-use Rattle.instants.proofs.Starts.{on-placed, launched-on, launched-off}
+use Rattle.instants.proofs.Starts.{on-placed, on-room, launched-on, launched-off}
 use borrow.Author.Needs.{needs}
 use Rattle.instants.proofs.launch.Statement.{statement}
 use Rattle.instants.proofs.launch.Tie as tie
@@ -11,41 +12,64 @@ use Rattle.instants.proofs.launch.Tie as tie
 may-start-requires : tie.Need-may-start-requires
 may-start-requires c κs = search needs
 
+oust-requires : tie.Need-oust-requires
+oust-requires c κs =
+    let s = c .before .before .before .before .before .before .before in
+    (s .pre .0, (s .pre .1 .1 .0, omega (arith, s .pre .1 .1 .1)))
+
 sub-splice-complete : tie.Need-sub-splice-complete
-sub-splice-complete c = search needs
+sub-splice-complete c =
+    let out = c .before .before in
+    let s = out .before .before .before .before .before .before .before .before in
+    omega (arith, on-room (s .args .x) (out .oust .ensures) (s .pre .1 .1 .1))
 
 part-splice-complete-start : tie.Need-part-splice-complete-start
-part-splice-complete-start c = search needs
+part-splice-complete-start c =
+    let out = c .before .before in
+    let s = out .before .before .before .before .before .before .before .before in
+    omega (arith, on-room (s .args .x) (out .oust .ensures) (s .pre .1 .1 .1))
 
 part-splice-complete-end : tie.Need-part-splice-complete-end
 part-splice-complete-end c = search needs
 
 splice-complete-requires : tie.Need-splice-complete-requires
-splice-complete-requires c κs = search needs
+splice-complete-requires c κs =
+    let out = c .before .before .before in
+    let s = out .before .before .before .before .before .before .before .before in
+    omega (arith, on-room (s .args .x) (out .oust .ensures) (s .pre .1 .1 .1))
 
 push-requires : tie.Need-push-requires
 push-requires c κs =
-    let may = c .before .before .before .before .before in
+    let out = c .before .before .before .before .before .before .before in
+    let may = out .before .before .before in
     let s = may .before .before .before .before .before in
     let f = sym (may .before .may-start .ensures) ∙ may .if1 .taken in
-    (s .pre .0, on-placed (s .args .x) (see (s .args .m .now) .queue) f (s .pre .1 .0))
+    let d = out .oust .ensures in
+    (d .shows .form, on-placed (s .args .x) d f (s .pre .1 .0))
 
 add-result : tie.Need-add-result
-add-result c = search needs
+add-result c =
+    let out = c .before .before .before .before .before .before .before .before in
+    let s = out .before .before .before .before .before .before .before .before in
+    omega (arith, on-room (s .args .x) (out .oust .ensures) (s .pre .1 .1 .1))
 
 fail-requires : tie.Need-fail-requires
-fail-requires c κs = let s = c .before .before .before .before .before .before .before in (s .pre .0, s .pre .1 .1)
+fail-requires c κs = let s = c .before .before .before .before .before .before .before in (s .pre .0, omega (arith, s .pre .1 .1 .1))
 
 same-length : tie.Need-same-length
 same-length c = search needs
 
 returns : tie.Need-returns
 returns c =
-    let wrote = c .before .before .before .before .splice-complete in
-    let may = c .before .before .before .before .before .before in
+    let out = c .before .before .before .before .before .before .before .before in
+    let may = out .before .before .before in
     let s = may .before .before .before .before .before in
-    launched-on (s .args .x) (sym (may .before .may-start .ensures) ∙ may .if1 .taken) (c .push .ensures)
-    (tells-part tt (omega (arith, s .pre .1 .1)) (wrote .ensures))
+    let f = sym (may .before .may-start .ensures) ∙ may .if1 .taken in
+    let d = out .oust .ensures in
+    let room = s .pre .1 .1 .1 in
+    let wrote = c .before .before .before .before .splice-complete in
+    launched-on (s .args .x) d f room (c .push .ensures)
+    (tells-part tt (omega (arith, on-room (s .args .x) d room)) (wrote .ensures))
 
 same-length-2 : tie.Need-same-length-2
 same-length-2 c = search needs
@@ -61,6 +85,7 @@ launch-spec =
     tie.close
     (tie.spec
     may-start-requires
+    oust-requires
     sub-splice-complete
     part-splice-complete-start
     part-splice-complete-end

@@ -4,8 +4,7 @@ use Prim.Native.Nat.{_<_}
 use native.Mathlib.Omega.{arith}
 use lib.ListN.{length}
 use Rattle.memory.specs.Memory.{see}
-use Rattle.ends.proofs.Laws.{removed-less}
-use Rattle.instants.proofs.Starts.{start-none, start-later, start-placed, start-turns}
+use Rattle.instants.proofs.Starts.{start-none, start-later, start-room, start-playable, start-placed, start-turns}
 use borrow.Author.Needs.{needs}
 use Rattle.instants.proofs.start_at.Statement.{statement}
 use Rattle.instants.proofs.start_at.Tie as tie
@@ -36,7 +35,10 @@ launch-requires c κs =
       left .ensures .form,
       (
         start-placed m (x .result) h (x .ensures) (now .if2 .taken) (left .ensures) (s .pre .1 .1 .0),
-        omega (arith, s .pre .1 .1 .1, removed-less 0 m h (left .ensures)),
+        (
+          start-playable m (x .result) h (x .ensures) (now .if2 .taken) (left .ensures) (s .pre .1 .1 .1 .0),
+          omega (arith, s .pre .1 .1 .1 .1, start-room m (x .result) h (x .ensures) (now .if2 .taken) (left .ensures)),
+        ),
       ),
     )
 
