@@ -33,6 +33,7 @@ marks =
     ∷ mark (SpliceResponse 1 100 7) 0 0 1
     ∷ mark (SpliceResponse 1 109 7) 0 1 0
     ∷ mark (SpliceResponse 1 116 7) 0 1 0
+    ∷ mark (SpliceResponse 1 125 7) 0 1 0
     ∷ mark (SpliceResponse 1 110 7) 0 0 0
     ∷ mark (SpliceResponse 1 112 7) 0 0 0
     ∷ mark (SpliceResponse 1 114 7) 0 0 0
@@ -117,7 +118,11 @@ evicting = two ++ (timed 1 1 1003 0 5 0 900000 ∷ [])
 
 -- 5 meets a 4 on air, and fails; 6 follows it
 failing : List Call
-failing = timed 0 4 1003 0 4 0 2700000 ∷ timed 0 5 1006 0 4 1 900000 ∷ linked 0 6 5 900000 ∷ to 1006 0 ∷ []
+failing = timed 0 4 1003 0 4 0 2700000 ∷ timed 0 5 1006 0 4 0 900000 ∷ linked 0 6 5 900000 ∷ to 1006 0 ∷ []
+
+-- 5 ends a 4 on air at once; 6 follows that one
+ousting : List Call
+ousting = timed 0 4 1003 0 4 0 2700000 ∷ linked 0 6 4 900000 ∷ timed 1 5 1006 0 4 1 900000 ∷ to 1006 0 ∷ []
 
 -- 2 follows its own connection's 1
 aborting : List Call
@@ -175,6 +180,7 @@ rows =
     ∷ row again (four 1 0 0 0) (line 0 2 (s 1011) 0 0 ∷ line 0 1 (s 1004) 1 0 ∷ []) (s 1004)
     ∷ row evicting (four 0 1 0 0) (line 1 1 (s 1013) 0 0 ∷ line 0 2 (s 1023) 1 0 ∷ line 0 1 (s 1013) 1 0 ∷ []) (s 1000)
     ∷ row failing (four 0 0 0 0) (line 0 6 (s 1026) 1 0 ∷ line 0 5 (s 1016) 1 0 ∷ line 0 4 (s 1033) 0 0 ∷ []) (s 1006)
+    ∷ row ousting (four 0 0 0 0) (line 1 5 (s 1016) 0 0 ∷ line 0 6 (s 1043) 1 0 ∷ line 0 4 (s 1033) 1 0 ∷ []) (s 1006)
     ∷ row aborting (four 0 1 0 0) (line 0 2 (s 1023) 1 0 ∷ line 1 1 (s 1110) 0 0 ∷ line 0 1 (s 1013) 1 0 ∷ []) (s 1000)
     ∷ row closing (four 0 1 0 0) (line 1 7 (s 1070) 0 0 ∷ line 0 8 (s 1060) 1 1 ∷ line 0 7 (s 1033) 1 1 ∷ []) (s 1010)
     -- "It counts for the session that its connection last accepted under that SessionID"
@@ -193,5 +199,5 @@ rows =
     ∷ []
 
 told : map (λ r. tells (r .events)) rows ≡ map (λ r. r .wants) rows
-unfolding sent from initOf asks timed linked aborts to card up ready line s tells row four two again evicting failing aborting closing reopening refusing declining reusing ninth granted writing twice given rows computing
+unfolding sent from initOf asks timed linked aborts to card up ready line s tells row four two again evicting failing ousting aborting closing reopening refusing declining reusing ninth granted writing twice given rows computing
 told = refl

@@ -1,5 +1,5 @@
--- 01, "Rehearsed situations": P1 to P14 in one table under one statement, worked through the calls, from the bytes of a request to the
--- records in the answer's bytes. A row also says how many sessions of each connection wait before its last call. Assumes nothing.
+-- 01, "Rehearsed situations", P12 as in 02, CR 4: P1 to P14 in one table under one statement, worked through the calls, from the bytes of a
+-- request to the records in the answer's bytes. A row also says how many sessions of each connection wait before its last call. Assumes nothing.
 use mathlib.Core.Path.{_≡_, refl}
 use mathlib.Core.List.{List, [], _∷_, _++_, map}
 use Prim.Native.Nat.{ℕ, zero, suc, _+_, _*_}
@@ -145,8 +145,8 @@ table =
     ∷ row 10 (shown 1013 0) (four 0 0 0 0) (aborts 0 3) said (stopped 900000)
     ∷ row 11 (shown 1003 11) (four 0 0 0 0) (aborts 0 3) said (stopped 0)
     ∷ row 11 (shown 1003 12) (four 0 0 0 0) (aborts 0 3) said (stopped 1)
-    ∷ row 12 (against 4 1) (four 1 0 0 0) (to 1006 0) said (wrote (completes 109 5 0 0 ∷ []))
-    ∷ row 12 (against 4 1) (four 1 0 0 0) (to 1006 0) air (holds (4 ∷ []))
+    ∷ row 12 (against 4 1) (four 1 0 0 0) (to 1006 0) said (wrote (completes 125 4 1 270000 ∷ completes 100 5 0 0 ∷ []))
+    ∷ row 12 (against 4 1) (four 1 0 0 0) (to 1006 0) air (holds (5 ∷ []))
     ∷ row 13 (against 5 0) (four 1 0 0 0) (to 1006 0) said (wrote (completes 109 5 0 0 ∷ []))
     ∷ row 13 (against 5 0) (four 1 0 0 0) (to 1006 0) air (holds (4 ∷ []))
     ∷ row 14 (against 5 1) (four 1 0 0 0) (to 1006 0) said (wrote (completes 100 5 0 0 ∷ []))

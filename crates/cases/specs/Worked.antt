@@ -1,8 +1,9 @@
--- Worked cases of 01 and of the demands beside P1 to P14, from the bytes of requests to the records in the answers' bytes. Assumes nothing.
+-- Worked cases of 01, of 02's CR 4 and of the demands beside P1 to P14, from the bytes of requests to the records in the answers' bytes. Assumes nothing.
 use mathlib.Core.Path.{_≡_, refl}
 use mathlib.Core.List.{List, [], _∷_, _++_, map}
-use Prim.Native.Nat.{ℕ}
+use Prim.Native.Nat.{ℕ, zero, suc, _+_}
 use lib.ListN.{length, replicate}
+use Rattle.rules.specs.declared.Session.{Session}
 use Rattle.rules.specs.Bytes.{bytes}
 use Rattle.rules.specs.State.{Splicer}
 use Rattle.rules.specs.Records.{Record, InitResponse, SpliceResponse, SpliceComplete, AbortResponse, recordsIn}
@@ -31,6 +32,10 @@ played ks = joined (map (λ a. recordsIn (Calls.writtenBy a)) (Calls.answers ks 
 -- how many records the last of them writes
 lastWrites : List Call → List ℕ
 lastWrites ks = length (recordsIn (Calls.writtenBy (plays (ready ++ ks) card .answer))) ∷ []
+
+-- the numbers of the started sessions then: on air, then covered
+started : List Call → List ℕ
+started ks = map (λ (s : Session). s .id) (plays ks (plays ready card) .splicer .queue .started)
 
 -- the calls from fresh, with their answers
 events : List Call → List Event
@@ -97,6 +102,46 @@ slot =
 fullBefore : List Call
 fullBefore = queued 20 0 0 0 ++ (timed 0 99 2005 0 2 0 90000 ∷ [])
 
+-- ## 02, CR 4
+
+-- "f evicts the waiting equal as it does a lower one": another connection's, with its followers
+evictEqual : List Call
+evictEqual = timed 1 1 1003 0 3 0 90000 ∷ linked 1 2 1 90000 ∷ linked 1 3 2 90000 ∷ timed 0 9 1003 0 3 1 90000 ∷ []
+
+-- "109 at check d, for equals, only at flag 0": the new one's flag, whatever the waiting one's
+waitingFlag : List Call
+waitingFlag = timed 1 1 1003 0 3 1 90000 ∷ timed 0 9 1003 0 3 0 90000 ∷ []
+
+-- "at a start the equal one on air ends at once": 4 covers a 2 and has followers; 7 ends it; the end of 7 resumes the 2 and not 4
+overCovered : List Call
+overCovered =
+    timed 0 2 1003 0 2 0 2700000 ∷ timed 1 4 1006 0 4 1 1800000 ∷ linked 1 5 4 90000 ∷ linked 1 6 5 90000 ∷ timed 2 7 1010 0 4 1 900000 ∷ to 1040 0 ∷ []
+
+-- three equal ones by one tick, each ending the one before
+inARow : List Call
+inARow = timed 0 1 1003 0 9 0 900000 ∷ timed 0 2 1004 0 9 1 900000 ∷ timed 1 3 1005 0 9 1 900000 ∷ to 1100 0 ∷ []
+
+-- the equal one ends by itself at the instant of the start
+atItsEnd : List Call
+atItsEnd = timed 0 1 1003 0 4 0 270000 ∷ timed 1 2 1006 0 4 1 90000 ∷ to 1006 0 ∷ []
+
+-- resumed by a higher one's end, and ended by an equal one's start at the same instant
+resumedAndEnded : List Call
+resumedAndEnded = timed 0 1 1003 0 3 0 2700000 ∷ timed 1 2 1004 0 5 1 180000 ∷ timed 2 3 1006 0 3 1 90000 ∷ to 1006 0 ∷ []
+
+-- with the flag at 0 an equal one fails at its start, whatever the flag of the one on air
+noFlag : List Call
+noFlag = timed 0 1 1003 0 4 1 2700000 ∷ timed 1 2 1006 0 4 0 90000 ∷ to 1006 0 ∷ []
+
+-- AccessTypes from a to 9, one started every second, each over the one before
+climb : (n a : ℕ) → List Call
+climb zero a = []
+climb (suc n) a = timed 0 a (1003 + a) 0 a 1 90000000 ∷ climb n (suc a)
+
+-- ten have started, and a second 9 ends the first
+ten : List Call
+ten = climb 10 0 ++ (timed 1 99 1020 0 9 1 90000000 ∷ to 1019 0 ∷ to 1020 0 ∷ [])
+
 -- a Splice_Request's 100, a start with 100, an end by SpliceComplete
 accepts : (conn id : ℕ) → Record
 accepts c x = SpliceResponse c 100 x
@@ -122,8 +167,18 @@ cases =
     ∷ says slot (accepts 0 3 ∷ accepts 1 5 ∷ begins 0 3 ∷ begins 1 5 ∷ stops 1 116 5 360000 ∷ accepts 2 6 ∷ begins 2 6 ∷ stops 2 100 6 900000 ∷ stops 0 100 3 1440000 ∷ [])
     ∷ counting (ended slot) (1 ∷ 1 ∷ 1 ∷ [])
     ∷ counting (ended fullBefore) (replicate 20 0)
+    ∷ says evictEqual (accepts 1 1 ∷ accepts 1 2 ∷ accepts 1 3 ∷ SpliceResponse 1 109 1 ∷ SpliceResponse 1 109 2 ∷ SpliceResponse 1 109 3 ∷ accepts 0 9 ∷ [])
+    ∷ says waitingFlag (accepts 1 1 ∷ SpliceResponse 0 109 9 ∷ [])
+    ∷ says overCovered (accepts 0 2 ∷ accepts 1 4 ∷ accepts 1 5 ∷ accepts 1 6 ∷ accepts 2 7 ∷ begins 0 2 ∷ begins 1 4 ∷ stops 1 125 4 360000 ∷ SpliceResponse 1 125 5 ∷ SpliceResponse 1 125 6 ∷ begins 2 7 ∷ stops 2 100 7 900000 ∷ stops 0 100 2 1440000 ∷ [])
+    ∷ counting (ended overCovered) (replicate 5 1)
+    ∷ says inARow (accepts 0 1 ∷ accepts 0 2 ∷ accepts 1 3 ∷ begins 0 1 ∷ stops 0 125 1 90000 ∷ begins 0 2 ∷ stops 0 125 2 90000 ∷ begins 1 3 ∷ stops 1 100 3 900000 ∷ [])
+    ∷ says atItsEnd (accepts 0 1 ∷ accepts 1 2 ∷ begins 0 1 ∷ stops 0 100 1 270000 ∷ begins 1 2 ∷ [])
+    ∷ says resumedAndEnded (accepts 0 1 ∷ accepts 1 2 ∷ accepts 2 3 ∷ begins 0 1 ∷ begins 1 2 ∷ stops 1 100 2 180000 ∷ stops 0 125 1 90000 ∷ begins 2 3 ∷ [])
+    ∷ says noFlag (accepts 0 1 ∷ accepts 1 2 ∷ begins 0 1 ∷ SpliceComplete 1 109 2 0 0 ∷ [])
+    ∷ counting (started ten) (99 ∷ 8 ∷ 7 ∷ 6 ∷ 5 ∷ 4 ∷ 3 ∷ 2 ∷ 1 ∷ 0 ∷ [])
+    ∷ counting (lastWrites ten) (2 ∷ [])
     ∷ []
 
 worked : map (λ c. c .seen) cases ≡ map (λ c. c .wants) cases
-unfolding fullBefore sent from initOf asks timed aborts to card plays up ready load queued linked known joined played says counting accepts begins stops lastWrites cases events ended three through incident behindZero oneTick onlyDirect handOver slot computing
+unfolding fullBefore evictEqual waitingFlag overCovered inARow atItsEnd resumedAndEnded noFlag climb ten started sent from initOf asks timed aborts to card plays up ready load queued linked known joined played says counting accepts begins stops lastWrites cases events ended three through incident behindZero oneTick onlyDirect handOver slot computing
 worked = refl
