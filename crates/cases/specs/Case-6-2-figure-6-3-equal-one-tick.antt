@@ -1,8 +1,8 @@
 -- model/scenarios/6.2-figure-6-3-equal-one-tick.txt, made by tools/cases.sh. Line numbers are that file's.
 -- J.280 clause 6.2, Figure 6-3, Server 2 with the equal priority, by one single tick.
--- Shows: the failures at 1020 s and 1040 s are written between start and end of Server 1.
+-- Shows: the end of Server 1 stands directly before the start that brought it about.
 --
--- 01 leads elsewhere: as in 6.2-figure-6-3-equal.txt.
+-- 02 leads elsewhere: as in 6.2-figure-6-3-equal.txt.
 use mathlib.Core.List.{List, [], _∷_}
 use Prim.Native.String.{_++_}
 use Rattle.cases.specs.Scenario.{Row, row, Holds, holds}
@@ -30,12 +30,14 @@ rows =
     ∷ row 17 "> splice 1 id=201 at=1040 duration=1800000 access=3 override=1"
     "4D01 0007 0021 FFFF FFFF 000000C9 FFFFFFFF 00000410 00000000 0001 001B7740 FFFFFFFF 00000000 03 01 01"
     "5201 0008 0004 0064 FFFF 000000C9"
-    ∷ row 21 "> tick 1060"
+    ∷ row 22 "> tick 1060"
     "5400 00000424 00000000"
     ("5200 0009 000D 0064 FFFF 00000064 00 00000000 00000000"
-    ++ "5201 0009 000D 006D FFFF 000000C8 00 00000000 00000000"
-    ++ "5201 0009 000D 006D FFFF 000000C9 00 00000000 00000000"
-    ++ "5200 0009 000D 0064 FFFF 00000064 01 00000000 0036EE80")
+    ++ "5200 0009 000D 007D FFFF 00000064 01 00000000 000DBBA0"
+    ++ "5201 0009 000D 0064 FFFF 000000C8 00 00000000 00000000"
+    ++ "5201 0009 000D 0064 FFFF 000000C8 01 00000000 000DBBA0"
+    ++ "5201 0009 000D 0064 FFFF 000000C9 00 00000000 00000000"
+    ++ "5201 0009 000D 0064 FFFF 000000C9 01 00000000 001B7740")
     ∷ []
 
 pub same : Holds rows

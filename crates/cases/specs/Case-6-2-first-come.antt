@@ -1,10 +1,10 @@
 -- model/scenarios/6.2-first-come.txt, made by tools/cases.sh. Line numbers are that file's.
 -- J.280 clause 6.2, second paragraph: same splice time, same priority, two servers.
 -- Shows: first come, first served; the second gets the collision in its Splice_Response
--- and nothing of it is kept: it may ask again with the same SessionID.
+-- and nothing of it is kept: it may ask again with the same SessionID. "(unless the
+-- OverridePlaying flag is set)": with flag 1 the second one wins (02, CR 4).
 --
--- 01 leads elsewhere: "(unless the OverridePlaying flag is set)" does not hold in 01's
---   check d; with flag 1 the second request of the same AccessType gets 109 too.
+-- 01 leads elsewhere: Splice_Response carries the SessionID (see 6.2-priorities.txt).
 use mathlib.Core.List.{List, [], _∷_}
 use Prim.Native.String.{_++_}
 use Rattle.cases.specs.Scenario.{Row, row, Holds, holds}
@@ -29,29 +29,41 @@ rows =
     ∷ row 18 "> splice 1 id=20 at=1010 duration=900000 access=4"
     "4D01 0007 0021 FFFF FFFF 00000014 FFFFFFFF 000003F2 00000000 0001 000DBBA0 FFFFFFFF 00000000 04 00 01"
     "5201 0008 0004 006D FFFF 00000014"
-    ∷ row 20 "> splice 1 id=20 at=1010 duration=900000 access=4 override=1"
-    "4D01 0007 0021 FFFF FFFF 00000014 FFFFFFFF 000003F2 00000000 0001 000DBBA0 FFFFFFFF 00000000 04 01 01"
-    "5201 0008 0004 006D FFFF 00000014"
-    ∷ row 23 "> abort 1 id=20" "4D01 000E 0004 FFFF FFFF 00000014" "5201 000F 0004 0079 FFFF 00000014"
-    ∷ row 26 "> splice 1 id=20 at=1020 duration=900000 access=4"
+    ∷ row 21 "> abort 1 id=20" "4D01 000E 0004 FFFF FFFF 00000014" "5201 000F 0004 0079 FFFF 00000014"
+    ∷ row 24 "> splice 1 id=20 at=1020 duration=900000 access=4"
     "4D01 0007 0021 FFFF FFFF 00000014 FFFFFFFF 000003FC 00000000 0001 000DBBA0 FFFFFFFF 00000000 04 00 01"
     "5201 0008 0004 0064 FFFF 00000014"
-    ∷ row 29 "> tick 1010" "5400 000003F2 00000000" "5200 0009 000D 0064 FFFF 0000000A 00 00000000 00000000"
-    ∷ row 32 "> tick 1020"
+    ∷ row 27 "> tick 1010" "5400 000003F2 00000000" "5200 0009 000D 0064 FFFF 0000000A 00 00000000 00000000"
+    ∷ row 30 "> tick 1020"
     "5400 000003FC 00000000"
     ("5200 0009 000D 0064 FFFF 0000000A 01 00000000 000DBBA0"
     ++ "5201 0009 000D 0064 FFFF 00000014 00 00000000 00000000")
-    ∷ row 35 "> tick 1030" "5400 00000406 00000000" "5201 0009 000D 0064 FFFF 00000014 01 00000000 000DBBA0"
-    ∷ row 39 "> splice 0 id=11 at=1040 duration=900000 access=4"
+    ∷ row 33 "> tick 1030" "5400 00000406 00000000" "5201 0009 000D 0064 FFFF 00000014 01 00000000 000DBBA0"
+    ∷ row 37 "> splice 0 id=11 at=1040 duration=900000 access=4"
     "4D00 0007 0021 FFFF FFFF 0000000B FFFFFFFF 00000410 00000000 0001 000DBBA0 FFFFFFFF 00000000 04 00 01"
     "5200 0008 0004 0064 FFFF 0000000B"
-    ∷ row 41 "> splice 0 id=12 at=1040 duration=900000 access=4"
+    ∷ row 39 "> splice 0 id=12 at=1040 duration=900000 access=4"
     "4D00 0007 0021 FFFF FFFF 0000000C FFFFFFFF 00000410 00000000 0001 000DBBA0 FFFFFFFF 00000000 04 00 01"
     "5200 0008 0004 006D FFFF 0000000C"
-    ∷ row 43 "> tick 1050"
+    ∷ row 41 "> tick 1050"
     "5400 0000041A 00000000"
     ("5200 0009 000D 0064 FFFF 0000000B 00 00000000 00000000"
     ++ "5200 0009 000D 0064 FFFF 0000000B 01 00000000 000DBBA0")
+    ∷ row 46 "> splice 0 id=13 at=1060 duration=900000 access=4 override=1"
+    "4D00 0007 0021 FFFF FFFF 0000000D FFFFFFFF 00000424 00000000 0001 000DBBA0 FFFFFFFF 00000000 04 01 01"
+    "5200 0008 0004 0064 FFFF 0000000D"
+    ∷ row 48 "> splice 1 id=21 at=1060 duration=900000 access=4 override=1"
+    "4D01 0007 0021 FFFF FFFF 00000015 FFFFFFFF 00000424 00000000 0001 000DBBA0 FFFFFFFF 00000000 04 01 01"
+    ("5200 0008 0004 006D FFFF 0000000D"
+    ++ "5201 0008 0004 0064 FFFF 00000015")
+    ∷ row 51 "> splice 1 id=22 at=1060 duration=900000 access=4 override=1"
+    "4D01 0007 0021 FFFF FFFF 00000016 FFFFFFFF 00000424 00000000 0001 000DBBA0 FFFFFFFF 00000000 04 01 01"
+    ("5201 0008 0004 006D FFFF 00000015"
+    ++ "5201 0008 0004 0064 FFFF 00000016")
+    ∷ row 54 "> tick 1070"
+    "5400 0000042E 00000000"
+    ("5201 0009 000D 0064 FFFF 00000016 00 00000000 00000000"
+    ++ "5201 0009 000D 0064 FFFF 00000016 01 00000000 000DBBA0")
     ∷ []
 
 pub same : Holds rows

@@ -1,9 +1,9 @@
 -- model/scenarios/6.2-priorities-reversed.txt, made by tools/cases.sh. Line numbers are that file's.
 -- J.280 clause 6.2, third paragraph, with the order of arrival reversed: 7, 7, 5, 3.
--- Shows: the same session has the splice time in the end as in 6.2-priorities.txt; here
--- the later and lower ones are told at once, and nothing is evicted.
+-- Shows: a 7 has the splice time in the end as in 6.2-priorities.txt; here the later and
+-- lower ones are told at once, and only the second 7, with flag 1, evicts (02, CR 4).
 --
--- 01 leads elsewhere: the second 7 gets 109 with flag 1 as well (see 6.2-priorities.txt).
+-- 01 leads elsewhere: Splice_Response carries the SessionID (see 6.2-priorities.txt).
 use mathlib.Core.List.{List, [], _∷_}
 use Prim.Native.String.{_++_}
 use Rattle.cases.specs.Scenario.{Row, row, Holds, holds}
@@ -37,19 +37,20 @@ rows =
     "5202 0008 0004 0064 FFFF 00000003"
     ∷ row 23 "> splice 3 id=4 at=1010 duration=2700000 access=7 override=1"
     "4D03 0007 0021 FFFF FFFF 00000004 FFFFFFFF 000003F2 00000000 0001 002932E0 FFFFFFFF 00000000 07 01 01"
-    "5203 0008 0004 006D FFFF 00000004"
-    ∷ row 26 "> splice 1 id=2 at=1010 duration=2700000 access=5 override=1"
+    ("5202 0008 0004 006D FFFF 00000003"
+    ++ "5203 0008 0004 0064 FFFF 00000004")
+    ∷ row 27 "> splice 1 id=2 at=1010 duration=2700000 access=5 override=1"
     "4D01 0007 0021 FFFF FFFF 00000002 FFFFFFFF 000003F2 00000000 0001 002932E0 FFFFFFFF 00000000 05 01 01"
     "5201 0008 0004 006D FFFF 00000002"
-    ∷ row 28 "> splice 0 id=1 at=1010 duration=2700000 access=3"
+    ∷ row 29 "> splice 0 id=1 at=1010 duration=2700000 access=3"
     "4D00 0007 0021 FFFF FFFF 00000001 FFFFFFFF 000003F2 00000000 0001 002932E0 FFFFFFFF 00000000 03 00 01"
     "5200 0008 0004 006D FFFF 00000001"
-    ∷ row 32 "> splice 0 id=1 at=1010.000001 duration=2700000 access=3"
+    ∷ row 33 "> splice 0 id=1 at=1010.000001 duration=2700000 access=3"
     "4D00 0007 0021 FFFF FFFF 00000001 FFFFFFFF 000003F2 00000001 0001 002932E0 FFFFFFFF 00000000 03 00 01"
     "5200 0008 0004 0064 FFFF 00000001"
-    ∷ row 35 "> tick 1010" "5400 000003F2 00000000" "5202 0009 000D 0064 FFFF 00000003 00 00000000 00000000"
-    ∷ row 38 "> tick 1010.000001" "5400 000003F2 00000001" "5200 0009 000D 006D FFFF 00000001 00 00000000 00000000"
-    ∷ row 41 "> tick 1040" "5400 00000410 00000000" "5202 0009 000D 0064 FFFF 00000003 01 00000000 002932E0"
+    ∷ row 36 "> tick 1010" "5400 000003F2 00000000" "5203 0009 000D 0064 FFFF 00000004 00 00000000 00000000"
+    ∷ row 39 "> tick 1010.000001" "5400 000003F2 00000001" "5200 0009 000D 006D FFFF 00000001 00 00000000 00000000"
+    ∷ row 42 "> tick 1040" "5400 00000410 00000000" "5203 0009 000D 0064 FFFF 00000004 01 00000000 002932E0"
     ∷ []
 
 pub same : Holds rows

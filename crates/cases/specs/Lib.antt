@@ -37,6 +37,9 @@ pub mod Case-01-rehearsed-all
 pub mod Case-01-rehearsed-three-linked
 pub mod Case-01-splice-order-of-codes
 pub mod Case-01-whole-case
+pub mod Case-02-equal-on-air-followers
+pub mod Case-02-equal-over-covered
+pub mod Case-02-equal-three-in-a-row
 pub mod Case-10-1-multiple-events
 pub mod Case-10-1-single-event
 pub mod Case-6-2-abort-while-overridden
