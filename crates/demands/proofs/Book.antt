@@ -23,7 +23,7 @@ use Rattle.rules.specs.Ends.{Turn, writes, andThen, evicted, cancelled, closedB
 use Rattle.rules.specs.Instants.{runAll}
 use Rattle.rules.specs.Answers.{endOf, startOf, sessionAt, requested, unknownPrior, accepts, accepted}
 use Rattle.rules.specs.Calls.{Called, ticked, Call, call, after, named, fresh}
-use Rattle.demands.specs.History.{isEnd, isYes, endsOf, front, last, Entry, entryIs, credited, endTold, startTold, endAsked, entryOf, bookAnswered, shut, bookAfter}
+use Rattle.demands.specs.History.{endResult, isEnd, isYes, endsOf, front, last, Entry, entryIs, credited, endTold, startTold, endAsked, entryOf, bookAnswered, shut, bookAfter}
 use Rattle.rules.specs.Sound.{Each, heldCount}
 use Rattle.rules.proofs.Tests.{clash, by, and-both, eqb-same}
 use Rattle.rules.proofs.All.{all-into}
@@ -49,7 +49,7 @@ unfolding isEnd
 end-one c x c′ x′ (General d n) f e = refl
 end-one c x c′ x′ (InitResponse d n name) f e = refl
 end-one c x c′ x′ (AliveResponse d n a y t) f e = refl
-end-one c x c′ x′ (SpliceResponse d n y) f e = other-one (eqb n 109 || (eqb n 116 || eqb n 125)) c x c′ x′ d y f e
+end-one c x c′ x′ (SpliceResponse d n y) f e = other-one (endResult n) c x c′ x′ d y f e
 end-one c x c′ x′ (SpliceComplete d n y k p) f e = other-one (eqb k 1 || (eqb k 0 && eqb n 109)) c x c′ x′ d y f e
 end-one c x c′ x′ (AbortResponse d n y) f e = refl
 

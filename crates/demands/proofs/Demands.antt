@@ -85,12 +85,12 @@ pub full-exactly-when : (h : List Event) (s : Splicer) → FromFresh h s → (c 
 full-exactly-when = full-answer
 
 -- "No accepted session gets a second end, and each gets exactly one end, at the latest when the clock is brought to its end time or its
--- connection closes."
+-- connection closes." 02: "Demand 3's one end now includes these records", those of an equal one's start: flag 1 with 125, Splice_Response 125
 pub one-end : (h : List Event) (s : Splicer) → FromFresh h s → All (Ended (clockAfter h 0)) (book h [])
 one-end = all-ended
 
--- An end in an answer's bytes, a Splice_Request's own answer apart, is of an accepted session that had none: it is neither a second end nor
--- the end of a number that nobody was granted
+-- An end in an answer's bytes, 125 by an equal one's start among them, a Splice_Request's own answer apart, is of an accepted session that had
+-- none: it is neither a second end nor the end of a number that nobody was granted
 pub ends-are-owed : (c x : ℕ) (h : List Event) (s : Splicer) → FromFresh h s → (k : Call) → Wired k
     → endsOf c x (othersOf k (recordsIn (writtenBy (call k s .answer)))) ≤ unended c x (book h [])
 ends-are-owed = ends-accepted
@@ -102,7 +102,7 @@ pub only-aired-is-listed : (c x : ℕ) (h : List Event) (s : Splicer) → FromFr
 only-aired-is-listed = outs-started
 
 -- "An ad server dropped its connection with its spot on air." Once connection c has closed, by a good call, its sessions of before stand in
--- the book as they stood, each with its one end, whatever calls follow: what is written later counts for newer sessions only
+-- the book as they stood, each with its one end, whatever calls follow: what is written later, 125 too, counts for newer sessions only
 pub closed-stays-ended : (h : List Event) (s : Splicer) → FromFresh h s → (c room : ℕ) → numberOf (call (closes c room) s .answer) ≡ 0
     → (js : List Call) → All Wired js
     → Stands c (book (h ++ history (closes c room ∷ []) s) []) (book (h ++ history (closes c room ∷ js) s) [])

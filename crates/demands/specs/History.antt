@@ -32,11 +32,15 @@ tells completes responds c x (AbortResponse c′ r y) = false
 unfoldable pub isStart : ℕ → ℕ → Record → Bool
 isStart c x r = tells (λ n flag. eqb flag 0 && eqb n 100) (λ n. false) c x r
 
+-- the results of a Splice_Response that is an end: "109 (evicted, or its prior ended so or failed) or 116", 02: or 125 (its prior ended at
+-- once by an equal one's start)
+abbrev pub endResult : ℕ → Bool
+endResult n = eqb n 109 || (eqb n 116 || eqb n 125)
+
 -- "A session's end is its SpliceComplete with flag 1, or its SpliceComplete with flag 0 and 109, or a Splice_Response 109
--- (evicted, or its prior ended so or failed) or 116", or 125 (02: its prior ended at once by an equal one's start); of those "that isn't a
--- Splice_Request's own answer" among a call's records: `othersOf`
+-- .. or 116"; of those "that isn't a Splice_Request's own answer" among a call's records: `othersOf`
 unfoldable pub isEnd : ℕ → ℕ → Record → Bool
-isEnd c x r = tells (λ n flag. eqb flag 1 || (eqb flag 0 && eqb n 109)) (λ n. eqb n 109 || (eqb n 116 || eqb n 125)) c x r
+isEnd c x r = tells (λ n flag. eqb flag 1 || (eqb flag 0 && eqb n 109)) endResult c x r
 
 -- the Splice_Response 100 to number x of connection c
 unfoldable pub isYes : ℕ → ℕ → Record → Bool

@@ -140,9 +140,8 @@ ousted-fits s q h =
     let u = withStarted (removeAt 0 (q .started)) q in
     by (λ (r : Turn). All Fits (r .written)) (meetsEqual s (q .started)) _ _
     (λ e. let a = all-getD (λ v. Numbered v × Short v) (q .started) 0 empty (meets-some s (q .started) e) (both q h) in (
-      out-fits 125 air (omega arith) (a .0) (a .1),
-      dismissed-fits 125 (air .conn) (air .id) u (omega arith)
-          (record { waiting = h .numbered .waiting; started = fewer-all Numbered (fewer-removeAt 0 (q .started)) (h .numbered .started) }),
+      out-fits _ air (omega arith) (a .0) (a .1),
+      dismissed-fits _ _ _ u (omega arith) (record { waiting = h .numbered .waiting; started = fewer-all Numbered (fewer-removeAt 0 (q .started)) (h .numbered .started) }),
     ))
     (λ e. tt)
 

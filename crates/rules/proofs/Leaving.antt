@@ -60,10 +60,9 @@ meets-some s (a ∷ k) e = omega arith
 pub ousted-fewer : (s : Session) (q : Queue) → FewerHeld q (ousted s q .queue)
 unfolding ousted andThen
 ousted-fewer s q =
-    let air = getD (q .started) 0 empty in
     let u = withStarted (removeAt 0 (q .started)) q in
     by (λ (r : Turn). FewerHeld q (r .queue)) (meetsEqual s (q .started)) _ _
-    (λ e. held-then q u _ (record { waiting = fewer-same (q .waiting); started = fewer-removeAt 0 (q .started) }) (dismissed-fewer u 125 (air .conn) (air .id)))
+    (λ e. held-then q u _ (record { waiting = fewer-same (q .waiting); started = fewer-removeAt 0 (q .started) }) (dismissed-fewer u _ _ _))
     (λ e. held-same q)
 
 pub evicted-started : (t : ℕ) (q : Queue) → evicted t q .queue .started ≡ q .started

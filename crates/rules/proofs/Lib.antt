@@ -4,6 +4,7 @@ pub mod All
 pub mod Bytes
 pub mod Records
 pub mod Count
+pub mod Equal
 pub mod Every
 pub mod Walk
 pub mod Checks

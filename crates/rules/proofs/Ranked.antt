@@ -1,18 +1,17 @@
 -- The AccessTypes of the started fall strictly and are at most 9, so at most ten have started. Assumes nothing.
 use mathlib.Core.Path.{_≡_, refl}
 use mathlib.Core.Bool.{true, false}
-use mathlib.Core.List.{List, [], _∷_, _++_, map}
+use mathlib.Core.List.{List, [], _∷_}
 use Prim.Native.Nat.{ℕ, _+_, _*_, _≤_, _<_}
 use native.Mathlib.Omega.{arith}
 use lib.Dec.{eqb, ltb}
 use lib.ListN.{length, getD}
-use borrow.Author.Tests.{eqb-true, eqb-false, eq-eqb, ltb-true, lt-ltb}
+use borrow.Author.Tests.{eqb-true, eqb-false, ltb-true}
 use Rattle.rules.specs.declared.Session.{Session}
-use Rattle.rules.specs.declared.Ending.the-variants.{Complete, Response}
 use Rattle.rules.specs.Lists.{place, removeAt}
 use Rattle.rules.specs.State.{Queue, empty, startsAt, withWaiting}
-use Rattle.rules.specs.Ends.{Turn, andThen, ended, followers, dismissed}
-use Rattle.rules.specs.Instants.{outranks, mayStart, began, meetsEqual, ousted, launched, startAt, endAt, instant, onAir, elapse, runAll}
+use Rattle.rules.specs.Ends.{Turn, andThen, dismissed}
+use Rattle.rules.specs.Instants.{outranks, mayStart, meetsEqual, ousted, launched, startAt, endAt, instant, onAir, elapse, runAll}
 use Rattle.rules.specs.Answers.{requested, accepted}
 use Rattle.rules.specs.Calls.{Call, fresh, after}
 use Rattle.rules.proofs.Tests.{clash, by, and-both}
@@ -92,18 +91,6 @@ falling-kept =
 
 pub falling-always : (ks : List Call) (name : List ℕ) → Falling (after ks (fresh name .splicer) .queue .started)
 falling-always = held-always (λ now q. Falling (q .started)) falling-kept tt
-
--- ## A start that ends an equal one
-
--- "SpliceComplete flag 1, result 125, and its waiting followers end with Splice_Response 125, all before the new start's record": these records and
--- no others, in this order; the covered ones stay as they were, under the new one
-pub equal-start : (s air : Session) (w k : List Session) → s .overrides ≡ 1 → air .access ≡ s .access
-    → let f = followers (air .conn) (air .id) w in
-    launched s (record { waiting = w; started = air ∷ k })
-    ≡ record { queue = record { waiting = f .left; started = s ∷ k }; written = ended (Complete 125) air ∷ (map (ended (Response 125)) (f .gone) ++ (began s ∷ [])) }
-unfolding launched mayStart meetsEqual ousted andThen dismissed removeAt
-equal-start s air w k o e =
-    rw (eq-eqb (s .overrides) 1 o, lt-ltb (air .access) (s .access + s .overrides) (omega arith), eq-eqb (air .access) (s .access) e) refl
 
 -- ## At most ten
 

@@ -18,7 +18,7 @@ use Rattle.rules.specs.Ends.{Turn, quiet, andThen, writes, ended, ending
 abbrev pub outranks : Session → Session → Bool
 outranks new old = ltb (old .access) (new .access + new .overrides)
 
--- "with nothing on air, or with OverridePlaying 1 and AccessType higher than the one on air", or equal
+-- "with nothing on air, or with OverridePlaying 1 and AccessType higher than the one on air", 02: or equal
 unfoldable pub mayStart : Session → List Session → Bool
 mayStart s [] = true
 mayStart s (air ∷ k) = eqb (s .overrides) 1 && outranks s air
