@@ -14,7 +14,7 @@ use Rattle.rules.specs.Lists.{All, some, count}
 use Rattle.rules.specs.Bytes.{Byte, hasZero}
 use Rattle.rules.specs.Records.{recordsIn}
 use Rattle.rules.specs.State.{Splicer, empty, Sorted, startsAt, startsAfter, sooner, earliest, due}
-use Rattle.rules.specs.Sound.{Later}
+use Rattle.rules.specs.Sound.{Later, Falling}
 use Rattle.rules.specs.Answers.{requested, spliceResult}
 use Rattle.rules.specs.Calls.{lending, fresh, after}
 use Rattle.rules.proofs.All.{all-into}
@@ -134,14 +134,14 @@ module _ (name : List ℕ) (h : List Made) (m : Memory) where
     reserved-places-hold few = rw (not-full d (events h) few) at full-exactly-when
 
   -- "No accepted session gets a second end, and each gets exactly one end, at the latest when the clock is brought to its end time or its
-  -- connection closes."
+  -- connection closes." 02: "Demand 3's one end now includes these records", those of an equal one's start: flag 1 with 125, Splice_Response 125
   pub one-end : Trace name h m → All (Ended (clockAfter (events h) 0)) (book (events h) [])
   one-end t = told.one-end (events h) (shown m) (trace-told name h m t)
 
   -- the next call, of any connection d and any number x
   module _ (i : Input) (r : Result) (c : More name h m i r) (d x : ℕ) where
-    -- An end in its answer's bytes, a Splice_Request's own answer apart, is of an accepted session that had none: it is neither a second end
-    -- nor the end of a number that nobody was granted
+    -- An end in its answer's bytes, 125 by an equal one's start among them, a Splice_Request's own answer apart, is of an accepted session that
+    -- had none: it is neither a second end nor the end of a number that nobody was granted
     pub ends-are-owed : endsOf d x (othersOf (callOf i) (recordsIn (bytesOf r))) ≤ unended d x (book (events h) [])
     ends-are-owed =
         rw (as-ruled m i r (c .allowed) .bytes)
@@ -163,8 +163,8 @@ module _ (name : List ℕ) (h g : List Made) (m : Memory) (d : ℕ) (e : List �
   pub closed-stays-ended : Stands d (book (events (h ++ (made (aClose d e) r ∷ []))) []) (book (events (h ++ (made (aClose d e) r ∷ g))) [])
   closed-stays-ended = closed-stands name h g m d e r t z
 
-  -- "the completion routine then wrote the old spot's end under the new SessionID": an end of the connection that the next call writes is of a
-  -- newer session that has had none
+  -- "the completion routine then wrote the old spot's end under the new SessionID": an end of the connection that the next call writes, 125 too,
+  -- is of a newer session that has had none
   pub the-incident : (i : Input) (o : Result) → More name (h ++ (made (aClose d e) r ∷ g)) m i o → (x : ℕ)
       → endsOf d x (othersOf (callOf i) (recordsIn (bytesOf o))) ≤ unended d x (closed-stays-ended .newer)
   the-incident i o c x =
@@ -183,6 +183,12 @@ module _ (name : List ℕ) (h : List Made) (m : Memory) where
   -- and so is what is read: every result that the read's contract allows
   pub read-as-told : Trace name h m → (r : List ℕ) → Counts (m .words) (m .bytes) r → r ≡ countsTold (events h)
   read-as-told t r c = c ∙ sym (trace-lent name h m t .whole .words .counts) ∙ stored-as-told t
+
+-- ## Document 02, CR 4
+
+-- "so no two started sessions ever have the same AccessType": those that the started words hold fall strictly, from the one on air down
+pub no-two-alike : (name : List ℕ) (h : List Made) (m : Memory) → Trace name h m → Falling (shown m .queue .started)
+no-two-alike name h m t = reached-sound (shown m) (trace-lent name h m t .reached) .holding .falling
 
 -- ## Document 02, CR 10
 
