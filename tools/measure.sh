@@ -148,6 +148,8 @@ counts() {
     row 'tick, 1 on air ends, 1 waiting starts, no other' busy 1
     row 'tick, 1 on air ends, the first of 10 waiting starts' busy 10
     row 'tick, 1 on air ends, the first of 64 waiting starts' busy 64
+    row 'tick, a start over an equal one, no follower' equal 0
+    row 'tick, a start over an equal one with 19 followers' equal 19
     row 'Splice_Request accepted, 0 waiting' splice 0
     row 'Splice_Request accepted in the middle of 10' splice 10
     row 'Splice_Request accepted in the middle of 63' splice 63
@@ -241,6 +243,7 @@ stack() {
     deep tick 'an end, then a start, 64 waiting' busy 64
     deep tick '64 sessions start and end' play 64
     deep tick 'a start fails, 19 followers' fail 19
+    deep tick 'a start over an equal one with 19 followers' equal 19
     deep tick 'full splicer: 4 chains fail, 10 started end' fulltick 10
     deep waiting '64 waiting' read 64
 }

@@ -213,6 +213,14 @@ static struct call case_fail(uint32_t n) {
     return tick(1011);
 }
 
+/* a start with the flag over an equal one on air, which ends at once, with n followers */
+static struct call case_equal(uint32_t n) {
+    on_air(1, 1000 * SECOND);
+    chain(1, 0, n, 1000, 0);
+    accepted(ranked(splice(0, 1001, TIMED, 1010, 5 * SECOND), 1, 1));
+    return tick(1011);
+}
+
 /* the first of the n that wait fails, since 1000 is on air; it has no follower */
 static struct call case_clash(uint32_t n) {
     on_air(0, 1000 * SECOND);
@@ -274,7 +282,8 @@ static const struct {
              {"play", case_play},         {"fulltick", case_fulltick},   {"fullclose", case_fullclose}, {"fullabort", case_fullabort},
              {"fullevict", case_fullevict}, {"airidle", case_airidle},   {"start", case_start},         {"end", case_end},
              {"front", case_front},       {"behind", case_behind},       {"clash", case_clash},         {"amid", case_amid},
-             {"deepidle", case_deepidle}, {"deepend", case_deepend},     {"read", case_read}};
+             {"deepidle", case_deepidle}, {"deepend", case_deepend},     {"read", case_read},
+             {"equal", case_equal}};
 
 /* the state of a case, and its call */
 static struct call prepared(const char *name, uint32_t n) {

@@ -1,11 +1,11 @@
-//! The card rules of document 01 as an in-place engine in plain Rust: the measuring peer of the proved core.
+//! The card rules of document 01, with 02's CR 4, as an in-place engine in plain Rust: the measuring peer of the proved core.
 //!
-//! Written from document 01 and J.280 alone, in the way one would write it for the card without counting instructions: one struct of
+//! Written from the documents and J.280 alone, in the way one would write it for the card without counting instructions: one struct of
 //! fixed size changed in place, lists of fixed capacity, iterators, bounds checks left on. Not proved, not part of the product.
 //!
 //! Two facts keep it short. Waiting sessions have different starts (rule d), so the waiting list is kept by start: its first
 //! is the next to start, and a session's follower, which starts at its end, stands behind it and is the only one linked to it.
-//! Started sessions are a stack, since only a higher AccessType covers: the last is on air, the others are covered.
+//! Started sessions are a stack, since only a higher AccessType covers and an equal one ends: the last is on air, the others are covered.
 #![no_std]
 
 use core::mem::MaybeUninit;
@@ -551,15 +551,25 @@ impl InPlace {
         }
         let session = self.take_waiting(0);
         let plays = match self.started.last() {
-            Some(on_air) => session.overrides && session.access > on_air.session.access,
+            Some(on_air) => session.overrides && session.access >= on_air.session.access,
             None => true,
         };
         if plays {
+            self.end_equal(session.access, out);
             out.complete_in(&session, code::SUCCESSFUL);
             self.started.push(Started { session, played: Ninths(0) });
         } else {
             out.complete_in(&session, code::COLLISION);
             self.end_followers(session.connection, session.id, code::COLLISION, out);
+        }
+    }
+
+    /// Ends the one on air at once, and its followers, if it has this AccessType.
+    fn end_equal(&mut self, access: u8, out: &mut Output) {
+        if self.started.last().is_some_and(|on_air| on_air.session.access == access) {
+            let old = self.started.remove(self.started.len() - 1);
+            out.complete_out(&old, code::OVERRIDDEN);
+            self.end_followers(old.session.connection, old.session.id, code::OVERRIDDEN, out);
         }
     }
 
@@ -694,7 +704,8 @@ impl InPlace {
                 (held.end, Some(prior))
             }
         };
-        if self.waiting.iter().any(|other| other.start == start && other.access >= splice.access) {
+        let wins = |other: &Session| splice.access > other.access || (splice.overrides && splice.access == other.access);
+        if self.waiting.iter().any(|other| other.start == start && !wins(other)) {
             return Err(code::COLLISION);
         }
         if self.is_full(connection) {

@@ -1,5 +1,5 @@
 /* A splicer in plain C, in place, as one would write it by hand: what the proved core's instruction counts are held against.
- * Document 01's rules in full; waiting sessions in an array by start and counted by connection, started ones in an array by AccessType. */
+ * Document 01's rules in full, with 02's CR 4; waiting sessions in an array by start and counted by connection, started ones in an array by AccessType. */
 #include "splicer.h"
 
 void *memcpy(void *to, const void *from, size_t n);
@@ -90,7 +90,13 @@ static void starts_now(struct peer *p, struct sink *o) {
     struct session s = p->waiting[0];
     drop(p->waiting, &p->waits, 0);
     p->counts[s.conn]--;
-    if (p->starts == 0 || (s.over && s.access > p->started[0].access)) {
+    if (p->starts == 0 || (s.over && s.access >= p->started[0].access)) {
+        if (p->starts && s.access == p->started[0].access) {
+            struct session old = p->started[0];
+            completes(o, &old, 1, 125);
+            drop(p->started, &p->starts, 0);
+            end_followers(p, o, old.conn, old.id, 125);
+        }
         memmove(p->started + 1, p->started, p->starts * sizeof s);
         p->started[0] = s;
         p->starts++;
@@ -232,7 +238,7 @@ static uint32_t splice_result(struct peer *p, const struct session *s, const str
         return 112;
     }
     for (uint32_t i = 0; i < p->waits && p->waiting[i].start <= s->start; i++) {
-        if (p->waiting[i].start == s->start && p->waiting[i].access >= s->access) {
+        if (p->waiting[i].start == s->start && p->waiting[i].access + !s->over > s->access) {
             return 109;
         }
     }

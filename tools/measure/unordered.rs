@@ -1,4 +1,4 @@
-//! An engine in place for the rules of document 01, written from the documents alone, as a yardstick: plain Rust, and the waiting sessions
+//! An engine in place for the rules of document 01 with 02's CR 4, written from the documents alone, as a yardstick: plain Rust, and the waiting sessions
 //! in an array without order. A new one goes behind the last, one that goes is replaced by the last, and each question about them is a scan,
 //! one by one.
 #![no_std]
@@ -11,7 +11,7 @@ const WAITING: usize = 64;
 /// The places that each connection is sure of, and those it can have.
 const SURE: u8 = 10;
 const MOST: u8 = 20;
-/// A session starts over another one only with a higher AccessType, and there are ten of them.
+/// A session covers another one only with a higher AccessType, and there are ten of them.
 const STARTED: usize = 10;
 const ROOM: usize = 4096;
 const HEADER: usize = 8;
@@ -386,11 +386,19 @@ impl Splicer {
         let plan = self.plans[place];
         self.remove(place);
         if let Some(top) = self.plays.checked_sub(1) {
-            if !plan.overrides || plan.access <= self.started[top].access {
+            let air = self.started[top];
+            if !plan.overrides || plan.access < air.access {
                 out.complete(id, 0, 109, 0);
                 return self.end_followers(id, 109, out);
             }
-            self.started[top].played = self.leave_air(top, start);
+            let played = self.leave_air(top, start);
+            if plan.access == air.access {
+                out.complete(air.id, 1, 125, played);
+                self.finish(top);
+                self.end_followers(air.id, 125, out);
+            } else {
+                self.started[top].played = played;
+            }
         }
         out.complete(id, 0, 100, 0);
         self.since = start;
@@ -579,7 +587,8 @@ impl Splicer {
             time
         };
         let met = self.starting_at(start);
-        if met.is_some_and(|place| self.plans[place].access >= plan.access) {
+        let least = plan.access + u8::from(plan.overrides);
+        if met.is_some_and(|place| self.plans[place].access >= least) {
             return 109;
         }
         if self.full(id.owner) {
