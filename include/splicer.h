@@ -95,7 +95,7 @@ enum splicer_result {
     SPLICER_UNKNOWN_MESSAGE = 120,
     SPLICER_INVALID_SESSION = 121,
     SPLICER_INVALID_DATA = 123,
-    SPLICER_OVERRIDDEN = 125        /* the session's end while another covered it */
+    SPLICER_OVERRIDDEN = 125        /* ended while covered, or ended at once by an equal one */
 };
 
 /* One output channel. Opaque: its content is the core's, and unused places are zero. words: 0 the clock in ninths of a microsecond, 1 how

@@ -52,7 +52,7 @@ pub mod result {
     pub const INVALID_SESSION: u16 = 121;
     /// Not readable.
     pub const INVALID_DATA: u16 = 123;
-    /// The session's end while another covered it.
+    /// Ended while covered, or ended at once by an equal one.
     pub const OVERRIDDEN: u16 = 125;
 }
 
