@@ -4,9 +4,15 @@
 # compiler is kept and compiled for TARGET, by the kit's clang too. The door's functions take pointers and numbers only and return
 # nothing, so no rule of x86-64 about structs stands in the module. No part of the gate: run examples/driver.c over it first.
 set -eu
+. "$(dirname "$0")/words.sh"
 cd "$(dirname "$0")/.."
-[ $# -eq 2 ] || { echo "usage: archive-for.sh TARGET OUT.a" >&2; exit 2; }
-kit=${RATTLE_HOME:-$(cd "$(dirname "$(readlink -f "$(command -v rt)")")/.." && pwd -P)}
+[ $# -eq 2 ] || refuse 'usage: archive-for.sh TARGET OUT.a'
+case $1 in
+aarch64-* | riscv64-* | x86_64-*) ;;
+*) refuse "'$1' is no 64-bit little-endian processor that was tried: aarch64-, riscv64-, x86_64-" ;;
+esac
+needs rt
+find_kit
 tools=$kit/on/$(uname -m)/toolchain
 work=target/archive-for
 mkdir -p "$work"

@@ -4,6 +4,22 @@
 # and run by Debian's emulator. Where that cannot be had, or with ROUTE=card, more streams through the card program stand in.
 # The last line is 'N passed, M failed'.
 set -eu
+. "$(dirname "$0")/words.sh"
+wants=
+for word; do
+    case $wants$word in
+    --seed | --n | --first | --threads | --fault) wants=$word ;;
+    --fault*) wants= ;;
+    --seed* | --n* | --first* | --threads*)
+        case $word in
+        '' | *[!0-9]*) refuse "$wants '$word': no number" ;;
+        esac
+        wants=
+        ;;
+    *) refuse "'$word' is none of --seed S, --n N, --first I, --threads T, --fault NAME" ;;
+    esac
+done
+[ -z "$wants" ] || refuse "$wants needs a value"
 cd "$(dirname "$0")/.."
 target=x86_64-unknown-linux-gnu
 work=target/beside
@@ -45,7 +61,7 @@ over_archive() {
         CARGO_TARGET_X86_64_UNKNOWN_LINUX_GNU_RUNNER=$runner
         export CARGO_TARGET_X86_64_UNKNOWN_LINUX_GNU_RUNNER
     fi
-    ran archive rt staticlib door || return 0
+    ran archive proving "$work/rt.log" staticlib door || return 0
     ran bindings cargo test --release --offline --target $target --manifest-path bindings/Cargo.toml || :
     ran compared cargo run --release --offline --target $target --manifest-path model/beside/Cargo.toml -- "$@" || :
 }
@@ -63,6 +79,7 @@ over_card() {
     fi
 }
 
+needs rt
 route=${ROUTE:-archive}
 case $route in
 archive | card) ;;

@@ -3,6 +3,12 @@
 # the tables named in `hand` there are written by hand.
 # With --check it changes nothing and says whether the crate has these tables. The last line is then 'N passed, M failed'.
 set -eu
+. "$(dirname "$0")/words.sh"
+case $#${1:-} in
+0 | 1--check) ;;
+*) refuse "only --check, not '$*'" ;;
+esac
+needs cargo
 cd "$(dirname "$0")/.."
 specs=crates/cases/specs
 hand='Layouts Rooms Rehearsed Histories Worked'

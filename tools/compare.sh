@@ -3,6 +3,9 @@
 # is linked.
 # The last line is 'N passed, M failed'.
 set -eu
+. "$(dirname "$0")/words.sh"
+no_words "$@"
+needs cargo rt
 cd "$(dirname "$0")/.."
 work=target/compare
 mkdir -p "$work"

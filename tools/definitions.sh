@@ -3,6 +3,14 @@
 # definition `card` of the input is the second program's output, byte for byte, and has the prover compute it.
 # The statements stand in a scratch repository under target/, nothing of them is kept. The last line is 'N passed, M failed'.
 set -eu
+. "$(dirname "$0")/words.sh"
+[ $# -le 2 ] || refuse 'a seed and a number of streams'
+for word; do
+    case $word in
+    '' | *[!0-9]*) refuse "'$word' is no number" ;;
+    esac
+done
+needs cargo rt
 cd "$(dirname "$0")/.."
 seed=${1:-1}
 count=${2:-4}
@@ -47,6 +55,7 @@ done | tr '\n' ' ')
     done
 } >"$work/crates/trial/specs/Trial.antt"
 
+echo "definitions: the prover computes $count streams of seed $seed"
 if (cd "$work" && rt check trial >check.log 2>&1); then
     echo "definitions: $count streams of seed $seed, 0 differ"
     echo "$count passed, 0 failed"

@@ -3,11 +3,14 @@
 # examples/driver.out; a driver of version 1 must not link with it. All by the kit's own compiler and linker.
 # The last line is 'N passed, M failed'.
 set -eu
+. "$(dirname "$0")/words.sh"
+no_words "$@"
+needs rt
+find_kit
 cd "$(dirname "$0")/.."
 work=target/driver
 rm -rf "$work"
 mkdir -p "$work"
-kit=${RATTLE_HOME:-$(cd "$(dirname "$(readlink -f "$(command -v rt)")")/.." && pwd -P)}
 clang=$kit/on/$(uname -m)/toolchain/bin/clang
 passed=0
 failed=0
@@ -16,6 +19,7 @@ failed=0
 tried() {
     name=$1
     shift
+    echo "driver: $name"
     if "$@" >"$work/log" 2>&1; then
         echo "driver: $name: good"
         passed=$((passed + 1))

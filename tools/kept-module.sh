@@ -2,8 +2,10 @@
 # kept-module.sh FOLDER WORD..: runs `rt WORD..` in the present folder, by a copy of the kit made of links (FOLDER/kit) whose clang keeps the
 # first LLVM module that it is handed: FOLDER/module.bc.
 set -eu
-[ $# -ge 2 ] || { echo "usage: kept-module.sh FOLDER WORD.." >&2; exit 2; }
-kit=${RATTLE_HOME:-$(cd "$(dirname "$(readlink -f "$(command -v rt)")")/.." && pwd -P)}
+. "$(dirname "$0")/words.sh"
+[ $# -ge 2 ] || refuse 'usage: kept-module.sh FOLDER WORD..'
+needs rt
+find_kit
 mkdir -p "$1"
 work=$(cd "$1" && pwd -P)
 shift

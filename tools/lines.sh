@@ -2,6 +2,8 @@
 # lines.sh: for each listed crate the lines of code, definitions, laws and function proofs (blank lines, comments and imports left out),
 # its public functions, and its must-fail edits, as a table.
 set -eu
+. "$(dirname "$0")/words.sh"
+no_words "$@"
 cd "$(dirname "$0")/.."
 
 # code FILE..: lines that are neither blank, comment nor import

@@ -18,10 +18,18 @@
 # x86-64 (RUSTC names one; Debian 12: rustc-web and libstd-rust-web-dev:amd64), on Arm gcc-x86-64-linux-gnu too (objdump, objcopy, and the
 # linker for programs). `sh tools/setup.sh x86` installs them. No part of the gate.
 set -eu
+. "$(dirname "$0")/words.sh"
+for part; do
+    case $part in
+    counts | ticks | stack | frames | frames0 | size | agree | programs) ;;
+    *) refuse "no part '$part'" ;;
+    esac
+done
+needs rt cargo
+find_kit
 cd "$(dirname "$0")/.."
 work=target/measure
 mkdir -p "$work"
-kit=${RATTLE_HOME:-$(cd "$(dirname "$(readlink -f "$(command -v rt)")")/.." && pwd -P)}
 own=$kit/on/$(uname -m)
 tools=$own/toolchain
 target=x86_64-unknown-linux-gnu
@@ -376,10 +384,8 @@ versions
 [ $# -gt 0 ] || set -- counts ticks stack frames size agree programs
 for part; do
     echo
-    case $part in
-    counts | ticks | stack | frames | frames0 | size | agree | programs) $part ;;
-    *) fail "no part '$part'" ;;
-    esac
+    echo "measure: $part" >&2
+    $part
 done
 echo
 [ $rows -eq 0 ] || echo "$rows cases, replies, buffers and waiting counts of all five equal in each"

@@ -4,17 +4,22 @@
 # Each edit names a table of the crate cases, and that table alone must refuse it: definitions and table are put into one crate of a scratch
 # repository under target/, with no law and no other table beside them. The last line is 'N passed, M failed'.
 set -eu
+. "$(dirname "$0")/words.sh"
 cd "$(dirname "$0")/.."
+needs rt
 work=target/readings
-rm -rf "$work"
-mkdir -p "$work/crates"
-
 case ${1:-} in
 '') set -- crates/cases/readings/*.edit ;;
 --all) set -- crates/cases/readings/*.edit crates/cases/more-readings/*.edit ;;
-*) set -- $(for label; do ls crates/cases/*readings/"$label.edit"; done) ;;
+*)
+    for label; do
+        ls crates/cases/*readings/"$label.edit" >/dev/null 2>&1 || refuse "no reading '$label'"
+    done
+    set -- $(for label; do ls crates/cases/*readings/"$label.edit"; done)
+    ;;
 esac
-[ $# -gt 0 ] || exit 2
+rm -rf "$work"
+mkdir -p "$work/crates"
 
 # crate_of TABLE: the name of its crate
 crate_of() { echo "$1" | tr 'A-Z-' 'a-z_'; }
@@ -51,8 +56,10 @@ for edit; do
     edits=$((edits + 1))
 done
 
-(cd "$work" && rt must-fail) >"$work/log" 2>&1 || true
-grep '^rt: must-fail' "$work/log" || tail -n 20 "$work/log" | cut -c 1-400
+trial() { (cd "$work" && rt must-fail); }
+watched target/readings.log "$edits" 'rt: must-fail*' trial || true
+mv target/readings.log "$work/log"
+grep -q '^rt: must-fail' "$work/log" || tail -n 20 "$work/log" | cut -c 1-400
 refused=0
 for edit; do
     table=$(sed -n 's/^# table: //p' "$edit")

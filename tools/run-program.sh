@@ -2,8 +2,10 @@
 # run-program.sh PROGRAM [ARG..]: runs an x86-64 program, as target/bin/card, with this shell's standard input and output, under the
 # kit's loader and C library, and on another machine than x86-64 under the kit's emulator.
 set -eu
-[ $# -ge 1 ] || { echo "usage: run-program.sh PROGRAM [ARG..]" >&2; exit 2; }
-kit=${RATTLE_HOME:-$(cd "$(dirname "$(readlink -f "$(command -v rt)")")/.." && pwd -P)}
+. "$(dirname "$0")/words.sh"
+[ $# -ge 1 ] || refuse 'usage: run-program.sh PROGRAM [ARG..]'
+[ -f "$1" ] || refuse "no program $1"
+find_kit
 tools=$kit/on/$(uname -m)/toolchain
 [ -d "$tools" ] || { echo "run-program.sh: the kit has nothing for $(uname -m)" >&2; exit 2; }
 program=$1

@@ -3,13 +3,21 @@
 # counts them (tools/beside.sh, tools/measure.sh): on x86-64 gcc, objdump and Debian's emulator, which takes plugins; on Arm the library and the
 # linker for x86-64 too. Installs Debian's where there are none (as root).
 set -eu
+. "$(dirname "$0")/words.sh"
+case $#${1:-} in
+0 | 1x86) ;;
+*) refuse "only x86, not '$*'" ;;
+esac
 
 # install PACKAGE..: removes nothing that is there, and does not wait long for a network that does not answer
 install() {
+    needs apt-get
+    [ "$(id -u)" -eq 0 ] || { echo "setup.sh: not root: as root, apt-get install $*" >&2; exit 2; }
     apt-get install -y --no-install-recommends --no-remove -o Acquire::http::Timeout=20 -o Acquire::Retries=1 "$@"
 }
 
 update() {
+    command -v apt-get >/dev/null 2>&1 && [ "$(id -u)" -eq 0 ] || return 0
     apt-get update -o Acquire::http::Timeout=20 -o Acquire::Retries=1
 }
 
@@ -27,6 +35,9 @@ if lacks cargo; then
     install cargo-web rustc-web || install cargo rustc
 fi
 cargo --version
+if lacks rt; then
+    echo 'setup.sh: the Rattle kit (rt) is not here: nothing can be proved; the second program and the desk run without it'
+fi
 if [ "${1:-}" = x86 ]; then
     case $(uname -m) in
     x86_64)

@@ -2,6 +2,8 @@
 # shape.sh: the shape of the house in numbers, for docs: parameters of functions, columns of contract lines, paths into the facts of a proof.
 # Prints a table. It judges nothing.
 set -eu
+. "$(dirname "$0")/words.sh"
+no_words "$@"
 cd "$(dirname "$0")/.."
 sources=$(git ls-files 'crates/*.rt')
 proofs=$(git ls-files 'crates/*.antt')

@@ -7,9 +7,15 @@
 # exported, so the C form of each `#[no_mangle] pub extern "C" fn` is written behind the module as the kit writes it for an archive: a
 # slice comes as a pointer and a length, all else as it is. The module is then compiled as the kit compiles an archive's.
 set -eu
+. "$(dirname "$0")/words.sh"
+case $#${1:-} in
+0 | 1*.a) ;;
+*) refuse "only OUT.a, not '$*'" ;;
+esac
+needs rt
+find_kit
 cd "$(dirname "$0")/.."
 out=${1:-target/try/libdoor.a}
-kit=${RATTLE_HOME:-$(cd "$(dirname "$(readlink -f "$(command -v rt)")")/.." && pwd -P)}
 tools=$kit/on/$(uname -m)/toolchain
 target=x86_64-unknown-linux-gnu
 work=$PWD/target/try

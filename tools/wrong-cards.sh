@@ -4,8 +4,11 @@
 # (model pieces) must notice it, and must pass the program of the source as it stands, built in the same way. Needs
 # target/model/release/model (tools/compare.sh builds it). The last line is 'N passed, M failed'.
 set -eu
+. "$(dirname "$0")/words.sh"
+no_words "$@"
+needs rt
+find_kit
 cd "$(dirname "$0")/.."
-kit=${RATTLE_HOME:-$(cd "$(dirname "$(readlink -f "$(command -v rt)")")/.." && pwd -P)}
 own=$kit/on/$(uname -m)
 target=x86_64-unknown-linux-gnu
 model=target/model/release/model
@@ -65,6 +68,7 @@ said() {
     if "$1"; then passed=$((passed + 1)); else failed=$((failed + 1)); fi
 }
 
+echo 'wrong-cards: building and running the source as it stands'
 if built && runs; then
     said true 'the source as it stands passes'
 else
@@ -73,6 +77,7 @@ else
 fi
 for edit in crates/card/wrong-runs/*.edit; do
     name=$(basename "$edit" .edit)
+    echo "wrong-cards: trying $name"
     if ! built "$edit"; then
         tail -n 5 "$work/log" 2>/dev/null || :
         said false "$name was not built"

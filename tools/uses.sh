@@ -1,0 +1,63 @@
+#!/bin/sh
+# uses.sh: every script of this folder knows --help, and refuses a wrong argument with 2 and one line before it builds anything; without the kit
+# run-program.sh says so. The last line is 'N passed, M failed'.
+set -eu
+. "$(dirname "$0")/words.sh"
+no_words "$@"
+cd "$(dirname "$0")/.."
+work=target/uses
+mkdir -p "$work"
+passed=0
+failed=0
+
+# held NAME TEST..: counts it
+held() {
+    name=$1
+    shift
+    if "$@"; then
+        passed=$((passed + 1))
+    else
+        echo "uses: $name: FAILED"
+        failed=$((failed + 1))
+    fi
+}
+
+# helps SCRIPT: some lines, of which the first names the script
+helps() {
+    sh "$1" --help >"$work/said" 2>&1 && head -n 1 "$work/said" | grep -q "^$(basename "$1")"
+}
+
+# refuses SCRIPT WORD..: status 2, one line, within the time that a start takes
+refuses() {
+    status=0
+    sh "$@" >"$work/said" 2>"$work/wrong" </dev/null || status=$?
+    [ "$status" -eq 2 ] && [ ! -s "$work/said" ] && [ "$(wc -l <"$work/wrong")" -eq 1 ]
+}
+
+# alone: run-program.sh where there is no kit
+alone() {
+    status=0
+    env -u RATTLE_HOME PATH=/usr/bin:/bin sh tools/run-program.sh tools/uses.sh >"$work/said" 2>&1 || status=$?
+    [ "$status" -eq 2 ] && grep -q 'rt is missing' "$work/said"
+}
+
+for script in tools/*.sh; do
+    case $script in */words.sh | */ran.sh) continue ;; esac
+    held "$script --help" helps "$script"
+    held "$script --wrong-word" refuses "$script" --wrong-word
+done
+held 'readings.sh, no such reading' refuses tools/readings.sh no_such_reading
+held 'edits.sh, no such crate' refuses tools/edits.sh no_such_crate
+held 'definitions.sh, no number' refuses tools/definitions.sh 1 two
+held 'measure.sh, no such part' refuses tools/measure.sh counts weight
+held 'archive-for.sh, a 32-bit processor' refuses tools/archive-for.sh armv7-unknown-linux-gnu target/x.a
+held 'archive-for.sh, one word' refuses tools/archive-for.sh aarch64-unknown-linux-gnu
+held 'beside.sh, a value is missing' refuses tools/beside.sh --seed
+held 'beside.sh, no number' refuses tools/beside.sh --n many
+held 'build-driver.sh, no source' refuses tools/build-driver.sh target/x no.c no.a
+held 'run-program.sh, no program' refuses tools/run-program.sh no-program
+if [ ! -x /usr/bin/rt ] && [ ! -x /bin/rt ]; then
+    held 'run-program.sh without the kit' alone
+fi
+echo "$passed passed, $failed failed"
+[ "$failed" -eq 0 ]

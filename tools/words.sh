@@ -1,0 +1,88 @@
+# words.sh: for the scripts of this folder, to be sourced before anything else. It answers --help with the script's first comment, and has
+# the words with which each of them refuses an argument, names what is missing and shows how far it is.
+case ${1:-} in
+--help | -h)
+    sed -n '2,/^[^#]/s/^# \{0,1\}//p' "$0"
+    exit 0
+    ;;
+esac
+
+# refuse WORD..: a wrong argument: nothing was built
+refuse() {
+    echo "$(basename "$0"): $*; --help says what it takes" >&2
+    exit 2
+}
+
+# no_words "$@": for a script that takes none
+no_words() {
+    [ $# -eq 0 ] || refuse "it takes no argument, and got '$1'"
+}
+
+# needs TOOL..: a line for each that is missing, and then no further
+needs() {
+    lacking=
+    for tool; do
+        command -v "$tool" >/dev/null 2>&1 && continue
+        lacking=yes
+        case $tool in
+        rt) echo "$(basename "$0"): rt is missing: unpack the Rattle kit and put its folder bin/ into PATH" >&2 ;;
+        cargo | rustc) echo "$(basename "$0"): $tool is missing: sh tools/setup.sh installs Debian's, or take one from rustup.rs" >&2 ;;
+        *) echo "$(basename "$0"): $tool is missing" >&2 ;;
+        esac
+    done
+    [ -z "$lacking" ] || exit 2
+}
+
+# find_kit: sets kit to the kit's folder
+find_kit() {
+    [ -n "${RATTLE_HOME:-}" ] || needs rt
+    kit=${RATTLE_HOME:-$(cd "$(dirname "$(readlink -f "$(command -v rt)")")/.." && pwd -P)}
+    [ -d "$kit/on" ] || { echo "$(basename "$0"): $kit is no Rattle kit (RATTLE_HOME names another)" >&2; exit 2; }
+}
+
+# reached NAME: the listed crates that it depends on, and itself
+reached() {
+    awk -v name="$1" '
+    { sub(/#.*/, ""); at = index($0, ":"); if (at) deps[substr($0, 1, at - 1)] = substr($0, at + 1) }
+    END { visit(name) }
+    function visit(one,    n, i, list) {
+        if (one in seen || !(one in deps)) return
+        seen[one] = 1
+        print one
+        n = split(deps[one], list, " ")
+        for (i = 1; i <= n; i++) visit(list[i])
+    }' crates.txt
+}
+
+# watched LOG ALL PATTERN COMMAND..: runs it; each line that fits the pattern is shown as it comes, with how many of ALL are left. LOG gets all
+# that the command says. Its status is the command's.
+watched() {
+    log=$1 all=$(($2)) pattern=$3
+    shift 3
+    { status=0; "$@" 2>&1 || status=$?; echo "$status" >"$log.status"; } | {
+        at=0
+        : >"$log"
+        while IFS= read -r line; do
+            printf '%s\n' "$line" >>"$log"
+            case $line in
+            'rt: ok'*) ;;
+            $pattern)
+                at=$((at + 1))
+                echo "  $at of $all: ${line#rt: }; $((all - at)) left"
+                ;;
+            esac
+        done
+    }
+    status=$(cat "$log.status")
+    rm "$log.status"
+    return "$status"
+}
+
+# proving LOG check|staticlib NAME: `rt check NAME` or `rt staticlib NAME`, a line for each crate as it is proved; what rt said is shown if
+# it fails
+proving() {
+    said=$1
+    shift
+    echo "proving $2 and what it depends on (some minutes where nothing is proved yet)"
+    watched "$said" "$(reached "$2" | wc -l)" 'rt: * proved*' rt "$@" || { cat "$said" >&2; return 1; }
+}
