@@ -1,8 +1,13 @@
-/* A small driver: four connections whose bytes come in pieces, a clock, and the core's records sent or logged.
- * Sockets are left out: `heard` stands for what was read, and a printed line for what would be sent. */
+/* A small driver: four connections whose bytes come in pieces, a clock, and the core's records sent or logged. Every call is recorded.
+ * Sockets are left out: `heard` stands for what was read, and a printed line for what would be sent.
+ * driver [NAME [RECORDING]]: the channel's name, CH1 if it is not given, and the file that gets the recording. */
 #include "splicer.h"
+#include "splicer_record.h"
+#include "splicer_text.h"
 
 int printf(const char *format, ...);
+int creat(const char *path, unsigned mode);
+long write(int file, const void *bytes, size_t n);
 void *memcpy(void *to, const void *from, size_t n);
 void *memmove(void *to, const void *from, size_t n);
 
@@ -16,15 +21,33 @@ static struct splicer channel;
 static struct inbox inboxes[SPLICER_CONNECTIONS];
 static uint8_t out[SPLICER_OUT];
 
-static const char *name_of(uint32_t id) {
-    switch (id) {
-    case SPLICER_GENERAL_RESPONSE: return "General_Response";
-    case SPLICER_INIT_RESPONSE: return "Init_Response";
-    case SPLICER_ALIVE_RESPONSE: return "Alive_Response";
-    case SPLICER_SPLICE_RESPONSE: return "Splice_Response";
-    case SPLICER_SPLICE_COMPLETE_RESPONSE: return "SpliceComplete_Response";
-    case SPLICER_ABORT_RESPONSE: return "Abort_Response";
-    default: return "?";
+/* The recording's sink: a file, or none. A driver that must not wait keeps the bytes in a ring and writes them elsewhere. */
+static int recording = -1;
+
+static void keep(void *to, const uint8_t *bytes, size_t n) {
+    int file = *(int *)to;
+    if (file >= 0 && write(file, bytes, n) != (long)n) {
+        printf("the recording is cut here\n");
+        *(int *)to = -1;
+    }
+}
+
+static const struct splicer_sink sink = {keep, &recording};
+
+/* The fields of a record. */
+static void fields(const struct splicer_record *r) {
+    struct splicer_init_response named;
+    struct splicer_alive_response alive;
+    struct splicer_splice_complete complete;
+    uint32_t session;
+    if (splicer_read_init(r, &named)) {
+        printf(", revision %u, name %s", named.revision, (const char *)named.name);
+    } else if (splicer_read_alive(r, &alive)) {
+        printf(", state %u, session %u, time %u s %u us", alive.state, alive.session, alive.seconds, alive.micros);
+    } else if (splicer_read_complete(r, &complete)) {
+        printf(", session %u, flag %u, played %u", complete.session, complete.flag, complete.played);
+    } else if (splicer_read_session(r, &session)) {
+        printf(", session %u", session);
     }
 }
 
@@ -33,25 +56,8 @@ static void deliver(const char *how, size_t written) {
     struct splicer_record r;
     size_t at = 0;
     while (splicer_next_record(out, written, &at, &r)) {
-        printf("  %s %u: %s %u", how, r.connection, name_of(r.message_id), r.result);
-        switch (r.message_id) {
-        case SPLICER_INIT_RESPONSE:
-            printf(", revision %u, name %s", splicer_u16(r.data), (const char *)r.data + 2);
-            break;
-        case SPLICER_ALIVE_RESPONSE:
-            printf(", state %u, session %u, time %u s %u us", splicer_u32(r.data), splicer_u32(r.data + 4), splicer_u32(r.data + 8),
-                   splicer_u32(r.data + 12));
-            break;
-        case SPLICER_SPLICE_COMPLETE_RESPONSE:
-            printf(", session %u, flag %u, played %u", splicer_u32(r.data), r.data[4], splicer_u32(r.data + 9));
-            break;
-        case SPLICER_SPLICE_RESPONSE:
-        case SPLICER_ABORT_RESPONSE:
-            printf(", session %u", splicer_u32(r.data));
-            break;
-        default:
-            break;
-        }
+        printf("  %s %u: %s %u", how, r.connection, splicer_message_text(r.message_id), r.result);
+        fields(&r);
         printf("\n");
     }
     if (at != written) {
@@ -61,7 +67,7 @@ static void deliver(const char *how, size_t written) {
 
 static void report(const char *call, uint32_t of, struct splicer_reply reply) {
     if (reply.refused != SPLICER_GOOD) {
-        printf("%s %u: refused %u\n", call, of, reply.refused);
+        printf("%s %u: refused %u, %s\n", call, of, reply.refused, splicer_refusal_text(reply.refused));
     } else {
         printf("%s %u: good\n", call, of);
     }
@@ -78,42 +84,39 @@ static void counts(void) {
 }
 
 static void connected(uint32_t conn) {
-    report("open", conn, splicer_call_open(&channel, conn));
+    report("open", conn, splicer_recorded_open(&channel, &sink, conn));
 }
 
 /* The server has gone, or must go: what was half read is dropped, and the ends of its sessions are logged. */
 static void dropped(uint32_t conn) {
-    struct splicer_reply reply = splicer_call_close(&channel, conn, out, sizeof out);
+    struct splicer_reply reply = splicer_recorded_close(&channel, &sink, conn, out, sizeof out);
     inboxes[conn].length = 0;
     report("close", conn, reply);
     deliver("log", reply.written);
 }
 
 static void ticks(uint32_t seconds, uint32_t micros) {
-    struct splicer_reply reply = splicer_call_tick(&channel, seconds, micros, out, sizeof out);
+    struct splicer_reply reply = splicer_recorded_tick(&channel, &sink, seconds, micros, out, sizeof out);
     report("tick", seconds, reply);
     deliver("send to", reply.written);
 }
 
-/* n bytes were read from a connection. Hands on each whole message; waits for more at house number 5; gives the connection up at 4,
- * where no message boundary follows. The caller reads at most the room that the inbox has left. */
-static void heard(uint32_t conn, const uint8_t *bytes, size_t n) {
-    struct inbox *box = &inboxes[conn];
-    memcpy(box->bytes + box->length, bytes, n);
-    box->length += n;
+/* Hands on each whole message of an inbox until more must be read (house number 5). 0 if what was read with them must be dropped too: at 4,
+ * where no message boundary follows, the connection is given up. */
+static int handled(uint32_t conn, struct inbox *box) {
     for (;;) {
-        struct splicer_reply reply = splicer_call_message(&channel, conn, box->bytes, box->length, out, sizeof out);
+        struct splicer_reply reply = splicer_recorded_message(&channel, &sink, conn, box->bytes, box->length, out, sizeof out);
         if (reply.refused == SPLICER_SHORT) {
-            return;
+            return 1;
         }
         report("message from", conn, reply);
         if (reply.refused == SPLICER_OVERSIZE) {
             dropped(conn);
-            return;
+            return 0;
         }
         if (reply.refused != SPLICER_GOOD) {
             box->length = 0;
-            return;
+            return 0;
         }
         if (reply.moved != 0) {
             printf("  places shifted: %u\n", reply.moved);
@@ -121,6 +124,22 @@ static void heard(uint32_t conn, const uint8_t *bytes, size_t n) {
         deliver("send to", reply.written);
         box->length -= reply.consumed;
         memmove(box->bytes, box->bytes + reply.consumed, box->length);
+    }
+}
+
+/* n bytes were read from a connection, any number: the inbox takes as many as it has room for at a time. After 5 it always has room, since no
+ * message is longer than the inbox. */
+static void heard(uint32_t conn, const uint8_t *bytes, size_t n) {
+    struct inbox *box = &inboxes[conn];
+    int more = 1;
+    while (more && n > 0) {
+        size_t room = sizeof box->bytes - box->length;
+        size_t part = n < room ? n : room;
+        memcpy(box->bytes + box->length, bytes, part);
+        box->length += part;
+        bytes += part;
+        n -= part;
+        more = handled(conn, box);
     }
 }
 
@@ -161,12 +180,17 @@ static uint8_t *abort_request(uint8_t *p, uint32_t session) {
     return put(header(p, SPLICER_ABORT_REQUEST, 4), session, 4);
 }
 
-int main(void) {
-    static const uint8_t name[SPLICER_NAME] = "CH1";
-    const uint32_t timed = 0xFFFFFFFF;
-    uint8_t wire[256], *end;
+/* A name in a field of its own, zeros behind its end; of one that is too long the last byte is a zero too. */
+static void configured(uint8_t *field, const char *name) {
+    for (int i = 0; i < SPLICER_NAME; i++) {
+        field[i] = i < SPLICER_NAME - 1 ? (uint8_t)*name : 0;
+        name += *name != 0;
+    }
+}
 
-    report("fresh", 1, splicer_call_fresh(&channel, name));
+/* Two servers connect and initialise, one with the wrong name first; and calls that are refused. */
+static void beginning(const char *name) {
+    uint8_t wire[256], *end;
     connected(0);
     connected(1);
     connected(0);
@@ -176,14 +200,19 @@ int main(void) {
     report("tick", 1, splicer_call_tick(&channel, 1, 0, 0, 0));
     end = alive(wire);
     heard(0, wire, (size_t)(end - wire));
-    end = init(wire, "CH1");
+    end = init(wire, name);
     heard(0, wire, (size_t)(end - wire));
     end = init(wire, "CH2");
     heard(1, wire, (size_t)(end - wire));
-    end = init(wire, "CH1");
+    end = init(wire, name);
     heard(1, wire, (size_t)(end - wire));
     ticks(1000, 0);
+}
 
+/* An avail of both servers: two linked spots, one of them covered for a while. */
+static void avail(void) {
+    uint8_t wire[256], *end;
+    const uint32_t timed = 0xFFFFFFFF;
     /* two linked spots in one read, the second cut in the middle: 1 from 1,010 s for 30 s, 2 behind it for 10 s */
     end = splice(splice(wire, 1, timed, 1010, 2700000, 1, 0), 2, 1, 0, 900000, 1, 0);
     heard(0, wire, 50);
@@ -203,14 +232,37 @@ int main(void) {
     counts();
     ticks(1040, 0);
     ticks(1043, 0);
+}
 
+/* What goes wrong: a connection is lost, a read is longer than the inbox, a header is wrong. */
+static void trouble(void) {
+    static uint8_t longest[2 * SPLICER_MESSAGE];
+    uint8_t wire[SPLICER_HEADER], *end;
     /* the first server is gone while its second spot is on air */
     dropped(0);
     counts();
     dropped(0);
+    /* a read of 8,192 bytes: two messages of the longest kind, which nobody answers */
+    header(longest, SPLICER_GENERAL_RESPONSE, SPLICER_MESSAGE - SPLICER_HEADER);
+    header(longest + SPLICER_MESSAGE, SPLICER_GENERAL_RESPONSE, SPLICER_MESSAGE - SPLICER_HEADER);
+    heard(1, longest, sizeof longest);
     /* a header that announces more than a message may hold */
     end = header(wire, SPLICER_ALIVE_REQUEST, 4089);
     heard(1, wire, (size_t)(end - wire));
     ticks(1050, 0);
+}
+
+int main(int words, char **word) {
+    const char *name = words > 1 ? word[1] : "CH1";
+    uint8_t field[SPLICER_NAME];
+    configured(field, name);
+    if (words > 2 && (recording = creat(word[2], 0644)) < 0) {
+        printf("%s cannot be written\n", word[2]);
+        return 2;
+    }
+    report("fresh", 1, splicer_call_fresh(&channel, field));
+    beginning(name);
+    avail();
+    trouble();
     return 0;
 }

@@ -1,6 +1,6 @@
 #!/bin/sh
-# driver.sh: the C header by itself, as C11 and C++17, and the example driver over the proved archive, its output compared with
-# examples/driver.out; a driver of version 1 must not link with it. All by the kit's own compiler and linker.
+# driver.sh: the C headers, each by itself, as C11 and C++17, and the example driver over the proved archive, its output compared with
+# examples/driver.out, and its recording with desk/recordings/sport.rec; a driver of version 1 must not link with it. All by the kit's own compiler and linker.
 # The last line is 'N passed, M failed'.
 set -eu
 . "$(dirname "$0")/words.sh"
@@ -30,10 +30,12 @@ tried() {
     fi
 }
 
-# header LANGUAGE STANDARD: a source of nothing but the header
+# header LANGUAGE STANDARD: a source of nothing but a header, each by itself
 header() {
-    echo '#include "splicer.h"' | "$clang" --target=x86_64-unknown-linux-gnu -DSPLICER_NO_STANDARD_HEADERS -x "$1" -std="$2" \
-        -Wall -Wextra -Wpedantic -Werror -Iinclude -fsyntax-only -
+    for file in include/*.h; do
+        echo "#include \"$(basename "$file")\"" | "$clang" --target=x86_64-unknown-linux-gnu -DSPLICER_NO_STANDARD_HEADERS -x "$1" -std="$2" \
+            -Wall -Wextra -Wpedantic -Werror -Iinclude -fsyntax-only - || return 1
+    done
 }
 
 # built: the archive of the proved crate, and the program over it
@@ -44,6 +46,11 @@ built() {
 # runs: the program writes what was worked out by hand
 runs() {
     sh tools/run-program.sh "$work/driver" >"$work/out" && diff examples/driver.out "$work/out"
+}
+
+# records: what it records on a channel "SPORT" is what desk/ reads in its tests
+records() {
+    sh tools/run-program.sh "$work/driver" SPORT "$work/sport.rec" >"$work/sport" && cmp desk/recordings/sport.rec "$work/sport.rec"
 }
 
 # old: a driver that was compiled with version 1's header must not link, for want of its functions
@@ -59,6 +66,7 @@ tried 'header as C11' header c c11
 tried 'header as C++17' header c++ c++17
 tried 'build' built
 tried 'run' runs
+tried 'recording' records
 tried 'a driver of version 1 does not link' old
 echo "$passed passed, $failed failed"
 [ "$failed" -eq 0 ]

@@ -4,9 +4,10 @@
 //! and has no globals, and a `Splicer` holds no pointers: it may be moved, cloned and sent to a
 //! thread.
 //! What the header leaves to the driver is held here by the types: a `Splicer` comes from
-//! [`Splicer::fresh`] only and is changed by the calls only, one at a time, and what is lent to a
-//! call overlaps nothing. Any connection, bytes, time and length of a buffer may be handed in: the
-//! call tests them and answers with a house number, a [`Refusal`].
+//! [`Splicer::fresh`] only, or by the unsafe [`Splicer::restored`] from one that did, and is changed
+//! by the calls only, one at a time, and what is lent to a call overlaps nothing. Any connection,
+//! bytes, time and length of a buffer may be handed in: the call tests them and answers with a
+//! house number, a [`Refusal`].
 //!
 //! What each unsafe call rests on: the parts have the lengths that the core takes (604 words and 32
 //! bytes, by their types), and a state came from `fresh` and was changed by the calls only, since its
@@ -15,10 +16,16 @@
 #![warn(missing_docs)]
 
 mod door;
+pub mod recorder;
 mod records;
+mod saved;
+mod says;
+pub mod texts;
 
 use core::fmt;
 pub use records::{message_id, records, result, Record, Records};
+pub use saved::{NotSaved, SAVED};
+pub use says::Says;
 
 /// The version of the state and of the archive's functions, whose names carry it.
 pub const VERSION: u32 = 4;
