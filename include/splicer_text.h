@@ -73,104 +73,51 @@ static inline int splicer_read_session(const struct splicer_record *r, uint32_t 
 
 /* House numbers of documents 01 and 02. */
 static inline const char *splicer_refusal_text(uint32_t number) {
-    switch (number) {
-    case 0: return "good";
-    case 1: return "connection above 3";
-    case 2: return "output buffer below 4,096 bytes";
-    case 3: return "clock earlier than the present one";
-    case 4: return "MessageSize above 4,088";
-    case 5: return "not yet a whole message";
-    case 6: return "already open";
-    case 7: return "not open";
-    case 8: return "MicroSeconds above 999,999";
-    case 9: return "name without a zero byte";
-    case 10: return "lent section over 1,024 bytes";
-    case 11: return "section of another length than it says, under 20 or over 512 bytes";
-    case 12: return "step of the counter too long, or no instant or a second one given";
-    case 13: return "log of the remembering engine full or of another size";
-    case 14: return "unknown mark in the recording";
-    case 15: return "recording longer than 65,536 bytes";
-    case 16: return "other than sixteen rows";
-    default: return "no house number";
-    }
+    static const char *const words[] = {
+        "good", "connection above 3", "output buffer below 4,096 bytes", "clock earlier than the present one",
+        "MessageSize above 4,088", "not yet a whole message", "already open", "not open", "MicroSeconds above 999,999",
+        "name without a zero byte", "lent section over 1,024 bytes",
+        "section of another length than it says, under 20 or over 512 bytes",
+        "step of the counter too long, or no instant or a second one given",
+        "log of the remembering engine full or of another size", "unknown mark in the recording",
+        "recording longer than 65,536 bytes", "other than sixteen rows",
+    };
+    return number < 17 ? words[number] : "no house number";
 }
 
 /* Result codes, J.280, Appendix I. */
 static inline const char *splicer_result_text(uint32_t result) {
-    switch (result) {
-    case 100: return "Successful Response";
-    case 101: return "Unknown Failure";
-    case 102: return "Invalid Version";
-    case 103: return "Access Denied";
-    case 104: return "Invalid/Unknown ChannelName";
-    case 105: return "Invalid Physical Connection";
-    case 106: return "No Configuration Found";
-    case 107: return "Invalid Configuration";
-    case 108: return "Splice Failed - Unknown Failure";
-    case 109: return "Splice Collision";
-    case 110: return "No Insertion Channel Found";
-    case 111: return "No Primary Channel Found";
-    case 112: return "Splice_Request Was Too Late";
-    case 113: return "No Splice Point Was Found";
-    case 114: return "Splice Queue Full";
-    case 115: return "Session Playback Suspect";
-    case 116: return "Insertion Aborted";
-    case 117: return "Invalid Cue Message";
-    case 118: return "Splicing Device Does Not Exist";
-    case 119: return "Init_Request Refused";
-    case 120: return "Unknown MessageID";
-    case 121: return "Invalid SessionID";
-    case 122: return "Session Did Not Complete";
-    case 123: return "Invalid Request Message data( )";
-    case 124: return "Descriptor Not Implemented";
-    case 125: return "Channel Override";
-    case 126: return "Insertion Channel Started Early";
-    case 127: return "Playback Rate Below Threshold";
-    case 128: return "PMT changed";
-    case 129: return "Invalid message size";
-    case 130: return "Invalid message syntax";
-    case 131: return "Port Collision Error";
-    case 132: return "Splice Failed - EAS active";
-    case 133: return "Insertion Component Not Found";
-    case 134: return "Resources Not Available";
-    case 135: return "Component Mismatch";
-    default: return "no result code of J.280";
-    }
+    static const char *const words[] = {
+        "Successful Response", "Unknown Failure", "Invalid Version", "Access Denied", "Invalid/Unknown ChannelName",
+        "Invalid Physical Connection", "No Configuration Found", "Invalid Configuration", "Splice Failed - Unknown Failure",
+        "Splice Collision", "No Insertion Channel Found", "No Primary Channel Found", "Splice_Request Was Too Late",
+        "No Splice Point Was Found", "Splice Queue Full", "Session Playback Suspect", "Insertion Aborted", "Invalid Cue Message",
+        "Splicing Device Does Not Exist", "Init_Request Refused", "Unknown MessageID", "Invalid SessionID",
+        "Session Did Not Complete", "Invalid Request Message data( )", "Descriptor Not Implemented", "Channel Override",
+        "Insertion Channel Started Early", "Playback Rate Below Threshold", "PMT changed", "Invalid message size",
+        "Invalid message syntax", "Port Collision Error", "Splice Failed - EAS active", "Insertion Component Not Found",
+        "Resources Not Available", "Component Mismatch",
+    };
+    return result >= 100 && result < 136 ? words[result - 100] : "no result code of J.280";
 }
 
 /* MessageIDs, J.280, Table 7-2. */
 static inline const char *splicer_message_text(uint32_t id) {
-    switch (id) {
-    case 0x0000: return "General_Response";
-    case 0x0001: return "Init_Request";
-    case 0x0002: return "Init_Response";
-    case 0x0003: return "ExtendedData_Request";
-    case 0x0004: return "ExtendedData_Response";
-    case 0x0005: return "Alive_Request";
-    case 0x0006: return "Alive_Response";
-    case 0x0007: return "Splice_Request";
-    case 0x0008: return "Splice_Response";
-    case 0x0009: return "SpliceComplete_Response";
-    case 0x000A: return "GetConfig_Request";
-    case 0x000B: return "GetConfig_Response";
-    case 0x000C: return "Cue_Request";
-    case 0x000D: return "Cue_Response";
-    case 0x000E: return "Abort_Request";
-    case 0x000F: return "Abort_Response";
-    case 0x0010: return "TearDownFeed_Request";
-    case 0x0011: return "TearDownFeed_Response";
-    default: return "no message of J.280";
-    }
+    static const char *const words[] = {
+        "General_Response", "Init_Request", "Init_Response", "ExtendedData_Request", "ExtendedData_Response", "Alive_Request",
+        "Alive_Response", "Splice_Request", "Splice_Response", "SpliceComplete_Response", "GetConfig_Request",
+        "GetConfig_Response", "Cue_Request", "Cue_Response", "Abort_Request", "Abort_Response", "TearDownFeed_Request",
+        "TearDownFeed_Response",
+    };
+    return id < 18 ? words[id] : "no message of J.280";
 }
 
 /* The State of an Alive_Response, J.280, Table 7-11. */
 static inline const char *splicer_state_text(uint32_t state) {
-    switch (state) {
-    case 0: return "no output";
-    case 1: return "primary channel";
-    case 2: return "insertion";
-    default: return "no state of J.280";
-    }
+    static const char *const words[] = {
+        "no output", "primary channel", "insertion",
+    };
+    return state < 3 ? words[state] : "no state of J.280";
 }
 
 #ifdef __cplusplus

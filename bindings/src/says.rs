@@ -1,6 +1,6 @@
 //! What stands in a record, by its fields.
 
-use crate::{message_id, Record, NAME};
+use crate::{message_id, texts, Record, Refusal, NAME};
 
 /// The fields of a record's data.
 #[derive(Clone, Copy, Debug, PartialEq, Eq)]
@@ -47,6 +47,13 @@ pub enum Says<'o> {
         /// SessionID.
         session: u32,
     },
+}
+
+impl Refusal {
+    /// Why, in words.
+    pub const fn text(self) -> &'static str {
+        texts::refusal(self.number() as u32)
+    }
 }
 
 impl<'o> Record<'o> {

@@ -136,42 +136,33 @@ fn records_by_their_fields() {
     assert!(!said(&[0x52, 0, 0, 7, 0, 0, 0, 121, 255, 255]));
 }
 
-/// The cases of a function of `include/splicer_text.h`: numbers and words.
-fn of_header(function: &str) -> Vec<(u32, &'static str)> {
+/// The words of a function of `include/splicer_text.h`, in order.
+fn of_header(function: &str) -> Vec<&'static str> {
     let text = include_str!("../../include/splicer_text.h");
     let (_, body) = text.split_once(function).expect(function);
-    let (body, _) = body.split_once("default:").expect("a default");
-    let case = |line: &'static str| {
-        let (number, words) = line
-            .trim()
-            .strip_prefix("case ")?
-            .split_once(": return \"")?;
-        let number = match number.strip_prefix("0x") {
-            Some(hex) => u32::from_str_radix(hex, 16).ok()?,
-            None => number.parse().ok()?,
-        };
-        Some((number, words.strip_suffix("\";")?))
-    };
-    body.lines().filter_map(case).collect()
+    let (_, body) = body.split_once("words[] = {").expect("words");
+    let (body, _) = body.split_once("};").expect("their end");
+    body.split('"').skip(1).step_by(2).collect()
 }
 
 #[test]
 fn the_words_are_those_of_the_header() {
     type Told = fn(u32) -> &'static str;
-    let half = |n: u32| u16::try_from(n).unwrap_or(u16::MAX);
-    let functions: [(&str, Told, usize); 4] = [
-        ("splicer_refusal_text", texts::refusal, 17),
-        ("splicer_result_text", |n| texts::result(n as u16), 36),
-        ("splicer_message_text", |n| texts::message(n as u16), 18),
-        ("splicer_state_text", texts::state, 3),
+    let functions: [(&str, Told, u32, usize); 4] = [
+        ("splicer_refusal_text", texts::refusal, 0, 17),
+        ("splicer_result_text", |n| texts::result(n as u16), 100, 36),
+        ("splicer_message_text", |n| texts::message(n as u16), 0, 18),
+        ("splicer_state_text", texts::state, 0, 3),
     ];
-    for (function, told, count) in functions {
-        let cases = of_header(function);
-        assert_eq!(cases.len(), count, "{function}");
-        for (number, words) in cases {
-            assert_eq!(told(number), words, "{function} {}", half(number));
+    for (function, told, first, count) in functions {
+        let words = of_header(function);
+        assert_eq!(words.len(), count, "{function}");
+        for (number, words) in (first..).zip(words) {
+            assert_eq!(told(number), words, "{function} {number}");
         }
-        assert!(told(0x7777).starts_with("no "), "{function}");
+        assert!(told(first.wrapping_sub(1)).starts_with("no "), "{function}");
+        assert!(told(first + count as u32).starts_with("no "), "{function}");
     }
+    assert_eq!(texts::result(112), "Splice_Request Was Too Late");
     assert_eq!(Refusal::AlreadyOpen.text(), "already open");
 }

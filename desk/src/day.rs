@@ -1,0 +1,388 @@
+//! A day out of calls and their records: each Splice_Request with its answer, its times on air and
+//! its end. It is made of what was recorded, and once more of what the rules give.
+//!
+//! The instants are those of document 01: "A timed start is the request's time; a linked start is
+//! the prior session's end. End is start plus Duration."; a record of a tick stands at its instant
+//! and not at the tick that wrote it.
+
+use crate::message::{self, Asked};
+use crate::recording::{Call, Entry, Item};
+use crate::time::{ninths, TICK};
+
+#[derive(Clone, Copy, Debug, PartialEq, Eq)]
+pub enum State {
+    /// Not accepted, or over.
+    None,
+    Waiting,
+    OnAir,
+    Covered,
+}
+
+/// A time in a state.
+#[derive(Clone, Copy, Debug, PartialEq, Eq)]
+pub struct Span {
+    pub state: State,
+    pub from: u64,
+    pub to: u64,
+}
+
+/// The answer to a Splice_Request.
+#[derive(Clone, Copy, Debug, PartialEq, Eq)]
+pub enum Answer {
+    /// Splice_Response.
+    Splice(u16),
+    /// General_Response.
+    General(u16),
+    /// A house number.
+    House(u8),
+    None,
+}
+
+/// A session's end.
+#[derive(Clone, Copy, Debug, PartialEq, Eq)]
+pub struct End {
+    pub at: u64,
+    pub result: u16,
+    /// SpliceTypeFlag; none for a Splice_Response.
+    pub flag: Option<u8>,
+    pub played: Option<u32>,
+    /// By the close of its connection.
+    pub closed: bool,
+    /// The call that wrote it, and what the session was before.
+    pub call: usize,
+    pub was: State,
+}
+
+/// A Splice_Request.
+#[derive(Clone, Debug)]
+pub struct Row {
+    /// The number of its call.
+    pub call: usize,
+    pub conn: u8,
+    pub asked: Asked,
+    pub asked_at: u64,
+    pub answer: Answer,
+    /// As scheduled.
+    pub start: Option<u64>,
+    pub end: Option<u64>,
+    pub began: Option<u64>,
+    pub ended: Option<End>,
+    pub spans: Vec<Span>,
+    /// Records of a further start or end.
+    pub again: usize,
+    /// Its start or its end passed, and nothing was written of it.
+    pub overdue: bool,
+    state: State,
+    since: u64,
+}
+
+impl Row {
+    pub fn accepted(&self) -> bool {
+        self.answer == Answer::Splice(100)
+    }
+
+    pub fn state(&self) -> State {
+        self.state
+    }
+
+    /// Its time on air.
+    pub fn on_air(&self) -> u64 {
+        let air = self.spans.iter().filter(|s| s.state == State::OnAir);
+        air.map(|span| span.to - span.from).sum()
+    }
+
+    /// Whether two readings of one request say the same.
+    pub fn same(&self, other: &Row) -> bool {
+        let told = |row: &Row| (row.answer, row.began, row.ended, row.again);
+        told(self) == told(other) && self.spans == other.spans
+    }
+
+    fn become_state(&mut self, state: State, at: u64) {
+        if self.state == state {
+            return;
+        }
+        let at = at.max(self.since);
+        self.leave(at);
+        (self.state, self.since) = (state, at);
+    }
+
+    /// Writes down the present state's time.
+    fn leave(&mut self, at: u64) {
+        if self.state == State::None || at <= self.since {
+            return;
+        }
+        match self.spans.last_mut() {
+            Some(last) if last.state == self.state && last.to == self.since => last.to = at,
+            _ => self.spans.push(Span {
+                state: self.state,
+                from: self.since,
+                to: at,
+            }),
+        }
+    }
+}
+
+#[derive(Default)]
+pub struct Day {
+    pub rows: Vec<Row>,
+    /// The first good tick's time, and the last's.
+    pub first: Option<u64>,
+    pub clock: u64,
+    /// For each call, the instant of each of its records; and the clock behind it.
+    pub instants: Vec<Vec<u64>>,
+    pub clocks: Vec<u64>,
+    /// Ends and starts of sessions that nobody asked for.
+    pub strays: Vec<(usize, u8, u32)>,
+}
+
+/// What a record says of a session.
+struct Said {
+    conn: u8,
+    session: u32,
+    result: u16,
+    flag: Option<u8>,
+    played: Option<u32>,
+}
+
+fn said(item: &Item) -> Option<Said> {
+    if item.bytes[0] != 0x52 || item.bytes.len() < 10 {
+        return None;
+    }
+    let message = message::split(&item.bytes[2..]);
+    let word = |at: usize| {
+        let w = &message.data[at..at + 4];
+        u32::from_be_bytes([w[0], w[1], w[2], w[3]])
+    };
+    let (flag, played) = match (message.id, message.data.len()) {
+        (0x0008, 4) => (None, None),
+        (0x0009, 13) => (Some(message.data[4]), Some(word(9))),
+        _ => return None,
+    };
+    Some(Said {
+        conn: item.bytes[1],
+        session: word(0),
+        result: message.result,
+        flag,
+        played,
+    })
+}
+
+fn refused(items: &[Item]) -> Option<u8> {
+    let number = |item: &Item| (item.bytes[0] == 0x45).then(|| item.bytes[1]);
+    items.first().and_then(number)
+}
+
+impl Day {
+    /// The day of these calls with these records, a list for each call.
+    pub fn of<'i>(entries: &[Entry], records: impl Iterator<Item = &'i [Item]>) -> Day {
+        let mut day = Day::default();
+        for (number, (entry, items)) in entries.iter().zip(records).enumerate() {
+            day.call(number, entry.call.as_ref(), items);
+        }
+        let clock = day.clock;
+        for row in &mut day.rows {
+            row.leave(clock.max(row.since));
+        }
+        day
+    }
+
+    fn call(&mut self, number: usize, call: Option<&Call>, items: &[Item]) {
+        let before = self.clock;
+        let (mut own, mut closed) = (None, false);
+        match call {
+            Some(Call::Tick(seconds, micros)) if refused(items).is_none() => {
+                self.clock = ninths(*seconds, *micros);
+                self.first.get_or_insert(self.clock);
+            }
+            Some(Call::Message(conn, bytes)) if bytes[..2] == [0, 7] => {
+                own = self.asked(number, *conn, &bytes[8..], items);
+            }
+            Some(Call::Close(_)) => closed = true,
+            _ => {}
+        }
+        let instants = self.instants(items, before);
+        for (place, item) in items.iter().enumerate() {
+            match said(item) {
+                Some(said) if own != Some(place) => {
+                    self.record(number, &said, instants[place], closed);
+                }
+                _ => {}
+            }
+        }
+        if let (Some(_), Some(row)) = (own, self.rows.last_mut()) {
+            if row.accepted() {
+                row.become_state(State::Waiting, before);
+            }
+        }
+        self.pass_over();
+        self.instants.push(instants);
+        self.clocks.push(self.clock);
+    }
+
+    /// A Splice_Request. Gives the place of its own answer: the last Splice_Response of its
+    /// SessionID, for those that were evicted are written before it.
+    fn asked(&mut self, call: usize, conn: u8, data: &[u8], items: &[Item]) -> Option<usize> {
+        let asked = message::asked(data);
+        let is_own = |item: &Item| match said(item) {
+            Some(s) => s.flag.is_none() && s.conn == conn && Some(s.session) == asked.session,
+            None => false,
+        };
+        let own = items.iter().rposition(is_own);
+        let answer = match (own, refused(items), items.first()) {
+            (Some(place), _, _) => Answer::Splice(message::split(&items[place].bytes[2..]).result),
+            (None, Some(house), _) => Answer::House(house),
+            (None, None, Some(item)) if item.bytes[1..4] == [conn, 0, 0] => {
+                Answer::General(message::split(&item.bytes[2..]).result)
+            }
+            _ => Answer::None,
+        };
+        let start = match asked.prior {
+            Some(u32::MAX) => Some(ninths(asked.time.0, asked.time.1)),
+            Some(prior) => self.last(conn, prior).and_then(|row| self.rows[row].end),
+            None => None,
+        };
+        let length = asked.duration.map(|ticks| u64::from(ticks) * TICK);
+        self.rows.push(Row {
+            call,
+            conn,
+            asked,
+            asked_at: self.clock,
+            answer,
+            start,
+            end: start.zip(length).map(|(start, length)| start + length),
+            began: None,
+            ended: None,
+            spans: Vec::new(),
+            again: 0,
+            overdue: false,
+            state: State::None,
+            since: self.clock,
+        });
+        own
+    }
+
+    /// "the session that its connection last accepted under that SessionID"
+    fn last(&self, conn: u8, session: u32) -> Option<usize> {
+        let own =
+            |row: &Row| row.accepted() && row.conn == conn && row.asked.session == Some(session);
+        self.rows.iter().rposition(own)
+    }
+
+    /// The instant of each record: in a tick the session's start or end, if it lies between the
+    /// clock before and behind it; else that of the next record that has one; else the clock.
+    fn instants(&self, items: &[Item], before: u64) -> Vec<u64> {
+        let due = |item: &Item| {
+            let said = said(item)?;
+            let row = &self.rows[self.last(said.conn, said.session)?];
+            let at = match (said.flag, said.result) {
+                (Some(0), _) => row.start,
+                (Some(_), 100 | 125) => row.end,
+                _ => None,
+            };
+            at.filter(|at| (before..=self.clock).contains(at))
+        };
+        let mut next = self.clock;
+        let mut list = Vec::new();
+        for item in items.iter().rev() {
+            next = due(item).filter(|_| self.clock > before).unwrap_or(next);
+            list.push(next);
+        }
+        list.reverse();
+        list
+    }
+
+    fn record(&mut self, call: usize, said: &Said, at: u64, closed: bool) {
+        let Some(place) = self.last(said.conn, said.session) else {
+            return self.strays.push((call, said.conn, said.session));
+        };
+        let row = &mut self.rows[place];
+        match (said.flag, said.result) {
+            // no end: a Splice_Response 100 that answers nothing, and J.280's "re-entered"
+            (None, 100) | (Some(0), 125) => return,
+            (Some(0), 100) if row.began.is_none() && row.ended.is_none() => {
+                row.began = Some(at);
+                row.become_state(State::Covered, at);
+            }
+            (Some(0), 100) => row.again += 1,
+            _ if row.ended.is_some() => row.again += 1,
+            _ => {
+                row.ended = Some(End {
+                    at,
+                    result: said.result,
+                    flag: said.flag,
+                    played: said.played.filter(|_| said.flag == Some(1)),
+                    closed,
+                    call,
+                    was: row.state,
+                });
+                row.become_state(State::None, at);
+            }
+        }
+        self.switch(at);
+    }
+
+    /// Sessions whose start or end has passed without a record are over by then. The rules leave
+    /// none.
+    fn pass_over(&mut self) {
+        for place in 0..self.rows.len() {
+            let row = &mut self.rows[place];
+            let due = match row.state {
+                State::None => None,
+                State::Waiting => row.start,
+                State::OnAir | State::Covered => row.end,
+            };
+            if let Some(due) = due.filter(|due| *due <= self.clock) {
+                row.overdue = true;
+                row.become_state(State::None, due);
+                self.switch(due);
+            }
+        }
+    }
+
+    /// The highest AccessType of those started and unended is on air.
+    fn switch(&mut self, at: u64) {
+        let started = |row: &Row| matches!(row.state, State::OnAir | State::Covered);
+        let rows = self.rows.iter().enumerate().filter(|(_, row)| started(row));
+        let top = rows.max_by_key(|(_, row)| row.asked.access);
+        let top = top.map(|(place, _)| place);
+        for (place, row) in self.rows.iter_mut().enumerate() {
+            if started(row) {
+                let on_air = Some(place) == top;
+                let state = [State::Covered, State::OnAir][usize::from(on_air)];
+                row.become_state(state, at);
+            }
+        }
+    }
+
+    /// The output channel between two instants: who was on air, in order; what is left is the
+    /// primary channel's.
+    pub fn output(&self, from: u64, to: u64) -> Vec<(Span, Option<usize>)> {
+        let mut air: Vec<(Span, usize)> = Vec::new();
+        for (place, row) in self.rows.iter().enumerate() {
+            let own = row.spans.iter().filter(|s| s.state == State::OnAir);
+            air.extend(own.map(|span| (*span, place)));
+        }
+        air.sort_by_key(|(span, _)| span.from);
+        let (mut lane, mut at) = (Vec::new(), from);
+        let primary = |from, to| Span {
+            state: State::None,
+            from,
+            to,
+        };
+        for (mut span, place) in air {
+            (span.from, span.to) = (span.from.max(at), span.to.min(to));
+            if span.from >= span.to {
+                continue;
+            }
+            if span.from > at {
+                lane.push((primary(at, span.from), None));
+            }
+            at = span.to;
+            lane.push((span, Some(place)));
+        }
+        if to > at {
+            lane.push((primary(at, to), None));
+        }
+        lane
+    }
+}

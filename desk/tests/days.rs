@@ -1,0 +1,168 @@
+//! Good days: the example day and what the driver recorded, as lists, JSON, CSV and a page, and by
+//! the filters.
+
+mod common;
+
+use common::{desk, recording, scratch};
+
+#[test]
+fn the_example_day_as_run() {
+    let ran = desk(&["asrun", &recording("example-day.rec")], b"");
+    assert_eq!(ran.status, 0);
+    let lines = ran.lines();
+    let expected = [
+        "0 101 - 1 1970-01-12T13:56:40.000000Z 30.000000 1970-01-12T13:56:40.000000Z 1970-01-12T13:57:10.000000Z 30.000000 2700000 played to its end",
+        "0 202 - 1 1970-01-12T14:07:10.000000Z 30.000000 - - - - refused, 109: Splice Collision",
+        "1 9000 - 1 1970-01-12T14:06:40.000000Z 30.000000 - - - - refused, 112: Splice_Request Was Too Late",
+        "0 301 - 1 1970-01-12T14:16:40.000000Z 120.000000 1970-01-12T14:16:40.000000Z 1970-01-12T14:18:40.000000Z 90.000000 8100000 played to its end",
+        "0 402 - 1 1970-01-12T14:27:10.000000Z 30.000000 - 1970-01-12T14:26:50.000000Z - - aborted while waiting",
+        "0 501 - 1 1970-01-12T14:32:20.000000Z 30.000000 - - - - refused, General_Response 103: Access Denied",
+        "0 621 - 1 1970-01-12T14:46:40.000000Z 15.000000 - - - - refused, 114: Splice Queue Full",
+        "primary channel 3190.000000 s 287100000 ticks",
+        "sessions on air 410.000000 s 36900000 ticks",
+        "together 3600.000000 s 324000000 ticks",
+        "the clock went on by 3600.000000 s 324000000 ticks",
+        "87 calls, every record as the rules give it",
+    ];
+    for line in expected {
+        assert!(lines.contains(&line.to_string()), "{line}\n{}", ran.text());
+    }
+}
+
+/// A record stands at its instant, not at the tick that wrote it: the driver's tick at 1,025 s
+/// starts session 7 at 1,020 s.
+#[test]
+fn records_stand_at_their_instant() {
+    let sport = recording("sport.rec");
+    let ran = desk(
+        &["list", "--raw", "--name", "SPORT", "--session", "7", &sport],
+        b"",
+    );
+    let lines = ran.lines();
+    let start = lines
+        .iter()
+        .find(|l| l.contains("SpliceTypeFlag=0"))
+        .unwrap();
+    assert!(
+        start.contains("1020.000000 < 1 SpliceComplete_Response 100"),
+        "{start}"
+    );
+    let ran = desk(&["asrun", "--raw", "--name", "SPORT", &sport], b"");
+    let row = "1 7 - 1 1020.000000 10.000000 1020.000000 1025.000000 5.000000 450000 aborted while on air";
+    assert!(ran.lines().contains(&row.to_string()), "{}", ran.text());
+}
+
+#[test]
+fn filters() {
+    let day = &recording("example-day.rec");
+    let rows = |words: &[&str]| {
+        let ran = desk(&[&["asrun", "--csv"], words, &[&day[..]]].concat(), b"");
+        assert_eq!(ran.status, 0);
+        let sessions = ran.text();
+        let sessions = sessions
+            .lines()
+            .skip(1)
+            .map(|l| l.split(',').nth(2).unwrap());
+        sessions.map(str::to_string).collect::<Vec<_>>()
+    };
+    assert_eq!(rows(&[]).len(), 38);
+    assert_eq!(
+        rows(&["--connection", "1"]),
+        ["9001", "9000", "9002", "9003", "9004"]
+    );
+    assert_eq!(rows(&["--session", "501"]), ["501"; 3]);
+    assert_eq!(rows(&["--result=114"]), ["621"]);
+    assert_eq!(
+        rows(&["--from", "1001170", "--to", "1001500"]),
+        ["201", "9001", "202", "9000"]
+    );
+    assert_eq!(
+        rows(&["--from", "1970-01-12T14:26:00", "--to", "1970-01-12T14:27"]),
+        ["401", "402", "403"]
+    );
+    let sums = desk(
+        &[
+            "asrun", "--raw", "--from", "1001800", "--to", "1001900", day,
+        ],
+        b"",
+    );
+    let lines = sums.lines();
+    assert!(lines.contains(&"primary channel 0.000000 s 0 ticks".to_string()));
+    assert!(lines.contains(&"sessions on air 100.000000 s 9000000 ticks".to_string()));
+}
+
+#[test]
+fn json_and_csv() {
+    let day = &recording("example-day.rec");
+    let list = desk(&["list", "--json", "--session", "101", day], b"").text();
+    assert!(
+        list.starts_with("[\n {\"time\": \"1970-01-12T13:56:20.000000Z\", \"call\": 10, "),
+        "{list}"
+    );
+    let fields = "\"message\": \"Splice_Request\", \"result\": null, \"words\": null, \"session\": 101, \"fields\": {\"SessionID\": 101, \
+                  \"PriorSession\": 4294967295, \"time\": \"1970-01-12T13:56:40.000000Z\", \"ServiceID\": 1, \"Duration\": 2700000, ";
+    assert!(list.contains(fields), "{list}");
+    assert!(list.ends_with("}}\n]\n"));
+    let csv = desk(&["asrun", "--csv", "--session", "202", day], b"").text();
+    let expected = "call,connection,session,event,source,access,override,scheduled,length_seconds,length_ticks,answer,began,ended,\
+                    on_air_seconds,on_air_ticks,result,outcome,by_the_rules\r\n\
+                    20,0,202,4294967295,1,3,0,1970-01-12T14:07:10.000000Z,30.000000,2700000,109,,,,,109,\"refused, 109: Splice Collision\",\r\n";
+    assert_eq!(csv, expected);
+    let none = desk(&["check", "--json", day], b"").text();
+    assert_eq!(none, "[\n]\n");
+}
+
+#[test]
+fn the_page_of_the_example_day() {
+    let path = scratch("day.html", b"");
+    let ran = desk(
+        &["timeline", "--html", &path, &recording("example-day.rec")],
+        b"",
+    );
+    assert_eq!(ran.status, 0);
+    let page = std::fs::read_to_string(path).unwrap();
+    let count = |text: &str| page.matches(text).count();
+    assert_eq!(
+        count("<section class=\"lane\""),
+        3,
+        "output and two connections"
+    );
+    assert_eq!(count("<span class=\"label\""), 38, "each request");
+    assert_eq!(count("<i class=\"refused\" style"), 4);
+    assert_eq!(count("<div class=\"bar covered k0\""), 1, "301 under 9002");
+    // in the lane of the output and in that of connection 0
+    assert_eq!(count("<div class=\"bar air k0\" style"), 30);
+    assert_eq!(
+        count("<i class=\"break\" style") + count("\"bar ruled\" style=\"left"),
+        0
+    );
+    assert!(page.contains("every record as the rules give it"));
+    assert!(page.contains("@media print"));
+}
+
+#[test]
+fn bars_in_the_terminal() {
+    let words = [
+        "timeline", "--raw", "--width", "36", "--from", "1001780", "--to", "1001960",
+    ];
+    let ran = desk(
+        &[&words[..], &[&recording("example-day.rec")]].concat(),
+        b"",
+    );
+    let lines = ran.lines();
+    assert!(
+        lines.contains(&"output ____########################________".to_string()),
+        "{}",
+        ran.text()
+    );
+    assert!(
+        lines.contains(&"0 301 ....########------########## played to its end".to_string()),
+        "{}",
+        ran.text()
+    );
+    assert!(
+        lines.contains(&"1 9002 ............###### played to its end".to_string()),
+        "{}",
+        ran.text()
+    );
+}
