@@ -2,7 +2,7 @@
 # dist.sh [--proved]: a release of what is committed, target/dist/splicer-VERSION.tar.gz: headers, archive, pkg-config file, card program, the desk's program with
 # its man page, the Rust crate, docs, CHANGELOG and MANIFEST (commit, versions of kit and compilers, the sum of the logic that the proofs were checked by, and of each
 # file). It is built twice, from nothing and in two folders, and compared byte by byte. With --proved both folders take over the proofs
-# of this one (target/rlib, target/stamp), so that only the building is done anew. The last line is 'N passed, M failed'.
+# of this one (target/rlib, target/stamp) for all crates but `door` and `card`, which are proved and built anew. The last line is 'N passed, M failed'.
 set -eu
 . "$(dirname "$0")/words.sh"
 case $#${1:-} in
@@ -53,8 +53,9 @@ manifest() {
     echo "commit $(git -C "$here" rev-parse HEAD)"
     echo "state and functions version $state"
     echo "kit $(rt version)"
-    echo "logic $(sed -n 's/^logic .* sum=//p' "$source/target/log/door.say" | head -n 1)"
-    echo "proved $(sed -n 's/^logic=proved //p' "$source/target/log/door.say" | head -n 1)"
+    echo "logic $(sed -n 's/^logic .* sum=//p' ../archive.log | head -n 1)"
+    echo "proved, of the door: $(sed -n 's/^logic=proved //p' ../archive.log | head -n 1)"
+    echo "proved, of the card program: $(sed -n 's/^logic=proved //p' "$source/target/log/card.say" | head -n 1)"
     echo "compiler of archive and card program $("$kit/on/$(uname -m)/toolchain/bin/clang" --version | head -n 1)"
     echo "compiler of desk $(rustc --version)"
     find . -type f ! -name MANIFEST | LC_ALL=C sort | xargs sha256sum
@@ -83,6 +84,7 @@ built() {
     if [ -n "$proved" ]; then
         mkdir -p "$source/target"
         cp -R target/rlib target/stamp target/log "$source/target/"
+        rm -f "$source/target/stamp/card" "$source/target/stamp/door"
     fi
     here=$PWD
     (

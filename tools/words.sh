@@ -66,7 +66,7 @@ watched() {
             printf '%s\n' "$line" >>"$log"
             case $line in
             'rt: ok'*) ;;
-            $pattern)
+            $pattern | 'rt: target/staticlib/'*)
                 at=$((at + 1))
                 echo "  $at of $all: ${line#rt: }; $((all - at)) left"
                 ;;

@@ -51,6 +51,7 @@ pub fn record(item: &Item, clock: Clock) -> Told {
 }
 
 pub fn call(call: Option<&Call>, clock: Clock) -> Told {
+    let mut result = None;
     let (connection, name, fields) = match call {
         None => (None, "before any call".to_string(), Vec::new()),
         Some(Call::Open(conn)) => (Some(*conn), "open".to_string(), Vec::new()),
@@ -62,14 +63,16 @@ pub fn call(call: Option<&Call>, clock: Clock) -> Told {
         Some(Call::Message(conn, bytes)) => {
             let message = message::split(bytes);
             let fields = message::fields(message.id, message.data, clock);
+            // a request has all ones here, a server's response a result
+            result = Some(message.result).filter(|r| *r != 0xFFFF);
             (Some(*conn), message::name(message.id), fields)
         }
     };
     Told {
         connection,
         name,
-        result: None,
-        words: "",
+        result,
+        words: result.map_or("", texts::result),
         session: session(&fields),
         fields,
     }

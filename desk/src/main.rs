@@ -9,6 +9,7 @@ mod list;
 mod message;
 mod options;
 mod page;
+mod pcap;
 mod recording;
 mod ruled;
 #[path = "../../bindings/src/texts.rs"]
@@ -104,8 +105,10 @@ fn other_name(held: &Held, own: &str) -> Option<String> {
 }
 
 fn run(command: &Command, options: &Options) -> Result<(Vec<u8>, bool), String> {
-    if command.name == "join" {
-        return join(options);
+    match command.name {
+        "join" => return join(options),
+        "pcap" => return captured(options),
+        _ => {}
     }
     let view = View::of(held(options)?, options);
     let (json, csv) = (options.json, options.csv);
@@ -144,4 +147,18 @@ fn join(options: &Options) -> Result<(Vec<u8>, bool), String> {
     let bytes: Vec<u8> = bytes.collect();
     let held = Held::of(Recording::read(path, &bytes)?, &options.name);
     Ok((bytes, held.broken.is_empty()))
+}
+
+/// A recording as a capture, or a capture as a recording.
+fn captured(options: &Options) -> Result<(Vec<u8>, bool), String> {
+    let Some(path) = &options.back else {
+        let held = held(options)?;
+        let pieces = options.pieces.unwrap_or(1460);
+        let good = held.broken.is_empty();
+        return Ok((pcap::capture(&held.recording, pieces), good));
+    };
+    let recording = pcap::recorded(path, &file(path)?, &options.name)?;
+    let bytes = recording.bytes();
+    let good = Held::of(recording, &options.name).broken.is_empty();
+    Ok((bytes, good))
 }

@@ -196,6 +196,9 @@ pub fn fields(id: u16, data: &[u8], clock: Clock) -> Vec<(String, Value)> {
     if walk.message(id).is_some() && walk.rest.is_empty() {
         return walk.fields;
     }
+    if data.is_empty() {
+        return Vec::new();
+    }
     vec![("data".to_string(), Value::Text(hex(data)))]
 }
 

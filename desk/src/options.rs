@@ -53,6 +53,12 @@ pub const COMMANDS: &[Command] = &[
         does: "writes a recording: of a card program's input and output, or of a scenario's text",
         options: &["--name", "--text"],
     },
+    Command {
+        name: "pcap",
+        words: "[RECORDING | IN OUT] | --back CAPTURE",
+        does: "writes a recording as a capture for Wireshark, TCP port 5168; or a capture as a recording",
+        options: &["--name", "--back", "--pieces"],
+    },
 ];
 
 /// An option: its name, its value, and what it says.
@@ -81,6 +87,12 @@ const OPTIONS: &[(&str, &str, &str)] = &[
     ("--width", "N", "columns of the bars, 20 to 400 (72)"),
     ("--html", "FILE", "writes the timeline as one page instead"),
     ("--text", "FILE", "a scenario's text, as in model/scenarios"),
+    (
+        "--back",
+        "FILE",
+        "a capture (pcap) that becomes a recording",
+    ),
+    ("--pieces", "N", "bytes of a TCP segment, 1 to 1460"),
 ];
 
 const EXIT: &str = "Exit status: 0 good, 1 rules broken, 2 usage or unreadable input.\n";
@@ -101,6 +113,8 @@ pub struct Options {
     pub width: Option<usize>,
     pub html: Option<String>,
     pub text: Option<String>,
+    pub back: Option<String>,
+    pub pieces: Option<usize>,
 }
 
 /// What the command line says.
@@ -218,7 +232,12 @@ impl Options {
                 self.width = Some(number.ok_or(format!("{name} '{value}': not 20 to 400"))?);
             }
             "--html" => self.html = Some(value.to_string()),
-            _ => self.text = Some(value.to_string()),
+            "--text" => self.text = Some(value.to_string()),
+            "--back" => self.back = Some(value.to_string()),
+            _ => {
+                let number = value.parse().ok().filter(|n| (1..=1460).contains(n));
+                self.pieces = Some(number.ok_or(format!("{name} '{value}': not 1 to 1460"))?);
+            }
         }
         Ok(())
     }
@@ -235,7 +254,7 @@ impl Options {
 
     /// Whether the words go together.
     fn fits(&self, command: &Command) -> Result<(), String> {
-        let alone = self.text.is_some();
+        let alone = self.text.is_some() || self.back.is_some();
         if self.json && self.csv {
             return Err("--json and --csv at once".to_string());
         }

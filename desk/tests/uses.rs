@@ -47,6 +47,11 @@ const USES: &[(&[&str], &str)] = &[
     (&["join", DAY], "IN and OUT, or --text"),
     (&["join"], "IN and OUT, or --text"),
     (&["join", "--text", "x", "y"], "a file 'y' too many"),
+    (&["pcap", "--pieces", "0", DAY], "not 1 to 1460"),
+    (&["pcap", "--back", DAY], "byte 0: no capture (pcap)"),
+    (&["pcap", "--back", "no-such-file"], "no-such-file: "),
+    (&["pcap", "--back", "x", DAY], "too many"),
+    (&["pcap", "--json", DAY], "no option --json"),
     (&["list", "no-such-file"], "no-such-file: "),
     (&["join", "--text", "no-such-file"], "no-such-file: "),
     (
@@ -150,7 +155,7 @@ fn help_for_each_command_and_the_man_page() {
     let man = include_str!("../desk.1");
     let all = desk(&["--help"], b"");
     assert_eq!(all.status, 0);
-    for command in ["list", "asrun", "timeline", "check", "join"] {
+    for command in ["list", "asrun", "timeline", "check", "join", "pcap"] {
         let ran = desk(&[command, "--help"], b"");
         assert_eq!(ran.status, 0);
         let text = ran.text();

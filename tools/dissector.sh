@@ -1,0 +1,141 @@
+#!/bin/sh
+# dissector.sh: wireshark/j280.lua in Debian's tshark against the decoder of desk/: captures of the example day, the incident, the driver's recording and of
+# every other message (wireshark/messages.txt), in whole segments and in pieces of 7 bytes; each field of each message must be the one of `desk list`; requests are tied to
+# their responses; and the way back from a capture. Installs tshark where there is none (as root). No part of the gate. The last line is 'N passed, M failed'.
+set -eu
+. "$(dirname "$0")/words.sh"
+no_words "$@"
+needs cargo
+cd "$(dirname "$0")/.."
+work=$PWD/target/dissector
+rm -rf "$work"
+mkdir -p "$work"
+passed=0
+failed=0
+
+# held NAME TEST..: counts it
+held() {
+    what=$1
+    shift
+    if "$@" >"$work/held" 2>&1; then
+        passed=$((passed + 1))
+    else
+        head -n 10 "$work/held"
+        echo "dissector: $what: FAILED"
+        failed=$((failed + 1))
+    fi
+}
+
+# shark CAPTURE WORD..: tshark with the dissector
+shark() {
+    capture=$1
+    shift
+    tshark -X lua_script:wireshark/j280.lua -r "$capture" -Y j280 "$@" 2>"$work/tshark.log"
+}
+
+# by_tshark CAPTURE: a line for each message: MessageID, Result and the fields in their order
+by_tshark() {
+    shark "$1" -T json | awk '
+    /"j280": \{/ { say(); on = 1 }
+    on && /"j280\.[A-Za-z_]+": "/ {
+        name = $1
+        gsub(/[":]|j280\./, "", name)
+        value = $0
+        sub(/^[^:]*: "/, "", value)
+        sub(/",?$/, "", value)
+        if (name == "MessageID") id = value
+        else if (name == "Result") result = value
+        else if (name == "Seconds") seconds = value
+        else if (name == "MicroSeconds") put("time", seconds == 4294967295 && value == 4294967295 ? "none" : sprintf("%s.%06d", seconds, value))
+        else if (name == "PID") pids = pids (pids == "" ? "" : ", ") value
+        else if (name == "StreamType") kinds = kinds (kinds == "" ? "" : ", ") value
+        else if (name ~ /^(MessageSize|Result_Extension|time|stream_Length|...Bitrate|.Resolution|response_in|request_in)$/) next
+        else {
+            if (pids != "") { put("PID", "[" pids "]"); put("StreamType", "[" kinds "]"); pids = kinds = "" }
+            if (name ~ /^(descriptors|Logical_Multiplex|TS_program|splice_info|data)/) gsub(/:/, "", value)
+            put(name, value)
+        }
+    }
+    function put(name, value) { line = line " " name "=" value }
+    function say() { if (on) print id " " result line; line = "" }
+    END { say() }'
+}
+
+# by_desk RECORDING WORD..: the same of `desk list`, without the calls that are no messages and what a close logs
+by_desk() {
+    { "$desk" list --json --raw "$@" 2>/dev/null || [ $? -eq 1 ]; } | awk '
+    BEGIN {
+        n = split("General_Response Init_Request Init_Response ExtendedData_Request ExtendedData_Response Alive_Request Alive_Response Splice_Request " \
+            "Splice_Response SpliceComplete_Response GetConfig_Request GetConfig_Response Cue_Request Cue_Response Abort_Request Abort_Response " \
+            "TearDownFeed_Request TearDownFeed_Response", names, " ")
+        for (i = 1; i <= n; i++) ids[names[i]] = sprintf("0x%04x", i - 1)
+    }
+    function field(name,    at) {
+        at = index($0, "\"" name "\": ")
+        if (!at) return ""
+        text = substr($0, at + length(name) + 4)
+        sub(/,? "[a-z]+": .*/, "", text)
+        gsub(/"/, "", text)
+        sub(/,$/, "", text)
+        return text
+    }
+    /"kind"/ {
+        message = field("message")
+        call = field("call")
+        if (message == "close") closed = call
+        if (message ~ /^(open|close|tick|refused)$/ || call == closed || /"due and missing"/) next
+        result = field("result")
+        id = message in ids ? ids[message] : tolower(substr(message, 9))
+        fields = $0
+        sub(/.*"fields": \{/, "", fields)
+        sub(/\}\},?$/, "", fields)
+        gsub(/\[/, "<", fields)
+        while (match(fields, /<[^\]]*, /)) fields = substr(fields, 1, RSTART + RLENGTH - 3) ";" substr(fields, RSTART + RLENGTH)
+        gsub(/, "/, " \"", fields)
+        gsub(/": /, "=", fields)
+        gsub(/"/, "", fields)
+        gsub(/</, "[", fields)
+        gsub(/;/, ", ", fields)
+        print id " " (result == "null" ? 65535 : result) (fields == "" ? "" : " " fields)
+    }'
+}
+
+# tried NAME RECORDING WORD..: a recording both ways
+tried() {
+    name=$1 recording=$2
+    shift 2
+    echo "dissector: $name"
+    for pieces in 1460 7; do
+        "$desk" pcap --pieces $pieces "$@" "$recording" >"$work/$name.pcap" 2>"$work/desk.log" || [ $? -eq 1 ]
+        "$desk" pcap --back "$work/$name.pcap" "$@" >"$work/$name.rec" || [ $? -eq 1 ]
+        by_tshark "$work/$name.pcap" >"$work/$name.tshark"
+        by_desk "$work/$name.rec" "$@" >"$work/$name.desk"
+        held "$name in pieces of $pieces: some messages" test -s "$work/$name.desk"
+        held "$name in pieces of $pieces: each field" diff "$work/$name.desk" "$work/$name.tshark"
+    done
+}
+
+# counted NUMBER FIELD: how many frames of the example day have it; in two passes, as Wireshark does
+counted() {
+    [ "$(shark "$work/example-day.pcap" -2 -T fields -e "j280.$2" | grep -c '[0-9]')" -eq "$1" ]
+}
+
+if ! command -v tshark >/dev/null 2>&1; then
+    echo 'dissector: installing tshark'
+    apt-get install -y --no-install-recommends --no-remove tshark >"$work/setup.log" 2>&1 || :
+    needs tshark
+fi
+sh tools/desk.sh install "$work" >/dev/null
+desk=$work/bin/desk
+"$desk" join --text wireshark/messages.txt >"$work/messages" || [ $? -eq 1 ]
+tried messages "$work/messages"
+tried incident desk/recordings/incident.rec
+tried driver desk/recordings/sport.rec --name SPORT
+tried example-day desk/recordings/example-day.rec
+held 'the way back keeps the rules' "$desk" check "$work/example-day.rec"
+requests=$(grep -cE '^0x000(1|3|5|7|a|e) ' "$work/example-day.desk")
+held 'requests tied to their responses' counted "$requests" response_in
+held 'responses tied to their requests' counted "$requests" request_in
+echo "dissector: $(cat "$work"/*.desk | wc -l) messages, $(tshark --version 2>/dev/null | head -n 1)"
+echo "$passed passed, $failed failed"
+[ "$failed" -eq 0 ]
