@@ -9,7 +9,7 @@ case $#${1:-} in
 0 | 1--proved) proved=${1:-} ;;
 *) refuse "only --proved, not '$*'" ;;
 esac
-needs rt cargo git tar sha256sum
+needs rt rustc git tar sha256sum
 find_kit
 cd "$(dirname "$0")/.."
 work=$PWD/target/dist
@@ -61,6 +61,15 @@ manifest() {
     find . -type f ! -name MANIFEST | LC_ALL=C sort | xargs sha256sum
 }
 
+# desk: the desk's program in the present folder of sources. By rustc itself: cargo puts a hash of the folder's name into what it builds
+desk() {
+    mkdir -p target/desk/release
+    of=$(sed -n 's/^version = "\(.*\)"/\1/p' desk/Cargo.toml)
+    rust="rustc --edition 2021 -C opt-level=3 -C metadata=splicer --remap-path-prefix=$PWD=."
+    $rust --crate-type rlib --crate-name model --cfg 'feature="uncounted"' -o target/desk/libmodel.rlib model/src/lib.rs
+    CARGO_PKG_VERSION=$of $rust --crate-name desk --extern model=target/desk/libmodel.rlib -o target/desk/release/desk desk/src/main.rs
+}
+
 # gathered: the files of a release, of the sources in $source
 gathered() {
     mkdir -p bin include lib/pkgconfig share/man/man1 share/splicer/rust share/doc/splicer/docs
@@ -69,7 +78,7 @@ gathered() {
     pc >lib/pkgconfig/splicer.pc
     cp "$source/target/bin/card" "$source/target/desk/release/desk" bin/
     cp "$source/desk/desk.1" share/man/man1/
-    cp -R "$source/examples" share/splicer/
+    cp -R "$source/examples" "$source/wireshark" share/splicer/
     for part in Cargo.toml Cargo.lock build.rs src; do cp -R "$source/bindings/$part" share/splicer/rust/; done
     cp "$source/README.md" "$source/CHANGELOG.md" share/doc/splicer/
     cp -R "$source"/docs/* share/doc/splicer/docs/
@@ -91,8 +100,8 @@ built() {
         cd "$source"
         proving "$1/archive.log" staticlib door
         proving "$1/card.log" check card
-        RUSTFLAGS="--remap-path-prefix=$source=." CARGO_TARGET_DIR=target/desk \
-            cargo build --quiet --release --offline --locked --manifest-path desk/Cargo.toml
+        echo 'building desk'
+        desk
     )
     (cd "$1/$name" && gathered)
     tar -C "$1" --sort=name --owner=0 --group=0 --numeric-owner --mtime="@$(git log -1 --format=%ct)" -cf - "$name" | gzip -n >"$1.tar.gz"
