@@ -16,7 +16,8 @@ find_kit
 tools=$kit/on/$(uname -m)/toolchain
 work=target/archive-for
 mkdir -p "$work"
-sh tools/kept-module.sh "$work" staticlib door >"$work/log" 2>&1 || { cat "$work/log" >&2; exit 1; }
+echo 'proving door and what it depends on (some minutes where nothing is proved yet)'
+watched "$work/log" "$(reached door | wc -l)" 'rt: * proved*' sh tools/kept-module.sh "$work" staticlib door || { cat "$work/log" >&2; exit 1; }
 
 # compiled FLAG..: the kit's clang for the target
 compiled() {

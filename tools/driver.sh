@@ -50,7 +50,8 @@ runs() {
 
 # records: what it records on a channel "SPORT" is what desk/ reads in its tests
 records() {
-    sh tools/run-program.sh "$work/driver" SPORT "$work/sport.rec" >"$work/sport" && cmp desk/recordings/sport.rec "$work/sport.rec"
+    sh tools/run-program.sh "$work/driver" SPORT "$work/sport.rec" >"$work/sport" || return 1
+    cmp desk/recordings/sport.rec "$work/sport.rec" || { echo "if that is meant: cp $work/sport.rec desk/recordings/"; return 1; }
 }
 
 # old: a driver that was compiled with version 1's header must not link, for want of its functions

@@ -102,6 +102,31 @@ pub fn sums(view: &View) -> Sums {
     }
 }
 
+/// The list and the sums as JSON: an object of both.
+pub fn json(view: &View) -> String {
+    let (from, to) = view.reach();
+    let sums = sums(view);
+    let named = |(name, value): (&str, Value)| (name.to_string(), value);
+    let part = |time: u64| {
+        let parts = [
+            ("seconds", Value::Text(seconds(time))),
+            ("ticks", Value::Number(time / TICK)),
+        ];
+        Value::Fields(parts.map(named).to_vec())
+    };
+    let all = [
+        ("from", Value::Text(view.clock.text(from))),
+        ("to", Value::Text(view.clock.text(to))),
+        ("primary", part(sums.primary)),
+        ("sessions", part(sums.sessions)),
+        ("clock", part(sums.clock)),
+    ];
+    let mut text = format!("{{\"requests\": {}", table(view).json().trim_end());
+    text += ",\n\"sums\": ";
+    Value::Fields(all.map(named).to_vec()).json(&mut text);
+    text + "}\n"
+}
+
 /// The sums as lines.
 pub fn summed(view: &View) -> Vec<String> {
     let (from, to) = view.reach();

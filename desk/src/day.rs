@@ -284,7 +284,9 @@ impl Day {
         let mut next = self.clock;
         let mut list = Vec::new();
         for item in items.iter().rev() {
-            next = due(item).filter(|_| self.clock > before).unwrap_or(next);
+            // they stand in order of time: none is later than the next
+            let due = due(item).filter(|_| self.clock > before);
+            next = due.map_or(next, |at| at.min(next));
             list.push(next);
         }
         list.reverse();

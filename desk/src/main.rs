@@ -120,6 +120,7 @@ fn run(command: &Command, options: &Options) -> Result<(Vec<u8>, bool), String> 
     let text = match command.name {
         "list" => told(list::table(&view, false), |view| list::text(view, false)),
         "check" => told(list::table(&view, true), |view| list::text(view, true)),
+        "asrun" if json => asrun::json(&view),
         "asrun" => told(asrun::table(&view), asrun::text),
         _ => match &options.html {
             Some(path) => {

@@ -73,7 +73,7 @@ const OPTIONS: &[(&str, &str, &str)] = &[
         "",
         "times as seconds since 1970-01-01 UTC, not as ISO 8601",
     ),
-    ("--json", "", "as JSON, a list of objects"),
+    ("--json", "", "as JSON"),
     ("--csv", "", "as CSV, with a line of names"),
     ("--connection", "N", "only this connection, 0 to 3"),
     ("--session", "N", "only this SessionID"),

@@ -108,6 +108,14 @@ fn json_and_csv() {
                     on_air_seconds,on_air_ticks,result,outcome,by_the_rules\r\n\
                     20,0,202,4294967295,1,3,0,1970-01-12T14:07:10.000000Z,30.000000,2700000,109,,,,,109,\"refused, 109: Splice Collision\",\r\n";
     assert_eq!(csv, expected);
+    let asrun = desk(&["asrun", "--json", "--raw", "--session", "202", day], b"").text();
+    assert!(
+        asrun.starts_with("{\"requests\": [\n {\"call\": 20, "),
+        "{asrun}"
+    );
+    let sums = "],\n\"sums\": {\"from\": \"1000000.000000\", \"to\": \"1003600.000000\", \
+                \"primary\": {\"seconds\": \"3190.000000\", \"ticks\": 287100000}, ";
+    assert!(asrun.contains(sums), "{asrun}");
     let none = desk(&["check", "--json", day], b"").text();
     assert_eq!(none, "[\n]\n");
 }

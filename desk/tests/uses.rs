@@ -148,6 +148,19 @@ fn another_channel() {
         assert_eq!(ran.status, 1, "{command}");
         assert!(ran.said.contains("--name SPORT"), "{}", ran.said);
     }
+    let page = scratch("sport.html", b"");
+    let ran = desk(
+        &["timeline", "--name", "SPORT", "--html", &page, &sport],
+        b"",
+    );
+    assert_eq!(ran.status, 0);
+    let page = std::fs::read_to_string(page).unwrap();
+    assert!(page.contains("<h1>Channel SPORT, 1970-01-01T00:16:40.000000Z</h1>"));
+    let capture = desk(&["pcap", "--name", "SPORT", &sport], b"");
+    assert_eq!(capture.status, 0);
+    let back = desk(&["pcap", "--name", "SPORT", "--back", "-"], &capture.out);
+    assert_eq!(back.status, 0);
+    assert_eq!(desk(&["check", "--name", "SPORT"], &back.out).status, 0);
 }
 
 #[test]
