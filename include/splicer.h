@@ -81,7 +81,7 @@ enum splicer_message_id {
     SPLICER_ABORT_RESPONSE = 0x000F           /* SessionID 4 */
 };
 
-/* Result codes of J.280, Appendix I, that document 01 uses. */
+/* Result codes of J.280, Appendix I, that documents 01 and 02 use. */
 enum splicer_result {
     SPLICER_SUCCESSFUL = 100,
     SPLICER_INVALID_VERSION = 102,

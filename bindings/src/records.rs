@@ -26,7 +26,7 @@ pub mod message_id {
     pub const ABORT_RESPONSE: u16 = 0x000F;
 }
 
-/// Result codes of J.280, Appendix I, that document 01 uses.
+/// Result codes of J.280, Appendix I, that documents 01 and 02 use.
 pub mod result {
     /// Successful.
     pub const SUCCESSFUL: u16 = 100;

@@ -13,8 +13,8 @@ use Rattle.rules.specs.State.{Queue, empty, startsAt, endsAt, due, notAf
 use Rattle.rules.specs.Records.{Record, SpliceComplete}
 use Rattle.rules.specs.Ends.{Turn, quiet, andThen, writes, ended, endings, dismissed}
 
--- a new session outranks an old one: the one place where equal AccessTypes are decided. 02: "With the flag at 1, an equal AccessType now wins";
--- the flag is the new one's
+-- a new session outranks an old one: the one place where it is decided whether an equal AccessType wins. 02: "With the flag at 1, an equal
+-- AccessType now wins"; the flag is the new one's
 abbrev pub outranks : Session → Session → Bool
 outranks new old = ltb (old .access) (new .access + new .overrides)
 
