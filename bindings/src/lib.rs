@@ -130,7 +130,7 @@ pub struct Handled<'o> {
     pub written: &'o [u8],
     /// For a Splice_Request answered with 100 the places that its acceptance shifted: the sessions
     /// that wait, after any eviction, and start later than the new one, at most 63. Else 0; the other
-    /// calls shift none.
+    /// calls accept nothing.
     pub moved: u32,
 }
 

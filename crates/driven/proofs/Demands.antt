@@ -27,7 +27,7 @@ use Rattle.traces.specs.Trace as engine
 use Rattle.traces.proofs.Steps.{memory-same}
 use Rattle.traces.proofs.Closed.{not-full, unended-newer}
 use Rattle.traces.proofs.Demands as called
-use Rattle.driven.specs.Driven.{left, Made, made, Trace, More, Point, numberIn, number, moved, bytesOf, events, calls, inputs, Answerable, Run, AsRuled, inside, within}
+use Rattle.driven.specs.Driven.{left, Made, made, Trace, More, Point, numberIn, number, movedIn, moved, bytesOf, events, calls, inputs, Answerable, Run, AsRuled, inside, within}
 use Rattle.driven.proofs.Inside.{trace-inside, trace-events, more-inside, within-append, calls-inside, call-handed, buffer-handed, number-inside, moved-inside, bytes-inside, reply-ruled}
 use Rattle.door.proofs.Laws.{refused-unchanged}
 use Rattle.driven.proofs.Course.{answerable, runs, trace-more, trace-point, trace-same}
@@ -227,7 +227,11 @@ module _ (name : List ℕ) (h : List Made) (m : Memory) where
 -- ## Document 02, CR 11
 
 module _ (name : List ℕ) (h : List Made) (m : Memory) where
-  -- "Report that number with the call. [..] A request not accepted reports 0.": nor does any call report more that is no Splice_Request answered with 100
+  -- "Report that number with the call. [..] A request not accepted reports 0.": and so does every call that is no Splice_Request answered with
+  -- 100; fresh too
+  pub fresh-unmoved : (t : Trace name h m) → movedIn (t .reply) ≡ 0
+  fresh-unmoved t = moved-inside (t .fresh) ∙ called.fresh-unmoved name (within h) m (trace-inside name h m t)
+
   pub unmoved-else : (i : Input) (r : Seen) → More name h m i r → grantedBy (callOf i) (recordsIn (bytesOf r)) ≡ false → moved r ≡ 0
   unmoved-else i r c g =
       moved-inside (c .allowed)

@@ -29,12 +29,12 @@ use Rattle.demands.specs.Told.{firstNumber, checks, answers, Asks, Passes, full
 use Rattle.demands.proofs.Demands as told
 use Rattle.demands.proofs.Waiting.{waiting-counted}
 use Rattle.demands.proofs.Moved as shifting
-use Rattle.traces.specs.Trace.{Memory, emptyMemory, shown, Input, aClose, aMessage, Typed, callOf, bufferOf, Result, Made, made, Trace, More, Point, numberIn, number, moved, bytesOf, events, calls, inputs, Answerable, Run, AsRuled}
+use Rattle.traces.specs.Trace.{Memory, emptyMemory, shown, Input, aClose, aMessage, Typed, callOf, bufferOf, Result, Made, made, Trace, More, Point, numberIn, number, movedIn, moved, bytesOf, events, calls, inputs, Answerable, Run, AsRuled}
 use Rattle.traces.proofs.Steps.{wired, as-ruled, number-first, unchanged}
 use Rattle.traces.proofs.Course.{trace-lent, trace-history, trace-told, trace-more, trace-point, trace-same, fresh-number, fresh-empty}
 use Rattle.traces.proofs.Closed.{not-full, closed-stands, unended-newer}
 use Rattle.traces.proofs.Answerable.{answerable, runs}
-use Rattle.traces.proofs.Moved.{moved-is, last-code, others-stay}
+use Rattle.traces.proofs.Moved.{moved-is, fresh-none, last-code, others-stay}
 
 -- ## "On a splicer that came from fresh and the calls after it"
 
@@ -214,7 +214,11 @@ module _ (name : List ℕ) (h : List Made) (m : Memory) where
 -- ## Document 02, CR 11
 
 module _ (name : List ℕ) (h : List Made) (m : Memory) where
-  -- "Report that number with the call. [..] A request not accepted reports 0.": nor does any call report more that is no Splice_Request answered with 100
+  -- "Report that number with the call. [..] A request not accepted reports 0.": and so does every call that is no Splice_Request answered with
+  -- 100; fresh too
+  pub fresh-unmoved : (t : Trace name h m) → movedIn (t .answer) ≡ 0
+  fresh-unmoved t = ap movedIn (t .fresh .answer) ∙ fresh-none name
+
   pub unmoved-else : (i : Input) (r : Result) → More name h m i r → grantedBy (callOf i) (recordsIn (bytesOf r)) ≡ false → moved r ≡ 0
   unmoved-else i r c g =
       moved-is m i r (c .allowed)

@@ -9,13 +9,13 @@ use borrow.Author.Tests.{eqb-true}
 use Rattle.rules.specs.declared.Request.{Request}
 use Rattle.rules.specs.declared.Session.{Session}
 use Rattle.rules.specs.Lists.{some, count, place, insertAt}
-use Rattle.rules.specs.Bytes.{messageSize}
+use Rattle.rules.specs.Bytes.{messageSize, hasZero}
 use Rattle.rules.specs.State.{Splicer, sameNumber, startsAt, startsAfter}
 use Rattle.rules.specs.Records.{Record, General, InitResponse, AliveResponse, SpliceResponse, SpliceComplete, AbortResponse}
 use Rattle.rules.specs.Ends.{Turn, andThen, evicted}
 use Rattle.rules.specs.Answers.{requested, spliceResult, inserted, accepted, later, grants, splices, answerSplice}
-use Rattle.rules.specs.Calls.{Called, Call, messages, lending, call, replies, ticked}
-use Rattle.rules.proofs.Tests.{and-both, clash}
+use Rattle.rules.specs.Calls.{Called, Call, messages, lending, call, replies, fresh, ticked}
+use Rattle.rules.proofs.Tests.{by, and-both, clash}
 use Rattle.rules.proofs.Count.{place≤}
 use Rattle.rules.proofs.Moves.{evicted-none, later-behind}
 use Rattle.rules.proofs.Sound.{few-wait, reached-sound}
@@ -47,6 +47,11 @@ moved-read s =
       ticking = λ seconds micros room le. refl;
       moving = λ until room le. refl;
     })
+
+-- fresh accepts nothing
+pub fresh-none : (name : List ℕ) → movedIn (answerOf (fresh name .answer) (fresh name .moved)) ≡ 0
+unfolding fresh movedIn answerOf
+fresh-none name = by (λ (r : Called). movedIn (answerOf (r .answer) (r .moved)) ≡ 0) (hasZero name) _ _ (λ e. refl) (λ e. refl)
 
 -- so does every result that its contract allows
 pub moved-is : (m : Memory) (i : Input) (r : Result) → Allowed m i r → moved r ≡ call (callOf i) (shown m) .moved
@@ -80,7 +85,7 @@ module _ (m : Memory) (l : Lent (m .words) (m .bytes)) (d : ℕ) (i e : List ℕ
   abbrev w : List Session
   w = shown m .queue .waiting
 
-  -- 02: "It equals the waiting sessions [..] whose start is later": of those that wait after it
+  -- the call is the acceptance of the new one
   granted : call (messages d i (lending (length e))) (shown m) ≡ replies (8 + messageSize i) (splices (grants new (shown m .queue)) (shown m))
   unfolding answerSplice
   granted = splice-call d i (lending (length e)) q (shown m) asks ∙ rw code
