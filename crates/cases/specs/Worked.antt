@@ -125,6 +125,10 @@ inARow = timed 0 1 1003 0 9 0 900000 ∷ timed 0 2 1004 0 9 1 900000 ∷ timed 1
 atItsEnd : List Call
 atItsEnd = timed 0 1 1003 0 4 0 270000 ∷ timed 1 2 1006 0 4 1 90000 ∷ to 1006 0 ∷ []
 
+-- an equal one that was covered for a while, with a follower: its time on air is both stretches
+coveredBefore : List Call
+coveredBefore = timed 1 1 1010 0 3 0 8100000 ∷ linked 1 2 1 90000 ∷ timed 0 5 1020 0 5 1 900000 ∷ timed 2 9 1040 0 3 1 900000 ∷ to 1040 0 ∷ []
+
 -- resumed by a higher one's end, and ended by an equal one's start at the same instant
 resumedAndEnded : List Call
 resumedAndEnded = timed 0 1 1003 0 3 0 2700000 ∷ timed 1 2 1004 0 5 1 180000 ∷ timed 2 3 1006 0 3 1 90000 ∷ to 1006 0 ∷ []
@@ -174,11 +178,12 @@ cases =
     ∷ says inARow (accepts 0 1 ∷ accepts 0 2 ∷ accepts 1 3 ∷ begins 0 1 ∷ stops 0 125 1 90000 ∷ begins 0 2 ∷ stops 0 125 2 90000 ∷ begins 1 3 ∷ stops 1 100 3 900000 ∷ [])
     ∷ says atItsEnd (accepts 0 1 ∷ accepts 1 2 ∷ begins 0 1 ∷ stops 0 100 1 270000 ∷ begins 1 2 ∷ [])
     ∷ says resumedAndEnded (accepts 0 1 ∷ accepts 1 2 ∷ accepts 2 3 ∷ begins 0 1 ∷ begins 1 2 ∷ stops 1 100 2 180000 ∷ stops 0 125 1 90000 ∷ begins 2 3 ∷ [])
+    ∷ says coveredBefore (accepts 1 1 ∷ accepts 1 2 ∷ accepts 0 5 ∷ accepts 2 9 ∷ begins 1 1 ∷ begins 0 5 ∷ stops 0 100 5 900000 ∷ stops 1 125 1 1800000 ∷ SpliceResponse 1 125 2 ∷ begins 2 9 ∷ [])
     ∷ says noFlag (accepts 0 1 ∷ accepts 1 2 ∷ begins 0 1 ∷ SpliceComplete 1 109 2 0 0 ∷ [])
     ∷ counting (started ten) (99 ∷ 8 ∷ 7 ∷ 6 ∷ 5 ∷ 4 ∷ 3 ∷ 2 ∷ 1 ∷ 0 ∷ [])
     ∷ counting (lastWrites ten) (2 ∷ [])
     ∷ []
 
 worked : map (λ c. c .seen) cases ≡ map (λ c. c .wants) cases
-unfolding fullBefore evictEqual waitingFlag overCovered inARow atItsEnd resumedAndEnded noFlag climb ten started sent from initOf asks timed aborts to card plays up ready load queued linked known joined played says counting accepts begins stops lastWrites cases events ended three through incident behindZero oneTick onlyDirect handOver slot computing
+unfolding fullBefore evictEqual waitingFlag overCovered inARow atItsEnd coveredBefore resumedAndEnded noFlag climb ten started sent from initOf asks timed aborts to card plays up ready load queued linked known joined played says counting accepts begins stops lastWrites cases events ended three through incident behindZero oneTick onlyDirect handOver slot computing
 worked = refl
