@@ -5,8 +5,8 @@ use memory::WORDS;
 ghost use mathlib.Core.Path.{_≡_};
 ghost use Prim.Native.Nat.{_+_, _≤_};
 ghost use lib.ListN.{length, take};
-ghost use Rattle.rules.specs.Bytes.{largestSize, padded};
-ghost use Rattle.rules.specs.Card.{messageEnd, cardName, cardRoom};
+ghost use Rattle.rules.specs.Bytes.{largestSize};
+ghost use Rattle.rules.specs.Card.{messageEnd, cardRoom};
 ghost use Rattle.memory.specs.Memory.{shown};
 ghost use Rattle.engine.specs.Lent.{Lent};
 ghost use Rattle.card.specs.Ran.{Ran, moved, again, Turned};
@@ -115,21 +115,10 @@ fn turns(m: &mut [u64; WORDS], b: &mut [u8], input: &mut [u8], out: &mut [u8])
     }
 }
 
-// ChannelName is "CH1".
-fn channel() -> [u8; 32]
-    ensures { λ r. ⌜ r ≡ padded cardName ⌝ }
-{
-    let mut r = [0; 32];
-    r[0] = b'C';
-    r[1] = b'H';
-    r[2] = b'1';
-    r
-}
-
 fn main() {
     let mut m = [0; WORDS];
     let mut b = [0; BYTES];
-    engine::fresh(&channel(), &mut m, &mut b);
+    engine::fresh(&feed::channel(), &mut m, &mut b);
     let mut input = io::large_buffer();
     let mut out = io::large_buffer();
     turns(&mut m, &mut b, &mut input, &mut out);

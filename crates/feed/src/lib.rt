@@ -1,4 +1,4 @@
-// The card program's input, record by record.
+// The card program's input, record by record, and its ChannelName.
 mod playing;
 
 pub use playing::play;
@@ -6,6 +6,8 @@ use reading::LONGEST;
 use reading::numbers::number2;
 use reading::numbers::number4;
 ghost use mathlib.Core.Path.{_≡_};
+ghost use Rattle.rules.specs.Bytes.{padded};
+ghost use Rattle.rules.specs.Card.{cardName};
 ghost use Rattle.feed.specs.Feed.{recordIn, messageIn, tickIn};
 
 // Where a record ends: an open or a close, a tick, and a message's header, behind which its data stands.
@@ -79,4 +81,15 @@ pub fn take(l: &[u8]) -> Record
         return take_tick(l);
     }
     Record::Unknown
+}
+
+// ChannelName is "CH1".
+pub fn channel() -> [u8; 32]
+    ensures { λ r. ⌜ r ≡ padded cardName ⌝ }
+{
+    let mut r = [0; 32];
+    r[0] = b'C';
+    r[1] = b'H';
+    r[2] = b'1';
+    r
 }

@@ -2,8 +2,8 @@
 use mathlib.Core.Path.{refl}
 use Rattle.rules.specs.Card.{cardName}
 use borrow.Author.Needs.{needs}
-use Rattle.card.proofs.channel.Statement.{statement}
-use Rattle.card.proofs.channel.Tie as tie
+use Rattle.feed.proofs.channel.Statement.{statement}
+use Rattle.feed.proofs.channel.Tie as tie
 
 array-write-r : tie.Need-array-write-r
 array-write-r c = search needs
