@@ -95,10 +95,10 @@ module _ (l m : List ℕ) where
   part-behind a n h =
       ap (take n) (drop-append-le a l m (omega arith)) ∙ take-append-le n (drop a l) m (simp length-drop (omega arith))
 
-  field-behind : (a n : ℕ) → a + n ≤ length l → field a n (l ++ m) ≡ field a n l
+  pub field-behind : (a n : ℕ) → a + n ≤ length l → field a n (l ++ m) ≡ field a n l
   field-behind a n h = ap value (part-behind a n h)
 
-  size-behind : headerEnd ≤ length l → sizeIn (l ++ m) ≡ sizeIn l
+  pub size-behind : headerEnd ≤ length l → sizeIn (l ++ m) ≡ sizeIn l
   size-behind h = sym (size-at (l ++ m)) ∙ field-behind 4 2 (omega arith) ∙ size-at l
 
   -- y: what a whole record x becomes

@@ -11,11 +11,11 @@ ghost use Rattle.rules.specs.Card.{cardName};
 ghost use Rattle.feed.specs.Feed.{recordIn, messageIn, tickIn};
 
 // Where a record ends: an open or a close, a tick, and a message's header, behind which its data stands.
-const MARK_END: usize = 2;
+pub const MARK_END: usize = 2;
 
-const TICK_END: usize = 10;
+pub const TICK_END: usize = 10;
 
-const HEADER_END: usize = 10;
+pub const HEADER_END: usize = 10;
 
 // The record that some bytes begin with: a connection, the MessageSize, Seconds and MicroSeconds.
 pub enum Record {
