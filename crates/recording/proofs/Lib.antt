@@ -1,0 +1,10 @@
+pub mod Entries
+pub mod Calling
+pub mod Due
+pub mod Own
+pub mod Passing
+pub mod Judging
+pub mod First
+pub mod Refusing
+pub mod Recordings
+pub mod Worked
