@@ -1,4 +1,4 @@
--- 02, CR 14, as theorems about the definitions, each under its sentence. The code is held to the same definitions (crate judge).
+-- 02, CR 14, as theorems about the definitions, each under its sentence.
 -- Rests on proofs/Own, Passing, Judging, First and Refusing.
 use mathlib.Core.Path.{_≡_, refl, sym, subst, ap, _∙_}
 use mathlib.Core.Bool.{true, false}

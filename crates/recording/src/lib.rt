@@ -1,4 +1,4 @@
-// 02, CR 14: the types that the checker of bench recordings and its definitions share. The definitions stand in specs/Recording, and what
+// 02, CR 14: the types of the definitions of bench recordings, for the checker to share. The definitions stand in specs/Recording, and what
 // holds of them in proofs/Recordings: there is no code here.
 
 // The entry that some bytes begin with: a call or a record, with its length; a cut one; another mark; or none.
