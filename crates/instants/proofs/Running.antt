@@ -73,7 +73,7 @@ module _ (now until : ℕ) (q : Queue) where
 
 -- ## The loop
 
--- its invariant. From words that showed s₀ and the buffer e: it is `at`, the words m show what is left, and o is written up to n
+-- from words that showed s₀ and the buffer e: it is `at`, the words m show what is left, and o is written up to n
 pub record Running (until : ℕ) (s₀ : Memory) (e m : List ℕ) (n at : ℕ) (o : List ℕ) : Type 0 where
   pub form : Form m
   pub kept : see m ≡ queued (see m .queue) s₀
@@ -85,19 +85,24 @@ pub record Running (until : ℕ) (s₀ : Memory) (e m : List ℕ) (n at : ℕ) (
   pub tells : Tells e 0 sofar n o
   pub rest : runAll (s₀ .clock) until (s₀ .queue) ≡ behind sofar (runAll at until (see m .queue))
 
-pub first-turn : {until : ℕ} {m e : List ℕ} → Form m → Holding (see m .clock) (see m .queue) → see m .clock ≤ until →
-    roomFor (toCome (see m .queue)) ≤ length e → Running until (see m) e m 0 (see m .clock) e
-first-turn f h le room =
+-- what `run` asks
+abbrev Asks : ℕ → List ℕ → List ℕ → Type 0
+Asks until m e =
+    let s = see m in
+    Form m × (Holding (s .clock) (s .queue) × (((s .clock ≤ until) × (until < horizon)) × (roomFor (toCome (s .queue)) ≤ length e)))
+
+pub first-turn : {until at : ℕ} {m : List ℕ} (e : List ℕ) → at ≡ see m .clock → Asks until m e → Running until (see m) e m 0 at e
+first-turn {until} {at} {m} e i (f, (h, ((le, _), room))) =
     record {
       form = f;
       kept = refl;
-      holding = h;
-      time = le;
+      holding = subst (λ (t : ℕ). Holding t (see m .queue)) (sym i) h;
+      time = omega arith;
       room = omega arith;
       long = refl;
       sofar = [];
       tells = tells-none;
-      rest = refl;
+      rest = ap (λ (t : ℕ). runAll t until (see m .queue)) (sym i);
     }
 
 module _ {until : ℕ} {s₀ : Memory} {e m : List ℕ} {n at : ℕ} {o : List ℕ} (v : Running until s₀ e m n at o) where
@@ -146,8 +151,10 @@ module _ {until : ℕ} {s₀ : Memory} {e m : List ℕ} {n at : ℕ} {o : List �
         left : see m″ .queue ≡ moved at (t .0) (see m .queue) .queue
         left = ap (λ (z : Memory). z .queue) (given .shows .is)
 
-        pub turn-less : toCome (see m″ .queue) < toCome (see m .queue)
-        turn-less = omega (arith, ap toCome left, less at until (see m .queue) d)
+        pub turn-less : toCome (see m″ .queue) < toCome (see m′ .queue)
+        turn-less =
+            let q = see m .queue in
+            omega (arith, ap toCome left, ap toCome then, elapse-toCome (t .0) (t .0 - at) q, less at until q d)
 
         pub turn-next : Running until s₀ e m″ to (t .0) o′
         turn-next =
@@ -172,3 +179,40 @@ module _ {until : ℕ} {s₀ : Memory} {e m : List ℕ} {n at : ℕ} {o : List �
                   ∙ behind-then (v .sofar) (i .written) (runAll (t .0) until (i .queue))
                   ∙ ap (λ (y : Queue). behind (v .sofar ++ i .written) (runAll (t .0) until y)) (sym left);
             }
+
+-- the next instant t has come: m are left by `elapse` of the words there were at `at`
+pub record Arrived (until : ℕ) (s₀ : Memory) (e m : List ℕ) (n : ℕ) (t : Ninths) (o : List ℕ) : Type 0 where
+  pub at : ℕ
+  pub words : List ℕ
+  pub running : Running until s₀ e words n at o
+  pub next : notAfter until (due (see words .queue)) ≡ At t
+  pub passed : Now m (queued (elapse (t .0 - at) (see words .queue)) (see words))
+
+-- the loop's invariant. The loop begins when the first instant t₀ has come, in words m₀, and cannot name those before: from some of them
+-- t has come, and from each from which t₀ came
+pub record Onward (until : ℕ) (m₀ : List ℕ) (t₀ : Ninths) (e m : List ℕ) (n : ℕ) (t : Ninths) (o : List ℕ) : Type 0 where
+  pub whence : Memory
+  pub come : Arrived until whence e m n t o
+  pub each : (s : Memory) → Arrived until s e m₀ 0 t₀ e → Arrived until s e m n t o
+
+module _ {until : ℕ} {s₀ : Memory} {e m : List ℕ} {n at : ℕ} {t : Ninths} {o m′ : List ℕ} (v : Running until s₀ e m n at o)
+    (d : notAfter until (due (see m .queue)) ≡ At t) (f : Now m′ (queued (elapse (t .0 - at) (see m .queue)) (see m))) where
+  pub arrived : Arrived until s₀ e m′ n t o
+  arrived = record { at = at; words = m; running = v; next = d; passed = f }
+
+module _ {until : ℕ} {s₀ : Memory} {e m : List ℕ} {n : ℕ} {t : Ninths} {o : List ℕ} (a : Arrived until s₀ e m n t o) where
+  -- the instant left m′, and the next, u, has come in m″
+  module _ {m′ : List ℕ} {to : ℕ} {o′ : List ℕ} (g : Turns o n (instant (t .0) (see m .queue)) (see m) m′ to o′) where
+    pub arrived-on : Running until s₀ e m′ to (t .0) o′
+    arrived-on = turn-next (a .running) (a .next) (a .passed) g
+
+    module _ {u : Ninths} {m″ : List ℕ} (d : notAfter until (due (see m′ .queue)) ≡ At u)
+        (f : Now m″ (queued (elapse (u .0 - t .0) (see m′ .queue)) (see m′))) where
+      pub arrived-next : Arrived until s₀ e m″ to u o′
+      arrived-next = arrived arrived-on d f
+
+      pub arrived-less : toCome (see m″ .queue) < toCome (see m .queue)
+      arrived-less =
+          let q = see m′ .queue in
+          let then = ap (λ (z : Memory). toCome (z .queue)) (f .is) in
+          omega (arith, then, elapse-toCome (u .0) (u .0 - t .0) q, turn-less (a .running) (a .next) (a .passed) g)

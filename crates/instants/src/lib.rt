@@ -120,7 +120,7 @@ fn next_due(m: &[u64], until: Ninths) -> When
     units::not_after(until, units::sooner(a, b))
 }
 
-// Every instant from the clock to `until`, in order of time. The clock's word stays.
+// Every instant from the clock to `until`, in order of time. The clock's word stays. A tick that finds nothing due is out before the loop.
 pub fn run(m: &mut [u64; WORDS], until: Ninths, out: &mut [u8]) -> usize
     requires { ⌜ Form (now m) ⌝ }
     requires { ⌜ Holding (see (now m) .clock) (see (now m) .queue) ⌝ }
@@ -130,16 +130,23 @@ pub fn run(m: &mut [u64; WORDS], until: Ninths, out: &mut [u8]) -> usize
         ⌜ Does (runAll (see (now (m .entry)) .clock) (until .0)) 0 (now (m .entry)) (now (out .entry)) r
         (now (m .exit)) (now (out .exit)) ⌝ }
 {
-    let mut at = memory::clock(&*m);
+    let at = memory::clock(&*m);
+    let first = next_due(&*m, until);
+    let When::At(begin) = first else {
+        elapse(&mut *m, until.0 - at.0);
+        return 0;
+    };
+    elapse(&mut *m, begin.0 - at.0);
+    let mut t = begin;
     let mut len = 0;
     loop {
+        len = at_instant(&mut *m, t, &mut *out, len);
         let due = next_due(&*m, until);
-        let When::At(t) = due else {
-            elapse(&mut *m, until.0 - at.0);
+        let When::At(next) = due else {
+            elapse(&mut *m, until.0 - t.0);
             return len;
         };
-        elapse(&mut *m, t.0 - at.0);
-        len = at_instant(&mut *m, t, &mut *out, len);
-        at = t;
+        elapse(&mut *m, next.0 - t.0);
+        t = next;
     }
 }
