@@ -142,10 +142,7 @@ fn join(options: &Options) -> Result<(Vec<u8>, bool), String> {
     };
     let text = String::from_utf8(file(path)?).map_err(|e| format!("{path}: {e}"))?;
     let steps = model::scenario::parse(&text).map_err(|e| format!("{path}: {e}"))?;
-    let bytes = steps
-        .iter()
-        .flat_map(|s| [&s.input[..], &s.expected].concat());
-    let bytes: Vec<u8> = bytes.collect();
+    let bytes = model::recording::of_steps(&steps);
     let held = Held::of(Recording::read(path, &bytes)?, &options.name);
     Ok((bytes, held.broken.is_empty()))
 }

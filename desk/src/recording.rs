@@ -2,9 +2,7 @@
 //! CR 14); or the card program's input and output, a file each.
 
 use crate::ruled::{aside, Step};
-
-/// "MessageSize above 4,088"
-const LARGEST: usize = 4_088;
+use model::recording::{entries, is_call, End};
 
 #[derive(Clone, Debug, PartialEq, Eq)]
 pub enum Call {
@@ -20,6 +18,12 @@ pub enum Call {
 pub struct Item {
     pub at: usize,
     pub bytes: Vec<u8>,
+}
+
+impl AsRef<[u8]> for Item {
+    fn as_ref(&self) -> &[u8] {
+        &self.bytes
+    }
 }
 
 /// A call and what was written behind it. The first entry has no call: "Records before any call are
@@ -41,45 +45,13 @@ pub struct Recording {
     pub unplaced: Vec<Item>,
 }
 
-/// Why the next part cannot be read.
-#[derive(Debug, PartialEq, Eq)]
-enum Fault {
-    Unknown,
-    Cut { needs: usize },
-}
-
-fn is_call(mark: u8) -> bool {
-    matches!(mark, 0x4F | 0x43 | 0x4D | 0x54)
-}
-
-/// The bytes of the first part. "A message header with MessageSize above 4,088 ends its record."
-fn length(rest: &[u8]) -> Result<usize, Fault> {
-    let needs = match rest[0] {
-        0x4F | 0x43 | 0x45 => 2,
-        0x54 => 10,
-        0x4D | 0x52 if rest.len() < 10 => 10,
-        0x4D | 0x52 => match usize::from(u16::from_be_bytes([rest[4], rest[5]])) {
-            size @ 0..=LARGEST => 10 + size,
-            _ => 10,
-        },
-        _ => return Err(Fault::Unknown),
-    };
-    match rest.len() {
-        there if there < needs => Err(Fault::Cut { needs }),
-        _ => Ok(needs),
-    }
-}
-
 /// The records and refusals of what a call wrote.
 pub fn items(written: &[u8]) -> Vec<Item> {
-    let (mut list, mut at) = (Vec::new(), 0);
-    while at < written.len() {
-        let n = length(&written[at..]).unwrap_or(written.len() - at);
-        let bytes = written[at..at + n].to_vec();
-        list.push(Item { at, bytes });
-        at += n;
-    }
-    list
+    let item = |entry: &model::recording::Entry| Item {
+        at: entry.at,
+        bytes: entry.bytes.to_vec(),
+    };
+    entries(written).0.iter().map(item).collect()
 }
 
 fn call(part: &[u8]) -> Option<Call> {
@@ -97,27 +69,22 @@ fn call(part: &[u8]) -> Option<Call> {
 type Parts<'f> = (Vec<(usize, &'f [u8])>, Option<String>);
 
 fn parts<'f>(file: &str, bytes: &'f [u8]) -> Result<Parts<'f>, String> {
-    let (mut list, mut at) = (Vec::new(), 0);
-    while at < bytes.len() {
-        match length(&bytes[at..]) {
-            Ok(n) => {
-                list.push((at, &bytes[at..at + n]));
-                at += n;
-            }
-            Err(Fault::Cut { needs }) => {
-                let there = bytes.len() - at;
-                let cut =
-                    format!("{file}: byte {at}: the last record is cut, {there} of {needs} bytes");
-                return Ok((list, Some(cut)));
-            }
-            Err(Fault::Unknown) => {
-                let mark = bytes[at];
-                let what = "is no mark of a call or a record";
-                return Err(format!("{file}: byte {at}: 0x{mark:02X} {what}"));
-            }
+    let (list, end) = entries(bytes);
+    let list = list.iter().map(|entry| (entry.at, entry.bytes)).collect();
+    match end {
+        End::Whole => Ok((list, None)),
+        End::Cut { at, needs } => {
+            let there = bytes.len() - at;
+            let cut =
+                format!("{file}: byte {at}: the last record is cut, {there} of {needs} bytes");
+            Ok((list, Some(cut)))
+        }
+        End::Unknown { at } => {
+            let mark = bytes[at];
+            let what = "is no mark of a call or a record";
+            Err(format!("{file}: byte {at}: 0x{mark:02X} {what}"))
         }
     }
-    Ok((list, None))
 }
 
 fn nothing_before() -> Entry {

@@ -2,6 +2,7 @@
 //! one process with the proved core. It uses nothing of the core.
 #![allow(clippy::new_without_default, clippy::should_implement_trait)]
 
+pub mod aside;
 pub mod asrun;
 pub mod card;
 pub mod cases;
@@ -18,6 +19,7 @@ pub mod instants;
 pub mod people;
 pub mod pieces;
 pub mod reading;
+pub mod recording;
 pub mod records;
 pub mod rules;
 pub mod scenario;
