@@ -69,7 +69,7 @@ module _ (l : List ℕ) where
   unfolding checked
   long-is h = rw (lt-ltb longest (length l) h)
 
-  short-is : length l ≤ longest → checked l ≡ before (firstUnknown l) (judged start (entries l))
+  pub short-is : length l ≤ longest → checked l ≡ before (firstUnknown l) (judged start (entries l))
   unfolding checked
   short-is h = rw (le-ltb longest (length l) h)
 
@@ -136,10 +136,10 @@ module _ (l : List ℕ) where
           (h, known (firstUnknown l) (judged start (entries l)) place (only-calls start (entries l)) (sym (short-is h) ∙ e))
 
   -- the entries from the place i on
-  abbrev from : ℕ → Finding
+  abbrev pub from : ℕ → Finding
   from i = unknownFrom i (entries (drop i l))
 
-  from-step : (i : ℕ) {e : Entry} → entryIn (drop i l) ≡ e → from i ≡ unknownFrom i (entriesBy entries e (drop i l))
+  pub from-step : (i : ℕ) {e : Entry} → entryIn (drop i l) ≡ e → from i ≡ unknownFrom i (entriesBy entries e (drop i l))
   from-step i f = ap (unknownFrom i) (entries-step (drop i l) ∙ ap (λ x. entriesBy entries x (drop i l)) f)
 
   -- behind a whole entry of n bytes
@@ -148,11 +148,11 @@ module _ (l : List ℕ) where
   from-next i n h =
       ap₂ (λ x y. unknownFrom (i + x) (entries y)) (length-take-le n (drop i l) h) (drop-drop n i l)
 
-  from-call : (i n : ℕ) → entryIn (drop i l) ≡ Made n → from i ≡ from (i + n)
+  pub from-call : (i n : ℕ) → entryIn (drop i l) ≡ Made n → from i ≡ from (i + n)
   unfolding entriesBy unknownFrom
   from-call i n e = let b : Begins (drop i l) (Made n) = begins-as (drop i l) e in from-step i e ∙ from-next i n (b .0 .there)
 
-  from-record : (i n : ℕ) → entryIn (drop i l) ≡ Wrote n → from i ≡ from (i + n)
+  pub from-record : (i n : ℕ) → entryIn (drop i l) ≡ Wrote n → from i ≡ from (i + n)
   unfolding entriesBy unknownFrom
   from-record i n e = let b : Begins (drop i l) (Wrote n) = begins-as (drop i l) e in from-step i e ∙ from-next i n (b .0 .there)
 
