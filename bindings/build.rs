@@ -1,7 +1,8 @@
-//! Links the archive that `rt staticlib door` made. SPLICER_LIB names its folder; without it, the
-//! repository's own `target/staticlib` is taken.
+//! Links the archive that `rt staticlib door` made, and for the feature `bench` that of
+//! `rt staticlib bench`. SPLICER_LIB names their folder; without it, the repository's own
+//! `target/staticlib` is taken.
 
-use std::path::PathBuf;
+use std::path::{Path, PathBuf};
 
 fn main() {
     println!("cargo:rerun-if-env-changed=SPLICER_LIB");
@@ -9,11 +10,18 @@ fn main() {
         Some(folder) => PathBuf::from(folder),
         None => PathBuf::from(env!("CARGO_MANIFEST_DIR")).join("../target/staticlib"),
     };
-    let archive = folder.join("libdoor.a");
+    println!("cargo:rustc-link-search=native={}", folder.display());
+    link(&folder, "door");
+    if std::env::var_os("CARGO_FEATURE_BENCH").is_some() {
+        link(&folder, "bench");
+    }
+}
+
+fn link(folder: &Path, name: &str) {
+    let archive = folder.join(format!("lib{name}.a"));
     if !archive.is_file() {
-        panic!("{} is missing: rt staticlib door", archive.display());
+        panic!("{} is missing: rt staticlib {name}", archive.display());
     }
     println!("cargo:rerun-if-changed={}", archive.display());
-    println!("cargo:rustc-link-search=native={}", folder.display());
-    println!("cargo:rustc-link-lib=static=door");
+    println!("cargo:rustc-link-lib=static={name}");
 }

@@ -63,6 +63,8 @@ over_archive() {
     fi
     ran archive proving "$work/rt.log" staticlib door || return 0
     ran bindings cargo test --release --offline --target $target --manifest-path bindings/Cargo.toml || :
+    ran archive-of-the-bench proving "$work/rt.log" staticlib bench || return 0
+    ran bindings-with-bench cargo test --release --offline --target $target --manifest-path bindings/Cargo.toml --features bench --test bench || :
     ran compared cargo run --release --offline --target $target --manifest-path model/beside/Cargo.toml -- "$@" || :
 }
 

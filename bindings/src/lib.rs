@@ -15,6 +15,8 @@
 #![no_std]
 #![warn(missing_docs)]
 
+#[cfg(feature = "bench")]
+pub mod bench;
 mod door;
 pub mod recorder;
 mod records;

@@ -1,0 +1,57 @@
+//! The checker of bench recordings (document 02, CR 14): `include/splicer_bench.h` as a safe
+//! interface. With the feature `bench` only, which links a second archive.
+
+/// The longest recording that is read.
+pub const RECORDING: usize = 65536;
+
+/// Words of the archive's reply: the house number or 0, 1 if a call differs, and its number or the
+/// place of an unknown mark.
+const REPLY: usize = 3;
+
+/// What is found in a recording.
+#[derive(Clone, Copy, Debug, PartialEq, Eq, Hash)]
+pub enum Finding {
+    /// 15: it is longer than [`RECORDING`].
+    Longer,
+    /// 14: an unknown mark, at this place, counted from 0.
+    Unknown(usize),
+    /// The first call whose records are not those that the rules give, counted from 1; records before
+    /// any call are call 0's.
+    Differs(usize),
+    /// There is none.
+    None,
+}
+
+impl Finding {
+    /// Its house number, or 0.
+    pub fn house_number(self) -> u32 {
+        match self {
+            Finding::Longer => 15,
+            Finding::Unknown(_) => 14,
+            Finding::Differs(_) | Finding::None => 0,
+        }
+    }
+}
+
+extern "C" {
+    #[link_name = "splicer_bench_1_check"]
+    fn check_recording(recording: *const u8, length: usize, reply: *mut u64);
+}
+
+/// Checks a recording of any splicer from fresh on, with the name "CH1" and buffers of 4,096 bytes.
+/// The recording is only read.
+pub fn check(recording: &[u8]) -> Finding {
+    let mut reply = [0; REPLY];
+    // SAFETY: a slice lives through the call and is `recording.len()` bytes long; the reply has the
+    // words that the header says, and overlaps nothing.
+    unsafe { check_recording(recording.as_ptr(), recording.len(), reply.as_mut_ptr()) };
+    // A length is 8 bytes: lib.rs asserts it.
+    match reply {
+        [15, _, _] => Finding::Longer,
+        [14, _, at] => Finding::Unknown(at as usize),
+        [0, 1, number] => Finding::Differs(number as usize),
+        [0, 0, _] => Finding::None,
+        // The archive gives no other words; another archive is better noticed here.
+        _ => panic!("a finding"),
+    }
+}
