@@ -74,9 +74,9 @@ desk() {
 gathered() {
     mkdir -p bin include lib/pkgconfig share/man/man1 share/splicer/rust share/doc/splicer/docs
     cp "$source"/include/*.h include/
-    cp "$source/target/staticlib/libdoor.a" lib/
+    cp "$source/target/staticlib/libdoor.a" "$source/target/staticlib/libbench.a" lib/
     pc >lib/pkgconfig/splicer.pc
-    cp "$source/target/bin/card" "$source/target/desk/release/desk" bin/
+    cp "$source/target/bin/card" "$source/target/bin/checker" "$source/target/desk/release/desk" bin/
     cp "$source/desk/desk.1" share/man/man1/
     cp -R "$source/examples" "$source/wireshark" share/splicer/
     for part in Cargo.toml Cargo.lock build.rs src; do cp -R "$source/bindings/$part" share/splicer/rust/; done
@@ -99,7 +99,8 @@ built() {
     (
         cd "$source"
         proving "$1/archive.log" staticlib door
-        proving "$1/card.log" check card
+        proving "$1/bench.log" staticlib bench
+        proving "$1/card.log" check card checker
         echo 'building desk'
         desk
     )

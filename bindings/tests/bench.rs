@@ -18,18 +18,29 @@ fn line(found: Finding) -> String {
     }
 }
 
-#[test]
-fn findings_by_hand() {
-    let folder = Path::new(env!("CARGO_MANIFEST_DIR")).join("../examples/recordings");
-    let findings = fs::read_to_string(folder.join("findings")).unwrap();
-    let mut seen = 0;
-    for row in findings.lines() {
+/// Each row of a list is a file of its folder and the line that is wanted of it. Gives how many.
+fn held_to(folder: &Path, list: &str) -> usize {
+    let rows = fs::read_to_string(folder.join(list)).unwrap();
+    for row in rows.lines() {
         let (file, wanted) = row.split_once(' ').unwrap();
         let recording = fs::read(folder.join(file)).unwrap();
         assert_eq!(line(check(&recording)), wanted, "{file}");
-        seen += 1;
     }
-    assert!(seen > 20);
+    rows.lines().count()
+}
+
+#[test]
+fn findings_by_hand() {
+    let folder = Path::new(env!("CARGO_MANIFEST_DIR")).join("../examples/recordings");
+    assert!(held_to(&folder, "findings") > 20);
+}
+
+/// Of a folder that the second program wrote (`model recordings --out`), if SPLICER_RECORDINGS names one.
+#[test]
+fn findings_of_the_second_program() {
+    if let Some(folder) = std::env::var_os("SPLICER_RECORDINGS") {
+        assert!(held_to(Path::new(&folder), "lines.txt") > 100);
+    }
 }
 
 #[test]

@@ -1,11 +1,10 @@
 -- What is found is what the definition finds in the whole input.
 -- Rests on recording's law of a longer recording.
-use mathlib.Core.Path.{_≡_, refl, sym, ap, _∙_}
+use mathlib.Core.Path.{_≡_, refl, sym, ap}
 use mathlib.Core.Bool.{true, false}
 use mathlib.Core.List.{List, [], _∷_, _++_, append-nil}
-use Prim.Native.Nat.{ℕ, _≤_}
+use Prim.Native.Nat.{ℕ}
 use native.Mathlib.Omega.{arith}
-use lib.Dec.{ltb}
 use lib.ListN.{length, length-append}
 use Rattle.recording.specs.Recording.{longest, checked}
 use Rattle.recording.proofs.Refusing.{long-is}

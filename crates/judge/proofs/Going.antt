@@ -1,13 +1,12 @@
 -- One entry gone through: the judgement of the rest is that of the whole.
 -- Rests on recording's laws of entries, and on feed's promise: what is played stands at the start of the buffer.
-use mathlib.Core.Path.{_≡_, refl, sym, subst, ap, ap₂, _∙_}
+use mathlib.Core.Path.{_≡_, refl, sym, ap, ap₂, _∙_}
 use mathlib.Core.Bool.{Bool, true, false, cond}
-use mathlib.Core.List.{List, [], _∷_, _++_}
-use Prim.Native.Nat.{ℕ, suc, _+_, _-_, _^_, _≤_, _<_}
+use mathlib.Core.List.{List}
+use Prim.Native.Nat.{ℕ, suc, _+_, _-_, _≤_, _<_}
 use native.Mathlib.Numerals.{add-one}
 use native.Mathlib.Omega.{arith}
-use lib.Dec.{eqb}
-use lib.ListN.{length, take, drop, length-append, length-take, length-drop}
+use lib.ListN.{length, take, drop, length-append, length-drop}
 use lib.Seq.{length-take-le, take-at, take-add, drop-at, drop-drop}
 use borrow.Author.Tests.{ltb-true, ltb-false, eq-eqb, ne-eqb}
 use Rattle.rules.specs.Bytes.{written}
@@ -21,7 +20,6 @@ use Rattle.feed.specs.Feed.{recordIn, usedBy, isCut}
 use Rattle.feed.specs.Play.{stepBy, stepOf, Plays}
 use Rattle.recording.specs.declared.Entry.{Entry}
 use Rattle.recording.specs.declared.Entry.the-variants.{Made, Wrote, Cut, Another, End}
-use Rattle.recording.specs.declared.Finding.{Finding}
 use Rattle.recording.specs.declared.Finding.the-variants.{Differs, None}
 use Rattle.recording.specs.Recording.{entryIn, entriesBy, entries, Bench, called, calledBy, taken, begins, isNothing, judged}
 use Rattle.recording.proofs.Entries.{Begins, begins-as, span-two, entries-step}

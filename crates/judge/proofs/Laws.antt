@@ -1,6 +1,6 @@
 -- An entry from its mark and the bytes that it asks for, as the code reads them.
 -- Rests on recording's laws of entries: each kind from its mark.
-use mathlib.Core.Path.{_≡_, refl, sym, ap, _∙_}
+use mathlib.Core.Path.{_≡_, sym, ap, _∙_}
 use mathlib.Core.Bool.{true, false, cond}
 use mathlib.Core.List.{List}
 use Prim.Native.Nat.{ℕ, _≤_, _<_}

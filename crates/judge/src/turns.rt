@@ -7,7 +7,6 @@ use recording::Finding;
 ghost use mathlib.Core.Path.{_≡_};
 ghost use mathlib.Core.List.{List, []};
 ghost use Prim.Native.Nat.{ℕ};
-ghost use Rattle.memory.specs.Memory.{shown};
 ghost use Rattle.engine.specs.Lent.{Lent};
 ghost use Rattle.recording.specs.declared.Entry.the-variants.{Made, Wrote};
 ghost use Rattle.recording.specs.Recording.{entryIn, entries, begins, judged};
