@@ -1,7 +1,9 @@
 //! The independent second program of the splicer core. See `model help`.
 
 use model::faults::Fault;
-use model::{asrun, card, cases, fuzz, option, people, pieces, scenario};
+use model::{
+    asrun, card, cases, check, fuzz, option, people, pieces, recording, recordings, scenario,
+};
 use std::io::{Read, Write};
 
 const HELP: &str = "\
@@ -17,6 +19,13 @@ model pieces --seed S --n N --card CMD       N generated streams through the car
 model faults --seed S --n N                  shows that each deliberate fault is noticed
 model decode IN OUT                          a recording's calls and answers as lines
 model asrun IN OUT                           a recording's as-run list and timeline
+model check FILE                             02's checker (CR 14): the first call of a recording (or of a
+                                             scenario, FILE.txt) whose records are not the due ones
+model record FILE                            card input, or a scenario's calls and records, as a recording
+model recordings --seed S --n N [--checker CMD] [--out DIR] [--table] [--floors off] [FILE...]
+                                             recordings of N streams, whole and damaged, and of scenario files,
+                                             through both checkers; written with their lines into DIR
+model recordings --seed S --n N --faults     shows that each deliberate mistake of a checker is noticed
 ";
 
 fn main() {
@@ -45,6 +54,9 @@ fn command(args: &[String]) -> Result<bool, String> {
         "faults" => run_faults(rest),
         "decode" => run_recording(rest, people::decode),
         "asrun" => run_recording(rest, asrun::as_run),
+        "check" => run_check(rest),
+        "record" => run_record(rest),
+        "recordings" => run_recordings(rest),
         "help" | "--help" => {
             print!("{HELP}");
             Ok(true)
@@ -115,6 +127,63 @@ fn run_recording(
     let (text, same) = tell(&read(input)?, &read(output)?);
     write_out(text.as_bytes())?;
     Ok(same)
+}
+
+/// A file's bytes and, of a scenario, its steps.
+fn read_either(args: &[String]) -> Result<(Vec<u8>, Option<Vec<scenario::Step>>), String> {
+    let [path] = args else {
+        return Err("one file is needed".to_string());
+    };
+    let bytes = std::fs::read(path).map_err(|e| format!("{path}: {e}"))?;
+    if !path.ends_with(".txt") {
+        return Ok((bytes, None));
+    }
+    let text = String::from_utf8(bytes).map_err(|e| format!("{path}: {e}"))?;
+    let steps = scenario::parse(&text).map_err(|e| format!("{path}: {e}"))?;
+    Ok((Vec::new(), Some(steps)))
+}
+
+fn run_check(args: &[String]) -> Result<bool, String> {
+    let (text, none) = match read_either(args)? {
+        (_, Some(steps)) => check::told(&recording::of_steps(&steps)),
+        (bytes, None) => check::told(&bytes),
+    };
+    write_out(text.as_bytes())?;
+    Ok(none)
+}
+
+fn run_record(args: &[String]) -> Result<bool, String> {
+    write_out(&match read_either(args)? {
+        (_, Some(steps)) => recording::of_steps(&steps),
+        (bytes, None) => recording::recorded(&bytes),
+    })
+}
+
+/// Whether the arguments have this word; it is taken out.
+fn flag(args: &mut Vec<String>, word: &str) -> bool {
+    let place = args.iter().position(|a| a == word);
+    place.map(|at| args.remove(at)).is_some()
+}
+
+fn run_recordings(args: &[String]) -> Result<bool, String> {
+    let mut args = args.to_vec();
+    let faults = flag(&mut args, "--faults");
+    let plan = recordings::Plan {
+        seed: required(&mut args, "--seed")?,
+        n: required(&mut args, "--n")?,
+        checker: option(&mut args, "--checker")?,
+        out: option(&mut args, "--out")?,
+        table: flag(&mut args, "--table"),
+        floors: option(&mut args, "--floors")?.as_deref() != Some("off"),
+        files: args,
+    };
+    if let Some(word) = plan.files.iter().find(|word| word.starts_with("--")) {
+        return Err(format!("unknown word {word}"));
+    }
+    if faults {
+        return recordings::faults(plan.seed, plan.n);
+    }
+    recordings::recordings(&plan)
 }
 
 fn required(args: &mut Vec<String>, name: &str) -> Result<u64, String> {
