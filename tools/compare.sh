@@ -28,6 +28,14 @@ else
     ran fuzz "$model" fuzz --seed 280 --n 200 || :
 fi
 
+# recordings whole, cut and damaged (02, CR 14): the second program's checker, and the checker program once it is linked
+if [ -x target/bin/checker ]; then
+    ran recordings "$model" recordings --seed 280 --n 40 --checker "sh tools/run-program.sh target/bin/checker" "$@" || :
+else
+    ran recordings "$model" recordings --seed 280 --n 40 "$@" || :
+fi
+ran mistakes "$model" recordings --seed 280 --n 10 --faults || :
+
 # the definitions themselves, on three streams
 ran definitions sh tools/definitions.sh 280 3 || :
 

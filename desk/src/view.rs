@@ -108,6 +108,7 @@ mod tests {
     use super::*;
     use crate::recording::Recording;
     use crate::{asrun, list, page, timeline};
+    use model::check::{check, Finding};
     use model::{card, faults::Fault, gen};
 
     /// A generated stream of calls as a recording.
@@ -168,6 +169,25 @@ mod tests {
                 "{to}"
             );
         }
+    }
+
+    /// The first break is what the second program's checker finds.
+    #[test]
+    fn the_first_break_is_the_finding() {
+        let (mut broken, mut good) = (0, 0);
+        for made in (1..4).flat_map(|index| model::recordings::of_stream(29, index)) {
+            let Some(held) = held(&made.bytes) else {
+                continue;
+            };
+            let found = match held.broken.first() {
+                Some(call) => Finding::Call(*call),
+                None => Finding::None,
+            };
+            assert_eq!(found, check(&made.bytes), "{}", made.kind);
+            broken += usize::from(!held.broken.is_empty());
+            good += usize::from(held.broken.is_empty());
+        }
+        assert!(broken > 30 && good > 10, "{broken} broken, {good} good");
     }
 
     /// A deliberate fault is noticed, and the records of the two files find their calls.

@@ -22,6 +22,28 @@ fn the_recording_is_that_of_its_text() {
     }
 }
 
+/// The example day, with the end of the spot whose server was lost under a SessionID of the other server.
+#[test]
+fn the_example_day_with_a_wrong_end_is_named_by_its_call() {
+    let day = std::fs::read_to_string(recording("../../model/scenarios/example-day.txt")).unwrap();
+    let own = "< 0 SpliceComplete_Response 116 id=501 flag=1";
+    assert_eq!(day.matches(own).count(), 1);
+    let text = scratch(
+        "wrong-end.txt",
+        day.replace(own, &own.replace("501", "9002")).as_bytes(),
+    );
+    let made = desk(&["join", "--text", &text], b"");
+    let path = recording("example-day-wrong-end.rec");
+    let kept = std::fs::read(&path).unwrap();
+    assert!(made.out == kept, "desk join --text on the changed day");
+    let found = model::check::check(&kept);
+    assert_eq!(found.line(), "call 45");
+    let ran = desk(&["check", "--raw", &path], b"");
+    assert_eq!(ran.status, 1);
+    let verdict = "87 calls, 1 call breaks the rules, first call 45 (byte 1893)\n";
+    assert!(ran.text().ends_with(verdict), "{}", ran.text());
+}
+
 #[test]
 fn the_false_end_is_listed_and_marked_where_it_stands() {
     let ran = desk(&["list", "--raw", &recording("incident.rec")], b"");

@@ -307,6 +307,7 @@ fn line_of(bytes: &[u8]) -> String {
     lines.join(" ")
 }
 
+/// The call, and its records: `=` the same, `|` another, `<` missing, `>` not due.
 fn aside_text(number: usize, judged: &Judged) -> String {
     let call = match judged.call.map(card::next_call) {
         Some(Ok((call, _))) => call_line(&call),
@@ -319,11 +320,18 @@ fn aside_text(number: usize, judged: &Judged) -> String {
     );
     let due: Vec<&[u8]> = judged.due.iter().map(|d| &d[..]).collect();
     let mut rows = vec![("due".to_string(), "", "found".to_string())];
-    for step in aside(&due, &judged.found) {
-        rows.push(match step {
-            Step::Same { due: d, found: f } => (line_of(due[d]), "=", line_of(judged.found[f])),
-            Step::Missing { due: d } => (line_of(due[d]), "<", String::new()),
-            Step::Extra { found: f } => (String::new(), ">", line_of(judged.found[f])),
+    let mut steps = aside(&due, &judged.found).into_iter().peekable();
+    while let Some(step) = steps.next() {
+        rows.push(match (step, steps.peek().copied()) {
+            (Step::Same { due: d, found: f }, _) => {
+                (line_of(due[d]), "=", line_of(judged.found[f]))
+            }
+            (Step::Missing { due: d }, Some(Step::Extra { found: f })) => {
+                steps.next();
+                (line_of(due[d]), "|", line_of(judged.found[f]))
+            }
+            (Step::Missing { due: d }, _) => (line_of(due[d]), "<", String::new()),
+            (Step::Extra { found: f }, _) => (String::new(), ">", line_of(judged.found[f])),
         });
     }
     let width = rows.iter().map(|(due, ..)| due.len()).max().unwrap_or(0);
@@ -498,9 +506,9 @@ mod tests {
         assert!(lines[2].trim().starts_with("due"), "{text}");
         assert!(lines[2].ends_with("found"), "{text}");
         let due = "0 SpliceComplete_Response 100 (Successful Response) id=1 flag=1 bitrate=0 played=90000";
-        assert!(lines[3].trim_start().starts_with(due) && lines[3].ends_with('<'));
-        assert!(lines[4].ends_with(&due.replace("id=1", "id=2")), "{text}");
-        assert!(lines[5].contains(" = "), "{text}");
+        let row = format!("  {due}  |  {}", due.replace("id=1", "id=2"));
+        assert_eq!(lines[3], row);
+        assert!(lines[4].contains("  =  "), "{text}");
     }
 
     #[test]
