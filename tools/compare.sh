@@ -30,9 +30,9 @@ fi
 
 # recordings whole, cut and damaged (02, CR 14): the second program's checker, and the checker program once it is linked
 if [ -x target/bin/checker ]; then
-    ran recordings "$model" recordings --seed 280 --n 40 --checker "sh tools/run-program.sh target/bin/checker" "$@" || :
+    ran recordings "$model" recordings --seed 280 --n 20 --checker "sh tools/run-program.sh target/bin/checker" "$@" || :
 else
-    ran recordings "$model" recordings --seed 280 --n 40 "$@" || :
+    ran recordings "$model" recordings --seed 280 --n 20 "$@" || :
 fi
 ran mistakes "$model" recordings --seed 280 --n 10 --faults || :
 

@@ -26,68 +26,68 @@ pub struct Made {
 
 type Kind = fn(&mut Rng, &[Turn]) -> Option<(Vec<u8>, Option<Finding>)>;
 
-/// Each kind of damage, its floor for 40 streams, and how it is done.
+/// Each kind of damage, its floor for 20 streams, and how it is done.
 const KINDS: &[(&str, u64, Kind)] = &[
-    ("whole", 40, whole),
-    ("cut", 30, cut),
-    ("cut between two due records", 20, cut_between),
-    ("byte of a record changed", 30, byte_changed),
-    ("record's connection changed", 30, connection_changed),
-    ("record's MessageSize changed", 20, size_changed),
-    ("record dropped", 30, dropped),
-    ("record doubled", 30, doubled),
-    ("records exchanged", 15, exchanged),
-    ("record moved to the call before", 20, moved_before),
-    ("record moved to the call behind", 20, moved_behind),
-    ("wrong house number", 3, house_number),
-    ("refusal where records are due", 20, refused_instead),
-    ("refusal where nothing is due", 20, refused_idle),
-    ("record where a refusal is due", 3, record_instead),
-    ("call dropped, its records left", 20, call_dropped),
-    ("call and its records dropped", 30, turn_dropped),
-    ("call doubled", 30, call_doubled),
-    ("records before the first call", 30, before_any),
-    ("unknown mark at the start", 30, mark_at_start),
-    ("unknown mark between entries", 30, mark_between),
-    ("unknown mark behind a wrong record", 30, mark_behind_wrong),
-    ("unknown mark as the last byte", 30, mark_last),
-    ("unknown byte inside a cut entry", 30, mark_in_cut),
-    ("oversize call and others behind it", 30, oversize_call),
-    ("oversize call, wrongly answered", 30, oversize_wrong),
-    ("oversize record", 30, oversize_record),
-    ("oversize record, its bytes behind it", 30, oversize_bytes),
-    ("two damages", 20, twice),
-    ("cut behind a wrong record", 30, cut_behind_wrong),
-    ("cut call behind missing records", 20, cut_call),
-    ("record dropped, a later entry cut", 30, dropped_and_cut),
-    ("entries of drawn bytes", 30, drawn),
+    ("whole", 20, whole),
+    ("cut", 15, cut),
+    ("cut between two due records", 10, cut_between),
+    ("byte of a record changed", 15, byte_changed),
+    ("record's connection changed", 15, connection_changed),
+    ("record's MessageSize changed", 10, size_changed),
+    ("record dropped", 15, dropped),
+    ("record doubled", 15, doubled),
+    ("records exchanged", 7, exchanged),
+    ("record moved to the call before", 10, moved_before),
+    ("record moved to the call behind", 10, moved_behind),
+    ("wrong house number", 15, house_number),
+    ("refusal where records are due", 10, refused_instead),
+    ("refusal where nothing is due", 10, refused_idle),
+    ("record where a refusal is due", 15, record_instead),
+    ("call dropped, its records left", 10, call_dropped),
+    ("call and its records dropped", 15, turn_dropped),
+    ("call doubled", 15, call_doubled),
+    ("records before the first call", 15, before_any),
+    ("unknown mark at the start", 15, mark_at_start),
+    ("unknown mark between entries", 15, mark_between),
+    ("unknown mark behind a wrong record", 15, mark_behind_wrong),
+    ("unknown mark as the last byte", 15, mark_last),
+    ("unknown byte inside a cut entry", 15, mark_in_cut),
+    ("oversize call and others behind it", 15, oversize_call),
+    ("oversize call, wrongly answered", 15, oversize_wrong),
+    ("oversize record", 15, oversize_record),
+    ("oversize record, its bytes behind it", 15, oversize_bytes),
+    ("two damages", 10, twice),
+    ("cut behind a wrong record", 15, cut_behind_wrong),
+    ("cut call behind missing records", 10, cut_call),
+    ("record dropped, a later entry cut", 15, dropped_and_cut),
+    ("entries of drawn bytes", 15, drawn),
 ];
 
-/// What was found in all of them, with floors for 40 streams.
+/// What was found in all of them, with floors for 20 streams.
 const OUTCOMES: &[(&str, u64)] = &[
     ("every byte of a recording as its end", 500),
-    ("length 65,535", 4),
-    ("length 65,536", 4),
-    ("length 65,537", 4),
-    ("32,768 calls", 2),
-    ("found none", 200),
-    ("found none, cut in a call", 50),
-    ("found none, cut in a record", 50),
-    ("found none, cut, with due records missing", 20),
-    ("found call 0", 20),
-    ("found the first call", 5),
-    ("found the last call", 20),
-    ("found the last call though cut", 10),
-    ("found a call before the last, cut", 20),
-    ("found a call between", 200),
-    ("found a call behind an oversize one", 4),
-    ("found a call that is refused", 10),
-    ("found call above 255", 10),
-    ("refused 14 at 0", 30),
-    ("refused 14 at the last byte", 30),
-    ("refused 14 behind a finding", 30),
-    ("refused 14", 10),
-    ("refused 15", 4),
+    ("length 65,535", 2),
+    ("length 65,536", 2),
+    ("length 65,537", 2),
+    ("32,768 calls", 1),
+    ("found none", 100),
+    ("found none, cut in a call", 25),
+    ("found none, cut in a record", 25),
+    ("found none, cut, with due records missing", 10),
+    ("found call 0", 10),
+    ("found the first call", 2),
+    ("found the last call", 10),
+    ("found the last call though cut", 5),
+    ("found a call before the last, cut", 10),
+    ("found a call between", 100),
+    ("found a call behind an oversize one", 2),
+    ("found a call that is refused", 5),
+    ("found call above 255", 5),
+    ("refused 14 at 0", 15),
+    ("refused 14 at the last byte", 15),
+    ("refused 14 behind a finding", 15),
+    ("refused 14", 5),
+    ("refused 15", 2),
 ];
 
 /// "It reads up to 65,536 bytes": the bytes of these calls and records.
@@ -241,12 +241,27 @@ fn moved_behind(rng: &mut Rng, turns: &[Turn]) -> Option<(Vec<u8>, Option<Findin
     Some((bytes_of(&turns), Some(Finding::Call(at + 1))))
 }
 
+/// A refused call of these, or one put among them, and its place.
+fn with_refused(rng: &mut Rng, turns: &[Turn]) -> (Vec<Turn>, usize) {
+    if let Some(at) = place(rng, turns, refused) {
+        return (turns.to_vec(), at);
+    }
+    let tick = vec![0x54, 0, 0xFF, 0xFF, 0xFF, 0xFF, 0, 0x0F, 0x42, 0x40];
+    let calls = [(vec![0x4F, 9], 1), (vec![0x43, 255], 1), (tick, 8)];
+    let (call, number) = rng.pick(&calls);
+    let mut turns = turns.to_vec();
+    let at = rng.below(turns.len() as u64 + 1) as usize;
+    let records = vec![vec![0x45, number]];
+    turns.insert(at, Turn { call, records });
+    (turns, at)
+}
+
 fn house_number(rng: &mut Rng, turns: &[Turn]) -> Option<(Vec<u8>, Option<Finding>)> {
-    let at = place(rng, turns, refused)?;
+    let (turns, at) = with_refused(rng, turns);
     let number = turns[at].records[0][1];
     let other = rng.pick(&[1, 2, 3, 4, 5, 6, 7, 8, 9, 12, 0, 255]);
     let other = if other == number { number + 1 } else { other };
-    with(turns, at, vec![vec![0x45, other]])
+    with(&turns, at, vec![vec![0x45, other]])
 }
 
 fn refused_instead(rng: &mut Rng, turns: &[Turn]) -> Option<(Vec<u8>, Option<Finding>)> {
@@ -260,9 +275,9 @@ fn refused_idle(rng: &mut Rng, turns: &[Turn]) -> Option<(Vec<u8>, Option<Findin
 }
 
 fn record_instead(rng: &mut Rng, turns: &[Turn]) -> Option<(Vec<u8>, Option<Finding>)> {
-    let at = place(rng, turns, refused)?;
+    let (turns, at) = with_refused(rng, turns);
     let general = vec![0x52, 0, 0, 0, 0, 0, 0, 123, 0xFF, 0xFF];
-    with(turns, at, vec![general])
+    with(&turns, at, vec![general])
 }
 
 fn call_dropped(rng: &mut Rng, turns: &[Turn]) -> Option<(Vec<u8>, Option<Finding>)> {
@@ -575,7 +590,7 @@ pub fn of_stream(seed: u64, index: u64) -> Vec<Made> {
         }
     }
     if index.is_multiple_of(16) {
-        list.extend(every_end(&base(seed, index, 20, 600)));
+        list.extend(every_end(&short_day(&mut rng)));
     }
     if index.is_multiple_of(8) {
         list.extend(longest(
@@ -583,7 +598,7 @@ pub fn of_stream(seed: u64, index: u64) -> Vec<Made> {
             &base(seed, index, usize::MAX, LONGEST - 40),
         ));
     }
-    if index.is_multiple_of(20) {
+    if index.is_multiple_of(12) {
         let bytes = [0x4F, rng.below(5) as u8].repeat(LONGEST / 2);
         let first = [2, 1][usize::from(bytes[1] > 3)];
         let kind = "32,768 calls";
@@ -591,6 +606,22 @@ pub fn of_stream(seed: u64, index: u64) -> Vec<Made> {
         list.push(Made { kind, bytes, known });
     }
     list
+}
+
+/// A short day with answers of several records, an end of the one on air, and refusals.
+fn short_day(rng: &mut Rng) -> Vec<Turn> {
+    let (conn, time) = (rng.below(4), rng.below(1_000_000));
+    let end = rng.pick(&["abort C id=7", "close C"]).to_string();
+    let text = format!(
+        "> open C\n> init C extra=\n> tick {time}\n> splice C id=7 at={} duration=9000\n\
+         > splice C id=8 prior=7 duration=9000\n> splice C id=9 prior=8 duration=1\n\
+         > tick {}\n> {end}\n> alive C\n> open C\n> tick 0\n",
+        time + 3,
+        time + 3
+    );
+    let text = text.replace(" C", &format!(" {conn}"));
+    let steps = scenario::parse(&text).unwrap_or_default();
+    turns_of(&recorded(&scenario::input_of(&steps))).unwrap_or_default()
 }
 
 /// Cut at every byte. At the front of a record that is due behind it, nothing is cut and it is missing.
