@@ -4,6 +4,7 @@
 mod acts;
 mod books;
 mod calls;
+mod checked;
 mod pair;
 mod run;
 mod wrong;
@@ -16,6 +17,7 @@ use wrong::Wrong;
 
 const HELP: &str = "\
 beside [--seed S] [--n N] [--first I] [--threads T]   N streams through both, then every fault
+       [--recordings R]                               and recordings of R streams through both checkers
 beside --fault NAME [--seed S]                        one deliberate fault, by its name
 ";
 
@@ -90,6 +92,7 @@ fn command(mut args: Vec<String>) -> Result<bool, String> {
         n: number(&mut args, "--n", 760)?,
         threads: number(&mut args, "--threads", 2)?.max(1),
     };
+    let recordings = number(&mut args, "--recordings", 40)?;
     if let Some(word) = args.first() {
         return Err(format!("unknown word {word}"));
     }
@@ -102,7 +105,11 @@ fn command(mut args: Vec<String>) -> Result<bool, String> {
             let wrong = wrong::named(&name).ok_or(format!("no fault {name}"))?;
             vec![noticed(&plan, &list, wrong)]
         }
-        None => everything(&plan, &list),
+        None => {
+            let mut results = everything(&plan, &list);
+            results.extend(checked::everything(plan.seed, recordings));
+            results
+        }
     };
     let passed = results.iter().filter(|good| **good).count();
     let failed = results.len() - passed;
