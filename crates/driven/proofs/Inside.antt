@@ -7,7 +7,7 @@ use Prim.Native.Nat.{ℕ}
 use lib.Dec.{eqb}
 use lib.ListN.{take}
 use Rattle.rules.specs.declared.Refusal.{Refusal}
-use Rattle.rules.specs.declared.Refusal.the-variants.{NoConnection, NoRoom, ClockBack, Oversize, Short, AlreadyOpen, NotOpen, BadMicros, BadName}
+use Rattle.rules.specs.declared.Refusal.the-variants.{NoConnection, NoRoom, ClockBack, Oversize, Short, AlreadyOpen, NotOpen, BadMicros, BadName, Counter}
 use Rattle.rules.specs.Calls as rules
 use Rattle.rules.specs.Calls.{refused, good, Called, call, houseNumber, consumedBy, writtenBy}
 use Rattle.demands.specs.Told.{numberOf}
@@ -34,6 +34,7 @@ refusal-read AlreadyOpen = (refl, refl)
 refusal-read NotOpen = (refl, refl)
 refusal-read BadMicros = (refl, refl)
 refusal-read BadName = (refl, refl)
+refusal-read Counter = (refl, refl)
 
 -- of a reply that the door gives, C reads what the engine's answer has
 number-told : (a : Answer) → numberIn (replyOf a) ≡ engine.numberIn a

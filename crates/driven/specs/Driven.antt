@@ -7,7 +7,7 @@ use Prim.Native.Nat.{ℕ}
 use lib.Dec.{eqb}
 use lib.ListN.{length, getD, take}
 use Rattle.rules.specs.declared.Refusal.{Refusal}
-use Rattle.rules.specs.declared.Refusal.the-variants.{NoConnection, NoRoom, ClockBack, Oversize, Short, AlreadyOpen, NotOpen, BadMicros, BadName}
+use Rattle.rules.specs.declared.Refusal.the-variants.{NoConnection, NoRoom, ClockBack, Oversize, Short, AlreadyOpen, NotOpen, BadMicros, BadName, Counter}
 use Rattle.rules.specs.Lists.{All}
 use Rattle.rules.specs.Bytes.{Byte}
 use Rattle.rules.specs.Calls as rules
@@ -89,7 +89,7 @@ bytesOf r = take (writtenIn (r .reply)) (r .buffer)
 
 -- the refusal that a number stands for, by the table of house numbers
 abbrev pub refusals : List Refusal
-refusals = NoConnection ∷ NoRoom ∷ ClockBack ∷ Oversize ∷ Short ∷ AlreadyOpen ∷ NotOpen ∷ BadMicros ∷ BadName ∷ []
+refusals = NoConnection ∷ NoRoom ∷ ClockBack ∷ Oversize ∷ Short ∷ AlreadyOpen ∷ NotOpen ∷ BadMicros ∷ BadName ∷ Counter ∷ []
 
 unfoldable pub refusalAmong : List Refusal → ℕ → Refusal
 refusalAmong [] n = BadName

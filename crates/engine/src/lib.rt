@@ -41,6 +41,7 @@ pub fn house_number(n: Refusal) -> u8
         Refusal::NotOpen => 7,
         Refusal::BadMicros => 8,
         Refusal::BadName => 9,
+        Refusal::Counter => 12,
     }
 }
 

@@ -6,7 +6,7 @@ use lib.Dec.{ltb}
 use lib.ListN.{length}
 use Rattle.rules.specs.declared.Link.the-variants.{Closed, Opened}
 use Rattle.rules.specs.declared.Refusal.{Refusal}
-use Rattle.rules.specs.declared.Refusal.the-variants.{NoConnection, NoRoom, ClockBack, Oversize, Short, AlreadyOpen, NotOpen, BadMicros, BadName}
+use Rattle.rules.specs.declared.Refusal.the-variants.{NoConnection, NoRoom, ClockBack, Oversize, Short, AlreadyOpen, NotOpen, BadMicros, BadName, Counter}
 use Rattle.rules.specs.declared.Framing.{Framing}
 use Rattle.rules.specs.declared.Framing.the-variants.{Framed, Unframed}
 use Rattle.rules.specs.Units.{timeOf, badMicros, fromMicros}
@@ -28,6 +28,8 @@ houseNumber AlreadyOpen = 6
 houseNumber NotOpen = 7
 houseNumber BadMicros = 8
 houseNumber BadName = 9
+-- 02, CR 9
+houseNumber Counter = 12
 
 -- "A good call returns the bytes written, and message also the bytes consumed." "A refusal returns its number, writes nothing,
 -- consumes nothing"

@@ -11,3 +11,4 @@ pub mod Answers
 pub mod Calls
 pub mod Card
 pub mod Sound
+pub mod Rolling

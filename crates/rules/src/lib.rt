@@ -80,6 +80,7 @@ pub enum Refusal {
     NotOpen,
     BadMicros,
     BadName,
+    Counter,
 }
 
 // The first message of what was read: its MessageID and MessageSize, or the refusal that it gets.

@@ -31,6 +31,9 @@ enum-told-8 c = search needs
 enum-told-9 : tie.Need-enum-told-9
 enum-told-9 c = search needs
 
+enum-told-10 : tie.Need-enum-told-10
+enum-told-10 c = search needs
+
 returns : tie.Need-returns
 unfolding houseNumber
 returns c = search needs
@@ -67,6 +70,10 @@ returns-9 : tie.Need-returns-9
 unfolding houseNumber
 returns-9 c = search needs
 
+returns-10 : tie.Need-returns-10
+unfolding houseNumber
+returns-10 c = search needs
+
 pub house-number-spec : {M : Type 1} → statement M
 house-number-spec =
     tie.close
@@ -80,6 +87,7 @@ house-number-spec =
     enum-told-7
     enum-told-8
     enum-told-9
+    enum-told-10
     returns
     returns-2
     returns-3
@@ -88,4 +96,5 @@ house-number-spec =
     returns-6
     returns-7
     returns-8
-    returns-9)
+    returns-9
+    returns-10)

@@ -1,0 +1,159 @@
+-- 02, CR 9: "The card with a rolling counter."
+use mathlib.Core.Path.{_≡_}
+use mathlib.Core.Bool.{Bool, true, false, cond}
+use mathlib.Core.List.{List, [], _∷_, _++_}
+use Prim.Native.Nat.{ℕ, _+_, _-_, _*_, _%_, _<_}
+use lib.Dec.{leb, ltb}
+use lib.ListN.{length}
+use Rattle.rules.specs.declared.Refusal.{Refusal}
+use Rattle.rules.specs.declared.Refusal.the-variants.{NoRoom, BadMicros, Counter}
+use Rattle.rules.specs.Lists.{All}
+use Rattle.rules.specs.Units.{timeOf, badMicros, fromMicros, fromTicks}
+use Rattle.rules.specs.Bytes.{Byte}
+use Rattle.rules.specs.State.{Splicer}
+use Rattle.rules.specs.Calls.{Called, refuse, noRoom, fresh, ticked, Call, opens, closes, messages, ticks, moves, call}
+use Rattle.rules.specs.Sound.{Wired, horizon}
+
+-- "Given a UTC instant and a reading once": none yet, or the last reading that a good call kept
+pub data Last : Type 0 where
+  none : Last
+  at : (reading : ℕ) → Last
+
+-- the card's state: a splicer and, beside it, the counter's
+pub record Rolling : Type 0 where
+  pub splicer : Splicer
+  pub last : Last
+
+-- what a call of this card gives
+pub record Rolled : Type 0 where
+  pub called : Called
+  pub last : Last
+
+-- the card's state after it
+abbrev pub rollingOf : Rolled → Rolling
+rollingOf c = record { splicer = c .called .splicer; last = c .last }
+
+-- ## The step
+
+-- "a 32-bit counter"
+abbrev pub rollover : ℕ
+rollover = 4294967296
+
+-- "the difference, taken through the rollover"
+unfoldable pub stepOf : (last reading : ℕ) → ℕ
+stepOf last reading = (reading + (rollover - last)) % rollover
+
+-- 12: "a step over 8,100,000 ticks"
+abbrev pub overStep : (last reading : ℕ) → Bool
+overStep last reading = ltb 8100000 (stepOf last reading)
+
+-- "later readings move the clock on by the difference": by that many ticks, in ninths
+abbrev pub movedOn : (clock last reading : ℕ) → ℕ
+movedOn clock last reading = clock + fromTicks (record { 0 = stepOf last reading }) .0
+
+-- 12: "past the time field's last second"
+abbrev pub pastField : (until : ℕ) → Bool
+pastField until = leb horizon until
+
+-- ## The two calls in place of tick
+
+-- what such a call comes to: a refusal, or the clock brought to an instant in ninths
+pub data Course : Type 0 where
+  refuses : Refusal → Course
+  brings : (until : ℕ) → Course
+
+-- 12: "a second instant"
+abbrev pub isGiven : Last → Bool
+isGiven none = false
+isGiven (at reading) = true
+
+-- "Refusals, on this card after 2: 8 for the given instant; house number 12 .. for .. a second instant"
+unfoldable pub instantCourse : (seconds micros room : ℕ) → Last → Course
+instantCourse seconds micros room last =
+    cond (noRoom room) (refuses NoRoom)
+    (cond (badMicros micros) (refuses BadMicros)
+    (cond (isGiven last) (refuses Counter)
+    (brings (fromMicros (timeOf seconds micros) .0))))
+
+-- "house number 12, in place of 3, for a step over 8,100,000 ticks or past the time field's last second, a reading before the instant is
+-- given"
+unfoldable pub stepCourse : (clock reading : ℕ) → Last → Course
+stepCourse clock reading none = refuses Counter
+stepCourse clock reading (at last) =
+    cond (overStep last reading) (refuses Counter)
+    (cond (pastField (movedOn clock last reading)) (refuses Counter)
+    (brings (movedOn clock last reading)))
+
+unfoldable pub readingCourse : (clock reading room : ℕ) → Last → Course
+readingCourse clock reading room last = cond (noRoom room) (refuses NoRoom) (stepCourse clock reading last)
+
+-- "Its answers must be those of document 01 with the clock brought to the same instants in ninths"; a refused reading is not kept
+unfoldable pub rolls : Course → (reading : ℕ) → Rolling → Rolled
+rolls (refuses n) reading r = record { called = refuse n (r .splicer); last = r .last }
+rolls (brings until) reading r = record { called = ticked until (r .splicer); last = at reading }
+
+unfoldable pub instantCall : (seconds micros reading room : ℕ) → Rolling → Rolled
+instantCall seconds micros reading room r = rolls (instantCourse seconds micros room (r .last)) reading r
+
+unfoldable pub readingCall : (reading room : ℕ) → Rolling → Rolled
+readingCall reading room r = rolls (readingCourse (r .splicer .clock) reading room (r .last)) reading r
+
+-- ## Sequences of this card's calls
+
+-- fresh is document 01's, and no instant was given
+unfoldable pub rollingFresh : List ℕ → Rolled
+rollingFresh name = record { called = fresh name; last = none }
+
+-- document 01's calls but for those that bring the clock to a time
+abbrev pub Timeless : Call → Type 0
+Timeless (opens c) = Unit {0}
+Timeless (closes c room) = Unit {0}
+Timeless (messages c l loans) = Unit {0}
+Timeless (ticks seconds micros room) = ⊥
+Timeless (moves until room) = ⊥
+
+pub data RollingCall : Type 0 where
+  known : (k : Call) → RollingCall
+  instants : (seconds micros reading room : ℕ) → RollingCall
+  readings : (reading room : ℕ) → RollingCall
+
+unfoldable pub roll : RollingCall → Rolling → Rolled
+roll (known k) r = record { called = call k (r .splicer); last = r .last }
+roll (instants seconds micros reading room) r = instantCall seconds micros reading room r
+roll (readings reading room) r = readingCall reading room r
+
+unfoldable pub rolledAfter : List RollingCall → Rolling → Rolling
+rolledAfter [] r = r
+rolledAfter (k ∷ ks) r = rolledAfter ks (rollingOf (roll k r))
+
+-- ## What a sequence amounts to: "those of document 01"
+
+-- a good call is the clock brought to its instant, a refused one is none
+abbrev pub asMove : Course → (room : ℕ) → List Call
+asMove (refuses n) room = []
+asMove (brings until) room = moves until room ∷ []
+
+unfoldable pub asCalls : RollingCall → Rolling → List Call
+asCalls (known k) r = k ∷ []
+asCalls (instants seconds micros reading room) r = asMove (instantCourse seconds micros room (r .last)) room
+asCalls (readings reading room) r = asMove (readingCourse (r .splicer .clock) reading room (r .last)) room
+
+unfoldable pub asMoves : List RollingCall → Rolling → List Call
+asMoves [] r = []
+asMoves (k ∷ ks) r = asCalls k r ++ asMoves ks (rollingOf (roll k r))
+
+-- ## "A splicer is what fresh and the calls since have given", of this card
+
+-- the known calls without ticks; Seconds and readings are four bytes
+abbrev pub RollWired : RollingCall → Type 0
+RollWired (known k) = Wired k × Timeless k
+RollWired (instants seconds micros reading room) = (seconds < 4294967296) × (reading < rollover)
+RollWired (readings reading room) = reading < rollover
+
+pub record RollReached (r : Rolling) : Type 0 where
+  pub name : List ℕ
+  pub whole : length name ≡ 32
+  pub bytes : All Byte name
+  pub calls : List RollingCall
+  pub wired : All RollWired calls
+  pub same : r ≡ rolledAfter calls (rollingOf (rollingFresh name))
