@@ -25,7 +25,7 @@ use Rattle.demands.proofs.Book.{Settled, Owed, Booked, told-end, booked
 
 -- ## The clock is the last good tick's
 
-call-clock : (s : Splicer) (k : Call) → clockReplied k (replyOf (call k s .answer)) (s .clock) ≡ call k s .splicer .clock
+pub call-clock : (s : Splicer) (k : Call) → clockReplied k (replyOf (call k s .answer)) (s .clock) ≡ call k s .splicer .clock
 unfolding clockReplied ticked
 call-clock s =
     cases s (λ k r. clockReplied k (replyOf (r .answer)) (s .clock) ≡ r .splicer .clock) (record {
@@ -46,7 +46,7 @@ unfolding clockAfter history after
 clock-after [] s = refl
 clock-after (k ∷ ks) s = ap (clockAfter (history ks (call k s .splicer))) (call-clock s k) ∙ clock-after ks (call k s .splicer)
 
-fresh-clock : (name : List ℕ) → fresh name .splicer .clock ≡ 0
+pub fresh-clock : (name : List ℕ) → fresh name .splicer .clock ≡ 0
 unfolding fresh named
 fresh-clock name = by (λ (r : Called). r .splicer .clock ≡ 0) (hasZero name) _ _ (λ e. refl) (λ e. refl)
 

@@ -74,7 +74,7 @@ module _ (s : Splicer) (n : Refusal) where
   unfolding moveCall ticked
   keeps-move until room = keeps-test (noRoom room) NoRoom _ (keeps-test (ltb until (s .clock)) ClockBack _ (keeps-does _ _ _))
 
-  call-refused : (k : Call) → Keeps (call k s)
+  pub call-refused : (k : Call) → Keeps (call k s)
   unfolding call openCall closeCall messageCall tickCall
   call-refused (opens c) =
       keeps-test (noConnection c) NoConnection _ (keeps-test (isOpen (linkOf c s)) AlreadyOpen _ (keeps-does _ _ _))
@@ -85,7 +85,7 @@ module _ (s : Splicer) (n : Refusal) where
       (keeps-test (badMicros micros) BadMicros _ (keeps-move (fromMicros (timeOf seconds micros) .0) room))
   call-refused (moves until room) = keeps-move until room
 
-refused-answer : (a : calls.Answer) (moved : ℕ) (n : Refusal) → Refused n ≡ answerOf a moved → a ≡ refused n
+pub refused-answer : (a : calls.Answer) (moved : ℕ) (n : Refusal) → Refused n ≡ answerOf a moved → a ≡ refused n
 unfolding answerOf
 refused-answer (refused m) moved n e = cc
 refused-answer (good consumed rs) moved n e = let z : _≡_ {A = ℕ} 0 1 = cc in absurd (omega arith)

@@ -11,7 +11,7 @@ use Rattle.rules.specs.Lists.{All}
 use Rattle.rules.specs.Units.{timeOf, badMicros, fromMicros, fromTicks}
 use Rattle.rules.specs.Bytes.{Byte}
 use Rattle.rules.specs.State.{Splicer}
-use Rattle.rules.specs.Calls.{Called, refuse, noRoom, fresh, ticked, Call, opens, closes, messages, ticks, moves, call}
+use Rattle.rules.specs.Calls.{Answer, Called, refuse, noRoom, fresh, ticked, Call, opens, closes, messages, ticks, moves, call}
 use Rattle.rules.specs.Sound.{Wired, horizon}
 
 -- "Given a UTC instant and a reading once": none yet, or the last reading that a good call kept
@@ -141,6 +141,15 @@ asCalls (readings reading room) r = asMove (readingCourse (r .splicer .clock) re
 unfoldable pub asMoves : List RollingCall → Rolling → List Call
 asMoves [] r = []
 asMoves (k ∷ ks) r = asCalls k r ++ asMoves ks (rollingOf (roll k r))
+
+-- the answers of the calls that amount to one of document 01's
+abbrev pub said : List Call → Answer → List Answer
+said [] a = []
+said (k ∷ ks) a = a ∷ []
+
+unfoldable pub rollAnswers : List RollingCall → Rolling → List Answer
+rollAnswers [] r = []
+rollAnswers (k ∷ ks) r = said (asCalls k r) (roll k r .called .answer) ++ rollAnswers ks (rollingOf (roll k r))
 
 -- ## "A splicer is what fresh and the calls since have given", of this card
 

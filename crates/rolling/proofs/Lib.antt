@@ -1,0 +1,4 @@
+pub mod Ruled
+pub mod Calls
+pub mod Laws
+pub mod Time

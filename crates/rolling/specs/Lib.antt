@@ -1,0 +1,2 @@
+pub mod LentRolling
+pub mod Ruled
