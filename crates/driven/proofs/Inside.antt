@@ -75,6 +75,10 @@ module _ {c : Called} {at : ℕ} {e r m b o : List ℕ} (x : Replies c at e r m 
   pub told : Answers c at e (answerIn r) m b o
   told = rw (x .reply, answer-read (x .answer)) (x .answers)
 
+  -- the reply's words are those of the answer that C reads
+  pub reply-back : r ≡ replyOf (answerIn r)
+  reply-back = rw (x .reply, answer-read (x .answer)) refl
+
   pub number-inside : numberIn r ≡ engine.numberIn (answerIn r)
   number-inside = rw (x .reply, answer-read (x .answer)) (number-told (x .answer))
 
@@ -109,7 +113,7 @@ typed-handed (aMessage conn l e) t = t
 typed-handed (aTick seconds micros e) t = t
 
 -- what the door's contract allows, the engine's does
-allowed-inside : (m : Memory) (i : Input) (r : Seen) → Allowed (m .words) (m .bytes) i r → engine.Allowed m (handed i) (inside r)
+pub allowed-inside : (m : Memory) (i : Input) (r : Seen) → Allowed (m .words) (m .bytes) i r → engine.Allowed m (handed i) (inside r)
 unfolding call
 allowed-inside m (anOpen conn) r x = told x
 allowed-inside m (aClose conn e) r x = told x

@@ -68,7 +68,7 @@ steady-fresh name = fresh-clock name
 
 -- ## Where a call brings the clock, it is not back, and before the horizon
 
-abbrev Ahead : Course → (clock room : ℕ) → Type 0
+abbrev pub Ahead : Course → (clock room : ℕ) → Type 0
 Ahead (refuses n) clock room = Unit {0}
 Ahead (brings until) clock room = (noRoom room ≡ false) × (clock ≤ until) × (until < horizon)
 
