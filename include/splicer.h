@@ -57,14 +57,15 @@ enum {
 enum splicer_refusal {
     SPLICER_GOOD = 0,
     SPLICER_NO_CONNECTION = 1, /* connection above 3: open, close, message */
-    SPLICER_NO_ROOM = 2,       /* output buffer below 4,096 bytes: close, message, tick */
+    SPLICER_NO_ROOM = 2,       /* output buffer below 4,096 bytes: close, message, tick, instant, reading */
     SPLICER_CLOCK_BACK = 3,    /* clock earlier than the present one: tick */
     SPLICER_OVERSIZE = 4,      /* MessageSize above 4,088: message */
     SPLICER_SHORT = 5,         /* not yet a whole message: message. Read on and call again with more */
     SPLICER_ALREADY_OPEN = 6,  /* open */
     SPLICER_NOT_OPEN = 7,      /* close, message */
-    SPLICER_BAD_MICROS = 8,    /* MicroSeconds above 999,999: tick */
-    SPLICER_BAD_NAME = 9       /* name without a zero byte: fresh */
+    SPLICER_BAD_MICROS = 8,    /* MicroSeconds above 999,999: tick, instant */
+    SPLICER_BAD_NAME = 9,      /* name without a zero byte: fresh */
+    SPLICER_COUNTER = 12       /* a second instant; a reading before the instant, or more than 90 s after the last good one: instant, reading */
 };
 
 /* MessageIDs of the records that the core writes, and of the requests that it reads. */
@@ -108,6 +109,14 @@ struct splicer {
     uint8_t bytes[SPLICER_BYTES];
 };
 
+/* One output channel of the card with a rolling counter: a splicer, and beside it whether the instant was given and the last reading. Opaque.
+ * All calls but tick are made on `core` by their known names; in place of tick it has splicer_call_instant and splicer_call_reading. The core
+ * is proved for these calls: splicer_call_tick on `core`, and splicer_call_fresh in place of splicer_call_rolling_fresh, are not among them. */
+struct splicer_rolling {
+    struct splicer core;
+    uint64_t counter[2];
+};
+
 /* What a call answers: the house number of its refusal, or 0 and the bytes consumed of `in` and written to `out`. moved: for a
  * Splice_Request answered with 100 how many places its acceptance shifted, which is how many sessions that wait, after any eviction, start
  * later than the new one, at most 63; 0 for all else. */
@@ -128,6 +137,8 @@ SPLICER_ASSERT(sizeof(size_t) == 8, "a length is 8 bytes");
 SPLICER_ASSERT(sizeof(struct splicer) == 4864, "size of struct splicer");
 SPLICER_ASSERT(SPLICER_ALIGN(struct splicer) == 8, "alignment of struct splicer");
 SPLICER_ASSERT(SPLICER_OFFSET(struct splicer, bytes) == 4832, "layout of struct splicer");
+SPLICER_ASSERT(sizeof(struct splicer_rolling) == sizeof(struct splicer) + 16, "size of struct splicer_rolling");
+SPLICER_ASSERT(SPLICER_OFFSET(struct splicer_rolling, counter) == sizeof(struct splicer), "layout of struct splicer_rolling");
 SPLICER_ASSERT(sizeof(struct splicer_reply) == 24, "size of struct splicer_reply");
 SPLICER_ASSERT(SPLICER_OFFSET(struct splicer_reply, refused) == 0, "layout of struct splicer_reply");
 SPLICER_ASSERT(SPLICER_OFFSET(struct splicer_reply, moved) == 4, "layout of struct splicer_reply");
@@ -145,6 +156,9 @@ void splicer_4_message(uint64_t *words, uint8_t *bytes, uint32_t conn, const uin
                        uint64_t *reply);
 void splicer_4_tick(uint64_t *words, uint8_t *bytes, uint32_t seconds, uint32_t micros, uint8_t *out, size_t room, uint64_t *reply);
 void splicer_4_waiting(const uint64_t *words, const uint8_t *bytes, uint64_t *counts);
+void splicer_4_rolling_fresh(const uint8_t *name, uint64_t *words, uint8_t *bytes, uint64_t *counter, uint64_t *reply);
+void splicer_4_instant(uint64_t *words, uint8_t *bytes, uint64_t *counter, const uint32_t *given, uint8_t *out, size_t room, uint64_t *reply);
+void splicer_4_reading(uint64_t *words, uint8_t *bytes, uint64_t *counter, uint32_t reading, uint8_t *out, size_t room, uint64_t *reply);
 
 /* The words of a reply as a struct. */
 static inline struct splicer_reply splicer_reply_of(const uint64_t *reply) {
@@ -197,6 +211,32 @@ static inline struct splicer_waiting splicer_call_waiting(const struct splicer *
     struct splicer_waiting w;
     splicer_4_waiting(s->words, s->bytes, w.count);
     return w;
+}
+
+/* The card with a rolling counter (document 02, CR 9): docs/INTEGRATION.md says when to give the instant and how often to read. */
+
+/* Makes a rolling splicer, whatever r held: clock 0, all connections closed, no instant given. name as for splicer_call_fresh (else 9). */
+static inline struct splicer_reply splicer_call_rolling_fresh(struct splicer_rolling *r, const uint8_t *name) {
+    uint64_t reply[SPLICER_REPLY];
+    splicer_4_rolling_fresh(name, r->core.words, r->core.bytes, r->counter, reply);
+    return splicer_reply_of(reply);
+}
+
+/* Once: the UTC time, and what the counter reads at it. Brings the clock there and does what is due until then. Refused: 2, 8, 12. */
+static inline struct splicer_reply splicer_call_instant(struct splicer_rolling *r, uint32_t seconds, uint32_t micros, uint32_t reading,
+                                                        uint8_t *out, size_t room) {
+    uint64_t reply[SPLICER_REPLY];
+    uint32_t given[3] = {seconds, micros, reading};
+    splicer_4_instant(r->core.words, r->core.bytes, r->counter, given, out, room, reply);
+    return splicer_reply_of(reply);
+}
+
+/* What the 90 kHz counter reads now: moves the clock on by the ticks since the last good reading, at most 8,100,000 (90 s), through the
+ * rollover, and does what is due until then. Refused: 2, 12. A refused reading is not kept. */
+static inline struct splicer_reply splicer_call_reading(struct splicer_rolling *r, uint32_t reading, uint8_t *out, size_t room) {
+    uint64_t reply[SPLICER_REPLY];
+    splicer_4_reading(r->core.words, r->core.bytes, r->counter, reading, out, room, reply);
+    return splicer_reply_of(reply);
 }
 
 /* A record in an output buffer: whom it is for, what it says, and the message as it is sent. The pointers lead into the buffer. */

@@ -1,6 +1,6 @@
 #!/bin/sh
-# driver.sh: the C headers, each by itself, as C11 and C++17, and the example driver over the proved archive, its output compared with
-# examples/driver.out, and its recording with desk/recordings/sport.rec; a driver of version 1 must not link with it. All by the kit's own compiler and linker.
+# driver.sh: the C headers, each by itself, as C11 and C++17, and the example drivers over the proved archive, their output compared with
+# examples/driver.out and rolling.out, and the first one's recording with desk/recordings/sport.rec; a driver of version 1 must not link with it. All by the kit's own compiler and linker.
 # The last line is 'N passed, M failed'.
 set -eu
 . "$(dirname "$0")/words.sh"
@@ -38,14 +38,20 @@ header() {
     done
 }
 
-# built: the archive of the proved crate, and the program over it
+# built: the archive of the proved crate, and the programs over it
 built() {
-    rt staticlib door && sh tools/build-driver.sh "$work/driver" examples/driver.c target/staticlib/libdoor.a -Iinclude
+    rt staticlib door && sh tools/build-driver.sh "$work/driver" examples/driver.c target/staticlib/libdoor.a -Iinclude &&
+        sh tools/build-driver.sh "$work/rolling" examples/rolling.c target/staticlib/libdoor.a -Iinclude
 }
 
 # runs: the program writes what was worked out by hand
 runs() {
     sh tools/run-program.sh "$work/driver" >"$work/out" && diff examples/driver.out "$work/out"
+}
+
+# rolls: so does the driver of the card with a rolling counter
+rolls() {
+    sh tools/run-program.sh "$work/rolling" >"$work/rolled" && diff examples/rolling.out "$work/rolled"
 }
 
 # records: what it records on a channel "SPORT" is what desk/ reads in its tests
@@ -67,6 +73,7 @@ tried 'header as C11' header c c11
 tried 'header as C++17' header c++ c++17
 tried 'build' built
 tried 'run' runs
+tried 'run with a rolling counter' rolls
 tried 'recording' records
 tried 'a driver of version 1 does not link' old
 echo "$passed passed, $failed failed"

@@ -27,7 +27,7 @@ pub fn replied(call: impl FnOnce(*mut u64)) -> Result<Counts, Refusal> {
             moved: moved as u32,
         });
     }
-    // The core gives no number above 9; another archive is better noticed here.
+    // The core gives the numbers of `Refusal` alone; another archive is better noticed here.
     let refusal = u32::try_from(number).ok().and_then(Refusal::of);
     Err(refusal.expect("a house number"))
 }
@@ -74,4 +74,35 @@ extern "C" {
 
     #[link_name = "splicer_4_waiting"]
     pub fn waiting(words: *const u64, bytes: *const u8, counts: *mut u64);
+
+    #[link_name = "splicer_4_rolling_fresh"]
+    pub fn rolling_fresh(
+        name: *const u8,
+        words: *mut u64,
+        bytes: *mut u8,
+        counter: *mut u64,
+        reply: *mut u64,
+    );
+
+    #[link_name = "splicer_4_instant"]
+    pub fn instant(
+        words: *mut u64,
+        bytes: *mut u8,
+        counter: *mut u64,
+        given: *const u32,
+        out: *mut u8,
+        room: usize,
+        reply: *mut u64,
+    );
+
+    #[link_name = "splicer_4_reading"]
+    pub fn reading(
+        words: *mut u64,
+        bytes: *mut u8,
+        counter: *mut u64,
+        reading: u32,
+        out: *mut u8,
+        room: usize,
+        reply: *mut u64,
+    );
 }

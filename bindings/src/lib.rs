@@ -20,12 +20,14 @@ pub mod bench;
 mod door;
 pub mod recorder;
 mod records;
+mod rolling;
 mod saved;
 mod says;
 pub mod texts;
 
 use core::fmt;
 pub use records::{message_id, records, result, Record, Records};
+pub use rolling::RollingSplicer;
 pub use saved::{NotSaved, SAVED};
 pub use says::Says;
 
@@ -74,7 +76,7 @@ const _: () = assert!(core::mem::offset_of!(Splicer, bytes) == 4832);
 pub enum Refusal {
     /// Connection above 3: open, close, message.
     NoConnection = 1,
-    /// Output buffer below 4,096 bytes: close, message, tick.
+    /// Output buffer below 4,096 bytes: close, message, tick, instant, reading.
     NoRoom = 2,
     /// Clock earlier than the present one: tick.
     ClockBack = 3,
@@ -86,10 +88,13 @@ pub enum Refusal {
     AlreadyOpen = 6,
     /// Not open: close, message.
     NotOpen = 7,
-    /// MicroSeconds above 999,999: tick.
+    /// MicroSeconds above 999,999: tick, instant.
     BadMicros = 8,
     /// Name without a zero byte: fresh.
     BadName = 9,
+    /// A second instant, or a reading before the instant, more than 90 s after the last good one or
+    /// past the last second of the time field: instant, reading.
+    Counter = 12,
 }
 
 impl Refusal {
@@ -105,6 +110,7 @@ impl Refusal {
             7 => Refusal::NotOpen,
             8 => Refusal::BadMicros,
             9 => Refusal::BadName,
+            12 => Refusal::Counter,
             _ => return None,
         })
     }

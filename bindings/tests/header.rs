@@ -6,6 +6,8 @@ use splicer::{message_id, result, Refusal};
 const HEADER_TEXT: &str = include_str!("../../include/splicer.h");
 const DOOR_TEXT: &str = include_str!("../src/door.rs");
 const CALLS: [&str; 6] = ["fresh", "open", "close", "message", "tick", "waiting"];
+/// Those of the card with a rolling counter alone.
+const ROLLING: [&str; 3] = ["rolling_fresh", "instant", "reading"];
 
 /// Every `SPLICER_NAME = number` of the header's enums.
 fn of_header() -> Vec<(String, u32)> {
@@ -65,6 +67,7 @@ fn refusals() -> Vec<(&'static str, u32)> {
         ("NOT_OPEN", Refusal::NotOpen),
         ("BAD_MICROS", Refusal::BadMicros),
         ("BAD_NAME", Refusal::BadName),
+        ("COUNTER", Refusal::Counter),
     ];
     list.map(|(name, r)| (name, u32::from(r.number()))).to_vec()
 }
@@ -132,6 +135,7 @@ fn of_header_call(name: &str) -> Vec<&'static str> {
     let kinds = [
         ("const uint64_t *", "*const u64"),
         ("const uint8_t *", "*const u8"),
+        ("const uint32_t *", "*const u32"),
         ("uint8_t *", "*mut u8"),
         ("uint64_t *", "*mut u64"),
         ("uint32_t ", "u32"),
@@ -157,11 +161,12 @@ fn of_door_call(name: &str) -> Vec<&'static str> {
 
 #[test]
 fn the_functions_are_declared_as_in_the_header() {
-    for name in CALLS {
+    for name in CALLS.iter().chain(&ROLLING) {
         assert_eq!(of_door_call(name), of_header_call(name), "{name}");
     }
-    assert_eq!(DOOR_TEXT.matches("link_name").count(), CALLS.len());
-    assert_eq!(DOOR_TEXT.matches("pub fn ").count(), CALLS.len() + 1);
+    let all = CALLS.len() + ROLLING.len();
+    assert_eq!(DOOR_TEXT.matches("link_name").count(), all);
+    assert_eq!(DOOR_TEXT.matches("pub fn ").count(), all + 1);
 }
 
 /// Each is declared once and called once, by the inline function of its name, and nothing else of
@@ -169,27 +174,28 @@ fn the_functions_are_declared_as_in_the_header() {
 #[test]
 fn the_header_refers_to_versioned_names_only() {
     let version = splicer::VERSION;
-    for name in CALLS {
+    for name in CALLS.iter().chain(&ROLLING) {
         let call = format!("splicer_{version}_{name}(");
         assert_eq!(HEADER_TEXT.matches(&call).count(), 2, "{call}");
         let inline = format!("splicer_call_{name}(");
         let body = between(HEADER_TEXT, &inline, "\n}");
         // A call that only reads takes the splicer as const.
         let lent = body.trim_start_matches("const ");
-        assert!(lent.starts_with("struct splicer *s"), "{name}");
+        let own = if ROLLING.contains(name) { "struct splicer_rolling *r" } else { "struct splicer *s" };
+        assert!(lent.starts_with(own), "{name}");
         assert!(body.contains(&format!("    {call}")), "{name}");
     }
     let functions = HEADER_TEXT.lines().filter(|line| {
         let first = line.starts_with(|c: char| c.is_ascii_lowercase());
         first && line.contains('(') && !line.starts_with("static inline ")
     });
-    assert_eq!(functions.count(), CALLS.len());
+    assert_eq!(functions.count(), CALLS.len() + ROLLING.len());
 }
 
 #[test]
 fn a_house_number_names_its_refusal() {
-    for number in 1..=9 {
-        let refusal = Refusal::of(number).expect("1 to 9");
+    for number in (1..=9).chain([12]) {
+        let refusal = Refusal::of(number).expect("1 to 9, 12");
         assert_eq!(u32::from(refusal.number()), number);
     }
     assert_eq!(Refusal::of(0), None);

@@ -25,7 +25,7 @@ use Rattle.rolling.specs.LentRolling.{lastOf, rolling, LentRolling, Rolls}
 use Rattle.rolling.proofs.Ruled.{Ahead, move-same, instant-ahead, reading-ahead, reached-roll}
 use Rattle.rolling.proofs.Calls.{lent-steady, last-read}
 use Rattle.rolling.proofs.Laws.{refused-unchanged}
-use Rattle.door.specs.Door.{replyOf, Replies, Typed, callOf}
+use Rattle.door.specs.Door.{replyOf, Replies, Input, callOf}
 use Rattle.door.specs.DoorRolling.{RollReplies, RollInput, aKnown, anInstant, aReading, RollTyped, rollCallOf, rollBufferOf, RollSeen}
 use Rattle.traces.specs.Trace as engine
 use Rattle.traces.proofs.Steps.{wired, memory-same}
@@ -77,6 +77,14 @@ promised m (aKnown i) r l t a =
     known-told m (callOf i) _ r (answerIn (r .reply)) l (roll-wired (aKnown i) t) (told (a .0)) (a .1)
 promised m (anInstant g e) r l t a = rolls-told m (anInstant g e) r a
 promised m (aReading x e) r l t a = rolls-told m (aReading x e) r a
+
+-- the door's promise, whatever the call
+pub replies-of : (m : Memory) (i : RollInput) (r : RollSeen) → AllowedAt m i r
+    → Replies (roll (rollCallOf i) (shown m) .called) (see (m .core .words) .ringEnd) (rollBufferOf i) (r .reply) (r .words) (r .bytes) (r .buffer)
+unfolding roll
+replies-of m (aKnown i) r a = a .0
+replies-of m (anInstant g e) r a = record { answer = a .answer; answers = a .rolls .answers; reply = a .reply }
+replies-of m (aReading x e) r a = record { answer = a .answer; answers = a .rolls .answers; reply = a .reply }
 
 -- the state after it
 pub state-is : (m : Memory) (i : RollInput) (r : RollSeen) → Promised m i r → shown (left r) ≡ rollingOf (roll (rollCallOf i) (shown m))
@@ -209,6 +217,11 @@ led-shown (x ∷ h) b m t l =
     let p = promised b (x .input) (x .seen) t (l .0) (l .1) in
     led-shown h (left (x .seen)) m (p .lent) (l .2) ∙ ap (rolledAfter (calls h)) (state-is b (x .input) (x .seen) p)
 
+pub calls-after : (h g : List Made) (r : Rolling) → rolledAfter (calls (h ++ g)) r ≡ rolledAfter (calls g) (rolledAfter (calls h) r)
+unfolding rolledAfter
+calls-after [] g r = refl
+calls-after (x ∷ h) g r = calls-after h g (rollingOf (roll (rollCallOf (x .input)) r))
+
 -- the engine's calls are those that the rules give
 pub led-calls : (h : List Made) (b m : Memory) → LentAt b → Leads b h m → engine.calls (within h) ≡ asMoves (calls h) (shown b)
 unfolding within asMoves
@@ -235,6 +248,19 @@ module _ (name : List ℕ) (h : List Made) (m : Memory) where
         fresh = fresh-inside name (t .fresh);
         leads = led-inside h (t .begun) m (t .fresh .rolls .lent) (t .leads);
       }
+
+  -- a known call, made next, is the engine's
+  pub known-more : (i : Input) (r : RollSeen) → More name h m (aKnown i) r → engine.More name (within h) (m .core) (handed i) (inside (seenOf r))
+  known-more i r c =
+      record {
+        trace = trace-inside (c .trace);
+        typed = typed-handed i (c .typed .0);
+        allowed = allowed-inside (m .core) i (seenOf r) (c .allowed .0);
+      }
+
+  -- what C reads of fresh's reply
+  pub fresh-told : (t : Trace name h m) → numberIn (t .reply) ≡ engine.numberIn (t .fresh .answer)
+  fresh-told t = ap numberIn (t .fresh .reply) ∙ number-told (t .fresh .answer)
 
   pub trace-shown : Trace name h m → shown m ≡ rolledAfter (calls h) (rollingOf (rollingFresh name))
   trace-shown t = led-shown h (t .begun) m (t .fresh .rolls .lent) (t .leads) ∙ ap (rolledAfter (calls h)) (begun-is name (t .fresh))

@@ -1,2 +1,4 @@
 pub mod Inside
 pub mod Course
+pub mod Next
+pub mod Demands

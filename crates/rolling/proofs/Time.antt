@@ -6,9 +6,10 @@ use Prim.Native.Nat.{ℕ, _+_, _*_, _%_, _≤_, _<_}
 use native.Mathlib.Omega.{arith}
 use borrow.Author.Tests.{le-ltb, lt-leb}
 use Rattle.rules.specs.Lists.{All}
+use Rattle.rules.specs.Units.{timeOf, fromMicros}
 use Rattle.rules.specs.Calls.{ticked, Call}
 use Rattle.rules.specs.Sound.{horizon}
-use Rattle.rules.specs.Rolling.{Last, none, at, Rolling, rollingOf, rollover, stepOf, brings, stepCourse, readingCourse, rolls, readingCall, Timeless, RollingCall, known, readings, roll, rolledAfter}
+use Rattle.rules.specs.Rolling.{Last, none, at, Rolling, rollingOf, rollover, stepOf, brings, instantCourse, stepCourse, readingCourse, rolls, instantCall, readingCall, Timeless, RollingCall, known, instants, readings, roll, rolledAfter}
 use Rattle.demands.specs.Told.{numberOf}
 use Rattle.rolling.specs.Ruled.{Act, asked, read, InTime, callsAt}
 use Rattle.rolling.specs.Ruled as ruled
@@ -23,6 +24,12 @@ true-step t d h = omega arith
 pub record Shows (t u : ℕ) (r : Rolling) : Type 0 where
   pub last : r .last ≡ at (t % rollover)
   pub clock : r .splicer .clock ≡ u
+
+-- a good instant shows its time, and the reading that came with it
+pub instant-shows : (seconds micros t room : ℕ) (r : Rolling) → r .last ≡ none → micros ≤ 999999 → 4096 ≤ room
+    → Shows t (fromMicros (timeOf seconds micros) .0) (rollingOf (roll (instants seconds micros (t % rollover) room) r))
+unfolding roll instantCall instantCourse rolls ticked
+instant-shows seconds micros t room r e h i = rw (le-ltb room 4096 i, le-ltb 999999 micros h, e) (record { last = refl; clock = refl })
 
 -- one reading, d ticks later
 module _ (t u d room : ℕ) (r : Rolling) (s : Shows t u r) (few : d ≤ 8100000) (roomy : 4096 ≤ room) (early : u + 100 * d < horizon) where

@@ -31,7 +31,7 @@ wired (aMove until e) t = t
 
 -- ## What the driver reads in an answer of document 01
 
-bytes-read : (a : rules.Answer) (k : ℕ) (e : List ℕ) → bytesIn (answerOf a k) (bufferAfter a e) ≡ writtenBy a
+pub bytes-read : (a : rules.Answer) (k : ℕ) (e : List ℕ) → bytesIn (answerOf a k) (bufferAfter a e) ≡ writtenBy a
 unfolding bytesIn answerOf bufferAfter writtenBy written
 bytes-read (refused n) k e = refl
 bytes-read (good consumed rs) k e = take-append-seam (output rs) (drop (0 + length (output rs)) e)

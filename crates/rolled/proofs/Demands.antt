@@ -1,0 +1,237 @@
+-- READ THIS for the card with a rolling counter: 02's CR 9 and the customer's demands as theorems about its calls for C, from the words that C
+-- sees, each under its sentence. The only hypothesis is a trace (specs/Rolled): its fresh, then any opens, closes, messages, instants and
+-- readings, each result one that the call's contract allows; door/proofs/Cited and CitedRolling hold it to the contracts in door/src/lib.rt.
+-- Each demand is its theorem about the engine's calls (traces), through rolls-as-ruled. No axiom, no hole.
+use mathlib.Core.Path.{_≡_, refl, sym, ap, subst, _∙_}
+use mathlib.Core.Bool.{true, false, cond}
+use mathlib.Core.List.{List, [], _∷_, _++_}
+use Prim.Native.Nat.{ℕ, _+_, _*_, _%_, _≤_, _<_}
+use native.Mathlib.Omega.{arith}
+use native.Mathlib.Nat.{le-trans}
+use lib.ListN.{length}
+use Rattle.rules.specs.declared.Request.{Request}
+use Rattle.rules.specs.Lists.{All}
+use Rattle.rules.specs.Bytes.{Byte, hasZero}
+use Rattle.rules.specs.Records.{recordsIn}
+use Rattle.rules.specs.Answers.{requested, spliceResult}
+use Rattle.rules.specs.Units.{timeOf, fromMicros}
+use Rattle.rules.specs.Calls.{lending, fresh, after}
+use Rattle.rules.specs.Sound.{horizon}
+use Rattle.rules.specs.Rolling.{none, Rolling, stepOf, rollingOf, rollingFresh, instants, readings, roll, rolledAfter, asMoves}
+use Rattle.demands.specs.History.{startsOf, endsOf, history, ownAnswer, waitingCount, book, clockAfter}
+use Rattle.demands.specs.Told.{firstNumber, numberOf, answers, Asks, Passes, fullTold, countsTold, outsOf, startedTold, unended, Ended, Stands}
+use Rattle.memory.specs.Memory.{countsOf}
+use Rattle.engine.specs.Lent.{Counts}
+use Rattle.rolling.specs.LentRolling.{LentRolling}
+use Rattle.rolling.specs.Ruled.{rollChecks, Act, InTime, ticked, callsAt}
+use Rattle.rolling.proofs.Time as time
+use Rattle.door.specs.Door.{aClose, aMessage}
+use Rattle.door.specs.DoorRolling.{RollInput, aKnown, RollTyped, rollCallOf, rollBufferOf, RollSeen}
+use Rattle.traces.specs.Trace.{emptyMemory}
+use Rattle.traces.specs.Trace as engine
+use Rattle.traces.proofs.Closed.{not-full, unended-newer}
+use Rattle.traces.proofs.Demands as called
+use Rattle.driven.specs.Driven.{numberIn, inside}
+use Rattle.driven.proofs.Inside.{number-inside}
+use Rattle.rolled.specs.Rolled.{Memory, shown, LentAt, left, Made, made, Trace, More, Point, seenOf, number, bytesOf, calls, inputs, othersBy, within, events, AsRuled, Answerable, Run}
+use Rattle.rolled.proofs.Inside.{trace-lent, trace-inside, trace-shown, trace-calls, within-append, fresh-told, known-more, calls-after}
+use Rattle.rolled.proofs.Course.{answerable, runs, trace-more, trace-point, trace-same}
+use Rattle.rolled.proofs.Next.{as-ruled, number-first, unchanged, Next, silent, calls-of, next, bytes-are, none-ends, none-outs, none-long}
+
+-- ## "On a splicer that came from fresh and the calls after it"
+
+-- any name of 32 bytes and any inputs: this card's fresh, opens, closes, messages, instants and readings in any order
+pub any-calls : (name : List ℕ) → length name ≡ 32 → All Byte name → (is : List RollInput) → All RollTyped is → Run name is
+any-calls = runs
+
+-- one call more gives a trace again
+pub trace-goes-on : (name : List ℕ) (h : List Made) (m : Memory) (i : RollInput) (r : RollSeen) → More name h m i r
+    → Trace name (h ++ (made i r ∷ [])) (left r)
+trace-goes-on = trace-more
+
+-- and every point of a trace is the end of a trace, so what is said below of a trace's end is said of every point
+pub every-point : (name : List ℕ) (h g : List Made) (m : Memory) → Trace name (h ++ g) m → Point name h g m
+every-point = trace-point
+
+-- the same name and the same inputs give the same replies, lent words and bytes, counter's words and buffers, and the same memory
+pub same-calls-same-results : (name : List ℕ) (h g : List Made) (m n : Memory) → Trace name h m → Trace name g n → inputs h ≡ inputs g
+    → (h ≡ g) × (m ≡ n)
+same-calls-same-results = trace-same
+
+-- ## Document 02, CR 9
+
+module _ (name : List ℕ) (h : List Made) (m : Memory) where
+  -- "Its answers must be those of document 01 with the clock brought to the same instants in ninths": the good calls are the engine's, with the
+  -- same replies, memory and buffers
+  pub rolls-as-ruled : Trace name h m → engine.Trace name (within h) (m .core)
+  rolls-as-ruled = trace-inside name h m
+
+  -- and which calls of document 01 they are, the rules say
+  pub calls-as-ruled : Trace name h m → engine.calls (within h) ≡ asMoves (calls h) (rollingOf (rollingFresh name))
+  calls-as-ruled = trace-calls name h m
+
+  -- the splicer and the last reading now are those that the rules of this card give
+  pub state-as-ruled : Trace name h m → shown m ≡ rolledAfter (calls h) (rollingOf (rollingFresh name))
+  state-as-ruled = trace-shown name h m
+
+-- "the difference, taken through the rollover": readings of a counter that has ticked t and t + d times, d below 2^32, have the step d
+pub true-step : (t d : ℕ) → d < 4294967296 → stepOf (t % 4294967296) ((t + d) % 4294967296) ≡ d
+true-step = time.true-step
+
+-- "Given a UTC instant and a reading once, later readings move the clock on": after the calls h the counter has ticked t times and the clock
+-- shows u, the last good call having read t; then come any opens, closes and messages, and readings, none more than 8,100,000 ticks after
+-- the one before. The clock is exactly u and 100 ninths for each tick since, however often the counter has rolled over; no sum drifts
+module _ (name : List ℕ) (h : List Made) (m : Memory) (tr : Trace name h m) (t u : ℕ) (s : time.Shows t u (shown m)) where
+  pub true-time : (acts : List Act) → All InTime acts → u + 100 * ticked acts < horizon
+      → time.Shows (t + ticked acts) (u + 100 * ticked acts) (rolledAfter (callsAt t acts) (shown m))
+  true-time acts a e = time.acts-show acts t u (shown m) a e s
+
+  -- of the calls that C made
+  pub true-time-shown : (g : List Made) (n : Memory) → Trace name (h ++ g) n → (acts : List Act) → calls g ≡ callsAt t acts → All InTime acts
+      → u + 100 * ticked acts < horizon → time.Shows (t + ticked acts) (u + 100 * ticked acts) (shown n)
+  true-time-shown g n tn acts e a early =
+      let k = trace-shown name (h ++ g) n tn ∙ calls-after h g _ ∙ ap (rolledAfter (calls g)) (sym (trace-shown name h m tr)) ∙ ap (λ ks. rolledAfter ks (shown m)) e in
+      subst (time.Shows (t + ticked acts) (u + 100 * ticked acts)) (sym k) (true-time acts a early)
+
+  -- and the next such reading is not refused for 12, nor for anything else
+  pub true-time-good : (d room : ℕ) → d ≤ 8100000 → 4096 ≤ room → u + 100 * d < horizon
+      → numberOf (roll (readings ((t + d) % 4294967296) room) (shown m) .called .answer) ≡ 0
+  true-time-good d room few roomy early = time.read-good t u d room (shown m) s few roomy early
+
+-- a good instant shows its time, and the reading that came with it
+pub instant-shows : (seconds micros t room : ℕ) (r : Rolling) → r .last ≡ none → micros ≤ 999999 → 4096 ≤ room
+    → time.Shows t (fromMicros (timeOf seconds micros) .0) (rollingOf (roll (instants seconds micros (t % 4294967296) room) r))
+instant-shows = time.instant-shows
+
+-- "Over all sequences": what follows is said of the name, the calls h made since, with what C saw, and the memory m now
+module _ (name : List ℕ) (h : List Made) (m : Memory) where
+  -- ## Demand 1
+
+  -- "every call takes every input": all that this card's calls require is LentRolling, from which the engine's Lent follows
+  pub every-call-may-be-made : Trace name h m → LentAt m
+  every-call-may-be-made = trace-lent name h m
+
+  -- and for every input there is a result that the call's contract allows; by same-calls-same-results only one
+  pub every-call-is-answered : Trace name h m → (i : RollInput) → RollTyped i → Answerable m i
+  every-call-is-answered t = answerable m (trace-lent name h m t)
+
+  -- the next call, with the input i, and what C sees after it, r
+  module _ (i : RollInput) (r : RollSeen) (c : More name h m i r) where
+    -- "A bad call gets its number": the first that applies, in the order of documents 01 and 02: an instant 2, 8, 12; a reading 2, 12
+    pub bad-call-number : number r ≡ firstNumber (rollChecks (rollCallOf i) (shown m))
+    bad-call-number = number-first name h m i r c
+
+    -- "and the splicer and the lent buffers stay as they were before it", the counter's words too: a refused reading is not the next base
+    pub bad-call-changes-nothing : 0 < number r → (left r ≡ m) × (r .buffer ≡ rollBufferOf i)
+    bad-call-changes-nothing = unchanged name h m i r c
+
+    -- no answer is longer than 3,174 bytes, so the 4,096 that a good call has are enough
+    pub answers-fit : length (bytesOf r) ≤ 3174
+    answers-fit = go (next name h m i r c)
+      where
+        go : Next name h m i r → length (bytesOf r) ≤ 3174
+        go (silent e) = none-long (bytesOf r) e
+        go (calls-of j o e) = rw (bytes-are name h m i r c) (called.answers-fit name (within h) (m .core) j (inside (seenOf r)) o)
+
+  -- fresh: number 9 for a name without a zero byte, and then the memory is that of an empty name, and no instant was given
+  pub bad-name-number : (t : Trace name h m) → numberIn (t .reply) ≡ cond (hasZero name) 0 9
+  bad-name-number t = fresh-told name h m t ∙ called.bad-name-number name (within h) (m .core) (trace-inside name h m t)
+
+  pub bad-name-gives-empty : (t : Trace name h m) → hasZero name ≡ false → t .begun .core ≡ emptyMemory
+  bad-name-gives-empty t = called.bad-name-gives-empty name (within h) (m .core) (trace-inside name h m t)
+
+  -- ## Demand 2
+
+  -- "every answer byte, its order and the state after it are those that 01's rules give": of the next call
+  pub answers-as-ruled : (i : RollInput) (r : RollSeen) → More name h m i r → AsRuled m i r
+  answers-as-ruled = as-ruled name h m
+
+  -- and of all calls together
+  pub trace-as-ruled : Trace name h m
+      → (events h ≡ history (engine.calls (within h)) (fresh name .splicer)) × (shown m .splicer ≡ after (engine.calls (within h)) (fresh name .splicer))
+  trace-as-ruled t = called.trace-as-ruled name (within h) (m .core) (trace-inside name h m t)
+
+  -- "An accepted request is accepted because the rules accept it; a refused one carries the first result code that applies."
+  pub first-code-applies : (d : ℕ) (l e : List ℕ) (r : RollSeen) → More name h m (aKnown (aMessage d l e)) r
+      → (q : Request) → Asks d l (lending (length e)) q (shown m .splicer)
+      → ownAnswer (answers (spliceResult (shown m .splicer .clock) d q (requested d q (shown m .splicer .queue)) (shown m .splicer .queue)) d (q .id))
+      (recordsIn (bytesOf r)) ≡ true
+  first-code-applies d l e r c q asks =
+      rw (bytes-are name h m _ r c)
+      (called.first-code-applies name (within h) (m .core) d l e (inside (seenOf r)) (known-more name h m (aMessage d l e) r c) q asks)
+
+  -- ## Demand 3
+
+  -- "That count never passes 20."
+  pub count-never-passes-20 : Trace name h m → (d : ℕ) → waitingCount d (events h) ≤ 20
+  count-never-passes-20 t = called.count-never-passes-20 name (within h) (m .core) (trace-inside name h m t)
+
+  module _ (d : ℕ) (l e : List ℕ) (r : RollSeen) (c : More name h m (aKnown (aMessage d l e)) r) (q : Request)
+      (asks : Asks d l (lending (length e)) q (shown m .splicer)) (passes : Passes d q (shown m .splicer)) where
+    -- "A request that passes every earlier check in 01's order is refused for a full queue exactly when the count is 20, or when it is
+    -- at least 10 and the four counts, each taken as at least 10, add up to 64." Else it is accepted
+    pub full-exactly-when : ownAnswer (answers (cond (fullTold d (events h)) 114 100) d (q .id)) (recordsIn (bytesOf r)) ≡ true
+    full-exactly-when =
+        rw (bytes-are name h m _ r c)
+        (called.full-exactly-when name (within h) (m .core) d l e (inside (seenOf r)) (known-more name h m (aMessage d l e) r c) q asks passes)
+
+    -- "Reserved places hold against the other connections."
+    pub reserved-places-hold : waitingCount d (events h) < 10 → ownAnswer (answers 100 d (q .id)) (recordsIn (bytesOf r)) ≡ true
+    reserved-places-hold few = rw (not-full d (events h) few) at full-exactly-when
+
+  -- "No accepted session gets a second end, and each gets exactly one end, at the latest when the clock is brought to its end time or its
+  -- connection closes.": here by an instant or a reading; clockAfter is the clock that the last good one brought it to
+  pub one-end : Trace name h m → All (Ended (clockAfter (events h) 0)) (book (events h) [])
+  one-end t = called.one-end name (within h) (m .core) (trace-inside name h m t)
+
+  -- the next call, of any connection d and any number x
+  module _ (i : RollInput) (r : RollSeen) (c : More name h m i r) (d x : ℕ) where
+    -- an end in its answer's bytes, a Splice_Request's own answer apart, is of an accepted session that had none
+    pub ends-are-owed : endsOf d x (othersBy i (recordsIn (bytesOf r))) ≤ unended d x (book (events h) [])
+    ends-are-owed = go (next name h m i r c)
+      where
+        go : Next name h m i r → endsOf d x (othersBy i (recordsIn (bytesOf r))) ≤ unended d x (book (events h) [])
+        go (silent e) = none-ends d x i (bytesOf r) _ e
+        go (calls-of j o f) =
+            rw (f (recordsIn (bytesOf r)), bytes-are name h m i r c) (called.ends-are-owed name (within h) (m .core) j (inside (seenOf r)) o d x)
+
+    -- "Two operators' as-run logs listed a spot that never aired.": a SpliceComplete flag 1 is written only under a number whose start is
+    -- written, since its last end or by the same call
+    pub only-aired-is-listed : outsOf d x (recordsIn (bytesOf r)) ≤ startedTold d x (events h) 0 + startsOf d x (recordsIn (bytesOf r))
+    only-aired-is-listed = go (next name h m i r c)
+      where
+        go : Next name h m i r → outsOf d x (recordsIn (bytesOf r)) ≤ startedTold d x (events h) 0 + startsOf d x (recordsIn (bytesOf r))
+        go (silent e) = none-outs d x (bytesOf r) _ e
+        go (calls-of j o f) =
+            rw (bytes-are name h m i r c) (called.only-aired-is-listed name (within h) (m .core) j (inside (seenOf r)) o d x)
+
+-- ## The incident
+
+-- "An ad server dropped its connection with its spot on air.": after the calls h connection d closes, by a good call, and the calls g follow
+module _ (name : List ℕ) (h g : List Made) (m : Memory) (d : ℕ) (e : List ℕ) (r : RollSeen)
+    (t : Trace name (h ++ (made (aKnown (aClose d e)) r ∷ g)) m) (z : number r ≡ 0) where
+  abbrev x : Made
+  x = made (aKnown (aClose d e)) r
+
+  -- its sessions of before stand in the book as they stood at the close, each with its one end; newer are those accepted since
+  pub closed-stays-ended : Stands d (book (events (h ++ (x ∷ []))) []) (book (events (h ++ (x ∷ g))) [])
+  closed-stays-ended =
+      rw (within-append h (x ∷ []), within-append h (x ∷ g))
+      (called.closed-stays-ended name (within h) (within g) (m .core) d e (inside (seenOf r))
+      (subst (λ k. engine.Trace name k (m .core)) (within-append h (x ∷ g)) (trace-inside name (h ++ (x ∷ g)) m t)) (sym (number-inside (trace-point name h (x ∷ g) m t .behind .1 .0)) ∙ z))
+
+  -- an end of the connection that the next call writes is of a newer session that has had none
+  pub the-incident : (i : RollInput) (o : RollSeen) → More name (h ++ (x ∷ g)) m i o → (y : ℕ)
+      → endsOf d y (othersBy i (recordsIn (bytesOf o))) ≤ unended d y (closed-stays-ended .newer)
+  the-incident i o c y = le-trans (ends-are-owed name (h ++ (x ∷ g)) m i o c d y) (unended-newer d y _ _ closed-stays-ended)
+
+-- ## Document 02, CR 2
+
+module _ (name : List ℕ) (h : List Made) (m : Memory) where
+  -- "Demand 3 still counts from the answers, and the stored number is shown equal to that."
+  pub stored-as-told : Trace name h m → countsOf (m .core .words) ≡ countsTold (events h)
+  stored-as-told t = called.stored-as-told name (within h) (m .core) (trace-inside name h m t)
+
+  -- and so are the four words that C reads
+  pub read-as-told : Trace name h m → (r : List ℕ) → Counts (m .core .words) (m .core .bytes) r → r ≡ countsTold (events h)
+  read-as-told t = called.read-as-told name (within h) (m .core) (trace-inside name h m t)

@@ -1,0 +1,147 @@
+-- The next call of a trace: refused, and then it writes nothing and changes nothing, or a call of the engine's. Rests on proofs/Inside.
+use mathlib.Core.Path.{_≡_, refl, sym, ap, subst, _∙_}
+use mathlib.Core.Bool.{Bool, true, false, cond}
+use mathlib.Core.List.{List, [], _∷_}
+use Prim.Native.Nat.{ℕ, _≤_, _<_}
+use native.Mathlib.Omega.{arith}
+use lib.Dec.{eqb}
+use lib.ListN.{length}
+use Rattle.rules.specs.Calls.{Call, opens, closes, messages, ticks, moves, writtenBy}
+use Rattle.rules.specs.Rolling.{roll}
+use Rattle.demands.specs.Told.{firstNumber, outsOf}
+use Rattle.demands.specs.History.{endsOf, front, othersOf}
+use Rattle.rules.specs.Reading.{isSplice}
+use Rattle.rules.specs.Records.{Record, recordsIn, recordsUpTo}
+use Rattle.memory.specs.Memory.{see}
+use Rattle.engine.specs.declared.Answer.{Answer}
+use Rattle.engine.specs.declared.Answer.the-variants.{Refused, Done}
+use Rattle.rolling.specs.Ruled.{rollChecks}
+use Rattle.rolling.proofs.Laws.{refused-unchanged}
+use Rattle.rolling.proofs.Laws as laws
+use Rattle.door.specs.Door.{Replies, callOf}
+use Rattle.door.specs.DoorRolling.{RollInput, aKnown, anInstant, aReading, rollCallOf, rollBufferOf, RollSeen}
+use Rattle.traces.specs.Trace as engine
+use Rattle.traces.proofs.Steps.{memory-same, bytes-read, number-read}
+use Rattle.driven.specs.Driven.{handed, inside, answerIn}
+use Rattle.driven.proofs.Inside.{number-inside, bytes-inside, reply-ruled, call-handed}
+use Rattle.rolled.specs.Rolled.{Memory, shown, LentAt, left, Made, made, More, seenOf, number, bytesOf, othersBy, moved, asMade, within, AsRuled}
+use Rattle.rolled.proofs.Inside.{Promised, promised, state-is, Step, step, trace-lent, trace-inside, replies-of}
+
+module _ (name : List ℕ) (h : List Made) (m : Memory) (i : RollInput) (r : RollSeen) (c : More name h m i r) where
+  here : LentAt m
+  here = trace-lent name h m (c .trace)
+
+  holds : Promised m i r
+  holds = promised m i r here (c .typed) (c .allowed)
+
+  -- the door's promise, whatever the call
+  replies : Replies (roll (rollCallOf i) (shown m) .called) (see (m .core .words) .ringEnd) (rollBufferOf i) (r .reply) (r .words) (r .bytes) (r .buffer)
+  replies = replies-of m i r (c .allowed)
+
+  pub as-ruled : AsRuled m i r
+  as-ruled =
+      record {
+        state = state-is m i r holds;
+        reply = reply-ruled replies;
+        bytes = bytes-inside replies ∙ engine-bytes;
+        buffer = holds .answers .buffer;
+      }
+    where
+      engine-bytes : engine.bytesIn (answerIn (r .reply)) (r .buffer) ≡ writtenBy (roll (rollCallOf i) (shown m) .called .answer)
+      engine-bytes = rw (holds .answers .answer, holds .answers .buffer) (bytes-read (roll (rollCallOf i) (shown m) .called .answer) (roll (rollCallOf i) (shown m) .called .moved) (rollBufferOf i))
+
+  pub number-first : number r ≡ firstNumber (rollChecks (rollCallOf i) (shown m))
+  number-first =
+      number-inside replies ∙ ap engine.numberIn (holds .answers .answer)
+      ∙ number-read (roll (rollCallOf i) (shown m) .called .answer) (roll (rollCallOf i) (shown m) .called .moved)
+      ∙ laws.bad-call-number (rollCallOf i) (shown m)
+
+  pub unchanged : 0 < number r → (left r ≡ m) × (r .buffer ≡ rollBufferOf i)
+  unfolding engine.numberIn
+  unchanged bad = go (answerIn (r .reply)) refl
+    where
+      go : (a : Answer) → answerIn (r .reply) ≡ a → (left r ≡ m) × (r .buffer ≡ rollBufferOf i)
+      go (Refused n) e =
+          let u = refused-unchanged (rollCallOf i) n (m .core .words) (m .core .bytes) (m .counter) (rollBufferOf i) (answerIn (r .reply))
+          (r .words) (r .bytes) (r .counter) (r .buffer) here holds e in
+          ((λ j. record { core = memory-same (left r .core) (m .core) (u .0) (u .1) j; counter = u .2 j }), u .3)
+      go (Done consumed written moved) e =
+          let z : number r ≡ 0 = number-inside replies ∙ ap engine.numberIn e in
+          absurd (omega arith)
+
+  -- C reads the bytes that the engine has written
+  pub bytes-are : bytesOf r ≡ engine.bytesOf (inside (seenOf r))
+  bytes-are = bytes-inside replies
+
+  -- a call with a number writes nothing
+  none-written : eqb (number r) 0 ≡ false → bytesOf r ≡ []
+  unfolding engine.numberIn engine.bytesIn
+  none-written bad = go (answerIn (r .reply)) refl
+    where
+      go : (a : Answer) → answerIn (r .reply) ≡ a → bytesOf r ≡ []
+      go (Refused n) e = bytes-inside replies ∙ ap (λ a. engine.bytesIn a (r .buffer)) e
+      go (Done consumed written moved) e =
+          let z : number r ≡ 0 = number-inside replies ∙ ap engine.numberIn e in
+          let y : true ≡ false = sym (ap (λ n. eqb n 0) z) ∙ bad in
+          let x : _≡_ {A = ℕ} 0 1 = cc in
+          absurd (omega arith)
+
+-- ## The engine's call
+
+-- j is the engine's, with the records of its answer but for a Splice_Request's own; or there is none, and nothing is written
+pub data Next (name : List ℕ) (h : List Made) (m : Memory) (i : RollInput) (r : RollSeen) : Type 0 where
+  silent : bytesOf r ≡ [] → Next name h m i r
+  calls-of : (j : engine.Input) → engine.More name (within h) (m .core) j (inside (seenOf r))
+      → ((rs : List Record) → othersBy i rs ≡ othersOf (engine.callOf j) rs) → Next name h m i r
+
+time-next : (name : List ℕ) (h : List Made) (m : Memory) (i : RollInput) (r : RollSeen) (c : More name h m i r) (b : Bool) (e : List ℕ)
+    → eqb (number r) 0 ≡ b → asMade i r ≡ moved e r → ((rs : List Record) → othersBy i rs ≡ rs) → Step m i r → Next name h m i r
+unfolding othersOf
+time-next name h m i r c true e q f o s =
+    let t = shown (left r) .splicer .clock in
+    let g : asMade i r ≡ engine.made (engine.aMove t e) (inside (seenOf r)) ∷ [] =
+    f ∙ ap (λ b. cond b (engine.made (engine.aMove t e) (inside (seenOf r)) ∷ []) []) q in
+    let x = subst (λ y. engine.Leads (m .core) y (left r .core)) g (s .leads) in
+    calls-of (engine.aMove t e) (record { trace = trace-inside name h m (c .trace); typed = x .0; allowed = x .1 }) o
+time-next name h m i r c false e q f o s = silent (none-written name h m i r c q)
+
+pub next : (name : List ℕ) (h : List Made) (m : Memory) (i : RollInput) (r : RollSeen) → More name h m i r → Next name h m i r
+next name h m (aKnown i) r c =
+    let x = step m (aKnown i) r (trace-lent name h m (c .trace)) (c .typed) (c .allowed) .leads in
+    calls-of (handed i) (record { trace = trace-inside name h m (c .trace); typed = x .0; allowed = x .1 }) (λ rs. ap (λ k. othersOf k rs) (call-handed i))
+next name h m (anInstant g e) r c =
+    time-next name h m (anInstant g e) r c (eqb (number r) 0) e refl refl (λ rs. refl) (step m (anInstant g e) r (trace-lent name h m (c .trace)) (c .typed) (c .allowed))
+next name h m (aReading x e) r c =
+    time-next name h m (aReading x e) r c (eqb (number r) 0) e refl refl (λ rs. refl) (step m (aReading x e) r (trace-lent name h m (c .trace)) (c .typed) (c .allowed))
+
+-- ## Nothing written
+
+pub none-long : (l : List ℕ) → l ≡ [] → length l ≤ 3174
+none-long l e = rw e (omega arith)
+
+others-none : (k : Call) → othersOf k [] ≡ []
+unfolding othersOf front
+others-none (opens c) = refl
+others-none (closes c room) = refl
+others-none (messages c l loans) = go (isSplice l)
+  where
+    go : (b : Bool) → cond b (front {A = Record} []) [] ≡ []
+    go true = refl
+    go false = refl
+others-none (ticks seconds micros room) = refl
+others-none (moves until room) = refl
+
+others-by-none : (i : RollInput) → othersBy i [] ≡ []
+others-by-none (aKnown i) = others-none (callOf i)
+others-by-none (anInstant g e) = refl
+others-by-none (aReading x e) = refl
+
+none-in : recordsIn [] ≡ []
+unfolding recordsIn recordsUpTo
+none-in = refl
+
+pub none-ends : (d x : ℕ) (i : RollInput) (l : List ℕ) (n : ℕ) → l ≡ [] → endsOf d x (othersBy i (recordsIn l)) ≤ n
+none-ends d x i l n e = rw (e, none-in, others-by-none i) (omega arith)
+
+pub none-outs : (d x : ℕ) (l : List ℕ) (n : ℕ) → l ≡ [] → outsOf d x (recordsIn l) ≤ n
+none-outs d x l n e = rw (e, none-in) (omega arith)
