@@ -215,6 +215,7 @@ module _ (name : List ℕ) (h g : List Made) (m : Memory) (d : ℕ) (e : List �
 
   -- its sessions of before stand in the book as they stood at the close, each with its one end; newer are those accepted since
   pub closed-stays-ended : Stands d (book (events (h ++ (x ∷ []))) []) (book (events (h ++ (x ∷ g))) [])
+  unfolding within
   closed-stays-ended =
       rw (within-append h (x ∷ []), within-append h (x ∷ g))
       (called.closed-stays-ended name (within h) (within g) (m .core) d e (inside (seenOf r))
