@@ -1,6 +1,6 @@
-//! Links the archive that `rt staticlib door` made, and for the feature `bench` that of
-//! `rt staticlib bench`. SPLICER_LIB names their folder; without it, the repository's own
-//! `target/staticlib` is taken.
+//! Links the archives that `rt staticlib door` and `rt staticlib rolldoor` made, and for the feature
+//! `bench` that of `rt staticlib bench`. SPLICER_LIB names their folder; without it, the
+//! repository's own `target/staticlib` is taken.
 
 use std::path::{Path, PathBuf};
 
@@ -12,6 +12,7 @@ fn main() {
     };
     println!("cargo:rustc-link-search=native={}", folder.display());
     link(&folder, "door");
+    link(&folder, "rolldoor");
     if std::env::var_os("CARGO_FEATURE_BENCH").is_some() {
         link(&folder, "bench");
     }

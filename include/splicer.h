@@ -1,4 +1,5 @@
-/* splicer.h: the proved splicer core for drivers in C11 or C++17. Link with libdoor.a (rt staticlib door).
+/* splicer.h: the proved splicer core for drivers in C11 or C++17. Link with libdoor.a (rt staticlib door); a driver of the card with a rolling
+ * counter also with librolldoor.a (rt staticlib rolldoor).
  *
  * One struct splicer is one output channel with its connections 0 to 3. The driver owns its memory; the core keeps none of its
  * own, allocates nothing and has no globals. Every call borrows its arguments until it returns and keeps no pointer.

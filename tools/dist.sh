@@ -44,7 +44,7 @@ pc() {
     echo 'Description: proved splicer core, one output channel and four API connections (ITU-T J.280)'
     echo "Version: $version"
     echo 'Cflags: -I${prefix}/include'
-    echo 'Libs: -L${prefix}/lib -ldoor'
+    echo 'Libs: -L${prefix}/lib -lrolldoor -ldoor'
 }
 
 # manifest: of the files in the present folder, and what they were made by
@@ -74,7 +74,7 @@ desk() {
 gathered() {
     mkdir -p bin include lib/pkgconfig share/man/man1 share/splicer/rust share/doc/splicer/docs
     cp "$source"/include/*.h include/
-    cp "$source/target/staticlib/libdoor.a" "$source/target/staticlib/libbench.a" lib/
+    for name in door rolldoor bench; do cp "$source/target/staticlib/lib$name.a" lib/; done
     pc >lib/pkgconfig/splicer.pc
     cp "$source/target/bin/card" "$source/target/bin/checker" "$source/target/desk/release/desk" bin/
     cp "$source/desk/desk.1" share/man/man1/
@@ -93,12 +93,13 @@ built() {
     if [ -n "$proved" ]; then
         mkdir -p "$source/target"
         cp -R target/rlib target/stamp target/log "$source/target/"
-        rm -f "$source/target/stamp/card" "$source/target/stamp/door"
+        rm -f "$source/target/stamp/card" "$source/target/stamp/door" "$source/target/stamp/rolldoor"
     fi
     here=$PWD
     (
         cd "$source"
         proving "$1/archive.log" staticlib door
+        proving "$1/rolldoor.log" staticlib rolldoor
         proving "$1/bench.log" staticlib bench
         proving "$1/card.log" check card checker
         echo 'building desk'

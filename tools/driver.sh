@@ -38,10 +38,11 @@ header() {
     done
 }
 
-# built: the archive of the proved crate, and the programs over it
+# built: the archives of the proved crates, and the programs over them
 built() {
     rt staticlib door && sh tools/build-driver.sh "$work/driver" examples/driver.c target/staticlib/libdoor.a -Iinclude &&
-        sh tools/build-driver.sh "$work/rolling" examples/rolling.c target/staticlib/libdoor.a -Iinclude
+        rt staticlib rolldoor &&
+        sh tools/build-driver.sh "$work/rolling" examples/rolling.c target/staticlib/libdoor.a target/staticlib/librolldoor.a -Iinclude
 }
 
 # runs: the program writes what was worked out by hand

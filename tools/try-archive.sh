@@ -1,6 +1,7 @@
 #!/bin/sh
 # try-archive.sh [OUT.a]: an UNPROVED x86-64 archive of crate `door` and all it reaches, from their sources as they stand, to measure and try
-# code before it is proved. OUT.a is target/try/libdoor.a if it is not given. A tool for development: no part of the gate, and no product.
+# code before it is proved; CRATE names another crate than `door`. Without OUT.a: target/try/libdoor.a, and librolldoor.a beside it. A tool
+# for development: no part of the gate, and no product.
 #   ARCHIVE=target/try/libdoor.a sh tools/measure.sh counts     instructions of its calls
 #   SPLICER_LIB=target/try                                      for cargo in bindings/ and model/beside/
 # How: `rt try` compiles a program of the door's source with an empty main, and its LLVM module is kept. In a program no function is
@@ -15,10 +16,17 @@ esac
 needs rt
 find_kit
 cd "$(dirname "$0")/.."
-out=${1:-target/try/libdoor.a}
+door=${CRATE:-door}
+if [ $# -eq 0 ]; then
+    CRATE=door sh tools/try-archive.sh target/try/libdoor.a
+    CRATE=rolldoor sh tools/try-archive.sh target/try/librolldoor.a
+    exit
+fi
+out=$1
 tools=$kit/on/$(uname -m)/toolchain
 target=x86_64-unknown-linux-gnu
 work=$PWD/target/try
+[ "$door" = door ] || work=$work-$door
 trial=$work/repo
 
 fail() {
@@ -28,9 +36,9 @@ fail() {
 
 # reached: the crates that the door reaches
 reached() {
-    awk '
+    awk -v door="$door" '
     { sub(/#.*/, ""); at = index($0, ":"); if (at) deps[substr($0, 1, at - 1)] = substr($0, at + 1) }
-    END { visit("door") }
+    END { visit(door) }
     function visit(name,    n, i, list) {
         n = split(deps[name], list, " ")
         for (i = 1; i <= n; i++) if (!(list[i] in seen)) { seen[list[i]] = 1; print list[i]; visit(list[i]) }
@@ -44,22 +52,22 @@ cp crates.txt "$trial/"
 for crate in "$PWD"/crates/*; do
     ln -s "$crate" "$trial/crates/"
 done
-rm "$trial/crates/door"
-mkdir "$trial/crates/door"
-cp -R crates/door/src "$trial/crates/door/src"
-mv "$trial/crates/door/src/lib.rt" "$trial/crates/door/src/main.rt"
-printf '\nfn main() {}\n' >>"$trial/crates/door/src/main.rt"
+rm "$trial/crates/$door"
+mkdir "$trial/crates/$door"
+cp -R crates/$door/src "$trial/crates/$door/src"
+mv "$trial/crates/$door/src/lib.rt" "$trial/crates/$door/src/main.rt"
+printf '\nfn main() {}\n' >>"$trial/crates/$door/src/main.rt"
 
 # the first module is the program's; a later one has the compiler's assumptions checked
 here=$PWD
-if ! (cd "$trial" && sh "$here/tools/kept-module.sh" "$work" try door) >"$work/try.log" 2>&1; then
+if ! (cd "$trial" && sh "$here/tools/kept-module.sh" "$work" try "$door") >"$work/try.log" 2>&1; then
     cat "$work/try.log" >&2
     # rt try does not say where: the front end by itself does
     set -- --lib "std=$kit/libs/std/src/lib.rt"
     for crate in $(reached); do
         set -- "$@" --lib "$crate=$trial/crates/$crate/src/lib.rt"
     done
-    "$kit/on/$(uname -m)/bin/rattle-print-mir" "$trial/crates/door/src/main.rt" --crate-name door "$@" >"$work/mir" || :
+    "$kit/on/$(uname -m)/bin/rattle-print-mir" "$trial/crates/$door/src/main.rt" --crate-name "$door" "$@" >"$work/mir" || :
     fail "the sources do not compile"
 fi
 
@@ -86,16 +94,17 @@ awk '
         for (i = 1; i <= n; i++)
             if (words[i] ~ /:/) line = line " " (words[i] ~ /&(mut +)?\[[^;]*\] *$/ ? 1 : 0)
         print line
-    }' "$trial/crates/door/src/main.rt" >"$work/exported"
+    }' "$trial/crates/$door/src/main.rt" >"$work/exported"
 [ -s "$work/exported" ] || fail "the door exports nothing"
 
 # behind the module: the C form of each; a struct that is returned goes through memory, its address first (one of more than 16 bytes)
-awk -v list="$work/exported" '
+awk -v list="$work/exported" -v door="$door" '
+    BEGIN { inside = "^define internal .*@\"" door "::[a-z0-9_]+\"\\("; before = "^.*@\"" door "::" }
     BEGIN { while ((getline line < list) > 0) { name = line; sub(/ .*/, "", name); slices[name] = substr(line, length(name) + 2) } }
     { print (/^define i32 @main\(\)/ ? "define internal i32 @main() {" : $0) }
-    /^define internal .*@"door::[a-z0-9_]+"\(/ {
+    $0 ~ inside {
         name = $0
-        sub(/^.*@"door::/, "", name)
+        sub(before, "", name)
         sub(/".*/, "", name)
         if (name in slices) { heads[name] = $0; order[++count] = name }
     }
@@ -131,10 +140,10 @@ awk -v list="$work/exported" '
         print "\ndefine " (through ? "noundef ptr" : back) " @" name "(" pars ") #0 {"
         printf "%s", body
         if (back == "void") {
-            print "  call void @\"door::" name "\"(" args ")"
+            print "  call void @\"" door "::" name "\"(" args ")"
             print (through ? "  ret ptr %a1" : "  ret void")
         } else {
-            print "  %r = call " back " @\"door::" name "\"(" args ")"
+            print "  %r = call " back " @\"" door "::" name "\"(" args ")"
             print "  ret " k " %r"
         }
         print "}"

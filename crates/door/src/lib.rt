@@ -3,15 +3,11 @@
 use engine::Answer;
 use memory::BYTES;
 use memory::WORDS;
-use rolling::Given;
 ghost use mathlib.Core.Path.{_≡_};
 ghost use mathlib.Core.List.{[]};
 ghost use Rattle.rules.specs.Calls.{fresh, openCall, closeCall, messageCall, tickCall, lending};
 ghost use Rattle.engine.specs.Lent.{Lent, Counts};
 ghost use Rattle.door.specs.Door.{replyOf, Replies, Hears};
-ghost use Rattle.rules.specs.Rolling.{rollingFresh, readingCall};
-ghost use Rattle.rolling.specs.LentRolling.{LentRolling};
-ghost use Rattle.door.specs.DoorRolling.{RollReplies, RollHears, instantOf};
 
 // The house number of a refusal or 0, the bytes consumed and written, and how many places an acceptance shifted.
 fn reply_of(a: Answer) -> [u64; 4]
@@ -123,64 +119,4 @@ pub extern "C" fn splicer_4_waiting(
     ensures { λ _. ⌜ Counts (now (words .entry)) (now (bytes .entry)) (now (counts .exit)) ⌝ }
 {
     *counts = engine::waiting(words, bytes);
-}
-
-// 02, CR 9: the card with a rolling counter. Its splicer's words and bytes go to open, close, message and the read above; the counter's words
-// stand beside them.
-#[no_mangle]
-pub extern "C" fn splicer_4_rolling_fresh(
-    name: &[u8; 32],
-    words: &mut [u64; WORDS],
-    bytes: &mut [u8; BYTES],
-    counter: &mut [u64; 2],
-    reply: &mut [u64; 4],
-)
-    ensures { λ _.
-        ⌜ RollReplies (rollingFresh (now (name .entry))) 0 [] (now (reply .exit)) (now (words .exit)) (now (bytes .exit))
-        (now (counter .exit)) [] ⌝ }
-{
-    let a = rolling::fresh(name, &mut *words, &mut *bytes, &mut *counter);
-    *reply = reply_of(a);
-}
-
-// given: Seconds, MicroSeconds and the counter's reading.
-#[no_mangle]
-pub extern "C" fn splicer_4_instant(
-    words: &mut [u64; WORDS],
-    bytes: &mut [u8; BYTES],
-    counter: &mut [u64; 2],
-    given: &[u32; 3],
-    out: &mut [u8],
-    reply: &mut [u64; 4],
-)
-    requires { ⌜ LentRolling (now words) (now bytes) (now counter) ⌝ }
-    ensures { λ _.
-        ⌜ RollHears (instantOf (now (given .entry))) (now (words .entry)) (now (bytes .entry)) (now (counter .entry)) (now (out .entry))
-        (now (reply .exit)) (now (words .exit)) (now (bytes .exit)) (now (counter .exit)) (now (out .exit)) ⌝ }
-{
-    let instant = Given {
-        seconds: given[0],
-        micros: given[1],
-        reading: given[2],
-    };
-    let a = rolling::instant(&mut *words, &mut *bytes, &mut *counter, instant, &mut *out);
-    *reply = reply_of(a);
-}
-
-#[no_mangle]
-pub extern "C" fn splicer_4_reading(
-    words: &mut [u64; WORDS],
-    bytes: &mut [u8; BYTES],
-    counter: &mut [u64; 2],
-    reading: u32,
-    out: &mut [u8],
-    reply: &mut [u64; 4],
-)
-    requires { ⌜ LentRolling (now words) (now bytes) (now counter) ⌝ }
-    ensures { λ _.
-        ⌜ RollHears (readingCall reading) (now (words .entry)) (now (bytes .entry)) (now (counter .entry)) (now (out .entry))
-        (now (reply .exit)) (now (words .exit)) (now (bytes .exit)) (now (counter .exit)) (now (out .exit)) ⌝ }
-{
-    let a = rolling::reading(&mut *words, &mut *bytes, &mut *counter, reading, &mut *out);
-    *reply = reply_of(a);
 }

@@ -19,7 +19,7 @@ use Rattle.rolling.proofs.Ruled.{Ahead, instant-ahead, reading-ahead}
 use Rattle.rolling.proofs.Calls.{lent-core, lent-steady, refused-rolls, brought-rolls, fresh-rolls}
 use Rattle.rolling.proofs.Laws.{rolls-same}
 use Rattle.door.specs.Door.{replyOf, Input, callOf, bufferOf}
-use Rattle.door.specs.DoorRolling.{RollReplies, RollInput, aKnown, anInstant, aReading, RollTyped, rollCallOf, rollBufferOf, RollSeen}
+use Rattle.rolldoor.specs.RollDoor.{RollReplies, RollInput, aKnown, anInstant, aReading, RollTyped, rollCallOf, rollBufferOf, RollSeen}
 use Rattle.door.proofs.Laws.{replies-same}
 use Rattle.traces.specs.Trace as engine
 use Rattle.traces.proofs.Steps.{memory-same}

@@ -1,6 +1,6 @@
 -- READ THIS for the card with a rolling counter: 02's CR 9 and the customer's demands as theorems about its calls for C, from the words that C
 -- sees, each under its sentence. The only hypothesis is a trace (specs/Rolled): its fresh, then any opens, closes, messages, instants and
--- readings, each result one that the call's contract allows; door/proofs/Cited and CitedRolling hold it to the contracts in door/src/lib.rt.
+-- readings, each result one that the call's contract allows; the Cited of door and of rolldoor hold it to the contracts in their src/lib.rt.
 -- Each demand is its theorem about the engine's calls (traces), through rolls-as-ruled. No axiom, no hole.
 use mathlib.Core.Path.{_≡_, refl, sym, ap, subst, _∙_}
 use mathlib.Core.Bool.{true, false, cond}
@@ -26,7 +26,7 @@ use Rattle.rolling.specs.LentRolling.{LentRolling}
 use Rattle.rolling.specs.Ruled.{rollChecks, Act, InTime, ticked, callsAt}
 use Rattle.rolling.proofs.Time as time
 use Rattle.door.specs.Door.{aClose, aMessage}
-use Rattle.door.specs.DoorRolling.{RollInput, aKnown, RollTyped, rollCallOf, rollBufferOf, RollSeen}
+use Rattle.rolldoor.specs.RollDoor.{RollInput, aKnown, RollTyped, rollCallOf, rollBufferOf, RollSeen}
 use Rattle.traces.specs.Trace.{emptyMemory}
 use Rattle.traces.specs.Trace as engine
 use Rattle.traces.proofs.Closed.{not-full, unended-newer}

@@ -26,7 +26,7 @@ use Rattle.rolling.proofs.Ruled.{Ahead, move-same, instant-ahead, reading-ahead
 use Rattle.rolling.proofs.Calls.{lent-steady, last-read}
 use Rattle.rolling.proofs.Laws.{refused-unchanged}
 use Rattle.door.specs.Door.{replyOf, Replies, Input, callOf}
-use Rattle.door.specs.DoorRolling.{RollReplies, RollInput, aKnown, anInstant, aReading, RollTyped, rollCallOf, rollBufferOf, RollSeen}
+use Rattle.rolldoor.specs.RollDoor.{RollReplies, RollInput, aKnown, anInstant, aReading, RollTyped, rollCallOf, rollBufferOf, RollSeen}
 use Rattle.traces.specs.Trace as engine
 use Rattle.traces.proofs.Steps.{wired, memory-same}
 use Rattle.driven.specs.Driven.{handed, inside, answerIn, numberIn}

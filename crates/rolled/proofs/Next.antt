@@ -19,7 +19,7 @@ use Rattle.rolling.specs.Ruled.{rollChecks}
 use Rattle.rolling.proofs.Laws.{refused-unchanged}
 use Rattle.rolling.proofs.Laws as laws
 use Rattle.door.specs.Door.{Replies, callOf}
-use Rattle.door.specs.DoorRolling.{RollInput, aKnown, anInstant, aReading, rollCallOf, rollBufferOf, RollSeen}
+use Rattle.rolldoor.specs.RollDoor.{RollInput, aKnown, anInstant, aReading, rollCallOf, rollBufferOf, RollSeen}
 use Rattle.traces.specs.Trace as engine
 use Rattle.traces.proofs.Steps.{memory-same, bytes-read, number-read}
 use Rattle.driven.specs.Driven.{handed, inside, answerIn}

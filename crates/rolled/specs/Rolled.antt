@@ -1,5 +1,5 @@
 -- A trace of the card with a rolling counter, as its driver in C sees it: its fresh, then opens, closes, messages, instants and readings, any
--- number of them in any order. What a contract allows (`RollAllowed`) stands in door/specs/DoorRolling; door/proofs/CitedRolling holds it to
+-- number of them in any order. What a contract allows (`RollAllowed`) stands in rolldoor/specs/RollDoor; rolldoor/proofs/Cited holds it to
 -- the source.
 use mathlib.Core.Path.{_≡_}
 use mathlib.Core.Bool.{cond}
@@ -15,7 +15,7 @@ use Rattle.rules.specs.Rolling.{Rolling, rollingOf, rollingFresh, RollingCall, 
 use Rattle.demands.specs.History.{Event, othersOf}
 use Rattle.rolling.specs.LentRolling.{rolling, LentRolling}
 use Rattle.door.specs.Door.{callOf, Seen}
-use Rattle.door.specs.DoorRolling.{RollReplies, RollInput, aKnown, anInstant, aReading, RollTyped, rollCallOf, rollBufferOf, RollSeen, RollAllowed}
+use Rattle.rolldoor.specs.RollDoor.{RollReplies, RollInput, aKnown, anInstant, aReading, RollTyped, rollCallOf, rollBufferOf, RollSeen, RollAllowed}
 use Rattle.traces.specs.Trace as engine
 use Rattle.driven.specs.Driven.{wordsOf, handed, inside}
 use Rattle.driven.specs.Driven as plain

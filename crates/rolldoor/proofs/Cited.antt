@@ -1,4 +1,4 @@
--- The contracts of this card's calls in src/lib.rt, as the toolchain reads them, are what specs/DoorRolling says of them. Each by computing:
+-- The contracts of this card's calls in src/lib.rt, as the toolchain reads them, are what specs/RollDoor says of them. Each by computing:
 -- whoever edits one side alone is refused here. a: what a call is handed, z: what the lent memory is at its end.
 use mathlib.Core.Path.{_≡_, refl}
 use mathlib.Core.List.{List, []}
@@ -20,10 +20,10 @@ use denote.Triple.Entry.{Args, Res}
 use Rattle.rules.specs.Rolling.{rollingFresh, roll}
 use Rattle.engine.proofs.Held.{kind, Holds, Same, number-held}
 use Rattle.rolling.specs.LentRolling.{LentRolling}
-use Rattle.door.specs.DoorRolling.{RollReplies, anInstant, aReading, RollTyped, RollSeen, RollAllowed}
-use Rattle.door.proofs.«splicer_4_rolling_fresh» as fresh
-use Rattle.door.proofs.«splicer_4_instant» as instant
-use Rattle.door.proofs.«splicer_4_reading» as reading
+use Rattle.rolldoor.specs.RollDoor.{RollReplies, anInstant, aReading, RollTyped, RollSeen, RollAllowed}
+use Rattle.rolldoor.proofs.«splicer_4_rolling_fresh» as fresh
+use Rattle.rolldoor.proofs.«splicer_4_instant» as instant
+use Rattle.rolldoor.proofs.«splicer_4_reading» as reading
 
 -- what C sees
 abbrev ended : (r m b k o : List ℕ) → RollSeen
