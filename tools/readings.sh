@@ -36,7 +36,11 @@ build() {
     mkdir -p "$crate/specs" "$crate/must-fail"
     cp -R crates/rules/src "$crate/src"
     for file in crates/rules/specs/*.antt crates/demands/specs/History.antt; do
-        case $file in */Lib.antt | */Sound.antt | */Asked.antt) continue ;; esac
+        case $file in
+        */Lib.antt | */Asked.antt) continue ;;
+        # of what follows from the rules, and of the card with a rolling counter, only for the table that speaks of it
+        */Sound.antt | */Rolling.antt) grep -q 'Rattle\.rules\.specs\.Rolling' "crates/cases/specs/$1.antt" || continue ;;
+        esac
         moved "$1" "$file" >"$crate/specs/$(basename "$file")"
     done
     for table in Scenario Computing $(sed -nE 's/^use Rattle\.cases\.specs\.([A-Za-z0-9-]+).*/\1/p' "crates/cases/specs/$1.antt") "$1"; do
