@@ -181,7 +181,11 @@ fn the_header_refers_to_versioned_names_only() {
         let body = between(HEADER_TEXT, &inline, "\n}");
         // A call that only reads takes the splicer as const.
         let lent = body.trim_start_matches("const ");
-        let own = if ROLLING.contains(name) { "struct splicer_rolling *r" } else { "struct splicer *s" };
+        let own = if ROLLING.contains(name) {
+            "struct splicer_rolling *r"
+        } else {
+            "struct splicer *s"
+        };
         assert!(lent.starts_with(own), "{name}");
         assert!(body.contains(&format!("    {call}")), "{name}");
     }

@@ -42,7 +42,9 @@ fn time(card: &mut RollingSplicer, out: &mut [u8; OUT]) -> (u32, u32) {
     let written = card.message(0, &alive, out).unwrap().written;
     let record = records(written).next().unwrap();
     match record.says() {
-        Some(Says::Alive { seconds, micros, .. }) => (seconds, micros),
+        Some(Says::Alive {
+            seconds, micros, ..
+        }) => (seconds, micros),
         other => panic!("{other:?}"),
     }
 }
@@ -53,16 +55,28 @@ fn twelve_in_all_four_ways() {
     // before the instant
     assert_eq!(card.reading(0, &mut out), Err(Refusal::Counter));
     // 2, 8, 12
-    assert_eq!(card.instant(9, 1_000_000, 0, &mut [0; 9]), Err(Refusal::NoRoom));
-    assert_eq!(card.instant(9, 1_000_000, 0, &mut out), Err(Refusal::BadMicros));
+    assert_eq!(
+        card.instant(9, 1_000_000, 0, &mut [0; 9]),
+        Err(Refusal::NoRoom)
+    );
+    assert_eq!(
+        card.instant(9, 1_000_000, 0, &mut out),
+        Err(Refusal::BadMicros)
+    );
     assert_eq!(card.instant(1000, 0, 5, &mut out), Ok(&b""[..]));
     // a second instant
     assert_eq!(card.instant(1000, 0, 5, &mut out), Err(Refusal::Counter));
-    assert_eq!(card.instant(9, 1_000_000, 0, &mut out), Err(Refusal::BadMicros));
+    assert_eq!(
+        card.instant(9, 1_000_000, 0, &mut out),
+        Err(Refusal::BadMicros)
+    );
     // over 90 s, which is not the next base, and back
     assert_eq!(card.reading(5 + 8_100_001, &mut out), Err(Refusal::Counter));
     assert_eq!(card.reading(4, &mut out), Err(Refusal::Counter));
-    assert_eq!(card.reading(5 + 8_100_000, &mut [0; 9]), Err(Refusal::NoRoom));
+    assert_eq!(
+        card.reading(5 + 8_100_000, &mut [0; 9]),
+        Err(Refusal::NoRoom)
+    );
     assert_eq!(card.reading(5 + 8_100_000, &mut out), Ok(&b""[..]));
     assert_eq!(time(&mut card, &mut out), (1090, 0));
     // past the last second of the time field: any fraction of it is good
@@ -93,14 +107,23 @@ fn a_spot_over_the_rollover() {
     assert_eq!(asked.map(|h| h.written.len()), Ok(14));
     let start = 2_u32.wrapping_sub(3 * SECOND);
     assert_eq!(card.waiting(), [1, 0, 0, 0]);
-    assert_eq!(card.instant(1000, 0, start, &mut out).map(<[u8]>::len), Ok(23));
+    assert_eq!(
+        card.instant(1000, 0, start, &mut out).map(<[u8]>::len),
+        Ok(23)
+    );
     assert_eq!(card.waiting(), [0; 4]);
     // 5 s later, 2 s and 2 ticks after the rollover
     let end = start.wrapping_add(5 * SECOND);
     assert_eq!(end, 2 * SECOND + 2);
     assert_eq!(card.reading(end - 1, &mut out), Ok(&b""[..]));
     let written = card.reading(end, &mut out).unwrap();
-    let Some(Says::Complete { session, flag, played, .. }) = records(written).next().unwrap().says() else {
+    let Some(Says::Complete {
+        session,
+        flag,
+        played,
+        ..
+    }) = records(written).next().unwrap().says()
+    else {
         panic!("a SpliceComplete");
     };
     assert_eq!((session, flag, played), (1, 1, 6 * SECOND));
