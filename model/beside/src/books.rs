@@ -71,7 +71,34 @@ fn least(kind: u16) -> usize {
 impl Books {
     /// Enters a call and its answer.
     pub fn call(&mut self, act: &Act, said: &Said) -> Kept {
-        must(said.refused == self.refusal(act), "another house number")?;
+        self.entered(self.refusal(act), said, |books, list| match &act.call {
+            Call::Open(conn) => books.opened(*conn as u8, list),
+            Call::Close(conn) => books.closed(*conn as u8, list),
+            Call::Message(conn, bytes) => {
+                let size = usize::from(half(bytes, 2));
+                must(said.consumed == HEADER + size, "not one message consumed")?;
+                books.answered(*conn as u8, &bytes[..said.consumed], list)
+            }
+            Call::Tick(seconds, micros) => books.ticked(ninths(*seconds, *micros), list),
+        })
+    }
+
+    /// Enters a call that brings the clock to a time in ninths, with the house number or 0 that it has.
+    pub fn brought(&mut self, number: u8, until: u64, said: &Said) -> Kept {
+        self.entered(number, said, |books, list| books.ticked(until, list))
+    }
+
+    pub fn clock(&self) -> u64 {
+        self.clock
+    }
+
+    fn entered(
+        &mut self,
+        number: u8,
+        said: &Said,
+        answered: impl FnOnce(&mut Books, &[Record]) -> Kept,
+    ) -> Kept {
+        must(said.refused == number, "another house number")?;
         if said.refused != 0 {
             return must(
                 said.consumed == 0 && said.written.is_empty() && said.moved == 0,
@@ -86,16 +113,7 @@ impl Books {
         for record in &list {
             well_formed(record)?;
         }
-        match &act.call {
-            Call::Open(conn) => self.opened(*conn as u8, &list)?,
-            Call::Close(conn) => self.closed(*conn as u8, &list)?,
-            Call::Message(conn, bytes) => {
-                let size = usize::from(half(bytes, 2));
-                must(said.consumed == HEADER + size, "not one message consumed")?;
-                self.answered(*conn as u8, &bytes[..said.consumed], &list)?;
-            }
-            Call::Tick(seconds, micros) => self.ticked(ninths(*seconds, *micros), &list)?,
-        }
+        answered(self, &list)?;
         must(said.moved == self.moved, "another number of places moved")?;
         if list.is_empty() {
             return Ok(());
@@ -232,7 +250,8 @@ impl Books {
         Ok(())
     }
 
-    /// "State 2 and the SessionID on air, or State 1 and 0xFFFFFFFF; the present clock".
+    /// "State 2 and the SessionID on air, or State 1 and 0xFFFFFFFF; the present clock, microseconds
+    /// rounded down."
     fn alive(&self, conn: u8, answer: &Record) -> Kept {
         must(
             is(answer, conn, id::ALIVE_RESPONSE, 100),
@@ -245,7 +264,7 @@ impl Books {
         let shown = (word(answer.data, 0), word(answer.data, 4));
         must(shown == (state, session), "another one on air")?;
         let clock = ninths(word(answer.data, 8), word(answer.data, 12));
-        must(clock == self.clock, "another clock")
+        must(clock == self.clock / 9 * 9, "another clock")
     }
 
     /// "121 if this connection doesn't hold the SessionID; else 100, then the session's end and
