@@ -36,6 +36,10 @@ else
 fi
 ran mistakes "$model" recordings --seed 280 --n 10 --faults || :
 
+# a rolling card's calls (02, CR 9) have no marks: the second program by itself; beside.sh holds the archive to it
+ran rolls "$model" rolls --seed 280 --n 200 || :
+ran slips "$model" rolls --seed 280 --n 60 --faults || :
+
 # the definitions themselves, on three streams
 ran definitions sh tools/definitions.sh 280 3 || :
 

@@ -7,6 +7,7 @@ use crate::card::{self, Call, Done};
 use crate::people::{agreement, differing, time_text};
 use crate::reading::{self, Request, SpliceFields};
 use crate::records::{self, named, number, Item, Record, What};
+use crate::rolling::{self, Rolling};
 use crate::rules::{ninths, NONE, TICK};
 
 /// One accepted session of the day.
@@ -52,6 +53,28 @@ pub fn as_run(input: &[u8], output: &[u8]) -> (String, bool) {
         text += &differing(&run, agreed, &output[at..]);
     }
     (text, same)
+}
+
+/// The same of a rolling card's calls (02, CR 9), played by the second program.
+pub fn as_rolled(calls: &[rolling::Call]) -> String {
+    let (mut card, _) = Rolling::fresh(&card::channel_name());
+    let mut day = Day::default();
+    for call in calls {
+        let output = card.shown(call);
+        match call {
+            rolling::Call::Plain(call) => day.call(&Done {
+                call: call.clone(),
+                to: 0,
+                output,
+            }),
+            _ => {
+                day.clock = card.splicer.clock;
+                day.records(&records::items(&output));
+            }
+        }
+    }
+    day.air(None, day.clock);
+    day.list() + &day.timeline()
 }
 
 impl Day {
@@ -344,6 +367,28 @@ mod tests {
         ] {
             assert!(lines.contains(&line.to_string()), "{line}\n{text}");
         }
+    }
+
+    #[test]
+    fn a_spot_over_the_rollover_of_the_counter() {
+        let text = include_str!("../scenarios/02-rolling-rollover.txt");
+        let calls = scenario::rolling_calls(&scenario::parse(text).unwrap()).unwrap();
+        let text = as_rolled(&calls);
+        let lines: Vec<String> = text
+            .lines()
+            .map(|l| l.split_whitespace().collect::<Vec<_>>().join(" "))
+            .collect();
+        for line in [
+            "0 7 1003.000000 1005.000000 180000 100 (Successful Response)",
+            "1003.000000 1005.000000 connection 0 session 7",
+        ] {
+            assert!(lines.contains(&line.to_string()), "{line}\n{text}");
+        }
+        // aborted a tick behind its start, between two microseconds
+        let text = include_str!("../scenarios/02-rolling-played.txt");
+        let calls = scenario::rolling_calls(&scenario::parse(text).unwrap()).unwrap();
+        let text = as_rolled(&calls);
+        assert!(text.contains("1003.000011+1/9           1  116"), "{text}");
     }
 
     #[test]

@@ -2,6 +2,7 @@
 //! own at hand, which is asked for the present state, so that the episodes can aim.
 
 use crate::card::{self, Call};
+use crate::rolls;
 use crate::rules::{Session, Splicer, State, MICROSECOND, NONE, SECOND};
 use crate::scenario::message;
 
@@ -62,6 +63,8 @@ pub struct Gen {
     pub unit: u64,
     /// The stream plays near the top of the range and must not run against it soon.
     pub at_the_top: bool,
+    /// Of a rolling card's stream: its counter and its calls.
+    pub rolling: Option<Box<rolls::Rolls>>,
 }
 
 impl Gen {
@@ -73,6 +76,7 @@ impl Gen {
             calls: 0,
             unit: 1,
             at_the_top: false,
+            rolling: None,
         }
     }
 
@@ -101,6 +105,9 @@ impl Gen {
     }
 
     pub fn call(&mut self, call: Call) {
+        if self.rolling.is_some() {
+            return rolls::call(self, call);
+        }
         self.bytes.extend(card::input_bytes(&call));
         card::make(&mut self.model, &call);
         self.calls += 1;
@@ -116,7 +123,7 @@ impl Gen {
         self.call(Call::Message(conn, bytes));
     }
 
-    /// The clock in microseconds. (The clock only ever comes from wire times.)
+    /// The clock in microseconds, rounded down on a rolling card.
     pub fn now(&self) -> u64 {
         self.model.clock / MICROSECOND
     }

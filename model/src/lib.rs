@@ -23,8 +23,11 @@ pub mod reading;
 pub mod recording;
 pub mod recordings;
 pub mod records;
+pub mod rolling;
+pub mod rolls;
 pub mod rules;
 pub mod scenario;
+pub mod table;
 #[cfg(test)]
 mod tests;
 

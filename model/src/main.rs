@@ -2,7 +2,7 @@
 
 use model::faults::Fault;
 use model::{
-    asrun, card, cases, check, fuzz, option, people, pieces, recording, recordings, scenario,
+    asrun, card, cases, check, fuzz, option, people, pieces, recording, recordings, rolls, scenario,
 };
 use std::io::{Read, Write};
 
@@ -19,12 +19,16 @@ model pieces --seed S --n N --card CMD       N generated streams through the car
 model faults --seed S --n N                  shows that each deliberate fault is noticed
 model decode IN OUT                          a recording's calls and answers as lines
 model asrun IN OUT                           a recording's as-run list and timeline
+model asrun SCENARIO                         those of a scenario's calls, a rolling card's too
 model check FILE                             02's checker (CR 14): the first call of a recording (or of a
                                              scenario, FILE.txt) whose records are not the due ones
 model record FILE                            card input, or a scenario's calls and records, as a recording
 model recordings --seed S --n N [--checker CMD] [--out DIR] [--table] [--floors off] [FILE...]
                                              recordings of N streams, whole and damaged, and of scenario files,
                                              through both checkers; written with their lines into DIR
+model rolls --seed S --n N [--table] [--floors off]
+                                             N streams of a rolling card (02, CR 9) on the second program
+model rolls --seed S --n N --faults          shows that each deliberate mistake of a rolling card is noticed
 model recordings --seed S --n N --faults     shows that each deliberate mistake of a checker is noticed
 ";
 
@@ -53,10 +57,12 @@ fn command(args: &[String]) -> Result<bool, String> {
         "pieces" => run_pieces(rest),
         "faults" => run_faults(rest),
         "decode" => run_recording(rest, people::decode),
+        "asrun" if rest.len() == 1 => run_asrun(&rest[0]),
         "asrun" => run_recording(rest, asrun::as_run),
         "check" => run_check(rest),
         "record" => run_record(rest),
         "recordings" => run_recordings(rest),
+        "rolls" => run_rolls(rest),
         "help" | "--help" => {
             print!("{HELP}");
             Ok(true)
@@ -91,6 +97,9 @@ fn run_scenario(args: &[String]) -> Result<bool, String> {
     if let Some(path) = option(&mut args, "--bytes")? {
         let text = std::fs::read_to_string(&path).map_err(|e| format!("{path}: {e}"))?;
         let steps = scenario::parse(&text).map_err(|e| format!("{path}: {e}"))?;
+        if scenario::is_rolling(&steps) {
+            return Err(format!("{path}: a rolling card's calls are no card input"));
+        }
         return write_out(&scenario::input_of(&steps));
     }
     if let Some(dir) = option(&mut args, "--tables")? {
@@ -108,6 +117,10 @@ fn write_tables(dir: &str, files: &[String]) -> Result<bool, String> {
     for path in files {
         let text = std::fs::read_to_string(path).map_err(|e| format!("{path}: {e}"))?;
         let steps = scenario::parse(&text).map_err(|e| format!("{path}: {e}"))?;
+        // a rolling card's calls are none of the card program
+        if scenario::is_rolling(&steps) {
+            continue;
+        }
         let file = format!("{dir}/{}.antt", cases::module(path));
         let table = cases::table(path, &text, &steps);
         std::fs::write(&file, table).map_err(|e| format!("{file}: {e}"))?;
@@ -140,7 +153,24 @@ fn read_either(args: &[String]) -> Result<(Vec<u8>, Option<Vec<scenario::Step>>)
     }
     let text = String::from_utf8(bytes).map_err(|e| format!("{path}: {e}"))?;
     let steps = scenario::parse(&text).map_err(|e| format!("{path}: {e}"))?;
+    if scenario::is_rolling(&steps) {
+        return Err(format!("{path}: a rolling card's calls have no marks"));
+    }
     Ok((Vec::new(), Some(steps)))
+}
+
+/// The as-run list of a scenario's calls.
+fn run_asrun(path: &String) -> Result<bool, String> {
+    let text = std::fs::read_to_string(path).map_err(|e| format!("{path}: {e}"))?;
+    let steps = scenario::parse(&text).map_err(|e| format!("{path}: {e}"))?;
+    if scenario::is_rolling(&steps) {
+        let calls = scenario::rolling_calls(&steps).map_err(|e| format!("{path}: {e}"))?;
+        return write_out(asrun::as_rolled(&calls).as_bytes());
+    }
+    let input = scenario::input_of(&steps);
+    let (text, same) = asrun::as_run(&input, &card::run(&input, None).output());
+    write_out(text.as_bytes())?;
+    Ok(same)
 }
 
 fn run_check(args: &[String]) -> Result<bool, String> {
@@ -184,6 +214,22 @@ fn run_recordings(args: &[String]) -> Result<bool, String> {
         return recordings::faults(plan.seed, plan.n);
     }
     recordings::recordings(&plan)
+}
+
+fn run_rolls(args: &[String]) -> Result<bool, String> {
+    let mut args = args.to_vec();
+    let (seed, n) = (required(&mut args, "--seed")?, required(&mut args, "--n")?);
+    let floors = option(&mut args, "--floors")?.as_deref() != Some("off");
+    let (table, faults) = (flag(&mut args, "--table"), flag(&mut args, "--faults"));
+    if let Some(index) = option(&mut args, "--show")? {
+        let index = index.parse().map_err(|_| format!("no number: {index}"))?;
+        return write_out(rolls::lines(seed, index).as_bytes());
+    }
+    nothing_left(&args)?;
+    if faults {
+        return rolls::faults(seed, n);
+    }
+    rolls::rolls(seed, n, table, floors)
 }
 
 fn required(args: &mut Vec<String>, name: &str) -> Result<u64, String> {

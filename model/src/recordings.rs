@@ -774,21 +774,23 @@ pub struct Plan {
 }
 
 /// What the card program makes of a scenario's calls.
-fn of_scenario(path: &str) -> Result<Made, String> {
+fn of_scenario(path: &str) -> Result<Option<Made>, String> {
     let text = std::fs::read_to_string(path).map_err(|e| format!("{path}: {e}"))?;
     let steps = scenario::parse(&text).map_err(|e| format!("{path}: {e}"))?;
-    Ok(Made {
+    // a rolling card's calls have no marks
+    Ok((!scenario::is_rolling(&steps)).then(|| Made {
         kind: "scenario",
         bytes: recorded(&scenario::input_of(&steps)),
         known: Some(Finding::None),
-    })
+    }))
 }
 
 /// Every recording with a name.
 fn all(plan: &Plan) -> impl Iterator<Item = Result<(String, Made), String>> + '_ {
-    let files = plan.files.iter().map(|path| {
+    let files = plan.files.iter().filter_map(|path| {
         let name = path.rsplit('/').next().unwrap_or(path);
-        Ok((name.replace(".txt", ".rec"), of_scenario(path)?))
+        let made = of_scenario(path).transpose()?;
+        Some(made.map(|made| (name.replace(".txt", ".rec"), made)))
     });
     let streams = (0..plan.n).flat_map(move |index| {
         let named = move |(place, made)| {
@@ -844,7 +846,7 @@ pub fn recordings(plan: &Plan) -> Result<bool, String> {
     println!(
         "recordings: {count} recordings of {} streams and {} scenarios, {bytes} bytes, {differ} differ",
         plan.n,
-        plan.files.len()
+        tally.of("scenario")
     );
     Ok(differ == 0 && missing.is_empty())
 }

@@ -195,10 +195,15 @@ impl Splicer {
         if time < self.clock || (self.faulty(Fault::PresentTimeRefused) && time == self.clock) {
             return self.refuse("tick 3 earlier than the clock", 3);
         }
+        Ok(self.bring(time))
+    }
+
+    /// Brings the clock to a time in ninths, not before the present one.
+    pub fn bring(&mut self, until: u64) -> Vec<Record> {
         let mut out = Vec::new();
-        self.work_through(time, &mut out);
-        self.clock = time;
-        Ok(out)
+        self.work_through(until, &mut out);
+        self.clock = until;
+        out
     }
 
     /// "Answering a message, first that applies", 1 to 5.

@@ -3,6 +3,7 @@
 use crate::card::{self, Call};
 use crate::compare;
 use crate::records::{self, Record, What};
+use crate::rolling;
 
 /// One call of a scenario, its bytes, and the bytes it must write.
 #[derive(Debug, PartialEq, Eq)]
@@ -11,6 +12,8 @@ pub struct Step {
     pub text: String,
     pub input: Vec<u8>,
     pub expected: Vec<u8>,
+    /// A call that only a rolling card has (02, CR 9): there is no card input of it.
+    pub rolling: Option<rolling::Call>,
 }
 
 /// Reads a scenario file's text. An error names the line.
@@ -23,11 +26,17 @@ pub fn parse(text: &str) -> Result<Vec<Step>, String> {
             continue;
         }
         if let Some(rest) = line.strip_prefix('>') {
+            let rolling = rolling_call(rest.trim()).map_err(at)?;
+            let input = match rolling {
+                Some(_) => Vec::new(),
+                None => call_bytes(rest.trim()).map_err(at)?,
+            };
             steps.push(Step {
                 line: index + 1,
                 text: line.to_string(),
-                input: call_bytes(rest.trim()).map_err(at)?,
+                input,
                 expected: Vec::new(),
+                rolling,
             });
         } else if let Some(rest) = line.strip_prefix('<') {
             let bytes = expected_bytes(rest.trim()).map_err(at)?;
@@ -159,6 +168,50 @@ fn hex_bytes(text: &str) -> Result<Vec<u8>, String> {
         return Err("half a byte is left over".to_string());
     }
     Ok(digits.chunks(2).map(|d| (d[0] * 16 + d[1]) as u8).collect())
+}
+
+/// `instant TIME reading=N` or `reading N`.
+fn rolling_call(line: &str) -> Result<Option<rolling::Call>, String> {
+    let words = words_of(line)?;
+    let rest = words.get(2..).unwrap_or_default();
+    match (words.first().map(String::as_str), words.get(1)) {
+        (Some("instant"), Some(text)) => {
+            let (seconds, micros) = time(text)?;
+            let mut fields = Fields::new(rest)?;
+            let reading = fields.required("reading")?;
+            fields.done()?;
+            Ok(Some(rolling::Call::Instant {
+                seconds,
+                micros,
+                reading,
+            }))
+        }
+        (Some("reading"), Some(text)) => {
+            Fields::new(rest)?.done()?;
+            Ok(Some(rolling::Call::Reading(number(text)?)))
+        }
+        _ => Ok(None),
+    }
+}
+
+/// Whether the scenario is one of a rolling card.
+pub fn is_rolling(steps: &[Step]) -> bool {
+    steps.iter().any(|step| step.rolling.is_some())
+}
+
+/// The calls of a rolling card's scenario.
+pub fn rolling_calls(steps: &[Step]) -> Result<Vec<rolling::Call>, String> {
+    let call = |step: &Step| match &step.rolling {
+        Some(call) => Ok(call.clone()),
+        None => match card::next_call(&step.input) {
+            Ok((Call::Tick(..), _)) => {
+                Err(format!("line {}: a rolling card has no tick", step.line))
+            }
+            Ok((call, length)) if length == step.input.len() => Ok(rolling::Call::Plain(call)),
+            _ => Err(format!("line {}: not one call", step.line)),
+        },
+    };
+    steps.iter().map(call).collect()
 }
 
 fn call_bytes(line: &str) -> Result<Vec<u8>, String> {
@@ -375,10 +428,28 @@ fn told(call: &str, who: &str, expected: &[u8], got: &[u8]) -> String {
     text
 }
 
-/// Runs one scenario file through the second program and, if given, the card program.
-fn run_file(path: &str, card: Option<&str>) -> Result<(), String> {
+/// Runs a rolling card's scenario through the second program.
+fn run_rolling(steps: &[Step]) -> Result<(), String> {
+    let calls = rolling_calls(steps).map_err(|e| format!("  {e}\n"))?;
+    let (mut card, _) = rolling::Rolling::fresh(&card::channel_name());
+    for (step, call) in steps.iter().zip(&calls) {
+        let output = card.shown(call);
+        if let Some(text) = difference(std::slice::from_ref(step), "the second program", &output) {
+            return Err(text);
+        }
+    }
+    Ok(())
+}
+
+/// Runs one scenario file through the second program and, if given, the card program; says if it did
+/// not run there.
+fn run_file(path: &str, card: Option<&str>) -> Result<&'static str, String> {
     let text = std::fs::read_to_string(path).map_err(|e| format!("  {e}\n"))?;
     let steps = parse(&text).map_err(|e| format!("  {e}\n"))?;
+    if is_rolling(&steps) {
+        run_rolling(&steps)?;
+        return Ok(" (a rolling card: the second program, not the card program)");
+    }
     let input = input_of(&steps);
     let own = card::run(&input, None).output();
     if let Some(text) = difference(&steps, "the second program", &own) {
@@ -393,7 +464,7 @@ fn run_file(path: &str, card: Option<&str>) -> Result<(), String> {
             return Err(format!("  {text}\n"));
         }
     }
-    Ok(())
+    Ok("")
 }
 
 /// All files; true if all passed.
@@ -402,7 +473,7 @@ pub fn run_files(paths: &[String], card: Option<&str>) -> bool {
     for path in paths {
         let name = path.rsplit('/').next().unwrap_or(path);
         match run_file(path, card) {
-            Ok(()) => println!("ok {name}"),
+            Ok(which) => println!("ok {name}{which}"),
             Err(text) => {
                 failed += 1;
                 print!("FAILED {name}\n{text}");
@@ -530,6 +601,33 @@ mod tests {
             "52 00 00 02 00 22 00 68 FF FF 00 02 43 48 31 00"
         );
         assert_eq!(init.len(), 44);
+    }
+
+    #[test]
+    fn words_of_a_rolling_card() {
+        let call = |line: &str| rolling_call(line).unwrap();
+        let instant = rolling::Call::Instant {
+            seconds: 5,
+            micros: 7,
+            reading: 0xFFFF_FFFF,
+        };
+        assert_eq!(call("instant 5.000007 reading=0xFFFFFFFF"), Some(instant));
+        assert_eq!(call("reading 12"), Some(rolling::Call::Reading(12)));
+        assert_eq!(call("tick 5"), None);
+        for line in [
+            "instant 5",
+            "instant 5 reading=1 x=2",
+            "reading 1 2",
+            "reading x",
+        ] {
+            assert!(rolling_call(line).is_err(), "{line}");
+        }
+        let mixed = parse("> reading 1\n> tick 5\n").unwrap();
+        assert!(is_rolling(&mixed));
+        assert!(rolling_calls(&mixed).is_err());
+        let wrong = parse("> reading 1\n< refused 3\n").unwrap();
+        let text = run_rolling(&wrong).unwrap_err();
+        assert!(text.contains("got       refused 12"), "{text}");
     }
 
     #[test]
