@@ -6,6 +6,7 @@ mod books;
 mod calls;
 mod checked;
 mod pair;
+mod rolled;
 mod run;
 mod wrong;
 
@@ -18,6 +19,7 @@ use wrong::Wrong;
 const HELP: &str = "\
 beside [--seed S] [--n N] [--first I] [--threads T]   N streams through both, then every fault
        [--recordings R]                               and recordings of R streams through both checkers
+       [--rolling R]                                  and R streams of a rolling card through both
 beside --fault NAME [--seed S]                        one deliberate fault, by its name
 ";
 
@@ -93,6 +95,7 @@ fn command(mut args: Vec<String>) -> Result<bool, String> {
         threads: number(&mut args, "--threads", 2)?.max(1),
     };
     let recordings = number(&mut args, "--recordings", 40)?;
+    let rolling = number(&mut args, "--rolling", 300)?;
     if let Some(word) = args.first() {
         return Err(format!("unknown word {word}"));
     }
@@ -108,6 +111,7 @@ fn command(mut args: Vec<String>) -> Result<bool, String> {
         None => {
             let mut results = everything(&plan, &list);
             results.extend(checked::everything(plan.seed, recordings));
+            results.extend(rolled::everything(plan.seed, rolling));
             results
         }
     };
