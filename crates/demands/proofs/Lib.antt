@@ -11,3 +11,10 @@ pub mod Book
 pub mod Once
 pub mod Closed
 pub mod Aired
+pub mod Ninths
+pub mod Marks
+pub mod Owned
+pub mod Moments
+pub mod Owners
+pub mod Said
+pub mod Same

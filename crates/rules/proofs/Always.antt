@@ -12,7 +12,7 @@ use Rattle.rules.specs.Bytes.{part, hasZero, messageSize}
 use Rattle.rules.specs.Reading.{isRead, readSplice}
 use Rattle.rules.specs.State.{Queue, Splicer, holds, linkOf, isOpen, withQueue, withLink, withClock}
 use Rattle.rules.specs.Ends.{andThen, aborted, closedBy}
-use Rattle.rules.specs.Instants.{runAll}
+use Rattle.rules.specs.Instants.{runAll, silentAll}
 use Rattle.rules.specs.Answers.{requested, accepted}
 use Rattle.rules.specs.Calls.{Called, ticked, Loans, Call, messages, call, after, named, fresh}
 use Rattle.rules.proofs.Tests.{by}
@@ -56,7 +56,7 @@ pub record Kept (F : Call → Type 0) (P : Splicer → Type 0) : Type 0 where
   pub closing : (s : Splicer) (c : ℕ) → c ≤ 3 → isOpen (linkOf c s) ≡ true → P s → P (withLink c Closed (withQueue (closedBy c (s .queue) .queue) s))
   pub aborting : (s : Splicer) (c x : ℕ) → c ≤ 3 → isOpen (linkOf c s) ≡ true → holds c x (s .queue) ≡ true → P s → P (withQueue (aborted c x (s .queue) .queue) s)
   pub accepting : (s : Splicer) (c : ℕ) (r : Request) → Admitted F s c r → P s → P (withQueue (accepted (requested c r (s .queue)) (s .queue) .queue) s)
-  pub ticking : (s : Splicer) (k : Call) (until : ℕ) → F k → Brings k until → s .clock ≤ until → P s → P (withClock until (withQueue (runAll (s .clock) until (s .queue) .queue) s))
+  pub ticking : (s : Splicer) (k : Call) (until : ℕ) → F k → Brings k until → s .clock ≤ until → P s → P (withClock until (silentAll (s .clock) until (s .queue)) (withQueue (runAll (s .clock) until (s .queue) .queue) s))
 
 -- a fact of clock and queue: connections play no part
 pub record KeptHeld (F : Call → Type 0) (J : ℕ → Queue → Type 0) : Type 0 where

@@ -15,6 +15,7 @@ pub mod Moves
 pub mod Tick
 pub mod Readings
 pub mod Timed
+pub mod Silence
 pub mod Sessions
 pub mod Ranked
 pub mod Room

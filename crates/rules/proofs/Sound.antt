@@ -21,6 +21,7 @@ use Rattle.rules.proofs.Always.{Wired, Kept, KeptHeld, held-kept, call-
 use Rattle.rules.proofs.Tick.{Due, meets, due-first, due-meets, elapse-due, moved}
 use Rattle.rules.proofs.Sessions.{each-elapse, each-instant, waiting-instant}
 use Rattle.rules.proofs.Timed.{meets-after}
+use Rattle.rules.proofs.Silence.{silentAll-most}
 use Rattle.rules.proofs.Aired.{elapse-played, Aired, aired-kept, moved-aired}
 use Rattle.rules.proofs.Ranked.{Falling, falling-kept, falling-instant, falling-onAir, ten}
 use Rattle.rules.proofs.Room.{Room, room-kept, room-fewer, room-none, sixty-four}
@@ -113,12 +114,17 @@ sound-kept =
     let l : Kept Wired Linking = linking-kept in
     let k = held-kept Holding holding-kept in
     record {
-      opening = λ s c low e h. record { linking = l .opening s c low e (h .linking); clock = h .clock; holding = h .holding };
-      naming = λ s c low e h. record { linking = l .naming s c low e (h .linking); clock = h .clock; holding = h .holding };
-      closing = λ s c low e h. record { linking = l .closing s c low e (h .linking); clock = h .clock; holding = k .closing s c low e (h .holding) };
-      aborting = λ s c x low e a h. record { linking = l .aborting s c x low e a (h .linking); clock = h .clock; holding = k .aborting s c x low e a (h .holding) };
-      accepting = λ s c r a h. record { linking = l .accepting s c r a (h .linking); clock = h .clock; holding = k .accepting s c r a (h .holding) };
-      ticking = λ s j until f b le h. record { linking = l .ticking s j until f b le (h .linking); clock = brings-early j until f b; holding = k .ticking s j until f b le (h .holding) };
+      opening = λ s c low e h. record { linking = l .opening s c low e (h .linking); clock = h .clock; primary = h .primary; holding = h .holding };
+      naming = λ s c low e h. record { linking = l .naming s c low e (h .linking); clock = h .clock; primary = h .primary; holding = h .holding };
+      closing = λ s c low e h. record { linking = l .closing s c low e (h .linking); clock = h .clock; primary = h .primary; holding = k .closing s c low e (h .holding) };
+      aborting = λ s c x low e a h. record { linking = l .aborting s c x low e a (h .linking); clock = h .clock; primary = h .primary; holding = k .aborting s c x low e a (h .holding) };
+      accepting = λ s c r a h. record { linking = l .accepting s c r a (h .linking); clock = h .clock; primary = h .primary; holding = k .accepting s c r a (h .holding) };
+      ticking = λ s j until f b le h. record {
+        linking = l .ticking s j until f b le (h .linking);
+        clock = brings-early j until f b;
+        primary = omega (arith, h .primary, silentAll-most (s .clock) until (s .queue) le (h .holding .timed));
+        holding = k .ticking s j until f b le (h .holding);
+      };
     }
 
 pub sound-call : (s : Splicer) (k : Call) → Wired k → Sound s → Sound (call k s .splicer)
@@ -140,8 +146,8 @@ nothing-held =
 pub sound-fresh : (name : List ℕ) → length name ≡ 32 → All Byte name → Sound (fresh name .splicer)
 unfolding fresh named
 sound-fresh name e a =
-    by (λ (k : Called). Linking (k .splicer) → Sound (k .splicer)) (hasZero name) _ _ (λ z l. record { linking = l; clock = omega arith; holding = nothing-held })
-    (λ z l. record { linking = l; clock = omega arith; holding = nothing-held }) (linking-fresh name e a)
+    by (λ (k : Called). Linking (k .splicer) → Sound (k .splicer)) (hasZero name) _ _ (λ z l. record { linking = l; clock = omega arith; primary = omega arith; holding = nothing-held })
+    (λ z l. record { linking = l; clock = omega arith; primary = omega arith; holding = nothing-held }) (linking-fresh name e a)
 
 pub sound-always : (ks : List Call) (name : List ℕ) → length name ≡ 32 → All Byte name → All Wired ks → Sound (after ks (fresh name .splicer))
 sound-always ks name e a f = always Wired Sound sound-kept ks (fresh name .splicer) f (sound-fresh name e a)

@@ -273,7 +273,7 @@ moved-less now until t q e =
     let d = t .0 - now in
     omega (arith, instant-less (t .0) (elapse d q) (omega (arith, elapse-meets (t .0) d q)), elapse-toCome (t .0) d q)
 
-none-due : (t : ℕ) (q : Queue) → toCome q ≤ 0 → Due t q
+pub none-due : (t : ℕ) (q : Queue) → toCome q ≤ 0 → Due t q
 none-due t q h = go (q .waiting) (q .started) h
   where
     go : (w k : List Session) → 2 * length w + length k ≤ 0 → Due t (record { waiting = w; started = k })
@@ -281,7 +281,7 @@ none-due t q h = go (q .waiting) (q .started) h
     go [] (s ∷ k) h = absurd (omega arith)
     go (s ∷ w) k h = absurd (omega arith)
 
-due-none : (q : Queue) → toCome q ≤ 0 → due q ≡ Never
+pub due-none : (q : Queue) → toCome q ≤ 0 → due q ≡ Never
 unfolding due
 due-none q h = rw (earliest-none (λ s. s .end) (q .started) (omega arith), earliest-none (λ s. s .start) (q .waiting) (omega arith))
 
@@ -297,7 +297,7 @@ unfolding run
 run-more n now until t q e = rw e
 
 -- a fact of what follows, from the fact of each case
-pub by-next : (P : Turn → Type 0) (f : ℕ → Turn) (x : Turn) (a : When) → ((t : Ninths) → a ≡ At t → P (f (t .0))) → (a ≡ Never → P x) → P (onwards f x a)
+pub by-next : {A : Type 0} (P : A → Type 0) (f : ℕ → A) (x : A) (a : When) → ((t : Ninths) → a ≡ At t → P (f (t .0))) → (a ≡ Never → P x) → P (onwards f x a)
 by-next P f x (At t) g h = g t refl
 by-next P f x Never g h = h refl
 

@@ -15,7 +15,7 @@ use Rattle.rules.specs.State.{Splicer, linkOf, isOpen, withLink, withQue
 use Rattle.rules.specs.Records.{Record, output}
 use Rattle.rules.specs.Ends.{closedBy}
 use Rattle.rules.specs.Answers.{Answered, answer}
-use Rattle.rules.specs.Instants.{runAll}
+use Rattle.rules.specs.Instants.{runAll, silentAll}
 
 -- the table of house numbers
 unfoldable pub houseNumber : Refusal → ℕ
@@ -92,6 +92,7 @@ named name =
     record {
       name = name;
       clock = 0;
+      primary = 0;
       links = Closed ∷ Closed ∷ Closed ∷ Closed ∷ [];
       queue = record { waiting = []; started = [] };
     }
@@ -147,7 +148,7 @@ messageCall c l loans s =
 unfoldable pub ticked : ℕ → Splicer → Called
 ticked until s =
     let t = runAll (s .clock) until (s .queue) in
-    does 0 (t .written) (withClock until (withQueue (t .queue) s))
+    does 0 (t .written) (withClock until (silentAll (s .clock) until (s .queue)) (withQueue (t .queue) s))
 
 -- a tick whose time is in ninths: 2, 3. "A tick to the present time is good and writes nothing."
 unfoldable pub moveCall : (until room : ℕ) → Splicer → Called

@@ -93,7 +93,7 @@ unfoldable pub elapse : ℕ → Queue → Queue
 elapse d q = withStarted (onAir d (q .started)) q
 
 -- f of the next instant, or x where there is none
-abbrev pub onwards : (ℕ → Turn) → Turn → When → Turn
+abbrev pub onwards : {A : Type 0} → (ℕ → A) → A → When → A
 onwards f x (At t) = f (t .0)
 onwards f x Never = x
 
@@ -107,3 +107,20 @@ run (suc n) now until q =
 -- each instant leaves fewer starts and ends to come, so this is never cut short
 unfoldable pub runAll : ℕ → ℕ → Queue → Turn
 runAll now until q = run (toCome q) now until q
+
+-- ## 02, CR 13: "a primary sum it keeps from now on"
+
+-- of d ninths, those in which nothing is on air, if nothing starts or ends in them
+abbrev pub silence : ℕ → List Session → ℕ
+silence d [] = d
+silence d (s ∷ k) = 0
+
+-- of a tick from the time now to until: as `run` goes through it, where it calls `elapse`
+unfoldable pub silent : ℕ → ℕ → ℕ → Queue → ℕ
+silent zero now until q = silence (until - now) (q .started)
+silent (suc n) now until q =
+    let on : ℕ → ℕ = λ t. silence (t - now) (q .started) + silent n t until (instant t (elapse (t - now) q) .queue) in
+    onwards on (silence (until - now) (q .started)) (notAfter until (due q))
+
+unfoldable pub silentAll : ℕ → ℕ → Queue → ℕ
+silentAll now until q = silent (toCome q) now until q

@@ -105,6 +105,7 @@ pub record Linking (s : Splicer) : Type 0 where
 pub record Sound (s : Splicer) : Type 0 where
   pub linking : Linking s
   pub clock : s .clock < horizon
+  pub primary : s .primary ≤ s .clock
   pub holding : Holding (s .clock) (s .queue)
 
 -- ## "A splicer is what fresh and the calls since have given; a call may rely on that and on nothing else."

@@ -18,10 +18,12 @@ pub record Queue : Type 0 where
   pub waiting : List Session
   pub started : List Session
 
--- name: the configured ChannelName, up to its first zero. links: of connections 0 to 3
+-- name: the configured ChannelName, up to its first zero. links: of connections 0 to 3. primary: 02, CR 13, the ninths up to the clock in
+-- which nothing was on air
 pub record Splicer : Type 0 where
   pub name : List ℕ
   pub clock : ℕ
+  pub primary : ℕ
   pub links : List Link
   pub queue : Queue
 
@@ -122,13 +124,14 @@ isInitialised Initialised = true
 -- ## The state with one part made anew
 
 abbrev pub withQueue : Queue → Splicer → Splicer
-withQueue q s = record { name = s .name; clock = s .clock; links = s .links; queue = q }
+withQueue q s = record { name = s .name; clock = s .clock; primary = s .primary; links = s .links; queue = q }
 
 abbrev pub withLink : ℕ → Link → Splicer → Splicer
-withLink c l s = record { name = s .name; clock = s .clock; links = set (s .links) c l; queue = s .queue }
+withLink c l s = record { name = s .name; clock = s .clock; primary = s .primary; links = set (s .links) c l; queue = s .queue }
 
-abbrev pub withClock : ℕ → Splicer → Splicer
-withClock t s = record { name = s .name; clock = t; links = s .links; queue = s .queue }
+-- d ninths more of it were the primary channel's
+abbrev pub withClock : (clock d : ℕ) → Splicer → Splicer
+withClock t d s = record { name = s .name; clock = t; primary = s .primary + d; links = s .links; queue = s .queue }
 
 abbrev pub withWaiting : List Session → Queue → Queue
 withWaiting w q = record { waiting = w; started = q .started }
