@@ -11,26 +11,28 @@ esac
 needs cargo
 cd "$(dirname "$0")/.."
 specs=crates/cases/specs
-hand='Layouts Rooms Rehearsed Histories Worked Moved Counted'
+hand='Layouts Rooms Rehearsed Histories Worked Moved Counted Days'
 made=target/cases
 rm -rf "$made"
 mkdir -p "$made"
 CARGO_TARGET_DIR=target/model cargo build --quiet --release --offline --manifest-path model/Cargo.toml
 target/model/release/model scenario --tables "$made" model/scenarios/*.txt
 
-# the modules of rules that the card program is written in, that of demand 3, and their definitions
+# the modules of rules that the card program is written in, those of demand 3 and of CR 13, and their definitions
 modules='Lists Bytes Reading State Records Ends Instants Answers Calls Card'
 names=$({
     for m in $modules; do
         sed -nE "s/^ *unfoldable pub ([^ ]+).*/$m.\\1/p" "crates/rules/specs/$m.antt"
     done
-    sed -nE 's/^ *unfoldable pub ([^ ]+).*/History.\1/p' crates/demands/specs/History.antt
+    for m in History Airing; do
+        sed -nE "s/^ *unfoldable pub ([^ ]+).*/$m.\\1/p" "crates/demands/specs/$m.antt"
+    done
 } | tr '\n' ' ')
 {
     echo '-- The definitions that the tables are computed with, made by tools/cases.sh: `unfolding computing` unfolds them all.'
     echo 'use Prim.Native.Nat.{ℕ}'
     for m in $modules; do echo "use Rattle.rules.specs.$m"; done
-    echo 'use Rattle.demands.specs.History'
+    for m in History Airing; do echo "use Rattle.demands.specs.$m"; done
     echo 'use Rattle.cases.specs.Scenario.{digit, hex, row, input, output, joined, eachStep, eachRun, outputs, oneMore, callsIn, size, same, fits, Written}'
     printf '\nunfoldable pub computing : ℕ\nunfolding digit hex row input output joined eachStep eachRun outputs oneMore callsIn size same fits Written %s\ncomputing = 0\n' "${names% }"
 } >"$made/Computing.antt"

@@ -1,5 +1,5 @@
 #!/bin/sh
-# readings.sh [--all | LABEL..]: tries wrong readings of document 01, edits of the definitions in crates/rules and of demands' History: those of
+# readings.sh [--all | LABEL..]: tries wrong readings of document 01, edits of the definitions in crates/rules and of demands' History and Airing: those of
 # crates/cases/readings, as the gate does; with --all those of crates/cases/more-readings too; or the named ones.
 # Each edit names a table of the crate cases, and that table alone must refuse it: definitions and table are put into one crate of a scratch
 # repository under target/, with no law and no other table beside them. The last line is 'N passed, M failed'.
@@ -35,7 +35,7 @@ build() {
     crate=$work/crates/$(crate_of "$1")
     mkdir -p "$crate/specs" "$crate/must-fail"
     cp -R crates/rules/src "$crate/src"
-    for file in crates/rules/specs/*.antt crates/demands/specs/History.antt; do
+    for file in crates/rules/specs/*.antt crates/demands/specs/History.antt crates/demands/specs/Airing.antt; do
         case $file in
         */Lib.antt | */Asked.antt) continue ;;
         # of what follows from the rules, and of the card with a rolling counter, only for the table that speaks of it

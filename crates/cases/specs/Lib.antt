@@ -7,6 +7,7 @@ pub mod Histories
 pub mod Worked
 pub mod Moved
 pub mod Counted
+pub mod Days
 pub mod Case-01-card-cut-header
 pub mod Case-01-card-cut-mark
 pub mod Case-01-card-cut-message

@@ -34,7 +34,8 @@ use Rattle.rules.proofs.Silence.{silentAll-most}
 use Rattle.rules.proofs.Sound.{sound-call, sound-fresh, sound-found}
 use Rattle.demands.specs.Told.{FromFresh}
 use Rattle.demands.specs.Airing.{Airing, newest, heard, byThen, heardAll, startAsked, airingAsked, airedAnswered, airedAfter, airedReplied, airings, during, peakAt, topAt, primaryTime, airTime, sumBy}
-use Rattle.demands.specs.Airing.{airingsTold, clockTold, primaryTold, timeTold, airTold, numberTold, Gapless, Printed, Within, oldest, newer, stands}
+use Rattle.demands.specs.Airing.{airingsTold, clockTold, primaryTold, timeTold, airTold, numberTold}
+use Rattle.demands.specs.Moments.{Gapless, Printed, Within, oldest, newer, stands}
 use Rattle.demands.proofs.Laws.{Plain}
 use Rattle.demands.proofs.Cases.{cases}
 use Rattle.demands.proofs.Waiting.{front-last, last-last}

@@ -29,7 +29,8 @@ use Rattle.rules.proofs.Sessions.{count-held}
 use Rattle.rules.proofs.Fitted.{recordsOf}
 use Rattle.rules.proofs.Sound.{sound-found}
 use Rattle.demands.specs.Told.{FromFresh, isOut}
-use Rattle.demands.specs.Airing.{Airing, airingIs, nobodys, newest, begins, lists, saysPlayed, ends, marked, concerns, heard, byThen, heardAll, airedAnswered, airedAfter, airTime, airingsTold, numberTold, PlayedAs}
+use Rattle.demands.specs.Airing.{Airing, airingIs, nobodys, newest, begins, lists, saysPlayed, ends, marked, concerns, heard, byThen, heardAll, airedAnswered, airedAfter, airTime, airingsTold, numberTold}
+use Rattle.demands.specs.Moments.{PlayedAs}
 use Rattle.demands.proofs.Laws.{Law, Plain, closedBy-law, answered-law, tick-law, outs-ends}
 use Rattle.demands.proofs.Cases.{cases}
 use Rattle.demands.proofs.Room.{from-sound}

@@ -1,26 +1,25 @@
 -- 02, CR 13: who owned each ninth, from calls and answer bytes alone.
-use mathlib.Core.Path.{_≡_}
 use mathlib.Core.Bool.{Bool, true, false, cond, not, _&&_, _||_}
 use mathlib.Core.List.{List, [], _∷_}
-use Prim.Native.Nat.{ℕ, zero, suc, _+_, _-_, _/_, _≤_, max, min}
+use Prim.Native.Nat.{ℕ, zero, suc, _+_, max, min}
 use lib.Dec.{eqb, leb, ltb}
 use Rattle.rules.specs.declared.Start.{Start}
 use Rattle.rules.specs.declared.Start.the-variants.{Timed, Linked}
 use Rattle.rules.specs.declared.Message.{Message}
 use Rattle.rules.specs.declared.Message.the-variants.{Init, Alive, Splice, Abort, Unreadable}
 use Rattle.rules.specs.Units.{fromMicros, fromTicks}
-use Rattle.rules.specs.Lists.{All, bit, some, put}
+use Rattle.rules.specs.Lists.{bit, some, put}
 use Rattle.rules.specs.Reading.{sessionID, readSplice, dataIn}
 use Rattle.rules.specs.State.{sameNumber}
 use Rattle.rules.specs.Records.{Record, General, InitResponse, AliveResponse, SpliceResponse, SpliceComplete, AbortResponse, recordsIn}
 use Rattle.rules.specs.Calls.{Call, opens, closes, messages, ticks, moves}
 use Rattle.demands.specs.History.{Reply, refusal, wrote, Event, isStart, isEnd, grantedIn, othersIn, clockReplied, clockAfter}
-use Rattle.demands.specs.Told.{isOut}
 
 -- ## Sessions as calls and answers tell them
 
 -- an accepted session: its AccessType, start and end are the request's; begun: its start was written; over: its end was written, and
--- if it had begun it was over at the time `to`; listed: that end was a SpliceComplete flag 1, and said its PlayedDuration
+-- if it had begun it was over at the time `to` (which means nothing for one that never began); listed: that end was a SpliceComplete flag 1,
+-- and said its PlayedDuration
 pub record Airing : Type 0 where
   pub conn : ℕ
   pub id : ℕ
@@ -209,30 +208,3 @@ airTold h = sumBy (timeTold h) (airingsTold h)
 -- that of the session which connection c last accepted under the number x
 abbrev pub numberTold : List Event → ℕ → ℕ → ℕ
 numberTold h c x = timeTold h (newest c x (airingsTold h))
-
--- "Between any two points of any sequence of calls, the growth of the time on the primary channel plus that of all sessions' time on air, in
--- ninths, equals the clock's advance between them": a history h, and a later one g
-pub record Gapless (h g : List Event) : Type 0 where
-  pub primary : primaryTold h ≤ primaryTold g
-  pub air : airTold h ≤ airTold g
-  pub clock : clockTold h ≤ clockTold g
-  pub whole : (primaryTold g - primaryTold h) + (airTold g - airTold h) ≡ clockTold g - clockTold h
-
--- a session a of a history h, and the same, b, in a later one g: its time never falls, and is fixed once its end is written
-pub record Printed (h g : List Event) (a b : Airing) : Type 0 where
-  pub conn : b .conn ≡ a .conn
-  pub id : b .id ≡ a .id
-  pub access : b .access ≡ a .access
-  pub grows : timeTold h a ≤ timeTold g b
-  pub fixed : a .over ≡ true → (b ≡ a) × (timeTold g b ≡ timeTold h a)
-
--- each of l stands in m, in its order, with newer ones between them
-pub data Within (R : Airing → Airing → Type 0) : List Airing → List Airing → Type 0 where
-  oldest : Within R [] []
-  newer : {b : Airing} {l m : List Airing} → Within R l m → Within R l (b ∷ m)
-  stands : {a b : Airing} {l m : List Airing} → R a b → Within R l m → Within R (a ∷ l) (b ∷ m)
-
--- "The sums that the engine itself keeps, from which PlayedDuration is rounded": each SpliceComplete flag 1 among the records rs has as
--- PlayedDuration the time that h tells of its session, "divided by 100, rounded down"
-abbrev pub PlayedAs : List Event → List Record → Type 0
-PlayedAs h rs = (c x : ℕ) → All (λ r. isOut c x r ≡ true → saysPlayed r ≡ numberTold h c x / 100) rs

@@ -1,3 +1,4 @@
 pub mod History
 pub mod Told
 pub mod Airing
+pub mod Moments
