@@ -1,5 +1,5 @@
 -- The loop of `run`: what was done so far, and the rest of the tick from there.
--- Rests on rules' laws of a tick (`runAll-enough`: no tick is cut short, so the rest of one is a tick too) and of all that is held.
+-- Rests on rules' laws of a tick (`runAll-enough`, `silentAll-more`: no tick is cut short, so the rest of one is a tick too) and of all that is held.
 use mathlib.Core.Path.{_≡_, refl, sym, ap, subst, _∙_}
 use mathlib.Core.List.{List, [], _++_, append-assoc, append-nil}
 use Prim.Native.Nat.{ℕ, suc, _+_, _-_, _≤_, _<_}
@@ -11,18 +11,20 @@ use Rattle.rules.specs.Lists.{All}
 use Rattle.rules.specs.State.{Queue, due, notAfter, toCome}
 use Rattle.rules.specs.Records.{Record, output}
 use Rattle.rules.specs.Ends.{Turn, quiet, andThen, writes}
-use Rattle.rules.specs.Instants.{instant, elapse, runAll}
+use Rattle.rules.specs.Instants.{instant, elapse, runAll, silence, silentAll}
 use Rattle.rules.specs.Sound.{Since, Holding, horizon}
 use Rattle.rules.proofs.All.{all-into}
 use Rattle.rules.proofs.Bounds.{longest}
 use Rattle.rules.proofs.Tick.{moved, moved-less, due-first, due-time, elapse-toCome, run-stop, run-more, runAll-enough}
+use Rattle.rules.proofs.Silence.{silentAll-stop, silentAll-more, silence-most}
 use Rattle.rules.proofs.Size.{instant-brief}
 use Rattle.rules.proofs.Sound.{few-started, next-after, holding-next, played-then}
 use Rattle.rules.proofs.Written.{length-written}
-use Rattle.memory.specs.Memory.{Memory, Form, see, queued, Now}
+use Rattle.memory.specs.Memory.{Memory, Form, see, queued, silenced, Now}
+use Rattle.memory.proofs.Laws.{silenced-then, silenced-none}
 use Rattle.ends.specs.Does.{Playable, roomFor, Tells, Turns}
 use Rattle.ends.proofs.Laws.{tells-none, tells-then}
-use Rattle.instants.specs.Runs.{Meets, Placed, Lasts, Lasting}
+use Rattle.instants.specs.Runs.{Meets, Placed, Lasts, Lasting, passed, Ticked}
 
 -- ## A tick, an instant at a time
 
@@ -76,7 +78,9 @@ module _ (now until : ℕ) (q : Queue) where
 -- from words that showed s₀ and the buffer e: it is `at`, the words m show what is left, and o is written up to n
 pub record Running (until : ℕ) (s₀ : Memory) (e m : List ℕ) (n at : ℕ) (o : List ℕ) : Type 0 where
   pub form : Form m
-  pub kept : see m ≡ queued (see m .queue) s₀
+  pub silent : ℕ
+  pub kept : see m ≡ queued (see m .queue) (silenced silent s₀)
+  pub early : see m .primary ≤ at
   pub holding : Holding at (see m .queue)
   pub time : at ≤ until
   pub room : n + roomFor (toCome (see m .queue)) ≤ length e
@@ -84,18 +88,23 @@ pub record Running (until : ℕ) (s₀ : Memory) (e m : List ℕ) (n at : ℕ) (
   pub sofar : List Record
   pub tells : Tells e 0 sofar n o
   pub rest : runAll (s₀ .clock) until (s₀ .queue) ≡ behind sofar (runAll at until (see m .queue))
+  pub silence : silentAll (s₀ .clock) until (s₀ .queue) ≡ silent + silentAll at until (see m .queue)
 
 -- what `run` asks
 abbrev Asks : ℕ → List ℕ → List ℕ → Type 0
 Asks until m e =
     let s = see m in
-    Form m × (Holding (s .clock) (s .queue) × (((s .clock ≤ until) × (until < horizon)) × (roomFor (toCome (s .queue)) ≤ length e)))
+    Form m
+    × (Holding (s .clock) (s .queue)
+    × (((s .clock ≤ until) × (until < horizon)) × ((s .primary ≤ s .clock) × (roomFor (toCome (s .queue)) ≤ length e))))
 
 pub first-turn : {until at : ℕ} {m : List ℕ} (e : List ℕ) → at ≡ see m .clock → Asks until m e → Running until (see m) e m 0 at e
-first-turn {until} {at} {m} e i (f, (h, ((le, _), room))) =
+first-turn {until} {at} {m} e i (f, (h, ((le, _), (early, room)))) =
     record {
       form = f;
-      kept = refl;
+      silent = 0;
+      kept = sym (silenced-none (see m));
+      early = omega arith;
       holding = subst (λ (t : ℕ). Holding t (see m .queue)) (sym i) h;
       time = omega arith;
       room = omega arith;
@@ -103,20 +112,40 @@ first-turn {until} {at} {m} e i (f, (h, ((le, _), room))) =
       sofar = [];
       tells = tells-none;
       rest = ap (λ (t : ℕ). runAll t until (see m .queue)) (sym i);
+      silence = omega (arith, ap (λ (t : ℕ). silentAll t until (see m .queue)) (sym i));
     }
 
 module _ {until : ℕ} {s₀ : Memory} {e m : List ℕ} {n at : ℕ} {o : List ℕ} (v : Running until s₀ e m n at o) where
   pub turn-lasting : (t : ℕ) → at ≤ t → t < horizon → Lasting (t - at) (see m .queue .started)
   turn-lasting t le h = all-into (Since at) (Lasts (t - at)) (λ s i. omega arith) (see m .queue .started) (v .holding .played .since)
 
+  pub turn-silent : (t : ℕ) → at ≤ t → t < horizon → see m .primary + (t - at) < 18446744073709551616
+  turn-silent t le h = omega (arith, v .early)
+
+  -- what `elapse` asks, at the time t
+  pub turn-asks : (t : ℕ) → at ≤ t → t < horizon → Form m × (Lasting (t - at) (see m .queue .started) × (see m .primary + (t - at) < 18446744073709551616))
+  turn-asks t le h = (v .form, (turn-lasting t le h, turn-silent t le h))
+
+  -- so much more is the primary channel's
+  abbrev more : ℕ → ℕ
+  more t = silence (t - at) (see m .queue .started)
+
+  -- `elapse` left m′ at the time t
+  then-kept : (t : ℕ) (q : Queue) → queued q (passed (t - at) (see m)) ≡ queued q (silenced (v .silent + more t) s₀)
+  then-kept t q = ap (λ (z : Memory). silenced (more t) (queued q z)) (v .kept) ∙ silenced-then (v .silent) (more t) (queued q s₀)
+
   -- nothing is due any more, and `elapse` left m′
   pub last-turn : {m′ : List ℕ} → notAfter until (due (see m .queue)) ≡ Never →
-      Now m′ (queued (elapse (until - at) (see m .queue)) (see m)) → Turns e 0 (runAll (s₀ .clock) until (s₀ .queue)) s₀ m′ n o
+      Now m′ (passed (until - at) (see m)) → Ticked until s₀ e n m′ o
   last-turn {m′} d f =
       let q = elapse (until - at) (see m .queue) in
       let stop = ap (behind (v .sofar)) (runs-stop at until (see m .queue) d) ∙ ap (λ l. writes l q) (append-nil (v .sofar)) in
-      subst (λ (t : Turn). Turns e 0 t s₀ m′ n o) (sym (v .rest ∙ stop))
-      (record { shows = record { form = f .form; is = f .is ∙ ap (queued q) (v .kept) }; tells = v .tells })
+      let more = v .silence ∙ ap (λ (d : ℕ). v .silent + d) (silentAll-stop at until (see m .queue) d) in
+      subst (λ (t : Turn). Turns e 0 t (silenced (silentAll (s₀ .clock) until (s₀ .queue)) s₀) m′ n o) (sym (v .rest ∙ stop))
+      (record {
+        shows = record { form = f .form; is = f .is ∙ then-kept until q ∙ ap (λ (d : ℕ). queued q (silenced d s₀)) (sym more) };
+        tells = v .tells;
+      })
 
   -- the next instant is t
   module _ {t : Ninths} (d : notAfter until (due (see m .queue)) ≡ At t) where
@@ -127,7 +156,7 @@ module _ {until : ℕ} {s₀ : Memory} {e m : List ℕ} {n at : ℕ} {o : List �
     turn-after = after at until (see m .queue) d (v .holding)
 
     -- `elapse` left m′
-    module _ {m′ : List ℕ} (f : Now m′ (queued (elapse (t .0 - at) (see m .queue)) (see m))) where
+    module _ {m′ : List ℕ} (f : Now m′ (passed (t .0 - at) (see m))) where
       then : see m′ .queue ≡ elapse (t .0 - at) (see m .queue)
       then = ap (λ (z : Memory). z .queue) (f .is)
 
@@ -163,9 +192,11 @@ module _ {until : ℕ} {s₀ : Memory} {e m : List ℕ} {n at : ℕ} {o : List �
             let b = brief at until q d in
             record {
               form = given .shows .form;
+              silent = v .silent + more (t .0);
               kept =
-                  given .shows .is ∙ ap (queued (i .queue)) (f .is ∙ ap (queued (elapse (t .0 - at) q)) (v .kept))
-                  ∙ ap (λ (y : Queue). queued y s₀) (sym left);
+                  given .shows .is ∙ ap (queued (i .queue)) (f .is) ∙ then-kept (t .0) (i .queue)
+                  ∙ ap (λ (y : Queue). queued y (silenced (v .silent + more (t .0)) s₀)) (sym left);
+              early = omega (arith, v .early, turn-after, silence-most (t .0 - at) (q .started), ap (λ (z : Memory). z .primary) (given .shows .is), ap (λ (z : Memory). z .primary) (f .is));
               holding = subst (Holding (t .0)) (sym left) (held at until q d (v .holding));
               time = turn-time;
               room = omega (arith, v .room, given .tells .count, b, ap toCome left);
@@ -178,6 +209,7 @@ module _ {until : ℕ} {s₀ : Memory} {e m : List ℕ} {n at : ℕ} {o : List �
                   v .rest ∙ ap (behind (v .sofar)) (runs-more at until q d)
                   ∙ behind-then (v .sofar) (i .written) (runAll (t .0) until (i .queue))
                   ∙ ap (λ (y : Queue). behind (v .sofar ++ i .written) (runAll (t .0) until y)) (sym left);
+              silence = omega (arith, v .silence, silentAll-more at until q t d, ap (silentAll (t .0) until) left);
             }
 
 -- the next instant t has come: m are left by `elapse` of the words there were at `at`
@@ -186,7 +218,7 @@ pub record Arrived (until : ℕ) (s₀ : Memory) (e m : List ℕ) (n : ℕ) (t :
   pub words : List ℕ
   pub running : Running until s₀ e words n at o
   pub next : notAfter until (due (see words .queue)) ≡ At t
-  pub passed : Now m (queued (elapse (t .0 - at) (see words .queue)) (see words))
+  pub then : Now m (passed (t .0 - at) (see words))
 
 -- the loop's invariant. The loop begins when the first instant t₀ has come, in words m₀, and cannot name those before: from some of them
 -- t has come, and from each from which t₀ came
@@ -196,18 +228,18 @@ pub record Onward (until : ℕ) (m₀ : List ℕ) (t₀ : Ninths) (e m : List �
   pub each : (s : Memory) → Arrived until s e m₀ 0 t₀ e → Arrived until s e m n t o
 
 module _ {until : ℕ} {s₀ : Memory} {e m : List ℕ} {n at : ℕ} {t : Ninths} {o m′ : List ℕ} (v : Running until s₀ e m n at o)
-    (d : notAfter until (due (see m .queue)) ≡ At t) (f : Now m′ (queued (elapse (t .0 - at) (see m .queue)) (see m))) where
+    (d : notAfter until (due (see m .queue)) ≡ At t) (f : Now m′ (passed (t .0 - at) (see m))) where
   pub arrived : Arrived until s₀ e m′ n t o
-  arrived = record { at = at; words = m; running = v; next = d; passed = f }
+  arrived = record { at = at; words = m; running = v; next = d; then = f }
 
 module _ {until : ℕ} {s₀ : Memory} {e m : List ℕ} {n : ℕ} {t : Ninths} {o : List ℕ} (a : Arrived until s₀ e m n t o) where
   -- the instant left m′, and the next, u, has come in m″
   module _ {m′ : List ℕ} {to : ℕ} {o′ : List ℕ} (g : Turns o n (instant (t .0) (see m .queue)) (see m) m′ to o′) where
     pub arrived-on : Running until s₀ e m′ to (t .0) o′
-    arrived-on = turn-next (a .running) (a .next) (a .passed) g
+    arrived-on = turn-next (a .running) (a .next) (a .then) g
 
     module _ {u : Ninths} {m″ : List ℕ} (d : notAfter until (due (see m′ .queue)) ≡ At u)
-        (f : Now m″ (queued (elapse (u .0 - t .0) (see m′ .queue)) (see m′))) where
+        (f : Now m″ (passed (u .0 - t .0) (see m′))) where
       pub arrived-next : Arrived until s₀ e m″ to u o′
       arrived-next = arrived arrived-on d f
 
@@ -215,4 +247,4 @@ module _ {until : ℕ} {s₀ : Memory} {e m : List ℕ} {n : ℕ} {t : Ninths} {
       arrived-less =
           let q = see m′ .queue in
           let then = ap (λ (z : Memory). toCome (z .queue)) (f .is) in
-          omega (arith, then, elapse-toCome (u .0) (u .0 - t .0) q, turn-less (a .running) (a .next) (a .passed) g)
+          omega (arith, then, elapse-toCome (u .0) (u .0 - t .0) q, turn-less (a .running) (a .next) (a .then) g)

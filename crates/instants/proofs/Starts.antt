@@ -14,16 +14,17 @@ use Rattle.rules.specs.State.{Queue, Sorted, empty, startsAt, toCome, withStart
 use Rattle.rules.specs.Records.{output}
 use Rattle.rules.specs.Ends.{Turn, writes, andThen}
 use Rattle.rules.specs.Instants.{outranks, mayStart, began, failed, meetsEqual, ousted, launched, startAt, endAt, instant}
-use Rattle.rules.specs.Instants.{onAir, elapse}
+use Rattle.rules.specs.Instants.{onAir, elapse, silence}
 use Rattle.rules.proofs.All.{all-into}
 use Rattle.rules.proofs.Every.{all-getD, fewer-all}
 use Rattle.rules.proofs.Leaving.{endAt-fewer}
 use Rattle.rules.proofs.Size.{ousted-brief, endAt-brief}
 use Rattle.memory.specs.declared.Which.the-variants.{Waiting, Started}
-use Rattle.memory.specs.Memory.{Memory, Form, see, queued, relisted, placesOf, Now}
+use Rattle.memory.specs.Memory.{Memory, Form, see, relisted, silenced, placesOf, Now}
+use Rattle.memory.proofs.Laws.{silenced-none}
 use Rattle.ends.specs.Does.{Playable, roomFor, Tells, Turns, Does, oneEnded, chainEnded, endingAt}
 use Rattle.ends.proofs.Laws.{turns-quiet, turns-then, turns-over, removed-less}
-use Rattle.instants.specs.Runs.{Meets, Placed, Lasts, Lasting}
+use Rattle.instants.specs.Runs.{Meets, Placed, Lasts, Lasting, passed}
 
 -- ## Time on air: the two answers of `elapse`
 
@@ -32,14 +33,30 @@ unfolding onAir
 on-none d [] h = refl
 on-none d (s ∷ l) h = absurd (omega (arith, h))
 
-module _ (d : ℕ) where
-  pub elapsed-none : {m : List ℕ} → Form m → 0 ≡ length (see m .queue .started) → Now m (queued (elapse d (see m .queue)) (see m))
-  unfolding elapse
-  elapsed-none {m} f z = record { form = f; is = ap (λ l. relisted Started l (see m)) (on-none d (see m .queue .started) z) }
+silent-none : (d : ℕ) (l : List Session) → 0 ≡ length l → silence d l ≡ d
+silent-none d [] h = refl
+silent-none d (s ∷ l) h = absurd (omega (arith, h))
 
-  pub elapsed-some : (s : Memory) {m : List ℕ} → Now m (relisted Started (onAir d (s .queue .started)) s) → Now m (queued (elapse d (s .queue)) s)
+silent-some : (d : ℕ) (l : List Session) → 0 < length l → silence d l ≡ 0
+silent-some d [] h = absurd (omega arith)
+silent-some d (s ∷ l) h = refl
+
+module _ (d : ℕ) (s : Memory) {m : List ℕ} where
+  pub elapsed-none : 0 ≡ length (s .queue .started) → Now m (silenced d s) → Now m (passed d s)
   unfolding elapse
-  elapsed-some s v = v
+  elapsed-none z v =
+      let e = on-none d (s .queue .started) z in
+      let n = silent-none d (s .queue .started) z in
+      let m = sym n in
+      record { form = v .form; is = v .is ∙ (λ i. silenced (m i) (relisted Started (e i) s)) }
+
+  pub elapsed-some : 0 < length (s .queue .started) → Now m (relisted Started (onAir d (s .queue .started)) s) → Now m (passed d s)
+  unfolding elapse
+  elapsed-some h v =
+      let u = relisted Started (onAir d (s .queue .started)) s in
+      record { form = v .form; is = v .is ∙ sym (silenced-none u) ∙ ap (λ n. silenced n u) (sym (silent-some d (s .queue .started) h)) }
+
+module _ (d : ℕ) where
 
   pub first-lasting : (l : List Session) → 0 < length l → Lasting d l → Lasts d (getD l 0 empty)
   first-lasting l h a = all-getD (Lasts d) l 0 empty h a

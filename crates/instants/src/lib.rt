@@ -10,20 +10,21 @@ ghost use Prim.Native.Nat.{_+_, _≤_, _<_};
 ghost use lib.ListN.{length};
 ghost use Rattle.rules.specs.Lists.{All};
 ghost use Rattle.rules.specs.State.{due, notAfter, toCome, Sorted};
-ghost use Rattle.rules.specs.Instants.{mayStart, ousted, launched, startAt, instant, elapse, runAll};
+ghost use Rattle.rules.specs.Instants.{mayStart, ousted, launched, startAt, instant};
 ghost use Rattle.rules.specs.Sound.{Holding, horizon};
-ghost use Rattle.memory.specs.Memory.{Form, see, queued, Now};
+ghost use Rattle.memory.specs.Memory.{Form, see, Now};
 ghost use Rattle.ends.specs.Does.{Playable, roomFor, Does};
-ghost use Rattle.instants.specs.Runs.{Meets, Placed, Lasting};
+ghost use Rattle.instants.specs.Runs.{Meets, Placed, Lasting, passed, Ticked};
 
-// The one on air has played d ninths more: the one place where time on air is added.
+// d ninths pass for the one on air or, with none, for the primary channel: the one place where time is added.
 fn elapse(m: &mut [u64; WORDS], d: u64)
     requires { ⌜ Form (now m) ⌝ }
     requires { ⌜ Lasting d (see (now m) .queue .started) ⌝ }
-    ensures { λ _. ⌜ Now (now (m .exit)) (queued (elapse d (see (now (m .entry)) .queue)) (see (now (m .entry)))) ⌝ }
+    requires { ⌜ see (now m) .primary + d < 18446744073709551616 ⌝ }
+    ensures { λ _. ⌜ Now (now (m .exit)) (passed d (see (now (m .entry)))) ⌝ }
 {
     if memory::count(&*m, Which::Started) == 0 {
-        return;
+        return memory::silence(&mut *m, d);
     }
     memory::play(&mut *m, d)
 }
@@ -125,10 +126,9 @@ pub fn run(m: &mut [u64; WORDS], until: Ninths, out: &mut [u8]) -> usize
     requires { ⌜ Form (now m) ⌝ }
     requires { ⌜ Holding (see (now m) .clock) (see (now m) .queue) ⌝ }
     requires { ⌜ (see (now m) .clock ≤ until .0) × (until .0 < horizon) ⌝ }
+    requires { ⌜ see (now m) .primary ≤ see (now m) .clock ⌝ }
     requires { ⌜ roomFor (toCome (see (now m) .queue)) ≤ length (now out) ⌝ }
-    ensures { λ r.
-        ⌜ Does (runAll (see (now (m .entry)) .clock) (until .0)) 0 (now (m .entry)) (now (out .entry)) r
-        (now (m .exit)) (now (out .exit)) ⌝ }
+    ensures { λ r. ⌜ Ticked (until .0) (see (now (m .entry))) (now (out .entry)) r (now (m .exit)) (now (out .exit)) ⌝ }
 {
     let at = memory::clock(&*m);
     let first = next_due(&*m, until);

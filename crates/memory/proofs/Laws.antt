@@ -30,8 +30,8 @@ use Rattle.places.proofs.Words.{spare-none}
 use Rattle.places.proofs.Ring.{ring-full}
 use Rattle.memory.specs.declared.Which.{Which}
 use Rattle.memory.specs.declared.Which.the-variants.{Waiting, Started}
-use Rattle.memory.specs.Memory.{clockWord, slotOf, ringWord, firstCount, firstLink, connections, placesOf, fromOf, toOf, spanOf, words, wordOf, linkIn, IsLink, linksOf, countsOf, ringOf, lotOf, sessions, OfFour, tallied, Form, Memory, see, Now}
-use Rattle.memory.specs.Memory.{timed, linked, listOf, relisted, onward, nothingShown, nameSize, nameOf, Stored, Whole, shown}
+use Rattle.memory.specs.Memory.{clockWord, slotOf, ringWord, primaryWord, firstCount, firstLink, connections, placesOf, fromOf, toOf, spanOf, words, wordOf, linkIn, IsLink, linksOf, countsOf, ringOf, lotOf, sessions, OfFour, tallied, Form, Memory, see, Now}
+use Rattle.memory.specs.Memory.{timed, silenced, linked, listOf, relisted, onward, nothingShown, nameSize, nameOf, Stored, Whole, shown}
 
 -- a list of the words is that list of the queue that they show
 pub sessions-list : (v : Which) (m : List ℕ) → sessions v m ≡ listOf v (see m .queue)
@@ -262,18 +262,18 @@ pub record Shown (m : List ℕ) (s : Memory) : Type 0 where
 pub shown-as : {m : List ℕ} {s r : Memory} → Shown m s → s ≡ r → Shown m r
 shown-as {m} g e = subst (λ (s : Memory). Shown m s) e g
 
-module _ (m : List ℕ) (t : ℕ) (l : List ℕ) (r : ℕ) (w k : Lot) where
-  pub shows : length m ≡ words → getD m clockWord 0 ≡ t → linksOf m ≡ l → getD m ringWord 0 ≡ r → lotOf Waiting m ≡ w → lotOf Started m ≡ k →
+module _ (m : List ℕ) (t p : ℕ) (l : List ℕ) (r : ℕ) (w k : Lot) where
+  pub shows : length m ≡ words → getD m clockWord 0 ≡ t → getD m primaryWord 0 ≡ p → linksOf m ≡ l → getD m ringWord 0 ≡ r → lotOf Waiting m ≡ w → lotOf Started m ≡ k →
       All IsLink l → r < placesOf Waiting → Good w → Good k →
-      Shown m (record { clock = t; links = map linkIn l; queue = record { waiting = used w; started = used k }; ringEnd = r })
-  shows whole clock links ring waiting started a n g h =
+      Shown m (record { clock = t; primary = p; links = map linkIn l; queue = record { waiting = used w; started = used k }; ringEnd = r })
+  shows whole clock primary links ring waiting started a n g h =
       record {
         whole = whole;
         waiting = subst (λ (x : Lot). Good x) (sym waiting) g;
         started = subst (λ (x : Lot). Good x) (sym started) h;
         ring = omega (arith, ring);
         links = subst (λ (x : List ℕ). All IsLink x) (sym links) a;
-        is = λ i. record { clock = clock i; links = map linkIn (links i); queue = record { waiting = used (waiting i); started = used (started i) }; ringEnd = ring i };
+        is = λ i. record { clock = clock i; primary = primary i; links = map linkIn (links i); queue = record { waiting = used (waiting i); started = used (started i) }; ringEnd = ring i };
       }
 
 -- and the counts are those of the waiting w
@@ -312,7 +312,7 @@ within Started m f = (omega arith, omega (arith, f .whole))
 -- the places ys with n used ones, the ring's end r, in place of those that wait: all else shows as it did
 changed-waiting : (m ys : List ℕ) (n r : ℕ) → Form m → length ys ≡ spanOf Waiting → r < placesOf Waiting → Good (lot ys r n) →
     Shown (set (set (putMid (fromOf Waiting) (spanOf Waiting) m ys) (slotOf Waiting) n) ringWord r)
-    (record { clock = see m .clock; links = see m .links; queue = withWaiting (used (lot ys r n)) (see m .queue); ringEnd = r })
+    (record { clock = see m .clock; primary = see m .primary; links = see m .links; queue = withWaiting (used (lot ys r n)) (see m .queue); ringEnd = r })
 changed-waiting m ys n r f l c g =
     let a = fromOf Waiting in
     let e = toOf Waiting in
@@ -327,9 +327,10 @@ changed-waiting m ys n r f l c g =
     λ j u v w. getD-set-other x ringWord j r 0 v ∙ getD-set-other p i j n 0 u ∙ put-word m ys a e (h .0) (h .1) l j w in
     let past : (b k : ℕ) → ringWord < b → part b k (set x ringWord r) ≡ part b k p =
     λ b k w. set-behind x ringWord r b k w ∙ set-behind p i n b k (omega arith) in
-    shows (set x ringWord r) (see m .clock) (linksOf m) r (lot ys r n) (lotOf Started m)
+    shows (set x ringWord r) (see m .clock) (see m .primary) (linksOf m) r (lot ys r n) (lotOf Started m)
     (length-set x ringWord r ∙ lx)
     (kept clockWord (λ z. omega (arith, z)) (λ z. omega (arith, z)) (omega arith))
+    (kept primaryWord (λ z. omega (arith, z)) (λ z. omega (arith, z)) (omega arith))
     (past firstLink connections (omega arith) ∙ put-before m ys a e (h .0) (h .1) l firstLink connections (omega arith))
     (getD-set-same x ringWord r 0 (omega (arith, lx)))
     (a-lot (past a (e - a) (omega arith) ∙ put-here m ys a e (h .0) (h .1) l) (getD-set-same x ringWord r 0 (omega (arith, lx)))
@@ -361,9 +362,10 @@ changed Started m ys n f l g =
     let lp : length p ≡ words = length-put m ys a e (h .0) (h .1) l ∙ f .whole in
     let kept : (j : ℕ) → (j ≡ i → ⊥) → j < a → getD (set p i n) j 0 ≡ getD m j 0 =
     λ j u w. getD-set-other p i j n 0 u ∙ put-word m ys a e (h .0) (h .1) l j w in
-    shows (set p i n) (see m .clock) (linksOf m) (ringOf Waiting m) (lotOf Waiting m) (lot ys 0 n)
+    shows (set p i n) (see m .clock) (see m .primary) (linksOf m) (ringOf Waiting m) (lotOf Waiting m) (lot ys 0 n)
     (length-set p i n ∙ lp)
     (kept clockWord (λ z. omega (arith, z)) (omega arith))
+    (kept primaryWord (λ z. omega (arith, z)) (omega arith))
     (set-behind p i n firstLink connections (omega arith) ∙ put-before m ys a e (h .0) (h .1) l firstLink connections (omega arith))
     (kept ringWord (λ z. omega (arith, z)) (omega arith))
     (a-lot (set-behind p i n (fromOf Waiting) (spanOf Waiting) (omega arith)
@@ -419,7 +421,7 @@ accepted-at {m} ys {r} n {u} o f l g h =
     let x = set (putMid (fromOf Waiting) (spanOf Waiting) m ys) (slotOf Waiting) n in
     record {
       shown = shown-as (changed-waiting m ys n (next r) f y (omega arith) g)
-          (λ i. record { clock = see m .clock; links = see m .links; queue = withWaiting (h i) (see m .queue); ringEnd = next (o i) });
+          (λ i. record { clock = see m .clock; primary = see m .primary; links = see m .links; queue = withWaiting (h i) (see m .queue); ringEnd = next (o i) });
       counts = set-behind x ringWord (next r) firstCount connections (omega arith) ∙ changed-counts Waiting m ys n f y;
     }
 
@@ -438,9 +440,10 @@ ring-at Started {m} {a} {e} {r} p q o f = subst (λ (k : ℕ). Ring (capacity (p
 recounted : (m : List ℕ) (s : Memory) (c n : ℕ) → c ≤ 3 → Shown m s → Shown (set m (firstCount + c) n) s
 recounted m s c n h g =
     let i = firstCount + c in
-    shown-as (shows (set m i n) (see m .clock) (linksOf m) (ringOf Waiting m) (lotOf Waiting m) (lotOf Started m)
+    shown-as (shows (set m i n) (see m .clock) (see m .primary) (linksOf m) (ringOf Waiting m) (lotOf Waiting m) (lotOf Started m)
     (length-set m i n ∙ g .whole)
     (other clockWord (omega arith))
+    (other primaryWord (omega arith))
     (set-behind m i n firstLink connections (omega arith))
     (other ringWord (omega arith))
     (a-lot (set-behind m i n (fromOf Waiting) (spanOf Waiting) (omega arith)) (other ringWord (omega arith)) (other (slotOf Waiting) (omega arith)))
@@ -450,29 +453,56 @@ recounted m s c n h g =
     other : (j : ℕ) → j < firstCount → getD (set m (firstCount + c) n) j 0 ≡ getD m j 0
     other j k = getD-set-other m (firstCount + c) j n 0 (λ z. omega (arith, z))
 
+-- a word of the head that is neither a list's nor a connection's
+module _ (m : List ℕ) (i n t p : ℕ) (f : Form m) where
+  worded : i < firstCount → (i ≡ ringWord → ⊥) → (i ≡ slotOf Waiting → ⊥) → (i ≡ slotOf Started → ⊥) → getD (set m i n) clockWord 0 ≡ t → getD (set m i n) primaryWord 0 ≡ p →
+      Now (set m i n) (record { clock = t; primary = p; links = see m .links; queue = see m .queue; ringEnd = see m .ringEnd })
+  worded low notRing notWaiting notStarted clock primary =
+      with-counts (sessions Waiting m) (shows (set m i n) t p (linksOf m) (ringOf Waiting m) (lotOf Waiting m) (lotOf Started m)
+      (length-set m i n ∙ f .whole)
+      clock
+      primary
+      (set-behind m i n firstLink connections (omega arith))
+      (other ringWord notRing)
+      (a-lot (set-behind m i n (fromOf Waiting) (spanOf Waiting) (omega arith)) (other ringWord notRing) (other (slotOf Waiting) notWaiting))
+      (a-lot (set-behind m i n (fromOf Started) (spanOf Started) (omega arith)) refl (other (slotOf Started) notStarted))
+      (f .links) (f .ring) (f .waiting) (f .started)) refl (f .ofFour) (set-behind m i n firstCount connections (omega arith) ∙ f .counts)
+    where
+      other : (j : ℕ) → (i ≡ j → ⊥) → getD (set m i n) j 0 ≡ getD m j 0
+      other j k = getD-set-other m i j n 0 (λ z. k (sym z))
+
 pub timed-now : (m : List ℕ) (t : ℕ) → Form m → Now (set m clockWord t) (timed t (see m))
 timed-now m t f =
-    with-counts (sessions Waiting m) (shows (set m clockWord t) t (linksOf m) (ringOf Waiting m) (lotOf Waiting m) (lotOf Started m)
-    (length-set m clockWord t ∙ f .whole)
-    (getD-set-same m clockWord t 0 (omega (arith, f .whole)))
-    (set-behind m clockWord t firstLink connections (omega arith))
-    (other ringWord (omega arith))
-    (a-lot (set-behind m clockWord t (fromOf Waiting) (spanOf Waiting) (omega arith)) (other ringWord (omega arith)) (other (slotOf Waiting) (omega arith)))
-    (a-lot (set-behind m clockWord t (fromOf Started) (spanOf Started) (omega arith)) refl (other (slotOf Started) (omega arith)))
-    (f .links) (f .ring) (f .waiting) (f .started)) refl (f .ofFour) (set-behind m clockWord t firstCount connections (omega arith) ∙ f .counts)
-  where
-    other : (j : ℕ) → clockWord < j → getD (set m clockWord t) j 0 ≡ getD m j 0
-    other j k = getD-set-other m clockWord j t 0 (λ z. omega (arith, z))
+    worded m clockWord t t (see m .primary) f (omega arith) (λ z. omega (arith, z)) (λ z. omega (arith, z)) (λ z. omega (arith, z))
+    (getD-set-same m clockWord t 0 (omega (arith, f .whole))) (getD-set-other m clockWord primaryWord t 0 (λ z. omega (arith, z)))
+
+pub silenced-now : (m : List ℕ) (d : ℕ) → Form m → Now (set m primaryWord (getD m primaryWord 0 + d)) (silenced d (see m))
+silenced-now m d f =
+    let n = getD m primaryWord 0 + d in
+    worded m primaryWord n (see m .clock) n f (omega arith) (λ z. omega (arith, z)) (λ z. omega (arith, z)) (λ z. omega (arith, z))
+    (getD-set-other m primaryWord clockWord n 0 (λ z. omega (arith, z))) (getD-set-same m primaryWord n 0 (omega (arith, f .whole)))
+
+-- first a ninths, then b
+pub silenced-then : (a b : ℕ) (s : Memory) → silenced b (silenced a s) ≡ silenced (a + b) s
+silenced-then a b s =
+    let e : s .primary + a + b ≡ s .primary + (a + b) = omega arith in
+    λ i. record { clock = s .clock; primary = e i; links = s .links; queue = s .queue; ringEnd = s .ringEnd }
+
+pub silenced-none : (s : Memory) → silenced 0 s ≡ s
+silenced-none s =
+    let e : s .primary + 0 ≡ s .primary = omega arith in
+    λ i. record { clock = s .clock; primary = e i; links = s .links; queue = s .queue; ringEnd = s .ringEnd }
 
 pub linked-now : (m : List ℕ) (c : ℕ) (l : Link) (n : ℕ) → c ≤ 3 → n ≡ wordOf l → Form m → Now (set m (firstLink + c) n) (linked c l (see m))
 linked-now m c l n h e f =
     let i = firstLink + c in
     let y : map linkIn (set (linksOf m) c n) ≡ set (see m .links) c l =
     link-set (linksOf m) c n ∙ ap (set (see m .links) c) (ap linkIn e ∙ link-word l) in
-    with-counts (sessions Waiting m) (subst (λ (z : List Link). Shown (set m i n) (record { clock = see m .clock; links = z; queue = see m .queue; ringEnd = see m .ringEnd })) y
-    (shows (set m i n) (see m .clock) (set (linksOf m) c n) (ringOf Waiting m) (lotOf Waiting m) (lotOf Started m)
+    with-counts (sessions Waiting m) (subst (λ (z : List Link). Shown (set m i n) (record { clock = see m .clock; primary = see m .primary; links = z; queue = see m .queue; ringEnd = see m .ringEnd })) y
+    (shows (set m i n) (see m .clock) (see m .primary) (set (linksOf m) c n) (ringOf Waiting m) (lotOf Waiting m) (lotOf Started m)
     (length-set m i n ∙ f .whole)
     (other clockWord (omega arith))
+    (other primaryWord (omega arith))
     (set-within m n firstLink c connections (omega arith))
     (other ringWord (omega arith))
     (a-lot (set-behind m i n (fromOf Waiting) (spanOf Waiting) (omega arith)) (other ringWord (omega arith)) (other (slotOf Waiting) (omega arith)))
@@ -544,12 +574,12 @@ unfolding tallied
 cleared-now =
     let w = cleared (spanOf Waiting) in
     let k = cleared (spanOf Started) in
-    let s = shows (zeros words) 0 (zeros connections) 0 (lot (zeros (spanOf Waiting)) 0 0) (lot (zeros (spanOf Started)) 0 0)
-    (length-replicate {A = ℕ} words 0) refl (part-zeros firstLink connections words (omega arith)) refl
+    let s = shows (zeros words) 0 0 (zeros connections) 0 (lot (zeros (spanOf Waiting)) 0 0) (lot (zeros (spanOf Started)) 0 0)
+    (length-replicate {A = ℕ} words 0) refl refl (part-zeros firstLink connections words (omega arith)) refl
     (a-lot (part-zeros (fromOf Waiting) (spanOf Waiting) words (omega arith)) refl refl)
     (a-lot (part-zeros (fromOf Started) (spanOf Started) words (omega arith)) refl refl)
     (all-replicate {A = ℕ} IsLink connections 0 (omega arith)) (omega arith) w k in
-    with-counts [] (shown-as s (λ i. record { clock = 0; links = replicate connections Closed; queue = record { waiting = cleared-none (spanOf Waiting) i; started = cleared-none (spanOf Started) i }; ringEnd = 0 }))
+    with-counts [] (shown-as s (λ i. record { clock = 0; primary = 0; links = replicate connections Closed; queue = record { waiting = cleared-none (spanOf Waiting) i; started = cleared-none (spanOf Started) i }; ringEnd = 0 }))
     refl tt (part-zeros firstCount connections words (omega arith))
 
 -- ## What is shown determines every word and byte
@@ -560,7 +590,7 @@ placed v m = part (fromOf v) (spanOf v) m
 
 -- the words are their parts
 parts : (m : List ℕ) → length m ≡ words →
-    m ≡ getD m clockWord 0 ∷ getD m (slotOf Waiting) 0 ∷ getD m (slotOf Started) 0 ∷ getD m ringWord 0 ∷ (countsOf m ++ (linksOf m ++ (placed Waiting m ++ placed Started m)))
+    m ≡ getD m clockWord 0 ∷ getD m (slotOf Waiting) 0 ∷ getD m (slotOf Started) 0 ∷ getD m ringWord 0 ∷ getD m primaryWord 0 ∷ (countsOf m ++ (linksOf m ++ (placed Waiting m ++ placed Started m)))
 parts m w =
     let s = fromOf Started in
     let tail : drop s m ≡ placed Started m = sym (take-all (spanOf Started) (drop s m) (omega (arith, w, length-drop s m))) in
@@ -575,7 +605,8 @@ parts m w =
     ∙ ap (λ (z : List ℕ). getD m 0 0 ∷ z) (drop-cons m 1 0 (omega arith))
     ∙ ap (λ (z : List ℕ). getD m 0 0 ∷ getD m 1 0 ∷ z) (drop-cons m 2 0 (omega arith))
     ∙ ap (λ (z : List ℕ). getD m 0 0 ∷ getD m 1 0 ∷ getD m 2 0 ∷ z) (drop-cons m 3 0 (omega arith))
-    ∙ ap (λ (z : List ℕ). getD m 0 0 ∷ getD m 1 0 ∷ getD m 2 0 ∷ getD m 3 0 ∷ z) counts
+    ∙ ap (λ (z : List ℕ). getD m 0 0 ∷ getD m 1 0 ∷ getD m 2 0 ∷ getD m 3 0 ∷ z) (drop-cons m 4 0 (omega arith))
+    ∙ ap (λ (z : List ℕ). getD m 0 0 ∷ getD m 1 0 ∷ getD m 2 0 ∷ getD m 3 0 ∷ getD m 4 0 ∷ z) counts
 
 -- as many words, holding the same sessions up to the same end, are the same words, and as many of their places are used
 lot-same : (v : Which) (m n : List ℕ) → Form m → Form n → ringOf v m ≡ ringOf v n → sessions v m ≡ sessions v n →
@@ -597,13 +628,14 @@ lot-same v m n f g r e =
 pub same-words : (m n : List ℕ) → Form m → Form n → see m ≡ see n → m ≡ n
 same-words m n f g e =
     let clock : getD m clockWord 0 ≡ getD n clockWord 0 = ap (λ (s : Memory). s .clock) e in
+    let primary : getD m primaryWord 0 ≡ getD n primaryWord 0 = ap (λ (s : Memory). s .primary) e in
     let links = links-same (linksOf m) (linksOf n) (f .links) (g .links) (ap (λ (s : Memory). s .links) e) in
     let ring : getD m ringWord 0 ≡ getD n ringWord 0 = ap (λ (s : Memory). s .ringEnd) e in
     let waiting = lot-same Waiting m n f g ring (ap (λ (s : Memory). s .queue .waiting) e) in
     let started = lot-same Started m n f g refl (ap (λ (s : Memory). s .queue .started) e) in
     let counts : countsOf m ≡ countsOf n = f .counts ∙ ap (λ (s : Memory). tallied (s .queue .waiting)) e ∙ sym (g .counts) in
     parts m (f .whole)
-    ∙ (λ i. clock i ∷ waiting .1 i ∷ started .1 i ∷ ring i ∷ (counts i ++ (links i ++ (waiting .0 i ++ started .0 i))))
+    ∙ (λ i. clock i ∷ waiting .1 i ∷ started .1 i ∷ ring i ∷ primary i ∷ (counts i ++ (links i ++ (waiting .0 i ++ started .0 i))))
     ∙ sym (parts n (g .whole))
 
 pub same-bytes : (b c : List ℕ) → Stored b → Stored c → nameOf b ≡ nameOf c → b ≡ c
@@ -617,7 +649,7 @@ same-bytes b c f g e =
 -- and a splicer with where the ring ends
 pub memory-same : (m b n c : List ℕ) → Whole m b → Whole n c → see m .ringEnd ≡ see n .ringEnd → shown m b ≡ shown n c → (m ≡ n) × (b ≡ c)
 memory-same m b n c f g r e = (
-  same-words m n (f .words) (g .words) (λ i. record { clock = e i .clock; links = e i .links; queue = e i .queue; ringEnd = r i }),
+  same-words m n (f .words) (g .words) (λ i. record { clock = e i .clock; primary = e i .primary; links = e i .links; queue = e i .queue; ringEnd = r i }),
   same-bytes b c (f .bytes) (g .bytes) (ap (λ (s : Splicer). s .name) e),
 )
 

@@ -97,7 +97,7 @@ words-links (x ∷ l) = (is-link x, words-links l)
 
 pub stood : Memory → List ℕ
 stood s =
-    s .clock ∷ length (s .queue .waiting) ∷ length (s .queue .started) ∷ s .ringEnd ∷
+    s .clock ∷ length (s .queue .waiting) ∷ length (s .queue .started) ∷ s .ringEnd ∷ s .primary ∷
     (tallied (s .queue .waiting) ++ (map wordOf (s .links) ++ (packed (placesOf Waiting) (s .ringEnd) (s .queue .waiting) ++ packed (placesOf Started) 0 (s .queue .started))))
 
 module _ (s : Memory) (four : length (s .links) ≡ connections) (few : length (s .queue .waiting) ≤ placesOf Waiting)
@@ -139,7 +139,7 @@ module _ (s : Memory) (four : length (s .links) ≡ connections) (few : length (
   stood-now =
       let n = length (s .queue .waiting) in
       let j = length (s .queue .started) in
-      let x = shows (stood s) (s .clock) l (s .ringEnd) (lot w (s .ringEnd) n) (lot k 0 j) long refl (take-at l (w ++ k) connections long-l) refl
+      let x = shows (stood s) (s .clock) (s .primary) l (s .ringEnd) (lot w (s .ringEnd) n) (lot k 0 j) long refl refl (take-at l (w ++ k) connections long-l) refl
       (a-lot (ap (take (placesOf Waiting * width)) behind-l ∙ take-at w k (placesOf Waiting * width) long-w) refl refl)
       (a-lot (ap (take (placesOf Started * width)) behind-w ∙ take-all (placesOf Started * width) k (omega (arith, long-k))) refl refl)
       (words-links (s .links)) ring (packed-good (placesOf Waiting) (s .ringEnd) (s .queue .waiting) few (omega arith))
@@ -147,6 +147,7 @@ module _ (s : Memory) (four : length (s .links) ≡ connections) (few : length (
       with-counts (s .queue .waiting) (shown-as x
       (λ i. record {
         clock = s .clock;
+        primary = s .primary;
         links = links-words (s .links) i;
         queue = record {
           waiting = packed-used (placesOf Waiting) (s .ringEnd) (s .queue .waiting) few (omega arith) i;

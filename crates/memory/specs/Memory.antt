@@ -16,8 +16,8 @@ use Rattle.places.specs.Places.{Lot, lot, Good, used, width, places, turned, ro
 use Rattle.memory.specs.declared.Which.{Which}
 use Rattle.memory.specs.declared.Which.the-variants.{Waiting, Started}
 
--- ## Where what stands in the words: the clock, how many wait, how many have started, where the ring of those that wait ends, how many of
--- them are each connection's, a word for each connection, the places
+-- ## Where what stands in the words: the clock, how many wait, how many have started, where the ring of those that wait ends, the primary
+-- sum, how many of those that wait are each connection's, a word for each connection, the places
 
 abbrev pub clockWord : ℕ
 clockWord = 0
@@ -31,12 +31,16 @@ slotOf Started = 2
 abbrev pub ringWord : ℕ
 ringWord = 3
 
+-- 02, CR 13: "a primary sum"
+abbrev pub primaryWord : ℕ
+primaryWord = 4
+
 abbrev pub connections : ℕ
 connections = 4
 
 -- how many of those that wait are each connection's
 abbrev pub firstCount : ℕ
-firstCount = 4
+firstCount = 5
 
 abbrev pub firstLink : ℕ
 firstLink = firstCount + connections
@@ -100,6 +104,7 @@ placesFrom e m = turned e (places (part (fromOf Waiting) (spanOf Waiting) m))
 
 pub record Memory : Type 0 where
   pub clock : ℕ
+  pub primary : ℕ
   pub links : List Link
   pub queue : Queue
   pub ringEnd : ℕ
@@ -111,6 +116,7 @@ abbrev pub see : List ℕ → Memory
 see m =
     record {
       clock = getD m clockWord 0;
+      primary = getD m primaryWord 0;
       links = map linkIn (linksOf m);
       queue = record { waiting = sessions Waiting m; started = sessions Started m };
       ringEnd = ringOf Waiting m;
@@ -142,13 +148,17 @@ pub record Now (m : List ℕ) (s : Memory) : Type 0 where
 -- ## With one part made anew
 
 abbrev pub timed : ℕ → Memory → Memory
-timed t s = record { clock = t; links = s .links; queue = s .queue; ringEnd = s .ringEnd }
+timed t s = record { clock = t; primary = s .primary; links = s .links; queue = s .queue; ringEnd = s .ringEnd }
 
 abbrev pub linked : ℕ → Link → Memory → Memory
-linked c l s = record { clock = s .clock; links = set (s .links) c l; queue = s .queue; ringEnd = s .ringEnd }
+linked c l s = record { clock = s .clock; primary = s .primary; links = set (s .links) c l; queue = s .queue; ringEnd = s .ringEnd }
 
 abbrev pub queued : Queue → Memory → Memory
-queued q s = record { clock = s .clock; links = s .links; queue = q; ringEnd = s .ringEnd }
+queued q s = record { clock = s .clock; primary = s .primary; links = s .links; queue = q; ringEnd = s .ringEnd }
+
+-- d ninths more were the primary channel's
+abbrev pub silenced : ℕ → Memory → Memory
+silenced d s = record { clock = s .clock; primary = s .primary + d; links = s .links; queue = s .queue; ringEnd = s .ringEnd }
 
 abbrev pub listOf : Which → Queue → List Session
 listOf Waiting q = q .waiting
@@ -167,12 +177,12 @@ shifted a e = cond a (next e) e
 
 abbrev pub onward : Bool → Memory → Memory
 onward a s =
-    record { clock = s .clock; links = s .links; queue = s .queue; ringEnd = shifted a (s .ringEnd) }
+    record { clock = s .clock; primary = s .primary; links = s .links; queue = s .queue; ringEnd = shifted a (s .ringEnd) }
 
--- clock 0, all connections closed, no session, the ring at its place 0
+-- clock 0 and no time before it, all connections closed, no session, the ring at its place 0
 abbrev pub nothingShown : Memory
 nothingShown =
-    record { clock = 0; links = replicate connections Closed; queue = record { waiting = []; started = [] }; ringEnd = 0 }
+    record { clock = 0; primary = 0; links = replicate connections Closed; queue = record { waiting = []; started = [] }; ringEnd = 0 }
 
 -- ## The bytes: the ChannelName, with zeros behind its end
 
@@ -204,4 +214,4 @@ pub record Whole (m b : List ℕ) : Type 0 where
   pub bytes : Stored b
 
 abbrev pub shown : List ℕ → List ℕ → Splicer
-shown m b = record { name = nameOf b; clock = see m .clock; links = see m .links; queue = see m .queue }
+shown m b = record { name = nameOf b; clock = see m .clock; primary = see m .primary; links = see m .links; queue = see m .queue }

@@ -1,6 +1,6 @@
 // A splicer in two pieces that the caller lends. Its words: the clock, how many wait, how many have started, where the ring of those that
-// wait ends, how many of them are each connection's, a word for each connection, the places of those that wait and of those that have
-// started. Its bytes: the ChannelName with zeros behind its end. Only this crate knows where what stands.
+// wait ends, the primary sum, how many of those that wait are each connection's, a word for each connection, the places of those that wait
+// and of those that have started. Its bytes: the ChannelName with zeros behind its end. Only this crate knows where what stands.
 use places::Key;
 use places::WIDTH;
 use rules::Link;
@@ -21,7 +21,7 @@ ghost use Rattle.rules.specs.Instants.{onAir};
 ghost use Rattle.places.specs.Places.{keyTest, startsFrom, round};
 ghost use Rattle.memory.specs.declared.Which.the-variants.{Waiting, Started};
 ghost use Rattle.memory.specs.Memory.{slotOf, ringOf, firstLink, fromOf, toOf, words, placesOf, wordOf, linkIn};
-ghost use Rattle.memory.specs.Memory.{sessions, see, Form, Now, timed, linked, relisted, onward, nothingShown, OfFour, tallied};
+ghost use Rattle.memory.specs.Memory.{sessions, see, Form, Now, timed, silenced, linked, relisted, onward, nothingShown, OfFour, tallied};
 ghost use Rattle.memory.specs.Memory.{nameBytes, Stored, Named};
 
 // Where what stands in the words.
@@ -33,9 +33,11 @@ const STARTED: usize = 2;
 
 const RING_END: usize = 3;
 
+const PRIMARY: usize = 4;
+
 const CONNECTIONS: usize = 4;
 
-const COUNTS: usize = 4;
+const COUNTS: usize = 5;
 
 const LINKS: usize = COUNTS + CONNECTIONS;
 
@@ -328,6 +330,23 @@ pub fn set_clock(m: &mut [u64], t: Ninths)
     m[CLOCK] = t.0;
 }
 
+// 02, CR 13: the primary sum.
+pub fn primary(m: &[u64]) -> Ninths
+    requires { ⌜ Form (now m) ⌝ }
+    ensures { λ r. ⌜ r .0 ≡ see (now (m .entry)) .primary ⌝ }
+{
+    Ninths(m[PRIMARY])
+}
+
+// d ninths more were the primary channel's.
+pub fn silence(m: &mut [u64], d: u64)
+    requires { ⌜ Form (now m) ⌝ }
+    requires { ⌜ see (now m) .primary + d < 18446744073709551616 ⌝ }
+    ensures { λ _. ⌜ Now (now (m .exit)) (silenced d (see (now (m .entry)))) ⌝ }
+{
+    m[PRIMARY] += d;
+}
+
 // What a word says of its connection.
 fn link_in(n: u64) -> Link
     ensures { λ r. ⌜ r ≡ linkIn n ⌝ }
@@ -372,7 +391,7 @@ pub fn set_link(m: &mut [u64], c: u32, l: Link)
     m[at] = word_of(l);
 }
 
-// Clock 0, all connections closed, no session, the ring at its place 0.
+// Clock 0 and no time before it, all connections closed, no session, the ring at its place 0.
 pub fn clear(m: &mut [u64; WORDS])
     ensures { λ _. ⌜ Now (now (m .exit)) nothingShown ⌝ }
 {

@@ -58,7 +58,7 @@ module _ (now until : ℕ) (q : Queue) where
 
 -- ## Of a tick no more than its length is the primary channel's
 
-silence-most : (d : ℕ) (k : List Session) → silence d k ≤ d
+pub silence-most : (d : ℕ) (k : List Session) → silence d k ≤ d
 silence-most d [] = omega arith
 silence-most d (s ∷ k) = omega arith
 

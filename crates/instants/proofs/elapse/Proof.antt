@@ -1,4 +1,4 @@
--- Only the first of the started is on air (`elapsed-some`), and it has room for more (`first-lasting`).
+-- Only the first of the started is on air (`elapsed-some`), and it has room for more (`first-lasting`); with none it is the primary channel (`elapsed-none`).
 use mathlib.Core.Path.{sym, _∙_}
 use Prim.Native.Nat.{_<_}
 use native.Mathlib.Omega.{arith}
@@ -12,10 +12,14 @@ use Rattle.instants.proofs.elapse.Tie as tie
 count-requires : tie.Need-count-requires
 count-requires c κs = search needs
 
+silence-requires : tie.Need-silence-requires
+silence-requires c κs = search needs
+
 returns : tie.Need-returns
 returns c =
-    let s = c .before .before .before .before in
-    elapsed-none (s .args .d) (s .pre .0) (sym (c .if1 .taken) ∙ c .before .count .ensures)
+    let on = c .before .before in
+    let a = on .before .before .before .before .args in
+    elapsed-none (a .d) (see (a .m .now)) (sym (on .if1 .taken) ∙ on .before .count .ensures) (c .silence .ensures)
 
 play-requires : tie.Need-play-requires
 play-requires c κs =
@@ -23,12 +27,14 @@ play-requires c κs =
     let s = on .before .before .before .before in
     let l = see (s .args .m .now) .queue .started in
     let h : 0 < length l = omega (arith, on .if1 .left, on .before .count .ensures) in
-    (s .pre .0, (h, first-lasting (s .args .d) l h (s .pre .1)))
+    (s .pre .0, (h, first-lasting (s .args .d) l h (s .pre .1 .0)))
 
 returns-2 : tie.Need-returns-2
 returns-2 c =
-    let a = c .before .before .before .before .before .before .args in
-    elapsed-some (a .d) (see (a .m .now)) (c .play .ensures)
+    let on = c .before .before in
+    let a = on .before .before .before .before .args in
+    let h : 0 < length (see (a .m .now) .queue .started) = omega (arith, on .if1 .left, on .before .count .ensures) in
+    elapsed-some (a .d) (see (a .m .now)) h (c .play .ensures)
 
 pub elapse-spec : {M : Type 1} → statement M
-elapse-spec = tie.close (tie.spec count-requires returns play-requires returns-2)
+elapse-spec = tie.close (tie.spec count-requires silence-requires returns play-requires returns-2)

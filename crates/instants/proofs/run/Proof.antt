@@ -4,7 +4,7 @@ use mathlib.Core.Path.{sym, _∙_}
 use native.Mathlib.Omega.{arith}
 use Rattle.rules.specs.State.{toCome}
 use Rattle.memory.specs.Memory.{see}
-use Rattle.instants.proofs.Running.{Onward, first-turn, last-turn, turn-lasting, turn-time, turn-after}
+use Rattle.instants.proofs.Running.{Onward, first-turn, last-turn, turn-asks, turn-time, turn-after}
 use Rattle.instants.proofs.Running.{turn-meets, turn-placed, turn-playable, turn-room, arrived, arrived-on, arrived-next, arrived-less}
 use borrow.Author.Needs.{needs}
 use Rattle.instants.proofs.run.Statement.{statement}
@@ -39,7 +39,7 @@ elapse-requires c κs =
     let clock = c .before .before .before .before .before .before .before .before in
     let s = clock .before .before .before .before in
     let v = first-turn (s .args .out .now) (clock .clock .ensures) (s .pre) in
-    (v .form, turn-lasting v (s .args .until .0) (v .time) (s .pre .1 .1 .0 .1))
+    turn-asks v (s .args .until .0) (v .time) (s .pre .1 .1 .0 .1)
 
 returns : tie.Need-returns Inv-loop μ-loop
 returns c =
@@ -68,7 +68,7 @@ elapse-requires-2 c κs =
     let v = first-turn (s .args .out .now) (clock .clock .ensures) (s .pre) in
     let d = sym (next .next-due .ensures) ∙ some .first .given .1 in
     let t = some .first .given .0 .0 .0 in
-    (v .form, turn-lasting v t (omega (arith, turn-after v d)) (omega (arith, turn-time v d, s .pre .1 .1 .0 .1)))
+    turn-asks v t (omega (arith, turn-after v d)) (omega (arith, turn-time v d, s .pre .1 .1 .0 .1))
 
 loop-holds : tie.Need-loop-holds Inv-loop μ-loop
 loop-holds c =
@@ -85,7 +85,7 @@ at-instant-requires c κs =
     let a = c .before .before .loop .inv .come in
     let v = a .running in
     let d = a .next in
-    let f = a .passed in
+    let f = a .then in
     (f .form, (turn-meets v d f, (turn-placed v d f, (turn-playable v d f, turn-room v d f))))
 
 next-due-requires-2 : tie.Need-next-due-requires-2 Inv-loop μ-loop
@@ -110,7 +110,7 @@ elapse-requires-3 c κs =
     let now = c .before .before .before .before .before .before .before .before .before .before in
     let s = now .before .before .before .before .before .before .before .before .before .before .before .before .before .before .before .before .before .before in
     let v = arrived-on (now .before .before .before .loop .inv .come) (now .at-instant .ensures) in
-    (v .form, turn-lasting v (s .args .until .0) (v .time) (s .pre .1 .1 .0 .1))
+    turn-asks v (s .args .until .0) (v .time) (s .pre .1 .1 .0 .1)
 
 same-length : tie.Need-same-length Inv-loop μ-loop
 same-length c = search needs
@@ -146,7 +146,7 @@ elapse-requires-4 c κs =
     let v = arrived-on (now .before .before .before .loop .inv .come) (now .at-instant .ensures) in
     let d = sym (next .next-due2 .ensures) ∙ some .due .given .1 in
     let t = some .due .given .0 .0 .0 in
-    (v .form, turn-lasting v t (omega (arith, turn-after v d)) (omega (arith, turn-time v d, s .pre .1 .1 .0 .1)))
+    turn-asks v t (omega (arith, turn-after v d)) (omega (arith, turn-time v d, s .pre .1 .1 .0 .1))
 
 loop-less : tie.Need-loop-less Inv-loop μ-loop
 loop-less c =
