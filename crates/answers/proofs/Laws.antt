@@ -41,7 +41,7 @@ says-one {x = x} h k b = tells-one {len = 0} {r = x} (omega (arith, k, length-re
 
 -- a splicer of that name, of which the words show s
 abbrev named : List ℕ → Memory → Splicer
-named name s = record { name = name; clock = s .clock; links = s .links; queue = s .queue }
+named name s = record { name = name; clock = s .clock; primary = s .primary; links = s .links; queue = s .queue }
 
 module _ {m b : List ℕ} (w : Whole m b) {e : List ℕ} where
   -- no answer

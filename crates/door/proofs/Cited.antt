@@ -20,7 +20,7 @@ use denote.Triple.Entry.{Args, Res}
 use Rattle.rules.specs.Lists.{All}
 use Rattle.rules.specs.Calls as rules
 use Rattle.rules.specs.Calls.{call}
-use Rattle.engine.specs.Lent.{Lent, Counts}
+use Rattle.engine.specs.Lent.{Lent, Counts, Primary}
 use Rattle.engine.proofs.Held.{kind, Holds, Same, both, number-held, bytes-held}
 use Rattle.door.specs.Door.{Replies, anOpen, aClose, aMessage, aTick, Typed, Seen, Allowed}
 use Rattle.door.proofs.«splicer_4_fresh» as fresh
@@ -29,6 +29,7 @@ use Rattle.door.proofs.«splicer_4_close» as close
 use Rattle.door.proofs.«splicer_4_message» as message
 use Rattle.door.proofs.«splicer_4_tick» as tick
 use Rattle.door.proofs.«splicer_4_waiting» as waiting
+use Rattle.door.proofs.«splicer_4_primary» as primary
 
 -- what C sees
 abbrev ended : (r m b o : List ℕ) → Seen
@@ -101,6 +102,14 @@ module _ {M : Type 1} (𝓤 : URA M) (H : Heap 𝓤) (A : Atoms 𝓤) (mem : sto
     pub waiting-ensures : waiting.clauses 𝓤 H A mem run κs a .ensures tt r z
         ≡ ⌜ Counts (now (a .0)) (now (a .1 .0)) (now (z .1 .1 .0)) ⌝
     waiting-ensures = refl
+
+  -- splicer_4_primary(words, bytes)
+  module _ (κs : Lfts 2) (a : Args primary.signature κs) (r : Res primary.signature κs) (z : AtExit primary.ended κs) where
+    pub primary-requires : primary.clauses 𝓤 H A mem run κs a .requires tt ≡ ⌜ Lent (now (a .0)) (now (a .1 .0)) ⌝
+    primary-requires = refl
+
+    pub primary-ensures : primary.clauses 𝓤 H A mem run κs a .ensures tt r z ≡ ⌜ Primary (now (a .0)) (now (a .1 .0)) r ⌝
+    primary-ensures = refl
 
 -- ## Typed is what the parameters' types say, and no more
 

@@ -6,7 +6,7 @@ use memory::WORDS;
 ghost use mathlib.Core.Path.{_≡_};
 ghost use mathlib.Core.List.{[]};
 ghost use Rattle.rules.specs.Calls.{fresh, openCall, closeCall, messageCall, tickCall, lending};
-ghost use Rattle.engine.specs.Lent.{Lent, Counts};
+ghost use Rattle.engine.specs.Lent.{Lent, Counts, Primary};
 ghost use Rattle.door.specs.Door.{replyOf, Replies, Hears};
 
 // The house number of a refusal or 0, the bytes consumed and written, and how many places an acceptance shifted.
@@ -119,4 +119,14 @@ pub extern "C" fn splicer_4_waiting(
     ensures { λ _. ⌜ Counts (now (words .entry)) (now (bytes .entry)) (now (counts .exit)) ⌝ }
 {
     *counts = engine::waiting(words, bytes);
+}
+
+// 02, CR 13: the ninths of a microsecond, since clock 0, in which nothing was on air. It only reads, and nothing is refused.
+#[no_mangle]
+pub extern "C" fn splicer_4_primary(words: &[u64; WORDS], bytes: &[u8; BYTES]) -> u64
+    requires { ⌜ Lent (now words) (now bytes) ⌝ }
+    ensures { λ r. ⌜ Primary (now (words .entry)) (now (bytes .entry)) r ⌝ }
+{
+    let sum = engine::primary(words, bytes);
+    sum.0
 }

@@ -24,14 +24,15 @@ use Rattle.rules.specs.Units.{timeOf, fromMicros}
 use Rattle.rules.specs.State.{Queue, Splicer, isOpen, linkOf, toCome, withLink}
 use Rattle.rules.specs.Records.{output}
 use Rattle.rules.specs.Ends.{Turn, closedBy}
-use Rattle.rules.specs.Instants.{runAll}
+use Rattle.rules.specs.Instants.{runAll, silentAll}
 use Rattle.rules.specs.Answers.{Answered, says, answer}
 use Rattle.rules.specs.Calls.{Called, Call, opens, closes, messages, moves, call, noConnection, noRoom, notOpen, openCall, closeCall, framing, handled, lending, messageCall, moveCall, tickCall, ticked, refuse, does, replies, writtenBy, bufferAfter}
 use Rattle.rules.specs.Sound.{Holding, Reached, Wired, horizon}
 use Rattle.rules.proofs.Written.{written-none}
 use Rattle.rules.proofs.Sound.{reached-call, reached-sound, few-wait, few-started}
-use Rattle.memory.specs.Memory.{Memory, see, Now, timed, linked, queued, shifted, nameOf, shown}
+use Rattle.memory.specs.Memory.{Memory, see, Now, timed, linked, queued, silenced, shifted, nameOf, shown}
 use Rattle.ends.specs.Does.{roomFor, Turns}
+use Rattle.instants.specs.Runs.{Ticked}
 use Rattle.requests.specs.declared.Given.{Given}
 use Rattle.answers.specs.Gives.{Gives, unmoved}
 use Rattle.engine.specs.declared.Answer.{Answer}
@@ -56,7 +57,7 @@ refused-as {m} {b} {e} c n l f =
 
 -- the splicer of the name in b whose words show s
 abbrev told : List ℕ → Memory → Splicer
-told b s = record { name = nameOf b; clock = s .clock; links = s .links; queue = s .queue }
+told b s = record { name = nameOf b; clock = s .clock; primary = s .primary; links = s .links; queue = s .queue }
 
 -- k is called of the memory m and b, and lent the buffer e: the memory is v and c after it, and "bytes beyond those written stay unchanged"
 done-as : (k : Call) {m b e : List ℕ} (consumed : ℕ) (a : Answered) {r : Given} {v c o : List ℕ} → Lent m b → Wired k
@@ -74,22 +75,25 @@ done-as k {m} {b} {e} consumed a {r} {v} {c} l wired f g =
       buffer = g .tells .bytes ∙ sym (ap (λ y. bufferAfter (y .answer) e) f);
     }
 
--- a turn of the queue, and then one change f of what the words show, which leaves the ring's end
-turned-as : (k : Call) {m b e : List ℕ} (f : Memory → Memory) (t : Turn) {n v o : List ℕ} {len : ℕ} → ((s : Memory) → f s .ringEnd ≡ s .ringEnd)
-    → Lent m b → Wired k → call k (shown m b) ≡ does 0 (t .written) (told b (f (queued (t .queue) (see m))))
-    → Turns e 0 t (see m) n len o → Now v (f (see n)) → Answers (call k (shown m b)) (see m .ringEnd) e (Done 0 len 0) v b o
-turned-as k {m} {b} f t stays l wired g x y =
+-- a turn of the queue, all else as in z, and then one change f of what the words show, which leaves the ring's end
+turned-as : (k : Call) {m b e : List ℕ} (z : Memory) (f : Memory → Memory) (t : Turn) {n v o : List ℕ} {len : ℕ} → f (queued (t .queue) z) .ringEnd ≡ see m .ringEnd
+    → Lent m b → Wired k → call k (shown m b) ≡ does 0 (t .written) (told b (f (queued (t .queue) z)))
+    → Turns e 0 t z n len o → Now v (f (see n)) → Answers (call k (shown m b)) (see m .ringEnd) e (Done 0 len 0) v b o
+turned-as k {m} {b} z f t stays l wired g x y =
     let is = y .is ∙ ap f (x .shows .is) in
-    done-as k 0 (says (t .written) (told b (f (queued (t .queue) (see m))))) {r = unmoved _} l wired g
+    done-as k 0 (says (t .written) (told b (f (queued (t .queue) z)))) {r = unmoved _} l wired g
     (record {
       whole = record { words = y .form; bytes = l .whole .bytes };
       splicer = ap (told b) is;
-      ring = ap (λ (s : Memory). s .ringEnd) is ∙ stays (queued (t .queue) (see m));
+      ring = ap (λ (s : Memory). s .ringEnd) is ∙ stays;
       tells = x .tells;
       moved = refl;
     })
 
 -- ## What the work of a call may rely on
+
+pub early : {m b : List ℕ} → Lent m b → see m .primary ≤ see m .clock
+early {m} {b} l = reached-sound (shown m b) (l .reached) .primary
 
 pub holding : {m b : List ℕ} → Lent m b → Holding (see m .clock) (see m .queue)
 holding {m} {b} l = reached-sound (shown m b) (l .reached) .holding
@@ -212,7 +216,7 @@ module _ {m b e : List ℕ} (c : ℕ) (l : Lent m b) (good : Good ≡ openTest c
       → Answers (closeCall c (length e) (shown m b)) (see m .ringEnd) e (Done 0 len 0) v b o
   unfolding closeCall call
   close-done =
-      turned-as (closes c (length e)) (linked c Closed) (closedBy c (see m .queue)) (λ s. refl) l tt (guarded-is c (length e) (shown m b) _ Good good)
+      turned-as (closes c (length e)) (see m) (linked c Closed) (closedBy c (see m .queue)) refl l tt (guarded-is c (length e) (shown m b) _ Good good)
 
   -- d is what was read
 
@@ -257,11 +261,11 @@ module _ {m b e : List ℕ} (until : ℕ) (l : Lent m b) where
   move-back h i = refused-as (moveCall until (length e) (shown m b)) ClockBack l (move-before until (length e) (shown m b) h i)
 
   pub move-done : {n v o : List ℕ} {len : ℕ} → until < horizon → 4096 ≤ length e → see m .clock ≤ until
-      → Turns e 0 (runAll (see m .clock) until (see m .queue)) (see m) n len o → Now v (timed until (see n))
+      → Ticked until (see m) e len n o → Now v (timed until (see n))
       → Answers (moveCall until (length e) (shown m b)) (see m .ringEnd) e (Done 0 len 0) v b o
   unfolding call ticked
-  move-done early h i =
-      turned-as (moves until (length e)) (timed until) (runAll (see m .clock) until (see m .queue)) (λ s. refl) l early
+  move-done low h i =
+      turned-as (moves until (length e)) (silenced (silentAll (see m .clock) until (see m .queue)) (see m)) (timed until) (runAll (see m .clock) until (see m .queue)) refl l low
       (move-good until (length e) (shown m b) h i)
 
 -- ## Tick

@@ -51,3 +51,7 @@ openTest c room links =
 -- 02, CR 2: the four waiting counts r that are read of the memory m and b
 abbrev pub Counts : (m b r : List ℕ) → Type 0
 Counts m b r = r ≡ tallied (shown m b .queue .waiting)
+
+-- 02, CR 13: the primary sum r that is read of them
+abbrev pub Primary : (m b : List ℕ) → (r : ℕ) → Type 0
+Primary m b r = r ≡ shown m b .primary

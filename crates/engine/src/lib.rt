@@ -13,7 +13,7 @@ ghost use Rattle.rules.specs.Bytes.{Byte, hasZero};
 ghost use Rattle.rules.specs.Calls.{houseNumber, fresh, openCall, closeCall, messageCall, moveCall, tickCall, lending};
 ghost use Rattle.rules.specs.Sound.{horizon};
 ghost use Rattle.memory.specs.Memory.{Form, see};
-ghost use Rattle.engine.specs.Lent.{Lent, Answers, Makes, openTest, Counts};
+ghost use Rattle.engine.specs.Lent.{Lent, Answers, Makes, openTest, Counts, Primary};
 
 // What a call answers: a refusal, or the bytes consumed, the bytes written, and how many places an acceptance shifted.
 pub enum Answer {
@@ -72,6 +72,14 @@ pub fn waiting(m: &[u64; WORDS], b: &[u8]) -> [u64; 4]
     ensures { λ r. ⌜ Counts (now (m .entry)) (now (b .entry)) r ⌝ }
 {
     memory::tally(m)
+}
+
+// 02, CR 13: "a primary sum". It only reads.
+pub fn primary(m: &[u64; WORDS], b: &[u8]) -> Ninths
+    requires { ⌜ Lent (now m) (now b) ⌝ }
+    ensures { λ r. ⌜ Primary (now (m .entry)) (now (b .entry)) (r .0) ⌝ }
+{
+    memory::primary(m)
 }
 
 // Open: 1, 6.

@@ -31,7 +31,7 @@ use Rattle.traces.proofs.Steps.{wired, promised}
 
 -- with the ring's end at the place `at`
 abbrev seen : ℕ → Splicer → lent.Memory
-seen at s = record { clock = s .clock; links = s .links; queue = s .queue; ringEnd = at }
+seen at s = record { clock = s .clock; primary = s .primary; links = s .links; queue = s .queue; ringEnd = at }
 
 abbrev memoryOf : ℕ → Splicer → Memory
 memoryOf at s = record { words = stood (seen at s); bytes = padded (s .name) }
@@ -60,7 +60,7 @@ answered c at e low r =
     (waiting-of-four (s .clock) (s .queue) (x .holding)) (within (c .accepted) at low) in
     let b = named (s .name) (x .linking .zeros) (omega (arith, x .linking .short)) in
     let same : shown (memoryOf k s) ≡ s =
-    λ i. record { name = b .is i; clock = w .is i .clock; links = w .is i .links; queue = w .is i .queue } in
+    λ i. record { name = b .is i; clock = w .is i .clock; primary = w .is i .primary; links = w .is i .links; queue = w .is i .queue } in
     record {
       lent = record {
         whole = record { words = w .form; bytes = b .stored };

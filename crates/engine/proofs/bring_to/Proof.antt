@@ -1,6 +1,6 @@
 -- Each return is one law of proofs/Calls; what `instants` asks holds of every splicer that the calls have given.
 use native.Mathlib.Omega.{arith}
-use Rattle.engine.proofs.Calls.{holding, room-run, move-small, move-back, move-done}
+use Rattle.engine.proofs.Calls.{early, holding, room-run, move-small, move-back, move-done}
 use borrow.Author.Needs.{needs}
 use Rattle.engine.proofs.bring_to.Statement.{statement}
 use Rattle.engine.proofs.bring_to.Tie as tie
@@ -25,7 +25,7 @@ run-requires c κs =
     let if1 = c .before .before .before .before .before .before .before .before .if1 in
     let clock = c .before .before .before .before .before .clock in
     let h = holding (s .pre .0) in
-    (s .pre .0 .whole .words, (h, ((omega (arith, clock .ensures), s .pre .1), room-run h (if1 .left))))
+    (s .pre .0 .whole .words, (h, ((omega (arith, clock .ensures), s .pre .1), (early (s .pre .0), room-run h (if1 .left)))))
 
 set-clock-requires : tie.Need-set-clock-requires
 set-clock-requires c κs = search needs
