@@ -105,4 +105,7 @@ extern "C" {
         room: usize,
         reply: *mut u64,
     );
+
+    #[link_name = "splicer_4_primary"]
+    pub fn primary(words: *const u64, bytes: *const u8) -> u64;
 }

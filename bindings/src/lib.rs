@@ -9,7 +9,7 @@
 //! bytes, time and length of a buffer may be handed in: the call tests them and answers with a
 //! house number, a [`Refusal`].
 //!
-//! What each unsafe call rests on: the parts have the lengths that the core takes (604 words and 32
+//! What each unsafe call rests on: the parts have the lengths that the core takes (605 words and 32
 //! bytes, by their types), and a state came from `fresh` and was changed by the calls only, since its
 //! fields are private. The reason beside each call says the rest.
 #![no_std]
@@ -46,15 +46,15 @@ pub const OUT: usize = 4096;
 /// Bytes of the mark before each record.
 pub const MARK: usize = 2;
 /// Words of a [`Splicer`]'s memory.
-pub const WORDS: usize = 604;
+pub const WORDS: usize = 605;
 /// Bytes of a [`Splicer`]'s memory, behind its words.
 pub const BYTES: usize = 32;
 
 /// One output channel.
 ///
 /// Two splicers are equal if their memory is. The same calls from `fresh` on give equal splicers, and
-/// equal ones answer every call alike and stay equal. Two that show the same (clock, connections,
-/// sessions and name) answer every call alike too, and are equal exactly if as many requests, or 64, 128
+/// equal ones answer every call alike and stay equal. Two that show the same (clock, primary time,
+/// connections, sessions and name) answer every call alike too, and are equal exactly if as many requests, or 64, 128
 /// and so on more, were accepted in the one as in the other: the ring of places goes one on with each.
 #[derive(Clone, PartialEq, Eq)]
 #[repr(C)]
@@ -65,9 +65,9 @@ pub struct Splicer {
 
 // The numbers that the header asserts of its struct.
 const _: () = assert!(size_of::<usize>() == 8);
-const _: () = assert!(size_of::<Splicer>() == 4864);
+const _: () = assert!(size_of::<Splicer>() == 4872);
 const _: () = assert!(align_of::<Splicer>() == 8);
-const _: () = assert!(core::mem::offset_of!(Splicer, bytes) == 4832);
+const _: () = assert!(core::mem::offset_of!(Splicer, bytes) == 4840);
 
 /// Document 01's house numbers: why a call was refused. A refused call wrote nothing, consumed
 /// nothing and changed nothing.
@@ -238,6 +238,14 @@ impl Splicer {
         // SAFETY: the state came from fresh; the counts are a local of their own, so apart.
         unsafe { door::waiting(words, bytes, counts.as_mut_ptr()) };
         counts
+    }
+
+    /// The time on the primary channel, in which nothing was on air, up to the clock: in ninths of a
+    /// microsecond since clock 0, so the first tick adds its whole time. Of a stretch, take the
+    /// difference of two reads.
+    pub fn primary(&self) -> u64 {
+        // SAFETY: the state came from fresh; both parts are lent for reading.
+        unsafe { door::primary(self.words.as_ptr(), self.bytes.as_ptr()) }
     }
 
     /// What is lent to every call.

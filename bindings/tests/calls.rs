@@ -2,6 +2,9 @@
 
 use splicer::{message_id, name, records, result, Refusal, Splicer, OUT};
 
+/// A second in ninths of a microsecond.
+const SECOND: u64 = 9_000_000;
+
 fn message(id: u16, data: &[u8]) -> Vec<u8> {
     let size = data.len() as u16;
     let mut bytes = [id.to_be_bytes(), size.to_be_bytes()].concat();
@@ -133,6 +136,7 @@ fn a_session_plays_and_is_aborted() {
     let written = channel.tick(1013, 0, &mut out).unwrap();
     assert_eq!(told(written), [(0, complete, result::SUCCESSFUL)]);
     assert_eq!(channel.waiting(), [0; 4], "it has started");
+    assert_eq!(channel.primary(), 1003 * SECOND, "10 s were its own");
     let mut other = channel.clone();
     let handled = channel.message(0, &abort(1), &mut out).unwrap();
     let ends = [
@@ -143,8 +147,12 @@ fn a_session_plays_and_is_aborted() {
     let last = records(handled.written).last().unwrap();
     assert_eq!(last.data, [0, 0, 0, 1, 1, 0, 0, 0, 0, 0, 13, 0xBB, 0xA0]);
     assert_eq!(last.message.len(), 21);
+    // From the abort on the time is the primary channel's again.
+    channel.tick(1015, 500_000, &mut out).unwrap();
+    assert_eq!(channel.primary(), 1005 * SECOND + SECOND / 2);
     // A clone is a splicer of its own.
     assert_eq!(told(other.close(0, &mut out).unwrap()), [ends[1]]);
+    assert_eq!(other.primary(), 1003 * SECOND);
 }
 
 /// The loop of docs/INTEGRATION.md: every whole message of what was read; `send` gets the records.

@@ -5,7 +5,9 @@ use splicer::{message_id, result, Refusal};
 
 const HEADER_TEXT: &str = include_str!("../../include/splicer.h");
 const DOOR_TEXT: &str = include_str!("../src/door.rs");
-const CALLS: [&str; 6] = ["fresh", "open", "close", "message", "tick", "waiting"];
+const CALLS: [&str; 7] = [
+    "fresh", "open", "close", "message", "tick", "waiting", "primary",
+];
 /// Those of the card with a rolling counter alone.
 const ROLLING: [&str; 3] = ["rolling_fresh", "instant", "reading"];
 
@@ -131,7 +133,7 @@ fn the_sizes_are_those_that_the_header_asserts() {
 /// A function's parameters as the header declares them, in Rust's words.
 fn of_header_call(name: &str) -> Vec<&'static str> {
     let version = splicer::VERSION;
-    let list = between(HEADER_TEXT, &format!("void splicer_{version}_{name}("), ")");
+    let list = between(HEADER_TEXT, &format!(" splicer_{version}_{name}("), ")");
     let kinds = [
         ("const uint64_t *", "*const u64"),
         ("const uint8_t *", "*const u8"),
@@ -152,17 +154,27 @@ fn of_header_call(name: &str) -> Vec<&'static str> {
 fn of_door_call(name: &str) -> Vec<&'static str> {
     let version = splicer::VERSION;
     let linked = format!("#[link_name = \"splicer_{version}_{name}\"]\n    pub fn {name}(");
-    let list = between(DOOR_TEXT, &linked, ");");
+    let list = between(DOOR_TEXT, &linked, ")");
     let parts = list.split(',').map(str::trim).filter(|p| !p.is_empty());
     parts
         .map(|part| part.split_once(": ").expect(name).1)
         .collect()
 }
 
+/// Whether it is declared to return a number.
+fn numbers(text: &str, name: &str) -> bool {
+    let version = splicer::VERSION;
+    let header = format!("uint64_t splicer_{version}_{name}(");
+    let own = text.split_once(&format!("pub fn {name}("));
+    let door = own.map(|(_, rest)| rest.split_once(')').expect(name).1.starts_with(" -> u64;"));
+    door.unwrap_or_else(|| text.contains(&header))
+}
+
 #[test]
 fn the_functions_are_declared_as_in_the_header() {
     for name in CALLS.iter().chain(&ROLLING) {
         assert_eq!(of_door_call(name), of_header_call(name), "{name}");
+        assert_eq!(numbers(DOOR_TEXT, name), numbers(HEADER_TEXT, name), "{name}");
     }
     let all = CALLS.len() + ROLLING.len();
     assert_eq!(DOOR_TEXT.matches("link_name").count(), all);

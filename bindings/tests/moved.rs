@@ -4,7 +4,7 @@
 use splicer::{message_id, name, records, result, Handled, Splicer, OUT, WORDS};
 
 /// Where the waiting places stand in the words (`include/splicer.h`), and their fields.
-const FIRST: usize = 12;
+const FIRST: usize = 13;
 const PLACES: usize = 64;
 const WIDTH: usize = 8;
 const START: usize = 3;

@@ -1,10 +1,10 @@
 -- READ THIS FIRST: the customer's demands as theorems about the calls of `door`, from the words that C sees, each under its sentence. The
 -- only hypothesis is a trace (specs/Driven): fresh, then any calls with any inputs, each result one that the call's contract allows;
 -- door/proofs/Cited holds it to the contracts in door/src/lib.rt. Rests on the theorems of the same names in traces. No axiom, no hole.
-use mathlib.Core.Path.{_≡_, sym, _∙_, subst}
+use mathlib.Core.Path.{_≡_, sym, ap, _∙_, subst}
 use mathlib.Core.Bool.{true, false, cond}
 use mathlib.Core.List.{List, [], _∷_, _++_}
-use Prim.Native.Nat.{ℕ, _+_, _-_, _≤_, _<_}
+use Prim.Native.Nat.{ℕ, _+_, _-_, _/_, _≤_, _<_}
 use native.Mathlib.Nat.{le-trans}
 use lib.ListN.{length, take, getD}
 use Rattle.rules.specs.declared.Request.{Request}
@@ -13,14 +13,16 @@ use Rattle.rules.specs.Lists.{All, some, count}
 use Rattle.rules.specs.Bytes.{Byte, hasZero}
 use Rattle.rules.specs.Records.{recordsIn}
 use Rattle.rules.specs.State.{empty, Sorted, startsAt, startsAfter, earliest, due}
-use Rattle.rules.specs.Sound.{Falling}
+use Rattle.rules.specs.Sound.{Each, Falling}
 use Rattle.rules.specs.Answers.{requested, spliceResult}
 use Rattle.rules.specs.Calls.{lending, fresh, after}
-use Rattle.demands.specs.History.{startsOf, endsOf, history, ownAnswer, othersOf, waitingCount, book, clockAfter}
+use Rattle.demands.specs.History.{Event, startsOf, endsOf, history, ownAnswer, othersOf, waitingCount, book, clockAfter}
 use Rattle.demands.specs.Told.{firstNumber, checks, answers, Asks, Passes, fullTold, countsTold, grantedBy, outsOf, startedTold, unended, Ended, Stands}
+use Rattle.demands.specs.Airing.{airingsTold, clockTold, primaryTold, timeTold, airTold, numberTold}
+use Rattle.demands.specs.Moments.{Gapless, Printed, Within, PlayedAs}
 use Rattle.places.specs.Places.{round, next}
 use Rattle.memory.specs.Memory.{see, placesFrom, countsOf}
-use Rattle.engine.specs.Lent.{Lent, Counts}
+use Rattle.engine.specs.Lent.{Lent, Counts, Primary}
 use Rattle.door.specs.Door.{Input, aClose, aMessage, Typed, callOf, bufferOf, Seen}
 use Rattle.traces.specs.Trace.{Memory, emptyMemory, shown}
 use Rattle.traces.specs.Trace as engine
@@ -264,3 +266,64 @@ module _ (name : List ℕ) (h : List Made) (m : Memory) where
     places-stay free =
         rw (moved-inside (c .allowed))
         (called.places-stay name (within h) m d l e (inside r) (more-inside name h m (aMessage d l e) r c) q asks granted free)
+
+-- ## Document 02, CR 13
+
+module _ (name : List ℕ) (h : List Made) (m : Memory) where
+  -- "Every moment belongs to someone.": primary time, "counted from the history, as the time in which no session was started and unended", and
+  -- each session's, "the time in which it had the highest AccessType of those started and unended", in ninths, add up to the clock
+  pub every-moment : Trace name h m → primaryTold (events h) + airTold (events h) ≡ clockTold (events h)
+  every-moment t =
+      subst (λ (e : List Event). primaryTold e + airTold e ≡ clockTold e) (sym (trace-events name h m t)) (called.every-moment name (within h) m (trace-inside name h m t))
+
+  -- "The sums that the engine itself keeps [..] and a primary sum it keeps from now on are shown equal to these": the primary word
+  pub primary-kept : Trace name h m → see (m .words) .primary ≡ primaryTold (events h)
+  primary-kept t = called.primary-kept name (within h) m (trace-inside name h m t) ∙ ap primaryTold (sym (trace-events name h m t))
+
+  -- and what C reads of it: whatever the read's contract allows
+  pub primary-read : Trace name h m → (r : ℕ) → Primary (m .words) (m .bytes) r → r ≡ primaryTold (events h)
+  primary-read t r c = c ∙ primary-kept t
+
+  -- the time on air that the memory holds of a session: that of the session which its connection last accepted under its number
+  pub air-kept : Trace name h m → Each (λ u. u .played .0 ≡ numberTold (events h) (u .conn) (u .id)) (shown m .queue)
+  air-kept t =
+      subst (λ (e : List Event). Each (λ u. u .played .0 ≡ numberTold e (u .conn) (u .id)) (shown m .queue)) (sym (trace-events name h m t))
+      (called.air-kept name (within h) m (trace-inside name h m t))
+
+  -- 0 for a waiting one
+  pub waiting-played-none : Trace name h m → All (λ u. u .played .0 ≡ 0) (shown m .queue .waiting)
+  waiting-played-none t = called.waiting-played-none name (within h) m (trace-inside name h m t)
+
+  -- "from which PlayedDuration is rounded", from bytes alone: each SpliceComplete flag 1 in the next answer has as PlayedDuration its session's time,
+  -- counted from the history with this call, divided by 100 and rounded down
+  pub played-as-counted : (i : Input) (r : Seen) → More name h m i r → PlayedAs (events (h ++ (made i r ∷ []))) (recordsIn (bytesOf r))
+  played-as-counted i r c =
+      let g = made i r ∷ [] in
+      subst (λ (e : List Event). PlayedAs e (recordsIn (bytesOf r))) (sym (trace-events name _ _ (trace-more name h m i r c) ∙ ap engine.events (within-append h g)))
+      (subst (λ (l : List ℕ). PlayedAs (engine.events (within h ++ within g)) (recordsIn l)) (sym (bytes-inside (c .allowed)))
+      (called.played-as-counted name (within h) m _ _ (more-inside name h m i r c)))
+
+  -- and so has each session in every later list
+  pub lists-as-counted : Trace name h m → All (λ a. a .listed ≡ true → a .said ≡ timeTold (events h) a / 100) (airingsTold (events h))
+  lists-as-counted t =
+      subst (λ (e : List Event). All (λ a. a .listed ≡ true → a .said ≡ timeTold e a / 100) (airingsTold e)) (sym (trace-events name h m t))
+      (called.lists-as-counted name (within h) m (trace-inside name h m t))
+
+-- "Between any two points of any sequence of calls": the calls h were made before the first, and then the calls g
+module _ (name : List ℕ) (h g : List Made) (m : Memory) (t : Trace name (h ++ g) m) where
+  first : events h ≡ engine.events (within h)
+  first = let p = trace-point name h g m t in trace-events name h (p .here) (p .before)
+
+  second : events (h ++ g) ≡ engine.events (within h ++ within g)
+  second = trace-events name (h ++ g) m t ∙ ap engine.events (within-append h g)
+
+  both : engine.Trace name (within h ++ within g) m
+  both = subst (λ k. engine.Trace name k m) (within-append h g) (trace-inside name (h ++ g) m t)
+
+  -- "the growth of the time on the primary channel plus that of all sessions' time on air, in ninths, equals the clock's advance between them"
+  pub no-gap : Gapless (events h) (events (h ++ g))
+  no-gap = rw (first, second) (called.no-gap name (within h) (within g) m both)
+
+  -- a list printed later says the same: each session stands in it, in its order; its time never falls, and is fixed once its end is written
+  pub prints-alike : Within (Printed (events h) (events (h ++ g))) (airingsTold (events h)) (airingsTold (events (h ++ g)))
+  prints-alike = rw (first, second) (called.prints-alike name (within h) (within g) m both)

@@ -1,10 +1,10 @@
 -- The customer's demands as theorems about the calls of `engine`, each under its sentence; driven/proofs/Demands has them of the calls for
 -- C. The only hypothesis is a trace (specs/Trace): fresh, then any calls with any inputs, each result one that the call's contract allows;
 -- proofs/Cited holds it to the contracts in engine/src/lib.rt. No axiom, no hole.
-use mathlib.Core.Path.{_≡_, sym, ap, _∙_}
+use mathlib.Core.Path.{_≡_, refl, sym, ap, subst, _∙_}
 use mathlib.Core.Bool.{true, false, cond}
 use mathlib.Core.List.{List, [], _∷_, _++_}
-use Prim.Native.Nat.{ℕ, _+_, _-_, _≤_, _<_}
+use Prim.Native.Nat.{ℕ, _+_, _-_, _/_, _≤_, _<_}
 use native.Mathlib.Nat.{le-trans}
 use lib.ListN.{length, take, getD}
 use Rattle.rules.specs.declared.Request.{Request}
@@ -14,24 +14,28 @@ use Rattle.rules.specs.Lists.{All, some, count}
 use Rattle.rules.specs.Bytes.{Byte, hasZero}
 use Rattle.rules.specs.Records.{recordsIn}
 use Rattle.rules.specs.State.{Splicer, empty, Sorted, startsAt, startsAfter, sooner, earliest, due}
-use Rattle.rules.specs.Sound.{Later, Falling}
+use Rattle.rules.specs.Sound.{Each, Later, Falling}
 use Rattle.rules.specs.Answers.{requested, spliceResult}
 use Rattle.rules.specs.Calls.{lending, fresh, after}
 use Rattle.rules.proofs.All.{all-into}
 use Rattle.rules.proofs.Sound.{reached-sound}
 use Rattle.rules.proofs.Tick.{earliest-start}
-use Rattle.demands.specs.History.{startsOf, endsOf, history, ownAnswer, othersOf, waitingCount, book, clockAfter}
+use Rattle.demands.specs.History.{Event, startsOf, endsOf, history, ownAnswer, othersOf, waitingCount, book, clockAfter}
 use Rattle.engine.specs.declared.Answer.the-variants.{Refused}
 use Rattle.places.specs.Places.{round, next}
 use Rattle.memory.specs.Memory.{see, placesFrom, countsOf, tallied}
-use Rattle.engine.specs.Lent.{Lent, Counts}
+use Rattle.engine.specs.Lent.{Lent, Counts, Primary}
 use Rattle.demands.specs.Told.{firstNumber, checks, answers, Asks, Passes, fullTold, countsTold, grantedBy, outsOf, startedTold, unended, Ended, Stands}
+use Rattle.demands.specs.Airing.{airingsTold, clockTold, primaryTold, timeTold, airTold, numberTold}
+use Rattle.demands.specs.Moments.{Gapless, Printed, Within, PlayedAs}
 use Rattle.demands.proofs.Demands as told
 use Rattle.demands.proofs.Waiting.{waiting-counted}
 use Rattle.demands.proofs.Moved as shifting
-use Rattle.traces.specs.Trace.{Memory, emptyMemory, shown, Input, aClose, aMessage, Typed, callOf, bufferOf, Result, Made, made, Trace, More, Point, numberIn, number, movedIn, moved, bytesOf, events, calls, inputs, Answerable, Run, AsRuled}
+use Rattle.demands.proofs.Owners as owners
+use Rattle.demands.proofs.Said as said
+use Rattle.traces.specs.Trace.{Memory, emptyMemory, shown, Input, aClose, aMessage, Typed, callOf, bufferOf, Result, Made, made, Leads, Trace, More, Point, numberIn, number, movedIn, moved, bytesOf, events, calls, inputs, Answerable, Run, AsRuled}
 use Rattle.traces.proofs.Steps.{wired, as-ruled, number-first, unchanged}
-use Rattle.traces.proofs.Course.{trace-lent, trace-history, trace-told, trace-more, trace-point, trace-same, fresh-number, fresh-empty}
+use Rattle.traces.proofs.Course.{events-append, led-wired, led-heard, trace-lent, trace-history, trace-told, trace-more, trace-point, trace-same, fresh-number, fresh-empty}
 use Rattle.traces.proofs.Closed.{not-full, closed-stands, unended-newer}
 use Rattle.traces.proofs.Answerable.{answerable, runs}
 use Rattle.traces.proofs.Moved.{moved-is, fresh-none, last-code, others-stay}
@@ -251,3 +255,63 @@ module _ (name : List ℕ) (h : List Made) (m : Memory) where
         → let k = next (see (m .words) .ringEnd) in
         take (round - (moved r + 1)) (placesFrom k (r .memory .words)) ≡ take (round - (moved r + 1)) (placesFrom k (m .words))
     places-stay = others-stay m (trace-lent name h m (c .trace)) d l e r (c .allowed) q asks code
+
+-- ## Document 02, CR 13
+
+-- the events of calls h, and of the calls g behind them, made from the memory m
+later-events : (h g : List Made) (m n : Memory) → Leads m g n → events (h ++ g) ≡ events h ++ history (calls g) (shown m)
+later-events h g m n l = events-append h g ∙ ap (λ (e : List Event). events h ++ e) (led-heard g m n l)
+
+module _ (name : List ℕ) (h : List Made) (m : Memory) where
+  -- "Every moment belongs to someone.": primary time, "counted from the history, as the time in which no session was started and unended", and
+  -- each session's, "the time in which it had the highest AccessType of those started and unended", in ninths, add up to the clock
+  pub every-moment : Trace name h m → primaryTold (events h) + airTold (events h) ≡ clockTold (events h)
+  every-moment t = owners.every-moment (events h) (shown m) (trace-told name h m t)
+
+  -- "The sums that the engine itself keeps [..] and a primary sum it keeps from now on are shown equal to these": the primary word
+  pub primary-kept : Trace name h m → see (m .words) .primary ≡ primaryTold (events h)
+  primary-kept t = owners.primary-kept (events h) (shown m) (trace-told name h m t)
+
+  -- and what is read of it: every result that the read's contract allows
+  pub primary-read : Trace name h m → (r : ℕ) → Primary (m .words) (m .bytes) r → r ≡ primaryTold (events h)
+  primary-read t r c = c ∙ primary-kept t
+
+  -- the time on air that the memory holds of a session: that of the session which its connection last accepted under its number
+  pub air-kept : Trace name h m → Each (λ u. u .played .0 ≡ numberTold (events h) (u .conn) (u .id)) (shown m .queue)
+  air-kept t = owners.air-kept (events h) (shown m) (trace-told name h m t)
+
+  -- 0 for a waiting one
+  pub waiting-played-none : Trace name h m → All (λ u. u .played .0 ≡ 0) (shown m .queue .waiting)
+  waiting-played-none t = reached-sound (shown m) (trace-lent name h m t .reached) .holding .played .silent
+
+  -- "from which PlayedDuration is rounded", from bytes alone: each SpliceComplete flag 1 in the next answer has as PlayedDuration its session's time,
+  -- counted from the history with this call, divided by 100 and rounded down
+  pub played-as-counted : (i : Input) (r : Result) → More name h m i r → PlayedAs (events (h ++ (made i r ∷ []))) (recordsIn (bytesOf r))
+  played-as-counted i r c =
+      let g = made i r ∷ [] in
+      subst (λ (e : List Event). PlayedAs e (recordsIn (bytesOf r))) (sym (later-events h g m (r .memory) (c .typed, c .allowed, refl)))
+      (subst (λ (l : List ℕ). PlayedAs (events h ++ history (calls g) (shown m)) (recordsIn l)) (sym (as-ruled m i r (c .allowed) .bytes))
+      (said.played-as-counted (events h) (shown m) (trace-told name h m (c .trace)) (callOf i) (wired i (c .typed))))
+
+  -- and so has each session in every later list
+  pub lists-as-counted : Trace name h m → All (λ a. a .listed ≡ true → a .said ≡ timeTold (events h) a / 100) (airingsTold (events h))
+  lists-as-counted t = owners.listed-as-counted (events h) (shown m) (trace-told name h m t)
+
+-- "Between any two points of any sequence of calls": the calls h were made before the first, and then the calls g
+module _ (name : List ℕ) (h g : List Made) (m : Memory) (t : Trace name (h ++ g) m) where
+  point : Point name h g m
+  point = trace-point name h g m t
+
+  -- "the growth of the time on the primary channel plus that of all sessions' time on air, in ninths, equals the clock's advance between them"
+  pub no-gap : Gapless (events h) (events (h ++ g))
+  no-gap =
+      let p = point in
+      subst (λ (e : List Event). Gapless (events h) e) (sym (later-events h g (p .here) m (p .behind)))
+      (owners.no-gap (events h) (shown (p .here)) (trace-told name h (p .here) (p .before)) (calls g) (led-wired g (p .here) m (p .behind)))
+
+  -- a list printed later says the same: each session stands in it, in its order; its time never falls, and is fixed once its end is written
+  pub prints-alike : Within (Printed (events h) (events (h ++ g))) (airingsTold (events h)) (airingsTold (events (h ++ g)))
+  prints-alike =
+      let p = point in
+      subst (λ (e : List Event). Within (Printed (events h) e) (airingsTold (events h)) (airingsTold e)) (sym (later-events h g (p .here) m (p .behind)))
+      (owners.prints-alike (events h) (shown (p .here)) (trace-told name h (p .here) (p .before)) (calls g) (led-wired g (p .here) m (p .behind)))
