@@ -23,7 +23,7 @@ use Rattle.rules.specs.Calls as rules
 use Rattle.rules.specs.Calls.{call}
 use Rattle.memory.specs.Memory.{see}
 use Rattle.engine.specs.declared.Answer.{Answer}
-use Rattle.engine.specs.Lent.{Answers, Counts}
+use Rattle.engine.specs.Lent.{Answers, Counts, Primary}
 use Rattle.engine.proofs.Held.{kind, Holds, Same, both, number-held, bytes-held}
 use Rattle.engine.proofs.fresh as fresh
 use Rattle.engine.proofs.«open» as opening
@@ -32,6 +32,7 @@ use Rattle.engine.proofs.message as message
 use Rattle.engine.proofs.tick as tick
 use Rattle.engine.proofs.bring_to as bringing
 use Rattle.engine.proofs.waiting as waiting
+use Rattle.engine.proofs.primary as primary
 use Rattle.traces.specs.Trace.{Memory, shown, Input, anOpen, aClose, aMessage, aTick, aMove, Typed, callOf, bufferOf, Result, Allowed}
 use Rattle.traces.proofs.Course.{LentAt}
 
@@ -128,6 +129,14 @@ module _ {M : Type 1} (𝓤 : URA M) (H : Heap 𝓤) (A : Atoms 𝓤) (mem : sto
 
     pub waiting-ensures : waiting.clauses 𝓤 H A mem run κs a .ensures tt r z ≡ ⌜ Counts (now (a .0)) (now (a .1 .0)) r ⌝
     waiting-ensures = refl
+
+  -- primary(m, b)
+  module _ (κs : Lfts 2) (a : Args primary.signature κs) (r : Res primary.signature κs) (z : AtExit primary.ended κs) where
+    pub primary-requires : primary.clauses 𝓤 H A mem run κs a .requires tt ≡ ⌜ LentAt (at (now (a .0)) (now (a .1 .0))) ⌝
+    primary-requires = refl
+
+    pub primary-ensures : primary.clauses 𝓤 H A mem run κs a .ensures tt r z ≡ ⌜ Primary (now (a .0)) (now (a .1 .0)) (r .0) ⌝
+    primary-ensures = refl
 
 -- ## What Allowed says is of the call `callOf`
 
