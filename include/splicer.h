@@ -48,7 +48,7 @@ enum {
     SPLICER_MESSAGE = 4096,
     SPLICER_OUT = 4096,
     SPLICER_MARK = 2,
-    SPLICER_WORDS = 604,
+    SPLICER_WORDS = 605,
     SPLICER_BYTES = 32,
     SPLICER_REPLY = 4
 };
@@ -101,10 +101,10 @@ enum splicer_result {
 };
 
 /* One output channel. Opaque: its content is the core's, and unused places are zero. words: 0 the clock in ninths of a microsecond, 1 how
- * many wait, 2 how many have started, 3 the place where the ring of those that wait ends, 4 to 7 how many wait of each connection, 8 to 11
- * the connections; then 64 places of 8 words for those that wait, then 10 for those that have started. Those that wait stand in order of
- * start in a ring, the last of them before the place of word 3, which goes one on with each acceptance; those that have started stand at
- * the end of their places, the first next to the free ones. bytes: the ChannelName. */
+ * many wait, 2 how many have started, 3 the place where the ring of those that wait ends, 4 the primary channel's ninths, 5 to 8 how many wait
+ * of each connection, 9 to 12 the connections; then 64 places of 8 words for those that wait, then 10 for those that have started. Those that
+ * wait stand in order of start in a ring, the last of them before the place of word 3, which goes one on with each acceptance; those that
+ * have started stand at the end of their places, the first next to the free ones. bytes: the ChannelName. */
 struct splicer {
     uint64_t words[SPLICER_WORDS];
     uint8_t bytes[SPLICER_BYTES];
@@ -135,9 +135,9 @@ struct splicer_waiting {
 
 /* The archive is made for machines on which these hold. */
 SPLICER_ASSERT(sizeof(size_t) == 8, "a length is 8 bytes");
-SPLICER_ASSERT(sizeof(struct splicer) == 4864, "size of struct splicer");
+SPLICER_ASSERT(sizeof(struct splicer) == 4872, "size of struct splicer");
 SPLICER_ASSERT(SPLICER_ALIGN(struct splicer) == 8, "alignment of struct splicer");
-SPLICER_ASSERT(SPLICER_OFFSET(struct splicer, bytes) == 4832, "layout of struct splicer");
+SPLICER_ASSERT(SPLICER_OFFSET(struct splicer, bytes) == 4840, "layout of struct splicer");
 SPLICER_ASSERT(sizeof(struct splicer_rolling) == sizeof(struct splicer) + 16, "size of struct splicer_rolling");
 SPLICER_ASSERT(SPLICER_OFFSET(struct splicer_rolling, counter) == sizeof(struct splicer), "layout of struct splicer_rolling");
 SPLICER_ASSERT(sizeof(struct splicer_reply) == 24, "size of struct splicer_reply");
@@ -157,6 +157,7 @@ void splicer_4_message(uint64_t *words, uint8_t *bytes, uint32_t conn, const uin
                        uint64_t *reply);
 void splicer_4_tick(uint64_t *words, uint8_t *bytes, uint32_t seconds, uint32_t micros, uint8_t *out, size_t room, uint64_t *reply);
 void splicer_4_waiting(const uint64_t *words, const uint8_t *bytes, uint64_t *counts);
+uint64_t splicer_4_primary(const uint64_t *words, const uint8_t *bytes);
 void splicer_4_rolling_fresh(const uint8_t *name, uint64_t *words, uint8_t *bytes, uint64_t *counter, uint64_t *reply);
 void splicer_4_instant(uint64_t *words, uint8_t *bytes, uint64_t *counter, const uint32_t *given, uint8_t *out, size_t room, uint64_t *reply);
 void splicer_4_reading(uint64_t *words, uint8_t *bytes, uint64_t *counter, uint32_t reading, uint8_t *out, size_t room, uint64_t *reply);
@@ -213,6 +214,11 @@ static inline struct splicer_waiting splicer_call_waiting(const struct splicer *
     splicer_4_waiting(s->words, s->bytes, w.count);
     return w;
 }
+
+/* The time on the primary channel, in which nothing was on air, up to the clock: in ninths of a microsecond since clock 0, so the first tick
+ * adds its whole time. Of a stretch, take the difference of two reads. It only reads, and nothing is refused. */
+static inline uint64_t splicer_call_primary(const struct splicer *s) {
+    return splicer_4_primary(s->words, s->bytes);
 
 /* The card with a rolling counter (document 02, CR 9): docs/INTEGRATION.md says when to give the instant and how often to read. */
 

@@ -174,7 +174,11 @@ fn numbers(text: &str, name: &str) -> bool {
 fn the_functions_are_declared_as_in_the_header() {
     for name in CALLS.iter().chain(&ROLLING) {
         assert_eq!(of_door_call(name), of_header_call(name), "{name}");
-        assert_eq!(numbers(DOOR_TEXT, name), numbers(HEADER_TEXT, name), "{name}");
+        assert_eq!(
+            numbers(DOOR_TEXT, name),
+            numbers(HEADER_TEXT, name),
+            "{name}"
+        );
     }
     let all = CALLS.len() + ROLLING.len();
     assert_eq!(DOOR_TEXT.matches("link_name").count(), all);
@@ -199,7 +203,11 @@ fn the_header_refers_to_versioned_names_only() {
             "struct splicer *s"
         };
         assert!(lent.starts_with(own), "{name}");
-        assert!(body.contains(&format!("    {call}")), "{name}");
+        let made = body.contains(&format!("    {call}"));
+        assert!(
+            made || body.contains(&format!("    return {call}")),
+            "{name}"
+        );
     }
     let functions = HEADER_TEXT.lines().filter(|line| {
         let first = line.starts_with(|c: char| c.is_ascii_lowercase());
