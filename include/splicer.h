@@ -219,6 +219,7 @@ static inline struct splicer_waiting splicer_call_waiting(const struct splicer *
  * adds its whole time. Of a stretch, take the difference of two reads. It only reads, and nothing is refused. */
 static inline uint64_t splicer_call_primary(const struct splicer *s) {
     return splicer_4_primary(s->words, s->bytes);
+}
 
 /* The card with a rolling counter (document 02, CR 9): docs/INTEGRATION.md says when to give the instant and how often to read. */
 
