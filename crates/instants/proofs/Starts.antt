@@ -57,7 +57,6 @@ module _ (d : ℕ) (s : Memory) {m : List ℕ} where
       record { form = v .form; is = v .is ∙ sym (silenced-none u) ∙ ap (λ n. silenced n u) (sym (silent-some d (s .queue .started) h)) }
 
 module _ (d : ℕ) where
-
   pub first-lasting : (l : List Session) → 0 < length l → Lasting d l → Lasts d (getD l 0 empty)
   first-lasting l h a = all-getD (Lasts d) l 0 empty h a
 
