@@ -270,6 +270,38 @@ impl Day {
         if self.clock > last {
             text += &line(last, self.clock, "primary channel");
         }
+        text + &self.sums()
+    }
+
+    /// 02, CR 13: the day has no gap. The primary channel's time is counted from the times in which
+    /// sessions were started and unended, the sessions' from the spans on air.
+    fn sums(&self) -> String {
+        let mut started: Vec<(u64, u64)> = self
+            .rows
+            .iter()
+            .filter_map(|row| Some((row.began?, row.ended.unwrap_or(self.clock))))
+            .collect();
+        started.sort();
+        let (mut primary, mut last) = (0, 0);
+        for (from, to) in started {
+            primary += from.saturating_sub(last);
+            last = last.max(to);
+        }
+        primary += self.clock.saturating_sub(last);
+        let on_air: u64 = self.spans.iter().map(|span| span.to - span.from).sum();
+        let together = primary + on_air;
+        let line = |name: &str, time: u64| {
+            let text = time_text(time);
+            format!("{name:<16}{text:>20} s {time:>20} ninths\n")
+        };
+        let mut text = "\nTime\n".to_string();
+        text += &line("primary channel", primary);
+        text += &line("sessions on air", on_air);
+        text += &line("together", together);
+        text += &line("clock", self.clock);
+        if together != self.clock {
+            text += &format!("THEY DIFFER by {} ninths\n", together.abs_diff(self.clock));
+        }
         text
     }
 }
@@ -315,6 +347,10 @@ mod tests {
             "1007.000000 1013.000000 connection 0 session 1",
             "1013.000000 1014.000000 connection 0 session 2",
             "1014.000000 1020.000000 primary channel",
+            "primary channel 1009.000000 s 9081000000 ninths",
+            "sessions on air 11.000000 s 99000000 ninths",
+            "together 1020.000000 s 9180000000 ninths",
+            "clock 1020.000000 s 9180000000 ninths",
         ];
         for line in expected {
             assert!(lines.contains(&line.to_string()), "{line}\n{text}");
@@ -341,6 +377,30 @@ mod tests {
             }
         }
         assert!(ended > 1_000, "{ended}");
+    }
+
+    #[test]
+    fn a_gap_is_told() {
+        let mut day = Day {
+            clock: 900,
+            ..Day::default()
+        };
+        assert!(!day.sums().contains("DIFFER"));
+        day.spans.push(Span {
+            from: 100,
+            to: 150,
+            row: 0,
+        });
+        assert!(day.sums().ends_with("THEY DIFFER by 50 ninths\n"));
+    }
+
+    #[test]
+    fn no_stream_has_a_gap() {
+        for index in 0..26 {
+            let run = card::run(&crate::gen::stream(5, index), None);
+            let text = Day::of(&run.calls).sums();
+            assert!(!text.contains("DIFFER"), "stream {index}: {text}");
+        }
     }
 
     #[test]

@@ -74,6 +74,12 @@ faults! {
     EqualEnds100: "the equal one ended by a start gets 100",
     EqualEndsBehindStart: "the start's record before the end of the equal one",
     EqualPlayedToItsEnd: "the equal one ended by a start has played to its end time",
+    AbortPlayedToItsEnd: "an aborted one has played to its end time",
+    PrimaryWhileOnAir: "the primary channel's time goes on while one is on air",
+    PrimaryLastStretch: "the primary channel's time behind a tick's last instant is forgotten",
+    PrimaryFromTickStart: "the primary channel's time counts from the tick's start",
+    PrimaryInTicks: "the primary channel's time is counted in ticks",
+    PrimaryNotWhileWaiting: "the primary channel has no time while one waits",
 }
 
 impl Fault {

@@ -7,6 +7,7 @@ use crate::demand3;
 use crate::faults::FAULTS;
 use crate::gen;
 use crate::people::{agreement, call_line, differing, time_text};
+use crate::primary::History;
 use crate::records;
 use crate::rules::Splicer;
 
@@ -40,6 +41,11 @@ pub fn fuzz(plan: &Fuzz) -> Result<bool, String> {
         counts.add(&run.splicer.counts);
         for fault in demand3::broken(&run.calls) {
             println!("demand 3 broken, stream {index}, {fault}");
+            broken += 1;
+        }
+        // 02, CR 13
+        for fault in History::of(&run.calls).wrong(run.splicer.primary) {
+            println!("a moment of nobody, stream {index}, {fault}");
             broken += 1;
         }
         if let Some(text) = against_card(plan, index, &input, &run)? {
@@ -150,6 +156,14 @@ pub fn faults(seed: u64, n: u64) -> Result<bool, String> {
             let (agreed, _, same) = agreement(&clean[index], &faulty.output());
             if !same {
                 first = Some((index, agreed + 1));
+                break;
+            }
+            // By the records alone: the primary sum is none of the answers.
+            if !History::of(&faulty.calls)
+                .wrong(faulty.splicer.primary)
+                .is_empty()
+            {
+                first = Some((index, agreed));
                 break;
             }
         }

@@ -11,10 +11,17 @@ impl Splicer {
     pub fn work_through(&mut self, until: u64, out: &mut Vec<Record>) {
         self.count_tick(until);
         let mut instants = 0;
+        let (mut last, primary) = (self.clock, self.primary);
         while let Some(time) = self.next_instant(until) {
             instants += 1;
+            self.pass(last, time);
+            last = time;
             self.instant(time, out);
         }
+        if instants == 0 || !self.faulty(Fault::PrimaryLastStretch) {
+            self.pass(last, until);
+        }
+        self.count_passing(until - self.clock, self.primary - primary, instants);
         self.hit(match instants {
             0 => "tick over no instant",
             1 => "tick over one instant",
@@ -405,7 +412,11 @@ impl Splicer {
     fn aborted_end(&mut self, session: &Session, out: &mut Vec<Record>) {
         let covered = session.state == State::Covered && self.faulty(Fault::CoveredAbortCompletes);
         if session.state == State::OnAir || covered {
-            let played = self.played(session, self.clock);
+            let until = match self.fault {
+                Some(Fault::AbortPlayedToItsEnd) => session.end,
+                _ => self.clock,
+            };
+            let played = self.played(session, until);
             self.complete(session, 116, 1, played, out);
         } else {
             self.splice_response(session, 116, out);

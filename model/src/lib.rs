@@ -19,6 +19,7 @@ pub mod gen;
 pub mod instants;
 pub mod people;
 pub mod pieces;
+pub mod primary;
 pub mod reading;
 pub mod recording;
 pub mod recordings;

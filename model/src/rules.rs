@@ -55,6 +55,8 @@ pub struct Splicer {
     pub sessions: Vec<Session>,
     /// 02, CR 11: the places that the last call's acceptance shifts.
     pub moved: usize,
+    /// 02, CR 13: the time on the primary channel, in ninths.
+    pub primary: u64,
     pub fault: Option<Fault>,
     pub counts: Counts,
 }
@@ -75,6 +77,7 @@ impl Splicer {
             initialised: [false; 4],
             sessions: Vec::new(),
             moved: 0,
+            primary: 0,
             fault: None,
             counts: Counts::new(),
         };
