@@ -3,6 +3,7 @@
 //! neither the second program nor the core's state.
 
 use crate::calls::{Act, Call, Said};
+use crate::intervals::{share, Live};
 use splicer::{message_id as id, records, result, Record, CONNECTIONS, HEADER, OUT};
 
 const NONE: u32 = 0xFFFF_FFFF;
@@ -24,6 +25,8 @@ struct Held {
     access: u8,
     overrides: bool,
     started: bool,
+    /// Its time on air up to the clock, in ninths (02, CR 13).
+    aired: u64,
 }
 
 #[derive(Clone, Default)]
@@ -34,6 +37,9 @@ pub struct Books {
     held: Vec<Held>,
     /// The places that the present call's acceptance shifts (02, CR 11).
     moved: usize,
+    /// Time on the primary channel and of all sessions, in ninths (02, CR 13).
+    primary: u64,
+    aired: u64,
 }
 
 type Kept = Result<(), String>;
@@ -154,6 +160,7 @@ impl Books {
         for record in list {
             must(record.connection == conn, "close ended another's session")?;
             must(record.result == result::ABORTED, "close without 116")?;
+            self.played(record)?;
             self.session(record)?;
         }
         self.open[usize::from(conn)] = false;
@@ -162,16 +169,97 @@ impl Books {
 
     /// "A tick works through every start and end not later than its time".
     fn ticked(&mut self, time: u64, list: &[Record]) -> Kept {
-        self.clock = time;
+        let mut lives = self.started();
         for (place, record) in list.iter().enumerate() {
             must(record.result != result::ABORTED, "a tick aborted")?;
             if record.result == result::OVERRIDDEN {
                 self.overridden(&list[..place], record, &list[place + 1..])?;
             }
+            self.noted(&mut lives, record, &list[place + 1..], time);
             self.session(record)?;
         }
+        self.shared(time, &mut lives)?;
+        self.clock = time;
         let due = |s: &Held| if s.started { s.end } else { s.start };
         must(self.held.iter().all(|s| due(s) > time), "due and not done")
+    }
+
+    /// The started sessions, from the clock on.
+    fn started(&self) -> Vec<Live> {
+        let started = self.held.iter().filter(|s| s.started);
+        let live = |s: &Held| Live {
+            conn: s.conn,
+            id: s.id,
+            access: s.access,
+            from: self.clock,
+            to: None,
+            aired: s.aired,
+            said: None,
+        };
+        started.map(live).collect()
+    }
+
+    /// A start or end in the answer of a tick. A session is over at its end time, or at the start behind
+    /// its end in the same answer, if that is earlier: of an equal one (02, CR 4).
+    fn noted(&self, lives: &mut Vec<Live>, record: &Record, behind: &[Record], time: u64) {
+        let Some(s) = self.of(record) else {
+            return;
+        };
+        let own = |live: &&mut Live| live.conn == s.conn && live.id == s.id;
+        if is_kind(record, COMPLETE, 100) && record.data[4] == 0 {
+            lives.push(Live {
+                conn: s.conn,
+                id: s.id,
+                access: s.access,
+                from: s.start,
+                to: None,
+                aired: 0,
+                said: None,
+            });
+        } else if let Some(live) = lives.iter_mut().find(own) {
+            let first = behind
+                .iter()
+                .find(|r| r.message_id == COMPLETE && r.data[4] == 0);
+            let start = first.and_then(|r| self.of(r)).map_or(time, |new| new.start);
+            live.to = Some(s.end.min(time).min(start));
+            live.said = (record.message_id == COMPLETE).then(|| word(record.data, 9));
+        }
+    }
+
+    /// 02, CR 13: the time from the clock to this one is shared out, and each end's PlayedDuration is its
+    /// session's time on air in ticks, rounded down.
+    fn shared(&mut self, time: u64, lives: &mut [Live]) -> Kept {
+        let before: u64 = lives.iter().map(|live| live.aired).sum();
+        self.primary += share(self.clock, time, lives);
+        self.aired += lives.iter().map(|live| live.aired).sum::<u64>() - before;
+        for live in lives {
+            let right = live
+                .said
+                .is_none_or(|said| u64::from(said) == live.aired / 100);
+            must(right, "a PlayedDuration that is not its time on air")?;
+            if let Some(at) = self.find(live.conn, live.id) {
+                self.held[at].aired = live.aired;
+            }
+        }
+        Ok(())
+    }
+
+    /// The same of an end by abort or close, at the clock.
+    fn played(&self, record: &Record) -> Kept {
+        let aired = self.of(record).map_or(0, |s| s.aired);
+        let right = record.message_id != COMPLETE || u64::from(word(record.data, 9)) == aired / 100;
+        must(right, "a PlayedDuration that is not its time on air")
+    }
+
+    /// 02, CR 13: "the growth of the time on the primary channel plus that of all sessions' time on air, in
+    /// ninths, equals the clock's advance".
+    pub fn primary(&self, found: u64) -> Kept {
+        must(found == self.primary, "another time on the primary channel")?;
+        let together = self.primary + self.aired;
+        must(
+            together == self.clock,
+            "a moment that is nobody's, or two's",
+        )
     }
 
     /// 02, CR 4: "at a start the equal one on air ends at once, SpliceComplete flag 1, result 125,
@@ -288,6 +376,7 @@ impl Books {
         for record in ends {
             let own = record.connection == conn && record.result == result::ABORTED;
             must(own, "an abort ended another's session or without 116")?;
+            self.played(record)?;
             self.session(record)?;
         }
         Ok(())
@@ -344,6 +433,7 @@ impl Books {
             access: data[30],
             overrides: data[31] == 1,
             started: false,
+            aired: 0,
         });
         Ok(())
     }

@@ -5,6 +5,7 @@ mod acts;
 mod books;
 mod calls;
 mod checked;
+mod intervals;
 mod pair;
 mod rolled;
 mod run;
@@ -72,6 +73,15 @@ const BOOKED: &[Fault] = &[
     Fault::EqualLeavesFollowers,
     Fault::EqualEnds100,
     Fault::EqualEndsBehindStart,
+    Fault::PlayedInMicroseconds,
+    Fault::CoveredTimePlayed,
+    Fault::EqualPlayedToItsEnd,
+    Fault::AbortPlayedToItsEnd,
+    Fault::PrimaryWhileOnAir,
+    Fault::PrimaryLastStretch,
+    Fault::PrimaryFromTickStart,
+    Fault::PrimaryInTicks,
+    Fault::PrimaryNotWhileWaiting,
 ];
 
 fn main() {

@@ -75,6 +75,7 @@ impl Pair {
         self.same_waiting(waiting)?;
         self.books.call(act, &found)?;
         self.books.waiting(waiting)?;
+        self.books.primary(self.model.primary)?;
         Ok(found)
     }
 
