@@ -175,6 +175,7 @@ impl RollingPair {
         }
         self.books.call(call, room, &found)?;
         self.books.books.waiting(waiting)?;
+        self.books.books.primary(self.model.splicer.primary)?;
         self.as_plain(call, room, &found, desk)?;
         Ok(found)
     }
@@ -283,18 +284,13 @@ pub fn everything(seed: u64, n: u64) -> Vec<bool> {
     for (slip, text) in SLIPS {
         results.push(noticed(seed, *slip, text));
     }
-    // The books do not add up time on air.
-    let told = SLIPS
-        .iter()
-        .filter(|(slip, _)| *slip != Slip::PlayedToTheMicrosecond);
-    for (slip, text) in told {
+    for (slip, text) in SLIPS {
         results.push(booked(seed, *slip, text));
     }
     let unnoticed = results[1..].iter().filter(|good| !**good).count();
     println!(
-        "beside: {} mistakes of a rolling card, and {} of them by the records alone: {unnoticed} not noticed",
-        SLIPS.len(),
-        SLIPS.len() - 1
+        "beside: {} mistakes of a rolling card, each by the records alone too: {unnoticed} not noticed",
+        SLIPS.len()
     );
     results.extend(scenarios());
     results
