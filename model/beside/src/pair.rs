@@ -34,7 +34,18 @@ impl Pair {
             drift: Drift::default(),
         };
         pair.same_waiting(pair.core.waiting())?;
+        pair.same_primary(pair.core.primary())?;
         Ok(pair)
+    }
+
+    /// The time on the primary channel read from the core (02, CR 13) is the second program's, and what
+    /// the records alone give.
+    fn same_primary(&self, found: u64) -> Result<(), String> {
+        let wanted = self.model.primary;
+        if found != wanted {
+            return Err(format!("primary: core {found}, second program {wanted}"));
+        }
+        self.books.primary(found)
     }
 
     /// The waiting counts read from the core are those of the second program's own list.
@@ -75,7 +86,7 @@ impl Pair {
         self.same_waiting(waiting)?;
         self.books.call(act, &found)?;
         self.books.waiting(waiting)?;
-        self.books.primary(self.model.primary)?;
+        self.same_primary(wrong.primary(self.core.primary(), self.model.clock))?;
         Ok(found)
     }
 

@@ -220,7 +220,8 @@ pub fn booked(list: &[Stream], wrong: Wrong) -> Option<String> {
             wrong.moved(act, &mut said, counted);
             let waiting = wrong.waiting(act, &said, counted, &mut drift);
             let kept = books.call(act, &said).and_then(|()| books.waiting(waiting));
-            let kept = kept.and_then(|()| books.primary(model.primary));
+            let primary = wrong.primary(model.primary, model.clock);
+            let kept = kept.and_then(|()| books.primary(primary));
             if let Err(text) = kept {
                 let index = stream.index;
                 return Some(format!("stream {index}, call {}, {text}", at + 1));

@@ -74,6 +74,15 @@ pub const MOVING: &[(&str, &str)] = &[
     ("moved-refused", "1 moved by a request with 109"),
 ];
 
+/// Faults in the time on the primary channel that the core is read to keep (02, CR 13).
+pub const TIMING: &[(&str, &str)] = &[
+    (
+        "primary-clock",
+        "the clock read for the primary channel's time",
+    ),
+    ("primary-ticks", "the primary channel's time read in ticks"),
+];
+
 /// How far a fault's waiting counts have gone from the true ones, and the true ones before the call.
 #[derive(Clone, Default)]
 pub struct Drift {
@@ -93,7 +102,7 @@ fn own() -> impl Iterator<Item = Wrong> {
 
 /// The faults in the numbers beside the records: the records alone give them away too.
 pub fn reporting() -> impl Iterator<Item = Wrong> {
-    let all = COUNTING.iter().chain(MOVING);
+    let all = COUNTING.iter().chain(MOVING).chain(TIMING);
     all.map(|(name, _)| Wrong::Core(name))
 }
 
@@ -112,7 +121,7 @@ impl Wrong {
             Wrong::Nothing => "no fault".to_string(),
             Wrong::Model(fault) => format!("{}: {}", fault.name(), fault.text()),
             Wrong::Core(name) => {
-                let mut all = OWN.iter().chain(COUNTING).chain(MOVING);
+                let mut all = OWN.iter().chain(COUNTING).chain(MOVING).chain(TIMING);
                 let text = all.find(|(n, _)| *n == name);
                 format!("{name}: {}", text.map_or("", |(_, t)| t))
             }
@@ -200,6 +209,15 @@ impl Wrong {
             ("moved-itself", 100) => said.moved += 1,
             ("moved-refused", 109) => said.moved = 1,
             _ => {}
+        }
+    }
+
+    /// The time on the primary channel that the core is read to keep, or a fault's.
+    pub fn primary(self, found: u64, clock: u64) -> u64 {
+        match self {
+            Wrong::Core("primary-clock") => clock,
+            Wrong::Core("primary-ticks") => found / 100,
+            _ => found,
         }
     }
 
