@@ -9,7 +9,7 @@ use lib.Dec.{eqb}
 use Rattle.rules.specs.Units.{timeOf, fromMicros}
 use Rattle.rules.specs.Lists.{All, bit}
 use Rattle.rules.specs.Bytes.{hasZero}
-use Rattle.rules.specs.Reading.{wholeRequest, dataIn, isSplice}
+use Rattle.rules.specs.Reading.{isSplice}
 use Rattle.rules.specs.State.{Queue, Splicer, is}
 use Rattle.rules.specs.Records.{Record, recordsIn}
 use Rattle.rules.specs.Ends.{Turn, quiet, writes, andThen, evicted, closedBy}
@@ -70,7 +70,7 @@ module _ (c x : ℕ) where
           aborting = λ d l loans n y e i. airs-turn q _ _ (messages d l loans) _ once (answered-law c x d y q) refl (rw e) refl refl;
           declining = λ d l loans n r e y o. airs-turn q q (quiet q) (messages d l loans) (r ∷ []) once (quiet-law c x q) refl (rw e)
               (omega (arith, ap bit (o .starts c x))) (omega (arith, ap bit (o .outs c x)));
-          accepting = λ d l loans n e f p. let new = requested d (wholeRequest (dataIn l)) q in
+          accepting = λ d l loans n r e f p. let new = requested d r q in
               let t = evicted (new .start .0) q in
               let one = accepts new ∷ [] in
               airs-turn q _ t (messages d l loans) (t .written ++ one) once (evicted-law c x (new .start .0) q) refl (rw (e, front-last (t .written) (accepts new)))

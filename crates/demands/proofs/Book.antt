@@ -16,8 +16,10 @@ use Rattle.rules.specs.declared.Message.the-variants.{Splice}
 use Rattle.rules.specs.Units.{timeOf, fromMicros}
 use Rattle.rules.specs.Lists.{All, bit, omit, count, place}
 use Rattle.rules.specs.Bytes.{hasZero}
-use Rattle.rules.specs.Reading.{wholeRequest, readSplice, dataIn}
+use Rattle.rules.specs.declared.Request.{Request}
+use Rattle.rules.specs.Reading.{readSplice, dataIn}
 use Rattle.rules.specs.State.{sameNumber, Queue, Splicer, empty, of, is, held, holds}
+use Rattle.rules.proofs.Checks.{read-id}
 use Rattle.rules.specs.Records.{Record, General, InitResponse, AliveResponse, SpliceResponse, SpliceComplete, AbortResponse}
 use Rattle.rules.specs.Ends.{Turn, writes, andThen, evicted, cancelled, closedBy}
 use Rattle.rules.specs.Instants.{runAll}
@@ -257,10 +259,10 @@ module _ (s : Splicer) (es : List Entry) (b : Booked (s .queue) es) where
       none x l = omega (arith, count-le (is d x) (of d) (λ u. bit-and (eqb d (u .conn)) (eqb x (u .id))) (omit (of d) l), count-omitted (of d) l)
 
   -- the entry of a request that is accepted
-  asked-entry : (c : ℕ) (l : List ℕ) → readSplice (dataIn l) ≡ Splice (wholeRequest (dataIn l)) → unknownPrior c (wholeRequest (dataIn l) .start) q ≡ false
-      → entryOf c (dataIn l) es ≡ entry (requested c (wholeRequest (dataIn l)) q)
+  asked-entry : (c : ℕ) (l : List ℕ) (r : Request) → readSplice (dataIn l) ≡ Splice r → unknownPrior c (r .start) q ≡ false
+      → entryOf c (dataIn l) es ≡ entry (requested c r q)
   unfolding entryOf endAsked requested sessionAt
-  asked-entry c l e u = rw (e, told-start c (wholeRequest (dataIn l) .start) q es (b .dated) u)
+  asked-entry c l r e u = rw (e, ← (read-id (dataIn l) r e), told-start c (r .start) q es (b .dated) u)
 
   tick-booked : (until : ℕ) → Booked (runAll (s .clock) until q .queue) (credited (runAll (s .clock) until q .written) es)
   tick-booked until = turn-booked q es (runAll (s .clock) until q) b (λ c x. tick-law c x (s .clock) until q) (each-tick (Dated es) (λ d u h. h) (s .clock) until q (b .dated))
@@ -276,10 +278,9 @@ module _ (s : Splicer) (es : List Entry) (b : Booked (s .queue) es) where
         naming = λ c l loans n r e p. rw e (plain-booked q es (r ∷ []) p b);
         aborting = λ c l loans n x e i. rw e (turn-booked q es _ b (λ d y. answered-law d y c x q) (fewer-each (Dated es) q _ (aborted-fewer c x q) (b .dated)));
         declining = λ c l loans n r e y o. rw (e, y) (plain-booked q es [] plain-none b);
-        accepting = λ c l loans n e f p. let r = wholeRequest (dataIn l) in
-            let new = requested c r q in
+        accepting = λ c l loans n r e f p. let new = requested c r q in
             let rs = evicted (new .start .0) q .written in
-            rw (e, last-last (isYes c (r .id)) rs (accepts new), front-last rs (accepts new), eqb-same c, eqb-same (r .id), asked-entry c l f (p .prior))
+            rw (e, ← (read-id (dataIn l) r f), last-last (isYes c (r .id)) rs (accepts new), front-last rs (accepts new), eqb-same c, eqb-same (r .id), asked-entry c l r f (p .prior))
             (new-booked new q es b (omega (arith, some-none (is c (r .id)) (held q) (p .number), count-held (is c (r .id)) q)));
         ticking = λ seconds micros room le. tick-booked (fromMicros (timeOf seconds micros) .0);
         moving = λ until room le. tick-booked until;

@@ -10,7 +10,7 @@ use Rattle.rules.specs.declared.Request.{Request}
 use Rattle.rules.specs.declared.Message.the-variants.{Splice}
 use Rattle.rules.specs.Units.{timeOf, fromMicros}
 use Rattle.rules.specs.Bytes.{messageSize}
-use Rattle.rules.specs.Reading.{sessionID, wholeRequest, readSplice, dataIn, isSplice}
+use Rattle.rules.specs.Reading.{sessionID, readSplice, dataIn, isSplice}
 use Rattle.rules.specs.declared.Link.the-variants.{Closed, Opened, Initialised}
 use Rattle.rules.specs.State.{Splicer, holds, linkOf, isOpen, withQueue, withLink}
 use Rattle.rules.specs.Records.{Record, General, InitResponse, SpliceResponse, AbortResponse}
@@ -19,7 +19,7 @@ use Rattle.rules.specs.Answers.{requested, grants, splices, aliveResponse}
 use Rattle.rules.specs.Calls.{Called, refuse, does, replies, ticked, Loans, Call, opens, closes, messages, ticks, moves, call}
 use Rattle.demands.specs.History.{isStart, isEnd, isYes}
 use Rattle.rules.proofs.Tests.{by}
-use Rattle.rules.proofs.Checks.{Passed, read-whole}
+use Rattle.rules.proofs.Checks.{Passed}
 use Rattle.rules.proofs.Cases as rules
 use Rattle.demands.specs.Told.{isOut}
 use Rattle.demands.proofs.Laws.{Plain, plain-none}
@@ -42,9 +42,8 @@ pub record Cases (s : Splicer) (P : Call → Called → Type 0) : Type 0 where
       → P (messages c l loans) (does n (AbortResponse c 100 x ∷ aborted c x (s .queue) .written) (withQueue (aborted c x (s .queue) .queue) s))
   -- a Splice_Request that is not accepted, and one that is
   pub declining : (c : ℕ) (l : List ℕ) (loans : Loans) (n : ℕ) (r : Record) → isSplice l ≡ true → isYes c (sessionID (dataIn l)) r ≡ false → Offair r → P (messages c l loans) (does n (r ∷ []) s)
-  pub accepting : (c : ℕ) (l : List ℕ) (loans : Loans) (n : ℕ) → isSplice l ≡ true → readSplice (dataIn l) ≡ Splice (wholeRequest (dataIn l))
-      → Passed (s .clock) c (wholeRequest (dataIn l)) (s .queue)
-      → P (messages c l loans) (replies n (splices (grants (requested c (wholeRequest (dataIn l)) (s .queue)) (s .queue)) s))
+  pub accepting : (c : ℕ) (l : List ℕ) (loans : Loans) (n : ℕ) (r : Request) → isSplice l ≡ true → readSplice (dataIn l) ≡ Splice r
+      → Passed (s .clock) c r (s .queue) → P (messages c l loans) (replies n (splices (grants (requested c r (s .queue)) (s .queue)) s))
   pub ticking : (seconds micros room : ℕ) → s .clock ≤ fromMicros (timeOf seconds micros) .0
       → P (ticks seconds micros room) (ticked (fromMicros (timeOf seconds micros) .0) s)
   pub moving : (until room : ℕ) → s .clock ≤ until → P (moves until room) (ticked until s)
@@ -62,10 +61,6 @@ module _ (s : Splicer) (P : Call → Called → Type 0) (k : Cases s P) where
         go true e = k .declining c l loans n r e y o
         go false e = k .saying c l loans n (r ∷ []) e p
 
-    -- a request that is accepted was read whole
-    accept-case : (r : Request) → isSplice l ≡ true → readSplice (dataIn l) ≡ Splice r → Passed (s .clock) c r (s .queue) → rules.Handles P c l loans (splices (grants (requested c r (s .queue)) (s .queue)) s)
-    accept-case r e f p = let w = read-whole (dataIn l) r f (p .whole) .0 in rw w (k .accepting c l loans n e (rw w at f) (rw w at p))
-
     message-case : rules.Answering c l s (rules.Handles P c l loans)
     unfolding isYes isStart isEnd isOut aliveResponse andThen
     message-case =
@@ -79,7 +74,7 @@ module _ (s : Splicer) (P : Call → Called → Type 0) (k : Cases s P) where
           unknown = λ x e i. k .saying c l loans n (AbortResponse c 121 x ∷ []) e (record { starts = λ d x. refl; ends = λ d x. refl });
           aborting = λ x e i held. k .aborting c l loans n x e held;
           declining = λ r v e i b m. k .declining c l loans n (SpliceResponse c v (r .id)) e (rw m) (record { starts = λ d y. refl; outs = λ d y. refl });
-          accepting = accept-case;
+          accepting = λ r. k .accepting c l loans n r;
         }
 
   bring-case : (j : Call) (until : ℕ) → rules.Brings j until → s .clock ≤ until → P j (ticked until s)

@@ -8,8 +8,9 @@ use native.Mathlib.Omega.{arith}
 use lib.ListN.{length}
 use Rattle.rules.specs.declared.Request.{Request}
 use Rattle.rules.specs.Lists.{count}
-use Rattle.rules.specs.Reading.{wholeRequest, dataIn}
+use Rattle.rules.specs.Reading.{dataIn}
 use Rattle.rules.specs.State.{Splicer, startsAfter}
+use Rattle.rules.proofs.Checks.{read-id}
 use Rattle.rules.specs.Records.{recordsIn}
 use Rattle.rules.specs.Ends.{andThen, evicted}
 use Rattle.rules.specs.Answers.{sessionAt, requested, spliceResult, accepts, accepted, answerSplice}
@@ -38,11 +39,10 @@ module _ (s : Splicer) where
         naming = λ c l loans n r e p g. refl;
         aborting = λ c l loans n x e i g. refl;
         declining = λ c l loans n r e y o g. refl;
-        accepting = λ c l loans n e f p g. let r = wholeRequest (dataIn l) in
-            let new = requested c r (s .queue) in
+        accepting = λ c l loans n r e f p g. let new = requested c r (s .queue) in
             let rs = evicted (new .start .0) (s .queue) .written in
             absurd (clash (grantedBy (messages c l loans) (rs ++ (accepts new ∷ [])))
-            (rw (e, last-last (isYes c (r .id)) rs (accepts new), eqb-same c, eqb-same (r .id))) g);
+            (rw (e, ← (read-id (dataIn l) r f), last-last (isYes c (r .id)) rs (accepts new), eqb-same c, eqb-same (r .id))) g);
         ticking = λ seconds micros room le g. refl;
         moving = λ until room le g. refl;
       })
@@ -59,7 +59,7 @@ module _ (s : Splicer) where
         naming = λ c l loans n r e p h. omega arith;
         aborting = λ c l loans n x e i h. omega arith;
         declining = λ c l loans n r e y o h. omega arith;
-        accepting = λ c l loans n e f p h. omega (arith, h, later-fewer (requested c (wholeRequest (dataIn l)) (s .queue)) (s .queue));
+        accepting = λ c l loans n r e f p h. omega (arith, h, later-fewer (requested c r (s .queue)) (s .queue));
         ticking = λ seconds micros room le h. omega arith;
         moving = λ until room le h. omega arith;
       })

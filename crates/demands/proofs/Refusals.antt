@@ -39,7 +39,7 @@ module _ (s : Splicer) where
         naming = λ c l loans m r i p n e. good-other e;
         aborting = λ c l loans m x i j n e. good-other e;
         declining = λ c l loans m r i y o n e. good-other e;
-        accepting = λ c l loans m i j p n e. good-other e;
+        accepting = λ c l loans m r i j p n e. good-other e;
         ticking = λ seconds micros room le n e. good-other e;
         moving = λ until room le n e. good-other e;
       })

@@ -12,8 +12,9 @@ use Rattle.rules.specs.declared.Session.{Session}
 use Rattle.rules.specs.Units.{timeOf, fromMicros}
 use Rattle.rules.specs.Lists.{All, bit, put, keep, count}
 use Rattle.rules.specs.Bytes.{hasZero}
-use Rattle.rules.specs.Reading.{wholeRequest, dataIn}
+use Rattle.rules.specs.Reading.{dataIn}
 use Rattle.rules.specs.State.{Queue, Splicer, of, is}
+use Rattle.rules.proofs.Checks.{read-id}
 use Rattle.rules.specs.Records.{Record}
 use Rattle.rules.specs.Ends.{Turn, writes, andThen, evicted, closedBy}
 use Rattle.rules.specs.Instants.{runAll}
@@ -123,11 +124,10 @@ module _ (s : Splicer) (L : ℕ → List ℕ) (h : Sound s) (g : Counted (s .que
         naming = λ c l loans n r e p. rw e (plain-counted q L once g (r ∷ []) p);
         aborting = λ c l loans n x e i. rw e (turn-counted q L once g _ (λ d y. answered-law d y c x q));
         declining = λ c l loans n r e y o. relist q (λ d. keep (unmarked d []) (L d)) _ (λ d. rw (e, y)) (plain-counted q L once g [] plain-none);
-        accepting = λ c l loans n e f p. let r = wholeRequest (dataIn l) in
-            let new = requested c r q in
+        accepting = λ c l loans n r e f p. let new = requested c r q in
             let rs = evicted (new .start .0) q .written in
             relist _ (λ d. put (eqb d c) (r .id) (keep (unmarked d rs) (L d))) _
-            (λ d. rw (e, last-last (isYes c (r .id)) rs (accepts new), front-last rs (accepts new), eqb-same c, eqb-same (r .id))) (new-counted new);
+            (λ d. rw (e, ← (read-id (dataIn l) r f), last-last (isYes c (r .id)) rs (accepts new), front-last rs (accepts new), eqb-same c, eqb-same (r .id))) (new-counted new);
         ticking = λ seconds micros room le. let until = fromMicros (timeOf seconds micros) .0 in turn-counted q L once g (runAll (s .clock) until q) (λ d x. tick-law d x (s .clock) until q);
         moving = λ until room le. turn-counted q L once g (runAll (s .clock) until q) (λ d x. tick-law d x (s .clock) until q);
       })

@@ -11,7 +11,7 @@ use Rattle.rules.specs.Lists.{All}
 use Rattle.rules.specs.Bytes
 use Rattle.rules.specs.Bytes.{Byte, bytes, padded}
 use Rattle.rules.specs.Reading
-use Rattle.rules.specs.Reading.{nobody, wholeRequest, dataIn}
+use Rattle.rules.specs.Reading.{nobody, tailOf, wholeRequest, dataIn}
 use Rattle.rules.specs.State.{Splicer}
 use Rattle.rules.specs.Answers
 use Rattle.rules.specs.Calls
@@ -53,7 +53,7 @@ unfoldable now : Splicer
 now = after calls (fresh name .splicer)
 
 unfoldable request : ℕ → Request
-request second = wholeRequest (dataIn (asking second))
+request second = wholeRequest (dataIn (asking second)) (tailOf (dataIn (asking second)))
 
 -- ## Bytes are bytes
 
@@ -74,7 +74,7 @@ small (b ∷ l) h = let p = split (ltb b 256) (each l) h in (ltb→lt b 256 (p .
 
 -- what they are computed with
 unfoldable computing : ℕ
-unfolding name message initialise asking room calls heard now request each cardName bytes Bytes.value Bytes.valueFrom Reading.readInit Reading.readSplice Reading.wellFormed Reading.readStart Reading.read Answers.initResult Answers.answerInit Answers.startOf Answers.sessionAt Answers.requested Answers.unknownPrior Answers.tooLate Answers.collides Answers.answerRead Answers.answer Calls.named Calls.fresh Calls.openCall Calls.framing Calls.handled Calls.messageCall Calls.call Calls.after firstNumber earlierCode
+unfolding name message initialise asking room calls heard now request each cardName bytes Bytes.value Bytes.valueFrom Reading.readInit Reading.readWhole Reading.readSplice Reading.wellFormed Reading.readStart Reading.read Answers.initResult Answers.answerInit Answers.startOf Answers.sessionAt Answers.requested Answers.unknownPrior Answers.tooLate Answers.collides Answers.answerRead Answers.answer Calls.named Calls.fresh Calls.openCall Calls.framing Calls.handled Calls.messageCall Calls.call Calls.after firstNumber earlierCode
 computing = 0
 
 reached : FromFresh heard now

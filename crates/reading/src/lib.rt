@@ -5,7 +5,7 @@ ghost use lib.ListN.{length};
 ghost use Rattle.rules.specs.Bytes.{dataOf};
 ghost use Rattle.rules.specs.Calls.{framing};
 ghost use Rattle.rules.specs.Reading.{channelName, splicerName, readInit, readAlive, readAbort, readStart, badSplice};
-ghost use Rattle.rules.specs.Reading.{separatePids, wholeRequest, readSplice, isRead, «read»};
+ghost use Rattle.rules.specs.Reading.{separatePids, wholeRequest, readWhole, readSplice, isRead, «read»};
 
 pub mod descriptors;
 pub mod names;
@@ -124,11 +124,12 @@ fn start_in(d: &[u8]) -> Start
     Start::Linked(prior)
 }
 
-// What makes a request r with a ServiceID other than 0xFFFF unreadable. Only a timed one's MicroSeconds count.
-fn bad_splice(d: &[u8], r: Request) -> bool
-    requires { ⌜ 33 ≤ length (now d) ⌝ }
-    requires { ⌜ r ≡ wholeRequest (now d) ⌝ }
-    ensures { λ b. ⌜ b ≡ badSplice (now (d .entry)) ⌝ }
+// What makes a request r unreadable whose data is d with the tail t. Only a timed one's MicroSeconds count.
+fn bad_splice(d: &[u8], t: &[u8], r: Request) -> bool
+    requires { ⌜ 16 ≤ length (now d) ⌝ }
+    requires { ⌜ 15 ≤ length (now t) ⌝ }
+    requires { ⌜ r ≡ wholeRequest (now d) (now t) ⌝ }
+    ensures { λ b. ⌜ b ≡ badSplice (now (d .entry)) (now (t .entry)) ⌝ }
 {
     if 999999 < number4(d, 12) && number4(d, 4) == NOBODY {
         return true;
@@ -142,10 +143,10 @@ fn bad_splice(d: &[u8], r: Request) -> bool
     if 1 < r.overrides {
         return true;
     }
-    if 1 < d[32] {
+    if 1 < t[14] {
         return true;
     }
-    !well_formed(&d[33..])
+    !well_formed(&t[15..])
 }
 
 // "With ServiceID 0xFFFF only the first 18 bytes are read."
@@ -164,19 +165,36 @@ fn separate_pids(d: &[u8], start: Start) -> Request
     }
 }
 
-fn whole_request(d: &[u8], start: Start) -> Request
-    requires { ⌜ 33 ≤ length (now d) ⌝ }
+fn whole_request(d: &[u8], t: &[u8], start: Start) -> Request
+    requires { ⌜ 18 ≤ length (now d) ⌝ }
+    requires { ⌜ 15 ≤ length (now t) ⌝ }
     requires { ⌜ start ≡ readStart (now d) ⌝ }
-    ensures { λ r. ⌜ r ≡ wholeRequest (now (d .entry)) ⌝ }
+    ensures { λ r. ⌜ r ≡ wholeRequest (now (d .entry)) (now (t .entry)) ⌝ }
 {
     Request {
         id: number4(d, 0),
         start: start,
         service: number2(d, 16),
-        duration: Ticks(number4(d, 18)),
-        access: d[30],
-        overrides: d[31],
+        duration: Ticks(number4(t, 0)),
+        access: t[12],
+        overrides: t[13],
     }
+}
+
+// Of the data d with the tail t.
+fn read_whole(d: &[u8], t: &[u8], start: Start) -> Message
+    requires { ⌜ 18 ≤ length (now d) ⌝ }
+    requires { ⌜ start ≡ readStart (now d) ⌝ }
+    ensures { λ r. ⌜ r ≡ readWhole (now (d .entry)) (now (t .entry)) ⌝ }
+{
+    if t.len() < 15 {
+        return Message::Unreadable;
+    }
+    let r = whole_request(d, t, start);
+    if bad_splice(d, t, r) {
+        return Message::Unreadable;
+    }
+    Message::Splice(r)
 }
 
 // Each field is read before the tests on it, the start before the ServiceID parts the ways: its bytes are then one load.
@@ -190,14 +208,7 @@ fn read_splice(d: &[u8]) -> Message
     if number2(d, 16) == 0xFFFF {
         return Message::Splice(separate_pids(d, start));
     }
-    if d.len() < 33 {
-        return Message::Unreadable;
-    }
-    let r = whole_request(d, start);
-    if bad_splice(d, r) {
-        return Message::Unreadable;
-    }
-    Message::Splice(r)
+    read_whole(d, &d[18..], start)
 }
 
 // The list of four.

@@ -16,7 +16,7 @@ use Rattle.rules.specs.declared.Message.the-variants.{Splice}
 use Rattle.rules.specs.declared.Link.the-variants.{Closed, Opened, Initialised}
 use Rattle.rules.specs.Units.{timeOf, badMicros, fromMicros}
 use Rattle.rules.specs.Bytes.{messageID, messageSize, oversize, field, sameName}
-use Rattle.rules.specs.Reading.{initRequest, aliveRequest, spliceRequest, abortRequest, separateService, channelName, serviceID, sessionID, badInit, badSplice, separatePids, wholeRequest, readInit, readAlive, readAbort, readSplice, isRead, read, dataIn, isSplice}
+use Rattle.rules.specs.Reading.{initRequest, aliveRequest, spliceRequest, abortRequest, separateService, channelName, serviceID, sessionID, badInit, tailOf, badSplice, separatePids, wholeRequest, readInit, readAlive, readAbort, readWhole, readSplice, isRead, read, dataIn, isSplice}
 use Rattle.rules.specs.State.{Splicer, holds, linkOf, isOpen, isInitialised, withQueue, withLink}
 use Rattle.rules.specs.Records.{General, InitResponse, SpliceResponse, AbortResponse}
 use Rattle.rules.specs.Ends.{Turn, andThen, writes, aborted, closedBy}
@@ -93,7 +93,7 @@ module _ (c : ℕ) (l : List ℕ) (s : Splicer) (D : Answered → Type 0) (k : A
       (λ i. k .accepting r e f (passed-all (s .clock) c r q (eqb-true v 100 i))) (λ i. k .declining r v e f low i)
 
   read-case : D (answerRead c (read (messageID l) (dataIn l)) (dataIn l) s)
-  unfolding answerRead answerInit read readInit readAlive readAbort readSplice
+  unfolding answerRead answerInit read readInit readAlive readAbort readWhole readSplice
   read-case =
       let d = dataIn l in
       let M : Message → Type 0 = λ m. D (answerRead c m d s) in
@@ -105,7 +105,7 @@ module _ (c : ℕ) (l : List ℕ) (s : Splicer) (D : Answered → Type 0) (k : A
       (λ f. by M (eqb (messageID l) spliceRequest) _ _
       (λ g. by M (ltb (length d) 18) _ _ (λ h. bad)
       (λ h. by M (eqb (serviceID d) separateService) _ _ (λ i. splice-case (separatePids d) g (rw (h, i)))
-      (λ i. by M (badSplice d) _ _ (λ j. bad) (λ j. splice-case (wholeRequest d) g (rw (h, i, j))))))
+      (λ i. by M (badSplice d (tailOf d)) _ _ (λ j. bad) (λ j. splice-case (wholeRequest d (tailOf d)) g (rw (h, i, j))))))
       (λ g. by M (eqb (messageID l) abortRequest) _ _
       (λ h. by M (eqb (length d) 4) _ _ (λ i. abort-case (sessionID d) g refl) (λ i. bad)) (λ h. bad))))
 

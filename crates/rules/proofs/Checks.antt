@@ -1,5 +1,5 @@
 -- What a request that is accepted has passed: reading, and checks a to e. Assumes nothing.
-use mathlib.Core.Path.{_≡_, refl}
+use mathlib.Core.Path.{_≡_, refl, ap}
 use mathlib.Core.Bool.{Bool, true, false, cond, not, _&&_, _||_}
 use mathlib.Core.List.{List}
 use Prim.Native.Nat.{ℕ, _*_, _≤_, _<_}
@@ -13,11 +13,11 @@ use Rattle.rules.specs.declared.Request.{Request}
 use Rattle.rules.specs.declared.Message.the-variants.{Init, Alive, Splice, Abort, Unreadable}
 use Rattle.rules.specs.Units.{timeOf}
 use Rattle.rules.specs.Bytes.{field}
-use Rattle.rules.specs.Reading.{nobody, badInit, readInit, readAlive, readAbort, descriptorsFill, descriptorsOf, priorSession, seconds, microSeconds, serviceID, duration, accessType, overridePlaying, returnToPriorChannel, readStart, badSplice, separatePids, wholeRequest, readSplice, read}
+use Rattle.rules.specs.Reading.{nobody, sessionID, badInit, readInit, readAlive, readAbort, descriptorsFill, descriptorsOf, priorSession, seconds, microSeconds, serviceID, duration, accessType, overridePlaying, returnToPriorChannel, readStart, tailOf, badTail, badSplice, separatePids, wholeRequest, readWhole, readSplice, read}
 use Rattle.rules.specs.State.{Queue, holds}
 use Rattle.rules.specs.Answers.{requested, separate, unknownPrior, wrongNumber, tooLate, collides, full, firstOf, spliceResult}
 use Rattle.rules.proofs.Tests.{tests, clash, or-none}
-use Rattle.rules.proofs.All.{All}
+use Rattle.rules.proofs.All.{All, all-drop}
 use Rattle.rules.proofs.Bytes.{Byte, field-below}
 
 -- ## Checks a to e
@@ -85,20 +85,44 @@ read-splice id d r = go (eqb id 0x0001) (eqb id 0x0005) (eqb id 0x0007) (eqb id 
     go false false false true h = absurd (abort-other d r h)
     go false false false false h = let z : _≡_ {A = ℕ} 0 1 = cc in absurd (omega arith)
 
--- one that does not ask for separate PIDs was read whole
-pub read-whole : (d : List ℕ) (r : Request) → readSplice d ≡ Splice r → separate r ≡ false → (r ≡ wholeRequest d) × (badSplice d ≡ false)
-unfolding readSplice
-read-whole d r h k = go (ltb (length d) 18) (eqb (serviceID d) 0xFFFF) (badSplice d) refl h
+-- what is read whole has a good tail, and a good time if it is timed
+pub whole-read : (d t : List ℕ) (r : Request) → readWhole d t ≡ Splice r → (r ≡ wholeRequest d t) × (badSplice d t ≡ false)
+unfolding readWhole
+whole-read d t r h = go (badSplice d t) refl h
   where
     taken : (a b : Request) → Splice a ≡ Splice b → b ≡ a
     taken a b e = cc
 
-    go : (a b c : Bool) → badSplice d ≡ c → cond a Unreadable (cond b (Splice (separatePids d)) (cond c Unreadable (Splice (wholeRequest d)))) ≡ Splice r
-        → (r ≡ wholeRequest d) × (badSplice d ≡ false)
-    go true b c f e = let z : _≡_ {A = ℕ} 0 1 = cc in absurd (omega arith)
-    go false true c f e = absurd (clash (separate r) (rw (taken (separatePids d) r e)) k)
-    go false false true f e = let z : _≡_ {A = ℕ} 0 1 = cc in absurd (omega arith)
-    go false false false f e = (taken (wholeRequest d) r e, f)
+    go : (b : Bool) → badSplice d t ≡ b → cond b Unreadable (Splice (wholeRequest d t)) ≡ Splice r → (r ≡ wholeRequest d t) × (badSplice d t ≡ false)
+    go true f e = let z : _≡_ {A = ℕ} 0 1 = cc in absurd (omega arith)
+    go false f e = (taken (wholeRequest d t) r e, f)
+
+-- one that does not ask for separate PIDs was read whole
+pub read-whole : (d : List ℕ) (r : Request) → readSplice d ≡ Splice r → separate r ≡ false → (r ≡ wholeRequest d (tailOf d)) × (badSplice d (tailOf d) ≡ false)
+unfolding readSplice
+read-whole d r h k = go (ltb (length d) 18) (eqb (serviceID d) 0xFFFF) h
+  where
+    taken : (a b : Request) → Splice a ≡ Splice b → b ≡ a
+    taken a b e = cc
+
+    go : (a b : Bool) → cond a Unreadable (cond b (Splice (separatePids d)) (readWhole d (tailOf d))) ≡ Splice r
+        → (r ≡ wholeRequest d (tailOf d)) × (badSplice d (tailOf d) ≡ false)
+    go true b e = let z : _≡_ {A = ℕ} 0 1 = cc in absurd (omega arith)
+    go false true e = absurd (clash (separate r) (rw (taken (separatePids d) r e)) k)
+    go false false e = whole-read d (tailOf d) r e
+
+-- whatever was read, its number is the SessionID
+pub read-id : (d : List ℕ) (r : Request) → readSplice d ≡ Splice r → r .id ≡ sessionID d
+unfolding readSplice
+read-id d r h = go (ltb (length d) 18) (eqb (serviceID d) 0xFFFF) h
+  where
+    number : (a : Request) → Splice a ≡ Splice r → r .id ≡ a .id
+    number a e = let i : r ≡ a = cc in ap (λ x. x .id) i
+
+    go : (a b : Bool) → cond a Unreadable (cond b (Splice (separatePids d)) (readWhole d (tailOf d))) ≡ Splice r → r .id ≡ sessionID d
+    go true b e = let z : _≡_ {A = ℕ} 0 1 = cc in absurd (omega arith)
+    go false true e = number (separatePids d) e
+    go false false e = ap (λ x. x .id) (whole-read d (tailOf d) r e .0)
 
 -- a linked start names a number
 abbrev pub Named : Start → Type 0
@@ -122,54 +146,50 @@ pub record Fitting (r : Request) : Type 0 where
   pub duration : r .duration .0 < 4294967296
   pub start : StartFits (r .start)
 
+-- what a good tail is
+pub record GoodTail (t : List ℕ) : Type 0 where
+  pub lasts : 0 < duration t
+  pub ranked : accessType t ≤ 9
+  pub overrides : overridePlaying t ≤ 1
+
+pub good-tail : (t : List ℕ) → badTail t ≡ false → GoodTail t
+good-tail t e =
+    let a = or-none (ltb (length t) 15) _ e in
+    let b = or-none (not (descriptorsFill (descriptorsOf t))) _ (a .1) in
+    let c = or-none (eqb (duration t) 0) _ (b .1) in
+    let f = or-none (ltb 9 (accessType t)) _ (c .1) in
+    let g = or-none (ltb 1 (overridePlaying t)) _ (f .1) in
+    let z = eqb-false (duration t) 0 (c .0) in
+    record { lasts = omega arith; ranked = ltb-false 9 (accessType t) (f .0); overrides = ltb-false 1 (overridePlaying t) (g .0) }
+
 module _ (d : List ℕ) (r : Request) (h : readSplice d ≡ Splice r) (k : separate r ≡ false) where
-  w : (r ≡ wholeRequest d) × (badSplice d ≡ false)
+  w : (r ≡ wholeRequest d (tailOf d)) × (badSplice d (tailOf d) ≡ false)
   w = read-whole d r h k
+
+  -- the tail is good, and the time of a timed one
+  parts : (badTail (tailOf d) ≡ false) × ((eqb (priorSession d) nobody && ltb 999999 (microSeconds d)) ≡ false)
+  parts = or-none (badTail (tailOf d)) _ (w .1)
 
   pub granted : Granted r
   unfolding readStart
-  granted = rw (w .0) (go (w .1))
+  granted = rw (w .0) (record { lasts = good .lasts; ranked = good .ranked; overrides = good .overrides; names = named (eqb (priorSession d) nobody) refl })
     where
+      good : GoodTail (tailOf d)
+      good = good-tail (tailOf d) (parts .0)
+
       named : (b : Bool) → eqb (priorSession d) nobody ≡ b → Named (cond b (Timed (timeOf (seconds d) (microSeconds d))) (Linked (priorSession d)))
       named true e = tt
       named false e = e
 
-      names : Named (readStart d)
-      names = named (eqb (priorSession d) nobody) refl
-
-      go : badSplice d ≡ false → Granted (wholeRequest d)
-      go e =
-          let a = or-none (ltb (length d) 33) _ e in
-          let b = or-none (not (descriptorsFill (descriptorsOf d))) _ (a .1) in
-          let c = or-none (eqb (duration d) 0) _ (b .1) in
-          let f = or-none (ltb 9 (accessType d)) _ (c .1) in
-          let g = or-none (ltb 1 (overridePlaying d)) _ (f .1) in
-          let z = eqb-false (duration d) 0 (c .0) in
-          record { lasts = omega arith; ranked = ltb-false 9 (accessType d) (f .0); overrides = ltb-false 1 (overridePlaying d) (g .0); names = names }
-
   pub fitting : All Byte d → Fitting r
   unfolding readStart
-  fitting a = rw (w .0) (go (w .1))
+  fitting a =
+      rw (w .0) (record { id = field-below 0 4 d a; duration = field-below 0 4 (tailOf d) (all-drop Byte 18 d a); start = fits (eqb (priorSession d) nobody) refl (parts .1) })
     where
-      late : badSplice d ≡ false → (eqb (priorSession d) nobody && ltb 999999 (microSeconds d)) ≡ false
-      late e =
-          let f = or-none (ltb (length d) 33) _ e in
-          let g = or-none (not (descriptorsFill (descriptorsOf d))) _ (f .1) in
-          let i = or-none (eqb (duration d) 0) _ (g .1) in
-          let j = or-none (ltb 9 (accessType d)) _ (i .1) in
-          let l = or-none (ltb 1 (overridePlaying d)) _ (j .1) in
-          or-none (ltb 1 (returnToPriorChannel d)) _ (l .1) .1
-
       fits : (b : Bool) → eqb (priorSession d) nobody ≡ b → (b && ltb 999999 (microSeconds d)) ≡ false
           → StartFits (cond b (Timed (timeOf (seconds d) (microSeconds d))) (Linked (priorSession d)))
       fits true e f = omega (arith, tests, field-below 8 4 d a)
       fits false e f = let z = eqb-false (priorSession d) nobody e in omega (arith, field-below 4 4 d a)
-
-      start : badSplice d ≡ false → StartFits (readStart d)
-      start e = fits (eqb (priorSession d) nobody) refl (late e)
-
-      go : badSplice d ≡ false → Fitting (wholeRequest d)
-      go e = record { id = field-below 0 4 d a; duration = field-below 18 4 d a; start = start e }
 
 -- a start as it is read, also with ServiceID 0xFFFF, of which the MicroSeconds are not checked
 abbrev pub StartBelow : Start → Type 0

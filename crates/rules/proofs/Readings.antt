@@ -10,11 +10,12 @@ use lib.Seq.{drop-drop}
 use borrow.Author.Tests.{eqb-false, ltb-false, eq-eqb, ne-eqb}
 use Rattle.rules.specs.declared.Request.{Request}
 use Rattle.rules.specs.declared.Message.the-variants.{Splice}
-use Rattle.rules.specs.Reading.{nobody, separateService, initRequest, aliveRequest, spliceRequest, abortRequest, badInit, badSplice, readInit, readAlive, readAbort, readStart, readSplice, read, priorSession, serviceID, duration, accessType, overridePlaying, separatePids, wholeRequest, descriptorsFill, descriptorsOf, descriptorLength, descriptorFits, wellFormed}
+use Rattle.rules.specs.Reading.{nobody, separateService, initRequest, aliveRequest, spliceRequest, abortRequest, badInit, badTail, badSplice, readInit, readAlive, readAbort, readStart, readWhole, readSplice, read, priorSession, serviceID, tailOf, separatePids, wholeRequest, descriptorsFill, descriptorLength, descriptorFits, wellFormed}
 use Rattle.rules.specs.Asked.{Within, Asked, Reads}
 use Rattle.rules.proofs.Tests.{by, or-none}
-use Rattle.rules.proofs.All.{All}
+use Rattle.rules.proofs.All.{All, all-drop}
 use Rattle.rules.proofs.Bytes.{Byte, field-below}
+use Rattle.rules.proofs.Checks.{good-tail}
 
 -- ## Messages
 
@@ -25,20 +26,17 @@ module _ (d : List ℕ) (a : All Byte d) where
       by Within (eqb (priorSession d) nobody) _ _ (λ e. omega (arith, field-below 8 4 d a, field-below 12 4 d a))
       (λ e. let n = eqb-false (priorSession d) nobody e in omega (arith, field-below 4 4 d a))
 
-  asked-whole : badSplice d ≡ false → Asked (wholeRequest d)
-  asked-whole e =
-      let f = or-none (ltb (length d) 33) _ e in
-      let g = or-none (not (descriptorsFill (descriptorsOf d))) _ (f .1) in
-      let h = or-none (eqb (duration d) 0) _ (g .1) in
-      let i = or-none (ltb 9 (accessType d)) _ (h .1) in
-      let j = or-none (ltb 1 (overridePlaying d)) _ (i .1) in
+  -- with a tail of bytes
+  asked-whole : (t : List ℕ) → All Byte t → badSplice d t ≡ false → Asked (wholeRequest d t)
+  asked-whole t b e =
+      let g = good-tail t (or-none (badTail t) _ e .0) in
       record {
         id = field-below 0 4 d a;
         start = start-within;
         service = field-below 16 2 d a;
-        duration = field-below 18 4 d a;
-        access = ltb-false 9 (accessType d) (i .0);
-        overrides = ltb-false 1 (overridePlaying d) (j .0);
+        duration = field-below 0 4 t b;
+        access = g .ranked;
+        overrides = g .overrides;
       }
 
   asked-separate : Asked (separatePids d)
@@ -47,13 +45,14 @@ module _ (d : List ℕ) (a : All Byte d) where
 
   -- whatever the message
   pub read-grants : (id : ℕ) → Reads (read id d)
-  unfolding read readInit readAlive readAbort readSplice
+  unfolding read readInit readAlive readAbort readWhole readSplice
   read-grants id =
       by Reads (eqb id initRequest) _ _ (λ e. by Reads (badInit d) _ _ (λ f. tt) (λ f. field-below 0 2 d a))
       (λ e. by Reads (eqb id aliveRequest) _ _ (λ f. by Reads (eqb (length d) 8) _ _ (λ g. tt) (λ g. tt))
       (λ f. by Reads (eqb id spliceRequest) _ _
       (λ g. by Reads (ltb (length d) 18) _ _ (λ h. tt)
-      (λ h. by Reads (eqb (serviceID d) separateService) _ _ (λ i. asked-separate) (λ i. by Reads (badSplice d) _ _ (λ j. tt) asked-whole)))
+      (λ h. by Reads (eqb (serviceID d) separateService) _ _ (λ i. asked-separate)
+      (λ i. by Reads (badSplice d (tailOf d)) _ _ (λ j. tt) (asked-whole (tailOf d) (all-drop Byte 18 d a)))))
       (λ g. by Reads (eqb id abortRequest) _ _ (λ h. by Reads (eqb (length d) 4) _ _ (λ i. field-below 0 4 d a) (λ i. tt)) (λ h. tt))))
 
   pub splice-grants : (id : ℕ) (r : Request) → read id d ≡ Splice r → Asked r

@@ -70,11 +70,7 @@ wellFormed (suc n) l = eqb (length l) 0 || (descriptorFits l && wellFormed n (dr
 abbrev pub descriptorsFill : List ℕ → Bool
 descriptorsFill l = wellFormed (length l) l
 
-abbrev pub descriptorsOf : List ℕ → List ℕ
-descriptorsOf d = drop 33 d
-
--- Splice_Request: SessionID 4, PriorSession 4, time 8, ServiceID 2, Duration 4, SpliceEventID 4, PostBlack 4, AccessType 1,
--- OverridePlaying 1, ReturnToPriorChannel 1, then descriptors
+-- Splice_Request: SessionID 4, PriorSession 4, time 8, ServiceID 2, then the tail
 abbrev pub sessionID : List ℕ → ℕ
 sessionID d = field 0 4 d
 
@@ -90,54 +86,64 @@ microSeconds d = field 12 4 d
 abbrev pub serviceID : List ℕ → ℕ
 serviceID d = field 16 2 d
 
-abbrev pub duration : List ℕ → ℕ
-duration d = field 18 4 d
-
-abbrev pub accessType : List ℕ → ℕ
-accessType d = getD d 30 0
-
-abbrev pub overridePlaying : List ℕ → ℕ
-overridePlaying d = getD d 31 0
-
-abbrev pub returnToPriorChannel : List ℕ → ℕ
-returnToPriorChannel d = getD d 32 0
+abbrev pub tailOf : List ℕ → List ℕ
+tailOf d = drop 18 d
 
 -- "a Splice_Request's start is in turn either timed or linked"
 unfoldable pub readStart : List ℕ → Start
 readStart d = cond (eqb (priorSession d) nobody) (Timed (timeOf (seconds d) (microSeconds d))) (Linked (priorSession d))
 
--- with ServiceID not 0xFFFF, any of these
-abbrev pub badSplice : List ℕ → Bool
-badSplice d =
-    ltb (length d) 33
-    || (not (descriptorsFill (descriptorsOf d))
-    || (eqb (duration d) 0
-    || (ltb 9 (accessType d)
-    || (ltb 1 (overridePlaying d)
-    || (ltb 1 (returnToPriorChannel d)
-    || (eqb (priorSession d) nobody && badMicros (microSeconds d)))))))
+-- The tail: Duration 4, SpliceEventID 4, PostBlack 4, AccessType 1, OverridePlaying 1, ReturnToPriorChannel 1, then descriptors
+abbrev pub duration : List ℕ → ℕ
+duration t = field 0 4 t
+
+abbrev pub accessType : List ℕ → ℕ
+accessType t = getD t 12 0
+
+abbrev pub overridePlaying : List ℕ → ℕ
+overridePlaying t = getD t 13 0
+
+abbrev pub returnToPriorChannel : List ℕ → ℕ
+returnToPriorChannel t = getD t 14 0
+
+abbrev pub descriptorsOf : List ℕ → List ℕ
+descriptorsOf t = drop 15 t
+
+abbrev pub badTail : List ℕ → Bool
+badTail t =
+    ltb (length t) 15
+    || (not (descriptorsFill (descriptorsOf t))
+    || (eqb (duration t) 0
+    || (ltb 9 (accessType t)
+    || (ltb 1 (overridePlaying t) || ltb 1 (returnToPriorChannel t)))))
+
+-- the data d with the tail t
+abbrev pub badSplice : List ℕ → List ℕ → Bool
+badSplice d t = badTail t || (eqb (priorSession d) nobody && badMicros (microSeconds d))
 
 -- "With ServiceID 0xFFFF only the first 18 bytes are read."
 abbrev pub separatePids : List ℕ → Request
 separatePids d =
     record { id = sessionID d; start = readStart d; service = separateService; duration = record { 0 = 0 }; access = 0; overrides = 0 }
 
-abbrev pub wholeRequest : List ℕ → Request
-wholeRequest d =
+abbrev pub wholeRequest : List ℕ → List ℕ → Request
+wholeRequest d t =
     record {
       id = sessionID d;
       start = readStart d;
       service = serviceID d;
-      duration = record { 0 = duration d };
-      access = accessType d;
-      overrides = overridePlaying d;
+      duration = record { 0 = duration t };
+      access = accessType t;
+      overrides = overridePlaying t;
     }
+
+unfoldable pub readWhole : List ℕ → List ℕ → Message
+readWhole d t = cond (badSplice d t) Unreadable (Splice (wholeRequest d t))
 
 unfoldable pub readSplice : List ℕ → Message
 readSplice d =
     cond (ltb (length d) 18) Unreadable
-    (cond (eqb (serviceID d) separateService) (Splice (separatePids d))
-    (cond (badSplice d) Unreadable (Splice (wholeRequest d))))
+    (cond (eqb (serviceID d) separateService) (Splice (separatePids d)) (readWhole d (tailOf d)))
 
 -- the list of four
 abbrev pub isRead : ℕ → Bool

@@ -22,35 +22,35 @@ number4-requires-2 c κs = search needs
 
 returns : tie.Need-returns
 returns c =
-    let d = c .before .before .before .before .before .args .d .now in
+    let d = c .before .before .before .before .before .before .args .d .now in
     rw (eq-eqb (priorSession d) nobody (omega (arith, tests)), lt-ltb 999999 (microSeconds d) (omega arith))
     (simp or-true)
 
 returns-2 : tie.Need-returns-2
 returns-2 c =
-    let s = c .before .before .before .before .before in
-    let d = s .args .d .now in
-    rw (eq-eqb (duration d) 0 (omega (arith, ap (λ x. x .duration .0) (s .pre .1)))) (simp or-true)
+    let s = c .before .before .before .before .before .before in
+    let t = s .args .t .now in
+    rw (eq-eqb (duration t) 0 (omega (arith, ap (λ x. x .duration .0) (s .pre .1 .1)))) (simp or-true)
 
 returns-3 : tie.Need-returns-3
 returns-3 c =
-    let s = c .before .before .before .before .before .before .before in
-    let d = s .args .d .now in
-    rw (lt-ltb 9 (accessType d) (omega (arith, ap (λ x. x .access) (s .pre .1)))) (simp or-true)
+    let s = c .before .before .before .before .before .before .before .before in
+    let t = s .args .t .now in
+    rw (lt-ltb 9 (accessType t) (omega (arith, ap (λ x. x .access) (s .pre .1 .1)))) (simp or-true)
 
 returns-4 : tie.Need-returns-4
 returns-4 c =
-    let s = c .before .before .before .before .before .before .before .before .before in
-    let d = s .args .d .now in
-    rw (lt-ltb 1 (overridePlaying d) (omega (arith, ap (λ x. x .overrides) (s .pre .1)))) (simp or-true)
+    let s = c .before .before .before .before .before .before .before .before .before .before in
+    let t = s .args .t .now in
+    rw (lt-ltb 1 (overridePlaying t) (omega (arith, ap (λ x. x .overrides) (s .pre .1 .1)))) (simp or-true)
 
 shared-slice-read-if6 : tie.Need-shared-slice-read-if6
 shared-slice-read-if6 c = search needs
 
 returns-5 : tie.Need-returns-5
 returns-5 c =
-    let d = c .before .before .before .before .before .before .before .before .before .before .before .args .d .now in
-    rw (lt-ltb 1 (returnToPriorChannel d) (omega arith)) (simp or-true)
+    let t = c .before .before .before .before .before .before .before .before .before .before .before .before .args .t .now in
+    rw (lt-ltb 1 (returnToPriorChannel t) (omega arith)) (simp or-true)
 
 sub-well-formed : tie.Need-sub-well-formed
 sub-well-formed c = search needs
@@ -66,23 +66,25 @@ well-formed-requires c κs = search needs
 
 returns-6 : tie.Need-returns-6
 returns-6 c =
-    let s = c .before .before .before .before .before .before .before .before .before .before .before .before .before in
+    let s = c .before .before .before .before .before .before .before .before .before .before .before .before .before .before in
     let d = s .args .d .now in
+    let t = s .args .t .now in
     let time : (eqb (priorSession d) nobody && badMicros (microSeconds d)) ≡ false =
     ⊎-elim
     (λ w. ap (λ b. b && badMicros (microSeconds d)) (ne-eqb (priorSession d) nobody (omega (arith, tests, w .1 .ensures, w .2 .left))))
     (λ w. ap (λ b. eqb (priorSession d) nobody && b) (le-ltb 999999 (microSeconds d) (omega (arith, w .left))) ∙ and-false (eqb (priorSession d) nobody))
     (c .before .before .before .before .before .before .before .before .before .before .if1 .came) in
     rw (
-      le-ltb (length d) 33 (s .pre .0),
-      ne-eqb (duration d) 0 (omega (arith, ap (λ x. x .duration .0) (s .pre .1))),
-      le-ltb 9 (accessType d) (omega (arith, ap (λ x. x .access) (s .pre .1))),
-      le-ltb 1 (overridePlaying d) (omega (arith, ap (λ x. x .overrides) (s .pre .1))),
-      le-ltb 1 (returnToPriorChannel d) (omega arith),
+      le-ltb (length t) 15 (s .pre .1 .0),
+      ne-eqb (duration t) 0 (omega (arith, ap (λ x. x .duration .0) (s .pre .1 .1))),
+      le-ltb 9 (accessType t) (omega (arith, ap (λ x. x .access) (s .pre .1 .1))),
+      le-ltb 1 (overridePlaying t) (omega (arith, ap (λ x. x .overrides) (s .pre .1 .1))),
+      le-ltb 1 (returnToPriorChannel t) (omega arith),
       time,
-      or-false (not (descriptorsFill (descriptorsOf d))),
+      or-false (not (descriptorsFill (descriptorsOf t))),
+      or-false (not (descriptorsFill (descriptorsOf t))),
     )
-    (ap not (c .well-formed .ensures ∙ ap descriptorsFill (behind 33 d)))
+    (ap not (c .well-formed .ensures ∙ ap descriptorsFill (behind 15 t)))
 
 pub bad-splice-spec : {M : Type 1} → statement M
 bad-splice-spec =

@@ -1,10 +1,11 @@
--- The tests stand in the order of the definition; the length of 33 is the first that makes a request bad.
-use mathlib.Core.Path.{sym, ap, _∙_}
+-- The tests stand in the order of the definition; the tail is a part of the data.
+use mathlib.Core.Path.{ap, _∙_}
 use native.Mathlib.Omega.{arith}
 use borrow.Author.Tests.{eq-eqb, ne-eqb, lt-ltb, le-ltb}
 use lib.ListN.{length}
-use Rattle.rules.specs.Reading.{separateService, readSplice, serviceID}
+use Rattle.rules.specs.Reading.{separateService, serviceID, readWhole, readSplice}
 use Rattle.rules.specs.declared.Message.the-variants.{Splice}
+use Rattle.reading.proofs.Laws.{behind}
 use borrow.Author.Needs.{needs}
 use Rattle.reading.proofs.read_splice.Statement.{statement}
 use Rattle.reading.proofs.read_splice.Tie as tie
@@ -31,38 +32,24 @@ returns-2 c =
     rw (le-ltb (length d) 18 (omega arith), eq-eqb (serviceID d) separateService (omega arith))
     (ap Splice (c .separate-pids .ensures))
 
+sub-read-whole : tie.Need-sub-read-whole
+sub-read-whole c = search needs
+
+part-read-whole-start : tie.Need-part-read-whole-start
+part-read-whole-start c = search needs
+
+part-read-whole-end : tie.Need-part-read-whole-end
+part-read-whole-end c = search needs
+
+read-whole-requires : tie.Need-read-whole-requires
+read-whole-requires c κs = search needs
+
 returns-3 : tie.Need-returns-3
 unfolding readSplice
 returns-3 c =
-    let d = c .before .before .before .before .before .before .args .d .now in
-    rw (le-ltb (length d) 18 (omega arith), ne-eqb (serviceID d) separateService (omega arith), lt-ltb (length d) 33 (omega arith))
-
-whole-request-requires : tie.Need-whole-request-requires
-whole-request-requires c κs = search needs
-
-bad-splice-requires : tie.Need-bad-splice-requires
-bad-splice-requires c κs = search needs
-
-returns-4 : tie.Need-returns-4
-unfolding readSplice
-returns-4 c =
-    let d = c .before .before .before .before .before .before .before .before .before .args .d .now in
-    rw (
-      le-ltb (length d) 18 (omega arith),
-      ne-eqb (serviceID d) separateService (omega arith),
-      sym (c .before .bad-splice .ensures) ∙ c .if4 .taken,
-    )
-
-returns-5 : tie.Need-returns-5
-unfolding readSplice
-returns-5 c =
-    let d = c .before .before .before .before .before .before .before .before .before .args .d .now in
-    rw (
-      le-ltb (length d) 18 (omega arith),
-      ne-eqb (serviceID d) separateService (omega arith),
-      sym (c .before .bad-splice .ensures) ∙ c .if4 .left,
-    )
-    (ap Splice (c .before .before .whole-request .ensures))
+    let d = c .before .before .before .before .before .before .before .args .d .now in
+    rw (le-ltb (length d) 18 (omega arith), ne-eqb (serviceID d) separateService (omega arith))
+    (c .read-whole .ensures ∙ ap (readWhole d) (behind 18 d))
 
 pub read-splice-spec : {M : Type 1} → statement M
 read-splice-spec =
@@ -73,8 +60,8 @@ read-splice-spec =
     number2-requires
     separate-pids-requires
     returns-2
-    returns-3
-    whole-request-requires
-    bad-splice-requires
-    returns-4
-    returns-5)
+    sub-read-whole
+    part-read-whole-start
+    part-read-whole-end
+    read-whole-requires
+    returns-3)
