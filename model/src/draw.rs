@@ -5,6 +5,7 @@ use crate::card::{self, Call};
 use crate::rolls;
 use crate::rules::{Session, Splicer, State, MICROSECOND, NONE, SECOND};
 use crate::scenario::message;
+use crate::streams::{self, Stream, Streams};
 
 /// The last microsecond that a wire time can name.
 pub const TOP: u64 = 0xFFFF_FFFF * 1_000_000 + 999_999;
@@ -222,8 +223,19 @@ impl Gen {
         self.send(conn, 0x0007, data);
     }
 
-    /// The data of a readable Splice_Request.
+    /// The data of a readable Splice_Request, at times with separate PIDs.
     pub fn splice_data(&mut self, ask: &Ask) -> Vec<u8> {
+        let data = self.plain_data(ask);
+        if self.rng.chance(92) {
+            return data;
+        }
+        let count = self.rng.pick(&[0, 1, 1, 2, 2, 3, 7, 14, 15, 16]);
+        let streams = self.streams(count);
+        separate(data, &streams)
+    }
+
+    /// The data of a readable Splice_Request with another ServiceID than 0xFFFF.
+    pub fn plain_data(&mut self, ask: &Ask) -> Vec<u8> {
         let at = ask.at.min(TOP);
         let mut micros = (at % 1_000_000) as u32;
         if ask.prior != NONE && self.rng.chance(20) {
@@ -247,6 +259,35 @@ impl Gen {
             data.extend(self.descriptor(length));
         }
         data
+    }
+
+    /// A readable list of separate PIDs, short enough for any tail.
+    pub fn streams(&mut self, count: usize) -> Streams {
+        let drawn = self.rng.below(0x2000);
+        let pcr_pid = self.rng.pick(&[0, 0x31, 0x1FFE, 0x1FFF, drawn]);
+        let list = (0..count).map(|_| self.stream(count, pcr_pid)).collect();
+        Streams { pcr_pid, list }
+    }
+
+    fn stream(&mut self, count: usize, pcr_pid: u64) -> Stream {
+        let drawn = self.rng.below(0x2000);
+        let rate = self.rng.below(1 << 32);
+        let rates = [0xFFFF_FFFF, 0xFFFF_FFFE, 0xFFFF, 0, 4_000_000, rate];
+        let sizes = [0xFFFF, 0xFFFE, 0, 720, 1_920];
+        let kept = match count {
+            0..=10 => self.rng.pick(&[0, 0, 0, 1, 3, 234]),
+            _ => self.rng.pick(&[0, 0, 0, 1, 3]),
+        };
+        Stream {
+            pid: self.rng.pick(&[pcr_pid, 0x31, 0x32, 0x1FFF, drawn, drawn]),
+            kind: self.rng.pick(&[0x02, 0x1B, 0x81, 0, 0x8100, 0xFFFE]),
+            average: self.rng.pick(&rates),
+            highest: self.rng.pick(&rates),
+            lowest: self.rng.pick(&rates),
+            width: self.rng.pick(&sizes),
+            height: self.rng.pick(&sizes),
+            kept: (0..kept).map(|_| self.rng.next() as u8).collect(),
+        }
     }
 
     pub fn descriptor(&mut self, length: u8) -> Vec<u8> {
@@ -311,6 +352,20 @@ impl Gen {
     pub fn seconds(&self) -> u64 {
         self.model.clock / SECOND
     }
+}
+
+/// The data with ServiceID 0xFFFF and these PIDs behind it.
+pub fn separate(data: Vec<u8>, streams: &Streams) -> Vec<u8> {
+    between(data, &streams::write(streams).unwrap_or_default())
+}
+
+/// The data with ServiceID 0xFFFF and these bytes behind it.
+pub fn between(mut data: Vec<u8>, bytes: &[u8]) -> Vec<u8> {
+    let tail = data.split_off(18);
+    data[16..].fill(0xFF);
+    data.extend(bytes);
+    data.extend(tail);
+    data
 }
 
 #[cfg(test)]

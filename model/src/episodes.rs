@@ -25,7 +25,7 @@ pub const ALL: &[Episode] = &[
     request, request, request, request, chain, chain, collide, collide, abort_one, abort_one,
     close_one, step, step, step, step, step, stack, fill, reuse, evict, failing, covered, equals, late,
     order, ninth, extreme, wrong_numbers, alive, damage::init, damage::alive_and_abort,
-    damage::splice, damage::unknown, damage::refused, damage::largest,
+    damage::splice, damage::separate, damage::unknown, damage::refused, damage::largest,
 ];
 
 #[rustfmt::skip]
@@ -44,6 +44,7 @@ pub const THEMES: &[Theme] = &[
     theme(&[covered, failing, stack, abort_one, close_one, step]),
     Theme { favourites: &[request, chain, extreme, top, step, stack, equals], at_the_top: true },
     theme(&[equals, equals, evict, collide, step, abort_one]),
+    theme(&[damage::separate, damage::separate, damage::separate, collide, step]),
 ];
 
 const HELD: [State; 3] = [State::Waiting, State::OnAir, State::Covered];

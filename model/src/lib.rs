@@ -28,6 +28,7 @@ pub mod rolling;
 pub mod rolls;
 pub mod rules;
 pub mod scenario;
+pub mod streams;
 pub mod table;
 #[cfg(test)]
 mod tests;

@@ -1,8 +1,10 @@
 //! Calls as lines for people, and the `decode` command.
 
 use crate::card::{self, Call, Run};
+use crate::reading;
 use crate::records::{self, hex, name_text, number};
 use crate::rules::{MICROSECOND, SECOND};
+use crate::streams::Streams;
 
 /// A call in the words of J.280's tables.
 pub fn call_line(call: &Call) -> String {
@@ -22,7 +24,7 @@ fn message_line(bytes: &[u8]) -> String {
     let fields = match (id, data.len()) {
         (0x0001, 66..) => init_line(data),
         (0x0005, 8) => format!("time={}", wire_time(data, 0)),
-        (0x0007, 33..) => splice_line(data),
+        (0x0007, 33..) => splice_line(data).unwrap_or(format!("data {}", shortened(data))),
         (0x000E, 4) => format!("id={}", number(word(data, 0))),
         (_, 0) => String::new(),
         _ => format!("data {}", shortened(data)),
@@ -53,26 +55,43 @@ fn init_line(data: &[u8]) -> String {
     )
 }
 
-fn splice_line(data: &[u8]) -> String {
+/// A Splice_Request, if its parts stand where they should.
+fn splice_line(data: &[u8]) -> Option<String> {
+    let reading::Tail { bytes, streams } = reading::tail_of(data, None).ok()?;
     let start = match word(data, 4) {
         0xFFFF_FFFF => format!("at={}", wire_time(data, 8)),
         prior => format!("prior={prior}"),
     };
     let mut line = format!(
-        "id={} {start} service={} duration={} event={} postblack={} access={} override={} return={}",
+        "id={} {start} service={}{} duration={} event={} postblack={} access={} override={} return={}",
         number(word(data, 0)),
         u16::from_be_bytes([data[16], data[17]]),
-        number(word(data, 18)),
-        number(word(data, 22)),
-        word(data, 26),
-        data[30],
-        data[31],
-        data[32]
+        streams.map_or(String::new(), |streams| streams_words(&streams)),
+        number(word(bytes, 0)),
+        number(word(bytes, 4)),
+        word(bytes, 8),
+        bytes[12],
+        bytes[13],
+        bytes[14]
     );
-    if data.len() > 33 {
-        line += &format!(" desc {}", shortened(&data[33..]));
+    if bytes.len() > 15 {
+        line += &format!(" desc {}", shortened(&bytes[15..]));
     }
-    line
+    Some(line)
+}
+
+/// Separate PIDs in the words of a scenario.
+fn streams_words(streams: &Streams) -> String {
+    let mut text = format!(" pcr={}", streams.pcr_pid);
+    for s in &streams.list {
+        let rates = [s.average, s.highest, s.lowest].map(|rate| number(rate as u32));
+        text += &format!(" stream={}:{}:{}", s.pid, s.kind, rates.join(":"));
+        text += &format!(":{}:{}", s.width, s.height);
+        if !s.kept.is_empty() {
+            text += &format!(":{}", shortened(&s.kept).replace(' ', ""));
+        }
+    }
+    text
 }
 
 fn shortened(bytes: &[u8]) -> String {
@@ -227,6 +246,23 @@ mod tests {
              bitrate=0 played=0"
         );
         assert_eq!(lines[12], "1003.000000  < refused 7");
+    }
+
+    #[test]
+    fn separate_pids_are_shown() {
+        let words =
+            "id=1 at=1003.000000 service=65535 pcr=49 stream=50:27:4000000:6000000:0xFFFFFFFF:\
+                     1920:1080:0501AA stream=49:129:1:2:3:65535:65535 duration=90000";
+        let text = format!("> open 0\n> init 0\n> splice 0 {words}\n");
+        let (input, output) = recording(&text);
+        let (text, _) = decode(&input, &output);
+        let line = format!("Splice_Request size=84 {words} event=0xFFFFFFFF");
+        assert!(text.contains(&line), "{text}");
+        // What is not laid out so is shown as bytes.
+        let (input, output) =
+            recording("> open 0\n> splice 0 id=1 at=5 duration=1 pcr=1 pids=17\n");
+        let (text, _) = decode(&input, &output);
+        assert!(text.contains("size=39 data 00 00 00 01 FF"), "{text}");
     }
 
     #[test]

@@ -2,6 +2,7 @@
 //! A request that cannot be read gives the name of its branch.
 
 use crate::faults::Fault;
+use crate::streams::{self, Streams};
 
 /// A message of the list of four, read.
 #[derive(Clone, Debug, PartialEq, Eq)]
@@ -12,18 +13,19 @@ pub enum Request {
     Abort { id: u32 },
 }
 
-/// The fields of a Splice_Request that have an effect. With ServiceID 0xFFFF only `id`,
-/// `prior`, `seconds`, `micros` and `service` are read; the others stay zero.
+/// The fields of a Splice_Request that have an effect. Of the ServiceID it matters only whether it is
+/// 0xFFFF: then the PIDs stand in the request (02, CR 1).
 #[derive(Clone, Debug, Default, PartialEq, Eq)]
 pub struct SpliceFields {
     pub id: u32,
     pub prior: u32,
     pub seconds: u32,
     pub micros: u32,
-    pub service: u16,
     pub duration: u32,
     pub access: u8,
     pub overrides: u8,
+    /// The separate PIDs. They have no effect on any check.
+    pub streams: Option<Streams>,
 }
 
 type Read = Result<Request, &'static str>;
@@ -37,6 +39,11 @@ pub fn read(id: u16, data: &[u8], fault: Option<Fault>) -> Read {
     }
 }
 
+/// Whether it is a Splice_Request's data with separate PIDs and a whole tail, readable or not.
+pub fn separate(data: &[u8]) -> bool {
+    tail_of(data, None).is_ok_and(|tail| tail.streams.is_some())
+}
+
 /// The boundaries of "Not readable" that a readable message just keeps, for the branch table.
 pub fn kept_boundaries(id: u16, data: &[u8]) -> Vec<&'static str> {
     let mut list = Vec::new();
@@ -48,35 +55,43 @@ pub fn kept_boundaries(id: u16, data: &[u8]) -> Vec<&'static str> {
         (0x0001, _) if data[65] == 0 && data[34..65].iter().all(|b| *b != 0) => {
             list.push("read Init SplicerName with a last zero");
         }
-        (0x0007, 18) => list.push("read Splice of 18 bytes, ServiceID 0xFFFF"),
-        (0x0007, _) if half(data, 16) == 0xFFFF => {
-            list.push("read Splice of other sizes, ServiceID 0xFFFF");
-        }
-        (0x0007, 33) => list.push("read Splice of 33 bytes"),
         (0x0007, _) => {
-            list.push("read Splice with descriptors");
-            match data[34] {
-                4 => list.push("read Splice descriptor length 4"),
-                254 => list.push("read Splice descriptor length 254"),
-                _ => {}
+            if let Ok(tail) = tail_of(data, None) {
+                list.extend(kept_by_tail(tail.bytes, tail.streams.is_some()));
+                list.extend(kept_by_start(data));
+                let streams = tail.streams.iter();
+                list.extend(streams.flat_map(streams::kept_boundaries));
             }
         }
         _ => {}
     }
-    if id == 0x0007 && half(data, 16) != 0xFFFF {
-        list.extend(kept_by_fields(data));
+    list
+}
+
+fn kept_by_tail(tail: &[u8], separate: bool) -> Vec<&'static str> {
+    let mut list = Vec::new();
+    match (tail.len(), separate) {
+        (15, false) => list.push("read Splice of 33 bytes"),
+        (15, true) => list.push("read Splice with separate PIDs and nothing behind the tail"),
+        (_, true) => list.push("read Splice with separate PIDs and descriptors"),
+        (_, false) => list.push("read Splice with descriptors"),
+    }
+    match tail.get(16) {
+        Some(4) => list.push("read Splice descriptor length 4"),
+        Some(254) => list.push("read Splice descriptor length 254"),
+        _ => {}
+    }
+    if tail[12] == 9 {
+        list.push("read Splice AccessType 9");
+    }
+    if tail[13] == 1 && tail[14] == 1 {
+        list.push("read Splice with both flags 1");
     }
     list
 }
 
-fn kept_by_fields(data: &[u8]) -> Vec<&'static str> {
+fn kept_by_start(data: &[u8]) -> Vec<&'static str> {
     let mut list = Vec::new();
-    if data[30] == 9 {
-        list.push("read Splice AccessType 9");
-    }
-    if data[31] == 1 && data[32] == 1 {
-        list.push("read Splice with both flags 1");
-    }
     match (word(data, 4), word(data, 12)) {
         (0xFFFF_FFFF, 999_999) => list.push("read Splice timed MicroSeconds 999,999"),
         (0xFFFF_FFFF, _) => {}
@@ -135,32 +150,59 @@ fn read_abort(data: &[u8]) -> Read {
     Ok(Request::Abort { id: word(data, 0) })
 }
 
-/// "Splice data below 18 bytes, or, with ServiceID not 0xFFFF, any of: ..."
+/// "Splice data below 18 bytes, or any of: ..." 02, CR 1: a request with ServiceID 0xFFFF goes
+/// "through the other reading rules" too.
 fn read_splice(data: &[u8], fault: Option<Fault>) -> Read {
-    if data.len() < 18 {
-        return Err("123 Splice below 18 bytes");
-    }
-    let mut fields = SpliceFields {
+    let Tail { bytes, streams } = tail_of(data, fault)?;
+    let fields = SpliceFields {
         id: word(data, 0),
         prior: word(data, 4),
         seconds: word(data, 8),
         micros: word(data, 12),
-        service: half(data, 16),
-        ..SpliceFields::default()
+        duration: word(bytes, 0),
+        access: bytes[12],
+        overrides: bytes[13],
+        streams,
     };
-    // "With ServiceID 0xFFFF only the first 18 bytes are read."
-    if fields.service == 0xFFFF && !(fault == Some(Fault::SeparatePidsOf33) && data.len() < 33) {
-        return Ok(Request::Splice(fields));
-    }
-    if data.len() < 33 {
-        return Err("123 Splice below 33 bytes");
-    }
-    fields.duration = word(data, 18);
-    fields.access = data[30];
-    fields.overrides = data[31];
-    check_splice(&fields, data[32], fault)?;
-    check_descriptors(&data[33..], fault)?;
+    check_splice(&fields, bytes[14], fault)?;
+    check_descriptors(&bytes[15..], fault)?;
     Ok(Request::Splice(fields))
+}
+
+/// What follows the ServiceID, or with ServiceID 0xFFFF the structures: Duration 4, SpliceEventID 4,
+/// PostBlack 4, AccessType 1, OverridePlaying 1, ReturnToPriorChannel 1, then descriptors.
+pub struct Tail<'d> {
+    pub bytes: &'d [u8],
+    pub streams: Option<Streams>,
+}
+
+/// The tail of a Splice_Request's data, at least 15 bytes of it.
+pub fn tail_of(data: &[u8], fault: Option<Fault>) -> Result<Tail<'_>, &'static str> {
+    if data.len() < 18 {
+        return Err("123 Splice below 18 bytes");
+    }
+    let rest = &data[18..];
+    if half(data, 16) != 0xFFFF {
+        if rest.len() < 15 {
+            return Err("123 Splice below 33 bytes");
+        }
+        let streams = None;
+        return Ok(Tail {
+            bytes: rest,
+            streams,
+        });
+    }
+    let (list, taken) = streams::read(rest, fault)?;
+    let from = match fault {
+        Some(Fault::TailAt18) => 0,
+        _ => taken,
+    };
+    let bytes = rest.get(from..).unwrap_or_default();
+    if bytes.len() < 15 {
+        return Err("123 Splice below 15 bytes behind the structures");
+    }
+    let streams = Some(list);
+    Ok(Tail { bytes, streams })
 }
 
 /// "Duration 0, AccessType above 9, either of OverridePlaying and ReturnToPriorChannel above
@@ -241,10 +283,10 @@ mod tests {
             prior: 0xFFFF_FFFF,
             seconds: 1_003,
             micros: 5,
-            service: 1,
             duration: 1,
             access: 9,
             overrides: 1,
+            streams: None,
         };
         assert_eq!(read(7, &data, None), Ok(Request::Splice(expected)));
     }
@@ -286,14 +328,65 @@ mod tests {
         assert!(read(7, &data, None).is_ok());
     }
 
-    #[test]
-    fn with_service_ffff_only_18_bytes_are_read() {
+    /// The good one with PcrPID 7 and these structures behind ServiceID 0xFFFF.
+    fn separate(structures: &[u8]) -> Vec<u8> {
+        let count = (structures.len() / 21) as u8;
         let mut data = good_splice();
+        let tail = data.split_off(18);
         data[16..18].fill(0xFF);
-        data[12..16].fill(0xFF); // MicroSeconds far above 999,999
-        assert!(read(7, &data[..18], None).is_ok());
-        data[30] = 200;
+        data.extend([0, 7, 0, 0, 0, count]);
+        data.extend(structures);
+        data.extend(tail);
+        data
+    }
+
+    #[test]
+    fn separate_pids_move_the_tail() {
+        let mut plain = vec![0; 21];
+        plain[0] = 21;
+        let two = [&plain[..], &plain[..]].concat();
+        for structures in [&[][..], &plain[..], &two[..]] {
+            let data = separate(structures);
+            let Ok(Request::Splice(fields)) = read(7, &data, None) else {
+                panic!("not readable: {data:?}");
+            };
+            assert_eq!((fields.id, fields.duration), (7, 1));
+            let found = fields.streams.map(|s| (s.pcr_pid, s.list.len()));
+            assert_eq!(found, Some((7, structures.len() / 21)));
+            let cut = read(7, &data[..data.len() - 1], None);
+            assert_eq!(cut, Err("123 Splice below 15 bytes behind the structures"));
+        }
+        // 39 bytes are the smallest good one, and 18 to 23 have no whole PIDCount.
+        assert_eq!(separate(&[]).len(), 39);
+        for length in 18..24 {
+            assert_eq!(
+                read(7, &separate(&[])[..length], None),
+                Err("123 Splice without a whole PIDCount")
+            );
+        }
+    }
+
+    #[test]
+    fn the_other_reading_rules_hold_behind_separate_pids() {
+        let with = |at: usize, value: u8| {
+            let mut data = separate(&[]);
+            data[at] = value;
+            read(7, &data, None)
+        };
+        assert_eq!(with(27, 0), Err("123 Splice Duration 0"));
+        assert_eq!(with(36, 10), Err("123 Splice AccessType above 9"));
+        assert_eq!(with(37, 2), Err("123 Splice OverridePlaying above 1"));
+        assert_eq!(with(38, 2), Err("123 Splice ReturnToPriorChannel above 1"));
+        let micros = with(12, 1);
+        assert_eq!(micros, Err("123 Splice timed MicroSeconds above 999,999"));
+        let mut data = separate(&[]);
+        data.extend([1, 4, 0, 0, 0, 0]);
         assert!(read(7, &data, None).is_ok());
+        data.pop();
+        assert_eq!(
+            read(7, &data, None),
+            Err("123 Splice descriptor beyond the message")
+        );
     }
 
     #[test]

@@ -245,6 +245,9 @@ impl Splicer {
         match reading::read(id, data, self.fault) {
             Err(branch) => {
                 self.hit(branch);
+                if COUNTED && id == 0x0007 && reading::separate(data) {
+                    self.hit("123 Splice by its tail, behind separate PIDs");
+                }
                 if id == 0x0001 && self.faulty(Fault::FailedInitUndoes) {
                     self.initialised[conn as usize] = false;
                 }
@@ -344,6 +347,16 @@ impl Splicer {
     /// "Splice: Splice_Response with the first that applies".
     fn splice(&mut self, conn: u8, fields: &SpliceFields, out: &mut Vec<Record>) {
         let result = self.splice_result(conn, fields);
+        if fields.streams.is_some() {
+            self.hit(match result {
+                121 => "Splice b 121 with separate PIDs",
+                112 => "Splice c 112 with separate PIDs",
+                109 => "Splice d 109 with separate PIDs",
+                114 => "Splice e 114 with separate PIDs",
+                _ if fields.prior == NONE => "Splice f 100 timed, with separate PIDs",
+                _ => "Splice f 100 linked, with separate PIDs",
+            });
+        }
         let before = out.len();
         if result == 100 {
             self.accept(conn, fields, out);
@@ -359,11 +372,9 @@ impl Splicer {
         }
     }
 
-    /// a to f of 01's list.
+    /// b to f of 01's list. 02, CR 1: "From here result 110 is no longer met", so a is gone.
     fn splice_result(&mut self, conn: u8, fields: &SpliceFields) -> u16 {
-        // a. "110: ServiceID 0xFFFF."
-        if fields.service == 0xFFFF {
-            self.hit("Splice a 110");
+        if self.faulty(Fault::SeparatePids110) && fields.streams.is_some() {
             return 110;
         }
         if self.faulty(Fault::LateBeforeNumbers) && self.too_late(conn, fields) {

@@ -4,6 +4,7 @@ use crate::card::{self, Call};
 use crate::compare;
 use crate::records::{self, Record, What};
 use crate::rolling;
+use crate::streams::{self, Stream, Streams};
 
 /// One call of a scenario, its bytes, and the bytes it must write.
 #[derive(Debug, PartialEq, Eq)]
@@ -89,7 +90,7 @@ impl Fields {
         let mut list: Vec<(String, String)> = Vec::new();
         for word in words {
             let (key, value) = word.split_once('=').ok_or(format!("no '=' in {word}"))?;
-            if list.iter().any(|(k, _)| k == key) {
+            if key != "stream" && list.iter().any(|(k, _)| k == key) {
                 return Err(format!("{key} twice"));
             }
             list.push((key.to_string(), value.to_string()));
@@ -309,7 +310,10 @@ fn splice_data(fields: &mut Fields) -> Result<Vec<u8>, String> {
     for word in [id, prior, seconds, micros] {
         data.extend(word.to_be_bytes());
     }
-    data.extend(fields.half("service", 1)?.to_be_bytes());
+    let streams = streams_of(fields)?;
+    let service = if streams.is_empty() { 1 } else { 0xFFFF };
+    data.extend(fields.half("service", service)?.to_be_bytes());
+    data.extend(streams);
     data.extend(fields.required("duration")?.to_be_bytes());
     data.extend(fields.number("event", 0xFFFF_FFFF)?.to_be_bytes());
     data.extend(fields.number("postblack", 0)?.to_be_bytes());
@@ -318,6 +322,46 @@ fn splice_data(fields: &mut Fields) -> Result<Vec<u8>, String> {
     data.push(fields.small("return", 1)?);
     data.extend(hex_bytes(&fields.take("desc").unwrap_or_default())?);
     Ok(data)
+}
+
+/// The bytes of separate PIDs, from PcrPID on, if there is a `pcr=`. `pids=` gives another PIDCount.
+fn streams_of(fields: &mut Fields) -> Result<Vec<u8>, String> {
+    let mut streams = Streams::default();
+    while let Some(text) = fields.take("stream") {
+        streams.list.push(stream(&text)?);
+    }
+    let pids = fields.take("pids");
+    let Some(pcr_pid) = fields.take("pcr") else {
+        if pids.is_some() || !streams.list.is_empty() {
+            return Err("pcr= is missing".to_string());
+        }
+        return Ok(Vec::new());
+    };
+    streams.pcr_pid = number(&pcr_pid)?.into();
+    let mut bytes = streams::write(&streams).ok_or("a list that cannot be written")?;
+    if let Some(count) = pids {
+        bytes[2..6].copy_from_slice(&number(&count)?.to_be_bytes());
+    }
+    Ok(bytes)
+}
+
+/// `PID:TYPE:AVG:MAX:MIN:H:V[:HEX]`, the bytes behind the first 21 last.
+fn stream(text: &str) -> Result<Stream, String> {
+    let parts: Vec<&str> = text.split(':').collect();
+    if !(7..=8).contains(&parts.len()) {
+        return Err(format!("seven numbers are needed: {text}"));
+    }
+    let field = |at: usize| number(parts[at]).map(u64::from);
+    Ok(Stream {
+        pid: field(0)?,
+        kind: field(1)?,
+        average: field(2)?,
+        highest: field(3)?,
+        lowest: field(4)?,
+        width: field(5)?,
+        height: field(6)?,
+        kept: hex_bytes(parts.get(7).unwrap_or(&""))?,
+    })
 }
 
 /// The bytes of an expected line.
@@ -526,6 +570,16 @@ mod tests {
             "4D 01 00 07 00 27 FF FF FF FF 00 00 00 08 00 00 00 07 00 00 00 00 00 00 00 00 \
              FF FF 00 00 00 01 00 00 00 01 00 00 00 02 00 00 00 01 04 AA BB CC DD"
         );
+        assert_eq!(
+            bytes_of("splice 1 id=8 prior=7 duration=1 return=0 pcr=0x31 stream=0x32:27:4000000:6000000:0xFFFFFFFF:1920:1080:0501AA stream=0x1FFF:129:1:2:3:0xFFFF:0xFFFF"),
+            "4D 01 00 07 00 54 FF FF FF FF 00 00 00 08 00 00 00 07 00 00 00 00 00 00 00 00 \
+             FF FF 00 31 00 00 00 02 \
+             18 00 32 00 1B 00 3D 09 00 00 5B 8D 80 FF FF FF FF 07 80 04 38 05 01 AA \
+             15 1F FF 00 81 00 00 00 01 00 00 00 02 00 00 00 03 FF FF FF FF \
+             00 00 00 01 FF FF FF FF 00 00 00 00 00 00 00"
+        );
+        let none = call_bytes("splice 0 id=1 at=5 duration=1 pcr=0 pids=17").unwrap();
+        assert_eq!(hex(&none[26..34]), "FF FF 00 00 00 00 00 11");
         let both = call_bytes("splice 1 id=8 prior=7 at=1:1000000 duration=1").unwrap();
         assert_eq!(hex(&both[14..26]), "00 00 00 07 00 00 00 01 00 0F 42 40");
     }
@@ -557,6 +611,11 @@ mod tests {
             "splice 0 id=1 duration=1",
             "splice 0 id=1 at=5",
             "splice 0 id=1 at=5 duration=1 colour=3",
+            "splice 0 id=1 at=5 duration=1 stream=1:2:3:4:5:6:7",
+            "splice 0 id=1 at=5 duration=1 pids=1",
+            "splice 0 id=1 at=5 duration=1 pcr=1 stream=1:2:3:4:5:6",
+            "splice 0 id=1 at=5 duration=1 pcr=1 stream=0x2000:2:3:4:5:6:7",
+            "splice 0 id=1 at=5 duration=1 pcr=1 pcr=2",
             "abort 0",
             "jump 0",
             "raw 4",

@@ -432,7 +432,11 @@ fn answers_before_and_after_init() {
 fn the_order_of_splice_answers() {
     rehearsed(
         "> splice 0 id=0xFFFFFFFF at=1 duration=1 service=0xFFFF
-         < 0 Splice_Response 110 id=0xFFFFFFFF
+         < 0 General_Response 123
+         > splice 0 id=0xFFFFFFFF at=1 duration=1 pcr=1
+         < 0 Splice_Response 121 id=0xFFFFFFFF
+         > splice 0 id=1 at=1 duration=1 pcr=1 stream=1:2:3:4:5:6:7
+         < 0 Splice_Response 112 id=1
          > splice 0 id=0xFFFFFFFF at=1 duration=1
          < 0 Splice_Response 121 id=0xFFFFFFFF
          > splice 0 id=1 prior=1 duration=1
