@@ -44,6 +44,9 @@ pub struct Books {
 
 type Kept = Result<(), String>;
 
+/// A Splice_Request's data and its tail.
+type Ask<'d> = (&'d [u8], &'d [u8]);
+
 fn must(kept: bool, text: &str) -> Kept {
     if kept {
         return Ok(());
@@ -72,6 +75,36 @@ fn least(kind: u16) -> usize {
         id::ABORT_REQUEST => 4,
         _ => 0,
     }
+}
+
+/// Duration and what follows it: at 18, or with ServiceID 0xFFFF behind the structures (02, CR 1). None
+/// of what is too short, or of separate PIDs that are no good list.
+fn tail(data: &[u8]) -> Option<&[u8]> {
+    let rest = data.get(18..)?;
+    let tail = match half(data, 16) {
+        0xFFFF => behind(rest)?,
+        _ => rest,
+    };
+    (tail.len() >= 15).then_some(tail)
+}
+
+/// "Length counts the whole structure and is at least 21; PIDs are at most 0x1FFF"; 0xFFFF is "legal
+/// nowhere else" than in a picture size; "At most 16 streams".
+fn behind(bytes: &[u8]) -> Option<&[u8]> {
+    let (head, mut rest) = bytes.split_at_checked(6)?;
+    let count = word(head, 2);
+    if half(head, 0) > 0x1FFF || count > 16 {
+        return None;
+    }
+    for _ in 0..count {
+        let length = usize::from(*rest.first()?);
+        let (structure, next) = rest.split_at_checked(length)?;
+        if length < 21 || half(structure, 1) > 0x1FFF || half(structure, 3) == 0xFFFF {
+            return None;
+        }
+        rest = next;
+    }
+    Some(rest)
 }
 
 impl Books {
@@ -314,13 +347,16 @@ impl Books {
             return Ok(());
         }
         let data = &message[HEADER..];
-        must(data.len() >= least(kind), "unreadable and answered")?;
+        let splice = kind == id::SPLICE_REQUEST;
+        let readable = data.len() >= least(kind) && (!splice || tail(data).is_some());
+        must(readable, "unreadable and answered")?;
         match (kind, list) {
             (id::INIT_REQUEST, [answer]) => self.init(conn, data, answer),
             (id::ALIVE_REQUEST, [answer]) => self.alive(conn, answer),
             (id::ABORT_REQUEST, [answer, ends @ ..]) => self.abort(conn, data, answer, ends),
             (id::SPLICE_REQUEST, [evicted @ .., answer]) => {
-                self.splice(conn, data, evicted, answer)
+                let ask = (data, tail(data).unwrap_or_default());
+                self.splice(conn, ask, evicted, answer)
             }
             _ => must(false, "not the answers of its kind"),
         }
@@ -383,8 +419,9 @@ impl Books {
     }
 
     /// "Splice_Response with the first that applies"; "written before the 100" the evicted ones.
-    fn splice(&mut self, conn: u8, data: &[u8], evicted: &[Record], answer: &Record) -> Kept {
-        let code = self.code(conn, data);
+    fn splice(&mut self, conn: u8, ask: Ask, evicted: &[Record], answer: &Record) -> Kept {
+        let (data, _) = ask;
+        let code = self.code(conn, ask);
         must(
             is(answer, conn, id::SPLICE_RESPONSE, code),
             "another result code",
@@ -406,14 +443,14 @@ impl Books {
             self.session(record)?;
         }
         if code == 100 {
-            self.accepted(conn, data, start)?;
+            self.accepted(conn, ask, start)?;
         }
         Ok(())
     }
 
     /// "End is start plus Duration." 02, CR 11: moved "equals the waiting sessions, after any
     /// eviction, whose start is later than the new one's, and is at most 63".
-    fn accepted(&mut self, conn: u8, data: &[u8], start: u64) -> Kept {
+    fn accepted(&mut self, conn: u8, (data, tail): Ask, start: u64) -> Kept {
         let waiting = self.held.iter().filter(|s| !s.started);
         self.moved = waiting.filter(|s| s.start > start).count();
         must(self.moved <= 63, "more than 63 places moved")?;
@@ -422,7 +459,7 @@ impl Books {
             waiting.all(|s| s.start != start),
             "two waiting with one start",
         )?;
-        let duration = word(data, 18);
+        let duration = word(tail, 0);
         self.held.push(Held {
             conn,
             id: word(data, 0),
@@ -430,20 +467,17 @@ impl Books {
             start,
             end: start + u64::from(duration) * 100,
             duration,
-            access: data[30],
-            overrides: data[31] == 1,
+            access: tail[12],
+            overrides: tail[13] == 1,
             started: false,
             aired: 0,
         });
         Ok(())
     }
 
-    /// a to f.
-    fn code(&self, conn: u8, data: &[u8]) -> u16 {
+    /// b to f.
+    fn code(&self, conn: u8, (data, tail): Ask) -> u16 {
         let (session, prior) = (word(data, 0), word(data, 4));
-        if half(data, 16) == 0xFFFF {
-            return result::NO_INSERTION;
-        }
         let known = session == NONE || self.find(conn, session).is_some();
         if known || (prior != NONE && self.find(conn, prior).is_none()) {
             return result::INVALID_SESSION;
@@ -454,7 +488,7 @@ impl Books {
         }
         let mut waiting = self.held.iter().filter(|s| !s.started);
         // 02, CR 4: "109 at check d, for equals, only at flag 0".
-        let least = data[30] + data[31];
+        let least = tail[12] + tail[13];
         if waiting.any(|s| s.start == start && s.access >= least) {
             return result::COLLISION;
         }

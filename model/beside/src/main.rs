@@ -25,7 +25,7 @@ beside --fault NAME [--seed S]                        one deliberate fault, by i
 ";
 
 /// A fault must be noticed within this many streams.
-const FOR_A_FAULT: u64 = 52;
+const FOR_A_FAULT: u64 = 60;
 
 /// Faults of the second program that the records alone give away, with no program to compare.
 const BOOKED: &[Fault] = &[
@@ -82,6 +82,12 @@ const BOOKED: &[Fault] = &[
     Fault::PrimaryFromTickStart,
     Fault::PrimaryInTicks,
     Fault::PrimaryNotWhileWaiting,
+    Fault::Length20Taken,
+    Fault::PidCountUnchecked,
+    Fault::PcrPidUnchecked,
+    Fault::PidUnchecked,
+    Fault::StreamTypeUnchecked,
+    Fault::SeparatePids110,
 ];
 
 fn main() {
