@@ -161,6 +161,8 @@ counts() {
     row 'Splice_Request accepted, 0 waiting' splice 0
     row 'Splice_Request accepted in the middle of 10' splice 10
     row 'Splice_Request accepted in the middle of 63' splice 63
+    row 'Splice_Request with separate PIDs, no structure, 0 waiting' pids 0
+    row 'Splice_Request with 16 plain structures, 0 waiting' pids 16
     row 'Abort_Request with 1 follower' abort 1
     row 'Abort_Request with 19 followers' abort 19
     row 'close with 20 waiting and 1 on air' close 20

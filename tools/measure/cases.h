@@ -176,6 +176,23 @@ static struct call case_behind(uint32_t n) {
     return ranked(splice(3, 1000, TIMED, 1015 + 10 * n, SECOND), 5, 0);
 }
 
+/* separate PIDs in the request (02, CR 1): n plain structures; nothing waits */
+static struct call case_pids(uint32_t n) {
+    struct call c = ranked(splice(3, 1000, TIMED, 1015, SECOND), 5, 0);
+    uint8_t tail[15];
+    memcpy(tail, c.in + 26, sizeof tail);
+    uint8_t *p = put(put(put(c.in + 24, 0xFFFF, 2), 0x31, 2), n, 4);
+    for (uint32_t i = 0; i < n; i++) {
+        p = put(put(put(p, 21, 1), 0x100 + i, 2), 2, 2);
+        p = put(put(put(p, 4000000, 4), 6000000, 4), 0xFFFFFFFF, 4);
+        p = put(put(p, 720, 2), 480, 2);
+    }
+    memcpy(p, tail, sizeof tail);
+    c.length = 8 + 18 + 6 + 21 * n + sizeof tail;
+    put(c.in + 2, (uint32_t)c.length - 8, 2);
+    return c;
+}
+
 static struct call case_abort(uint32_t n) {
     chain(0, 0, n + 1, TIMED, 1010);
     return aborting(0, 0);
@@ -283,7 +300,7 @@ static const struct {
              {"fullevict", case_fullevict}, {"airidle", case_airidle},   {"start", case_start},         {"end", case_end},
              {"front", case_front},       {"behind", case_behind},       {"clash", case_clash},         {"amid", case_amid},
              {"deepidle", case_deepidle}, {"deepend", case_deepend},     {"read", case_read},
-             {"equal", case_equal}};
+             {"equal", case_equal},       {"pids", case_pids}};
 
 /* the state of a case, and its call */
 static struct call prepared(const char *name, uint32_t n) {

@@ -1,4 +1,4 @@
-//! The card rules of document 01, with 02's CR 4, as an in-place engine in plain Rust: the measuring peer of the proved core.
+//! The card rules of document 01, with 02's CR 1 and CR 4, as an in-place engine in plain Rust: the measuring peer of the proved core.
 //!
 //! Written from the documents and J.280 alone, in the way one would write it for the card without counting instructions: one struct of
 //! fixed size changed in place, lists of fixed capacity, iterators, bounds checks left on. Not proved, not part of the product.
@@ -26,6 +26,10 @@ const LAST_MICROSECOND: u32 = 999_999;
 const REVISION: u16 = 2;
 const NONE: u32 = 0xFFFF_FFFF;
 const SEPARATE_PIDS: u16 = 0xFFFF;
+const MOST_STREAMS: u32 = 16;
+const SMALLEST_STREAM: usize = 21;
+const LARGEST_PID: u16 = 0x1FFF;
+const NO_STREAM_TYPE: u16 = 0xFFFF;
 const NOTICE: Ninths = Ninths(3 * 9_000_000);
 
 /// MessageIDs.
@@ -50,7 +54,6 @@ mod code {
     pub const ACCESS_DENIED: u16 = 103;
     pub const UNKNOWN_CHANNEL: u16 = 104;
     pub const COLLISION: u16 = 109;
-    pub const NO_INSERTION: u16 = 110;
     pub const TOO_LATE: u16 = 112;
     pub const QUEUE_FULL: u16 = 114;
     pub const ABORTED: u16 = 116;
@@ -221,7 +224,6 @@ enum Request {
     Init { revision: u16, channel: Name },
     Alive,
     Splice(Splice),
-    SpliceByPids { id: u32 },
     Abort { id: u32 },
 }
 
@@ -283,6 +285,39 @@ impl<'a> Reader<'a> {
         self.0.is_empty().then_some(())
     }
 
+    fn pid(&mut self) -> Option<u16> {
+        self.u16().filter(|&pid| pid <= LARGEST_PID)
+    }
+
+    /// PcrPID, PIDCount and that many structures.
+    fn streams(&mut self) -> Option<()> {
+        let _pcr = self.pid()?;
+        let count = self.u32()?;
+        if count > MOST_STREAMS {
+            return None;
+        }
+        for _ in 0..count {
+            self.stream()?;
+        }
+        Some(())
+    }
+
+    /// One structure; its Length counts the whole of it.
+    fn stream(&mut self) -> Option<()> {
+        let length = usize::from(*self.0.first()?);
+        let (own, rest) = self.0.split_at_checked(length)?;
+        if length < SMALLEST_STREAM {
+            return None;
+        }
+        let mut own = Reader(&own[1..]);
+        let _pid = own.pid()?;
+        if own.u16()? == NO_STREAM_TYPE {
+            return None;
+        }
+        self.0 = rest;
+        Some(())
+    }
+
     fn descriptors(&mut self) -> Option<()> {
         while !self.0.is_empty() {
             let _tag = self.u8()?;
@@ -334,7 +369,7 @@ impl Request {
         let seconds = reader.u32()?;
         let micros = reader.u32()?;
         if reader.u16()? == SEPARATE_PIDS {
-            return Some(Request::SpliceByPids { id });
+            reader.streams()?;
         }
         let duration = reader.u32()?;
         let _event_id = reader.u32()?;
@@ -636,7 +671,6 @@ impl InPlace {
             Ok(Request::Init { revision, channel }) => self.init(connection, revision, &channel, out),
             Ok(Request::Alive) => out.alive(connection, self.on_air(), self.clock),
             Ok(Request::Splice(splice)) => self.splice(connection, &splice, out),
-            Ok(Request::SpliceByPids { id }) => out.splice(connection, code::NO_INSERTION, id),
             Ok(Request::Abort { id }) => self.abort(connection, id, out),
             Err(Unfit::Unknown) => out.general(connection, code::UNKNOWN_MESSAGE),
             Err(Unfit::Unreadable) => out.general(connection, code::INVALID_DATA),

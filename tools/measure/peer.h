@@ -229,6 +229,21 @@ static int well_formed(const uint8_t *d, size_t n) {
     return 1;
 }
 
+/* the bytes of PcrPID, PIDCount and that many structures (02, CR 1) at the front of n; 0 if they are not good */
+static size_t streams_length(const uint8_t *d, size_t n) {
+    size_t at = 6;
+    if (n < 6 || splicer_u16(d) > 0x1FFF || splicer_u32(d + 2) > 16) {
+        return 0;
+    }
+    for (uint32_t left = splicer_u32(d + 2); left > 0; left--) {
+        if (n < at + 21 || d[at] < 21 || n < at + d[at] || splicer_u16(d + at + 1) > 0x1FFF || splicer_u16(d + at + 3) == 0xFFFF) {
+            return 0;
+        }
+        at += d[at];
+    }
+    return at;
+}
+
 static uint32_t splice_result(struct peer *p, const struct session *s, const struct session *prior) {
     uint64_t own = p->counts[s->conn], sum = 0;
     if (s->id == nobody || held(p, s->conn, s->id) || (s->prior != nobody && !prior)) {
@@ -254,18 +269,17 @@ static int answer_splice(struct peer *p, struct sink *o, uint8_t conn, const uin
         return 0;
     }
     struct session s = {0, 0, 0, splicer_u32(d), splicer_u32(d + 4), conn, 0, 0};
-    if (splicer_u16(d + 16) == 0xFFFF) {
-        says(o, &s, 110);
-        return 1;
-    }
-    if (n < 33 || !well_formed(d + 33, n - 33) || splicer_u32(d + 18) == 0 || d[30] > 9 || d[31] > 1 || d[32] > 1 ||
-        (s.prior == nobody && splicer_u32(d + 12) > 999999)) {
+    size_t separate = splicer_u16(d + 16) == 0xFFFF;
+    size_t list = separate ? streams_length(d + 18, n - 18) : 0;
+    const uint8_t *t = d + 18 + list;
+    if ((separate && list == 0) || n < 33 + list || !well_formed(t + 15, n - 33 - list) || splicer_u32(t) == 0 || t[12] > 9 || t[13] > 1 ||
+        t[14] > 1 || (s.prior == nobody && splicer_u32(d + 12) > 999999)) {
         return 0;
     }
     const struct session *prior = s.prior == nobody ? 0 : held(p, conn, s.prior);
-    s.access = d[30], s.over = d[31];
+    s.access = t[12], s.over = t[13];
     s.start = prior ? prior->end : (uint64_t)splicer_u32(d + 8) * 9000000 + (uint64_t)splicer_u32(d + 12) * 9;
-    s.end = s.start + (uint64_t)splicer_u32(d + 18) * 100;
+    s.end = s.start + (uint64_t)splicer_u32(t) * 100;
     uint32_t result = splice_result(p, &s, prior), at = 0;
     if (result == 100) {
         while (at < p->waits && p->waiting[at].start < s.start) {

@@ -37,16 +37,44 @@ static void with_descriptors(struct call *c) {
     c->length = 8 + size;
 }
 
+/* ServiceID 0xFFFF and separate PIDs before the tail, mostly good; at times none, where the tail is then read as a list */
+static void with_streams(struct call *c) {
+    put(c->in + 24, 0xFFFF, 2);
+    if (once_in(12)) {
+        return;
+    }
+    uint8_t tail[BUFFER];
+    size_t size = c->length - 26;
+    memcpy(tail, c->in + 26, size);
+    uint32_t count = once_in(8) ? 15 + below(3) : below(4);
+    uint8_t *p = put(c->in + 26, once_in(30) ? 0x1FFF + below(2) : below(0x2000), 2);
+    p = put(p, once_in(30) ? count + 1 : once_in(60) ? 0xFFFFFFFF : count, 4);
+    for (uint32_t i = 0; i < count; i++) {
+        uint32_t kept = once_in(3) ? below(30) : 0;
+        p = put(p, once_in(40) ? 19 + below(4) : 21 + kept, 1);
+        p = put(put(p, once_in(40) ? 0x1FFF + below(2) : below(0x2000), 2), once_in(40) ? 0xFFFE + below(2) : below(256), 2);
+        for (uint32_t j = 0; j < 16 + kept; j++) {
+            *p++ = (uint8_t)(once_in(2) ? 0xFF : below(256));
+        }
+    }
+    memcpy(p, tail, size);
+    c->length = (size_t)(p - c->in) + size;
+    c->length -= once_in(40) ? 1 : 0;
+    put(c->in + 2, (uint32_t)c->length - 8, 2);
+}
+
 static struct call any_splice(void) {
     uint32_t prior = once_in(2) ? TIMED : once_in(40) ? below(0xFFFFFFFF) : below(mood.ids);
     uint32_t ticks = once_in(60) ? 0 : once_in(60) ? 0xFFFFFFFF : once_in(4) ? 1 + below(3000000) : (1 + below(6)) * SECOND;
     struct call c = splice(below(4), once_in(60) ? TIMED : below(mood.ids), prior, clock_now + below(mood.spread), ticks);
     put(c.in + 20, once_in(3) ? 500000 : once_in(50) ? 999999 + below(2) : 0, 4);
-    put(c.in + 24, once_in(40) ? 0xFFFF : 1, 2);
     c = ranked(c, once_in(60) ? 10 : below(10), once_in(60) ? 2 : below(2));
     c.in[40] = (uint8_t)(once_in(60) ? 2 : below(2));
     if (once_in(6)) {
         with_descriptors(&c);
+    }
+    if (once_in(10)) {
+        with_streams(&c);
     }
     return c;
 }

@@ -189,6 +189,24 @@ impl Output {
     }
 }
 
+/// What follows PcrPID, PIDCount and that many structures (02, CR 1), if these are good.
+fn behind_streams(data: &[u8]) -> Option<&[u8]> {
+    let (head, mut rest) = data.split_first_chunk::<6>()?;
+    let count = be32(head, 2);
+    if be16(head, 0) > 0x1FFF || count > 16 {
+        return None;
+    }
+    for _ in 0..count {
+        let first = rest.first_chunk::<21>()?;
+        let length = usize::from(first[0]);
+        if length < 21 || be16(first, 1) > 0x1FFF || be16(first, 3) == 0xFFFF {
+            return None;
+        }
+        rest = rest.get(length..)?;
+    }
+    Some(rest)
+}
+
 /// Whether descriptors fill these bytes exactly.
 fn well_formed(mut rest: &[u8]) -> bool {
     while let [_, length, behind @ ..] = rest {
@@ -539,16 +557,16 @@ impl Splicer {
             session: be32(head, 0),
             owner: connection,
         };
-        if be16(head, 16) == 0xFFFF {
-            out.splice(id, 110);
-            return Some(());
-        }
-        let (fields, descriptors) = data.split_first_chunk::<33>()?;
-        let prior = be32(fields, 4);
-        let micros = be32(fields, 12);
-        let [access, overrides, returns] = [fields[30], fields[31], fields[32]];
+        let tail = match be16(head, 16) {
+            0xFFFF => behind_streams(&data[18..])?,
+            _ => &data[18..],
+        };
+        let (fields, descriptors) = tail.split_first_chunk::<15>()?;
+        let prior = be32(head, 4);
+        let micros = be32(head, 12);
+        let [access, overrides, returns] = [fields[12], fields[13], fields[14]];
         let plan = Plan {
-            duration: be32(fields, 18),
+            duration: be32(fields, 0),
             access,
             overrides: overrides == 1,
         };
@@ -561,7 +579,7 @@ impl Splicer {
         {
             return None;
         }
-        let time = instant(be32(fields, 8), micros);
+        let time = instant(be32(head, 8), micros);
         let result = self.accept(id, prior, time, plan, out);
         out.splice(id, result);
         Some(())
