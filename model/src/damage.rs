@@ -163,7 +163,8 @@ fn counted(gen: &mut Gen, ask: &Ask) -> Vec<u8> {
     let other = gen.rng.pick(&others);
     bytes[2..6].copy_from_slice(&other.to_be_bytes());
     let mut data = draw::between(data, &bytes);
-    if gen.rng.chance(40) {
+    let one_more = other == count + 1;
+    if gen.rng.chance(if one_more { 70 } else { 20 }) {
         // Nothing behind the structures: one that is missing begins at the message's end.
         data.truncate(18 + bytes.len());
     }

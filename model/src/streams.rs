@@ -147,43 +147,40 @@ pub fn kept_boundaries(streams: &Streams) -> Vec<&'static str> {
         16 => "read Splice with 16 structures",
         _ => "read Splice with 3 to 14 structures",
     }];
-    let unknown = |s: &Stream| [s.average, s.highest, s.lowest].contains(&0xFFFF_FFFF);
-    let no_size = |s: &Stream| [s.width, s.height].contains(&0xFFFF);
-    let short = |s: &Stream| [s.average, s.highest, s.lowest].contains(&0xFFFF);
+    if streams.pcr_pid == LARGEST_PID {
+        hits.push("read Splice PcrPID 0x1FFF");
+    }
     let twice = |s: &Stream| list.iter().filter(|t| t.pid == s.pid).count() > 1;
-    let rows: [(&'static str, bool); 11] = [
-        ("read Splice PcrPID 0x1FFF", streams.pcr_pid == LARGEST_PID),
+    if list.iter().any(twice) {
+        hits.push("read Splice with a PID twice");
+    }
+    if list.iter().any(|s| s.pid == streams.pcr_pid) {
+        hits.push("read Splice with a PID that is PcrPID");
+    }
+    hits.extend(list.iter().flat_map(kept_by_one));
+    hits
+}
+
+fn kept_by_one(s: &Stream) -> Vec<&'static str> {
+    let rates = [s.average, s.highest, s.lowest];
+    let rows = [
+        ("read Splice PID 0x1FFF", s.pid == LARGEST_PID),
+        ("read Splice StreamType 0xFFFE", s.kind == 0xFFFE),
+        ("read Splice rate 0xFFFFFFFF", rates.contains(&0xFFFF_FFFF)),
+        ("read Splice rate 0x0000FFFF", rates.contains(&0xFFFF)),
         (
-            "read Splice PID 0x1FFF",
-            list.iter().any(|s| s.pid == LARGEST_PID),
+            "read Splice resolution 0xFFFF",
+            [s.width, s.height].contains(&0xFFFF),
         ),
-        (
-            "read Splice StreamType 0xFFFE",
-            list.iter().any(|s| s.kind == 0xFFFE),
-        ),
-        ("read Splice rate 0xFFFFFFFF", list.iter().any(unknown)),
-        ("read Splice rate 0x0000FFFF", list.iter().any(short)),
-        ("read Splice resolution 0xFFFF", list.iter().any(no_size)),
-        (
-            "read Splice structure of Length 21",
-            list.iter().any(|s| s.kept.is_empty()),
-        ),
-        (
-            "read Splice structure of Length 22",
-            list.iter().any(|s| s.kept.len() == 1),
-        ),
+        ("read Splice structure of Length 21", s.kept.is_empty()),
+        ("read Splice structure of Length 22", s.kept.len() == 1),
         (
             "read Splice structure of Length 255",
-            list.iter().any(|s| s.kept.len() == MOST_KEPT),
-        ),
-        ("read Splice with a PID twice", list.iter().any(twice)),
-        (
-            "read Splice with a PID that is PcrPID",
-            list.iter().any(|s| s.pid == streams.pcr_pid),
+            s.kept.len() == MOST_KEPT,
         ),
     ];
-    hits.extend(rows.iter().filter(|(_, hit)| *hit).map(|(name, _)| *name));
-    hits
+    let hit = rows.iter().filter(|(_, hit)| *hit);
+    hit.map(|(name, _)| *name).collect()
 }
 
 #[cfg(test)]
