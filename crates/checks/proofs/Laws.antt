@@ -17,11 +17,11 @@ use Rattle.rules.specs.declared.Request.{Request}
 use Rattle.rules.specs.declared.Ninths.{Ninths}
 use Rattle.rules.specs.Units.{fromTicks}
 use Rattle.rules.specs.Bytes.{part}
-use Rattle.rules.specs.Reading.{nobody, separateService}
+use Rattle.rules.specs.Reading.{nobody}
 use Rattle.rules.specs.Lists.{All, bit, some, place, removeAt}
 use Rattle.rules.specs.State.{Queue, empty, of, is, startsAt, startsAfter, held, holds, Sorted}
 use Rattle.rules.specs.Instants.{outranks}
-use Rattle.rules.specs.Answers.{endOf, startOf, unknownPrior, wrongNumber, collides, waits, raisedSum, full, spliceResult, sessionAt, priorOf, separate, tooLate, sumOf}
+use Rattle.rules.specs.Answers.{endOf, startOf, unknownPrior, wrongNumber, collides, waits, raisedSum, full, spliceResult, sessionAt, priorOf, tooLate, sumOf}
 use Rattle.rules.specs.Sound.{heldCount, Once}
 use Rattle.rules.proofs.Tests.{clash, by}
 use Rattle.rules.proofs.All.{all-into}
@@ -340,14 +340,7 @@ module _ (w : List Session) {t : List ℕ} (e : t ≡ tallied w) where
 
 -- ## "with the first that applies"
 
--- a and b, as the code asks them
-module _ (r : Request) where
-  pub separate-110 : r .service ≡ separateService → _≡_ {A = ℕ} 110 (cond (separate r) 110 121)
-  separate-110 h = rw (eq-eqb (r .service) separateService h)
-
-  pub whole-121 : (r .service ≡ separateService → ⊥) → _≡_ {A = ℕ} 121 (cond (separate r) 110 121)
-  whole-121 h = rw (ne-eqb (r .service) separateService h)
-
+-- b, as the code asks it
 module _ (c x : ℕ) (q : Queue) where
   pub wrong-nobody : x ≡ nobody → true ≡ (eqb x nobody || holds c x q)
   wrong-nobody h = rw (eq-eqb x nobody h)
@@ -366,33 +359,25 @@ wrong-is c r q e f = rw (start-known c (r .start) q e .0) (f ∙ go (eqb (r .id)
     go false false = refl
 
 module _ (clock c : ℕ) (r : Request) (new : Session) (q : Queue) where
-  -- a or b, where it is not
-  pub result-none : startIn c (r .start) q ≡ Never → cond (separate r) 110 121 ≡ spliceResult clock c r new q
+  -- b, where it is not
+  pub result-none : startIn c (r .start) q ≡ Never → 121 ≡ spliceResult clock c r new q
   unfolding spliceResult
-  result-none e = rw (start-none c (r .start) q e) (go (separate r) (eqb (r .id) nobody) (holds c (r .id) q) _)
+  result-none e = rw (start-none c (r .start) q e) (go (eqb (r .id) nobody) (holds c (r .id) q) _)
     where
-      go : (a x y : Bool) (n : ℕ) → cond a 110 121 ≡ cond a 110 (cond (x || (y || true)) 121 n)
-      go true x y n = refl
-      go false true y n = refl
-      go false false true n = refl
-      go false false false n = refl
-
-  pub result-110 : r .service ≡ separateService → 110 ≡ spliceResult clock c r new q
-  unfolding spliceResult
-  result-110 h = rw (eq-eqb (r .service) separateService h)
+      go : (x y : Bool) (n : ℕ) → 121 ≡ cond (x || (y || true)) 121 n
+      go true y n = refl
+      go false true n = refl
+      go false false n = refl
 
   -- the start is known, and each test gives what the code asks
-  module _ {t : Ninths} (start : startIn c (r .start) q ≡ At t) (whole : r .service ≡ separateService → ⊥) {b : Bool}
+  module _ {t : Ninths} (start : startIn c (r .start) q ≡ At t) {b : Bool}
       (asked-b : b ≡ (eqb (r .id) nobody || holds c (r .id) q)) where
-    is-a : separate r ≡ false
-    is-a = ne-eqb (r .service) separateService whole
-
     is-b : b ≡ wrongNumber c r q
     is-b = wrong-is c r q start asked-b
 
     pub result-121 : b ≡ true → 121 ≡ spliceResult clock c r new q
     unfolding spliceResult
-    result-121 h = rw (is-a, ← is-b, h)
+    result-121 h = rw (← is-b, h)
 
     module _ (known : b ≡ false) {n : ℕ} (time : n ≡ clock) {l : Bool} (asked-c : l ≡ tooLate n (r .start)) where
       is-c : l ≡ tooLate clock (r .start)
@@ -400,21 +385,21 @@ module _ (clock c : ℕ) (r : Request) (new : Session) (q : Queue) where
 
       pub result-112 : l ≡ true → 112 ≡ spliceResult clock c r new q
       unfolding spliceResult
-      result-112 h = rw (is-a, ← is-b, known, ← is-c, h)
+      result-112 h = rw (← is-b, known, ← is-c, h)
 
       module _ (soon : l ≡ false) {d : Bool} (is-d : d ≡ collides new (q .waiting)) where
         pub result-109 : d ≡ true → 109 ≡ spliceResult clock c r new q
         unfolding spliceResult
-        result-109 h = rw (is-a, ← is-b, known, ← is-c, soon, ← is-d, h)
+        result-109 h = rw (← is-b, known, ← is-c, soon, ← is-d, h)
 
         module _ (free : d ≡ false) {e : Bool} (is-e : e ≡ full c (q .waiting)) where
           pub result-114 : e ≡ true → 114 ≡ spliceResult clock c r new q
           unfolding spliceResult
-          result-114 h = rw (is-a, ← is-b, known, ← is-c, soon, ← is-d, free, ← is-e, h)
+          result-114 h = rw (← is-b, known, ← is-c, soon, ← is-d, free, ← is-e, h)
 
           pub result-100 : e ≡ false → 100 ≡ spliceResult clock c r new q
           unfolding spliceResult
-          result-100 h = rw (is-a, ← is-b, known, ← is-c, soon, ← is-d, free, ← is-e, h)
+          result-100 h = rw (← is-b, known, ← is-c, soon, ← is-d, free, ← is-e, h)
 
 -- ## The session that is asked for
 

@@ -1,4 +1,4 @@
-// A Splice_Request's checks a to e, and the session that it asks for.
+// A Splice_Request's checks b to e, and the session that it asks for.
 use memory::Which;
 use places::Key;
 use rules::Ninths;
@@ -7,13 +7,13 @@ use rules::Session;
 use rules::Start;
 use rules::When;
 ghost use mathlib.Core.Path.{_≡_};
-ghost use mathlib.Core.Bool.{cond, _||_};
+ghost use mathlib.Core.Bool.{_||_};
 ghost use lib.Dec.{eqb};
 ghost use Prim.Native.Nat.{_+_, _≤_, _<_};
 ghost use lib.ListN.{getD};
 ghost use Rattle.rules.specs.Lists.{some, place};
 ghost use Rattle.rules.specs.State.{startsAt, holds, Sorted};
-ghost use Rattle.rules.specs.Answers.{priorOf, sessionAt, separate, tooLate, collides, raised, sumOf, full, spliceResult};
+ghost use Rattle.rules.specs.Answers.{priorOf, sessionAt, tooLate, collides, raised, sumOf, full, spliceResult};
 ghost use Rattle.rules.specs.declared.When.the-variants.{At};
 ghost use Rattle.rules.specs.Reading.{nobody};
 ghost use Rattle.rules.specs.Sound.{horizon, Holding};
@@ -113,16 +113,6 @@ pub fn session_at(t: Ninths, conn: u64, r: Request) -> Session
     }
 }
 
-// The code of a request whose prior is not held: a, or b.
-pub fn without_start(r: Request) -> u16
-    ensures { λ n. ⌜ n ≡ cond (separate r) 110 121 ⌝ }
-{
-    if r.service == 0xFFFF {
-        return 110;
-    }
-    121
-}
-
 // b. A number that no session has, or that the connection holds already; its prior, if it names one, is held.
 fn is_wrong_number(m: &[u64], conn: u64, id: u64) -> bool
     requires { ⌜ Form (now m) ⌝ }
@@ -216,7 +206,7 @@ fn does_collide(m: &[u64], new: Session, at: usize) -> bool
     false
 }
 
-// The first of a to f that applies to a request whose start is known. new: the session that it asks for; at: the place of the
+// The first of b to f that applies to a request whose start is known. new: the session that it asks for; at: the place of the
 // first that starts then or later.
 pub fn splice_result(m: &[u64], conn: u64, r: Request, new: Session, at: usize) -> u16
     requires { ⌜ Form (now m) ⌝ }
@@ -228,9 +218,6 @@ pub fn splice_result(m: &[u64], conn: u64, r: Request, new: Session, at: usize) 
     requires { ⌜ at ≡ place (startsFrom (new .start .0)) (see (now m) .queue .waiting) ⌝ }
     ensures { λ n. ⌜ n ≡ spliceResult (see (now (m .entry)) .clock) conn r new (see (now (m .entry)) .queue) ⌝ }
 {
-    if r.service == 0xFFFF {
-        return 110;
-    }
     if is_wrong_number(m, conn, r.id as u64) {
         return 121;
     }

@@ -16,8 +16,9 @@ use Rattle.rules.specs.Records.{recordsIn}
 use Rattle.rules.specs.Answers.{requested, spliceResult}
 use Rattle.rules.specs.Calls.{refused, refuse, writtenBy, named, fresh, Loans, Call, closes, messages, call, after}
 use Rattle.demands.specs.History.{Event, startsOf, endsOf, history, ownAnswer, othersOf, waitingCount, book, clockAfter}
-use Rattle.rules.specs.Sound.{Wired}
-use Rattle.rules.proofs.Sound.{sound-size}
+use Rattle.rules.specs.Sound.{Wired, Coded}
+use Rattle.rules.proofs.Sound.{sound-size, sound-found}
+use Rattle.rules.proofs.Codes.{call-coded}
 use Rattle.demands.specs.Told.{FromFresh, Unchanged, firstNumber, checks, numberOf, answers, Asks, Passes, earlierCode, fullTold, outsOf, startedTold, unended, Ended, Stands}
 use Rattle.demands.proofs.Refusals.{unchanged, first-number, fresh-number, fresh-refused}
 use Rattle.demands.proofs.Room.{from-sound, count-room, own-answer, passes-or-earlier, full-answer}
@@ -60,16 +61,21 @@ answers-fit h s f k = sound-size s (from-sound h s f) k
 -- ## Demand 2, the codes of a Splice_Request
 
 -- "An accepted request is accepted because the rules accept it; a refused one carries the first result code that applies.": the last record in
--- the bytes of the answer is the Splice_Response with the code of 01's a to f
+-- the bytes of the answer is the Splice_Response with the code of 01's b to f
 pub first-code-applies : (h : List Event) (s : Splicer) → FromFresh h s → (c : ℕ) (l : List ℕ) (loans : Loans) (r : Request) → Asks c l loans r s
     → ownAnswer (answers (spliceResult (s .clock) c r (requested c r (s .queue)) (s .queue)) c (r .id)) (recordsIn (writtenBy (call (messages c l loans) s .answer))) ≡ true
 first-code-applies h s f c l loans r a = own-answer c l loans r s a h f
 
--- A request that is read passes a to d, or its answer is the first of their codes that applies. proofs/Witness has one of each
+-- A request that is read passes b to d (a is gone: 02, CR 1), or its answer is the first of their codes that applies. proofs/Witness has one of each
 pub earlier-or-passes : (h : List Event) (s : Splicer) → FromFresh h s → (c : ℕ) (l : List ℕ) (loans : Loans) (r : Request) → Asks c l loans r s
     → Passes c r s ⊎ ((earlierCode c r s ≡ 100 → ⊥)
     × (ownAnswer (answers (earlierCode c r s) c (r .id)) (recordsIn (writtenBy (call (messages c l loans) s .answer))) ≡ true))
 earlier-or-passes h s f c l loans r a = passes-or-earlier c l loans r s a h f
+
+-- 02, CR 1: "From here result 110 is no longer met": the result of every record in the bytes of every answer is one of 100, 102, 103, 104, 109,
+-- 112, 114, 116, 120, 121, 123, 125
+pub codes-given : (h : List Event) (s : Splicer) → FromFresh h s → (k : Call) → Wired k → All Coded (recordsIn (writtenBy (call k s .answer)))
+codes-given h s f k w = rw (sound-found s k w (from-sound h s f)) (call-coded k s)
 
 -- ## Demand 3
 

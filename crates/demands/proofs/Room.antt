@@ -15,7 +15,7 @@ use Rattle.rules.specs.declared.Link.the-variants.{Closed, Opened, Initialised}
 use Rattle.rules.specs.State.{Splicer, linkOf, isOpen, isInitialised}
 use Rattle.rules.specs.Records.{recordsIn}
 use Rattle.rules.specs.Ends.{andThen, evicted}
-use Rattle.rules.specs.Answers.{sessionAt, requested, separate, wrongNumber, tooLate, collides, full, spliceResult, accepts, accepted, Spliced, splices, answerSplice, answerRead, answer}
+use Rattle.rules.specs.Answers.{sessionAt, requested, wrongNumber, tooLate, collides, full, spliceResult, accepts, accepted, Spliced, splices, answerSplice, answerRead, answer}
 use Rattle.rules.specs.Calls.{replies, handled, messageCall, Loans, messages, call, writtenBy}
 use Rattle.demands.specs.History.{Event, last, ownAnswer, waitingCount}
 use Rattle.rules.specs.Sound.{Sound}
@@ -62,7 +62,7 @@ module _ (c : ℕ) (l : List ℕ) (loans : Loans) (r : Request) (s : Splicer) (a
       × (ownAnswer (answers (earlierCode c r s) c (r .id)) (recordsIn (writtenBy (call (messages c l loans) s .answer))) ≡ true))
   unfolding spliceResult earlierCode
   passes-or-earlier h f =
-      go (separate r) (wrongNumber c r (s .queue)) (tooLate (s .clock) (r .start)) (collides (requested c r (s .queue)) (s .queue .waiting)) refl refl refl refl
+      go (wrongNumber c r (s .queue)) (tooLate (s .clock) (r .start)) (collides (requested c r (s .queue)) (s .queue .waiting)) refl refl refl
     where
       given : ℕ → Type 0
       given n = ownAnswer (answers n c (r .id)) (recordsIn (writtenBy (call (messages c l loans) s .answer))) ≡ true
@@ -70,13 +70,12 @@ module _ (c : ℕ) (l : List ℕ) (loans : Loans) (r : Request) (s : Splicer) (a
       told : given (spliceResult (s .clock) c r (requested c r (s .queue)) (s .queue))
       told = own-answer h f
 
-      go : (x y z w : Bool) → separate r ≡ x → wrongNumber c r (s .queue) ≡ y → tooLate (s .clock) (r .start) ≡ z
+      go : (y z w : Bool) → wrongNumber c r (s .queue) ≡ y → tooLate (s .clock) (r .start) ≡ z
           → collides (requested c r (s .queue)) (s .queue .waiting) ≡ w → Passes c r s ⊎ ((earlierCode c r s ≡ 100 → ⊥) × given (earlierCode c r s))
-      go false false false false ea eb ec ed = inl (record { a = ea; b = eb; c′ = ec; d = ed })
-      go true y z w ea eb ec ed = inr (rw ea (λ z. omega (arith, z)), rw ea (rw ea at told))
-      go false true z w ea eb ec ed = inr (rw (ea, eb) (λ z. omega (arith, z)), rw (ea, eb) (rw (ea, eb) at told))
-      go false false true w ea eb ec ed = inr (rw (ea, eb, ec) (λ z. omega (arith, z)), rw (ea, eb, ec) (rw (ea, eb, ec) at told))
-      go false false false true ea eb ec ed = inr (rw (ea, eb, ec, ed) (λ z. omega (arith, z)), rw (ea, eb, ec, ed) (rw (ea, eb, ec, ed) at told))
+      go false false false eb ec ed = inl (record { b = eb; c′ = ec; d = ed })
+      go true z w eb ec ed = inr (rw eb (λ z. omega (arith, z)), rw eb (rw eb at told))
+      go false true w eb ec ed = inr (rw (eb, ec) (λ z. omega (arith, z)), rw (eb, ec) (rw (eb, ec) at told))
+      go false false true eb ec ed = inr (rw (eb, ec, ed) (λ z. omega (arith, z)), rw (eb, ec, ed) (rw (eb, ec, ed) at told))
 
 -- what check e looks at is what the answers say
 full-counted : (h : List Event) (s : Splicer) → FromFresh h s → (c : ℕ) → full c (s .queue .waiting) ≡ fullTold c h
@@ -86,7 +85,7 @@ full-counted h s f c = let n = waiting-counted h s f in rw (n c, n 0, n 1, n 2, 
 passed-code : (h : List Event) (s : Splicer) → FromFresh h s → (c : ℕ) (r : Request) → Passes c r s
     → spliceResult (s .clock) c r (requested c r (s .queue)) (s .queue) ≡ cond (fullTold c h) 114 100
 unfolding spliceResult
-passed-code h s f c r p = rw (p .a, p .b, p .c′, p .d, full-counted h s f c)
+passed-code h s f c r p = rw (p .b, p .c′, p .d, full-counted h s f c)
 
 pub full-answer : (h : List Event) (s : Splicer) → FromFresh h s → (c : ℕ) (l : List ℕ) (loans : Loans) (r : Request) → Asks c l loans r s → Passes c r s
     → ownAnswer (answers (cond (fullTold c h) 114 100) c (r .id)) (recordsIn (writtenBy (call (messages c l loans) s .answer))) ≡ true

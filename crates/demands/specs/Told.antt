@@ -14,7 +14,7 @@ use Rattle.rules.specs.Bytes.{Byte, messageSize, oversize}
 use Rattle.rules.specs.Reading.{spliceRequest, readSplice, dataIn}
 use Rattle.rules.specs.State.{Splicer, linkOf, isOpen, isInitialised}
 use Rattle.rules.specs.Records.{Record, recordsIn}
-use Rattle.rules.specs.Answers.{fullBy, firstOf, requested, separate, wrongNumber, tooLate, collides}
+use Rattle.rules.specs.Answers.{fullBy, firstOf, requested, wrongNumber, tooLate, collides}
 use Rattle.rules.specs.Calls.{houseNumber, Answer, refused, good, Called, writtenBy, consumedBy, bufferAfter, noConnection, noRoom, notOpen, fresh, framing, Loans, Call, opens, closes, messages, ticks, moves, after}
 use Rattle.demands.specs.History.{Reply, refusal, wrote, Event, Entry, entryIs, startsOf, endsOf, history, grantedIn, waitingCount, tells, othersOf}
 use Rattle.rules.specs.Sound.{Wired}
@@ -36,7 +36,7 @@ pub record FromFresh (h : List Event) (s : Splicer) : Type 0 where
 unfoldable pub answers : ℕ → ℕ → ℕ → Record → Bool
 answers n c x r = tells (λ m flag. false) (λ m. eqb n m) c x r
 
--- the bytes l of connection c begin with a whole Splice_Request that is read as r, and nothing before the checks a to f stops it
+-- the bytes l of connection c begin with a whole Splice_Request that is read as r, and nothing before the checks b to f stops it
 pub record Asks (c : ℕ) (l : List ℕ) (loans : Loans) (r : Request) (s : Splicer) : Type 0 where
   pub bytes : All Byte l
   -- the call is not refused
@@ -46,9 +46,8 @@ pub record Asks (c : ℕ) (l : List ℕ) (loans : Loans) (r : Request) (s : Spli
   pub framed : framing l ≡ Framed spliceRequest (messageSize l)
   pub readable : readSplice (dataIn l) ≡ Splice r
 
--- and it passes a to d
+-- and it passes b to d
 pub record Passes (c : ℕ) (r : Request) (s : Splicer) : Type 0 where
-  pub a : separate r ≡ false
   pub b : wrongNumber c r (s .queue) ≡ false
   -- c is the connection
   pub c′ : tooLate (s .clock) (r .start) ≡ false
@@ -73,10 +72,10 @@ firstNumber (k ∷ l) = cond (k .applies) (k .number) (firstNumber l)
 abbrev pub check : ℕ → Bool → Check
 check n b = record { number = n; applies = b }
 
--- the code of the first of a to d that applies; 100 if none does
+-- the code of the first of b to d that applies; 100 if none does
 unfoldable pub earlierCode : ℕ → Request → Splicer → ℕ
 earlierCode c r s =
-    firstOf (separate r) (wrongNumber c r (s .queue)) (tooLate (s .clock) (r .start)) (collides (requested c r (s .queue)) (s .queue .waiting)) false
+    firstOf (wrongNumber c r (s .queue)) (tooLate (s .clock) (r .start)) (collides (requested c r (s .queue)) (s .queue .waiting)) false
 
 -- "Order: open 1, 6; close 1, 2, 7; message 1, 2, 7, 5 (header), 4, 5 (body); tick 2, 8, 3."
 unfoldable pub checks : Call → Splicer → List Check

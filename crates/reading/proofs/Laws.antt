@@ -16,7 +16,7 @@ use Rattle.rules.specs.declared.Message.{Message}
 use Rattle.rules.specs.declared.Message.the-variants.{Init, Alive, Splice, Abort, Unreadable}
 use Rattle.rules.specs.Bytes.{messageSize, oversize}
 use Rattle.rules.specs.Calls.{framing}
-use Rattle.rules.specs.Reading.{initRequest, aliveRequest, spliceRequest, abortRequest, separateService, badInit, readInit, readAlive, readAbort, serviceID, tailOf, badSplice, readWhole, readSplice, isRead, read}
+use Rattle.rules.specs.Reading.{initRequest, aliveRequest, spliceRequest, abortRequest, badInit, readInit, readAlive, readAbort, tailOf, badSplice, readWhole, readSplice, isRead, read}
 use Rattle.rules.proofs.Tests.{by, or-none}
 
 -- what was said of a part, by a test that is turned round
@@ -82,7 +82,7 @@ holds id d =
     (λ e. by (Holds d) (eqb id aliveRequest) _ _ (λ f. by (Holds d) (eqb (length d) 8) _ _ (λ g. tt) (λ g. tt))
     (λ f. by (Holds d) (eqb id spliceRequest) _ _
     (λ g. by (Holds d) (ltb (length d) 18) _ _ (λ h. tt)
-    (λ h. by (Holds d) (eqb (serviceID d) separateService) _ _ (λ i. tt) (λ i. by (Holds d) (badSplice d (tailOf d)) _ _ (λ j. tt) (λ j. tt))))
+    (λ h. by (Holds d) (badSplice d (tailOf d)) _ _ (λ i. tt) (λ i. tt)))
     (λ g. by (Holds d) (eqb id abortRequest) _ _ (λ h. by (Holds d) (eqb (length d) 4) _ _ (λ i. tt) (λ i. tt)) (λ h. tt))))
 
 pub init-length : (id : ℕ) (d : List ℕ) (revision : ℕ) → read id d ≡ Init revision → 66 ≤ length d

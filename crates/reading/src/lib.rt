@@ -5,11 +5,13 @@ ghost use lib.ListN.{length};
 ghost use Rattle.rules.specs.Bytes.{dataOf};
 ghost use Rattle.rules.specs.Calls.{framing};
 ghost use Rattle.rules.specs.Reading.{channelName, splicerName, readInit, readAlive, readAbort, readStart, badSplice};
-ghost use Rattle.rules.specs.Reading.{separatePids, wholeRequest, readWhole, readSplice, isRead, «read»};
+ghost use Rattle.rules.specs.Reading.{wholeRequest, readWhole, readSplice, isRead, «read»};
+ghost use Rattle.reading.specs.Structures.{tailPlace};
 
 pub mod descriptors;
 pub mod names;
 pub mod numbers;
+pub mod streams;
 
 use descriptors::well_formed;
 use names::has_zero;
@@ -21,6 +23,8 @@ use rules::Refusal;
 use rules::Request;
 use rules::Start;
 use rules::Ticks;
+use streams::Streams;
+use streams::end_of;
 
 // "Read: Init_Request, Alive_Request, Splice_Request, Abort_Request."
 pub const INIT_REQUEST: u16 = 0x0001;
@@ -149,24 +153,8 @@ fn bad_splice(d: &[u8], t: &[u8], r: Request) -> bool
     !well_formed(&t[15..])
 }
 
-// "With ServiceID 0xFFFF only the first 18 bytes are read."
-fn separate_pids(d: &[u8], start: Start) -> Request
-    requires { ⌜ 18 ≤ length (now d) ⌝ }
-    requires { ⌜ start ≡ readStart (now d) ⌝ }
-    ensures { λ r. ⌜ r ≡ separatePids (now (d .entry)) ⌝ }
-{
-    Request {
-        id: number4(d, 0),
-        start: start,
-        service: 0xFFFF,
-        duration: Ticks(0),
-        access: 0,
-        overrides: 0,
-    }
-}
-
 fn whole_request(d: &[u8], t: &[u8], start: Start) -> Request
-    requires { ⌜ 18 ≤ length (now d) ⌝ }
+    requires { ⌜ 16 ≤ length (now d) ⌝ }
     requires { ⌜ 15 ≤ length (now t) ⌝ }
     requires { ⌜ start ≡ readStart (now d) ⌝ }
     ensures { λ r. ⌜ r ≡ wholeRequest (now (d .entry)) (now (t .entry)) ⌝ }
@@ -174,7 +162,6 @@ fn whole_request(d: &[u8], t: &[u8], start: Start) -> Request
     Request {
         id: number4(d, 0),
         start: start,
-        service: number2(d, 16),
         duration: Ticks(number4(t, 0)),
         access: t[12],
         overrides: t[13],
@@ -183,7 +170,7 @@ fn whole_request(d: &[u8], t: &[u8], start: Start) -> Request
 
 // Of the data d with the tail t.
 fn read_whole(d: &[u8], t: &[u8], start: Start) -> Message
-    requires { ⌜ 18 ≤ length (now d) ⌝ }
+    requires { ⌜ 16 ≤ length (now d) ⌝ }
     requires { ⌜ start ≡ readStart (now d) ⌝ }
     ensures { λ r. ⌜ r ≡ readWhole (now (d .entry)) (now (t .entry)) ⌝ }
 {
@@ -197,6 +184,21 @@ fn read_whole(d: &[u8], t: &[u8], start: Start) -> Message
     Message::Splice(r)
 }
 
+// Where the tail stands; 02, CR 1: with ServiceID 0xFFFF behind the structures.
+fn tail_place(d: &[u8]) -> Streams
+    requires { ⌜ 18 ≤ length (now d) ⌝ }
+    ensures { λ r. ⌜ r ≡ tailPlace (now (d .entry)) ⌝ }
+{
+    if number2(d, 16) == 0xFFFF {
+        let found = end_of(&d[18..]);
+        let Streams::End(n) = found else {
+            return Streams::Bad;
+        };
+        return Streams::End(18 + n);
+    }
+    Streams::End(18)
+}
+
 // Each field is read before the tests on it, the start before the ServiceID parts the ways: its bytes are then one load.
 fn read_splice(d: &[u8]) -> Message
     ensures { λ r. ⌜ r ≡ readSplice (now (d .entry)) ⌝ }
@@ -205,10 +207,11 @@ fn read_splice(d: &[u8]) -> Message
         return Message::Unreadable;
     }
     let start = start_in(d);
-    if number2(d, 16) == 0xFFFF {
-        return Message::Splice(separate_pids(d, start));
-    }
-    read_whole(d, &d[18..], start)
+    let place = tail_place(d);
+    let Streams::End(at) = place else {
+        return Message::Unreadable;
+    };
+    read_whole(d, &d[at..], start)
 }
 
 // The list of four.

@@ -22,7 +22,7 @@ use Rattle.rules.specs.State.{Queue, empty, is, startsAt, startsAfter, holds, S
 use Rattle.rules.specs.Bytes.{written}
 use Rattle.rules.specs.Records.{Record, SpliceResponse, AbortResponse, recordBytes}
 use Rattle.rules.specs.Ends.{Turn, writes, andThen, ended, endings, dismissed, evictedAt, evicted, cancelled, aborted}
-use Rattle.rules.specs.Answers.{startOf, sessionAt, requested, separate, full}
+use Rattle.rules.specs.Answers.{startOf, sessionAt, requested, full}
 use Rattle.rules.specs.Answers.{spliceResult, inserted, accepts, accepted, later, Spliced, grants, declines, answerSplice, answerAbort}
 use Rattle.rules.specs.Asked.{Within}
 use Rattle.rules.specs.Sound.{Room, horizon, Once, Holding}
@@ -223,17 +223,13 @@ module _ (c : ℕ) (r : Request) (m : List ℕ) {new : Session} {n : ℕ} (a : n
         subst (λ (t : Spliced). Splices t m e nothing-moved m o) answer-is
         (rw (ne-eqb n 100 h) (record { does = says-one (length-record (SpliceResponse c n (r .id)) tt) k b; moved = refl }))
 
--- a or b: its start is not known
-pub splice-unknown : (c : ℕ) (r : Request) (m : List ℕ) {n : ℕ} {e o : List ℕ} → startIn c (r .start) (see m .queue) ≡ Never →
-    n ≡ cond (separate r) 110 121 → Form m → o ≡ written e 0 (recordBytes (SpliceResponse c n (r .id))) →
+-- b: its start is not known
+pub splice-unknown : (c : ℕ) (r : Request) (m : List ℕ) {e o : List ℕ} → startIn c (r .start) (see m .queue) ≡ Never →
+    Form m → o ≡ written e 0 (recordBytes (SpliceResponse c 121 (r .id))) →
     Splices (answerSplice (see m .clock) c r (see m .queue)) m e nothing-moved m o
-splice-unknown c r m {n} h k f b =
+splice-unknown c r m h f b =
     let new = requested c r (see m .queue) in
-    splice-refused c r m refl (k ∙ result-none (see m .clock) c r new (see m .queue) h) (other (separate r) k) f b
-  where
-    other : (a : Bool) → n ≡ cond a 110 121 → n ≡ 100 → ⊥
-    other true i j = omega arith
-    other false i j = omega arith
+    splice-refused c r m refl (result-none (see m .clock) c r new (see m .queue) h) (λ i. omega (arith, i)) f b
 
 -- ## Abort
 

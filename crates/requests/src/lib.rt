@@ -84,8 +84,7 @@ pub fn answer_splice(m: &mut [u64; WORDS], conn: u64, r: Request, out: &mut [u8]
     let start = r.start;
     let when = checks::start_of(&*m, conn, start);
     let When::At(t) = when else {
-        let n = checks::without_start(r);
-        writing::splice_response(&mut *out, conn, n, r.id as u64);
+        writing::splice_response(&mut *out, conn, 121, r.id as u64);
         return Given { len: 14, moved: 0 };
     };
     let new = checks::session_at(t, conn, r);

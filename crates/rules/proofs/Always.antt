@@ -43,10 +43,10 @@ pub record Admitted (F : Call → Type 0) (s : Splicer) (c : ℕ) (r : Request) 
 
 module _ {F : Call → Type 0} {s : Splicer} {c : ℕ} {r : Request} where
   pub grants : Admitted F s c r → Granted r
-  grants a = granted (part 8 (a .size) (a .bytes)) r (a .isRead) (a .passed .whole)
+  grants a = granted (part 8 (a .size) (a .bytes)) r (a .isRead)
 
 pub fits : {s : Splicer} {c : ℕ} {r : Request} → Admitted Wired s c r → Fitting r
-fits {r = r} a = fitting (part 8 (a .size) (a .bytes)) r (a .isRead) (a .passed .whole) (part-byte 8 (a .size) (a .bytes) (a .given))
+fits {r = r} a = fitting (part 8 (a .size) (a .bytes)) r (a .isRead) (part-byte 8 (a .size) (a .bytes) (a .given))
 
 -- ## What has to be shown of a fact P
 

@@ -1,7 +1,7 @@
 -- What a call can do: what is shown of each of these cases holds of every call. Assumes nothing.
 -- The refusals and choices of the calls are walked here, once.
 use mathlib.Core.Path.{_≡_, refl}
-use mathlib.Core.Bool.{Bool, true, false, cond, not, _&&_}
+use mathlib.Core.Bool.{Bool, true, false, cond, not, _&&_, _||_}
 use mathlib.Core.List.{List, [], _∷_}
 use Prim.Native.Nat.{ℕ, _+_, _≤_, _<_}
 use native.Mathlib.Omega.{arith}
@@ -16,13 +16,15 @@ use Rattle.rules.specs.declared.Message.the-variants.{Splice}
 use Rattle.rules.specs.declared.Link.the-variants.{Closed, Opened, Initialised}
 use Rattle.rules.specs.Units.{timeOf, badMicros, fromMicros}
 use Rattle.rules.specs.Bytes.{messageID, messageSize, oversize, field, sameName}
-use Rattle.rules.specs.Reading.{initRequest, aliveRequest, spliceRequest, abortRequest, separateService, channelName, serviceID, sessionID, badInit, tailOf, badSplice, separatePids, wholeRequest, readInit, readAlive, readAbort, readWhole, readSplice, isRead, read, dataIn, isSplice}
+use Rattle.rules.specs.Reading.{initRequest, aliveRequest, spliceRequest, abortRequest, channelName, sessionID, badInit, tailOf, badSplice, wholeRequest, readInit, readAlive, readAbort, readWhole, readSplice, isRead, read, dataIn, isSplice}
 use Rattle.rules.specs.State.{Splicer, holds, linkOf, isOpen, isInitialised, withQueue, withLink}
 use Rattle.rules.specs.Records.{General, InitResponse, SpliceResponse, AbortResponse}
 use Rattle.rules.specs.Ends.{Turn, andThen, writes, aborted, closedBy}
-use Rattle.rules.specs.Answers.{Answered, says, turns, requested, separate, wrongNumber, tooLate, collides, full, firstOf, spliceResult, Spliced, grants, splices, answerSplice, answerAbort, initResult, answerInit, aliveResponse, answerRead, answer}
+use Rattle.rules.specs.Answers.{Answered, says, turns, requested, wrongNumber, tooLate, collides, full, firstOf, spliceResult, Spliced, grants, splices, answerSplice, answerAbort, initResult, answerInit, aliveResponse, answerRead, answer}
 use Rattle.rules.specs.Calls.{Called, refuse, does, replies, noConnection, noRoom, notOpen, openCall, closeCall, framing, handled, messageCall, ticked, moveCall, tickCall, Loans, Call, opens, closes, messages, ticks, moves, call}
-use Rattle.rules.proofs.Tests.{by}
+use Rattle.rules.specs.Lists.{All, some}
+use Rattle.rules.specs.Sound.{codes, Given}
+use Rattle.rules.proofs.Tests.{by, clash}
 use Rattle.rules.proofs.Checks.{Passed, passed-all}
 
 -- a call that brings the clock to a time
@@ -33,14 +35,14 @@ pub data Brings : Call → ℕ → Type 0 where
 -- what the answer to the message l of connection c can be; D: what is to be shown of an answer
 pub record Answering (c : ℕ) (l : List ℕ) (s : Splicer) (D : Answered → Type 0) : Type 0 where
   pub silent : isSplice l ≡ false → D (says [] s)
-  pub general : (r : ℕ) → r < 65536 → D (says (General c r ∷ []) s)
-  pub naming : (r : ℕ) → r < 65536 → isSplice l ≡ false
+  pub general : (r : ℕ) → Given r → D (says (General c r ∷ []) s)
+  pub naming : (r : ℕ) → Given r → isSplice l ≡ false
       → D (says (InitResponse c r (s .name) ∷ []) (cond (eqb r 100) (withLink c Initialised s) s))
   pub alive : isSplice l ≡ false → D (says (aliveResponse c s ∷ []) s)
   pub unknown : (x : ℕ) → isSplice l ≡ false → x ≡ sessionID (dataIn l) → D (says (AbortResponse c 121 x ∷ []) s)
   pub aborting : (x : ℕ) → isSplice l ≡ false → x ≡ sessionID (dataIn l) → holds c x (s .queue) ≡ true
       → D (turns (andThen (writes (AbortResponse c 100 x ∷ []) (s .queue)) (aborted c x)) s)
-  pub declining : (r : Request) (v : ℕ) → isSplice l ≡ true → readSplice (dataIn l) ≡ Splice r → v < 65536 → eqb v 100 ≡ false
+  pub declining : (r : Request) (v : ℕ) → isSplice l ≡ true → readSplice (dataIn l) ≡ Splice r → Given v → eqb v 100 ≡ false
       → D (says (SpliceResponse c v (r .id) ∷ []) s)
   pub accepting : (r : Request) → isSplice l ≡ true → readSplice (dataIn l) ≡ Splice r → Passed (s .clock) c r (s .queue)
       → D (splices (grants (requested c r (s .queue)) (s .queue)) s)
@@ -58,19 +60,31 @@ pub record Cases (s : Splicer) (P : Call → Called → Type 0) : Type 0 where
   pub answering : (c : ℕ) (l : List ℕ) (loans : Loans) → c ≤ 3 → isOpen (linkOf c s) ≡ true → Answering c l s (Handles P c l loans)
   pub bringing : (k : Call) (until : ℕ) → Brings k until → s .clock ≤ until → P k (ticked until s)
 
-first-below : (a b c d e : Bool) → firstOf a b c d e < 65536
-first-below true b c d e = omega arith
-first-below false true c d e = omega arith
-first-below false false true d e = omega arith
-first-below false false false true e = omega arith
-first-below false false false false true = omega arith
-first-below false false false false false = omega arith
+-- ## Result codes
 
-init-below : (revision : ℕ) (asked name : List ℕ) → initResult revision asked name < 65536
+-- each has two bytes
+pub given-below : (n : ℕ) → Given n → n < 65536
+given-below n g = go codes (omega arith, (omega arith, (omega arith, (omega arith, (omega arith, (omega arith, (omega arith, (omega arith, (omega arith, (omega arith, (omega arith, (omega arith, tt)))))))))))) g
+  where
+    go : (l : List ℕ) → All (λ k. k < 65536) l → some (eqb n) l ≡ true → n < 65536
+    go [] a e = absurd (clash false e refl)
+    go (k ∷ l) a e = on (eqb n k) refl (go l (a .1)) e
+      where
+        on : (b : Bool) → eqb n k ≡ b → (some (eqb n) l ≡ true → n < 65536) → (b || some (eqb n) l) ≡ true → n < 65536
+        on true f i h = omega (arith, eqb-true n k f, a .0)
+        on false f i h = i h
+
+first-given : (b c d e : Bool) → Given (firstOf b c d e)
+first-given true c d e = refl
+first-given false true d e = refl
+first-given false false true e = refl
+first-given false false false true = refl
+first-given false false false false = refl
+
+init-given : (revision : ℕ) (asked name : List ℕ) → Given (initResult revision asked name)
 unfolding initResult
-init-below revision asked name =
-    by (λ n. n < 65536) (not (eqb revision 2)) _ _ (λ e. omega arith)
-    (λ e. by (λ n. n < 65536) (not (sameName asked name)) 104 100 (λ f. omega arith) (λ f. omega arith))
+init-given revision asked name =
+    by Given (not (eqb revision 2)) _ _ (λ e. refl) (λ e. by Given (not (sameName asked name)) 104 100 (λ f. refl) (λ f. refl))
 
 -- ## Messages
 
@@ -88,7 +102,7 @@ module _ (c : ℕ) (l : List ℕ) (s : Splicer) (D : Answered → Type 0) (k : A
   splice-case r e f =
       let q = s .queue in
       let v = spliceResult (s .clock) c r (requested c r q) q in
-      let low : v < 65536 = first-below (separate r) (wrongNumber c r q) (tooLate (s .clock) (r .start)) (collides (requested c r q) (q .waiting)) (full c (q .waiting)) in
+      let low : Given v = first-given (wrongNumber c r q) (tooLate (s .clock) (r .start)) (collides (requested c r q) (q .waiting)) (full c (q .waiting)) in
       by (λ (a : Spliced). D (splices a s)) (eqb v 100) _ _
       (λ i. k .accepting r e f (passed-all (s .clock) c r q (eqb-true v 100 i))) (λ i. k .declining r v e f low i)
 
@@ -97,15 +111,14 @@ module _ (c : ℕ) (l : List ℕ) (s : Splicer) (D : Answered → Type 0) (k : A
   read-case =
       let d = dataIn l in
       let M : Message → Type 0 = λ m. D (answerRead c m d s) in
-      let bad = k .general 123 (omega arith) in
+      let bad = k .general 123 refl in
       by M (eqb (messageID l) initRequest) _ _
-      (λ e. by M (badInit d) _ _ (λ f. bad) (λ f. k .naming _ (init-below (field 0 2 d) (channelName d) (s .name)) (other initRequest e refl)))
+      (λ e. by M (badInit d) _ _ (λ f. bad) (λ f. k .naming _ (init-given (field 0 2 d) (channelName d) (s .name)) (other initRequest e refl)))
       (λ e. by M (eqb (messageID l) aliveRequest) _ _
       (λ f. by M (eqb (length d) 8) _ _ (λ g. k .alive (other aliveRequest f refl)) (λ g. bad))
       (λ f. by M (eqb (messageID l) spliceRequest) _ _
       (λ g. by M (ltb (length d) 18) _ _ (λ h. bad)
-      (λ h. by M (eqb (serviceID d) separateService) _ _ (λ i. splice-case (separatePids d) g (rw (h, i)))
-      (λ i. by M (badSplice d (tailOf d)) _ _ (λ j. bad) (λ j. splice-case (wholeRequest d (tailOf d)) g (rw (h, i, j))))))
+      (λ h. by M (badSplice d (tailOf d)) _ _ (λ i. bad) (λ i. splice-case (wholeRequest d (tailOf d)) g (rw (h, i)))))
       (λ g. by M (eqb (messageID l) abortRequest) _ _
       (λ h. by M (eqb (length d) 4) _ _ (λ i. abort-case (sessionID d) g refl) (λ i. bad)) (λ h. bad))))
 
@@ -113,9 +126,9 @@ module _ (c : ℕ) (l : List ℕ) (s : Splicer) (D : Answered → Type 0) (k : A
   unfolding answer
   answer-case =
       by D (eqb (messageID l) 0x0000) _ _ (λ e. k .silent (other 0x0000 e refl))
-      (λ e. by D (not (isInitialised (linkOf c s)) && not (eqb (messageID l) initRequest)) _ _ (λ i. k .general 103 (omega arith))
+      (λ e. by D (not (isInitialised (linkOf c s)) && not (eqb (messageID l) initRequest)) _ _ (λ i. k .general 103 refl)
       (λ i. by D (eqb (messageID l) 0x000D) _ _ (λ j. k .silent (other 0x000D j refl))
-      (λ j. by D (not (isRead (messageID l))) _ _ (λ m. k .general 120 (omega arith)) (λ m. read-case))))
+      (λ j. by D (not (isRead (messageID l))) _ _ (λ m. k .general 120 refl) (λ m. read-case))))
 
 -- ## Calls
 

@@ -1,4 +1,4 @@
--- What a request that is accepted has passed: reading, and checks a to e. Assumes nothing.
+-- What a request that is accepted has passed: reading, and checks b to e. Assumes nothing.
 use mathlib.Core.Path.{_≡_, refl, ap}
 use mathlib.Core.Bool.{Bool, true, false, cond, not, _&&_, _||_}
 use mathlib.Core.List.{List}
@@ -13,25 +13,24 @@ use Rattle.rules.specs.declared.Request.{Request}
 use Rattle.rules.specs.declared.Message.the-variants.{Init, Alive, Splice, Abort, Unreadable}
 use Rattle.rules.specs.Units.{timeOf}
 use Rattle.rules.specs.Bytes.{field}
-use Rattle.rules.specs.Reading.{nobody, sessionID, badInit, readInit, readAlive, readAbort, descriptorsFill, descriptorsOf, priorSession, seconds, microSeconds, serviceID, duration, accessType, overridePlaying, returnToPriorChannel, readStart, tailOf, badTail, badSplice, separatePids, wholeRequest, readWhole, readSplice, read}
+use Rattle.rules.specs.Reading.{nobody, sessionID, badInit, readInit, readAlive, readAbort, descriptorsFill, descriptorsOf, priorSession, seconds, microSeconds, duration, accessType, overridePlaying, returnToPriorChannel, readStart, tailOf, badTail, badSplice, wholeRequest, readWhole, readSplice, read}
 use Rattle.rules.specs.State.{Queue, holds}
-use Rattle.rules.specs.Answers.{requested, separate, unknownPrior, wrongNumber, tooLate, collides, full, firstOf, spliceResult}
-use Rattle.rules.proofs.Tests.{tests, clash, or-none}
-use Rattle.rules.proofs.All.{All, all-drop}
+use Rattle.rules.specs.Answers.{requested, unknownPrior, wrongNumber, tooLate, collides, full, firstOf, spliceResult}
+use Rattle.rules.proofs.Tests.{tests, or-none}
+use Rattle.rules.proofs.All.{All}
 use Rattle.rules.proofs.Bytes.{Byte, field-below}
+use Rattle.rules.proofs.Streams.{tail-byte}
 
--- ## Checks a to e
+-- ## Checks b to e
 
-first-100 : (a b c d e : Bool) → firstOf a b c d e ≡ 100 → (a ≡ false) × (b ≡ false) × (c ≡ false) × (d ≡ false) × (e ≡ false)
-first-100 true b c d e h = absurd (omega arith)
-first-100 false true c d e h = absurd (omega arith)
-first-100 false false true d e h = absurd (omega arith)
-first-100 false false false true e h = absurd (omega arith)
-first-100 false false false false true h = absurd (omega arith)
-first-100 false false false false false h = (refl, refl, refl, refl, refl)
+first-100 : (b c d e : Bool) → firstOf b c d e ≡ 100 → (b ≡ false) × (c ≡ false) × (d ≡ false) × (e ≡ false)
+first-100 true c d e h = absurd (omega arith)
+first-100 false true d e h = absurd (omega arith)
+first-100 false false true e h = absurd (omega arith)
+first-100 false false false true h = absurd (omega arith)
+first-100 false false false false h = (refl, refl, refl, refl)
 
 pub record Passed (now c : ℕ) (r : Request) (q : Queue) : Type 0 where
-  pub whole : separate r ≡ false
   pub somebody : eqb (r .id) nobody ≡ false
   pub number : holds c (r .id) q ≡ false
   pub prior : unknownPrior c (r .start) q ≡ false
@@ -42,10 +41,10 @@ pub record Passed (now c : ℕ) (r : Request) (q : Queue) : Type 0 where
 pub passed-all : (now c : ℕ) (r : Request) (q : Queue) → spliceResult now c r (requested c r q) q ≡ 100 → Passed now c r q
 unfolding spliceResult
 passed-all now c r q e =
-    let k = first-100 (separate r) (wrongNumber c r q) (tooLate now (r .start)) (collides (requested c r q) (q .waiting)) (full c (q .waiting)) e in
-    let i = or-none (eqb (r .id) nobody) (holds c (r .id) q || unknownPrior c (r .start) q) (k .1) in
+    let k = first-100 (wrongNumber c r q) (tooLate now (r .start)) (collides (requested c r q) (q .waiting)) (full c (q .waiting)) e in
+    let i = or-none (eqb (r .id) nobody) (holds c (r .id) q || unknownPrior c (r .start) q) (k .0) in
     let j = or-none (holds c (r .id) q) (unknownPrior c (r .start) q) (i .1) in
-    record { whole = k .0; somebody = i .0; number = j .0; prior = j .1; soon = k .2; free = k .3; room = k .4 }
+    record { somebody = i .0; number = j .0; prior = j .1; soon = k .1; free = k .2; room = k .3 }
 
 -- ## Reading
 
@@ -97,39 +96,24 @@ whole-read d t r h = go (badSplice d t) refl h
     go true f e = let z : _≡_ {A = ℕ} 0 1 = cc in absurd (omega arith)
     go false f e = (taken (wholeRequest d t) r e, f)
 
--- one that does not ask for separate PIDs was read whole
-pub read-whole : (d : List ℕ) (r : Request) → readSplice d ≡ Splice r → separate r ≡ false → (r ≡ wholeRequest d (tailOf d)) × (badSplice d (tailOf d) ≡ false)
+pub read-whole : (d : List ℕ) (r : Request) → readSplice d ≡ Splice r → (r ≡ wholeRequest d (tailOf d)) × (badSplice d (tailOf d) ≡ false)
 unfolding readSplice
-read-whole d r h k = go (ltb (length d) 18) (eqb (serviceID d) 0xFFFF) h
+read-whole d r h = go (ltb (length d) 18) h
   where
-    taken : (a b : Request) → Splice a ≡ Splice b → b ≡ a
-    taken a b e = cc
-
-    go : (a b : Bool) → cond a Unreadable (cond b (Splice (separatePids d)) (readWhole d (tailOf d))) ≡ Splice r
-        → (r ≡ wholeRequest d (tailOf d)) × (badSplice d (tailOf d) ≡ false)
-    go true b e = let z : _≡_ {A = ℕ} 0 1 = cc in absurd (omega arith)
-    go false true e = absurd (clash (separate r) (rw (taken (separatePids d) r e)) k)
-    go false false e = whole-read d (tailOf d) r e
+    go : (a : Bool) → cond a Unreadable (readWhole d (tailOf d)) ≡ Splice r → (r ≡ wholeRequest d (tailOf d)) × (badSplice d (tailOf d) ≡ false)
+    go true e = let z : _≡_ {A = ℕ} 0 1 = cc in absurd (omega arith)
+    go false e = whole-read d (tailOf d) r e
 
 -- whatever was read, its number is the SessionID
 pub read-id : (d : List ℕ) (r : Request) → readSplice d ≡ Splice r → r .id ≡ sessionID d
-unfolding readSplice
-read-id d r h = go (ltb (length d) 18) (eqb (serviceID d) 0xFFFF) h
-  where
-    number : (a : Request) → Splice a ≡ Splice r → r .id ≡ a .id
-    number a e = let i : r ≡ a = cc in ap (λ x. x .id) i
-
-    go : (a b : Bool) → cond a Unreadable (cond b (Splice (separatePids d)) (readWhole d (tailOf d))) ≡ Splice r → r .id ≡ sessionID d
-    go true b e = let z : _≡_ {A = ℕ} 0 1 = cc in absurd (omega arith)
-    go false true e = number (separatePids d) e
-    go false false e = ap (λ x. x .id) (whole-read d (tailOf d) r e .0)
+read-id d r h = ap (λ x. x .id) (read-whole d r h .0)
 
 -- a linked start names a number
 abbrev pub Named : Start → Type 0
 Named (Timed t) = Unit {0}
 Named (Linked p) = eqb p nobody ≡ false
 
--- what reading grants of a request that checks a to e let pass
+-- what reading grants of a request
 pub record Granted (r : Request) : Type 0 where
   pub lasts : 0 < r .duration .0
   pub ranked : r .access ≤ 9
@@ -162,9 +146,9 @@ good-tail t e =
     let z = eqb-false (duration t) 0 (c .0) in
     record { lasts = omega arith; ranked = ltb-false 9 (accessType t) (f .0); overrides = ltb-false 1 (overridePlaying t) (g .0) }
 
-module _ (d : List ℕ) (r : Request) (h : readSplice d ≡ Splice r) (k : separate r ≡ false) where
+module _ (d : List ℕ) (r : Request) (h : readSplice d ≡ Splice r) where
   w : (r ≡ wholeRequest d (tailOf d)) × (badSplice d (tailOf d) ≡ false)
-  w = read-whole d r h k
+  w = read-whole d r h
 
   -- the tail is good, and the time of a timed one
   parts : (badTail (tailOf d) ≡ false) × ((eqb (priorSession d) nobody && ltb 999999 (microSeconds d)) ≡ false)
@@ -184,14 +168,14 @@ module _ (d : List ℕ) (r : Request) (h : readSplice d ≡ Splice r) (k : separ
   pub fitting : All Byte d → Fitting r
   unfolding readStart
   fitting a =
-      rw (w .0) (record { id = field-below 0 4 d a; duration = field-below 0 4 (tailOf d) (all-drop Byte 18 d a); start = fits (eqb (priorSession d) nobody) refl (parts .1) })
+      rw (w .0) (record { id = field-below 0 4 d a; duration = field-below 0 4 (tailOf d) (tail-byte d a); start = fits (eqb (priorSession d) nobody) refl (parts .1) })
     where
       fits : (b : Bool) → eqb (priorSession d) nobody ≡ b → (b && ltb 999999 (microSeconds d)) ≡ false
           → StartFits (cond b (Timed (timeOf (seconds d) (microSeconds d))) (Linked (priorSession d)))
       fits true e f = omega (arith, tests, field-below 8 4 d a)
       fits false e f = let z = eqb-false (priorSession d) nobody e in omega (arith, field-below 4 4 d a)
 
--- a start as it is read, also with ServiceID 0xFFFF, of which the MicroSeconds are not checked
+-- a start as wide as its fields
 abbrev pub StartBelow : Start → Type 0
 StartBelow (Timed t) = t .0 < 4294967296 * 1000001
 StartBelow (Linked p) = p < 4294967296

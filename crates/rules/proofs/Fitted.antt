@@ -27,7 +27,7 @@ use Rattle.rules.proofs.All.{All, all-append, all-into}
 use Rattle.rules.proofs.Bytes.{Byte, part-byte, field-below}
 use Rattle.rules.proofs.Records.{Fits, read-back}
 use Rattle.rules.proofs.Readings.{splice-grants}
-use Rattle.rules.proofs.Cases.{Answering, cases}
+use Rattle.rules.proofs.Cases.{given-below, Answering, cases}
 use Rattle.rules.specs.Asked.{Asked}
 use Rattle.rules.proofs.Every.{all-keep, all-both, all-getD, fewer-all, fewer-removeAt, Each, FewerHeld, fewer-each}
 use Rattle.rules.proofs.Walk.{followers-gone}
@@ -273,12 +273,12 @@ unfolding andThen requested sessionAt
 message-fits s h c l low =
     record {
       silent = λ e a. tt;
-      general = λ r b a. ((omega arith, b), tt);
-      naming = λ r b e a. (((omega arith, b), omega (arith, h .linking .short), h .linking .zeros, h .linking .bytes), tt);
+      general = λ r b a. ((omega arith, given-below r b), tt);
+      naming = λ r b e a. (((omega arith, given-below r b), omega (arith, h .linking .short), h .linking .zeros, h .linking .bytes), tt);
       alive = λ e a. (alive-fits c low s h, tt);
       unknown = λ x e i a. (((omega arith, omega arith), number x i a), tt);
       aborting = λ x e i held a. (((omega arith, omega arith), number x i a), aborted-fits c x (s .queue) (tell-now (s .clock) (s .queue) (telling-of s h)));
-      declining = λ r v e i b n a. (((omega arith, b), asked r i a .id), tt);
+      declining = λ r v e i b n a. (((omega arith, given-below v b), asked r i a .id), tt);
       accepting = λ r e i p a. accepted-fits (requested c r (s .queue)) (s .queue) ((omega arith, omega arith), asked r i a .id) (telling-of s h .numbered);
     }
   where

@@ -7,6 +7,7 @@ pub mod Count
 pub mod Equal
 pub mod Every
 pub mod Walk
+pub mod Streams
 pub mod Checks
 pub mod Cases
 pub mod Always
@@ -24,6 +25,7 @@ pub mod Aired
 pub mod Priors
 pub mod Chained
 pub mod Fitted
+pub mod Codes
 pub mod Size
 pub mod Bounds
 pub mod Values

@@ -10,11 +10,12 @@ use lib.Seq.{drop-drop}
 use borrow.Author.Tests.{eqb-false, ltb-false, eq-eqb, ne-eqb}
 use Rattle.rules.specs.declared.Request.{Request}
 use Rattle.rules.specs.declared.Message.the-variants.{Splice}
-use Rattle.rules.specs.Reading.{nobody, separateService, initRequest, aliveRequest, spliceRequest, abortRequest, badInit, badTail, badSplice, readInit, readAlive, readAbort, readStart, readWhole, readSplice, read, priorSession, serviceID, tailOf, separatePids, wholeRequest, descriptorsFill, descriptorLength, descriptorFits, wellFormed}
+use Rattle.rules.specs.Reading.{nobody, initRequest, aliveRequest, spliceRequest, abortRequest, badInit, badTail, badSplice, readInit, readAlive, readAbort, readStart, readWhole, readSplice, read, priorSession, tailOf, wholeRequest, descriptorsFill, descriptorLength, descriptorFits, wellFormed}
 use Rattle.rules.specs.Asked.{Within, Asked, Reads}
 use Rattle.rules.proofs.Tests.{by, or-none}
-use Rattle.rules.proofs.All.{All, all-drop}
+use Rattle.rules.proofs.All.{All}
 use Rattle.rules.proofs.Bytes.{Byte, field-below}
+use Rattle.rules.proofs.Streams.{tail-byte}
 use Rattle.rules.proofs.Checks.{good-tail}
 
 -- ## Messages
@@ -33,15 +34,10 @@ module _ (d : List ℕ) (a : All Byte d) where
       record {
         id = field-below 0 4 d a;
         start = start-within;
-        service = field-below 16 2 d a;
         duration = field-below 0 4 t b;
         access = g .ranked;
         overrides = g .overrides;
       }
-
-  asked-separate : Asked (separatePids d)
-  asked-separate =
-      record { id = field-below 0 4 d a; start = start-within; service = omega arith; duration = omega arith; access = omega arith; overrides = omega arith }
 
   -- whatever the message
   pub read-grants : (id : ℕ) → Reads (read id d)
@@ -51,8 +47,7 @@ module _ (d : List ℕ) (a : All Byte d) where
       (λ e. by Reads (eqb id aliveRequest) _ _ (λ f. by Reads (eqb (length d) 8) _ _ (λ g. tt) (λ g. tt))
       (λ f. by Reads (eqb id spliceRequest) _ _
       (λ g. by Reads (ltb (length d) 18) _ _ (λ h. tt)
-      (λ h. by Reads (eqb (serviceID d) separateService) _ _ (λ i. asked-separate)
-      (λ i. by Reads (badSplice d (tailOf d)) _ _ (λ j. tt) (asked-whole (tailOf d) (all-drop Byte 18 d a)))))
+      (λ h. by Reads (badSplice d (tailOf d)) _ _ (λ i. tt) (asked-whole (tailOf d) (tail-byte d a))))
       (λ g. by Reads (eqb id abortRequest) _ _ (λ h. by Reads (eqb (length d) 4) _ _ (λ i. field-below 0 4 d a) (λ i. tt)) (λ h. tt))))
 
   pub splice-grants : (id : ℕ) (r : Request) → read id d ≡ Splice r → Asked r

@@ -14,7 +14,7 @@ use Rattle.rules.specs.declared.Session.{Session}
 use Rattle.rules.specs.Units.{timeOf, fromMicros, fromTicks, toMicros}
 use Rattle.rules.specs.Lists.{some, count, place, insertAt}
 use Rattle.rules.specs.Bytes.{sameName}
-use Rattle.rules.specs.Reading.{nobody, separateService, initRequest, channelName, isRead, read}
+use Rattle.rules.specs.Reading.{nobody, initRequest, channelName, isRead, read}
 use Rattle.rules.specs.State.{Queue, Splicer, empty, of, is, startsAt, startsAfter, held, holds, linkOf, isInitialised, withQueue, withLink, withWaiting}
 use Rattle.rules.specs.Records.{Record, General, InitResponse, AliveResponse, SpliceResponse, AbortResponse}
 use Rattle.rules.specs.Ends.{Turn, andThen, writes, evicted, aborted}
@@ -104,10 +104,6 @@ sessionAt t c r =
 unfoldable pub requested : ℕ → Request → Queue → Session
 requested c r q = sessionAt (startOf c (r .start) q) c r
 
--- a. "110: ServiceID 0xFFFF."
-abbrev pub separate : Request → Bool
-separate r = eqb (r .service) separateService
-
 -- b. "121: SessionID 0xFFFFFFFF or already held by this connection; or PriorSession neither 0xFFFFFFFF nor held by it."
 unfoldable pub unknownPrior : ℕ → Start → Queue → Bool
 unknownPrior c (Timed t) q = false
@@ -146,14 +142,14 @@ fullBy n c = eqb (n c) 20 || (leb 10 (n c) && eqb (sumOf n) 64)
 unfoldable pub full : ℕ → List Session → Bool
 full c w = fullBy (λ d. waits d w) c
 
--- "with the first that applies"
-abbrev pub firstOf : (a b c d e : Bool) → ℕ
-firstOf a b c d e = cond a 110 (cond b 121 (cond c 112 (cond d 109 (cond e 114 100))))
+-- "with the first that applies"; 02, CR 1: "checks b to f"
+abbrev pub firstOf : (b c d e : Bool) → ℕ
+firstOf b c d e = cond b 121 (cond c 112 (cond d 109 (cond e 114 100)))
 
 -- new: the session that r asks for. "Counted before f."
 unfoldable pub spliceResult : ℕ → ℕ → Request → Session → Queue → ℕ
 spliceResult clock c r new q =
-    firstOf (separate r) (wrongNumber c r q) (tooLate clock (r .start)) (collides new (q .waiting)) (full c (q .waiting))
+    firstOf (wrongNumber c r q) (tooLate clock (r .start)) (collides new (q .waiting)) (full c (q .waiting))
 
 -- before the first that starts later
 unfoldable pub inserted : Session → List Session → List Session

@@ -7,16 +7,15 @@ use Rattle.rules.specs.declared.Message.{Message}
 use Rattle.rules.specs.declared.Message.the-variants.{Init, Alive, Splice, Abort, Unreadable}
 use Rattle.rules.specs.Reading.{nobody}
 
--- also where the MicroSeconds are not checked: a time stays below 2^52
+-- a time stays below 2^52
 abbrev pub Within : Start → Type 0
 Within (Timed t) = t .0 < 4503599627370496
 Within (Linked p) = p < nobody
 
--- of every request, with ServiceID 0xFFFF too
+-- of every request
 pub record Asked (r : Request) : Type 0 where
   pub id : r .id < 4294967296
   pub start : Within (r .start)
-  pub service : r .service < 65536
   pub duration : r .duration .0 < 4294967296
   pub access : r .access ≤ 9
   pub overrides : r .overrides ≤ 1

@@ -1,7 +1,7 @@
 -- 01, Bytes and "Not readable": what is read of a message's data, and what makes it unreadable. Offsets are those of J.280's tables.
 use mathlib.Core.Bool.{Bool, cond, not, _&&_, _||_}
-use mathlib.Core.List.{List}
-use Prim.Native.Nat.{ℕ, zero, suc, _+_}
+use mathlib.Core.List.{List, [], _∷_, _++_}
+use Prim.Native.Nat.{ℕ, zero, suc, _+_, _-_, _≤_, _<_}
 use lib.Dec.{eqb, leb, ltb}
 use lib.ListN.{length, getD, drop}
 use Rattle.rules.specs.declared.Start.{Start}
@@ -10,13 +10,13 @@ use Rattle.rules.specs.declared.Request.{Request}
 use Rattle.rules.specs.declared.Message.{Message}
 use Rattle.rules.specs.declared.Message.the-variants.{Init, Alive, Splice, Abort, Unreadable}
 use Rattle.rules.specs.Units.{timeOf, badMicros}
-use Rattle.rules.specs.Bytes.{messageID, messageSize, dataOf, part, field, hasZero}
+use Rattle.rules.specs.Bytes.{messageID, messageSize, dataOf, bytes, part, field, hasZero}
 
 -- 0xFFFFFFFF: no number of a session; as a PriorSession it says that the request is timed
 abbrev pub nobody : ℕ
 nobody = 0xFFFFFFFF
 
--- "ServiceID 0xFFFF (separate PIDs)"
+-- "ServiceID 0xFFFF (separate PIDs)"; 02, CR 1: the request names the PIDs itself
 abbrev pub separateService : ℕ
 separateService = 0xFFFF
 
@@ -86,12 +86,126 @@ microSeconds d = field 12 4 d
 abbrev pub serviceID : List ℕ → ℕ
 serviceID d = field 16 2 d
 
-abbrev pub tailOf : List ℕ → List ℕ
-tailOf d = drop 18 d
-
 -- "a Splice_Request's start is in turn either timed or linked"
 unfoldable pub readStart : List ℕ → Start
 readStart d = cond (eqb (priorSession d) nobody) (Timed (timeOf (seconds d) (microSeconds d))) (Linked (priorSession d))
+
+-- ## 02, CR 1: "PcrPID, PIDCount and that many splice_elementary_stream structures"
+
+-- Length 1, PID 2, StreamType 2, AvgBitrate 4, MaxBitrate 4, MinBitrate 4, HResolution 2, VResolution 2;
+-- "Bytes behind its first 21 are kept unread."
+pub record Stream : Type 0 where
+  pub pid : ℕ
+  pub streamType : ℕ
+  pub avgBitrate : ℕ
+  pub maxBitrate : ℕ
+  pub minBitrate : ℕ
+  pub hResolution : ℕ
+  pub vResolution : ℕ
+  pub kept : List ℕ
+
+-- l begins with the structure. "Length counts the whole structure"
+abbrev pub streamLength : List ℕ → ℕ
+streamLength l = getD l 0 0
+
+abbrev pub streamAt : List ℕ → Stream
+streamAt l =
+    record {
+      pid = field 1 2 l;
+      streamType = field 3 2 l;
+      avgBitrate = field 5 4 l;
+      maxBitrate = field 9 4 l;
+      minBitrate = field 13 4 l;
+      hResolution = field 17 2 l;
+      vResolution = field 19 2 l;
+      kept = part 21 (streamLength l - 21) l;
+    }
+
+-- "PIDs are at most 0x1FFF"
+abbrev pub highestPid : ℕ
+highestPid = 0x1FFF
+
+-- "0xFFFFFFFF and 0xFFFF mark an unknown rate or picture size and are legal nowhere else in a structure": of a PID and a StreamType
+abbrev pub unknownSize : ℕ
+unknownSize = 0xFFFF
+
+-- "is at least 21"; it ends within the message
+abbrev pub badStream : List ℕ → Bool
+badStream l =
+    ltb (streamLength l) 21
+    || (ltb (length l) (streamLength l)
+    || (ltb highestPid (field 1 2 l) || eqb (field 3 2 l) unknownSize))
+
+-- the structures, and what stands behind them; or structures that are bad
+pub data Listed : Type 0 where
+  listed : List Stream → List ℕ → Listed
+  unlisted : Listed
+
+unfoldable pub behind : Stream → Listed → Listed
+behind s (listed l rest) = listed (s ∷ l) rest
+behind s unlisted = unlisted
+
+-- n structures, one directly behind the other
+unfoldable pub streamsIn : ℕ → List ℕ → Listed
+streamsIn zero l = listed [] l
+streamsIn (suc n) l = cond (badStream l) unlisted (behind (streamAt l) (streamsIn n (drop (streamLength l) l)))
+
+-- PcrPID 2, PIDCount 4, structures. "At most 16 streams."
+abbrev pub pcrPid : List ℕ → ℕ
+pcrPid p = field 0 2 p
+
+abbrev pub pidCount : List ℕ → ℕ
+pidCount p = field 2 4 p
+
+abbrev pub mostStreams : ℕ
+mostStreams = 16
+
+abbrev pub badCount : List ℕ → Bool
+badCount p = ltb (length p) 6 || (ltb highestPid (pcrPid p) || ltb mostStreams (pidCount p))
+
+unfoldable pub separateIn : List ℕ → Listed
+separateIn p = cond (badCount p) unlisted (streamsIn (pidCount p) (drop 6 p))
+
+-- structures that are bad leave nothing
+unfoldable pub restOf : Listed → List ℕ
+restOf (listed l rest) = rest
+restOf unlisted = []
+
+-- "What is written and read back gives the same list": one that is
+pub record Writable (s : Stream) : Type 0 where
+  pub pid : s .pid ≤ highestPid
+  pub streamType : s .streamType < unknownSize
+  pub avgBitrate : s .avgBitrate < 4294967296
+  pub maxBitrate : s .maxBitrate < 4294967296
+  pub minBitrate : s .minBitrate < 4294967296
+  pub hResolution : s .hResolution < 65536
+  pub vResolution : s .vResolution < 65536
+  pub kept : length (s .kept) ≤ 234
+
+unfoldable pub streamBytes : Stream → List ℕ
+streamBytes s =
+    bytes 1 (21 + length (s .kept))
+    ++ bytes 2 (s .pid)
+    ++ bytes 2 (s .streamType)
+    ++ bytes 4 (s .avgBitrate)
+    ++ bytes 4 (s .maxBitrate)
+    ++ bytes 4 (s .minBitrate)
+    ++ bytes 2 (s .hResolution)
+    ++ bytes 2 (s .vResolution)
+    ++ s .kept
+
+unfoldable pub streamsBytes : List Stream → List ℕ
+streamsBytes [] = []
+streamsBytes (s ∷ l) = streamBytes s ++ streamsBytes l
+
+unfoldable pub separateBytes : ℕ → List Stream → List ℕ
+separateBytes pcr l = bytes 2 pcr ++ bytes 4 (length l) ++ streamsBytes l
+
+-- ## The tail of a Splice_Request
+
+-- behind the ServiceID, or behind the structures
+unfoldable pub tailOf : List ℕ → List ℕ
+tailOf d = cond (eqb (serviceID d) separateService) (restOf (separateIn (drop 18 d))) (drop 18 d)
 
 -- The tail: Duration 4, SpliceEventID 4, PostBlack 4, AccessType 1, OverridePlaying 1, ReturnToPriorChannel 1, then descriptors
 abbrev pub duration : List ℕ → ℕ
@@ -121,17 +235,11 @@ badTail t =
 abbrev pub badSplice : List ℕ → List ℕ → Bool
 badSplice d t = badTail t || (eqb (priorSession d) nobody && badMicros (microSeconds d))
 
--- "With ServiceID 0xFFFF only the first 18 bytes are read."
-abbrev pub separatePids : List ℕ → Request
-separatePids d =
-    record { id = sessionID d; start = readStart d; service = separateService; duration = record { 0 = 0 }; access = 0; overrides = 0 }
-
 abbrev pub wholeRequest : List ℕ → List ℕ → Request
 wholeRequest d t =
     record {
       id = sessionID d;
       start = readStart d;
-      service = serviceID d;
       duration = record { 0 = duration t };
       access = accessType t;
       overrides = overridePlaying t;
@@ -141,9 +249,7 @@ unfoldable pub readWhole : List ℕ → List ℕ → Message
 readWhole d t = cond (badSplice d t) Unreadable (Splice (wholeRequest d t))
 
 unfoldable pub readSplice : List ℕ → Message
-readSplice d =
-    cond (ltb (length d) 18) Unreadable
-    (cond (eqb (serviceID d) separateService) (Splice (separatePids d)) (readWhole d (tailOf d)))
+readSplice d = cond (ltb (length d) 18) Unreadable (readWhole d (tailOf d))
 
 -- the list of four
 abbrev pub isRead : ℕ → Bool

@@ -16,6 +16,14 @@ pub data Record : Type 0 where
   SpliceComplete : (conn result id flag played : ℕ) → Record
   AbortResponse : (conn result id : ℕ) → Record
 
+abbrev pub resultOf : Record → ℕ
+resultOf (General c r) = r
+resultOf (InitResponse c r name) = r
+resultOf (AliveResponse c r state x t) = r
+resultOf (SpliceResponse c r x) = r
+resultOf (SpliceComplete c r x flag played) = r
+resultOf (AbortResponse c r x) = r
+
 -- "after a two-byte mark: 0x52, and the connection it is for"; "in answers Result_Extension is 0xFFFF"
 unfoldable pub framed : (conn id result : ℕ) (body : List ℕ) → List ℕ
 framed c id r d = 0x52 ∷ (bytes 1 c ++ (bytes 2 id ++ (bytes 2 (length d) ++ (bytes 2 r ++ (bytes 2 0xFFFF ++ d)))))

@@ -1,15 +1,16 @@
 -- What holds of every splicer that fresh and the calls since have given. proofs/Sound shows it for all sequences of calls.
 use mathlib.Core.Path.{_≡_}
-use mathlib.Core.Bool.{Bool, false, _&&_}
+use mathlib.Core.Bool.{Bool, true, false, _&&_}
 use mathlib.Core.List.{List, [], _∷_}
 use Prim.Native.Nat.{ℕ, _+_, _*_, _≤_, _<_}
 use lib.Dec.{eqb}
 use lib.ListN.{length}
 use Rattle.rules.specs.declared.Session.{Session}
-use Rattle.rules.specs.Lists.{All, count}
+use Rattle.rules.specs.Lists.{All, some, count}
 use Rattle.rules.specs.Bytes.{Byte, NoZero}
 use Rattle.rules.specs.Reading.{nobody}
 use Rattle.rules.specs.State.{Queue, Splicer, of, is, Sorted, linkOf, isOpen}
+use Rattle.rules.specs.Records.{Record, resultOf}
 use Rattle.rules.specs.Answers.{waits, raisedSum}
 use Rattle.rules.specs.Calls.{fresh, Call, opens, closes, messages, ticks, moves, after}
 
@@ -125,3 +126,15 @@ pub record Reached (s : Splicer) : Type 0 where
   pub calls : List Call
   pub wired : All Wired calls
   pub same : s ≡ after calls (fresh name .splicer)
+
+-- ## 02, CR 1: "From here result 110 is no longer met"
+
+-- the result codes that are given
+abbrev pub codes : List ℕ
+codes = 100 ∷ 102 ∷ 103 ∷ 104 ∷ 109 ∷ 112 ∷ 114 ∷ 116 ∷ 120 ∷ 121 ∷ 123 ∷ 125 ∷ []
+
+abbrev pub Given : ℕ → Type 0
+Given n = some (eqb n) codes ≡ true
+
+abbrev pub Coded : Record → Type 0
+Coded r = Given (resultOf r)

@@ -22,11 +22,10 @@ pub enum Start {
     Linked(u32),
 }
 
-// What is read of a Splice_Request. With ServiceID 0xFFFF the last three are not read, and are 0.
+// What is read of a Splice_Request.
 pub struct Request {
     pub id: u32,
     pub start: Start,
-    pub service: u16,
     pub duration: Ticks,
     pub access: u8,
     pub overrides: u8,

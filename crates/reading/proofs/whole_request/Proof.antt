@@ -6,17 +6,14 @@ use Rattle.reading.proofs.whole_request.Tie as tie
 number4-requires : tie.Need-number4-requires
 number4-requires c κs = search needs
 
-number2-requires : tie.Need-number2-requires
-number2-requires c κs = search needs
-
 number4-requires-2 : tie.Need-number4-requires-2
 number4-requires-2 c κs = search needs
 
-shared-slice-read-t9 : tie.Need-shared-slice-read-t9
-shared-slice-read-t9 c = search needs
+shared-slice-read-t8 : tie.Need-shared-slice-read-t8
+shared-slice-read-t8 c = search needs
 
-shared-slice-read-t11 : tie.Need-shared-slice-read-t11
-shared-slice-read-t11 c = search needs
+shared-slice-read-t10 : tie.Need-shared-slice-read-t10
+shared-slice-read-t10 c = search needs
 
 returns : tie.Need-returns
 returns c = cc
@@ -26,8 +23,7 @@ whole-request-spec =
     tie.close
     (tie.spec
     number4-requires
-    number2-requires
     number4-requires-2
-    shared-slice-read-t9
-    shared-slice-read-t11
+    shared-slice-read-t8
+    shared-slice-read-t10
     returns)

@@ -17,9 +17,6 @@ enum-known-when c = search needs
 enum-told : tie.Need-enum-told
 enum-told c = search needs
 
-without-start-requires : tie.Need-without-start-requires
-without-start-requires c κs = search needs
-
 cast-splice-response : tie.Need-cast-splice-response
 cast-splice-response c = search needs
 
@@ -32,13 +29,11 @@ same-length c = search needs
 returns : tie.Need-returns
 returns c =
     let wrote = c .before .before in
-    let told = wrote .before .before .before in
-    let none = told .before in
+    let none = wrote .before .before .before in
     let began = none .before .before in
     let s = began .before .before .before .before in
     let no = sym (began .start-of .ensures) ∙ none .enum-told .given .1 in
-    splice-unknown (s .args .conn) (s .args .r) (s .args .m .now) no (told .without-start .ensures) (s .pre .0)
-    (wrote .splice-response .ensures)
+    splice-unknown (s .args .conn) (s .args .r) (s .args .m .now) no (s .pre .0) (wrote .splice-response .ensures)
 
 session-at-requires : tie.Need-session-at-requires
 session-at-requires c κs =
@@ -140,7 +135,6 @@ answer-splice-spec =
     start-of-requires
     enum-known-when
     enum-told
-    without-start-requires
     cast-splice-response
     splice-response-requires
     same-length
