@@ -90,7 +90,6 @@ enum splicer_result {
     SPLICER_ACCESS_DENIED = 103,    /* the connection is not initialised */
     SPLICER_UNKNOWN_CHANNEL = 104,
     SPLICER_COLLISION = 109,
-    SPLICER_NO_INSERTION = 110,     /* ServiceID 0xFFFF */
     SPLICER_TOO_LATE = 112,
     SPLICER_QUEUE_FULL = 114,
     SPLICER_ABORTED = 116,
@@ -133,6 +132,21 @@ struct splicer_waiting {
     uint64_t count[SPLICER_CONNECTIONS];
 };
 
+/* The streams that a Splice_Request with ServiceID 0xFFFF names itself (02, CR 1). A row: PID, StreamType, AvgBitrate, MaxBitrate,
+ * MinBitrate, HResolution, VResolution, and how many bytes the structure keeps behind its first 21. kept: these bytes, all streams' in a
+ * row. 0xFFFFFFFF is an unknown rate and 0xFFFF an unknown resolution. */
+enum {
+    SPLICER_STREAMS = 16,
+    SPLICER_STREAM_WORDS = 8,
+    SPLICER_KEPT = 3744
+};
+
+struct splicer_streams {
+    uint64_t count, pcr_pid;
+    uint64_t row[SPLICER_STREAMS * SPLICER_STREAM_WORDS];
+    uint8_t kept[SPLICER_KEPT];
+};
+
 /* The archive is made for machines on which these hold. */
 SPLICER_ASSERT(sizeof(size_t) == 8, "a length is 8 bytes");
 SPLICER_ASSERT(sizeof(struct splicer) == 4872, "size of struct splicer");
@@ -146,6 +160,10 @@ SPLICER_ASSERT(SPLICER_OFFSET(struct splicer_reply, moved) == 4, "layout of stru
 SPLICER_ASSERT(SPLICER_OFFSET(struct splicer_reply, consumed) == 8, "layout of struct splicer_reply");
 SPLICER_ASSERT(SPLICER_OFFSET(struct splicer_reply, written) == 16, "layout of struct splicer_reply");
 SPLICER_ASSERT(sizeof(struct splicer_waiting) == 32, "size of struct splicer_waiting");
+SPLICER_ASSERT(sizeof(struct splicer_streams) == 4784, "size of struct splicer_streams");
+SPLICER_ASSERT(SPLICER_OFFSET(struct splicer_streams, pcr_pid) == 8, "layout of struct splicer_streams");
+SPLICER_ASSERT(SPLICER_OFFSET(struct splicer_streams, row) == 16, "layout of struct splicer_streams");
+SPLICER_ASSERT(SPLICER_OFFSET(struct splicer_streams, kept) == 1040, "layout of struct splicer_streams");
 
 /* The archive's functions, over the parts of a struct splicer. Drivers use the splicer_call_ functions below. Pointers and numbers only:
  * nothing is passed or returned by value that two compilers could pass in two ways. reply, SPLICER_REPLY words, gets the house number or
@@ -161,6 +179,8 @@ uint64_t splicer_4_primary(const uint64_t *words, const uint8_t *bytes);
 void splicer_4_rolling_fresh(const uint8_t *name, uint64_t *words, uint8_t *bytes, uint64_t *counter, uint64_t *reply);
 void splicer_4_instant(uint64_t *words, uint8_t *bytes, uint64_t *counter, const uint32_t *given, uint8_t *out, size_t room, uint64_t *reply);
 void splicer_4_reading(uint64_t *words, uint8_t *bytes, uint64_t *counter, uint32_t reading, uint8_t *out, size_t room, uint64_t *reply);
+size_t splicer_4_read_streams(const uint8_t *in, size_t length, uint64_t *list, uint8_t *kept);
+size_t splicer_4_write_streams(const uint64_t *list, const uint8_t *kept, uint8_t *out, size_t room);
 
 /* The words of a reply as a struct. */
 static inline struct splicer_reply splicer_reply_of(const uint64_t *reply) {
@@ -245,6 +265,18 @@ static inline struct splicer_reply splicer_call_reading(struct splicer_rolling *
     uint64_t reply[SPLICER_REPLY];
     splicer_4_reading(r->core.words, r->core.bytes, r->counter, reading, out, room, reply);
     return splicer_reply_of(reply);
+}
+
+/* The list of a Splice_Request that names its PIDs itself. in: from PcrPID on, which is data + 18 of the request. The bytes taken, or 0 for a
+ * bad one: then s stays as it was. Rows behind the last are zeroed; kept bytes behind the last stay. */
+static inline size_t splicer_call_read_streams(const uint8_t *in, size_t length, struct splicer_streams *s) {
+    return splicer_4_read_streams(in, length, (uint64_t *)(void *)s, s->kept);
+}
+
+/* The same written, from PcrPID on, for a bench. The bytes written, or 0 for a list that could not be read back or an output that is too
+ * short: then out stays as it was. Bytes behind those written stay. */
+static inline size_t splicer_call_write_streams(const struct splicer_streams *s, uint8_t *out, size_t room) {
+    return splicer_4_write_streams((const uint64_t *)(const void *)s, s->kept, out, room);
 }
 
 /* A record in an output buffer: whom it is for, what it says, and the message as it is sent. The pointers lead into the buffer. */

@@ -108,4 +108,10 @@ extern "C" {
 
     #[link_name = "splicer_4_primary"]
     pub fn primary(words: *const u64, bytes: *const u8) -> u64;
+
+    #[link_name = "splicer_4_read_streams"]
+    pub fn read_streams(read: *const u8, length: usize, list: *mut u64, kept: *mut u8) -> usize;
+
+    #[link_name = "splicer_4_write_streams"]
+    pub fn write_streams(list: *const u64, kept: *const u8, out: *mut u8, room: usize) -> usize;
 }

@@ -23,6 +23,7 @@ mod records;
 mod rolling;
 mod saved;
 mod says;
+mod streams;
 pub mod texts;
 
 use core::fmt;
@@ -30,6 +31,7 @@ pub use records::{message_id, records, result, Record, Records};
 pub use rolling::RollingSplicer;
 pub use saved::{NotSaved, SAVED};
 pub use says::Says;
+pub use streams::{Stream, Streams, KEPT, STREAMS, STREAM_WORDS};
 
 /// The version of the state and of the archive's functions, whose names carry it.
 pub const VERSION: u32 = 4;

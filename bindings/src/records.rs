@@ -38,8 +38,6 @@ pub mod result {
     pub const UNKNOWN_CHANNEL: u16 = 104;
     /// Evicted, not started, or another waits with this start.
     pub const COLLISION: u16 = 109;
-    /// ServiceID 0xFFFF.
-    pub const NO_INSERTION: u16 = 110;
     /// Less than 3 s ahead.
     pub const TOO_LATE: u16 = 112;
     /// No place for another waiting session.

@@ -10,6 +10,8 @@ const CALLS: [&str; 7] = [
 ];
 /// Those of the card with a rolling counter alone.
 const ROLLING: [&str; 3] = ["rolling_fresh", "instant", "reading"];
+/// No calls on a splicer.
+const LISTS: [&str; 2] = ["read_streams", "write_streams"];
 
 /// Every `SPLICER_NAME = number` of the header's enums.
 fn of_header() -> Vec<(String, u32)> {
@@ -42,6 +44,9 @@ fn sizes() -> Vec<(&'static str, u32)> {
         ("WORDS", splicer::WORDS),
         ("BYTES", splicer::BYTES),
         ("REPLY", reply_words()),
+        ("STREAMS", splicer::STREAMS),
+        ("STREAM_WORDS", splicer::STREAM_WORDS),
+        ("KEPT", splicer::KEPT),
     ];
     list.map(|(name, size)| (name, size as u32)).to_vec()
 }
@@ -94,7 +99,6 @@ fn ids_and_results() -> Vec<(&'static str, u32)> {
         ("ACCESS_DENIED", result::ACCESS_DENIED),
         ("UNKNOWN_CHANNEL", result::UNKNOWN_CHANNEL),
         ("COLLISION", result::COLLISION),
-        ("NO_INSERTION", result::NO_INSERTION),
         ("TOO_LATE", result::TOO_LATE),
         ("QUEUE_FULL", result::QUEUE_FULL),
         ("ABORTED", result::ABORTED),
@@ -128,6 +132,8 @@ fn the_sizes_are_those_that_the_header_asserts() {
     let words = splicer::WORDS * size_of::<u64>();
     asserted(&format!("SPLICER_OFFSET(struct splicer, bytes) == {words}"));
     assert_eq!(words + splicer::BYTES, size);
+    let list = size_of::<splicer::Streams>();
+    asserted(&format!("sizeof(struct splicer_streams) == {list}"));
 }
 
 /// A function's parameters as the header declares them, in Rust's words.
@@ -172,7 +178,8 @@ fn numbers(text: &str, name: &str) -> bool {
 
 #[test]
 fn the_functions_are_declared_as_in_the_header() {
-    for name in CALLS.iter().chain(&ROLLING) {
+    let all = [&CALLS[..], &ROLLING, &LISTS].concat();
+    for name in &all {
         assert_eq!(of_door_call(name), of_header_call(name), "{name}");
         assert_eq!(
             numbers(DOOR_TEXT, name),
@@ -180,9 +187,8 @@ fn the_functions_are_declared_as_in_the_header() {
             "{name}"
         );
     }
-    let all = CALLS.len() + ROLLING.len();
-    assert_eq!(DOOR_TEXT.matches("link_name").count(), all);
-    assert_eq!(DOOR_TEXT.matches("pub fn ").count(), all + 1);
+    assert_eq!(DOOR_TEXT.matches("link_name").count(), all.len());
+    assert_eq!(DOOR_TEXT.matches("pub fn ").count(), all.len() + 1);
 }
 
 /// Each is declared once and called once, by the inline function of its name, and nothing else of
@@ -213,7 +219,12 @@ fn the_header_refers_to_versioned_names_only() {
         let first = line.starts_with(|c: char| c.is_ascii_lowercase());
         first && line.contains('(') && !line.starts_with("static inline ")
     });
-    assert_eq!(functions.count(), CALLS.len() + ROLLING.len());
+    assert_eq!(functions.count(), CALLS.len() + ROLLING.len() + LISTS.len());
+    for name in LISTS {
+        let call = format!("return splicer_{version}_{name}(");
+        let body = between(HEADER_TEXT, &format!("splicer_call_{name}("), "\n}");
+        assert!(body.contains(&call), "{name}");
+    }
 }
 
 #[test]

@@ -1,10 +1,10 @@
 -- model/scenarios/appendix-I-result-codes.txt, made by tools/cases.sh. Line numbers are that file's.
 -- J.280 Appendix I: the result codes that 01 uses, each in the message in which 01 gives it.
--- Shows: 100, 102, 103, 104, 109 (three forms), 110, 112, 116 (two forms), 120, 121 (two
+-- Shows: 100, 102, 103, 104, 109 (three forms), 112, 116 (two forms), 120, 121 (two
 -- forms), 123, 125. 114 needs a full queue: see 7.5-queue-20.txt. The other codes of the
--- appendix are never given.
+-- appendix are never given, 110 (No Insertion Channel Found) no more since 02, CR 1.
 --
--- 01 leads elsewhere: 103 and 120 come as General_Response, 110 and 116 (of a covered or
+-- 01 leads elsewhere: 103 and 120 come as General_Response, 116 (of a covered or
 --   waiting session) as Splice_Response; 125 is only the end of a covered session.
 use mathlib.Core.List.{List, [], _∷_}
 use Prim.Native.String.{_++_}
@@ -39,53 +39,57 @@ rows =
     ∷ row 28 "> message 0 000A 0000 FFFF FFFF" "4D00 000A 0000 FFFF FFFF" "5200 0000 0000 0078 FFFF"
     ∷ row 30 "> message 0 000E 0000 FFFF FFFF" "4D00 000E 0000 FFFF FFFF" "5200 0000 0000 007B FFFF"
     ∷ row 34 "> splice 0 id=1 at=1010 duration=900000 service=0xFFFF"
-    "4D00 0007 0021 FFFF FFFF 00000001 FFFFFFFF 000003F2 00000000 FFFF 000DBBA0 FFFFFFFF 00000000 00 00 01"
-    "5200 0008 0004 006E FFFF 00000001"
-    ∷ row 36 "> splice 0 id=1 prior=99 duration=900000"
+    "4D00 0007 0021 FFFF FFFF 00000001 FFFFFFFF 000003F2 00000000 FFFF 000D BBA0FFFF FF FF00 0000 00000001"
+    "5200 0000 0000 007B FFFF"
+    ∷ row 36 "> splice 0 id=1 at=1002 duration=900000 pcr=0x31 stream=0x32:2:1:1:1:720:480"
+    ("4D00 0007 003C FFFF FFFF 00000001 FFFFFFFF 000003EA 00000000 FFFF 0031 00000001 15 0032 0002 00000001 00000001"
+    ++ "00000001 02D0 01E0 000DBBA0 FFFFFFFF 00000000 00 00 01")
+    "5200 0008 0004 0070 FFFF 00000001"
+    ∷ row 39 "> splice 0 id=1 prior=99 duration=900000"
     "4D00 0007 0021 FFFF FFFF 00000001 00000063 00000000 00000000 0001 000DBBA0 FFFFFFFF 00000000 00 00 01"
     "5200 0008 0004 0079 FFFF 00000001"
-    ∷ row 38 "> splice 0 id=1 at=1002 duration=900000"
+    ∷ row 41 "> splice 0 id=1 at=1002 duration=900000"
     "4D00 0007 0021 FFFF FFFF 00000001 FFFFFFFF 000003EA 00000000 0001 000DBBA0 FFFFFFFF 00000000 00 00 01"
     "5200 0008 0004 0070 FFFF 00000001"
-    ∷ row 41 "> splice 0 id=1 at=1010 duration=3600000 access=3"
+    ∷ row 44 "> splice 0 id=1 at=1010 duration=3600000 access=3"
     "4D00 0007 0021 FFFF FFFF 00000001 FFFFFFFF 000003F2 00000000 0001 0036EE80 FFFFFFFF 00000000 03 00 01"
     "5200 0008 0004 0064 FFFF 00000001"
-    ∷ row 43 "> splice 1 id=1 at=1010 duration=900000 access=3"
+    ∷ row 46 "> splice 1 id=1 at=1010 duration=900000 access=3"
     "4D01 0007 0021 FFFF FFFF 00000001 FFFFFFFF 000003F2 00000000 0001 000DBBA0 FFFFFFFF 00000000 03 00 01"
     "5201 0008 0004 006D FFFF 00000001"
-    ∷ row 46 "> splice 1 id=2 at=1100 duration=900000 access=3"
+    ∷ row 49 "> splice 1 id=2 at=1100 duration=900000 access=3"
     "4D01 0007 0021 FFFF FFFF 00000002 FFFFFFFF 0000044C 00000000 0001 000DBBA0 FFFFFFFF 00000000 03 00 01"
     "5201 0008 0004 0064 FFFF 00000002"
-    ∷ row 48 "> splice 0 id=2 at=1100 duration=900000 access=4"
+    ∷ row 51 "> splice 0 id=2 at=1100 duration=900000 access=4"
     "4D00 0007 0021 FFFF FFFF 00000002 FFFFFFFF 0000044C 00000000 0001 000DBBA0 FFFFFFFF 00000000 04 00 01"
     ("5201 0008 0004 006D FFFF 00000002"
     ++ "5200 0008 0004 0064 FFFF 00000002")
-    ∷ row 52 "> abort 1 id=2" "4D01 000E 0004 FFFF FFFF 00000002" "5201 000F 0004 0079 FFFF 00000002"
-    ∷ row 54 "> abort 0 id=2"
+    ∷ row 55 "> abort 1 id=2" "4D01 000E 0004 FFFF FFFF 00000002" "5201 000F 0004 0079 FFFF 00000002"
+    ∷ row 57 "> abort 0 id=2"
     "4D00 000E 0004 FFFF FFFF 00000002"
     ("5200 000F 0004 0064 FFFF 00000002"
     ++ "5200 0008 0004 0074 FFFF 00000002")
-    ∷ row 59 "> splice 1 id=3 at=1015 duration=900000 access=2 override=1"
+    ∷ row 62 "> splice 1 id=3 at=1015 duration=900000 access=2 override=1"
     "4D01 0007 0021 FFFF FFFF 00000003 FFFFFFFF 000003F7 00000000 0001 000DBBA0 FFFFFFFF 00000000 02 01 01"
     "5201 0008 0004 0064 FFFF 00000003"
-    ∷ row 61 "> tick 1010" "5400 000003F2 00000000" "5200 0009 000D 0064 FFFF 00000001 00 00000000 00000000"
-    ∷ row 63 "> tick 1015" "5400 000003F7 00000000" "5201 0009 000D 006D FFFF 00000003 00 00000000 00000000"
-    ∷ row 66 "> splice 1 id=4 at=1020 duration=900000 access=6 override=1"
+    ∷ row 64 "> tick 1010" "5400 000003F2 00000000" "5200 0009 000D 0064 FFFF 00000001 00 00000000 00000000"
+    ∷ row 66 "> tick 1015" "5400 000003F7 00000000" "5201 0009 000D 006D FFFF 00000003 00 00000000 00000000"
+    ∷ row 69 "> splice 1 id=4 at=1020 duration=900000 access=6 override=1"
     "4D01 0007 0021 FFFF FFFF 00000004 FFFFFFFF 000003FC 00000000 0001 000DBBA0 FFFFFFFF 00000000 06 01 01"
     "5201 0008 0004 0064 FFFF 00000004"
-    ∷ row 68 "> tick 1025" "5400 00000401 00000000" "5201 0009 000D 0064 FFFF 00000004 00 00000000 00000000"
-    ∷ row 70 "> abort 1 id=4"
+    ∷ row 71 "> tick 1025" "5400 00000401 00000000" "5201 0009 000D 0064 FFFF 00000004 00 00000000 00000000"
+    ∷ row 73 "> abort 1 id=4"
     "4D01 000E 0004 FFFF FFFF 00000004"
     ("5201 000F 0004 0064 FFFF 00000004"
     ++ "5201 0009 000D 0074 FFFF 00000004 01 00000000 0006DDD0")
-    ∷ row 75 "> splice 1 id=5 at=1040 duration=1800000 access=6 override=1"
+    ∷ row 78 "> splice 1 id=5 at=1040 duration=1800000 access=6 override=1"
     "4D01 0007 0021 FFFF FFFF 00000005 FFFFFFFF 00000410 00000000 0001 001B7740 FFFFFFFF 00000000 06 01 01"
     "5201 0008 0004 0064 FFFF 00000005"
-    ∷ row 77 "> tick 1050"
+    ∷ row 80 "> tick 1050"
     "5400 0000041A 00000000"
     ("5201 0009 000D 0064 FFFF 00000005 00 00000000 00000000"
     ++ "5200 0009 000D 007D FFFF 00000001 01 00000000 00225510")
-    ∷ row 81 "> tick 1060" "5400 00000424 00000000" "5201 0009 000D 0064 FFFF 00000005 01 00000000 001B7740"
+    ∷ row 84 "> tick 1060" "5400 00000424 00000000" "5201 0009 000D 0064 FFFF 00000005 01 00000000 001B7740"
     ∷ []
 
 pub same : Holds rows

@@ -1,12 +1,15 @@
-// The calls of document 01 for C, and what a card reads: lent words, bytes and numbers only; the reply goes into lent words.
+// The calls of document 01 for C, what a card reads, and lists of streams: lent words, bytes and numbers only; the reply goes into lent words.
 // include/splicer.h declares them. The names carry the header's version, so that a header of another version does not link.
 use engine::Answer;
 use memory::BYTES;
 use memory::WORDS;
+use streams::KEPT;
+use streams::LIST;
 ghost use mathlib.Core.Path.{_≡_};
 ghost use mathlib.Core.List.{[]};
 ghost use Rattle.rules.specs.Calls.{fresh, openCall, closeCall, messageCall, tickCall, lending};
 ghost use Rattle.engine.specs.Lent.{Lent, Counts, Primary};
+ghost use Rattle.streams.specs.Rows.{ReadsList, WritesList};
 ghost use Rattle.door.specs.Door.{replyOf, Replies, Hears};
 
 // The house number of a refusal or 0, the bytes consumed and written, and how many places an acceptance shifted.
@@ -129,4 +132,29 @@ pub extern "C" fn splicer_4_primary(words: &[u64; WORDS], bytes: &[u8; BYTES]) -
 {
     let sum = engine::primary(words, bytes);
     sum.0
+}
+
+// 02, CR 1: the list of a request that names its PIDs itself, from PcrPID on, into lent words and bytes. The bytes taken, or 0: then all
+// that is lent stays as it was.
+#[no_mangle]
+pub extern "C" fn splicer_4_read_streams(
+    l: &[u8],
+    words: &mut [u64; LIST],
+    kept: &mut [u8; KEPT],
+) -> usize
+    ensures { λ r. ⌜ ReadsList (now (l .entry)) (now (words .entry)) (now (kept .entry)) r (now (words .exit)) (now (kept .exit)) ⌝ }
+{
+    streams::read(l, &mut *words, &mut *kept)
+}
+
+// The bytes written of it, from PcrPID on, or 0: then out stays as it was.
+#[no_mangle]
+pub extern "C" fn splicer_4_write_streams(
+    words: &[u64; LIST],
+    kept: &[u8; KEPT],
+    out: &mut [u8],
+) -> usize
+    ensures { λ r. ⌜ WritesList (now (words .entry)) (now (kept .entry)) (now (out .entry)) r (now (out .exit)) ⌝ }
+{
+    streams::write(words, kept, &mut *out)
 }

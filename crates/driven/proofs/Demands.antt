@@ -13,7 +13,7 @@ use Rattle.rules.specs.Lists.{All, some, count}
 use Rattle.rules.specs.Bytes.{Byte, hasZero}
 use Rattle.rules.specs.Records.{recordsIn}
 use Rattle.rules.specs.State.{empty, Sorted, startsAt, startsAfter, earliest, due}
-use Rattle.rules.specs.Sound.{Each, Falling}
+use Rattle.rules.specs.Sound.{Each, Falling, Coded}
 use Rattle.rules.specs.Answers.{requested, spliceResult}
 use Rattle.rules.specs.Calls.{lending, fresh, after}
 use Rattle.demands.specs.History.{Event, startsOf, endsOf, history, ownAnswer, othersOf, waitingCount, book, clockAfter}
@@ -117,7 +117,7 @@ module _ (name : List ℕ) (h : List Made) (m : Memory) where
       rw (trace-events name h m t, calls-inside h) (called.trace-as-ruled name (within h) m (trace-inside name h m t))
 
   -- "An accepted request is accepted because the rules accept it; a refused one carries the first result code that applies.": connection d sends
-  -- the bytes l, which are a Splice_Request q; the last record in the answer's bytes is the Splice_Response with the code of 01's a to f
+  -- the bytes l, which are a Splice_Request q; the last record in the answer's bytes is the Splice_Response with the code of 01's b to f
   pub first-code-applies : (d : ℕ) (l e : List ℕ) (r : Seen) → More name h m (aMessage d l e) r
       → (q : Request) → Asks d l (lending (length e)) q (shown m)
       → ownAnswer (answers (spliceResult (shown m .clock) d q (requested d q (shown m .queue)) (shown m .queue)) d (q .id))
@@ -125,6 +125,11 @@ module _ (name : List ℕ) (h : List Made) (m : Memory) where
   first-code-applies d l e r c q asks =
       rw (bytes-inside (c .allowed))
       (called.first-code-applies name (within h) m d l e (inside r) (more-inside name h m (aMessage d l e) r c) q asks)
+
+  -- 02, CR 1: "From here result 110 is no longer met": the result of every record in the answer's bytes, of every call, is one of 100, 102, 103,
+  -- 104, 109, 112, 114, 116, 120, 121, 123, 125
+  pub codes-given : (i : Input) (r : Seen) → More name h m i r → All Coded (recordsIn (bytesOf r))
+  codes-given i r c = rw (bytes-inside (c .allowed)) (called.codes-given name (within h) m _ _ (more-inside name h m i r c))
 
   -- ## Demand 3
 

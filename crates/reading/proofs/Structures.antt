@@ -11,8 +11,8 @@ use lib.ListN.{length, getD, drop, length-drop}
 use lib.Seq.{drop-drop, getD-drop}
 use Rattle.rules.specs.Reading.{separateService, serviceID, tailOf, Stream, streamLength, streamAt, badStream, Listed, listed, unlisted, behind, streamsIn, pidCount, badCount, separateIn, restOf}
 use Rattle.rules.proofs.Streams.{streams-step, streams-none, GoodStream, good-stream, length-kept, Separate, separate-step}
-use Rattle.reading.specs.declared.streams.Streams.{Streams}
-use Rattle.reading.specs.declared.streams.Streams.the-variants.{End, Bad}
+use Rattle.reading.specs.declared.structures.Streams.{Streams}
+use Rattle.reading.specs.declared.structures.Streams.the-variants.{End, Bad}
 use Rattle.reading.specs.Structures.{sizeOf, sizesOf, placeOf, streamsEnd, endFrom, from, tailPlace}
 
 size-is : (l : List ℕ) → badStream l ≡ false → sizeOf (streamAt l) ≡ streamLength l

@@ -5,8 +5,8 @@ use Prim.Native.Nat.{ℕ, zero, suc, _+_}
 use lib.Dec.{eqb}
 use lib.ListN.{length, drop}
 use Rattle.rules.specs.Reading.{separateService, serviceID, Stream, streamLength, badStream, Listed, listed, unlisted, separateIn}
-use Rattle.reading.specs.declared.streams.Streams.{Streams}
-use Rattle.reading.specs.declared.streams.Streams.the-variants.{End, Bad}
+use Rattle.reading.specs.declared.structures.Streams.{Streams}
+use Rattle.reading.specs.declared.structures.Streams.the-variants.{End, Bad}
 
 -- "Length counts the whole structure"
 abbrev pub sizeOf : Stream → ℕ

@@ -11,7 +11,7 @@ ghost use Rattle.reading.specs.Structures.{tailPlace};
 pub mod descriptors;
 pub mod names;
 pub mod numbers;
-pub mod streams;
+pub mod structures;
 
 use descriptors::well_formed;
 use names::has_zero;
@@ -23,8 +23,8 @@ use rules::Refusal;
 use rules::Request;
 use rules::Start;
 use rules::Ticks;
-use streams::Streams;
-use streams::end_of;
+use structures::Streams;
+use structures::end_of;
 
 // "Read: Init_Request, Alive_Request, Splice_Request, Abort_Request."
 pub const INIT_REQUEST: u16 = 0x0001;

@@ -14,7 +14,7 @@ use Rattle.rules.specs.Lists.{All, some, count}
 use Rattle.rules.specs.Bytes.{Byte, hasZero}
 use Rattle.rules.specs.Records.{recordsIn}
 use Rattle.rules.specs.State.{Splicer, empty, Sorted, startsAt, startsAfter, sooner, earliest, due}
-use Rattle.rules.specs.Sound.{Each, Later, Falling}
+use Rattle.rules.specs.Sound.{Each, Later, Falling, Coded}
 use Rattle.rules.specs.Answers.{requested, spliceResult}
 use Rattle.rules.specs.Calls.{lending, fresh, after}
 use Rattle.rules.proofs.All.{all-into}
@@ -108,7 +108,7 @@ module _ (name : List ℕ) (h : List Made) (m : Memory) where
   trace-as-ruled = trace-history name h m
 
   -- "An accepted request is accepted because the rules accept it; a refused one carries the first result code that applies.": connection d sends
-  -- the bytes l, which are a Splice_Request q; the last record in the answer's bytes is the Splice_Response with the code of 01's a to f
+  -- the bytes l, which are a Splice_Request q; the last record in the answer's bytes is the Splice_Response with the code of 01's b to f
   pub first-code-applies : (d : ℕ) (l e : List ℕ) (r : Result) → More name h m (aMessage d l e) r
       → (q : Request) → Asks d l (lending (length e)) q (shown m)
       → ownAnswer (answers (spliceResult (shown m .clock) d q (requested d q (shown m .queue)) (shown m .queue)) d (q .id))
@@ -116,6 +116,12 @@ module _ (name : List ℕ) (h : List Made) (m : Memory) where
   first-code-applies d l e r c q asks =
       rw (as-ruled m (aMessage d l e) r (c .allowed) .bytes)
       (told.first-code-applies (events h) (shown m) (trace-told name h m (c .trace)) d l (lending (length e)) q asks)
+
+  -- 02, CR 1: "From here result 110 is no longer met": the result of every record in the answer's bytes, of every call, is one of 100, 102, 103,
+  -- 104, 109, 112, 114, 116, 120, 121, 123, 125
+  pub codes-given : (i : Input) (r : Result) → More name h m i r → All Coded (recordsIn (bytesOf r))
+  codes-given i r c =
+      rw (as-ruled m i r (c .allowed) .bytes) (told.codes-given (events h) (shown m) (trace-told name h m (c .trace)) (callOf i) (wired i (c .typed)))
 
   -- ## Demand 3
 

@@ -12,14 +12,14 @@ ghost use Rattle.writing.specs.Header.{headerOf, Turned};
 
 // ---- parts of a record. "All numbers are big-endian."
 
-fn put1(out: &mut [u8], x: u64)
+pub fn put1(out: &mut [u8], x: u64)
     requires { ⌜ 1 ≤ length (now out) ⌝ }
     ensures { λ _. ⌜ now (out .exit) ≡ written (now (out .entry)) 0 (bytes 1 x) ⌝ }
 {
     out[0] = (x % 256) as u8;
 }
 
-fn put2(out: &mut [u8], x: u16)
+pub fn put2(out: &mut [u8], x: u16)
     requires { ⌜ 2 ≤ length (now out) ⌝ }
     ensures { λ _. ⌜ now (out .exit) ≡ written (now (out .entry)) 0 (bytes 2 x) ⌝ }
 {
@@ -38,7 +38,7 @@ fn turned(x: u64) -> u64
         + x / 256 / 256 / 256 % 256
 }
 
-fn put4(out: &mut [u8], x: u64)
+pub fn put4(out: &mut [u8], x: u64)
     requires { ⌜ 4 ≤ length (now out) ⌝ }
     ensures { λ _. ⌜ now (out .exit) ≡ written (now (out .entry)) 0 (bytes 4 x) ⌝ }
 {
@@ -58,7 +58,8 @@ fn put_time(out: &mut [u8], time: Micros)
     put4(&mut out[4..], time.0 % 1000000);
 }
 
-fn copy_name(out: &mut [u8], name: &[u8])
+// l at the start of out.
+pub fn copy(out: &mut [u8], name: &[u8])
     requires { ⌜ length (now name) ≤ length (now out) ⌝ }
     ensures { λ _. ⌜ now (out .exit) ≡ written (now (out .entry)) 0 (now (name .entry)) ⌝ }
 {
@@ -110,7 +111,7 @@ pub fn init_response(out: &mut [u8], conn: u64, result: u16, name: &[u8])
 {
     header(&mut *out, conn, 0x0002, 34, result);
     put2(&mut out[10..], 2);
-    copy_name(&mut out[12..], name);
+    copy(&mut out[12..], name);
 }
 
 // An Alive_Request is always answered 100.

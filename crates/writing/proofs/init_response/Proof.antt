@@ -28,17 +28,17 @@ part-put2-end c = search needs
 put2-requires : tie.Need-put2-requires
 put2-requires c κs = search needs
 
-sub-copy-name : tie.Need-sub-copy-name
-sub-copy-name c = search needs
+sub-copy : tie.Need-sub-copy
+sub-copy c = search needs
 
-part-copy-name-start : tie.Need-part-copy-name-start
-part-copy-name-start c = search needs
+part-copy-start : tie.Need-part-copy-start
+part-copy-start c = search needs
 
-part-copy-name-end : tie.Need-part-copy-name-end
-part-copy-name-end c = search needs
+part-copy-end : tie.Need-part-copy-end
+part-copy-end c = search needs
 
-copy-name-requires : tie.Need-copy-name-requires
-copy-name-requires c κs = search needs
+copy-requires : tie.Need-copy-requires
+copy-requires c κs = search needs
 
 same-length : tie.Need-same-length
 same-length c = search needs
@@ -53,7 +53,7 @@ returns c =
     let b2 = s .args .name .now in
     let c0 = c .before .before .before .before .before .before .before .before .before .before .header in
     let c1 = c .before .before .before .before .before .before .put2 in
-    let c2 = c .before .before .copy-name in
+    let c2 = c .before .before .copy in
     let w1 = written-next e 0 b0 b1 (c0 .last .0) (c1 .last .0) 10 (c0 .ensures) (simp length-header) (simp length-bytes (omega arith)) (c1 .ensures) in
     let w2 = written-next e 0 (b0 ++ b1) b2 _ (c2 .last .0) 12 w1 (simp (length-append, length-header, length-bytes)) (omega (arith, s .pre .1 .0)) (c2 .ensures) in
     w2 ∙ ap (written e 0) (init-parts (s .args .conn) (s .args .result) (s .args .name .now) (s .pre .1 .0) (s .pre .1 .1))
@@ -67,9 +67,9 @@ init-response-spec =
     part-put2-start
     part-put2-end
     put2-requires
-    sub-copy-name
-    part-copy-name-start
-    part-copy-name-end
-    copy-name-requires
+    sub-copy
+    part-copy-start
+    part-copy-end
+    copy-requires
     same-length
     returns)
