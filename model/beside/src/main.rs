@@ -6,6 +6,7 @@ mod books;
 mod calls;
 mod checked;
 mod intervals;
+mod lists;
 mod pair;
 mod rolled;
 mod run;
@@ -139,16 +140,18 @@ fn command(mut args: Vec<String>) -> Result<bool, String> {
 
 /// The comparison, and every fault.
 fn everything(plan: &Plan, list: &[Stream]) -> Vec<bool> {
-    let mut results = vec![compared(plan)];
+    let mut results = vec![compared(plan), lists::run(plan.seed)];
+    let alike = results.len();
     for wrong in wrong::all() {
         results.push(noticed(plan, list, wrong));
     }
+    results.extend(lists::FAULTS.map(|fault| lists::noticed(plan.seed, fault)));
     let faults = BOOKED.iter().map(|fault| Wrong::Model(*fault));
     let by_records: Vec<Wrong> = faults.chain(wrong::reporting()).collect();
     for wrong in &by_records {
         results.push(booked(list, *wrong));
     }
-    let unnoticed = results[1..].iter().filter(|good| !**good).count();
+    let unnoticed = results[alike..].iter().filter(|good| !**good).count();
     println!(
         "beside: {} faults, and {} of them by the records alone: {unnoticed} not noticed",
         wrong::all().len(),
