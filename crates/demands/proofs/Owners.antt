@@ -9,13 +9,14 @@ use lib.Dec.{eqb}
 use lib.ListN.{length, getD}
 use borrow.Author.Tests.{eqb-true, ltb-true, not-false}
 use Rattle.rules.specs.declared.Session.{Session}
+use Rattle.rules.specs.declared.Request.{Request}
 use Rattle.rules.specs.declared.Start.{Start}
 use Rattle.rules.specs.declared.Start.the-variants.{Timed, Linked}
 use Rattle.rules.specs.declared.Message.the-variants.{Splice}
 use Rattle.rules.specs.Units.{timeOf, fromMicros}
 use Rattle.rules.specs.Lists.{All, bit, count, place}
 use Rattle.rules.specs.Bytes.{hasZero}
-use Rattle.rules.specs.Reading.{sessionID, wholeRequest, readSplice, dataIn}
+use Rattle.rules.specs.Reading.{sessionID, readSplice, dataIn}
 use Rattle.rules.specs.State.{Queue, Splicer, empty, is, held, startsAfter}
 use Rattle.rules.specs.Records.{Record, recordsIn}
 use Rattle.rules.specs.Ends.{andThen, evicted}
@@ -27,6 +28,7 @@ use Rattle.rules.proofs.Tests.{by, and-both, eqb-same}
 use Rattle.rules.proofs.All.{all-into, all-append}
 use Rattle.rules.proofs.Count.{place-holds, some-place, some-none, count-insertAt}
 use Rattle.rules.proofs.Every.{all-getD, all-inserted}
+use Rattle.rules.proofs.Checks.{read-id}
 use Rattle.rules.proofs.Leaving.{evicted-fewer}
 use Rattle.rules.proofs.Sessions.{count-held, fewer-held}
 use Rattle.rules.proofs.Fitted.{recordsOf}
@@ -87,10 +89,10 @@ module _ (β : Base) (now pr : ℕ) (q : Queue) (l : List Airing) (o : Owned β 
       let k = and-both (eqb c (s .conn)) (eqb p (s .id)) (place-holds (is c p) (held q) empty h) in
       ap (λ n. newest n p l .end) (eqb-true c (s .conn) (k .0)) ∙ ap (λ n. newest (s .conn) n l .end) (eqb-true p (s .id) (k .1)) ∙ all-getD Ends (held q) i empty h ends-told
 
-  asked-airing : (c : ℕ) (d : List ℕ) → readSplice d ≡ Splice (wholeRequest d) → unknownPrior c (wholeRequest d .start) q ≡ false
-      → airingAsked c (sessionID d) (readSplice d) l ≡ airing false (requested c (wholeRequest d) q)
+  asked-airing : (c : ℕ) (d : List ℕ) (r : Request) → readSplice d ≡ Splice r → unknownPrior c (r .start) q ≡ false
+      → airingAsked c (sessionID d) (readSplice d) l ≡ airing false (requested c r q)
   unfolding airingAsked requested sessionAt
-  asked-airing c d e u = rw (e, told-start c (wholeRequest d .start) u)
+  asked-airing c d r e u = rw (e, ← (read-id d r e), told-start c (r .start) u)
 
   accepted-owned : (u : ℕ) (new : Session) → new .played .0 ≡ 0 → heldCount q (is (new .conn) (new .id)) ≡ 0
       → Owned β now pr (accepted new q .queue .waiting) (accepted new q .queue .started) (airing false new ∷ heardAll u (evicted (new .start .0) q .written) l)
@@ -142,10 +144,9 @@ module _ (β : Base) (s : Splicer) (l : List Airing) (h : Sound s) (o : Kept β 
         naming = λ c b loans n r e p. rw e (plain-owned (r ∷ []) p);
         aborting = λ c b loans n x e i. rw e (aborted-owned β (s .clock) (s .primary) (s .clock) (omega arith) c x q l ending o);
         declining = λ c b loans n r e y f. rw (e, y) o;
-        accepting = λ c b loans n e f p. let r = wholeRequest (dataIn b) in
-            let new = requested c r q in
+        accepting = λ c b loans n r e f p. let new = requested c r q in
             let rs = evicted (new .start .0) q .written in
-            rw (e, last-last (isYes c (r .id)) rs (accepts new), front-last rs (accepts new), eqb-same c, eqb-same (r .id), asked-airing β (s .clock) (s .primary) q l o c (dataIn b) f (p .prior))
+            rw (e, asked-airing β (s .clock) (s .primary) q l o c (dataIn b) r f (p .prior), ← (read-id (dataIn b) r f), last-last (isYes c (r .id)) rs (accepts new), front-last rs (accepts new), eqb-same c, eqb-same (r .id))
             (accepted-owned β (s .clock) (s .primary) q l o (s .clock) new refl (omega (arith, some-none (is c (r .id)) (held q) (p .number), count-held (is c (r .id)) q)));
         ticking = λ seconds micros room le. tick-owned (fromMicros (timeOf seconds micros) .0) le;
         moving = λ until room le. tick-owned until le;
@@ -243,7 +244,7 @@ call-adds s h =
       naming = λ c b loans n r e p. record { clock = omega arith; least = omega arith; most = omega arith };
       aborting = λ c b loans n x e i. record { clock = omega arith; least = omega arith; most = omega arith };
       declining = λ c b loans n r e y f. adds-none s;
-      accepting = λ c b loans n e f p. record { clock = omega arith; least = omega arith; most = omega arith };
+      accepting = λ c b loans n r e f p. record { clock = omega arith; least = omega arith; most = omega arith };
       ticking = λ seconds micros room le. brings (fromMicros (timeOf seconds micros) .0) le;
       moving = λ until room le. brings until le;
     })

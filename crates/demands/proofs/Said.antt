@@ -12,7 +12,6 @@ use Rattle.rules.specs.declared.Session.{Session}
 use Rattle.rules.specs.Units.{timeOf, fromMicros}
 use Rattle.rules.specs.Lists.{All, bit, some, count, place, removeAt}
 use Rattle.rules.specs.declared.Ending.the-variants.{Response}
-use Rattle.rules.specs.Reading.{wholeRequest, dataIn}
 use Rattle.rules.specs.State.{sameNumber, Queue, Splicer, empty, is, held, startsAt}
 use Rattle.rules.specs.Records.{Record, General, InitResponse, AliveResponse, SpliceResponse, SpliceComplete, AbortResponse, recordsIn}
 use Rattle.rules.specs.Ends.{Turn, andThen, ended, evicted, evictedAt, dismissed, followers, closedBy}
@@ -224,7 +223,7 @@ module _ (β : Base) (s : Splicer) (l : List Airing) (h : Sound s) (o : Kept β 
         naming = λ d b loans n r e p. plain-out _ (r ∷ []) p;
         aborting = λ d b loans n y e i. rw e (turn-told (s .clock) _ (answered-law c x d y q));
         declining = λ d b loans n r e y f. ((λ i. absurd (clash (isOut c x r) i (f .outs c x))), tt);
-        accepting = λ d b loans n e f p. let new = requested d (wholeRequest (dataIn b)) q in
+        accepting = λ d b loans n r e f p. let new = requested d r q in
             nothing-out _ (evicted (new .start .0) q .written ++ (accepts new ∷ []))
             (all-append (λ r. isOut c x r ≡ false) (evicted (new .start .0) q .written) (accepts new ∷ []) (no-out-evicted c x (new .start .0) q) (refl, tt));
         ticking = λ seconds micros room le. tick-told (fromMicros (timeOf seconds micros) .0);
