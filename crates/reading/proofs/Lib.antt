@@ -1,4 +1,4 @@
 pub mod Strings
 pub mod Walks
 pub mod Laws
-pub mod Structures
+pub mod Steps

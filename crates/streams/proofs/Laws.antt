@@ -21,7 +21,7 @@ use Rattle.reading.specs.declared.structures.Streams.{Streams}
 use Rattle.reading.specs.declared.structures.Streams.the-variants.{End, Bad}
 use Rattle.reading.specs.Structures.{from}
 use Rattle.reading.proofs.Laws.{behind}
-use Rattle.reading.proofs.Structures.{On, on-good, Found}
+use Rattle.reading.proofs.Steps.{On, on-good, Found}
 use Rattle.streams.specs.Rows.{rowOf, rowsOf, keptOf, rowStream, listIn, badRow, badRows, rowsSize, judged, wordsOf, taken, wordsFor, wordsAfter, keptAfter, badList, bytesOf, putSize, outAfter, ReadsList, WritesList, Filled, Puttable, Writing}
 
 -- ## Structures into rows

@@ -5,7 +5,7 @@ use borrow.Author.Tests.{lt-ltb, le-ltb}
 use lib.ListN.{length}
 use Rattle.rules.specs.Reading.{tailOf, readWhole, readSplice}
 use Rattle.reading.proofs.Laws.{behind}
-use Rattle.reading.proofs.Structures.{Placed, tail-is}
+use Rattle.reading.proofs.Steps.{Placed, tail-is}
 use borrow.Author.Needs.{needs}
 use Rattle.reading.proofs.read_splice.Statement.{statement}
 use Rattle.reading.proofs.read_splice.Tie as tie

@@ -6,7 +6,7 @@ use lib.ListN.{drop, length-drop}
 use Rattle.rules.specs.Reading.{separateService, serviceID}
 use Rattle.reading.specs.Structures.{streamsEnd, from, tailPlace}
 use Rattle.reading.proofs.Laws.{behind}
-use Rattle.reading.proofs.Structures.{end-found, found-rest}
+use Rattle.reading.proofs.Steps.{end-found, found-rest}
 use borrow.Author.Needs.{needs}
 use Rattle.reading.proofs.tail_place.Statement.{statement}
 use Rattle.reading.proofs.tail_place.Tie as tie

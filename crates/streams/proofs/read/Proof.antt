@@ -5,7 +5,7 @@ use lib.ListN.{length, drop}
 use Rattle.rules.specs.Reading.{streamsIn}
 use Rattle.rules.proofs.Streams.{separate-step}
 use Rattle.reading.proofs.Laws.{behind}
-use Rattle.reading.proofs.Structures.{end-found, end-unlisted}
+use Rattle.reading.proofs.Steps.{end-found, end-unlisted}
 use Rattle.streams.proofs.Laws.{read-none, read-done}
 use borrow.Author.Needs.{needs}
 use Rattle.streams.proofs.read.Statement.{statement}

@@ -6,7 +6,7 @@ use lib.ListN.{length, getD, drop}
 use Rattle.rules.specs.Reading.{badStream}
 use Rattle.reading.specs.Structures.{endFrom}
 use Rattle.reading.proofs.Laws.{behind}
-use Rattle.reading.proofs.Structures.{On, on-good, end-step, end-bad}
+use Rattle.reading.proofs.Steps.{On, on-good, end-step, end-bad}
 use borrow.Author.Needs.{needs}
 use Rattle.reading.proofs.structures.end_from.Statement.{statement}
 use Rattle.reading.proofs.structures.end_from.Tie as tie

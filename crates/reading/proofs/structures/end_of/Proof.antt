@@ -6,7 +6,7 @@ use borrow.Author.Tests.{lt-ltb, le-ltb}
 use lib.ListN.{length}
 use Rattle.rules.specs.Reading.{highestPid, pcrPid, pidCount, mostStreams}
 use Rattle.reading.specs.Structures.{endFrom}
-use Rattle.reading.proofs.Structures.{end-counted, end-miscounted}
+use Rattle.reading.proofs.Steps.{end-counted, end-miscounted}
 use borrow.Author.Needs.{needs}
 use Rattle.reading.proofs.structures.end_of.Statement.{statement}
 use Rattle.reading.proofs.structures.end_of.Tie as tie
