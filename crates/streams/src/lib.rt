@@ -176,7 +176,8 @@ fn put_row(w: &[u64], k: &[u8], out: &mut [u8])
 // n rows, which are good, one structure directly behind the other.
 fn put_rows(words: &[u64], kept: &[u8], n: usize, out: &mut [u8])
     requires { ⌜ Writing n (now words) (now kept) (now out) ⌝ }
-    ensures { λ _. ⌜ now (out .exit) ≡ written (now (out .entry)) 6 (streamsBytes (listIn n (drop 2 (now (words .entry))) (now (kept .entry)))) ⌝ }
+    ensures { λ _.
+        ⌜ now (out .exit) ≡ written (now (out .entry)) 6 (streamsBytes (listIn n (drop 2 (now (words .entry))) (now (kept .entry)))) ⌝ }
 {
     let mut i = 0;
     let mut at = 0;
