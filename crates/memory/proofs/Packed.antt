@@ -1,4 +1,4 @@
--- Whatever is to be shown stands in some words: the head, and in each list zeros before eight words for each session, up to the ring's end.
+-- Whatever is to be shown stands in some words: the head, and in each list zeros before the words of each session, up to the ring's end.
 -- Rests on `shows` of Laws.
 use mathlib.Core.Path.{_≡_, refl, sym, ap, _∙_}
 use mathlib.Core.List.{List, [], _∷_, _++_, map}
@@ -10,7 +10,7 @@ use Rattle.rules.specs.declared.Session.{Session}
 use Rattle.rules.specs.declared.Link.{Link}
 use Rattle.rules.specs.Lists.{All}
 use Rattle.rules.specs.State.{empty}
-use Rattle.places.specs.Places.{width, capacity, rows, places, turned, lot, used, Good}
+use Rattle.places.specs.Places.{width, capacity, wordsOf, rows, places, turned, lot, used, Good}
 use Rattle.places.proofs.Ring.{length-turned}
 use Rattle.memory.specs.declared.Which.the-variants.{Waiting, Started}
 use Rattle.memory.specs.Memory.{connections, placesOf, fromOf, words, wordOf, linkIn, IsLink, Memory, OfFour, tallied, Now}
@@ -18,15 +18,10 @@ use Rattle.memory.proofs.Laws.{link-word, is-link, shown-as, shows, wit
 
 -- ## A list of sessions
 
--- the words of a session, and others behind them
-abbrev standing : Session → List ℕ → List ℕ
-standing x l =
-    x .conn ∷ x .id ∷ x .prior ∷ x .start .0 ∷ x .end .0 ∷ x .access ∷ x .overrides ∷ x .played .0 ∷ l
-
 -- the words of each
 unfoldable flat : List Session → List ℕ
 flat [] = []
-flat (x ∷ l) = standing x (flat l)
+flat (x ∷ l) = wordsOf x ++ flat l
 
 -- n places, the sessions u last of them, in their order
 abbrev filled : ℕ → List Session → List Session

@@ -11,7 +11,7 @@ use Rattle.rules.specs.State.{empty, is, follows}
 use Rattle.places.specs.declared.Key.{Key}
 use Rattle.places.specs.declared.Key.the-variants.{Held, Follows}
 
--- the words of a place
+-- the words of a place: one for each field of a session
 abbrev pub width : ℕ
 width = 8
 
@@ -19,19 +19,27 @@ width = 8
 abbrev pub capacity : List ℕ → ℕ
 capacity q = length q / width
 
+-- the session whose word k is f k
+abbrev pub sessionOf : (ℕ → ℕ) → Session
+sessionOf f =
+    record {
+      conn = f 0;
+      id = f 1;
+      prior = f 2;
+      start = record { 0 = f 3 };
+      end = record { 0 = f 4 };
+      access = f 5;
+      overrides = f 6;
+      played = record { 0 = f 7 };
+    }
+
+-- the words of a session, in the same order; the time on air is the last
+abbrev pub wordsOf : Session → List ℕ
+wordsOf s = s .conn ∷ s .id ∷ s .prior ∷ s .start .0 ∷ s .end .0 ∷ s .access ∷ s .overrides ∷ s .played .0 ∷ []
+
 -- the session in the first words
 abbrev pub row : List ℕ → Session
-row q =
-    record {
-      conn = getD q 0 0;
-      id = getD q 1 0;
-      prior = getD q 2 0;
-      start = record { 0 = getD q 3 0 };
-      end = record { 0 = getD q 4 0 };
-      access = getD q 5 0;
-      overrides = getD q 6 0;
-      played = record { 0 = getD q 7 0 };
-    }
+row q = sessionOf (λ k. getD q k 0)
 
 -- b is the first word of a place of the words q
 abbrev pub Row : (b : ℕ) (q : List ℕ) → Type 0

@@ -1,4 +1,4 @@
--- Rests on `load-is`: eight words read from the first of a place on are that place.
+-- Rests on `load-is`: the words read from the first of a place on are that place.
 use Rattle.rules.specs.State.{empty}
 use Rattle.places.proofs.Words.{load-is}
 use borrow.Author.Needs.{needs}

@@ -1,4 +1,4 @@
--- Rests on `store-is`: eight words written from the first of a place on are that place.
+-- Rests on `store-is`: the words written from the first of a place on are that place.
 use native.Mathlib.Omega.{arith}
 use lib.ListN.{length-set}
 use Rattle.places.proofs.Words.{store-is, store-spare}
