@@ -25,7 +25,7 @@ use Rattle.rules.specs.Ends.{Turn, writes, andThen, evicted, cancelled, closedB
 use Rattle.rules.specs.Instants.{runAll}
 use Rattle.rules.specs.Answers.{endOf, startOf, sessionAt, requested, unknownPrior, accepts, accepted}
 use Rattle.rules.specs.Calls.{Called, ticked, Call, call, after, named, fresh}
-use Rattle.demands.specs.History.{endResult, isEnd, isYes, endsOf, front, last, Entry, entryIs, credited, endTold, startTold, endAsked, entryOf, bookAnswered, shut, bookAfter}
+use Rattle.demands.specs.History.{endResult, isEnd, isYes, endsOf, front, last, Entry, entryIs, withEnds, credited, lastTold, endTold, muxTold, startTold, endAsked, muxAsked, entryOf, bookAnswered, withClosed, shut, bookAfter}
 use Rattle.rules.specs.Sound.{Each, heldCount}
 use Rattle.rules.proofs.Tests.{clash, by, and-both, eqb-same}
 use Rattle.rules.proofs.All.{all-into}
@@ -129,25 +129,37 @@ module _ (c x : ℕ) where
       go true k f ih = ((λ i. omega (arith, f .0)), f .2)
       go false k f ih = ((λ i. absurd (clash (entryIs c x e) i k)), ih f)
 
--- ## The end times
+-- ## What the book says of a number
 
-endTold-credited : (c x : ℕ) (rs : List Record) (es : List Entry) → endTold c x (credited rs es) ≡ endTold c x es
-unfolding endTold credited
-endTold-credited c x rs [] = refl
-endTold-credited c x rs (e ∷ es) = rw (endTold-credited c x (rest e rs) es)
+-- f says of an entry what it said when the session was accepted
+record Lasting (f : Entry → ℕ) : Type 0 where
+  credited : (rs : List Record) (e : Entry) → f (withEnds rs e) ≡ f e
+  shut : (d : ℕ) (e : Entry) → f (withClosed d e) ≡ f e
 
-endTold-shut : (c x d : ℕ) (es : List Entry) → endTold c x (shut d es) ≡ endTold c x es
-unfolding endTold shut
-endTold-shut c x d [] = refl
-endTold-shut c x d (e ∷ es) = rw (endTold-shut c x d es)
+told-credited : (f : Entry → ℕ) → Lasting f → (c x : ℕ) (rs : List Record) (es : List Entry) → lastTold f c x (credited rs es) ≡ lastTold f c x es
+unfolding lastTold credited
+told-credited f h c x rs [] = refl
+told-credited f h c x rs (e ∷ es) = rw (told-credited f h c x (rest e rs) es, h .credited rs e)
 
--- a session's end time is what the book says
+told-shut : (f : Entry → ℕ) → Lasting f → (c x d : ℕ) (es : List Entry) → lastTold f c x (shut d es) ≡ lastTold f c x es
+unfolding lastTold shut
+told-shut f h c x d [] = refl
+told-shut f h c x d (e ∷ es) = rw (told-shut f h c x d es, h .shut d e)
+
+-- a session's end time and what it asks of the multiplexer are what the book says
 abbrev pub Dated : List Entry → Session → Type 0
-Dated es s = endTold (s .conn) (s .id) es ≡ s .end .0
+Dated es s = (endTold (s .conn) (s .id) es ≡ s .end .0) × (muxTold (s .conn) (s .id) es ≡ s .mux)
 
-redated : (q : Queue) (es fs : List Entry) → ((c x : ℕ) → endTold c x fs ≡ endTold c x es) → Each (Dated es) q → Each (Dated fs) q
+end-lasts : Lasting (λ e. e .end)
+end-lasts = record { credited = λ rs e. refl; shut = λ d e. refl }
+
+mux-lasts : Lasting (λ e. e .mux)
+mux-lasts = record { credited = λ rs e. refl; shut = λ d e. refl }
+
+redated : (q : Queue) (es fs : List Entry) → ((f : Entry → ℕ) → Lasting f → (c x : ℕ) → lastTold f c x fs ≡ lastTold f c x es) → Each (Dated es) q → Each (Dated fs) q
 redated q es fs h d =
-    let same : (s : Session) → Dated es s → Dated fs s = λ s k. h (s .conn) (s .id) ∙ k in
+    let same : (s : Session) → Dated es s → Dated fs s =
+    λ s k. (h (λ e. e .end) end-lasts (s .conn) (s .id) ∙ k .0, h (λ e. e .mux) mux-lasts (s .conn) (s .id) ∙ k .1) in
     record { waiting = all-into (Dated es) (Dated fs) same (q .waiting) (d .waiting); started = all-into (Dated es) (Dated fs) same (q .started) (d .started) }
 
 -- ## The book beside the sessions held
@@ -161,7 +173,7 @@ turn-booked : (q : Queue) (es : List Entry) (t : Turn) → Booked q es → ((c x
 turn-booked q es t b law d =
     record {
       owed = λ c x. owed-credited c x _ _ (t .written) es (law c x .kept) (b .owed c x);
-      dated = redated (t .queue) es (credited (t .written) es) (λ c x. endTold-credited c x (t .written) es) d;
+      dated = redated (t .queue) es (credited (t .written) es) (λ f h c x. told-credited f h c x (t .written) es) d;
     }
 
 plain-booked : (q : Queue) (es : List Entry) (rs : List Record) → Plain rs → Booked q es → Booked q (credited rs es)
@@ -170,7 +182,7 @@ plain-booked q es rs p b =
 
 shut-booked : (q : Queue) (es : List Entry) (d : ℕ) → ((x : ℕ) → heldCount q (is d x) ≡ 0) → Booked q es → Booked q (shut d es)
 shut-booked q es d none b =
-    record { owed = λ c x. owed-shut c x d _ es (λ e. rw e (none x)) (b .owed c x); dated = redated q es (shut d es) (λ c x. endTold-shut c x d es) (b .dated) }
+    record { owed = λ c x. owed-shut c x d _ es (λ e. rw e (none x)) (b .owed c x); dated = redated q es (shut d es) (λ f h c x. told-shut f h c x d es) (b .dated) }
 
 -- the end of a number that is held
 pub told-end : (c x : ℕ) (q : Queue) (es : List Entry) → Each (Dated es) q → holds c x q ≡ true → endTold c x es ≡ endOf c x (held q)
@@ -180,7 +192,7 @@ told-end c x q es d e =
     let h : i < length l = ltb-true i (length l) (sym (some-place (is c x) l) ∙ e) in
     let s = getD l i empty in
     let k = and-both (eqb c (s .conn)) (eqb x (s .id)) (place-holds (is c x) l empty h) in
-    ap (λ n. endTold n x es) (eqb-true c (s .conn) (k .0)) ∙ ap (λ n. endTold (s .conn) n es) (eqb-true x (s .id) (k .1)) ∙ all-getD (Dated es) l i empty h (all-held (Dated es) q d)
+    ap (λ n. endTold n x es) (eqb-true c (s .conn) (k .0)) ∙ ap (λ n. endTold (s .conn) n es) (eqb-true x (s .id) (k .1)) ∙ all-getD (Dated es) l i empty h (all-held (Dated es) q d) .0
 
 told-start : (c : ℕ) (f : Start) (q : Queue) (es : List Entry) → Each (Dated es) q → unknownPrior c f q ≡ false → startTold c f es ≡ startOf c f q
 unfolding startTold startOf unknownPrior
@@ -190,7 +202,7 @@ told-start c (Linked p) q es d e = told-end c p q es d (not-false _ e)
 -- ## A session that is accepted
 
 abbrev entry : Session → Entry
-entry s = record { conn = s .conn; id = s .id; end = s .end .0; ends = 0; closed = false }
+entry s = record { conn = s .conn; id = s .id; end = s .end .0; mux = s .mux; ends = 0; closed = false }
 
 module _ (new : Session) (q : Queue) (es : List Entry) (b : Booked q es) (none : heldCount q (is (new .conn) (new .id)) ≡ 0) where
   abbrev t : Turn
@@ -215,13 +227,17 @@ module _ (new : Session) (q : Queue) (es : List Entry) (b : Booked q es) (none :
           rw (e, n) (omega arith, (λ k. absurd (clash false k refl)), owed-none c x (credited (t .written) es) (rw n at (gone .owed c x)))
       go false e = rw (e, zero-add) (gone .owed c x)
 
-  old : (u : Session) → is (new .conn) (new .id) u ≡ false → Dated es u → Dated later u
-  unfolding endTold
-  old u f h =
-      by (λ (n : ℕ). n ≡ u .end .0) (eqb (u .conn) (new .conn) && eqb (u .id) (new .id)) (new .end .0) (endTold (u .conn) (u .id) (credited (t .written) es))
+  -- of another number the book says what it said
+  still : (f : Entry → ℕ) → Lasting f → (u : Session) → is (new .conn) (new .id) u ≡ false → lastTold f (u .conn) (u .id) later ≡ lastTold f (u .conn) (u .id) es
+  unfolding lastTold
+  still f h u o =
+      by (λ (n : ℕ). n ≡ lastTold f (u .conn) (u .id) es) (eqb (u .conn) (new .conn) && eqb (u .id) (new .id)) (f (entry new)) (lastTold f (u .conn) (u .id) (credited (t .written) es))
       (λ k. let i = and-both (eqb (u .conn) (new .conn)) (eqb (u .id) (new .id)) k in
-      absurd (clash (is (new .conn) (new .id) u) (rw (← (eqb-true (u .conn) (new .conn) (i .0)), ← (eqb-true (u .id) (new .id) (i .1)), eqb-same (u .conn), eqb-same (u .id))) f))
-      (λ k. endTold-credited (u .conn) (u .id) (t .written) es ∙ h)
+      absurd (clash (is (new .conn) (new .id) u) (rw (← (eqb-true (u .conn) (new .conn) (i .0)), ← (eqb-true (u .id) (new .id) (i .1)), eqb-same (u .conn), eqb-same (u .id))) o))
+      (λ k. told-credited f h (u .conn) (u .id) (t .written) es)
+
+  old : (u : Session) → is (new .conn) (new .id) u ≡ false → Dated es u → Dated later u
+  old u o h = (still (λ e. e .end) end-lasts u o ∙ h .0, still (λ e. e .mux) mux-lasts u o ∙ h .1)
 
   olds : (l : List Session) → count (is (new .conn) (new .id)) l ≡ 0 → All (Dated es) l → All (Dated later) l
   olds l z d =
@@ -229,8 +245,8 @@ module _ (new : Session) (q : Queue) (es : List Entry) (b : Booked q es) (none :
       (all-both (λ u. is (new .conn) (new .id) u ≡ false) (Dated es) l (all-none (is (new .conn) (new .id)) l z) d)
 
   own : Dated later new
-  unfolding endTold
-  own = rw (eqb-same (new .conn), eqb-same (new .id))
+  unfolding lastTold
+  own = (rw (eqb-same (new .conn), eqb-same (new .id)), rw (eqb-same (new .conn), eqb-same (new .id)))
 
   new-booked : Booked (accepted new q .queue) later
   new-booked =
@@ -261,7 +277,7 @@ module _ (s : Splicer) (es : List Entry) (b : Booked (s .queue) es) where
   -- the entry of a request that is accepted
   asked-entry : (c : ℕ) (l : List ℕ) (r : Request) → readSplice (dataIn l) ≡ Splice r → unknownPrior c (r .start) q ≡ false
       → entryOf c (dataIn l) es ≡ entry (requested c r q)
-  unfolding entryOf endAsked requested sessionAt
+  unfolding entryOf endAsked muxAsked requested sessionAt
   asked-entry c l r e u = rw (e, ← (read-id (dataIn l) r e), told-start c (r .start) q es (b .dated) u)
 
   tick-booked : (until : ℕ) → Booked (runAll (s .clock) until q .queue) (credited (runAll (s .clock) until q .written) es)

@@ -13,18 +13,19 @@ use Rattle.rules.specs.Lists.{All}
 use Rattle.rules.specs.Bytes.{Byte, hasZero}
 use Rattle.rules.specs.State.{Splicer}
 use Rattle.rules.specs.Records.{recordsIn}
-use Rattle.rules.specs.Answers.{requested, spliceResult}
+use Rattle.rules.specs.Answers.{airMux, requested, spliceResult}
 use Rattle.rules.specs.Calls.{refused, refuse, writtenBy, named, fresh, Loans, Call, closes, messages, call, after}
 use Rattle.demands.specs.History.{Event, startsOf, endsOf, history, ownAnswer, othersOf, waitingCount, book, clockAfter}
-use Rattle.rules.specs.Sound.{Wired, Coded}
+use Rattle.rules.specs.Sound.{Each, Wired, Coded}
 use Rattle.rules.proofs.Sound.{sound-size, sound-found}
 use Rattle.rules.proofs.Codes.{call-coded}
-use Rattle.demands.specs.Told.{FromFresh, Unchanged, firstNumber, checks, numberOf, answers, Asks, Passes, earlierCode, fullTold, outsOf, startedTold, unended, Ended, Stands}
+use Rattle.demands.specs.Told.{FromFresh, Unchanged, firstNumber, checks, numberOf, answers, Asks, Passes, earlierCode, fullTold, outsOf, startedTold, unended, Ended, Stands, airMuxTold, MuxInRange}
 use Rattle.demands.proofs.Refusals.{unchanged, first-number, fresh-number, fresh-refused}
 use Rattle.demands.proofs.Room.{from-sound, count-room, own-answer, passes-or-earlier, full-answer}
 use Rattle.demands.proofs.Once.{all-ended}
 use Rattle.demands.proofs.Aired.{ends-accepted, outs-started}
 use Rattle.demands.proofs.Closed.{from-more, close-stands}
+use Rattle.demands.proofs.Mux.{air-told, held-in-range}
 
 -- ## "Over all sequences of opens, closes, messages and ticks from a fresh splicer"
 
@@ -113,3 +114,14 @@ pub closed-stays-ended : (h : List Event) (s : Splicer) → FromFresh h s → (c
     → (js : List Call) → All Wired js
     → Stands c (book (h ++ history (closes c room ∷ []) s) []) (book (h ++ history (closes c room ∷ js) s) [])
 closed-stays-ended = close-stands
+
+-- ## 02, CR 5
+
+-- "sessions carry the value": the length and the value of each descriptor are judged at the reading step, so every session held has 1 to 10
+pub mux-in-range : (h : List Event) (s : Splicer) → FromFresh h s → Each MuxInRange (s .queue)
+mux-in-range = held-in-range
+
+-- "the caller can read that of the one on air, 5 with none": it is what the bytes of the request asked that was last accepted under the number
+-- on air, so Alive_Response's SessionID and this value are of one session
+pub air-mux-told : (h : List Event) (s : Splicer) → FromFresh h s → airMux (s .queue .started) ≡ airMuxTold (s .queue .started) (book h [])
+air-mux-told = air-told

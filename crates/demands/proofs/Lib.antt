@@ -10,6 +10,7 @@ pub mod Witness
 pub mod Book
 pub mod Once
 pub mod Closed
+pub mod Mux
 pub mod Aired
 pub mod Ninths
 pub mod Marks

@@ -9,7 +9,7 @@ use Rattle.rules.specs.Lists.{All}
 use Rattle.rules.specs.Bytes.{hasZero}
 use Rattle.rules.specs.State.{Splicer, is, held, holds}
 use Rattle.rules.specs.Calls.{Called, ticked, Call, call, after, named, fresh}
-use Rattle.demands.specs.History.{Event, Entry, entryIs, endTold, replyOf, history, book, clockReplied, clockAfter}
+use Rattle.demands.specs.History.{Event, Entry, entryIs, lastTold, endTold, replyOf, history, book, clockReplied, clockAfter}
 use Rattle.rules.specs.Sound.{heldCount}
 use Rattle.rules.proofs.Tests.{by, clash, eqb-same}
 use Rattle.rules.proofs.All.{all-into}
@@ -63,7 +63,7 @@ book-told h s f =
 -- n sessions of the number are held
 module _ (now c x n : ℕ) where
   fates : (es : List Entry) → (n ≡ 1 → now < endTold c x es) → Owed c x n es → All (λ e. entryIs c x e ≡ true → Ended now e) es
-  unfolding endTold
+  unfolding lastTold
   fates [] h f = tt
   fates (e ∷ es) h f = go (entryIs c x e) refl h f (fates es)
     where

@@ -74,7 +74,7 @@ small (b ∷ l) h = let p = split (ltb b 256) (each l) h in (ltb→lt b 256 (p .
 
 -- what they are computed with
 unfoldable computing : ℕ
-unfolding name message initialise asking room calls heard now request each cardName bytes Bytes.value Bytes.valueFrom Reading.readInit Reading.tailOf Reading.readWhole Reading.readSplice Reading.wellFormed Reading.readStart Reading.read Answers.initResult Answers.answerInit Answers.startOf Answers.sessionAt Answers.requested Answers.unknownPrior Answers.tooLate Answers.collides Answers.answerRead Answers.answer Calls.named Calls.fresh Calls.openCall Calls.framing Calls.handled Calls.messageCall Calls.call Calls.after firstNumber earlierCode
+unfolding name message initialise asking room calls heard now request each cardName bytes Bytes.value Bytes.valueFrom Reading.readInit Reading.tailOf Reading.readWhole Reading.readSplice Reading.muxFrom Reading.readStart Reading.read Answers.initResult Answers.answerInit Answers.startOf Answers.sessionAt Answers.requested Answers.unknownPrior Answers.tooLate Answers.collides Answers.answerRead Answers.answer Calls.named Calls.fresh Calls.openCall Calls.framing Calls.handled Calls.messageCall Calls.call Calls.after firstNumber earlierCode
 computing = 0
 
 reached : FromFresh heard now

@@ -137,11 +137,13 @@ waitingCount c h = length (waitingTold c h [])
 
 -- ## The sessions accepted, the newest first
 
--- connection, number and end time, the ends written for it, and whether its connection has closed since
+-- connection, number and end time, what it asked of the multiplexer (02, CR 5), the ends written for it, and whether its connection has
+-- closed since
 pub record Entry : Type 0 where
   pub conn : ℕ
   pub id : ℕ
   pub end : ℕ
+  pub mux : ℕ
   pub ends : ℕ
   pub closed : Bool
 
@@ -150,17 +152,32 @@ entryIs c x e = sameNumber c x (e .conn) (e .id)
 
 abbrev pub withEnds : List Record → Entry → Entry
 withEnds rs e =
-    record { conn = e .conn; id = e .id; end = e .end; ends = e .ends + endsOf (e .conn) (e .id) rs; closed = e .closed }
+    record {
+      conn = e .conn;
+      id = e .id;
+      end = e .end;
+      mux = e .mux;
+      ends = e .ends + endsOf (e .conn) (e .id) rs;
+      closed = e .closed;
+    }
 
 -- "It counts for the session that its connection last accepted under that SessionID, ended already or not."
 unfoldable pub credited : List Record → List Entry → List Entry
 credited rs [] = []
 credited rs (e ∷ es) = withEnds rs e ∷ credited (keep (λ r. not (isEnd (e .conn) (e .id) r)) rs) es
 
--- the end of the session last accepted under a number
-unfoldable pub endTold : ℕ → ℕ → List Entry → ℕ
-endTold c x [] = 0
-endTold c x (e ∷ es) = cond (entryIs c x e) (e .end) (endTold c x es)
+-- of the session last accepted under a number, what f says
+unfoldable pub lastTold : (Entry → ℕ) → ℕ → ℕ → List Entry → ℕ
+lastTold f c x [] = 0
+lastTold f c x (e ∷ es) = cond (entryIs c x e) (f e) (lastTold f c x es)
+
+-- its end
+abbrev pub endTold : ℕ → ℕ → List Entry → ℕ
+endTold c x es = lastTold (λ e. e .end) c x es
+
+-- 02, CR 5: what it asked of the multiplexer
+abbrev pub muxTold : ℕ → ℕ → List Entry → ℕ
+muxTold c x es = lastTold (λ e. e .mux) c x es
 
 unfoldable pub startTold : ℕ → Start → List Entry → ℕ
 startTold c (Timed t) es = fromMicros t .0
@@ -174,18 +191,44 @@ endAsked c (Splice r) es = startTold c (r .start) es + fromTicks (r .duration) .
 endAsked c (Abort x) es = 0
 endAsked c Unreadable es = 0
 
+-- what a message asks of the multiplexer
+unfoldable pub muxAsked : Message → ℕ
+muxAsked (Init revision) = 0
+muxAsked Alive = 0
+muxAsked (Splice r) = r .mux
+muxAsked (Abort x) = 0
+muxAsked Unreadable = 0
+
 -- the entry of a Splice_Request with the data d
 unfoldable pub entryOf : ℕ → List ℕ → List Entry → Entry
-entryOf c d es = record { conn = c; id = sessionID d; end = endAsked c (readSplice d) es; ends = 0; closed = false }
+entryOf c d es =
+    record {
+      conn = c;
+      id = sessionID d;
+      end = endAsked c (readSplice d) es;
+      mux = muxAsked (readSplice d);
+      ends = 0;
+      closed = false;
+    }
 
 unfoldable pub bookAnswered : ℕ → List ℕ → List Record → List Entry → List Entry
 bookAnswered d l rs es = put (grantedIn d l rs) (entryOf d (dataIn l) es) (credited (othersIn l rs) es)
 
 -- connection d has closed
+abbrev pub withClosed : ℕ → Entry → Entry
+withClosed d e =
+    record {
+      conn = e .conn;
+      id = e .id;
+      end = e .end;
+      mux = e .mux;
+      ends = e .ends;
+      closed = eqb d (e .conn) || e .closed;
+    }
+
 unfoldable pub shut : ℕ → List Entry → List Entry
 shut d [] = []
-shut d (e ∷ es) =
-    record { conn = e .conn; id = e .id; end = e .end; ends = e .ends; closed = eqb d (e .conn) || e .closed } ∷ shut d es
+shut d (e ∷ es) = withClosed d e ∷ shut d es
 
 unfoldable pub bookAfter : Call → List Record → List Entry → List Entry
 bookAfter (opens d) rs es = credited rs es

@@ -6,17 +6,18 @@ use Prim.Native.Nat.{ℕ, _+_, _-_, _≤_}
 use lib.Dec.{eqb, ltb}
 use lib.ListN.{length}
 use Rattle.rules.specs.declared.Request.{Request}
+use Rattle.rules.specs.declared.Session.{Session}
 use Rattle.rules.specs.declared.Message.the-variants.{Splice}
 use Rattle.rules.specs.declared.Framing.the-variants.{Framed}
 use Rattle.rules.specs.Units.{timeOf, badMicros, fromMicros}
 use Rattle.rules.specs.Lists.{All, keep, count}
 use Rattle.rules.specs.Bytes.{Byte, messageSize, oversize}
-use Rattle.rules.specs.Reading.{spliceRequest, readSplice, dataIn}
+use Rattle.rules.specs.Reading.{averageMux, spliceRequest, readSplice, dataIn}
 use Rattle.rules.specs.State.{Splicer, linkOf, isOpen, isInitialised}
 use Rattle.rules.specs.Records.{Record, recordsIn}
 use Rattle.rules.specs.Answers.{fullBy, firstOf, requested, wrongNumber, tooLate, collides}
 use Rattle.rules.specs.Calls.{houseNumber, Answer, refused, good, Called, writtenBy, consumedBy, bufferAfter, noConnection, noRoom, notOpen, fresh, framing, Loans, Call, opens, closes, messages, ticks, moves, after}
-use Rattle.demands.specs.History.{Reply, refusal, wrote, Event, Entry, entryIs, startsOf, endsOf, history, grantedIn, waitingCount, tells, othersOf}
+use Rattle.demands.specs.History.{Reply, refusal, wrote, Event, Entry, entryIs, muxTold, startsOf, endsOf, history, grantedIn, waitingCount, tells, othersOf}
 use Rattle.rules.specs.Sound.{Wired}
 
 -- "Over all sequences of opens, closes, messages and ticks from a fresh splicer": h, the calls with their answers, and s, the splicer
@@ -147,6 +148,17 @@ pub record Stands (c : ℕ) (es fs : List Entry) : Type 0 where
 -- each connection's waiting sessions, from the answers
 abbrev pub countsTold : List Event → List ℕ
 countsTold h = waitingCount 0 h ∷ waitingCount 1 h ∷ waitingCount 2 h ∷ waitingCount 3 h ∷ []
+
+-- ## Document 02, CR 5
+
+-- of the started ones k and the book es: what the session last accepted under the number on air asked of the multiplexer; "5 with none"
+unfoldable pub airMuxTold : List Session → List Entry → ℕ
+airMuxTold [] es = averageMux
+airMuxTold (air ∷ k) es = muxTold (air .conn) (air .id) es
+
+-- of a session held: "the value 1 to 10"
+abbrev pub MuxInRange : Session → Type 0
+MuxInRange s = (1 ≤ s .mux) × (s .mux ≤ 10)
 
 -- ## Document 02, CR 11
 

@@ -13,13 +13,14 @@ use Rattle.rules.specs.declared.Request.{Request}
 use Rattle.rules.specs.declared.Message.the-variants.{Init, Alive, Splice, Abort, Unreadable}
 use Rattle.rules.specs.Units.{timeOf}
 use Rattle.rules.specs.Bytes.{field}
-use Rattle.rules.specs.Reading.{nobody, sessionID, badInit, readInit, readAlive, readAbort, descriptorsFill, descriptorsOf, priorSession, seconds, microSeconds, duration, accessType, overridePlaying, returnToPriorChannel, readStart, tailOf, badTail, badSplice, wholeRequest, readWhole, readSplice, read}
+use Rattle.rules.specs.Reading.{nobody, sessionID, badInit, readInit, readAlive, readAbort, isBad, muxOf, descriptorsOf, priorSession, seconds, microSeconds, duration, accessType, overridePlaying, returnToPriorChannel, readStart, tailOf, badTail, badSplice, wholeRequest, readWhole, readSplice, read}
 use Rattle.rules.specs.State.{Queue, holds}
 use Rattle.rules.specs.Answers.{requested, unknownPrior, wrongNumber, tooLate, collides, full, firstOf, spliceResult}
 use Rattle.rules.proofs.Tests.{tests, or-none}
 use Rattle.rules.proofs.All.{All}
 use Rattle.rules.proofs.Bytes.{Byte, field-below}
 use Rattle.rules.proofs.Streams.{tail-byte}
+use Rattle.rules.proofs.Descriptors.{mux-range}
 
 -- ## Checks b to e
 
@@ -118,6 +119,7 @@ pub record Granted (r : Request) : Type 0 where
   pub lasts : 0 < r .duration .0
   pub ranked : r .access ≤ 9
   pub overrides : r .overrides ≤ 1
+  pub mux : (1 ≤ r .mux) × (r .mux ≤ 10)
   pub names : Named (r .start)
 
 -- and of bytes: "SessionID 4, PriorSession 4, time 8, ServiceID 2, Duration 4"
@@ -139,7 +141,7 @@ pub record GoodTail (t : List ℕ) : Type 0 where
 pub good-tail : (t : List ℕ) → badTail t ≡ false → GoodTail t
 good-tail t e =
     let a = or-none (ltb (length t) 15) _ e in
-    let b = or-none (not (descriptorsFill (descriptorsOf t))) _ (a .1) in
+    let b = or-none (isBad (muxOf (descriptorsOf t))) _ (a .1) in
     let c = or-none (eqb (duration t) 0) _ (b .1) in
     let f = or-none (ltb 9 (accessType t)) _ (c .1) in
     let g = or-none (ltb 1 (overridePlaying t)) _ (f .1) in
@@ -156,7 +158,7 @@ module _ (d : List ℕ) (r : Request) (h : readSplice d ≡ Splice r) where
 
   pub granted : Granted r
   unfolding readStart
-  granted = rw (w .0) (record { lasts = good .lasts; ranked = good .ranked; overrides = good .overrides; names = named (eqb (priorSession d) nobody) refl })
+  granted = rw (w .0) (record { lasts = good .lasts; ranked = good .ranked; overrides = good .overrides; mux = mux-range (descriptorsOf (tailOf d)); names = named (eqb (priorSession d) nobody) refl })
     where
       good : GoodTail (tailOf d)
       good = good-tail (tailOf d) (parts .0)

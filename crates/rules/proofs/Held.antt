@@ -37,14 +37,14 @@ pub use Rattle.rules.specs.Sound.{Proper, Small, Once, Linking}
 -- ## Each session
 
 pub proper-plays : (d : ℕ) (s : Session) → Proper s → Proper (playing d s)
-proper-plays d s h = record { conn = h .conn; somebody = h .somebody; access = h .access; overrides = h .overrides; lasts = h .lasts }
+proper-plays d s h = record { conn = h .conn; somebody = h .somebody; access = h .access; overrides = h .overrides; mux = h .mux; lasts = h .lasts }
 
 pub proper-kept : {F : Call → Type 0} → KeptHeld F (λ now q. Each Proper q)
 unfolding requested sessionAt
 proper-kept =
     each-kept Proper proper-plays
     (λ s c r a h. let g = grants a in
-    record { conn = a .low; somebody = a .passed .somebody; access = g .ranked; overrides = g .overrides; lasts = omega (arith, g .lasts) })
+    record { conn = a .low; somebody = a .passed .somebody; access = g .ranked; overrides = g .overrides; mux = g .mux; lasts = omega (arith, g .lasts) })
 
 pub small-plays : (d : ℕ) (s : Session) → Small s → Small (playing d s)
 small-plays d s h = record { id = h .id; prior = h .prior; duration = h .duration; timed = h .timed }

@@ -8,6 +8,7 @@ pub mod Equal
 pub mod Every
 pub mod Walk
 pub mod Streams
+pub mod Descriptors
 pub mod Checks
 pub mod Cases
 pub mod Always

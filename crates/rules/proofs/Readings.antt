@@ -1,4 +1,4 @@
--- What reading grants of a message read from bytes, and the laws of the descriptors' walk.
+-- What reading grants of a message read from bytes. Rests on Descriptors for what they ask of the multiplexer.
 use mathlib.Core.Path.{_≡_, refl, sym, ap, subst, _∙_}
 use mathlib.Core.Bool.{true, false, not, _&&_, _||_}
 use mathlib.Core.List.{List}
@@ -10,12 +10,13 @@ use lib.Seq.{drop-drop}
 use borrow.Author.Tests.{eqb-false, ltb-false, eq-eqb, ne-eqb}
 use Rattle.rules.specs.declared.Request.{Request}
 use Rattle.rules.specs.declared.Message.the-variants.{Splice}
-use Rattle.rules.specs.Reading.{nobody, initRequest, aliveRequest, spliceRequest, abortRequest, badInit, badTail, badSplice, readInit, readAlive, readAbort, readStart, readWhole, readSplice, read, priorSession, tailOf, wholeRequest, descriptorsFill, descriptorLength, descriptorFits, wellFormed}
+use Rattle.rules.specs.Reading.{nobody, initRequest, aliveRequest, spliceRequest, abortRequest, badInit, badTail, badSplice, readInit, readAlive, readAbort, readStart, readWhole, readSplice, read, priorSession, tailOf, wholeRequest, descriptorsOf}
 use Rattle.rules.specs.Asked.{Within, Asked, Reads}
 use Rattle.rules.proofs.Tests.{by, or-none}
 use Rattle.rules.proofs.All.{All}
 use Rattle.rules.proofs.Bytes.{Byte, field-below}
 use Rattle.rules.proofs.Streams.{tail-byte}
+use Rattle.rules.proofs.Descriptors.{mux-range}
 use Rattle.rules.proofs.Checks.{good-tail}
 
 -- ## Messages
@@ -37,6 +38,7 @@ module _ (d : List ℕ) (a : All Byte d) where
         duration = field-below 0 4 t b;
         access = g .ranked;
         overrides = g .overrides;
+        mux = mux-range (descriptorsOf t);
       }
 
   -- whatever the message
@@ -52,40 +54,3 @@ module _ (d : List ℕ) (a : All Byte d) where
 
   pub splice-grants : (id : ℕ) (r : Request) → read id d ≡ Splice r → Asked r
   splice-grants id r e = subst Reads e (read-grants id)
-
--- ## Descriptors
-
-eqb-zero : (l : List ℕ) → length l ≤ 0 → eqb (length l) 0 ≡ true
-eqb-zero l h = eq-eqb (length l) 0 (omega arith)
-
-enough : (n m : ℕ) (l : List ℕ) → length l ≤ n → length l ≤ m → wellFormed n l ≡ wellFormed m l
-unfolding wellFormed
-enough zero zero l h k = refl
-enough zero (suc m) l h k = rw (eqb-zero l h)
-enough (suc n) zero l h k = rw (eqb-zero l k)
-enough (suc n) (suc m) l h k =
-    let r = drop (2 + descriptorLength l) l in
-    let s : length r ≡ length l - (2 + descriptorLength l) = length-drop (2 + descriptorLength l) l in
-    ap (λ t. eqb (length l) 0 || (descriptorFits l && t)) (enough n m r (omega arith) (omega arith))
-
--- more fuel than bytes changes nothing
-pub wellFormed-fill : (n : ℕ) (l : List ℕ) → length l ≤ n → wellFormed n l ≡ descriptorsFill l
-wellFormed-fill n l h = enough n (length l) l h (omega arith)
-
--- at the end of the bytes
-pub fill-end : (l : List ℕ) (i : ℕ) → length l ≤ i → descriptorsFill (drop i l) ≡ true
-unfolding wellFormed
-fill-end l i h = sym (wellFormed-fill 0 (drop i l) (simp length-drop (omega arith))) ∙ eqb-zero (drop i l) (simp length-drop (omega arith))
-
--- at a place before it
-pub fill-step : (l : List ℕ) (i : ℕ) → i < length l
-    → descriptorsFill (drop i l) ≡ (descriptorFits (drop i l) && descriptorsFill (drop (i + (2 + descriptorLength (drop i l))) l))
-unfolding wellFormed
-fill-step l i h =
-    let m = drop i l in
-    let n = 2 + descriptorLength m in
-    let k : length m ≡ length l - i = length-drop i l in
-    let j : length (drop n m) ≡ length m - n = length-drop n m in
-    sym (wellFormed-fill (suc (length m)) m (omega arith))
-    ∙ ap (λ t. t || (descriptorFits m && wellFormed (length m) (drop n m))) (ne-eqb (length m) 0 (λ z. omega arith))
-    ∙ ap (λ t. descriptorFits m && t) (wellFormed-fill (length m) (drop n m) (omega arith) ∙ ap descriptorsFill (drop-drop n i l))

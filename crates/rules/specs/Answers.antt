@@ -14,7 +14,7 @@ use Rattle.rules.specs.declared.Session.{Session}
 use Rattle.rules.specs.Units.{timeOf, fromMicros, fromTicks, toMicros}
 use Rattle.rules.specs.Lists.{some, count, place, insertAt}
 use Rattle.rules.specs.Bytes.{sameName}
-use Rattle.rules.specs.Reading.{nobody, initRequest, channelName, isRead, read}
+use Rattle.rules.specs.Reading.{nobody, averageMux, initRequest, channelName, isRead, read}
 use Rattle.rules.specs.State.{Queue, Splicer, empty, of, is, startsAt, startsAfter, held, holds, linkOf, isInitialised, withQueue, withLink, withWaiting}
 use Rattle.rules.specs.Records.{Record, General, InitResponse, AliveResponse, SpliceResponse, AbortResponse}
 use Rattle.rules.specs.Ends.{Turn, andThen, writes, evicted, aborted}
@@ -58,6 +58,11 @@ unfoldable pub airID : List Session → ℕ
 airID [] = nobody
 airID (air ∷ k) = air .id
 
+-- 02, CR 5: "the caller can read that of the one on air, 5 with none"
+unfoldable pub airMux : List Session → ℕ
+airMux [] = averageMux
+airMux (air ∷ k) = air .mux
+
 -- "the present clock, microseconds rounded down"
 unfoldable pub aliveResponse : ℕ → Splicer → Record
 aliveResponse c s =
@@ -98,6 +103,7 @@ sessionAt t c r =
       end = record { 0 = t + fromTicks (r .duration) .0 };
       access = r .access;
       overrides = r .overrides;
+      mux = r .mux;
       played = record { 0 = 0 };
     }
 

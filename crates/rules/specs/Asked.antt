@@ -19,6 +19,7 @@ pub record Asked (r : Request) : Type 0 where
   pub duration : r .duration .0 < 4294967296
   pub access : r .access ≤ 9
   pub overrides : r .overrides ≤ 1
+  pub mux : (1 ≤ r .mux) × (r .mux ≤ 10)
 
 abbrev pub Reads : Message → Type 0
 Reads (Init revision) = revision < 65536

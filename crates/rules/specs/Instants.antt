@@ -82,6 +82,7 @@ playing d s =
       end = s .end;
       access = s .access;
       overrides = s .overrides;
+      mux = s .mux;
       played = record { 0 = s .played .0 + d };
     }
 

@@ -2,6 +2,7 @@ pub mod Lists
 pub mod Units
 pub mod Bytes
 pub mod Reading
+pub mod Descriptors
 pub mod Asked
 pub mod State
 pub mod Records

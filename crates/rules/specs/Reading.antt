@@ -1,11 +1,13 @@
 -- 01, Bytes and "Not readable": what is read of a message's data, and what makes it unreadable. Offsets are those of J.280's tables.
-use mathlib.Core.Bool.{Bool, cond, not, _&&_, _||_}
+use mathlib.Core.Bool.{Bool, true, false, cond, not, _&&_, _||_}
 use mathlib.Core.List.{List, [], _∷_, _++_}
 use Prim.Native.Nat.{ℕ, zero, suc, _+_, _-_, _≤_, _<_}
 use lib.Dec.{eqb, leb, ltb}
 use lib.ListN.{length, getD, drop}
 use Rattle.rules.specs.declared.Start.{Start}
 use Rattle.rules.specs.declared.Start.the-variants.{Timed, Linked}
+use Rattle.rules.specs.declared.Priority.{Priority}
+use Rattle.rules.specs.declared.Priority.the-variants.{Is, Bad}
 use Rattle.rules.specs.declared.Request.{Request}
 use Rattle.rules.specs.declared.Message.{Message}
 use Rattle.rules.specs.declared.Message.the-variants.{Init, Alive, Splice, Abort, Unreadable}
@@ -62,13 +64,46 @@ descriptorLength l = getD l 1 0
 abbrev pub descriptorFits : List ℕ → Bool
 descriptorFits l = leb 4 (descriptorLength l) && (leb (descriptorLength l) 254 && leb (2 + descriptorLength l) (length l))
 
-unfoldable pub wellFormed : ℕ → List ℕ → Bool
-wellFormed zero l = eqb (length l) 0
-wellFormed (suc n) l = eqb (length l) 0 || (descriptorFits l && wellFormed n (drop (2 + descriptorLength l) l))
+-- 02, CR 5: "For tag 0x02 under "SAPI" the length must be 5 and the value 1 to 10" (000, Table 8-11)
+abbrev pub isMux : List ℕ → Bool
+isMux l = eqb (getD l 0 0) 0x02 && eqb (field 2 4 l) 0x53415049
+
+abbrev pub muxValue : List ℕ → ℕ
+muxValue l = getD l 6 0
+
+abbrev pub badMux : List ℕ → Bool
+badMux l = not (eqb (descriptorLength l) 5 && (leb 1 (muxValue l) && leb (muxValue l) 10))
+
+-- whether the first descriptor of l is good; of a foreign one "form only"
+abbrev pub goodDescriptor : List ℕ → Bool
+goodDescriptor l = descriptorFits l && not (isMux l && badMux l)
+
+-- "without one the value is 5"
+abbrev pub averageMux : ℕ
+averageMux = 5
+
+-- "the last one wins": the value is v before the first descriptor of l, and this behind it
+abbrev pub muxAfter : ℕ → List ℕ → ℕ
+muxAfter v l = cond (isMux l) (muxValue l) v
+
+unfoldable pub muxFrom : ℕ → ℕ → List ℕ → Priority
+muxFrom zero v l = cond (eqb (length l) 0) (Is v) Bad
+muxFrom (suc n) v l =
+    cond (eqb (length l) 0) (Is v)
+    (cond (goodDescriptor l) (muxFrom n (muxAfter v l) (drop (2 + descriptorLength l) l)) Bad)
 
 -- each takes at least six bytes, so there are fewer than bytes
-abbrev pub descriptorsFill : List ℕ → Bool
-descriptorsFill l = wellFormed (length l) l
+abbrev pub muxOf : List ℕ → Priority
+muxOf l = muxFrom (length l) averageMux l
+
+abbrev pub isBad : Priority → Bool
+isBad (Is v) = false
+isBad Bad = true
+
+-- of bad descriptors, with which nothing is read, as without one
+abbrev pub muxIn : Priority → ℕ
+muxIn (Is v) = v
+muxIn Bad = averageMux
 
 -- Splice_Request: SessionID 4, PriorSession 4, time 8, ServiceID 2, then the tail
 abbrev pub sessionID : List ℕ → ℕ
@@ -226,7 +261,7 @@ descriptorsOf t = drop 15 t
 abbrev pub badTail : List ℕ → Bool
 badTail t =
     ltb (length t) 15
-    || (not (descriptorsFill (descriptorsOf t))
+    || (isBad (muxOf (descriptorsOf t))
     || (eqb (duration t) 0
     || (ltb 9 (accessType t)
     || (ltb 1 (overridePlaying t) || ltb 1 (returnToPriorChannel t)))))
@@ -243,6 +278,7 @@ wholeRequest d t =
       duration = record { 0 = duration t };
       access = accessType t;
       overrides = overridePlaying t;
+      mux = muxIn (muxOf (descriptorsOf t));
     }
 
 unfoldable pub readWhole : List ℕ → List ℕ → Message

@@ -58,6 +58,7 @@ pub record Proper (s : Session) : Type 0 where
   pub somebody : eqb (s .id) nobody ≡ false
   pub access : s .access ≤ 9
   pub overrides : s .overrides ≤ 1
+  pub mux : (1 ≤ s .mux) × (s .mux ≤ 10)
   pub lasts : s .start .0 < s .end .0
 
 -- the clock and a timed start stay below this: Seconds are four bytes

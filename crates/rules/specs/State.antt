@@ -40,6 +40,7 @@ empty =
       end = record { 0 = 0 };
       access = 0;
       overrides = 0;
+      mux = 0;
       played = record { 0 = 0 };
     }
 

@@ -22,6 +22,12 @@ pub enum Start {
     Linked(u32),
 }
 
+// What a Splice_Request's descriptors ask of the multiplexer (02, CR 5): a value, or one of them is bad.
+pub enum Priority {
+    Is(u8),
+    Bad,
+}
+
 // What is read of a Splice_Request.
 pub struct Request {
     pub id: u32,
@@ -29,6 +35,7 @@ pub struct Request {
     pub duration: Ticks,
     pub access: u8,
     pub overrides: u8,
+    pub mux: u8,
 }
 
 // A parsed message is one of its kinds. Init holds the Revision_Num; its names stay in the message's data.
@@ -41,7 +48,7 @@ pub enum Message {
 }
 
 // A session that is held: its connection, SessionID and PriorSession (0xFFFFFFFF if timed), start and end,
-// AccessType, OverridePlaying, and its time on air.
+// AccessType, OverridePlaying, what it asks of the multiplexer (MuxPriorityValue), and its time on air.
 pub struct Session {
     pub conn: u64,
     pub id: u64,
@@ -50,6 +57,7 @@ pub struct Session {
     pub end: Ninths,
     pub access: u64,
     pub overrides: u64,
+    pub mux: u64,
     pub played: Ninths,
 }
 
