@@ -1,4 +1,5 @@
 pub mod Strings
 pub mod Walks
+pub mod Found
 pub mod Laws
 pub mod Steps

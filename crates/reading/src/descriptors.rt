@@ -1,17 +1,39 @@
 // "A descriptor reader stays on the message's own bytes and moves from one descriptor to the next."
 ghost use mathlib.Core.Path.{_≡_};
-ghost use Rattle.rules.specs.Reading.{descriptorsFill};
+ghost use Prim.Native.Nat.{_+_, _≤_};
+ghost use lib.ListN.{length, drop};
+ghost use Rattle.rules.specs.Reading.{isMux, muxOf};
 ghost use Rattle.reading.specs.Walk.{stepAt};
 use super::numbers::byte_at;
+use super::numbers::number4;
+use rules::Priority;
 
-// What stands at a place: a descriptor, with the place behind it; the end; or what is no descriptor.
+// What stands at a place (02, CR 5): a muxpriority descriptor, with its value and the place behind it; a foreign one, with the place behind
+// it; the end; or what is no good descriptor.
 pub enum Descriptor {
-    Next(usize),
+    Mux(u8, usize),
+    Foreign(usize),
     End,
     Bad,
 }
 
-// The one place that looks at a descriptor: "Length counts what follows it, is 4 to 254".
+// 000, Table 8-11: the tag and the identifier, "SAPI", of a muxpriority descriptor.
+const MUX_TAG: u8 = 0x02;
+
+const SAPI: u32 = 0x53415049;
+
+// "without one the value is 5"
+const AVERAGE: u8 = 5;
+
+// Whether a descriptor is muxpriority. Its identifier is looked at only where it is known to be there.
+fn is_mux(l: &[u8], at: usize) -> bool
+    requires { ⌜ at + 6 ≤ length (now l) ⌝ }
+    ensures { λ r. ⌜ r ≡ isMux (drop at (now (l .entry))) ⌝ }
+{
+    l[at] == MUX_TAG && number4(l, at + 2) == SAPI
+}
+
+// The one place that looks at a descriptor: "Length counts what follows it, is 4 to 254"; "the length must be 5 and the value 1 to 10".
 pub fn step(l: &[u8], at: usize) -> Descriptor
     ensures { λ r. ⌜ r ≡ stepAt (now (l .entry)) at ⌝ }
 {
@@ -29,7 +51,21 @@ pub fn step(l: &[u8], at: usize) -> Descriptor
     if l.len() - at < 2 + size {
         return Descriptor::Bad;
     }
-    Descriptor::Next(at + (2 + size))
+    let next = at + (2 + size);
+    if !is_mux(l, at) {
+        return Descriptor::Foreign(next);
+    }
+    if size != 5 {
+        return Descriptor::Bad;
+    }
+    let value = l[at + 6];
+    if value < 1 {
+        return Descriptor::Bad;
+    }
+    if 10 < value {
+        return Descriptor::Bad;
+    }
+    Descriptor::Mux(value, next)
 }
 
 // The descriptors' bytes as they stand in the message, and a place in them. Its functions are thin: `step` has the work.
@@ -71,16 +107,21 @@ pub fn descriptor_at(l: &[u8], place: usize) -> Descriptor
     Reader::new(l).moved(place).found()
 }
 
-// "the descriptors fill the message exactly"
-pub fn well_formed(l: &[u8]) -> bool
-    ensures { λ r. ⌜ r ≡ descriptorsFill (now (l .entry)) ⌝ }
+// What the descriptors ask of the multiplexer: "the last one wins". "the descriptors fill the message exactly", and each is good.
+pub fn priority(l: &[u8]) -> Priority
+    ensures { λ r. ⌜ r ≡ muxOf (now (l .entry)) ⌝ }
 {
+    let mut value = AVERAGE;
     let mut at = 0;
     loop {
         match descriptor_at(l, at) {
-            Descriptor::Next(next) => at = next,
-            Descriptor::End => return true,
-            Descriptor::Bad => return false,
+            Descriptor::Mux(found, next) => {
+                value = found;
+                at = next;
+            }
+            Descriptor::Foreign(next) => at = next,
+            Descriptor::End => return Priority::Is(value),
+            Descriptor::Bad => return Priority::Bad,
         }
     }
 }

@@ -4,7 +4,9 @@ ghost use Prim.Native.Nat.{_+_, _≤_};
 ghost use lib.ListN.{length};
 ghost use Rattle.rules.specs.Bytes.{dataOf};
 ghost use Rattle.rules.specs.Calls.{framing};
-ghost use Rattle.rules.specs.Reading.{channelName, splicerName, readInit, readAlive, readAbort, readStart, badSplice};
+ghost use mathlib.Core.Bool.{false};
+ghost use Rattle.rules.specs.declared.Priority.the-variants.{Is};
+ghost use Rattle.rules.specs.Reading.{channelName, splicerName, readInit, readAlive, readAbort, readStart, badSplice, descriptorsOf, muxOf, isBad};
 ghost use Rattle.rules.specs.Reading.{wholeRequest, readWhole, readSplice, isRead, «read»};
 ghost use Rattle.reading.specs.Structures.{tailPlace};
 
@@ -13,12 +15,13 @@ pub mod names;
 pub mod numbers;
 pub mod structures;
 
-use descriptors::well_formed;
+use descriptors::priority;
 use names::has_zero;
 use numbers::number2;
 use numbers::number4;
 use rules::Framing;
 use rules::Message;
+use rules::Priority;
 use rules::Refusal;
 use rules::Request;
 use rules::Start;
@@ -128,11 +131,12 @@ fn start_in(d: &[u8]) -> Start
     Start::Linked(prior)
 }
 
-// What makes a request r unreadable whose data is d with the tail t. Only a timed one's MicroSeconds count.
+// What makes a request r with good descriptors unreadable whose data is d with the tail t. Only a timed one's MicroSeconds count.
 fn bad_splice(d: &[u8], t: &[u8], r: Request) -> bool
     requires { ⌜ 16 ≤ length (now d) ⌝ }
     requires { ⌜ 15 ≤ length (now t) ⌝ }
     requires { ⌜ r ≡ wholeRequest (now d) (now t) ⌝ }
+    requires { ⌜ isBad (muxOf (descriptorsOf (now t))) ≡ false ⌝ }
     ensures { λ b. ⌜ b ≡ badSplice (now (d .entry)) (now (t .entry)) ⌝ }
 {
     if 999999 < number4(d, 12) && number4(d, 4) == NOBODY {
@@ -147,16 +151,14 @@ fn bad_splice(d: &[u8], t: &[u8], r: Request) -> bool
     if 1 < r.overrides {
         return true;
     }
-    if 1 < t[14] {
-        return true;
-    }
-    !well_formed(&t[15..])
+    1 < t[14]
 }
 
-fn whole_request(d: &[u8], t: &[u8], start: Start) -> Request
+fn whole_request(d: &[u8], t: &[u8], start: Start, mux: u8) -> Request
     requires { ⌜ 16 ≤ length (now d) ⌝ }
     requires { ⌜ 15 ≤ length (now t) ⌝ }
     requires { ⌜ start ≡ readStart (now d) ⌝ }
+    requires { ⌜ muxOf (descriptorsOf (now t)) ≡ Is mux ⌝ }
     ensures { λ r. ⌜ r ≡ wholeRequest (now (d .entry)) (now (t .entry)) ⌝ }
 {
     Request {
@@ -165,6 +167,7 @@ fn whole_request(d: &[u8], t: &[u8], start: Start) -> Request
         duration: Ticks(number4(t, 0)),
         access: t[12],
         overrides: t[13],
+        mux: mux,
     }
 }
 
@@ -177,7 +180,10 @@ fn read_whole(d: &[u8], t: &[u8], start: Start) -> Message
     if t.len() < 15 {
         return Message::Unreadable;
     }
-    let r = whole_request(d, t, start);
+    let Priority::Is(mux) = priority(&t[15..]) else {
+        return Message::Unreadable;
+    };
+    let r = whole_request(d, t, start, mux);
     if bad_splice(d, t, r) {
         return Message::Unreadable;
     }

@@ -98,7 +98,7 @@ module _ (l : List ℕ) where
   abbrev behind : List ℕ
   behind = drop size l
 
-  one-length : descriptorLength one ≡ descriptorLength l
+  pub one-length : descriptorLength one ≡ descriptorLength l
   one-length = getD-take size l 1 0 (omega arith)
 
   one-fits : descriptorFits one ≡ descriptorFits l
@@ -111,7 +111,7 @@ module _ (l : List ℕ) where
       go false e = lt-leb size (length one) (omega (arith, length-take size l, leb-false size (length l) e))
 
   module _ (f : descriptorFits l ≡ true) where
-    within : (4 ≤ descriptorLength l) × (length one ≡ size)
+    pub within : (4 ≤ descriptorLength l) × (length one ≡ size)
     within =
         let h = and-both (leb 4 (descriptorLength l)) _ f in
         let i = and-both (leb (descriptorLength l) 254) (leb size (length l)) (h .1) in
@@ -129,7 +129,7 @@ module _ (l : List ℕ) where
         ∙ ap (take 4) (sym (drop-append-le 2 one behind (omega arith)))
         ∙ ap (λ r. take 4 (drop 2 r)) (take-append-drop size l))
 
-    one-mux : isMux one ≡ isMux l
+    pub one-mux : isMux one ≡ isMux l
     one-mux = ap₂ (λ (a b : ℕ). eqb a 0x02 && eqb b 0x53415049) (one-byte 0 (omega arith)) one-name
 
     -- the value stands behind the identifier, if there is room for it
@@ -144,7 +144,7 @@ module _ (l : List ℕ) where
         go true e = let k = eqb-true (descriptorLength l) 5 e in ap (λ (v : ℕ). not (eqb (descriptorLength l) 5 && (leb 1 v && leb v 10))) (one-byte 6 (omega arith))
         go false e = rw e
 
-  one-good : goodDescriptor one ≡ goodDescriptor l
+  pub one-good : goodDescriptor one ≡ goodDescriptor l
   one-good = rw one-fits (go (descriptorFits l) refl)
     where
       go : (b : Bool) → descriptorFits l ≡ b → (b && not (isMux one && badMux one)) ≡ (b && not (isMux l && badMux l))
@@ -152,17 +152,43 @@ module _ (l : List ℕ) where
       go false e = refl
 
   -- of a good one
-  one-after : goodDescriptor l ≡ true → (v : ℕ) → cond (isMux one) (muxValue one) v ≡ muxAfter v l
-  one-after g v = rw (one-mux f) (go (isMux l) refl)
-    where
-      f : descriptorFits l ≡ true
-      f = and-both (descriptorFits l) (not (isMux l && badMux l)) g .0
+  pub good-fits : goodDescriptor l ≡ true → descriptorFits l ≡ true
+  good-fits g = and-both (descriptorFits l) (not (isMux l && badMux l)) g .0
 
+  pub one-value : goodDescriptor l ≡ true → isMux l ≡ true → muxValue one ≡ muxValue l
+  one-value g m = one-byte (good-fits g) 6 (omega (arith, good-mux l g m .0))
+
+  one-after : goodDescriptor l ≡ true → (v : ℕ) → cond (isMux one) (muxValue one) v ≡ muxAfter v l
+  one-after g v = rw (one-mux (good-fits g)) (go (isMux l) refl)
+    where
       go : (b : Bool) → isMux l ≡ b → cond b (muxValue one) v ≡ cond b (muxValue l) v
-      go true m = one-byte f 6 (omega (arith, good-mux l g m .0))
+      go true m = one-value g m
       go false m = refl
 
 -- ## The descriptors one by one
+
+cut-enough : (n m : ℕ) (l : List ℕ) → length l ≤ n → length l ≤ m → cut n l ≡ cut m l
+unfolding cut
+cut-enough zero zero l h k = refl
+cut-enough zero (suc m) l h k = rw (eqb-zero l h)
+cut-enough (suc n) zero l h k = rw (eqb-zero l k)
+cut-enough (suc n) (suc m) l h k =
+    let r = drop (2 + descriptorLength l) l in
+    let s : length r ≡ length l - (2 + descriptorLength l) = length-drop (2 + descriptorLength l) l in
+    ap (λ t. cond (eqb (length l) 0) [] (take (2 + descriptorLength l) l ∷ t)) (cut-enough n m r (omega arith) (omega arith))
+
+pub in-end : (l : List ℕ) → length l ≤ 0 → descriptorsIn l ≡ []
+unfolding cut
+in-end l h = cut-enough (length l) 0 l (omega arith) h
+
+pub in-step : (l : List ℕ) → 0 < length l → descriptorsIn l ≡ take (2 + descriptorLength l) l ∷ descriptorsIn (drop (2 + descriptorLength l) l)
+unfolding cut
+in-step l h =
+    let n = 2 + descriptorLength l in
+    let j : length (drop n l) ≡ length l - n = length-drop n l in
+    cut-enough (length l) (suc (length l)) l (omega arith) (omega arith)
+    ∙ ap (λ t. cond t [] (take n l ∷ cut (length l) (drop n l))) (ne-eqb (length l) 0 (λ z. omega arith))
+    ∙ ap (λ r. take n l ∷ r) (cut-enough (length l) (length (drop n l)) (drop n l) (omega arith) (omega arith))
 
 last-put : (b : Bool) (x v : ℕ) (l : List ℕ) → lastOr v (put b x l) ≡ lastOr (cond b x v) l
 unfolding lastOr

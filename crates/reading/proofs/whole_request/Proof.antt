@@ -1,4 +1,6 @@
 -- Each field is what its reader promises.
+use mathlib.Core.Path.{ap}
+use Rattle.rules.specs.Reading.{muxIn}
 use borrow.Author.Needs.{needs}
 use Rattle.reading.proofs.whole_request.Statement.{statement}
 use Rattle.reading.proofs.whole_request.Tie as tie
@@ -9,14 +11,14 @@ number4-requires c κs = search needs
 number4-requires-2 : tie.Need-number4-requires-2
 number4-requires-2 c κs = search needs
 
-shared-slice-read-t8 : tie.Need-shared-slice-read-t8
-shared-slice-read-t8 c = search needs
+shared-slice-read-t9 : tie.Need-shared-slice-read-t9
+shared-slice-read-t9 c = search needs
 
-shared-slice-read-t10 : tie.Need-shared-slice-read-t10
-shared-slice-read-t10 c = search needs
+shared-slice-read-t11 : tie.Need-shared-slice-read-t11
+shared-slice-read-t11 c = search needs
 
 returns : tie.Need-returns
-returns c = cc
+returns c = let s = c .before .before .before .before .before .before in cc (ap muxIn (s .pre .1 .1 .1))
 
 pub whole-request-spec : {M : Type 1} → statement M
 whole-request-spec =
@@ -24,6 +26,6 @@ whole-request-spec =
     (tie.spec
     number4-requires
     number4-requires-2
-    shared-slice-read-t8
-    shared-slice-read-t10
+    shared-slice-read-t9
+    shared-slice-read-t11
     returns)
