@@ -19,7 +19,7 @@ use Rattle.rules.specs.Lists.{All, bit, omit, insertAt, removeAt}
 use Rattle.rules.specs.Bytes.{part, padded}
 use Rattle.rules.specs.Answers.{waits}
 use Rattle.rules.specs.State.{Queue, Splicer, empty, of, Sorted, sooner, earliest, withWaiting}
-use Rattle.rules.specs.Sound.{Proper, Holding}
+use Rattle.rules.specs.Sound.{Each, Proper, Holding}
 use Rattle.rules.proofs.All.{all-replicate, all-into}
 use Rattle.rules.proofs.Count.{count-insertAt, count-removeAt, count-omitted, count-other}
 use Rattle.rules.proofs.Tick.{earliest-first, earliest-start, sooner-second}
@@ -188,6 +188,14 @@ tallied-set l u c n h e o =
     each d k false q =
         let q = eqb-false d c q in
         getD-set-other (tallied l) c d n 0 q ∙ tallied-at l d k ∙ o d q
+
+-- their words give them back
+pub all-flagged : (clock : ℕ) (q : Queue) → Holding clock q → Each (λ s. s .overrides ≤ 1) q
+all-flagged clock q h =
+    record {
+      waiting = all-into Proper (λ s. s .overrides ≤ 1) (λ s p. p .overrides) (q .waiting) (h .proper .waiting);
+      started = all-into Proper (λ s. s .overrides ≤ 1) (λ s p. p .overrides) (q .started) (h .proper .started);
+    }
 
 -- every connection is one of the four
 pub waiting-of-four : (clock : ℕ) (q : Queue) → Holding clock q → All OfFour (q .waiting)

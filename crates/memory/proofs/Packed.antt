@@ -10,8 +10,11 @@ use Rattle.rules.specs.declared.Session.{Session}
 use Rattle.rules.specs.declared.Link.{Link}
 use Rattle.rules.specs.Lists.{All}
 use Rattle.rules.specs.State.{empty}
+use Rattle.rules.specs.Sound.{Each}
+use Rattle.rules.proofs.All.{all-append, all-take, all-drop, all-replicate}
 use Rattle.places.specs.Places.{width, capacity, wordsOf, rows, places, turned, lot, used, Good}
 use Rattle.places.proofs.Ring.{length-turned}
+use Rattle.places.proofs.Words.{words-back}
 use Rattle.memory.specs.declared.Which.the-variants.{Waiting, Started}
 use Rattle.memory.specs.Memory.{connections, placesOf, fromOf, words, wordOf, linkIn, IsLink, Memory, OfFour, tallied, Now}
 use Rattle.memory.proofs.Laws.{link-word, is-link, shown-as, shows, with-counts, a-lot}
@@ -36,15 +39,19 @@ unfolding flat
 length-flat [] = refl
 length-flat (x ∷ l) = omega (arith, length-flat l)
 
-rows-flat : (l : List Session) → rows (length l) (flat l) ≡ l
-unfolding rows flat
-rows-flat [] = refl
-rows-flat (x ∷ l) = ap (λ r. x ∷ r) (rows-flat l)
+-- its words give it back
+abbrev pub Flagged : Session → Type 0
+Flagged x = x .overrides ≤ 1
 
-places-flat : (l : List Session) → places (flat l) ≡ l
-places-flat l =
+rows-flat : (l : List Session) → All Flagged l → rows (length l) (flat l) ≡ l
+unfolding rows flat
+rows-flat [] a = refl
+rows-flat (x ∷ l) a = ap (λ s. s ∷ rows (length l) (flat l)) (words-back x (flat l) (a .0)) ∙ ap (λ r. x ∷ r) (rows-flat l (a .1))
+
+places-flat : (l : List Session) → All Flagged l → places (flat l) ≡ l
+places-flat l a =
     let k : capacity (flat l) ≡ length l = omega (arith, length-flat l) in
-    ap (λ (k : ℕ). rows k (flat l)) k ∙ rows-flat l
+    ap (λ (k : ℕ). rows k (flat l)) k ∙ rows-flat l a
 
 -- turned on by the rest, it stands as before
 turned-back : (e k : ℕ) (l : List Session) → e + k ≡ length l → turned k (turned e l) ≡ l
@@ -53,7 +60,7 @@ turned-back e k l h =
     let n : length (drop e l) ≡ k = length-drop e l ∙ omega arith in
     rw (drop-at (drop e l) (take e l) k n, take-at (drop e l) (take e l) k n) (take-append-drop e l)
 
-module _ (n e : ℕ) (u : List Session) (h : length u ≤ n) (r : e ≤ n) where
+module _ (n e : ℕ) (u : List Session) (h : length u ≤ n) (r : e ≤ n) (a : All Flagged u) where
   length-filled : length (filled n u) ≡ n
   length-filled = simp (length-append, length-replicate) (omega arith)
 
@@ -61,9 +68,15 @@ module _ (n e : ℕ) (u : List Session) (h : length u ≤ n) (r : e ≤ n) where
   unfolding packed
   length-packed = omega (arith, length-flat (turned (n - e) (filled n u)), length-turned (n - e) (filled n u), length-filled)
 
+  flagged : All Flagged (turned (n - e) (filled n u))
+  unfolding turned empty
+  flagged =
+      let b = all-append Flagged (replicate (n - length u) empty) u (all-replicate Flagged (n - length u) empty (omega arith)) a in
+      all-append Flagged (drop (n - e) (filled n u)) (take (n - e) (filled n u)) (all-drop Flagged (n - e) (filled n u) b) (all-take Flagged (n - e) (filled n u) b)
+
   items : turned e (places (packed n e u)) ≡ filled n u
   unfolding packed
-  items = ap (turned e) (places-flat (turned (n - e) (filled n u))) ∙ turned-back (n - e) e (filled n u) (omega (arith, length-filled))
+  items = ap (turned e) (places-flat (turned (n - e) (filled n u)) flagged) ∙ turned-back (n - e) e (filled n u) (omega (arith, length-filled))
 
   full : length (turned e (places (packed n e u))) ≡ n
   full = ap length items ∙ length-filled
@@ -96,7 +109,8 @@ stood s =
     (tallied (s .queue .waiting) ++ (map wordOf (s .links) ++ (packed (placesOf Waiting) (s .ringEnd) (s .queue .waiting) ++ packed (placesOf Started) 0 (s .queue .started))))
 
 module _ (s : Memory) (four : length (s .links) ≡ connections) (few : length (s .queue .waiting) ≤ placesOf Waiting)
-    (less : length (s .queue .started) ≤ placesOf Started) (ofFour : All OfFour (s .queue .waiting)) (ring : s .ringEnd < placesOf Waiting) where
+    (less : length (s .queue .started) ≤ placesOf Started) (ofFour : All OfFour (s .queue .waiting)) (ring : s .ringEnd < placesOf Waiting)
+    (flags : Each Flagged (s .queue)) where
   abbrev l : List ℕ
   l = map wordOf (s .links)
 
@@ -110,10 +124,10 @@ module _ (s : Memory) (four : length (s .links) ≡ connections) (few : length (
   long-l = length-map (s .links) wordOf ∙ four
 
   long-w : length w ≡ placesOf Waiting * width
-  long-w = length-packed (placesOf Waiting) (s .ringEnd) (s .queue .waiting) few (omega arith)
+  long-w = length-packed (placesOf Waiting) (s .ringEnd) (s .queue .waiting) few (omega arith) (flags .waiting)
 
   long-k : length k ≡ placesOf Started * width
-  long-k = length-packed (placesOf Started) 0 (s .queue .started) less (omega arith)
+  long-k = length-packed (placesOf Started) 0 (s .queue .started) less (omega arith) (flags .started)
 
   behind-l : drop (fromOf Waiting) (stood s) ≡ w ++ k
   unfolding stood tallied
@@ -137,16 +151,16 @@ module _ (s : Memory) (four : length (s .links) ≡ connections) (few : length (
       let x = shows (stood s) (s .clock) (s .primary) l (s .ringEnd) (lot w (s .ringEnd) n) (lot k 0 j) long refl refl (take-at l (w ++ k) connections long-l) refl
       (a-lot (ap (take (placesOf Waiting * width)) behind-l ∙ take-at w k (placesOf Waiting * width) long-w) refl refl)
       (a-lot (ap (take (placesOf Started * width)) behind-w ∙ take-all (placesOf Started * width) k (omega (arith, long-k))) refl refl)
-      (words-links (s .links)) ring (packed-good (placesOf Waiting) (s .ringEnd) (s .queue .waiting) few (omega arith))
-      (packed-good (placesOf Started) 0 (s .queue .started) less (omega arith)) in
+      (words-links (s .links)) ring (packed-good (placesOf Waiting) (s .ringEnd) (s .queue .waiting) few (omega arith) (flags .waiting))
+      (packed-good (placesOf Started) 0 (s .queue .started) less (omega arith) (flags .started)) in
       with-counts (s .queue .waiting) (shown-as x
       (λ i. record {
         clock = s .clock;
         primary = s .primary;
         links = links-words (s .links) i;
         queue = record {
-          waiting = packed-used (placesOf Waiting) (s .ringEnd) (s .queue .waiting) few (omega arith) i;
-          started = packed-used (placesOf Started) 0 (s .queue .started) less (omega arith) i;
+          waiting = packed-used (placesOf Waiting) (s .ringEnd) (s .queue .waiting) few (omega arith) (flags .waiting) i;
+          started = packed-used (placesOf Started) 0 (s .queue .started) less (omega arith) (flags .started) i;
         };
         ringEnd = s .ringEnd;
       })) refl ofFour refl

@@ -12,7 +12,7 @@ use Rattle.rules.specs.Lists.{All}
 use Rattle.rules.specs.Bytes.{part, nameIn, padded}
 use Rattle.rules.specs.Answers.{waits}
 use Rattle.rules.specs.State.{Queue, Splicer, withWaiting, withStarted}
-use Rattle.places.specs.Places.{Lot, lot, Good, used, width, places, turned, round, next}
+use Rattle.places.specs.Places.{Narrow, Lot, lot, Good, used, width, places, turned, round, next}
 use Rattle.memory.specs.declared.Which.{Which}
 use Rattle.memory.specs.declared.Which.the-variants.{Waiting, Started}
 
@@ -125,6 +125,11 @@ see m =
 -- each connection is one of four
 abbrev pub OfFour : Session → Type 0
 OfFour s = s .conn ≤ 3
+
+-- what is asked of a session that is to wait: its connection is one of four, and it is as narrow as its words
+pub record Storable (x : Session) : Type 0 where
+  pub ofFour : OfFour x
+  pub narrow : Narrow x
 
 -- 02, CR 2: how many are each connection's
 unfoldable pub tallied : List Session → List ℕ

@@ -18,10 +18,10 @@ ghost use Rattle.rules.specs.Bytes.{nameIn};
 ghost use Rattle.rules.specs.Lists.{omit, place, insertAt, removeAt};
 ghost use Rattle.rules.specs.State.{empty, of, Sorted, earliest};
 ghost use Rattle.rules.specs.Instants.{onAir};
-ghost use Rattle.places.specs.Places.{keyTest, startsFrom, round};
+ghost use Rattle.places.specs.Places.{Narrow, keyTest, startsFrom, round};
 ghost use Rattle.memory.specs.declared.Which.the-variants.{Waiting, Started};
 ghost use Rattle.memory.specs.Memory.{slotOf, ringOf, firstLink, fromOf, toOf, words, placesOf, wordOf, linkIn};
-ghost use Rattle.memory.specs.Memory.{sessions, see, Form, Now, timed, silenced, linked, relisted, onward, nothingShown, OfFour, tallied};
+ghost use Rattle.memory.specs.Memory.{sessions, see, Form, Now, timed, silenced, linked, relisted, onward, nothingShown, Storable, tallied};
 ghost use Rattle.memory.specs.Memory.{nameBytes, Stored, Named};
 
 // Where what stands in the words.
@@ -127,7 +127,8 @@ pub fn count(m: &[u64], which: Which) -> usize
 pub fn load(m: &[u64], which: Which, at: usize) -> Session
     requires { ⌜ Form (now m) ⌝ }
     requires { ⌜ at < length (sessions which (now m)) ⌝ }
-    ensures { λ r. ⌜ r ≡ getD (sessions which (now (m .entry))) at empty ⌝ }
+    ensures is { λ r. ⌜ r ≡ getD (sessions which (now (m .entry))) at empty ⌝ }
+    ensures narrow { λ r. ⌜ Narrow r ⌝ }
 {
     let n = count(m, which);
     let r = ring_end(m, which);
@@ -160,6 +161,16 @@ pub fn id_at(m: &[u64], which: Which, at: usize) -> u64
     let a = from(which);
     let e = to(which);
     places::id_at(&m[a..e], r, n, at)
+}
+
+// What the started session `at` asks of the multiplexer.
+pub fn mux_at(m: &[u64], at: usize) -> u64
+    requires { ⌜ Form (now m) ⌝ }
+    requires { ⌜ at < length (sessions Started (now m)) ⌝ }
+    ensures { λ r. ⌜ r ≡ getD (sessions Started (now (m .entry))) at empty .mux ⌝ }
+{
+    let n = count(m, Which::Started);
+    places::mux_at(&m[STARTED_FROM..WORDS], n, at)
 }
 
 // The end of the started session `at`.
@@ -246,7 +257,7 @@ pub fn find_start(m: &[u64], t: Ninths) -> usize
 pub fn accept(m: &mut [u64], at: usize, x: Session) -> usize
     requires { ⌜ Form (now m) ⌝ }
     requires { ⌜ (at ≤ length (sessions Waiting (now m))) × (length (sessions Waiting (now m)) < placesOf Waiting) ⌝ }
-    requires { ⌜ OfFour x ⌝ }
+    requires { ⌜ Storable x ⌝ }
     ensures shows { λ _.
         ⌜ Now (now (m .exit))
         (onward true (relisted Waiting (insertAt at x (sessions Waiting (now (m .entry)))) (see (now (m .entry))))) ⌝ }
@@ -265,7 +276,7 @@ pub fn accept(m: &mut [u64], at: usize, x: Session) -> usize
 // x before the first of the started.
 pub fn push(m: &mut [u64], x: Session)
     requires { ⌜ Form (now m) ⌝ }
-    requires { ⌜ length (sessions Started (now m)) < placesOf Started ⌝ }
+    requires { ⌜ (length (sessions Started (now m)) < placesOf Started) × Narrow x ⌝ }
     ensures { λ _. ⌜ Now (now (m .exit)) (relisted Started (x ∷ sessions Started (now (m .entry))) (see (now (m .entry)))) ⌝ }
 {
     let n = count(&*m, Which::Started);

@@ -275,7 +275,7 @@ play-made q n d b g h w =
     let r = flat-row q n 0 g h b v in
     let x = playing d (loaded q b) in
     let y = store-played q b d in
-    let p = ap places (sym y) ∙ store-is q b x r in
+    let p = ap places (sym y) ∙ store-is q b x (omega arith) r in
     let m = slot-set q 0 n 0 g h _ x (flat-set q b (capacity q - n + 0) x (omega arith) _ p) in
     let u = used (lot q 0 n) in
     record {

@@ -10,7 +10,7 @@ use lib.Seq.{sets, sets-eq, take-add, drop-cons, drop-drop, getD-drop, set-getD,
 use Rattle.rules.specs.declared.Session.{Session}
 use Rattle.rules.specs.State.{empty}
 use Rattle.rules.specs.Instants.{playing}
-use Rattle.places.specs.Places.{capacity, width, sessionOf, wordsOf, row, Row, rows, places, spare, zeros}
+use Rattle.places.specs.Places.{capacity, width, sessionOf, askedWord, wordsOf, row, Row, rows, places, spare, zeros}
 
 pub length-rows : (n : ℕ) (q : List ℕ) → length (rows n q) ≡ n
 unfolding rows
@@ -32,10 +32,33 @@ unfolding wordsFrom
 from-front k zero q h = refl
 from-front k (suc n) q h = ap (λ r. getD q k 0 ∷ r) (from-front (suc k) n q (omega arith)) ∙ ap (take (suc n)) (sym (drop-cons q k 0 (omega arith)))
 
+-- the words of a session are those that it was made of
+words-of : (f : ℕ → ℕ) → wordsOf (sessionOf f) ≡ wordsFrom 0 width f
+unfolding wordsFrom
+words-of f =
+    let e : f 6 % 2 + 2 * (f 6 / 2) ≡ f 6 = omega arith in
+    ap (λ (w : ℕ). f 0 ∷ f 1 ∷ f 2 ∷ f 3 ∷ f 4 ∷ f 5 ∷ w ∷ f 7 ∷ []) e
+
+-- and they give it back
+pub words-back : (x : Session) (l : List ℕ) → x .overrides ≤ 1 → row (wordsOf x ++ l) ≡ x
+words-back x l h =
+    let o : askedWord x % 2 ≡ x .overrides = omega arith in
+    let m : askedWord x / 2 ≡ x .mux = omega arith in
+    λ i. record {
+      conn = x .conn;
+      id = x .id;
+      prior = x .prior;
+      start = x .start;
+      end = x .end;
+      access = x .access;
+      overrides = o i;
+      mux = m i;
+      played = x .played;
+    }
+
 -- the first words are those of their session
 row-words : (q : List ℕ) → width ≤ length q → wordsOf (row q) ≡ take width q
-unfolding wordsFrom
-row-words q h = from-front 0 width q h
+row-words q h = words-of (λ k. getD q k 0) ∙ from-front 0 width q h
 
 row-split : (q : List ℕ) → width ≤ length q → wordsOf (row q) ++ drop width q ≡ q
 row-split q h = ap (λ r. r ++ drop width q) (row-words q h) ∙ take-append-drop width q
@@ -107,13 +130,14 @@ with-next i q x h =
     ∙ ap (λ t. wordsOf (row q) ++ (take (i * width) (drop width q) ++ (wordsOf x ++ t)))
     (ap (λ (k : ℕ). drop k q) (sym f) ∙ sym (drop-drop (i * width + width) width q))
 
-rows-with : (n i : ℕ) (q : List ℕ) (x : Session) → i < n → n * width ≤ length q → rows n (with i q x) ≡ set (rows n q) i x
+rows-with : (n i : ℕ) (q : List ℕ) (x : Session) → x .overrides ≤ 1 → i < n → n * width ≤ length q → rows n (with i q x) ≡ set (rows n q) i x
 unfolding rows
-rows-with zero i q x h m = absurd (omega arith)
-rows-with (suc n) zero q x h m = refl
-rows-with (suc n) (suc i) q x h m =
-    rw (with-next i q x (omega arith))
-    (ap (λ r. row q ∷ r) (rows-with n i (drop width q) x (le-of-suc-le-suc h) (simp length-drop (omega arith))))
+rows-with zero i q x o h m = absurd (omega arith)
+rows-with (suc n) zero q x o h m = ap (λ s. s ∷ rows n (drop width q)) (words-back x (drop width q) o)
+rows-with (suc n) (suc i) q x o h m =
+    ap (rows (suc n)) (with-next i q x (omega arith))
+    ∙ ap (λ s. s ∷ rows n (with i (drop width q) x)) (words-back (row q) (with i (drop width q) x) (omega arith))
+    ∙ ap (λ r. row q ∷ r) (rows-with n i (drop width q) x o (le-of-suc-le-suc h) (simp length-drop (omega arith)))
 
 whole : (b : ℕ) → b % width ≡ 0 → b ≡ b / width * width
 whole b h = omega arith
@@ -132,12 +156,12 @@ stored-with q b x r =
     ∙ sets-eq (wordsOf x) q (b / width * width) (omega (arith, r .0, r .1))
     ∙ append-assoc (take (b / width * width) q) (wordsOf x) (drop (b / width * width + width) q)
 
-pub store-is : (q : List ℕ) (b : ℕ) (x : Session) → Row b q → places (stored q b x) ≡ set (places q) (b / width) x
-store-is q b x r =
+pub store-is : (q : List ℕ) (b : ℕ) (x : Session) → x .overrides ≤ 1 → Row b q → places (stored q b x) ≡ set (places q) (b / width) x
+store-is q b x o r =
     let n : length (stored q b x) ≡ length q = put-length b 0 (wordsOf x) q in
     ap (λ (k : ℕ). rows (k / width) (stored q b x)) n
     ∙ ap (rows (capacity q)) (stored-with q b x r)
-    ∙ rows-with (capacity q) (b / width) q x (r .1) (omega arith)
+    ∙ rows-with (capacity q) (b / width) q x o (r .1) (omega arith)
 
 pub store-spare : (q : List ℕ) (b : ℕ) (x : Session) → Row b q → spare (stored q b x) ≡ spare q
 store-spare q b x r =
@@ -147,7 +171,9 @@ store-spare q b x r =
 -- where only the playing goes on, the other words stay
 pub store-played : (q : List ℕ) (b d : ℕ) → stored q b (playing d (loaded q b)) ≡ set q (b + playedWord) (getD q (b + playedWord) 0 + d)
 unfolding wordsFrom
-store-played q b d = put-again b 0 playedWord ((getD q (b + playedWord) 0 + d) ∷ []) q
+store-played q b d =
+    let more : List ℕ = (getD q (b + playedWord) 0 + d) ∷ [] in
+    ap (λ (l : List ℕ). put b 0 (take playedWord l ++ more) q) (words-of (λ k. getD q (b + k) 0)) ∙ put-again b 0 playedWord more q
 
 -- the words are determined by what their places hold and the spare ones
 rows-same : (n : ℕ) (p q : List ℕ) → n * width ≤ length p → n * width ≤ length q → rows n p ≡ rows n q → drop (n * width) p ≡ drop (n * width) q → p ≡ q

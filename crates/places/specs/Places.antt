@@ -11,7 +11,7 @@ use Rattle.rules.specs.State.{empty, is, follows}
 use Rattle.places.specs.declared.Key.{Key}
 use Rattle.places.specs.declared.Key.the-variants.{Held, Follows}
 
--- the words of a place: one for each field of a session
+-- the words of a place
 abbrev pub width : ℕ
 width = 8
 
@@ -29,13 +29,23 @@ sessionOf f =
       start = record { 0 = f 3 };
       end = record { 0 = f 4 };
       access = f 5;
-      overrides = f 6;
+      overrides = f 6 % 2;
+      mux = f 6 / 2;
       played = record { 0 = f 7 };
     }
 
+-- OverridePlaying and what is asked of the multiplexer (02, CR 5) share a word
+abbrev pub askedWord : Session → ℕ
+askedWord s = s .overrides + 2 * s .mux
+
+-- so they are given back; every session that a request asks for is such a one
+pub record Narrow (s : Session) : Type 0 where
+  pub overrides : s .overrides ≤ 1
+  pub asked : askedWord s < 18446744073709551616
+
 -- the words of a session, in the same order; the time on air is the last
 abbrev pub wordsOf : Session → List ℕ
-wordsOf s = s .conn ∷ s .id ∷ s .prior ∷ s .start .0 ∷ s .end .0 ∷ s .access ∷ s .overrides ∷ s .played .0 ∷ []
+wordsOf s = s .conn ∷ s .id ∷ s .prior ∷ s .start .0 ∷ s .end .0 ∷ s .access ∷ askedWord s ∷ s .played .0 ∷ []
 
 -- the session in the first words
 abbrev pub row : List ℕ → Session

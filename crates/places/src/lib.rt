@@ -12,9 +12,9 @@ ghost use Rattle.rules.specs.Lists.{omit, place, insertAt, removeAt};
 ghost use Rattle.rules.specs.State.{empty, of, Sorted};
 ghost use Rattle.rules.specs.Instants.{outranks, onAir};
 ghost use Rattle.places.specs.Places.{width, capacity, Row, places, spare, round, turned, Ring, next, lot, used, moved};
-ghost use Rattle.places.specs.Places.{Good, Made, keyTest, startsFrom, leastEnd};
+ghost use Rattle.places.specs.Places.{Narrow, Good, Made, keyTest, startsFrom, leastEnd};
 
-// The words of a place, and which of them is which field.
+// The words of a place, and which of them is which field; ASKED is OverridePlaying and, twice, what is asked of the multiplexer.
 pub const WIDTH: usize = 8;
 
 // How many places a ring has, and their words.
@@ -34,7 +34,7 @@ const END: usize = 4;
 
 const ACCESS: usize = 5;
 
-const OVERRIDES: usize = 6;
+const ASKED: usize = 6;
 
 const PLAYED: usize = 7;
 
@@ -46,7 +46,8 @@ pub enum Key {
 
 // What stands where no session is.
 fn nothing() -> Session
-    ensures { λ r. ⌜ r ≡ empty ⌝ }
+    ensures is { λ r. ⌜ r ≡ empty ⌝ }
+    ensures narrow { λ r. ⌜ Narrow r ⌝ }
 {
     Session {
         conn: 0,
@@ -56,6 +57,7 @@ fn nothing() -> Session
         end: Ninths(0),
         access: 0,
         overrides: 0,
+        mux: 0,
         played: Ninths(0),
     }
 }
@@ -63,8 +65,10 @@ fn nothing() -> Session
 // The session in the words from b on, the first of a place.
 fn read_row(q: &[u64], b: usize) -> Session
     requires { ⌜ Row b (now q) ⌝ }
-    ensures { λ r. ⌜ r ≡ getD (places (now (q .entry))) (b / width) empty ⌝ }
+    ensures is { λ r. ⌜ r ≡ getD (places (now (q .entry))) (b / width) empty ⌝ }
+    ensures narrow { λ r. ⌜ Narrow r ⌝ }
 {
+    let asked = q[b + ASKED];
     Session {
         conn: q[b + CONN],
         id: q[b + ID],
@@ -72,7 +76,8 @@ fn read_row(q: &[u64], b: usize) -> Session
         start: Ninths(q[b + START]),
         end: Ninths(q[b + END]),
         access: q[b + ACCESS],
-        overrides: q[b + OVERRIDES],
+        overrides: asked % 2,
+        mux: asked / 2,
         played: Ninths(q[b + PLAYED]),
     }
 }
@@ -80,6 +85,7 @@ fn read_row(q: &[u64], b: usize) -> Session
 // x in the words from b on, the first of a place.
 fn write_row(q: &mut [u64], b: usize, x: Session)
     requires { ⌜ Row b (now q) ⌝ }
+    requires { ⌜ Narrow x ⌝ }
     ensures list { λ _. ⌜ places (now (q .exit)) ≡ set (places (now (q .entry))) (b / width) x ⌝ }
     ensures rest { λ _. ⌜ spare (now (q .exit)) ≡ spare (now (q .entry)) ⌝ }
 {
@@ -89,7 +95,7 @@ fn write_row(q: &mut [u64], b: usize, x: Session)
     q[b + START] = x.start.0;
     q[b + END] = x.end.0;
     q[b + ACCESS] = x.access;
-    q[b + OVERRIDES] = x.overrides;
+    q[b + ASKED] = x.overrides + 2 * x.mux;
     q[b + PLAYED] = x.played.0;
 }
 
@@ -97,7 +103,8 @@ fn write_row(q: &mut [u64], b: usize, x: Session)
 fn read_at(q: &[u64], ring_end: usize, i: usize) -> Session
     requires { ⌜ Ring (capacity (now q)) «ring_end» ⌝ }
     requires { ⌜ i < capacity (now q) ⌝ }
-    ensures { λ r. ⌜ r ≡ getD (turned «ring_end» (places (now (q .entry)))) i empty ⌝ }
+    ensures is { λ r. ⌜ r ≡ getD (turned «ring_end» (places (now (q .entry)))) i empty ⌝ }
+    ensures narrow { λ r. ⌜ Narrow r ⌝ }
 {
     read_row(q, (ring_end + i) % ROUND * WIDTH)
 }
@@ -106,6 +113,7 @@ fn read_at(q: &[u64], ring_end: usize, i: usize) -> Session
 fn write_at(q: &mut [u64], ring_end: usize, i: usize, x: Session)
     requires { ⌜ Ring (capacity (now q)) «ring_end» ⌝ }
     requires { ⌜ i < capacity (now q) ⌝ }
+    requires { ⌜ Narrow x ⌝ }
     ensures list { λ _. ⌜ turned «ring_end» (places (now (q .exit))) ≡ set (turned «ring_end» (places (now (q .entry)))) i x ⌝ }
     ensures rest { λ _. ⌜ spare (now (q .exit)) ≡ spare (now (q .entry)) ⌝ }
 {
@@ -117,7 +125,8 @@ pub fn load(q: &[u64], ring_end: usize, n: usize, at: usize) -> Session
     requires { ⌜ Good (lot (now q) «ring_end» n) ⌝ }
     requires { ⌜ Ring (capacity (now q)) «ring_end» ⌝ }
     requires { ⌜ at < n ⌝ }
-    ensures { λ r. ⌜ r ≡ getD (used (lot (now (q .entry)) «ring_end» n)) at empty ⌝ }
+    ensures is { λ r. ⌜ r ≡ getD (used (lot (now (q .entry)) «ring_end» n)) at empty ⌝ }
+    ensures narrow { λ r. ⌜ Narrow r ⌝ }
 {
     let free = q.len() / WIDTH - n;
     read_at(q, ring_end, free + at)
@@ -154,6 +163,16 @@ pub fn start_at(q: &[u64], ring_end: usize, n: usize, at: usize) -> Ninths
 {
     let b = (ring_end + (q.len() / WIDTH - n + at)) % ROUND * WIDTH;
     Ninths(q[b + START])
+}
+
+// What the session `at` asks of the multiplexer, in places that never come round.
+pub fn mux_at(q: &[u64], n: usize, at: usize) -> u64
+    requires { ⌜ Good (lot (now q) 0 n) ⌝ }
+    requires { ⌜ at < n ⌝ }
+    ensures { λ r. ⌜ r ≡ getD (used (lot (now (q .entry)) 0 n)) at empty .mux ⌝ }
+{
+    let b = (q.len() / WIDTH - n + at) * WIDTH;
+    q[b + ASKED] / 2
 }
 
 // The end of the session `at`, in places that never come round.
@@ -196,6 +215,7 @@ fn move_to(q: &mut [u64], ring_end: usize, n: usize, from: usize, to: usize)
 pub fn insert_at(q: &mut [u64], ring_end: usize, n: usize, at: usize, x: Session) -> usize
     requires { ⌜ Good (lot (now q) «ring_end» n) ⌝ }
     requires { ⌜ (capacity (now q) ≡ round) × («ring_end» < round) × (at ≤ n) × (n < round) ⌝ }
+    requires { ⌜ Narrow x ⌝ }
     ensures made { λ _.
         ⌜ Made (now (q .entry)) (now (q .exit)) (next «ring_end») (n + 1) (insertAt at x (used (lot (now (q .entry)) «ring_end» n))) ⌝ }
     ensures moves { λ r. ⌜ r ≡ n - at ⌝ }
@@ -217,6 +237,7 @@ pub fn insert_at(q: &mut [u64], ring_end: usize, n: usize, at: usize, x: Session
 pub fn push(q: &mut [u64], n: usize, x: Session)
     requires { ⌜ Good (lot (now q) 0 n) ⌝ }
     requires { ⌜ n < capacity (now q) ⌝ }
+    requires { ⌜ Narrow x ⌝ }
     ensures { λ _. ⌜ Made (now (q .entry)) (now (q .exit)) 0 (n + 1) (x ∷ used (lot (now (q .entry)) 0 n)) ⌝ }
 {
     let last_free = q.len() / WIDTH - n - 1;

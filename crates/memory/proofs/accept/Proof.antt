@@ -38,7 +38,7 @@ insert-at-requires c κs =
     let count = c .before .before .before .count in
     let ring = c .before .ring-end in (
       good-at Waiting refl refl (ring .ensures .0) (s .pre .0) (count .ensures),
-      (room-at Waiting refl refl (s .pre .0), ring .ensures .1, omega (arith, s .pre .1 .0, count .ensures), omega (arith, s .pre .1 .0, count .ensures)),
+      ((room-at Waiting refl refl (s .pre .0), ring .ensures .1, omega (arith, s .pre .1 .0, count .ensures), omega (arith, s .pre .1 .0, count .ensures)), s .pre .1 .1 .narrow),
     )
 
 add-m : tie.Need-add-m
@@ -72,7 +72,7 @@ returns c =
     let inserted = c .before .before .before in
     let s = inserted .before .before .before .before .before .before .before in
     let count = inserted .before .before .before .before .count in (
-      accepted-now (s .args .at) (s .args .x) (s .pre .0) (s .pre .1 .1) (so-far inserted),
+      accepted-now (s .args .at) (s .args .x) (s .pre .0) (s .pre .1 .1 .ofFour) (so-far inserted),
       omega (arith, inserted .insert-at .ensures .1, count .ensures),
     )
 
@@ -86,22 +86,22 @@ slice-write-m-2 c =
     omega (arith, length-set x ringWord (next (ring .result)), so-far inserted .shown .whole)
 
 add-c : tie.Need-add-c
-add-c c = omega (arith, c .before .before .before .before .before .before .before .before .before .pre .1 .1)
+add-c c = omega (arith, c .before .before .before .before .before .before .before .before .before .pre .1 .1 .ofFour)
 
 mul-m : tie.Need-mul-m
-mul-m c = omega (arith, c .before .before .before .before .before .before .before .before .before .pre .1 .1)
+mul-m c = omega (arith, c .before .before .before .before .before .before .before .before .before .pre .1 .1 .ofFour)
 
 slice-read-m : tie.Need-slice-read-m
 slice-read-m c =
     let inserted = c .before .before .before in
-    omega (arith, inserted .before .before .before .before .before .before .before .pre .1 .1, so-far inserted .shown .whole)
+    omega (arith, inserted .before .before .before .before .before .before .before .pre .1 .1 .ofFour, so-far inserted .shown .whole)
 
 add-m-3 : tie.Need-add-m-3
 add-m-3 c =
     let inserted = c .before .before .before in
     let s = inserted .before .before .before .before .before .before .before in
     let conn = s .args .x .conn in
-    let word = count-word refl (s .pre .0) (so-far inserted) conn (s .pre .1 .1) in
+    let word = count-word refl (s .pre .0) (so-far inserted) conn (s .pre .1 .1 .ofFour) in
     omega (arith, word, count≤length (of conn) (sessions Waiting (s .args .m .now)), s .pre .1 .0)
 
 slice-write-m-3 : tie.Need-slice-write-m-3

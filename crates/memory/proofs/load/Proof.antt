@@ -54,7 +54,7 @@ returns c =
     let to = c .before .before .to in
     let load = c .load in
     let l = lot-at (s .args .which) (from .ensures .0) (to .ensures .0) ring (s .pre .0) (count .ensures) in
-    load .ensures ∙ ap (λ (x : Lot). getD (used x) (s .args .at) empty) l
+    (load .ensures .0 ∙ ap (λ (x : Lot). getD (used x) (s .args .at) empty) l, load .ensures .1)
 
 pub load-spec : {M : Type 1} → statement M
 load-spec =

@@ -27,7 +27,7 @@ push-requires c κs =
     let s = c .before .before .before .before in
     let count = c .before .count in (
       good-at Started refl refl refl (s .pre .0) (count .ensures),
-      omega (arith, s .pre .1, count .ensures, room-at Started refl refl (s .pre .0)),
+      (omega (arith, s .pre .1 .0, count .ensures, room-at Started refl refl (s .pre .0)), s .pre .1 .1),
     )
 
 add-m : tie.Need-add-m

@@ -46,7 +46,7 @@ write-row-requires c κs =
     let s = c .before .before .before .before .before .before in
     let l = c .before .before .before .before .loop in
     let e = s .args .ring-end in
-    row-of (l .q) (next e) (round - 1 - l .moves) (l .hole) (ring-next (capacity (l .q)) e (omega arith)) (omega arith) (l .inv .1)
+    (row-of (l .q) (next e) (round - 1 - l .moves) (l .hole) (ring-next (capacity (l .q)) e (omega arith)) (omega arith) (l .inv .1), c .before .read-row .ensures .1)
 
 add-moves : tie.Need-add-moves Inv-loop μ-loop
 add-moves c = search needs
@@ -61,7 +61,7 @@ loop-again c =
     let e = s .args .ring-end in
     let a = (l .hole + round * width - width) % (round * width) in
     let w = c .before .before .write-row .ensures in
-    let t = shifts (l .q) (next e) (round - 1 - (l .moves + 1)) (round - 1 - l .moves) a (l .hole) (ring-next (capacity (l .q)) e (omega arith)) (omega arith) (omega arith) (omega arith) (l .inv .1) _ _ (c .before .before .before .before .read-row .ensures) (w .0) in
+    let t = shifts (l .q) (next e) (round - 1 - (l .moves + 1)) (round - 1 - l .moves) a (l .hole) (ring-next (capacity (l .q)) e (omega arith)) (omega arith) (omega arith) (omega arith) (l .inv .1) _ _ (c .before .before .before .before .read-row .ensures .0) (w .0) in
     (omega arith, omega arith, omega arith, t ∙ l .inv .3, w .1 ∙ l .inv .4)
 
 write-row-requires-2 : tie.Need-write-row-requires-2 Inv-loop μ-loop
@@ -69,7 +69,7 @@ write-row-requires-2 c κs =
     let s = c .before .before .before .before in
     let l = c .before .before .loop in
     let e = s .args .ring-end in
-    row-of (l .q) (next e) (round - 1 - l .moves) (l .hole) (ring-next (capacity (l .q)) e (omega arith)) (omega arith) (l .inv .1)
+    (row-of (l .q) (next e) (round - 1 - l .moves) (l .hole) (ring-next (capacity (l .q)) e (omega arith)) (omega arith) (l .inv .1), s .pre .1 .1)
 
 same-length : tie.Need-same-length Inv-loop μ-loop
 same-length c = search needs
@@ -86,8 +86,8 @@ returns c =
     let z : i ≡ k + s .args .at = omega arith in
     let w = c .before .before .write-row2 .ensures in
     let r = fills (l .q) (next e) i (l .hole) (ring-next (capacity (l .q)) e (omega arith)) (omega arith) (l .inv .1) _ x (w .0) in
-    let d = l .inv .3 ∙ turned-taken e (places p) (omega (arith, length-places p)) (s .pre .1 .1) in
-    let m = insert-made (lot p e (s .args .n)) _ (s .args .at) k x (s .pre .0) (omega (arith, size p e)) (s .pre .1 .2)
+    let d = l .inv .3 ∙ turned-taken e (places p) (omega (arith, length-places p)) (s .pre .1 .0 .1) in
+    let m = insert-made (lot p e (s .args .n)) _ (s .args .at) k x (s .pre .0) (omega (arith, size p e)) (s .pre .1 .0 .2)
     (r ∙ ap (insertAt i x) d ∙ ap (λ (j : ℕ). insertAt j x (drop 1 (turned e (places p)))) z) in
     (record { good = m .0; list = m .1; rest = w .1 ∙ l .inv .4 }, omega arith)
 

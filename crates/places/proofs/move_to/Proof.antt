@@ -29,7 +29,7 @@ add-write-at : tie.Need-add-write-at
 add-write-at c = search needs
 
 write-at-requires : tie.Need-write-at-requires
-write-at-requires c κs = let s = c .before .before .before .before .before in (s .pre .1 .0, slot-within (s .args .q .now) (s .args .ring-end) (s .args .n) (s .args .to) (s .pre .0) (s .pre .1 .1 .1))
+write-at-requires c κs = let s = c .before .before .before .before .before in (s .pre .1 .0, (slot-within (s .args .q .now) (s .args .ring-end) (s .args .n) (s .args .to) (s .pre .0) (s .pre .1 .1 .1), c .before .read-at .ensures .1))
 
 same-length : tie.Need-same-length
 same-length c = search needs
@@ -39,7 +39,7 @@ returns-2 c =
     let s = c .before .before .before .before .before .before .before .before in
     let e = s .args .ring-end in
     let k = capacity (s .args .q .now) - s .args .n + s .args .to in
-    let x = c .before .before .before .before .read-at .ensures ∙ slot-read (s .args .q .now) e (s .args .n) (s .args .from) (s .pre .0) (s .pre .1 .1 .0) empty in
+    let x = c .before .before .before .before .read-at .ensures .0 ∙ slot-read (s .args .q .now) e (s .args .n) (s .args .from) (s .pre .0) (s .pre .1 .1 .0) empty in
     let w = c .before .before .write-at .ensures in
     let m = slot-set (s .args .q .now) e (s .args .n) (s .args .to) (s .pre .0) (s .pre .1 .1 .1) _ _ (w .0 ∙ ap (set (turned e (places (s .args .q .now))) k) x) in
     record { good = m .0; list = m .1; rest = w .1 }

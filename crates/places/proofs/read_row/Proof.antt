@@ -1,72 +1,74 @@
 -- Rests on `load-is`: the words read from the first of a place on are that place.
+use Prim.Native.Nat.{_+_}
+use native.Mathlib.Omega.{arith}
 use Rattle.rules.specs.State.{empty}
 use Rattle.places.proofs.Words.{load-is}
 use borrow.Author.Needs.{needs}
 use Rattle.places.proofs.read_row.Statement.{statement}
 use Rattle.places.proofs.read_row.Tie as tie
 
-add-t3 : tie.Need-add-t3
-add-t3 c = search needs
+add-asked : tie.Need-add-asked
+add-asked c = search needs
 
-mul-t4 : tie.Need-mul-t4
-mul-t4 c = search needs
+mul-asked : tie.Need-mul-asked
+mul-asked c = search needs
 
-shared-slice-read-t6 : tie.Need-shared-slice-read-t6
-shared-slice-read-t6 c = search needs
+shared-slice-read-asked : tie.Need-shared-slice-read-asked
+shared-slice-read-asked c = search needs
 
-add-t7 : tie.Need-add-t7
-add-t7 c = search needs
+add-t4 : tie.Need-add-t4
+add-t4 c = search needs
 
-mul-t8 : tie.Need-mul-t8
-mul-t8 c = search needs
+mul-t5 : tie.Need-mul-t5
+mul-t5 c = search needs
 
-shared-slice-read-t10 : tie.Need-shared-slice-read-t10
-shared-slice-read-t10 c = search needs
+shared-slice-read-t7 : tie.Need-shared-slice-read-t7
+shared-slice-read-t7 c = search needs
 
-add-t11 : tie.Need-add-t11
-add-t11 c = search needs
+add-t9 : tie.Need-add-t9
+add-t9 c = search needs
 
-mul-t12 : tie.Need-mul-t12
-mul-t12 c = search needs
+mul-t10 : tie.Need-mul-t10
+mul-t10 c = search needs
 
-shared-slice-read-t14 : tie.Need-shared-slice-read-t14
-shared-slice-read-t14 c = search needs
+shared-slice-read-t12 : tie.Need-shared-slice-read-t12
+shared-slice-read-t12 c = search needs
 
-add-t15 : tie.Need-add-t15
-add-t15 c = search needs
+add-t13 : tie.Need-add-t13
+add-t13 c = search needs
 
-mul-t16 : tie.Need-mul-t16
-mul-t16 c = search needs
+mul-t14 : tie.Need-mul-t14
+mul-t14 c = search needs
 
-shared-slice-read-t18 : tie.Need-shared-slice-read-t18
-shared-slice-read-t18 c = search needs
+shared-slice-read-t16 : tie.Need-shared-slice-read-t16
+shared-slice-read-t16 c = search needs
 
-add-t20 : tie.Need-add-t20
-add-t20 c = search needs
+add-t17 : tie.Need-add-t17
+add-t17 c = search needs
 
-mul-t21 : tie.Need-mul-t21
-mul-t21 c = search needs
+mul-t18 : tie.Need-mul-t18
+mul-t18 c = search needs
 
-shared-slice-read-t23 : tie.Need-shared-slice-read-t23
-shared-slice-read-t23 c = search needs
+shared-slice-read-t20 : tie.Need-shared-slice-read-t20
+shared-slice-read-t20 c = search needs
 
-add-t25 : tie.Need-add-t25
-add-t25 c = search needs
+add-t22 : tie.Need-add-t22
+add-t22 c = search needs
 
-mul-t26 : tie.Need-mul-t26
-mul-t26 c = search needs
+mul-t23 : tie.Need-mul-t23
+mul-t23 c = search needs
 
-shared-slice-read-t28 : tie.Need-shared-slice-read-t28
-shared-slice-read-t28 c = search needs
+shared-slice-read-t25 : tie.Need-shared-slice-read-t25
+shared-slice-read-t25 c = search needs
 
-add-t29 : tie.Need-add-t29
-add-t29 c = search needs
+add-t27 : tie.Need-add-t27
+add-t27 c = search needs
 
-mul-t30 : tie.Need-mul-t30
-mul-t30 c = search needs
+mul-t28 : tie.Need-mul-t28
+mul-t28 c = search needs
 
-shared-slice-read-t32 : tie.Need-shared-slice-read-t32
-shared-slice-read-t32 c = search needs
+shared-slice-read-t30 : tie.Need-shared-slice-read-t30
+shared-slice-read-t30 c = search needs
 
 add-t33 : tie.Need-add-t33
 add-t33 c = search needs
@@ -78,33 +80,36 @@ shared-slice-read-t36 : tie.Need-shared-slice-read-t36
 shared-slice-read-t36 c = search needs
 
 returns : tie.Need-returns
-returns c = let s = c .before .before .before .before .before .before .before .before in load-is (s .args .q .now) (s .args .b) empty (s .pre)
+returns c =
+    let s = c .before .before .before .before .before .before .before .before in
+    let w = c .before .before .before .before .before .before .before .shared-slice-known .given (s .args .b + 6) in
+    (load-is (s .args .q .now) (s .args .b) empty (s .pre), record { overrides = omega arith; asked = omega (arith, w) })
 
 pub read-row-spec : {M : Type 1} → statement M
 read-row-spec =
     tie.close
     (tie.spec
-    add-t3
-    mul-t4
-    shared-slice-read-t6
-    add-t7
-    mul-t8
-    shared-slice-read-t10
-    add-t11
-    mul-t12
-    shared-slice-read-t14
-    add-t15
-    mul-t16
-    shared-slice-read-t18
-    add-t20
-    mul-t21
-    shared-slice-read-t23
-    add-t25
-    mul-t26
-    shared-slice-read-t28
-    add-t29
-    mul-t30
-    shared-slice-read-t32
+    add-asked
+    mul-asked
+    shared-slice-read-asked
+    add-t4
+    mul-t5
+    shared-slice-read-t7
+    add-t9
+    mul-t10
+    shared-slice-read-t12
+    add-t13
+    mul-t14
+    shared-slice-read-t16
+    add-t17
+    mul-t18
+    shared-slice-read-t20
+    add-t22
+    mul-t23
+    shared-slice-read-t25
+    add-t27
+    mul-t28
+    shared-slice-read-t30
     add-t33
     mul-t34
     shared-slice-read-t36

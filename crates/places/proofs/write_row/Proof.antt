@@ -60,20 +60,26 @@ mul-q-6 c = search needs
 slice-write-q-6 : tie.Need-slice-write-q-6
 slice-write-q-6 c = simp length-set (omega arith)
 
-add-q-7 : tie.Need-add-q-7
-add-q-7 c = search needs
-
 mul-q-7 : tie.Need-mul-q-7
 mul-q-7 c = search needs
 
-slice-write-q-7 : tie.Need-slice-write-q-7
-slice-write-q-7 c = simp length-set (omega arith)
+add-q-7 : tie.Need-add-q-7
+add-q-7 c = search needs
 
 add-q-8 : tie.Need-add-q-8
 add-q-8 c = search needs
 
 mul-q-8 : tie.Need-mul-q-8
 mul-q-8 c = search needs
+
+slice-write-q-7 : tie.Need-slice-write-q-7
+slice-write-q-7 c = simp length-set (omega arith)
+
+add-q-9 : tie.Need-add-q-9
+add-q-9 c = search needs
+
+mul-q-9 : tie.Need-mul-q-9
+mul-q-9 c = search needs
 
 slice-write-q-8 : tie.Need-slice-write-q-8
 slice-write-q-8 c = simp length-set (omega arith)
@@ -82,7 +88,10 @@ same-length : tie.Need-same-length
 same-length c = simp length-set
 
 returns : tie.Need-returns
-returns c = let a = c .args in (store-is (a .q .now) (a .b) (a .x) (c .pre), store-spare (a .q .now) (a .b) (a .x) (c .pre))
+returns c =
+    let s = c .before .before in
+    let a = s .args in
+    (store-is (a .q .now) (a .b) (a .x) (s .pre .1 .overrides) (s .pre .0), store-spare (a .q .now) (a .b) (a .x) (s .pre .0))
 
 pub write-row-spec : {M : Type 1} → statement M
 write-row-spec =
@@ -106,11 +115,13 @@ write-row-spec =
     add-q-6
     mul-q-6
     slice-write-q-6
-    add-q-7
     mul-q-7
-    slice-write-q-7
+    add-q-7
     add-q-8
     mul-q-8
+    slice-write-q-7
+    add-q-9
+    mul-q-9
     slice-write-q-8
     same-length
     returns)
