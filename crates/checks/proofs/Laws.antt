@@ -412,6 +412,7 @@ pub session-is : (t : Ninths) (c : ℕ) (r : Request) {p : ℕ} {d : Ninths} →
       end = record { 0 = t .0 + d .0 };
       access = r .access;
       overrides = r .overrides;
+      mux = r .mux;
       played = record { 0 = 0 };
     }
     ≡ sessionAt (t .0) c r

@@ -109,6 +109,7 @@ pub fn session_at(t: Ninths, conn: u64, r: Request) -> Session
         end: Ninths(t.0 + d.0),
         access: r.access as u64,
         overrides: r.overrides as u64,
+        mux: r.mux as u64,
         played: Ninths(0),
     }
 }

@@ -12,6 +12,7 @@ ghost use Rattle.rules.specs.Lists.{All};
 ghost use Rattle.rules.specs.State.{due, notAfter, toCome, Sorted};
 ghost use Rattle.rules.specs.Instants.{mayStart, ousted, launched, startAt, instant};
 ghost use Rattle.rules.specs.Sound.{Holding, horizon};
+ghost use Rattle.places.specs.Places.{Narrow};
 ghost use Rattle.memory.specs.Memory.{Form, see, Now};
 ghost use Rattle.ends.specs.Does.{Playable, roomFor, Does};
 ghost use Rattle.instants.specs.Runs.{Meets, Placed, Lasting, passed, Ticked};
@@ -61,7 +62,7 @@ fn oust(m: &mut [u64; WORDS], x: Session, out: &mut [u8], len: usize) -> usize
 // x, which no longer waits, goes on air, or fails with those that follow it.
 fn launch(m: &mut [u64; WORDS], x: Session, out: &mut [u8], len: usize) -> usize
     requires { ⌜ Form (now m) ⌝ }
-    requires { ⌜ Placed (launched x (see (now m) .queue)) ⌝ }
+    requires { ⌜ Placed (launched x (see (now m) .queue)) × Narrow x ⌝ }
     requires { ⌜ All Playable (see (now m) .queue .started) ⌝ }
     requires { ⌜ len + roomFor (2 + toCome (see (now m) .queue)) ≤ length (now out) ⌝ }
     ensures { λ r. ⌜ Does (launched x) len (now (m .entry)) (now (out .entry)) r (now (m .exit)) (now (out .exit)) ⌝ }

@@ -24,7 +24,7 @@ use Rattle.rules.specs.Records.{Record, SpliceResponse, AbortResponse, recordBy
 use Rattle.rules.specs.Ends.{Turn, writes, andThen, ended, endings, dismissed, evictedAt, evicted, cancelled, aborted}
 use Rattle.rules.specs.Answers.{startOf, sessionAt, requested, full}
 use Rattle.rules.specs.Answers.{spliceResult, inserted, accepts, accepted, later, Spliced, grants, declines, answerSplice, answerAbort}
-use Rattle.rules.specs.Asked.{Within}
+use Rattle.rules.specs.Asked.{Within, Asked}
 use Rattle.rules.specs.Sound.{Room, horizon, Once, Holding}
 use Rattle.rules.proofs.Tests.{and-both}
 use Rattle.rules.proofs.Count.{place≤}
@@ -41,7 +41,7 @@ use Rattle.rules.proofs.Sound.{early}
 use Rattle.places.specs.Places.{startsFrom}
 use Rattle.memory.specs.declared.Which.{Which}
 use Rattle.memory.specs.declared.Which.the-variants.{Waiting, Started}
-use Rattle.memory.specs.Memory.{Memory, Form, see, sessions, listOf, relisted, onward, Now, placesOf, OfFour}
+use Rattle.memory.specs.Memory.{Memory, Form, see, sessions, listOf, relisted, onward, Now, placesOf, OfFour, Storable}
 use Rattle.ends.specs.Does.{Turns, Does, oneEnded, chainEnded, endingAt}
 use Rattle.ends.proofs.Laws.{tells-part, tells-then, turns-quiet, turns-writes, turns-then}
 use Rattle.checks.specs.declared.Where.{Where}
@@ -198,9 +198,9 @@ module _ (c : ℕ) (r : Request) (m : List ℕ) {new : Session} {n : ℕ} (a : n
   result-is : n ≡ spliceResult (see m .clock) c r (requested c r q) q
   result-is = f ∙ ap (λ (s : Session). spliceResult (see m .clock) c r s q) a
 
-  pub four : c ≤ 3 → OfFour new
+  pub storable : c ≤ 3 → Asked r → Storable new
   unfolding requested sessionAt
-  four low = rw a low
+  storable low h = rw a (record { ofFour = low; narrow = record { overrides = h .overrides; asked = omega (arith, h .overrides, h .mux) } })
 
   pub room-waiting : n ≡ 100 → c ≤ 3 → Form m → Holding (see m .clock) q → length (q .waiting) < placesOf Waiting
   unfolding requested sessionAt

@@ -14,7 +14,7 @@ ghost use Rattle.rules.specs.Answers.{grants, answerSplice, answerAbort};
 ghost use Rattle.rules.specs.Sound.{horizon, Holding};
 ghost use Rattle.rules.specs.Asked.{Asked};
 ghost use Rattle.places.specs.Places.{startsFrom};
-ghost use Rattle.memory.specs.Memory.{Form, see, placesOf, OfFour};
+ghost use Rattle.memory.specs.Memory.{Form, see, placesOf, Storable};
 ghost use Rattle.memory.specs.declared.Which.the-variants.{Waiting};
 ghost use Rattle.ends.specs.Does.{Does};
 ghost use Rattle.requests.specs.Made.{MadeWay, Splices};
@@ -53,7 +53,7 @@ fn accept(m: &mut [u64; WORDS], new: Session, at: usize, out: &mut [u8]) -> Give
     requires { ⌜ Holding (see (now m) .clock) (see (now m) .queue) ⌝ }
     requires { ⌜ at ≡ place (startsFrom (new .start .0)) (see (now m) .queue .waiting) ⌝ }
     requires { ⌜ length (see (now m) .queue .waiting) < placesOf Waiting ⌝ }
-    requires { ⌜ OfFour new ⌝ }
+    requires { ⌜ Storable new ⌝ }
     requires { ⌜ 4096 ≤ length (now out) ⌝ }
     ensures { λ r. ⌜ Splices (grants new (see (now (m .entry)) .queue))
         (now (m .entry)) (now (out .entry)) r (now (m .exit)) (now (out .exit)) ⌝ }

@@ -46,7 +46,7 @@ returns-2 c =
     let k = c .before .before .before .before .before .before in
     let s = k .before .before .before .before .before .before in
     let air = air-some (see (s .args .m .now) .queue .started) (omega (arith, k .count .ensures)) in
-    let id = air .1 ∙ ap (λ (x : Session). x .id) (sym (c .before .before .before .before .load .ensures)) in
+    let id = air .1 ∙ ap (λ (x : Session). x .id) (sym (c .before .before .before .before .load .ensures .0)) in
     alive-says (s .args .m .now) (s .args .b .now) (s .args .conn) (air .0, id) (k .before .before .clock .ensures)
     (k .before .to-micros .ensures) (c .before .before .alive-response2 .ensures)
 

@@ -24,7 +24,7 @@ returns c =
     let taken = c .before .before .before in
     let s = taken .before .before .before in
     collides-at (s .args .new) (see (s .args .m .now) .queue .waiting) (taken .is-taken .ensures) (s .pre .1 .0) (s .pre .1 .1)
-    (c .before .before .if1 .taken) (c .before .load .ensures) (c .outranks .ensures)
+    (c .before .before .if1 .taken) (c .before .load .ensures .0) (c .outranks .ensures)
 
 returns-2 : tie.Need-returns-2
 returns-2 c =

@@ -40,7 +40,7 @@ returns-2 c =
     let m = s .args .m .now in
     found-end (s .args .conn) (s .args .id) m
     (held-at (s .args .conn) (s .args .id) (see m .queue) (sym (found .where-held .ensures) ∙ c .before .before .before .held .given .1))
-    (c .before .load .result) (c .before .load .ensures)
+    (c .before .load .result) (c .before .load .ensures .0)
 
 pub end-of-spec : {M : Type 1} → statement M
 end-of-spec = tie.close (tie.spec where-held-requires enum-known-held enum-told returns load-requires returns-2)

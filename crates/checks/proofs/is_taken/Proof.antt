@@ -17,7 +17,7 @@ returns c =
     let counted = loaded .before .before in
     let s = counted .before .before in
     taken-here (s .args .t .0) (see (s .args .m .now) .queue .waiting) (s .pre .1 .0) (s .pre .1 .1) (counted .count .ensures)
-    (loaded .load .result) (loaded .before .if1 .taken) (loaded .load .ensures)
+    (loaded .load .result) (loaded .before .if1 .taken) (loaded .load .ensures .0)
 
 returns-2 : tie.Need-returns-2
 returns-2 c =

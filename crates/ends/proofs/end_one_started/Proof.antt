@@ -18,7 +18,7 @@ write-end-requires : tie.Need-write-end-requires
 write-end-requires c κs =
     let read = c .before .before .before in
     let s = read .before .before .before .before in
-    (subst (Writable (s .args .how)) (sym (read .load .ensures)) (s .pre .1 .1 .0), s .pre .1 .1 .1)
+    (subst (Writable (s .args .how)) (sym (read .load .ensures .0)) (s .pre .1 .1 .0), s .pre .1 .1 .1)
 
 same-length : tie.Need-same-length
 same-length c = search needs
@@ -28,7 +28,7 @@ returns c =
     let taken = c .before .before .before .before in
     let read = taken .before .before in
     let s = read .before .before .before .before in
-    one-ended Started (s .args .m .now) (s .args .at) (s .args .how) (read .load .ensures) (taken .remove .ensures) (c .before .before .write-end .ensures)
+    one-ended Started (s .args .m .now) (s .args .at) (s .args .how) (read .load .ensures .0) (taken .remove .ensures) (c .before .before .write-end .ensures)
 
 pub end-one-started-spec : {M : Type 1} → statement M
 end-one-started-spec = tie.close (tie.spec load-requires remove-requires write-end-requires same-length returns)

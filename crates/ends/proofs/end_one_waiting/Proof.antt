@@ -24,7 +24,7 @@ returns c =
     let taken = c .before .before .before .before in
     let read = taken .before .before in
     let s = read .before .before .before .before in
-    one-ended Waiting (s .args .m .now) (s .args .at) (Response (s .args .result)) (read .load .ensures) (taken .remove .ensures)
+    one-ended Waiting (s .args .m .now) (s .args .at) (Response (s .args .result)) (read .load .ensures .0) (taken .remove .ensures)
     (c .before .before .write-end .ensures)
 
 pub end-one-waiting-spec : {M : Type 1} → statement M

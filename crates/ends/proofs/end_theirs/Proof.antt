@@ -65,7 +65,7 @@ loop-again c =
     let list = sessions (a .which) (a .m .now) in
     let k : l .i < length list = omega (arith, n .count .ensures, test .loop-test .taken) in
     ⊎-elim
-    (λ w. rw (w .8, w .9, w .10) (theirs-goes list (l .inv) k (eq-eqb _ _ (w .0 .taken ∙ read .conn-at .ensures)) (w .3 .ensures) (w .5 .ensures)))
+    (λ w. rw (w .8, w .9, w .10) (theirs-goes list (l .inv) k (eq-eqb _ _ (w .0 .taken ∙ read .conn-at .ensures)) (w .3 .ensures .0) (w .5 .ensures)))
     (λ w. rw (w .1, w .2, w .3) (theirs-stays list (l .inv) k (ne-eqb _ _ (λ e. w .0 .left (e ∙ sym (read .conn-at .ensures))))))
     (c .if1 .came)
 

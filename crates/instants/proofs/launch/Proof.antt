@@ -45,7 +45,7 @@ push-requires c κs =
     let s = may .before .before .before .before .before in
     let f = sym (may .before .may-start .ensures) ∙ may .if1 .taken in
     let d = out .oust .ensures in
-    (d .shows .form, on-placed (s .args .x) d f (s .pre .1 .0))
+    (d .shows .form, (on-placed (s .args .x) d f (s .pre .1 .0 .0), s .pre .1 .0 .1))
 
 add-result : tie.Need-add-result
 add-result c =

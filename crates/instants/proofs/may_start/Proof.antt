@@ -28,7 +28,7 @@ returns-2 c =
     let on = c .before .before .before .before in
     let s = on .before .before .before in
     let k = see (s .args .m .now) .queue .started in
-    may-over (s .args .x) (air .result) k (omega (arith, on .if1 .left, on .before .count .ensures)) (air .ensures)
+    may-over (s .args .x) (air .result) k (omega (arith, on .if1 .left, on .before .count .ensures)) (air .ensures .0)
     (eq-eqb (s .args .x .overrides) 1 (c .before .if2 .taken)) (sym (c .outranks .ensures))
 
 returns-3 : tie.Need-returns-3
@@ -38,7 +38,7 @@ returns-3 c =
     let s = on .before .before .before in
     let no = ne-eqb (s .args .x .overrides) 1 (c .if2 .left) in
     let k = see (s .args .m .now) .queue .started in
-    no ∙ may-over (s .args .x) (air .result) k (omega (arith, on .if1 .left, on .before .count .ensures)) (air .ensures) no refl
+    no ∙ may-over (s .args .x) (air .result) k (omega (arith, on .if1 .left, on .before .count .ensures)) (air .ensures .0) no refl
 
 pub may-start-spec : {M : Type 1} → statement M
 may-start-spec = tie.close (tie.spec count-requires returns load-requires outranks-requires returns-2 returns-3)

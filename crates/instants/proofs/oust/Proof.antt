@@ -36,7 +36,7 @@ returns-2 c =
     let air = c .before .before .before .before .before .before .before .before .load in
     let h : 0 < length (see (s .args .m .now) .queue .started) = omega (arith, some .if1 .left, some .before .count .ensures) in
     let equal = c .before .before .before .before .before .if2 .taken in
-    ousted-equal (s .args .x) (s .args .m .now) (air .result) h (air .ensures) equal (c .before .before .end-started .ensures)
+    ousted-equal (s .args .x) (s .args .m .now) (air .result) h (air .ensures .0) equal (c .before .before .end-started .ensures)
 
 returns-3 : tie.Need-returns-3
 returns-3 c =
@@ -44,7 +44,7 @@ returns-3 c =
     let s = some .before .before .before .before .before in
     let air = c .before .before .before .load in
     let h : 0 < length (see (s .args .m .now) .queue .started) = omega (arith, some .if1 .left, some .before .count .ensures) in
-    ousted-other (s .args .x) (s .args .m .now) (air .result) h (air .ensures) (s .pre .0) (c .if2 .left)
+    ousted-other (s .args .x) (s .args .m .now) (air .result) h (air .ensures .0) (s .pre .0) (c .if2 .left)
 
 pub oust-spec : {M : Type 1} → statement M
 oust-spec = tie.close (tie.spec count-requires returns load-requires end-started-requires same-length returns-2 returns-3)

@@ -34,10 +34,10 @@ launch-requires c κs =
     let h : 0 < length (m .queue .waiting) = omega (arith, some .if1 .left, some .before .count .ensures) in (
       left .ensures .form,
       (
-        start-placed m (x .result) h (x .ensures) (now .if2 .taken) (left .ensures) (s .pre .1 .1 .0),
+        (start-placed m (x .result) h (x .ensures .0) (now .if2 .taken) (left .ensures) (s .pre .1 .1 .0), x .ensures .1),
         (
-          start-playable m (x .result) h (x .ensures) (now .if2 .taken) (left .ensures) (s .pre .1 .1 .1 .0),
-          omega (arith, s .pre .1 .1 .1 .1, start-room m (x .result) h (x .ensures) (now .if2 .taken) (left .ensures)),
+          start-playable m (x .result) h (x .ensures .0) (now .if2 .taken) (left .ensures) (s .pre .1 .1 .1 .0),
+          omega (arith, s .pre .1 .1 .1 .1, start-room m (x .result) h (x .ensures .0) (now .if2 .taken) (left .ensures)),
         ),
       ),
     )
@@ -54,7 +54,7 @@ returns-2 c =
     let s = some .before .before .before .before .before in
     let m = see (s .args .m .now) in
     let h : 0 < length (m .queue .waiting) = omega (arith, some .if1 .left, some .before .count .ensures) in
-    start-turns m (x .result) h (x .ensures) (now .if2 .taken) (left .ensures) (c .before .before .launch .ensures)
+    start-turns m (x .result) h (x .ensures .0) (now .if2 .taken) (left .ensures) (c .before .before .launch .ensures)
 
 returns-3 : tie.Need-returns-3
 returns-3 c =
@@ -62,7 +62,7 @@ returns-3 c =
     let some = c .before .before .before .before .before .before in
     let s = some .before .before .before .before .before in
     let h : 0 < length (see (s .args .m .now) .queue .waiting) = omega (arith, some .if1 .left, some .before .count .ensures) in
-    start-later (s .args .t .0) (s .pre .0) (x .result) h (x .ensures) (c .if2 .left) (s .pre .1 .0)
+    start-later (s .args .t .0) (s .pre .0) (x .result) h (x .ensures .0) (c .if2 .left) (s .pre .1 .0)
 
 pub start-at-spec : {M : Type 1} → statement M
 start-at-spec =

@@ -3,7 +3,7 @@
 use mathlib.Core.Path.{sym, _∙_}
 use native.Mathlib.Omega.{arith}
 use Rattle.memory.specs.Memory.{see}
-use Rattle.requests.proofs.Laws.{start-fits, asks, four, room-waiting, splice-accepted, splice-refused, splice-unknown}
+use Rattle.requests.proofs.Laws.{start-fits, asks, storable, room-waiting, splice-accepted, splice-refused, splice-unknown}
 use borrow.Author.Needs.{needs}
 use Rattle.requests.proofs.answer_splice.Statement.{statement}
 use Rattle.requests.proofs.answer_splice.Tie as tie
@@ -78,8 +78,8 @@ accept-requires c κs =
     let low = s .pre .1 .1 .1 .0 in
     let n = judged .splice-result .ensures in
     let room = room-waiting (s .args .conn) (s .args .r) m (a .is) n (test .if1 .taken) low (s .pre .0) (s .pre .1 .0) in
-    let of-four = four (s .args .conn) (s .args .r) m (a .is) n low in
-    (s .pre .0, (s .pre .1 .0, (a .at, (room, (of-four, s .pre .1 .1 .1 .1 .1)))))
+    let fit = storable (s .args .conn) (s .args .r) m (a .is) n low (s .pre .1 .1 .1 .1 .0) in
+    (s .pre .0, (s .pre .1 .0, (a .at, (room, (fit, s .pre .1 .1 .1 .1 .1)))))
 
 same-length-2 : tie.Need-same-length-2
 same-length-2 c = search needs
