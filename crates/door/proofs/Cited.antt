@@ -20,7 +20,7 @@ use denote.Triple.Entry.{Args, Res}
 use Rattle.rules.specs.Lists.{All}
 use Rattle.rules.specs.Calls as rules
 use Rattle.rules.specs.Calls.{call}
-use Rattle.engine.specs.Lent.{Lent, Counts, Primary}
+use Rattle.engine.specs.Lent.{Lent, Counts, Primary, ReadsMux}
 use Rattle.engine.proofs.Held.{kind, Holds, Same, both, number-held, bytes-held}
 use Rattle.door.specs.Door.{Replies, anOpen, aClose, aMessage, aTick, Typed, Seen, Allowed}
 use Rattle.door.proofs.«splicer_4_fresh» as fresh
@@ -30,6 +30,7 @@ use Rattle.door.proofs.«splicer_4_message» as message
 use Rattle.door.proofs.«splicer_4_tick» as tick
 use Rattle.door.proofs.«splicer_4_waiting» as waiting
 use Rattle.door.proofs.«splicer_4_primary» as primary
+use Rattle.door.proofs.«splicer_4_mux» as mux
 
 -- what C sees
 abbrev ended : (r m b o : List ℕ) → Seen
@@ -110,6 +111,14 @@ module _ {M : Type 1} (𝓤 : URA M) (H : Heap 𝓤) (A : Atoms 𝓤) (mem : sto
 
     pub primary-ensures : primary.clauses 𝓤 H A mem run κs a .ensures tt r z ≡ ⌜ Primary (now (a .0)) (now (a .1 .0)) r ⌝
     primary-ensures = refl
+
+  -- splicer_4_mux(words, bytes)
+  module _ (κs : Lfts 2) (a : Args mux.signature κs) (r : Res mux.signature κs) (z : AtExit mux.ended κs) where
+    pub mux-requires : mux.clauses 𝓤 H A mem run κs a .requires tt ≡ ⌜ Lent (now (a .0)) (now (a .1 .0)) ⌝
+    mux-requires = refl
+
+    pub mux-ensures : mux.clauses 𝓤 H A mem run κs a .ensures tt r z ≡ ⌜ ReadsMux (now (a .0)) (now (a .1 .0)) r ⌝
+    mux-ensures = refl
 
 -- ## Typed is what the parameters' types say, and no more
 

@@ -9,7 +9,7 @@ use streams::LIST;
 ghost use mathlib.Core.Path.{_≡_};
 ghost use mathlib.Core.List.{[]};
 ghost use Rattle.rules.specs.Calls.{fresh, openCall, closeCall, messageCall, tickCall, lending};
-ghost use Rattle.engine.specs.Lent.{Lent, Counts, Primary};
+ghost use Rattle.engine.specs.Lent.{Lent, Counts, Primary, ReadsMux};
 ghost use Rattle.streams.specs.Rows.{ReadsList, WritesList};
 ghost use Rattle.door.specs.Door.{replyOf, Replies, Hears};
 
@@ -158,4 +158,13 @@ pub extern "C" fn splicer_4_write_streams(
     ensures { λ r. ⌜ WritesList (now (words .entry)) (now (kept .entry)) (now (out .entry)) r (now (out .exit)) ⌝ }
 {
     streams::write(words, kept, &mut *out)
+}
+
+// 02, CR 5: what the one on air asks of the multiplexer. It only reads, and nothing is refused.
+#[no_mangle]
+pub extern "C" fn splicer_4_mux(words: &[u64; WORDS], bytes: &[u8; BYTES]) -> u64
+    requires { ⌜ Lent (now words) (now bytes) ⌝ }
+    ensures { λ r. ⌜ ReadsMux (now (words .entry)) (now (bytes .entry)) r ⌝ }
+{
+    engine::mux(words, bytes)
 }

@@ -17,12 +17,12 @@ use Rattle.rules.specs.Sound.{Each, Falling, Coded}
 use Rattle.rules.specs.Answers.{requested, spliceResult}
 use Rattle.rules.specs.Calls.{lending, fresh, after}
 use Rattle.demands.specs.History.{Event, startsOf, endsOf, history, ownAnswer, othersOf, waitingCount, book, clockAfter}
-use Rattle.demands.specs.Told.{firstNumber, checks, answers, Asks, Passes, fullTold, countsTold, grantedBy, outsOf, startedTold, unended, Ended, Stands}
+use Rattle.demands.specs.Told.{firstNumber, checks, answers, Asks, Passes, fullTold, countsTold, grantedBy, outsOf, startedTold, unended, Ended, Stands, airMuxTold, MuxInRange}
 use Rattle.demands.specs.Airing.{airingsTold, clockTold, primaryTold, timeTold, airTold, numberTold}
 use Rattle.demands.specs.Moments.{Gapless, Printed, Within, PlayedAs}
 use Rattle.places.specs.Places.{round, next}
 use Rattle.memory.specs.Memory.{see, placesFrom, countsOf}
-use Rattle.engine.specs.Lent.{Lent, Counts, Primary}
+use Rattle.engine.specs.Lent.{Lent, Counts, Primary, ReadsMux}
 use Rattle.door.specs.Door.{Input, aClose, aMessage, Typed, callOf, bufferOf, Seen}
 use Rattle.traces.specs.Trace.{Memory, emptyMemory, shown}
 use Rattle.traces.specs.Trace as engine
@@ -212,6 +212,18 @@ module _ (name : List ℕ) (h : List Made) (m : Memory) where
 -- "so no two started sessions ever have the same AccessType": those that the started words hold fall strictly, from the one on air down
 pub no-two-alike : (name : List ℕ) (h : List Made) (m : Memory) → Trace name h m → Falling (shown m .queue .started)
 no-two-alike name h m t = called.no-two-alike name (within h) m (trace-inside name h m t)
+
+-- ## Document 02, CR 5
+
+module _ (name : List ℕ) (h : List Made) (m : Memory) where
+  -- "sessions carry the value", 1 to 10: every session held, waiting, on air or covered
+  pub mux-in-range : Trace name h m → Each MuxInRange (shown m .queue)
+  mux-in-range t = called.mux-in-range name (within h) m (trace-inside name h m t)
+
+  -- "the caller can read that of the one on air, 5 with none": whatever the read's contract allows is what the request asked that was last
+  -- accepted under the number on air, taken from the calls and the answers' bytes. So it and Alive_Response's SessionID are of one session
+  pub air-mux-told : Trace name h m → (r : ℕ) → ReadsMux (m .words) (m .bytes) r → r ≡ airMuxTold (shown m .queue .started) (book (events h) [])
+  air-mux-told t = rw (trace-events name h m t) (called.air-mux-told name (within h) m (trace-inside name h m t))
 
 -- ## Document 02, CR 10
 

@@ -1,6 +1,7 @@
 // The calls of document 01, over memory that the caller lends: the splicer's words in one piece and its bytes in a second.
 use memory::BYTES;
 use memory::WORDS;
+use memory::Which;
 use rules::Framing;
 use rules::Link;
 use rules::Ninths;
@@ -13,7 +14,7 @@ ghost use Rattle.rules.specs.Bytes.{Byte, hasZero};
 ghost use Rattle.rules.specs.Calls.{houseNumber, fresh, openCall, closeCall, messageCall, moveCall, tickCall, lending};
 ghost use Rattle.rules.specs.Sound.{horizon};
 ghost use Rattle.memory.specs.Memory.{Form, see};
-ghost use Rattle.engine.specs.Lent.{Lent, Answers, Makes, openTest, Counts, Primary};
+ghost use Rattle.engine.specs.Lent.{Lent, Answers, Makes, openTest, Counts, Primary, ReadsMux};
 
 // What a call answers: a refusal, or the bytes consumed, the bytes written, and how many places an acceptance shifted.
 pub enum Answer {
@@ -80,6 +81,17 @@ pub fn primary(m: &[u64; WORDS], b: &[u8]) -> Ninths
     ensures { λ r. ⌜ Primary (now (m .entry)) (now (b .entry)) (r .0) ⌝ }
 {
     memory::primary(m)
+}
+
+// 02, CR 5: "the caller can read that of the one on air, 5 with none". It only reads.
+pub fn mux(m: &[u64; WORDS], b: &[u8]) -> u64
+    requires { ⌜ Lent (now m) (now b) ⌝ }
+    ensures { λ r. ⌜ ReadsMux (now (m .entry)) (now (b .entry)) r ⌝ }
+{
+    if memory::count(m, Which::Started) == 0 {
+        return 5;
+    }
+    memory::mux_at(m, 0)
 }
 
 // Open: 1, 6.

@@ -23,7 +23,7 @@ use Rattle.rules.specs.Calls as rules
 use Rattle.rules.specs.Calls.{call}
 use Rattle.memory.specs.Memory.{see}
 use Rattle.engine.specs.declared.Answer.{Answer}
-use Rattle.engine.specs.Lent.{Answers, Counts, Primary}
+use Rattle.engine.specs.Lent.{Answers, Counts, Primary, ReadsMux}
 use Rattle.engine.proofs.Held.{kind, Holds, Same, both, number-held, bytes-held}
 use Rattle.engine.proofs.fresh as fresh
 use Rattle.engine.proofs.«open» as opening
@@ -33,6 +33,7 @@ use Rattle.engine.proofs.tick as tick
 use Rattle.engine.proofs.bring_to as bringing
 use Rattle.engine.proofs.waiting as waiting
 use Rattle.engine.proofs.primary as primary
+use Rattle.engine.proofs.mux as mux
 use Rattle.traces.specs.Trace.{Memory, shown, Input, anOpen, aClose, aMessage, aTick, aMove, Typed, callOf, bufferOf, Result, Allowed}
 use Rattle.traces.proofs.Course.{LentAt}
 
@@ -137,6 +138,14 @@ module _ {M : Type 1} (𝓤 : URA M) (H : Heap 𝓤) (A : Atoms 𝓤) (mem : sto
 
     pub primary-ensures : primary.clauses 𝓤 H A mem run κs a .ensures tt r z ≡ ⌜ Primary (now (a .0)) (now (a .1 .0)) (r .0) ⌝
     primary-ensures = refl
+
+  -- mux(m, b)
+  module _ (κs : Lfts 2) (a : Args mux.signature κs) (r : Res mux.signature κs) (z : AtExit mux.ended κs) where
+    pub mux-requires : mux.clauses 𝓤 H A mem run κs a .requires tt ≡ ⌜ LentAt (at (now (a .0)) (now (a .1 .0))) ⌝
+    mux-requires = refl
+
+    pub mux-ensures : mux.clauses 𝓤 H A mem run κs a .ensures tt r z ≡ ⌜ ReadsMux (now (a .0)) (now (a .1 .0)) r ⌝
+    mux-ensures = refl
 
 -- ## What Allowed says is of the call `callOf`
 

@@ -24,8 +24,8 @@ use Rattle.demands.specs.History.{Event, startsOf, endsOf, history, ownAnswer, 
 use Rattle.engine.specs.declared.Answer.the-variants.{Refused}
 use Rattle.places.specs.Places.{round, next}
 use Rattle.memory.specs.Memory.{see, placesFrom, countsOf, tallied}
-use Rattle.engine.specs.Lent.{Lent, Counts, Primary}
-use Rattle.demands.specs.Told.{firstNumber, checks, answers, Asks, Passes, fullTold, countsTold, grantedBy, outsOf, startedTold, unended, Ended, Stands}
+use Rattle.engine.specs.Lent.{Lent, Counts, Primary, ReadsMux}
+use Rattle.demands.specs.Told.{firstNumber, checks, answers, Asks, Passes, fullTold, countsTold, grantedBy, outsOf, startedTold, unended, Ended, Stands, airMuxTold, MuxInRange}
 use Rattle.demands.specs.Airing.{airingsTold, clockTold, primaryTold, timeTold, airTold, numberTold}
 use Rattle.demands.specs.Moments.{Gapless, Printed, Within, PlayedAs}
 use Rattle.demands.proofs.Demands as told
@@ -199,6 +199,18 @@ module _ (name : List ℕ) (h : List Made) (m : Memory) where
 -- "so no two started sessions ever have the same AccessType": those that the started words hold fall strictly, from the one on air down
 pub no-two-alike : (name : List ℕ) (h : List Made) (m : Memory) → Trace name h m → Falling (shown m .queue .started)
 no-two-alike name h m t = reached-sound (shown m) (trace-lent name h m t .reached) .holding .falling
+
+-- ## Document 02, CR 5
+
+module _ (name : List ℕ) (h : List Made) (m : Memory) where
+  -- "sessions carry the value", 1 to 10: every session held, waiting, on air or covered
+  pub mux-in-range : Trace name h m → Each MuxInRange (shown m .queue)
+  mux-in-range t = told.mux-in-range (events h) (shown m) (trace-told name h m t)
+
+  -- "the caller can read that of the one on air, 5 with none": whatever the read's contract allows is what the request asked that was last
+  -- accepted under the number on air, taken from the calls and the answers' bytes
+  pub air-mux-told : Trace name h m → (r : ℕ) → ReadsMux (m .words) (m .bytes) r → r ≡ airMuxTold (shown m .queue .started) (book (events h) [])
+  air-mux-told t r c = c ∙ told.air-mux-told (events h) (shown m) (trace-told name h m t)
 
 -- ## Document 02, CR 10
 

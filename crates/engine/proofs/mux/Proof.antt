@@ -1,0 +1,44 @@
+-- "5 with none", or the value of the first of the started: the one on air (`air-none`, `air-first`).
+use mathlib.Core.Path.{_≡_, refl, _∙_}
+use mathlib.Core.List.{List, [], _∷_}
+use Prim.Native.Nat.{_<_}
+use native.Mathlib.Omega.{arith}
+use lib.ListN.{length, getD}
+use Rattle.rules.specs.declared.Session.{Session}
+use Rattle.rules.specs.State.{empty}
+use Rattle.rules.specs.Answers.{airMux}
+use Rattle.memory.specs.declared.Which.the-variants.{Started}
+use Rattle.memory.specs.Memory.{sessions}
+use borrow.Author.Needs.{needs}
+use Rattle.engine.proofs.mux.Statement.{statement}
+use Rattle.engine.proofs.mux.Tie as tie
+
+air-none : (l : List Session) → length l ≡ 0 → 5 ≡ airMux l
+unfolding airMux
+air-none [] h = refl
+air-none (x ∷ l) h = absurd (omega arith)
+
+air-first : (l : List Session) → 0 < length l → getD l 0 empty .mux ≡ airMux l
+unfolding airMux
+air-first [] h = absurd (omega arith)
+air-first (x ∷ l) h = refl
+
+count-requires : tie.Need-count-requires
+count-requires c κs = search needs
+
+returns : tie.Need-returns
+returns c =
+    let m = c .before .before .before .before .args .m .now in
+    air-none (sessions Started m) (omega (arith, c .before .count .ensures, c .if1 .taken))
+
+mux-at-requires : tie.Need-mux-at-requires
+mux-at-requires c κs = search needs
+
+returns-2 : tie.Need-returns-2
+returns-2 c =
+    let some = c .before .before in
+    let m = c .before .before .before .before .before .before .args .m .now in
+    c .mux-at .ensures ∙ air-first (sessions Started m) (omega (arith, some .before .count .ensures, some .if1 .left))
+
+pub mux-spec : {M : Type 1} → statement M
+mux-spec = tie.close (tie.spec count-requires returns mux-at-requires returns-2)
