@@ -1,9 +1,9 @@
 -- model/scenarios/8.5-descriptors-unread-content.txt, made by tools/cases.sh. Line numbers are that file's.
 -- J.280 clause 8.5, descriptors whose content breaks the clause but whose form is good.
--- Shows: in the base nothing inside a descriptor is read.
+-- Shows: nothing is read inside a descriptor but muxpriority's length and value (02, CR 5; all of it in 8.5.2-mux-priority.txt).
 --
 -- 01 leads elsewhere: "Their content … has no effect here." J.280 would have 123, 124 or
---   130. (CR 5 will read muxpriority_descriptor: its lines here become 123 then.)
+--   130 for the others too.
 use mathlib.Core.List.{List, [], _∷_}
 use Prim.Native.String.{_++_}
 use Rattle.cases.specs.Scenario.{Row, row, Holds, holds}
@@ -20,19 +20,19 @@ rows =
     ∷ row 12 "> splice 0 id=1 at=1010 duration=90000 desc=02055341504900"
     ("4D00 0007 0028 FFFF FFFF 00000001 FFFFFFFF 000003F2 00000000 0001 00015F90 FFFFFFFF 00000000 00 00 01 02055341"
     ++ "504900")
-    "5200 0008 0004 0064 FFFF 00000001"
+    "5200 0000 0000 007B FFFF"
     ∷ row 14 "> splice 0 id=2 at=1020 duration=90000 desc=0205534150490B"
     ("4D00 0007 0028 FFFF FFFF 00000002 FFFFFFFF 000003FC 00000000 0001 00015F90 FFFFFFFF 00000000 00 00 01 02055341"
     ++ "50490B")
-    "5200 0008 0004 0064 FFFF 00000002"
+    "5200 0000 0000 007B FFFF"
     ∷ row 16 "> splice 0 id=3 at=1030 duration=90000 desc=0206534150490505"
     ("4D00 0007 0029 FFFF FFFF 00000003 FFFFFFFF 00000406 00000000 0001 00015F90 FFFFFFFF 00000000 00 00 01 02065341"
     ++ "50490505")
-    "5200 0008 0004 0064 FFFF 00000003"
+    "5200 0000 0000 007B FFFF"
     ∷ row 18 "> splice 0 id=4 at=1040 duration=90000 desc=020453415049"
     ("4D00 0007 0027 FFFF FFFF 00000004 FFFFFFFF 00000410 00000000 0001 00015F90 FFFFFFFF 00000000 00 00 01 02045341"
     ++ "5049")
-    "5200 0008 0004 0064 FFFF 00000004"
+    "5200 0000 0000 007B FFFF"
     ∷ row 21 "> splice 0 id=5 at=1050 duration=90000 desc=0109534150490900000000"
     ("4D00 0007 002C FFFF FFFF 00000005 FFFFFFFF 0000041A 00000000 0001 00015F90 FFFFFFFF 00000000 00 00 01 01095341"
     ++ "50490900 000000")

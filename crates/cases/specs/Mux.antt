@@ -1,0 +1,80 @@
+-- 02, CR 5: the value that is read of the one on air, from the bytes of requests with descriptors. Worked by hand. Assumes nothing.
+use mathlib.Core.Path.{_≡_, refl}
+use mathlib.Core.List.{List, [], _∷_, _++_, map}
+use Prim.Native.Nat.{ℕ}
+use Rattle.rules.specs.State.{Splicer}
+use Rattle.rules.specs.Reading
+use Rattle.rules.specs.Records.{Record, General, SpliceResponse, SpliceComplete, AbortResponse, recordsIn}
+use Rattle.rules.specs.Answers.{airMux}
+use Rattle.rules.specs.Calls.{Call, Called, closes, call, writtenBy}
+use Rattle.cases.specs.Computing.{computing}
+use Rattle.cases.specs.Rehearsed.{sent, from, initOf, asks, timed, linked, aborts, to, card, plays, up, ready}
+
+-- a call, the records in its answer, and the value that is read after it
+record Row : Type 0 where
+  calls : Call
+  wants : List Record
+  reads : ℕ
+
+row : Call → List Record → ℕ → Row
+row k rs n = record { calls = k; wants = rs; reads = n }
+
+-- a muxpriority descriptor: tag 0x02, length 5, "SAPI", the value
+mux : ℕ → List ℕ
+mux v = 0x02 ∷ 5 ∷ 0x53 ∷ 0x41 ∷ 0x50 ∷ 0x49 ∷ v ∷ []
+
+-- tag 0x02 under "CUEI" with the value 11, tag 0x03 under "SAPI" with the value 0, tag 0x02 under "IPAS" of length 4
+foreign : List ℕ
+foreign =
+    0x02 ∷ 5 ∷ 0x43 ∷ 0x55 ∷ 0x45 ∷ 0x49 ∷ 11 ∷ 0x03 ∷ 5 ∷ 0x53 ∷ 0x41 ∷ 0x50 ∷ 0x49 ∷ 0 ∷ 0x02 ∷ 4 ∷ 0x49 ∷ 0x50 ∷ 0x41 ∷ 0x53 ∷ []
+
+-- a timed request with OverridePlaying 1 and descriptors
+with : (conn id seconds access duration : ℕ) → List ℕ → Call
+with c x s a d l = from c 0x0007 (asks x Reading.nobody s 0 a 1 d ++ l)
+
+accepts : (conn id : ℕ) → Record
+accepts c x = SpliceResponse c 100 x
+
+-- behind `ready`: clock 1,000 s, the four connections initialised
+rows : List Row
+rows =
+    -- bad: values 0 and 11, lengths 4 and 6, a bad one before a good one, and behind one
+    row (with 0 1 1010 1 90000 (mux 0)) (General 0 123 ∷ []) 5
+    ∷ row (with 0 1 1010 1 90000 (mux 11)) (General 0 123 ∷ []) 5
+    ∷ row (with 0 1 1010 1 90000 (0x02 ∷ 4 ∷ 0x53 ∷ 0x41 ∷ 0x50 ∷ 0x49 ∷ [])) (General 0 123 ∷ []) 5
+    ∷ row (with 0 1 1010 1 90000 (0x02 ∷ 6 ∷ 0x53 ∷ 0x41 ∷ 0x50 ∷ 0x49 ∷ 7 ∷ 7 ∷ [])) (General 0 123 ∷ []) 5
+    ∷ row (with 0 1 1010 1 90000 (mux 11 ++ mux 7)) (General 0 123 ∷ []) 5
+    ∷ row (with 0 1 1010 1 90000 (mux 7 ++ mux 0)) (General 0 123 ∷ []) 5
+    -- it is read before the checks: no number of a session, and too late
+    ∷ row (with 0 0xFFFFFFFF 1001 1 90000 (mux 11)) (General 0 123 ∷ []) 5
+    -- "the last one wins": 9, then 2; 10 before foreign ones; foreign ones alone, so 5. Accepted is not on air
+    ∷ row (with 0 1 1010 1 2700000 (mux 9 ++ mux 2)) (accepts 0 1 ∷ []) 5
+    ∷ row (with 1 2 1015 3 2700000 (mux 10 ++ foreign)) (accepts 1 2 ∷ []) 5
+    ∷ row (with 0 3 1020 5 450000 foreign) (accepts 0 3 ∷ []) 5
+    ∷ row (with 2 4 1023 5 180000 (mux 1)) (accepts 2 4 ∷ []) 5
+    -- each start, the last one over an equal
+    ∷ row (to 1010 0) (SpliceComplete 0 100 1 0 0 ∷ []) 2
+    ∷ row (to 1015 0) (SpliceComplete 1 100 2 0 0 ∷ []) 10
+    ∷ row (to 1020 0) (SpliceComplete 0 100 3 0 0 ∷ []) 5
+    ∷ row (to 1023 0) (SpliceComplete 0 125 3 1 270000 ∷ SpliceComplete 2 100 4 0 0 ∷ []) 1
+    -- it ends, and 2 is on air again; 2 is aborted, and 1 is; its connection closes, and nothing is
+    ∷ row (to 1025 0) (SpliceComplete 2 100 4 1 180000 ∷ []) 10
+    ∷ row (aborts 1 2) (AbortResponse 1 100 2 ∷ SpliceComplete 1 116 2 1 450000 ∷ []) 2
+    ∷ row (closes 0 4096) (SpliceComplete 0 116 1 1 450000 ∷ []) 5
+    ∷ []
+
+-- what comes of each call
+each : List Call → Splicer → List Called
+each [] s = []
+each (k ∷ ks) s = call k s ∷ each ks (call k s .splicer)
+
+results : List Called
+results = each (map (λ r. r .calls) rows) (plays ready card .splicer)
+
+answered : map (λ c. recordsIn (writtenBy (c .answer))) results ≡ map (λ r. r .wants) rows
+unfolding sent from initOf asks timed linked aborts to card plays up ready row mux foreign with accepts rows each results computing
+answered = refl
+
+read : map (λ c. airMux (c .splicer .queue .started)) results ≡ map (λ r. r .reads) rows
+unfolding sent from initOf asks timed linked aborts to card plays up ready row mux foreign with accepts rows each results computing
+read = refl
