@@ -99,6 +99,11 @@ enum splicer_result {
     SPLICER_OVERRIDDEN = 125        /* ended while covered, or ended at once by an equal one */
 };
 
+/* The MuxPriorityValue (J.280, Table 8-11) that changes nothing: what a session without a muxpriority_descriptor asks. */
+enum {
+    SPLICER_MUX_AVERAGE = 5
+};
+
 /* One output channel. Opaque: its content is the core's, and unused places are zero. words: 0 the clock in ninths of a microsecond, 1 how
  * many wait, 2 how many have started, 3 the place where the ring of those that wait ends, 4 the primary channel's ninths, 5 to 8 how many wait
  * of each connection, 9 to 12 the connections; then 64 places of 8 words for those that wait, then 10 for those that have started. Those that
@@ -181,6 +186,7 @@ void splicer_4_instant(uint64_t *words, uint8_t *bytes, uint64_t *counter, const
 void splicer_4_reading(uint64_t *words, uint8_t *bytes, uint64_t *counter, uint32_t reading, uint8_t *out, size_t room, uint64_t *reply);
 size_t splicer_4_read_streams(const uint8_t *in, size_t length, uint64_t *list, uint8_t *kept);
 size_t splicer_4_write_streams(const uint64_t *list, const uint8_t *kept, uint8_t *out, size_t room);
+uint64_t splicer_4_mux(const uint64_t *words, const uint8_t *bytes);
 
 /* The words of a reply as a struct. */
 static inline struct splicer_reply splicer_reply_of(const uint64_t *reply) {
@@ -277,6 +283,12 @@ static inline size_t splicer_call_read_streams(const uint8_t *in, size_t length,
  * short: then out stays as it was. Bytes behind those written stay. */
 static inline size_t splicer_call_write_streams(const struct splicer_streams *s, uint8_t *out, size_t room) {
     return splicer_4_write_streams((const uint64_t *)(const void *)s, s->kept, out, room);
+}
+
+/* What the one on air asked of the multiplexer: 1 to 10; 5 if it asked nothing or nothing is on air. It only reads, and nothing is refused.
+ * It changes with starts, ends, aborts and closes: a covered session that is on air again writes no record. */
+static inline uint32_t splicer_call_mux(const struct splicer *s) {
+    return (uint32_t)splicer_4_mux(s->words, s->bytes);
 }
 
 /* A record in an output buffer: whom it is for, what it says, and the message as it is sent. The pointers lead into the buffer. */

@@ -114,4 +114,7 @@ extern "C" {
 
     #[link_name = "splicer_4_write_streams"]
     pub fn write_streams(list: *const u64, kept: *const u8, out: *mut u8, room: usize) -> usize;
+
+    #[link_name = "splicer_4_mux"]
+    pub fn mux(words: *const u64, bytes: *const u8) -> u64;
 }

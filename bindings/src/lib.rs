@@ -52,6 +52,10 @@ pub const WORDS: usize = 605;
 /// Bytes of a [`Splicer`]'s memory, behind its words.
 pub const BYTES: usize = 32;
 
+/// The MuxPriorityValue (J.280, Table 8-11) that changes nothing: what a session without a
+/// muxpriority_descriptor asks.
+pub const MUX_AVERAGE: u8 = 5;
+
 /// One output channel.
 ///
 /// Two splicers are equal if their memory is. The same calls from `fresh` on give equal splicers, and
@@ -248,6 +252,14 @@ impl Splicer {
     pub fn primary(&self) -> u64 {
         // SAFETY: the state came from fresh; both parts are lent for reading.
         unsafe { door::primary(self.words.as_ptr(), self.bytes.as_ptr()) }
+    }
+
+    /// What the one on air asked of the multiplexer: 1 to 10; [`MUX_AVERAGE`] if it asked nothing or
+    /// nothing is on air. It only reads. It changes with starts, ends, aborts and closes: a covered
+    /// session that is on air again writes no record.
+    pub fn mux(&self) -> u8 {
+        // SAFETY: the state came from fresh.
+        unsafe { door::mux(self.words.as_ptr(), self.bytes.as_ptr()) as u8 }
     }
 
     /// What is lent to every call.

@@ -1,6 +1,6 @@
 //! The five calls through the archive, with values by hand from document 01.
 
-use splicer::{message_id, name, records, result, Refusal, Splicer, OUT};
+use splicer::{message_id, name, records, result, Refusal, Splicer, MUX_AVERAGE, OUT};
 
 /// A second in ninths of a microsecond.
 const SECOND: u64 = 9_000_000;
@@ -117,6 +117,62 @@ fn each_house_number_is_given() {
         assert_eq!(reply.unwrap_err().number(), number);
     }
     assert_eq!(channel, before, "a refused call changes nothing");
+}
+
+/// A Splice_Request with descriptors behind it, and an OverridePlaying and AccessType of its own.
+fn asking(id: u32, seconds: u32, duration: u32, access: u8, descriptors: &[u8]) -> Vec<u8> {
+    let plain = splice(id, seconds, duration);
+    let mut data = plain[8..].to_vec();
+    data[30] = access;
+    data[31] = 1;
+    data.extend_from_slice(descriptors);
+    message(message_id::SPLICE_REQUEST, &data)
+}
+
+#[test]
+fn the_one_on_air_says_what_it_asks_of_the_multiplexer() {
+    let (mut channel, mut out) = ready();
+    assert_eq!(channel.mux(), MUX_AVERAGE, "nothing is on air");
+    // Two descriptors: the last one wins. A foreign one counts for nothing.
+    let nine_then_two = b"\x02\x05SAPI\x09\x02\x05SAPI\x02\x03\x05SAPI\x0B";
+    let requests = [
+        asking(1, 1003, 2_700_000, 3, nine_then_two),
+        asking(2, 1005, 900_000, 5, b"\x02\x05SAPI\x0A"),
+        asking(3, 1007, 450_000, 7, b"\x02\x05CUEI\x0B"),
+    ];
+    for request in requests {
+        let handled = channel.message(0, &request, &mut out).unwrap();
+        let accepted = (0, message_id::SPLICE_RESPONSE, result::SUCCESSFUL);
+        assert_eq!(told(handled.written), [accepted]);
+    }
+    assert_eq!(channel.mux(), 5, "they wait");
+    for (seconds, mux) in [(1003, 2), (1005, 10), (1007, 5), (1012, 10), (1015, 2)] {
+        channel.tick(seconds, 0, &mut out).unwrap();
+        assert_eq!(channel.mux(), mux, "at {seconds} s");
+    }
+    channel.message(0, &abort(1), &mut out).unwrap();
+    assert_eq!(channel.mux(), 5, "aborted");
+}
+
+#[test]
+fn a_bad_mux_priority_is_unreadable() {
+    let (mut channel, mut out) = ready();
+    let bad: [&[u8]; 6] = [
+        b"\x02\x05SAPI\x00",
+        b"\x02\x05SAPI\x0B",
+        b"\x02\x04SAPI",
+        b"\x02\x06SAPI\x05\x05",
+        b"\x02\x05SAPI\x0B\x02\x05SAPI\x05",
+        b"\x02\x05SAPI\x05\x02\x05SAPI\x00",
+    ];
+    let before = channel.clone();
+    for descriptors in bad {
+        let request = asking(1, 1003, 90_000, 3, descriptors);
+        let handled = channel.message(0, &request, &mut out).unwrap();
+        let invalid = (0, message_id::GENERAL_RESPONSE, result::INVALID_DATA);
+        assert_eq!(told(handled.written), [invalid]);
+        assert_eq!(channel, before);
+    }
 }
 
 #[test]

@@ -5,8 +5,8 @@ use splicer::{message_id, result, Refusal};
 
 const HEADER_TEXT: &str = include_str!("../../include/splicer.h");
 const DOOR_TEXT: &str = include_str!("../src/door.rs");
-const CALLS: [&str; 7] = [
-    "fresh", "open", "close", "message", "tick", "waiting", "primary",
+const CALLS: [&str; 8] = [
+    "fresh", "open", "close", "message", "tick", "waiting", "primary", "mux",
 ];
 /// Those of the card with a rolling counter alone.
 const ROLLING: [&str; 3] = ["rolling_fresh", "instant", "reading"];
@@ -47,6 +47,7 @@ fn sizes() -> Vec<(&'static str, u32)> {
         ("STREAMS", splicer::STREAMS),
         ("STREAM_WORDS", splicer::STREAM_WORDS),
         ("KEPT", splicer::KEPT),
+        ("MUX_AVERAGE", splicer::MUX_AVERAGE as usize),
     ];
     list.map(|(name, size)| (name, size as u32)).to_vec()
 }
@@ -209,11 +210,10 @@ fn the_header_refers_to_versioned_names_only() {
             "struct splicer *s"
         };
         assert!(lent.starts_with(own), "{name}");
-        let made = body.contains(&format!("    {call}"));
-        assert!(
-            made || body.contains(&format!("    return {call}")),
-            "{name}"
-        );
+        let made = ["", "return ", "return (uint32_t)"]
+            .iter()
+            .any(|how| body.contains(&format!("    {how}{call}")));
+        assert!(made, "{name}");
     }
     let functions = HEADER_TEXT.lines().filter(|line| {
         let first = line.starts_with(|c: char| c.is_ascii_lowercase());
