@@ -41,6 +41,8 @@ pub struct Done {
     pub call: Call,
     pub to: usize,
     pub output: Vec<u8>,
+    /// The muxpriority value that is read after it (02, CR 5).
+    pub mux: u8,
 }
 
 /// A run of the card program.
@@ -86,6 +88,7 @@ pub fn run(input: &[u8], fault: Option<Fault>) -> Run {
                     call,
                     to: at,
                     output,
+                    mux: splicer.mux(),
                 });
                 // "it makes the call, writes the refusal and stops"
                 if too_large {

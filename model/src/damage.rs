@@ -316,6 +316,48 @@ fn descriptors(gen: &mut Gen, long: bool) -> Vec<u8> {
     bytes
 }
 
+/// A Splice_Request, timed or linked, at times with separate PIDs, whose muxpriority_descriptors are on
+/// either side of a boundary, good and bad ones mixed.
+pub fn mux(gen: &mut Gen) {
+    let conn = maybe_uninitialised(gen);
+    let units = gen.rng.between(0, 60);
+    let at = gen.ahead(units);
+    let mut ask = gen.timed(conn, at);
+    if let Some(prior) = gen.some(Some(conn), &[State::Waiting, State::OnAir]) {
+        ask.prior = gen.rng.pick(&[NONE, prior.id]);
+    }
+    let mut data = gen.plain_data(&ask);
+    data.truncate(33);
+    let mut list: Vec<Vec<u8>> = Vec::new();
+    for _ in 0..gen.rng.pick(&[0, 0, 1, 2, 3]) {
+        list.push(gen.good_descriptor());
+    }
+    let place = gen.rng.below(list.len() as u64 + 1) as usize;
+    list.insert(place, one_mux(gen));
+    data.extend(list.concat());
+    if gen.rng.chance(15) {
+        // Cut: in the value, if it is the last.
+        data.pop();
+    }
+    if gen.rng.chance(25) {
+        let streams = gen.streams(2);
+        data = draw::separate(data, &streams);
+    }
+    gen.send(conn, 0x0007, data);
+}
+
+/// A muxpriority_descriptor of a length or value on either side of a boundary.
+fn one_mux(gen: &mut Gen) -> Vec<u8> {
+    let value = gen.rng.pick(&[0, 0, 1, 5, 10, 11, 11, 255]);
+    match gen.rng.below(8) {
+        0 => draw::named(2, b"SAPI", &[]),
+        1 => draw::named(2, b"SAPI", &[5, 5]),
+        2 => draw::named(2, b"SAPI", &[5; 250]),
+        3 => gen.good_descriptor(),
+        _ => draw::mux(value),
+    }
+}
+
 /// IDs outside the list of four, before and after Init.
 pub fn unknown(gen: &mut Gen) {
     let conn = gen.conn();

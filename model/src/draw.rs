@@ -255,10 +255,25 @@ impl Gen {
         }
         data.extend([ask.access, ask.overrides, self.rng.below(2) as u8]);
         for _ in 0..self.rng.pick(&[0, 0, 0, 0, 1, 2, 3]) {
-            let length = self.rng.pick(&[4, 4, 5, 9, 254]);
-            data.extend(self.descriptor(length));
+            data.extend(self.good_descriptor());
         }
         data
+    }
+
+    /// A muxpriority_descriptor, one that is almost one, or any other.
+    pub fn good_descriptor(&mut self) -> Vec<u8> {
+        let drawn = self.rng.between(1, 10) as u8;
+        let value = self.rng.pick(&[1, 5, 10, drawn, drawn]);
+        let any = self.rng.next() as u8;
+        let length = self.rng.pick(&[4, 4, 5, 9, 254]);
+        match self.rng.below(12) {
+            0..=4 => mux(value),
+            5 => named(2, b"CUEI", &[any]),
+            6 => named(2, b"IPAS", &[any]),
+            7 => named(3, b"SAPI", &[any]),
+            8 => named(2, b"SAPJ", &[]),
+            _ => self.descriptor(length),
+        }
     }
 
     /// A readable list of separate PIDs, short enough for any tail.
@@ -352,6 +367,17 @@ impl Gen {
     pub fn seconds(&self) -> u64 {
         self.model.clock / SECOND
     }
+}
+
+/// A muxpriority_descriptor, good or not.
+pub fn mux(value: u8) -> Vec<u8> {
+    named(2, b"SAPI", &[value])
+}
+
+/// A descriptor of this tag, identifier and private bytes.
+pub fn named(tag: u8, identifier: &[u8; 4], private: &[u8]) -> Vec<u8> {
+    let length = 4 + private.len() as u8;
+    [&[tag, length], &identifier[..], private].concat()
 }
 
 /// The data with ServiceID 0xFFFF and these PIDs behind it.

@@ -25,7 +25,7 @@ pub const ALL: &[Episode] = &[
     request, request, request, request, chain, chain, collide, collide, abort_one, abort_one,
     close_one, step, step, step, step, step, stack, fill, reuse, evict, failing, covered, equals, late,
     order, ninth, extreme, wrong_numbers, alive, damage::init, damage::alive_and_abort,
-    damage::splice, damage::separate, damage::unknown, damage::refused, damage::largest,
+    damage::splice, damage::separate, damage::mux, damage::unknown, damage::refused, damage::largest,
 ];
 
 #[rustfmt::skip]
@@ -45,6 +45,7 @@ pub const THEMES: &[Theme] = &[
     Theme { favourites: &[request, chain, extreme, top, step, stack, equals], at_the_top: true },
     theme(&[equals, equals, evict, collide, step, abort_one]),
     theme(&[damage::separate, damage::separate, damage::separate, collide, step]),
+    theme(&[damage::mux, damage::mux, collide, step, close_one]),
 ];
 
 const HELD: [State; 3] = [State::Waiting, State::OnAir, State::Covered];

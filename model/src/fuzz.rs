@@ -154,8 +154,13 @@ pub fn faults(seed: u64, n: u64) -> Result<bool, String> {
         for (index, input) in streams.iter().enumerate() {
             let faulty = card::run(input, Some(*fault));
             let (agreed, _, same) = agreement(&clean[index], &faulty.output());
-            if !same {
-                first = Some((index, agreed + 1));
+            let read = clean[index].calls.iter().zip(&faulty.calls);
+            // The value that is read shows in no record.
+            let other = read
+                .take(agreed)
+                .position(|(own, found)| own.mux != found.mux);
+            if !same || other.is_some() {
+                first = Some((index, other.unwrap_or(agreed) + 1));
                 break;
             }
             // By the records alone: the primary sum is none of the answers.

@@ -1,6 +1,7 @@
 //! Starts, ends and followers: 01's "Instants" and what follows it.
 
 use crate::counts::{self, COUNTED};
+use crate::descriptors::AVERAGE;
 use crate::faults::Fault;
 use crate::records::{Record, What};
 use crate::rules::{Session, Splicer, State, MICROSECOND, TICK};
@@ -90,10 +91,16 @@ impl Splicer {
             all.filter(covered).max_by_key(|s| s.access)
         };
         let skipped = COUNTED && highest().is_some_and(ends_now);
+        let value = self.mux();
         self.sessions.retain(|s| !ends_now(s));
         // "the highest covered session not ending at that instant is on air again"
-        if self.on_air_again(time) && skipped {
+        let again = self.on_air_again(time);
+        if again && skipped {
             self.hit("on air again, past one ending at the same instant");
+        }
+        self.count_mux(value, "value on air changes by an end");
+        if again {
+            self.count_mux(value, "value on air changes by one on air again");
         }
         match ending.len() {
             0 | 1 => {}
@@ -178,8 +185,17 @@ impl Splicer {
             return;
         }
         let first = out.len();
+        let (value, before) = (self.mux(), self.on_air().map(|s| s.access));
         self.end_equal(session, time, out);
         self.go_on_air(session, time);
+        let by = match before {
+            None => "value on air changes by a start",
+            Some(access) if access == session.access => {
+                "value on air changes by an equal's override"
+            }
+            Some(_) => "value on air changes by an override",
+        };
+        self.count_mux(value, by);
         self.complete(session, 100, 0, 0, out);
         if self.faulty(Fault::EqualEndsBehindStart) {
             out[first..].rotate_right(1);
@@ -193,11 +209,15 @@ impl Splicer {
 
     /// "(which becomes covered)"
     fn go_on_air(&mut self, session: &Session, time: u64) {
+        let lost = self.faulty(Fault::MuxLostAtOverride);
         for other in &mut self.sessions {
             if other.state == State::OnAir {
                 other.played += time - other.since;
                 other.since = time;
                 other.state = State::Covered;
+                if lost {
+                    other.mux = AVERAGE;
+                }
             }
             if other.conn == session.conn && other.id == session.id {
                 other.state = State::OnAir;
@@ -395,6 +415,7 @@ impl Splicer {
         });
         self.count_reused(&session);
         self.aborted_end(&session, out);
+        let value = self.mux();
         self.remove(&session);
         let ended = self.end_followers(&session, 116, out);
         self.hit(match session.state {
@@ -404,7 +425,9 @@ impl Splicer {
         });
         if self.on_air_again(self.clock) {
             self.hit("on air again after an abort");
+            self.count_mux(value, "value on air changes by one on air again");
         }
+        self.count_mux(value, "value on air changes by an abort");
     }
 
     /// "An aborted session on air ends with SpliceComplete flag 1, result 116; a covered or
@@ -435,6 +458,7 @@ impl Splicer {
         started.reverse();
         waiting.sort_by_key(|s| s.start);
         self.count_close(&started, &waiting);
+        let value = self.mux();
         if self.faulty(Fault::CloseWaitingFirst) {
             std::mem::swap(&mut started, &mut waiting);
         }
@@ -454,7 +478,9 @@ impl Splicer {
         }
         if !self.faulty(Fault::NothingAfterClose) && self.on_air_again(self.clock) {
             self.hit("on air again after a close");
+            self.count_mux(value, "value on air changes by one on air again");
         }
+        self.count_mux(value, "value on air changes by a close");
     }
 
     fn count_close(&mut self, started: &[Session], waiting: &[Session]) {

@@ -11,6 +11,7 @@ pub mod compare;
 pub mod counts;
 pub mod damage;
 pub mod demand3;
+pub mod descriptors;
 pub mod draw;
 pub mod episodes;
 pub mod faults;

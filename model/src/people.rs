@@ -1,6 +1,7 @@
 //! Calls as lines for people, and the `decode` command.
 
 use crate::card::{self, Call, Run};
+use crate::descriptors;
 use crate::reading;
 use crate::records::{self, hex, name_text, number};
 use crate::rules::{MICROSECOND, SECOND};
@@ -75,6 +76,9 @@ fn splice_line(data: &[u8]) -> Option<String> {
         bytes[14]
     );
     if bytes.len() > 15 {
+        if let Ok(mux) = descriptors::mux_of(&bytes[15..], None) {
+            line += &format!(" mux={mux}");
+        }
         line += &format!(" desc {}", shortened(&bytes[15..]));
     }
     Some(line)
@@ -263,6 +267,22 @@ mod tests {
             recording("> open 0\n> splice 0 id=1 at=5 duration=1 pcr=1 pids=17\n");
         let (text, _) = decode(&input, &output);
         assert!(text.contains("size=39 data 00 00 00 01 FF"), "{text}");
+    }
+
+    #[test]
+    fn the_mux_value_of_a_request_is_shown() {
+        let told = |desc: &str| {
+            let text = format!("> open 0\n> splice 0 id=1 at=5 duration=1 desc={desc}\n");
+            let (input, output) = recording(&text);
+            decode(&input, &output).0
+        };
+        let two = told("0205534150490702055341504903");
+        assert!(two.contains("return=1 mux=3 desc 02 05 53"), "{two}");
+        let foreign = told("010453415049");
+        assert!(foreign.contains("return=1 mux=5 desc 01 04"), "{foreign}");
+        // A bad one has no value.
+        let bad = told("0205534150490B");
+        assert!(bad.contains("return=1 desc 02 05 53"), "{bad}");
     }
 
     #[test]

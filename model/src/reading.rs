@@ -1,6 +1,7 @@
 //! Reading the four requests: 01's "Bytes" and its "Not readable" sentence.
 //! A request that cannot be read gives the name of its branch.
 
+use crate::descriptors;
 use crate::faults::Fault;
 use crate::streams::{self, Streams};
 
@@ -24,6 +25,8 @@ pub struct SpliceFields {
     pub duration: u32,
     pub access: u8,
     pub overrides: u8,
+    /// What its muxpriority_descriptors ask of the multiplexer (02, CR 5).
+    pub mux: u8,
     /// The separate PIDs. They have no effect on any check.
     pub streams: Option<Streams>,
 }
@@ -39,9 +42,22 @@ pub fn read(id: u16, data: &[u8], fault: Option<Fault>) -> Read {
     }
 }
 
-/// Whether it is a Splice_Request's data with separate PIDs and a whole tail, readable or not.
-pub fn separate(data: &[u8]) -> bool {
-    tail_of(data, None).is_ok_and(|tail| tail.streams.is_some())
+/// What an unreadable Splice_Request has behind good parts, for the branch table.
+pub fn failed_boundaries(data: &[u8]) -> Vec<&'static str> {
+    let Ok(tail) = tail_of(data, None) else {
+        return Vec::new();
+    };
+    let mut list = descriptors::failed_boundaries(&tail.bytes[15..]);
+    if tail.streams.is_some() {
+        if !list.is_empty() {
+            list.push("123 Splice muxpriority behind separate PIDs");
+        }
+        list.push("123 Splice by its tail, behind separate PIDs");
+    }
+    if !list.is_empty() && word(data, 4) != 0xFFFF_FFFF {
+        list.push("123 Splice by its tail, linked");
+    }
+    list
 }
 
 /// The boundaries of "Not readable" that a readable message just keeps, for the branch table.
@@ -59,6 +75,12 @@ pub fn kept_boundaries(id: u16, data: &[u8]) -> Vec<&'static str> {
             if let Ok(tail) = tail_of(data, None) {
                 list.extend(kept_by_tail(tail.bytes, tail.streams.is_some()));
                 list.extend(kept_by_start(data));
+                let found = descriptors::kept_boundaries(&tail.bytes[15..]);
+                let some = !found.contains(&"read Splice without a muxpriority");
+                if some && tail.streams.is_some() {
+                    list.push("read Splice muxpriority behind separate PIDs");
+                }
+                list.extend(found);
                 let streams = tail.streams.iter();
                 list.extend(streams.flat_map(streams::kept_boundaries));
             }
@@ -162,11 +184,12 @@ fn read_splice(data: &[u8], fault: Option<Fault>) -> Read {
         duration: word(bytes, 0),
         access: bytes[12],
         overrides: bytes[13],
+        mux: descriptors::AVERAGE,
         streams,
     };
     check_splice(&fields, bytes[14], fault)?;
-    check_descriptors(&bytes[15..], fault)?;
-    Ok(Request::Splice(fields))
+    let mux = descriptors::mux_of(&bytes[15..], fault)?;
+    Ok(Request::Splice(SpliceFields { mux, ..fields }))
 }
 
 /// What follows the ServiceID, or with ServiceID 0xFFFF the structures: Duration 4, SpliceEventID 4,
@@ -231,28 +254,6 @@ fn check_splice(
     Ok(())
 }
 
-/// "Length counts what follows it, is 4 to 254, and the descriptors fill the message exactly."
-fn check_descriptors(bytes: &[u8], fault: Option<Fault>) -> Result<(), &'static str> {
-    let mut rest = bytes;
-    while !rest.is_empty() {
-        if rest.len() < 2 {
-            return Err("123 Splice descriptor without a length");
-        }
-        let length = rest[1] as usize;
-        if length < 4 && fault != Some(Fault::Descriptor3) {
-            return Err("123 Splice descriptor length below 4");
-        }
-        if length > 254 && fault != Some(Fault::Descriptor255) {
-            return Err("123 Splice descriptor length 255");
-        }
-        if rest.len() < 2 + length {
-            return Err("123 Splice descriptor beyond the message");
-        }
-        rest = &rest[2 + length..];
-    }
-    Ok(())
-}
-
 #[cfg(test)]
 mod tests {
     use super::*;
@@ -286,6 +287,7 @@ mod tests {
             duration: 1,
             access: 9,
             overrides: 1,
+            mux: 5,
             streams: None,
         };
         assert_eq!(read(7, &data, None), Ok(Request::Splice(expected)));
@@ -397,7 +399,7 @@ mod tests {
             read(7, &data, None)
         };
         assert!(with(&[1, 4, 0, 0, 0, 0]).is_ok());
-        assert!(with(&[1, 4, 0, 0, 0, 0, 2, 5, 0, 0, 0, 0, 9]).is_ok());
+        assert!(with(&[1, 4, 0, 0, 0, 0, 2, 5, 0, 0, 0, 0, 99]).is_ok());
         assert_eq!(with(&[1]), Err("123 Splice descriptor without a length"));
         assert_eq!(
             with(&[1, 3, 0, 0, 0]),

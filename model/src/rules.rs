@@ -6,6 +6,7 @@
 //! that the generator can be shown to notice it.
 
 use crate::counts::{Counts, COUNTED};
+use crate::descriptors::AVERAGE;
 use crate::faults::Fault;
 use crate::reading::{self, Request, SpliceFields};
 use crate::records::{Record, What};
@@ -39,6 +40,8 @@ pub struct Session {
     pub end: u64,
     pub access: u8,
     pub overrides: bool,
+    /// Its request's muxpriority value, all its life (02, CR 5).
+    pub mux: u8,
     pub state: State,
     /// Time on air before `since`.
     pub played: u64,
@@ -245,8 +248,10 @@ impl Splicer {
         match reading::read(id, data, self.fault) {
             Err(branch) => {
                 self.hit(branch);
-                if COUNTED && id == 0x0007 && reading::separate(data) {
-                    self.hit("123 Splice by its tail, behind separate PIDs");
+                if COUNTED && id == 0x0007 {
+                    for branch in reading::failed_boundaries(data) {
+                        self.hit(branch);
+                    }
                 }
                 if id == 0x0001 && self.faulty(Fault::FailedInitUndoes) {
                     self.initialised[conn as usize] = false;
@@ -595,6 +600,7 @@ impl Splicer {
             end: start + u64::from(fields.duration) * TICK,
             access: fields.access,
             overrides: fields.overrides == 1,
+            mux: fields.mux,
             state: State::Waiting,
             played: 0,
             since: 0,
@@ -680,6 +686,27 @@ impl Splicer {
 
     pub fn on_air(&self) -> Option<&Session> {
         self.sessions.iter().find(|s| s.state == State::OnAir)
+    }
+
+    /// 02, CR 5: "the caller can read that of the one on air, 5 with none".
+    pub fn mux(&self) -> u8 {
+        let started = self.sessions.iter().filter(|s| s.state != State::Waiting);
+        let read = match self.fault {
+            Some(Fault::MuxOfTheLowest) => started.min_by_key(|s| s.access),
+            _ => self.on_air(),
+        };
+        let none = match self.fault {
+            Some(Fault::MuxZeroWithNone) => 0,
+            _ => AVERAGE,
+        };
+        read.map_or(none, |s| s.mux)
+    }
+
+    /// Counts a change of the value on air, for the branch table.
+    pub fn count_mux(&mut self, before: u8, by: &'static str) {
+        if COUNTED && self.mux() != before {
+            self.hit(by);
+        }
     }
 }
 

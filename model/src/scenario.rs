@@ -1,7 +1,8 @@
 //! Scenario files: calls and the records they must write, written by hand.
 
-use crate::card::{self, Call};
+use crate::card::{self, Call, Run};
 use crate::compare;
+use crate::descriptors::AVERAGE;
 use crate::records::{self, Record, What};
 use crate::rolling;
 use crate::streams::{self, Stream, Streams};
@@ -15,6 +16,8 @@ pub struct Step {
     pub expected: Vec<u8>,
     /// A call that only a rolling card has (02, CR 9): there is no card input of it.
     pub rolling: Option<rolling::Call>,
+    /// `> mux N`: no call of the card program, but what is read here (02, CR 5).
+    pub mux: Option<u8>,
 }
 
 /// Reads a scenario file's text. An error names the line.
@@ -28,9 +31,10 @@ pub fn parse(text: &str) -> Result<Vec<Step>, String> {
         }
         if let Some(rest) = line.strip_prefix('>') {
             let rolling = rolling_call(rest.trim()).map_err(at)?;
-            let input = match rolling {
-                Some(_) => Vec::new(),
-                None => call_bytes(rest.trim()).map_err(at)?,
+            let mux = mux_word(rest.trim()).map_err(at)?;
+            let input = match (&rolling, mux) {
+                (None, None) => call_bytes(rest.trim()).map_err(at)?,
+                _ => Vec::new(),
             };
             steps.push(Step {
                 line: index + 1,
@@ -38,10 +42,14 @@ pub fn parse(text: &str) -> Result<Vec<Step>, String> {
                 input,
                 expected: Vec::new(),
                 rolling,
+                mux,
             });
         } else if let Some(rest) = line.strip_prefix('<') {
             let bytes = expected_bytes(rest.trim()).map_err(at)?;
             match steps.last_mut() {
+                Some(step) if step.mux.is_some() => {
+                    return Err(at("a read writes no record".to_string()));
+                }
                 Some(step) => step.expected.extend(bytes),
                 None => return Err(at("a record before any call".to_string())),
             }
@@ -195,6 +203,14 @@ fn rolling_call(line: &str) -> Result<Option<rolling::Call>, String> {
     }
 }
 
+/// The value of `mux N`.
+fn mux_word(line: &str) -> Result<Option<u8>, String> {
+    match line.split_once(char::is_whitespace) {
+        Some(("mux", value)) => small(value.trim()).map(Some),
+        _ => Ok(None),
+    }
+}
+
 /// Whether the scenario is one of a rolling card.
 pub fn is_rolling(steps: &[Step]) -> bool {
     steps.iter().any(|step| step.rolling.is_some())
@@ -204,6 +220,7 @@ pub fn is_rolling(steps: &[Step]) -> bool {
 pub fn rolling_calls(steps: &[Step]) -> Result<Vec<rolling::Call>, String> {
     let call = |step: &Step| match &step.rolling {
         Some(call) => Ok(call.clone()),
+        None if step.mux.is_some() => Err(format!("line {}: no mux of a rolling card", step.line)),
         None => match card::next_call(&step.input) {
             Ok((Call::Tick(..), _)) => {
                 Err(format!("line {}: a rolling card has no tick", step.line))
@@ -430,6 +447,21 @@ pub fn input_of(steps: &[Step]) -> Vec<u8> {
     steps.iter().flat_map(|s| s.input.clone()).collect()
 }
 
+/// Holds what is read after the calls so far to the scenario. The text tells the first difference.
+pub fn mux_difference(steps: &[Step], run: &Run) -> Option<String> {
+    let mut at = 0;
+    for step in steps {
+        at += step.input.len();
+        let made = run.calls.iter().take_while(|done| done.to <= at);
+        let found = made.last().map_or(AVERAGE, |done| done.mux);
+        if step.mux.is_some_and(|wanted| wanted != found) {
+            let text = format!("  line {}: {}\n", step.line, step.text);
+            return Some(format!("{text}    the second program reads {found}\n"));
+        }
+    }
+    None
+}
+
 /// Holds one output to the scenario. The text tells the first difference.
 fn difference(steps: &[Step], who: &str, output: &[u8]) -> Option<String> {
     let mut at = 0;
@@ -486,17 +518,20 @@ fn run_rolling(steps: &[Step]) -> Result<(), String> {
 }
 
 /// Runs one scenario file through the second program and, if given, the card program; says if it did
-/// not run there.
-fn run_file(path: &str, card: Option<&str>) -> Result<&'static str, String> {
+/// not run there. Gives the number of its `> mux` lines too.
+fn run_file(path: &str, card: Option<&str>) -> Result<(usize, &'static str), String> {
     let text = std::fs::read_to_string(path).map_err(|e| format!("  {e}\n"))?;
     let steps = parse(&text).map_err(|e| format!("  {e}\n"))?;
     if is_rolling(&steps) {
         run_rolling(&steps)?;
-        return Ok(" (a rolling card: the second program, not the card program)");
+        return Ok((0, " (a rolling card: the second program, not the card program)"));
     }
     let input = input_of(&steps);
-    let own = card::run(&input, None).output();
-    if let Some(text) = difference(&steps, "the second program", &own) {
+    let run = card::run(&input, None);
+    if let Some(text) = difference(&steps, "the second program", &run.output()) {
+        return Err(text);
+    }
+    if let Some(text) = mux_difference(&steps, &run) {
         return Err(text);
     }
     if let Some(command) = card {
@@ -508,22 +543,38 @@ fn run_file(path: &str, card: Option<&str>) -> Result<&'static str, String> {
             return Err(format!("  {text}\n"));
         }
     }
-    Ok("")
+    let reads = steps.iter().filter(|step| step.mux.is_some()).count();
+    Ok((reads, ""))
+}
+
+/// Which of the programs took part. The card program has no call that reads a value.
+fn who_ran(card: bool, reads: usize) -> String {
+    let with = if card { " and the card program" } else { "" };
+    let without = match (card, reads) {
+        (true, 1..) => format!(" ({reads} mux lines: the second program only)"),
+        (_, 0) => String::new(),
+        _ => format!(" ({reads} mux lines)"),
+    };
+    format!("run: the second program{with}{without}; the archive by beside")
 }
 
 /// All files; true if all passed.
 pub fn run_files(paths: &[String], card: Option<&str>) -> bool {
-    let mut failed = 0;
+    let (mut failed, mut reads_made) = (0, 0);
     for path in paths {
         let name = path.rsplit('/').next().unwrap_or(path);
         match run_file(path, card) {
-            Ok(which) => println!("ok {name}{which}"),
+            Ok((reads, which)) => {
+                reads_made += reads;
+                println!("ok {name}{which}");
+            }
             Err(text) => {
                 failed += 1;
                 print!("FAILED {name}\n{text}");
             }
         }
     }
+    println!("{}", who_ran(card.is_some(), reads_made));
     println!("{} passed, {failed} failed", paths.len() - failed);
     failed == 0
 }
@@ -625,6 +676,9 @@ mod tests {
             assert!(call_bytes(line).is_err(), "{line}");
         }
         assert!(parse("< refused 1").is_err());
+        assert!(parse("> mux 5\n< refused 1").is_err());
+        assert!(parse("> mux 256").is_err());
+        assert!(parse("> mux").is_err());
         assert!(parse("open 1").is_err());
     }
 
@@ -687,6 +741,22 @@ mod tests {
         let wrong = parse("> reading 1\n< refused 3\n").unwrap();
         let text = run_rolling(&wrong).unwrap_err();
         assert!(text.contains("got       refused 12"), "{text}");
+    }
+
+    #[test]
+    fn a_value_is_read_after_the_calls_so_far() {
+        let text = "> mux 5\n> open 0\n> init 0\n> mux 5\n> splice 0 id=1 at=9 duration=1 \
+                    desc=02055341504907\n> mux 5\n> tick 9\n> mux 7\n> tick 10\n> mux 5\n";
+        let steps = parse(text).unwrap();
+        let run = card::run(&input_of(&steps), None);
+        assert_eq!(mux_difference(&steps, &run), None);
+        for line in [1, 4, 6, 8, 10] {
+            let mut other = parse(text).unwrap();
+            let step = other.iter_mut().find(|step| step.line == line).unwrap();
+            step.mux = Some(9);
+            let told = mux_difference(&other, &run).unwrap();
+            assert!(told.contains(&format!("line {line}: > mux")), "{told}");
+        }
     }
 
     #[test]

@@ -7,8 +7,10 @@ use crate::scenario;
 
 /// Runs the calls of a scenario text and holds the output to its records.
 fn hold(text: &str) -> Splicer {
-    let steps = scenario::parse(text).unwrap();
+    let mut steps = scenario::parse(text).unwrap();
     let run = card::run(&scenario::input_of(&steps), None);
+    assert_eq!(scenario::mux_difference(&steps, &run), None);
+    steps.retain(|step| step.mux.is_none());
     let lines =
         |bytes: &[u8]| -> Vec<String> { records::items(bytes).iter().map(Item::line).collect() };
     for (step, done) in steps.iter().zip(&run.calls) {
@@ -701,4 +703,41 @@ fn at_most_63_are_moved() {
         card::make(&mut splicer, &call);
     }
     assert_eq!(splicer.moved, 63);
+}
+
+#[test]
+fn the_value_on_air_follows_who_is_on_air() {
+    // 1 (access 2) asks for 7, 2 (access 5) for 3, 3 (access 5, equal) for nothing.
+    rehearsed(
+        "> mux 5
+         > splice 0 id=1 at=1003 duration=1800000 access=2 desc=0205534150490902055341504907
+         < 0 Splice_Response 100 id=1
+         > mux 5
+         > splice 0 id=2 at=1004 duration=900000 access=5 override=1 desc=02055341504903
+         < 0 Splice_Response 100 id=2
+         > splice 0 id=3 at=1005 duration=90000 access=5 override=1
+         < 0 Splice_Response 100 id=3
+         > splice 0 id=4 at=1010 duration=90000 desc=0205534150490B
+         < 0 General_Response 123
+         > tick 1003
+         < 0 SpliceComplete_Response 100 id=1 flag=0 played=0
+         > mux 7
+         > tick 1004
+         < 0 SpliceComplete_Response 100 id=2 flag=0 played=0
+         > mux 3
+         > tick 1005
+         < 0 SpliceComplete_Response 125 id=2 flag=1 played=90000
+         < 0 SpliceComplete_Response 100 id=3 flag=0 played=0
+         > mux 5
+         > tick 1006
+         < 0 SpliceComplete_Response 100 id=3 flag=1 played=90000
+         > mux 7
+         > tick 1005
+         < refused 3
+         > mux 7
+         > abort 0 id=1
+         < 0 Abort_Response 100 id=1
+         < 0 SpliceComplete_Response 116 id=1 flag=1 played=90000
+         > mux 5",
+    );
 }

@@ -26,7 +26,7 @@ beside --fault NAME [--seed S]                        one deliberate fault, by i
 ";
 
 /// A fault must be noticed within this many streams.
-const FOR_A_FAULT: u64 = 60;
+const FOR_A_FAULT: u64 = 64;
 
 /// Faults of the second program that the records alone give away, with no program to compare.
 const BOOKED: &[Fault] = &[
