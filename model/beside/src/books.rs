@@ -24,6 +24,8 @@ struct Held {
     duration: u32,
     access: u8,
     overrides: bool,
+    /// The value that its request asks of the multiplexer (02, CR 5).
+    mux: u8,
     started: bool,
     /// Its time on air up to the clock, in ninths (02, CR 13).
     aired: u64,
@@ -105,6 +107,23 @@ fn behind(bytes: &[u8]) -> Option<&[u8]> {
         rest = next;
     }
     Some(rest)
+}
+
+/// The value of descriptors: "For tag 0x02 under "SAPI" the length must be 5 and the value 1 to 10; the
+/// last one wins, and without one the value is 5". None if one of them is bad or ill-formed.
+fn mux_of(descriptors: &[u8]) -> Option<u8> {
+    let (mut value, mut rest) = (5, descriptors);
+    while let [tag, length, more @ ..] = rest {
+        let (body, next) = more.split_at_checked(usize::from(*length))?;
+        value = match (tag, body) {
+            (2, [b'S', b'A', b'P', b'I', asked @ 1..=10]) => *asked,
+            (2, [b'S', b'A', b'P', b'I', ..]) => return None,
+            _ if (4..=254).contains(length) => value,
+            _ => return None,
+        };
+        rest = next;
+    }
+    rest.is_empty().then_some(value)
 }
 
 impl Books {
@@ -348,7 +367,8 @@ impl Books {
         }
         let data = &message[HEADER..];
         let splice = kind == id::SPLICE_REQUEST;
-        let readable = data.len() >= least(kind) && (!splice || tail(data).is_some());
+        let good = |tail: &[u8]| mux_of(&tail[15..]).is_some();
+        let readable = data.len() >= least(kind) && (!splice || tail(data).is_some_and(good));
         must(readable, "unreadable and answered")?;
         match (kind, list) {
             (id::INIT_REQUEST, [answer]) => self.init(conn, data, answer),
@@ -469,6 +489,7 @@ impl Books {
             duration,
             access: tail[12],
             overrides: tail[13] == 1,
+            mux: mux_of(&tail[15..]).unwrap_or(5),
             started: false,
             aired: 0,
         });
@@ -522,6 +543,12 @@ impl Books {
     pub fn waiting(&self, found: [u64; CONNECTIONS]) -> Kept {
         let counted = self.counts().map(|n| n as u64);
         must(found == counted, "another count of those that wait")
+    }
+
+    /// 02, CR 5: "the caller can read that of the one on air, 5 with none".
+    pub fn mux(&self, found: u8) -> Kept {
+        let asked = self.on_air().map_or(5, |s| s.mux);
+        must(found == asked, "another muxpriority value on air")
     }
 
     fn find(&self, conn: u8, session: u32) -> Option<usize> {

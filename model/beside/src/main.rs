@@ -89,6 +89,19 @@ const BOOKED: &[Fault] = &[
     Fault::PidUnchecked,
     Fault::StreamTypeUnchecked,
     Fault::SeparatePids110,
+    Fault::Descriptor255,
+    Fault::Descriptor3,
+    Fault::MuxValue0,
+    Fault::MuxValue11,
+    Fault::MuxLength6,
+    Fault::MuxAnyIdentifier,
+    Fault::MuxTag3,
+    Fault::MuxBadBeforeGood,
+    Fault::MuxFirstWins,
+    Fault::MuxWithoutOne0,
+    Fault::MuxLostAtOverride,
+    Fault::MuxZeroWithNone,
+    Fault::MuxOfTheLowest,
 ];
 
 fn main() {

@@ -222,6 +222,7 @@ pub fn booked(list: &[Stream], wrong: Wrong) -> Option<String> {
             let kept = books.call(act, &said).and_then(|()| books.waiting(waiting));
             let primary = wrong.primary(model.primary, model.clock);
             let kept = kept.and_then(|()| books.primary(primary));
+            let kept = kept.and_then(|()| books.mux(model.mux()));
             if let Err(text) = kept {
                 let index = stream.index;
                 return Some(format!("stream {index}, call {}, {text}", at + 1));
