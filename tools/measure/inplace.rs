@@ -1,4 +1,4 @@
-//! The card rules of document 01, with 02's CR 1 and CR 4, as an in-place engine in plain Rust: the measuring peer of the proved core.
+//! The card rules of document 01, with 02's CR 1, 4 and 5, as an in-place engine in plain Rust: the measuring peer of the proved core.
 //!
 //! Written from the documents and J.280 alone, in the way one would write it for the card without counting instructions: one struct of
 //! fixed size changed in place, lists of fixed capacity, iterators, bounds checks left on. Not proved, not part of the product.
@@ -30,6 +30,8 @@ const MOST_STREAMS: u32 = 16;
 const SMALLEST_STREAM: usize = 21;
 const LARGEST_PID: u16 = 0x1FFF;
 const NO_STREAM_TYPE: u16 = 0xFFFF;
+const MUX_PRIORITY: u8 = 0x02;
+const AVERAGE: u8 = 5;
 const NOTICE: Ninths = Ninths(3 * 9_000_000);
 
 /// MessageIDs.
@@ -178,6 +180,7 @@ struct Session {
     end: Ninths,
     access: u8,
     overrides: bool,
+    mux: u8,
 }
 
 impl Session {
@@ -233,6 +236,7 @@ struct Splice {
     duration: u32,
     access: u8,
     overrides: bool,
+    mux: u8,
 }
 
 #[derive(Clone, Copy)]
@@ -318,16 +322,25 @@ impl<'a> Reader<'a> {
         Some(())
     }
 
-    fn descriptors(&mut self) -> Option<()> {
+    /// The descriptors to the message's end, and the value of the last muxpriority_descriptor among them.
+    fn descriptors(&mut self) -> Option<u8> {
+        let mut mux = AVERAGE;
         while !self.0.is_empty() {
-            let _tag = self.u8()?;
+            let tag = self.u8()?;
             let length = self.u8()?;
             if !(4..=254).contains(&length) {
                 return None;
             }
-            self.0 = self.0.get(usize::from(length)..)?;
+            let (own, rest) = self.0.split_at_checked(usize::from(length))?;
+            if tag == MUX_PRIORITY && own.starts_with(b"SAPI") {
+                mux = match own[4..] {
+                    [value @ 1..=10] => value,
+                    _ => return None,
+                };
+            }
+            self.0 = rest;
         }
-        Some(())
+        Some(mux)
     }
 }
 
@@ -377,7 +390,7 @@ impl Request {
         let access = reader.u8()?;
         let overrides = reader.flag()?;
         let _return_to_prior = reader.flag()?;
-        reader.descriptors()?;
+        let mux = reader.descriptors()?;
         if duration == 0 || usize::from(access) >= ACCESS_TYPES {
             return None;
         }
@@ -386,7 +399,7 @@ impl Request {
             NONE => Start::Timed(Ninths::from_time(seconds, micros)),
             prior => Start::Linked(prior),
         };
-        Some(Request::Splice(Splice { id, start, duration, access, overrides }))
+        Some(Request::Splice(Splice { id, start, duration, access, overrides, mux }))
     }
 }
 
@@ -753,6 +766,7 @@ impl InPlace {
             end: start + Ninths::from_ticks(splice.duration),
             access: splice.access,
             overrides: splice.overrides,
+            mux: splice.mux,
         })
     }
 
@@ -864,6 +878,12 @@ pub unsafe extern "C" fn inplace_tick(s: &mut InPlace, seconds: u32, micros: u32
 #[no_mangle]
 pub extern "C" fn inplace_waiting(s: &InPlace, counts: &mut [u64; CONNECTIONS]) {
     *counts = s.counts;
+}
+
+/// What the one on air asked of the multiplexer, 5 with none.
+#[no_mangle]
+pub extern "C" fn inplace_mux(s: &InPlace) -> u32 {
+    s.started.last().map_or(AVERAGE, |started| started.session.mux).into()
 }
 
 #[panic_handler]

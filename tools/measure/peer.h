@@ -1,5 +1,5 @@
 /* A splicer in plain C, in place, as one would write it by hand: what the proved core's instruction counts are held against.
- * Document 01's rules in full, with 02's CR 4; waiting sessions in an array by start and counted by connection, started ones in an array by AccessType. */
+ * Document 01's rules in full, with 02's CR 1, 4 and 5; waiting sessions in an array by start and counted by connection, started ones in an array by AccessType. */
 #include "splicer.h"
 
 void *memcpy(void *to, const void *from, size_t n);
@@ -10,7 +10,7 @@ int strncmp(const char *a, const char *b, size_t n);
 struct session {
     uint64_t start, end, played;
     uint32_t id, prior;
-    uint8_t conn, access, over;
+    uint8_t conn, access, over, mux;
 };
 
 struct peer {
@@ -219,14 +219,22 @@ __attribute__((noinline)) struct splicer_reply peer_close(struct peer *p, uint32
     return (struct splicer_reply){0, 0, 0, o.length};
 }
 
-static int well_formed(const uint8_t *d, size_t n) {
+/* the value of the last muxpriority_descriptor (02, CR 5), 5 without one; 0 if one of them is bad or the descriptors are ill-formed */
+static uint8_t mux_of(const uint8_t *d, size_t n) {
+    uint8_t mux = 5;
     while (n) {
         if (n < 2 || d[1] < 4 || d[1] == 255 || n < 2u + d[1]) {
             return 0;
         }
+        if (d[0] == 2 && splicer_u32(d + 2) == 0x53415049) {
+            if (d[1] != 5 || d[6] < 1 || d[6] > 10) {
+                return 0;
+            }
+            mux = d[6];
+        }
         n -= 2u + d[1], d += 2u + d[1];
     }
-    return 1;
+    return mux;
 }
 
 /* the bytes of PcrPID, PIDCount and that many structures (02, CR 1) at the front of n; 0 if they are not good */
@@ -268,12 +276,16 @@ static int answer_splice(struct peer *p, struct sink *o, uint8_t conn, const uin
     if (n < 18) {
         return 0;
     }
-    struct session s = {0, 0, 0, splicer_u32(d), splicer_u32(d + 4), conn, 0, 0};
+    struct session s = {0, 0, 0, splicer_u32(d), splicer_u32(d + 4), conn, 0, 0, 0};
     size_t separate = splicer_u16(d + 16) == 0xFFFF;
     size_t list = separate ? streams_length(d + 18, n - 18) : 0;
     const uint8_t *t = d + 18 + list;
-    if ((separate && list == 0) || n < 33 + list || !well_formed(t + 15, n - 33 - list) || splicer_u32(t) == 0 || t[12] > 9 || t[13] > 1 ||
-        t[14] > 1 || (s.prior == nobody && splicer_u32(d + 12) > 999999)) {
+    if ((separate && list == 0) || n < 33 + list || splicer_u32(t) == 0 || t[12] > 9 || t[13] > 1 || t[14] > 1 ||
+        (s.prior == nobody && splicer_u32(d + 12) > 999999)) {
+        return 0;
+    }
+    s.mux = mux_of(t + 15, n - 33 - list);
+    if (s.mux == 0) {
         return 0;
     }
     const struct session *prior = s.prior == nobody ? 0 : held(p, conn, s.prior);
@@ -304,6 +316,9 @@ static int answer_splice(struct peer *p, struct sink *o, uint8_t conn, const uin
 
 /* how many sessions of each connection wait */
 __attribute__((noinline)) void peer_waiting(const struct peer *p, uint64_t *counts) { memcpy(counts, p->counts, sizeof p->counts); }
+
+/* what the one on air asked of the multiplexer, 5 with none */
+__attribute__((noinline)) uint32_t peer_mux(const struct peer *p) { return p->starts ? p->started[0].mux : 5; }
 
 static int answer_init(struct peer *p, struct sink *o, uint8_t conn, const uint8_t *d, size_t n) {
     if (n < 66 || !memchr(d + 2, 0, 32) || !memchr(d + 34, 0, 32)) {

@@ -28,7 +28,15 @@ static void with_descriptors(struct call *c) {
     uint32_t size = 33;
     for (uint32_t i = below(4); i > 0; i--) {
         uint32_t length = once_in(30) ? below(256) : 4 + below(30);
-        c->in[8 + size] = (uint8_t)below(256);
+        uint32_t tag = below(256);
+        if (once_in(2)) {
+            /* muxpriority (02, CR 5) or almost: tag, length, identifier and value may each be another */
+            tag = once_in(10) ? 1 + below(3) : 2;
+            length = once_in(20) ? 4 + below(3) : 5;
+            put(c->in + 10 + size, once_in(10) ? 0x49504153 : 0x53415049, 4);
+            c->in[14 + size] = (uint8_t)(once_in(10) ? below(13) : 1 + below(10));
+        }
+        c->in[8 + size] = (uint8_t)tag;
         c->in[9 + size] = (uint8_t)length;
         size += 2 + length;
     }

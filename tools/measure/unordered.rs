@@ -55,6 +55,7 @@ struct Plan {
     duration: u32,
     access: u8,
     overrides: bool,
+    mux: u8,
 }
 
 /// A session among all.
@@ -73,6 +74,7 @@ struct Started {
     played: u64,
     id: Id,
     access: u8,
+    mux: u8,
 }
 
 #[repr(C, align(64))]
@@ -207,16 +209,22 @@ fn behind_streams(data: &[u8]) -> Option<&[u8]> {
     Some(rest)
 }
 
-/// Whether descriptors fill these bytes exactly.
-fn well_formed(mut rest: &[u8]) -> bool {
-    while let [_, length, behind @ ..] = rest {
+/// The value of the last muxpriority_descriptor among descriptors that fill the rest, 5 without one; none if they are
+/// ill-formed or one of these is bad.
+fn mux_of(mut rest: &[u8]) -> Option<u8> {
+    let mut mux = 5;
+    while let [tag, length, behind @ ..] = rest {
         let length = usize::from(*length);
         if !(4..=254).contains(&length) || behind.len() < length {
-            return false;
+            return None;
         }
-        rest = &behind[length..];
+        let (own, next) = behind.split_at(length);
+        if *tag == 2 && own[..4] == *b"SAPI" {
+            mux = own[4..].first().copied().filter(|value| length == 5 && (1..=10).contains(value))?;
+        }
+        rest = next;
     }
-    rest.is_empty()
+    rest.is_empty().then_some(mux)
 }
 
 /// Whether two names are the same up to the first zero. One of them has a zero.
@@ -425,6 +433,7 @@ impl Splicer {
             played: 0,
             id,
             access: plan.access,
+            mux: plan.mux,
         };
         self.plays += 1;
     }
@@ -569,13 +578,13 @@ impl Splicer {
             duration: be32(fields, 0),
             access,
             overrides: overrides == 1,
+            mux: mux_of(descriptors)?,
         };
         if plan.duration == 0
             || access > 9
             || overrides > 1
             || returns > 1
             || (prior == NONE && micros > 999_999)
-            || !well_formed(descriptors)
         {
             return None;
         }
@@ -663,6 +672,7 @@ pub extern "C" fn unordered_fresh(s: &mut MaybeUninit<Splicer>, name: &[u8; 32])
             duration: 0,
             access: 0,
             overrides: false,
+            mux: 0,
         }; WAITING],
         started: [Started {
             end: 0,
@@ -672,6 +682,7 @@ pub extern "C" fn unordered_fresh(s: &mut MaybeUninit<Splicer>, name: &[u8; 32])
                 owner: 0,
             },
             access: 0,
+            mux: 0,
         }; STARTED],
         waits: 0,
         plays: 0,
@@ -793,6 +804,12 @@ pub extern "C" fn unordered_waiting(s: &Splicer, counts: &mut [u64; CONNECTIONS]
     for &owner in &s.owners[..s.waits] {
         counts[usize::from(owner)] += 1;
     }
+}
+
+/// What the one on air asked of the multiplexer, 5 with none.
+#[no_mangle]
+pub extern "C" fn unordered_mux(s: &Splicer) -> u32 {
+    s.started().last().map_or(5, |one| one.mux).into()
 }
 
 #[panic_handler]

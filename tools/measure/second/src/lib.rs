@@ -143,3 +143,9 @@ pub unsafe extern "C" fn second_tick(
 pub extern "C" fn second_waiting(s: &Box<Engine>, counts: &mut [u64; 4]) {
     *counts = s.0.waiting_counts().map(|n| n as u64);
 }
+
+/// What the one on air asked of the multiplexer, 5 with none.
+#[no_mangle]
+pub extern "C" fn second_mux(s: &Box<Engine>) -> u32 {
+    s.0.mux().into()
+}
