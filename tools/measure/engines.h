@@ -14,7 +14,8 @@ void *memset(void *to, int byte, size_t n);
     struct splicer_reply engine##_close(void *s, uint32_t conn, uint8_t *out, size_t room);                                               \
     struct splicer_reply engine##_message(void *s, uint32_t conn, const uint8_t *in, size_t length, uint8_t *out, size_t room);           \
     struct splicer_reply engine##_tick(void *s, uint32_t seconds, uint32_t micros, uint8_t *out, size_t room);                            \
-    void engine##_waiting(const void *s, uint64_t *counts)
+    void engine##_waiting(const void *s, uint64_t *counts);                                                                               \
+    uint32_t engine##_mux(const void *s)
 
 NAMED(inplace);
 NAMED(unordered);
@@ -169,7 +170,19 @@ static void compare_counts(void) {
     }
 }
 
-/* the call by all from buffers that are alike; replies and whole buffers are compared, and the waiting counts after it */
+/* the value of the one on air by all (02, CR 5) */
+static void compare_mux(void) {
+    const uint32_t read[ENGINES] = {[CORE] = splicer_call_mux(&core),
+                                    [RUST] = inplace_mux(rust),
+                                    [PLAIN_C] = peer_mux(&peer),
+                                    [UNORDERED] = unordered_mux(unordered),
+                                    [MODEL] = second_mux(second)};
+    for (int i = 1; i < ENGINES; i++) {
+        differ |= (read[i] != read[CORE]) << i;
+    }
+}
+
+/* the call by all from buffers that are alike; replies and whole buffers are compared, and the waiting counts and the value on air after it */
 static struct splicer_reply all(const struct call *c) {
     for (int i = 0; i < ENGINES; i++) {
         memset(outs[i], 0xEE, BUFFER);
@@ -182,5 +195,6 @@ static struct splicer_reply all(const struct call *c) {
     compare(UNORDERED, a, by_unordered(c));
     compare(MODEL, a, by_second(c));
     compare_counts();
+    compare_mux();
     return a;
 }

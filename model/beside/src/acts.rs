@@ -26,22 +26,13 @@ pub fn stream(seed: u64, index: u64) -> Stream {
     let mut at = 0;
     while let Ok((call, length)) = card::next_call(&bytes[at..]) {
         at += length;
-        let call = named(widened(call), &name);
+        let call = named(Call::from(call), &name);
         foreign(&mut rng, &call, &mut acts);
         let call = run_on(&mut rng, call);
         let room = rng.pick(&[OUT, OUT, OUT, OUT + 1, LONGEST]);
         acts.push(Act { call, room });
     }
     Stream { index, name, acts }
-}
-
-fn widened(call: card::Call) -> Call {
-    match call {
-        card::Call::Open(conn) => Call::Open(conn.into()),
-        card::Call::Close(conn) => Call::Close(conn.into()),
-        card::Call::Message(conn, bytes) => Call::Message(conn.into(), bytes),
-        card::Call::Tick(seconds, micros) => Call::Tick(seconds, micros),
-    }
 }
 
 /// Half of the streams have the card program's name; the others one with bytes behind its end, one

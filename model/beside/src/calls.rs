@@ -1,5 +1,6 @@
 //! A call as both programs get it, what each of them says, and the memory lent to the core.
 
+use model::card;
 use model::records;
 use model::rules;
 
@@ -10,6 +11,17 @@ pub enum Call {
     /// The connection and the bytes read so far.
     Message(u32, Vec<u8>),
     Tick(u32, u32),
+}
+
+impl From<card::Call> for Call {
+    fn from(call: card::Call) -> Call {
+        match call {
+            card::Call::Open(conn) => Call::Open(conn.into()),
+            card::Call::Close(conn) => Call::Close(conn.into()),
+            card::Call::Message(conn, bytes) => Call::Message(conn.into(), bytes),
+            card::Call::Tick(seconds, micros) => Call::Tick(seconds, micros),
+        }
+    }
 }
 
 /// A call and the length of the output buffer lent to it.

@@ -1,5 +1,6 @@
 //! The second program and the proved core, called side by side in one process. After every call the
-//! refusal, the bytes consumed and written, the places moved and the rest of the memory are compared.
+//! refusal, the bytes consumed and written, the places moved, the waiting counts, the value on air and
+//! the rest of the memory are compared.
 
 mod acts;
 mod books;
@@ -10,6 +11,7 @@ mod lists;
 mod pair;
 mod rolled;
 mod run;
+mod scenarios;
 mod wrong;
 
 use acts::Stream;
@@ -153,7 +155,7 @@ fn command(mut args: Vec<String>) -> Result<bool, String> {
 
 /// The comparison, and every fault.
 fn everything(plan: &Plan, list: &[Stream]) -> Vec<bool> {
-    let mut results = vec![compared(plan), lists::run(plan.seed)];
+    let mut results = vec![compared(plan), lists::run(plan.seed), scenarios::run()];
     let alike = results.len();
     for wrong in wrong::all() {
         results.push(noticed(plan, list, wrong));

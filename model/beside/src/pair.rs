@@ -35,6 +35,7 @@ impl Pair {
         };
         pair.same_waiting(pair.core.waiting())?;
         pair.same_primary(pair.core.primary())?;
+        pair.same_mux()?;
         Ok(pair)
     }
 
@@ -55,6 +56,15 @@ impl Pair {
             return Err(format!(
                 "waiting: core {found:?}, second program {wanted:?}"
             ));
+        }
+        Ok(())
+    }
+
+    /// The value of the one on air that is read from the core (02, CR 5).
+    fn same_mux(&self) -> Result<(), String> {
+        let (found, wanted) = (self.core.mux(), self.model.mux());
+        if found != wanted {
+            return Err(format!("mux: core {found}, second program {wanted}"));
         }
         Ok(())
     }
@@ -84,9 +94,11 @@ impl Pair {
         // After every call, refused ones too.
         let waiting = wrong.waiting(act, &found, self.core.waiting(), &mut self.drift);
         self.same_waiting(waiting)?;
+        self.same_mux()?;
         self.books.call(act, &found)?;
         self.books.waiting(waiting)?;
         self.same_primary(wrong.primary(self.core.primary(), self.model.clock))?;
+        self.books.mux(self.core.mux())?;
         Ok(found)
     }
 
@@ -135,13 +147,13 @@ impl Pair {
         let seconds = (self.model.clock / rules::SECOND) as u32;
         let micros = (self.model.clock % rules::SECOND / rules::MICROSECOND) as u32;
         ask_core(&mut empty, &Call::Tick(seconds, micros), desk.buffer(OUT));
-        let mut same = core.waiting() == empty.waiting();
+        let mut same = core.waiting() == empty.waiting() && core.mux() == empty.mux();
         for call in afresh(&self.model.name, seconds) {
             let found = ask_core(&mut core, &call, desk.buffer(OUT));
             same &= !desk.touched(found.written.len());
             let wanted = ask_core(&mut empty, &call, desk.buffer(OUT));
             same &= !desk.touched(wanted.written.len()) && found == wanted;
-            same &= core.waiting() == empty.waiting();
+            same &= core.waiting() == empty.waiting() && core.mux() == empty.mux();
         }
         if !same {
             return Err("all closed, and not as a fresh one at this time".to_string());

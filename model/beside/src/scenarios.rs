@@ -1,0 +1,90 @@
+//! The scenario files against the archive: the records of every call and the values read in between.
+//! The card program has no call that reads a value (02, CR 5), so `> mux` lines are held to it here.
+
+use crate::acts::LONGEST;
+use crate::calls::{ask_core, Call};
+use model::card;
+use model::scenario::{self, Step};
+use splicer::{name, Splicer};
+
+const FOLDER: &str = concat!(env!("CARGO_MANIFEST_DIR"), "/../scenarios");
+
+/// Runs every file; the first difference of each is told.
+pub fn run() -> bool {
+    let (mut files, mut reads, mut failed) = (0, 0, 0);
+    for path in paths() {
+        match run_file(&path) {
+            Ok(Some(made)) => {
+                files += 1;
+                reads += made;
+            }
+            // Those of a rolling card run in `rolled`.
+            Ok(None) => {}
+            Err(text) => {
+                files += 1;
+                failed += 1;
+                let file = path.rsplit('/').next().unwrap_or(&path);
+                println!("{file}: {text}");
+            }
+        }
+    }
+    println!("beside: {files} scenarios against the archive, {reads} mux lines, {failed} differ");
+    failed == 0 && files > 0 && reads > 0
+}
+
+fn paths() -> Vec<String> {
+    let list = std::fs::read_dir(FOLDER).into_iter().flatten().flatten();
+    let names = list.map(|entry| entry.path().display().to_string());
+    let mut all: Vec<String> = names.filter(|path| path.ends_with(".txt")).collect();
+    all.sort();
+    all
+}
+
+/// Gives the number of values read; nothing for a rolling card's.
+fn run_file(path: &str) -> Result<Option<usize>, String> {
+    let text = std::fs::read_to_string(path).map_err(|e| e.to_string())?;
+    let steps = scenario::parse(&text)?;
+    if scenario::is_rolling(&steps) {
+        return Ok(None);
+    }
+    let (mut core, _) = Splicer::fresh(&name(b"CH1"));
+    let mut stopped = false;
+    for step in &steps {
+        let found = records(&mut core, &step.input, &mut stopped);
+        if found != step.expected {
+            return Err(told(step, "wrote other bytes"));
+        }
+        if step.mux.is_some_and(|wanted| wanted != core.mux()) {
+            return Err(told(step, &format!("reads {}", core.mux())));
+        }
+    }
+    Ok(Some(steps.iter().filter(|step| step.mux.is_some()).count()))
+}
+
+fn told(step: &Step, what: &str) -> String {
+    format!("line {}: {}: the archive {what}", step.line, step.text)
+}
+
+/// What the card program writes for these records of its input, with the archive in its place.
+fn records(core: &mut Splicer, input: &[u8], stopped: &mut bool) -> Vec<u8> {
+    let mut found = Vec::new();
+    let mut rest = input;
+    while !*stopped {
+        let Ok((call, length)) = card::next_call(rest) else {
+            // "It stops at the end, a cut record or another mark".
+            *stopped = !rest.is_empty();
+            break;
+        };
+        rest = &rest[length..];
+        let call = Call::from(call);
+        // "at a message header with MessageSize above 4,088 it makes the call [..] and stops"
+        *stopped = matches!(&call, Call::Message(_, bytes) if bytes[2..4] > [0x0F, 0xF8][..]);
+        let mut out = vec![0; LONGEST];
+        let said = ask_core(core, &call, &mut out);
+        match said.refused {
+            0 => found.extend(said.written),
+            number => found.extend([0x45, number]),
+        }
+    }
+    found
+}
