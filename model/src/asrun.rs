@@ -66,6 +66,7 @@ pub fn as_rolled(calls: &[rolling::Call]) -> String {
                 call: call.clone(),
                 to: 0,
                 output,
+                mux: card.splicer.mux(),
             }),
             _ => {
                 day.clock = card.splicer.clock;
