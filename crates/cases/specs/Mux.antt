@@ -2,6 +2,8 @@
 use mathlib.Core.Path.{_≡_, refl}
 use mathlib.Core.List.{List, [], _∷_, _++_, map}
 use Prim.Native.Nat.{ℕ}
+use lib.ListN.{replicate, take, drop}
+use Rattle.rules.specs.Bytes.{bytes}
 use Rattle.rules.specs.State.{Splicer}
 use Rattle.rules.specs.Reading
 use Rattle.rules.specs.Records.{Record, General, SpliceResponse, SpliceComplete, AbortResponse, recordsIn}
@@ -32,6 +34,17 @@ foreign =
 with : (conn id seconds access duration : ℕ) → List ℕ → Call
 with c x s a d l = from c 0x0007 (asks x Reading.nobody s 0 a 1 d ++ l)
 
+-- one linked to the number prior
+behind : (conn id prior duration : ℕ) → List ℕ → Call
+behind c x p d l = from c 0x0007 (asks x p 0 0 1 0 d ++ l)
+
+-- 02, CR 1: a timed request with ServiceID 0xFFFF, PcrPID 0x31 and one structure: Length 21, PID 0x32, StreamType 0x1B, all else unknown
+naming : (conn id seconds access duration : ℕ) → List ℕ → Call
+naming c x s a d l =
+    from c 0x0007
+    (take 16 (asks x Reading.nobody s 0 a 1 d)
+    ++ (bytes 2 0xFFFF ++ (bytes 2 0x31 ++ (bytes 4 1 ++ (21 ∷ bytes 2 0x32 ++ (bytes 2 0x1B ++ (replicate 16 0xFF ++ (drop 18 (asks x Reading.nobody s 0 a 1 d) ++ l))))))))
+
 accepts : (conn id : ℕ) → Record
 accepts c x = SpliceResponse c 100 x
 
@@ -47,6 +60,11 @@ rows =
     ∷ row (with 0 1 1010 1 90000 (mux 7 ++ mux 0)) (General 0 123 ∷ []) 5
     -- it is read before the checks: no number of a session, and too late
     ∷ row (with 0 0xFFFFFFFF 1001 1 90000 (mux 11)) (General 0 123 ∷ []) 5
+    -- and so of one that is linked, and behind separate PIDs: a bad one before a good one, behind one, and one that is cut in its value
+    ∷ row (behind 0 1 2 90000 (mux 11)) (General 0 123 ∷ []) 5
+    ∷ row (naming 0 1 1010 1 90000 (mux 11 ++ mux 7)) (General 0 123 ∷ []) 5
+    ∷ row (naming 0 1 1010 1 90000 (mux 7 ++ mux 0)) (General 0 123 ∷ []) 5
+    ∷ row (naming 0 1 1010 1 90000 (take 6 (mux 7))) (General 0 123 ∷ []) 5
     -- "the last one wins": 9, then 2; 10 before foreign ones; foreign ones alone, so 5. Accepted is not on air
     ∷ row (with 0 1 1010 1 2700000 (mux 9 ++ mux 2)) (accepts 0 1 ∷ []) 5
     ∷ row (with 1 2 1015 3 2700000 (mux 10 ++ foreign)) (accepts 1 2 ∷ []) 5
@@ -61,6 +79,12 @@ rows =
     ∷ row (to 1025 0) (SpliceComplete 2 100 4 1 180000 ∷ []) 10
     ∷ row (aborts 1 2) (AbortResponse 1 100 2 ∷ SpliceComplete 1 116 2 1 450000 ∷ []) 2
     ∷ row (closes 0 4096) (SpliceComplete 0 116 1 1 450000 ∷ []) 5
+    -- behind separate PIDs, the last one too; then one linked to it
+    ∷ row (naming 3 5 1040 2 90000 (mux 9 ++ mux 4)) (accepts 3 5 ∷ []) 5
+    ∷ row (behind 3 6 5 90000 (mux 8)) (accepts 3 6 ∷ []) 5
+    ∷ row (to 1040 0) (SpliceComplete 3 100 5 0 0 ∷ []) 4
+    ∷ row (to 1041 0) (SpliceComplete 3 100 5 1 90000 ∷ SpliceComplete 3 100 6 0 0 ∷ []) 8
+    ∷ row (to 1042 0) (SpliceComplete 3 100 6 1 90000 ∷ []) 5
     ∷ []
 
 -- what comes of each call
@@ -72,9 +96,9 @@ results : List Called
 results = each (map (λ r. r .calls) rows) (plays ready card .splicer)
 
 answered : map (λ c. recordsIn (writtenBy (c .answer))) results ≡ map (λ r. r .wants) rows
-unfolding sent from initOf asks timed linked aborts to card plays up ready row mux foreign with accepts rows each results computing
+unfolding sent from initOf asks timed linked aborts to card plays up ready row mux foreign with behind naming accepts rows each results computing
 answered = refl
 
 read : map (λ c. airMux (c .splicer .queue .started)) results ≡ map (λ r. r .reads) rows
-unfolding sent from initOf asks timed linked aborts to card plays up ready row mux foreign with accepts rows each results computing
+unfolding sent from initOf asks timed linked aborts to card plays up ready row mux foreign with behind naming accepts rows each results computing
 read = refl
