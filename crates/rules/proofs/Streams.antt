@@ -288,7 +288,7 @@ module _ (d e : List ℕ) (same : take 16 d ≡ take 16 e) (a : 16 ≤ length d)
   whole-alike t = rw (alike 0 4 (omega arith), alike 4 4 (omega arith), alike 8 4 (omega arith), alike 12 4 (omega arith)) refl
 
 -- "such requests go through the other reading rules": d with good structures and the tail t, and the data without them and with any other
--- ServiceID
+-- ServiceID. So their descriptors are read alike too, and both ask the same of the multiplexer (CR 5)
 pub separate-reads-alike : (d : List ℕ) (l : List Stream) (t : List ℕ) (service : ℕ) → 18 ≤ length d → serviceID d ≡ separateService
     → separateIn (drop 18 d) ≡ listed l t → service < separateService → readSplice d ≡ readSplice (take 16 d ++ bytes 2 service ++ t)
 unfolding readSplice tailOf restOf
