@@ -9,6 +9,8 @@ pub mod Records
 pub mod Ends
 pub mod Instants
 pub mod Answers
+pub mod Crc
+pub mod Cues
 pub mod Calls
 pub mod Card
 pub mod Sound

@@ -95,3 +95,17 @@ pub enum Framing {
     Framed(u16, u16),
     Unframed(Refusal),
 }
+
+// What comes of a section of cues: it is passed on, with the 33-bit PTS of its cue or without a time; nothing comes of it; or it is bad.
+pub enum Cue {
+    At(u64),
+    Timeless,
+    Silent,
+    Bad,
+}
+
+// A time as it stands on the wire.
+pub struct Stamp {
+    pub seconds: u32,
+    pub micros: u32,
+}

@@ -29,6 +29,14 @@ pub fn from_ticks(d: Ticks) -> Ninths
     Ninths(d.0 as u64 * 100)
 }
 
+// Ticks that 33 bits count, as those of a PTS (02, CR 7).
+pub fn from_long_ticks(d: u64) -> Ninths
+    requires { ⌜ d < 2 ^ 33 ⌝ }
+    ensures { λ r. ⌜ r ≡ fromTicks (record { 0 = d }) ⌝ }
+{
+    Ninths(d * 100)
+}
+
 // Rounded down.
 pub fn to_micros(n: Ninths) -> Micros
     ensures { λ r. ⌜ r ≡ toMicros n ⌝ }
