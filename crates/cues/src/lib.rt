@@ -3,8 +3,8 @@
 ghost use mathlib.Core.Path.{_≡_};
 ghost use Prim.Native.Nat.{_+_, _≤_, _<_};
 ghost use lib.ListN.{length};
-ghost use Rattle.rules.specs.Cues.{badSection, flagAt, ptsAt, badLengths, timeSize, timeIn, readSignal, programSize, readProgram};
-ghost use Rattle.rules.specs.Cues.{readInsert, readCommand, readCue, ticksAfter, stampOf, cueTime};
+ghost use Rattle.rules.specs.Cues.{badSection, flagAt, ptsTurn, ptsAt, badLengths, timeSize, timeIn, readSignal, programSize, readProgram};
+ghost use Rattle.rules.specs.Cues.{readInsert, readCommand, readCue, ticksAfter, wireTimeOf, cueTime};
 
 pub mod crc;
 
@@ -14,10 +14,10 @@ use reading::numbers::number4;
 use rules::Cue;
 use rules::Micros;
 use rules::Ninths;
-use rules::Stamp;
+use rules::WireTime;
 
 // "33-bit PTS"
-const TURN: u64 = 8589934592;
+const PTS_TURN: u64 = 8589934592;
 
 // "No pts_time gives all ones; so does an instant past the time field's range."
 const ONES: u32 = 0xFFFFFFFF;
@@ -46,7 +46,7 @@ fn flag_at(l: &[u8], weight: u8, at: usize) -> bool
 
 fn pts_at(l: &[u8], at: usize) -> u64
     requires { ⌜ at + 5 ≤ length (now l) ⌝ }
-    ensures { λ r. ⌜ r ≡ ptsAt at (now (l .entry)) ⌝ }
+    ensures { λ r. ⌜ (r ≡ ptsAt at (now (l .entry))) × (r < ptsTurn) ⌝ }
 {
     let high = byte_at(l, at) % 2;
     let low = number4(l, 1 + at);
@@ -88,7 +88,7 @@ fn time_in(l: &[u8], at: usize) -> Cue
 {
     if flag_at(l, 128, at) {
         let p = pts_at(l, at) + pts_at(l, 4);
-        return Cue::At(p % TURN);
+        return Cue::At(p % PTS_TURN);
     }
     Cue::Timeless
 }
@@ -190,36 +190,36 @@ pub fn read_cue(l: &[u8]) -> Cue
 fn ticks_after(pts: u64, p: u64) -> u64
     ensures { λ r. ⌜ r ≡ ticksAfter pts p ⌝ }
 {
-    (p % TURN + (TURN - pts % TURN)) % TURN
+    (p % PTS_TURN + (PTS_TURN - pts % PTS_TURN)) % PTS_TURN
 }
 
-fn stamp_of(t: Micros) -> Stamp
-    ensures { λ r. ⌜ r ≡ stampOf (t .0) ⌝ }
+fn wire_time_of(t: Micros) -> WireTime
+    ensures { λ r. ⌜ r ≡ wireTimeOf (t .0) ⌝ }
 {
     let seconds = t.0 / 1000000;
     if (ONES as u64) < seconds {
-        return Stamp {
+        return WireTime {
             seconds: ONES,
             micros: ONES,
         };
     }
-    Stamp {
+    WireTime {
         seconds: seconds as u32,
         micros: (t.0 % 1000000) as u32,
     }
 }
 
 // The time that is written for a cue, if that PTS belongs to that instant; all ones without a time.
-pub fn time_of_cue(cue: Cue, pts: u64, seconds: u32, micros: u32) -> Stamp
+pub fn time_of_cue(cue: Cue, pts: u64, seconds: u32, micros: u32) -> WireTime
     ensures { λ r. ⌜ r ≡ cueTime pts seconds micros cue ⌝ }
 {
     let Cue::At(p) = cue else {
-        return Stamp {
+        return WireTime {
             seconds: ONES,
             micros: ONES,
         };
     };
     let given = units::from_micros(units::time_of(seconds, micros));
     let later = units::from_long_ticks(ticks_after(pts, p));
-    stamp_of(units::to_micros(Ninths(given.0 + later.0)))
+    wire_time_of(units::to_micros(Ninths(given.0 + later.0)))
 }

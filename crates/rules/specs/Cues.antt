@@ -6,7 +6,7 @@ use lib.Dec.{eqb, leb, ltb}
 use lib.ListN.{length, getD}
 use Rattle.rules.specs.declared.Cue.{Cue}
 use Rattle.rules.specs.declared.Cue.the-variants.{At, Timeless, Silent, Bad}
-use Rattle.rules.specs.declared.Stamp.{Stamp}
+use Rattle.rules.specs.declared.WireTime.{WireTime}
 use Rattle.rules.specs.Units.{second, timeOf, fromMicros, fromTicks, toMicros}
 use Rattle.rules.specs.Bytes.{field}
 use Rattle.rules.specs.Crc.{rightCrc}
@@ -24,12 +24,16 @@ badSection l = not (eqb (length l) (3 + sectionLength l)) || (ltb (length l) 20 
 abbrev pub tableID : List ℕ → ℕ
 tableID l = getD l 0 0
 
--- the highest bit of the byte at the place a, or another of its bits, by its weight
+-- whether the bit of that weight is set in the byte at a
 abbrev pub flagAt : (weight a : ℕ) → List ℕ → Bool
 flagAt weight a l = eqb (getD l a 0 / weight % 2) 1
 
 abbrev pub isEncrypted : List ℕ → Bool
 isEncrypted l = flagAt 128 4 l
+
+-- a PTS has 33 bits: "modulo 2^33"
+abbrev pub ptsTurn : ℕ
+ptsTurn = 8589934592
 
 -- "33-bit PTS": the lowest bit of the byte at a, and four bytes behind it
 abbrev pub ptsAt : ℕ → List ℕ → ℕ
@@ -47,7 +51,7 @@ commandType l = getD l 13 0
 abbrev pub commandAt : ℕ
 commandAt = 14
 
--- what is left of a section for its command: before descriptor_loop_length and CRC_32
+-- what a section has for its command: behind those 14 bytes, before descriptor_loop_length 2 and CRC_32 4
 abbrev pub commandRoom : List ℕ → ℕ
 commandRoom l = length l - 20
 
@@ -57,7 +61,7 @@ commandRoom l = length l - 20
 abbrev pub givenOtherwise : ℕ → List ℕ → Bool
 givenOtherwise c l = not (eqb (commandLength l) 0xFFF) && not (eqb (commandLength l) c)
 
--- descriptor_loop_length stands behind the command's c bytes, and counts what stands between itself and CRC_32, stuffing not included
+-- descriptor_loop_length stands behind the command's c bytes; its bytes end before CRC_32, and stuffing may follow them
 abbrev pub loopLength : ℕ → List ℕ → ℕ
 loopLength c l = field (commandAt + c) 2 l
 
@@ -79,7 +83,7 @@ timeSize a l = cond (isSpecified a l) 5 1
 
 -- "a cue's 33-bit PTS (with pts_adjustment added, modulo 2^33)"; "No pts_time gives all ones"
 abbrev pub timeIn : ℕ → List ℕ → Cue
-timeIn a l = cond (isSpecified a l) (At ((ptsAt a l + ptsAdjustment l) % 8589934592)) Timeless
+timeIn a l = cond (isSpecified a l) (At ((ptsAt a l + ptsAdjustment l) % ptsTurn)) Timeless
 
 -- time_signal: one splice_time
 unfoldable pub readSignal : List ℕ → Cue
@@ -137,22 +141,22 @@ readCue l = cond (rightCrc l) (cond (eqb (tableID l) 0xFC && not (isEncrypted l)
 
 -- "counts as the first one at or after that PTS": so many ticks later. "The caller gives a PTS (modulo 2^33)"
 unfoldable pub ticksAfter : (pts p : ℕ) → ℕ
-ticksAfter pts p = (p + (8589934592 - pts % 8589934592)) % 8589934592
+ticksAfter pts p = (p + (ptsTurn - pts % ptsTurn)) % ptsTurn
 
 -- in ninths; given: "the UTC instant that belongs to it"
 unfoldable pub exactTime : (pts given p : ℕ) → ℕ
 exactTime pts given p = given + fromTicks (record { 0 = ticksAfter pts p }) .0
 
-abbrev pub allOnes : Stamp
+abbrev pub allOnes : WireTime
 allOnes = record { seconds = 0xFFFFFFFF; micros = 0xFFFFFFFF }
 
 -- Seconds and MicroSeconds of a time in microseconds, all ones for "an instant past the time field's range"
-unfoldable pub stampOf : ℕ → Stamp
-stampOf t = cond (ltb 0xFFFFFFFF (t / second)) allOnes (record { seconds = t / second; micros = t % second })
+unfoldable pub wireTimeOf : ℕ → WireTime
+wireTimeOf t = cond (ltb 0xFFFFFFFF (t / second)) allOnes (record { seconds = t / second; micros = t % second })
 
 -- "The UTC written is rounded down to a microsecond"; "No pts_time gives all ones"
-unfoldable pub cueTime : (pts seconds micros : ℕ) → Cue → Stamp
-cueTime pts seconds micros (At p) = stampOf (toMicros (record { 0 = exactTime pts (fromMicros (timeOf seconds micros) .0) p }) .0)
+unfoldable pub cueTime : (pts seconds micros : ℕ) → Cue → WireTime
+cueTime pts seconds micros (At p) = wireTimeOf (toMicros (record { 0 = exactTime pts (fromMicros (timeOf seconds micros) .0) p }) .0)
 cueTime pts seconds micros Timeless = allOnes
 cueTime pts seconds micros Silent = allOnes
 cueTime pts seconds micros Bad = allOnes

@@ -105,7 +105,7 @@ pub enum Cue {
 }
 
 // A time as it stands on the wire.
-pub struct Stamp {
+pub struct WireTime {
     pub seconds: u32,
     pub micros: u32,
 }

@@ -1,33 +1,33 @@
+-- Each return is one of the three reasons (`section-short`, `section-other`, `section-long`).
+use mathlib.Core.Path.{_≡_, sym, ap, _∙_}
+use Prim.Native.Nat.{_+_, _%_}
+use native.Mathlib.Omega.{arith}
+use Rattle.cues.proofs.Laws.{section-short, section-other, section-long}
 use borrow.Author.Needs.{needs}
 use Rattle.cues.proofs.bad_section.Statement.{statement}
 use Rattle.cues.proofs.bad_section.Tie as tie
-use Rattle.cues.proofs.bad_section.Reads as reads
-use Rattle.cues.proofs.bad_section.Lts as lts
-use Rattle.reading.proofs.numbers.number2.Reads as number2-reads
 
--- src/lib.rt:30:9
 returns : tie.Need-returns
-returns c = ?
+returns c = section-short (c .before .before .args .l .now) (c .if1 .taken)
 
--- src/lib.rt:32:16
 number2-requires : tie.Need-number2-requires
 number2-requires c κs = search needs
 
--- src/lib.rt:33:23
 cast-if2 : tie.Need-cast-if2
 cast-if2 c = search needs
 
--- src/lib.rt:33:19
 add-if2 : tie.Need-add-if2
 add-if2 c = search needs
 
--- src/lib.rt:34:9
 returns-2 : tie.Need-returns-2
-returns-2 c = ?
+returns-2 c =
+    let k = ap (λ n. 3 + n % 4096) (c .before .number2 .ensures) in
+    section-other (c .before .before .before .before .args .l .now) (λ e. c .if2 .taken (e ∙ sym k))
 
--- src/lib.rt:26:1
 returns-3 : tie.Need-returns-3
-returns-3 c = ?
+returns-3 c =
+    let k = ap (λ n. 3 + n % 4096) (c .before .number2 .ensures) in
+    section-long (c .before .before .before .before .args .l .now) (c .if2 .left ∙ k) (c .before .before .if1 .left)
 
 pub bad-section-spec : {M : Type 1} → statement M
 bad-section-spec =

@@ -1,48 +1,46 @@
+-- The type of the command decides.
+use mathlib.Core.Path.{_≡_, sym, ap, ap₂, _∙_}
+use mathlib.Core.Bool.{cond}
+use borrow.Author.Tests.{ne-eqb}
+use Rattle.rules.specs.Cues.{commandType, readCommand}
 use borrow.Author.Needs.{needs}
 use Rattle.cues.proofs.read_command.Statement.{statement}
 use Rattle.cues.proofs.read_command.Tie as tie
-use Rattle.cues.proofs.read_command.Reads as reads
-use Rattle.cues.proofs.read_command.Lts as lts
-use Rattle.cues.proofs.bad_lengths.Reads as bad-lengths-reads
-use Rattle.cues.proofs.read_insert.Reads as read-insert-reads
-use Rattle.cues.proofs.read_signal.Reads as read-signal-reads
-use Rattle.reading.proofs.numbers.byte_at.Reads as byte-at-reads
 
--- src/lib.rt:159:11
 byte-at-requires : tie.Need-byte-at-requires
 byte-at-requires c κs = search needs
 
--- src/lib.rt:161:16
 bad-lengths-requires : tie.Need-bad-lengths-requires
 bad-lengths-requires c κs = search needs
 
--- src/lib.rt:162:17
 returns : tie.Need-returns
-returns c = ?
+unfolding readCommand
+returns c = rw (← c .before .before .before .byte-at .ensures, c .before .before .match .keys1, ← c .before .bad-lengths .ensures, c .if1 .taken)
 
--- src/lib.rt:166:17
 read-insert-requires : tie.Need-read-insert-requires
 read-insert-requires c κs = search needs
 
--- src/lib.rt:167:17
 read-signal-requires : tie.Need-read-signal-requires
 read-signal-requires c κs = search needs
 
--- src/lib.rt:155:1
 returns-2 : tie.Need-returns-2
-returns-2 c = ?
+unfolding readCommand
+returns-2 c = rw (← c .before .before .before .byte-at .ensures, c .before .before .match .keys1, ← c .before .bad-lengths .ensures, c .if1 .left)
 
--- src/lib.rt:155:1
 returns-3 : tie.Need-returns-3
-returns-3 c = ?
+unfolding readCommand
+returns-3 c = rw (← c .before .before .byte-at .ensures, c .before .match .keys2) (c .read-insert .ensures)
 
--- src/lib.rt:155:1
 returns-4 : tie.Need-returns-4
-returns-4 c = ?
+unfolding readCommand
+returns-4 c = rw (← c .before .before .byte-at .ensures, c .before .match .keys3) (c .read-signal .ensures)
 
--- src/lib.rt:155:1
 returns-5 : tie.Need-returns-5
-returns-5 c = ?
+unfolding readCommand
+returns-5 c =
+    let kind = c .before .byte-at .result in
+    let none = c .match .rest in
+    rw (← c .before .byte-at .ensures, ne-eqb kind 0x00 (none .0 .0 .1), ne-eqb kind 0x05 (none .0 .1), ne-eqb kind 0x06 (none .1))
 
 pub read-command-spec : {M : Type 1} → statement M
 read-command-spec =

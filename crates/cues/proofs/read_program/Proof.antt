@@ -1,40 +1,52 @@
+-- Lengths that fit leave splice_time its bytes (`timed-fits`).
+use mathlib.Core.Path.{_≡_, sym, ap, ap₂, _∙_}
+use mathlib.Core.Bool.{cond}
+use native.Mathlib.Omega.{arith}
+use Rattle.rules.specs.Cues.{badLengths, programSize, timeIn, insertTimeAt, isImmediate, readProgram}
+use Rattle.rules.specs.declared.Cue.the-variants.{Bad, Timeless}
+use Rattle.cues.proofs.Laws.{first, second, timed-fits}
 use borrow.Author.Needs.{needs}
 use Rattle.cues.proofs.read_program.Statement.{statement}
 use Rattle.cues.proofs.read_program.Tie as tie
-use Rattle.cues.proofs.read_program.Reads as reads
-use Rattle.cues.proofs.read_program.Lts as lts
-use Rattle.cues.proofs.bad_lengths.Reads as bad-lengths-reads
-use Rattle.cues.proofs.flag_at.Reads as flag-at-reads
-use Rattle.cues.proofs.program_size.Reads as program-size-reads
-use Rattle.cues.proofs.time_in.Reads as time-in-reads
 
--- src/lib.rt:123:23
 program-size-requires : tie.Need-program-size-requires
 program-size-requires c κs = search needs
 
--- src/lib.rt:123:8
 bad-lengths-requires : tie.Need-bad-lengths-requires
 bad-lengths-requires c κs = search needs
 
--- src/lib.rt:124:9
 returns : tie.Need-returns
-returns c = ?
+unfolding readProgram
+returns c =
+    let l = c .before .before .before .before .args .l .now in
+    let k = ap (λ n. badLengths n l) (c .before .before .program-size .ensures) in
+    first _ _ Bad (cond (isImmediate l) Timeless (timeIn insertTimeAt l)) (c .before .bad-lengths .ensures ∙ k) (c .if1 .taken)
 
--- src/lib.rt:126:8
 flag-at-requires : tie.Need-flag-at-requires
 flag-at-requires c κs = search needs
 
--- src/lib.rt:127:9
 returns-2 : tie.Need-returns-2
-returns-2 c = ?
+unfolding readProgram
+returns-2 c =
+    let l = c .before .before .before .before .before .before .args .l .now in
+    let k = ap (λ n. badLengths n l) (c .before .before .before .before .program-size .ensures) in
+    first _ _ Timeless (timeIn insertTimeAt l) (c .before .flag-at .ensures) (c .if2 .taken)
+    ∙ second _ _ Bad (cond (isImmediate l) Timeless (timeIn insertTimeAt l)) (c .before .before .before .bad-lengths .ensures ∙ k) (c .before .before .if1 .left)
 
--- src/lib.rt:129:5
 time-in-requires : tie.Need-time-in-requires
-time-in-requires c κs = ?
+time-in-requires c κs =
+    let s = c .before .before .before .before .before .before in
+    let l = s .args .l .now in
+    let k = ap (λ n. badLengths n l) (c .before .before .before .before .program-size .ensures) in
+    (s .pre, timed-fits l (sym (c .before .flag-at .ensures) ∙ c .if2 .left) (sym (c .before .before .before .bad-lengths .ensures ∙ k) ∙ c .before .before .if1 .left) (s .pre))
 
--- src/lib.rt:119:1
 returns-3 : tie.Need-returns-3
-returns-3 c = ?
+unfolding readProgram
+returns-3 c =
+    let l = c .before .before .before .before .before .before .before .args .l .now in
+    let k = ap (λ n. badLengths n l) (c .before .before .before .before .before .program-size .ensures) in
+    c .time-in .ensures ∙ second _ _ Timeless (timeIn insertTimeAt l) (c .before .before .flag-at .ensures) (c .before .if2 .left)
+    ∙ second _ _ Bad (cond (isImmediate l) Timeless (timeIn insertTimeAt l)) (c .before .before .before .before .bad-lengths .ensures ∙ k) (c .before .before .before .if1 .left)
 
 pub read-program-spec : {M : Type 1} → statement M
 read-program-spec =

@@ -3,7 +3,7 @@ use mathlib.Core.Path.{_≡_, refl, sym, ap, _∙_}
 use Prim.Native.Nat.{_+_, _-_, _*_, _/_, _%_, _≤_, _<_}
 use native.Mathlib.Omega.{arith}
 use Rattle.rules.specs.Crc.{crcBits}
-use Rattle.cues.proofs.Laws.{bits-step, bits-none}
+use Rattle.cues.proofs.Register.{bits-step, bits-none}
 use borrow.Author.Needs.{needs}
 use Rattle.cues.proofs.crc.byte_in.Statement.{statement}
 use Rattle.cues.proofs.crc.byte_in.Tie as tie

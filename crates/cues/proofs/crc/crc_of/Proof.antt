@@ -4,7 +4,7 @@ use Prim.Native.Nat.{_+_, _-_, _≤_, _<_}
 use native.Mathlib.Omega.{arith}
 use lib.ListN.{length, drop, getD}
 use Rattle.rules.specs.Crc.{crcFrom, crc}
-use Rattle.cues.proofs.Laws.{from-step, from-none}
+use Rattle.cues.proofs.Register.{from-step, from-none}
 use borrow.Author.Needs.{needs}
 use Rattle.cues.proofs.crc.crc_of.Statement.{statement}
 use Rattle.cues.proofs.crc.crc_of.Tie as tie
