@@ -11,15 +11,15 @@ esac
 needs cargo
 cd "$(dirname "$0")/.."
 specs=crates/cases/specs
-hand='Layouts Rooms Rehearsed Histories Worked Moved Counted Days Mux'
+hand='Layouts Rooms Rehearsed Histories Worked Moved Counted Days Mux Sections'
 made=target/cases
 rm -rf "$made"
 mkdir -p "$made"
 CARGO_TARGET_DIR=target/model cargo build --quiet --release --offline --manifest-path model/Cargo.toml
 target/model/release/model scenario --tables "$made" model/scenarios/*.txt
 
-# the modules of rules that the card program is written in, those of demand 3 and of CR 13, and their definitions
-modules='Lists Bytes Reading State Records Ends Instants Answers Calls Card'
+# the modules of rules that the card program and what is read of cues are written in, those of demand 3 and of CR 13, and their definitions
+modules='Lists Bytes Reading State Records Ends Instants Answers Crc Cues Calls Card'
 names=$({
     for m in $modules; do
         sed -nE "s/^ *unfoldable pub ([^ ]+).*/$m.\\1/p" "crates/rules/specs/$m.antt"

@@ -9,6 +9,7 @@ pub mod Moved
 pub mod Counted
 pub mod Days
 pub mod Mux
+pub mod Sections
 pub mod Case-01-card-cut-header
 pub mod Case-01-card-cut-mark
 pub mod Case-01-card-cut-message
