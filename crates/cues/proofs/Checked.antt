@@ -91,12 +91,16 @@ shifted2 c =
 shifted4 : (c : ℕ) → c * 4 % 4294967296 * 4 % 4294967296 ≡ c * 16 % 4294967296
 shifted4 c = omega arith
 
+shifted16 : (c : ℕ) → c * 16 % 4294967296 * 16 % 4294967296 ≡ c * 256 % 4294967296
+shifted16 c = omega arith
+
 shifted8 : (c : ℕ) → shifted 8 c ≡ c * 256 % 4294967296
 unfolding shifted
-shifted8 c = rw (shifted2, shifted2, shifted2, shifted2, shifted4, shifted4) (last c)
-  where
-    last : (c : ℕ) → c * 16 % 4294967296 * 16 % 4294967296 ≡ c * 256 % 4294967296
-    last c = omega arith
+shifted8 c =
+    let d = c * 4 % 4294967296 in
+    let e = d * 4 % 4294967296 in
+    ap (shifted 6) (shifted2 c) ∙ ap (shifted 4) (shifted2 d) ∙ ap (shifted 2) (shifted2 e) ∙ shifted2 (e * 4 % 4294967296)
+    ∙ ap (λ x. x * 4 % 4294967296 * 4 % 4294967296) (shifted4 c) ∙ shifted4 (c * 16 % 4294967296) ∙ shifted16 c
 
 own-byte : (c b : ℕ) → c / 16777216 ≡ b → crcByte c b ≡ c * 256 % 4294967296
 own-byte c b e = same-shifts 8 c b (same8 c b e) ∙ shifted8 c
