@@ -33,13 +33,13 @@ pub fn replied(call: impl FnOnce(*mut u64)) -> Result<Counts, Refusal> {
 }
 
 extern "C" {
-    #[link_name = "splicer_4_fresh"]
+    #[link_name = "splicer_5_fresh"]
     pub fn fresh(name: *const u8, words: *mut u64, bytes: *mut u8, reply: *mut u64);
 
-    #[link_name = "splicer_4_open"]
+    #[link_name = "splicer_5_open"]
     pub fn open(words: *mut u64, bytes: *mut u8, conn: u32, reply: *mut u64);
 
-    #[link_name = "splicer_4_close"]
+    #[link_name = "splicer_5_close"]
     pub fn close(
         words: *mut u64,
         bytes: *mut u8,
@@ -49,7 +49,7 @@ extern "C" {
         reply: *mut u64,
     );
 
-    #[link_name = "splicer_4_message"]
+    #[link_name = "splicer_5_message"]
     pub fn message(
         words: *mut u64,
         bytes: *mut u8,
@@ -61,7 +61,7 @@ extern "C" {
         reply: *mut u64,
     );
 
-    #[link_name = "splicer_4_tick"]
+    #[link_name = "splicer_5_tick"]
     pub fn tick(
         words: *mut u64,
         bytes: *mut u8,
@@ -72,10 +72,10 @@ extern "C" {
         reply: *mut u64,
     );
 
-    #[link_name = "splicer_4_waiting"]
+    #[link_name = "splicer_5_waiting"]
     pub fn waiting(words: *const u64, bytes: *const u8, counts: *mut u64);
 
-    #[link_name = "splicer_4_rolling_fresh"]
+    #[link_name = "splicer_5_rolling_fresh"]
     pub fn rolling_fresh(
         name: *const u8,
         words: *mut u64,
@@ -84,7 +84,7 @@ extern "C" {
         reply: *mut u64,
     );
 
-    #[link_name = "splicer_4_instant"]
+    #[link_name = "splicer_5_instant"]
     pub fn instant(
         words: *mut u64,
         bytes: *mut u8,
@@ -95,7 +95,7 @@ extern "C" {
         reply: *mut u64,
     );
 
-    #[link_name = "splicer_4_reading"]
+    #[link_name = "splicer_5_reading"]
     pub fn reading(
         words: *mut u64,
         bytes: *mut u8,
@@ -106,15 +106,15 @@ extern "C" {
         reply: *mut u64,
     );
 
-    #[link_name = "splicer_4_primary"]
+    #[link_name = "splicer_5_primary"]
     pub fn primary(words: *const u64, bytes: *const u8) -> u64;
 
-    #[link_name = "splicer_4_read_streams"]
+    #[link_name = "splicer_5_read_streams"]
     pub fn read_streams(read: *const u8, length: usize, list: *mut u64, kept: *mut u8) -> usize;
 
-    #[link_name = "splicer_4_write_streams"]
+    #[link_name = "splicer_5_write_streams"]
     pub fn write_streams(list: *const u64, kept: *const u8, out: *mut u8, room: usize) -> usize;
 
-    #[link_name = "splicer_4_mux"]
+    #[link_name = "splicer_5_mux"]
     pub fn mux(words: *const u64, bytes: *const u8) -> u64;
 }

@@ -96,6 +96,16 @@ impl RollingSplicer {
     pub fn waiting(&self) -> [u64; CONNECTIONS] {
         self.core.waiting()
     }
+
+    /// As [`Splicer::primary`].
+    pub fn primary(&self) -> u64 {
+        self.core.primary()
+    }
+
+    /// As [`Splicer::mux`].
+    pub fn mux(&self) -> u8 {
+        self.core.mux()
+    }
 }
 
 /// Its content is the core's.

@@ -23,14 +23,14 @@ use Rattle.rules.specs.Calls.{call}
 use Rattle.engine.specs.Lent.{Lent, Counts, Primary, ReadsMux}
 use Rattle.engine.proofs.Held.{kind, Holds, Same, both, number-held, bytes-held}
 use Rattle.door.specs.Door.{Replies, anOpen, aClose, aMessage, aTick, Typed, Seen, Allowed}
-use Rattle.door.proofs.«splicer_4_fresh» as fresh
-use Rattle.door.proofs.«splicer_4_open» as opening
-use Rattle.door.proofs.«splicer_4_close» as close
-use Rattle.door.proofs.«splicer_4_message» as message
-use Rattle.door.proofs.«splicer_4_tick» as tick
-use Rattle.door.proofs.«splicer_4_waiting» as waiting
-use Rattle.door.proofs.«splicer_4_primary» as primary
-use Rattle.door.proofs.«splicer_4_mux» as mux
+use Rattle.door.proofs.«splicer_5_fresh» as fresh
+use Rattle.door.proofs.«splicer_5_open» as opening
+use Rattle.door.proofs.«splicer_5_close» as close
+use Rattle.door.proofs.«splicer_5_message» as message
+use Rattle.door.proofs.«splicer_5_tick» as tick
+use Rattle.door.proofs.«splicer_5_waiting» as waiting
+use Rattle.door.proofs.«splicer_5_primary» as primary
+use Rattle.door.proofs.«splicer_5_mux» as mux
 
 -- what C sees
 abbrev ended : (r m b o : List ℕ) → Seen
@@ -42,7 +42,7 @@ module _ {M : Type 1} (𝓤 : URA M) (H : Heap 𝓤) (A : Atoms 𝓤) (mem : sto
 
   open Connectives 𝓛 using (⌜_⌝, ⊤ₛ)
 
-  -- splicer_4_fresh(name, words, bytes, reply)
+  -- splicer_5_fresh(name, words, bytes, reply)
   module _ (κs : Lfts 4) (a : Args fresh.signature κs) (r : Res fresh.signature κs) (z : AtExit fresh.ended κs) where
     pub fresh-requires : fresh.clauses 𝓤 H A mem run κs a .requires tt ≡ ⊤ₛ
     fresh-requires = refl
@@ -51,7 +51,7 @@ module _ {M : Type 1} (𝓤 : URA M) (H : Heap 𝓤) (A : Atoms 𝓤) (mem : sto
         ≡ ⌜ Replies (rules.fresh (now (a .0))) 0 [] (now (z .1 .1 .1 .0)) (now (z .1 .0)) (now (z .1 .1 .0)) [] ⌝
     fresh-ensures = refl
 
-  -- splicer_4_open(words, bytes, conn, reply)
+  -- splicer_5_open(words, bytes, conn, reply)
   module _ (κs : Lfts 3) (a : Args opening.signature κs) (r : Res opening.signature κs) (z : AtExit opening.ended κs) where
     pub open-requires : opening.clauses 𝓤 H A mem run κs a .requires tt ≡ ⌜ Lent (now (a .0)) (now (a .1 .0)) ⌝
     open-requires = refl
@@ -62,7 +62,7 @@ module _ {M : Type 1} (𝓤 : URA M) (H : Heap 𝓤) (A : Atoms 𝓤) (mem : sto
     unfolding call
     open-ensures = refl
 
-  -- splicer_4_close(words, bytes, conn, out, reply)
+  -- splicer_5_close(words, bytes, conn, out, reply)
   module _ (κs : Lfts 4) (a : Args close.signature κs) (r : Res close.signature κs) (z : AtExit close.ended κs) where
     pub close-requires : close.clauses 𝓤 H A mem run κs a .requires tt ≡ ⌜ Lent (now (a .0)) (now (a .1 .0)) ⌝
     close-requires = refl
@@ -73,7 +73,7 @@ module _ {M : Type 1} (𝓤 : URA M) (H : Heap 𝓤) (A : Atoms 𝓤) (mem : sto
     unfolding call
     close-ensures = refl
 
-  -- splicer_4_message(words, bytes, conn, l, out, reply)
+  -- splicer_5_message(words, bytes, conn, l, out, reply)
   module _ (κs : Lfts 5) (a : Args message.signature κs) (r : Res message.signature κs) (z : AtExit message.ended κs) where
     pub message-requires : message.clauses 𝓤 H A mem run κs a .requires tt ≡ ⌜ Lent (now (a .0)) (now (a .1 .0)) ⌝
     message-requires = refl
@@ -84,7 +84,7 @@ module _ {M : Type 1} (𝓤 : URA M) (H : Heap 𝓤) (A : Atoms 𝓤) (mem : sto
     unfolding call
     message-ensures = refl
 
-  -- splicer_4_tick(words, bytes, seconds, micros, out, reply)
+  -- splicer_5_tick(words, bytes, seconds, micros, out, reply)
   module _ (κs : Lfts 4) (a : Args tick.signature κs) (r : Res tick.signature κs) (z : AtExit tick.ended κs) where
     pub tick-requires : tick.clauses 𝓤 H A mem run κs a .requires tt ≡ ⌜ Lent (now (a .0)) (now (a .1 .0)) ⌝
     tick-requires = refl
@@ -95,7 +95,7 @@ module _ {M : Type 1} (𝓤 : URA M) (H : Heap 𝓤) (A : Atoms 𝓤) (mem : sto
     unfolding call
     tick-ensures = refl
 
-  -- splicer_4_waiting(words, bytes, counts)
+  -- splicer_5_waiting(words, bytes, counts)
   module _ (κs : Lfts 3) (a : Args waiting.signature κs) (r : Res waiting.signature κs) (z : AtExit waiting.ended κs) where
     pub waiting-requires : waiting.clauses 𝓤 H A mem run κs a .requires tt ≡ ⌜ Lent (now (a .0)) (now (a .1 .0)) ⌝
     waiting-requires = refl
@@ -104,7 +104,7 @@ module _ {M : Type 1} (𝓤 : URA M) (H : Heap 𝓤) (A : Atoms 𝓤) (mem : sto
         ≡ ⌜ Counts (now (a .0)) (now (a .1 .0)) (now (z .1 .1 .0)) ⌝
     waiting-ensures = refl
 
-  -- splicer_4_primary(words, bytes)
+  -- splicer_5_primary(words, bytes)
   module _ (κs : Lfts 2) (a : Args primary.signature κs) (r : Res primary.signature κs) (z : AtExit primary.ended κs) where
     pub primary-requires : primary.clauses 𝓤 H A mem run κs a .requires tt ≡ ⌜ Lent (now (a .0)) (now (a .1 .0)) ⌝
     primary-requires = refl
@@ -112,7 +112,7 @@ module _ {M : Type 1} (𝓤 : URA M) (H : Heap 𝓤) (A : Atoms 𝓤) (mem : sto
     pub primary-ensures : primary.clauses 𝓤 H A mem run κs a .ensures tt r z ≡ ⌜ Primary (now (a .0)) (now (a .1 .0)) r ⌝
     primary-ensures = refl
 
-  -- splicer_4_mux(words, bytes)
+  -- splicer_5_mux(words, bytes)
   module _ (κs : Lfts 2) (a : Args mux.signature κs) (r : Res mux.signature κs) (z : AtExit mux.ended κs) where
     pub mux-requires : mux.clauses 𝓤 H A mem run κs a .requires tt ≡ ⌜ Lent (now (a .0)) (now (a .1 .0)) ⌝
     mux-requires = refl

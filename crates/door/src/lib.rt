@@ -30,7 +30,7 @@ fn reply_of(a: Answer) -> [u64; 4]
 
 // Whatever stood in the words before.
 #[no_mangle]
-pub extern "C" fn splicer_4_fresh(
+pub extern "C" fn splicer_5_fresh(
     name: &[u8; 32],
     words: &mut [u64; WORDS],
     bytes: &mut [u8; BYTES],
@@ -43,7 +43,7 @@ pub extern "C" fn splicer_4_fresh(
 }
 
 #[no_mangle]
-pub extern "C" fn splicer_4_open(
+pub extern "C" fn splicer_5_open(
     words: &mut [u64; WORDS],
     bytes: &mut [u8; BYTES],
     conn: u32,
@@ -59,7 +59,7 @@ pub extern "C" fn splicer_4_open(
 }
 
 #[no_mangle]
-pub extern "C" fn splicer_4_close(
+pub extern "C" fn splicer_5_close(
     words: &mut [u64; WORDS],
     bytes: &mut [u8; BYTES],
     conn: u32,
@@ -77,7 +77,7 @@ pub extern "C" fn splicer_4_close(
 
 // l: the bytes read so far.
 #[no_mangle]
-pub extern "C" fn splicer_4_message(
+pub extern "C" fn splicer_5_message(
     words: &mut [u64; WORDS],
     bytes: &mut [u8; BYTES],
     conn: u32,
@@ -95,7 +95,7 @@ pub extern "C" fn splicer_4_message(
 }
 
 #[no_mangle]
-pub extern "C" fn splicer_4_tick(
+pub extern "C" fn splicer_5_tick(
     words: &mut [u64; WORDS],
     bytes: &mut [u8; BYTES],
     seconds: u32,
@@ -114,7 +114,7 @@ pub extern "C" fn splicer_4_tick(
 
 // 02, CR 2: how many wait of each connection. It only reads, and nothing is refused.
 #[no_mangle]
-pub extern "C" fn splicer_4_waiting(
+pub extern "C" fn splicer_5_waiting(
     words: &[u64; WORDS],
     bytes: &[u8; BYTES],
     counts: &mut [u64; 4],
@@ -127,7 +127,7 @@ pub extern "C" fn splicer_4_waiting(
 
 // 02, CR 13: the ninths of a microsecond, since clock 0, in which nothing was on air. It only reads, and nothing is refused.
 #[no_mangle]
-pub extern "C" fn splicer_4_primary(words: &[u64; WORDS], bytes: &[u8; BYTES]) -> u64
+pub extern "C" fn splicer_5_primary(words: &[u64; WORDS], bytes: &[u8; BYTES]) -> u64
     requires { ⌜ Lent (now words) (now bytes) ⌝ }
     ensures { λ r. ⌜ Primary (now (words .entry)) (now (bytes .entry)) r ⌝ }
 {
@@ -138,7 +138,7 @@ pub extern "C" fn splicer_4_primary(words: &[u64; WORDS], bytes: &[u8; BYTES]) -
 // 02, CR 1: the list of a request that names its PIDs itself, from PcrPID on, into lent words and bytes. The bytes taken, or 0: then all
 // that is lent stays as it was.
 #[no_mangle]
-pub extern "C" fn splicer_4_read_streams(
+pub extern "C" fn splicer_5_read_streams(
     l: &[u8],
     words: &mut [u64; LIST],
     kept: &mut [u8; KEPT],
@@ -150,7 +150,7 @@ pub extern "C" fn splicer_4_read_streams(
 
 // The bytes written of it, from PcrPID on, or 0: then out stays as it was.
 #[no_mangle]
-pub extern "C" fn splicer_4_write_streams(
+pub extern "C" fn splicer_5_write_streams(
     words: &[u64; LIST],
     kept: &[u8; KEPT],
     out: &mut [u8],
@@ -162,7 +162,7 @@ pub extern "C" fn splicer_4_write_streams(
 
 // 02, CR 5: what the one on air asks of the multiplexer. It only reads, and nothing is refused.
 #[no_mangle]
-pub extern "C" fn splicer_4_mux(words: &[u64; WORDS], bytes: &[u8; BYTES]) -> u64
+pub extern "C" fn splicer_5_mux(words: &[u64; WORDS], bytes: &[u8; BYTES]) -> u64
     requires { ⌜ Lent (now words) (now bytes) ⌝ }
     ensures { λ r. ⌜ ReadsMux (now (words .entry)) (now (bytes .entry)) r ⌝ }
 {
