@@ -175,7 +175,11 @@ impl RollingPair {
         }
         self.books.call(call, room, &found)?;
         self.books.books.waiting(waiting)?;
-        self.books.books.primary(self.model.splicer.primary)?;
+        let primary = self.core.primary();
+        if primary != self.model.splicer.primary {
+            return Err("another time on the primary channel".to_string());
+        }
+        self.books.books.primary(primary)?;
         self.as_plain(call, room, &found, desk)?;
         Ok(found)
     }
