@@ -111,19 +111,20 @@ impl Streams {
     /// The streams, in the order of the list.
     pub fn iter(&self) -> impl Iterator<Item = Stream<'_>> {
         let rows = self.row.chunks_exact(STREAM_WORDS);
-        rows.take(self.count as usize).scan(&self.kept[..], |left, row| {
-            let (kept, rest) = left.split_at(row[7] as usize);
-            *left = rest;
-            Some(Stream {
-                pid: row[0] as u16,
-                stream_type: row[1] as u16,
-                avg_bitrate: row[2] as u32,
-                max_bitrate: row[3] as u32,
-                min_bitrate: row[4] as u32,
-                h_resolution: row[5] as u16,
-                v_resolution: row[6] as u16,
-                kept,
+        rows.take(self.count as usize)
+            .scan(&self.kept[..], |left, row| {
+                let (kept, rest) = left.split_at(row[7] as usize);
+                *left = rest;
+                Some(Stream {
+                    pid: row[0] as u16,
+                    stream_type: row[1] as u16,
+                    avg_bitrate: row[2] as u32,
+                    max_bitrate: row[3] as u32,
+                    min_bitrate: row[4] as u32,
+                    h_resolution: row[5] as u16,
+                    v_resolution: row[6] as u16,
+                    kept,
+                })
             })
-        })
     }
 }

@@ -83,10 +83,16 @@ fn nothing_is_written_of_a_bad_list() {
     assert!(high.push(&video()));
     assert_eq!(high.write(&mut out), None);
     let mut pid = Streams::new(0);
-    assert!(pid.push(&Stream { pid: 0x2000, ..video() }));
+    assert!(pid.push(&Stream {
+        pid: 0x2000,
+        ..video()
+    }));
     assert_eq!(pid.write(&mut out), None);
     let mut kind = Streams::new(0);
-    assert!(kind.push(&Stream { stream_type: 0xFFFF, ..video() }));
+    assert!(kind.push(&Stream {
+        stream_type: 0xFFFF,
+        ..video()
+    }));
     assert_eq!(kind.write(&mut out), None);
     assert_eq!(both().write(&mut out[..TWO.len() - 1]), None);
     assert_eq!(out, [7; 60]);
@@ -97,7 +103,11 @@ fn the_longest_list_comes_back() {
     let kept = [0x5A; KEPT / 16];
     let mut list = Streams::new(0x1FFF);
     for pid in 0..16 {
-        let longest = Stream { pid, kept: &kept, ..audio() };
+        let longest = Stream {
+            pid,
+            kept: &kept,
+            ..audio()
+        };
         assert!(list.push(&longest));
     }
     assert!(!list.push(&video()));

@@ -524,7 +524,10 @@ fn run_file(path: &str, card: Option<&str>) -> Result<(usize, &'static str), Str
     let steps = parse(&text).map_err(|e| format!("  {e}\n"))?;
     if is_rolling(&steps) {
         run_rolling(&steps)?;
-        return Ok((0, " (a rolling card: the second program, not the card program)"));
+        return Ok((
+            0,
+            " (a rolling card: the second program, not the card program)",
+        ));
     }
     let input = input_of(&steps);
     let run = card::run(&input, None);
