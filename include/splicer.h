@@ -66,7 +66,7 @@ enum splicer_refusal {
     SPLICER_NOT_OPEN = 7,      /* close, message */
     SPLICER_BAD_MICROS = 8,    /* MicroSeconds above 999,999: tick, instant */
     SPLICER_BAD_NAME = 9,      /* name without a zero byte: fresh */
-    SPLICER_COUNTER = 12       /* a second instant; a reading before the instant, or more than 90 s after the last good one: instant, reading */
+    SPLICER_COUNTER = 12       /* a second instant; a reading before the instant, more than 90 s after the last good one or past the last second: instant, reading */
 };
 
 /* MessageIDs of the records that the core writes, and of the requests that it reads. */

@@ -78,7 +78,7 @@ static inline const char *splicer_refusal_text(uint32_t number) {
         "MessageSize above 4,088", "not yet a whole message", "already open", "not open", "MicroSeconds above 999,999",
         "name without a zero byte", "lent section over 1,024 bytes",
         "section of another length than it says, under 20 or over 512 bytes",
-        "step of the counter too long, or no instant or a second one given",
+        "step of the counter too long or past the last second, or no instant or a second one given",
         "log of the remembering engine full or of another size", "unknown mark in the recording",
         "recording longer than 65,536 bytes", "other than sixteen rows",
     };

@@ -14,7 +14,7 @@ const REFUSALS: [&str; 17] = [
     "name without a zero byte",
     "lent section over 1,024 bytes",
     "section of another length than it says, under 20 or over 512 bytes",
-    "step of the counter too long, or no instant or a second one given",
+    "step of the counter too long or past the last second, or no instant or a second one given",
     "log of the remembering engine full or of another size",
     "unknown mark in the recording",
     "recording longer than 65,536 bytes",
