@@ -1,12 +1,18 @@
 #!/bin/sh
-# archive-for.sh TARGET OUT.a: the proved archive for another 64-bit little-endian processor, as aarch64-unknown-linux-gnu or
-# riscv64-unknown-linux-gnu. `rt staticlib door` proves and writes the x86-64 archive as ever; the LLVM module that the kit hands to its
-# compiler is kept and compiled for TARGET, by the kit's clang too. The door's functions take pointers and numbers only and return
-# nothing, so no rule of x86-64 about structs stands in the module. No part of the gate: run examples/driver.c over it first.
+# archive-for.sh TARGET OUT.a [CRATE]: the proved archive of CRATE (door, rolldoor or bench; door if it is not given) for another 64-bit
+# little-endian processor, as aarch64-unknown-linux-gnu or riscv64-unknown-linux-gnu. `rt staticlib` proves and writes the x86-64 archive
+# as ever; the LLVM module that the kit hands to its compiler is kept and compiled for TARGET, by the kit's clang too. The functions take
+# pointers and numbers only and return nothing or a number of 64 bits, so no rule of x86-64 about structs stands in the module.
+# No part of the gate: run examples/driver.c over it first.
 set -eu
 . "$(dirname "$0")/words.sh"
 cd "$(dirname "$0")/.."
-[ $# -eq 2 ] || refuse 'usage: archive-for.sh TARGET OUT.a'
+[ $# -eq 2 ] || [ $# -eq 3 ] || refuse 'usage: archive-for.sh TARGET OUT.a [CRATE]'
+crate=${3:-door}
+case $crate in
+door | rolldoor | bench) ;;
+*) refuse "'$crate' is no crate with an archive: door, rolldoor, bench" ;;
+esac
 case $1 in
 aarch64-* | riscv64-* | x86_64-*) ;;
 *) refuse "'$1' is no 64-bit little-endian processor that was tried: aarch64-, riscv64-, x86_64-" ;;
@@ -16,8 +22,8 @@ find_kit
 tools=$kit/on/$(uname -m)/toolchain
 work=target/archive-for
 mkdir -p "$work"
-echo 'proving door and what it depends on (some minutes where nothing is proved yet)'
-watched "$work/log" "$(reached door | wc -l)" 'rt: * proved*' sh tools/kept-module.sh "$work" staticlib door || { cat "$work/log" >&2; exit 1; }
+echo "proving $crate and what it depends on (some minutes where nothing is proved yet)"
+watched "$work/log" "$(reached "$crate" | wc -l)" 'rt: * proved*' sh tools/kept-module.sh "$work" staticlib "$crate" || { cat "$work/log" >&2; exit 1; }
 
 # compiled FLAG..: the kit's clang for the target
 compiled() {
@@ -27,13 +33,13 @@ compiled() {
 target=$1
 # as text, without the name of x86-64's processor, which another has no use for
 compiled -S -emit-llvm -O0 -Xclang -disable-llvm-passes "$work/module.bc" -o "$work/module.ll"
-sed 's/ "target-cpu"="x86-64"//' "$work/module.ll" >"$work/door.ll"
-if grep '^define ' "$work/door.ll" | grep -vE '^define (internal |void @)' >&2; then
+sed 's/ "target-cpu"="x86-64"//' "$work/module.ll" >"$work/$crate.ll"
+if grep '^define ' "$work/$crate.ll" | grep -vE '^define (internal |([a-z_]+ )*(void|i64) @)' >&2; then
     echo "archive-for.sh: these return something, by the rule of x86-64" >&2
     exit 1
 fi
-compiled -c -fPIC -O3 "$work/door.ll" -o "$work/door.o"
+compiled -c -fPIC -O3 "$work/$crate.ll" -o "$work/$crate.o"
 mkdir -p "$(dirname "$2")"
 rm -f "$2"
-"$tools/bin/llvm-ar" --format=gnu rc "$2" "$work/door.o"
-echo "$2: for $target, of the module that target/staticlib/libdoor.a was made of"
+"$tools/bin/llvm-ar" --format=gnu rc "$2" "$work/$crate.o"
+echo "$2: for $target, of the module that target/staticlib/lib$crate.a was made of"
