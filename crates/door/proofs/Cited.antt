@@ -21,6 +21,7 @@ use Rattle.rules.specs.Lists.{All}
 use Rattle.rules.specs.Calls as rules
 use Rattle.rules.specs.Calls.{call}
 use Rattle.engine.specs.Lent.{Lent, Counts, Primary, ReadsMux}
+use Rattle.streams.specs.Rows.{ReadsList, WritesList}
 use Rattle.engine.proofs.Held.{kind, Holds, Same, both, number-held, bytes-held}
 use Rattle.door.specs.Door.{Replies, anOpen, aClose, aMessage, aTick, Typed, Seen, Allowed}
 use Rattle.door.proofs.«splicer_5_fresh» as fresh
@@ -31,6 +32,8 @@ use Rattle.door.proofs.«splicer_5_tick» as tick
 use Rattle.door.proofs.«splicer_5_waiting» as waiting
 use Rattle.door.proofs.«splicer_5_primary» as primary
 use Rattle.door.proofs.«splicer_5_mux» as mux
+use Rattle.door.proofs.«splicer_5_read_streams» as reads
+use Rattle.door.proofs.«splicer_5_write_streams» as writes
 
 -- what C sees
 abbrev ended : (r m b o : List ℕ) → Seen
@@ -119,6 +122,24 @@ module _ {M : Type 1} (𝓤 : URA M) (H : Heap 𝓤) (A : Atoms 𝓤) (mem : sto
 
     pub mux-ensures : mux.clauses 𝓤 H A mem run κs a .ensures tt r z ≡ ⌜ ReadsMux (now (a .0)) (now (a .1 .0)) r ⌝
     mux-ensures = refl
+
+  -- splicer_5_read_streams(l, words, kept)
+  module _ (κs : Lfts 3) (a : Args reads.signature κs) (r : Res reads.signature κs) (z : AtExit reads.ended κs) where
+    pub reads-requires : reads.clauses 𝓤 H A mem run κs a .requires tt ≡ ⊤ₛ
+    reads-requires = refl
+
+    pub reads-ensures : reads.clauses 𝓤 H A mem run κs a .ensures tt r z
+        ≡ ⌜ ReadsList (now (a .0)) (now (a .1 .0)) (now (a .1 .1 .0)) r (now (z .1 .0)) (now (z .1 .1 .0)) ⌝
+    reads-ensures = refl
+
+  -- splicer_5_write_streams(words, kept, out)
+  module _ (κs : Lfts 3) (a : Args writes.signature κs) (r : Res writes.signature κs) (z : AtExit writes.ended κs) where
+    pub writes-requires : writes.clauses 𝓤 H A mem run κs a .requires tt ≡ ⊤ₛ
+    writes-requires = refl
+
+    pub writes-ensures : writes.clauses 𝓤 H A mem run κs a .ensures tt r z
+        ≡ ⌜ WritesList (now (a .0)) (now (a .1 .0)) (now (a .1 .1 .0)) r (now (z .1 .1 .0)) ⌝
+    writes-ensures = refl
 
 -- ## Typed is what the parameters' types say, and no more
 
