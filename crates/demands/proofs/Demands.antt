@@ -25,7 +25,7 @@ use Rattle.demands.proofs.Room.{from-sound, count-room, own-answer, pas
 use Rattle.demands.proofs.Once.{all-ended}
 use Rattle.demands.proofs.Aired.{ends-accepted, outs-started}
 use Rattle.demands.proofs.Closed.{from-more, close-stands}
-use Rattle.demands.proofs.Mux.{air-told, held-in-range}
+use Rattle.demands.proofs.Mux.{air-told, air-in-range, held-in-range}
 
 -- ## "Over all sequences of opens, closes, messages and ticks from a fresh splicer"
 
@@ -125,3 +125,7 @@ mux-in-range = held-in-range
 -- on air, so Alive_Response's SessionID and this value are of one session
 pub air-mux-told : (h : List Event) (s : Splicer) → FromFresh h s → airMux (s .queue .started) ≡ airMuxTold (s .queue .started) (book h [])
 air-mux-told = air-told
+
+-- and it is 1 to 10, the 5 of "none" too
+pub air-mux-in-range : (h : List Event) (s : Splicer) → FromFresh h s → (1 ≤ airMux (s .queue .started)) × (airMux (s .queue .started) ≤ 10)
+air-mux-in-range = air-in-range

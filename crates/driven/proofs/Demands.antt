@@ -225,6 +225,10 @@ module _ (name : List ℕ) (h : List Made) (m : Memory) where
   pub air-mux-told : Trace name h m → (r : ℕ) → ReadsMux (m .words) (m .bytes) r → r ≡ airMuxTold (shown m .queue .started) (book (events h) [])
   air-mux-told t = rw (trace-events name h m t) (called.air-mux-told name (within h) m (trace-inside name h m t))
 
+  -- and it is 1 to 10
+  pub air-mux-in-range : Trace name h m → (r : ℕ) → ReadsMux (m .words) (m .bytes) r → (1 ≤ r) × (r ≤ 10)
+  air-mux-in-range t = called.air-mux-in-range name (within h) m (trace-inside name h m t)
+
 -- ## Document 02, CR 10
 
 module _ (name : List ℕ) (h : List Made) (m : Memory) where

@@ -212,6 +212,10 @@ module _ (name : List ℕ) (h : List Made) (m : Memory) where
   pub air-mux-told : Trace name h m → (r : ℕ) → ReadsMux (m .words) (m .bytes) r → r ≡ airMuxTold (shown m .queue .started) (book (events h) [])
   air-mux-told t r c = c ∙ told.air-mux-told (events h) (shown m) (trace-told name h m t)
 
+  -- and it is 1 to 10
+  pub air-mux-in-range : Trace name h m → (r : ℕ) → ReadsMux (m .words) (m .bytes) r → (1 ≤ r) × (r ≤ 10)
+  air-mux-in-range t r c = rw c (told.air-mux-in-range (events h) (shown m) (trace-told name h m t))
+
 -- ## Document 02, CR 10
 
 module _ (name : List ℕ) (h : List Made) (m : Memory) where
