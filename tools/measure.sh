@@ -11,7 +11,8 @@
 #   size    code and state
 #   agree   random calls by all five, compared (RANDOM_CALLS, 300,000 for each of three seeds)
 #   programs  instructions of the card program and of the second program, both x86-64, on the same generated streams
-# Before anything is measured, replies, buffers and waiting counts of all five are compared on the call and on all calls that made its state.
+# Before anything is measured, replies, buffers and reads (waiting counts, value on air, primary sum) of all five are compared on the call and on
+# all calls that made its state.
 # How the states are made, so that they favour no engine: tools/measure/cases.h.
 # ARCHIVE names another archive than that of `rt staticlib door`, as the unproved one of tools/try-archive.sh.
 # Needs Debian's qemu-user and gcc (once, for the plugin; the kit's own emulator takes no plugin), cargo and a rustc with the library for
@@ -390,4 +391,4 @@ for part; do
     $part
 done
 echo
-[ $rows -eq 0 ] || echo "$rows cases, replies, buffers and waiting counts of all five equal in each"
+[ $rows -eq 0 ] || echo "$rows cases, replies, buffers and reads of all five equal in each"

@@ -1,6 +1,6 @@
 /* WHO is core, rust, c, unordered or second.
- * bench agree CASE N: says whether replies, buffers and waiting counts of all engines are equal over a case of cases.h and all calls that
- *   led to it.
+ * bench agree CASE N: says whether replies, buffers and reads (waiting counts, value on air, primary sum) of all engines are equal over a
+ *   case of cases.h and all calls that led to it.
  * bench count CASE N WHO CALLS DO: restores the state and, if DO is 1, makes the call, CALLS times, by WHO. The
  *   difference of DO 1 and 0 in instructions is the call's own.
  * bench time CASE N WHO..: nanoseconds of a call by each of them: blocks in turns, least times, the restoring taken off.

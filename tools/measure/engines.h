@@ -15,7 +15,8 @@ void *memset(void *to, int byte, size_t n);
     struct splicer_reply engine##_message(void *s, uint32_t conn, const uint8_t *in, size_t length, uint8_t *out, size_t room);           \
     struct splicer_reply engine##_tick(void *s, uint32_t seconds, uint32_t micros, uint8_t *out, size_t room);                            \
     void engine##_waiting(const void *s, uint64_t *counts);                                                                               \
-    uint32_t engine##_mux(const void *s)
+    uint32_t engine##_mux(const void *s);                                                                                                 \
+    uint64_t engine##_primary(const void *s)
 
 NAMED(inplace);
 NAMED(unordered);
@@ -182,7 +183,20 @@ static void compare_mux(void) {
     }
 }
 
-/* the call by all from buffers that are alike; replies and whole buffers are compared, and the waiting counts and the value on air after it */
+/* the primary sum by all (02, CR 13) */
+static void compare_primary(void) {
+    const uint64_t read[ENGINES] = {[CORE] = splicer_call_primary(&core),
+                                    [RUST] = inplace_primary(rust),
+                                    [PLAIN_C] = peer_primary(&peer),
+                                    [UNORDERED] = unordered_primary(unordered),
+                                    [MODEL] = second_primary(second)};
+    for (int i = 1; i < ENGINES; i++) {
+        differ |= (read[i] != read[CORE]) << i;
+    }
+}
+
+/* the call by all from buffers that are alike; replies and whole buffers are compared, and after it the waiting counts, the value on air and
+ * the primary sum */
 static struct splicer_reply all(const struct call *c) {
     for (int i = 0; i < ENGINES; i++) {
         memset(outs[i], 0xEE, BUFFER);
@@ -196,5 +210,6 @@ static struct splicer_reply all(const struct call *c) {
     compare(MODEL, a, by_second(c));
     compare_counts();
     compare_mux();
+    compare_primary();
     return a;
 }

@@ -1,4 +1,4 @@
-//! The card rules of document 01, with 02's CR 1, 4 and 5, as an in-place engine in plain Rust: the measuring peer of the proved core.
+//! The card rules of document 01, with 02's CR 1, 4, 5 and 13, as an in-place engine in plain Rust: the measuring peer of the proved core.
 //!
 //! Written from the documents and J.280 alone, in the way one would write it for the card without counting instructions: one struct of
 //! fixed size changed in place, lists of fixed capacity, iterators, bounds checks left on. Not proved, not part of the product.
@@ -496,6 +496,8 @@ pub struct InPlace {
     clock: Ninths,
     /// Since when the stack of started sessions has stood as it does.
     since: Ninths,
+    /// The primary channel's time up to then (02, CR 13).
+    primary: Ninths,
     name: Name,
     links: [Link; CONNECTIONS],
     /// By start.
@@ -511,6 +513,7 @@ impl InPlace {
         InPlace {
             clock: Ninths(0),
             since: Ninths(0),
+            primary: Ninths(0),
             name,
             links: [Link::Closed; CONNECTIONS],
             waiting: List::new(),
@@ -573,11 +576,20 @@ impl InPlace {
         start.into_iter().chain(end).min()
     }
 
-    /// Credits the one on air with its time up to now, before the stack changes.
+    /// Credits the one on air or, with none, the primary channel with its time up to now, before the stack changes.
     fn settle(&mut self, now: Ninths) {
         let since = core::mem::replace(&mut self.since, now);
-        if let Some(on_air) = self.started.last_mut() {
-            on_air.played = on_air.played + (now - since);
+        let time = match self.started.last_mut() {
+            Some(on_air) => &mut on_air.played,
+            None => &mut self.primary,
+        };
+        *time = *time + (now - since);
+    }
+
+    fn primary(&self) -> Ninths {
+        match self.started.last() {
+            Some(_) => self.primary,
+            None => self.primary + (self.clock - self.since),
         }
     }
 
@@ -884,6 +896,12 @@ pub extern "C" fn inplace_waiting(s: &InPlace, counts: &mut [u64; CONNECTIONS]) 
 #[no_mangle]
 pub extern "C" fn inplace_mux(s: &InPlace) -> u32 {
     s.started.last().map_or(AVERAGE, |started| started.session.mux).into()
+}
+
+/// The primary channel's time, in ninths.
+#[no_mangle]
+pub extern "C" fn inplace_primary(s: &InPlace) -> u64 {
+    s.primary().0
 }
 
 #[panic_handler]

@@ -1,5 +1,5 @@
 /* A splicer in plain C, in place, as one would write it by hand: what the proved core's instruction counts are held against.
- * Document 01's rules in full, with 02's CR 1, 4 and 5; waiting sessions in an array by start and counted by connection, started ones in an array by AccessType. */
+ * Document 01's rules in full, with 02's CR 1, 4, 5 and 13; waiting sessions in an array by start and counted by connection, started ones in an array by AccessType. */
 #include "splicer.h"
 
 void *memcpy(void *to, const void *from, size_t n);
@@ -14,7 +14,7 @@ struct session {
 };
 
 struct peer {
-    uint64_t clock, counts[4];
+    uint64_t clock, primary, counts[4];
     uint32_t waits, starts;
     uint8_t link[4], name[32];
     struct session waiting[64], started[10];
@@ -122,6 +122,15 @@ static void ends_at(struct peer *p, struct sink *o, uint64_t t) {
     p->starts = kept;
 }
 
+/* time passes for the one on air or, with none, for the primary channel (02, CR 13) */
+static void passes(struct peer *p, uint64_t time) {
+    if (p->starts) {
+        p->started[0].played += time;
+    } else {
+        p->primary += time;
+    }
+}
+
 __attribute__((noinline)) struct splicer_reply peer_tick(struct peer *p, uint32_t seconds, uint32_t micros, uint8_t *out, size_t room) {
     struct sink o = {out, 0, 0};
     uint64_t until = (uint64_t)seconds * 9000000 + (uint64_t)micros * 9, now = p->clock;
@@ -136,18 +145,14 @@ __attribute__((noinline)) struct splicer_reply peer_tick(struct peer *p, uint32_
         if (t > until) {
             break;
         }
-        if (p->starts) {
-            p->started[0].played += t - now;
-        }
+        passes(p, t - now);
         now = t;
         ends_at(p, &o, t);
         if (p->waits && p->waiting[0].start == t) {
             starts_now(p, &o);
         }
     }
-    if (p->starts) {
-        p->started[0].played += until - now;
-    }
+    passes(p, until - now);
     p->clock = until;
     return (struct splicer_reply){0, 0, 0, o.length};
 }
@@ -319,6 +324,9 @@ __attribute__((noinline)) void peer_waiting(const struct peer *p, uint64_t *coun
 
 /* what the one on air asked of the multiplexer, 5 with none */
 __attribute__((noinline)) uint32_t peer_mux(const struct peer *p) { return p->starts ? p->started[0].mux : 5; }
+
+/* the primary channel's time, in ninths */
+__attribute__((noinline)) uint64_t peer_primary(const struct peer *p) { return p->primary; }
 
 static int answer_init(struct peer *p, struct sink *o, uint8_t conn, const uint8_t *d, size_t n) {
     if (n < 66 || !memchr(d + 2, 0, 32) || !memchr(d + 34, 0, 32)) {

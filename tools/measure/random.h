@@ -188,7 +188,7 @@ static void greet(uint32_t conn) {
     all(&b);
 }
 
-/* CALLS calls of a seed; 1 where replies, buffers or waiting counts differ */
+/* CALLS calls of a seed; 1 where replies, buffers or reads differ */
 static int random_run(uint32_t from, uint32_t calls) {
     seed = from * 0x9E3779B97F4A7C15u + 1;
     prepared("alive", 0);

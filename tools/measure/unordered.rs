@@ -1,4 +1,4 @@
-//! An engine in place for the rules of document 01 with 02's CR 4, written from the documents alone, as a yardstick: plain Rust, and the waiting sessions
+//! An engine in place for the rules of document 01 with 02's CR 1, 4, 5 and 13, written from the documents alone, as a yardstick: plain Rust, and the waiting sessions
 //! in an array without order. A new one goes behind the last, one that goes is replaced by the last, and each question about them is a scan,
 //! one by one.
 #![no_std]
@@ -90,8 +90,10 @@ pub struct Splicer {
     waits: usize,
     plays: usize,
     clock: u64,
-    /// Since when the one on air has been there.
+    /// Since when the one on air has been there or, with none, nothing has.
     since: u64,
+    /// The primary channel's time, without the present stay (02, CR 13).
+    primary: u64,
     lines: [Line; CONNECTIONS],
     name: [u8; 32],
 }
@@ -425,6 +427,8 @@ impl Splicer {
             } else {
                 self.started[top].played = played;
             }
+        } else {
+            self.primary += start - self.since;
         }
         out.complete(id, 0, 100, 0);
         self.since = start;
@@ -688,6 +692,7 @@ pub extern "C" fn unordered_fresh(s: &mut MaybeUninit<Splicer>, name: &[u8; 32])
         plays: 0,
         clock: 0,
         since: 0,
+        primary: 0,
         lines: [Line::Closed; CONNECTIONS],
         name: kept,
     });
@@ -810,6 +815,15 @@ pub extern "C" fn unordered_waiting(s: &Splicer, counts: &mut [u64; CONNECTIONS]
 #[no_mangle]
 pub extern "C" fn unordered_mux(s: &Splicer) -> u32 {
     s.started().last().map_or(5, |one| one.mux).into()
+}
+
+/// The primary channel's time, in ninths.
+#[no_mangle]
+pub extern "C" fn unordered_primary(s: &Splicer) -> u64 {
+    match s.started().last() {
+        Some(_) => s.primary,
+        None => s.primary + (s.clock - s.since),
+    }
 }
 
 #[panic_handler]

@@ -74,6 +74,7 @@ pub extern "C" fn second_keep(base: &mut Option<Box<Engine>>, s: &Box<Engine>) {
 pub extern "C" fn second_restore(s: &mut Box<Engine>, base: &Box<Engine>) {
     let (s, base) = (&mut s.0, &base.0);
     s.clock = base.clock;
+    s.primary = base.primary;
     s.open = base.open;
     s.initialised = base.initialised;
     s.name = base.name;
@@ -148,4 +149,10 @@ pub extern "C" fn second_waiting(s: &Box<Engine>, counts: &mut [u64; 4]) {
 #[no_mangle]
 pub extern "C" fn second_mux(s: &Box<Engine>) -> u32 {
     s.0.mux().into()
+}
+
+/// The primary channel's time, in ninths.
+#[no_mangle]
+pub extern "C" fn second_primary(s: &Box<Engine>) -> u64 {
+    s.0.primary
 }
