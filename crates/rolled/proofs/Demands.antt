@@ -5,7 +5,7 @@
 use mathlib.Core.Path.{_≡_, refl, sym, ap, subst, _∙_}
 use mathlib.Core.Bool.{true, false, cond}
 use mathlib.Core.List.{List, [], _∷_, _++_}
-use Prim.Native.Nat.{ℕ, _+_, _*_, _%_, _≤_, _<_}
+use Prim.Native.Nat.{ℕ, _+_, _*_, _/_, _%_, _≤_, _<_}
 use native.Mathlib.Omega.{arith}
 use native.Mathlib.Nat.{le-trans}
 use lib.ListN.{length}
@@ -16,12 +16,15 @@ use Rattle.rules.specs.Records.{recordsIn}
 use Rattle.rules.specs.Answers.{requested, spliceResult}
 use Rattle.rules.specs.Units.{timeOf, fromMicros}
 use Rattle.rules.specs.Calls.{lending, fresh, after}
-use Rattle.rules.specs.Sound.{horizon}
+use Rattle.rules.specs.State.{Sorted}
+use Rattle.rules.specs.Sound.{horizon, Each, Falling, Coded}
 use Rattle.rules.specs.Rolling.{none, Rolling, stepOf, rollingOf, rollingFresh, instants, readings, roll, rolledAfter, asMoves}
 use Rattle.demands.specs.History.{startsOf, endsOf, history, ownAnswer, waitingCount, book, clockAfter}
-use Rattle.demands.specs.Told.{firstNumber, numberOf, answers, Asks, Passes, fullTold, countsTold, outsOf, startedTold, unended, Ended, Stands}
-use Rattle.memory.specs.Memory.{countsOf}
-use Rattle.engine.specs.Lent.{Counts}
+use Rattle.demands.specs.Told.{firstNumber, numberOf, answers, Asks, Passes, fullTold, countsTold, outsOf, startedTold, unended, Ended, Stands, airMuxTold, MuxInRange}
+use Rattle.demands.specs.Airing.{airingsTold, clockTold, primaryTold, timeTold, airTold, numberTold}
+use Rattle.demands.specs.Moments.{Gapless, Printed, Within, PlayedAs}
+use Rattle.memory.specs.Memory.{see, countsOf}
+use Rattle.engine.specs.Lent.{Counts, Primary, ReadsMux}
 use Rattle.rolling.specs.LentRolling.{LentRolling}
 use Rattle.rolling.specs.Ruled.{rollChecks, Act, InTime, ticked, callsAt}
 use Rattle.rolling.proofs.Time as time
@@ -36,7 +39,7 @@ use Rattle.driven.proofs.Inside.{number-inside}
 use Rattle.rolled.specs.Rolled.{Memory, shown, LentAt, left, Made, made, Trace, More, Point, seenOf, number, bytesOf, calls, inputs, othersBy, within, events, AsRuled, Answerable, Run}
 use Rattle.rolled.proofs.Inside.{trace-lent, trace-inside, trace-shown, trace-calls, within-append, fresh-told, known-more, calls-after}
 use Rattle.rolled.proofs.Course.{answerable, runs, trace-more, trace-point, trace-same}
-use Rattle.rolled.proofs.Next.{as-ruled, number-first, unchanged, Next, silent, calls-of, next, bytes-are, none-ends, none-outs, none-long}
+use Rattle.rolled.proofs.Next.{as-ruled, number-first, unchanged, Next, silent, calls-of, next, bytes-are, within-more, none-ends, none-outs, none-long, none-coded, none-played}
 
 -- ## "On a splicer that came from fresh and the calls after it"
 
@@ -131,7 +134,7 @@ module _ (name : List ℕ) (h : List Made) (m : Memory) where
       where
         go : Next name h m i r → length (bytesOf r) ≤ 3174
         go (silent e) = none-long (bytesOf r) e
-        go (calls-of j o e) = rw (bytes-are name h m i r c) (called.answers-fit name (within h) (m .core) j (inside (seenOf r)) o)
+        go (calls-of j o e k) = rw (bytes-are name h m i r c) (called.answers-fit name (within h) (m .core) j (inside (seenOf r)) o)
 
   -- fresh: number 9 for a name without a zero byte, and then the memory is that of an empty name, and no instant was given
   pub bad-name-number : (t : Trace name h m) → numberIn (t .reply) ≡ cond (hasZero name) 0 9
@@ -159,6 +162,15 @@ module _ (name : List ℕ) (h : List Made) (m : Memory) where
   first-code-applies d l e r c q asks =
       rw (bytes-are name h m _ r c)
       (called.first-code-applies name (within h) (m .core) d l e (inside (seenOf r)) (known-more name h m (aMessage d l e) r c) q asks)
+
+  -- 02, CR 1: "From here result 110 is no longer met": the result of every record in the answer's bytes, of every call, is one of 100, 102, 103,
+  -- 104, 109, 112, 114, 116, 120, 121, 123, 125
+  pub codes-given : (i : RollInput) (r : RollSeen) → More name h m i r → All Coded (recordsIn (bytesOf r))
+  codes-given i r c = go (next name h m i r c)
+    where
+      go : Next name h m i r → All Coded (recordsIn (bytesOf r))
+      go (silent e) = none-coded (bytesOf r) e
+      go (calls-of j o e k) = rw (bytes-are name h m i r c) (called.codes-given name (within h) (m .core) j (inside (seenOf r)) o)
 
   -- ## Demand 3
 
@@ -192,7 +204,7 @@ module _ (name : List ℕ) (h : List Made) (m : Memory) where
       where
         go : Next name h m i r → endsOf d x (othersBy i (recordsIn (bytesOf r))) ≤ unended d x (book (events h) [])
         go (silent e) = none-ends d x i (bytesOf r) _ e
-        go (calls-of j o f) =
+        go (calls-of j o f k) =
             rw (f (recordsIn (bytesOf r)), bytes-are name h m i r c) (called.ends-are-owed name (within h) (m .core) j (inside (seenOf r)) o d x)
 
     -- "Two operators' as-run logs listed a spot that never aired.": a SpliceComplete flag 1 is written only under a number whose start is
@@ -202,7 +214,7 @@ module _ (name : List ℕ) (h : List Made) (m : Memory) where
       where
         go : Next name h m i r → outsOf d x (recordsIn (bytesOf r)) ≤ startedTold d x (events h) 0 + startsOf d x (recordsIn (bytesOf r))
         go (silent e) = none-outs d x (bytesOf r) _ e
-        go (calls-of j o f) =
+        go (calls-of j o f k) =
             rw (bytes-are name h m i r c) (called.only-aired-is-listed name (within h) (m .core) j (inside (seenOf r)) o d x)
 
 -- ## The incident
@@ -236,3 +248,84 @@ module _ (name : List ℕ) (h : List Made) (m : Memory) where
   -- and so are the four words that C reads
   pub read-as-told : Trace name h m → (r : List ℕ) → Counts (m .core .words) (m .core .bytes) r → r ≡ countsTold (events h)
   read-as-told t = called.read-as-told name (within h) (m .core) (trace-inside name h m t)
+
+-- ## Document 02, CR 4
+
+-- "so no two started sessions ever have the same AccessType": those that the started words hold fall strictly, from the one on air down
+pub no-two-alike : (name : List ℕ) (h : List Made) (m : Memory) → Trace name h m → Falling (shown m .splicer .queue .started)
+no-two-alike name h m t = called.no-two-alike name (within h) (m .core) (trace-inside name h m t)
+
+-- ## Document 02, CR 5
+
+module _ (name : List ℕ) (h : List Made) (m : Memory) where
+  -- "sessions carry the value", 1 to 10: every session held, waiting, on air or covered
+  pub mux-in-range : Trace name h m → Each MuxInRange (shown m .splicer .queue)
+  mux-in-range t = called.mux-in-range name (within h) (m .core) (trace-inside name h m t)
+
+  -- "the caller can read that of the one on air, 5 with none": whatever the read's contract allows is what the request asked that was last
+  -- accepted under the number on air
+  pub air-mux-told : Trace name h m → (r : ℕ) → ReadsMux (m .core .words) (m .core .bytes) r
+      → r ≡ airMuxTold (shown m .splicer .queue .started) (book (events h) [])
+  air-mux-told t = called.air-mux-told name (within h) (m .core) (trace-inside name h m t)
+
+-- ## Document 02, CR 10
+
+module _ (name : List ℕ) (h : List Made) (m : Memory) where
+  -- "Keep the waiting sessions ordered by start": those that the waiting words hold, first place first, rise strictly in start, and each
+  -- starts after the clock
+  pub waiting-in-order : Trace name h m
+      → Sorted (shown m .splicer .queue .waiting) × All (λ s. shown m .splicer .clock < s .start .0) (shown m .splicer .queue .waiting)
+  waiting-in-order t = called.waiting-in-order name (within h) (m .core) (trace-inside name h m t)
+
+-- ## Document 02, CR 13
+
+module _ (name : List ℕ) (h : List Made) (m : Memory) where
+  -- "Every moment belongs to someone.": primary time, "counted from the history, as the time in which no session was started and unended", and
+  -- each session's, "the time in which it had the highest AccessType of those started and unended", in ninths, add up to the clock
+  pub every-moment : Trace name h m → primaryTold (events h) + airTold (events h) ≡ clockTold (events h)
+  every-moment t = called.every-moment name (within h) (m .core) (trace-inside name h m t)
+
+  -- "The sums that the engine itself keeps [..] and a primary sum it keeps from now on are shown equal to these": the primary word
+  pub primary-kept : Trace name h m → see (m .core .words) .primary ≡ primaryTold (events h)
+  primary-kept t = called.primary-kept name (within h) (m .core) (trace-inside name h m t)
+
+  -- and what C reads of it: whatever the read's contract allows
+  pub primary-read : Trace name h m → (r : ℕ) → Primary (m .core .words) (m .core .bytes) r → r ≡ primaryTold (events h)
+  primary-read t r c = c ∙ primary-kept t
+
+  -- the time on air that the memory holds of a session: that of the session which its connection last accepted under its number
+  pub air-kept : Trace name h m → Each (λ u. u .played .0 ≡ numberTold (events h) (u .conn) (u .id)) (shown m .splicer .queue)
+  air-kept t = called.air-kept name (within h) (m .core) (trace-inside name h m t)
+
+  -- 0 for a waiting one
+  pub waiting-played-none : Trace name h m → All (λ u. u .played .0 ≡ 0) (shown m .splicer .queue .waiting)
+  waiting-played-none t = called.waiting-played-none name (within h) (m .core) (trace-inside name h m t)
+
+  -- "from which PlayedDuration is rounded", from bytes alone: each SpliceComplete flag 1 in the next answer has as PlayedDuration its session's time,
+  -- counted from the history with this call, divided by 100 and rounded down
+  pub played-as-counted : (i : RollInput) (r : RollSeen) → More name h m i r → PlayedAs (events (h ++ (made i r ∷ []))) (recordsIn (bytesOf r))
+  played-as-counted i r c = go (next name h m i r c)
+    where
+      go : Next name h m i r → PlayedAs (events (h ++ (made i r ∷ []))) (recordsIn (bytesOf r))
+      go (silent e) = none-played (events (h ++ (made i r ∷ []))) (bytesOf r) e
+      go (calls-of j o f k) =
+          subst (λ (x : List engine.Made). PlayedAs (engine.events x) (recordsIn (bytesOf r))) (sym (within-more h i r ∙ ap (λ x. within h ++ x) k))
+          (subst (λ (l : List ℕ). PlayedAs (engine.events (within h ++ (engine.made j (inside (seenOf r)) ∷ []))) (recordsIn l)) (sym (bytes-are name h m i r c))
+          (called.played-as-counted name (within h) (m .core) j (inside (seenOf r)) o))
+
+  -- and so has each session in every later list
+  pub lists-as-counted : Trace name h m → All (λ a. a .listed ≡ true → a .said ≡ timeTold (events h) a / 100) (airingsTold (events h))
+  lists-as-counted t = called.lists-as-counted name (within h) (m .core) (trace-inside name h m t)
+
+-- "Between any two points of any sequence of calls": the calls h were made before the first, and then the calls g
+module _ (name : List ℕ) (h g : List Made) (m : Memory) (t : Trace name (h ++ g) m) where
+  both : engine.Trace name (within h ++ within g) (m .core)
+  both = subst (λ k. engine.Trace name k (m .core)) (within-append h g) (trace-inside name (h ++ g) m t)
+
+  -- "the growth of the time on the primary channel plus that of all sessions' time on air, in ninths, equals the clock's advance between them"
+  pub no-gap : Gapless (events h) (events (h ++ g))
+  no-gap = rw (within-append h g) (called.no-gap name (within h) (within g) (m .core) both)
+
+  -- a list printed later says the same: each session stands in it, in its order; its time never falls, and is fixed once its end is written
+  pub prints-alike : Within (Printed (events h) (events (h ++ g))) (airingsTold (events h)) (airingsTold (events (h ++ g)))
+  prints-alike = rw (within-append h g) (called.prints-alike name (within h) (within g) (m .core) both)

@@ -1,7 +1,7 @@
 -- The next call of a trace: refused, and then it writes nothing and changes nothing, or a call of the engine's. Rests on proofs/Inside.
 use mathlib.Core.Path.{_≡_, refl, sym, ap, subst, _∙_}
 use mathlib.Core.Bool.{Bool, true, false, cond}
-use mathlib.Core.List.{List, [], _∷_}
+use mathlib.Core.List.{List, [], _∷_, _++_, append-nil}
 use Prim.Native.Nat.{ℕ, _≤_, _<_}
 use native.Mathlib.Omega.{arith}
 use lib.Dec.{eqb}
@@ -9,7 +9,10 @@ use lib.ListN.{length}
 use Rattle.rules.specs.Calls.{Call, opens, closes, messages, ticks, moves, writtenBy}
 use Rattle.rules.specs.Rolling.{roll}
 use Rattle.demands.specs.Told.{firstNumber, outsOf}
-use Rattle.demands.specs.History.{endsOf, front, othersOf}
+use Rattle.demands.specs.History.{Event, endsOf, front, othersOf}
+use Rattle.demands.specs.Moments.{PlayedAs}
+use Rattle.rules.specs.Lists.{All}
+use Rattle.rules.specs.Sound.{Coded}
 use Rattle.rules.specs.Reading.{isSplice}
 use Rattle.rules.specs.Records.{Record, recordsIn, recordsUpTo}
 use Rattle.memory.specs.Memory.{see}
@@ -25,7 +28,7 @@ use Rattle.traces.proofs.Steps.{memory-same, bytes-read, number-read}
 use Rattle.driven.specs.Driven.{handed, inside, answerIn}
 use Rattle.driven.proofs.Inside.{number-inside, bytes-inside, reply-ruled, call-handed}
 use Rattle.rolled.specs.Rolled.{Memory, shown, LentAt, left, Made, made, More, seenOf, number, bytesOf, othersBy, moved, asMade, within, AsRuled}
-use Rattle.rolled.proofs.Inside.{Promised, promised, state-is, Step, step, trace-lent, trace-inside, replies-of}
+use Rattle.rolled.proofs.Inside.{Promised, promised, state-is, Step, step, trace-lent, trace-inside, within-append, replies-of}
 
 module _ (name : List ℕ) (h : List Made) (m : Memory) (i : RollInput) (r : RollSeen) (c : More name h m i r) where
   here : LentAt m
@@ -88,11 +91,13 @@ module _ (name : List ℕ) (h : List Made) (m : Memory) (i : RollInput) (r : Rol
 
 -- ## The engine's call
 
--- j is the engine's, with the records of its answer but for a Splice_Request's own; or there is none, and nothing is written
+-- j is the engine's, the one that this call amounts to, with the records of its answer but for a Splice_Request's own; or there is none, and
+-- nothing is written
 pub data Next (name : List ℕ) (h : List Made) (m : Memory) (i : RollInput) (r : RollSeen) : Type 0 where
   silent : bytesOf r ≡ [] → Next name h m i r
   calls-of : (j : engine.Input) → engine.More name (within h) (m .core) j (inside (seenOf r))
-      → ((rs : List Record) → othersBy i rs ≡ othersOf (engine.callOf j) rs) → Next name h m i r
+      → ((rs : List Record) → othersBy i rs ≡ othersOf (engine.callOf j) rs) → asMade i r ≡ engine.made j (inside (seenOf r)) ∷ []
+      → Next name h m i r
 
 time-next : (name : List ℕ) (h : List Made) (m : Memory) (i : RollInput) (r : RollSeen) (c : More name h m i r) (b : Bool) (e : List ℕ)
     → eqb (number r) 0 ≡ b → asMade i r ≡ moved e r → ((rs : List Record) → othersBy i rs ≡ rs) → Step m i r → Next name h m i r
@@ -102,17 +107,22 @@ time-next name h m i r c true e q f o s =
     let g : asMade i r ≡ engine.made (engine.aMove t e) (inside (seenOf r)) ∷ [] =
     f ∙ ap (λ b. cond b (engine.made (engine.aMove t e) (inside (seenOf r)) ∷ []) []) q in
     let x = subst (λ y. engine.Leads (m .core) y (left r .core)) g (s .leads) in
-    calls-of (engine.aMove t e) (record { trace = trace-inside name h m (c .trace); typed = x .0; allowed = x .1 }) o
+    calls-of (engine.aMove t e) (record { trace = trace-inside name h m (c .trace); typed = x .0; allowed = x .1 }) o g
 time-next name h m i r c false e q f o s = silent (none-written name h m i r c q)
 
 pub next : (name : List ℕ) (h : List Made) (m : Memory) (i : RollInput) (r : RollSeen) → More name h m i r → Next name h m i r
 next name h m (aKnown i) r c =
     let x = step m (aKnown i) r (trace-lent name h m (c .trace)) (c .typed) (c .allowed) .leads in
-    calls-of (handed i) (record { trace = trace-inside name h m (c .trace); typed = x .0; allowed = x .1 }) (λ rs. ap (λ k. othersOf k rs) (call-handed i))
+    calls-of (handed i) (record { trace = trace-inside name h m (c .trace); typed = x .0; allowed = x .1 }) (λ rs. ap (λ k. othersOf k rs) (call-handed i)) refl
 next name h m (anInstant g e) r c =
     time-next name h m (anInstant g e) r c (eqb (number r) 0) e refl refl (λ rs. refl) (step m (anInstant g e) r (trace-lent name h m (c .trace)) (c .typed) (c .allowed))
 next name h m (aReading x e) r c =
     time-next name h m (aReading x e) r c (eqb (number r) 0) e refl refl (λ rs. refl) (step m (aReading x e) r (trace-lent name h m (c .trace)) (c .typed) (c .allowed))
+
+-- with it, the engine's calls are those of before and the one that it amounts to
+pub within-more : (h : List Made) (i : RollInput) (r : RollSeen) → within (h ++ (made i r ∷ [])) ≡ within h ++ asMade i r
+unfolding within
+within-more h i r = within-append h (made i r ∷ []) ∙ ap (λ x. within h ++ x) (append-nil (asMade i r))
 
 -- ## Nothing written
 
@@ -145,3 +155,9 @@ none-ends d x i l n e = rw (e, none-in, others-by-none i) (omega arith)
 
 pub none-outs : (d x : ℕ) (l : List ℕ) (n : ℕ) → l ≡ [] → outsOf d x (recordsIn l) ≤ n
 none-outs d x l n e = rw (e, none-in) (omega arith)
+
+pub none-coded : (l : List ℕ) → l ≡ [] → All Coded (recordsIn l)
+none-coded l e = rw (e, none-in) tt
+
+pub none-played : (e : List Event) (l : List ℕ) → l ≡ [] → PlayedAs e (recordsIn l)
+none-played e l f = rw (f, none-in) (λ c x. tt)
