@@ -104,6 +104,7 @@ module _ (F : Call → Type 0) (P : Splicer → Type 0) (k : Kept F P) where
         closing = λ c room low e f. k .closing s c low e h;
         answering = message-kept s h;
         bringing = λ j until b le f. k .ticking s j until f b le h;
+        cueing = λ l pts seconds micros room g f. h;
       }) j f
 
   pub always : (ks : List Call) (s : Splicer) → All F ks → P s → P (after ks s)

@@ -21,7 +21,8 @@ use Rattle.rules.specs.State.{Splicer, holds, linkOf, isOpen, isInitiali
 use Rattle.rules.specs.Records.{General, InitResponse, SpliceResponse, AbortResponse}
 use Rattle.rules.specs.Ends.{Turn, andThen, writes, aborted, closedBy}
 use Rattle.rules.specs.Answers.{Answered, says, turns, requested, wrongNumber, tooLate, collides, full, firstOf, spliceResult, Spliced, grants, splices, answerSplice, answerAbort, initResult, answerInit, aliveResponse, answerRead, answer}
-use Rattle.rules.specs.Calls.{Called, refuse, does, replies, noConnection, noRoom, notOpen, openCall, closeCall, framing, handled, messageCall, ticked, moveCall, tickCall, Loans, Call, opens, closes, messages, ticks, moves, call}
+use Rattle.rules.specs.Calls.{Called, refuse, does, replies, noConnection, noRoom, notOpen, openCall, closeCall, framing, handled, messageCall, ticked, moveCall, tickCall, Loans, Call, opens, closes, messages, ticks, moves, cues, cueCall, call}
+use Rattle.rules.specs.Cues.{badSection, readCue, cueTime, initialised, cueRecords}
 use Rattle.rules.specs.Lists.{All, some}
 use Rattle.rules.specs.Sound.{codes, Given}
 use Rattle.rules.proofs.Tests.{by, clash}
@@ -59,12 +60,15 @@ pub record Cases (s : Splicer) (P : Call → Called → Type 0) : Type 0 where
       → P (closes c room) (does 0 (closedBy c (s .queue) .written) (withLink c Closed (withQueue (closedBy c (s .queue) .queue) s)))
   pub answering : (c : ℕ) (l : List ℕ) (loans : Loans) → c ≤ 3 → isOpen (linkOf c s) ≡ true → Answering c l s (Handles P c l loans)
   pub bringing : (k : Call) (until : ℕ) → Brings k until → s .clock ≤ until → P k (ticked until s)
+  -- 02, CR 7
+  pub cueing : (l : List ℕ) (pts seconds micros room : ℕ) → badSection l ≡ false
+      → P (cues l pts seconds micros room) (does 0 (cueRecords (readCue l) (cueTime pts seconds micros (readCue l)) l (initialised s)) s)
 
 -- ## Result codes
 
 -- each has two bytes
 pub given-below : (n : ℕ) → Given n → n < 65536
-given-below n g = go codes (omega arith, (omega arith, (omega arith, (omega arith, (omega arith, (omega arith, (omega arith, (omega arith, (omega arith, (omega arith, (omega arith, (omega arith, tt)))))))))))) g
+given-below n g = go codes (omega arith, (omega arith, (omega arith, (omega arith, (omega arith, (omega arith, (omega arith, (omega arith, (omega arith, (omega arith, (omega arith, (omega arith, (omega arith, tt))))))))))))) g
   where
     go : (l : List ℕ) → All (λ k. k < 65536) l → some (eqb n) l ≡ true → n < 65536
     go [] a e = absurd (clash false e refl)
@@ -149,7 +153,7 @@ module _ (s : Splicer) (P : Call → Called → Type 0) (k : Cases s P) where
       (λ e. by (P j) (ltb until (s .clock)) _ _ (λ i. k .refusing j _) (λ i. k .bringing j until b (ltb-false until (s .clock) i)))
 
   pub cases : (j : Call) → P j (call j s)
-  unfolding call openCall closeCall messageCall tickCall
+  unfolding call openCall closeCall messageCall tickCall cueCall
   cases (opens c) =
       by (P (opens c)) (noConnection c) _ _ (λ e. k .refusing (opens c) _)
       (λ e. by (P (opens c)) (isOpen (linkOf c s)) _ _ (λ i. k .refusing (opens c) _) (λ i. k .opening c (ltb-false 3 c e) i))
@@ -168,3 +172,8 @@ module _ (s : Splicer) (P : Call → Called → Type 0) (k : Cases s P) where
       (λ e. by (P (ticks seconds micros room)) (badMicros micros) _ _ (λ i. k .refusing (ticks seconds micros room) _)
       (λ i. move-case (ticks seconds micros room) _ room (tick seconds micros room (ltb-false 999999 micros i))))
   cases (moves until room) = move-case (moves until room) until room (move until room)
+  cases (cues l pts seconds micros room) =
+      let j = cues l pts seconds micros room in
+      by (P j) (noRoom room) _ _ (λ e. k .refusing j _)
+      (λ e. by (P j) (badMicros micros) _ _ (λ i. k .refusing j _)
+      (λ i. by (P j) (badSection l) _ _ (λ f. k .refusing j _) (λ f. k .cueing l pts seconds micros room f)))

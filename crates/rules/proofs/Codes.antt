@@ -15,10 +15,12 @@ use Rattle.rules.specs.Ends.{Turn, andThen, ended, endings, followers, d
 use Rattle.rules.specs.Instants.{mayStart, began, meetsEqual, ousted, launched, startAt, endAt, instant, elapse, run, runAll}
 use Rattle.rules.specs.Answers.{aliveResponse, requested, accepts, accepted}
 use Rattle.rules.specs.Calls.{ticked, Call, call}
+use Rattle.rules.specs.Cues.{readCue, cueTime, initialised}
 use Rattle.rules.specs.Sound.{Given, Coded}
 use Rattle.rules.proofs.Tests.{by}
 use Rattle.rules.proofs.All.{All, all-append}
 use Rattle.rules.proofs.Cases.{Answering, cases}
+use Rattle.rules.proofs.Cued.{initialised-low, cue-all}
 use Rattle.rules.proofs.Tick.{moved, by-next}
 use Rattle.rules.proofs.Fitted.{recordsOf}
 
@@ -147,4 +149,6 @@ call-coded k s =
       closing = λ c room low e. closedBy-coded c (s .queue);
       answering = λ c l loans low e. message-coded s c l;
       bringing = λ k until b le. run-coded _ (s .clock) until (s .queue);
+      cueing = λ l pts seconds micros room g. let x = readCue l in
+          cue-all Coded (cueTime pts seconds micros x) l (λ c low. refl) (λ c low. refl) x (initialised s) (initialised-low s);
     }) k

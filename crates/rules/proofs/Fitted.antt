@@ -29,6 +29,8 @@ use Rattle.rules.proofs.Records.{Fits, read-back}
 use Rattle.rules.proofs.Readings.{splice-grants}
 use Rattle.rules.proofs.Cases.{given-below, Answering, cases}
 use Rattle.rules.specs.Asked.{Asked}
+use Rattle.rules.specs.Cues.{readCue, cueTime, initialised}
+use Rattle.rules.proofs.Cued.{section-size, cue-wide, initialised-low, cue-all}
 use Rattle.rules.proofs.Every.{all-keep, all-both, all-getD, fewer-all, fewer-removeAt, Each, FewerHeld, fewer-each}
 use Rattle.rules.proofs.Walk.{followers-gone}
 use Rattle.rules.proofs.Leaving.{meets-some, removed-fewer, endAt-fewer, cancelled-fewer}
@@ -301,6 +303,10 @@ call-fits k s w h =
       closing = λ c room low e w. closedBy-fits c (s .queue) (tell-now (s .clock) (s .queue) (telling-of s h));
       answering = λ c l loans low e. message-fits s h c l low;
       bringing = λ k until b le w. run-fits _ (s .clock) until (s .queue) (telling-of s h);
+      cueing = λ l pts seconds micros room g w. let x = readCue l in
+          let t = cueTime pts seconds micros x in
+          let d = cue-wide pts seconds micros x in
+          cue-all Fits t l (λ c low. (omega arith, d .0, d .1, section-size l g .1, w)) (λ c low. (omega arith, omega arith)) x (initialised s) (initialised-low s);
     }) k w
 
 -- what is found in the bytes that a call wrote is what it answered

@@ -11,6 +11,7 @@ pub mod Streams
 pub mod Descriptors
 pub mod Checks
 pub mod Cases
+pub mod Cued
 pub mod Always
 pub mod Leaving
 pub mod Moves

@@ -2,14 +2,14 @@
 use mathlib.Core.Path.{_≡_, refl, ap, ap₂, _∙_}
 use mathlib.Core.Bool.{false}
 use mathlib.Core.List.{List, [], _∷_, _++_}
-use Prim.Native.Nat.{ℕ, zero, suc, _+_, _*_, _/_, _%_, _≤_, _<_}
+use Prim.Native.Nat.{ℕ, zero, suc, _+_, _-_, _*_, _/_, _%_, _≤_, _<_}
 use native.Mathlib.Omega.{arith}
 use lib.Dec.{eqb}
-use lib.ListN.{length, drop, length-append}
+use lib.ListN.{length, take, drop, length-append}
 use lib.Seq.{drop-at, take-at}
 use borrow.Author.Tests.{ne-eqb}
 use Rattle.rules.specs.Bytes.{bytes, valueFrom, value, field, padded, nameIn}
-use Rattle.rules.specs.Records.{Record, General, InitResponse, AliveResponse, SpliceResponse, SpliceComplete, AbortResponse, framed, recordBytes, output, recordIn, recordsUpTo, recordsIn}
+use Rattle.rules.specs.Records.{Record, General, InitResponse, AliveResponse, SpliceResponse, SpliceComplete, AbortResponse, CueRequest, framed, recordBytes, output, recordIn, recordsUpTo, recordsIn}
 use Rattle.rules.proofs.All.{All, all-append}
 use Rattle.rules.proofs.Bytes.{Byte, bytes-byte, value-bytes, NoZero, length-padded, nameIn-padded, padded-byte}
 
@@ -25,6 +25,7 @@ Fits (AliveResponse c r state x t) = Headed c r × (state < 4294967296) × (x < 
 Fits (SpliceResponse c r x) = Headed c r × (x < 4294967296)
 Fits (SpliceComplete c r x flag played) = Headed c r × (x < 4294967296) × (flag < 256) × (played < 4294967296)
 Fits (AbortResponse c r x) = Headed c r × (x < 4294967296)
+Fits (CueRequest c a u l) = (c < 256) × (a < 4294967296) × (u < 4294967296) × (length l ≤ 512) × All Byte l
 
 -- ## Lengths
 
@@ -36,8 +37,9 @@ sizeOf (AliveResponse c r state x t) = 26
 sizeOf (SpliceResponse c r x) = 14
 sizeOf (SpliceComplete c r x flag played) = 23
 sizeOf (AbortResponse c r x) = 14
+sizeOf (CueRequest c a u l) = 18 + length l
 
--- a name that has 32 bytes' room
+-- a name that has 32 bytes' room, a section that has 512
 abbrev pub Roomy : Record → Type 0
 Roomy (General c r) = Unit {0}
 Roomy (InitResponse c r name) = length name ≤ 32
@@ -45,6 +47,7 @@ Roomy (AliveResponse c r state x t) = Unit {0}
 Roomy (SpliceResponse c r x) = Unit {0}
 Roomy (SpliceComplete c r x flag played) = Unit {0}
 Roomy (AbortResponse c r x) = Unit {0}
+Roomy (CueRequest c a u l) = length l ≤ 512
 
 pub fits-roomy : (r : Record) → Fits r → Roomy r
 fits-roomy (General c r) f = tt
@@ -53,6 +56,7 @@ fits-roomy (AliveResponse c r state x t) f = tt
 fits-roomy (SpliceResponse c r x) f = tt
 fits-roomy (SpliceComplete c r x flag played) f = tt
 fits-roomy (AbortResponse c r x) f = tt
+fits-roomy (CueRequest c a u l) f = f .3
 
 pub length-record : (r : Record) → Roomy r → length (recordBytes r) ≡ sizeOf r
 unfolding recordBytes framed bytes
@@ -62,11 +66,15 @@ length-record (AliveResponse c r state x t) h = refl
 length-record (SpliceResponse c r x) h = refl
 length-record (SpliceComplete c r x flag played) h = refl
 length-record (AbortResponse c r x) h = refl
+length-record (CueRequest c a u l) h = omega arith
 
 -- ## Read back
 
 three : {A B C D : Type 0} (f : A → B → C → D) {a a′ : A} {b b′ : B} {c c′ : C} → a ≡ a′ → b ≡ b′ → c ≡ c′ → f a b c ≡ f a′ b′ c′
 three f p q r = λ i. f (p i) (q i) (r i)
+
+four : {D : Type 0} (f : ℕ → ℕ → ℕ → List ℕ → D) {a a′ b b′ c c′ : ℕ} {d d′ : List ℕ} → a ≡ a′ → b ≡ b′ → c ≡ c′ → d ≡ d′ → f a b c d ≡ f a′ b′ c′ d′
+four f p q r s = λ i. f (p i) (q i) (r i) (s i)
 
 five : {D : Type 0} (f : ℕ → ℕ → ℕ → ℕ → ℕ → D) {a a′ b b′ c c′ d d′ e e′ : ℕ} → a ≡ a′ → b ≡ b′ → c ≡ c′ → d ≡ d′ → e ≡ e′ → f a b c d e ≡ f a′ b′ c′ d′ e′
 five f p q r s t = λ i. f (p i) (q i) (r i) (s i) (t i)
@@ -89,6 +97,10 @@ record-back (SpliceComplete c r x flag played) f more =
     five SpliceComplete (value-bytes 1 c (f .0 .0)) (value-bytes 2 r (f .0 .1)) (value-bytes 4 x (f .1)) (value-bytes 1 flag (f .2)) (value-bytes 4 played (f .3))
 record-back (AbortResponse c r x) f more =
     three AbortResponse (value-bytes 1 c (f .0 .0)) (value-bytes 2 r (f .0 .1)) (value-bytes 4 x (f .1))
+record-back (CueRequest c a u l) f more =
+    let n = length (bytes 4 a ++ (bytes 4 u ++ l)) in
+    four CueRequest (value-bytes 1 c (f .0)) (value-bytes 4 a (f .1)) (value-bytes 4 u (f .2))
+    (ap (λ k. take (k - 8) (l ++ more)) (value-bytes 2 n (omega (arith, f .3))) ∙ take-at l more (n - 8) (omega arith))
 
 -- what stands behind a framed body
 frame-rest : (c id r : ℕ) (d more : List ℕ) → length d < 65536 → drop (10 + field 4 2 (framed c id r d ++ more)) (framed c id r d ++ more) ≡ more
@@ -107,6 +119,7 @@ rest-back (SpliceResponse c r x) h more = frame-rest c 0x0008 r (bytes 4 x) more
 rest-back (SpliceComplete c r x flag played) h more =
     frame-rest c 0x0009 r (bytes 4 x ++ (bytes 1 flag ++ (bytes 4 0 ++ bytes 4 played))) more (omega arith)
 rest-back (AbortResponse c r x) h more = frame-rest c 0x000F r (bytes 4 x) more (omega arith)
+rest-back (CueRequest c a u l) h more = frame-rest c 0x000C 0xFFFF (bytes 4 a ++ (bytes 4 u ++ l)) more (omega arith)
 
 size-positive : (r : Record) → 0 < sizeOf r
 size-positive (General c r) = omega arith
@@ -115,6 +128,7 @@ size-positive (AliveResponse c r state x t) = omega arith
 size-positive (SpliceResponse c r x) = omega arith
 size-positive (SpliceComplete c r x flag played) = omega arith
 size-positive (AbortResponse c r x) = omega arith
+size-positive (CueRequest c a u l) = omega arith
 
 pub length-output : (r : Record) (rs : List Record) → Roomy r → length (output (r ∷ rs)) ≡ sizeOf r + length (output rs)
 unfolding output
@@ -166,6 +180,8 @@ record-byte (SpliceComplete c r x flag played) f =
     let p = all-append Byte (bytes 4 0) _ (bytes-byte 4 0) (bytes-byte 4 played) in
     frame-byte c 0x0009 r _ (all-append Byte (bytes 4 x) _ (bytes-byte 4 x) (all-append Byte (bytes 1 flag) _ (bytes-byte 1 flag) p))
 record-byte (AbortResponse c r x) f = frame-byte c 0x000F r (bytes 4 x) (bytes-byte 4 x)
+record-byte (CueRequest c a u l) f =
+    frame-byte c 0x000C 0xFFFF _ (all-append Byte (bytes 4 a) _ (bytes-byte 4 a) (all-append Byte (bytes 4 u) l (bytes-byte 4 u) (f .4)))
 
 pub output-byte : (rs : List Record) → All Fits rs → All Byte (output rs)
 unfolding output

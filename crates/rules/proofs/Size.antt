@@ -17,7 +17,9 @@ use Rattle.rules.specs.Ends.{Turn, quiet, andThen, ended, endings, follo
 use Rattle.rules.specs.Instants.{mayStart, began, meetsEqual, ousted, launched, startAt, endAt, instant, runAll}
 use Rattle.rules.specs.Answers.{Answered, requested, accepts, accepted, aliveResponse, answer}
 use Rattle.rules.specs.Calls.{writtenBy, ticked, Call, call}
+use Rattle.rules.specs.Cues.{readCue, cueTime, initialised}
 use Rattle.rules.proofs.Tests.{by}
+use Rattle.rules.proofs.Cued.{section-size, initialised-four, cue-weight}
 use Rattle.rules.proofs.Cases.{Answering, cases}
 use Rattle.rules.proofs.Count.{length-split, length-removeAt}
 use Rattle.rules.proofs.Records.{sizeOf, Roomy, length-output}
@@ -211,4 +213,6 @@ module _ (s : Splicer) (h : Bounded s) where
         closing = λ c room low e. omega (arith, cancelled-lean (of c) (s .queue), h .waiting, h .started);
         answering = λ c l loans low e. message-size c l;
         bringing = λ k until b le. omega (arith, tick-brief (s .clock) until (s .queue), h .waiting, h .started);
+        cueing = λ l pts seconds micros room g. let x = readCue l in
+            omega (arith, cue-weight x (cueTime pts seconds micros x) l (initialised s) (section-size l g .1), initialised-four s);
       })

@@ -6,7 +6,7 @@ use lib.Dec.{ltb}
 use lib.ListN.{length}
 use Rattle.rules.specs.declared.Link.the-variants.{Closed, Opened}
 use Rattle.rules.specs.declared.Refusal.{Refusal}
-use Rattle.rules.specs.declared.Refusal.the-variants.{NoConnection, NoRoom, ClockBack, Oversize, Short, AlreadyOpen, NotOpen, BadMicros, BadName, Counter}
+use Rattle.rules.specs.declared.Refusal.the-variants.{NoConnection, NoRoom, ClockBack, Oversize, Short, AlreadyOpen, NotOpen, BadMicros, BadName, Counter, BadSection}
 use Rattle.rules.specs.declared.Framing.{Framing}
 use Rattle.rules.specs.declared.Framing.the-variants.{Framed, Unframed}
 use Rattle.rules.specs.Units.{timeOf, badMicros, fromMicros}
@@ -16,6 +16,7 @@ use Rattle.rules.specs.Records.{Record, output}
 use Rattle.rules.specs.Ends.{closedBy}
 use Rattle.rules.specs.Answers.{Answered, answer}
 use Rattle.rules.specs.Instants.{runAll, silentAll}
+use Rattle.rules.specs.Cues.{badSection, readCue, cueTime, initialised, cueRecords}
 
 -- the table of house numbers
 unfoldable pub houseNumber : Refusal → ℕ
@@ -30,6 +31,8 @@ houseNumber BadMicros = 8
 houseNumber BadName = 9
 -- 02, CR 9
 houseNumber Counter = 12
+-- 02, CR 7
+houseNumber BadSection = 11
 
 -- "A good call returns the bytes written, and message also the bytes consumed." "A refusal returns its number, writes nothing,
 -- consumes nothing"
@@ -164,6 +167,14 @@ tickCall seconds micros room s =
     (cond (badMicros micros) (refuse BadMicros s)
     (moveCall (fromMicros (timeOf seconds micros) .0) room s))
 
+-- 02, CR 7: a section of cues, a PTS and the UTC instant that belongs to it: 2, 8, 11. It changes nothing, and the clock plays no part
+unfoldable pub cueCall : (section : List ℕ) (pts seconds micros room : ℕ) → Splicer → Called
+cueCall l pts seconds micros room s =
+    cond (noRoom room) (refuse NoRoom s)
+    (cond (badMicros micros) (refuse BadMicros s)
+    (cond (badSection l) (refuse BadSection s)
+    (does 0 (cueRecords (readCue l) (cueTime pts seconds micros (readCue l)) l (initialised s)) s)))
+
 -- ## Sequences of calls: "A splicer is what fresh and the calls since have given"
 
 pub data Call : Type 0 where
@@ -172,6 +183,7 @@ pub data Call : Type 0 where
   messages : (conn : ℕ) (l : List ℕ) (loans : Loans) → Call
   ticks : (seconds micros room : ℕ) → Call
   moves : (until room : ℕ) → Call
+  cues : (section : List ℕ) (pts seconds micros room : ℕ) → Call
 
 unfoldable pub call : Call → Splicer → Called
 call (opens c) s = openCall c s
@@ -179,6 +191,7 @@ call (closes c room) s = closeCall c room s
 call (messages c l loans) s = messageCall c l loans s
 call (ticks seconds micros room) s = tickCall seconds micros room s
 call (moves until room) s = moveCall until room s
+call (cues l pts seconds micros room) s = cueCall l pts seconds micros room s
 
 unfoldable pub after : List Call → Splicer → Splicer
 after [] s = s

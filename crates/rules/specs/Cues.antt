@@ -1,6 +1,6 @@
 -- 02, CR 7: what is read of a section of cues (SCTE 35; docs/SCTE35.md has the layouts), what comes of it, and the time of its cue.
 use mathlib.Core.Bool.{Bool, cond, not, _&&_, _||_}
-use mathlib.Core.List.{List}
+use mathlib.Core.List.{List, [], _∷_, map}
 use Prim.Native.Nat.{ℕ, _+_, _-_, _*_, _/_, _%_}
 use lib.Dec.{eqb, leb, ltb}
 use lib.ListN.{length, getD}
@@ -8,7 +8,10 @@ use Rattle.rules.specs.declared.Cue.{Cue}
 use Rattle.rules.specs.declared.Cue.the-variants.{At, Timeless, Silent, Bad}
 use Rattle.rules.specs.declared.WireTime.{WireTime}
 use Rattle.rules.specs.Units.{second, timeOf, fromMicros, fromTicks, toMicros}
+use Rattle.rules.specs.Lists.{keep}
 use Rattle.rules.specs.Bytes.{field}
+use Rattle.rules.specs.State.{Splicer, linkOf, isInitialised}
+use Rattle.rules.specs.Records.{Record, General, CueRequest}
 use Rattle.rules.specs.Crc.{rightCrc}
 
 -- ## The section: table_id 0, section_length the low 12 bits at 1, encrypted_packet the highest bit of 4, pts_adjustment the low 33 bits at 4,
@@ -160,3 +163,23 @@ cueTime pts seconds micros (At p) = wireTimeOf (toMicros (record { 0 = exactTime
 cueTime pts seconds micros Timeless = allOnes
 cueTime pts seconds micros Silent = allOnes
 cueTime pts seconds micros Bad = allOnes
+
+-- ## What is written
+
+-- "every initialised connection": open ones that are not initialised get nothing
+unfoldable pub initialised : Splicer → List ℕ
+initialised s = keep (λ c. isInitialised (linkOf c s)) (0 ∷ 1 ∷ 2 ∷ 3 ∷ [])
+
+abbrev pub passedTo : WireTime → (section : List ℕ) → ℕ → Record
+passedTo t l c = CueRequest c (t .seconds) (t .micros) l
+
+-- "General_Response 117"
+abbrev pub complainedTo : ℕ → Record
+complainedTo c = General c 117
+
+-- what the connections cs get of the section l, of which x comes, with the time t
+unfoldable pub cueRecords : (x : Cue) (t : WireTime) (l cs : List ℕ) → List Record
+cueRecords (At p) t l cs = map (passedTo t l) cs
+cueRecords Timeless t l cs = map (passedTo t l) cs
+cueRecords Silent t l cs = []
+cueRecords Bad t l cs = map complainedTo cs

@@ -1,7 +1,7 @@
 -- 01, Bytes: what is written, each record's bytes with its mark, and the records that such bytes hold.
 use mathlib.Core.Bool.{cond}
 use mathlib.Core.List.{List, [], _∷_, _++_}
-use Prim.Native.Nat.{ℕ, zero, suc, _+_, _/_, _%_}
+use Prim.Native.Nat.{ℕ, zero, suc, _+_, _-_, _/_, _%_}
 use lib.Dec.{eqb}
 use lib.ListN.{length, drop}
 use Rattle.rules.specs.Units.{second, timeOf}
@@ -15,6 +15,7 @@ pub data Record : Type 0 where
   SpliceResponse : (conn result id : ℕ) → Record
   SpliceComplete : (conn result id flag played : ℕ) → Record
   AbortResponse : (conn result id : ℕ) → Record
+  CueRequest : (conn seconds micros : ℕ) (section : List ℕ) → Record
 
 abbrev pub resultOf : Record → ℕ
 resultOf (General c r) = r
@@ -23,6 +24,8 @@ resultOf (AliveResponse c r state x t) = r
 resultOf (SpliceResponse c r x) = r
 resultOf (SpliceComplete c r x flag played) = r
 resultOf (AbortResponse c r x) = r
+-- 02, CR 7: "Result and Result_Extension both 0xFFFF"
+resultOf (CueRequest c a u l) = 0xFFFF
 
 -- "after a two-byte mark: 0x52, and the connection it is for"; "in answers Result_Extension is 0xFFFF"
 unfoldable pub framed : (conn id result : ℕ) (body : List ℕ) → List ℕ
@@ -42,6 +45,8 @@ recordBytes (AliveResponse c r state x t) = framed c 0x0006 r (bytes 4 state ++ 
 recordBytes (SpliceResponse c r x) = framed c 0x0008 r (bytes 4 x)
 recordBytes (SpliceComplete c r x flag played) = framed c 0x0009 r (bytes 4 x ++ (bytes 1 flag ++ (bytes 4 0 ++ bytes 4 played)))
 recordBytes (AbortResponse c r x) = framed c 0x000F r (bytes 4 x)
+-- 02, CR 7: Cue_Request 0x000C: time 8, the section
+recordBytes (CueRequest c a u l) = framed c 0x000C 0xFFFF (bytes 4 a ++ (bytes 4 u ++ l))
 
 -- "Every outgoing message goes directly behind the last one in the output buffer"
 unfoldable pub output : List Record → List ℕ
@@ -60,7 +65,8 @@ recordIn l =
     (cond (eqb id 0x0006) (AliveResponse c r (field 10 4 l) (field 14 4 l) (timeOf (field 18 4 l) (field 22 4 l) .0))
     (cond (eqb id 0x0008) (SpliceResponse c r (field 10 4 l))
     (cond (eqb id 0x0009) (SpliceComplete c r (field 10 4 l) (field 14 1 l) (field 19 4 l))
-    (cond (eqb id 0x000F) (AbortResponse c r (field 10 4 l)) (General c r)))))
+    (cond (eqb id 0x000F) (AbortResponse c r (field 10 4 l))
+    (cond (eqb id 0x000C) (CueRequest c (field 10 4 l) (field 14 4 l) (part 18 (field 4 2 l - 8) l)) (General c r))))))
 
 -- the records of l, n at most
 unfoldable pub recordsUpTo : ℕ → List ℕ → List Record

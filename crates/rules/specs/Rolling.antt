@@ -11,7 +11,7 @@ use Rattle.rules.specs.Lists.{All}
 use Rattle.rules.specs.Units.{timeOf, badMicros, fromMicros, fromTicks}
 use Rattle.rules.specs.Bytes.{Byte}
 use Rattle.rules.specs.State.{Splicer}
-use Rattle.rules.specs.Calls.{Answer, Called, refuse, noRoom, fresh, ticked, Call, opens, closes, messages, ticks, moves, call}
+use Rattle.rules.specs.Calls.{Answer, Called, refuse, noRoom, fresh, ticked, Call, opens, closes, messages, ticks, moves, cues, call}
 use Rattle.rules.specs.Sound.{Wired, horizon}
 
 -- "Given a UTC instant and a reading once": none yet, or the last reading that a good call kept
@@ -111,6 +111,7 @@ Timeless (closes c room) = Unit {0}
 Timeless (messages c l loans) = Unit {0}
 Timeless (ticks seconds micros room) = ⊥
 Timeless (moves until room) = ⊥
+Timeless (cues l pts seconds micros room) = Unit {0}
 
 pub data RollingCall : Type 0 where
   known : (k : Call) → RollingCall

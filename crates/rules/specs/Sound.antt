@@ -10,9 +10,9 @@ use Rattle.rules.specs.Lists.{All, some, count}
 use Rattle.rules.specs.Bytes.{Byte, NoZero}
 use Rattle.rules.specs.Reading.{nobody}
 use Rattle.rules.specs.State.{Queue, Splicer, of, is, Sorted, linkOf, isOpen}
-use Rattle.rules.specs.Records.{Record, resultOf}
+use Rattle.rules.specs.Records.{Record, General, InitResponse, AliveResponse, SpliceResponse, SpliceComplete, AbortResponse, CueRequest, resultOf}
 use Rattle.rules.specs.Answers.{waits, raisedSum}
-use Rattle.rules.specs.Calls.{fresh, Call, opens, closes, messages, ticks, moves, after}
+use Rattle.rules.specs.Calls.{fresh, Call, opens, closes, messages, ticks, moves, cues, after}
 
 -- ## The sessions held at a time: the clock, or an instant of a tick
 
@@ -119,6 +119,7 @@ Wired (closes c room) = Unit {0}
 Wired (messages c l loans) = All Byte l
 Wired (ticks seconds micros room) = seconds < 4294967296
 Wired (moves until room) = until < horizon
+Wired (cues l pts seconds micros room) = All Byte l
 
 pub record Reached (s : Splicer) : Type 0 where
   pub name : List ℕ
@@ -132,10 +133,20 @@ pub record Reached (s : Splicer) : Type 0 where
 
 -- the result codes that are given
 abbrev pub codes : List ℕ
-codes = 100 ∷ 102 ∷ 103 ∷ 104 ∷ 109 ∷ 112 ∷ 114 ∷ 116 ∷ 120 ∷ 121 ∷ 123 ∷ 125 ∷ []
+codes = 100 ∷ 102 ∷ 103 ∷ 104 ∷ 109 ∷ 112 ∷ 114 ∷ 116 ∷ 117 ∷ 120 ∷ 121 ∷ 123 ∷ 125 ∷ []
 
 abbrev pub Given : ℕ → Type 0
 Given n = some (eqb n) codes ≡ true
 
+-- 02, CR 7: of a Cue_Request 0xFFFF alone
+abbrev pub codesOf : Record → List ℕ
+codesOf (General c r) = codes
+codesOf (InitResponse c r name) = codes
+codesOf (AliveResponse c r state x t) = codes
+codesOf (SpliceResponse c r x) = codes
+codesOf (SpliceComplete c r x flag played) = codes
+codesOf (AbortResponse c r x) = codes
+codesOf (CueRequest c a u l) = 0xFFFF ∷ []
+
 abbrev pub Coded : Record → Type 0
-Coded r = Given (resultOf r)
+Coded r = some (eqb (resultOf r)) (codesOf r) ≡ true

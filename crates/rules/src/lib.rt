@@ -88,6 +88,7 @@ pub enum Refusal {
     BadMicros,
     BadName,
     Counter,
+    BadSection,
 }
 
 // The first message of what was read: its MessageID and MessageSize, or the refusal that it gets.
