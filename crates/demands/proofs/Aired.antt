@@ -14,7 +14,7 @@ use Rattle.rules.specs.State.{Queue, Splicer, is}
 use Rattle.rules.specs.Records.{Record, recordsIn}
 use Rattle.rules.specs.Ends.{Turn, quiet, writes, andThen, evicted, closedBy}
 use Rattle.rules.specs.Answers.{requested, accepts, accepted}
-use Rattle.rules.specs.Calls.{Answer, refused, good, Called, Call, opens, closes, messages, ticks, moves, ticked, call, writtenBy, after, named, fresh}
+use Rattle.rules.specs.Calls.{Answer, refused, good, Called, Call, opens, closes, messages, ticks, moves, cues, ticked, call, writtenBy, after, named, fresh}
 use Rattle.demands.specs.History.{Event, Entry, entryIs, isStart, startsOf, endsOf, replyOf, history, front, othersOf, book}
 use Rattle.rules.specs.Sound.{heldCount, Once, Wired, Sound}
 use Rattle.rules.proofs.Tests.{by}
@@ -36,6 +36,7 @@ own-none (closes c room) = refl
 own-none (messages c l loans) = by (λ (rs : List Record). rs ≡ []) (isSplice l) _ _ (λ e. refl) (λ e. refl)
 own-none (ticks seconds micros room) = refl
 own-none (moves until room) = refl
+own-none (cues l pts seconds micros room) = refl
 
 -- a call k with the records rs, from the sessions q to u
 record Airs (c x : ℕ) (q u : Queue) (k : Call) (rs : List Record) : Type 0 where
@@ -77,6 +78,7 @@ module _ (c x : ℕ) where
               (omega (arith, count-append (isStart c x) (t .written) one)) (omega (arith, count-append (isOut c x) (t .written) one));
           ticking = λ seconds micros room le. airs-turn q _ _ (ticks seconds micros room) _ once (tick-law c x (s .clock) (fromMicros (timeOf seconds micros) .0) q) refl refl refl refl;
           moving = λ until room le. airs-turn q _ _ (moves until room) _ once (tick-law c x (s .clock) until q) refl refl refl refl;
+          cueing = λ l pts seconds micros room rs p. airs-turn q q (writes rs q) (cues l pts seconds micros room) rs once (plain-law c x q rs p) refl refl refl refl;
         })
 
   -- ## What has started, from the answers

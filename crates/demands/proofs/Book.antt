@@ -20,7 +20,7 @@ use Rattle.rules.specs.declared.Request.{Request}
 use Rattle.rules.specs.Reading.{readSplice, dataIn}
 use Rattle.rules.specs.State.{sameNumber, Queue, Splicer, empty, of, is, held, holds}
 use Rattle.rules.proofs.Checks.{read-id}
-use Rattle.rules.specs.Records.{Record, General, InitResponse, AliveResponse, SpliceResponse, SpliceComplete, AbortResponse}
+use Rattle.rules.specs.Records.{Record, General, InitResponse, AliveResponse, SpliceResponse, SpliceComplete, AbortResponse, CueRequest}
 use Rattle.rules.specs.Ends.{Turn, writes, andThen, evicted, cancelled, closedBy}
 use Rattle.rules.specs.Instants.{runAll}
 use Rattle.rules.specs.Answers.{endOf, startOf, sessionAt, requested, unknownPrior, accepts, accepted}
@@ -54,6 +54,7 @@ end-one c x c′ x′ (AliveResponse d n a y t) f e = refl
 end-one c x c′ x′ (SpliceResponse d n y) f e = other-one (endResult n) c x c′ x′ d y f e
 end-one c x c′ x′ (SpliceComplete d n y k p) f e = other-one (eqb k 1 || (eqb k 0 && eqb n 109)) c x c′ x′ d y f e
 end-one c x c′ x′ (AbortResponse d n y) f e = refl
+end-one c x c′ x′ (CueRequest d a u l) f e = refl
 
 entry-key : (c x : ℕ) (e : Entry) → entryIs c x e ≡ true → (c ≡ e .conn) × (x ≡ e .id)
 entry-key c x e k = let h = and-both (eqb c (e .conn)) (eqb x (e .id)) k in (eqb-true c (e .conn) (h .0), eqb-true x (e .id) (h .1))
@@ -300,6 +301,7 @@ module _ (s : Splicer) (es : List Entry) (b : Booked (s .queue) es) where
             (new-booked new q es b (omega (arith, some-none (is c (r .id)) (held q) (p .number), count-held (is c (r .id)) q)));
         ticking = λ seconds micros room le. tick-booked (fromMicros (timeOf seconds micros) .0);
         moving = λ until room le. tick-booked until;
+        cueing = λ l pts seconds micros room rs p. plain-booked q es rs p b;
       })
 
 pub booked-always : (ks : List Call) (s : Splicer) (es : List Entry) → Booked (s .queue) es → Booked (after ks s .queue) (bookOf ks s es)

@@ -1,8 +1,8 @@
--- What a call can do: what is shown of each of ten cases holds of every call. Assumes nothing.
+-- What a call can do: what is shown of each of eleven cases holds of every call. Assumes nothing.
 -- By what a call's records tell of sessions; the calls' choices are walked in rules' Cases.
 use mathlib.Core.Path.{_≡_, refl}
 use mathlib.Core.Bool.{Bool, true, false}
-use mathlib.Core.List.{List, [], _∷_}
+use mathlib.Core.List.{List, [], _∷_, map}
 use Prim.Native.Nat.{ℕ, _+_, _≤_}
 use lib.Dec.{eqb}
 use Rattle.rules.specs.declared.Refusal.{Refusal}
@@ -15,8 +15,13 @@ use Rattle.rules.specs.declared.Link.the-variants.{Closed, Opened, Initialised}
 use Rattle.rules.specs.State.{Splicer, holds, linkOf, isOpen, withQueue, withLink}
 use Rattle.rules.specs.Records.{Record, General, InitResponse, SpliceResponse, AbortResponse}
 use Rattle.rules.specs.Ends.{andThen, aborted, closedBy}
+use Rattle.rules.specs.declared.Cue.{Cue}
+use Rattle.rules.specs.declared.Cue.the-variants.{At, Timeless, Silent, Bad}
+use Rattle.rules.specs.declared.WireTime.{WireTime}
+use Rattle.rules.specs.Lists.{count}
+use Rattle.rules.specs.Cues.{readCue, cueTime, initialised, passedTo, complainedTo, cueRecords}
 use Rattle.rules.specs.Answers.{requested, grants, splices, aliveResponse}
-use Rattle.rules.specs.Calls.{Called, refuse, does, replies, ticked, Loans, Call, opens, closes, messages, ticks, moves, call}
+use Rattle.rules.specs.Calls.{Called, refuse, does, replies, ticked, Loans, Call, opens, closes, messages, ticks, moves, cues, call}
 use Rattle.demands.specs.History.{isStart, isEnd, isYes}
 use Rattle.rules.proofs.Tests.{by}
 use Rattle.rules.proofs.Checks.{Passed}
@@ -47,6 +52,20 @@ pub record Cases (s : Splicer) (P : Call → Called → Type 0) : Type 0 where
   pub ticking : (seconds micros room : ℕ) → s .clock ≤ fromMicros (timeOf seconds micros) .0
       → P (ticks seconds micros room) (ticked (fromMicros (timeOf seconds micros) .0) s)
   pub moving : (until room : ℕ) → s .clock ≤ until → P (moves until room) (ticked until s)
+  -- 02, CR 7: records of no session, and nothing done
+  pub cueing : (l : List ℕ) (pts seconds micros room : ℕ) (rs : List Record) → Plain rs → P (cues l pts seconds micros room) (does 0 rs s)
+
+-- records of one kind that none of them passes a test
+none-passes : (p : Record → Bool) (f : ℕ → Record) → ((c : ℕ) → p (f c) ≡ false) → (cs : List ℕ) → count p (map f cs) ≡ 0
+none-passes p f h [] = refl
+none-passes p f h (c ∷ cs) = rw (h c, none-passes p f h cs)
+
+pub plain-cue : (x : Cue) (t : WireTime) (l cs : List ℕ) → Plain (cueRecords x t l cs)
+unfolding cueRecords isStart isEnd
+plain-cue (At p) t l cs = record { starts = λ c x. none-passes (isStart c x) (passedTo t l) (λ d. refl) cs; ends = λ c x. none-passes (isEnd c x) (passedTo t l) (λ d. refl) cs }
+plain-cue Timeless t l cs = record { starts = λ c x. none-passes (isStart c x) (passedTo t l) (λ d. refl) cs; ends = λ c x. none-passes (isEnd c x) (passedTo t l) (λ d. refl) cs }
+plain-cue Silent t l cs = plain-none
+plain-cue Bad t l cs = record { starts = λ c x. none-passes (isStart c x) complainedTo (λ d. refl) cs; ends = λ c x. none-passes (isEnd c x) complainedTo (λ d. refl) cs }
 
 module _ (s : Splicer) (P : Call → Called → Type 0) (k : Cases s P) where
   module _ (c : ℕ) (l : List ℕ) (loans : Loans) where
@@ -90,4 +109,6 @@ module _ (s : Splicer) (P : Call → Called → Type 0) (k : Cases s P) where
         closing = k .closing;
         answering = λ c l loans low e. message-case c l loans;
         bringing = bring-case;
+        cueing = λ l pts seconds micros room g. let x = readCue l in
+            let t = cueTime pts seconds micros x in k .cueing l pts seconds micros room (cueRecords x t l (initialised s)) (plain-cue x t l (initialised s));
       })

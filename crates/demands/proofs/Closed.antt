@@ -9,7 +9,7 @@ use Rattle.rules.specs.Lists.{All, put, omit}
 use Rattle.rules.specs.Reading.{sessionID, dataIn, isSplice}
 use Rattle.rules.specs.State.{Splicer}
 use Rattle.rules.specs.Records.{Record, recordsIn}
-use Rattle.rules.specs.Calls.{Answer, refused, good, Call, opens, closes, messages, ticks, moves, call, writtenBy, after, fresh}
+use Rattle.rules.specs.Calls.{Answer, refused, good, Call, opens, closes, messages, ticks, moves, cues, call, writtenBy, after, fresh}
 use Rattle.demands.specs.History.{Event, Reply, refusal, wrote, Entry, isEnd, isYes, withEnds, front, last, replyOf, history, credited, entryOf, bookAnswered, shut, bookAfter, bookReplied, book, clockAfter}
 use Rattle.rules.specs.Sound.{Wired}
 use Rattle.rules.proofs.All.{all-into, all-append}
@@ -120,6 +120,7 @@ since-replied {es} {fs} (messages c m loans) (wrote l) h = go (isSplice m)
     go false = since-credited rs h
 since-replied (ticks seconds micros room) (wrote l) h = since-credited (recordsIn l) h
 since-replied (moves until room) (wrote l) h = since-credited (recordsIn l) h
+since-replied (cues m pts seconds micros room) (wrote l) h = since-credited (recordsIn l) h
 
 since-book : {es fs : List Entry} (h : List Event) → Since es fs → Since es (book h fs)
 unfolding book

@@ -8,7 +8,7 @@ use lib.Dec.{eqb}
 use borrow.Author.Tests.{eqb-true}
 use Rattle.rules.specs.Lists.{All, bit, some, count}
 use Rattle.rules.specs.State.{sameNumber}
-use Rattle.rules.specs.Records.{Record, General, InitResponse, AliveResponse, SpliceResponse, SpliceComplete, AbortResponse}
+use Rattle.rules.specs.Records.{Record, General, InitResponse, AliveResponse, SpliceResponse, SpliceComplete, AbortResponse, CueRequest}
 use Rattle.demands.specs.History.{isStart, isEnd}
 use Rattle.rules.proofs.Tests.{clash, and-both, eqb-same}
 use Rattle.demands.specs.Airing.{Airing, airingIs, newest, begins, ends, marked, concerns, heard, byThen, heardAll, liveAt, peakAt}
@@ -191,6 +191,7 @@ byThen-same u l m h (AliveResponse c r a y t ∷ rs) = byThen-same u l m h rs
 byThen-same u l m h (SpliceResponse c r y ∷ rs) = byThen-same u l m h rs
 byThen-same u l m h (SpliceComplete c r y f d ∷ rs) = rw (h c y, byThen-same u l m h rs)
 byThen-same u l m h (AbortResponse c r y ∷ rs) = byThen-same u l m h rs
+byThen-same u l m h (CueRequest c a v b ∷ rs) = byThen-same u l m h rs
 
 pub byThen-append : (u : ℕ) (l : List Airing) (rs ss : List Record) → byThen u l (rs ++ ss) ≡ byThen (byThen u l ss) l rs
 unfolding byThen
@@ -201,6 +202,7 @@ byThen-append u l (AliveResponse c r a y t ∷ rs) ss = byThen-append u l rs ss
 byThen-append u l (SpliceResponse c r y ∷ rs) ss = byThen-append u l rs ss
 byThen-append u l (SpliceComplete c r y f d ∷ rs) ss = rw (byThen-append u l rs ss)
 byThen-append u l (AbortResponse c r y ∷ rs) ss = byThen-append u l rs ss
+byThen-append u l (CueRequest c a v b ∷ rs) ss = byThen-append u l rs ss
 
 -- some records and then more: what comes first is over by what comes next
 pub heardAll-append : (u : ℕ) (rs ss : List Record) (l : List Airing) → heardAll u (rs ++ ss) l ≡ heardAll u ss (heardAll (byThen u l ss) rs l)
@@ -218,6 +220,7 @@ Late t l (AliveResponse c r a y u) = Unit {0}
 Late t l (SpliceResponse c r y) = Unit {0}
 Late t l (SpliceComplete c r y f d) = eqb f 0 ≡ true → t ≤ newest c y l .start
 Late t l (AbortResponse c r y) = Unit {0}
+Late t l (CueRequest c a v b) = Unit {0}
 
 pub byThen-late : (t u : ℕ) (l : List Airing) (rs : List Record) → t ≤ u → All (Late t l) rs → t ≤ byThen u l rs
 unfolding byThen Late
@@ -232,6 +235,7 @@ byThen-late t u l (SpliceComplete c r y f d ∷ rs) h a = go (eqb f 0) (a .0) (b
     go true k ih = k refl
     go false k ih = ih
 byThen-late t u l (AbortResponse c r y ∷ rs) h a = byThen-late t u l rs h (a .1)
+byThen-late t u l (CueRequest c d v b ∷ rs) h a = byThen-late t u l rs h (a .1)
 
 -- ## What was told stays told
 

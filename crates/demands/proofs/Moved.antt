@@ -45,6 +45,7 @@ module _ (s : Splicer) where
             (rw (e, ← (read-id (dataIn l) r f), last-last (isYes c (r .id)) rs (accepts new), eqb-same c, eqb-same (r .id))) g);
         ticking = λ seconds micros room le g. refl;
         moving = λ until room le g. refl;
+        cueing = λ l pts seconds micros room rs p g. refl;
       })
 
   -- one fewer than wait after the call, or none
@@ -62,6 +63,7 @@ module _ (s : Splicer) where
         accepting = λ c l loans n r e f p h. omega (arith, h, later-fewer (requested c r (s .queue)) (s .queue));
         ticking = λ seconds micros room le h. omega arith;
         moving = λ until room le h. omega arith;
+        cueing = λ l pts seconds micros room rs p h. omega arith;
       })
 
 module _ (h : List Event) (s : Splicer) (f : FromFresh h s) (k : Call) (w : Wired k) where

@@ -39,6 +39,7 @@ call-clock s =
       accepting = λ c l loans n r e f p. refl;
       ticking = λ seconds micros room le. refl;
       moving = λ until room le. refl;
+      cueing = λ l pts seconds micros room rs p. refl;
     })
 
 clock-after : (ks : List Call) (s : Splicer) → clockAfter (history ks s) (s .clock) ≡ after ks s .clock

@@ -150,6 +150,7 @@ module _ (β : Base) (s : Splicer) (l : List Airing) (h : Sound s) (o : Kept β 
             (accepted-owned β (s .clock) (s .primary) q l o (s .clock) new refl (omega (arith, some-none (is c (r .id)) (held q) (p .number), count-held (is c (r .id)) q)));
         ticking = λ seconds micros room le. tick-owned (fromMicros (timeOf seconds micros) .0) le;
         moving = λ until room le. tick-owned until le;
+        cueing = λ m pts seconds micros room rs p. plain-owned rs p;
       })
 
 -- ## Every sequence of calls
@@ -247,6 +248,7 @@ call-adds s h =
       accepting = λ c b loans n r e f p. record { clock = omega arith; least = omega arith; most = omega arith };
       ticking = λ seconds micros room le. brings (fromMicros (timeOf seconds micros) .0) le;
       moving = λ until room le. brings until le;
+      cueing = λ l pts seconds micros room rs p. adds-none s;
     })
   where
     brings : (until : ℕ) → s .clock ≤ until → Adds s (ticked until s .splicer)

@@ -8,14 +8,15 @@ use lib.Dec.{ltb}
 use lib.ListN.{length}
 use Rattle.rules.specs.declared.Refusal.{Refusal}
 use Rattle.rules.specs.declared.Link.the-variants.{Closed, Opened}
-use Rattle.rules.specs.declared.Refusal.the-variants.{NoConnection, NoRoom, ClockBack, Oversize, Short, AlreadyOpen, NotOpen, BadMicros, BadName, Counter}
+use Rattle.rules.specs.declared.Refusal.the-variants.{NoConnection, NoRoom, ClockBack, Oversize, Short, AlreadyOpen, NotOpen, BadMicros, BadName, Counter, BadSection}
 use Rattle.rules.specs.declared.Framing.the-variants.{Framed, Unframed}
 use Rattle.rules.specs.Units.{timeOf, badMicros, fromMicros}
 use Rattle.rules.specs.Bytes.{messageID, messageSize, oversize, hasZero, nameIn}
 use Rattle.rules.specs.State.{Splicer, linkOf, isOpen, withLink, withQueue}
 use Rattle.rules.specs.Records.{Record}
 use Rattle.rules.specs.Ends.{closedBy}
-use Rattle.rules.specs.Calls.{houseNumber, refused, good, Called, refuse, does, writtenBy, consumedBy, bufferAfter, noConnection, noRoom, notOpen, named, fresh, openCall, closeCall, framing, handled, messageCall, ticked, moveCall, tickCall, Call, opens, closes, messages, ticks, moves, call}
+use Rattle.rules.specs.Cues.{badSection, readCue, cueTime, initialised, cueRecords}
+use Rattle.rules.specs.Calls.{houseNumber, refused, good, Called, refuse, does, writtenBy, consumedBy, bufferAfter, noConnection, noRoom, notOpen, named, fresh, openCall, closeCall, framing, handled, messageCall, ticked, moveCall, tickCall, Call, opens, closes, messages, ticks, moves, cueCall, cues, call}
 use Rattle.rules.proofs.Written.{written-none}
 use Rattle.demands.specs.Told.{firstNumber, checks, numberOf, Unchanged}
 use Rattle.demands.proofs.Cases.{cases}
@@ -42,6 +43,7 @@ module _ (s : Splicer) where
         accepting = λ c l loans m r i j p n e. good-other e;
         ticking = λ seconds micros room le n e. good-other e;
         moving = λ until room le n e. good-other e;
+        cueing = λ l pts seconds micros room rs p n e. good-other e;
       })
 
   pub unchanged : (k : Call) (n : Refusal) → call k s .answer ≡ refused n → Unchanged s (call k s)
@@ -50,7 +52,7 @@ module _ (s : Splicer) where
       record { splicer = same-state k n e; written = rw e; consumed = rw e; buffer = λ b. rw e (written-none b 0) }
 
   pub first-number : (k : Call) → numberOf (call k s .answer) ≡ firstNumber (checks k s)
-  unfolding call openCall closeCall messageCall framing handled moveCall tickCall ticked numberOf houseNumber firstNumber checks
+  unfolding call openCall closeCall messageCall framing handled moveCall tickCall cueCall ticked numberOf houseNumber firstNumber checks
   first-number (opens c) = go (noConnection c) (isOpen (linkOf c s))
     where
       go : (a b : Bool) → numberOf (cond a (refuse NoConnection s) (cond b (refuse AlreadyOpen s) (does 0 [] (withLink c Opened s))) .answer) ≡ cond a 1 (cond b 6 0)
@@ -96,6 +98,16 @@ module _ (s : Splicer) where
       go true b = refl
       go false true = refl
       go false false = refl
+  first-number (cues l pts seconds micros room) = go (noRoom room) (badMicros micros) (badSection l)
+    where
+      go : (a b d : Bool)
+          → numberOf (cond a (refuse NoRoom s) (cond b (refuse BadMicros s) (cond d (refuse BadSection s)
+          (does 0 (cueRecords (readCue l) (cueTime pts seconds micros (readCue l)) l (initialised s)) s))) .answer)
+          ≡ cond a 2 (cond b 8 (cond d 11 0))
+      go true b d = refl
+      go false true d = refl
+      go false false true = refl
+      go false false false = refl
 
 -- no refusal is number 0
 pub a-number : (n : Refusal) → 0 < houseNumber n
@@ -110,6 +122,7 @@ a-number NotOpen = omega arith
 a-number BadMicros = omega arith
 a-number BadName = omega arith
 a-number Counter = omega arith
+a-number BadSection = omega arith
 
 -- "name without a zero byte"; "A refused fresh gives, with number 9, the splicer of an empty name."
 pub fresh-number : (name : List ℕ) → numberOf (fresh name .answer) ≡ cond (hasZero name) 0 9

@@ -13,7 +13,7 @@ use Rattle.rules.specs.Units.{timeOf, fromMicros}
 use Rattle.rules.specs.Lists.{All, bit, some, count, place, removeAt}
 use Rattle.rules.specs.declared.Ending.the-variants.{Response}
 use Rattle.rules.specs.State.{sameNumber, Queue, Splicer, empty, is, held, startsAt}
-use Rattle.rules.specs.Records.{Record, General, InitResponse, AliveResponse, SpliceResponse, SpliceComplete, AbortResponse, recordsIn}
+use Rattle.rules.specs.Records.{Record, General, InitResponse, AliveResponse, SpliceResponse, SpliceComplete, AbortResponse, CueRequest, recordsIn}
 use Rattle.rules.specs.Ends.{Turn, andThen, ended, evicted, evictedAt, dismissed, followers, closedBy}
 use Rattle.rules.specs.Instants.{runAll}
 use Rattle.rules.specs.Answers.{requested, accepts, accepted}
@@ -114,6 +114,7 @@ module _ (c x u : ℕ) where
       let i = eqb-true f 1 (h .0) in
       (h .0, record { ends = λ d′ y′. rw (i, eqb-true c d (k .0), eqb-true x y (k .1)); starts = λ d′ y′. rw i })
   out-end (AbortResponse d n y) e = absurd (clash false e refl)
+  out-end (CueRequest d a u l) e = absurd (clash false e refl)
 
   is-end : (r : Record) → EndOf c x r → isEnd c x r ≡ true
   is-end r e = e .ends c x ∙ rw (eqb-same c, eqb-same x)
@@ -228,6 +229,7 @@ module _ (β : Base) (s : Splicer) (l : List Airing) (h : Sound s) (o : Kept β 
             (all-append (λ r. isOut c x r ≡ false) (evicted (new .start .0) q .written) (accepts new ∷ []) (no-out-evicted c x (new .start .0) q) (refl, tt));
         ticking = λ seconds micros room le. tick-told (fromMicros (timeOf seconds micros) .0);
         moving = λ until room le. tick-told until;
+        cueing = λ m pts seconds micros room rs p. plain-out _ rs p;
       })
 
 -- ## From bytes alone

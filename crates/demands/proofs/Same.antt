@@ -15,7 +15,7 @@ use Rattle.rules.specs.Lists.{put, keep}
 use Rattle.rules.specs.Reading.{sessionID, readSplice, dataIn}
 use Rattle.rules.specs.State.{sameNumber}
 use Rattle.rules.specs.Records.{Record, recordsIn}
-use Rattle.rules.specs.Calls.{Call, opens, closes, messages, ticks, moves}
+use Rattle.rules.specs.Calls.{Call, opens, closes, messages, ticks, moves, cues}
 use Rattle.demands.specs.History.{Reply, refusal, wrote, Event, Entry, entryIs, isStart, isEnd, grantedIn, othersIn, credited, lastTold, endTold, startTold, endAsked, muxAsked, entryOf, bookAnswered, shut, bookAfter, bookReplied, book, clockReplied}
 use Rattle.rules.proofs.Tests.{by, and-both, eqb-same}
 use Rattle.demands.specs.Airing.{Airing, airingIs, newest, begins, ends, marked, concerns, heard, byThen, heardAll, startAsked, airingAsked, airedAnswered, airedAfter, airedReplied, airings}
@@ -130,6 +130,7 @@ module _ (l : List Airing) (es : List Entry) (h : map ofAiring l ≡ map ofEntry
   key-replied u (messages d m room) (wrote b) = key-answered u d m (recordsIn b)
   key-replied u (ticks seconds micros room) (wrote b) = heard-credited u (recordsIn b)
   key-replied u (moves until room) (wrote b) = heard-credited u (recordsIn b)
+  key-replied u (cues m pts seconds micros room) (wrote b) = heard-credited u (recordsIn b)
 
 keys : (h : List Event) (now : ℕ) (l : List Airing) (es : List Entry) → map ofAiring l ≡ map ofEntry es → map ofAiring (airings h now l) ≡ map ofEntry (book h es)
 unfolding airings book

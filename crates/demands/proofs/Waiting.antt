@@ -130,6 +130,7 @@ module _ (s : Splicer) (L : ℕ → List ℕ) (h : Sound s) (g : Counted (s .que
             (λ d. rw (e, ← (read-id (dataIn l) r f), last-last (isYes c (r .id)) rs (accepts new), front-last rs (accepts new), eqb-same c, eqb-same (r .id))) (new-counted new);
         ticking = λ seconds micros room le. let until = fromMicros (timeOf seconds micros) .0 in turn-counted q L once g (runAll (s .clock) until q) (λ d x. tick-law d x (s .clock) until q);
         moving = λ until room le. turn-counted q L once g (runAll (s .clock) until q) (λ d x. tick-law d x (s .clock) until q);
+        cueing = λ l pts seconds micros room rs p. plain-counted q L once g rs p;
       })
 
 -- ## Every sequence of calls

@@ -11,8 +11,8 @@ use Rattle.rules.specs.Units.{fromMicros, fromTicks}
 use Rattle.rules.specs.Lists.{bit, some, put}
 use Rattle.rules.specs.Reading.{sessionID, readSplice, dataIn}
 use Rattle.rules.specs.State.{sameNumber}
-use Rattle.rules.specs.Records.{Record, General, InitResponse, AliveResponse, SpliceResponse, SpliceComplete, AbortResponse, recordsIn}
-use Rattle.rules.specs.Calls.{Call, opens, closes, messages, ticks, moves}
+use Rattle.rules.specs.Records.{Record, General, InitResponse, AliveResponse, SpliceResponse, SpliceComplete, AbortResponse, CueRequest, recordsIn}
+use Rattle.rules.specs.Calls.{Call, opens, closes, messages, ticks, moves, cues}
 use Rattle.demands.specs.History.{Reply, refusal, wrote, Event, isStart, isEnd, grantedIn, othersIn, clockReplied, clockAfter}
 
 -- ## Sessions as calls and answers tell them
@@ -59,6 +59,7 @@ lists (AliveResponse c r a y t) = false
 lists (SpliceResponse c r y) = false
 lists (SpliceComplete c r y f d) = eqb f 1
 lists (AbortResponse c r y) = false
+lists (CueRequest c a u l) = false
 
 unfoldable pub saysPlayed : Record → ℕ
 saysPlayed (General c r) = 0
@@ -67,6 +68,7 @@ saysPlayed (AliveResponse c r a y t) = 0
 saysPlayed (SpliceResponse c r y) = 0
 saysPlayed (SpliceComplete c r y f d) = d
 saysPlayed (AbortResponse c r y) = 0
+saysPlayed (CueRequest c a u l) = 0
 
 -- its end r was written, by the time t at the latest
 abbrev pub ends : ℕ → Record → Airing → Airing
@@ -105,6 +107,7 @@ byThen u es (AliveResponse c r a y t ∷ rs) = byThen u es rs
 byThen u es (SpliceResponse c r y ∷ rs) = byThen u es rs
 byThen u es (SpliceComplete c r y f d ∷ rs) = cond (eqb f 0) (newest c y es .start) (byThen u es rs)
 byThen u es (AbortResponse c r y ∷ rs) = byThen u es rs
+byThen u es (CueRequest c a v l ∷ rs) = byThen u es rs
 
 -- the records of an answer, one after another
 unfoldable pub heardAll : ℕ → List Record → List Airing → List Airing
@@ -142,6 +145,7 @@ airedAfter u (closes d room) rs es = heardAll u rs es
 airedAfter u (messages d l loans) rs es = airedAnswered u d l rs es
 airedAfter u (ticks seconds micros room) rs es = heardAll u rs es
 airedAfter u (moves until room) rs es = heardAll u rs es
+airedAfter u (cues l pts seconds micros room) rs es = heardAll u rs es
 
 -- u: the clock after the call
 unfoldable pub airedReplied : ℕ → Call → Reply → List Airing → List Airing

@@ -13,8 +13,8 @@ use Rattle.rules.specs.Units.{timeOf, fromMicros, fromTicks}
 use Rattle.rules.specs.Lists.{put, keep, count}
 use Rattle.rules.specs.Reading.{sessionID, readSplice, dataIn, isSplice}
 use Rattle.rules.specs.State.{Splicer, sameNumber}
-use Rattle.rules.specs.Records.{Record, General, InitResponse, AliveResponse, SpliceResponse, SpliceComplete, AbortResponse, recordsIn}
-use Rattle.rules.specs.Calls.{Answer, refused, good, Call, opens, closes, messages, ticks, moves, call, writtenBy}
+use Rattle.rules.specs.Records.{Record, General, InitResponse, AliveResponse, SpliceResponse, SpliceComplete, AbortResponse, CueRequest, recordsIn}
+use Rattle.rules.specs.Calls.{Answer, refused, good, Call, opens, closes, messages, ticks, moves, cues, call, writtenBy}
 
 -- ## Starts and ends among records
 
@@ -27,6 +27,7 @@ tells completes responds c x (AliveResponse c′ r a y t) = false
 tells completes responds c x (SpliceResponse c′ r y) = responds r && sameNumber c x c′ y
 tells completes responds c x (SpliceComplete c′ r y f d) = completes r f && sameNumber c x c′ y
 tells completes responds c x (AbortResponse c′ r y) = false
+tells completes responds c x (CueRequest c′ a u l) = false
 
 -- the start of number x of connection c: SpliceComplete flag 0, result 100
 unfoldable pub isStart : ℕ → ℕ → Record → Bool
@@ -105,6 +106,7 @@ othersOf (closes c room) rs = rs
 othersOf (messages c l loans) rs = othersIn l rs
 othersOf (ticks seconds micros room) rs = rs
 othersOf (moves until room) rs = rs
+othersOf (cues l pts seconds micros room) rs = rs
 
 -- ## The waiting sessions of a connection: "accepted since it was opened, less those whose start or end was written"
 
@@ -122,6 +124,7 @@ waitAfter c (closes d room) rs w = keep (unmarked c rs) w
 waitAfter c (messages d l loans) rs w = waitAnswered c d l rs w
 waitAfter c (ticks seconds micros room) rs w = keep (unmarked c rs) w
 waitAfter c (moves until room) rs w = keep (unmarked c rs) w
+waitAfter c (cues l pts seconds micros room) rs w = keep (unmarked c rs) w
 
 unfoldable pub waitReplied : ℕ → Call → Reply → List ℕ → List ℕ
 waitReplied c k (refusal n) w = w
@@ -236,6 +239,7 @@ bookAfter (closes d room) rs es = shut d (credited rs es)
 bookAfter (messages d l loans) rs es = bookAnswered d l rs es
 bookAfter (ticks seconds micros room) rs es = credited rs es
 bookAfter (moves until room) rs es = credited rs es
+bookAfter (cues l pts seconds micros room) rs es = credited rs es
 
 unfoldable pub bookReplied : Call → Reply → List Entry → List Entry
 bookReplied k (refusal n) es = es
@@ -255,6 +259,7 @@ clockReplied (closes c room) (wrote l) now = now
 clockReplied (messages c m loans) (wrote l) now = now
 clockReplied (ticks seconds micros room) (wrote l) now = fromMicros (timeOf seconds micros) .0
 clockReplied (moves until room) (wrote l) now = until
+clockReplied (cues m pts seconds micros room) (wrote l) now = now
 
 unfoldable pub clockAfter : List Event → ℕ → ℕ
 clockAfter [] now = now

@@ -15,8 +15,9 @@ use Rattle.rules.specs.Bytes.{Byte, messageSize, oversize}
 use Rattle.rules.specs.Reading.{averageMux, spliceRequest, readSplice, dataIn}
 use Rattle.rules.specs.State.{Splicer, linkOf, isOpen, isInitialised}
 use Rattle.rules.specs.Records.{Record, recordsIn}
+use Rattle.rules.specs.Cues.{badSection}
 use Rattle.rules.specs.Answers.{fullBy, firstOf, requested, wrongNumber, tooLate, collides}
-use Rattle.rules.specs.Calls.{houseNumber, Answer, refused, good, Called, writtenBy, consumedBy, bufferAfter, noConnection, noRoom, notOpen, fresh, framing, Loans, Call, opens, closes, messages, ticks, moves, after}
+use Rattle.rules.specs.Calls.{houseNumber, Answer, refused, good, Called, writtenBy, consumedBy, bufferAfter, noConnection, noRoom, notOpen, fresh, framing, Loans, Call, opens, closes, messages, ticks, moves, cues, after}
 use Rattle.demands.specs.History.{Reply, refusal, wrote, Event, Entry, entryIs, muxTold, startsOf, endsOf, history, grantedIn, waitingCount, tells, othersOf}
 use Rattle.rules.specs.Sound.{Wired}
 
@@ -78,7 +79,7 @@ unfoldable pub earlierCode : ℕ → Request → Splicer → ℕ
 earlierCode c r s =
     firstOf (wrongNumber c r (s .queue)) (tooLate (s .clock) (r .start)) (collides (requested c r (s .queue)) (s .queue .waiting)) false
 
--- "Order: open 1, 6; close 1, 2, 7; message 1, 2, 7, 5 (header), 4, 5 (body); tick 2, 8, 3."
+-- "Order: open 1, 6; close 1, 2, 7; message 1, 2, 7, 5 (header), 4, 5 (body); tick 2, 8, 3." 02, CR 7: cue 2, 8, 11
 unfoldable pub checks : Call → Splicer → List Check
 checks (opens c) s = check 1 (noConnection c) ∷ check 6 (isOpen (linkOf c s)) ∷ []
 checks (closes c room) s = check 1 (noConnection c) ∷ check 2 (noRoom room) ∷ check 7 (notOpen c s) ∷ []
@@ -88,6 +89,7 @@ checks (messages c l loans) s =
 checks (ticks seconds micros room) s =
     check 2 (noRoom room) ∷ check 8 (badMicros micros) ∷ check 3 (ltb (fromMicros (timeOf seconds micros) .0) (s .clock)) ∷ []
 checks (moves until room) s = check 2 (noRoom room) ∷ check 3 (ltb until (s .clock)) ∷ []
+checks (cues l pts seconds micros room) s = check 2 (noRoom room) ∷ check 8 (badMicros micros) ∷ check 11 (badSection l) ∷ []
 
 -- the number of a refusal; 0 is none
 unfoldable pub numberOf : Answer → ℕ
@@ -169,3 +171,4 @@ grantedBy (closes c room) rs = false
 grantedBy (messages c l loans) rs = grantedIn c l rs
 grantedBy (ticks seconds micros room) rs = false
 grantedBy (moves until room) rs = false
+grantedBy (cues l pts seconds micros room) rs = false
