@@ -8,7 +8,7 @@ use native.Mathlib.Numerals.{add-one}
 use lib.ListN.{length, take, set, getD}
 use lib.Seq.{length-take-le, take-suc}
 use Rattle.rules.specs.Bytes.{bytes, nameIn, padded, written}
-use Rattle.rules.specs.Records.{General, InitResponse, AliveResponse, SpliceComplete, framed, timeBytes, recordBytes}
+use Rattle.rules.specs.Records.{General, InitResponse, AliveResponse, SpliceComplete, CueRequest, framed, timeBytes, recordBytes}
 use Rattle.rules.proofs.Written.{written-set, written-more, length-written}
 use Rattle.writing.specs.Header.{headerOf}
 
@@ -44,6 +44,11 @@ pub complete-parts : (c r x flag played : ℕ) →
     headerOf c 0x0009 13 r ++ bytes 4 x ++ bytes 1 flag ++ bytes 4 0 ++ bytes 4 played ≡ recordBytes (SpliceComplete c r x flag played)
 unfolding recordBytes framed headerOf bytes
 complete-parts c r x flag played = refl
+
+pub cue-parts : (c a u : ℕ) (l : List ℕ) →
+    headerOf c 0x000C (8 + length l) 0xFFFF ++ bytes 4 a ++ bytes 4 u ++ l ≡ recordBytes (CueRequest c a u l)
+unfolding recordBytes headerOf bytes
+cue-parts c a u l = framed-header c 0x000C (8 + length l) 0xFFFF (bytes 4 a ++ (bytes 4 u ++ l)) (omega arith)
 
 -- a turn of a copy: one byte more of l
 pub copied : (e l o : List ℕ) (i : ℕ) → i < length l → length l ≤ length e → o ≡ written e 0 (take i l) →

@@ -2,12 +2,13 @@
 // that buffer from the current length on and writes its record at the start; every other byte stays as it was.
 use rules::Micros;
 use rules::Ticks;
+use rules::WireTime;
 ghost use mathlib.Core.Path.{_≡_};
-ghost use Prim.Native.Nat.{_≤_};
+ghost use Prim.Native.Nat.{_+_, _≤_};
 ghost use lib.ListN.{length};
 ghost use Rattle.rules.specs.Bytes.{bytes, written, nameIn, padded};
 ghost use Rattle.rules.specs.Records.{framed, timeBytes, recordBytes};
-ghost use Rattle.rules.specs.Records.{General, InitResponse, AliveResponse, SpliceResponse, SpliceComplete, AbortResponse};
+ghost use Rattle.rules.specs.Records.{General, InitResponse, AliveResponse, SpliceResponse, SpliceComplete, AbortResponse, CueRequest};
 ghost use Rattle.writing.specs.Header.{headerOf, Turned};
 
 // ---- parts of a record. "All numbers are big-endian."
@@ -150,4 +151,18 @@ pub fn abort_response(out: &mut [u8], conn: u64, result: u16, id: u64)
     ensures { λ _. ⌜ now (out .exit) ≡ written (now (out .entry)) 0 (recordBytes (AbortResponse conn result id)) ⌝ }
 {
     session_response(out, conn, 0x000F, result, id);
+}
+
+// 02, CR 7: a Cue_Request is no answer, so that its Result is 0xFFFF as Result_Extension is; the time's two numbers, and the section as it came.
+pub fn cue_request(out: &mut [u8], conn: u64, time: WireTime, section: &[u8])
+    requires { ⌜ length (now section) ≤ 512 ⌝ }
+    requires { ⌜ 18 + length (now section) ≤ length (now out) ⌝ }
+    ensures { λ _.
+        ⌜ now (out .exit) ≡ written (now (out .entry)) 0
+        (recordBytes (CueRequest conn (time .seconds) (time .micros) (now (section .entry)))) ⌝ }
+{
+    header(&mut *out, conn, 0x000C, 8 + section.len() as u16, 0xFFFF);
+    put4(&mut out[10..], time.seconds as u64);
+    put4(&mut out[14..], time.micros as u64);
+    copy(&mut out[18..], section);
 }
