@@ -110,5 +110,5 @@ module _ (s : Splicer) (P : Call → Called → Type 0) (k : Cases s P) where
         answering = λ c l loans low e. message-case c l loans;
         bringing = bring-case;
         cueing = λ l pts seconds micros room g. let x = readCue l in
-            let t = cueTime pts seconds micros x in k .cueing l pts seconds micros room (cueRecords x t l (initialised s)) (plain-cue x t l (initialised s));
+            let t = cueTime pts seconds micros x in k .cueing l pts seconds micros room (cueRecords x t l (initialised (s .links))) (plain-cue x t l (initialised (s .links)));
       })

@@ -19,3 +19,4 @@ pub mod Moments
 pub mod Owners
 pub mod Said
 pub mod Same
+pub mod Cued

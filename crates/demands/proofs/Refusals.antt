@@ -102,7 +102,7 @@ module _ (s : Splicer) where
     where
       go : (a b d : Bool)
           → numberOf (cond a (refuse NoRoom s) (cond b (refuse BadMicros s) (cond d (refuse BadSection s)
-          (does 0 (cueRecords (readCue l) (cueTime pts seconds micros (readCue l)) l (initialised s)) s))) .answer)
+          (does 0 (cueRecords (readCue l) (cueTime pts seconds micros (readCue l)) l (initialised (s .links))) s))) .answer)
           ≡ cond a 2 (cond b 8 (cond d 11 0))
       go true b d = refl
       go false true d = refl

@@ -1,4 +1,4 @@
 pub mod History
-pub mod Told
 pub mod Airing
+pub mod Told
 pub mod Moments

@@ -4,8 +4,10 @@ use mathlib.Core.Bool.{Bool, true, false, cond, _&&_}
 use mathlib.Core.List.{List, [], _∷_, _++_}
 use Prim.Native.Nat.{ℕ, _+_, _-_, _≤_}
 use lib.Dec.{eqb, ltb}
-use lib.ListN.{length}
+use lib.ListN.{length, drop}
 use Rattle.rules.specs.declared.Request.{Request}
+use Rattle.rules.specs.declared.Cue.{Cue}
+use Rattle.rules.specs.declared.Cue.the-variants.{At, Timeless, Silent, Bad}
 use Rattle.rules.specs.declared.Session.{Session}
 use Rattle.rules.specs.declared.Message.the-variants.{Splice}
 use Rattle.rules.specs.declared.Framing.the-variants.{Framed}
@@ -14,11 +16,12 @@ use Rattle.rules.specs.Lists.{All, keep, count}
 use Rattle.rules.specs.Bytes.{Byte, messageSize, oversize}
 use Rattle.rules.specs.Reading.{averageMux, spliceRequest, readSplice, dataIn}
 use Rattle.rules.specs.State.{Splicer, linkOf, isOpen, isInitialised}
-use Rattle.rules.specs.Records.{Record, recordsIn}
+use Rattle.rules.specs.Records.{Record, General, InitResponse, AliveResponse, SpliceResponse, SpliceComplete, AbortResponse, CueRequest, recordBytes, recordsIn}
 use Rattle.rules.specs.Cues.{badSection}
 use Rattle.rules.specs.Answers.{fullBy, firstOf, requested, wrongNumber, tooLate, collides}
 use Rattle.rules.specs.Calls.{houseNumber, Answer, refused, good, Called, writtenBy, consumedBy, bufferAfter, noConnection, noRoom, notOpen, fresh, framing, Loans, Call, opens, closes, messages, ticks, moves, cues, after}
-use Rattle.demands.specs.History.{Reply, refusal, wrote, Event, Entry, entryIs, muxTold, startsOf, endsOf, history, grantedIn, waitingCount, tells, othersOf}
+use Rattle.demands.specs.History.{Reply, refusal, wrote, Event, Entry, entryIs, muxTold, startsOf, endsOf, history, grantedIn, waitingCount, book, clockAfter, tells, othersOf}
+use Rattle.demands.specs.Airing.{airings}
 use Rattle.rules.specs.Sound.{Wired}
 
 -- "Over all sequences of opens, closes, messages and ticks from a fresh splicer": h, the calls with their answers, and s, the splicer
@@ -161,6 +164,44 @@ airMuxTold (air ∷ k) es = muxTold (air .conn) (air .id) es
 -- of a session held: "the value 1 to 10"
 abbrev pub MuxInRange : Session → Type 0
 MuxInRange s = (1 ≤ s .mux) × (s .mux ≤ 10)
+
+-- ## Document 02, CR 7
+
+-- the connection that a record is for
+abbrev pub connOf : Record → ℕ
+connOf (General c r) = c
+connOf (InitResponse c r name) = c
+connOf (AliveResponse c r state x t) = c
+connOf (SpliceResponse c r x) = c
+connOf (SpliceComplete c r x flag played) = c
+connOf (AbortResponse c r x) = c
+connOf (CueRequest c a u l) = c
+
+-- whom a section concerns of which x comes: every initialised connection, from 0 upward, or nobody
+unfoldable pub concerned : Cue → Splicer → List ℕ
+concerned (At p) s = keep (λ c. isInitialised (linkOf c s)) (0 ∷ 1 ∷ 2 ∷ 3 ∷ [])
+concerned Timeless s = keep (λ c. isInitialised (linkOf c s)) (0 ∷ 1 ∷ 2 ∷ 3 ∷ [])
+concerned Silent s = []
+concerned Bad s = keep (λ c. isInitialised (linkOf c s)) (0 ∷ 1 ∷ 2 ∷ 3 ∷ [])
+
+-- a Cue_Request's bytes from the 19th on, behind mark, header and time, are the section l
+unfoldable pub Carries : List ℕ → Record → Type 0
+Carries l (General c r) = Unit {0}
+Carries l (InitResponse c r name) = Unit {0}
+Carries l (AliveResponse c r state x t) = Unit {0}
+Carries l (SpliceResponse c r x) = Unit {0}
+Carries l (SpliceComplete c r x flag played) = Unit {0}
+Carries l (AbortResponse c r x) = Unit {0}
+Carries l (CueRequest c a u m) = drop 18 (recordBytes (CueRequest c a u m)) ≡ l
+
+-- what the answers of g tell is what those of h tell: each connection's waiting sessions, the book, the clock, what has started, and so who owned each
+-- ninth (02, CR 13)
+pub record Alike (h g : List Event) : Type 0 where
+  pub waiting : (c : ℕ) → waitingCount c g ≡ waitingCount c h
+  pub book : book g [] ≡ book h []
+  pub clock : clockAfter g 0 ≡ clockAfter h 0
+  pub started : (c x : ℕ) → startedTold c x g 0 ≡ startedTold c x h 0
+  pub aired : airings g 0 [] ≡ airings h 0 []
 
 -- ## Document 02, CR 11
 

@@ -12,7 +12,7 @@ use ghost.Atoms.{Atoms}
 use contract.Lifetimes.{Lfts}
 use contract.Monad.{Fun}
 use contract.Notation.{Connectives, connectives}
-use denote.Builtin.{u8, Ref, SliceRef, Array}
+use denote.Builtin.{u8, u32, Ref, SliceRef, Array}
 use denote.Ref.{now}
 use denote.Signature.{typeAt}
 use denote.Triple.Clauses.{AtExit}
@@ -23,12 +23,13 @@ use Rattle.rules.specs.Calls.{call}
 use Rattle.engine.specs.Lent.{Lent, Counts, Primary, ReadsMux}
 use Rattle.streams.specs.Rows.{ReadsList, WritesList}
 use Rattle.engine.proofs.Held.{kind, Holds, Same, both, number-held, bytes-held}
-use Rattle.door.specs.Door.{Replies, anOpen, aClose, aMessage, aTick, Typed, Seen, Allowed}
+use Rattle.door.specs.Door.{Replies, anOpen, aClose, aMessage, aTick, aCue, Typed, Seen, Allowed}
 use Rattle.door.proofs.«splicer_5_fresh» as fresh
 use Rattle.door.proofs.«splicer_5_open» as opening
 use Rattle.door.proofs.«splicer_5_close» as close
 use Rattle.door.proofs.«splicer_5_message» as message
 use Rattle.door.proofs.«splicer_5_tick» as tick
+use Rattle.door.proofs.«splicer_5_cue» as cue
 use Rattle.door.proofs.«splicer_5_waiting» as waiting
 use Rattle.door.proofs.«splicer_5_primary» as primary
 use Rattle.door.proofs.«splicer_5_mux» as mux
@@ -98,6 +99,17 @@ module _ {M : Type 1} (𝓤 : URA M) (H : Heap 𝓤) (A : Atoms 𝓤) (mem : sto
     unfolding call
     tick-ensures = refl
 
+  -- splicer_5_cue(words, bytes, section, given, out, reply): the words and the bytes are only read
+  module _ (κs : Lfts 6) (a : Args cue.signature κs) (r : Res cue.signature κs) (z : AtExit cue.ended κs) where
+    pub cue-requires : cue.clauses 𝓤 H A mem run κs a .requires tt ≡ ⌜ Lent (now (a .0)) (now (a .1 .0)) ⌝
+    cue-requires = refl
+
+    pub cue-ensures : cue.clauses 𝓤 H A mem run κs a .ensures tt r z
+        ≡ ⌜ Allowed (now (a .0)) (now (a .1 .0)) (aCue (now (a .1 .1 .0)) (now (a .1 .1 .1 .0)) (now (a .1 .1 .1 .1 .0)))
+        (ended (now (z .1 .1 .1 .1 .1 .0)) (now (a .0)) (now (a .1 .0)) (now (z .1 .1 .1 .1 .0))) ⌝
+    unfolding call
+    cue-ensures = refl
+
   -- splicer_5_waiting(words, bytes, counts)
   module _ (κs : Lfts 3) (a : Args waiting.signature κs) (r : Res waiting.signature κs) (z : AtExit waiting.ended κs) where
     pub waiting-requires : waiting.clauses 𝓤 H A mem run κs a .requires tt ≡ ⌜ Lent (now (a .0)) (now (a .1 .0)) ⌝
@@ -166,3 +178,11 @@ module _ (κs : Lfts 5) where
   pub message-typed : (conn : ℕ) (l e : List ℕ)
       → Same (Holds (kind message.signature κs 2) conn × All (Holds u8) l) (Typed (aMessage conn l e))
   message-typed conn l e = both (number-held conn) (bytes-held l)
+
+module _ (κs : Lfts 6) where
+  -- a section is a &[u8], and what is given with it is a &[u32; 4]
+  pub section-typed : kind cue.signature κs 2 ≡ typeAt {n = 6} (SliceRef 2 tt u8 tt) κs
+  section-typed = refl
+
+  pub given-typed : kind cue.signature κs 3 ≡ typeAt {n = 6} (Ref 3 tt (Array u32 tt 4) tt) κs
+  given-typed = refl

@@ -1,12 +1,12 @@
 -- The reply to C, what a call of the door promises, and what C hands in and sees.
 use mathlib.Core.Path.{_≡_}
 use mathlib.Core.List.{List, [], _∷_}
-use Prim.Native.Nat.{ℕ, _<_}
-use lib.ListN.{length}
+use Prim.Native.Nat.{ℕ, _+_, _*_, _<_}
+use lib.ListN.{length, getD}
 use Rattle.rules.specs.Lists.{All}
 use Rattle.rules.specs.Bytes.{Byte}
 use Rattle.rules.specs.State.{Splicer}
-use Rattle.rules.specs.Calls.{Called, houseNumber, Call, opens, closes, messages, lending, ticks, call}
+use Rattle.rules.specs.Calls.{Called, houseNumber, Call, opens, closes, messages, lending, ticks, cues, cueCall, call}
 use Rattle.memory.specs.Memory.{see, shown}
 use Rattle.engine.specs.declared.Answer.{Answer}
 use Rattle.engine.specs.declared.Answer.the-variants.{Refused, Done}
@@ -28,6 +28,13 @@ pub record Replies (c : Called) (at : ℕ) (e r m b o : List ℕ) : Type 0 where
 abbrev pub Hears : (ℕ → Splicer → Called) → (m b e r n c o : List ℕ) → Type 0
 Hears k m b e r n c o = Replies (k (length e) (shown m b)) (see m .ringEnd) e r n c o
 
+-- 02, CR 7: what is given with a section: the PTS, its high 32 bits first, Seconds and MicroSeconds
+abbrev pub ptsOf : List ℕ → ℕ
+ptsOf g = getD g 0 0 * 4294967296 + getD g 1 0
+
+abbrev pub cueOf : (section given : List ℕ) → ℕ → Splicer → Called
+cueOf l g = cueCall l (ptsOf g) (getD g 2 0) (getD g 3 0)
+
 -- ## What C hands in, and what it sees
 
 -- a call and what it is handed beside the lent words and bytes; a buffer is what it holds before the call
@@ -36,6 +43,7 @@ pub data Input : Type 0 where
   aClose : (conn : ℕ) (buffer : List ℕ) → Input
   aMessage : (conn : ℕ) (l buffer : List ℕ) → Input
   aTick : (seconds micros : ℕ) (buffer : List ℕ) → Input
+  aCue : (section given buffer : List ℕ) → Input
 
 -- what the types say of the inputs: a u32 is below 2^32, and a u8 is a byte
 abbrev pub Typed : Input → Type 0
@@ -43,6 +51,7 @@ Typed (anOpen conn) = conn < 4294967296
 Typed (aClose conn e) = conn < 4294967296
 Typed (aMessage conn l e) = (conn < 4294967296) × All Byte l
 Typed (aTick seconds micros e) = (seconds < 4294967296) × (micros < 4294967296)
+Typed (aCue l g e) = All Byte l × (length g ≡ 4) × All (λ x. x < 4294967296) g
 
 -- the call as document 01 has it: of a buffer, its length
 abbrev pub callOf : Input → Call
@@ -50,6 +59,7 @@ callOf (anOpen conn) = opens conn
 callOf (aClose conn e) = closes conn (length e)
 callOf (aMessage conn l e) = messages conn l (lending (length e))
 callOf (aTick seconds micros e) = ticks seconds micros (length e)
+callOf (aCue l g e) = cues l (ptsOf g) (getD g 2 0) (getD g 3 0) (length e)
 
 -- open has no buffer
 abbrev pub bufferOf : Input → List ℕ
@@ -57,6 +67,7 @@ bufferOf (anOpen conn) = []
 bufferOf (aClose conn e) = e
 bufferOf (aMessage conn l e) = e
 bufferOf (aTick seconds micros e) = e
+bufferOf (aCue l g e) = e
 
 -- after a call: the reply's words, and what the lent words, bytes and buffer hold
 pub record Seen : Type 0 where

@@ -4,6 +4,7 @@
 use engine::Answer;
 use memory::BYTES;
 use memory::WORDS;
+use relay::Anchor;
 use streams::KEPT;
 use streams::LIST;
 ghost use mathlib.Core.Path.{_≡_};
@@ -11,7 +12,7 @@ ghost use mathlib.Core.List.{[]};
 ghost use Rattle.rules.specs.Calls.{fresh, openCall, closeCall, messageCall, tickCall, lending};
 ghost use Rattle.engine.specs.Lent.{Lent, Counts, Primary, ReadsMux};
 ghost use Rattle.streams.specs.Rows.{ReadsList, WritesList};
-ghost use Rattle.door.specs.Door.{replyOf, Replies, Hears};
+ghost use Rattle.door.specs.Door.{replyOf, Replies, Hears, cueOf};
 
 // The house number of a refusal or 0, the bytes consumed and written, and how many places an acceptance shifted.
 fn reply_of(a: Answer) -> [u64; 4]
@@ -167,4 +168,29 @@ pub extern "C" fn splicer_5_mux(words: &[u64; WORDS], bytes: &[u8; BYTES]) -> u6
     ensures { λ r. ⌜ ReadsMux (now (words .entry)) (now (bytes .entry)) r ⌝ }
 {
     engine::mux(words, bytes)
+}
+
+// 02, CR 7: a section of cues. given: the PTS, its high 32 bits first, then Seconds and MicroSeconds of the instant that belongs to it. The
+// words and bytes are only read.
+#[no_mangle]
+pub extern "C" fn splicer_5_cue(
+    words: &[u64; WORDS],
+    bytes: &[u8; BYTES],
+    section: &[u8],
+    given: &[u32; 4],
+    out: &mut [u8],
+    reply: &mut [u64; 4],
+)
+    requires { ⌜ Lent (now words) (now bytes) ⌝ }
+    ensures { λ _.
+        ⌜ Hears (cueOf (now (section .entry)) (now (given .entry))) (now (words .entry)) (now (bytes .entry)) (now (out .entry))
+        (now (reply .exit)) (now (words .entry)) (now (bytes .entry)) (now (out .exit)) ⌝ }
+{
+    let at = Anchor {
+        pts: given[0] as u64 * 4294967296 + given[1] as u64,
+        seconds: given[2],
+        micros: given[3],
+    };
+    let a = engine::cue(words, bytes, section, at, &mut *out);
+    *reply = reply_of(a);
 }

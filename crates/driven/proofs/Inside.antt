@@ -3,18 +3,20 @@
 use mathlib.Core.Path.{_≡_, refl, ap, _∙_}
 use mathlib.Core.Bool.{false}
 use mathlib.Core.List.{List, [], _∷_, _++_}
-use Prim.Native.Nat.{ℕ}
+use Prim.Native.Nat.{ℕ, _<_}
+use native.Mathlib.Omega.{arith}
 use lib.Dec.{eqb}
 use lib.ListN.{take}
 use Rattle.rules.specs.declared.Refusal.{Refusal}
-use Rattle.rules.specs.declared.Refusal.the-variants.{NoConnection, NoRoom, ClockBack, Oversize, Short, AlreadyOpen, NotOpen, BadMicros, BadName, Counter}
+use Rattle.rules.specs.declared.Refusal.the-variants.{NoConnection, NoRoom, ClockBack, Oversize, Short, AlreadyOpen, NotOpen, BadMicros, BadName, Counter, BadSection}
 use Rattle.rules.specs.Calls as rules
 use Rattle.rules.specs.Calls.{refused, good, Called, call, houseNumber, consumedBy, writtenBy}
+use Rattle.rules.proofs.All.{at-all}
 use Rattle.demands.specs.Told.{numberOf}
 use Rattle.engine.specs.declared.Answer.{Answer}
 use Rattle.engine.specs.declared.Answer.the-variants.{Refused, Done}
 use Rattle.engine.specs.Lent.{answerOf, Answers}
-use Rattle.door.specs.Door.{replyOf, Replies, Input, anOpen, aClose, aMessage, aTick, Typed, callOf, bufferOf, Seen, Allowed}
+use Rattle.door.specs.Door.{replyOf, Replies, Input, anOpen, aClose, aMessage, aTick, aCue, Typed, callOf, bufferOf, Seen, Allowed}
 use Rattle.door.proofs.Laws.{reply-is}
 use Rattle.traces.specs.Trace.{Memory}
 use Rattle.traces.specs.Trace as engine
@@ -35,6 +37,7 @@ refusal-read NotOpen = (refl, refl)
 refusal-read BadMicros = (refl, refl)
 refusal-read BadName = (refl, refl)
 refusal-read Counter = (refl, refl)
+refusal-read BadSection = (refl, refl)
 
 -- of a reply that the door gives, C reads what the engine's answer has
 number-told : (a : Answer) → numberIn (replyOf a) ≡ engine.numberIn a
@@ -99,18 +102,23 @@ call-handed (anOpen conn) = refl
 call-handed (aClose conn e) = refl
 call-handed (aMessage conn l e) = refl
 call-handed (aTick seconds micros e) = refl
+call-handed (aCue l g e) = refl
 
 pub buffer-handed : (i : Input) → bufferOf i ≡ engine.bufferOf (handed i)
 buffer-handed (anOpen conn) = refl
 buffer-handed (aClose conn e) = refl
 buffer-handed (aMessage conn l e) = refl
 buffer-handed (aTick seconds micros e) = refl
+buffer-handed (aCue l g e) = refl
 
 pub typed-handed : (i : Input) → Typed i → engine.Typed (handed i)
 typed-handed (anOpen conn) t = t
 typed-handed (aClose conn e) t = t
 typed-handed (aMessage conn l e) t = t
 typed-handed (aTick seconds micros e) t = t
+typed-handed (aCue l g e) t =
+    let w = at-all (λ x. x < 4294967296) 0 g (omega arith) (t .2) in
+    (t .0, omega (arith, w 0, w 1), w 2, w 3)
 
 -- what the door's contract allows, the engine's does
 pub allowed-inside : (m : Memory) (i : Input) (r : Seen) → Allowed (m .words) (m .bytes) i r → engine.Allowed m (handed i) (inside r)
@@ -119,6 +127,7 @@ allowed-inside m (anOpen conn) r x = told x
 allowed-inside m (aClose conn e) r x = told x
 allowed-inside m (aMessage conn l e) r x = told x
 allowed-inside m (aTick seconds micros e) r x = told x
+allowed-inside m (aCue l g e) r x = told x
 
 event-inside : (m : Memory) (i : Input) (r : Seen) → Allowed (m .words) (m .bytes) i r
     → eventOf (made i r) ≡ engine.eventOf (engine.made (handed i) (inside r))

@@ -7,7 +7,7 @@ use Prim.Native.Nat.{ℕ}
 use lib.Dec.{eqb}
 use lib.ListN.{length, getD, take}
 use Rattle.rules.specs.declared.Refusal.{Refusal}
-use Rattle.rules.specs.declared.Refusal.the-variants.{NoConnection, NoRoom, ClockBack, Oversize, Short, AlreadyOpen, NotOpen, BadMicros, BadName, Counter}
+use Rattle.rules.specs.declared.Refusal.the-variants.{NoConnection, NoRoom, ClockBack, Oversize, Short, AlreadyOpen, NotOpen, BadMicros, BadName, Counter, BadSection}
 use Rattle.rules.specs.Lists.{All}
 use Rattle.rules.specs.Bytes.{Byte}
 use Rattle.rules.specs.Calls as rules
@@ -16,7 +16,7 @@ use Rattle.demands.specs.History.{Reply, refusal, wrote, Event}
 use Rattle.demands.specs.Told.{numberOf}
 use Rattle.engine.specs.declared.Answer.{Answer}
 use Rattle.engine.specs.declared.Answer.the-variants.{Refused, Done}
-use Rattle.door.specs.Door.{Replies, Input, anOpen, aClose, aMessage, aTick, Typed, callOf, bufferOf, Seen, Allowed}
+use Rattle.door.specs.Door.{Replies, Input, anOpen, aClose, aMessage, aTick, aCue, ptsOf, Typed, callOf, bufferOf, Seen, Allowed}
 use Rattle.traces.specs.Trace.{Memory, shown}
 use Rattle.traces.specs.Trace as engine
 
@@ -89,7 +89,7 @@ bytesOf r = take (writtenIn (r .reply)) (r .buffer)
 
 -- the refusal that a number stands for, by the table of house numbers
 abbrev pub refusals : List Refusal
-refusals = NoConnection ∷ NoRoom ∷ ClockBack ∷ Oversize ∷ Short ∷ AlreadyOpen ∷ NotOpen ∷ BadMicros ∷ BadName ∷ Counter ∷ []
+refusals = NoConnection ∷ NoRoom ∷ ClockBack ∷ Oversize ∷ Short ∷ AlreadyOpen ∷ NotOpen ∷ BadMicros ∷ BadName ∷ Counter ∷ BadSection ∷ []
 
 unfoldable pub refusalAmong : List Refusal → ℕ → Refusal
 refusalAmong [] n = BadName
@@ -149,6 +149,7 @@ handed (anOpen conn) = engine.anOpen conn
 handed (aClose conn e) = engine.aClose conn e
 handed (aMessage conn l e) = engine.aMessage conn l e
 handed (aTick seconds micros e) = engine.aTick seconds micros e
+handed (aCue l g e) = engine.aCue l (ptsOf g) (getD g 2 0) (getD g 3 0) e
 
 -- the engine's answer, from the reply's words
 abbrev pub answerIn : List ℕ → Answer

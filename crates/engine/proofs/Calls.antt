@@ -15,7 +15,7 @@ use Rattle.rules.specs.declared.Ninths.{Ninths}
 use Rattle.rules.specs.declared.Link.{Link}
 use Rattle.rules.specs.declared.Link.the-variants.{Closed, Opened, Initialised}
 use Rattle.rules.specs.declared.Refusal.{Refusal}
-use Rattle.rules.specs.declared.Refusal.the-variants.{NoConnection, NoRoom, ClockBack, AlreadyOpen, NotOpen, BadMicros}
+use Rattle.rules.specs.declared.Refusal.the-variants.{NoConnection, NoRoom, ClockBack, AlreadyOpen, NotOpen, BadMicros, BadSection}
 use Rattle.rules.specs.declared.Framing.{Framing}
 use Rattle.rules.specs.declared.Framing.the-variants.{Framed, Unframed}
 use Rattle.rules.specs.Lists.{All}
@@ -26,12 +26,13 @@ use Rattle.rules.specs.Records.{output}
 use Rattle.rules.specs.Ends.{Turn, closedBy}
 use Rattle.rules.specs.Instants.{runAll, silentAll}
 use Rattle.rules.specs.Answers.{Answered, says, answer}
-use Rattle.rules.specs.Calls.{Called, Call, opens, closes, messages, moves, call, noConnection, noRoom, notOpen, openCall, closeCall, framing, handled, lending, messageCall, moveCall, tickCall, ticked, refuse, does, replies, writtenBy, bufferAfter}
+use Rattle.rules.specs.Cues.{badSection, readCue, cueTime, initialised, cueRecords}
+use Rattle.rules.specs.Calls.{Called, Call, opens, closes, messages, moves, cues, cueCall, call, noConnection, noRoom, notOpen, openCall, closeCall, framing, handled, lending, messageCall, moveCall, tickCall, ticked, refuse, does, replies, writtenBy, bufferAfter}
 use Rattle.rules.specs.Sound.{Holding, Reached, Wired, horizon}
 use Rattle.rules.proofs.Written.{written-none}
 use Rattle.rules.proofs.Sound.{reached-call, reached-sound, few-wait, few-started}
 use Rattle.memory.specs.Memory.{Memory, see, Now, timed, linked, queued, silenced, shifted, nameOf, shown}
-use Rattle.ends.specs.Does.{roomFor, Turns}
+use Rattle.ends.specs.Does.{roomFor, Tells, Turns}
 use Rattle.instants.specs.Runs.{Ticked}
 use Rattle.requests.specs.declared.Given.{Given}
 use Rattle.answers.specs.Gives.{Gives, unmoved}
@@ -300,3 +301,46 @@ module _ {m b e : List ℕ} (seconds micros : ℕ) (l : Lent m b) where
       let q : moveCall (until .0) (length e) (shown m b) ≡ tickCall seconds micros (length e) (shown m b) =
       ap (λ (t : Ninths). moveCall (t .0) (length e) (shown m b)) same ∙ sym (tick-good seconds micros (length e) (shown m b) h i) in
       subst (λ (x : Called). Answers x (see m .ringEnd) e r v c o) q a
+
+-- ## Cue
+
+-- x: the section
+module _ (x : List ℕ) (pts seconds micros room : ℕ) (s : Splicer) where
+  cue-none : room < 4096 → cueCall x pts seconds micros room s ≡ refuse NoRoom s
+  unfolding cueCall
+  cue-none e = rw (lt-ltb room 4096 e)
+
+  cue-over : 4096 ≤ room → 999999 < micros → cueCall x pts seconds micros room s ≡ refuse BadMicros s
+  unfolding cueCall
+  cue-over e f = rw (le-ltb room 4096 e, lt-ltb 999999 micros f)
+
+  cue-unfit : 4096 ≤ room → micros ≤ 999999 → badSection x ≡ true → cueCall x pts seconds micros room s ≡ refuse BadSection s
+  unfolding cueCall
+  cue-unfit e f g = rw (le-ltb room 4096 e, le-ltb 999999 micros f, g)
+
+  cue-good : 4096 ≤ room → micros ≤ 999999 → badSection x ≡ false
+      → cueCall x pts seconds micros room s ≡ does 0 (cueRecords (readCue x) (cueTime pts seconds micros (readCue x)) x (initialised (s .links))) s
+  unfolding cueCall
+  cue-good e f g = rw (le-ltb room 4096 e, le-ltb 999999 micros f, g)
+
+module _ {m b e : List ℕ} (x : List ℕ) (pts seconds micros : ℕ) (l : Lent m b) where
+  pub cue-small : length e < 4096 → Answers (cueCall x pts seconds micros (length e) (shown m b)) (see m .ringEnd) e (Refused NoRoom) m b e
+  cue-small h = refused-as (cueCall x pts seconds micros (length e) (shown m b)) NoRoom l (cue-none x pts seconds micros (length e) (shown m b) h)
+
+  pub cue-micros : 4096 ≤ length e → 999999 < micros
+      → Answers (cueCall x pts seconds micros (length e) (shown m b)) (see m .ringEnd) e (Refused BadMicros) m b e
+  cue-micros h i =
+      refused-as (cueCall x pts seconds micros (length e) (shown m b)) BadMicros l (cue-over x pts seconds micros (length e) (shown m b) h i)
+
+  pub cue-section : 4096 ≤ length e → micros ≤ 999999 → badSection x ≡ true
+      → Answers (cueCall x pts seconds micros (length e) (shown m b)) (see m .ringEnd) e (Refused BadSection) m b e
+  cue-section h i g =
+      refused-as (cueCall x pts seconds micros (length e) (shown m b)) BadSection l (cue-unfit x pts seconds micros (length e) (shown m b) h i g)
+
+  pub cue-done : {o : List ℕ} {len : ℕ} → All Byte x → 4096 ≤ length e → micros ≤ 999999 → badSection x ≡ false
+      → Tells e 0 (cueRecords (readCue x) (cueTime pts seconds micros (readCue x)) x (initialised (see m .links))) len o
+      → Answers (cueCall x pts seconds micros (length e) (shown m b)) (see m .ringEnd) e (Done 0 len 0) m b o
+  unfolding call
+  cue-done y h i g t =
+      done-as (cues x pts seconds micros (length e)) 0 (says _ (shown m b)) {r = unmoved _} l y (cue-good x pts seconds micros (length e) (shown m b) h i g)
+      (record { whole = l .whole; splicer = refl; ring = refl; tells = t; moved = refl })

@@ -8,7 +8,7 @@ use native.Mathlib.Omega.{arith}
 use lib.Dec.{ltb}
 use lib.ListN.{length, replicate}
 use Rattle.rules.specs.declared.Refusal.{Refusal}
-use Rattle.rules.specs.declared.Refusal.the-variants.{NoConnection, NoRoom, ClockBack, AlreadyOpen, NotOpen, BadMicros, BadName}
+use Rattle.rules.specs.declared.Refusal.the-variants.{NoConnection, NoRoom, ClockBack, AlreadyOpen, NotOpen, BadMicros, BadName, BadSection}
 use Rattle.rules.specs.declared.Framing.{Framing}
 use Rattle.rules.specs.declared.Framing.the-variants.{Framed, Unframed}
 use Rattle.rules.specs.Lists.{All}
@@ -16,7 +16,8 @@ use Rattle.rules.specs.Units.{badMicros, timeOf, fromMicros}
 use Rattle.rules.specs.Bytes.{Byte, hasZero}
 use Rattle.rules.specs.State.{Splicer, isOpen, linkOf}
 use Rattle.rules.specs.Answers.{Answered, says}
-use Rattle.rules.specs.Calls.{Called, Call, opens, closes, messages, ticks, moves, call, refused, good, refuse, does, replies, bufferAfter, noConnection, noRoom, notOpen, openCall, closeCall, messageCall, framing, handled, moveCall, tickCall, ticked, fresh}
+use Rattle.rules.specs.Cues.{badSection}
+use Rattle.rules.specs.Calls.{Called, Call, opens, closes, messages, ticks, moves, cues, cueCall, call, refused, good, refuse, does, replies, bufferAfter, noConnection, noRoom, notOpen, openCall, closeCall, messageCall, framing, handled, moveCall, tickCall, ticked, fresh}
 use Rattle.rules.specs.Calls as calls
 use Rattle.rules.specs.Records.{Record}
 use Rattle.rules.proofs.Tests.{by}
@@ -75,7 +76,7 @@ module _ (s : Splicer) (n : Refusal) where
   keeps-move until room = keeps-test (noRoom room) NoRoom _ (keeps-test (ltb until (s .clock)) ClockBack _ (keeps-does _ _ _))
 
   pub call-refused : (k : Call) → Keeps (call k s)
-  unfolding call openCall closeCall messageCall tickCall
+  unfolding call openCall closeCall messageCall tickCall cueCall
   call-refused (opens c) =
       keeps-test (noConnection c) NoConnection _ (keeps-test (isOpen (linkOf c s)) AlreadyOpen _ (keeps-does _ _ _))
   call-refused (closes c room) = keeps-guarded c room _ (keeps-does _ _ _)
@@ -84,6 +85,8 @@ module _ (s : Splicer) (n : Refusal) where
       keeps-test (noRoom room) NoRoom _
       (keeps-test (badMicros micros) BadMicros _ (keeps-move (fromMicros (timeOf seconds micros) .0) room))
   call-refused (moves until room) = keeps-move until room
+  call-refused (cues l pts seconds micros room) =
+      keeps-test (noRoom room) NoRoom _ (keeps-test (badMicros micros) BadMicros _ (keeps-test (badSection l) BadSection _ (keeps-does _ _ _)))
 
 pub refused-answer : (a : calls.Answer) (moved : ℕ) (n : Refusal) → Refused n ≡ answerOf a moved → a ≡ refused n
 unfolding answerOf

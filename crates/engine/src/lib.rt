@@ -2,6 +2,7 @@
 use memory::BYTES;
 use memory::WORDS;
 use memory::Which;
+use relay::Anchor;
 use rules::Framing;
 use rules::Link;
 use rules::Ninths;
@@ -11,7 +12,7 @@ ghost use mathlib.Core.List.{[]};
 ghost use Prim.Native.Nat.{_<_};
 ghost use Rattle.rules.specs.Lists.{All};
 ghost use Rattle.rules.specs.Bytes.{Byte, hasZero};
-ghost use Rattle.rules.specs.Calls.{houseNumber, fresh, openCall, closeCall, messageCall, moveCall, tickCall, lending};
+ghost use Rattle.rules.specs.Calls.{houseNumber, fresh, openCall, closeCall, messageCall, moveCall, tickCall, cueCall, lending};
 ghost use Rattle.rules.specs.Sound.{horizon};
 ghost use Rattle.memory.specs.Memory.{Form, see};
 ghost use Rattle.engine.specs.Lent.{Lent, Answers, Makes, openTest, Counts, Primary, ReadsMux};
@@ -43,6 +44,7 @@ pub fn house_number(n: Refusal) -> u8
         Refusal::BadMicros => 8,
         Refusal::BadName => 9,
         Refusal::Counter => 12,
+        Refusal::BadSection => 11,
     }
 }
 
@@ -200,4 +202,24 @@ pub fn tick(m: &mut [u64; WORDS], b: &mut [u8], seconds: u32, micros: u32, out: 
     }
     let until = units::from_micros(units::time_of(seconds, micros));
     bring_to(&mut *m, &mut *b, until, &mut *out)
+}
+
+// 02, CR 7: cue: 2, 8, 11. It reads the connections' states and changes nothing; the clock plays no part.
+pub fn cue(m: &[u64; WORDS], b: &[u8], section: &[u8], at: Anchor, out: &mut [u8]) -> Answer
+    requires { ⌜ Lent (now m) (now b) ⌝ }
+    ensures { λ r.
+        ⌜ Makes (cueCall (now (section .entry)) (at .pts) (at .seconds) (at .micros)) (now (m .entry)) (now (b .entry)) (now (out .entry)) r
+        (now (m .entry)) (now (b .entry)) (now (out .exit)) ⌝ }
+{
+    if out.len() < 4096 {
+        return Answer::Refused(Refusal::NoRoom);
+    }
+    if 999999 < at.micros {
+        return Answer::Refused(Refusal::BadMicros);
+    }
+    if cues::bad_section(section) {
+        return Answer::Refused(Refusal::BadSection);
+    }
+    let len = relay::pass_on(m, section, at, &mut *out);
+    Answer::Done(0, len, 0)
 }

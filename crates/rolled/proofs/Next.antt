@@ -6,7 +6,7 @@ use Prim.Native.Nat.{ℕ, _≤_, _<_}
 use native.Mathlib.Omega.{arith}
 use lib.Dec.{eqb}
 use lib.ListN.{length}
-use Rattle.rules.specs.Calls.{Call, opens, closes, messages, ticks, moves, writtenBy}
+use Rattle.rules.specs.Calls.{Call, opens, closes, messages, ticks, moves, cues, writtenBy}
 use Rattle.rules.specs.Rolling.{roll}
 use Rattle.demands.specs.Told.{firstNumber, outsOf}
 use Rattle.demands.specs.History.{Event, endsOf, front, othersOf}
@@ -140,6 +140,7 @@ others-none (messages c l loans) = go (isSplice l)
     go false = refl
 others-none (ticks seconds micros room) = refl
 others-none (moves until room) = refl
+others-none (cues l pts seconds micros room) = refl
 
 others-by-none : (i : RollInput) → othersBy i [] ≡ []
 others-by-none (aKnown i) = others-none (callOf i)

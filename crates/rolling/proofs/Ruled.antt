@@ -13,7 +13,7 @@ use Rattle.rules.specs.Lists.{All}
 use Rattle.rules.specs.Units.{timeOf, badMicros, fromMicros}
 use Rattle.rules.specs.Bytes.{Byte}
 use Rattle.rules.specs.State.{Splicer}
-use Rattle.rules.specs.Calls.{Called, noRoom, fresh, ticked, moveCall, Call, opens, closes, messages, ticks, moves, call, after, answers}
+use Rattle.rules.specs.Calls.{Called, noRoom, fresh, ticked, moveCall, Call, opens, closes, messages, ticks, moves, cues, call, after, answers}
 use Rattle.rules.specs.Sound.{Wired, Reached, horizon}
 use Rattle.rules.specs.Rolling.{Last, none, at, Rolling, rollingOf, rollover, overStep, movedOn, pastField, isGiven, Course, refuses, brings, instantCourse, stepCourse, readingCourse, rolls, instantCall, readingCall, rollingFresh, Timeless, RollingCall, known, instants, readings, roll, rolledAfter, asMove, asCalls, asMoves, said, rollAnswers, RollWired, RollReached}
 use Rattle.rules.proofs.All.{all-append}
@@ -41,6 +41,7 @@ timeless-clock s k t = sym (call-clock s k) ∙ go k t (replyOf (call k s .answe
     go (messages c m loans) u (wrote l) = refl
     go (ticks seconds micros room) u (wrote l) = absurd u
     go (moves until room) u (wrote l) = absurd u
+    go (cues m pts seconds micros room) u (wrote l) = refl
 
 steady-rolls : (c : Course) (reading : ℕ) (r : Rolling) → reading < rollover → Steady r → Steady (rollingOf (rolls c reading r))
 unfolding rolls

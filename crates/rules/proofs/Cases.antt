@@ -62,7 +62,7 @@ pub record Cases (s : Splicer) (P : Call → Called → Type 0) : Type 0 where
   pub bringing : (k : Call) (until : ℕ) → Brings k until → s .clock ≤ until → P k (ticked until s)
   -- 02, CR 7
   pub cueing : (l : List ℕ) (pts seconds micros room : ℕ) → badSection l ≡ false
-      → P (cues l pts seconds micros room) (does 0 (cueRecords (readCue l) (cueTime pts seconds micros (readCue l)) l (initialised s)) s)
+      → P (cues l pts seconds micros room) (does 0 (cueRecords (readCue l) (cueTime pts seconds micros (readCue l)) l (initialised (s .links))) s)
 
 -- ## Result codes
 

@@ -150,5 +150,5 @@ call-coded k s =
       answering = λ c l loans low e. message-coded s c l;
       bringing = λ k until b le. run-coded _ (s .clock) until (s .queue);
       cueing = λ l pts seconds micros room g. let x = readCue l in
-          cue-all Coded (cueTime pts seconds micros x) l (λ c low. refl) (λ c low. refl) x (initialised s) (initialised-low s);
+          cue-all Coded (cueTime pts seconds micros x) l (λ c low. refl) (λ c low. refl) x (initialised (s .links)) (initialised-low (s .links));
     }) k

@@ -5,13 +5,15 @@ use mathlib.Core.List.{List, [], _∷_, map}
 use Prim.Native.Nat.{ℕ, _+_, _*_, _/_, _%_, _≤_, _<_}
 use native.Mathlib.Omega.{arith}
 use lib.Dec.{eqb, ltb}
-use lib.ListN.{length}
+use lib.ListN.{length, getD}
 use borrow.Author.Tests.{ltb-false}
 use Rattle.rules.specs.declared.Cue.{Cue}
 use Rattle.rules.specs.declared.Cue.the-variants.{At, Timeless, Silent, Bad}
 use Rattle.rules.specs.declared.WireTime.{WireTime}
 use Rattle.rules.specs.Lists.{put, keep}
-use Rattle.rules.specs.State.{Splicer, linkOf, isInitialised}
+use Rattle.rules.specs.declared.Link.{Link}
+use Rattle.rules.specs.declared.Link.the-variants.{Closed}
+use Rattle.rules.specs.State.{isInitialised}
 use Rattle.rules.specs.Units.{second, timeOf, fromMicros, toMicros}
 use Rattle.rules.specs.Records.{Record, output}
 use Rattle.rules.specs.Cues.{sectionLength, badSection, exactTime, wireTimeOf, cueTime, initialised, passedTo, complainedTo, cueRecords}
@@ -59,13 +61,13 @@ module _ (p : ℕ → Bool) where
   keep-four : length (keep p (0 ∷ 1 ∷ 2 ∷ 3 ∷ [])) ≤ 4
   keep-four = omega (arith, put-length (p 0) 0 (keep p (1 ∷ 2 ∷ 3 ∷ [])), put-length (p 1) 1 (keep p (2 ∷ 3 ∷ [])), put-length (p 2) 2 (keep p (3 ∷ [])), put-length (p 3) 3 [])
 
-pub initialised-low : (s : Splicer) → All (λ c. c ≤ 3) (initialised s)
+pub initialised-low : (links : List Link) → All (λ c. c ≤ 3) (initialised links)
 unfolding initialised
-initialised-low s = keep-low (λ c. isInitialised (linkOf c s))
+initialised-low links = keep-low (λ c. isInitialised (getD links c Closed))
 
-pub initialised-four : (s : Splicer) → length (initialised s) ≤ 4
+pub initialised-four : (links : List Link) → length (initialised links) ≤ 4
 unfolding initialised
-initialised-four s = keep-four (λ c. isInitialised (linkOf c s))
+initialised-four links = keep-four (λ c. isInitialised (getD links c Closed))
 
 -- ## The records
 

@@ -306,7 +306,7 @@ call-fits k s w h =
       cueing = λ l pts seconds micros room g w. let x = readCue l in
           let t = cueTime pts seconds micros x in
           let d = cue-wide pts seconds micros x in
-          cue-all Fits t l (λ c low. (omega arith, d .0, d .1, section-size l g .1, w)) (λ c low. (omega arith, omega arith)) x (initialised s) (initialised-low s);
+          cue-all Fits t l (λ c low. (omega arith, d .0, d .1, section-size l g .1, w)) (λ c low. (omega arith, omega arith)) x (initialised (s .links)) (initialised-low (s .links));
     }) k w
 
 -- what is found in the bytes that a call wrote is what it answered

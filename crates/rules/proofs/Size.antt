@@ -214,5 +214,5 @@ module _ (s : Splicer) (h : Bounded s) where
         answering = λ c l loans low e. message-size c l;
         bringing = λ k until b le. omega (arith, tick-brief (s .clock) until (s .queue), h .waiting, h .started);
         cueing = λ l pts seconds micros room g. let x = readCue l in
-            omega (arith, cue-weight x (cueTime pts seconds micros x) l (initialised s) (section-size l g .1), initialised-four s);
+            omega (arith, cue-weight x (cueTime pts seconds micros x) l (initialised (s .links)) (section-size l g .1), initialised-four (s .links));
       })

@@ -173,7 +173,7 @@ cueCall l pts seconds micros room s =
     cond (noRoom room) (refuse NoRoom s)
     (cond (badMicros micros) (refuse BadMicros s)
     (cond (badSection l) (refuse BadSection s)
-    (does 0 (cueRecords (readCue l) (cueTime pts seconds micros (readCue l)) l (initialised s)) s)))
+    (does 0 (cueRecords (readCue l) (cueTime pts seconds micros (readCue l)) l (initialised (s .links))) s)))
 
 -- ## Sequences of calls: "A splicer is what fresh and the calls since have given"
 

@@ -10,7 +10,9 @@ use Rattle.rules.specs.declared.WireTime.{WireTime}
 use Rattle.rules.specs.Units.{second, timeOf, fromMicros, fromTicks, toMicros}
 use Rattle.rules.specs.Lists.{keep}
 use Rattle.rules.specs.Bytes.{field}
-use Rattle.rules.specs.State.{Splicer, linkOf, isInitialised}
+use Rattle.rules.specs.declared.Link.{Link}
+use Rattle.rules.specs.declared.Link.the-variants.{Closed}
+use Rattle.rules.specs.State.{isInitialised}
 use Rattle.rules.specs.Records.{Record, General, CueRequest}
 use Rattle.rules.specs.Crc.{rightCrc}
 
@@ -166,9 +168,9 @@ cueTime pts seconds micros Bad = allOnes
 
 -- ## What is written
 
--- "every initialised connection": open ones that are not initialised get nothing
-unfoldable pub initialised : Splicer → List ℕ
-initialised s = keep (λ c. isInitialised (linkOf c s)) (0 ∷ 1 ∷ 2 ∷ 3 ∷ [])
+-- "every initialised connection", by the connections' states: open ones that are not initialised get nothing
+unfoldable pub initialised : List Link → List ℕ
+initialised links = keep (λ c. isInitialised (getD links c Closed)) (0 ∷ 1 ∷ 2 ∷ 3 ∷ [])
 
 abbrev pub passedTo : WireTime → (section : List ℕ) → ℕ → Record
 passedTo t l c = CueRequest c (t .seconds) (t .micros) l

@@ -23,7 +23,7 @@ use Rattle.engine.specs.declared.Answer.{Answer}
 use Rattle.engine.specs.declared.Answer.the-variants.{Refused, Done}
 use Rattle.engine.specs.Lent.{Lent, answerOf, Answers}
 use Rattle.engine.proofs.Beginning.{fresh-good, fresh-bad}
-use Rattle.traces.specs.Trace.{Memory, shown, Input, anOpen, aClose, aMessage, aTick, aMove, Typed, callOf, bufferOf}
+use Rattle.traces.specs.Trace.{Memory, shown, Input, anOpen, aClose, aMessage, aTick, aMove, aCue, Typed, callOf, bufferOf}
 use Rattle.traces.specs.Trace.{Result, Made, made, Leads, Answerable, Run, inputs}
 use Rattle.traces.proofs.Steps.{wired, promised}
 
@@ -95,6 +95,8 @@ module _ (m : Memory) (l : Lent (m .words) (m .bytes)) where
   answerable (aTick seconds micros e) t =
       record { result = found (aTick seconds micros e); allowed = allows (aTick seconds micros e) t }
   answerable (aMove until e) t = record { result = found (aMove until e); allowed = allows (aMove until e) t }
+  answerable (aCue x pts seconds micros e) t =
+      record { result = found (aCue x pts seconds micros e); allowed = allows (aCue x pts seconds micros e) t }
 
 -- ## Any calls
 

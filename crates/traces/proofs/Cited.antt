@@ -31,10 +31,11 @@ use Rattle.engine.proofs.close as close
 use Rattle.engine.proofs.message as message
 use Rattle.engine.proofs.tick as tick
 use Rattle.engine.proofs.bring_to as bringing
+use Rattle.engine.proofs.cue as cue
 use Rattle.engine.proofs.waiting as waiting
 use Rattle.engine.proofs.primary as primary
 use Rattle.engine.proofs.mux as mux
-use Rattle.traces.specs.Trace.{Memory, shown, Input, anOpen, aClose, aMessage, aTick, aMove, Typed, callOf, bufferOf, Result, Allowed}
+use Rattle.traces.specs.Trace.{Memory, shown, Input, anOpen, aClose, aMessage, aTick, aMove, aCue, Typed, callOf, bufferOf, Result, Allowed}
 use Rattle.traces.proofs.Course.{LentAt}
 
 -- the memory that a call is handed
@@ -123,6 +124,19 @@ module _ {M : Type 1} (𝓤 : URA M) (H : Heap 𝓤) (A : Atoms 𝓤) (mem : sto
         ≡ ⌜ Allowed move-at (aMove (a .1 .1 .0 .0) (now (a .1 .1 .1 .0))) (ended r (now (z .0)) (now (z .1 .0)) (now (z .1 .1 .1 .0))) ⌝
     move-ensures = refl
 
+  -- cue(m, b, section, at, out): the words and the bytes are lent to be read, so they are after it what they were
+  module _ (κs : Lfts 4) (a : Args cue.signature κs) (r : Res cue.signature κs) (z : AtExit cue.ended κs) where
+    abbrev cue-at : Memory
+    cue-at = at (now (a .0)) (now (a .1 .0))
+
+    pub cue-requires : cue.clauses 𝓤 H A mem run κs a .requires tt ≡ ⌜ LentAt cue-at ⌝
+    cue-requires = refl
+
+    pub cue-ensures : cue.clauses 𝓤 H A mem run κs a .ensures tt r z
+        ≡ ⌜ Allowed cue-at (aCue (now (a .1 .1 .0)) (a .1 .1 .1 .0 .pts) (a .1 .1 .1 .0 .seconds) (a .1 .1 .1 .0 .micros) (now (a .1 .1 .1 .1 .0)))
+        (ended r (now (a .0)) (now (a .1 .0)) (now (z .1 .1 .1 .1 .0))) ⌝
+    cue-ensures = refl
+
   -- waiting(m, b)
   module _ (κs : Lfts 2) (a : Args waiting.signature κs) (r : Res waiting.signature κs) (z : AtExit waiting.ended κs) where
     pub waiting-requires : waiting.clauses 𝓤 H A mem run κs a .requires tt ≡ ⌜ LentAt (at (now (a .0)) (now (a .1 .0))) ⌝
@@ -157,6 +171,7 @@ called m (aClose conn e) r = refl
 called m (aMessage conn l e) r = refl
 called m (aTick seconds micros e) r = refl
 called m (aMove until e) r = refl
+called m (aCue l pts seconds micros e) r = refl
 
 -- ## Typed is what the parameters' types say, and no more; of bring_to it is what it requires (move-requires)
 
@@ -183,3 +198,8 @@ module _ (κs : Lfts 4) where
   pub message-typed : (conn : ℕ) (l e : List ℕ)
       → Same (Holds (kind message.signature κs 2) conn × All (Holds u8) l) (Typed (aMessage conn l e))
   message-typed conn l e = both (number-held conn) (bytes-held l)
+
+module _ (κs : Lfts 4) where
+  -- the section is a &[u8]
+  pub section-typed : kind cue.signature κs 2 ≡ typeAt {n = 4} (SliceRef 2 tt u8 tt) κs
+  section-typed = refl

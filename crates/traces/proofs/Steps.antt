@@ -18,7 +18,7 @@ use Rattle.engine.specs.Lent.{Lent, answerOf, Answers}
 use Rattle.engine.proofs.Laws.{answers-same, refused-unchanged}
 use Rattle.demands.specs.Told.{firstNumber, checks, numberOf}
 use Rattle.demands.proofs.Refusals.{first-number}
-use Rattle.traces.specs.Trace.{Memory, shown, Input, anOpen, aClose, aMessage, aTick, aMove, Typed, callOf, bufferOf}
+use Rattle.traces.specs.Trace.{Memory, shown, Input, anOpen, aClose, aMessage, aTick, aMove, aCue, Typed, callOf, bufferOf}
 use Rattle.traces.specs.Trace.{Result, Allowed, numberIn, bytesIn, number, replyIn, AsRuled}
 
 -- the types say what the rules ask of a call
@@ -28,6 +28,7 @@ wired (aClose c e) t = tt
 wired (aMessage c l e) t = t .1
 wired (aTick seconds micros e) t = t .0
 wired (aMove until e) t = t
+wired (aCue l pts seconds micros e) t = t .0
 
 -- ## What the driver reads in an answer of document 01
 
@@ -65,6 +66,7 @@ module _ (m : Memory) where
   promised (aMessage c l e) r a = a
   promised (aTick seconds micros e) r a = a
   promised (aMove until e) r a = a
+  promised (aCue l pts seconds micros e) r a = a
 
   module _ (i : Input) (r : Result) (a : Allowed m i r) where
     pub as-ruled : AsRuled m i r

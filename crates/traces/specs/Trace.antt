@@ -7,8 +7,8 @@ use lib.ListN.{length, take, replicate}
 use Rattle.rules.specs.Lists.{All}
 use Rattle.rules.specs.Bytes.{Byte}
 use Rattle.rules.specs.State.{Splicer}
-use Rattle.rules.specs.Calls.{houseNumber, Called, fresh, openCall, closeCall, messageCall, lending, tickCall, moveCall}
-use Rattle.rules.specs.Calls.{call, writtenBy, bufferAfter, Call, opens, closes, messages, ticks, moves}
+use Rattle.rules.specs.Calls.{houseNumber, Called, fresh, openCall, closeCall, messageCall, lending, tickCall, moveCall, cueCall}
+use Rattle.rules.specs.Calls.{call, writtenBy, bufferAfter, Call, opens, closes, messages, ticks, moves, cues}
 use Rattle.rules.specs.Sound.{horizon}
 use Rattle.demands.specs.History.{Reply, refusal, wrote, Event}
 use Rattle.memory.specs.Memory as lent
@@ -38,6 +38,7 @@ pub data Input : Type 0 where
   aMessage : (conn : ℕ) (l buffer : List ℕ) → Input
   aTick : (seconds micros : ℕ) (buffer : List ℕ) → Input
   aMove : (until : ℕ) (buffer : List ℕ) → Input
+  aCue : (section : List ℕ) (pts seconds micros : ℕ) (buffer : List ℕ) → Input
 
 -- what the types say of the inputs: a u32 is below 2^32, and a u8 is a byte. An instant is below all that a tick's time can be, which
 -- bring_to requires
@@ -47,6 +48,7 @@ Typed (aClose conn e) = conn < 4294967296
 Typed (aMessage conn l e) = (conn < 4294967296) × All Byte l
 Typed (aTick seconds micros e) = (seconds < 4294967296) × (micros < 4294967296)
 Typed (aMove until e) = until < horizon
+Typed (aCue l pts seconds micros e) = All Byte l × (pts < 18446744073709551616) × (seconds < 4294967296) × (micros < 4294967296)
 
 -- the call as document 01 has it: of a buffer, its length
 abbrev pub callOf : Input → Call
@@ -55,6 +57,7 @@ callOf (aClose conn e) = closes conn (length e)
 callOf (aMessage conn l e) = messages conn l (lending (length e))
 callOf (aTick seconds micros e) = ticks seconds micros (length e)
 callOf (aMove until e) = moves until (length e)
+callOf (aCue l pts seconds micros e) = cues l pts seconds micros (length e)
 
 -- open has no buffer
 abbrev pub bufferOf : Input → List ℕ
@@ -63,6 +66,7 @@ bufferOf (aClose conn e) = e
 bufferOf (aMessage conn l e) = e
 bufferOf (aTick seconds micros e) = e
 bufferOf (aMove until e) = e
+bufferOf (aCue l pts seconds micros e) = e
 
 -- ## What comes back
 
@@ -83,6 +87,7 @@ Allowed m (aClose conn e) r = Promises (closeCall conn) m e r
 Allowed m (aMessage conn l e) r = Promises (λ room. messageCall conn l (lending room)) m e r
 Allowed m (aTick seconds micros e) r = Promises (tickCall seconds micros) m e r
 Allowed m (aMove until e) r = Promises (moveCall until) m e r
+Allowed m (aCue l pts seconds micros e) r = Promises (cueCall l pts seconds micros) m e r
 
 -- ## The trace
 
