@@ -3,13 +3,16 @@
 use mathlib.Core.Path.{_≡_, refl, sym, ap, subst, _∙_}
 use mathlib.Core.Bool.{Bool, true, false}
 use mathlib.Core.List.{List, [], _∷_, _++_, map, append-nil}
-use Prim.Native.Nat.{ℕ, zero, suc, _+_, _≤_, _<_}
+use mathlib.Core.Logic.{inl, inr}
+use Prim.Native.Nat.{ℕ, zero, suc, _+_, _-_, _≤_, _<_}
 use native.Mathlib.Omega.{arith}
 use native.Mathlib.Numerals.{add-one}
 use lib.ListN.{length, getD}
 use types.Run.{OneOf}
 use denote.Enum.Declared.{tagOf}
+use borrow.Rule.Slice.PartMut.{putMid, midOf}
 use Rattle.rules.proofs.Link.{the-type}
+use Rattle.rules.proofs.Cue as cue
 use Rattle.rules.specs.declared.Link.{Link}
 use Rattle.rules.specs.declared.Link.the-variants.{Closed, Opened, Initialised}
 use Rattle.rules.specs.declared.Cue.{Cue}
@@ -18,17 +21,18 @@ use Rattle.rules.specs.declared.WireTime.{WireTime}
 use Rattle.rules.specs.Lists.{put, keep}
 use Rattle.rules.specs.Bytes.{written}
 use Rattle.rules.specs.State.{isInitialised}
-use Rattle.rules.specs.Records.{Record, output}
+use Rattle.rules.specs.Records.{Record, General, recordBytes, output}
 use Rattle.rules.specs.Cues.{initialised, passedTo, complainedTo, cueRecords}
 use Rattle.rules.proofs.Written.{length-written}
 use Rattle.rules.proofs.Cued.{cue-weight}
 use Rattle.ends.specs.Does.{Tells}
-use Rattle.ends.proofs.Laws.{tells-none, tells-then}
+use Rattle.ends.proofs.Laws.{tells-none, tells-part, tells-then}
 use Rattle.relay.specs.Room.{cueRoom}
 
 -- ## Which of the connections
 
-pub below : ℕ → List ℕ
+-- 0 to n - 1
+unfoldable pub below : ℕ → List ℕ
 below zero = []
 below (suc n) = below n ++ (n ∷ [])
 
@@ -42,6 +46,7 @@ module _ (p : ℕ → Bool) where
   keep-append (x ∷ l) m = ap (put (p x) x) (keep-append l m) ∙ put-append (p x) x (keep p l) (keep p m)
 
   keep-next : (n : ℕ) → keep p (below (n + 1)) ≡ keep p (below n) ++ put (p n) n []
+  unfolding below
   keep-next n = ap (λ k. keep p (below k)) (add-one n) ∙ keep-append (below n) (n ∷ [])
 
 -- the initialised ones of the first n
@@ -60,7 +65,33 @@ module _ (links : List Link) (n : ℕ) where
 pub not-initialised : (a : Link) → OneOf (0 ∷ 1 ∷ []) (tagOf the-type a) → isInitialised a ≡ false
 not-initialised Closed h = refl
 not-initialised Opened h = refl
-not-initialised Initialised h = absurd (omega arith)
+not-initialised Initialised (inl e) = absurd (omega arith)
+not-initialised Initialised (inr e) = absurd (omega arith)
+
+-- ## One connection
+
+module _ {e : List ℕ} {len : ℕ} (t : WireTime) (l : List ℕ) (c : ℕ) where
+  pub tells-silent : {x : Cue} → x ≡ Silent → Tells e len (cueRecords x t l (c ∷ [])) len e
+  unfolding cueRecords
+  tells-silent f = rw f tells-none
+
+  pub tells-bad : {x : Cue} {y : List ℕ} → x ≡ Bad → len + cueRoom 1 ≤ length e
+      → y ≡ written (midOf len (length e - len) e) 0 (recordBytes (General c 117))
+      → Tells e len (cueRecords x t l (c ∷ [])) (len + 10) (putMid len (length e - len) e y)
+  unfolding cueRecords
+  tells-bad f h w = rw f (tells-part tt (omega arith) w)
+
+  -- the third way of the match in `write_cue`
+  pub tells-passed : (x : Cue) {y : List ℕ} → OneOf (0 ∷ 1 ∷ []) (tagOf cue.the-type x) → length l ≤ 512 → len + cueRoom 1 ≤ length e
+      → y ≡ written (midOf len (length e - len) e) 0 (recordBytes (passedTo t l c))
+      → Tells e len (cueRecords x t l (c ∷ [])) (len + (18 + length l)) (putMid len (length e - len) e y)
+  unfolding cueRecords
+  tells-passed (At p) k s h w = tells-part s (omega arith) w
+  tells-passed Timeless k s h w = tells-part s (omega arith) w
+  tells-passed Silent (inl k) s h w = absurd (omega arith)
+  tells-passed Silent (inr k) s h w = absurd (omega arith)
+  tells-passed Bad (inl k) s h w = absurd (omega arith)
+  tells-passed Bad (inr k) s h w = absurd (omega arith)
 
 -- ## What is written for them
 
@@ -85,7 +116,7 @@ module _ (x : Cue) (t : WireTime) (l : List ℕ) (links : List Link) (e : List �
     pub long : length o ≡ length e
 
   pub sofar-none : Sofar 0 0 e
-  unfolding cueRecords
+  unfolding cueRecords below
   sofar-none = record { few = omega arith; tells = none x; short = omega arith; long = refl }
     where
       none : (y : Cue) → Tells e 0 (cueRecords y t l []) 0 e
@@ -121,7 +152,7 @@ module _ (x : Cue) (t : WireTime) (l : List ℕ) (links : List Link) (e : List �
         }
 
   pub sofar-done : {n len : ℕ} {o : List ℕ} → 4 ≤ n → Sofar n len o → Tells e 0 (cueRecords x t l (initialised links)) len o
-  unfolding initialised
+  unfolding initialised below
   sofar-done {n} {len} {o} h v =
       let four : n ≡ 4 = omega (arith, v .few) in
       subst (λ (k : ℕ). Tells e 0 (cueRecords x t l (first links k)) len o) four (v .tells)
