@@ -50,7 +50,8 @@ enum {
     SPLICER_MARK = 2,
     SPLICER_WORDS = 605,
     SPLICER_BYTES = 32,
-    SPLICER_REPLY = 4
+    SPLICER_REPLY = 4,
+    SPLICER_CUE_SECTION = 512 /* the longest section of cues; the shortest has 20 bytes */
 };
 
 /* Document 01's house numbers: why a call was refused. A refused call wrote nothing, consumed nothing and changed nothing; only a
@@ -58,14 +59,15 @@ enum {
 enum splicer_refusal {
     SPLICER_GOOD = 0,
     SPLICER_NO_CONNECTION = 1, /* connection above 3: open, close, message */
-    SPLICER_NO_ROOM = 2,       /* output buffer below 4,096 bytes: close, message, tick, instant, reading */
+    SPLICER_NO_ROOM = 2,       /* output buffer below 4,096 bytes: close, message, tick, instant, reading, cue */
     SPLICER_CLOCK_BACK = 3,    /* clock earlier than the present one: tick */
     SPLICER_OVERSIZE = 4,      /* MessageSize above 4,088: message */
     SPLICER_SHORT = 5,         /* not yet a whole message: message. Read on and call again with more */
     SPLICER_ALREADY_OPEN = 6,  /* open */
     SPLICER_NOT_OPEN = 7,      /* close, message */
-    SPLICER_BAD_MICROS = 8,    /* MicroSeconds above 999,999: tick, instant */
+    SPLICER_BAD_MICROS = 8,    /* MicroSeconds above 999,999: tick, instant, cue */
     SPLICER_BAD_NAME = 9,      /* name without a zero byte: fresh */
+    SPLICER_BAD_SECTION = 11,  /* section not 3 + section_length bytes long, under 20 or over 512: cue */
     SPLICER_COUNTER = 12       /* a second instant; a reading before the instant, more than 90 s after the last good one or past the last second: instant, reading */
 };
 
@@ -79,6 +81,8 @@ enum splicer_message_id {
     SPLICER_SPLICE_REQUEST = 0x0007,
     SPLICER_SPLICE_RESPONSE = 0x0008,         /* SessionID 4 */
     SPLICER_SPLICE_COMPLETE_RESPONSE = 0x0009, /* SessionID 4, SpliceTypeFlag 1, Bitrate 4, PlayedDuration 4 */
+    SPLICER_CUE_REQUEST = 0x000C,             /* Seconds 4, MicroSeconds 4, the section; Result 0xFFFF, as it is no answer */
+    SPLICER_CUE_RESPONSE = 0x000D,            /* read, and not answered */
     SPLICER_ABORT_REQUEST = 0x000E,
     SPLICER_ABORT_RESPONSE = 0x000F           /* SessionID 4 */
 };
@@ -93,6 +97,7 @@ enum splicer_result {
     SPLICER_TOO_LATE = 112,
     SPLICER_QUEUE_FULL = 114,
     SPLICER_ABORTED = 116,
+    SPLICER_INVALID_CUE = 117,
     SPLICER_UNKNOWN_MESSAGE = 120,
     SPLICER_INVALID_SESSION = 121,
     SPLICER_INVALID_DATA = 123,
@@ -187,6 +192,8 @@ void splicer_5_reading(uint64_t *words, uint8_t *bytes, uint64_t *counter, uint3
 size_t splicer_5_read_streams(const uint8_t *in, size_t length, uint64_t *list, uint8_t *kept);
 size_t splicer_5_write_streams(const uint64_t *list, const uint8_t *kept, uint8_t *out, size_t room);
 uint64_t splicer_5_mux(const uint64_t *words, const uint8_t *bytes);
+void splicer_5_cue(const uint64_t *words, const uint8_t *bytes, const uint8_t *section, size_t length, const uint32_t *given, uint8_t *out,
+                   size_t room, uint64_t *reply);
 
 /* The words of a reply as a struct. */
 static inline struct splicer_reply splicer_reply_of(const uint64_t *reply) {
@@ -289,6 +296,18 @@ static inline size_t splicer_call_write_streams(const struct splicer_streams *s,
  * It changes with starts, ends, aborts and closes: a covered session that is on air again writes no record. */
 static inline uint32_t splicer_call_mux(const struct splicer *s) {
     return (uint32_t)splicer_5_mux(s->words, s->bytes);
+}
+
+/* A section of cues (SCTE 35) from the feed, whole, and a PTS of its time base with the UTC instant that belongs to it; the PTS counts modulo
+ * 2^33, and every cue still expected is at or after it. A Cue_Request to every initialised connection, with the cue's UTC time or all ones; 117
+ * for a section that is bad; nothing for one that concerns no server. It only reads the splicer, and `consumed` is 0. Refused: 2, 8, 11.
+ * docs/INTEGRATION.md says where sections and PTS come from. */
+static inline struct splicer_reply splicer_call_cue(const struct splicer *s, const uint8_t *section, size_t length, uint64_t pts,
+                                                    uint32_t seconds, uint32_t micros, uint8_t *out, size_t room) {
+    uint64_t reply[SPLICER_REPLY];
+    uint32_t given[4] = {(uint32_t)(pts >> 32), (uint32_t)pts, seconds, micros};
+    splicer_5_cue(s->words, s->bytes, section, length, given, out, room, reply);
+    return splicer_reply_of(reply);
 }
 
 /* A record in an output buffer: whom it is for, what it says, and the message as it is sent. The pointers lead into the buffer. */

@@ -62,6 +62,25 @@ static inline int splicer_read_complete(const struct splicer_record *r, struct s
     return 1;
 }
 
+struct splicer_cue_request {
+    uint32_t seconds; /* since 1970-01-01 UTC; 0xFFFFFFFF in both without a time */
+    uint32_t micros;
+    const uint8_t *section; /* as it came */
+    size_t length;
+};
+
+/* Cue_Request. */
+static inline int splicer_read_cue(const struct splicer_record *r, struct splicer_cue_request *to) {
+    if (r->message_id != SPLICER_CUE_REQUEST || r->size < 8) {
+        return 0;
+    }
+    to->seconds = splicer_u32(r->data);
+    to->micros = splicer_u32(r->data + 4);
+    to->section = r->data + 8;
+    to->length = r->size - 8;
+    return 1;
+}
+
 /* Splice_Response or Abort_Response: the SessionID. */
 static inline int splicer_read_session(const struct splicer_record *r, uint32_t *session) {
     if ((r->message_id != SPLICER_SPLICE_RESPONSE && r->message_id != SPLICER_ABORT_RESPONSE) || r->size != 4) {

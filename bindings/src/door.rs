@@ -117,4 +117,16 @@ extern "C" {
 
     #[link_name = "splicer_5_mux"]
     pub fn mux(words: *const u64, bytes: *const u8) -> u64;
+
+    #[link_name = "splicer_5_cue"]
+    pub fn cue(
+        words: *const u64,
+        bytes: *const u8,
+        section: *const u8,
+        length: usize,
+        given: *const u32,
+        out: *mut u8,
+        room: usize,
+        reply: *mut u64,
+    );
 }

@@ -51,6 +51,8 @@ pub const MARK: usize = 2;
 pub const WORDS: usize = 605;
 /// Bytes of a [`Splicer`]'s memory, behind its words.
 pub const BYTES: usize = 32;
+/// The longest section of cues; the shortest has 20 bytes.
+pub const CUE_SECTION: usize = 512;
 
 /// The MuxPriorityValue (J.280, Table 8-11) that changes nothing: what a session without a
 /// muxpriority_descriptor asks.
@@ -82,7 +84,7 @@ const _: () = assert!(core::mem::offset_of!(Splicer, bytes) == 4840);
 pub enum Refusal {
     /// Connection above 3: open, close, message.
     NoConnection = 1,
-    /// Output buffer below 4,096 bytes: close, message, tick, instant, reading.
+    /// Output buffer below 4,096 bytes: close, message, tick, instant, reading, cue.
     NoRoom = 2,
     /// Clock earlier than the present one: tick.
     ClockBack = 3,
@@ -94,10 +96,12 @@ pub enum Refusal {
     AlreadyOpen = 6,
     /// Not open: close, message.
     NotOpen = 7,
-    /// MicroSeconds above 999,999: tick, instant.
+    /// MicroSeconds above 999,999: tick, instant, cue.
     BadMicros = 8,
     /// Name without a zero byte: fresh.
     BadName = 9,
+    /// A section not 3 + section_length bytes long, under 20 or over 512: cue.
+    BadSection = 11,
     /// A second instant, or a reading before the instant, more than 90 s after the last good one or
     /// past the last second of the time field: instant, reading.
     Counter = 12,
@@ -116,6 +120,7 @@ impl Refusal {
             7 => Refusal::NotOpen,
             8 => Refusal::BadMicros,
             9 => Refusal::BadName,
+            11 => Refusal::BadSection,
             12 => Refusal::Counter,
             _ => return None,
         })
@@ -260,6 +265,31 @@ impl Splicer {
     pub fn mux(&self) -> u8 {
         // SAFETY: the state came from fresh.
         unsafe { door::mux(self.words.as_ptr(), self.bytes.as_ptr()) as u8 }
+    }
+
+    /// A section of cues (SCTE 35) from the feed, whole, and a PTS of its time base with the UTC
+    /// instant that belongs to it; the PTS counts modulo 2^33, and every cue still expected is at or
+    /// after it. Gives a Cue_Request for every initialised connection, with the cue's UTC time or all
+    /// ones; 117 for a section that is bad; nothing for one that concerns no server. It only reads the
+    /// splicer. Refused: 2, 8, 11.
+    pub fn cue<'o>(
+        &self,
+        section: &[u8],
+        pts: u64,
+        seconds: u32,
+        micros: u32,
+        out: &'o mut [u8],
+    ) -> Result<&'o [u8], Refusal> {
+        let given = [(pts >> 32) as u32, pts as u32, seconds, micros];
+        let (words, bytes) = (self.words.as_ptr(), self.bytes.as_ptr());
+        let (from, length) = (section.as_ptr(), section.len());
+        let (at, room) = (out.as_mut_ptr(), out.len());
+        // SAFETY: the state came from fresh and is lent for reading; `out` is lent for writing and
+        // `given` is a local, so nothing overlaps.
+        let done = door::replied(|reply| unsafe {
+            door::cue(words, bytes, from, length, given.as_ptr(), at, room, reply);
+        })?;
+        Ok(&out[..done.written])
     }
 
     /// What is lent to every call.

@@ -20,6 +20,10 @@ pub mod message_id {
     pub const SPLICE_RESPONSE: u16 = 0x0008;
     /// SessionID 4, SpliceTypeFlag 1, Bitrate 4, PlayedDuration 4.
     pub const SPLICE_COMPLETE_RESPONSE: u16 = 0x0009;
+    /// Seconds 4, MicroSeconds 4, the section; its Result is 0xFFFF, as it is no answer.
+    pub const CUE_REQUEST: u16 = 0x000C;
+    /// Read by the core, and not answered.
+    pub const CUE_RESPONSE: u16 = 0x000D;
     /// Read by the core.
     pub const ABORT_REQUEST: u16 = 0x000E;
     /// SessionID 4.
@@ -44,6 +48,8 @@ pub mod result {
     pub const QUEUE_FULL: u16 = 114;
     /// Ended by an abort or a close.
     pub const ABORTED: u16 = 116;
+    /// A section of cues that is bad.
+    pub const INVALID_CUE: u16 = 117;
     /// A MessageID that is not read.
     pub const UNKNOWN_MESSAGE: u16 = 120;
     /// A SessionID that is held already, or is not held.
@@ -61,7 +67,7 @@ pub struct Record<'o> {
     pub connection: u8,
     /// One of [`message_id`].
     pub message_id: u16,
-    /// One of [`result`].
+    /// One of [`result`]; 0xFFFF of a Cue_Request.
     pub result: u16,
     /// The message's data; numbers in it are big-endian.
     pub data: &'o [u8],

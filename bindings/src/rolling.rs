@@ -106,6 +106,18 @@ impl RollingSplicer {
     pub fn mux(&self) -> u8 {
         self.core.mux()
     }
+
+    /// As [`Splicer::cue`].
+    pub fn cue<'o>(
+        &self,
+        section: &[u8],
+        pts: u64,
+        seconds: u32,
+        micros: u32,
+        out: &'o mut [u8],
+    ) -> Result<&'o [u8], Refusal> {
+        self.core.cue(section, pts, seconds, micros, out)
+    }
 }
 
 /// Its content is the core's.

@@ -47,6 +47,15 @@ pub enum Says<'o> {
         /// SessionID.
         session: u32,
     },
+    /// Cue_Request.
+    Cue {
+        /// Since 1970-01-01 UTC; 0xFFFFFFFF in both without a time.
+        seconds: u32,
+        /// Below 1,000,000, or 0xFFFFFFFF.
+        micros: u32,
+        /// The section, as it came.
+        section: &'o [u8],
+    },
 }
 
 impl Refusal {
@@ -84,6 +93,11 @@ impl<'o> Record<'o> {
                 played: word(9)?,
             },
             (message_id::ABORT_RESPONSE, 4) => Says::Abort { session: word(0)? },
+            (message_id::CUE_REQUEST, 8..) => Says::Cue {
+                seconds: word(0)?,
+                micros: word(4)?,
+                section: &self.data[8..],
+            },
             _ => return None,
         })
     }
