@@ -1,6 +1,6 @@
 #!/bin/sh
 # driver.sh: the C headers, each by itself, as C11 and C++17, and the example drivers over the proved archive, their output compared with
-# examples/driver.out and rolling.out, and the first one's recording with desk/recordings/sport.rec; a driver of version 1 must not link with it. All by the kit's own compiler and linker.
+# examples/driver.out, rolling.out and cues.out, and the first one's recording with desk/recordings/sport.rec; a driver of version 1 must not link with it. All by the kit's own compiler and linker.
 # The last line is 'N passed, M failed'.
 set -eu
 . "$(dirname "$0")/words.sh"
@@ -41,6 +41,7 @@ header() {
 # built: the archives of the proved crates, and the programs over them
 built() {
     rt staticlib door && sh tools/build-driver.sh "$work/driver" examples/driver.c target/staticlib/libdoor.a -Iinclude &&
+        sh tools/build-driver.sh "$work/cues" examples/cues.c target/staticlib/libdoor.a -Iinclude &&
         rt staticlib rolldoor &&
         sh tools/build-driver.sh "$work/rolling" examples/rolling.c target/staticlib/libdoor.a target/staticlib/librolldoor.a -Iinclude
 }
@@ -53,6 +54,11 @@ runs() {
 # rolls: so does the driver of the card with a rolling counter
 rolls() {
     sh tools/run-program.sh "$work/rolling" >"$work/rolled" && diff examples/rolling.out "$work/rolled"
+}
+
+# cues: so does the driver that passes cues on
+cues() {
+    sh tools/run-program.sh "$work/cues" >"$work/cued" && diff examples/cues.out "$work/cued"
 }
 
 # records: what it records on a channel "SPORT" is what desk/ reads in its tests
@@ -75,6 +81,7 @@ tried 'header as C++17' header c++ c++17
 tried 'build' built
 tried 'run' runs
 tried 'run with a rolling counter' rolls
+tried 'run with cues' cues
 tried 'recording' records
 tried 'a driver of version 1 does not link' old
 echo "$passed passed, $failed failed"

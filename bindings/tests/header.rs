@@ -5,8 +5,8 @@ use splicer::{message_id, result, Refusal};
 
 const HEADER_TEXT: &str = include_str!("../../include/splicer.h");
 const DOOR_TEXT: &str = include_str!("../src/door.rs");
-const CALLS: [&str; 8] = [
-    "fresh", "open", "close", "message", "tick", "waiting", "primary", "mux",
+const CALLS: [&str; 9] = [
+    "fresh", "open", "close", "message", "tick", "waiting", "primary", "mux", "cue",
 ];
 /// Those of the card with a rolling counter alone.
 const ROLLING: [&str; 3] = ["rolling_fresh", "instant", "reading"];
@@ -48,6 +48,7 @@ fn sizes() -> Vec<(&'static str, u32)> {
         ("STREAM_WORDS", splicer::STREAM_WORDS),
         ("KEPT", splicer::KEPT),
         ("MUX_AVERAGE", splicer::MUX_AVERAGE as usize),
+        ("CUE_SECTION", splicer::CUE_SECTION),
     ];
     list.map(|(name, size)| (name, size as u32)).to_vec()
 }
@@ -75,6 +76,7 @@ fn refusals() -> Vec<(&'static str, u32)> {
         ("NOT_OPEN", Refusal::NotOpen),
         ("BAD_MICROS", Refusal::BadMicros),
         ("BAD_NAME", Refusal::BadName),
+        ("BAD_SECTION", Refusal::BadSection),
         ("COUNTER", Refusal::Counter),
     ];
     list.map(|(name, r)| (name, u32::from(r.number()))).to_vec()
@@ -93,6 +95,8 @@ fn ids_and_results() -> Vec<(&'static str, u32)> {
             "SPLICE_COMPLETE_RESPONSE",
             message_id::SPLICE_COMPLETE_RESPONSE,
         ),
+        ("CUE_REQUEST", message_id::CUE_REQUEST),
+        ("CUE_RESPONSE", message_id::CUE_RESPONSE),
         ("ABORT_REQUEST", message_id::ABORT_REQUEST),
         ("ABORT_RESPONSE", message_id::ABORT_RESPONSE),
         ("SUCCESSFUL", result::SUCCESSFUL),
@@ -103,6 +107,7 @@ fn ids_and_results() -> Vec<(&'static str, u32)> {
         ("TOO_LATE", result::TOO_LATE),
         ("QUEUE_FULL", result::QUEUE_FULL),
         ("ABORTED", result::ABORTED),
+        ("INVALID_CUE", result::INVALID_CUE),
         ("UNKNOWN_MESSAGE", result::UNKNOWN_MESSAGE),
         ("INVALID_SESSION", result::INVALID_SESSION),
         ("INVALID_DATA", result::INVALID_DATA),
