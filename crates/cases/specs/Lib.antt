@@ -10,6 +10,7 @@ pub mod Counted
 pub mod Days
 pub mod Mux
 pub mod Sections
+pub mod Cued
 pub mod Case-01-card-cut-header
 pub mod Case-01-card-cut-mark
 pub mod Case-01-card-cut-message
