@@ -8,6 +8,7 @@ use Rattle.rules.specs.Bytes.{Byte}
 use Rattle.rules.specs.State.{Splicer}
 use Rattle.rules.specs.Calls.{Called, houseNumber, Call, opens, closes, messages, lending, ticks, cues, cueCall, call}
 use Rattle.memory.specs.Memory.{see, shown}
+use Rattle.relay.specs.declared.Anchor.{Anchor}
 use Rattle.engine.specs.declared.Answer.{Answer}
 use Rattle.engine.specs.declared.Answer.the-variants.{Refused, Done}
 use Rattle.engine.specs.Lent.{Answers}
@@ -32,8 +33,11 @@ Hears k m b e r n c o = Replies (k (length e) (shown m b)) (see m .ringEnd) e r 
 abbrev pub ptsOf : List ℕ → ℕ
 ptsOf g = getD g 0 0 * 4294967296 + getD g 1 0
 
+abbrev pub anchorOf : List ℕ → Anchor
+anchorOf g = record { pts = ptsOf g; seconds = getD g 2 0; micros = getD g 3 0 }
+
 abbrev pub cueOf : (section given : List ℕ) → ℕ → Splicer → Called
-cueOf l g = cueCall l (ptsOf g) (getD g 2 0) (getD g 3 0)
+cueOf l g = cueCall l (anchorOf g .pts) (anchorOf g .seconds) (anchorOf g .micros)
 
 -- ## What C hands in, and what it sees
 

@@ -9,10 +9,11 @@ use streams::KEPT;
 use streams::LIST;
 ghost use mathlib.Core.Path.{_≡_};
 ghost use mathlib.Core.List.{[]};
+ghost use lib.ListN.{length};
 ghost use Rattle.rules.specs.Calls.{fresh, openCall, closeCall, messageCall, tickCall, lending};
 ghost use Rattle.engine.specs.Lent.{Lent, Counts, Primary, ReadsMux};
 ghost use Rattle.streams.specs.Rows.{ReadsList, WritesList};
-ghost use Rattle.door.specs.Door.{replyOf, Replies, Hears, cueOf};
+ghost use Rattle.door.specs.Door.{replyOf, Replies, Hears, anchorOf, cueOf};
 
 // The house number of a refusal or 0, the bytes consumed and written, and how many places an acceptance shifted.
 fn reply_of(a: Answer) -> [u64; 4]
@@ -170,6 +171,18 @@ pub extern "C" fn splicer_5_mux(words: &[u64; WORDS], bytes: &[u8; BYTES]) -> u6
     engine::mux(words, bytes)
 }
 
+// What is given with a section. Of a slice, since only of a slice is it known that its elements have 32 bits.
+fn anchor_of(given: &[u32]) -> Anchor
+    requires { ⌜ length (now given) ≡ 4 ⌝ }
+    ensures { λ r. ⌜ r ≡ anchorOf (now (given .entry)) ⌝ }
+{
+    Anchor {
+        pts: given[0] as u64 * 4294967296 + given[1] as u64,
+        seconds: given[2],
+        micros: given[3],
+    }
+}
+
 // 02, CR 7: a section of cues. given: the PTS, its high 32 bits first, then Seconds and MicroSeconds of the instant that belongs to it. The
 // words and bytes are only read.
 #[no_mangle]
@@ -186,11 +199,6 @@ pub extern "C" fn splicer_5_cue(
         ⌜ Hears (cueOf (now (section .entry)) (now (given .entry))) (now (words .entry)) (now (bytes .entry)) (now (out .entry))
         (now (reply .exit)) (now (words .entry)) (now (bytes .entry)) (now (out .exit)) ⌝ }
 {
-    let at = Anchor {
-        pts: given[0] as u64 * 4294967296 + given[1] as u64,
-        seconds: given[2],
-        micros: given[3],
-    };
-    let a = engine::cue(words, bytes, section, at, &mut *out);
+    let a = engine::cue(words, bytes, section, anchor_of(given), &mut *out);
     *reply = reply_of(a);
 }
