@@ -40,6 +40,14 @@ cue-same s l pts seconds micros room =
     Same : Called → Type 0
     Same r = r .splicer ≡ s
 
+pub cue-unaccepted : (s : Splicer) (l : List ℕ) (pts seconds micros room : ℕ) → call (cues l pts seconds micros room) s .accepted ≡ false
+unfolding call cueCall
+cue-unaccepted s l pts seconds micros room =
+    by No (noRoom room) _ _ (λ e. refl) (λ e. by No (badMicros micros) _ _ (λ f. refl) (λ f. by No (badSection l) _ _ (λ g. refl) (λ g. refl)))
+  where
+    No : Called → Type 0
+    No r = r .accepted ≡ false
+
 -- ## It counts for nothing
 
 -- of no session

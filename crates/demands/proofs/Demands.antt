@@ -2,7 +2,7 @@
 -- `driven` have them of the real calls. What the statements speak of stands in specs/Told and specs/History. No axiom, no hole.
 use mathlib.Core.Path.{_≡_, refl}
 use mathlib.Core.Bool.{true, false, cond}
-use mathlib.Core.List.{List, [], _∷_, _++_}
+use mathlib.Core.List.{List, [], _∷_, _++_, map}
 use mathlib.Core.Logic.{_⊎_}
 use Prim.Native.Nat.{ℕ, _+_, _≤_}
 use lib.ListN.{length}
@@ -14,18 +14,20 @@ use Rattle.rules.specs.Bytes.{Byte, hasZero}
 use Rattle.rules.specs.State.{Splicer}
 use Rattle.rules.specs.Records.{recordsIn}
 use Rattle.rules.specs.Answers.{airMux, requested, spliceResult}
-use Rattle.rules.specs.Calls.{refused, refuse, writtenBy, named, fresh, Loans, Call, closes, messages, call, after}
+use Rattle.rules.specs.Cues.{readCue}
+use Rattle.rules.specs.Calls.{refused, refuse, writtenBy, named, fresh, Loans, Call, closes, messages, cues, call, after}
 use Rattle.demands.specs.History.{Event, startsOf, endsOf, history, ownAnswer, othersOf, waitingCount, book, clockAfter}
 use Rattle.rules.specs.Sound.{Each, Wired, Coded}
 use Rattle.rules.proofs.Sound.{sound-size, sound-found}
 use Rattle.rules.proofs.Codes.{call-coded}
-use Rattle.demands.specs.Told.{FromFresh, Unchanged, firstNumber, checks, numberOf, answers, Asks, Passes, earlierCode, fullTold, outsOf, startedTold, unended, Ended, Stands, airMuxTold, MuxInRange}
+use Rattle.demands.specs.Told.{FromFresh, Unchanged, firstNumber, checks, numberOf, answers, Asks, Passes, earlierCode, fullTold, outsOf, startedTold, unended, Ended, Stands, airMuxTold, MuxInRange, connOf, concerned, Carries, Alike}
 use Rattle.demands.proofs.Refusals.{unchanged, first-number, fresh-number, fresh-refused}
 use Rattle.demands.proofs.Room.{from-sound, count-room, own-answer, passes-or-earlier, full-answer}
 use Rattle.demands.proofs.Once.{all-ended}
 use Rattle.demands.proofs.Aired.{ends-accepted, outs-started}
 use Rattle.demands.proofs.Closed.{from-more, close-stands}
 use Rattle.demands.proofs.Mux.{air-told, air-in-range, held-in-range}
+use Rattle.demands.proofs.Cued.{cue-same, counts-nothing, to-whom, whole-section}
 
 -- ## "Over all sequences of opens, closes, messages and ticks from a fresh splicer"
 
@@ -74,7 +76,7 @@ pub earlier-or-passes : (h : List Event) (s : Splicer) → FromFresh h s → (c 
 earlier-or-passes h s f c l loans r a = passes-or-earlier c l loans r s a h f
 
 -- 02, CR 1: "From here result 110 is no longer met": the result of every record in the bytes of every answer is one of 100, 102, 103, 104, 109,
--- 112, 114, 116, 120, 121, 123, 125
+-- 112, 114, 116, 117, 120, 121, 123, 125; of a Cue_Request, which is no answer, 0xFFFF
 pub codes-given : (h : List Event) (s : Splicer) → FromFresh h s → (k : Call) → Wired k → All Coded (recordsIn (writtenBy (call k s .answer)))
 codes-given h s f k w = rw (sound-found s k w (from-sound h s f)) (call-coded k s)
 
@@ -129,3 +131,26 @@ air-mux-told = air-told
 -- and it is 1 to 10, the 5 of "none" too
 pub air-mux-in-range : (h : List Event) (s : Splicer) → FromFresh h s → (1 ≤ airMux (s .queue .started)) × (airMux (s .queue .started) ≤ 10)
 air-mux-in-range = air-in-range
+
+-- ## 02, CR 7
+
+-- a cue call changes nothing, whether it is good or refused
+pub cue-changes-nothing : (s : Splicer) (l : List ℕ) (pts seconds micros room : ℕ) → call (cues l pts seconds micros room) s .splicer ≡ s
+cue-changes-nothing = cue-same
+
+-- no record of it is a start, an end or an own answer: the waiting counts, the book, the clock, what has started and who owned each ninth are
+-- with it what they were without it
+pub cue-counts-nothing : (h : List Event) (s : Splicer) → FromFresh h s → (l : List ℕ) (pts seconds micros room : ℕ) → All Byte l
+    → Alike h (h ++ history (cues l pts seconds micros room ∷ []) s)
+cue-counts-nothing = counts-nothing
+
+-- of a good one: "to every initialised connection, from 0 upward", each once, and to no other
+pub cue-to-whom : (h : List Event) (s : Splicer) → FromFresh h s → (l : List ℕ) (pts seconds micros room : ℕ) → All Byte l
+    → numberOf (call (cues l pts seconds micros room) s .answer) ≡ 0
+    → map connOf (recordsIn (writtenBy (call (cues l pts seconds micros room) s .answer))) ≡ concerned (readCue l) s
+cue-to-whom = to-whom
+
+-- "the whole section as it came": each Cue_Request's bytes from the 19th on
+pub cue-whole : (h : List Event) (s : Splicer) → FromFresh h s → (l : List ℕ) (pts seconds micros room : ℕ) → All Byte l
+    → All (Carries l) (recordsIn (writtenBy (call (cues l pts seconds micros room) s .answer)))
+cue-whole = whole-section

@@ -3,7 +3,7 @@
 -- door/proofs/Cited holds it to the contracts in door/src/lib.rt. Rests on the theorems of the same names in traces. No axiom, no hole.
 use mathlib.Core.Path.{_≡_, sym, ap, _∙_, subst}
 use mathlib.Core.Bool.{true, false, cond}
-use mathlib.Core.List.{List, [], _∷_, _++_}
+use mathlib.Core.List.{List, [], _∷_, _++_, map}
 use Prim.Native.Nat.{ℕ, _+_, _-_, _/_, _≤_, _<_}
 use native.Mathlib.Nat.{le-trans}
 use lib.ListN.{length, take, getD}
@@ -15,15 +15,16 @@ use Rattle.rules.specs.Records.{recordsIn}
 use Rattle.rules.specs.State.{empty, Sorted, startsAt, startsAfter, earliest, due}
 use Rattle.rules.specs.Sound.{Each, Falling, Coded}
 use Rattle.rules.specs.Answers.{requested, spliceResult}
+use Rattle.rules.specs.Cues.{readCue}
 use Rattle.rules.specs.Calls.{lending, fresh, after}
 use Rattle.demands.specs.History.{Event, startsOf, endsOf, history, ownAnswer, othersOf, waitingCount, book, clockAfter}
-use Rattle.demands.specs.Told.{firstNumber, checks, answers, Asks, Passes, fullTold, countsTold, grantedBy, outsOf, startedTold, unended, Ended, Stands, airMuxTold, MuxInRange}
+use Rattle.demands.specs.Told.{firstNumber, checks, answers, Asks, Passes, fullTold, countsTold, grantedBy, outsOf, startedTold, unended, Ended, Stands, airMuxTold, MuxInRange, connOf, concerned, Carries, Alike}
 use Rattle.demands.specs.Airing.{airingsTold, clockTold, primaryTold, timeTold, airTold, numberTold}
 use Rattle.demands.specs.Moments.{Gapless, Printed, Within, PlayedAs}
 use Rattle.places.specs.Places.{round, next}
 use Rattle.memory.specs.Memory.{see, placesFrom, countsOf}
 use Rattle.engine.specs.Lent.{Lent, Counts, Primary, ReadsMux}
-use Rattle.door.specs.Door.{Input, aClose, aMessage, Typed, callOf, bufferOf, Seen}
+use Rattle.door.specs.Door.{Input, aClose, aMessage, aCue, ptsOf, Typed, callOf, bufferOf, Seen}
 use Rattle.traces.specs.Trace.{Memory, emptyMemory, shown}
 use Rattle.traces.specs.Trace as engine
 use Rattle.traces.proofs.Steps.{memory-same}
@@ -127,7 +128,7 @@ module _ (name : List ℕ) (h : List Made) (m : Memory) where
       (called.first-code-applies name (within h) m d l e (inside r) (more-inside name h m (aMessage d l e) r c) q asks)
 
   -- 02, CR 1: "From here result 110 is no longer met": the result of every record in the answer's bytes, of every call, is one of 100, 102, 103,
-  -- 104, 109, 112, 114, 116, 120, 121, 123, 125
+  -- 104, 109, 112, 114, 116, 117, 120, 121, 123, 125; of a Cue_Request 0xFFFF
   pub codes-given : (i : Input) (r : Seen) → More name h m i r → All Coded (recordsIn (bytesOf r))
   codes-given i r c = rw (bytes-inside (c .allowed)) (called.codes-given name (within h) m _ _ (more-inside name h m i r c))
 
@@ -348,3 +349,34 @@ module _ (name : List ℕ) (h g : List Made) (m : Memory) (t : Trace name (h ++ 
   -- a list printed later says the same: each session stands in it, in its order; its time never falls, and is fixed once its end is written
   pub prints-alike : Within (Printed (events h) (events (h ++ g))) (airingsTold (events h)) (airingsTold (events (h ++ g)))
   prints-alike = rw (first, second) (called.prints-alike name (within h) (within g) m both)
+
+-- ## Document 02, CR 7
+
+-- a cue call with the section l, what is given with it, and the buffer e
+module _ (name : List ℕ) (h : List Made) (m : Memory) (l g e : List ℕ) (r : Seen) (c : More name h m (aCue l g e) r) where
+  abbrev one : List Made
+  one = made (aCue l g e) r ∷ []
+
+  -- "It reads the connections' states and changes nothing": the lent words and bytes are after it what they were, also when it is good
+  pub cue-changes-nothing : left r ≡ m
+  cue-changes-nothing = called.cue-changes-nothing name (within h) m l (ptsOf g) (getD g 2 0) (getD g 3 0) e (inside r) (more-inside name h m (aCue l g e) r c)
+
+  -- no record of it is a start, an end or an own answer: the waiting counts, the book, the clock, what has started and who owned each ninth,
+  -- from the answers, are with it what they were without it
+  pub cue-counts-nothing : Alike (events h) (events (h ++ one))
+  cue-counts-nothing =
+      subst (λ (x : List Event). Alike x (events (h ++ one))) (sym (trace-events name h m (c .trace)))
+      (subst (λ (x : List Event). Alike (engine.events (within h)) x) (sym (trace-events name _ _ (trace-more name h m (aCue l g e) r c) ∙ ap engine.events (within-append h one)))
+      (called.cue-counts-nothing name (within h) m l (ptsOf g) (getD g 2 0) (getD g 3 0) e (inside r) (more-inside name h m (aCue l g e) r c)))
+
+  -- of a good one: "to every initialised connection, from 0 upward", each once, and to no other
+  pub cue-to-whom : number r ≡ 0 → map connOf (recordsIn (bytesOf r)) ≡ concerned (readCue l) (shown m)
+  cue-to-whom n =
+      rw (bytes-inside (c .allowed))
+      (called.cue-to-whom name (within h) m l (ptsOf g) (getD g 2 0) (getD g 3 0) e (inside r) (more-inside name h m (aCue l g e) r c) (sym (number-inside (c .allowed)) ∙ n))
+
+  -- "the whole section as it came": each Cue_Request's bytes from the 19th on
+  pub cue-whole : All (Carries l) (recordsIn (bytesOf r))
+  cue-whole =
+      rw (bytes-inside (c .allowed))
+      (called.cue-whole name (within h) m l (ptsOf g) (getD g 2 0) (getD g 3 0) e (inside r) (more-inside name h m (aCue l g e) r c))

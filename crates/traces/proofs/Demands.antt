@@ -3,7 +3,7 @@
 -- proofs/Cited holds it to the contracts in engine/src/lib.rt. No axiom, no hole.
 use mathlib.Core.Path.{_≡_, refl, sym, ap, subst, _∙_}
 use mathlib.Core.Bool.{true, false, cond}
-use mathlib.Core.List.{List, [], _∷_, _++_}
+use mathlib.Core.List.{List, [], _∷_, _++_, map}
 use Prim.Native.Nat.{ℕ, _+_, _-_, _/_, _≤_, _<_}
 use native.Mathlib.Nat.{le-trans}
 use lib.ListN.{length, take, getD}
@@ -16,6 +16,7 @@ use Rattle.rules.specs.Records.{recordsIn}
 use Rattle.rules.specs.State.{Splicer, empty, Sorted, startsAt, startsAfter, sooner, earliest, due}
 use Rattle.rules.specs.Sound.{Each, Later, Falling, Coded}
 use Rattle.rules.specs.Answers.{requested, spliceResult}
+use Rattle.rules.specs.Cues.{readCue}
 use Rattle.rules.specs.Calls.{lending, fresh, after}
 use Rattle.rules.proofs.All.{all-into}
 use Rattle.rules.proofs.Sound.{reached-sound}
@@ -25,7 +26,7 @@ use Rattle.engine.specs.declared.Answer.the-variants.{Refused}
 use Rattle.places.specs.Places.{round, next}
 use Rattle.memory.specs.Memory.{see, placesFrom, countsOf, tallied}
 use Rattle.engine.specs.Lent.{Lent, Counts, Primary, ReadsMux}
-use Rattle.demands.specs.Told.{firstNumber, checks, answers, Asks, Passes, fullTold, countsTold, grantedBy, outsOf, startedTold, unended, Ended, Stands, airMuxTold, MuxInRange}
+use Rattle.demands.specs.Told.{firstNumber, checks, answers, Asks, Passes, fullTold, countsTold, grantedBy, outsOf, startedTold, unended, Ended, Stands, airMuxTold, MuxInRange, connOf, concerned, Carries, Alike}
 use Rattle.demands.specs.Airing.{airingsTold, clockTold, primaryTold, timeTold, airTold, numberTold}
 use Rattle.demands.specs.Moments.{Gapless, Printed, Within, PlayedAs}
 use Rattle.demands.proofs.Demands as told
@@ -33,12 +34,13 @@ use Rattle.demands.proofs.Waiting.{waiting-counted}
 use Rattle.demands.proofs.Moved as shifting
 use Rattle.demands.proofs.Owners as owners
 use Rattle.demands.proofs.Said as said
-use Rattle.traces.specs.Trace.{Memory, emptyMemory, shown, Input, aClose, aMessage, Typed, callOf, bufferOf, Result, Made, made, Leads, Trace, More, Point, numberIn, number, movedIn, moved, bytesOf, events, calls, inputs, Answerable, Run, AsRuled}
-use Rattle.traces.proofs.Steps.{wired, as-ruled, number-first, unchanged}
+use Rattle.traces.specs.Trace.{Memory, emptyMemory, shown, Input, aClose, aMessage, aCue, Typed, callOf, bufferOf, Result, Made, made, Leads, Trace, More, Point, numberIn, number, movedIn, moved, bytesOf, events, calls, inputs, Answerable, Run, AsRuled}
+use Rattle.traces.proofs.Steps.{wired, as-ruled, number-is, number-first, unchanged}
 use Rattle.traces.proofs.Course.{events-append, led-wired, led-heard, trace-lent, trace-history, trace-told, trace-more, trace-point, trace-same, fresh-number, fresh-empty}
 use Rattle.traces.proofs.Closed.{not-full, closed-stands, unended-newer}
 use Rattle.traces.proofs.Answerable.{answerable, runs}
 use Rattle.traces.proofs.Moved.{moved-is, fresh-none, last-code, others-stay}
+use Rattle.traces.proofs.Cued.{memory-stays}
 
 -- ## "On a splicer that came from fresh and the calls after it"
 
@@ -118,7 +120,7 @@ module _ (name : List ℕ) (h : List Made) (m : Memory) where
       (told.first-code-applies (events h) (shown m) (trace-told name h m (c .trace)) d l (lending (length e)) q asks)
 
   -- 02, CR 1: "From here result 110 is no longer met": the result of every record in the answer's bytes, of every call, is one of 100, 102, 103,
-  -- 104, 109, 112, 114, 116, 120, 121, 123, 125
+  -- 104, 109, 112, 114, 116, 117, 120, 121, 123, 125; of a Cue_Request 0xFFFF
   pub codes-given : (i : Input) (r : Result) → More name h m i r → All Coded (recordsIn (bytesOf r))
   codes-given i r c =
       rw (as-ruled m i r (c .allowed) .bytes) (told.codes-given (events h) (shown m) (trace-told name h m (c .trace)) (callOf i) (wired i (c .typed)))
@@ -337,3 +339,33 @@ module _ (name : List ℕ) (h g : List Made) (m : Memory) (t : Trace name (h ++ 
       let p = point in
       subst (λ (e : List Event). Within (Printed (events h) e) (airingsTold (events h)) (airingsTold e)) (sym (later-events h g (p .here) m (p .behind)))
       (owners.prints-alike (events h) (shown (p .here)) (trace-told name h (p .here) (p .before)) (calls g) (led-wired g (p .here) m (p .behind)))
+
+-- ## Document 02, CR 7
+
+-- a cue call with the section l, the PTS and its instant, and the buffer e
+module _ (name : List ℕ) (h : List Made) (m : Memory) (l : List ℕ) (pts seconds micros : ℕ) (e : List ℕ) (r : Result)
+    (c : More name h m (aCue l pts seconds micros e) r) where
+  -- "It reads the connections' states and changes nothing": the lent words and bytes are after it what they were, also when it is good
+  pub cue-changes-nothing : r .memory ≡ m
+  cue-changes-nothing = memory-stays m l pts seconds micros e r (trace-lent name h m (c .trace)) (c .allowed)
+
+  -- no record of it is a start, an end or an own answer: the waiting counts, the book, the clock, what has started and who owned each ninth,
+  -- from the answers, are with it what they were without it
+  pub cue-counts-nothing : Alike (events h) (events (h ++ (made (aCue l pts seconds micros e) r ∷ [])))
+  cue-counts-nothing =
+      subst (λ (g : List Event). Alike (events h) g)
+      (sym (later-events h (made (aCue l pts seconds micros e) r ∷ []) m (r .memory) (c .typed, c .allowed, refl)))
+      (told.cue-counts-nothing (events h) (shown m) (trace-told name h m (c .trace)) l pts seconds micros (length e) (c .typed .0))
+
+  -- of a good one: "to every initialised connection, from 0 upward", each once, and to no other
+  pub cue-to-whom : number r ≡ 0 → map connOf (recordsIn (bytesOf r)) ≡ concerned (readCue l) (shown m)
+  cue-to-whom n =
+      rw (as-ruled m (aCue l pts seconds micros e) r (c .allowed) .bytes)
+      (told.cue-to-whom (events h) (shown m) (trace-told name h m (c .trace)) l pts seconds micros (length e) (c .typed .0)
+      (sym (number-is m (aCue l pts seconds micros e) r (c .allowed)) ∙ n))
+
+  -- "the whole section as it came": each Cue_Request's bytes from the 19th on
+  pub cue-whole : All (Carries l) (recordsIn (bytesOf r))
+  cue-whole =
+      rw (as-ruled m (aCue l pts seconds micros e) r (c .allowed) .bytes)
+      (told.cue-whole (events h) (shown m) (trace-told name h m (c .trace)) l pts seconds micros (length e) (c .typed .0))

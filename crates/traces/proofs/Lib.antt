@@ -5,3 +5,4 @@ pub mod Closed
 pub mod Cited
 pub mod Answerable
 pub mod Moved
+pub mod Cued
