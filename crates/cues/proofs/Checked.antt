@@ -7,24 +7,15 @@ use Prim.Native.Nat.{ℕ, zero, suc, _+_, _-_, _*_, _/_, _%_, _^_, _<_, _≤_}
 use native.Mathlib.Omega.{arith}
 use native.Mathlib.Nat.{mul-add-mod-self-right}
 use lib.Dec.{eqb}
-use lib.Bits.{bitXor, differ, xor-step, xor-lt}
+use lib.Bits.{bitXor, differ, xor-step}
 use lib.Arith.{bin-ind}
 use borrow.Author.Tests.{eqb-true, eqb-false, eq-eqb}
 use Rattle.rules.specs.Lists.{All}
 use Rattle.rules.specs.Bytes.{Byte, bytes}
 use Rattle.rules.specs.Crc.{crcBit, crcBits, crcByte, crcFrom, crc, rightCrc}
-use Rattle.rules.proofs.Tests.{by}
+use Rattle.cues.proofs.Register.{Register, bit-register, digit-one, digit-below}
 
 -- ## The register has 32 bits
-
-abbrev Register : ℕ → Type 0
-Register c = c < 4294967296
-
-bit-register : (c x : ℕ) → Register (crcBit c x)
-unfolding crcBit
-bit-register c x =
-    by Register (eqb (c / 2147483648) x) (c * 2 % 4294967296) (bitXor 0x04C11DB7 (c * 2 % 4294967296)) (λ e. omega arith)
-    (λ e. xor-lt 32 0x04C11DB7 (c * 2 % 4294967296) (omega arith) (omega arith))
 
 bits-register : (n c b : ℕ) → Register c → Register (crcBits n c b)
 unfolding crcBits
@@ -132,16 +123,6 @@ crc-closes l =
     (from-append 0xFFFFFFFF l (bytes 4 (crcFrom 0xFFFFFFFF l)) ∙ own-bytes (crcFrom 0xFFFFFFFF l) (from-register 0xFFFFFFFF l (omega arith)))
 
 -- ## Every step can be taken back
-
-digit-one : (x : ℕ) → x < 2 → differ 1 x ≡ 1 - x
-digit-one zero h = refl
-digit-one (suc zero) h = refl
-digit-one (suc (suc x)) h = absurd (omega arith)
-
-digit-below : (a x : ℕ) → a < 2 → x < 2 → differ a x < 2
-digit-below zero x h k = k
-digit-below (suc zero) x h k = omega (arith, digit-one x k)
-digit-below (suc (suc a)) x h k = absurd (omega arith)
 
 digit-back : (a x y : ℕ) → a < 2 → x < 2 → y < 2 → differ a x ≡ differ a y → x ≡ y
 digit-back zero x y h k l e = e

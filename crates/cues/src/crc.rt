@@ -1,31 +1,36 @@
 // CRC_32 of a section, bit by bit: no table.
 ghost use mathlib.Core.Path.{_≡_};
 ghost use Rattle.rules.specs.Crc.{crcBit, crcByte, crc};
+ghost use Rattle.cues.specs.Turns.{turns};
 
-// A bit into the register.
-fn bit_in(c: u32, bit: u32) -> u32
-    ensures { λ r. ⌜ r ≡ crcBit c bit ⌝ }
+// A bit into the register, which has the data's bit in its highest one already: what is left to take differs from it, or not.
+fn turn(c: u32) -> u32
+    ensures { λ r. ⌜ r ≡ crcBit c 0 ⌝ }
 {
     let d = (c as u64 * 2 % 4294967296) as u32;
-    if c / 2147483648 == bit {
+    if c / 2147483648 == 0 {
         return d;
     }
     0x04C11DB7 ^ d
 }
 
-// A byte, its highest bit first.
+// Four bits.
+fn four_turns(c: u32) -> u32
+    ensures { λ r. ⌜ r ≡ turns 4 c ⌝ }
+{
+    let one = turn(c);
+    let two = turn(one);
+    let three = turn(two);
+    turn(three)
+}
+
+// A byte, its highest bit first. All eight go into the register's highest bits at once; without a loop, in which a compiler would see a table's work.
 fn byte_in(c: u32, b: u8) -> u32
     ensures { λ r. ⌜ r ≡ crcByte c b ⌝ }
 {
-    let mut r = c;
-    let mut rest = b as u32;
-    let mut i: u32 = 0;
-    while i < 8 {
-        r = bit_in(r, rest / 128);
-        rest = rest * 2 % 256;
-        i += 1;
-    }
-    r
+    let r = c ^ (b as u32 * 16777216);
+    let half = four_turns(r);
+    four_turns(half)
 }
 
 // The register behind all bytes: 0 behind a section with a right CRC_32.
