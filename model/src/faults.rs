@@ -104,17 +104,7 @@ faults! {
 impl Fault {
     /// Its name on a command line.
     pub fn name(self) -> String {
-        let mut name = String::new();
-        let mut before = 'A';
-        for letter in format!("{self:?}").chars() {
-            let number = letter.is_ascii_digit() && !before.is_ascii_digit();
-            if !name.is_empty() && (letter.is_ascii_uppercase() || number) {
-                name.push('-');
-            }
-            name.push(letter.to_ascii_lowercase());
-            before = letter;
-        }
-        name
+        dashed(&format!("{self:?}"))
     }
 
     pub fn text(self) -> &'static str {
@@ -126,6 +116,21 @@ impl Fault {
         let mut all = FAULTS.iter().map(|(fault, _)| *fault);
         all.find(|fault| fault.name() == name)
     }
+}
+
+/// `OnlyDirectFollower` as `only-direct-follower`.
+pub fn dashed(words: &str) -> String {
+    let mut name = String::new();
+    let mut before = 'A';
+    for letter in words.chars() {
+        let number = letter.is_ascii_digit() && !before.is_ascii_digit();
+        if !name.is_empty() && (letter.is_ascii_uppercase() || number) {
+            name.push('-');
+        }
+        name.push(letter.to_ascii_lowercase());
+        before = letter;
+    }
+    name
 }
 
 #[cfg(test)]

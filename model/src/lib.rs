@@ -9,6 +9,8 @@ pub mod cases;
 pub mod check;
 pub mod compare;
 pub mod counts;
+pub mod cueing;
+pub mod cues;
 pub mod damage;
 pub mod demand3;
 pub mod descriptors;
@@ -29,6 +31,7 @@ pub mod rolling;
 pub mod rolls;
 pub mod rules;
 pub mod scenario;
+pub mod section;
 pub mod streams;
 pub mod table;
 #[cfg(test)]

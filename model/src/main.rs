@@ -2,7 +2,8 @@
 
 use model::faults::Fault;
 use model::{
-    asrun, card, cases, check, fuzz, option, people, pieces, recording, recordings, rolls, scenario,
+    asrun, card, cases, check, cueing, fuzz, option, people, pieces, recording, recordings, rolls,
+    scenario,
 };
 use std::io::{Read, Write};
 
@@ -30,6 +31,10 @@ model rolls --seed S --n N [--table] [--floors off]
                                              N streams of a rolling card (02, CR 9) on the second program
 model rolls --seed S --n N --faults          shows that each deliberate mistake of a rolling card is noticed
 model recordings --seed S --n N --faults     shows that each deliberate mistake of a checker is noticed
+model cues --seed S --n N [--table] [--floors off]
+                                             N streams with cue calls (02, CR 7) on the second program
+model cues --seed S --n N --faults           shows that each deliberate mistake about cues is noticed
+model cues --seed S --n N --rows             N cue calls and what comes of each, a line each
 ";
 
 fn main() {
@@ -63,6 +68,7 @@ fn command(args: &[String]) -> Result<bool, String> {
         "record" => run_record(rest),
         "recordings" => run_recordings(rest),
         "rolls" => run_rolls(rest),
+        "cues" => run_cues(rest),
         "help" | "--help" => {
             print!("{HELP}");
             Ok(true)
@@ -97,8 +103,9 @@ fn run_scenario(args: &[String]) -> Result<bool, String> {
     if let Some(path) = option(&mut args, "--bytes")? {
         let text = std::fs::read_to_string(&path).map_err(|e| format!("{path}: {e}"))?;
         let steps = scenario::parse(&text).map_err(|e| format!("{path}: {e}"))?;
-        if scenario::is_rolling(&steps) {
-            return Err(format!("{path}: a rolling card's calls are no card input"));
+        if scenario::is_rolling(&steps) || scenario::is_cued(&steps) {
+            let which = "a rolling card's calls and cues are no card input";
+            return Err(format!("{path}: {which}"));
         }
         return write_out(&scenario::input_of(&steps));
     }
@@ -117,8 +124,8 @@ fn write_tables(dir: &str, files: &[String]) -> Result<bool, String> {
     for path in files {
         let text = std::fs::read_to_string(path).map_err(|e| format!("{path}: {e}"))?;
         let steps = scenario::parse(&text).map_err(|e| format!("{path}: {e}"))?;
-        // a rolling card's calls are none of the card program
-        if scenario::is_rolling(&steps) {
+        // a rolling card's calls and cues are none of the card program
+        if scenario::is_rolling(&steps) || scenario::is_cued(&steps) {
             continue;
         }
         let file = format!("{dir}/{}.antt", cases::module(path));
@@ -153,8 +160,9 @@ fn read_either(args: &[String]) -> Result<(Vec<u8>, Option<Vec<scenario::Step>>)
     }
     let text = String::from_utf8(bytes).map_err(|e| format!("{path}: {e}"))?;
     let steps = scenario::parse(&text).map_err(|e| format!("{path}: {e}"))?;
-    if scenario::is_rolling(&steps) {
-        return Err(format!("{path}: a rolling card's calls have no marks"));
+    if scenario::is_rolling(&steps) || scenario::is_cued(&steps) {
+        let which = "a rolling card's calls and cues have no marks";
+        return Err(format!("{path}: {which}"));
     }
     Ok((Vec::new(), Some(steps)))
 }
@@ -230,6 +238,26 @@ fn run_rolls(args: &[String]) -> Result<bool, String> {
         return rolls::faults(seed, n);
     }
     rolls::rolls(seed, n, table, floors)
+}
+
+fn run_cues(args: &[String]) -> Result<bool, String> {
+    let mut args = args.to_vec();
+    let (seed, n) = (required(&mut args, "--seed")?, required(&mut args, "--n")?);
+    let floors = option(&mut args, "--floors")?.as_deref() != Some("off");
+    let (table, faults) = (flag(&mut args, "--table"), flag(&mut args, "--faults"));
+    let rows = flag(&mut args, "--rows");
+    if let Some(index) = option(&mut args, "--show")? {
+        let index = index.parse().map_err(|_| format!("no number: {index}"))?;
+        return write_out(cueing::lines(seed, index).as_bytes());
+    }
+    nothing_left(&args)?;
+    if rows {
+        return write_out(cueing::rows(seed, n).as_bytes());
+    }
+    if faults {
+        return cueing::faults(seed, n);
+    }
+    cueing::cues(seed, n, table, floors)
 }
 
 fn required(args: &mut Vec<String>, name: &str) -> Result<u64, String> {

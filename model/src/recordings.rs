@@ -778,7 +778,8 @@ fn of_scenario(path: &str) -> Result<Option<Made>, String> {
     let text = std::fs::read_to_string(path).map_err(|e| format!("{path}: {e}"))?;
     let steps = scenario::parse(&text).map_err(|e| format!("{path}: {e}"))?;
     // a rolling card's calls have no marks
-    Ok((!scenario::is_rolling(&steps)).then(|| Made {
+    let marked = !scenario::is_rolling(&steps) && !scenario::is_cued(&steps);
+    Ok(marked.then(|| Made {
         kind: "scenario",
         bytes: recorded(&scenario::input_of(&steps)),
         known: Some(Finding::None),

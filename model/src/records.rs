@@ -7,7 +7,7 @@ pub struct Record {
     pub what: What,
 }
 
-/// The six kinds of outgoing message.
+/// The seven kinds of outgoing message.
 #[derive(Clone, Debug, PartialEq, Eq)]
 pub enum What {
     General {
@@ -39,6 +39,12 @@ pub enum What {
     Abort {
         result: u16,
         id: u32,
+    },
+    /// A cue message (02, CR 7): "both Result fields 0xFFFF".
+    Cue {
+        seconds: u32,
+        micros: u32,
+        section: Vec<u8>,
     },
 }
 
@@ -77,6 +83,14 @@ impl What {
                 (0x0009, *result, data)
             }
             What::Abort { result, id } => (0x000F, *result, words(&[*id])),
+            What::Cue {
+                seconds,
+                micros,
+                section,
+            } => {
+                let data = [words(&[*seconds, *micros]), section.clone()].concat();
+                (0x000C, NO_RESULT, data)
+            }
         }
     }
 
@@ -116,7 +130,28 @@ impl What {
                 ("SpliceComplete_Response", *result, fields)
             }
             What::Abort { result, id } => ("Abort_Response", *result, id_word(*id)),
+            What::Cue {
+                seconds,
+                micros,
+                section,
+            } => {
+                let digits: String = section.iter().map(|b| format!("{b:02X}")).collect();
+                let fields = format!(" time={} section={digits}", cue_time(*seconds, *micros));
+                ("Cue_Request", NO_RESULT, fields)
+            }
         }
+    }
+}
+
+/// A request's Result.
+const NO_RESULT: u16 = 0xFFFF;
+
+/// The time of a cue: all ones are none.
+pub fn cue_time(seconds: u32, micros: u32) -> String {
+    match (seconds, micros) {
+        (0xFFFF_FFFF, 0xFFFF_FFFF) => "none".to_string(),
+        (_, 0..=999_999) => format!("{seconds}.{micros:06}"),
+        _ => format!("{seconds}:{micros}"),
     }
 }
 
@@ -145,6 +180,9 @@ impl Record {
     /// The record as one line for people, in the words of a scenario's expected line.
     pub fn line(&self) -> String {
         let (kind, result, fields) = self.what.words();
+        if result == NO_RESULT {
+            return format!("{} {kind}{fields}", self.conn);
+        }
         format!("{} {kind} {}{fields}", self.conn, named(result))
     }
 }
@@ -248,6 +286,11 @@ fn what_of(id: u16, result: u16, data: &[u8]) -> Option<What> {
             result,
             id: word(0)?,
         },
+        0x000C => What::Cue {
+            seconds: word(0)?,
+            micros: word(4)?,
+            section: data[8..].to_vec(),
+        },
         _ => return None,
     })
 }
@@ -269,6 +312,7 @@ fn result_name(result: u16) -> &'static str {
         112 => "Splice_Request Was Too Late",
         114 => "Splice Queue Full",
         116 => "Insertion Aborted",
+        117 => "Invalid Cue Message",
         120 => "Unknown MessageID",
         121 => "Invalid SessionID",
         123 => "Invalid Request Message data( )",
@@ -328,6 +372,39 @@ mod tests {
         let expected = "52 02 00 09 00 0D 00 7D FF FF 00 00 00 07 01 00 00 00 00 00 0D BB A0";
         assert_eq!(hex(&record.bytes()), expected);
         assert_eq!(items(&record.bytes()), vec![Item::Record(record)]);
+    }
+
+    #[test]
+    fn a_cue_request_has_no_result() {
+        let record = Record {
+            conn: 3,
+            what: What::Cue {
+                seconds: 0x3E9,
+                micros: 0x1_B212,
+                section: vec![0xFC, 0x30, 0x00],
+            },
+        };
+        let expected = "52 03 00 0C 00 0B FF FF FF FF 00 00 03 E9 00 01 B2 12 FC 30 00";
+        assert_eq!(hex(&record.bytes()), expected);
+        let line = "3 Cue_Request time=1001.111122 section=FC3000";
+        assert_eq!(record.line(), line);
+        assert_eq!(items(&record.bytes()), vec![Item::Record(record.clone())]);
+        let mut other = record.bytes();
+        other[6..8].copy_from_slice(&[0, 100]);
+        assert_eq!(items(&other), vec![Item::Strange(other.clone())]);
+        let none = Record {
+            conn: 0,
+            what: What::Cue {
+                seconds: 0xFFFF_FFFF,
+                micros: 0xFFFF_FFFF,
+                section: Vec::new(),
+            },
+        };
+        assert_eq!(none.line(), "0 Cue_Request time=none section=");
+        let cut = [
+            0x52, 0, 0, 0x0C, 0, 7, 255, 255, 255, 255, 0, 0, 0, 0, 0, 0, 0,
+        ];
+        assert_eq!(items(&cut), vec![Item::Strange(cut.to_vec())]);
     }
 
     #[test]

@@ -6,6 +6,7 @@
 //! that the generator can be shown to notice it.
 
 use crate::counts::{Counts, COUNTED};
+use crate::cues::Cueing;
 use crate::descriptors::AVERAGE;
 use crate::faults::Fault;
 use crate::reading::{self, Request, SpliceFields};
@@ -62,6 +63,8 @@ pub struct Splicer {
     pub primary: u64,
     pub fault: Option<Fault>,
     pub counts: Counts,
+    /// Of the cue calls (02, CR 7): a mistake and their branches, no state.
+    pub cueing: Cueing,
 }
 
 /// A wire time in ninths.
@@ -83,6 +86,7 @@ impl Splicer {
             primary: 0,
             fault: None,
             counts: Counts::new(),
+            cueing: Cueing::default(),
         };
         if !name.contains(&0) {
             splicer.hit("fresh 9 name without a zero byte");

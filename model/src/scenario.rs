@@ -2,9 +2,11 @@
 
 use crate::card::{self, Call, Run};
 use crate::compare;
+use crate::cues::Given;
 use crate::descriptors::AVERAGE;
 use crate::records::{self, Record, What};
 use crate::rolling;
+use crate::rules::{Splicer, ROOM};
 use crate::streams::{self, Stream, Streams};
 
 /// One call of a scenario, its bytes, and the bytes it must write.
@@ -18,6 +20,8 @@ pub struct Step {
     pub rolling: Option<rolling::Call>,
     /// `> mux N`: no call of the card program, but what is read here (02, CR 5).
     pub mux: Option<u8>,
+    /// A cue call (02, CR 7): the card program has no mark of it.
+    pub cue: Option<Given>,
 }
 
 /// Reads a scenario file's text. An error names the line.
@@ -32,8 +36,9 @@ pub fn parse(text: &str) -> Result<Vec<Step>, String> {
         if let Some(rest) = line.strip_prefix('>') {
             let rolling = rolling_call(rest.trim()).map_err(at)?;
             let mux = mux_word(rest.trim()).map_err(at)?;
-            let input = match (&rolling, mux) {
-                (None, None) => call_bytes(rest.trim()).map_err(at)?,
+            let cue = cue_call(rest.trim()).map_err(at)?;
+            let input = match (&rolling, mux, &cue) {
+                (None, None, None) => call_bytes(rest.trim()).map_err(at)?,
                 _ => Vec::new(),
             };
             steps.push(Step {
@@ -43,6 +48,7 @@ pub fn parse(text: &str) -> Result<Vec<Step>, String> {
                 expected: Vec::new(),
                 rolling,
                 mux,
+                cue,
             });
         } else if let Some(rest) = line.strip_prefix('<') {
             let bytes = expected_bytes(rest.trim()).map_err(at)?;
@@ -152,7 +158,7 @@ fn small(text: &str) -> Result<u8, String> {
 }
 
 /// `S`, `S.UUUUUU` with exactly six digits, or `S:U` with raw microseconds.
-fn time(text: &str) -> Result<(u32, u32), String> {
+pub fn time(text: &str) -> Result<(u32, u32), String> {
     if let Some((seconds, micros)) = text.split_once(':') {
         return Ok((number(seconds)?, number(micros)?));
     }
@@ -167,7 +173,7 @@ fn time(text: &str) -> Result<(u32, u32), String> {
 }
 
 /// Hexadecimal bytes, blanks allowed.
-fn hex_bytes(text: &str) -> Result<Vec<u8>, String> {
+pub fn hex_bytes(text: &str) -> Result<Vec<u8>, String> {
     let digits: Vec<u32> = text
         .chars()
         .filter(|c| !c.is_whitespace())
@@ -211,6 +217,40 @@ fn mux_word(line: &str) -> Result<Option<u8>, String> {
     }
 }
 
+/// `cue HEX pts=N at=TIME`: a section, a PTS and the instant that belongs to it.
+fn cue_call(line: &str) -> Result<Option<Given>, String> {
+    let words = words_of(line)?;
+    let Some(("cue", rest)) = words.split_first().map(|(w, rest)| (w.as_str(), rest)) else {
+        return Ok(None);
+    };
+    let named = rest.iter().position(|word| word.contains('='));
+    let (section, fields) = rest.split_at(named.unwrap_or(rest.len()));
+    let mut fields = Fields::new(fields)?;
+    let pts = wide(&fields.take("pts").ok_or("pts= is missing")?)?;
+    let (seconds, micros) = time(&fields.take("at").ok_or("at= is missing")?)?;
+    fields.done()?;
+    Ok(Some(Given {
+        section: hex_bytes(&section.concat())?,
+        pts,
+        seconds,
+        micros,
+    }))
+}
+
+/// A decimal or 0x number of 64 bits.
+pub fn wide(text: &str) -> Result<u64, String> {
+    let value = match text.strip_prefix("0x") {
+        Some(digits) => u64::from_str_radix(digits, 16),
+        None => text.parse(),
+    };
+    value.map_err(|_| format!("no number: {text}"))
+}
+
+/// Whether the scenario has cue calls, so that it is none of the card program.
+pub fn is_cued(steps: &[Step]) -> bool {
+    steps.iter().any(|step| step.cue.is_some())
+}
+
 /// Whether the scenario is one of a rolling card.
 pub fn is_rolling(steps: &[Step]) -> bool {
     steps.iter().any(|step| step.rolling.is_some())
@@ -220,6 +260,7 @@ pub fn is_rolling(steps: &[Step]) -> bool {
 pub fn rolling_calls(steps: &[Step]) -> Result<Vec<rolling::Call>, String> {
     let call = |step: &Step| match &step.rolling {
         Some(call) => Ok(call.clone()),
+        None if step.cue.is_some() => Err(format!("line {}: no cue of a rolling card", step.line)),
         None if step.mux.is_some() => Err(format!("line {}: no mux of a rolling card", step.line)),
         None => match card::next_call(&step.input) {
             Ok((Call::Tick(..), _)) => {
@@ -392,6 +433,9 @@ fn expected_bytes(line: &str) -> Result<Vec<u8>, String> {
             return Ok(vec![0x45, small(n)?]);
         }
     }
+    if words.get(1).is_some_and(|word| word == "Cue_Request") {
+        return cue_request(small(&words[0])?, &words[2..]);
+    }
     if words.len() < 3 {
         return Err("connection, message and result are needed".to_string());
     }
@@ -400,6 +444,24 @@ fn expected_bytes(line: &str) -> Result<Vec<u8>, String> {
     let mut fields = Fields::new(&words[3..])?;
     let what = expected_record(&words[1], result, &mut fields)?;
     fields.done()?;
+    Ok(Record { conn, what }.bytes())
+}
+
+/// `C Cue_Request time=TIME|none section=HEX`: it has no result.
+fn cue_request(conn: u8, words: &[String]) -> Result<Vec<u8>, String> {
+    let mut fields = Fields::new(words)?;
+    let text = fields.take("time").ok_or("time= is missing")?;
+    let (seconds, micros) = match text.as_str() {
+        "none" => (0xFFFF_FFFF, 0xFFFF_FFFF),
+        text => time(text)?,
+    };
+    let section = hex_bytes(&fields.take("section").ok_or("section= is missing")?)?;
+    fields.done()?;
+    let what = What::Cue {
+        seconds,
+        micros,
+        section,
+    };
     Ok(Record { conn, what }.bytes())
 }
 
@@ -517,6 +579,47 @@ fn run_rolling(steps: &[Step]) -> Result<(), String> {
     Ok(())
 }
 
+/// Runs a scenario with cue calls (02, CR 7) through the second program, call by call.
+fn run_cued(steps: &[Step]) -> Result<usize, String> {
+    let (mut splicer, _) = Splicer::fresh(&card::channel_name());
+    for step in steps {
+        let output = match &step.cue {
+            Some(given) => shown(splicer.cue(given, ROOM)),
+            None => calls_of(&step.input)
+                .iter()
+                .flat_map(|call| card::make(&mut splicer, call))
+                .collect(),
+        };
+        if let Some(text) = difference(std::slice::from_ref(step), "the second program", &output) {
+            return Err(text);
+        }
+        let found = splicer.mux();
+        if step.mux.is_some_and(|wanted| wanted != found) {
+            let text = format!("  line {}: {}\n", step.line, step.text);
+            return Err(format!("{text}    the second program reads {found}\n"));
+        }
+    }
+    Ok(steps.iter().filter(|step| step.mux.is_some()).count())
+}
+
+/// What a call writes, as the card program would show it.
+pub fn shown(result: Result<Vec<Record>, u8>) -> Vec<u8> {
+    match result {
+        Ok(list) => records::all_bytes(&list),
+        Err(number) => vec![0x45, number],
+    }
+}
+
+/// The calls of a step's input.
+fn calls_of(input: &[u8]) -> Vec<Call> {
+    let (mut list, mut at) = (Vec::new(), 0);
+    while let Ok((call, length)) = card::next_call(&input[at..]) {
+        list.push(call);
+        at += length;
+    }
+    list
+}
+
 /// Runs one scenario file through the second program and, if given, the card program; says if it did
 /// not run there. Gives the number of its `> mux` lines too.
 fn run_file(path: &str, card: Option<&str>) -> Result<(usize, &'static str), String> {
@@ -528,6 +631,10 @@ fn run_file(path: &str, card: Option<&str>) -> Result<(usize, &'static str), Str
             0,
             " (a rolling card: the second program, not the card program)",
         ));
+    }
+    if is_cued(&steps) {
+        let reads = run_cued(&steps)?;
+        return Ok((reads, " (cues: the second program, not the card program)"));
     }
     let input = input_of(&steps);
     let run = card::run(&input, None);
@@ -744,6 +851,47 @@ mod tests {
         let wrong = parse("> reading 1\n< refused 3\n").unwrap();
         let text = run_rolling(&wrong).unwrap_err();
         assert!(text.contains("got       refused 12"), "{text}");
+    }
+
+    #[test]
+    fn words_of_a_cue() {
+        let given = cue_call("cue FC30 16 pts=0x200000000 at=5.000007")
+            .unwrap()
+            .unwrap();
+        assert_eq!(given.section, [0xFC, 0x30, 0x16]);
+        assert_eq!((given.pts, given.seconds, given.micros), (1 << 33, 5, 7));
+        let empty = cue_call("cue pts=0 at=1:1000000").unwrap().unwrap();
+        assert_eq!((empty.section.len(), empty.micros), (0, 1_000_000));
+        assert_eq!(cue_call("tick 5"), Ok(None));
+        for line in [
+            "cue FC pts=1",
+            "cue FC at=1",
+            "cue F pts=1 at=1",
+            "cue FC pts=1 at=1 x=2",
+        ] {
+            assert!(cue_call(line).is_err(), "{line}");
+        }
+        let cases = [
+            (
+                "2 Cue_Request time=none section=FC30",
+                "52 02 00 0C 00 0A FF FF FF FF FF FF FF FF FF FF FF FF FC 30",
+            ),
+            (
+                "0 Cue_Request time=1.000002 section=FC",
+                "52 00 00 0C 00 09 FF FF FF FF 00 00 00 01 00 00 00 02 FC",
+            ),
+        ];
+        for (line, expected) in cases {
+            assert_eq!(hex(&expected_bytes(line).unwrap()), expected, "{line}");
+        }
+        assert!(expected_bytes("0 Cue_Request 100 time=1 section=FC").is_err());
+        let steps = parse("> cue 00 pts=0 at=0\n< refused 11\n> mux 5\n").unwrap();
+        assert!(is_cued(&steps) && !is_rolling(&steps));
+        assert_eq!(run_cued(&steps), Ok(1));
+        let wrong = parse("> cue 00 pts=0 at=0\n").unwrap();
+        assert!(run_cued(&wrong)
+            .unwrap_err()
+            .contains("got       refused 11"));
     }
 
     #[test]
