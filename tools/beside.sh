@@ -8,15 +8,15 @@ set -eu
 wants=
 for word; do
     case $wants$word in
-    --seed | --n | --first | --threads | --recordings | --rolling | --fault) wants=$word ;;
-    --fault*) wants= ;;
-    --seed* | --n* | --first* | --threads* | --recordings* | --rolling*)
+    --seed | --n | --first | --threads | --recordings | --rolling | --cues | --cue-records | --fault) wants=$word ;;
+    --fault* | --cue-records*) wants= ;;
+    --seed* | --n* | --first* | --threads* | --recordings* | --rolling* | --cues*)
         case $word in
         '' | *[!0-9]*) refuse "$wants '$word': no number" ;;
         esac
         wants=
         ;;
-    *) refuse "'$word' is none of --seed S, --n N, --first I, --threads T, --recordings R, --rolling R, --fault NAME" ;;
+    *) refuse "'$word' is none of --seed S, --n N, --first I, --threads T, --recordings R, --rolling R, --cues R, --cue-records FILE, --fault NAME" ;;
     esac
 done
 [ -z "$wants" ] || refuse "$wants needs a value"

@@ -3,6 +3,7 @@
 
 use crate::calls::{Act, Call};
 use model::card;
+use model::cueing;
 use model::draw::Rng;
 use model::gen;
 use splicer::{HEADER, NAME, OUT};
@@ -22,17 +23,28 @@ pub fn stream(seed: u64, index: u64) -> Stream {
     let bytes = gen::stream(seed, index);
     let mut rng = Rng::new(seed ^ index.wrapping_mul(0x2545_F491_4F6C_DD1D));
     let name = name(&mut rng, index);
+    let mut cues = Rng::new(seed ^ 0x7002 ^ index.wrapping_mul(0x9E37_79B9_7F4A_7C15));
     let mut acts = Vec::new();
     let mut at = 0;
     while let Ok((call, length)) = card::next_call(&bytes[at..]) {
         at += length;
         let call = named(Call::from(call), &name);
         foreign(&mut rng, &call, &mut acts);
+        if cues.chance(8) {
+            acts.push(cue(&mut cues));
+        }
         let call = run_on(&mut rng, call);
         let room = rng.pick(&[OUT, OUT, OUT, OUT + 1, LONGEST]);
         acts.push(Act { call, room });
     }
     Stream { index, name, acts }
+}
+
+/// A cue call (02, CR 7): the card program has no mark of it.
+fn cue(rng: &mut Rng) -> Act {
+    let call = Call::Cue(cueing::given(rng));
+    let room = rng.pick(&[OUT, OUT, OUT, OUT, OUT + 1, LONGEST, OUT - 1]);
+    Act { call, room }
 }
 
 /// Half of the streams have the card program's name; the others one with bytes behind its end, one

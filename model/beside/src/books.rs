@@ -3,11 +3,14 @@
 //! neither the second program nor the core's state.
 
 use crate::calls::{Act, Call, Said};
+use crate::cuebooks::{self, Due};
 use crate::intervals::{share, Live};
+use model::cues::Given;
 use splicer::{message_id as id, records, result, Record, CONNECTIONS, HEADER, OUT};
 
 const NONE: u32 = 0xFFFF_FFFF;
 const COMPLETE: u16 = id::SPLICE_COMPLETE_RESPONSE;
+const CUE: u16 = 0x000C;
 /// 01: "in ninths of a microsecond, a second is 9,000,000, a microsecond 9, a tick 100".
 const SECOND: u64 = 9_000_000;
 /// No answer is longer (docs/DEMANDS.md, `answers-fit`).
@@ -138,6 +141,7 @@ impl Books {
                 books.answered(*conn as u8, &bytes[..said.consumed], list)
             }
             Call::Tick(seconds, micros) => books.ticked(ninths(*seconds, *micros), list),
+            Call::Cue(given) => books.cued(given, list),
         })
     }
 
@@ -197,7 +201,37 @@ impl Books {
             Call::Tick(_, micros) if *micros > 999_999 => 8,
             Call::Tick(seconds, micros) if ninths(*seconds, *micros) < self.clock => 3,
             Call::Tick(..) => 0,
+            Call::Cue(given) if given.micros > 999_999 => 8,
+            Call::Cue(given) => [11, 0][usize::from(cuebooks::fits(&given.section))],
         }
+    }
+
+    /// 02, CR 7: "to every initialised connection, from 0 upward": 117, or the cue with its time and the
+    /// whole section.
+    fn cued(&self, given: &Given, list: &[Record]) -> Kept {
+        let due = cuebooks::due(&given.section);
+        let ready = |conn: &usize| self.open[*conn] && self.initialised[*conn];
+        let told: Vec<usize> = list.iter().map(|r| usize::from(r.connection)).collect();
+        if due == Due::Nothing {
+            return must(list.is_empty(), "a cue told that is to be passed over");
+        }
+        let all: Vec<usize> = (0..CONNECTIONS).filter(ready).collect();
+        must(
+            told == all,
+            "not each initialised connection, from 0 upward",
+        )?;
+        for record in list {
+            let code = (record.message_id, record.result);
+            if due == Due::Bad {
+                must(code == (id::GENERAL_RESPONSE, 117), "no 117")?;
+                continue;
+            }
+            must(code == (CUE, 0xFFFF), "no Cue_Request")?;
+            must(record.data[8..] == given.section, "another section")?;
+            let time = (word(record.data, 0), word(record.data, 4));
+            must(cuebooks::timely(due, given, time), "another time of a cue")?;
+        }
+        Ok(())
     }
 
     /// "Opening leaves the connection not initialised."
@@ -656,6 +690,8 @@ fn well_formed(record: &Record) -> Kept {
         id::ALIVE_RESPONSE => 16,
         id::SPLICE_RESPONSE | id::ABORT_RESPONSE => 4,
         COMPLETE => 13,
+        // the time and a section
+        CUE => record.data.len().clamp(28, 520),
         _ => return must(false, "a MessageID that is not written"),
     };
     must(record.data.len() == size, "a record of another size")?;

@@ -1,6 +1,7 @@
 //! A call as both programs get it, what each of them says, and the memory lent to the core.
 
 use model::card;
+use model::cues::Given;
 use model::records;
 use model::rules;
 
@@ -11,6 +12,8 @@ pub enum Call {
     /// The connection and the bytes read so far.
     Message(u32, Vec<u8>),
     Tick(u32, u32),
+    /// A section, a PTS and its instant (02, CR 7).
+    Cue(Given),
 }
 
 impl From<card::Call> for Call {
@@ -81,6 +84,7 @@ impl Act {
             Call::Close(conn) => format!("close {conn}, room {room}"),
             Call::Message(conn, bytes) => format!("message {conn}, room {room}: {}", hex(bytes)),
             Call::Tick(seconds, micros) => format!("tick {seconds} {micros}, room {room}"),
+            Call::Cue(given) => format!("{}, room {room}", given.line()),
         }
     }
 }
@@ -101,6 +105,7 @@ pub fn ask_model(model: &mut rules::Splicer, act: &Act) -> Said {
         Call::Close(conn) => model.close(byte(conn), act.room).map(|r| (r, 0)),
         Call::Message(conn, bytes) => model.message(byte(conn), bytes, act.room),
         Call::Tick(seconds, micros) => model.tick(*seconds, *micros, act.room).map(|r| (r, 0)),
+        Call::Cue(given) => model.cue(given, act.room).map(|r| (r, 0)),
     };
     match result {
         Ok((written, consumed)) => Said::good(consumed, records::all_bytes(&written), model.moved),
@@ -121,6 +126,9 @@ pub fn ask_core(core: &mut splicer::Splicer, call: &Call, out: &mut [u8]) -> Sai
             .message(*conn, bytes, out)
             .map(|h| (h.written, h.consumed, h.moved as usize)),
         Call::Tick(seconds, micros) => core.tick(*seconds, *micros, out).map(|w| (w, 0, 0)),
+        Call::Cue(given) => core
+            .cue(&given.section, given.pts, given.seconds, given.micros, out)
+            .map(|w| (w, 0, 0)),
     };
     match result {
         Ok((written, consumed, moved)) => Said::good(consumed, written.to_vec(), moved),

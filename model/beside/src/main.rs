@@ -6,6 +6,8 @@ mod acts;
 mod books;
 mod calls;
 mod checked;
+mod cuebooks;
+mod cued;
 mod intervals;
 mod lists;
 mod pair;
@@ -24,6 +26,8 @@ const HELP: &str = "\
 beside [--seed S] [--n N] [--first I] [--threads T]   N streams through both, then every fault
        [--recordings R]                               and recordings of R streams through both checkers
        [--rolling R]                                  and R streams of a rolling card through both
+       [--cues R]                                     and R streams of cue calls through both
+beside --cue-records FILE [--seed S]                  writes Cue_Requests of the core
 beside --fault NAME [--seed S]                        one deliberate fault, by its name
 ";
 
@@ -125,25 +129,35 @@ fn command(mut args: Vec<String>) -> Result<bool, String> {
         first: number(&mut args, "--first", 0)?,
         n: number(&mut args, "--n", 760)?,
         threads: number(&mut args, "--threads", 2)?.max(1),
+        make: acts::stream,
     };
     let recordings = number(&mut args, "--recordings", 40)?;
     let rolling = number(&mut args, "--rolling", 300)?;
+    let cues = number(&mut args, "--cues", 420)?;
+    let cue_records = option(&mut args, "--cue-records")?;
     if let Some(word) = args.first() {
         return Err(format!("unknown word {word}"));
     }
     if plan.n == 0 {
         return Err("--n 0 compares nothing".to_string());
     }
+    if let Some(path) = cue_records {
+        return cued::write_records(plan.seed, &path);
+    }
     let list = run::streams(plan.seed, 0, FOR_A_FAULT);
     let results = match fault {
         Some(name) => {
             let wrong = wrong::named(&name).ok_or(format!("no fault {name}"))?;
-            vec![noticed(&plan, &list, wrong)]
+            match wrong::cues().contains(&wrong) {
+                true => vec![noticed(&plan, &cued::streams(plan.seed), wrong)],
+                false => vec![noticed(&plan, &list, wrong)],
+            }
         }
         None => {
             let mut results = everything(&plan, &list);
             results.extend(checked::everything(plan.seed, recordings));
             results.extend(rolled::everything(plan.seed, rolling));
+            results.extend(cued::everything(&plan, cues));
             results
         }
     };
@@ -194,12 +208,13 @@ fn compared(plan: &Plan) -> bool {
     for branch in &never {
         println!("never taken: {branch}");
     }
-    println!("refusals 1 to 9: {:?}", &tally.refusals[1..]);
+    println!("refusals 1 to 11: {:?}", &tally.refusals[1..]);
     println!(
-        "beside: seed {}, {} streams, {} calls, {} differences",
+        "beside: seed {}, {} streams, {} calls ({} cues), {} differences",
         plan.seed,
         tally.streams,
         tally.calls,
+        tally.cues,
         tally.differences.len()
     );
     tally.differences.is_empty() && never.is_empty()
@@ -218,7 +233,7 @@ fn never(plan: &Plan, tally: &Tally) -> Vec<&'static str> {
 }
 
 /// Shows that the comparison notices a fault.
-fn noticed(plan: &Plan, list: &[Stream], wrong: Wrong) -> bool {
+pub fn noticed(plan: &Plan, list: &[Stream], wrong: Wrong) -> bool {
     let found = run::noticed(plan.seed, list, wrong);
     match &found {
         Some(text) => {
@@ -231,7 +246,7 @@ fn noticed(plan: &Plan, list: &[Stream], wrong: Wrong) -> bool {
 }
 
 /// Shows that the books notice a fault by themselves.
-fn booked(list: &[Stream], wrong: Wrong) -> bool {
+pub fn booked(list: &[Stream], wrong: Wrong) -> bool {
     let line = wrong.line();
     let found = run::booked(list, wrong);
     match &found {

@@ -20,6 +20,7 @@ impl Pair {
     pub fn fresh(name: &[u8; NAME], wrong: Wrong) -> Result<Pair, String> {
         let (mut model, number) = rules::Splicer::fresh(name);
         model.fault = wrong.of_model();
+        model.cueing.miscue = wrong.of_cues();
         let (core, refused) = wrong.fresh(name);
         let refused = refused.err().map(|r| r.number());
         if refused != number {
@@ -72,7 +73,9 @@ impl Pair {
     /// Makes the call on both and compares all that is seen of it.
     pub fn call(&mut self, act: &Act, desk: &mut Desk, wrong: Wrong) -> Result<Said, String> {
         let wanted = ask_model(&mut self.model, act);
-        let before = (wanted.refused != 0).then(|| self.core.clone());
+        // 02, CR 7: a cue changes nothing, good or refused.
+        let kept = wanted.refused != 0 || matches!(act.call, Call::Cue(_));
+        let before = kept.then(|| self.core.clone());
         let handed = wrong.handed(act);
         let mut found = ask_core(&mut self.core, &handed.call, desk.buffer(handed.room));
         wrong.told(act, &mut found, &mut self.core, desk);
@@ -89,7 +92,10 @@ impl Pair {
             return Err("bytes outside the written ones changed".to_string());
         }
         if before.is_some_and(|before| before != self.core) {
-            return Err(format!("refused {} and changed its state", found.refused));
+            return Err(format!(
+                "refused {}, or a cue, and changed its state",
+                found.refused
+            ));
         }
         // After every call, refused ones too.
         let waiting = wrong.waiting(act, &found, self.core.waiting(), &mut self.drift);

@@ -2,12 +2,13 @@
 
 use crate::acts::{self, Stream, LONGEST};
 use crate::books::Books;
-use crate::calls::{ask_model, Act, Desk};
+use crate::calls::{ask_model, Act, Call, Desk};
 use crate::pair::Pair;
 use crate::wrong::{Drift, Wrong};
 use model::counts::Counts;
 use model::draw::Rng;
 use model::rules;
+use model::table::Hits;
 
 /// Splicers alive at once in a thread, their calls interleaved.
 pub const GROUP: u64 = 4;
@@ -19,6 +20,8 @@ pub struct Plan {
     pub first: u64,
     pub n: u64,
     pub threads: u64,
+    /// The stream of a seed and an index.
+    pub make: fn(u64, u64) -> Stream,
 }
 
 /// What came of it.
@@ -26,9 +29,13 @@ pub struct Tally {
     pub streams: u64,
     /// Calls made on both programs and compared.
     pub calls: u64,
-    pub refusals: [u64; 10],
+    /// Cue calls among them (02, CR 7).
+    pub cues: u64,
+    pub refusals: [u64; 12],
     pub differences: Vec<String>,
     pub counts: Counts,
+    /// The branches of the cue calls.
+    pub hits: Hits,
 }
 
 impl Tally {
@@ -36,20 +43,24 @@ impl Tally {
         Tally {
             streams: 0,
             calls: 0,
-            refusals: [0; 10],
+            cues: 0,
+            refusals: [0; 12],
             differences: Vec::new(),
             counts: Counts::new(),
+            hits: Hits::default(),
         }
     }
 
     fn add(&mut self, other: Tally) {
         self.streams += other.streams;
         self.calls += other.calls;
+        self.cues += other.cues;
         for (own, more) in self.refusals.iter_mut().zip(other.refusals) {
             *own += more;
         }
         self.differences.extend(other.differences);
         self.counts.add(&other.counts);
+        self.hits.add(&other.hits);
     }
 }
 
@@ -80,7 +91,8 @@ pub fn run(plan: &Plan) -> Tally {
         let mut from = part * GROUP;
         while from < plan.n {
             let to = plan.n.min(from + GROUP);
-            let list = streams(plan.seed, plan.first + from, plan.first + to);
+            let indices = plan.first + from..plan.first + to;
+            let list: Vec<Stream> = indices.map(|index| (plan.make)(plan.seed, index)).collect();
             share.group(&list);
             from += plan.threads * GROUP;
         }
@@ -167,6 +179,7 @@ impl Share {
         };
         let Some(act) = lane.stream.acts.get(lane.next) else {
             self.tally.counts.add(&pair.model.counts);
+            self.tally.hits.add(&pair.model.cueing.hits);
             lane.pair = None;
             return;
         };
@@ -185,6 +198,7 @@ impl Share {
         let before = self.rng.chance(10).then(|| pair.core.clone());
         let said = pair.call(act, &mut self.desk, self.wrong)?;
         self.tally.calls += 1;
+        self.tally.cues += u64::from(matches!(act.call, Call::Cue(_)));
         self.tally.refusals[usize::from(said.refused)] += 1;
         if let Some(before) = before {
             pair.again(&before, act, &said, &mut self.desk)?;
@@ -212,6 +226,7 @@ pub fn booked(list: &[Stream], wrong: Wrong) -> Option<String> {
     for stream in list {
         let (mut model, _) = rules::Splicer::fresh(&stream.name);
         model.fault = wrong.of_model();
+        model.cueing.miscue = wrong.of_cues();
         let mut books = Books::default();
         let mut drift = Drift::default();
         for (at, act) in stream.acts.iter().enumerate() {

@@ -1,5 +1,6 @@
 //! The scenario files against the archive: the records of every call and the values read in between.
-//! The card program has no call that reads a value (02, CR 5), so `> mux` lines are held to it here.
+//! The card program has no call that reads a value (02, CR 5) and none with a cue (02, CR 7), so `> mux` and
+//! `> cue` lines are held to it here.
 
 use crate::acts::LONGEST;
 use crate::calls::{ask_core, Call};
@@ -11,12 +12,13 @@ const FOLDER: &str = concat!(env!("CARGO_MANIFEST_DIR"), "/../scenarios");
 
 /// Runs every file; the first difference of each is told.
 pub fn run() -> bool {
-    let (mut files, mut reads, mut failed) = (0, 0, 0);
+    let (mut files, mut reads, mut cues, mut failed) = (0, 0, 0, 0);
     for path in paths() {
         match run_file(&path) {
-            Ok(Some(made)) => {
+            Ok(Some((read, cued))) => {
                 files += 1;
-                reads += made;
+                reads += read;
+                cues += cued;
             }
             // Those of a rolling card run in `rolled`.
             Ok(None) => {}
@@ -28,8 +30,8 @@ pub fn run() -> bool {
             }
         }
     }
-    println!("beside: {files} scenarios against the archive, {reads} mux lines, {failed} differ");
-    failed == 0 && files > 0 && reads > 0
+    println!("beside: {files} scenarios against the archive, {reads} mux lines, {cues} cues, {failed} differ");
+    failed == 0 && files > 0 && reads > 0 && cues > 0
 }
 
 fn paths() -> Vec<String> {
@@ -40,17 +42,20 @@ fn paths() -> Vec<String> {
     all
 }
 
-/// Gives the number of values read; nothing for a rolling card's, and for cues, which the archive has not yet.
-fn run_file(path: &str) -> Result<Option<usize>, String> {
+/// Gives the numbers of values read and of cue calls; nothing for a rolling card's.
+fn run_file(path: &str) -> Result<Option<(usize, usize)>, String> {
     let text = std::fs::read_to_string(path).map_err(|e| e.to_string())?;
     let steps = scenario::parse(&text)?;
-    if scenario::is_rolling(&steps) || scenario::is_cued(&steps) {
+    if scenario::is_rolling(&steps) {
         return Ok(None);
     }
     let (mut core, _) = Splicer::fresh(&name(b"CH1"));
     let mut stopped = false;
     for step in &steps {
-        let found = records(&mut core, &step.input, &mut stopped);
+        let found = match &step.cue {
+            Some(given) => shown(&mut core, &Call::Cue(given.clone())),
+            None => records(&mut core, &step.input, &mut stopped),
+        };
         if found != step.expected {
             return Err(told(step, "wrote other bytes"));
         }
@@ -58,7 +63,9 @@ fn run_file(path: &str) -> Result<Option<usize>, String> {
             return Err(told(step, &format!("reads {}", core.mux())));
         }
     }
-    Ok(Some(steps.iter().filter(|step| step.mux.is_some()).count()))
+    let reads = steps.iter().filter(|step| step.mux.is_some()).count();
+    let cues = steps.iter().filter(|step| step.cue.is_some()).count();
+    Ok(Some((reads, cues)))
 }
 
 fn told(step: &Step, what: &str) -> String {
@@ -79,12 +86,17 @@ fn records(core: &mut Splicer, input: &[u8], stopped: &mut bool) -> Vec<u8> {
         let call = Call::from(call);
         // "at a message header with MessageSize above 4,088 it makes the call [..] and stops"
         *stopped = matches!(&call, Call::Message(_, bytes) if bytes[2..4] > [0x0F, 0xF8][..]);
-        let mut out = vec![0; LONGEST];
-        let said = ask_core(core, &call, &mut out);
-        match said.refused {
-            0 => found.extend(said.written),
-            number => found.extend([0x45, number]),
-        }
+        found.extend(shown(core, &call));
     }
     found
+}
+
+/// What a call wrote, or its refusal, as the card program shows it.
+fn shown(core: &mut Splicer, call: &Call) -> Vec<u8> {
+    let mut out = vec![0; LONGEST];
+    let said = ask_core(core, call, &mut out);
+    match said.refused {
+        0 => said.written,
+        number => vec![0x45, number],
+    }
 }

@@ -2,6 +2,7 @@
 //! and some in what the core is handed or seen to do.
 
 use crate::calls::{Act, Call, Desk, Said};
+use model::cues::{Miscue, MISCUES};
 use model::faults::{Fault, FAULTS};
 use splicer::{message_id as id, records, Record};
 use splicer::{Refusal, Splicer, CONNECTIONS, HEADER, NAME, OUT};
@@ -11,6 +12,8 @@ pub enum Wrong {
     Nothing,
     /// A fault of the second program's list.
     Model(Fault),
+    /// A mistake of the second program about cues (02, CR 7).
+    Cue(Miscue),
     /// A fault of `OWN`, by its name.
     Core(&'static str),
 }
@@ -83,6 +86,13 @@ pub const TIMING: &[(&str, &str)] = &[
     ("primary-ticks", "the primary channel's time read in ticks"),
 ];
 
+/// Faults in what the core is seen to do in a cue call (02, CR 7).
+pub const CUEING: &[(&str, &str)] = &[
+    ("cue-result", "a Cue_Request with Result 100"),
+    ("cue-consumed", "a cue call consumes its section"),
+    ("cue-opens", "a good cue call opens a connection"),
+];
+
 /// How far a fault's waiting counts have gone from the true ones, and the true ones before the call.
 #[derive(Clone, Default)]
 pub struct Drift {
@@ -94,6 +104,13 @@ pub struct Drift {
 pub fn all() -> Vec<Wrong> {
     let model = FAULTS.iter().map(|(fault, _)| Wrong::Model(*fault));
     model.chain(own()).chain(reporting()).collect()
+}
+
+/// Every mistake about cues.
+pub fn cues() -> Vec<Wrong> {
+    let model = MISCUES.iter().map(|(miscue, _)| Wrong::Cue(*miscue));
+    let own = CUEING.iter().map(|(name, _)| Wrong::Core(name));
+    model.chain(own).collect()
 }
 
 fn own() -> impl Iterator<Item = Wrong> {
@@ -108,8 +125,10 @@ pub fn reporting() -> impl Iterator<Item = Wrong> {
 
 /// The fault of this name.
 pub fn named(text: &str) -> Option<Wrong> {
-    all().into_iter().find(|wrong| match wrong {
+    let mut all = all().into_iter().chain(cues());
+    all.find(|wrong| match wrong {
         Wrong::Model(fault) => fault.name() == text,
+        Wrong::Cue(miscue) => miscue.name() == text,
         Wrong::Core(name) => *name == text,
         Wrong::Nothing => false,
     })
@@ -120,8 +139,10 @@ impl Wrong {
         match self {
             Wrong::Nothing => "no fault".to_string(),
             Wrong::Model(fault) => format!("{}: {}", fault.name(), fault.text()),
+            Wrong::Cue(miscue) => format!("{}: {}", miscue.name(), miscue.text()),
             Wrong::Core(name) => {
-                let mut all = OWN.iter().chain(COUNTING).chain(MOVING).chain(TIMING);
+                let numbers = COUNTING.iter().chain(MOVING).chain(TIMING);
+                let mut all = OWN.iter().chain(numbers).chain(CUEING);
                 let text = all.find(|(n, _)| *n == name);
                 format!("{name}: {}", text.map_or("", |(_, t)| t))
             }
@@ -131,6 +152,13 @@ impl Wrong {
     pub fn of_model(self) -> Option<Fault> {
         match self {
             Wrong::Model(fault) => Some(fault),
+            _ => None,
+        }
+    }
+
+    pub fn of_cues(self) -> Option<Miscue> {
+        match self {
+            Wrong::Cue(miscue) => Some(miscue),
             _ => None,
         }
     }
@@ -177,7 +205,16 @@ impl Wrong {
         let begin = desk.begin();
         let end = begin + said.written.len();
         let good_message = said.refused == 0 && matches!(act.call, Call::Message(..));
+        let good_cue = said.refused == 0 && matches!(act.call, Call::Cue(_));
         match name {
+            "cue-result" if good_cue && said.written.get(3) == Some(&0x0C) => {
+                said.written[6..8].copy_from_slice(&[0, 100]);
+                desk.lent[begin + 6..begin + 8].copy_from_slice(&[0, 100]);
+            }
+            "cue-consumed" if good_cue => said.consumed = 20,
+            "cue-opens" if good_cue => {
+                let _ = (0..4).find(|conn| core.open(*conn).is_ok());
+            }
             "house-number" if said.refused == 5 => said.refused = 4,
             "consumed" if good_message => said.consumed += 1,
             "written-short" => drop(said.written.pop()),
