@@ -533,11 +533,12 @@ pub fn systematic() -> Vec<Given> {
 }
 
 fn aimed(section: Vec<u8>) -> Given {
-    let fits = cues::misfit(&section, None).is_none();
-    let pts = match judged(&section, None) {
-        _ if !fits => 0,
-        (Comes::At(cue), _) => (cue + WRAP - 1) % WRAP,
-        _ => 0,
+    let pts = match cues::misfit(&section, None) {
+        Some(_) => 0,
+        None => match judged(&section, None).0 {
+            Comes::At(cue) => (cue + WRAP - 1) % WRAP,
+            _ => 0,
+        },
     };
     Given {
         section,
@@ -767,6 +768,23 @@ mod tests {
         assert!(!timely(&given(5), 5, 12));
         assert!(!timely(&given(5), 5, 10));
         assert!(!timely(&given(5), 4, 999_999));
+    }
+
+    #[test]
+    fn the_plainest_sections_take_most_branches() {
+        let (mut splicer, _) = Splicer::fresh(&card::channel_name());
+        for given in systematic() {
+            let _ = splicer.cue(&given, ROOM);
+        }
+        let hits = &splicer.cueing.hits;
+        for (name, _) in FLOORS {
+            if name.starts_with("bad:") || name.starts_with("nothing") {
+                assert!(hits.of(name) > 0, "{name}");
+            }
+            if name.starts_with("passes:") {
+                assert!(hits.of(name) > 0, "{name}");
+            }
+        }
     }
 
     #[test]
