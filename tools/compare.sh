@@ -40,6 +40,10 @@ ran mistakes "$model" recordings --seed 280 --n 10 --faults || :
 ran rolls "$model" rolls --seed 280 --n 200 || :
 ran slips "$model" rolls --seed 280 --n 60 --faults || :
 
+# nor have cue calls (02, CR 7)
+ran cues "$model" cues --seed 280 --n 200 || :
+ran miscues "$model" cues --seed 280 --n 30 --faults || :
+
 # the definitions themselves, on three streams
 ran definitions sh tools/definitions.sh 280 3 || :
 

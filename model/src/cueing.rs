@@ -475,6 +475,31 @@ fn senseless(rng: &mut Rng) -> Vec<u8> {
     }
 }
 
+/// N sections as their senders mean them, for programs that walk descriptors and read other commands.
+pub fn good(seed: u64, n: u64) -> Vec<Vec<u8>> {
+    let mut rng = Rng::new(seed ^ 0x7003);
+    (0..n).map(|_| meant(&mut rng).bytes()).collect()
+}
+
+fn meant(rng: &mut Rng) -> Section {
+    let mut section = whole(rng);
+    if !section.descriptors.is_empty() {
+        let avail = |rng: &mut Rng| named(0, b"CUEI", &bytes_of(rng, 4));
+        let list: Vec<Vec<u8>> = (0..rng.between(1, 4)).map(|_| avail(rng)).collect();
+        section.descriptors = list.concat();
+    }
+    if let Command::Other(kind, _) = section.command {
+        let private = [b"ABCD".to_vec(), bytes_of(rng, 3)].concat();
+        section.command = match kind {
+            // no event, or one that is cancelled
+            0x04 => Command::Other(kind, rng.pick(&[vec![0], vec![1, 0, 0, 0, 7, 0xFF]])),
+            0xFF => Command::Other(kind, private),
+            _ => Command::Other(0x07, Vec::new()),
+        };
+    }
+    section
+}
+
 /// Each command once, with each of its flags, in few bytes.
 pub fn plainest() -> Vec<Section> {
     let mut commands = vec![
@@ -713,14 +738,17 @@ pub fn lines(seed: u64, index: u64) -> String {
     text
 }
 
-/// N cue calls as lines: section, PTS, Seconds and MicroSeconds of the instant, and what comes of them:
+/// N cue calls as lines: section (`-` without a byte), PTS, Seconds and MicroSeconds of the instant, and what comes of them:
 /// `refused N`, `nothing`, `bad`, or `passes` and the two numbers of the time.
 pub fn rows(seed: u64, n: u64) -> String {
     let mut rng = Rng::new(seed ^ 0x7001);
     let mut text = String::new();
     for _ in 0..n {
         let given = given(&mut rng);
-        let digits: String = given.section.iter().map(|b| format!("{b:02X}")).collect();
+        let mut digits: String = given.section.iter().map(|b| format!("{b:02X}")).collect();
+        if digits.is_empty() {
+            digits.push('-');
+        }
         let Given {
             pts,
             seconds,

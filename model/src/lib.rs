@@ -5,10 +5,12 @@
 pub mod aside;
 pub mod asrun;
 pub mod card;
+pub mod carriage;
 pub mod cases;
 pub mod check;
 pub mod compare;
 pub mod counts;
+pub mod cue;
 pub mod cueing;
 pub mod cues;
 pub mod damage;

@@ -2,8 +2,8 @@
 
 use model::faults::Fault;
 use model::{
-    asrun, card, cases, check, cueing, fuzz, option, people, pieces, recording, recordings, rolls,
-    scenario,
+    asrun, card, cases, check, cue, cueing, fuzz, option, people, pieces, recording, recordings,
+    rolls, scenario,
 };
 use std::io::{Read, Write};
 
@@ -31,6 +31,15 @@ model rolls --seed S --n N [--table] [--floors off]
                                              N streams of a rolling card (02, CR 9) on the second program
 model rolls --seed S --n N --faults          shows that each deliberate mistake of a rolling card is noticed
 model recordings --seed S --n N --faults     shows that each deliberate mistake of a checker is noticed
+model cue (HEX | BASE64)... [--pts N --at TIME]
+                                             sections: every field, the CRC, what the core would do, the time
+model cue --ts FILE [--pid N] ...            those of a transport stream, by its tables or this PID
+model cue --records FILE ...                 those of the Cue_Requests in a recorded output
+model cue --make COMMAND [KEY=VALUE]... ...  one from words: null, insert, time_signal, schedule, bandwidth, private or
+                                             a number; README.md has the keys
+model cue --drawn N [--seed S] ...           N drawn ones
+   ... [--hex | --fields NAME,.. | --out FILE.ts]
+                                             as digits, as values with tabs between, or into a transport stream
 model cues --seed S --n N [--table] [--floors off]
                                              N streams with cue calls (02, CR 7) on the second program
 model cues --seed S --n N --faults           shows that each deliberate mistake about cues is noticed
@@ -68,6 +77,7 @@ fn command(args: &[String]) -> Result<bool, String> {
         "record" => run_record(rest),
         "recordings" => run_recordings(rest),
         "rolls" => run_rolls(rest),
+        "cue" => write_out(cue::command(rest)?.as_bytes()),
         "cues" => run_cues(rest),
         "help" | "--help" => {
             print!("{HELP}");

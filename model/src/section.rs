@@ -384,7 +384,11 @@ impl Bits<'_> {
         if end + 4 > self.bytes.len() {
             return None;
         }
+        let (at, count) = (self.at, self.shown.fields.len());
         if self.descriptors(end).is_none() {
+            // not as SCTE 35 has them: their bytes
+            self.at = at;
+            self.shown.fields.truncate(count);
             self.bytes_to("descriptors", end);
         }
         let crc = self.bytes.len() - 4;

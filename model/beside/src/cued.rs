@@ -138,16 +138,20 @@ fn plainest() -> bool {
 
 /// The core's own Cue_Requests, for programs that read them.
 pub fn write_records(seed: u64, path: &str) -> Result<bool, String> {
+    let (mut core, _) = Splicer::fresh(&card::channel_name());
+    let mut out = vec![0; OUT];
+    for act in ready() {
+        ask_core(&mut core, &act.call, &mut out);
+    }
     let mut written = Vec::new();
-    let mut out = vec![0; LONGEST];
-    for stream in streams(seed) {
-        let (mut core, _) = Splicer::fresh(&stream.name);
-        for act in &stream.acts {
-            let said = ask_core(&mut core, &act.call, &mut out[..act.room]);
-            if matches!(act.call, Call::Cue(_)) {
-                written.extend(said.written);
-            }
-        }
+    for section in cueing::good(seed ^ 1, 600) {
+        let call = Call::Cue(Given {
+            section,
+            pts: 0,
+            seconds: 1_700_000_000,
+            micros: 0,
+        });
+        written.extend(ask_core(&mut core, &call, &mut out).written);
     }
     std::fs::write(path, &written).map_err(|e| format!("{path}: {e}"))?;
     println!("{} bytes of records", written.len());
