@@ -46,7 +46,7 @@ by_tshark() {
         if (name == "MessageID") id = value
         else if (name == "Result") result = value
         else if (name == "Seconds") seconds = value
-        else if (name == "MicroSeconds") put("time", seconds == 4294967295 && value == 4294967295 ? "none" : sprintf("%s.%06d", seconds, value))
+        else if (name == "MicroSeconds") put("time", seconds == "4294967295" && value == "4294967295" ? "none" : sprintf("%s.%06d", seconds, value))
         else if (name == "PID") pids = pids (pids == "" ? "" : ", ") value
         else if (name == "StreamType") kinds = kinds (kinds == "" ? "" : ", ") value
         else if (name ~ /^(MessageSize|Result_Extension|time|stream_Length|...Bitrate|.Resolution|response_in|request_in)$/) next

@@ -111,6 +111,18 @@ function Walk:left(name)
     if not self.cut and bytes > 0 then self.tree:add(f[name], self:take(bytes)) end
 end
 
+-- a section, and its fields by Wireshark's own dissector of SCTE 35 (which writes its own words into the columns)
+local known, scte35 = pcall(Dissector.get, "scte35")
+
+function Walk:section()
+    local first = self.at
+    self:left("splice_info_section")
+    if self.cut or self.at == first or not (known and scte35) then return end
+    local info = tostring(self.pinfo.cols.info)
+    pcall(function() scte35:call(self.tvb(first, self.at - first):tvb(), self.pinfo, self.tree) end)
+    self.pinfo.cols.info:set(info)
+end
+
 function Walk:hardware()
     if self.cut or self.at == self.tvb:len() then return end
     local length = self:number("Length", 2)
@@ -166,7 +178,7 @@ local layouts = {
     [0x0008] = function(w) w:number("SessionID", 4) end,
     [0x0009] = function(w) w:number("SessionID", 4) w:number("SpliceTypeFlag", 1) w:number("Bitrate", 4) w:number("PlayedDuration", 4) end,
     [0x000B] = function(w) w:name("ChannelName") w:hardware() w:left("TS_program_map_section") end,
-    [0x000C] = function(w) w:time() w:left("splice_info_section") end,
+    [0x000C] = function(w) w:time() w:section() end,
     [0x000E] = function(w) w:number("SessionID", 4) end,
     [0x000F] = function(w) w:number("SessionID", 4) end,
 }
@@ -201,8 +213,8 @@ local function tie(tvb, pinfo, id, place)
         return
     end
     for at, request in ipairs(waits) do
-        -- a General_Response answers the oldest request of the other side
-        local general = id == 0x0000 and request.from_server == (pinfo.src_port == 5168)
+        -- a General_Response answers the oldest request of the other side; 117 tells of a cue and answers none
+        local general = id == 0x0000 and tvb(4, 2):uint() ~= 117 and request.from_server == (pinfo.src_port == 5168)
         if general or request.key == key(id, tvb) then
             tied[own], tied[request.own] = request.frame, pinfo.number
             table.remove(waits, at)
@@ -227,7 +239,7 @@ local function message(tvb, pinfo, root)
     tree:add(f.Result, tvb(4, 2))
     tree:add(f.Result_Extension, tvb(6, 2))
     if tvb:len() > 8 then
-        local walk = setmetatable({ tvb = tvb(8):tvb(), at = 0, tree = tree, cut = false }, Walk)
+        local walk = setmetatable({ tvb = tvb(8):tvb(), at = 0, tree = tree, cut = false, pinfo = pinfo }, Walk)
         local layout = layouts[id] or function(w) w:left("data") end
         layout(walk)
         if walk.cut or walk.at < walk.tvb:len() then tree:add_proto_expert_info(unreadable) end

@@ -212,6 +212,11 @@ pub fn line(fields: &[(String, Value)]) -> String {
                 let words = u32::try_from(*state).map_or("", texts::state);
                 format!("{state} ({words})")
             }
+            Value::Text(text) if name == "splice_info_section" => {
+                let bytes = model::scenario::hex_bytes(text).unwrap_or_default();
+                let words = model::section::summary(&bytes);
+                words.map_or(text.clone(), |words| format!("{text} ({words})"))
+            }
             Value::Text(text) if name == "data" && text.len() > 96 => {
                 format!("{}.. ({} bytes)", &text[..96], text.len() / 2)
             }
@@ -309,6 +314,14 @@ mod tests {
                         Logical_Multiplex_Type=4 Logical_Multiplex=05 TS_program_map_section=02";
         assert_eq!(told(11, &config), expected);
         assert_eq!(told(12, &[255; 9]), " time=none splice_info_section=ff");
+        // docs/SCTE35.md's second section
+        let section = [
+            0xFC, 0x30, 0x16, 0x00, 0x01, 0x00, 0x00, 0x00, 0x10, 0x00, 0xFF, 0xF0, 0x05, 0x06,
+            0xFF, 0x23, 0x45, 0x67, 0x89, 0x00, 0x00, 0x71, 0x3B, 0x22, 0xBD,
+        ];
+        let cue = told(12, &[&[255; 8][..], &section].concat());
+        let words = "890000713b22bd (time_signal pts_time 4886718345)";
+        assert!(cue.ends_with(words), "{cue}");
         assert_eq!(name(0x11), "TearDownFeed_Response");
         assert_eq!(name(0x12), "message 0x0012");
     }

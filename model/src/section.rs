@@ -461,6 +461,37 @@ pub fn component_lengths_fit(section: &[u8]) -> bool {
     fits && bits.place() + descriptors + 4 <= section.len()
 }
 
+/// The command of a right section that is not encrypted, in words.
+pub fn summary(section: &[u8]) -> Option<String> {
+    let plain = section.len() >= 20 && section[0] == 0xFC && section[4] < 0x80;
+    if !plain || !is_whole(section) || crc(section) != 0 {
+        return None;
+    }
+    let shown = Shown::of(section);
+    let set = |name: &str| shown.number(name) == Some(1);
+    let mut text = match section[13] {
+        0x00 => "splice_null".to_string(),
+        0x04 => "splice_schedule".to_string(),
+        0x05 => format!("splice_insert {}", shown.number("splice_event_id")?),
+        0x06 => "time_signal".to_string(),
+        kind => format!("splice_command_type 0x{kind:02X}"),
+    };
+    let words = [
+        ("splice_event_cancel_indicator", " cancelled"),
+        ("out_of_network_indicator", " out"),
+        ("splice_immediate_flag", " immediate"),
+    ];
+    for (_, word) in words.iter().filter(|(name, _)| set(name)) {
+        text += word;
+    }
+    for name in ["pts_time", "duration"] {
+        if let Some(ticks) = shown.number(name) {
+            text += &format!(" {name} {ticks}");
+        }
+    }
+    Some(text)
+}
+
 /// Whether its length is what section_length says.
 pub fn is_whole(section: &[u8]) -> bool {
     section.len() >= 3 && section.len() == 3 + section_length(section)
@@ -520,6 +551,19 @@ mod tests {
         let shown = Shown::of(&bytes(SECOND));
         assert_eq!(shown.number("pts_adjustment"), Some(0x1_0000_0010));
         assert_eq!(shown.number("pts_time"), Some(0x1_2345_6789));
+    }
+
+    #[test]
+    fn in_words() {
+        let words = |text: &str| summary(&bytes(text));
+        let first = "splice_insert 167144 out pts_time 3582534591";
+        assert_eq!(words(FIRST).as_deref(), Some(first));
+        let second = "time_signal pts_time 4886718345";
+        assert_eq!(words(SECOND).as_deref(), Some(second));
+        assert_eq!(words(&FIRST.replace("5D", "5C")), None);
+        assert_eq!(words("FC 30 00"), None);
+        let null = Section::new(Command::Null).bytes();
+        assert_eq!(summary(&null).as_deref(), Some("splice_null"));
     }
 
     #[test]
