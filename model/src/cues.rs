@@ -245,37 +245,44 @@ pub fn judged(section: &[u8], miscue: Option<Miscue>) -> (Comes, &'static str) {
     if wrong && !is(Miscue::SilenceBeforeCrc) {
         return bad_crc;
     }
-    // (ii) "table_id not 0xFC, or encrypted_packet 1: nothing"
-    if section[0] != 0xFC && !is(Miscue::OtherTablePassed) {
-        return (Comes::Nothing, "nothing: another table");
-    }
-    if section[4] & 0x80 != 0 && !is(Miscue::EncryptedPassed) {
-        return match is(Miscue::EncryptedBad) {
-            true => (Comes::Bad, "nothing: encrypted"),
-            false => (Comes::Nothing, "nothing: encrypted"),
-        };
-    }
-    if section[3] != 0 && is(Miscue::ProtocolChecked) {
-        return (Comes::Nothing, "nothing: another table");
-    }
-    // (iii) "splice_command_type other than 0x00, 0x05, 0x06: nothing"
-    let branch = match section[13] {
-        0x00 | 0x05 | 0x06 => None,
-        0x04 if is(Miscue::SchedulePassed) => return (Comes::Timeless, "nothing: splice_schedule"),
-        0x04 => Some("nothing: splice_schedule"),
-        0x07 => Some("nothing: bandwidth_reservation"),
-        0xFF => Some("nothing: private_command"),
-        _ => Some("nothing: a reserved command"),
+    let comes = match passed_over(section, miscue) {
+        Some(comes) => comes,
+        None => commanded(section, miscue),
     };
-    if let Some(branch) = branch {
-        let bad = is(Miscue::OtherCommandBad);
-        return (if bad { Comes::Bad } else { Comes::Nothing }, branch);
-    }
-    let comes = commanded(section, miscue);
     if wrong && comes.0 != Comes::Nothing {
         return bad_crc;
     }
     comes
+}
+
+/// (ii) "table_id not 0xFC, or encrypted_packet 1: nothing"; (iii) "splice_command_type other than 0x00,
+/// 0x05, 0x06: nothing".
+fn passed_over(section: &[u8], miscue: Option<Miscue>) -> Option<(Comes, &'static str)> {
+    let is = |other: Miscue| miscue == Some(other);
+    let or_bad = |mistaken: Miscue| match is(mistaken) {
+        true => Comes::Bad,
+        false => Comes::Nothing,
+    };
+    if section[0] != 0xFC && !is(Miscue::OtherTablePassed) {
+        return Some((Comes::Nothing, "nothing: another table"));
+    }
+    if section[4] & 0x80 != 0 && !is(Miscue::EncryptedPassed) {
+        return Some((or_bad(Miscue::EncryptedBad), "nothing: encrypted"));
+    }
+    if section[3] != 0 && is(Miscue::ProtocolChecked) {
+        return Some((Comes::Nothing, "nothing: another table"));
+    }
+    let branch = match section[13] {
+        0x00 | 0x05 | 0x06 => return None,
+        0x04 => "nothing: splice_schedule",
+        0x07 => "nothing: bandwidth_reservation",
+        0xFF => "nothing: private_command",
+        _ => "nothing: a reserved command",
+    };
+    match section[13] {
+        0x04 if is(Miscue::SchedulePassed) => Some((Comes::Timeless, branch)),
+        _ => Some((or_bad(Miscue::OtherCommandBad), branch)),
+    }
 }
 
 /// A command as its own syntax has it: its size, and the pts_time if there is one.
@@ -362,27 +369,35 @@ fn splice_insert(section: &[u8], command: &[u8], miscue: Option<Miscue>) -> Resu
         };
         return Err((comes, "bad: a splice_insert without its flags"));
     };
-    let given = command_length(section);
-    if is(Miscue::ModeByCommandLength) && given < 6 {
+    if is(Miscue::ModeByCommandLength) && command_length(section) < 6 {
         return Err((Comes::Bad, "bad: a splice_insert without its flags"));
     }
-    if flags & 0x40 == 0 {
-        return Err(component_mode(section, miscue));
+    match flags & 0x40 {
+        0 => Err(component_mode(section, miscue)),
+        _ => program_mode(*flags, command, miscue),
     }
-    let immediate = flags & 0x10 != 0;
+}
+
+/// A splice_insert from its flags on: splice_time(), break_duration(), and four bytes.
+fn program_mode(flags: u8, command: &[u8], miscue: Option<Miscue>) -> Result<Syntax, Ends> {
+    let is = |other: Miscue| miscue == Some(other);
+    let (immediate, duration) = (flags & 0x10 != 0, flags & 0x20 != 0);
+    let past = (Comes::Bad, "bad: a splice_insert past its place");
     let (mut size, mut time) = (6, None);
     if !immediate || is(Miscue::ImmediateHasTime) {
         let Some((used, pts)) = splice_time(&command[6..], miscue) else {
-            return Err((Comes::Bad, "bad: a splice_insert past its place"));
+            return Err(past);
         };
         size += used;
         time = pts;
     }
-    let duration = flags & 0x20 != 0;
     if duration && !is(Miscue::DurationUnread) {
         size += 5;
     }
     size += 4;
+    if size > command.len() && !is(Miscue::NotGivenPasses) {
+        return Err(past);
+    }
     let branch = match (immediate, time, duration) {
         (true, _, false) => "passes: immediate",
         (true, _, true) => "passes: immediate, with a duration",
@@ -391,9 +406,6 @@ fn splice_insert(section: &[u8], command: &[u8], miscue: Option<Miscue>) -> Resu
         (_, Some(_), false) => "passes: splice_insert with a pts_time",
         (_, Some(_), true) => "passes: splice_insert with a pts_time and a duration",
     };
-    if size > command.len() && !is(Miscue::NotGivenPasses) {
-        return Err((Comes::Bad, "bad: a splice_insert past its place"));
-    }
     Ok(Syntax { size, time, branch })
 }
 
@@ -480,36 +492,14 @@ pub fn ticks(cue: u64, pts: u64) -> u64 {
 /// instant past the time field's range".
 pub fn time_of(comes: Comes, given: &Given, miscue: Option<Miscue>) -> (u32, u32) {
     let is = |other: Miscue| miscue == Some(other);
-    let base = ninths(given.seconds, given.micros);
     let Comes::At(cue) = comes else {
         return match is(Miscue::TimelessIsGiven) {
             true => (given.seconds, given.micros),
             false => (NONE, NONE),
         };
     };
-    let mut ticks = match cue {
-        // Only where the sum was not taken modulo 2^33.
-        WRAP.. => cue.saturating_sub(given.pts % WRAP),
-        _ => ticks(cue, given.pts),
-    };
-    if ticks == 0 && is(Miscue::FirstAfter) {
-        ticks = WRAP;
-    }
-    let mut exact = base + TICK * ticks;
-    if is(Miscue::Nearest) && ticks > WRAP / 2 {
-        exact = base.saturating_sub(TICK * (WRAP - ticks));
-    }
-    match miscue {
-        Some(Miscue::RoundedUp) => exact = exact.next_multiple_of(MICROSECOND),
-        Some(Miscue::RoundedToNearest) => exact += 4,
-        Some(Miscue::ThroughMilliseconds) => exact = base + ticks / 90 * 1_000 * MICROSECOND,
-        _ => {}
-    }
-    let last = if is(Miscue::LastSecondPast) {
-        HORIZON - SECOND
-    } else {
-        HORIZON
-    };
+    let mut exact = exact_of(cue, given, miscue);
+    let last = HORIZON - SECOND * u64::from(is(Miscue::LastSecondPast));
     if exact >= last {
         match miscue {
             Some(Miscue::PastWrapped) => exact %= HORIZON,
@@ -519,6 +509,25 @@ pub fn time_of(comes: Comes, given: &Given, miscue: Option<Miscue>) -> (u32, u32
     }
     let micros = exact % SECOND / MICROSECOND;
     ((exact / SECOND) as u32, micros as u32)
+}
+
+/// The given instant and the ticks to the cue, in ninths.
+fn exact_of(cue: u64, given: &Given, miscue: Option<Miscue>) -> u64 {
+    let base = ninths(given.seconds, given.micros);
+    let ticks = match ticks(cue, given.pts) {
+        // Only where the sum was not taken modulo 2^33.
+        _ if cue >= WRAP => cue.saturating_sub(given.pts % WRAP),
+        0 if miscue == Some(Miscue::FirstAfter) => WRAP,
+        ticks => ticks,
+    };
+    let exact = base + TICK * ticks;
+    match miscue {
+        Some(Miscue::Nearest) if ticks > WRAP / 2 => base.saturating_sub(TICK * (WRAP - ticks)),
+        Some(Miscue::RoundedUp) => exact.next_multiple_of(MICROSECOND),
+        Some(Miscue::RoundedToNearest) => exact + 4,
+        Some(Miscue::ThroughMilliseconds) => base + ticks / 90 * 1_000 * MICROSECOND,
+        _ => exact,
+    }
 }
 
 impl Splicer {
