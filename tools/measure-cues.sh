@@ -1,6 +1,6 @@
 #!/bin/sh
 # measure-cues.sh: instructions and stack of the cue call (02, CR 7) beside a plain one in C (tools/measure/cues.c), after some random sections by both, and
-# the code of the crates that it has of its own; tables for docs/MEASURES.md. Instructions are exact, counted by Debian's qemu-user with
+# the bytes of its code; tables for docs/MEASURES.md. Instructions are exact, counted by Debian's qemu-user with
 # tools/measure/insns.c. ARCHIVE names another archive than that of `rt staticlib door`, CALLS another number of random ones. No part of the gate.
 set -eu
 . "$(dirname "$0")/words.sh"
@@ -45,9 +45,4 @@ short=$(call core none)
 echo "The register of C: $((($(call c crc512) - $(call c crc50)) * 100 / 462 / 8)) hundredths of an instruction a bit"
 echo "A bit of a section more, the core (copies to four connections included): $(((long - $(call core 50)) * 100 / 462 / 8)) hundredths; nobody initialised, 50 bytes: $short"
 echo
-echo '| Function | Bytes of code |'
-echo '|---|---|'
-"$objdump" -d --no-show-raw-insn "$archive" | awk '
-/^[0-9a-f]+ <.*>:$/ { if (name != "") print name, last - first; name = $2; gsub(/[<>:]*$|^</, "", name); first = -1; next }
-/^ *[0-9a-f]+:/ { at = $1; sub(/:$/, "", at); at = strtonum("0x" at); if (first < 0) first = at; last = at }
-END { print name, last - first }' 2>/dev/null | grep -E 'cue|relay|crc' | awk '{ printf "| %s | %d |\n", $1, $2; sum += $2 } END { printf "| together | %d |\n", sum }'
+echo "Code of splicer_5_cue, all that it takes into itself: $((0x$("$objdump" -h "$archive" | awk '$2 == ".text.splicer_5_cue" { print $3 }'))) bytes; constants of its own: $("$objdump" -h "$archive" | grep -c 'rodata.*cue' || true)"

@@ -23,7 +23,7 @@ APART uint32_t plain_crc(const uint8_t *l, size_t n) {
         c ^= (uint32_t)l[i] << 24;
         for (int k = 0; k < 8; k++) {
             c = c & 0x80000000 ? c << 1 ^ 0x04C11DB7 : c << 1;
-            __asm__("" : "+r"(c));
+            __asm__("" : "+r"(c)); /* else the kit's clang sees a CRC in the loop, and takes a table of 1,024 bytes for it */
         }
     }
     return c;
