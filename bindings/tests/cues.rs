@@ -62,7 +62,9 @@ fn cues(written: &[u8], sent: &[u8]) -> Vec<(u8, u32, u32)> {
 fn a_section_goes_to_every_initialised_connection() {
     let (channel, mut out) = ready();
     let before = channel.clone();
-    let written = channel.cue(&SIGNAL, 591_651_064, 1000, 0, &mut out).unwrap();
+    let written = channel
+        .cue(&SIGNAL, 591_651_064, 1000, 0, &mut out)
+        .unwrap();
     let expected = [(0, 1001, 111_122), (2, 1001, 111_122)];
     assert_eq!(cues(written, &SIGNAL), expected);
     // one tick past the cue's, and the same modulo 2^33
@@ -72,7 +74,9 @@ fn a_section_goes_to_every_initialised_connection() {
         let expected = [(0, 96_443, 717_677), (2, 96_443, 717_677)];
         assert_eq!(cues(written, &SIGNAL), expected);
     }
-    let written = channel.cue(&INSERT, 3_582_534_591, 7, 999_999, &mut out).unwrap();
+    let written = channel
+        .cue(&INSERT, 3_582_534_591, 7, 999_999, &mut out)
+        .unwrap();
     assert_eq!(cues(written, &INSERT), [(0, 7, 999_999), (2, 7, 999_999)]);
     // past the last second of the time field
     let written = channel.cue(&INSERT, 0, u32::MAX, 0, &mut out).unwrap();
@@ -112,11 +116,20 @@ fn refusals_in_their_order() {
     let (channel, mut out) = ready();
     let short = &mut [0; OUT - 1];
     let cut = &SIGNAL[..24];
-    assert_eq!(channel.cue(cut, 0, 0, 1_000_000, short), Err(Refusal::NoRoom));
+    assert_eq!(
+        channel.cue(cut, 0, 0, 1_000_000, short),
+        Err(Refusal::NoRoom)
+    );
     let micros = channel.cue(cut, 0, 0, 1_000_000, &mut out);
     assert_eq!(micros, Err(Refusal::BadMicros));
-    assert_eq!(channel.cue(cut, 0, 0, 0, &mut out), Err(Refusal::BadSection));
-    assert_eq!(channel.cue(&[], 0, 0, 0, &mut out), Err(Refusal::BadSection));
+    assert_eq!(
+        channel.cue(cut, 0, 0, 0, &mut out),
+        Err(Refusal::BadSection)
+    );
+    assert_eq!(
+        channel.cue(&[], 0, 0, 0, &mut out),
+        Err(Refusal::BadSection)
+    );
     // 512 bytes are the most
     for (length, good) in [(20, true), (512, true), (513, false)] {
         let mut section = vec![0xFF; length];
