@@ -104,6 +104,7 @@ sessionAt t c r =
       access = r .access;
       overrides = r .overrides;
       mux = r .mux;
+      event = r .event;
       played = record { 0 = 0 };
     }
 

@@ -17,6 +17,7 @@ pub record Asked (r : Request) : Type 0 where
   pub id : r .id < 4294967296
   pub start : Within (r .start)
   pub duration : r .duration .0 < 4294967296
+  pub event : r .event < 4294967296
   pub access : r .access ≤ 9
   pub overrides : r .overrides ≤ 1
   pub mux : (1 ≤ r .mux) × (r .mux ≤ 10)

@@ -11,7 +11,7 @@ use Rattle.rules.specs.declared.Framing.{Framing}
 use Rattle.rules.specs.declared.Framing.the-variants.{Framed, Unframed}
 use Rattle.rules.specs.Units.{timeOf, badMicros, fromMicros}
 use Rattle.rules.specs.Bytes.{messageID, messageSize, oversize, dataOf, hasZero, nameIn, written}
-use Rattle.rules.specs.State.{Splicer, linkOf, isOpen, withLink, withQueue, withClock}
+use Rattle.rules.specs.State.{Splicer, linkOf, isOpen, withLink, withQueue, withClock, noneHeld}
 use Rattle.rules.specs.Records.{Record, output}
 use Rattle.rules.specs.Ends.{closedBy}
 use Rattle.rules.specs.Answers.{Answered, answer}
@@ -97,7 +97,7 @@ named name =
       clock = 0;
       primary = 0;
       links = Closed ∷ Closed ∷ Closed ∷ Closed ∷ [];
-      queue = record { waiting = []; started = [] };
+      queue = noneHeld;
     }
 
 -- "9: name without a zero byte." "A refused fresh gives, with number 9, the splicer of an empty name."

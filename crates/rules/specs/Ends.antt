@@ -7,10 +7,11 @@ use lib.ListN.{length, getD}
 use Rattle.rules.specs.declared.Session.{Session}
 use Rattle.rules.specs.declared.Ending.{Ending}
 use Rattle.rules.specs.declared.Ending.the-variants.{Complete, Failed, Response}
+use Rattle.rules.specs.declared.Past.{Past}
 use Rattle.rules.specs.Units.{toTicks}
 use Rattle.rules.specs.Lists.{put, keep, omit, place, removeAt}
-use Rattle.rules.specs.State.{Queue, empty, of, is, follows, startsAt, withWaiting}
-use Rattle.rules.specs.Records.{Record, SpliceResponse, SpliceComplete}
+use Rattle.rules.specs.State.{Queue, empty, of, is, follows, startsAt, withWaiting, withLately, rememberedAll}
+use Rattle.rules.specs.Records.{Record, SpliceResponse, SpliceComplete, resultOf}
 
 -- a queue after some of the work, and the records which that wrote
 pub record Turn : Type 0 where
@@ -36,11 +37,34 @@ ended (Complete r) s = SpliceComplete (s .conn) r (s .id) 1 (toTicks (s .played)
 ended Failed s = SpliceComplete (s .conn) 109 (s .id) 0 0
 ended (Response r) s = SpliceResponse (s .conn) r (s .id)
 
+-- 02, CR 8: "connection, SessionID, SpliceEventID, result, PlayedDuration (0 if never on air)": the result of its record, and its time on
+-- air whatever that shows
+abbrev pub past : Ending → Session → Past
+past how s =
+    record { conn = s .conn; id = s .id; event = s .event; result = resultOf (ended how s); played = toTicks (s .played) .0 }
+
+-- some ends, in the order of their records: the list of what `end` makes of each
+abbrev pub Ends : Type 1
+Ends = (A : Type 0) → (end : Ending → Session → A) → List A
+
+-- they are written, and kept: the one place where that is done
+abbrev pub ending : Ends → Queue → Turn
+ending es q =
+    record { queue = withLately (rememberedAll (es Past past) (q .lately)) q; written = es Record ended }
+
+-- one session ends
+abbrev pub oneEnd : Ending → Session → Ends
+oneEnd how s A end = end how s ∷ []
+
+-- all of l end alike
+abbrev pub allEnd : Ending → List Session → Ends
+allEnd how l A end = map (end how) l
+
 -- the ends of those of the started ones that pass p, from the highest AccessType down, each by what it was:
 -- air for the one on air, cover for the covered
-unfoldable pub endings : (air cover : Ending) → (Session → Bool) → List Session → List Record
-endings air cover p [] = []
-endings air cover p (s ∷ k) = put (p s) (ended air s) (map (ended cover) (keep p k))
+unfoldable pub endings : (air cover : Ending) → (Session → Bool) → List Session → Ends
+endings air cover p [] A end = []
+endings air cover p (s ∷ k) A end = put (p s) (end air s) (map (end cover) (keep p k))
 
 -- ## Followers
 
@@ -66,7 +90,7 @@ followers c x w = walk (length w) c x w
 unfoldable pub dismissed : (result conn id : ℕ) → Queue → Turn
 dismissed r c x q =
     let f = followers c x (q .waiting) in
-    record { queue = withWaiting (f .left) q; written = map (ended (Response r)) (f .gone) }
+    ending (allEnd (Response r) (f .gone)) (withWaiting (f .left) q)
 
 -- ## Eviction
 
@@ -74,7 +98,7 @@ dismissed r c x q =
 unfoldable pub evictedAt : ℕ → Queue → Turn
 evictedAt i q =
     let s = getD (q .waiting) i empty in
-    andThen (writes (ended (Response 109) s ∷ []) (withWaiting (removeAt i (q .waiting)) q)) (dismissed 109 (s .conn) (s .id))
+    andThen (ending (oneEnd (Response 109) s) (withWaiting (removeAt i (q .waiting)) q)) (dismissed 109 (s .conn) (s .id))
 
 -- "A waiting session with the same start, then lower" (02: or equal) "is evicted first: it and its waiting followers end (109)"
 unfoldable pub evicted : ℕ → Queue → Turn
@@ -89,10 +113,8 @@ evicted t q =
 -- the close (on air or covered), then all its waiting ones by start": all that pass p
 unfoldable pub cancelled : (Session → Bool) → Queue → Turn
 cancelled p q =
-    record {
-      queue = record { waiting = omit p (q .waiting); started = omit p (q .started) };
-      written = endings (Complete 116) (Response 116) p (q .started) ++ map (ended (Response 116)) (keep p (q .waiting));
-    }
+    ending (λ A end. endings (Complete 116) (Response 116) p (q .started) A end ++ allEnd (Response 116) (keep p (q .waiting)) A end)
+    (record { waiting = omit p (q .waiting); started = omit p (q .started); lately = q .lately })
 
 -- "the session's end and after it its followers' ends"
 unfoldable pub aborted : ℕ → ℕ → Queue → Turn

@@ -11,7 +11,7 @@ use Rattle.rules.specs.declared.Ending.the-variants.{Complete, Failed}
 use Rattle.rules.specs.Lists.{omit, place, removeAt}
 use Rattle.rules.specs.State.{Queue, empty, startsAt, endsAt, due, notAfter, toCome, withWaiting, withStarted}
 use Rattle.rules.specs.Records.{Record, SpliceComplete}
-use Rattle.rules.specs.Ends.{Turn, quiet, andThen, writes, ended, endings, dismissed}
+use Rattle.rules.specs.Ends.{Turn, quiet, andThen, writes, ending, oneEnd, endings, dismissed}
 
 -- a new session outranks an old one: the one place where it is decided whether an equal AccessType wins. 02: "With the flag at 1, an equal
 -- AccessType now wins"; the flag is the new one's
@@ -29,7 +29,7 @@ began s = SpliceComplete (s .conn) 100 (s .id) 0 0
 
 -- "Otherwise it fails: SpliceComplete flag 0, result 109, PlayedDuration 0, and its waiting followers end."
 abbrev pub failed : Session → Queue → Turn
-failed s q = andThen (writes (ended Failed s ∷ []) q) (dismissed 109 (s .conn) (s .id))
+failed s q = andThen (ending (oneEnd Failed s) q) (dismissed 109 (s .conn) (s .id))
 
 -- the one on air, if any, has the AccessType of s
 unfoldable pub meetsEqual : Session → List Session → Bool
@@ -42,7 +42,7 @@ unfoldable pub ousted : Session → Queue → Turn
 ousted s q =
     let air = getD (q .started) 0 empty in
     cond (meetsEqual s (q .started))
-    (andThen (writes (ended (Complete 125) air ∷ []) (withStarted (removeAt 0 (q .started)) q)) (dismissed 125 (air .conn) (air .id)))
+    (andThen (ending (oneEnd (Complete 125) air) (withStarted (removeAt 0 (q .started)) q)) (dismissed 125 (air .conn) (air .id)))
     (quiet q)
 
 -- s, which no longer waits, goes on air (an equal one on air ends, "all before the new start's record"; a lower one becomes covered), or fails
@@ -62,10 +62,7 @@ startAt t q =
 -- "the highest covered session not ending at that instant is on air again, without a message".
 unfoldable pub endAt : ℕ → Queue → Turn
 endAt t q =
-    record {
-      queue = withStarted (omit (endsAt t) (q .started)) q;
-      written = endings (Complete 100) (Complete 125) (endsAt t) (q .started);
-    }
+    ending (endings (Complete 100) (Complete 125) (endsAt t) (q .started)) (withStarted (omit (endsAt t) (q .started)) q)
 
 -- "At one instant, ends come first, from the highest AccessType down, then the one possible start."
 unfoldable pub instant : ℕ → Queue → Turn
@@ -83,6 +80,7 @@ playing d s =
       access = s .access;
       overrides = s .overrides;
       mux = s .mux;
+      event = s .event;
       played = record { 0 = s .played .0 + d };
     }
 

@@ -246,6 +246,10 @@ tailOf d = cond (eqb (serviceID d) separateService) (restOf (separateIn (drop 18
 abbrev pub duration : List ℕ → ℕ
 duration t = field 0 4 t
 
+-- 02, CR 8: "so the session record carries SpliceEventID all its life"
+abbrev pub spliceEventID : List ℕ → ℕ
+spliceEventID t = field 4 4 t
+
 abbrev pub accessType : List ℕ → ℕ
 accessType t = getD t 12 0
 
@@ -276,6 +280,7 @@ wholeRequest d t =
       id = sessionID d;
       start = readStart d;
       duration = record { 0 = duration t };
+      event = spliceEventID t;
       access = accessType t;
       overrides = overridePlaying t;
       mux = muxIn (muxOf (descriptorsOf t));

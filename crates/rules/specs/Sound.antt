@@ -6,10 +6,11 @@ use Prim.Native.Nat.{ℕ, _+_, _*_, _≤_, _<_}
 use lib.Dec.{eqb}
 use lib.ListN.{length}
 use Rattle.rules.specs.declared.Session.{Session}
+use Rattle.rules.specs.declared.Past.{Past}
 use Rattle.rules.specs.Lists.{All, some, count}
 use Rattle.rules.specs.Bytes.{Byte, NoZero}
 use Rattle.rules.specs.Reading.{nobody}
-use Rattle.rules.specs.State.{Queue, Splicer, of, is, Sorted, linkOf, isOpen}
+use Rattle.rules.specs.State.{Queue, Splicer, of, is, Sorted, linkOf, isOpen, mostKept, Lately}
 use Rattle.rules.specs.Records.{Record, General, InitResponse, AliveResponse, SpliceResponse, SpliceComplete, AbortResponse, CueRequest, resultOf}
 use Rattle.rules.specs.Answers.{waits, raisedSum}
 use Rattle.rules.specs.Calls.{fresh, Call, opens, closes, messages, ticks, moves, cues, after}
@@ -68,6 +69,7 @@ horizon = 4294967296 * 9000000
 -- the numbers that bytes hold: a SessionID and a PriorSession are four of them, and so is a Duration
 pub record Small (s : Session) : Type 0 where
   pub id : s .id < 0xFFFFFFFF
+  pub event : s .event ≤ 0xFFFFFFFF
   pub prior : s .prior ≤ 0xFFFFFFFF
   pub duration : s .end .0 ≤ s .start .0 + 100 * 0xFFFFFFFF
   pub timed : s .prior ≡ nobody → s .start .0 < horizon
@@ -94,6 +96,21 @@ pub record Holding (now : ℕ) (q : Queue) : Type 0 where
   pub once : Once q
   pub tied : All (Tied (heldCount q)) (q .waiting)
 
+-- ## 02, CR 8: what ended lately
+
+-- the numbers of what is kept, or of a place where none is
+pub record Noted (e : Past) : Type 0 where
+  pub conn : e .conn ≤ 3
+  pub id : e .id ≤ 0xFFFFFFFF
+  pub event : e .event ≤ 0xFFFFFFFF
+  pub result : e .result < 65536
+  pub played : e .played ≤ 0xFFFFFFFF
+
+pub record Recalled (l : Lately) : Type 0 where
+  pub sixteen : length (l .places) ≡ mostKept
+  pub next : l .next < mostKept
+  pub noted : All Noted (l .places)
+
 -- ## The splicer
 
 -- four connections, of which a closed one holds nothing; a name of less than 32 bytes, none of them zero
@@ -109,6 +126,7 @@ pub record Sound (s : Splicer) : Type 0 where
   pub clock : s .clock < horizon
   pub primary : s .primary ≤ s .clock
   pub holding : Holding (s .clock) (s .queue)
+  pub lately : Recalled (s .queue .lately)
 
 -- ## "A splicer is what fresh and the calls since have given; a call may rely on that and on nothing else."
 

@@ -1,22 +1,30 @@
 -- The splicer as plain lists and numbers: the sessions held, the connections, the clock (in ninths) and the ChannelName.
-use mathlib.Core.Bool.{Bool, true, false, cond, _&&_}
+use mathlib.Core.Bool.{Bool, true, false, cond, not, _&&_}
 use mathlib.Core.List.{List, [], _∷_, _++_}
-use Prim.Native.Nat.{ℕ, _+_, _*_, _<_}
+use Prim.Native.Nat.{ℕ, zero, suc, _+_, _-_, _*_, _%_, _<_}
 use lib.Dec.{eqb, leb, ltb}
-use lib.ListN.{length, getD, set}
+use lib.ListN.{length, getD, set, replicate}
 use Rattle.rules.specs.declared.Ninths.{Ninths}
 use Rattle.rules.specs.declared.When.{When}
 use Rattle.rules.specs.declared.When.the-variants.{At, Never}
 use Rattle.rules.specs.declared.Session.{Session}
+use Rattle.rules.specs.declared.Past.{Past}
 use Rattle.rules.specs.declared.Link.{Link}
 use Rattle.rules.specs.declared.Link.the-variants.{Closed, Opened, Initialised}
 use Rattle.rules.specs.Lists.{All, some}
 
+-- 02, CR 8: "the last 16 ended sessions", in sixteen places that are written in turn, the oldest over. next: the place of the next end
+pub record Lately : Type 0 where
+  pub places : List Past
+  pub next : ℕ
+
 -- waiting: in order of start, the next first.
 -- started: from the highest AccessType down: the first is on air, the others are covered.
+-- lately: what ended lately.
 pub record Queue : Type 0 where
   pub waiting : List Session
   pub started : List Session
+  pub lately : Lately
 
 -- name: the configured ChannelName, up to its first zero. links: of connections 0 to 3. primary: 02, CR 13, the ninths up to the clock in
 -- which nothing was on air
@@ -41,6 +49,7 @@ empty =
       access = 0;
       overrides = 0;
       mux = 0;
+      event = 0;
       played = record { 0 = 0 };
     }
 
@@ -135,7 +144,51 @@ abbrev pub withClock : (clock d : ℕ) → Splicer → Splicer
 withClock t d s = record { name = s .name; clock = t; primary = s .primary + d; links = s .links; queue = s .queue }
 
 abbrev pub withWaiting : List Session → Queue → Queue
-withWaiting w q = record { waiting = w; started = q .started }
+withWaiting w q = record { waiting = w; started = q .started; lately = q .lately }
 
 abbrev pub withStarted : List Session → Queue → Queue
-withStarted k q = record { waiting = q .waiting; started = k }
+withStarted k q = record { waiting = q .waiting; started = k; lately = q .lately }
+
+abbrev pub withLately : Lately → Queue → Queue
+withLately l q = record { waiting = q .waiting; started = q .started; lately = l }
+
+-- ## 02, CR 8: what ended lately
+
+abbrev pub mostKept : ℕ
+mostKept = 16
+
+-- what stands where none is kept: "numbers 0"
+abbrev pub unused : Past
+unused = record { conn = 0; id = 0; event = 0; result = 0; played = 0 }
+
+-- no end has the result 0
+abbrev pub isKept : Past → Bool
+isKept e = not (eqb (e .result) 0)
+
+abbrev pub noneEnded : Lately
+noneEnded = record { places = replicate mostKept unused; next = 0 }
+
+-- no session is held, and none has ended
+abbrev pub noneHeld : Queue
+noneHeld = record { waiting = []; started = []; lately = noneEnded }
+
+-- one more has ended: "oldest dropped first"
+unfoldable pub remembered : Past → Lately → Lately
+remembered e l = record { places = set (l .places) (l .next) e; next = (l .next + 1) % mostKept }
+
+-- one after the other
+unfoldable pub rememberedAll : List Past → Lately → Lately
+rememberedAll [] l = l
+rememberedAll (e ∷ es) l = rememberedAll es (remembered e l)
+
+-- "from the newest down": the one that ended i ends before the newest, i below 16
+unfoldable pub recentAt : ℕ → Lately → Past
+recentAt i l = getD (l .places) ((l .next + (mostKept - 1 - i)) % mostKept) unused
+
+unfoldable pub recentFrom : (i n : ℕ) → Lately → List Past
+recentFrom i zero l = []
+recentFrom i (suc n) l = recentAt i l ∷ recentFrom (suc i) n l
+
+-- all sixteen, unused ones too
+unfoldable pub recent : Lately → List Past
+recent l = recentFrom 0 mostKept l

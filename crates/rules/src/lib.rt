@@ -33,6 +33,7 @@ pub struct Request {
     pub id: u32,
     pub start: Start,
     pub duration: Ticks,
+    pub event: u32,
     pub access: u8,
     pub overrides: u8,
     pub mux: u8,
@@ -48,7 +49,7 @@ pub enum Message {
 }
 
 // A session that is held: its connection, SessionID and PriorSession (0xFFFFFFFF if timed), start and end,
-// AccessType, OverridePlaying, what it asks of the multiplexer (MuxPriorityValue), and its time on air.
+// AccessType, OverridePlaying, what it asks of the multiplexer (MuxPriorityValue), its SpliceEventID, and its time on air.
 pub struct Session {
     pub conn: u64,
     pub id: u64,
@@ -58,7 +59,18 @@ pub struct Session {
     pub access: u64,
     pub overrides: u64,
     pub mux: u64,
+    pub event: u64,
     pub played: Ninths,
+}
+
+// What is kept of a session that has ended (02, CR 8): its connection, SessionID and SpliceEventID, the result of its end, and its time on
+// air in ticks. All 0 where none is kept.
+pub struct Past {
+    pub conn: u64,
+    pub id: u64,
+    pub event: u64,
+    pub result: u64,
+    pub played: u64,
 }
 
 // How a session ends: by a SpliceComplete with flag 1 and a result, by a SpliceComplete with flag 0 and 109 (its start
