@@ -18,7 +18,7 @@ use Rattle.rules.proofs.Tests.{by}
 use Rattle.rules.proofs.All.{All, all-into}
 use Rattle.rules.proofs.Count.{place-holds}
 use Rattle.rules.proofs.Every.{all-getD, all-inserted, fewer-removeAt, fewer-all, FewerHeld}
-use Rattle.rules.proofs.Leaving.{dismissed-fewer, ousted-fewer, endAt-fewer, evicted-fewer, aborted-fewer, closedBy-fewer}
+use Rattle.rules.proofs.Leaving.{failed-fewer, ousted-fewer, endAt-fewer, evicted-fewer, aborted-fewer, closedBy-fewer}
 use Rattle.rules.proofs.Always.{KeptHeld}
 use Rattle.rules.proofs.Tick.{Due, meets, elapse-due, tick-through}
 use Rattle.rules.proofs.Timed.{OnTime, timed-fewer, instant-timed, elapse-timed, wait-timed, meets-after, accept-timed}
@@ -66,7 +66,7 @@ instant-played t q h =
         by (λ (r : Turn). Played t (r .queue)) (mayStart s (v .started)) _ _
         (λ e. let k = played-fewer t v (ousted s v .queue) (ousted-fewer s v) (record { silent = left; since = g .since }) in
         record { silent = k .silent; since = (omega arith, k .since) })
-        (λ e. played-fewer t v _ (dismissed-fewer v 109 (s .conn) (s .id)) (record { silent = left; since = g .since }))
+        (λ e. played-fewer t v _ (failed-fewer s v) (record { silent = left; since = g .since }))
 
 pub record Aired (now : ℕ) (q : Queue) : Type 0 where
   pub timed : OnTime now q

@@ -10,7 +10,7 @@ use Rattle.rules.specs.declared.Request.{Request}
 use Rattle.rules.specs.declared.Message.the-variants.{Splice}
 use Rattle.rules.specs.Bytes.{part, hasZero, messageSize}
 use Rattle.rules.specs.Reading.{isRead, readSplice}
-use Rattle.rules.specs.State.{Queue, Splicer, holds, linkOf, isOpen, withQueue, withLink, withClock}
+use Rattle.rules.specs.State.{Queue, Splicer, holds, linkOf, isOpen, withQueue, withLink, withClock, noneHeld}
 use Rattle.rules.specs.Ends.{andThen, aborted, closedBy}
 use Rattle.rules.specs.Instants.{runAll, silentAll}
 use Rattle.rules.specs.Answers.{requested, accepted}
@@ -113,7 +113,7 @@ module _ (F : Call → Type 0) (P : Splicer → Type 0) (k : Kept F P) where
   always (j ∷ ks) s f h = always ks (call j s .splicer) (f .1) (call-kept s j (f .0) h)
 
 -- a fact of clock and queue, from fresh, with any name and any calls
-pub held-always : (J : ℕ → Queue → Type 0) → KeptHeld Any J → J 0 (record { waiting = []; started = [] }) → (ks : List Call) (name : List ℕ)
+pub held-always : (J : ℕ → Queue → Type 0) → KeptHeld Any J → J 0 noneHeld → (ks : List Call) (name : List ℕ)
     → J (after ks (fresh name .splicer) .clock) (after ks (fresh name .splicer) .queue)
 unfolding fresh named
 held-always J k none ks name = always Any (λ s. J (s .clock) (s .queue)) (held-kept J k) ks (fresh name .splicer) (any-calls ks) first

@@ -9,13 +9,14 @@ use lib.Dec.{eqb, ltb}
 use lib.ListN.{length, getD}
 use borrow.Author.Tests.{eqb-true, eq-eqb, ltb-true, ltb-false, not-true, not-false}
 use Rattle.rules.specs.declared.Session.{Session}
+use Rattle.rules.specs.declared.Ending.the-variants.{Failed, Response}
 use Rattle.rules.specs.declared.Start.{Start}
 use Rattle.rules.specs.declared.Start.the-variants.{Timed, Linked}
 use Rattle.rules.specs.declared.Request.{Request}
 use Rattle.rules.specs.Lists.{bit, keep, omit, count, place, removeAt}
 use Rattle.rules.specs.Reading.{nobody}
 use Rattle.rules.specs.State.{Queue, Splicer, empty, of, is, follows, startsAt, endsAt, held, holds, withWaiting, withStarted}
-use Rattle.rules.specs.Ends.{Turn, Walk, andThen, followers, dismissed, evictedAt, evicted, cancelled, aborted, closedBy}
+use Rattle.rules.specs.Ends.{Turn, Walk, andThen, followers, dismissed, evictedAt, evicted, cancelled, aborted, closedBy, ending, oneEnd}
 use Rattle.rules.specs.Instants.{mayStart, meetsEqual, ousted, launched, startAt, endAt, instant, elapse, runAll}
 use Rattle.rules.specs.Answers.{startOf, priorOf, sessionAt, requested, unknownPrior, accepted}
 use Rattle.rules.specs.Calls.{Call, fresh, after}
@@ -112,7 +113,7 @@ unfolding launched andThen
 launched-tied s q a k o t =
     by (λ (r : Turn). All (Tied (heldCount (r .queue))) (r .queue .waiting)) (mayStart s (q .started)) _ _
     (λ e. ousted-tied s q k o t)
-    (λ e. dismissed-tied 109 (s .conn) (s .id) q (s ∷ []) (a .somebody) o (own-is s, tt) t)
+    (λ e. dismissed-tied 109 (s .conn) (s .id) (ending (oneEnd Failed s) q .queue) (s ∷ []) (a .somebody) o (own-is s, tt) t)
 
 instant-tied : (now t : ℕ) (q : Queue) → Chained now q → Due t q → All (Tied (heldCount (instant t q .queue))) (instant t q .queue .waiting)
 unfolding instant andThen endAt startAt
@@ -123,7 +124,7 @@ instant-tied now t q h d =
     (after-t t (q .waiting) (d .starts) (place-none (startsAt t) (q .waiting) (ltb-false i (length (q .waiting)) e))) (h .tied))
   where
     u : Queue
-    u = withStarted (omit (endsAt t) (q .started)) q
+    u = endAt t q .queue
 
     i : ℕ
     i = place (startsAt t) (q .waiting)
@@ -187,7 +188,7 @@ module _ (now : ℕ) (q : Queue) (h : Chained now q) (t : ℕ) where
       s = getD (q .waiting) i empty
 
       u : Queue
-      u = withWaiting (removeAt i (q .waiting)) q
+      u = ending (oneEnd (Response 109) s) (withWaiting (removeAt i (q .waiting)) q) .queue
 
       one : i < length (q .waiting) → All (Tied (heldCount (dismissed 109 (s .conn) (s .id) u .queue))) (dismissed 109 (s .conn) (s .id) u .queue .waiting)
       one l =

@@ -130,6 +130,7 @@ StartFits (Linked p) = p < nobody
 pub record Fitting (r : Request) : Type 0 where
   pub id : r .id < 4294967296
   pub duration : r .duration .0 < 4294967296
+  pub event : r .event < 4294967296
   pub start : StartFits (r .start)
 
 -- what a good tail is
@@ -170,7 +171,7 @@ module _ (d : List ℕ) (r : Request) (h : readSplice d ≡ Splice r) where
   pub fitting : All Byte d → Fitting r
   unfolding readStart
   fitting a =
-      rw (w .0) (record { id = field-below 0 4 d a; duration = field-below 0 4 (tailOf d) (tail-byte d a); start = fits (eqb (priorSession d) nobody) refl (parts .1) })
+      rw (w .0) (record { id = field-below 0 4 d a; duration = field-below 0 4 (tailOf d) (tail-byte d a); event = field-below 4 4 (tailOf d) (tail-byte d a); start = fits (eqb (priorSession d) nobody) refl (parts .1) })
     where
       fits : (b : Bool) → eqb (priorSession d) nobody ≡ b → (b && ltb 999999 (microSeconds d)) ≡ false
           → StartFits (cond b (Timed (timeOf (seconds d) (microSeconds d))) (Linked (priorSession d)))

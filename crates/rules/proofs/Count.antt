@@ -198,18 +198,18 @@ count-map p g (x ∷ l) = rw (count-map p g l)
 -- ## The ends of started ones
 
 pub count-endings : (P : Record → Bool) (Q : Session → Bool) (air cover : Ending) → ((s : Session) → P (ended air s) ≡ Q s)
-    → ((s : Session) → P (ended cover s) ≡ Q s) → (p : Session → Bool) (k : List Session) → count P (endings air cover p k) ≡ count Q (keep p k)
+    → ((s : Session) → P (ended cover s) ≡ Q s) → (p : Session → Bool) (k : List Session) → count P (endings air cover p k Record ended) ≡ count Q (keep p k)
 unfolding endings
 count-endings P Q air cover ha hc p [] = refl
 count-endings P Q air cover ha hc p (s ∷ k) =
     simp (count-put, count-map, ha, count-same (λ (u : Session). P (ended cover u)) Q hc)
 
 -- where both end alike
-pub endings-map : (h : Ending) (p : Session → Bool) (k : List Session) → endings h h p k ≡ map (ended h) (keep p k)
+pub endings-map : {A : Type 0} (f : Ending → Session → A) (h : Ending) (p : Session → Bool) (k : List Session) → endings h h p k A f ≡ map (f h) (keep p k)
 unfolding endings
-endings-map h p [] = refl
-endings-map h p (s ∷ k) = go (p s)
+endings-map f h p [] = refl
+endings-map f h p (s ∷ k) = go (p s)
   where
-    go : (b : Bool) → put b (ended h s) (map (ended h) (keep p k)) ≡ map (ended h) (put b s (keep p k))
+    go : (b : Bool) → put b (f h s) (map (f h) (keep p k)) ≡ map (f h) (put b s (keep p k))
     go true = refl
     go false = refl

@@ -18,7 +18,7 @@ use Rattle.rules.specs.Bytes.{messageSize}
 use Rattle.rules.specs.Reading.{read, readSplice, dataIn, sessionID, spliceRequest}
 use Rattle.rules.specs.State.{Queue, Splicer, empty, of, is, startsAt, endsAt, due, notAfter, withWaiting, withStarted}
 use Rattle.rules.specs.Records.{Record, output, recordsIn}
-use Rattle.rules.specs.Ends.{Turn, andThen, ended, endings, followers, dismissed, evictedAt, evicted, cancelled, aborted, closedBy}
+use Rattle.rules.specs.Ends.{Turn, andThen, ended, ending, oneEnd, endings, followers, dismissed, evictedAt, evicted, cancelled, aborted, closedBy}
 use Rattle.rules.specs.Instants.{mayStart, began, meetsEqual, ousted, launched, startAt, endAt, instant, elapse, run, runAll}
 use Rattle.rules.specs.Answers.{airState, airID, aliveResponse, sessionAt, requested, accepts, accepted, answer}
 use Rattle.rules.specs.Calls.{Answer, refused, good, ticked, Call, call, writtenBy}
@@ -75,7 +75,7 @@ all-told Q f g [] a = tt
 all-told Q f g (s ∷ l) a = (g s (a .0), all-told Q f g l (a .1))
 
 all-endings : (Q : Session → Type 0) (air cover : Ending) → ((s : Session) → Q s → Fits (ended air s)) → ((s : Session) → Q s → Fits (ended cover s))
-    → (p : Session → Bool) (k : List Session) → All Q k → All Fits (endings air cover p k)
+    → (p : Session → Bool) (k : List Session) → All Q k → All Fits (endings air cover p k Record ended)
 unfolding endings
 all-endings Q air cover f g p [] a = tt
 all-endings Q air cover f g p (s ∷ k) a = go (p s)
@@ -106,7 +106,7 @@ evicted-fits t q h =
     by (λ (r : Turn). All Fits (r .written)) (ltb i (length (q .waiting))) _ _
     (λ e. (
       response-fits 109 s (omega arith) (all-getD Numbered (q .waiting) i empty (ltb-true i (length (q .waiting)) e) (h .waiting)),
-      dismissed-fits 109 (s .conn) (s .id) (withWaiting (removeAt i (q .waiting)) q) (omega arith)
+      dismissed-fits 109 (s .conn) (s .id) (ending (oneEnd (Response 109) s) (withWaiting (removeAt i (q .waiting)) q) .queue) (omega arith)
           (record { waiting = fewer-all Numbered (fewer-removeAt i (q .waiting)) (h .waiting); started = h .started }),
     ))
     (λ e. tt)
@@ -114,7 +114,7 @@ evicted-fits t q h =
 cancelled-fits : (p : Session → Bool) (q : Queue) → Tellable q → All Fits (cancelled p q .written)
 unfolding cancelled
 cancelled-fits p q h =
-    all-append Fits (endings (Complete 116) (Response 116) p (q .started)) (map (ended (Response 116)) (keep p (q .waiting)))
+    all-append Fits (endings (Complete 116) (Response 116) p (q .started) Record ended) (map (ended (Response 116)) (keep p (q .waiting)))
     (all-endings (λ s. Numbered s × Short s) (Complete 116) (Response 116) (λ s a. out-fits 116 s (omega arith) (a .0) (a .1)) (λ s a. response-fits 116 s (omega arith) (a .0)) p (q .started) (both q h))
     (all-told Numbered (ended (Response 116)) (λ s a. response-fits 116 s (omega arith) a) (keep p (q .waiting)) (all-keep Numbered p (q .waiting) (h .numbered .waiting)))
 
@@ -139,7 +139,7 @@ ousted-fits : (s : Session) (q : Queue) → Tellable q → All Fits (ousted s q 
 unfolding ousted andThen
 ousted-fits s q h =
     let air = getD (q .started) 0 empty in
-    let u = withStarted (removeAt 0 (q .started)) q in
+    let u = ending (oneEnd (Complete 125) air) (withStarted (removeAt 0 (q .started)) q) .queue in
     by (λ (r : Turn). All Fits (r .written)) (meetsEqual s (q .started)) _ _
     (λ e. let a = all-getD (λ v. Numbered v × Short v) (q .started) 0 empty (meets-some s (q .started) e) (both q h) in (
       out-fits _ air (omega arith) (a .0) (a .1),
@@ -152,7 +152,7 @@ unfolding launched andThen
 launched-fits s q a h =
     by (λ (r : Turn). All Fits (r .written)) (mayStart s (q .started)) _ _
     (λ e. all-append Fits (ousted s q .written) (began s ∷ []) (ousted-fits s q h) (began-fits s a, tt))
-    (λ e. (failed-fits s a, dismissed-fits 109 (s .conn) (s .id) q (omega arith) (h .numbered)))
+    (λ e. (failed-fits s a, dismissed-fits 109 (s .conn) (s .id) (ending (oneEnd Failed s) q .queue) (omega arith) (record { waiting = h .numbered .waiting; started = h .numbered .started })))
 
 startAt-fits : (t : ℕ) (q : Queue) → Tellable q → All Fits (startAt t q .written)
 unfolding startAt

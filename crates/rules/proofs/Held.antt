@@ -47,7 +47,7 @@ proper-kept =
     record { conn = a .low; somebody = a .passed .somebody; access = g .ranked; overrides = g .overrides; mux = g .mux; lasts = omega (arith, g .lasts) })
 
 pub small-plays : (d : ℕ) (s : Session) → Small s → Small (playing d s)
-small-plays d s h = record { id = h .id; prior = h .prior; duration = h .duration; timed = h .timed }
+small-plays d s h = record { id = h .id; event = h .event; prior = h .prior; duration = h .duration; timed = h .timed }
 
 pub small-kept : KeptHeld Wired (λ now q. Each Small q)
 unfolding requested sessionAt startOf
@@ -68,6 +68,7 @@ small-kept =
         let n = eqb-false (r .id) nobody e in
         record {
           id = omega (arith, f .id);
+          event = omega (arith, f .event);
           prior = prior (r .start) (f .start);
           duration = omega (arith, f .duration);
           timed = timed c (r .start) q (f .start);

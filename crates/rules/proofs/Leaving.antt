@@ -7,13 +7,18 @@ use native.Mathlib.Omega.{arith}
 use lib.Dec.{ltb}
 use lib.ListN.{length, getD}
 use Rattle.rules.specs.declared.Session.{Session}
+use Rattle.rules.specs.declared.Ending.the-variants.{Complete, Failed, Response}
 use Rattle.rules.specs.Lists.{place, removeAt}
 use Rattle.rules.specs.State.{Queue, empty, of, is, startsAt, endsAt, withWaiting, withStarted}
-use Rattle.rules.specs.Ends.{Turn, andThen, dismissed, evictedAt, evicted, cancelled, aborted, closedBy}
-use Rattle.rules.specs.Instants.{meetsEqual, ousted, endAt}
+use Rattle.rules.specs.Ends.{Turn, andThen, Ends, ending, oneEnd, dismissed, evictedAt, evicted, cancelled, aborted, closedBy}
+use Rattle.rules.specs.Instants.{failed, meetsEqual, ousted, endAt}
 use Rattle.rules.proofs.Tests.{clash, by}
 use Rattle.rules.proofs.Every.{fewer-same, fewer-keep, fewer-removeAt, FewerHeld, held-then, held-same}
 use Rattle.rules.proofs.Walk.{followed}
+
+-- ends are kept beside those that are held
+pub ending-fewer : (es : Ends) (q r : Queue) → FewerHeld q r → FewerHeld q (ending es r .queue)
+ending-fewer es q r f = record { waiting = f .waiting; started = f .started }
 
 module _ (q : Queue) where
   pub dismissed-fewer : (r c x : ℕ) → FewerHeld q (dismissed r c x q .queue)
@@ -35,7 +40,9 @@ pub evictedAt-fewer : (i : ℕ) (q : Queue) → FewerHeld q (evictedAt i q .queu
 unfolding evictedAt andThen
 evictedAt-fewer i q =
     let s = getD (q .waiting) i empty in
-    held-then q _ _ (removed-fewer q i) (dismissed-fewer (withWaiting (removeAt i (q .waiting)) q) 109 (s .conn) (s .id))
+    let e = oneEnd (Response 109) s in
+    let u = withWaiting (removeAt i (q .waiting)) q in
+    held-then q _ _ (ending-fewer e q u (removed-fewer q i)) (dismissed-fewer (ending e u .queue) 109 (s .conn) (s .id))
 
 pub evicted-fewer : (t : ℕ) (q : Queue) → FewerHeld q (evicted t q .queue)
 unfolding evicted
@@ -60,10 +67,14 @@ meets-some s (a ∷ k) e = omega arith
 pub ousted-fewer : (s : Session) (q : Queue) → FewerHeld q (ousted s q .queue)
 unfolding ousted andThen
 ousted-fewer s q =
-    let u = withStarted (removeAt 0 (q .started)) q in
+    let u = ending (oneEnd (Complete 125) (getD (q .started) 0 empty)) (withStarted (removeAt 0 (q .started)) q) .queue in
     by (λ (r : Turn). FewerHeld q (r .queue)) (meetsEqual s (q .started)) _ _
     (λ e. held-then q u _ (record { waiting = fewer-same (q .waiting); started = fewer-removeAt 0 (q .started) }) (dismissed-fewer u _ _ _))
     (λ e. held-same q)
+
+pub failed-fewer : (s : Session) (q : Queue) → FewerHeld q (failed s q .queue)
+unfolding andThen
+failed-fewer s q = held-then q (ending (oneEnd Failed s) q .queue) _ (ending-fewer (oneEnd Failed s) q q (held-same q)) (dismissed-fewer _ 109 (s .conn) (s .id))
 
 pub evicted-started : (t : ℕ) (q : Queue) → evicted t q .queue .started ≡ q .started
 unfolding evicted evictedAt andThen dismissed

@@ -14,6 +14,7 @@ pub mod Cases
 pub mod Cued
 pub mod Always
 pub mod Leaving
+pub mod Lately
 pub mod Moves
 pub mod Tick
 pub mod Readings

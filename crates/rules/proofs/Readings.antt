@@ -36,6 +36,7 @@ module _ (d : List ℕ) (a : All Byte d) where
         id = field-below 0 4 d a;
         start = start-within;
         duration = field-below 0 4 t b;
+        event = field-below 4 4 t b;
         access = g .ranked;
         overrides = g .overrides;
         mux = mux-range (descriptorsOf t);

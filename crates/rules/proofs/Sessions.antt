@@ -17,7 +17,7 @@ use Rattle.rules.specs.Calls.{Call}
 use Rattle.rules.proofs.Tests.{by}
 use Rattle.rules.proofs.Count.{count-append, count-removeAt, count-insertAt}
 use Rattle.rules.proofs.Every.{all-getD, all-inserted, Fewer, fewer-same, fewer-then, fewer-removeAt, fewer-all, fewer-count, Each, FewerHeld, fewer-each}
-use Rattle.rules.proofs.Leaving.{dismissed-fewer, ousted-fewer, endAt-fewer, evicted-fewer, aborted-fewer, closedBy-fewer}
+use Rattle.rules.proofs.Leaving.{failed-fewer, ousted-fewer, endAt-fewer, evicted-fewer, aborted-fewer, closedBy-fewer}
 use Rattle.rules.proofs.Always.{Admitted, KeptHeld}
 use Rattle.rules.proofs.Tick.{all-onAir, count-onAir, run-law}
 pub use Rattle.rules.specs.Sound.{heldCount}
@@ -34,7 +34,7 @@ module _ (P : Session → Type 0) (plays : (d : ℕ) (s : Session) → P s → P
   each-launched s q a h =
       by (λ (r : Turn). Each P (r .queue)) (mayStart s (q .started)) _ _
       (λ e. let k = fewer-each P q (ousted s q .queue) (ousted-fewer s q) h in record { waiting = k .waiting; started = (a, k .started) })
-      (λ e. fewer-each P q _ (dismissed-fewer q 109 (s .conn) (s .id)) h)
+      (λ e. fewer-each P q _ (failed-fewer s q) h)
 
   each-startAt : (t : ℕ) (q : Queue) → Each P q → Each P (startAt t q .queue)
   unfolding startAt
@@ -99,7 +99,7 @@ module _ (p : Session → Bool) (plays : (d : ℕ) (s : Session) → p (playing 
   held-launched s q =
       by (λ (r : Turn). heldCount (r .queue) p ≤ bit (p s) + heldCount q p) (mayStart s (q .started)) _ _
       (λ e. omega (arith, fewer-held p q (ousted s q .queue) (ousted-fewer s q)))
-      (λ e. omega (arith, fewer-held p q _ (dismissed-fewer q 109 (s .conn) (s .id))))
+      (λ e. omega (arith, fewer-held p q _ (failed-fewer s q)))
 
   held-startAt : (t : ℕ) (q : Queue) → heldCount (startAt t q .queue) p ≤ heldCount q p
   unfolding startAt
@@ -132,7 +132,7 @@ module _ (p : Session → Bool) (plays : (d : ℕ) (s : Session) → p (playing 
 waiting-launched : (s : Session) (q : Queue) → Fewer (q .waiting) (launched s q .queue .waiting)
 unfolding launched andThen
 waiting-launched s q =
-    by (λ (r : Turn). Fewer (q .waiting) (r .queue .waiting)) (mayStart s (q .started)) _ _ (λ e. ousted-fewer s q .waiting) (λ e. dismissed-fewer q 109 (s .conn) (s .id) .waiting)
+    by (λ (r : Turn). Fewer (q .waiting) (r .queue .waiting)) (mayStart s (q .started)) _ _ (λ e. ousted-fewer s q .waiting) (λ e. failed-fewer s q .waiting)
 
 waiting-startAt : (t : ℕ) (q : Queue) → Fewer (q .waiting) (startAt t q .queue .waiting)
 unfolding startAt

@@ -13,7 +13,7 @@ use Rattle.rules.specs.declared.Ending.the-variants.{Complete, Failed, R
 use Rattle.rules.specs.Lists.{put, keep, place, removeAt}
 use Rattle.rules.specs.State.{Queue, Splicer, empty, of, is, startsAt, endsAt, toCome, withWaiting, withStarted}
 use Rattle.rules.specs.Records.{Record, General, InitResponse, AliveResponse, SpliceResponse, AbortResponse, output}
-use Rattle.rules.specs.Ends.{Turn, quiet, andThen, ended, endings, followers, dismissed, evictedAt, evicted, cancelled, aborted, closedBy}
+use Rattle.rules.specs.Ends.{Turn, quiet, andThen, ended, ending, oneEnd, endings, followers, dismissed, evictedAt, evicted, cancelled, aborted, closedBy}
 use Rattle.rules.specs.Instants.{mayStart, began, meetsEqual, ousted, launched, startAt, endAt, instant, runAll}
 use Rattle.rules.specs.Answers.{Answered, requested, accepts, accepted, aliveResponse, answer}
 use Rattle.rules.specs.Calls.{writtenBy, ticked, Call, call}
@@ -59,7 +59,7 @@ pub weight-all : (h : Ending) (l : List Session) → weight (map (ended h) l) �
 weight-all h [] = omega (arith, weight-none)
 weight-all h (s ∷ l) = omega (arith, weight-ended h s (map (ended h) l), weight-all h l)
 
-pub weight-endings : (air cover : Ending) (p : Session → Bool) (k : List Session) → weight (endings air cover p k) ≤ 23 * length (keep p k)
+pub weight-endings : (air cover : Ending) (p : Session → Bool) (k : List Session) → weight (endings air cover p k Record ended) ≤ 23 * length (keep p k)
 unfolding endings
 weight-endings air cover p [] = omega (arith, weight-none)
 weight-endings air cover p (s ∷ k) = go (p s)
@@ -84,8 +84,9 @@ pub evictedAt-lean : (i : ℕ) (q : Queue) → i < length (q .waiting) → Lean 
 unfolding evictedAt andThen
 evictedAt-lean i q h =
     let s = getD (q .waiting) i empty in
-    let u = withWaiting (removeAt i (q .waiting)) q in
-    lean-join q (record { queue = u; written = ended (Response 109) s ∷ [] }) (dismissed 109 (s .conn) (s .id) u)
+    let v = ending (oneEnd (Response 109) s) (withWaiting (removeAt i (q .waiting)) q) in
+    let u = v .queue in
+    lean-join q v (dismissed 109 (s .conn) (s .id) u)
     (omega (arith, weight-one (ended (Response 109) s) tt, length-removeAt i (q .waiting) h)) (dismissed-lean 109 (s .conn) (s .id) u)
 
 pub quiet-lean : (q : Queue) → Lean q (quiet q)
@@ -102,7 +103,7 @@ unfolding cancelled
 cancelled-lean p q =
     omega (
       arith,
-      weight-append (endings (Complete 116) (Response 116) p (q .started)) (map (ended (Response 116)) (keep p (q .waiting))),
+      weight-append (endings (Complete 116) (Response 116) p (q .started) Record ended) (map (ended (Response 116)) (keep p (q .waiting))),
       weight-endings (Complete 116) (Response 116) p (q .started),
       weight-responses 116 (keep p (q .waiting)),
       length-split p (q .waiting),
@@ -125,9 +126,9 @@ pub ousted-brief : (s : Session) (q : Queue) → Brief q (ousted s q)
 unfolding ousted andThen dismissed
 ousted-brief s q =
     let air = getD (q .started) 0 empty in
-    let u = withStarted (removeAt 0 (q .started)) q in
+    let v = ending (oneEnd (Complete 125) air) (withStarted (removeAt 0 (q .started)) q) in
     by (Brief q) (meetsEqual s (q .started)) _ _
-    (λ e. brief-join q (record { queue = u; written = ended (Complete 125) air ∷ [] }) (dismissed 125 (air .conn) (air .id) u)
+    (λ e. brief-join q v (dismissed 125 (air .conn) (air .id) (v .queue))
     (omega (arith, weight-one (ended (Complete 125) air) tt, length-removeAt 0 (q .started) (meets-some s (q .started) e)))
     (omega (arith, weight-responses 125 (followers (air .conn) (air .id) (q .waiting) .gone), followed (air .conn) (air .id) (q .waiting) .lengths)))
     (λ e. omega (arith, weight-none))

@@ -2,15 +2,17 @@
 -- them (Wired), and that the name has 32 bytes.
 use mathlib.Core.Path.{_≡_, refl, sym, ap, _∙_}
 use mathlib.Core.List.{List, [], _∷_, _++_}
-use Prim.Native.Nat.{ℕ, _+_, _-_, _≤_, _<_}
+use Prim.Native.Nat.{ℕ, zero, suc, _+_, _-_, _≤_, _<_}
 use native.Mathlib.Omega.{arith}
 use lib.ListN.{length}
 use Rattle.rules.specs.declared.Ninths.{Ninths}
+use Rattle.rules.specs.declared.Session.{Session}
 use Rattle.rules.specs.declared.When.the-variants.{At}
 use Rattle.rules.specs.Bytes.{hasZero}
-use Rattle.rules.specs.State.{Queue, Splicer, is, due, notAfter}
+use Rattle.rules.specs.State.{Queue, Splicer, is, due, notAfter, noneHeld}
 use Rattle.rules.specs.Records.{recordsIn}
-use Rattle.rules.specs.Instants.{instant, elapse}
+use Rattle.rules.specs.Ends.{Turn, andThen}
+use Rattle.rules.specs.Instants.{instant, elapse, run, runAll}
 use Rattle.rules.specs.Calls.{Called, writtenBy, named, fresh, Call, call, after}
 use Rattle.rules.proofs.Tests.{by}
 use Rattle.rules.proofs.All.{All, all-into, all-append}
@@ -18,20 +20,21 @@ use Rattle.rules.proofs.Bytes.{Byte}
 use Rattle.rules.proofs.Every.{all-both, Each}
 use Rattle.rules.proofs.Cases.{Brings, tick, move}
 use Rattle.rules.proofs.Always.{Wired, Kept, KeptHeld, held-kept, call-kept, always}
-use Rattle.rules.proofs.Tick.{Due, meets, due-first, due-meets, elapse-due, moved}
+use Rattle.rules.proofs.Tick.{Due, meets, due-first, due-meets, elapse-due, moved, by-next}
 use Rattle.rules.proofs.Sessions.{each-elapse, each-instant, waiting-instant}
 use Rattle.rules.proofs.Timed.{meets-after}
 use Rattle.rules.proofs.Silence.{silentAll-most}
 use Rattle.rules.proofs.Aired.{elapse-played, Aired, aired-kept, moved-aired}
 use Rattle.rules.proofs.Ranked.{Falling, falling-kept, falling-instant, falling-onAir, ten}
 use Rattle.rules.proofs.Room.{Room, room-kept, room-fewer, room-none, sixty-four}
-use Rattle.rules.proofs.Held.{Proper, Small, small-plays, small-kept, Linking, linking-kept, linking-fresh}
+use Rattle.rules.proofs.Held.{Proper, Small, proper-plays, small-plays, small-kept, Linking, linking-kept, linking-fresh}
 use Rattle.rules.proofs.Priors.{Chained, Orderly, orderly}
 use Rattle.rules.proofs.Chained.{chained-kept, moved-chained}
 use Rattle.rules.proofs.Bounds.{horizon, longest, never, ends-early}
 use Rattle.rules.proofs.Fitted.{recordsOf, found}
 use Rattle.rules.proofs.Size.{call-size}
-pub use Rattle.rules.specs.Sound.{Holding, Sound, Reached}
+use Rattle.rules.proofs.Lately.{Notable, Keeping, aborted-keeps, closedBy-keeps, accepted-recalls, instant-recalls, recalled-none}
+pub use Rattle.rules.specs.Sound.{Holding, Recalled, Sound, Reached}
 
 -- ## Of the sessions held at a time: the clock, or an instant of a tick
 
@@ -103,7 +106,54 @@ holding-kept =
       ticking = λ now until q le h. joined (c .ticking now until q le (chained h)) (a .ticking now until q le (aired h)) (f .ticking now until q le (h .falling)) (r .ticking now until q le (h .room)) (s .ticking now until q le (h .small));
     }
 
+-- ## 02, CR 8: what ended lately
+
+notable : (l : List Session) → All Proper l → All Small l → All (λ s. s .played .0 ≤ longest) l → All Notable l
+notable [] a b c = tt
+notable (s ∷ l) a b c = ((a .0 .conn, omega (arith, b .0 .id), b .0 .event, omega (arith, c .0)), notable l (a .1) (b .1) (c .1))
+
+silent-notable : (l : List Session) → All Proper l → All Small l → All (λ s. s .played .0 ≡ 0) l → All Notable l
+silent-notable l a b c = notable l a b (all-into (λ s. s .played .0 ≡ 0) (λ s. s .played .0 ≤ longest) (λ s e. omega arith) l c)
+
+keeping-now : (now : ℕ) (q : Queue) → Holding now q → Recalled (q .lately) → Keeping q
+keeping-now now q h r =
+    record {
+      held = record {
+        waiting = silent-notable (q .waiting) (h .proper .waiting) (h .small .waiting) (h .played .silent);
+        started = notable (q .started) (h .proper .started) (h .small .started) (played-now now q h);
+      };
+      lately = r;
+    }
+
+-- at t, before its work, if nothing is due before
+keeping-then : (now t : ℕ) (q : Queue) → now ≤ t → Due t q → Holding now q → Recalled (q .lately) → Keeping (elapse (t - now) q)
+unfolding elapse
+keeping-then now t q le d h r =
+    let p = each-elapse Proper proper-plays (t - now) q (h .proper) in
+    let s = each-elapse Small small-plays (t - now) q (h .small) in
+    record {
+      held = record {
+        waiting = silent-notable (q .waiting) (h .proper .waiting) (h .small .waiting) (h .played .silent);
+        started = notable (elapse (t - now) q .started) (p .started) (s .started) (played-then now t q le d h);
+      };
+      lately = r;
+    }
+
+run-recalls : (n now until : ℕ) (q : Queue) → Holding now q → Recalled (q .lately) → Recalled (run n now until q .queue .lately)
+unfolding run andThen elapse
+run-recalls zero now until q h r = r
+run-recalls (suc n) now until q h r =
+    by-next (λ (t : Turn). Recalled (t .queue .lately)) _ _ (notAfter until (due q))
+    (λ t e. let d = due-first until t q e in
+    let le = next-after now until t q e h in
+    run-recalls n (t .0) until (moved now (t .0) q .queue) (holding-next now until t q e h) (instant-recalls (t .0) (elapse (t .0 - now) q) (keeping-then now (t .0) q (omega arith) d h r)))
+    (λ e. r)
+
 -- ## Of a splicer
+
+ticked-recalls : (now until : ℕ) (q : Queue) → Holding now q → Recalled (q .lately) → Recalled (runAll now until q .queue .lately)
+unfolding runAll
+ticked-recalls now until q h r = run-recalls _ now until q h r
 
 brings-early : (k : Call) (until : ℕ) → Wired k → Brings k until → until < horizon
 brings-early k until w (tick seconds micros room m) = omega arith
@@ -114,23 +164,24 @@ sound-kept =
     let l : Kept Wired Linking = linking-kept in
     let k = held-kept Holding holding-kept in
     record {
-      opening = λ s c low e h. record { linking = l .opening s c low e (h .linking); clock = h .clock; primary = h .primary; holding = h .holding };
-      naming = λ s c low e h. record { linking = l .naming s c low e (h .linking); clock = h .clock; primary = h .primary; holding = h .holding };
-      closing = λ s c low e h. record { linking = l .closing s c low e (h .linking); clock = h .clock; primary = h .primary; holding = k .closing s c low e (h .holding) };
-      aborting = λ s c x low e a h. record { linking = l .aborting s c x low e a (h .linking); clock = h .clock; primary = h .primary; holding = k .aborting s c x low e a (h .holding) };
-      accepting = λ s c r a h. record { linking = l .accepting s c r a (h .linking); clock = h .clock; primary = h .primary; holding = k .accepting s c r a (h .holding) };
+      opening = λ s c low e h. record { linking = l .opening s c low e (h .linking); clock = h .clock; primary = h .primary; holding = h .holding; lately = h .lately };
+      naming = λ s c low e h. record { linking = l .naming s c low e (h .linking); clock = h .clock; primary = h .primary; holding = h .holding; lately = h .lately };
+      closing = λ s c low e h. record { linking = l .closing s c low e (h .linking); clock = h .clock; primary = h .primary; holding = k .closing s c low e (h .holding); lately = closedBy-keeps c (s .queue) (keeping-now (s .clock) (s .queue) (h .holding) (h .lately)) .lately };
+      aborting = λ s c x low e a h. record { linking = l .aborting s c x low e a (h .linking); clock = h .clock; primary = h .primary; holding = k .aborting s c x low e a (h .holding); lately = aborted-keeps c x (s .queue) (keeping-now (s .clock) (s .queue) (h .holding) (h .lately)) .lately };
+      accepting = λ s c r a h. record { linking = l .accepting s c r a (h .linking); clock = h .clock; primary = h .primary; holding = k .accepting s c r a (h .holding); lately = accepted-recalls _ (s .queue) (keeping-now (s .clock) (s .queue) (h .holding) (h .lately)) };
       ticking = λ s j until f b le h. record {
         linking = l .ticking s j until f b le (h .linking);
         clock = brings-early j until f b;
         primary = omega (arith, h .primary, silentAll-most (s .clock) until (s .queue) le (h .holding .timed));
         holding = k .ticking s j until f b le (h .holding);
+        lately = ticked-recalls (s .clock) until (s .queue) (h .holding) (h .lately);
       };
     }
 
 pub sound-call : (s : Splicer) (k : Call) → Wired k → Sound s → Sound (call k s .splicer)
 sound-call s k f h = call-kept Wired Sound sound-kept s k f h
 
-nothing-held : Holding 0 (record { waiting = []; started = [] })
+nothing-held : Holding 0 noneHeld
 nothing-held =
     record {
       timed = record { sorted = tt; later = tt; ends = tt };
@@ -146,8 +197,8 @@ nothing-held =
 pub sound-fresh : (name : List ℕ) → length name ≡ 32 → All Byte name → Sound (fresh name .splicer)
 unfolding fresh named
 sound-fresh name e a =
-    by (λ (k : Called). Linking (k .splicer) → Sound (k .splicer)) (hasZero name) _ _ (λ z l. record { linking = l; clock = omega arith; primary = omega arith; holding = nothing-held })
-    (λ z l. record { linking = l; clock = omega arith; primary = omega arith; holding = nothing-held }) (linking-fresh name e a)
+    by (λ (k : Called). Linking (k .splicer) → Sound (k .splicer)) (hasZero name) _ _ (λ z l. record { linking = l; clock = omega arith; primary = omega arith; holding = nothing-held; lately = recalled-none })
+    (λ z l. record { linking = l; clock = omega arith; primary = omega arith; holding = nothing-held; lately = recalled-none }) (linking-fresh name e a)
 
 pub sound-always : (ks : List Call) (name : List ℕ) → length name ≡ 32 → All Byte name → All Wired ks → Sound (after ks (fresh name .splicer))
 sound-always ks name e a f = always Wired Sound sound-kept ks (fresh name .splicer) f (sound-fresh name e a)

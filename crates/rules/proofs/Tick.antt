@@ -20,7 +20,7 @@ use Rattle.rules.proofs.Tests.{tests, by, eqb-same}
 use Rattle.rules.proofs.All.{All, all-into}
 use Rattle.rules.proofs.Count.{length-removeAt, length-split, length-keep, place-none}
 use Rattle.rules.proofs.Every.{fewer-length}
-use Rattle.rules.proofs.Leaving.{dismissed-fewer, ousted-fewer}
+use Rattle.rules.proofs.Leaving.{failed-fewer, ousted-fewer}
 
 -- ## The sooner of two
 
@@ -230,7 +230,7 @@ unfolding launched andThen
 launched-less s q =
     by (λ (r : Turn). toCome (r .queue) ≤ suc (toCome q)) (mayStart s (q .started)) _ _
     (λ e. let f = ousted-fewer s q in omega (arith, fewer-length (f .waiting), fewer-length (f .started)))
-    (λ e. let f = dismissed-fewer q 109 (s .conn) (s .id) in omega (arith, fewer-length (f .waiting), fewer-length (f .started)))
+    (λ e. let f = failed-fewer s q in omega (arith, fewer-length (f .waiting), fewer-length (f .started)))
 
 startAt-less : (t : ℕ) (q : Queue) → (toCome (startAt t q .queue) ≤ toCome q) × (0 < count (startsAt t) (q .waiting) → toCome (startAt t q .queue) < toCome q)
 unfolding startAt
@@ -246,14 +246,14 @@ startAt-less t q =
 pub instant-less : (t : ℕ) (q : Queue) → 0 < meets t q → toCome (instant t q .queue) < toCome q
 unfolding instant andThen endAt
 instant-less t q h =
-    let u = withStarted (omit (endsAt t) (q .started)) q in
+    let u = endAt t q .queue in
     let a = startAt-less t u in
     let l = length-split (endsAt t) (q .started) in
     let k = length-keep (endsAt t) (q .started) in
     go (ltb 0 (count (startsAt t) (q .waiting))) refl a l k
   where
     u : Queue
-    u = withStarted (omit (endsAt t) (q .started)) q
+    u = endAt t q .queue
 
     go : (b : Bool) → ltb 0 (count (startsAt t) (q .waiting)) ≡ b
         → (toCome (startAt t u .queue) ≤ toCome u) × (0 < count (startsAt t) (q .waiting) → toCome (startAt t u .queue) < toCome u)
@@ -276,7 +276,7 @@ moved-less now until t q e =
 pub none-due : (t : ℕ) (q : Queue) → toCome q ≤ 0 → Due t q
 none-due t q h = go (q .waiting) (q .started) h
   where
-    go : (w k : List Session) → 2 * length w + length k ≤ 0 → Due t (record { waiting = w; started = k })
+    go : (w k : List Session) → 2 * length w + length k ≤ 0 → Due t (record { waiting = w; started = k; lately = q .lately })
     go [] [] h = record { starts = tt; ends = tt }
     go [] (s ∷ k) h = absurd (omega arith)
     go (s ∷ w) k h = absurd (omega arith)

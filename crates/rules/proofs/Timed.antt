@@ -11,12 +11,13 @@ use borrow.Author.Tests.{eqb-true, eqb-false, ne-eqb, not-true, not-false, ltb-f
 use Rattle.rules.specs.declared.When.{When}
 use Rattle.rules.specs.declared.When.the-variants.{At, Never}
 use Rattle.rules.specs.declared.Session.{Session}
+use Rattle.rules.specs.declared.Ending.the-variants.{Response}
 use Rattle.rules.specs.declared.Start.{Start}
 use Rattle.rules.specs.declared.Start.the-variants.{Timed, Linked}
 use Rattle.rules.specs.declared.Request.{Request}
 use Rattle.rules.specs.Lists.{bit, omit, count, place, removeAt}
 use Rattle.rules.specs.State.{due, notAfter, Queue, Splicer, empty, is, startsAt, endsAt, held, holds, withWaiting, withStarted}
-use Rattle.rules.specs.Ends.{Turn, andThen, evictedAt, evicted}
+use Rattle.rules.specs.Ends.{Turn, andThen, ending, oneEnd, evictedAt, evicted}
 use Rattle.rules.specs.Instants.{mayStart, ousted, launched, startAt, endAt, instant, elapse, runAll}
 use Rattle.rules.specs.Answers.{endOf, startOf, sessionAt, requested, unknownPrior, tooLate, accepted}
 use Rattle.rules.specs.Calls.{Call, after, fresh}
@@ -24,7 +25,7 @@ use Rattle.rules.proofs.Tests.{tests, by}
 use Rattle.rules.proofs.All.{All, all-into}
 use Rattle.rules.proofs.Count.{count-removeAt, place-holds, place-none, some-place}
 use Rattle.rules.proofs.Every.{all-both, all-kept, all-getD, all-none, none-all, Fewer, fewer-removeAt, fewer-all, fewer-count, Sorted, fewer-sorted, sorted-inserted, all-inserted, Each, FewerHeld, all-held}
-use Rattle.rules.proofs.Leaving.{dismissed-fewer, ousted-fewer, evicted-fewer, aborted-fewer, closedBy-fewer}
+use Rattle.rules.proofs.Leaving.{dismissed-fewer, failed-fewer, ousted-fewer, evicted-fewer, aborted-fewer, closedBy-fewer}
 use Rattle.rules.proofs.Tick.{due-time, due-meets, Due, meets, all-onAir, elapse-due, tick-through}
 use Rattle.rules.proofs.Always.{Admitted, grants, KeptHeld, held-always}
 pub use Rattle.rules.specs.Sound.{Later, OnTime}
@@ -63,7 +64,7 @@ evicted-free t q o =
     let i = place (startsAt t) (q .waiting) in
     by (λ (r : Turn). count (startsAt t) (r .queue .waiting) ≡ 0) (ltb i (length (q .waiting))) _ _
     (λ e. let s = getD (q .waiting) i empty in
-    let u = withWaiting (removeAt i (q .waiting)) q in
+    let u = ending (oneEnd (Response 109) s) (withWaiting (removeAt i (q .waiting)) q) .queue in
     omega (arith, starts-removed t (q .waiting) o (ltb-true i (length (q .waiting)) e), fewer-count (startsAt t) (dismissed-fewer u 109 (s .conn) (s .id) .waiting)))
     (λ e. place-none (startsAt t) (q .waiting) (ltb-false i (length (q .waiting)) e))
 
@@ -85,7 +86,7 @@ module _ (t : ℕ) where
   launched-timed s q h e =
       by (λ (r : Turn). OnTime t (r .queue)) (mayStart s (q .started)) _ _
       (λ f. let k = timed-fewer t q (ousted s q .queue) (ousted-fewer s q) h in record { sorted = k .sorted; later = k .later; ends = (e, k .ends) })
-      (λ f. timed-fewer t q _ (dismissed-fewer q 109 (s .conn) (s .id)) h)
+      (λ f. timed-fewer t q _ (failed-fewer s q) h)
 
   startAt-timed : (now : ℕ) (q : Queue) → Sorted (q .waiting) → All (Later now) (q .waiting) → All (λ s. t ≤ s .start .0) (q .waiting) → All (λ s. t < s .end .0) (q .started)
       → OnTime t (startAt t q .queue)
@@ -119,7 +120,7 @@ module _ (t : ℕ) where
   pub instant-timed : (now : ℕ) (q : Queue) → OnTime now q → Due t q → OnTime t (instant t q .queue)
   unfolding instant andThen endAt
   instant-timed now q h d =
-      startAt-timed now (withStarted (omit (endsAt t) (q .started)) q) (h .sorted) (h .later) (d .starts)
+      startAt-timed now (endAt t q .queue) (h .sorted) (h .later) (d .starts)
       (all-kept (λ s. t ≤ s .end .0) (λ s. t < s .end .0) (λ s. not (endsAt t s)) (λ s i e. let n = eqb-false t (s .end .0) (not-true _ e) in omega arith) (q .started) (d .ends))
 
 pub elapse-timed : (now d : ℕ) (q : Queue) → OnTime now q → OnTime now (elapse d q)
