@@ -36,14 +36,23 @@ from-front k (suc n) q h = ap (λ r. getD q k 0 ∷ r) (from-front (suc k) n q (
 words-of : (f : ℕ → ℕ) → wordsOf (sessionOf f) ≡ wordsFrom 0 width f
 unfolding wordsFrom
 words-of f =
-    let e : f 6 % 2 + 2 * (f 6 / 2) ≡ f 6 = omega arith in
+    let e : f 6 % 2 + 2 * (f 6 / 2 % 128) + 256 * (f 6 / 256) ≡ f 6 = omega arith in
     ap (λ (w : ℕ). f 0 ∷ f 1 ∷ f 2 ∷ f 3 ∷ f 4 ∷ f 5 ∷ w ∷ f 7 ∷ []) e
 
+-- what shares a word is told apart
+abbrev pub Apart : Session → Type 0
+Apart x = (x .overrides ≤ 1) × (x .mux < 128)
+
+lower : (a b : ℕ) → a < 128 → (a + 128 * b) % 128 ≡ a
+lower a b h = omega arith
+
 -- and they give it back
-pub words-back : (x : Session) (l : List ℕ) → x .overrides ≤ 1 → row (wordsOf x ++ l) ≡ x
+pub words-back : (x : Session) (l : List ℕ) → Apart x → row (wordsOf x ++ l) ≡ x
 words-back x l h =
-    let o : askedWord x % 2 ≡ x .overrides = omega arith in
-    let m : askedWord x / 2 ≡ x .mux = omega arith in
+    let o : askedWord x % 2 ≡ x .overrides = omega (arith, h .0) in
+    let d : askedWord x / 2 ≡ x .mux + 128 * x .event = omega (arith, h .0) in
+    let m : askedWord x / 2 % 128 ≡ x .mux = ap (λ (k : ℕ). k % 128) d ∙ lower (x .mux) (x .event) (h .1) in
+    let e : askedWord x / 256 ≡ x .event = omega (arith, h .0, h .1) in
     λ i. record {
       conn = x .conn;
       id = x .id;
@@ -53,6 +62,7 @@ words-back x l h =
       access = x .access;
       overrides = o i;
       mux = m i;
+      event = e i;
       played = x .played;
     }
 
@@ -130,13 +140,13 @@ with-next i q x h =
     ∙ ap (λ t. wordsOf (row q) ++ (take (i * width) (drop width q) ++ (wordsOf x ++ t)))
     (ap (λ (k : ℕ). drop k q) (sym f) ∙ sym (drop-drop (i * width + width) width q))
 
-rows-with : (n i : ℕ) (q : List ℕ) (x : Session) → x .overrides ≤ 1 → i < n → n * width ≤ length q → rows n (with i q x) ≡ set (rows n q) i x
+rows-with : (n i : ℕ) (q : List ℕ) (x : Session) → Apart x → i < n → n * width ≤ length q → rows n (with i q x) ≡ set (rows n q) i x
 unfolding rows
 rows-with zero i q x o h m = absurd (omega arith)
 rows-with (suc n) zero q x o h m = ap (λ s. s ∷ rows n (drop width q)) (words-back x (drop width q) o)
 rows-with (suc n) (suc i) q x o h m =
     ap (rows (suc n)) (with-next i q x (omega arith))
-    ∙ ap (λ s. s ∷ rows n (with i (drop width q) x)) (words-back (row q) (with i (drop width q) x) (omega arith))
+    ∙ ap (λ s. s ∷ rows n (with i (drop width q) x)) (words-back (row q) (with i (drop width q) x) (omega arith, omega arith))
     ∙ ap (λ r. row q ∷ r) (rows-with n i (drop width q) x o (le-of-suc-le-suc h) (simp length-drop (omega arith)))
 
 whole : (b : ℕ) → b % width ≡ 0 → b ≡ b / width * width
@@ -156,7 +166,7 @@ stored-with q b x r =
     ∙ sets-eq (wordsOf x) q (b / width * width) (omega (arith, r .0, r .1))
     ∙ append-assoc (take (b / width * width) q) (wordsOf x) (drop (b / width * width + width) q)
 
-pub store-is : (q : List ℕ) (b : ℕ) (x : Session) → x .overrides ≤ 1 → Row b q → places (stored q b x) ≡ set (places q) (b / width) x
+pub store-is : (q : List ℕ) (b : ℕ) (x : Session) → Apart x → Row b q → places (stored q b x) ≡ set (places q) (b / width) x
 store-is q b x o r =
     let n : length (stored q b x) ≡ length q = put-length b 0 (wordsOf x) q in
     ap (λ (k : ℕ). rows (k / width) (stored q b x)) n

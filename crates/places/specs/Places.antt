@@ -30,17 +30,19 @@ sessionOf f =
       end = record { 0 = f 4 };
       access = f 5;
       overrides = f 6 % 2;
-      mux = f 6 / 2;
+      mux = f 6 / 2 % 128;
+      event = f 6 / 256;
       played = record { 0 = f 7 };
     }
 
--- OverridePlaying and what is asked of the multiplexer (02, CR 5) share a word
+-- OverridePlaying, what is asked of the multiplexer (02, CR 5) and the SpliceEventID (02, CR 8) share a word
 abbrev pub askedWord : Session → ℕ
-askedWord s = s .overrides + 2 * s .mux
+askedWord s = s .overrides + 2 * s .mux + 256 * s .event
 
 -- so they are given back; every session that a request asks for is such a one
 pub record Narrow (s : Session) : Type 0 where
   pub overrides : s .overrides ≤ 1
+  pub mux : s .mux < 128
   pub asked : askedWord s < 18446744073709551616
 
 -- the words of a session, in the same order; the time on air is the last

@@ -14,7 +14,8 @@ ghost use Rattle.rules.specs.Instants.{outranks, onAir};
 ghost use Rattle.places.specs.Places.{width, capacity, Row, places, spare, round, turned, Ring, next, lot, used, moved};
 ghost use Rattle.places.specs.Places.{Narrow, Good, Made, keyTest, startsFrom, leastEnd};
 
-// The words of a place, and which of them is which field; ASKED is OverridePlaying and, twice, what is asked of the multiplexer.
+// The words of a place, and which of them is which field; ASKED is OverridePlaying, twice what is asked of the multiplexer, and 256 times
+// the SpliceEventID.
 pub const WIDTH: usize = 8;
 
 // How many places a ring has, and their words.
@@ -58,6 +59,7 @@ fn nothing() -> Session
         access: 0,
         overrides: 0,
         mux: 0,
+        event: 0,
         played: Ninths(0),
     }
 }
@@ -77,7 +79,8 @@ fn read_row(q: &[u64], b: usize) -> Session
         end: Ninths(q[b + END]),
         access: q[b + ACCESS],
         overrides: asked % 2,
-        mux: asked / 2,
+        mux: asked / 2 % 128,
+        event: asked / 256,
         played: Ninths(q[b + PLAYED]),
     }
 }
@@ -95,7 +98,7 @@ fn write_row(q: &mut [u64], b: usize, x: Session)
     q[b + START] = x.start.0;
     q[b + END] = x.end.0;
     q[b + ACCESS] = x.access;
-    q[b + ASKED] = x.overrides + 2 * x.mux;
+    q[b + ASKED] = x.overrides + 2 * x.mux + 256 * x.event;
     q[b + PLAYED] = x.played.0;
 }
 
@@ -172,7 +175,7 @@ pub fn mux_at(q: &[u64], n: usize, at: usize) -> u64
     ensures { λ r. ⌜ r ≡ getD (used (lot (now (q .entry)) 0 n)) at empty .mux ⌝ }
 {
     let b = (q.len() / WIDTH - n + at) * WIDTH;
-    q[b + ASKED] / 2
+    q[b + ASKED] / 2 % 128
 }
 
 // The end of the session `at`, in places that never come round.

@@ -7,7 +7,7 @@ use Rattle.places.proofs.nothing.Tie as tie
 
 returns : tie.Need-returns
 unfolding empty
-returns c = (refl, record { overrides = omega arith; asked = omega arith })
+returns c = (refl, record { overrides = omega arith; mux = omega arith; asked = omega arith })
 
 pub nothing-spec : {M : Type 1} → statement M
 nothing-spec = tie.close (tie.spec returns)

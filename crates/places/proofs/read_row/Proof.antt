@@ -70,20 +70,20 @@ mul-t28 c = search needs
 shared-slice-read-t30 : tie.Need-shared-slice-read-t30
 shared-slice-read-t30 c = search needs
 
-add-t33 : tie.Need-add-t33
-add-t33 c = search needs
+add-t35 : tie.Need-add-t35
+add-t35 c = search needs
 
-mul-t34 : tie.Need-mul-t34
-mul-t34 c = search needs
+mul-t36 : tie.Need-mul-t36
+mul-t36 c = search needs
 
-shared-slice-read-t36 : tie.Need-shared-slice-read-t36
-shared-slice-read-t36 c = search needs
+shared-slice-read-t38 : tie.Need-shared-slice-read-t38
+shared-slice-read-t38 c = search needs
 
 returns : tie.Need-returns
 returns c =
     let s = c .before .before .before .before .before .before .before .before in
     let w = c .before .before .before .before .before .before .before .shared-slice-known .given (s .args .b + 6) in
-    (load-is (s .args .q .now) (s .args .b) empty (s .pre), record { overrides = omega arith; asked = omega (arith, w) })
+    (load-is (s .args .q .now) (s .args .b) empty (s .pre), record { overrides = omega arith; mux = omega arith; asked = omega (arith, w) })
 
 pub read-row-spec : {M : Type 1} → statement M
 read-row-spec =
@@ -110,7 +110,7 @@ read-row-spec =
     add-t27
     mul-t28
     shared-slice-read-t30
-    add-t33
-    mul-t34
-    shared-slice-read-t36
+    add-t35
+    mul-t36
+    shared-slice-read-t38
     returns)

@@ -66,20 +66,26 @@ mul-q-7 c = search needs
 add-q-7 : tie.Need-add-q-7
 add-q-7 c = search needs
 
-add-q-8 : tie.Need-add-q-8
-add-q-8 c = search needs
-
 mul-q-8 : tie.Need-mul-q-8
 mul-q-8 c = search needs
 
-slice-write-q-7 : tie.Need-slice-write-q-7
-slice-write-q-7 c = simp length-set (omega arith)
+add-q-8 : tie.Need-add-q-8
+add-q-8 c = search needs
 
 add-q-9 : tie.Need-add-q-9
 add-q-9 c = search needs
 
 mul-q-9 : tie.Need-mul-q-9
 mul-q-9 c = search needs
+
+slice-write-q-7 : tie.Need-slice-write-q-7
+slice-write-q-7 c = simp length-set (omega arith)
+
+add-q-10 : tie.Need-add-q-10
+add-q-10 c = search needs
+
+mul-q-10 : tie.Need-mul-q-10
+mul-q-10 c = search needs
 
 slice-write-q-8 : tie.Need-slice-write-q-8
 slice-write-q-8 c = simp length-set (omega arith)
@@ -89,9 +95,9 @@ same-length c = simp length-set
 
 returns : tie.Need-returns
 returns c =
-    let s = c .before .before in
+    let s = c .before .before .before in
     let a = s .args in
-    (store-is (a .q .now) (a .b) (a .x) (s .pre .1 .overrides) (s .pre .0), store-spare (a .q .now) (a .b) (a .x) (s .pre .0))
+    (store-is (a .q .now) (a .b) (a .x) (s .pre .1 .overrides, s .pre .1 .mux) (s .pre .0), store-spare (a .q .now) (a .b) (a .x) (s .pre .0))
 
 pub write-row-spec : {M : Type 1} → statement M
 write-row-spec =
@@ -117,11 +123,13 @@ write-row-spec =
     slice-write-q-6
     mul-q-7
     add-q-7
-    add-q-8
     mul-q-8
-    slice-write-q-7
+    add-q-8
     add-q-9
     mul-q-9
+    slice-write-q-7
+    add-q-10
+    mul-q-10
     slice-write-q-8
     same-length
     returns)
