@@ -3,7 +3,7 @@
 use mathlib.Core.Path.{_≡_, refl, sym, ap, subst, _∙_}
 use mathlib.Core.Bool.{Bool, true, false, not}
 use mathlib.Core.List.{List, [], _∷_, _++_, map}
-use Prim.Native.Nat.{ℕ, zero, suc, _+_, _-_, _*_, _≤_, _<_}
+use Prim.Native.Nat.{ℕ, zero, suc, _+_, _-_, _*_, _%_, _≤_, _<_}
 use native.Mathlib.Omega.{arith}
 use lib.Dec.{eqb}
 use lib.ListN.{length, take, drop, set, getD, replicate, length-set, length-replicate, length-drop, take-append-drop, List·getD-map}
@@ -13,12 +13,13 @@ use borrow.Author.Tests.{eqb-true, eqb-false, eq-eqb, ne-eqb}
 use Rattle.rules.specs.declared.Ninths.{Ninths}
 use Rattle.rules.specs.declared.When.the-variants.{At}
 use Rattle.rules.specs.declared.Session.{Session}
+use Rattle.rules.specs.declared.Past.{Past}
 use Rattle.rules.specs.declared.Link.{Link}
 use Rattle.rules.specs.declared.Link.the-variants.{Closed, Opened, Initialised}
 use Rattle.rules.specs.Lists.{All, bit, omit, insertAt, removeAt}
 use Rattle.rules.specs.Bytes.{part, padded}
 use Rattle.rules.specs.Answers.{waits}
-use Rattle.rules.specs.State.{Queue, Splicer, empty, of, Sorted, sooner, earliest, withWaiting}
+use Rattle.rules.specs.State.{Queue, Splicer, empty, of, Sorted, sooner, earliest, withWaiting, withLately, Lately, mostKept, unused, remembered, recentAt}
 use Rattle.rules.specs.Sound.{Each, Proper, Holding}
 use Rattle.rules.proofs.All.{all-replicate, all-into}
 use Rattle.rules.proofs.Count.{count-insertAt, count-removeAt, count-omitted, count-other}
@@ -29,8 +30,9 @@ use Rattle.places.proofs.Laws.{length-used, words-same, cleared, cleared-none, 
 use Rattle.places.proofs.Words.{spare-none}
 use Rattle.places.proofs.Ring.{ring-full}
 use Rattle.memory.specs.declared.Which.{Which}
+use Rattle.memory.proofs.Late.{pasts-at, late-same, none-late, written5, length5, far5, lateAfter, late-after}
 use Rattle.memory.specs.declared.Which.the-variants.{Waiting, Started}
-use Rattle.memory.specs.Memory.{clockWord, slotOf, ringWord, primaryWord, firstCount, firstLink, connections, placesOf, fromOf, toOf, spanOf, words, wordOf, linkIn, IsLink, linksOf, countsOf, ringOf, lotOf, sessions, OfFour, tallied, Form, Memory, see, Now}
+use Rattle.memory.specs.Memory.{clockWord, slotOf, ringWord, primaryWord, firstCount, firstLink, connections, placesOf, fromOf, toOf, spanOf, words, wordOf, linkIn, IsLink, linksOf, countsOf, ringOf, lotOf, sessions, OfFour, tallied, Form, Memory, see, Now, firstPast, pastWidth, pastWords, nextWord, lateSize, lateOf, nextIn, latelyIn, recalling}
 use Rattle.memory.specs.Memory.{timed, silenced, linked, listOf, relisted, onward, nothingShown, nameSize, nameOf, Stored, Whole, shown}
 
 -- a list of the words is that list of the queue that they show
@@ -190,11 +192,11 @@ tallied-set l u c n h e o =
         getD-set-other (tallied l) c d n 0 q ∙ tallied-at l d k ∙ o d q
 
 -- their words give them back
-pub all-flagged : (clock : ℕ) (q : Queue) → Holding clock q → Each (λ s. s .overrides ≤ 1) q
+pub all-flagged : (clock : ℕ) (q : Queue) → Holding clock q → Each (λ s. (s .overrides ≤ 1) × (s .mux < 128)) q
 all-flagged clock q h =
     record {
-      waiting = all-into Proper (λ s. s .overrides ≤ 1) (λ s p. p .overrides) (q .waiting) (h .proper .waiting);
-      started = all-into Proper (λ s. s .overrides ≤ 1) (λ s p. p .overrides) (q .started) (h .proper .started);
+      waiting = all-into Proper (λ s. (s .overrides ≤ 1) × (s .mux < 128)) (λ s p. (p .overrides, omega (arith, p .mux .1))) (q .waiting) (h .proper .waiting);
+      started = all-into Proper (λ s. (s .overrides ≤ 1) × (s .mux < 128)) (λ s p. (p .overrides, omega (arith, p .mux .1))) (q .started) (h .proper .started);
     }
 
 -- every connection is one of the four
@@ -265,23 +267,25 @@ pub record Shown (m : List ℕ) (s : Memory) : Type 0 where
   pub started : Good (lotOf Started m)
   pub ring : ringOf Waiting m < placesOf Waiting
   pub links : All IsLink (linksOf m)
+  pub late : nextIn (lateOf m) < mostKept
   pub is : see m ≡ s
 
 pub shown-as : {m : List ℕ} {s r : Memory} → Shown m s → s ≡ r → Shown m r
 shown-as {m} g e = subst (λ (s : Memory). Shown m s) e g
 
-module _ (m : List ℕ) (t p : ℕ) (l : List ℕ) (r : ℕ) (w k : Lot) where
-  pub shows : length m ≡ words → getD m clockWord 0 ≡ t → getD m primaryWord 0 ≡ p → linksOf m ≡ l → getD m ringWord 0 ≡ r → lotOf Waiting m ≡ w → lotOf Started m ≡ k →
-      All IsLink l → r < placesOf Waiting → Good w → Good k →
-      Shown m (record { clock = t; primary = p; links = map linkIn l; queue = record { waiting = used w; started = used k }; ringEnd = r })
-  shows whole clock primary links ring waiting started a n g h =
+module _ (m : List ℕ) (t p : ℕ) (l : List ℕ) (r : ℕ) (w k : Lot) (y : List ℕ) where
+  pub shows : length m ≡ words → getD m clockWord 0 ≡ t → getD m primaryWord 0 ≡ p → linksOf m ≡ l → getD m ringWord 0 ≡ r → lotOf Waiting m ≡ w → lotOf Started m ≡ k → lateOf m ≡ y →
+      All IsLink l → r < placesOf Waiting → Good w → Good k → nextIn y < mostKept →
+      Shown m (record { clock = t; primary = p; links = map linkIn l; queue = record { waiting = used w; started = used k; lately = latelyIn y }; ringEnd = r })
+  shows whole clock primary links ring waiting started late a n g h j =
       record {
         whole = whole;
         waiting = subst (λ (x : Lot). Good x) (sym waiting) g;
         started = subst (λ (x : Lot). Good x) (sym started) h;
         ring = omega (arith, ring);
         links = subst (λ (x : List ℕ). All IsLink x) (sym links) a;
-        is = λ i. record { clock = clock i; primary = primary i; links = map linkIn (links i); queue = record { waiting = used (waiting i); started = used (started i) }; ringEnd = ring i };
+        late = subst (λ (x : List ℕ). nextIn x < mostKept) (sym late) j;
+        is = λ i. record { clock = clock i; primary = primary i; links = map linkIn (links i); queue = record { waiting = used (waiting i); started = used (started i); lately = latelyIn (late i) }; ringEnd = ring i };
       }
 
 -- and the counts are those of the waiting w
@@ -295,6 +299,7 @@ with-counts {m} w g y a e =
         started = g .started;
         ring = g .ring;
         links = g .links;
+        late = g .late;
         ofFour = subst (λ (l : List Session). All OfFour l) z a;
         counts = e ∙ ap tallied z;
       };
@@ -335,7 +340,7 @@ changed-waiting m ys n r f l c g =
     λ j u v w. getD-set-other x ringWord j r 0 v ∙ getD-set-other p i j n 0 u ∙ put-word m ys a e (h .0) (h .1) l j w in
     let past : (b k : ℕ) → ringWord < b → part b k (set x ringWord r) ≡ part b k p =
     λ b k w. set-behind x ringWord r b k w ∙ set-behind p i n b k (omega arith) in
-    shows (set x ringWord r) (see m .clock) (see m .primary) (linksOf m) r (lot ys r n) (lotOf Started m)
+    shows (set x ringWord r) (see m .clock) (see m .primary) (linksOf m) r (lot ys r n) (lotOf Started m) (lateOf m)
     (length-set x ringWord r ∙ lx)
     (kept clockWord (λ z. omega (arith, z)) (λ z. omega (arith, z)) (omega arith))
     (kept primaryWord (λ z. omega (arith, z)) (λ z. omega (arith, z)) (omega arith))
@@ -346,7 +351,8 @@ changed-waiting m ys n r f l c g =
     (a-lot (past (fromOf Started) (spanOf Started) (omega arith)
     ∙ put-behind m ys a e (h .0) (h .1) l (fromOf Started) (spanOf Started) (omega arith)) refl
     (kept o (λ z. omega (arith, z)) (λ z. omega (arith, z)) (omega arith)))
-    (f .links) c g (f .started)
+    (past firstPast lateSize (omega arith) ∙ put-behind m ys a e (h .0) (h .1) l firstPast lateSize (omega arith))
+    (f .links) c g (f .started) (f .late)
 
 -- the places ys with n used ones, in place of a list and its count: all else shows as it did
 changed : (v : Which) (m ys : List ℕ) (n : ℕ) → Form m → length ys ≡ spanOf v → Good (lot ys (ringOf v m) n) →
@@ -370,7 +376,7 @@ changed Started m ys n f l g =
     let lp : length p ≡ words = length-put m ys a e (h .0) (h .1) l ∙ f .whole in
     let kept : (j : ℕ) → (j ≡ i → ⊥) → j < a → getD (set p i n) j 0 ≡ getD m j 0 =
     λ j u w. getD-set-other p i j n 0 u ∙ put-word m ys a e (h .0) (h .1) l j w in
-    shows (set p i n) (see m .clock) (see m .primary) (linksOf m) (ringOf Waiting m) (lotOf Waiting m) (lot ys 0 n)
+    shows (set p i n) (see m .clock) (see m .primary) (linksOf m) (ringOf Waiting m) (lotOf Waiting m) (lot ys 0 n) (lateOf m)
     (length-set p i n ∙ lp)
     (kept clockWord (λ z. omega (arith, z)) (omega arith))
     (kept primaryWord (λ z. omega (arith, z)) (omega arith))
@@ -380,7 +386,8 @@ changed Started m ys n f l g =
     ∙ put-before m ys a e (h .0) (h .1) l (fromOf Waiting) (spanOf Waiting) (omega arith))
     (kept ringWord (λ z. omega (arith, z)) (omega arith)) (kept o (λ z. omega (arith, z)) (omega arith)))
     (a-lot (set-behind p i n a (e - a) (omega arith) ∙ put-here m ys a e (h .0) (h .1) l) refl (getD-set-same p i n 0 (omega (arith, lp))))
-    (f .links) (f .ring) (f .waiting) g
+    (set-behind p i n firstPast lateSize (omega arith) ∙ put-behind m ys a e (h .0) (h .1) l firstPast lateSize (omega arith))
+    (f .links) (f .ring) (f .waiting) g (f .late)
 
 changed-counts : (v : Which) (m ys : List ℕ) (n : ℕ) → Form m → length ys ≡ spanOf v → countsOf (set (putMid (fromOf v) (spanOf v) m ys) (slotOf v) n) ≡ countsOf m
 changed-counts v m ys n f l =
@@ -448,7 +455,7 @@ ring-at Started {m} {a} {e} {r} p q o f = subst (λ (k : ℕ). Ring (capacity (p
 recounted : (m : List ℕ) (s : Memory) (c n : ℕ) → c ≤ 3 → Shown m s → Shown (set m (firstCount + c) n) s
 recounted m s c n h g =
     let i = firstCount + c in
-    shown-as (shows (set m i n) (see m .clock) (see m .primary) (linksOf m) (ringOf Waiting m) (lotOf Waiting m) (lotOf Started m)
+    shown-as (shows (set m i n) (see m .clock) (see m .primary) (linksOf m) (ringOf Waiting m) (lotOf Waiting m) (lotOf Started m) (lateOf m)
     (length-set m i n ∙ g .whole)
     (other clockWord (omega arith))
     (other primaryWord (omega arith))
@@ -456,7 +463,8 @@ recounted m s c n h g =
     (other ringWord (omega arith))
     (a-lot (set-behind m i n (fromOf Waiting) (spanOf Waiting) (omega arith)) (other ringWord (omega arith)) (other (slotOf Waiting) (omega arith)))
     (a-lot (set-behind m i n (fromOf Started) (spanOf Started) (omega arith)) refl (other (slotOf Started) (omega arith)))
-    (g .links) (g .ring) (g .waiting) (g .started)) (g .is)
+    (set-behind m i n firstPast lateSize (omega arith))
+    (g .links) (g .ring) (g .waiting) (g .started) (g .late)) (g .is)
   where
     other : (j : ℕ) → j < firstCount → getD (set m (firstCount + c) n) j 0 ≡ getD m j 0
     other j k = getD-set-other m (firstCount + c) j n 0 (λ z. omega (arith, z))
@@ -466,7 +474,7 @@ module _ (m : List ℕ) (i n t p : ℕ) (f : Form m) where
   worded : i < firstCount → (i ≡ ringWord → ⊥) → (i ≡ slotOf Waiting → ⊥) → (i ≡ slotOf Started → ⊥) → getD (set m i n) clockWord 0 ≡ t → getD (set m i n) primaryWord 0 ≡ p →
       Now (set m i n) (record { clock = t; primary = p; links = see m .links; queue = see m .queue; ringEnd = see m .ringEnd })
   worded low notRing notWaiting notStarted clock primary =
-      with-counts (sessions Waiting m) (shows (set m i n) t p (linksOf m) (ringOf Waiting m) (lotOf Waiting m) (lotOf Started m)
+      with-counts (sessions Waiting m) (shows (set m i n) t p (linksOf m) (ringOf Waiting m) (lotOf Waiting m) (lotOf Started m) (lateOf m)
       (length-set m i n ∙ f .whole)
       clock
       primary
@@ -474,7 +482,8 @@ module _ (m : List ℕ) (i n t p : ℕ) (f : Form m) where
       (other ringWord notRing)
       (a-lot (set-behind m i n (fromOf Waiting) (spanOf Waiting) (omega arith)) (other ringWord notRing) (other (slotOf Waiting) notWaiting))
       (a-lot (set-behind m i n (fromOf Started) (spanOf Started) (omega arith)) refl (other (slotOf Started) notStarted))
-      (f .links) (f .ring) (f .waiting) (f .started)) refl (f .ofFour) (set-behind m i n firstCount connections (omega arith) ∙ f .counts)
+      (set-behind m i n firstPast lateSize (omega arith))
+      (f .links) (f .ring) (f .waiting) (f .started) (f .late)) refl (f .ofFour) (set-behind m i n firstCount connections (omega arith) ∙ f .counts)
     where
       other : (j : ℕ) → (i ≡ j → ⊥) → getD (set m i n) j 0 ≡ getD m j 0
       other j k = getD-set-other m i j n 0 (λ z. k (sym z))
@@ -507,7 +516,7 @@ linked-now m c l n h e f =
     let y : map linkIn (set (linksOf m) c n) ≡ set (see m .links) c l =
     link-set (linksOf m) c n ∙ ap (set (see m .links) c) (ap linkIn e ∙ link-word l) in
     with-counts (sessions Waiting m) (subst (λ (z : List Link). Shown (set m i n) (record { clock = see m .clock; primary = see m .primary; links = z; queue = see m .queue; ringEnd = see m .ringEnd })) y
-    (shows (set m i n) (see m .clock) (see m .primary) (set (linksOf m) c n) (ringOf Waiting m) (lotOf Waiting m) (lotOf Started m)
+    (shows (set m i n) (see m .clock) (see m .primary) (set (linksOf m) c n) (ringOf Waiting m) (lotOf Waiting m) (lotOf Started m) (lateOf m)
     (length-set m i n ∙ f .whole)
     (other clockWord (omega arith))
     (other primaryWord (omega arith))
@@ -515,10 +524,116 @@ linked-now m c l n h e f =
     (other ringWord (omega arith))
     (a-lot (set-behind m i n (fromOf Waiting) (spanOf Waiting) (omega arith)) (other ringWord (omega arith)) (other (slotOf Waiting) (omega arith)))
     (a-lot (set-behind m i n (fromOf Started) (spanOf Started) (omega arith)) refl (other (slotOf Started) (omega arith)))
-    (all-set (linksOf m) c n (subst (λ (k : ℕ). IsLink k) (sym e) (is-link l)) (f .links)) (f .ring) (f .waiting) (f .started))) refl (f .ofFour) (set-before m i n firstCount connections (omega arith) ∙ f .counts)
+    (set-behind m i n firstPast lateSize (omega arith))
+    (all-set (linksOf m) c n (subst (λ (k : ℕ). IsLink k) (sym e) (is-link l)) (f .links)) (f .ring) (f .waiting) (f .started) (f .late))) refl (f .ofFour) (set-before m i n firstCount connections (omega arith) ∙ f .counts)
   where
     other : (j : ℕ) → j < firstCount → getD (set m (firstLink + c) n) j 0 ≡ getD m j 0
     other j k = getD-set-other m (firstLink + c) j n 0 (λ z. omega (arith, z))
+
+-- ## 02, CR 8: what ended lately
+
+late-long : (m : List ℕ) → length m ≡ words → length (lateOf m) ≡ lateSize
+late-long m w = length-take-le lateSize (drop firstPast m) (omega (arith, w, length-drop firstPast m))
+
+-- the next place, where it is read
+pub next-word : (m : List ℕ) → getD m nextWord 0 ≡ nextIn (lateOf m)
+next-word m = part-at m firstPast pastWords lateSize (omega arith)
+
+-- a word of the place i
+pub past-word : (m : List ℕ) (i k : ℕ) → i < mostKept → k < pastWidth → getD m (firstPast + (i * pastWidth + k)) 0 ≡ getD (lateOf m) (i * pastWidth + k) 0
+past-word m i k h l = part-at m firstPast (i * pastWidth + k) lateSize (omega arith)
+
+-- the one that ended i ends before the newest, n being the next place
+pub recent-word : (m : List ℕ) (i : ℕ) {n : ℕ} → i < mostKept → n ≡ nextIn (lateOf m) →
+    let b = firstPast + (n + (mostKept - 1 - i)) % mostKept * pastWidth in
+    record { conn = getD m b 0; id = getD m (b + 1) 0; event = getD m (b + 2) 0; result = getD m (b + 3) 0; played = getD m (b + 4) 0 } ≡ recentAt i (latelyIn (lateOf m))
+unfolding recentAt
+recent-word m i {n} h o =
+    let j = (n + (mostKept - 1 - i)) % mostKept in
+    (λ k. record { conn = first k; id = word 1 (omega arith) k; event = word 2 (omega arith) k; result = word 3 (omega arith) k; played = word 4 (omega arith) k })
+    ∙ sym (pasts-at mostKept j (lateOf m) (omega arith))
+    ∙ ap (λ (k : ℕ). getD (latelyIn (lateOf m) .places) ((k + (mostKept - 1 - i)) % mostKept) unused) o
+  where
+    j : ℕ
+    j = (n + (mostKept - 1 - i)) % mostKept
+
+    word : (k : ℕ) → k < pastWidth → getD m (firstPast + j * pastWidth + k) 0 ≡ getD (lateOf m) (j * pastWidth + k) 0
+    word k l =
+        let e : firstPast + j * pastWidth + k ≡ firstPast + (j * pastWidth + k) = omega arith in
+        ap (λ (b : ℕ). getD m b 0) e ∙ past-word m j k (omega arith) l
+
+    first : getD m (firstPast + j * pastWidth) 0 ≡ getD (lateOf m) (j * pastWidth + 0) 0
+    first =
+        let e : firstPast + j * pastWidth ≡ firstPast + j * pastWidth + 0 = omega arith in
+        ap (λ (b : ℕ). getD m b 0) e ∙ word 0 (omega arith)
+
+-- one more has ended: its words from the word b on, n being the next place
+module _ (m : List ℕ) (e : Past) (n b : ℕ) (o : n ≡ nextIn (lateOf m)) (p : b ≡ firstPast + n * pastWidth) (f : Form m) where
+  abbrev q : List ℕ
+  q = lateOf m
+
+  low : n < mostKept
+  low = omega (arith, o, f .late)
+
+  abbrev x : List ℕ
+  x = set (written5 m b e) nextWord ((n + 1) % mostKept)
+
+  -- what stands before stays
+  word-stays : (j : ℕ) → j < firstPast → getD x j 0 ≡ getD m j 0
+  word-stays j h = getD-set-other (written5 m b e) nextWord j ((n + 1) % mostKept) 0 (λ z. omega (arith, z)) ∙ far5 m b e j (λ k l z. omega (arith, z, p))
+
+  part-stays : (c j : ℕ) → c + j ≤ firstPast → part c j x ≡ part c j m
+  part-stays c j h =
+      set-before (written5 m b e) nextWord ((n + 1) % mostKept) c j (omega arith)
+      ∙ set-before (set (set (set (set m b (e .conn)) (b + 1) (e .id)) (b + 2) (e .event)) (b + 3) (e .result)) (b + 4) (e .played) c j (omega (arith, p))
+      ∙ set-before (set (set (set m b (e .conn)) (b + 1) (e .id)) (b + 2) (e .event)) (b + 3) (e .result) c j (omega (arith, p))
+      ∙ set-before (set (set m b (e .conn)) (b + 1) (e .id)) (b + 2) (e .event) c j (omega (arith, p))
+      ∙ set-before (set m b (e .conn)) (b + 1) (e .id) c j (omega (arith, p))
+      ∙ set-before m b (e .conn) c j (omega (arith, p))
+
+  -- one word of those behind
+  late-set : (y : List ℕ) (i j v : ℕ) → i ≡ firstPast + j → j < lateSize → lateOf (set y i v) ≡ set (lateOf y) j v
+  late-set y i j v r h = ap (λ (k : ℕ). lateOf (set y k v)) r ∙ set-within y v firstPast j lateSize h
+
+  late-is : lateOf x ≡ set (written5 q (n * pastWidth) e) pastWords ((n + 1) % mostKept)
+  late-is =
+      let d = n * pastWidth in
+      late-set (written5 m b e) nextWord pastWords ((n + 1) % mostKept) refl (omega arith)
+      ∙ ap (λ (z : List ℕ). set z pastWords ((n + 1) % mostKept))
+      (late-set (set (set (set (set m b (e .conn)) (b + 1) (e .id)) (b + 2) (e .event)) (b + 3) (e .result)) (b + 4) (d + 4) (e .played) (omega (arith, p)) (omega (arith, low))
+      ∙ ap (λ (z : List ℕ). set z (d + 4) (e .played))
+      (late-set (set (set (set m b (e .conn)) (b + 1) (e .id)) (b + 2) (e .event)) (b + 3) (d + 3) (e .result) (omega (arith, p)) (omega (arith, low))
+      ∙ ap (λ (z : List ℕ). set z (d + 3) (e .result))
+      (late-set (set (set m b (e .conn)) (b + 1) (e .id)) (b + 2) (d + 2) (e .event) (omega (arith, p)) (omega (arith, low))
+      ∙ ap (λ (z : List ℕ). set z (d + 2) (e .event))
+      (late-set (set m b (e .conn)) (b + 1) (d + 1) (e .id) (omega (arith, p)) (omega (arith, low))
+      ∙ ap (λ (z : List ℕ). set z (d + 1) (e .id)) (late-set m b d (e .conn) p (omega (arith, low)))))))
+
+  late-was : lateOf x ≡ lateAfter q e (late-long m (f .whole)) (f .late)
+  late-was = late-is ∙ ap (λ (k : ℕ). set (written5 q (k * pastWidth) e) pastWords ((k + 1) % mostKept)) o
+
+  whole : length x ≡ words
+  whole = length-set (written5 m b e) nextWord ((n + 1) % mostKept) ∙ length5 m b e ∙ f .whole
+
+  pub remembered-now : Now x (recalling e (see m))
+  unfolding remembered
+  remembered-now =
+      let y = late-after q e (late-long m (f .whole)) (f .late) in
+      with-counts (sessions Waiting m) (shown-as (shows x (see m .clock) (see m .primary) (linksOf m) (ringOf Waiting m) (lotOf Waiting m) (lotOf Started m) (lateAfter q e (late-long m (f .whole)) (f .late))
+      whole
+      (word-stays clockWord (omega arith))
+      (word-stays primaryWord (omega arith))
+      (part-stays firstLink connections (omega arith))
+      (word-stays ringWord (omega arith))
+      (a-lot (part-stays (fromOf Waiting) (spanOf Waiting) (omega arith)) (word-stays ringWord (omega arith)) (word-stays (slotOf Waiting) (omega arith)))
+      (a-lot (part-stays (fromOf Started) (spanOf Started) (omega arith)) refl (word-stays (slotOf Started) (omega arith)))
+      late-was
+      (f .links) (f .ring) (f .waiting) (f .started) (next-low y))
+      (λ i. record { clock = see m .clock; primary = see m .primary; links = see m .links; queue = withLately (y i) (see m .queue); ringEnd = see m .ringEnd }))
+      refl (f .ofFour) (part-stays firstCount connections (omega arith) ∙ f .counts)
+    where
+      next-low : latelyIn (lateAfter q e (late-long m (f .whole)) (f .late)) ≡ remembered e (latelyIn q) → nextIn (lateAfter q e (late-long m (f .whole)) (f .late)) < mostKept
+      next-low y = omega (arith, ap (λ (l : Lately). l .next) y)
 
 -- ## A list that changed, and the counts with it
 
@@ -582,12 +697,13 @@ unfolding tallied
 cleared-now =
     let w = cleared (spanOf Waiting) in
     let k = cleared (spanOf Started) in
-    let s = shows (zeros words) 0 0 (zeros connections) 0 (lot (zeros (spanOf Waiting)) 0 0) (lot (zeros (spanOf Started)) 0 0)
+    let s = shows (zeros words) 0 0 (zeros connections) 0 (lot (zeros (spanOf Waiting)) 0 0) (lot (zeros (spanOf Started)) 0 0) (zeros lateSize)
     (length-replicate {A = ℕ} words 0) refl refl (part-zeros firstLink connections words (omega arith)) refl
     (a-lot (part-zeros (fromOf Waiting) (spanOf Waiting) words (omega arith)) refl refl)
     (a-lot (part-zeros (fromOf Started) (spanOf Started) words (omega arith)) refl refl)
-    (all-replicate {A = ℕ} IsLink connections 0 (omega arith)) (omega arith) w k in
-    with-counts [] (shown-as s (λ i. record { clock = 0; primary = 0; links = replicate connections Closed; queue = record { waiting = cleared-none (spanOf Waiting) i; started = cleared-none (spanOf Started) i }; ringEnd = 0 }))
+    (part-zeros firstPast lateSize words (omega arith))
+    (all-replicate {A = ℕ} IsLink connections 0 (omega arith)) (omega arith) w k (omega arith) in
+    with-counts [] (shown-as s (λ i. record { clock = 0; primary = 0; links = replicate connections Closed; queue = record { waiting = cleared-none (spanOf Waiting) i; started = cleared-none (spanOf Started) i; lately = none-late i }; ringEnd = 0 }))
     refl tt (part-zeros firstCount connections words (omega arith))
 
 -- ## What is shown determines every word and byte
@@ -598,16 +714,18 @@ placed v m = part (fromOf v) (spanOf v) m
 
 -- the words are their parts
 parts : (m : List ℕ) → length m ≡ words →
-    m ≡ getD m clockWord 0 ∷ getD m (slotOf Waiting) 0 ∷ getD m (slotOf Started) 0 ∷ getD m ringWord 0 ∷ getD m primaryWord 0 ∷ (countsOf m ++ (linksOf m ++ (placed Waiting m ++ placed Started m)))
+    m ≡ getD m clockWord 0 ∷ getD m (slotOf Waiting) 0 ∷ getD m (slotOf Started) 0 ∷ getD m ringWord 0 ∷ getD m primaryWord 0 ∷ (countsOf m ++ (linksOf m ++ (placed Waiting m ++ (placed Started m ++ lateOf m))))
 parts m w =
     let s = fromOf Started in
-    let tail : drop s m ≡ placed Started m = sym (take-all (spanOf Started) (drop s m) (omega (arith, w, length-drop s m))) in
-    let rest : drop (fromOf Waiting) m ≡ placed Waiting m ++ placed Started m =
+    let late : drop firstPast m ≡ lateOf m = sym (take-all lateSize (drop firstPast m) (omega (arith, w, length-drop firstPast m))) in
+    let tail : drop s m ≡ placed Started m ++ lateOf m =
+    sym (take-append-drop (spanOf Started) (drop s m)) ∙ ap (λ (z : List ℕ). placed Started m ++ z) (drop-drop (spanOf Started) s m ∙ late) in
+    let rest : drop (fromOf Waiting) m ≡ placed Waiting m ++ (placed Started m ++ lateOf m) =
     sym (take-append-drop (spanOf Waiting) (drop (fromOf Waiting) m))
     ∙ ap (λ (z : List ℕ). placed Waiting m ++ z) (drop-drop (spanOf Waiting) (fromOf Waiting) m ∙ tail) in
-    let links : drop firstLink m ≡ linksOf m ++ (placed Waiting m ++ placed Started m) =
+    let links : drop firstLink m ≡ linksOf m ++ (placed Waiting m ++ (placed Started m ++ lateOf m)) =
     sym (take-append-drop connections (drop firstLink m)) ∙ ap (λ (z : List ℕ). linksOf m ++ z) (drop-drop connections firstLink m ∙ rest) in
-    let counts : drop firstCount m ≡ countsOf m ++ (linksOf m ++ (placed Waiting m ++ placed Started m)) =
+    let counts : drop firstCount m ≡ countsOf m ++ (linksOf m ++ (placed Waiting m ++ (placed Started m ++ lateOf m))) =
     sym (take-append-drop connections (drop firstCount m)) ∙ ap (λ (z : List ℕ). countsOf m ++ z) (drop-drop connections firstCount m ∙ links) in
     drop-cons m 0 0 (omega arith)
     ∙ ap (λ (z : List ℕ). getD m 0 0 ∷ z) (drop-cons m 1 0 (omega arith))
@@ -641,9 +759,10 @@ same-words m n f g e =
     let ring : getD m ringWord 0 ≡ getD n ringWord 0 = ap (λ (s : Memory). s .ringEnd) e in
     let waiting = lot-same Waiting m n f g ring (ap (λ (s : Memory). s .queue .waiting) e) in
     let started = lot-same Started m n f g refl (ap (λ (s : Memory). s .queue .started) e) in
+    let late : lateOf m ≡ lateOf n = late-same (lateOf m) (lateOf n) (late-long m (f .whole)) (late-long n (g .whole)) (ap (λ (s : Memory). s .queue .lately) e) in
     let counts : countsOf m ≡ countsOf n = f .counts ∙ ap (λ (s : Memory). tallied (s .queue .waiting)) e ∙ sym (g .counts) in
     parts m (f .whole)
-    ∙ (λ i. clock i ∷ waiting .1 i ∷ started .1 i ∷ ring i ∷ primary i ∷ (counts i ++ (links i ++ (waiting .0 i ++ started .0 i))))
+    ∙ (λ i. clock i ∷ waiting .1 i ∷ started .1 i ∷ ring i ∷ primary i ∷ (counts i ++ (links i ++ (waiting .0 i ++ (started .0 i ++ late i)))))
     ∙ sym (parts n (g .whole))
 
 pub same-bytes : (b c : List ℕ) → Stored b → Stored c → nameOf b ≡ nameOf c → b ≡ c

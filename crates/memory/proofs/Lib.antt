@@ -1,3 +1,4 @@
+pub mod Late
 pub mod Laws
 pub mod Names
 pub mod Packed

@@ -9,14 +9,15 @@ use lib.Seq.{take-at, drop-at, take-all, drop-drop}
 use Rattle.rules.specs.declared.Session.{Session}
 use Rattle.rules.specs.declared.Link.{Link}
 use Rattle.rules.specs.Lists.{All}
-use Rattle.rules.specs.State.{empty}
+use Rattle.rules.specs.State.{Lately, empty, mostKept}
 use Rattle.rules.specs.Sound.{Each}
 use Rattle.rules.proofs.All.{all-append, all-take, all-drop, all-replicate}
 use Rattle.places.specs.Places.{width, capacity, wordsOf, rows, places, turned, lot, used, Good}
 use Rattle.places.proofs.Ring.{length-turned}
 use Rattle.places.proofs.Words.{words-back}
 use Rattle.memory.specs.declared.Which.the-variants.{Waiting, Started}
-use Rattle.memory.specs.Memory.{connections, placesOf, fromOf, words, wordOf, linkIn, IsLink, Memory, OfFour, tallied, Now}
+use Rattle.memory.specs.Memory.{connections, placesOf, fromOf, words, wordOf, linkIn, IsLink, Memory, OfFour, tallied, Now, firstPast, lateSize}
+use Rattle.memory.proofs.Late.{flatPast, length-flatPast, lateWords, late-stands}
 use Rattle.memory.proofs.Laws.{link-word, is-link, shown-as, shows, with-counts, a-lot}
 
 -- ## A list of sessions
@@ -41,7 +42,7 @@ length-flat (x ∷ l) = omega (arith, length-flat l)
 
 -- its words give it back
 abbrev pub Flagged : Session → Type 0
-Flagged x = x .overrides ≤ 1
+Flagged x = (x .overrides ≤ 1) × (x .mux < 128)
 
 rows-flat : (l : List Session) → All Flagged l → rows (length l) (flat l) ≡ l
 unfolding rows flat
@@ -71,7 +72,7 @@ module _ (n e : ℕ) (u : List Session) (h : length u ≤ n) (r : e ≤ n) (a : 
   flagged : All Flagged (turned (n - e) (filled n u))
   unfolding turned empty
   flagged =
-      let b = all-append Flagged (replicate (n - length u) empty) u (all-replicate Flagged (n - length u) empty (omega arith)) a in
+      let b = all-append Flagged (replicate (n - length u) empty) u (all-replicate Flagged (n - length u) empty (omega arith, omega arith)) a in
       all-append Flagged (drop (n - e) (filled n u)) (take (n - e) (filled n u)) (all-drop Flagged (n - e) (filled n u) b) (all-take Flagged (n - e) (filled n u) b)
 
   items : turned e (places (packed n e u)) ≡ filled n u
@@ -106,11 +107,11 @@ words-links (x ∷ l) = (is-link x, words-links l)
 pub stood : Memory → List ℕ
 stood s =
     s .clock ∷ length (s .queue .waiting) ∷ length (s .queue .started) ∷ s .ringEnd ∷ s .primary ∷
-    (tallied (s .queue .waiting) ++ (map wordOf (s .links) ++ (packed (placesOf Waiting) (s .ringEnd) (s .queue .waiting) ++ packed (placesOf Started) 0 (s .queue .started))))
+    (tallied (s .queue .waiting) ++ (map wordOf (s .links) ++ (packed (placesOf Waiting) (s .ringEnd) (s .queue .waiting) ++ (packed (placesOf Started) 0 (s .queue .started) ++ lateWords (s .queue .lately)))))
 
 module _ (s : Memory) (four : length (s .links) ≡ connections) (few : length (s .queue .waiting) ≤ placesOf Waiting)
     (less : length (s .queue .started) ≤ placesOf Started) (ofFour : All OfFour (s .queue .waiting)) (ring : s .ringEnd < placesOf Waiting)
-    (flags : Each Flagged (s .queue)) where
+    (flags : Each Flagged (s .queue)) (sixteen : length (s .queue .lately .places) ≡ mostKept) (next : s .queue .lately .next < mostKept) where
   abbrev l : List ℕ
   l = map wordOf (s .links)
 
@@ -129,30 +130,44 @@ module _ (s : Memory) (four : length (s .links) ≡ connections) (few : length (
   long-k : length k ≡ placesOf Started * width
   long-k = length-packed (placesOf Started) 0 (s .queue .started) less (omega arith) (flags .started)
 
-  behind-l : drop (fromOf Waiting) (stood s) ≡ w ++ k
-  unfolding stood tallied
-  behind-l = drop-at l (w ++ k) connections long-l
+  abbrev y : List ℕ
+  y = lateWords (s .queue .lately)
 
-  behind-w : drop (fromOf Started) (stood s) ≡ k
+  long-y : length y ≡ lateSize
+  long-y = omega (arith, length-append (flatPast (s .queue .lately .places)) (s .queue .lately .next ∷ []), length-flatPast (s .queue .lately .places))
+
+  behind-l : drop (fromOf Waiting) (stood s) ≡ w ++ (k ++ y)
+  unfolding stood tallied
+  behind-l = drop-at l (w ++ (k ++ y)) connections long-l
+
+  behind-w : drop (fromOf Started) (stood s) ≡ k ++ y
   behind-w =
       sym (drop-drop (placesOf Waiting * width) (fromOf Waiting) (stood s))
       ∙ ap (drop (placesOf Waiting * width)) behind-l
-      ∙ drop-at w k (placesOf Waiting * width) long-w
+      ∙ drop-at w (k ++ y) (placesOf Waiting * width) long-w
+
+  behind-k : drop firstPast (stood s) ≡ y
+  behind-k =
+      sym (drop-drop (placesOf Started * width) (fromOf Started) (stood s))
+      ∙ ap (drop (placesOf Started * width)) behind-w
+      ∙ drop-at k y (placesOf Started * width) long-k
 
   long : length (stood s) ≡ words
   unfolding stood tallied
-  long = omega (arith, length-append l (w ++ k), length-append w k, long-l, long-w, long-k)
+  long = omega (arith, length-append l (w ++ (k ++ y)), length-append w (k ++ y), length-append k y, long-l, long-w, long-k, long-y)
 
   pub stood-now : Now (stood s) s
   unfolding stood tallied
   stood-now =
       let n = length (s .queue .waiting) in
       let j = length (s .queue .started) in
-      let x = shows (stood s) (s .clock) (s .primary) l (s .ringEnd) (lot w (s .ringEnd) n) (lot k 0 j) long refl refl (take-at l (w ++ k) connections long-l) refl
-      (a-lot (ap (take (placesOf Waiting * width)) behind-l ∙ take-at w k (placesOf Waiting * width) long-w) refl refl)
-      (a-lot (ap (take (placesOf Started * width)) behind-w ∙ take-all (placesOf Started * width) k (omega (arith, long-k))) refl refl)
+      let x = shows (stood s) (s .clock) (s .primary) l (s .ringEnd) (lot w (s .ringEnd) n) (lot k 0 j) y long refl refl (take-at l (w ++ (k ++ y)) connections long-l) refl
+      (a-lot (ap (take (placesOf Waiting * width)) behind-l ∙ take-at w (k ++ y) (placesOf Waiting * width) long-w) refl refl)
+      (a-lot (ap (take (placesOf Started * width)) behind-w ∙ take-at k y (placesOf Started * width) long-k) refl refl)
+      (ap (take lateSize) behind-k ∙ take-all lateSize y (omega (arith, long-y)))
       (words-links (s .links)) ring (packed-good (placesOf Waiting) (s .ringEnd) (s .queue .waiting) few (omega arith) (flags .waiting))
-      (packed-good (placesOf Started) 0 (s .queue .started) less (omega arith) (flags .started)) in
+      (packed-good (placesOf Started) 0 (s .queue .started) less (omega arith) (flags .started))
+      (omega (arith, ap (λ (l : Lately). l .next) (late-stands (s .queue .lately) sixteen))) in
       with-counts (s .queue .waiting) (shown-as x
       (λ i. record {
         clock = s .clock;
@@ -161,6 +176,7 @@ module _ (s : Memory) (four : length (s .links) ≡ connections) (few : length (
         queue = record {
           waiting = packed-used (placesOf Waiting) (s .ringEnd) (s .queue .waiting) few (omega arith) (flags .waiting) i;
           started = packed-used (placesOf Started) 0 (s .queue .started) less (omega arith) (flags .started) i;
+          lately = late-stands (s .queue .lately) sixteen i;
         };
         ringEnd = s .ringEnd;
       })) refl ofFour refl

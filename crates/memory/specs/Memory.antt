@@ -2,22 +2,23 @@
 use mathlib.Core.Path.{_≡_}
 use mathlib.Core.Bool.{Bool, cond}
 use mathlib.Core.List.{List, [], _∷_, map}
-use Prim.Native.Nat.{ℕ, _+_, _-_, _*_, _≤_, _<_}
+use Prim.Native.Nat.{ℕ, zero, suc, _+_, _-_, _*_, _≤_, _<_}
 use lib.Dec.{eqb}
-use lib.ListN.{length, set, getD, replicate}
+use lib.ListN.{length, drop, set, getD, replicate}
 use Rattle.rules.specs.declared.Session.{Session}
+use Rattle.rules.specs.declared.Past.{Past}
 use Rattle.rules.specs.declared.Link.{Link}
 use Rattle.rules.specs.declared.Link.the-variants.{Closed, Opened, Initialised}
 use Rattle.rules.specs.Lists.{All}
 use Rattle.rules.specs.Bytes.{part, nameIn, padded}
 use Rattle.rules.specs.Answers.{waits}
-use Rattle.rules.specs.State.{Queue, Splicer, withWaiting, withStarted}
+use Rattle.rules.specs.State.{Lately, Queue, Splicer, withWaiting, withStarted, withLately, mostKept, remembered, noneHeld}
 use Rattle.places.specs.Places.{Narrow, Lot, lot, Good, used, width, places, turned, round, next}
 use Rattle.memory.specs.declared.Which.{Which}
 use Rattle.memory.specs.declared.Which.the-variants.{Waiting, Started}
 
 -- ## Where what stands in the words: the clock, how many wait, how many have started, where the ring of those that wait ends, the primary
--- sum, how many of those that wait are each connection's, a word for each connection, the places
+-- sum, how many of those that wait are each connection's, a word for each connection, the places, what ended lately
 
 abbrev pub clockWord : ℕ
 clockWord = 0
@@ -64,8 +65,24 @@ toOf Started = fromOf Started + placesOf Started * width
 abbrev pub spanOf : Which → ℕ
 spanOf v = toOf v - fromOf v
 
+-- 02, CR 8: behind the places, sixteen times the words of one that ended, and then which of the sixteen is written next
+abbrev pub pastWidth : ℕ
+pastWidth = 5
+
+abbrev pub firstPast : ℕ
+firstPast = toOf Started
+
+abbrev pub pastWords : ℕ
+pastWords = mostKept * pastWidth
+
+abbrev pub nextWord : ℕ
+nextWord = firstPast + pastWords
+
+abbrev pub lateSize : ℕ
+lateSize = pastWords + 1
+
 abbrev pub words : ℕ
-words = toOf Started
+words = firstPast + lateSize
 
 -- a connection's word
 abbrev pub wordOf : Link → ℕ
@@ -100,6 +117,26 @@ lotOf v m = lot (part (fromOf v) (spanOf v) m) (ringOf v m) (getD m (slotOf v) 0
 abbrev pub placesFrom : ℕ → List ℕ → List Session
 placesFrom e m = turned e (places (part (fromOf Waiting) (spanOf Waiting) m))
 
+-- ## 02, CR 8: what ended lately
+
+abbrev pub lateOf : List ℕ → List ℕ
+lateOf m = part firstPast lateSize m
+
+-- the one whose word k is f k
+abbrev pub pastOf : (ℕ → ℕ) → Past
+pastOf f = record { conn = f 0; id = f 1; event = f 2; result = f 3; played = f 4 }
+
+-- n of them, one behind the other
+unfoldable pub pasts : ℕ → List ℕ → List Past
+pasts zero q = []
+pasts (suc n) q = pastOf (λ k. getD q k 0) ∷ pasts n (drop pastWidth q)
+
+abbrev pub nextIn : List ℕ → ℕ
+nextIn q = getD q pastWords 0
+
+abbrev pub latelyIn : List ℕ → Lately
+latelyIn q = record { places = pasts mostKept q; next = nextIn q }
+
 -- ## What the words show
 
 pub record Memory : Type 0 where
@@ -118,7 +155,7 @@ see m =
       clock = getD m clockWord 0;
       primary = getD m primaryWord 0;
       links = map linkIn (linksOf m);
-      queue = record { waiting = sessions Waiting m; started = sessions Started m };
+      queue = record { waiting = sessions Waiting m; started = sessions Started m; lately = latelyIn (lateOf m) };
       ringEnd = ringOf Waiting m;
     }
 
@@ -142,6 +179,7 @@ pub record Form (m : List ℕ) : Type 0 where
   pub started : Good (lotOf Started m)
   pub ring : ringOf Waiting m < placesOf Waiting
   pub links : All IsLink (linksOf m)
+  pub late : nextIn (lateOf m) < mostKept
   pub ofFour : All OfFour (sessions Waiting m)
   pub counts : countsOf m ≡ tallied (sessions Waiting m)
 
@@ -184,10 +222,14 @@ abbrev pub onward : Bool → Memory → Memory
 onward a s =
     record { clock = s .clock; primary = s .primary; links = s .links; queue = s .queue; ringEnd = shifted a (s .ringEnd) }
 
--- clock 0 and no time before it, all connections closed, no session, the ring at its place 0
+-- one more has ended
+abbrev pub recalling : Past → Memory → Memory
+recalling e s = queued (withLately (remembered e (s .queue .lately)) (s .queue)) s
+
+-- clock 0 and no time before it, all connections closed, no session, none that ended, the ring at its place 0
 abbrev pub nothingShown : Memory
 nothingShown =
-    record { clock = 0; primary = 0; links = replicate connections Closed; queue = record { waiting = []; started = [] }; ringEnd = 0 }
+    record { clock = 0; primary = 0; links = replicate connections Closed; queue = noneHeld; ringEnd = 0 }
 
 -- ## The bytes: the ChannelName, with zeros behind its end
 

@@ -1,10 +1,12 @@
 // A splicer in two pieces that the caller lends. Its words: the clock, how many wait, how many have started, where the ring of those that
 // wait ends, the primary sum, how many of those that wait are each connection's, a word for each connection, the places of those that wait
-// and of those that have started. Its bytes: the ChannelName with zeros behind its end. Only this crate knows where what stands.
+// and of those that have started, what ended lately. Its bytes: the ChannelName with zeros behind its end. Only this crate knows where what
+// stands.
 use places::Key;
 use places::WIDTH;
 use rules::Link;
 use rules::Ninths;
+use rules::Past;
 use rules::Session;
 use rules::When;
 ghost use mathlib.Core.Path.{_≡_};
@@ -16,12 +18,12 @@ ghost use lib.Seq.{paste};
 ghost use Rattle.rules.specs.declared.Link.the-variants.{Closed};
 ghost use Rattle.rules.specs.Bytes.{nameIn};
 ghost use Rattle.rules.specs.Lists.{omit, place, insertAt, removeAt};
-ghost use Rattle.rules.specs.State.{empty, of, Sorted, earliest};
+ghost use Rattle.rules.specs.State.{empty, of, Sorted, earliest, mostKept, recentAt};
 ghost use Rattle.rules.specs.Instants.{onAir};
 ghost use Rattle.places.specs.Places.{Narrow, keyTest, startsFrom, round};
 ghost use Rattle.memory.specs.declared.Which.the-variants.{Waiting, Started};
 ghost use Rattle.memory.specs.Memory.{slotOf, ringOf, firstLink, fromOf, toOf, words, placesOf, wordOf, linkIn};
-ghost use Rattle.memory.specs.Memory.{sessions, see, Form, Now, timed, silenced, linked, relisted, onward, nothingShown, Storable, tallied};
+ghost use Rattle.memory.specs.Memory.{sessions, see, Form, Now, timed, silenced, linked, relisted, recalling, onward, nothingShown, Storable, tallied};
 ghost use Rattle.memory.specs.Memory.{nameBytes, Stored, Named};
 
 // Where what stands in the words.
@@ -49,7 +51,16 @@ const WAITING_FROM: usize = LINKS + CONNECTIONS;
 
 const STARTED_FROM: usize = WAITING_FROM + WAITING_PLACES * WIDTH;
 
-pub const WORDS: usize = STARTED_FROM + STARTED_PLACES * WIDTH;
+// What ended lately: the words of each, and behind the last the place that is written next.
+const PASTS: usize = STARTED_FROM + STARTED_PLACES * WIDTH;
+
+const PAST_WIDTH: usize = 5;
+
+const KEPT: usize = 16;
+
+const NEXT: usize = PASTS + KEPT * PAST_WIDTH;
+
+pub const WORDS: usize = NEXT + 1;
 
 // A connection's word.
 const CLOSED: u64 = 0;
@@ -98,7 +109,7 @@ fn to(which: Which) -> usize
 {
     match which {
         Which::Waiting => STARTED_FROM,
-        Which::Started => WORDS,
+        Which::Started => PASTS,
     }
 }
 
@@ -170,7 +181,7 @@ pub fn mux_at(m: &[u64], at: usize) -> u64
     ensures { λ r. ⌜ r ≡ getD (sessions Started (now (m .entry))) at empty .mux ⌝ }
 {
     let n = count(m, Which::Started);
-    places::mux_at(&m[STARTED_FROM..WORDS], n, at)
+    places::mux_at(&m[STARTED_FROM..PASTS], n, at)
 }
 
 // The end of the started session `at`.
@@ -180,7 +191,7 @@ pub fn end_at(m: &[u64], at: usize) -> Ninths
     ensures { λ r. ⌜ r ≡ getD (sessions Started (now (m .entry))) at empty .end ⌝ }
 {
     let n = count(m, Which::Started);
-    places::end_at(&m[STARTED_FROM..WORDS], n, at)
+    places::end_at(&m[STARTED_FROM..PASTS], n, at)
 }
 
 // The place of the first that the key looks for, or how many there are.
@@ -212,7 +223,7 @@ pub fn least_end(m: &[u64]) -> When
     if n == 0 {
         return When::Never;
     }
-    let q = &m[STARTED_FROM..WORDS];
+    let q = &m[STARTED_FROM..PASTS];
     let i = places::least_end(q, n);
     When::At(places::end_at(q, n, i))
 }
@@ -239,7 +250,7 @@ pub fn play(m: &mut [u64], d: u64)
     ensures { λ _. ⌜ Now (now (m .exit)) (relisted Started (onAir d (sessions Started (now (m .entry)))) (see (now (m .entry)))) ⌝ }
 {
     let n = count(&*m, Which::Started);
-    places::play(&mut m[STARTED_FROM..WORDS], n, d)
+    places::play(&mut m[STARTED_FROM..PASTS], n, d)
 }
 
 // The place of the first of the waiting that starts at t or later, or how many there are; they stand in order of start.
@@ -280,7 +291,7 @@ pub fn push(m: &mut [u64], x: Session)
     ensures { λ _. ⌜ Now (now (m .exit)) (relisted Started (x ∷ sessions Started (now (m .entry))) (see (now (m .entry)))) ⌝ }
 {
     let n = count(&*m, Which::Started);
-    places::push(&mut m[STARTED_FROM..WORDS], n, x);
+    places::push(&mut m[STARTED_FROM..PASTS], n, x);
     m[STARTED] = (n + 1) as u64;
 }
 
@@ -358,6 +369,47 @@ pub fn silence(m: &mut [u64], d: u64)
     m[PRIMARY] += d;
 }
 
+// 02, CR 8: the place of the next that ends.
+fn next_past(m: &[u64]) -> usize
+    requires { ⌜ Form (now m) ⌝ }
+    ensures { λ r. ⌜ r ≡ see (now (m .entry)) .queue .lately .next ⌝ }
+    ensures within { λ r. ⌜ r < mostKept ⌝ }
+{
+    m[NEXT] as usize
+}
+
+// One more has ended. It takes the place of the oldest, and nothing moves.
+pub fn remember(m: &mut [u64], x: Past)
+    requires { ⌜ Form (now m) ⌝ }
+    ensures { λ _. ⌜ Now (now (m .exit)) (recalling x (see (now (m .entry)))) ⌝ }
+{
+    let next = next_past(&*m);
+    let b = PASTS + next * PAST_WIDTH;
+    m[b] = x.conn;
+    m[b + 1] = x.id;
+    m[b + 2] = x.event;
+    m[b + 3] = x.result;
+    m[b + 4] = x.played;
+    m[NEXT] = ((next + 1) % KEPT) as u64;
+}
+
+// The one that ended i ends before the newest, or nothing where fewer have ended.
+pub fn recent_at(m: &[u64], i: usize) -> Past
+    requires { ⌜ Form (now m) ⌝ }
+    requires { ⌜ i < mostKept ⌝ }
+    ensures { λ r. ⌜ r ≡ recentAt i (see (now (m .entry)) .queue .lately) ⌝ }
+{
+    let next = next_past(m);
+    let b = PASTS + (next + (KEPT - 1 - i)) % KEPT * PAST_WIDTH;
+    Past {
+        conn: m[b],
+        id: m[b + 1],
+        event: m[b + 2],
+        result: m[b + 3],
+        played: m[b + 4],
+    }
+}
+
 // What a word says of its connection.
 fn link_in(n: u64) -> Link
     ensures { λ r. ⌜ r ≡ linkIn n ⌝ }
@@ -402,7 +454,7 @@ pub fn set_link(m: &mut [u64], c: u32, l: Link)
     m[at] = word_of(l);
 }
 
-// Clock 0 and no time before it, all connections closed, no session, the ring at its place 0.
+// Clock 0 and no time before it, all connections closed, no session, none that ended, the ring at its place 0.
 pub fn clear(m: &mut [u64; WORDS])
     ensures { λ _. ⌜ Now (now (m .exit)) nothingShown ⌝ }
 {
