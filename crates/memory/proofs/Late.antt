@@ -196,7 +196,7 @@ module _ (q : List ℕ) (e : Past) (h : length q ≡ lateSize) (k : nextIn q < m
 
   -- the words of the place i
   at-place : (i : ℕ) → i < mostKept → pastAt lateAfter i ≡ pastAt (written5 q b e) i
-  at-place i l = five-same (λ n. getD lateAfter (i * pastWidth + n) 0) (λ n. getD (written5 q b e) (i * pastWidth + n) 0) (λ n m. getD-set-other _ pastWords (i * pastWidth + n) _ 0 (λ z. omega (arith, z)))
+  at-place i l = five-same (λ n. getD lateAfter (i * pastWidth + n) 0) (λ n. getD (written5 q b e) (i * pastWidth + n) 0) (λ n m. getD-set-other (written5 q b e) pastWords (i * pastWidth + n) ((nextIn q + 1) % mostKept) 0 (λ z. omega (arith, z)))
 
   places-after : pasts mostKept lateAfter ≡ set (pasts mostKept q) (nextIn q) e
   places-after =
@@ -218,7 +218,7 @@ module _ (q : List ℕ) (e : Past) (h : length q ≡ lateSize) (k : nextIn q < m
 
   pub late-after : latelyIn lateAfter ≡ remembered e (latelyIn q)
   unfolding remembered
-  late-after = λ i. record { places = places-after i; next = getD-set-same _ pastWords ((nextIn q + 1) % mostKept) 0 (omega (arith, long)) i }
+  late-after = λ i. record { places = places-after i; next = getD-set-same (written5 q b e) pastWords ((nextIn q + 1) % mostKept) 0 (omega (arith, long)) i }
 
 -- all words are zeros
 pub none-late : latelyIn (zeros lateSize) ≡ noneEnded
