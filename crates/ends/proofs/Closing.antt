@@ -9,21 +9,23 @@ use native.Mathlib.Numerals.{add-one}
 use lib.ListN.{length, take, drop, getD, drop-of-length-le}
 use lib.Seq.{take-suc, take-all, take-at, drop-at, drop-cons, length-take-le, append-snoc}
 use Rattle.rules.specs.declared.Session.{Session}
+use Rattle.rules.specs.declared.Past.{Past}
 use Rattle.rules.specs.declared.Ending.{Ending}
 use Rattle.rules.specs.declared.Ninths.{Ninths}
 use Rattle.rules.specs.declared.Ending.the-variants.{Complete, Response}
 use Rattle.rules.specs.Lists.{All, bit, put, keep, omit, removeAt}
-use Rattle.rules.specs.State.{empty, of, endsAt, withStarted}
+use Rattle.rules.specs.State.{Lately, Queue, empty, of, endsAt, withStarted, withLately, rememberedAll}
 use Rattle.rules.specs.Records.{Record, output}
-use Rattle.rules.specs.Ends.{ended, endings}
+use Rattle.rules.specs.Ends.{ended, past, ending, oneEnd, endings}
 use Rattle.rules.specs.Instants.{endAt}
 use Rattle.rules.proofs.Count.{length-put, length-split, endings-map}
 use Rattle.rules.proofs.Every.{fewer-all, fewer-removeAt}
 use Rattle.rules.proofs.Size.{weight-none}
 use Rattle.rules.proofs.Written.{length-written}
+use Rattle.rules.proofs.Lately.{remembered-append}
 use Rattle.memory.specs.declared.Which.{Which}
 use Rattle.memory.specs.declared.Which.the-variants.{Waiting, Started}
-use Rattle.memory.specs.Memory.{Memory, see, sessions, queued, relisted, Form, Now}
+use Rattle.memory.specs.Memory.{Memory, see, sessions, listOf, listed, queued, relisted, Form, Now}
 use Rattle.memory.proofs.Laws.{sessions-list}
 use Rattle.ends.specs.Does.{Playable, roomFor, Tells, Turns, Does, oneEnded, theirsEnded}
 use Rattle.ends.proofs.Laws.{tells-none, tells-then, brief}
@@ -31,12 +33,12 @@ use Rattle.ends.proofs.Laws.{tells-none, tells-then, brief}
 -- ## The records
 
 -- those behind the first end all alike
-endings-next : (h cover : Ending) (p : Session → Bool) (x : Session) (l : List Session) →
-    endings h cover p (x ∷ l) ≡ put (p x) (ended h x) [] ++ endings cover cover p l
+endings-next : {A : Type 0} (f : Ending → Session → A) (h cover : Ending) (p : Session → Bool) (x : Session) (l : List Session) →
+    endings h cover p (x ∷ l) A f ≡ put (p x) (f h x) [] ++ endings cover cover p l A f
 unfolding endings
-endings-next h cover p x l = rw (endings-map cover p l) (go (p x))
+endings-next f h cover p x l = rw (endings-map f cover p l) (go (p x))
   where
-    go : (b : Bool) → put b (ended h x) (map (ended cover) (keep p l)) ≡ put b (ended h x) [] ++ map (ended cover) (keep p l)
+    go : (b : Bool) → put b (f h x) (map (f cover) (keep p l)) ≡ put b (f h x) [] ++ map (f cover) (keep p l)
     go true = refl
     go false = refl
 
@@ -49,31 +51,37 @@ put-brief false h x = omega (arith, weight-none)
 next : (l : List Session) (i : ℕ) → i < length l → drop i l ≡ getD l i empty ∷ drop (i + 1) l
 next l i h = rw (add-one i) (drop-cons l i empty h)
 
--- of the sessions l and the buffer e, written up to len: those before `rest` are passed, and h is for the next end
+-- of the sessions l, the buffer e, written up to len, and what ended before: those before `rest` are passed, and h is for the next end
 pub record Closing (p : Session → Bool) (air cover : Ending) (l rest : List Session) (e : List ℕ) (len : ℕ) (h : Ending) (to : ℕ)
-    (o : List ℕ) : Type 0 where
+    (o : List ℕ) (was now : Lately) : Type 0 where
   pub room : to + roomFor (length rest) ≤ length e
   pub long : length o ≡ length e
   pub sofar : List Record
   pub tells : Tells e len sofar to o
-  pub ends : endings air cover p l ≡ sofar ++ endings h cover p rest
+  pub ends : endings air cover p l Record ended ≡ sofar ++ endings h cover p rest Record ended
+  pub gone : List Past
+  pub kept : now ≡ rememberedAll gone was
+  pub pasts : endings air cover p l Past past ≡ gone ++ endings h cover p rest Past past
 
-module _ {p : Session → Bool} {air cover : Ending} {l : List Session} {e : List ℕ} {len : ℕ} where
-  pub closing-none : len + roomFor (length l) ≤ length e → Closing p air cover l l e len air len e
-  closing-none h = record { room = h; long = refl; sofar = []; tells = tells-none; ends = refl }
+module _ {p : Session → Bool} {air cover : Ending} {l : List Session} {e : List ℕ} {len : ℕ} {was : Lately} where
+  pub closing-none : len + roomFor (length l) ≤ length e → Closing p air cover l l e len air len e was was
+  unfolding rememberedAll
+  closing-none h = record { room = h; long = refl; sofar = []; tells = tells-none; ends = refl; gone = []; kept = refl; pasts = refl }
 
   -- the rest is what stands from the place i of k
-  module _ (k : List Session) (i : ℕ) {h : Ending} {to : ℕ} {o : List ℕ} (v : Closing p air cover l (drop i k) e len h to o) where
+  module _ (k : List Session) (i : ℕ) {h : Ending} {to : ℕ} {o : List ℕ} {now : Lately} (v : Closing p air cover l (drop i k) e len h to o was now) where
     -- the next end fits
     pub closing-room : i < length k → to + roomFor 1 ≤ length o
     closing-room b = omega (arith, v .room, v .long, ap length (drop-cons k i empty b))
 
     -- the next ends or stays
-    pub closing-next : {to′ : ℕ} {o′ : List ℕ} → i < length k →
+    pub closing-next : {to′ : ℕ} {o′ : List ℕ} {now′ : Lately} → i < length k →
         let x = getD k i empty in
-        Tells o to (put (p x) (ended h x) []) to′ o′ → Closing p air cover l (drop (i + 1) k) e len cover to′ o′
-    closing-next b t =
+        Tells o to (put (p x) (ended h x) []) to′ o′ → now′ ≡ rememberedAll (put (p x) (past h x) []) now →
+        Closing p air cover l (drop (i + 1) k) e len cover to′ o′ was now′
+    closing-next b t y =
         let x = getD k i empty in
+        let gone = put (p x) (past h x) [] in
         let one = put (p x) (ended h x) [] in
         let rest = drop (i + 1) k in
         let f : length (output one) ≤ roomFor 1 = put-brief (p x) h x in
@@ -85,16 +93,28 @@ module _ {p : Session → Bool} {air cover : Ending} {l : List Session} {e : Lis
           tells = tells-then (omega (arith, v .room, v .tells .count)) (v .tells) t;
           ends =
               v .ends
-              ∙ ap (λ (y : List Record). v .sofar ++ y) (ap (endings h cover p) (next k i b) ∙ endings-next h cover p x rest)
-              ∙ sym (append-assoc (v .sofar) one (endings cover cover p rest));
+              ∙ ap (λ (y : List Record). v .sofar ++ y) (ap (λ (s : List Session). endings h cover p s Record ended) (next k i b) ∙ endings-next ended h cover p x rest)
+              ∙ sym (append-assoc (v .sofar) one (endings cover cover p rest Record ended));
+          gone = v .gone ++ gone;
+          kept = y ∙ ap (rememberedAll gone) (v .kept) ∙ sym (remembered-append (v .gone) gone was);
+          pasts =
+              v .pasts
+              ∙ ap (λ (z : List Past). v .gone ++ z) (ap (λ (s : List Session). endings h cover p s Past past) (next k i b) ∙ endings-next past h cover p x rest)
+              ∙ sym (append-assoc (v .gone) gone (endings cover cover p rest Past past));
         }
 
     -- all are passed
-    pub closing-done : length k ≤ i → Tells e len (endings air cover p l) to o
+    pub closing-done : length k ≤ i → Tells e len (endings air cover p l Record ended) to o
     unfolding endings
     closing-done b =
-        let r : endings air cover p l ≡ v .sofar = v .ends ∙ rw (drop-of-length-le k {i = i} b) (append-nil (v .sofar)) in
+        let r : endings air cover p l Record ended ≡ v .sofar = v .ends ∙ rw (drop-of-length-le k {i = i} b) (append-nil (v .sofar)) in
         subst (λ (y : List Record). Tells e len y to o) (sym r) (v .tells)
+
+    pub closing-kept : length k ≤ i → now ≡ rememberedAll (endings air cover p l Past past) was
+    unfolding endings
+    closing-kept b =
+        let r : endings air cover p l Past past ≡ v .gone = v .pasts ∙ rw (drop-of-length-le k {i = i} b) (append-nil (v .gone)) in
+        v .kept ∙ ap (λ (z : List Past). rememberedAll z was) (sym r)
 
 -- ## A connection's of a list: the loop of `end_theirs`
 
@@ -107,68 +127,114 @@ omit-none p (x ∷ l) h = go (p x) h (omit-none p l)
     go true k f = absurd (omega (arith, k, length-split p l))
     go false k f = ap (λ (r : List Session). x ∷ r) (f (omega (arith, k)))
 
--- a list put where it stands
-relisted-same : (w : Which) (m : List ℕ) → relisted w (sessions w m) (see m) ≡ see m
-relisted-same Waiting m = refl
-relisted-same Started m = refl
+-- what ended is kept beside the lists
+list-late : (w : Which) (l : Lately) (q : Queue) → listOf w (withLately l q) ≡ listOf w q
+list-late Waiting l q = refl
+list-late Started l q = refl
 
--- of the sessions l: the first i are passed, and `left` of them are others'
-pub record Theirs (c : ℕ) (l : List Session) (e : List ℕ) (len i to left : ℕ) (o : List ℕ) : Type 0 where
-  pub writes : Closing (of c) (Response 116) (Response 116) l (drop i l) e len (Response 116) to o
+listed-late : (w : Which) (u : List Session) (l : Lately) (q : Queue) → listed w u (withLately l q) ≡ withLately l (listed w u q)
+listed-late Waiting u l q = refl
+listed-late Started u l q = refl
+
+listed-same : (w : Which) (q : Queue) → listed w (listOf w q) q ≡ q
+listed-same Waiting q = refl
+listed-same Started q = refl
+
+-- of what the words showed at first: the words m show all as it was but for what ended; of the list the first i are passed, and `left` of
+-- them are others'
+pub record Theirs (c : ℕ) (w : Which) (s : Memory) (e : List ℕ) (len : ℕ) (m : List ℕ) (i to left : ℕ) (o : List ℕ) : Type 0 where
+  pub form : Form m
+  pub is : see m ≡ queued (withLately (see m .queue .lately) (s .queue)) s
+  pub writes : Closing (of c) (Response 116) (Response 116) (listOf w (s .queue)) (drop i (listOf w (s .queue))) e len (Response 116) to o (s .queue .lately) (see m .queue .lately)
   pub few : left ≤ i
-  pub rest : left + length (omit (of c) (drop i l)) ≡ length (omit (of c) l)
+  pub rest : left + length (omit (of c) (drop i (listOf w (s .queue)))) ≡ length (omit (of c) (listOf w (s .queue)))
 
 module _ {c : ℕ} {e : List ℕ} {len : ℕ} where
-  pub theirs-none : (l : List Session) → len + roomFor (length l) ≤ length e → Theirs c l e len 0 len 0 e
-  theirs-none l h = record { writes = closing-none h; few = omega arith; rest = omega arith }
+  pub theirs-none : (w : Which) (m : List ℕ) → Form m → len + roomFor (length (sessions w m)) ≤ length e → Theirs c w (see m) e len m 0 len 0 e
+  theirs-none w m f h =
+      record { form = f; is = refl; writes = closing-none (omega (arith, ap length (sessions-list w m))); few = omega arith; rest = omega arith }
 
-  module _ (l : List Session) {i to left : ℕ} {o : List ℕ} (v : Theirs c l e len i to left o) where
-    module _ (k : i < length l) where
-      counted : bit (not (of c (getD l i empty))) + length (omit (of c) (drop (i + 1) l)) ≡ length (omit (of c) (drop i l))
+  module _ (w : Which) {s : Memory} {m : List ℕ} {i to left : ℕ} {o : List ℕ} (v : Theirs c w s e len m i to left o) where
+    abbrev list : List Session
+    list = listOf w (s .queue)
+
+    -- the list stands as it stood
+    pub theirs-list : sessions w m ≡ list
+    theirs-list = sessions-list w m ∙ ap (λ (z : Memory). listOf w (z .queue)) (v .is) ∙ list-late w (see m .queue .lately) (s .queue)
+
+    module _ (k : i < length list) where
+      counted : bit (not (of c (getD list i empty))) + length (omit (of c) (drop (i + 1) list)) ≡ length (omit (of c) (drop i list))
       counted =
-          let x = getD l i empty in
-          sym (ap (λ (r : List Session). length (omit (of c) r)) (next l i k) ∙ length-put (not (of c x)) x (omit (of c) (drop (i + 1) l)))
+          let x = getD list i empty in
+          sym (ap (λ (r : List Session). length (omit (of c) r)) (next list i k) ∙ length-put (not (of c x)) x (omit (of c) (drop (i + 1) list)))
 
-      -- it is the connection's
-      pub theirs-goes : {x : Session} {to′ : ℕ} {o′ : List ℕ} → of c (getD l i empty) ≡ true → x ≡ getD l i empty →
-          Tells o to (ended (Response 116) x ∷ []) to′ o′ → Theirs c l e len (i + 1) to′ left o′
-      theirs-goes d q t =
+      -- it is the connection's, and its end is kept and written
+      pub theirs-goes : {x : Session} {to′ : ℕ} {n o′ : List ℕ} → of c (getD list i empty) ≡ true → x ≡ getD list i empty →
+          Does (ending (oneEnd (Response 116) x)) to m o to′ n o′ → Theirs c w s e len n (i + 1) to′ left o′
+      theirs-goes {x} {n = n} d q t =
+          let late : see n .queue .lately ≡ rememberedAll (past (Response 116) x ∷ []) (see m .queue .lately) = ap (λ (z : Memory). z .queue .lately) (t .shows .is) in
           record {
-            writes = closing-next l i (v .writes) k (rw (d, ← q) t);
+            form = t .shows .form;
+            is =
+                t .shows .is
+                ∙ ap (λ (z : Memory). queued (withLately (rememberedAll (past (Response 116) x ∷ []) (see m .queue .lately)) (z .queue)) z) (v .is)
+                ∙ ap (λ (y : Lately). queued (withLately y (s .queue)) s) (sym late);
+            writes = closing-next list i (v .writes) k (rw (d, ← q) (t .tells)) (rw (d, ← q) late);
             few = omega (arith, v .few);
             rest = omega (arith, v .rest, counted, ap (λ (b : Bool). bit (not b)) d);
           }
 
       -- it is another's
-      pub theirs-stays : of c (getD l i empty) ≡ false → Theirs c l e len (i + 1) to (left + 1) o
+      pub theirs-stays : of c (getD list i empty) ≡ false → Theirs c w s e len m (i + 1) to (left + 1) o
+      unfolding rememberedAll
       theirs-stays d =
           record {
-            writes = closing-next l i (v .writes) k (rw d tells-none);
+            form = v .form;
+            is = v .is;
+            writes = closing-next list i (v .writes) k (rw d tells-none) (rw d refl);
             few = omega (arith, v .few);
             rest = omega (arith, v .rest, counted, ap (λ (b : Bool). bit (not b)) d);
           }
 
     -- all are passed
-    module _ (k : length l ≤ i) where
-      pub theirs-left : left ≡ length (omit (of c) l)
-      theirs-left = omega (arith, v .rest, ap (λ (r : List Session). length (omit (of c) r)) (drop-of-length-le l {i = i} k))
+    module _ (k : length list ≤ i) where
+      pub theirs-left : left ≡ length (omit (of c) list)
+      theirs-left = omega (arith, v .rest, ap (λ (r : List Session). length (omit (of c) r)) (drop-of-length-le list {i = i} k))
 
-      theirs-told : Tells e len (map (ended (Response 116)) (keep (of c) l)) to o
-      theirs-told = rw (← (endings-map (Response 116) (of c) l)) (closing-done l i (v .writes) k)
+      theirs-told : Tells e len (map (ended (Response 116)) (keep (of c) list)) to o
+      theirs-told = rw (← (endings-map ended (Response 116) (of c) list)) (closing-done list i (v .writes) k)
 
-  -- and taken out
-  pub theirs-done : (w : Which) (m : List ℕ) {n o : List ℕ} {i to left : ℕ} → Theirs c (sessions w m) e len i to left o → length (sessions w m) ≤ i →
-      Now n (relisted w (omit (of c) (sessions w m)) (see m)) → Does (theirsEnded w c) len m e to n o
-  unfolding theirsEnded
-  theirs-done w m v k s = rw (← (sessions-list w m)) (record { shows = s; tells = theirs-told (sessions w m) v k })
+      theirs-kept : see m .queue .lately ≡ rememberedAll (map (past (Response 116)) (keep (of c) list)) (s .queue .lately)
+      theirs-kept = rw (← (endings-map past (Response 116) (of c) list)) (closing-kept list i (v .writes) k)
 
-  -- or none is theirs, and the words stay
-  pub theirs-spared : (w : Which) (m : List ℕ) {o : List ℕ} {i to left : ℕ} → Form m → Theirs c (sessions w m) e len i to left o → length (sessions w m) ≤ i →
-      length (sessions w m) ≤ left → Does (theirsEnded w c) len m e to m o
-  theirs-spared w m f v k h =
-      let l = sessions w m in
-      let all : omit (of c) l ≡ l = omit-none (of c) l (omega (arith, h, theirs-left l v k)) in
-      theirs-done w m v k (record { form = f; is = sym (ap (λ (r : List Session). relisted w r (see m)) all ∙ relisted-same w m) })
+      -- without them, and with their ends kept
+      theirs-shown : relisted w (omit (of c) (sessions w m)) (see m) ≡ queued (theirsEnded w c (s .queue) .queue) s
+      unfolding theirsEnded
+      theirs-shown =
+          ap (λ (u : List Session). relisted w (omit (of c) u) (see m)) theirs-list
+          ∙ ap (relisted w (omit (of c) list)) (v .is)
+          ∙ ap (λ (q : Queue). queued q s)
+          (listed-late w (omit (of c) list) (see m .queue .lately) (s .queue) ∙ ap (λ (y : Lately). withLately y (listed w (omit (of c) list) (s .queue))) (late-listed w theirs-kept))
+        where
+          late-listed : (w : Which) → see m .queue .lately ≡ rememberedAll (map (past (Response 116)) (keep (of c) list)) (s .queue .lately) →
+              see m .queue .lately ≡ rememberedAll (map (past (Response 116)) (keep (of c) list)) (listed w (omit (of c) list) (s .queue) .lately)
+          late-listed Waiting e = e
+          late-listed Started e = e
+
+      -- and taken out
+      pub theirs-done : {n : List ℕ} → Now n (relisted w (omit (of c) (sessions w m)) (see m)) → Turns e len (theirsEnded w c (s .queue)) s n to o
+      unfolding theirsEnded
+      theirs-done z = record { shows = record { form = z .form; is = z .is ∙ theirs-shown }; tells = theirs-told }
+
+      -- or none is theirs, and the words stay
+      pub theirs-spared : length list ≤ left → Turns e len (theirsEnded w c (s .queue)) s m to o
+      theirs-spared h =
+          let all : omit (of c) list ≡ list = omit-none (of c) list (omega (arith, h, theirs-left)) in
+          let same : see m ≡ relisted w (omit (of c) (sessions w m)) (see m) =
+          sym (ap (λ (u : List Session). relisted w (omit (of c) u) (see m)) theirs-list
+          ∙ ap (λ (u : List Session). relisted w u (see m)) (all ∙ sym theirs-list ∙ sessions-list w m)
+          ∙ ap (λ (q : Queue). queued q (see m)) (listed-same w (see m .queue))) in
+          theirs-done (record { form = v .form; is = same })
 
 -- ## Started ones go one by one, and the others stay: the loop of `end_due`
 
@@ -186,10 +252,10 @@ dropped l i h = rw (add-one i) (drop-at (take i l) (drop (suc i) l) i (length-ta
 pub record Leaving (p : Session → Bool) (air cover : Ending) (s : Memory) (e : List ℕ) (len : ℕ) (m : List ℕ) (i : ℕ) (h : Ending) (to : ℕ)
     (o : List ℕ) : Type 0 where
   pub form : Form m
-  pub kept : see m ≡ queued (withStarted (see m .queue .started) (s .queue)) s
+  pub kept : see m ≡ queued (withLately (see m .queue .lately) (withStarted (see m .queue .started) (s .queue))) s
   pub playable : All Playable (see m .queue .started)
   pub stay : omit p (s .queue .started) ≡ take i (see m .queue .started) ++ omit p (drop i (see m .queue .started))
-  pub writes : Closing p air cover (s .queue .started) (drop i (see m .queue .started)) e len h to o
+  pub writes : Closing p air cover (s .queue .started) (drop i (see m .queue .started)) e len h to o (s .queue .lately) (see m .queue .lately)
 
 module _ {p : Session → Bool} {air cover : Ending} {e : List ℕ} {len : ℕ} where
   pub leaving-none : {m : List ℕ} → Form m → All Playable (see m .queue .started) →
@@ -209,21 +275,24 @@ module _ {p : Session → Bool} {air cover : Ending} {e : List ℕ} {len : ℕ} 
           let g : removeAt i l ≡ see n .queue .started = sym (ap (λ (z : Memory). z .queue .started) (u .shows .is)) in
           let tk : take i l ≡ take i (see n .queue .started) = sym (taken l i k) ∙ ap (take i) g in
           let dr : drop (i + 1) l ≡ drop i (see n .queue .started) = sym (dropped l i k) ∙ ap (drop i) g in
+          let x = getD l i empty in
+          let late : see n .queue .lately ≡ rememberedAll (past h x ∷ []) (see m .queue .lately) = ap (λ (z : Memory). z .queue .lately) (u .shows .is) in
           record {
             form = u .shows .form;
             kept =
                 u .shows .is
-                ∙ ap (λ (z : Memory). queued (withStarted (removeAt i l) (z .queue)) z) (v .kept)
-                ∙ ap (λ (r : List Session). queued (withStarted r (s .queue)) s) g;
+                ∙ ap (λ (z : Memory). queued (withLately (rememberedAll (past h x ∷ []) (see m .queue .lately)) (withStarted (removeAt i l) (z .queue))) z) (v .kept)
+                ∙ (λ j. queued (withLately (sym late j) (withStarted (g j) (s .queue))) s);
             playable = subst (All Playable) g (fewer-all Playable (fewer-removeAt i l) (v .playable));
             stay = v .stay ∙ rw (next l i k, d, tk, dr) refl;
             writes =
-                subst (λ (r : List Session). Closing p air cover (s .queue .started) r e len cover to′ o′) dr
-                (closing-next l i (v .writes) k (rw d (u .tells)));
+                subst (λ (r : List Session). Closing p air cover (s .queue .started) r e len cover to′ o′ (s .queue .lately) (see n .queue .lately)) dr
+                (closing-next l i (v .writes) k (rw d (u .tells)) (rw d late));
           }
 
       -- it stays
       pub leaving-stays : p (getD l i empty) ≡ false → Leaving p air cover s e len m (i + 1) cover to o
+      unfolding rememberedAll
       leaving-stays d =
           record {
             form = v .form;
@@ -232,7 +301,7 @@ module _ {p : Session → Bool} {air cover : Ending} {e : List ℕ} {len : ℕ} 
             stay =
                 v .stay
                 ∙ rw (next l i k, d) (rw (add-one i, take-suc l i empty k) (sym (append-snoc (take i l) (getD l i empty) (omit p (drop (suc i) l)))));
-            writes = closing-next l i (v .writes) k (rw d tells-none);
+            writes = closing-next l i (v .writes) k (rw d tells-none) (rw d refl);
           }
 
 -- all are passed
@@ -245,6 +314,6 @@ leaving-done t {s} {m = m} {i = i} v k =
     let p = endsAt (t .0) in
     let a : omit p (s .queue .started) ≡ l = v .stay ∙ rw (drop-of-length-le l {i = i} k, take-all i l k) (append-nil l) in
     record {
-      shows = record { form = v .form; is = v .kept ∙ ap (λ (r : List Session). queued (withStarted r (s .queue)) s) (sym a) };
+      shows = record { form = v .form; is = v .kept ∙ (λ j. queued (withLately (closing-kept l i (v .writes) k j) (withStarted (sym a j) (s .queue))) s) };
       tells = closing-done l i (v .writes) k;
     }

@@ -11,20 +11,23 @@ use borrow.Rule.Slice.PartMut.{putMid, midOf}
 use types.Run.{OneOf}
 use denote.Enum.Declared.{tagOf}
 use Rattle.rules.specs.declared.Session.{Session}
+use Rattle.rules.specs.declared.Past.{Past}
 use Rattle.rules.specs.declared.Ending.{Ending}
 use Rattle.rules.specs.declared.Ending.the-variants.{Complete, Failed, Response}
-use Rattle.rules.specs.Lists.{All, some, keep, place, removeAt}
+use Rattle.rules.specs.Lists.{All, some, keep, omit, place, removeAt}
 use Rattle.rules.specs.Sound.{Holding}
-use Rattle.rules.specs.State.{Queue, empty, of, follows, withWaiting}
+use Rattle.rules.specs.State.{Lately, Queue, empty, of, follows, withWaiting, remembered, rememberedAll}
+use Rattle.rules.specs.Units.{toTicks}
 use Rattle.rules.specs.Bytes.{written}
-use Rattle.rules.specs.Records.{Record, recordBytes, output}
-use Rattle.rules.specs.Ends.{Turn, quiet, writes, andThen, ended, endings, Walk, dismissed, cancelled, closedBy}
+use Rattle.rules.specs.Records.{Record, resultOf, recordBytes, output}
+use Rattle.rules.specs.Ends.{Turn, quiet, writes, andThen, ended, past, ending, oneEnd, allEnd, endings, Walk, dismissed, cancelled, closedBy}
 use Rattle.rules.specs.Instants.{failed}
 use Rattle.rules.proofs.Ending.{the-type}
 use Rattle.rules.proofs.Tests.{by, clash}
 use Rattle.rules.proofs.All.{all-into}
 use Rattle.rules.proofs.Bounds.{longest}
 use Rattle.rules.proofs.Count.{length-split, length-removeAt}
+use Rattle.rules.proofs.Lately.{remembered-append}
 use Rattle.rules.proofs.Sound.{played-now}
 use Rattle.rules.proofs.Records.{sizeOf, Roomy, length-record}
 use Rattle.rules.proofs.Size.{weight-none, weight-ended, weight-all}
@@ -32,7 +35,7 @@ use Rattle.rules.proofs.Written.{written-none, written-part, output-append, out
 use Rattle.rules.proofs.Walk.{walk-none, walk-more}
 use Rattle.memory.specs.declared.Which.{Which}
 use Rattle.memory.specs.declared.Which.the-variants.{Waiting, Started}
-use Rattle.memory.specs.Memory.{Memory, see, sessions, listOf, listed, queued, relisted, Form, Now}
+use Rattle.memory.specs.Memory.{Memory, see, sessions, listOf, listed, queued, relisted, recalling, Form, Now}
 use Rattle.memory.proofs.Laws.{sessions-list, same-words}
 use Rattle.ends.specs.Does.{Playable, Writable, Completing, roomFor, Tells, Turns, Does, oneEnded, chainEnded, endingAt}
 use Rattle.ends.specs.Does.{airEnded, theirsEnded}
@@ -125,11 +128,32 @@ failing (Complete r) c (inr e) = absurd (omega arith)
 failing Failed c k = refl
 failing (Response r) c k = absurd c
 
--- the session i of a list is taken out of it, and its end written
-pub one-ended : (v : Which) (m : List ℕ) (i : ℕ) (h : Ending) {n e o : List ℕ} {len to : ℕ} {x : Session} → x ≡ getD (sessions v m) i empty →
-    Now n (relisted v (removeAt i (sessions v m)) (see m)) → Tells e len (ended h x ∷ []) to o → Does (oneEnded v i h) len m e to n o
+-- the result of an end is its own, whoever ends
+pub result-any : (h : Ending) (s : Session) → resultOf (ended h empty) ≡ resultOf (ended h s)
+result-any (Complete r) s = refl
+result-any Failed s = refl
+result-any (Response r) s = refl
+
+-- what is kept of an end, its result and time on air as they were found
+pub kept-as : (h : Ending) (x : Session) (m : List ℕ) {n : List ℕ} {r p : ℕ} → r ≡ resultOf (ended h empty) → p ≡ toTicks (x .played) .0 →
+    Now n (recalling (record { conn = x .conn; id = x .id; event = x .event; result = r; played = p }) (see m)) → Now n (recalling (past h x) (see m))
+kept-as h x m {n} {r} {p} e f k =
+    let a : r ≡ resultOf (ended h x) = e ∙ result-any h x in
+    subst (λ (z : Past). Now n (recalling z (see m))) (λ i. record { conn = x .conn; id = x .id; event = x .event; result = a i; played = f i }) k
+
+-- an end is kept and written
+pub end-done : (h : Ending) (x : Session) (m : List ℕ) {n e o : List ℕ} {len to : ℕ} → Now n (recalling (past h x) (see m)) → Tells e len (ended h x ∷ []) to o →
+    Does (ending (oneEnd h x)) len m e to n o
+unfolding rememberedAll
+end-done h x m s t = record { shows = s; tells = t }
+
+-- the session i of a list is taken out of it, and its end kept and written
+pub one-ended : (v : Which) (m : List ℕ) (i : ℕ) (h : Ending) {n n′ e o : List ℕ} {len to : ℕ} {x : Session} → x ≡ getD (sessions v m) i empty →
+    Now n (relisted v (removeAt i (sessions v m)) (see m)) → Does (ending (oneEnd h x)) len n e to n′ o → Does (oneEnded v i h) len m e to n′ o
 unfolding oneEnded
-one-ended v m i h q s t = rw (← (sessions-list v m), ← q) (record { shows = s; tells = t })
+one-ended v m i h {n′ = n′} {e = e} {o = o} {len = len} {to = to} {x = x} q s t =
+    let u = subst (λ (z : Memory). Turns e len (ending (oneEnd h x) (z .queue)) z n′ to o) (s .is) t in
+    rw (← (sessions-list v m), ← q) (turns-over u)
 
 -- one of those that wait is gone
 pub removed-less : (i : ℕ) (s : Memory) {m : List ℕ} → i < length (s .queue .waiting) →
@@ -146,7 +170,8 @@ end-brief v i how m d = told-one how (getD (listOf v (see m .queue)) i empty) (d
 pub one-less : (v : Which) (i : ℕ) (how : Ending) (m : List ℕ) {e n o : List ℕ} {len to : ℕ} → i < length (sessions v m) →
     Does (oneEnded v i how) len m e to n o → suc (length (sessions v n)) ≡ length (sessions v m)
 unfolding oneEnded
-one-less Waiting i how m h d = removed-less i (see m) h (d .shows)
+one-less Waiting i how m h d =
+    ap (λ (z : Memory). suc (length (z .queue .waiting))) (d .shows .is) ∙ length-removeAt i (see m .queue .waiting) h
 one-less Started i how m h d =
     ap (λ (z : Memory). suc (length (z .queue .started))) (d .shows .is) ∙ length-removeAt i (see m .queue .started) h
 
@@ -156,13 +181,13 @@ module _ (r c x : ℕ) (i : ℕ) where
   -- the one at the place i ends, and then those that follow it
   link : (q : Queue) → i ≡ place (follows c x) (q .waiting) → i < length (q .waiting) →
       dismissed r c x q ≡ andThen (oneEnded Waiting i (Response r) q) (dismissed r c (getD (q .waiting) i empty .id))
-  unfolding dismissed andThen oneEnded
+  unfolding dismissed andThen oneEnded rememberedAll
   link q f h =
-      ap (λ (w : Walk). record { queue = withWaiting (w .left) q; written = map (ended (Response r)) (w .gone) }) (walk-more c x (q .waiting) i f h)
+      ap (λ (w : Walk). ending (allEnd (Response r) (w .gone)) (withWaiting (w .left) q)) (walk-more c x (q .waiting) i f h)
 
   module _ (m : List ℕ) {e : List ℕ} {len : ℕ} (f : i ≡ place (follows c x) (see m .queue .waiting)) where
     pub dismissed-none : Form m → length (see m .queue .waiting) ≤ i → Does (dismissed r c x) len m e len m e
-    unfolding dismissed
+    unfolding dismissed rememberedAll
     dismissed-none g h = rw (walk-none c x (see m .queue .waiting) i f h) (turns-quiet g)
 
     pub dismissed-more : {n n′ o o′ : List ℕ} {mid to y : ℕ} → i < length (see m .queue .waiting) → len + roomFor 1 ≤ length e →
@@ -175,11 +200,9 @@ module _ (r c x : ℕ) (i : ℕ) where
         )
 
 -- x fails: its own end, and then those that follow it
-pub fails : (x : Session) (m : List ℕ) {n e o o′ : List ℕ} {len mid to : ℕ} → Form m → len + roomFor 1 ≤ length e → Tells e len (ended Failed x ∷ []) mid o →
-    Does (dismissed 109 (x .conn) (x .id)) mid m o to n o′ → Does (failed x) len m e to n o′
-fails x m g k t d =
-    turns-then (writes (ended Failed x ∷ []) (see m .queue)) (dismissed 109 (x .conn) (x .id)) (omega (arith, brief Failed x))
-    (record { shows = record { form = g; is = refl }; tells = t }) d
+pub fails : (x : Session) (m : List ℕ) {n n′ e o o′ : List ℕ} {len mid to : ℕ} → len + roomFor 1 ≤ length e → Does (ending (oneEnd Failed x)) len m e mid n o →
+    Does (dismissed 109 (x .conn) (x .id)) mid n o to n′ o′ → Does (failed x) len m e to n′ o′
+fails x m k t d = turns-then (ending (oneEnd Failed x) (see m .queue)) (dismissed 109 (x .conn) (x .id)) (omega (arith, brief Failed x)) t d
 
 -- ## A session's end, and its followers'
 
@@ -260,18 +283,26 @@ theirs-slim c q =
     record { room = omega (arith, weight-all (Response 116) (keep (of c) l), length-split (of c) l); wait = refl }
 
 -- the one on air, then the covered, then those that wait
-closed-by : (c : ℕ) (w k : List Session) →
-    let q : Queue = record { waiting = w; started = k } in
+closed-by : (c : ℕ) (w k : List Session) (l : Lately) →
+    let q : Queue = record { waiting = w; started = k; lately = l } in
     closedBy c q ≡ andThen (andThen (airEnded c q) (theirsEnded Started c)) (theirsEnded Waiting c)
-unfolding closedBy cancelled endings andThen airEnded theirsEnded oneEnded removeAt
-closed-by c w [] = refl
-closed-by c w (s ∷ k) = go (of c s) refl
+unfolding closedBy cancelled endings andThen airEnded theirsEnded oneEnded removeAt rememberedAll
+closed-by c w [] l = refl
+closed-by c w (s ∷ k) l = go (of c s) refl
   where
     go : (b : Bool) → of c s ≡ b →
-        let q : Queue = record { waiting = w; started = s ∷ k } in
+        let q : Queue = record { waiting = w; started = s ∷ k; lately = l } in
         closedBy c q ≡ andThen (andThen (airEnded c q) (theirsEnded Started c)) (theirsEnded Waiting c)
-    go true d = rw d refl
-    go false d = rw d (rw d refl)
+    go true d =
+        rw d (λ i. record {
+          queue = record { waiting = omit (of c) w; started = omit (of c) k; lately = remembered-append (map (past (Response 116)) (keep (of c) k)) (map (past (Response 116)) (keep (of c) w)) (remembered (past (Complete 116) s) l) i };
+          written = ended (Complete 116) s ∷ (map (ended (Response 116)) (keep (of c) k) ++ map (ended (Response 116)) (keep (of c) w));
+        })
+    go false d =
+        rw d (rw d (λ i. record {
+          queue = record { waiting = omit (of c) w; started = s ∷ omit (of c) k; lately = remembered-append (map (past (Response 116)) (keep (of c) k)) (map (past (Response 116)) (keep (of c) w)) l i };
+          written = map (ended (Response 116)) (keep (of c) k) ++ map (ended (Response 116)) (keep (of c) w);
+        }))
 
 module _ (c : ℕ) (m : List ℕ) {n e o : List ℕ} {to : ℕ} (a : Does (airEnded c) 0 m e to n o) where
   -- room for the covered
@@ -300,7 +331,7 @@ module _ (c : ℕ) (m : List ℕ) {n e o : List ℕ} {to : ℕ} (a : Does (airEn
         let q = see m .queue in
         let t = andThen (airEnded c q) (theirsEnded Started c) in
         let u = turns-then (airEnded c q) (theirsEnded Started c) (omega (arith, a .tells .count, b .tells .count)) a b in
-        rw (closed-by c (q .waiting) (q .started)) (turns-then t (theirsEnded Waiting c) (omega (arith, u .tells .count)) u d)
+        rw (closed-by c (q .waiting) (q .started) (q .lately)) (turns-then t (theirsEnded Waiting c) (omega (arith, u .tells .count)) u d)
 
 -- ## What is held can be written
 

@@ -1,7 +1,7 @@
 -- What a piece of work on the lent words promises, and the turns of the ends of one list.
 use mathlib.Core.Path.{_≡_}
 use mathlib.Core.Bool.{cond}
-use mathlib.Core.List.{List, [], _∷_, map}
+use mathlib.Core.List.{List}
 use Prim.Native.Nat.{ℕ, zero, suc, _+_, _*_, _/_, _<_}
 use lib.ListN.{length, take, getD}
 use Rattle.rules.specs.declared.Session.{Session}
@@ -11,7 +11,7 @@ use Rattle.rules.specs.Lists.{some, keep, omit, removeAt}
 use Rattle.rules.specs.Bytes.{written}
 use Rattle.rules.specs.Records.{Record, output}
 use Rattle.rules.specs.State.{Queue, empty, of}
-use Rattle.rules.specs.Ends.{Turn, quiet, andThen, ended, dismissed}
+use Rattle.rules.specs.Ends.{Turn, quiet, andThen, ending, oneEnd, allEnd, dismissed}
 use Rattle.memory.specs.declared.Which.{Which}
 use Rattle.memory.specs.declared.Which.the-variants.{Started}
 use Rattle.memory.specs.Memory.{Memory, see, listOf, listed, queued, Now}
@@ -56,7 +56,7 @@ Does work len m e to n o = Turns e len (work (see m .queue)) (see m) n to o
 -- the session i of a list ends
 unfoldable pub oneEnded : Which → ℕ → Ending → Queue → Turn
 oneEnded v i how q =
-    record { queue = listed v (removeAt i (listOf v q)) q; written = ended how (getD (listOf v q) i empty) ∷ [] }
+    ending (oneEnd how (getD (listOf v q) i empty)) (listed v (removeAt i (listOf v q)) q)
 
 -- the session i of a list ends, and then the waiting ones that follow it, with the result r
 unfoldable pub chainEnded : Which → ℕ → Ending → ℕ → Queue → Turn
@@ -80,7 +80,4 @@ airEnded c q =
 -- the connection's of a list end, none of which is on air
 unfoldable pub theirsEnded : Which → ℕ → Queue → Turn
 theirsEnded v c q =
-    record {
-      queue = listed v (omit (of c) (listOf v q)) q;
-      written = map (ended (Response 116)) (keep (of c) (listOf v q));
-    }
+    ending (allEnd (Response 116) (keep (of c) (listOf v q))) (listed v (omit (of c) (listOf v q)) q)

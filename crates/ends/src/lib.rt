@@ -4,6 +4,7 @@ use memory::Which;
 use places::Key;
 use rules::Ending;
 use rules::Ninths;
+use rules::Past;
 use rules::Session;
 use rules::Ticks;
 ghost use mathlib.Core.Path.{_≡_};
@@ -13,10 +14,11 @@ ghost use mathlib.Core.List.{[], _∷_};
 ghost use Rattle.rules.specs.Lists.{All};
 ghost use Rattle.rules.specs.declared.Ending.the-variants.{Response};
 ghost use Rattle.rules.specs.State.{empty};
-ghost use Rattle.rules.specs.Ends.{ended, dismissed, closedBy};
+ghost use Rattle.rules.specs.Records.{resultOf};
+ghost use Rattle.rules.specs.Ends.{ended, past, ending, oneEnd, dismissed, closedBy};
 ghost use Rattle.rules.specs.Instants.{failed, endAt};
 ghost use Rattle.memory.specs.declared.Which.the-variants.{Waiting, Started};
-ghost use Rattle.memory.specs.Memory.{Form, sessions, see};
+ghost use Rattle.memory.specs.Memory.{Form, Now, sessions, see, recalling};
 ghost use Rattle.ends.specs.Does.{Writable, Playable, Completing, roomFor, Tells, Does, endingAt, oneEnded, chainEnded};
 ghost use Rattle.ends.specs.Does.{airEnded, theirsEnded};
 
@@ -39,12 +41,40 @@ fn write_complete(how: Ending, x: Session, out: &mut [u8], len: usize) -> usize
     len + 23
 }
 
-// The end of x, behind the last record: the one place where an end is written.
-fn write_end(how: Ending, x: Session, out: &mut [u8], len: usize) -> usize
+// The result of an end, whoever ends.
+fn result_of(how: Ending) -> u16
+    ensures { λ r. ⌜ r ≡ resultOf (ended how empty) ⌝ }
+{
+    match how {
+        Ending::Complete(n) => n,
+        Ending::Failed => 109,
+        Ending::Response(n) => n,
+    }
+}
+
+// 02, CR 8: what is kept of the end of x.
+fn keep_end(m: &mut [u64; WORDS], how: Ending, x: Session)
+    requires { ⌜ Form (now m) ⌝ }
+    ensures { λ _. ⌜ Now (now (m .exit)) (recalling (past how x) (see (now (m .entry)))) ⌝ }
+{
+    let e = Past {
+        conn: x.conn,
+        id: x.id,
+        event: x.event,
+        result: result_of(how) as u64,
+        played: units::to_long_ticks(x.played),
+    };
+    memory::remember(&mut *m, e)
+}
+
+// The end of x, kept, and written behind the last record: the one place where that is done.
+fn write_end(m: &mut [u64; WORDS], how: Ending, x: Session, out: &mut [u8], len: usize) -> usize
+    requires { ⌜ Form (now m) ⌝ }
     requires { ⌜ Writable how x ⌝ }
     requires { ⌜ len + roomFor 1 ≤ length (now out) ⌝ }
-    ensures { λ r. ⌜ Tells (now (out .entry)) len (ended how x ∷ []) r (now (out .exit)) ⌝ }
+    ensures { λ r. ⌜ Does (ending (oneEnd how x)) len (now (m .entry)) (now (out .entry)) r (now (m .exit)) (now (out .exit)) ⌝ }
 {
+    keep_end(&mut *m, how, x);
     let Ending::Response(result) = how else {
         return write_complete(how, x, &mut *out, len);
     };
@@ -58,7 +88,7 @@ pub fn fail(m: &mut [u64; WORDS], x: Session, out: &mut [u8], len: usize) -> usi
     requires { ⌜ len + roomFor (1 + length (see (now m) .queue .waiting)) ≤ length (now out) ⌝ }
     ensures { λ r. ⌜ Does (failed x) len (now (m .entry)) (now (out .entry)) r (now (m .exit)) (now (out .exit)) ⌝ }
 {
-    let to = write_end(Ending::Failed, x, &mut *out, len);
+    let to = write_end(&mut *m, Ending::Failed, x, &mut *out, len);
     dismiss(&mut *m, 109, x.conn, x.id, &mut *out, to)
 }
 
@@ -78,7 +108,7 @@ fn end_one_started(
 {
     let x = memory::load(&*m, Which::Started, at);
     memory::remove(&mut *m, Which::Started, at);
-    write_end(how, x, &mut *out, len)
+    write_end(&mut *m, how, x, &mut *out, len)
 }
 
 // The waiting session `at` ends with the result, and the others close up. A function of its own: the compiler takes it into `dismiss`,
@@ -98,7 +128,7 @@ fn end_one_waiting(
 {
     let x = memory::load(&*m, Which::Waiting, at);
     memory::remove(&mut *m, Which::Waiting, at);
-    write_end(Ending::Response(result), x, &mut *out, len)
+    write_end(&mut *m, Ending::Response(result), x, &mut *out, len)
 }
 
 // The waiting session `at` ends with the result, and then the ones that follow it.
@@ -184,7 +214,7 @@ fn end_theirs(m: &mut [u64; WORDS], which: Which, conn: u64, out: &mut [u8], len
     while i < n {
         if conn == memory::conn_at(&*m, which, i) {
             let x = memory::load(&*m, which, i);
-            to = write_end(Ending::Response(116), x, &mut *out, to);
+            to = write_end(&mut *m, Ending::Response(116), x, &mut *out, to);
         } else {
             left += 1;
         }

@@ -76,6 +76,12 @@ unfolding rememberedAll
 recalled-all [] l a r = r
 recalled-all (e ∷ es) l a r = recalled-all es (remembered e l) (a .1) (recalled-one e l (a .0) r)
 
+-- some, and others after them
+pub remembered-append : (a b : List Past) (l : Lately) → rememberedAll (a ++ b) l ≡ rememberedAll b (rememberedAll a l)
+unfolding rememberedAll
+remembered-append [] b l = refl
+remembered-append (e ∷ a) b l = remembered-append a b (remembered e l)
+
 pub recalled-none : Recalled noneEnded
 recalled-none = record { sixteen = refl; next = omega arith; noted = go 16 }
   where

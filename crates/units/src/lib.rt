@@ -52,6 +52,13 @@ pub fn to_ticks(n: Ninths) -> Ticks
     Ticks((n.0 / 100) as u32)
 }
 
+// The same in 64 bits: whatever it is, it fits.
+pub fn to_long_ticks(n: Ninths) -> u64
+    ensures { λ r. ⌜ r ≡ toTicks n .0 ⌝ }
+{
+    n.0 / 100
+}
+
 // The sooner of two instants, of which either may never come.
 pub fn sooner(a: When, b: When) -> When
     ensures { λ r. ⌜ r ≡ sooner a b ⌝ }

@@ -1,4 +1,4 @@
--- The session is read, taken out, and its end written (`one-ended`).
+-- The session is read, taken out, and its end kept and written (`one-ended`).
 -- Rests on what `write_end` and memory promise.
 use borrow.Author.Needs.{needs}
 use mathlib.Core.Path.{sym, subst}
@@ -16,16 +16,17 @@ remove-requires c κs = search needs
 
 write-end-requires : tie.Need-write-end-requires
 write-end-requires c κs =
-    let read = c .before .before .before in
+    let taken = c .before .before in
+    let read = taken .before .before in
     let s = read .before .before .before .before in
-    (subst (Writable (s .args .how)) (sym (read .load .ensures .0)) (s .pre .1 .1 .0), s .pre .1 .1 .1)
+    (taken .remove .ensures .form, (subst (Writable (s .args .how)) (sym (read .load .ensures .0)) (s .pre .1 .1 .0), s .pre .1 .1 .1))
 
 same-length : tie.Need-same-length
 same-length c = search needs
 
 returns : tie.Need-returns
 returns c =
-    let taken = c .before .before .before .before in
+    let taken = c .before .before .before .before .before in
     let read = taken .before .before in
     let s = read .before .before .before .before in
     one-ended Started (s .args .m .now) (s .args .at) (s .args .how) (read .load .ensures .0) (taken .remove .ensures) (c .before .before .write-end .ensures)

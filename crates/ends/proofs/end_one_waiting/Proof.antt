@@ -1,4 +1,4 @@
--- As `end_one_started`, of one that waits: it is read, taken out, and its end written (`one-ended`).
+-- As `end_one_started`, of one that waits: it is read, taken out, and its end kept and written (`one-ended`).
 -- Rests on what `write_end` and memory promise.
 use borrow.Author.Needs.{needs}
 use Rattle.rules.specs.declared.Ending.the-variants.{Response}
@@ -14,14 +14,17 @@ remove-requires : tie.Need-remove-requires
 remove-requires c κs = search needs
 
 write-end-requires : tie.Need-write-end-requires
-write-end-requires c κs = search needs
+write-end-requires c κs =
+    let taken = c .before .before in
+    let s = taken .before .before .before .before .before .before in
+    (taken .remove .ensures .form, (tt, s .pre .1 .1))
 
 same-length : tie.Need-same-length
 same-length c = search needs
 
 returns : tie.Need-returns
 returns c =
-    let taken = c .before .before .before .before in
+    let taken = c .before .before .before .before .before in
     let read = taken .before .before in
     let s = read .before .before .before .before in
     one-ended Waiting (s .args .m .now) (s .args .at) (Response (s .args .result)) (read .load .ensures .0) (taken .remove .ensures)
