@@ -413,6 +413,7 @@ pub session-is : (t : Ninths) (c : ℕ) (r : Request) {p : ℕ} {d : Ninths} →
       access = r .access;
       overrides = r .overrides;
       mux = r .mux;
+      event = r .event;
       played = record { 0 = 0 };
     }
     ≡ sessionAt (t .0) c r

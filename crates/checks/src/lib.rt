@@ -110,6 +110,7 @@ pub fn session_at(t: Ninths, conn: u64, r: Request) -> Session
         access: r.access as u64,
         overrides: r.overrides as u64,
         mux: r.mux as u64,
+        event: r.event as u64,
         played: Ninths(0),
     }
 }

@@ -165,6 +165,7 @@ fn whole_request(d: &[u8], t: &[u8], start: Start, mux: u8) -> Request
         id: number4(d, 0),
         start: start,
         duration: Ticks(number4(t, 0)),
+        event: number4(t, 4),
         access: t[12],
         overrides: t[13],
         mux: mux,

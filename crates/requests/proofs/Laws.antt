@@ -10,6 +10,7 @@ use lib.ListN.{length, getD}
 use borrow.Author.Tests.{eqb-true, lt-ltb, eq-eqb, ne-eqb}
 use borrow.Rule.Slice.PartMut.{putMid, midOf}
 use Rattle.rules.specs.declared.Session.{Session}
+use Rattle.rules.specs.declared.Past.{Past}
 use Rattle.rules.specs.declared.Start.{Start}
 use Rattle.rules.specs.declared.Start.the-variants.{Timed, Linked}
 use Rattle.rules.specs.declared.When.the-variants.{At, Never}
@@ -18,10 +19,10 @@ use Rattle.rules.specs.declared.Request.{Request}
 use Rattle.rules.specs.declared.Ending.{Ending}
 use Rattle.rules.specs.declared.Ending.the-variants.{Complete, Response}
 use Rattle.rules.specs.Lists.{All, bit, put, keep, omit, some, count, place, insertAt, removeAt}
-use Rattle.rules.specs.State.{Queue, empty, is, startsAt, startsAfter, holds, Sorted}
+use Rattle.rules.specs.State.{Queue, empty, is, startsAt, startsAfter, holds, Sorted, rememberedAll}
 use Rattle.rules.specs.Bytes.{written}
 use Rattle.rules.specs.Records.{Record, SpliceResponse, AbortResponse, recordBytes}
-use Rattle.rules.specs.Ends.{Turn, writes, andThen, ended, endings, dismissed, evictedAt, evicted, cancelled, aborted}
+use Rattle.rules.specs.Ends.{Turn, writes, andThen, ended, past, endings, dismissed, evictedAt, evicted, cancelled, aborted}
 use Rattle.rules.specs.Answers.{startOf, sessionAt, requested, full}
 use Rattle.rules.specs.Answers.{spliceResult, inserted, accepts, accepted, later, Spliced, grants, declines, answerSplice, answerAbort}
 use Rattle.rules.specs.Asked.{Within, Asked}
@@ -200,7 +201,7 @@ module _ (c : ℕ) (r : Request) (m : List ℕ) {new : Session} {n : ℕ} (a : n
 
   pub storable : c ≤ 3 → Asked r → Storable new
   unfolding requested sessionAt
-  storable low h = rw a (record { ofFour = low; narrow = record { overrides = h .overrides; asked = omega (arith, h .overrides, h .mux) } })
+  storable low h = rw a (record { ofFour = low; narrow = record { overrides = h .overrides; mux = omega (arith, h .mux .1); asked = omega (arith, h .overrides, h .mux, h .event) } })
 
   pub room-waiting : n ≡ 100 → c ≤ 3 → Form m → Holding (see m .clock) q → length (q .waiting) < placesOf Waiting
   unfolding requested sessionAt
@@ -261,39 +262,47 @@ module _ {A : Type 0} (p : A → Bool) where
       go false ih k = let y = ih (omega arith) in (y .0, ap (λ (m : List A). x ∷ m) (y .1))
 
 module _ (p : Session → Bool) where
-  abbrev cancels : List Session → List Record
-  cancels k = endings (Complete 116) (Response 116) p k
+  -- what f makes of the ends of the started
+  module _ {A : Type 0} (f : Ending → Session → A) where
+    abbrev cancels : List Session → List A
+    cancels k = endings (Complete 116) (Response 116) p k A f
 
-  cancels-none : (k : List Session) → count p k ≡ 0 → cancels k ≡ []
-  unfolding endings
-  cancels-none [] h = refl
-  cancels-none (s ∷ k) h = go (p s) h
-    where
-      go : (b : Bool) → bit b + count p k ≡ 0 → put b (ended (Complete 116) s) (map (ended (Response 116)) (keep p k)) ≡ []
-      go true l = absurd (omega arith)
-      go false l = ap (map (ended (Response 116))) (parted-none p k (omega arith) .0)
+    cancels-none : (k : List Session) → count p k ≡ 0 → cancels k ≡ []
+    unfolding endings
+    cancels-none [] h = refl
+    cancels-none (s ∷ k) h = go (p s) h
+      where
+        go : (b : Bool) → bit b + count p k ≡ 0 → put b (f (Complete 116) s) (map (f (Response 116)) (keep p k)) ≡ []
+        go true l = absurd (omega arith)
+        go false l = ap (map (f (Response 116))) (parted-none p k (omega arith) .0)
 
-  -- by what it was: the first is on air
-  cancels-one : (i : ℕ) (k : List Session) → i < length k → p (getD k i empty) ≡ true → count p (removeAt i k) ≡ 0
-      → cancels k ≡ ended (endingAt i 116) (getD k i empty) ∷ []
-  unfolding endings removeAt
-  cancels-one i [] h e z = absurd (omega arith)
-  cancels-one zero (s ∷ k) h e z =
-      rw e (ap (λ (l : List Session). ended (Complete 116) s ∷ map (ended (Response 116)) l) (parted-none p k z .0))
-  cancels-one (suc i) (s ∷ k) h e z = go (p s) z
-    where
-      go : (b : Bool) → bit b + count p (removeAt i k) ≡ 0
-          → put b (ended (Complete 116) s) (map (ended (Response 116)) (keep p k)) ≡ ended (Response 116) (getD k i empty) ∷ []
-      go true l = absurd (omega arith)
-      go false l = ap (map (ended (Response 116))) (parted-one p i k empty (omega arith) e (omega arith) .0)
+    -- by what it was: the first is on air
+    cancels-one : (i : ℕ) (k : List Session) → i < length k → p (getD k i empty) ≡ true → count p (removeAt i k) ≡ 0
+        → cancels k ≡ f (endingAt i 116) (getD k i empty) ∷ []
+    unfolding endings removeAt
+    cancels-one i [] h e z = absurd (omega arith)
+    cancels-one zero (s ∷ k) h e z =
+        rw e (ap (λ (l : List Session). f (Complete 116) s ∷ map (f (Response 116)) l) (parted-none p k z .0))
+    cancels-one (suc i) (s ∷ k) h e z = go (p s) z
+      where
+        go : (b : Bool) → bit b + count p (removeAt i k) ≡ 0
+            → put b (f (Complete 116) s) (map (f (Response 116)) (keep p k)) ≡ f (Response 116) (getD k i empty) ∷ []
+        go true l = absurd (omega arith)
+        go false l = ap (map (f (Response 116))) (parted-one p i k empty (omega arith) e (omega arith) .0)
 
   -- what is left of both lists, and who ends
-  cancelled-parts : (q : Queue) {w k v : List Session} {r : List Record} → omit p (q .waiting) ≡ w → omit p (q .started) ≡ k
-      → cancels (q .started) ≡ r → keep p (q .waiting) ≡ v
-      → _≡_ {A = Turn} (record { queue = record { waiting = w; started = k }; written = r ++ map (ended (Response 116)) v }) (cancelled p q)
+  cancelled-parts : (q : Queue) {w k v : List Session} {r : List Record} {g : List Past} → omit p (q .waiting) ≡ w → omit p (q .started) ≡ k
+      → cancels ended (q .started) ≡ r → cancels past (q .started) ≡ g → keep p (q .waiting) ≡ v
+      → _≡_ {A = Turn} (record {
+        queue = record { waiting = w; started = k; lately = rememberedAll (g ++ map (past (Response 116)) v) (q .lately) };
+        written = r ++ map (ended (Response 116)) v;
+      }) (cancelled p q)
   unfolding cancelled
-  cancelled-parts q a b d e =
-      sym (λ i. record { queue = record { waiting = a i; started = b i }; written = d i ++ map (ended (Response 116)) (e i) })
+  cancelled-parts q a b d g e =
+      sym (λ i. record {
+        queue = record { waiting = a i; started = b i; lately = rememberedAll (g i ++ map (past (Response 116)) (e i)) (q .lately) };
+        written = d i ++ map (ended (Response 116)) (e i);
+      })
 
 -- a number is held once: what ends is the session where it is held
 module _ (c x : ℕ) (q : Queue) (i : ℕ) (once : Once q) where
@@ -303,7 +312,8 @@ module _ (c x : ℕ) (q : Queue) (i : ℕ) (once : Once q) where
       let z = held-alone c x q Waiting i once h in
       let w = parted-one (is c x) i (q .waiting) empty (h .within) (h .passes) (omega (arith, z)) in
       let k : count (is c x) (q .started) ≡ 0 = omega (arith, z) in
-      cancelled-parts (is c x) q (w .1) (parted-none (is c x) (q .started) k .1) (cancels-none (is c x) (q .started) k) (w .0)
+      cancelled-parts (is c x) q (w .1) (parted-none (is c x) (q .started) k .1) (cancels-none (is c x) ended (q .started) k)
+      (cancels-none (is c x) past (q .started) k) (w .0)
 
   started-cancelled : HeldAt c x q Started i → oneEnded Started i (endingAt i 116) q ≡ cancelled (is c x) q
   unfolding oneEnded
@@ -312,7 +322,7 @@ module _ (c x : ℕ) (q : Queue) (i : ℕ) (once : Once q) where
       let k : count (is c x) (removeAt i (q .started)) ≡ 0 = omega (arith, z) in
       let w = parted-none (is c x) (q .waiting) (omega (arith, z)) in
       cancelled-parts (is c x) q (w .1) (parted-one (is c x) i (q .started) empty (h .within) (h .passes) k .1)
-      (cancels-one (is c x) i (q .started) (h .within) (h .passes) k) (w .0)
+      (cancels-one (is c x) ended i (q .started) (h .within) (h .passes) k) (cancels-one (is c x) past i (q .started) (h .within) (h .passes) k) (w .0)
 
 -- w: where the number is held; u: that list
 pub found-in : (c x : ℕ) (q : Queue) {w : Where} {v u : Which} {i : ℕ} → w ≡ whereIn c x q → w ≡ In v i → v ≡ u → HeldAt c x q u i

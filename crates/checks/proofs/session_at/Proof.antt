@@ -27,11 +27,14 @@ cast-t11 c = search needs
 cast-t12 : tie.Need-cast-t12
 cast-t12 c = search needs
 
+cast-t13 : tie.Need-cast-t13
+cast-t13 c = search needs
+
 returns : tie.Need-returns
 returns c =
-    let d = c .before .before .before .before .before .before in
+    let d = c .before .before .before .before .before .before .before in
     let s = d .before .before in
     session-is (s .args .t) (s .args .conn) (s .args .r) (d .before .prior-of .ensures) (d .from-ticks .ensures)
 
 pub session-at-spec : {M : Type 1} → statement M
-session-at-spec = tie.close (tie.spec prior-of-requires from-ticks-requires cast-t7 add-t8 cast-t10 cast-t11 cast-t12 returns)
+session-at-spec = tie.close (tie.spec prior-of-requires from-ticks-requires cast-t7 add-t8 cast-t10 cast-t11 cast-t12 cast-t13 returns)

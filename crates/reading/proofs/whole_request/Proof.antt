@@ -11,14 +11,17 @@ number4-requires c κs = search needs
 number4-requires-2 : tie.Need-number4-requires-2
 number4-requires-2 c κs = search needs
 
-shared-slice-read-t9 : tie.Need-shared-slice-read-t9
-shared-slice-read-t9 c = search needs
+number4-requires-3 : tie.Need-number4-requires-3
+number4-requires-3 c κs = search needs
 
-shared-slice-read-t11 : tie.Need-shared-slice-read-t11
-shared-slice-read-t11 c = search needs
+shared-slice-read-t10 : tie.Need-shared-slice-read-t10
+shared-slice-read-t10 c = search needs
+
+shared-slice-read-t12 : tie.Need-shared-slice-read-t12
+shared-slice-read-t12 c = search needs
 
 returns : tie.Need-returns
-returns c = let s = c .before .before .before .before .before .before in cc (ap muxIn (s .pre .1 .1 .1))
+returns c = let s = c .before .before .before .before .before .before .before in cc (ap muxIn (s .pre .1 .1 .1))
 
 pub whole-request-spec : {M : Type 1} → statement M
 whole-request-spec =
@@ -26,6 +29,7 @@ whole-request-spec =
     (tie.spec
     number4-requires
     number4-requires-2
-    shared-slice-read-t9
-    shared-slice-read-t11
+    number4-requires-3
+    shared-slice-read-t10
+    shared-slice-read-t12
     returns)
