@@ -18,7 +18,7 @@ use Rattle.rules.specs.Lists.{All, bit, omit, count, place}
 use Rattle.rules.specs.Bytes.{hasZero}
 use Rattle.rules.specs.declared.Request.{Request}
 use Rattle.rules.specs.Reading.{readSplice, dataIn}
-use Rattle.rules.specs.State.{sameNumber, Queue, Splicer, empty, of, is, held, holds}
+use Rattle.rules.specs.State.{sameNumber, Queue, Splicer, empty, of, is, held, holds, noneHeld}
 use Rattle.rules.proofs.Checks.{read-id}
 use Rattle.rules.specs.Records.{Record, General, InitResponse, AliveResponse, SpliceResponse, SpliceComplete, AbortResponse, CueRequest}
 use Rattle.rules.specs.Ends.{Turn, writes, andThen, evicted, cancelled, closedBy}
@@ -312,5 +312,5 @@ booked-always (k ∷ ks) s es b = booked-always ks (call k s .splicer) (bookAnsw
 pub booked-fresh : (name : List ℕ) → Booked (fresh name .splicer .queue) []
 unfolding fresh named
 booked-fresh name =
-    let none : Booked (record { waiting = []; started = [] }) [] = record { owed = λ c x. omega arith; dated = record { waiting = tt; started = tt } } in
+    let none : Booked noneHeld [] = record { owed = λ c x. omega arith; dated = record { waiting = tt; started = tt } } in
     by (λ (r : Called). Booked (r .splicer .queue) []) (hasZero name) _ _ (λ e. none) (λ e. none)

@@ -13,7 +13,7 @@ use Rattle.rules.specs.declared.Ending.the-variants.{Complete, Failed, Response
 use Rattle.rules.specs.Lists.{bit, keep, count, place, removeAt}
 use Rattle.rules.specs.State.{sameNumber, Queue, empty, of, is, startsAt, endsAt, toCome, withWaiting, withStarted}
 use Rattle.rules.specs.Records.{Record, General, InitResponse, AliveResponse, SpliceResponse, SpliceComplete, AbortResponse, CueRequest}
-use Rattle.rules.specs.Ends.{Turn, quiet, writes, andThen, ended, endings, followers, dismissed, evictedAt, evicted, cancelled, aborted, closedBy}
+use Rattle.rules.specs.Ends.{Turn, quiet, writes, andThen, ended, ending, oneEnd, endings, followers, dismissed, evictedAt, evicted, cancelled, aborted, closedBy}
 use Rattle.rules.specs.Instants.{mayStart, began, meetsEqual, ousted, launched, startAt, endAt, instant, elapse, runAll}
 use Rattle.demands.specs.History.{isStart, isEnd, startsOf, endsOf}
 use Rattle.rules.proofs.Tests.{by}
@@ -62,7 +62,7 @@ module _ (c x : ℕ) where
   starts-responses r l = count-map (isStart c x) (ended (Response r)) l ∙ count-none (λ s. false) (λ s. refl) l
 
   ends-endings : (r : ℕ) (cover : Ending) → ((s : Session) → isEnd c x (ended cover s) ≡ is c x s) → (p : Session → Bool) (k : List Session)
-      → endsOf c x (endings (Complete r) cover p k) ≡ tally c x (keep p k)
+      → endsOf c x (endings (Complete r) cover p k Record ended) ≡ tally c x (keep p k)
   unfolding isEnd
   ends-endings r cover h p k = count-endings (isEnd c x) (is c x) (Complete r) cover (λ s. refl) h p k
 
@@ -73,7 +73,7 @@ module _ (c x : ℕ) where
   not-start Failed s = refl
   not-start (Response r) s = refl
 
-  starts-endings : (air cover : Ending) (p : Session → Bool) (k : List Session) → startsOf c x (endings air cover p k) ≡ 0
+  starts-endings : (air cover : Ending) (p : Session → Bool) (k : List Session) → startsOf c x (endings air cover p k Record ended) ≡ 0
   starts-endings air cover p k =
       count-endings (isStart c x) (λ s. false) air cover (not-start air) (not-start cover) p k ∙ count-none (λ s. false) (λ s. refl) (keep p k)
 
@@ -135,9 +135,10 @@ module _ (c x : ℕ) where
   unfolding evictedAt andThen isEnd isStart isOut
   evictedAt-law i q h =
       let s = getD (q .waiting) i empty in
-      let u = withWaiting (removeAt i (q .waiting)) q in
+      let v = ending (oneEnd (Response 109) s) (withWaiting (removeAt i (q .waiting)) q) in
+      let u = v .queue in
       let w = count-removeAt (is c x) i (q .waiting) empty h in
-      join-law q (writes (ended (Response 109) s ∷ []) u) (dismissed 109 (s .conn) (s .id) u) (record { kept = omega arith; grown = omega arith; begun = omega arith; aired = omega arith })
+      join-law q v (dismissed 109 (s .conn) (s .id) u) (record { kept = omega arith; grown = omega arith; begun = omega arith; aired = omega arith })
       (dismissed-law 109 (s .conn) (s .id) u ends-109)
 
   pub evicted-law : (t : ℕ) (q : Queue) → Law c x q (evicted t q)
@@ -149,7 +150,7 @@ module _ (c x : ℕ) where
   cancelled-law : (p : Session → Bool) (q : Queue) → Law c x q (cancelled p q)
   unfolding cancelled isEnd isStart
   cancelled-law p q =
-      let a = endings (Complete 116) (Response 116) p (q .started) in
+      let a = endings (Complete 116) (Response 116) p (q .started) Record ended in
       let b = map (ended (Response 116)) (keep p (q .waiting)) in
       let e₁ = count-append (isEnd c x) a b in
       let e₂ = ends-endings 116 (Response 116) (λ s. refl) p (q .started) in
@@ -188,10 +189,11 @@ module _ (c x : ℕ) where
   unfolding ousted andThen isEnd isStart isOut
   ousted-law s q =
       let air = getD (q .started) 0 empty in
-      let u = withStarted (removeAt 0 (q .started)) q in
+      let v = ending (oneEnd (Complete 125) air) (withStarted (removeAt 0 (q .started)) q) in
+      let u = v .queue in
       by (Law c x q) (meetsEqual s (q .started)) _ _
       (λ e. let k = count-removeAt (is c x) 0 (q .started) empty (meets-some s (q .started) e) in
-      join-law q (writes (ended (Complete 125) air ∷ []) u) (dismissed 125 (air .conn) (air .id) u)
+      join-law q v (dismissed 125 (air .conn) (air .id) u)
       (record { kept = omega arith; grown = omega arith; begun = omega arith; aired = omega arith }) (dismissed-law 125 (air .conn) (air .id) u ends-125))
       (λ e. quiet-law q)
 
@@ -205,8 +207,9 @@ module _ (c x : ℕ) where
       let starts = count-append (isStart c x) (ousted s q .written) (began s ∷ []) in
       let outs = count-append (isOut c x) (ousted s q .written) (began s ∷ []) in
       record { kept = omega (arith, l .kept); grown = omega (arith, l .grown); begun = omega (arith, l .begun); aired = omega (arith, l .aired) })
-      (λ e. join-law (withWaiting w q) (writes (ended Failed s ∷ []) q) (dismissed 109 (s .conn) (s .id) q)
-      (record { kept = omega arith; grown = omega arith; begun = omega arith; aired = omega arith }) (dismissed-law 109 (s .conn) (s .id) q ends-109))
+      (λ e. let v = ending (oneEnd Failed s) q in
+      join-law (withWaiting w q) v (dismissed 109 (s .conn) (s .id) (v .queue))
+      (record { kept = omega arith; grown = omega arith; begun = omega arith; aired = omega arith }) (dismissed-law 109 (s .conn) (s .id) (v .queue) ends-109))
 
   startAt-law : (t : ℕ) (q : Queue) → Law c x q (startAt t q)
   unfolding startAt
@@ -222,7 +225,7 @@ module _ (c x : ℕ) where
   endAt-law t q =
       let e = ends-endings 100 (Complete 125) (λ s. refl) (endsAt t) (q .started) in
       let s = starts-endings (Complete 100) (Complete 125) (endsAt t) (q .started) in
-      let o = outs-ends (endings (Complete 100) (Complete 125) (endsAt t) (q .started)) in
+      let o = outs-ends (endings (Complete 100) (Complete 125) (endsAt t) (q .started) Record ended) in
       let k = count-split (is c x) (endsAt t) (q .started) in
       record { kept = omega arith; grown = omega arith; begun = omega arith; aired = omega arith }
 

@@ -17,7 +17,7 @@ use Rattle.rules.specs.declared.Ending.the-variants.{Complete, Failed, Response
 use Rattle.rules.specs.Lists.{All, put, keep, omit, place, removeAt}
 use Rattle.rules.specs.State.{Queue, empty, of, is, startsAt, endsAt, due, notAfter, toCome, withWaiting, withStarted}
 use Rattle.rules.specs.Records.{Record, AbortResponse}
-use Rattle.rules.specs.Ends.{Turn, quiet, andThen, writes, ended, endings, followers, dismissed, evictedAt, evicted, cancelled, aborted, closedBy}
+use Rattle.rules.specs.Ends.{Turn, quiet, andThen, writes, ended, ending, oneEnd, endings, followers, dismissed, evictedAt, evicted, cancelled, aborted, closedBy}
 use Rattle.rules.specs.Instants.{mayStart, began, meetsEqual, ousted, launched, startAt, endAt, instant, elapse, run, runAll, silence, silent, silentAll}
 use Rattle.demands.specs.History.{isStart, isEnd}
 use Rattle.rules.specs.Sound.{Falling, OnTime}
@@ -82,7 +82,7 @@ ends-map f h [] = tt
 ends-map f h (s ∷ g) = (h s, ends-map f h g)
 
 ends-endings : (n : ℕ) (cover : Ending) → ((s : Session) → Ends s (ended cover s)) → (p : Session → Bool) (k : List Session)
-    → EndsOf (keep p k) (endings (Complete n) cover p k)
+    → EndsOf (keep p k) (endings (Complete n) cover p k Record ended)
 unfolding endings
 ends-endings n cover h p [] = tt
 ends-endings n cover h p (s ∷ k) = go (p s)
@@ -174,7 +174,7 @@ module _ (β : Base) (now pr u : ℕ) where
   unfolding evictedAt andThen heardAll
   evictedAt-owned i q l h o =
       let s = getD (q .waiting) i empty in
-      let v = withWaiting (removeAt i (q .waiting)) q in
+      let v = ending (oneEnd (Response 109) s) (withWaiting (removeAt i (q .waiting)) q) .queue in
       let d = dismissed 109 (s .conn) (s .id) v .written in
       let m = heard (byThen u l d) (ended (Response 109) s) l in
       dismissed-owned v m 109 (s .conn) (s .id) (λ x. end-109 x)
@@ -202,7 +202,7 @@ module _ (β : Base) (now pr u : ℕ) where
   cancelled-owned : now ≤ u → (p : Session → Bool) (q : Queue) (l : List Airing) → All Stops (q .started) → Owned β now pr (q .waiting) (q .started) l → Now q l (cancelled p q)
   unfolding cancelled
   cancelled-owned le p q l a o =
-      let outs = endings (Complete 116) (Response 116) p (q .started) in
+      let outs = endings (Complete 116) (Response 116) p (q .started) Record ended in
       let bs = map (ended (Response 116)) (keep p (q .waiting)) in
       let e = ends-map (ended (Response 116)) (λ s. end-116 s) (keep p (q .waiting)) in
       rw (heardAll-append u outs bs l, byThen-ends u l (keep p (q .waiting)) bs e)
@@ -229,7 +229,7 @@ module _ (β : Base) (now pr u : ℕ) where
   endAt-owned : now ≤ u → (q : Queue) (l : List Airing) → Owned β now pr (q .waiting) (q .started) l → Now q l (endAt now q)
   unfolding endAt
   endAt-owned le q l o =
-      ends-started (keep (endsAt now) (q .started)) (q .waiting) (omit (endsAt now) (q .started)) (endings (Complete 100) (Complete 125) (endsAt now) (q .started)) l le
+      ends-started (keep (endsAt now) (q .started)) (q .waiting) (omit (endsAt now) (q .started)) (endings (Complete 100) (Complete 125) (endsAt now) (q .started) Record ended) l le
       (ends-endings 100 (Complete 125) (λ s. end-out s 125) (endsAt now) (q .started))
       (all-kept (λ s. Unit {0}) Stops (endsAt now) (λ s h e. let i = eqb-true now (s .end .0) e in (omega arith, omega arith)) (q .started) (all-any (λ s. Unit {0}) (λ s. tt) (q .started)))
       (reorder β now pr (q .waiting) (q .started) (q .waiting) (keep (endsAt now) (q .started) ++ omit (endsAt now) (q .started)) l (λ p. refl)
@@ -249,11 +249,11 @@ ousted-owned β now pr s q l a o = go (q .waiting) (q .started) a o
     Done : List Session → List Session → Turn → Type 0
     Done w k t = Owned β now pr (s ∷ t .queue .waiting) (t .queue .started) (heardAll now (t .written) l)
 
-    go : (w k : List Session) → All (λ x. now ≤ x .end .0) k → Owned β now pr (s ∷ w) k l → Done w k (ousted s (record { waiting = w; started = k }))
+    go : (w k : List Session) → All (λ x. now ≤ x .end .0) k → Owned β now pr (s ∷ w) k l → Done w k (ousted s (record { waiting = w; started = k; lately = q .lately }))
     go w [] a o = o
     go w (air ∷ k) a o =
         by (Done w (air ∷ k)) (eqb (air .access) (s .access)) _ _
-        (λ i. let q = withStarted k (record { waiting = w; started = air ∷ k }) in
+        (λ i. let q = ending (oneEnd (Complete 125) air) (record { waiting = w; started = k; lately = q .lately }) .queue in
         let r = ended (Complete 125) air in
         let ds = dismissed 125 (air .conn) (air .id) q .written in
         let e = end-out air 125 in
@@ -272,12 +272,13 @@ module _ (β : Base) (now pr u : ℕ) where
       → Owned β now pr (s ∷ q .waiting) (q .started) l → Now β now pr u q l (launched s q)
   unfolding launched andThen heardAll byThen
   launched-owned s q l at-now a o =
-      let d = dismissed 109 (s .conn) (s .id) q .written in
+      let f = ending (oneEnd Failed s) q .queue in
+      let d = dismissed 109 (s .conn) (s .id) f .written in
       let v = ousted s q in
       by (Now β now pr u q l) (mayStart s (q .started)) _ _
       (λ e. rw (heardAll-append u (v .written) (began s ∷ []) l, ahead s (q .waiting) (q .started) l at-now o)
       (start-waiting β now pr u (began s) s (start-in s) (v .queue .waiting) (v .queue .started) (heardAll now (v .written) l) at-now (ousted-owned β now pr s q l a o)))
-      (λ e. dismissed-owned β now pr u q (heard (byThen u l d) (ended Failed s) l) 109 (s .conn) (s .id) (λ x. end-109 x)
+      (λ e. dismissed-owned β now pr u f (heard (byThen u l d) (ended Failed s) l) 109 (s .conn) (s .id) (λ x. end-109 x)
       (end-waiting β now pr (byThen u l d) (ended Failed s) s (end-failed s .0) (end-failed s .1) (q .waiting) (q .started) l o))
 
   startAt-owned : (q : Queue) (l : List Airing) → All (λ x. now ≤ x .end .0) (q .started) → Owned β now pr (q .waiting) (q .started) l → Now β now pr u q l (startAt now q)
@@ -321,7 +322,7 @@ module _ (t : ℕ) (l : List Airing) where
   late-outs n [] = tt
   late-outs n (s ∷ g) = (late-out n s, late-outs n g)
 
-  late-endings : (n m : ℕ) (p : Session → Bool) (k : List Session) → All (Late t l) (endings (Complete n) (Complete m) p k)
+  late-endings : (n m : ℕ) (p : Session → Bool) (k : List Session) → All (Late t l) (endings (Complete n) (Complete m) p k Record ended)
   unfolding endings
   late-endings n m p [] = tt
   late-endings n m p (s ∷ k) = all-put (Late t l) (p s) (ended (Complete n) s) (map (ended (Complete m)) (keep p k)) (λ e. late-out n s) (late-outs m (keep p k))
@@ -338,7 +339,7 @@ module _ (t : ℕ) (l : List Airing) where
   late-ousted s q a =
       let air = getD (q .started) 0 empty in
       by (λ (r : Turn). All (Late t l) (r .written) × All Starts (r .queue .waiting)) (meetsEqual s (q .started)) _ _
-      (λ e. let d = late-dismissed 125 (air .conn) (air .id) (withStarted (removeAt 0 (q .started)) q) a in ((late-out 125 air, d .0), d .1))
+      (λ e. let d = late-dismissed 125 (air .conn) (air .id) (ending (oneEnd (Complete 125) air) (withStarted (removeAt 0 (q .started)) q) .queue) a in ((late-out 125 air, d .0), d .1))
       (λ e. (tt, a))
 
   late-launched : (s : Session) (q : Queue) → Starts s → Lates q (launched s q)
@@ -346,7 +347,7 @@ module _ (t : ℕ) (l : List Airing) where
   late-launched s q h a =
       by (λ (r : Turn). All (Late t l) (r .written) × All Starts (r .queue .waiting)) (mayStart s (q .started)) _ _
       (λ e. let o = late-ousted s q a in (all-append (Late t l) (ousted s q .written) (began s ∷ []) (o .0) (late-began s h, tt), o .1))
-      (λ e. let d = late-dismissed 109 (s .conn) (s .id) q a in ((late-failed s h, d .0), d .1))
+      (λ e. let d = late-dismissed 109 (s .conn) (s .id) (ending (oneEnd Failed s) q .queue) a in ((late-failed s h, d .0), d .1))
 
   late-startAt : (n : ℕ) (q : Queue) → Lates q (startAt n q)
   unfolding startAt
