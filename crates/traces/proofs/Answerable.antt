@@ -57,7 +57,7 @@ answered c at e low r =
     let k = lent.shifted (c .accepted) at in
     let x = reached-sound s r in
     let w = stood-now (seen k s) (x .linking .four) (few-wait (x .holding)) (few-started (x .holding))
-    (waiting-of-four (s .clock) (s .queue) (x .holding)) (within (c .accepted) at low) (all-flagged (s .clock) (s .queue) (x .holding)) in
+    (waiting-of-four (s .clock) (s .queue) (x .holding)) (within (c .accepted) at low) (all-flagged (s .clock) (s .queue) (x .holding)) (x .lately .sixteen) (x .lately .next) in
     let b = named (s .name) (x .linking .zeros) (omega (arith, x .linking .short)) in
     let same : shown (memoryOf k s) ≡ s =
     λ i. record { name = b .is i; clock = w .is i .clock; primary = w .is i .primary; links = w .is i .links; queue = w .is i .queue } in
