@@ -25,7 +25,7 @@ use Rattle.rules.specs.Ends.{Turn, writes, andThen, evicted, cancelled, closedB
 use Rattle.rules.specs.Instants.{runAll}
 use Rattle.rules.specs.Answers.{endOf, startOf, sessionAt, requested, unknownPrior, accepts, accepted}
 use Rattle.rules.specs.Calls.{Called, ticked, Call, call, after, named, fresh}
-use Rattle.demands.specs.History.{endResult, isEnd, isYes, endsOf, front, last, Entry, entryIs, withEnds, credited, lastTold, endTold, muxTold, startTold, endAsked, muxAsked, entryOf, bookAnswered, withClosed, shut, bookAfter}
+use Rattle.demands.specs.History.{endResult, isEnd, isYes, endsOf, front, last, Entry, entryIs, withEnds, credited, lastTold, endTold, muxTold, eventTold, startTold, endAsked, muxAsked, eventAsked, entryOf, bookAnswered, withClosed, shut, bookAfter}
 use Rattle.rules.specs.Sound.{Each, heldCount}
 use Rattle.rules.proofs.Tests.{clash, by, and-both, eqb-same}
 use Rattle.rules.proofs.All.{all-into}
@@ -147,9 +147,10 @@ unfolding lastTold shut
 told-shut f h c x d [] = refl
 told-shut f h c x d (e ∷ es) = rw (told-shut f h c x d es, h .shut d e)
 
--- a session's end time and what it asks of the multiplexer are what the book says
+-- a session's end time, what it asks of the multiplexer and its SpliceEventID are what the book says
 abbrev pub Dated : List Entry → Session → Type 0
-Dated es s = (endTold (s .conn) (s .id) es ≡ s .end .0) × (muxTold (s .conn) (s .id) es ≡ s .mux)
+Dated es s =
+    (endTold (s .conn) (s .id) es ≡ s .end .0) × (muxTold (s .conn) (s .id) es ≡ s .mux) × (eventTold (s .conn) (s .id) es ≡ s .event)
 
 end-lasts : Lasting (λ e. e .end)
 end-lasts = record { credited = λ rs e. refl; shut = λ d e. refl }
@@ -157,10 +158,13 @@ end-lasts = record { credited = λ rs e. refl; shut = λ d e. refl }
 mux-lasts : Lasting (λ e. e .mux)
 mux-lasts = record { credited = λ rs e. refl; shut = λ d e. refl }
 
+event-lasts : Lasting (λ e. e .event)
+event-lasts = record { credited = λ rs e. refl; shut = λ d e. refl }
+
 redated : (q : Queue) (es fs : List Entry) → ((f : Entry → ℕ) → Lasting f → (c x : ℕ) → lastTold f c x fs ≡ lastTold f c x es) → Each (Dated es) q → Each (Dated fs) q
 redated q es fs h d =
     let same : (s : Session) → Dated es s → Dated fs s =
-    λ s k. (h (λ e. e .end) end-lasts (s .conn) (s .id) ∙ k .0, h (λ e. e .mux) mux-lasts (s .conn) (s .id) ∙ k .1) in
+    λ s k. (h (λ e. e .end) end-lasts (s .conn) (s .id) ∙ k .0, h (λ e. e .mux) mux-lasts (s .conn) (s .id) ∙ k .1, h (λ e. e .event) event-lasts (s .conn) (s .id) ∙ k .2) in
     record { waiting = all-into (Dated es) (Dated fs) same (q .waiting) (d .waiting); started = all-into (Dated es) (Dated fs) same (q .started) (d .started) }
 
 -- ## The book beside the sessions held
@@ -203,7 +207,7 @@ told-start c (Linked p) q es d e = told-end c p q es d (not-false _ e)
 -- ## A session that is accepted
 
 abbrev entry : Session → Entry
-entry s = record { conn = s .conn; id = s .id; end = s .end .0; mux = s .mux; ends = 0; closed = false }
+entry s = record { conn = s .conn; id = s .id; end = s .end .0; mux = s .mux; event = s .event; ends = 0; closed = false }
 
 module _ (new : Session) (q : Queue) (es : List Entry) (b : Booked q es) (none : heldCount q (is (new .conn) (new .id)) ≡ 0) where
   abbrev t : Turn
@@ -238,7 +242,7 @@ module _ (new : Session) (q : Queue) (es : List Entry) (b : Booked q es) (none :
       (λ k. told-credited f h (u .conn) (u .id) (t .written) es)
 
   old : (u : Session) → is (new .conn) (new .id) u ≡ false → Dated es u → Dated later u
-  old u o h = (still (λ e. e .end) end-lasts u o ∙ h .0, still (λ e. e .mux) mux-lasts u o ∙ h .1)
+  old u o h = (still (λ e. e .end) end-lasts u o ∙ h .0, still (λ e. e .mux) mux-lasts u o ∙ h .1, still (λ e. e .event) event-lasts u o ∙ h .2)
 
   olds : (l : List Session) → count (is (new .conn) (new .id)) l ≡ 0 → All (Dated es) l → All (Dated later) l
   olds l z d =
@@ -247,7 +251,8 @@ module _ (new : Session) (q : Queue) (es : List Entry) (b : Booked q es) (none :
 
   own : Dated later new
   unfolding lastTold
-  own = (rw (eqb-same (new .conn), eqb-same (new .id)), rw (eqb-same (new .conn), eqb-same (new .id)))
+  own =
+      (rw (eqb-same (new .conn), eqb-same (new .id)), rw (eqb-same (new .conn), eqb-same (new .id)), rw (eqb-same (new .conn), eqb-same (new .id)))
 
   new-booked : Booked (accepted new q .queue) later
   new-booked =
@@ -263,7 +268,7 @@ module _ (s : Splicer) (es : List Entry) (b : Booked (s .queue) es) where
   abbrev q : Queue
   q = s .queue
 
-  abbrev Kept : Call → Called → Type 0
+  abbrev pub Kept : Call → Called → Type 0
   Kept k r = Booked (r .splicer .queue) (bookAnswer k (r .answer) es)
 
   closed-booked : (d : ℕ) → Booked (closedBy d q .queue) (shut d (credited (closedBy d q .written) es))
@@ -276,15 +281,15 @@ module _ (s : Splicer) (es : List Entry) (b : Booked (s .queue) es) where
       none x l = omega (arith, count-le (is d x) (of d) (λ u. bit-and (eqb d (u .conn)) (eqb x (u .id))) (omit (of d) l), count-omitted (of d) l)
 
   -- the entry of a request that is accepted
-  asked-entry : (c : ℕ) (l : List ℕ) (r : Request) → readSplice (dataIn l) ≡ Splice r → unknownPrior c (r .start) q ≡ false
+  pub asked-entry : (c : ℕ) (l : List ℕ) (r : Request) → readSplice (dataIn l) ≡ Splice r → unknownPrior c (r .start) q ≡ false
       → entryOf c (dataIn l) es ≡ entry (requested c r q)
-  unfolding entryOf endAsked muxAsked requested sessionAt
+  unfolding entryOf endAsked muxAsked eventAsked requested sessionAt
   asked-entry c l r e u = rw (e, ← (read-id (dataIn l) r e), told-start c (r .start) q es (b .dated) u)
 
   tick-booked : (until : ℕ) → Booked (runAll (s .clock) until q .queue) (credited (runAll (s .clock) until q .written) es)
   tick-booked until = turn-booked q es (runAll (s .clock) until q) b (λ c x. tick-law c x (s .clock) until q) (each-tick (Dated es) (λ d u h. h) (s .clock) until q (b .dated))
 
-  call-booked : (k : Call) → Kept k (call k s)
+  pub call-booked : (k : Call) → Kept k (call k s)
   unfolding bookAfter bookAnswered front last accepted andThen isYes requested sessionAt ticked
   call-booked =
       cases s Kept (record {

@@ -56,6 +56,7 @@ record Later (e f : Entry) : Type 0 where
   id : f .id ≡ e .id
   end : f .end ≡ e .end
   mux : f .mux ≡ e .mux
+  event : f .event ≡ e .event
   ends : e .ends ≤ f .ends
   closed : e .closed ≡ true → f .closed ≡ true
 
@@ -71,14 +72,14 @@ data Since : List Entry → List Entry → Type 0 where
 aligned-self : (es : List Entry) → Aligned es es
 aligned-self [] = none
 aligned-self (e ∷ es) =
-    let l : Later e e = record { conn = refl; id = refl; end = refl; mux = refl; ends = omega arith; closed = λ k. k } in
+    let l : Later e e = record { conn = refl; id = refl; end = refl; mux = refl; event = refl; ends = omega arith; closed = λ k. k } in
     both l (aligned-self es)
 
 aligned-credited : {es fs : List Entry} (rs : List Record) → Aligned es fs → Aligned es (credited rs fs)
 unfolding credited
 aligned-credited rs none = none
 aligned-credited rs (both {e = e} {f = f} l a) =
-    let m : Later e (withEnds rs f) = record { conn = l .conn; id = l .id; end = l .end; mux = l .mux; ends = omega (arith, l .ends); closed = l .closed } in
+    let m : Later e (withEnds rs f) = record { conn = l .conn; id = l .id; end = l .end; mux = l .mux; event = l .event; ends = omega (arith, l .ends); closed = l .closed } in
     both m (aligned-credited (omit (isEnd (f .conn) (f .id)) rs) a)
 
 since-credited : {es fs : List Entry} (rs : List Record) → Since es fs → Since es (credited rs fs)
@@ -94,7 +95,7 @@ aligned-shut : {es fs : List Entry} (d : ℕ) → Aligned es fs → Aligned es (
 unfolding shut
 aligned-shut d none = none
 aligned-shut d (both {f = f} l a) =
-    both (record { conn = l .conn; id = l .id; end = l .end; mux = l .mux; ends = l .ends; closed = λ k. or-right (eqb d (f .conn)) (f .closed) (l .closed k) }) (aligned-shut d a)
+    both (record { conn = l .conn; id = l .id; end = l .end; mux = l .mux; event = l .event; ends = l .ends; closed = λ k. or-right (eqb d (f .conn)) (f .closed) (l .closed k) }) (aligned-shut d a)
 
 since-shut : {es fs : List Entry} (d : ℕ) → Since es fs → Since es (shut d fs)
 unfolding shut
@@ -138,9 +139,9 @@ module _ (c : ℕ) where
   same-entry e f l a b o =
       let g : f .ends ≡ e .ends = omega (arith, l .ends) in
       let k : f .closed ≡ e .closed = l .closed b ∙ sym b in
-      let i : f ≡ record { conn = f .conn; id = f .id; end = f .end; mux = f .mux; ends = f .ends; closed = f .closed } = refl in
-      let j : e ≡ record { conn = e .conn; id = e .id; end = e .end; mux = e .mux; ends = e .ends; closed = e .closed } = refl in
-      i ∙ rw (l .conn, l .id, l .end, l .mux, g, k)
+      let i : f ≡ record { conn = f .conn; id = f .id; end = f .end; mux = f .mux; event = f .event; ends = f .ends; closed = f .closed } = refl in
+      let j : e ≡ record { conn = e .conn; id = e .id; end = e .end; mux = e .mux; event = e .event; ends = e .ends; closed = e .closed } = refl in
+      i ∙ rw (l .conn, l .id, l .end, l .mux, l .event, g, k)
 
   aligned-same : {es fs : List Entry} → Aligned es fs → All (Over c) es → All (λ f. f .ends ≤ 1) fs → entriesOf c fs ≡ entriesOf c es
   aligned-same none a o = refl

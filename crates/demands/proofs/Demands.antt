@@ -9,9 +9,9 @@ use lib.ListN.{length}
 use Rattle.rules.specs.declared.Request.{Request}
 use Rattle.rules.specs.declared.Refusal.{Refusal}
 use Rattle.rules.specs.declared.Refusal.the-variants.{BadName}
-use Rattle.rules.specs.Lists.{All}
+use Rattle.rules.specs.Lists.{All, count}
 use Rattle.rules.specs.Bytes.{Byte, hasZero}
-use Rattle.rules.specs.State.{Splicer}
+use Rattle.rules.specs.State.{Splicer, recent}
 use Rattle.rules.specs.Records.{recordsIn}
 use Rattle.rules.specs.Answers.{airMux, requested, spliceResult}
 use Rattle.rules.specs.Cues.{readCue}
@@ -28,6 +28,8 @@ use Rattle.demands.proofs.Aired.{ends-accepted, outs-started}
 use Rattle.demands.proofs.Closed.{from-more, close-stands}
 use Rattle.demands.proofs.Mux.{air-told, air-in-range, held-in-range}
 use Rattle.demands.proofs.Cued.{cue-same, counts-nothing, to-whom, whole-section}
+use Rattle.demands.specs.Lately.{endedTold, ofNumber, endedOnce, KeptAs}
+use Rattle.demands.proofs.Lately.{lately-told, one-kept-each}
 
 -- ## "Over all sequences of opens, closes, messages and ticks from a fresh splicer"
 
@@ -154,3 +156,15 @@ cue-to-whom = to-whom
 pub cue-whole : (h : List Event) (s : Splicer) → FromFresh h s → (l : List ℕ) (pts seconds micros room : ℕ) → All Byte l
     → All (Carries l) (recordsIn (writtenBy (call (cues l pts seconds micros room) s .answer)))
 cue-whole = whole-section
+
+-- ## Document 02, CR 8
+
+-- "the last 16 ended sessions": what is kept is, newest first, the first 16 of the ends that the answers tell; connection, SessionID and result
+-- from each end record that is no Splice_Request's own answer, SpliceEventID from the request that its connection last had accepted under that
+-- SessionID, PlayedDuration from the record where it shows one
+pub kept-as-told : (h : List Event) (s : Splicer) → FromFresh h s → KeptAs (recent (s .queue .lately)) (endedTold h [] [])
+kept-as-told = lately-told
+
+-- each accepted session that has ended makes one of them, and one that has not ended none
+pub one-kept-for-each : (h : List Event) (s : Splicer) → FromFresh h s → (c x : ℕ) → count (ofNumber c x) (endedTold h [] []) ≡ endedOnce c x (book h [])
+one-kept-for-each = one-kept-each

@@ -29,7 +29,7 @@ unfoldable pub bookOf : List Call → Splicer → List Entry → List Entry
 bookOf [] s es = es
 bookOf (k ∷ ks) s es = bookOf ks (call k s .splicer) (bookAnswer k (call k s .answer) es)
 
-sound-fits : (s : Splicer) (k : Call) → Wired k → Sound s → All Fits (recordsOf (call k s .answer))
+pub sound-fits : (s : Splicer) (k : Call) → Wired k → Sound s → All Fits (recordsOf (call k s .answer))
 sound-fits s k w h =
     let g = h .holding in
     call-fits k s w (record { aired = record { timed = g .timed; played = g .played }; proper = g .proper; small = g .small; clock = h .clock; linking = h .linking })
@@ -39,7 +39,7 @@ unfolding waitReplied writtenBy
 wait-answer c k (refused n) w f = refl
 wait-answer c k (good consumed rs) w f = ap (λ l. waitAfter c k l w) (read-back rs f)
 
-book-answer : (k : Call) (a : Answer) (es : List Entry) → All Fits (recordsOf a) → bookReplied k (replyOf a) es ≡ bookAnswer k a es
+pub book-answer : (k : Call) (a : Answer) (es : List Entry) → All Fits (recordsOf a) → bookReplied k (replyOf a) es ≡ bookAnswer k a es
 unfolding bookReplied writtenBy
 book-answer k (refused n) es f = refl
 book-answer k (good consumed rs) es f = ap (λ l. bookAfter k l es) (read-back rs f)

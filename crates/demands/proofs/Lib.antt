@@ -11,6 +11,7 @@ pub mod Book
 pub mod Once
 pub mod Closed
 pub mod Mux
+pub mod Lately
 pub mod Aired
 pub mod Ninths
 pub mod Marks

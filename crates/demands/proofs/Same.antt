@@ -16,7 +16,7 @@ use Rattle.rules.specs.Reading.{sessionID, readSplice, dataIn}
 use Rattle.rules.specs.State.{sameNumber}
 use Rattle.rules.specs.Records.{Record, recordsIn}
 use Rattle.rules.specs.Calls.{Call, opens, closes, messages, ticks, moves, cues}
-use Rattle.demands.specs.History.{Reply, refusal, wrote, Event, Entry, entryIs, isStart, isEnd, grantedIn, othersIn, credited, lastTold, endTold, startTold, endAsked, muxAsked, entryOf, bookAnswered, shut, bookAfter, bookReplied, book, clockReplied}
+use Rattle.demands.specs.History.{Reply, refusal, wrote, Event, Entry, entryIs, isStart, isEnd, grantedIn, othersIn, credited, lastTold, endTold, startTold, endAsked, muxAsked, eventAsked, entryOf, bookAnswered, shut, bookAfter, bookReplied, book, clockReplied}
 use Rattle.rules.proofs.Tests.{by, and-both, eqb-same}
 use Rattle.demands.specs.Airing.{Airing, airingIs, newest, begins, ends, marked, concerns, heard, byThen, heardAll, startAsked, airingAsked, airedAnswered, airedAfter, airedReplied, airings}
 use Rattle.demands.proofs.Marks.{other}
@@ -118,7 +118,7 @@ module _ (l : List Airing) (es : List Entry) (h : map ofAiring l ≡ map ofEntry
       x = sessionID (dataIn b)
 
       go : (y : Bool) → map ofAiring (put y (airingAsked d x (readSplice (dataIn b)) l) (heardAll u (othersIn b rs) l))
-          ≡ map ofEntry (put y (record { conn = d; id = x; end = endAsked d (readSplice (dataIn b)) es; mux = muxAsked (readSplice (dataIn b)); ends = 0; closed = false }) (credited (othersIn b rs) es))
+          ≡ map ofEntry (put y (record { conn = d; id = x; end = endAsked d (readSplice (dataIn b)) es; mux = muxAsked (readSplice (dataIn b)); event = eventAsked (readSplice (dataIn b)); ends = 0; closed = false }) (credited (othersIn b rs) es))
       go true = rw (key-asked d x (readSplice (dataIn b)), heard-credited u (othersIn b rs))
       go false = heard-credited u (othersIn b rs)
 

@@ -140,13 +140,14 @@ waitingCount c h = length (waitingTold c h [])
 
 -- ## The sessions accepted, the newest first
 
--- connection, number and end time, what it asked of the multiplexer (02, CR 5), the ends written for it, and whether its connection has
--- closed since
+-- connection, number and end time, what it asked of the multiplexer (02, CR 5), its SpliceEventID (02, CR 8), the ends written for it, and
+-- whether its connection has closed since
 pub record Entry : Type 0 where
   pub conn : ℕ
   pub id : ℕ
   pub end : ℕ
   pub mux : ℕ
+  pub event : ℕ
   pub ends : ℕ
   pub closed : Bool
 
@@ -160,6 +161,7 @@ withEnds rs e =
       id = e .id;
       end = e .end;
       mux = e .mux;
+      event = e .event;
       ends = e .ends + endsOf (e .conn) (e .id) rs;
       closed = e .closed;
     }
@@ -182,6 +184,10 @@ endTold c x es = lastTold (λ e. e .end) c x es
 abbrev pub muxTold : ℕ → ℕ → List Entry → ℕ
 muxTold c x es = lastTold (λ e. e .mux) c x es
 
+-- 02, CR 8: its SpliceEventID
+abbrev pub eventTold : ℕ → ℕ → List Entry → ℕ
+eventTold c x es = lastTold (λ e. e .event) c x es
+
 unfoldable pub startTold : ℕ → Start → List Entry → ℕ
 startTold c (Timed t) es = fromMicros t .0
 startTold c (Linked p) es = endTold c p es
@@ -202,6 +208,14 @@ muxAsked (Splice r) = r .mux
 muxAsked (Abort x) = 0
 muxAsked Unreadable = 0
 
+-- the SpliceEventID of a message
+unfoldable pub eventAsked : Message → ℕ
+eventAsked (Init revision) = 0
+eventAsked Alive = 0
+eventAsked (Splice r) = r .event
+eventAsked (Abort x) = 0
+eventAsked Unreadable = 0
+
 -- the entry of a Splice_Request with the data d
 unfoldable pub entryOf : ℕ → List ℕ → List Entry → Entry
 entryOf c d es =
@@ -210,6 +224,7 @@ entryOf c d es =
       id = sessionID d;
       end = endAsked c (readSplice d) es;
       mux = muxAsked (readSplice d);
+      event = eventAsked (readSplice d);
       ends = 0;
       closed = false;
     }
@@ -225,6 +240,7 @@ withClosed d e =
       id = e .id;
       end = e .end;
       mux = e .mux;
+      event = e .event;
       ends = e .ends;
       closed = eqb d (e .conn) || e .closed;
     }

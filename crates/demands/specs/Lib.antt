@@ -1,4 +1,5 @@
 pub mod History
+pub mod Lately
 pub mod Airing
 pub mod Told
 pub mod Moments

@@ -12,13 +12,14 @@ use Rattle.rules.specs.declared.When.the-variants.{At}
 use Rattle.rules.specs.Lists.{All, some, count}
 use Rattle.rules.specs.Bytes.{Byte, hasZero}
 use Rattle.rules.specs.Records.{recordsIn}
-use Rattle.rules.specs.State.{empty, Sorted, startsAt, startsAfter, earliest, due}
+use Rattle.rules.specs.State.{empty, Sorted, startsAt, startsAfter, earliest, due, recent}
 use Rattle.rules.specs.Sound.{Each, Falling, Coded}
 use Rattle.rules.specs.Answers.{requested, spliceResult}
 use Rattle.rules.specs.Cues.{readCue}
 use Rattle.rules.specs.Calls.{lending, fresh, after}
 use Rattle.demands.specs.History.{Event, startsOf, endsOf, history, ownAnswer, othersOf, waitingCount, book, clockAfter}
 use Rattle.demands.specs.Told.{firstNumber, checks, answers, Asks, Passes, fullTold, countsTold, grantedBy, outsOf, startedTold, unended, Ended, Stands, airMuxTold, MuxInRange, connOf, concerned, Carries, Alike}
+use Rattle.demands.specs.Lately.{endedTold, ofNumber, endedOnce, KeptAs}
 use Rattle.demands.specs.Airing.{airingsTold, clockTold, primaryTold, timeTold, airTold, numberTold}
 use Rattle.demands.specs.Moments.{Gapless, Printed, Within, PlayedAs}
 use Rattle.places.specs.Places.{round, next}
@@ -229,6 +230,19 @@ module _ (name : List ℕ) (h : List Made) (m : Memory) where
   -- and it is 1 to 10
   pub air-mux-in-range : Trace name h m → (r : ℕ) → ReadsMux (m .words) (m .bytes) r → (1 ≤ r) × (r ≤ 10)
   air-mux-in-range t = called.air-mux-in-range name (within h) m (trace-inside name h m t)
+
+-- ## Document 02, CR 8
+
+module _ (name : List ℕ) (h : List Made) (m : Memory) where
+  -- "The state now also keeps the last 16 ended sessions .. oldest dropped first": what the words keep is, newest first, the first 16 of the ends
+  -- that the answers' bytes tell: connection, SessionID and result of each end record, the SpliceEventID of the request that its connection last had
+  -- accepted under that SessionID, and the PlayedDuration where the record shows one
+  pub kept-as-told : Trace name h m → KeptAs (recent (shown m .queue .lately)) (endedTold (events h) [] [])
+  kept-as-told t = rw (trace-events name h m t) (called.kept-as-told name (within h) m (trace-inside name h m t))
+
+  -- each accepted session that has ended has made one of them, and one that has not ended none
+  pub one-kept-for-each : Trace name h m → (c x : ℕ) → count (ofNumber c x) (endedTold (events h) [] []) ≡ endedOnce c x (book (events h) [])
+  one-kept-for-each t = rw (trace-events name h m t) (called.one-kept-for-each name (within h) m (trace-inside name h m t))
 
 -- ## Document 02, CR 10
 

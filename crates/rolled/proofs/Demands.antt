@@ -10,17 +10,18 @@ use native.Mathlib.Omega.{arith}
 use native.Mathlib.Nat.{le-trans}
 use lib.ListN.{length}
 use Rattle.rules.specs.declared.Request.{Request}
-use Rattle.rules.specs.Lists.{All}
+use Rattle.rules.specs.Lists.{All, count}
 use Rattle.rules.specs.Bytes.{Byte, hasZero}
 use Rattle.rules.specs.Records.{recordsIn}
 use Rattle.rules.specs.Answers.{requested, spliceResult}
 use Rattle.rules.specs.Units.{timeOf, fromMicros}
 use Rattle.rules.specs.Calls.{lending, fresh, after}
-use Rattle.rules.specs.State.{Sorted}
+use Rattle.rules.specs.State.{Sorted, recent}
 use Rattle.rules.specs.Sound.{horizon, Each, Falling, Coded}
 use Rattle.rules.specs.Rolling.{none, Rolling, stepOf, rollingOf, rollingFresh, instants, readings, roll, rolledAfter, asMoves}
 use Rattle.demands.specs.History.{startsOf, endsOf, history, ownAnswer, waitingCount, book, clockAfter}
 use Rattle.demands.specs.Told.{firstNumber, numberOf, answers, Asks, Passes, fullTold, countsTold, outsOf, startedTold, unended, Ended, Stands, airMuxTold, MuxInRange}
+use Rattle.demands.specs.Lately.{endedTold, ofNumber, endedOnce, KeptAs}
 use Rattle.demands.specs.Airing.{airingsTold, clockTold, primaryTold, timeTold, airTold, numberTold}
 use Rattle.demands.specs.Moments.{Gapless, Printed, Within, PlayedAs}
 use Rattle.memory.specs.Memory.{see, countsOf}
@@ -267,6 +268,19 @@ module _ (name : List ℕ) (h : List Made) (m : Memory) where
   pub air-mux-told : Trace name h m → (r : ℕ) → ReadsMux (m .core .words) (m .core .bytes) r
       → r ≡ airMuxTold (shown m .splicer .queue .started) (book (events h) [])
   air-mux-told t = called.air-mux-told name (within h) (m .core) (trace-inside name h m t)
+
+-- ## Document 02, CR 8
+
+module _ (name : List ℕ) (h : List Made) (m : Memory) where
+  -- "The state now also keeps the last 16 ended sessions .. oldest dropped first": what the words keep is, newest first, the first 16 of the ends
+  -- that the answers' bytes tell: connection, SessionID and result of each end record, the SpliceEventID of the request that its connection last had
+  -- accepted under that SessionID, and the PlayedDuration where the record shows one
+  pub kept-as-told : Trace name h m → KeptAs (recent (shown m .splicer .queue .lately)) (endedTold (events h) [] [])
+  kept-as-told t = called.kept-as-told name (within h) (m .core) (trace-inside name h m t)
+
+  -- each accepted session that has ended has made one of them, and one that has not ended none
+  pub one-kept-for-each : Trace name h m → (c x : ℕ) → count (ofNumber c x) (endedTold (events h) [] []) ≡ endedOnce c x (book (events h) [])
+  one-kept-for-each t = called.one-kept-for-each name (within h) (m .core) (trace-inside name h m t)
 
 -- ## Document 02, CR 10
 

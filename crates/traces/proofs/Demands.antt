@@ -13,7 +13,7 @@ use Rattle.rules.specs.declared.When.the-variants.{At, Never}
 use Rattle.rules.specs.Lists.{All, some, count}
 use Rattle.rules.specs.Bytes.{Byte, hasZero}
 use Rattle.rules.specs.Records.{recordsIn}
-use Rattle.rules.specs.State.{Splicer, empty, Sorted, startsAt, startsAfter, sooner, earliest, due}
+use Rattle.rules.specs.State.{Splicer, empty, Sorted, startsAt, startsAfter, sooner, earliest, due, recent}
 use Rattle.rules.specs.Sound.{Each, Later, Falling, Coded}
 use Rattle.rules.specs.Answers.{requested, spliceResult}
 use Rattle.rules.specs.Cues.{readCue}
@@ -27,6 +27,7 @@ use Rattle.places.specs.Places.{round, next}
 use Rattle.memory.specs.Memory.{see, placesFrom, countsOf, tallied}
 use Rattle.engine.specs.Lent.{Lent, Counts, Primary, ReadsMux}
 use Rattle.demands.specs.Told.{firstNumber, checks, answers, Asks, Passes, fullTold, countsTold, grantedBy, outsOf, startedTold, unended, Ended, Stands, airMuxTold, MuxInRange, connOf, concerned, Carries, Alike}
+use Rattle.demands.specs.Lately.{endedTold, ofNumber, endedOnce, KeptAs}
 use Rattle.demands.specs.Airing.{airingsTold, clockTold, primaryTold, timeTold, airTold, numberTold}
 use Rattle.demands.specs.Moments.{Gapless, Printed, Within, PlayedAs}
 use Rattle.demands.proofs.Demands as told
@@ -217,6 +218,19 @@ module _ (name : List ℕ) (h : List Made) (m : Memory) where
   -- and it is 1 to 10
   pub air-mux-in-range : Trace name h m → (r : ℕ) → ReadsMux (m .words) (m .bytes) r → (1 ≤ r) × (r ≤ 10)
   air-mux-in-range t r c = rw c (told.air-mux-in-range (events h) (shown m) (trace-told name h m t))
+
+-- ## Document 02, CR 8
+
+module _ (name : List ℕ) (h : List Made) (m : Memory) where
+  -- "The state now also keeps the last 16 ended sessions .. oldest dropped first": what the words keep is, newest first, the first 16 of the ends
+  -- that the answers' bytes tell: connection, SessionID and result of each end record, the SpliceEventID of the request that its connection last had
+  -- accepted under that SessionID, and the PlayedDuration where the record shows one
+  pub kept-as-told : Trace name h m → KeptAs (recent (shown m .queue .lately)) (endedTold (events h) [] [])
+  kept-as-told t = told.kept-as-told (events h) (shown m) (trace-told name h m t)
+
+  -- each accepted session that has ended has made one of them, and one that has not ended none
+  pub one-kept-for-each : Trace name h m → (c x : ℕ) → count (ofNumber c x) (endedTold (events h) [] []) ≡ endedOnce c x (book (events h) [])
+  one-kept-for-each t = told.one-kept-for-each (events h) (shown m) (trace-told name h m t)
 
 -- ## Document 02, CR 10
 
