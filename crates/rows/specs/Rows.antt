@@ -1,0 +1,66 @@
+-- 02, CR 8: the driver's page. From the words in which what ended is kept, sixteen rows, the newest first; for any words.
+use mathlib.Core.Path.{_≡_}
+use mathlib.Core.Bool.{cond}
+use mathlib.Core.List.{List}
+use Prim.Native.Nat.{ℕ, zero, suc, _+_, _-_, _*_, _%_}
+use lib.Dec.{eqb, ltb}
+use lib.ListN.{length, set, getD}
+use Rattle.rows.specs.declared.Row.{Row}
+
+-- "the last 16 ended sessions": sixteen places of five words, and which of them is written next
+abbrev pub rows : ℕ
+rows = 16
+
+abbrev pub width : ℕ
+width = 5
+
+abbrev pub nextWord : ℕ
+nextWord = rows * width
+
+abbrev pub words : ℕ
+words = nextWord + 1
+
+-- the place of the row i, "filled from the newest down": places are written in turn, so the newest stands before the next one
+abbrev pub placeOf : (next i : ℕ) → ℕ
+placeOf n i = (n % rows + (rows - 1 - i)) % rows
+
+-- "unused rows marked empty, numbers 0"
+abbrev pub unusedRow : Row
+unusedRow = record { kept = 0; connection = 0; session = 0; event = 0; result = 0; played = 0 }
+
+abbrev pub narrow : ℕ → ℕ
+narrow n = n % 4294967296
+
+-- the place that begins with the word b: connection, SessionID, SpliceEventID, result, PlayedDuration
+abbrev pub keptRow : List ℕ → ℕ → Row
+keptRow e b =
+    record {
+      kept = 1;
+      connection = narrow (getD e b 0);
+      session = narrow (getD e (b + 1) 0);
+      event = narrow (getD e (b + 2) 0);
+      result = narrow (getD e (b + 3) 0);
+      played = narrow (getD e (b + 4) 0);
+    }
+
+-- no end has the result 0: a place whose result is 0 keeps nothing
+unfoldable pub placeRow : List ℕ → ℕ → Row
+placeRow e b = cond (eqb (getD e (b + 3) 0) 0) unusedRow (keptRow e b)
+
+-- fewer words keep nothing
+unfoldable pub rowAt : List ℕ → ℕ → Row
+rowAt e i = cond (ltb (length e) words) unusedRow (placeRow e (placeOf (getD e nextWord 0) i * width))
+
+-- "the caller lends sixteen rows"; "house number 16 for other than sixteen rows", of which none is filled
+abbrev pub sixteen : ℕ → ℕ
+sixteen n = cond (eqb n rows) rows 0
+
+-- the first n rows are f's
+unfoldable pub filled : ℕ → (ℕ → Row) → List Row → List Row
+filled zero f l = l
+filled (suc n) f l = set (filled n f l) n (f n)
+
+-- what the page promises, of the kept words e and the rows lent: how many it filled, all of sixteen or none, and the rows after
+pub record Pages (e : List ℕ) (lent : List Row) (r : ℕ) (after : List Row) : Type 0 where
+  pub count : r ≡ sixteen (length lent)
+  pub rows : after ≡ filled (sixteen (length lent)) (rowAt e) lent
