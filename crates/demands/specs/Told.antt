@@ -16,7 +16,7 @@ use Rattle.rules.specs.Lists.{All, keep, count}
 use Rattle.rules.specs.Bytes.{Byte, messageSize, oversize}
 use Rattle.rules.specs.Reading.{averageMux, spliceRequest, readSplice, dataIn}
 use Rattle.rules.specs.State.{Splicer, linkOf, isOpen, isInitialised}
-use Rattle.rules.specs.Records.{Record, General, InitResponse, AliveResponse, SpliceResponse, SpliceComplete, AbortResponse, CueRequest, recordBytes, recordsIn}
+use Rattle.rules.specs.Records.{Record, General, InitResponse, AliveResponse, SpliceResponse, SpliceComplete, AbortResponse, CueRequest, ExtendedFound, ExtendedNone, recordBytes, recordsIn}
 use Rattle.rules.specs.Cues.{badSection}
 use Rattle.rules.specs.Answers.{fullBy, firstOf, requested, wrongNumber, tooLate, collides}
 use Rattle.rules.specs.Calls.{houseNumber, Answer, refused, good, Called, writtenBy, consumedBy, bufferAfter, noConnection, noRoom, notOpen, fresh, framing, Loans, Call, opens, closes, messages, ticks, moves, cues, after}
@@ -176,6 +176,8 @@ connOf (SpliceResponse c r x) = c
 connOf (SpliceComplete c r x flag played) = c
 connOf (AbortResponse c r x) = c
 connOf (CueRequest c a u l) = c
+connOf (ExtendedFound c x event ended played) = c
+connOf (ExtendedNone c x) = c
 
 -- whom a section concerns of which x comes: every initialised connection, from 0 upward, or nobody
 unfoldable pub concerned : Cue → Splicer → List ℕ
@@ -192,6 +194,8 @@ Carries l (AliveResponse c r state x t) = Unit {0}
 Carries l (SpliceResponse c r x) = Unit {0}
 Carries l (SpliceComplete c r x flag played) = Unit {0}
 Carries l (AbortResponse c r x) = Unit {0}
+Carries l (ExtendedFound c x event ended played) = Unit {0}
+Carries l (ExtendedNone c x) = Unit {0}
 Carries l (CueRequest c a u m) = drop 18 (recordBytes (CueRequest c a u m)) ≡ l
 
 -- what the answers of g tell is what those of h tell: each connection's waiting sessions, the book, the clock, what has started, and so who owned each

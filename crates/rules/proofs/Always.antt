@@ -90,6 +90,7 @@ module _ (F : Call → Type 0) (P : Splicer → Type 0) (k : Kept F P) where
         alive = λ e f. h;
         unknown = λ x e i f. h;
         aborting = λ x e i held f. k .aborting s c x low up held h;
+        recalling = λ x e i f. h;
         declining = λ r v e i b n f. h;
         accepting = λ r e i p f. k .accepting s c r (record { low = low; linked = up; passed = p; bytes = l; size = messageSize l; loans = loans; given = f; isRead = i }) h;
       }

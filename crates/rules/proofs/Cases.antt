@@ -16,11 +16,11 @@ use Rattle.rules.specs.declared.Message.the-variants.{Splice}
 use Rattle.rules.specs.declared.Link.the-variants.{Closed, Opened, Initialised}
 use Rattle.rules.specs.Units.{timeOf, badMicros, fromMicros}
 use Rattle.rules.specs.Bytes.{messageID, messageSize, oversize, field, sameName}
-use Rattle.rules.specs.Reading.{initRequest, aliveRequest, spliceRequest, abortRequest, channelName, sessionID, badInit, tailOf, badSplice, wholeRequest, readInit, readAlive, readAbort, readWhole, readSplice, isRead, read, dataIn, isSplice}
+use Rattle.rules.specs.Reading.{initRequest, aliveRequest, spliceRequest, abortRequest, extendedRequest, channelName, sessionID, badInit, badExtended, tailOf, badSplice, wholeRequest, readInit, readAlive, readAbort, readExtended, readWhole, readSplice, isRead, read, dataIn, isSplice}
 use Rattle.rules.specs.State.{Splicer, holds, linkOf, isOpen, isInitialised, withQueue, withLink}
 use Rattle.rules.specs.Records.{General, InitResponse, SpliceResponse, AbortResponse}
 use Rattle.rules.specs.Ends.{Turn, andThen, writes, aborted, closedBy}
-use Rattle.rules.specs.Answers.{Answered, says, turns, requested, wrongNumber, tooLate, collides, full, firstOf, spliceResult, Spliced, grants, splices, answerSplice, answerAbort, initResult, answerInit, aliveResponse, answerRead, answer}
+use Rattle.rules.specs.Answers.{Answered, says, turns, requested, wrongNumber, tooLate, collides, full, firstOf, spliceResult, Spliced, grants, splices, answerSplice, answerAbort, initResult, answerInit, aliveResponse, extendedResponse, answerRead, answer}
 use Rattle.rules.specs.Calls.{Called, refuse, does, replies, noConnection, noRoom, notOpen, openCall, closeCall, framing, handled, messageCall, ticked, moveCall, tickCall, Loans, Call, opens, closes, messages, ticks, moves, cues, cueCall, call}
 use Rattle.rules.specs.Cues.{badSection, readCue, cueTime, initialised, cueRecords}
 use Rattle.rules.specs.Lists.{All, some}
@@ -43,6 +43,7 @@ pub record Answering (c : ℕ) (l : List ℕ) (s : Splicer) (D : Answered → Ty
   pub unknown : (x : ℕ) → isSplice l ≡ false → x ≡ sessionID (dataIn l) → D (says (AbortResponse c 121 x ∷ []) s)
   pub aborting : (x : ℕ) → isSplice l ≡ false → x ≡ sessionID (dataIn l) → holds c x (s .queue) ≡ true
       → D (turns (andThen (writes (AbortResponse c 100 x ∷ []) (s .queue)) (aborted c x)) s)
+  pub recalling : (x : ℕ) → isSplice l ≡ false → x ≡ sessionID (dataIn l) → D (says (extendedResponse c x (s .queue) ∷ []) s)
   pub declining : (r : Request) (v : ℕ) → isSplice l ≡ true → readSplice (dataIn l) ≡ Splice r → Given v → eqb v 100 ≡ false
       → D (says (SpliceResponse c v (r .id) ∷ []) s)
   pub accepting : (r : Request) → isSplice l ≡ true → readSplice (dataIn l) ≡ Splice r → Passed (s .clock) c r (s .queue)
@@ -111,7 +112,7 @@ module _ (c : ℕ) (l : List ℕ) (s : Splicer) (D : Answered → Type 0) (k : A
       (λ i. k .accepting r e f (passed-all (s .clock) c r q (eqb-true v 100 i))) (λ i. k .declining r v e f low i)
 
   read-case : D (answerRead c (read (messageID l) (dataIn l)) (dataIn l) s)
-  unfolding answerRead answerInit read readInit readAlive readAbort readWhole readSplice
+  unfolding answerRead answerInit read readInit readAlive readAbort readExtended readWhole readSplice
   read-case =
       let d = dataIn l in
       let M : Message → Type 0 = λ m. D (answerRead c m d s) in
@@ -124,7 +125,8 @@ module _ (c : ℕ) (l : List ℕ) (s : Splicer) (D : Answered → Type 0) (k : A
       (λ g. by M (ltb (length d) 18) _ _ (λ h. bad)
       (λ h. by M (badSplice d (tailOf d)) _ _ (λ i. bad) (λ i. splice-case (wholeRequest d (tailOf d)) g (rw (h, i)))))
       (λ g. by M (eqb (messageID l) abortRequest) _ _
-      (λ h. by M (eqb (length d) 4) _ _ (λ i. abort-case (sessionID d) g refl) (λ i. bad)) (λ h. bad))))
+      (λ h. by M (eqb (length d) 4) _ _ (λ i. abort-case (sessionID d) g refl) (λ i. bad))
+      (λ h. by M (eqb (messageID l) extendedRequest) _ _ (λ i. by M (badExtended d) _ _ (λ j. bad) (λ j. k .recalling (sessionID d) g refl)) (λ i. bad)))))
 
   answer-case : D (answer c (messageID l) (dataIn l) s)
   unfolding answer

@@ -20,7 +20,7 @@ use Rattle.rules.specs.State.{Queue, Splicer, empty, of, is, startsAt, e
 use Rattle.rules.specs.Records.{Record, output, recordsIn}
 use Rattle.rules.specs.Ends.{Turn, andThen, ended, ending, oneEnd, endings, followers, dismissed, evictedAt, evicted, cancelled, aborted, closedBy}
 use Rattle.rules.specs.Instants.{mayStart, began, meetsEqual, ousted, launched, startAt, endAt, instant, elapse, run, runAll}
-use Rattle.rules.specs.Answers.{airState, airID, aliveResponse, sessionAt, requested, accepts, accepted, answer}
+use Rattle.rules.specs.Answers.{airState, airID, aliveResponse, extendedResponse, sessionAt, requested, accepts, accepted, answer}
 use Rattle.rules.specs.Calls.{Answer, refused, good, ticked, Call, call, writtenBy}
 use Rattle.rules.proofs.Tests.{by}
 use Rattle.rules.proofs.All.{All, all-append, all-into}
@@ -271,7 +271,7 @@ unfolding read
 read-asked d a r e = splice-grants d a spliceRequest r e
 
 message-fits : (s : Splicer) → Healthy s → (c : ℕ) (l : List ℕ) → c ≤ 3 → Answering c l s (λ a. All Byte l → All Fits (a .written))
-unfolding andThen requested sessionAt
+unfolding andThen requested sessionAt extendedResponse
 message-fits s h c l low =
     record {
       silent = λ e a. tt;
@@ -280,6 +280,7 @@ message-fits s h c l low =
       alive = λ e a. (alive-fits c low s h, tt);
       unknown = λ x e i a. (((omega arith, omega arith), number x i a), tt);
       aborting = λ x e i held a. (((omega arith, omega arith), number x i a), aborted-fits c x (s .queue) (tell-now (s .clock) (s .queue) (telling-of s h)));
+      recalling = λ x e i a. ((omega arith, number x i a), tt);
       declining = λ r v e i b n a. (((omega arith, given-below v b), asked r i a .id), tt);
       accepting = λ r e i p a. accepted-fits (requested c r (s .queue)) (s .queue) ((omega arith, omega arith), asked r i a .id) (telling-of s h .numbered);
     }

@@ -9,7 +9,7 @@ use lib.ListN.{length, take, drop, length-append}
 use lib.Seq.{drop-at, take-at}
 use borrow.Author.Tests.{ne-eqb}
 use Rattle.rules.specs.Bytes.{bytes, valueFrom, value, field, padded, nameIn}
-use Rattle.rules.specs.Records.{Record, General, InitResponse, AliveResponse, SpliceResponse, SpliceComplete, AbortResponse, CueRequest, framed, recordBytes, output, recordIn, recordsUpTo, recordsIn}
+use Rattle.rules.specs.Records.{Record, General, InitResponse, AliveResponse, SpliceResponse, SpliceComplete, AbortResponse, ExtendedFound, ExtendedNone, CueRequest, framed, recordBytes, output, recordIn, recordsUpTo, recordsIn}
 use Rattle.rules.proofs.All.{All, all-append}
 use Rattle.rules.proofs.Bytes.{Byte, bytes-byte, value-bytes, NoZero, length-padded, nameIn-padded, padded-byte}
 
@@ -26,6 +26,8 @@ Fits (SpliceResponse c r x) = Headed c r × (x < 4294967296)
 Fits (SpliceComplete c r x flag played) = Headed c r × (x < 4294967296) × (flag < 256) × (played < 4294967296)
 Fits (AbortResponse c r x) = Headed c r × (x < 4294967296)
 Fits (CueRequest c a u l) = (c < 256) × (a < 4294967296) × (u < 4294967296) × (length l ≤ 512) × All Byte l
+Fits (ExtendedFound c x event ended played) = (c < 256) × (x < 4294967296) × (event < 4294967296) × (ended < 65536) × (played < 4294967296)
+Fits (ExtendedNone c x) = (c < 256) × (x < 4294967296)
 
 -- ## Lengths
 
@@ -38,6 +40,8 @@ sizeOf (SpliceResponse c r x) = 14
 sizeOf (SpliceComplete c r x flag played) = 23
 sizeOf (AbortResponse c r x) = 14
 sizeOf (CueRequest c a u l) = 18 + length l
+sizeOf (ExtendedFound c x event ended played) = 30
+sizeOf (ExtendedNone c x) = 14
 
 -- a name that has 32 bytes' room, a section that has 512
 abbrev pub Roomy : Record → Type 0
@@ -48,6 +52,8 @@ Roomy (SpliceResponse c r x) = Unit {0}
 Roomy (SpliceComplete c r x flag played) = Unit {0}
 Roomy (AbortResponse c r x) = Unit {0}
 Roomy (CueRequest c a u l) = length l ≤ 512
+Roomy (ExtendedFound c x event ended played) = Unit {0}
+Roomy (ExtendedNone c x) = Unit {0}
 
 pub fits-roomy : (r : Record) → Fits r → Roomy r
 fits-roomy (General c r) f = tt
@@ -57,6 +63,8 @@ fits-roomy (SpliceResponse c r x) f = tt
 fits-roomy (SpliceComplete c r x flag played) f = tt
 fits-roomy (AbortResponse c r x) f = tt
 fits-roomy (CueRequest c a u l) f = f .3
+fits-roomy (ExtendedFound c x event ended played) f = tt
+fits-roomy (ExtendedNone c x) f = tt
 
 pub length-record : (r : Record) → Roomy r → length (recordBytes r) ≡ sizeOf r
 unfolding recordBytes framed bytes
@@ -67,6 +75,8 @@ length-record (SpliceResponse c r x) h = refl
 length-record (SpliceComplete c r x flag played) h = refl
 length-record (AbortResponse c r x) h = refl
 length-record (CueRequest c a u l) h = omega arith
+length-record (ExtendedFound c x event ended played) h = refl
+length-record (ExtendedNone c x) h = refl
 
 -- ## Read back
 
@@ -101,6 +111,9 @@ record-back (CueRequest c a u l) f more =
     let n = length (bytes 4 a ++ (bytes 4 u ++ l)) in
     four CueRequest (value-bytes 1 c (f .0)) (value-bytes 4 a (f .1)) (value-bytes 4 u (f .2))
     (ap (λ k. take (k - 8) (l ++ more)) (value-bytes 2 n (omega (arith, f .3))) ∙ take-at l more (n - 8) (omega arith))
+record-back (ExtendedFound c x event ended played) f more =
+    five ExtendedFound (value-bytes 1 c (f .0)) (value-bytes 4 x (f .1)) (value-bytes 4 event (f .2)) (value-bytes 2 ended (f .3)) (value-bytes 4 played (f .4))
+record-back (ExtendedNone c x) f more = ap₂ ExtendedNone (value-bytes 1 c (f .0)) (value-bytes 4 x (f .1))
 
 -- what stands behind a framed body
 frame-rest : (c id r : ℕ) (d more : List ℕ) → length d < 65536 → drop (10 + field 4 2 (framed c id r d ++ more)) (framed c id r d ++ more) ≡ more
@@ -120,6 +133,9 @@ rest-back (SpliceComplete c r x flag played) h more =
     frame-rest c 0x0009 r (bytes 4 x ++ (bytes 1 flag ++ (bytes 4 0 ++ bytes 4 played))) more (omega arith)
 rest-back (AbortResponse c r x) h more = frame-rest c 0x000F r (bytes 4 x) more (omega arith)
 rest-back (CueRequest c a u l) h more = frame-rest c 0x000C 0xFFFF (bytes 4 a ++ (bytes 4 u ++ l)) more (omega arith)
+rest-back (ExtendedFound c x event ended played) h more =
+    frame-rest c 0x0004 100 (bytes 4 x ++ (bytes 1 0x01 ++ (bytes 1 14 ++ (bytes 4 0x43415244 ++ (bytes 4 event ++ (bytes 2 ended ++ bytes 4 played)))))) more (omega arith)
+rest-back (ExtendedNone c x) h more = frame-rest c 0x0004 121 (bytes 4 x) more (omega arith)
 
 size-positive : (r : Record) → 0 < sizeOf r
 size-positive (General c r) = omega arith
@@ -129,6 +145,8 @@ size-positive (SpliceResponse c r x) = omega arith
 size-positive (SpliceComplete c r x flag played) = omega arith
 size-positive (AbortResponse c r x) = omega arith
 size-positive (CueRequest c a u l) = omega arith
+size-positive (ExtendedFound c x event ended played) = omega arith
+size-positive (ExtendedNone c x) = omega arith
 
 pub length-output : (r : Record) (rs : List Record) → Roomy r → length (output (r ∷ rs)) ≡ sizeOf r + length (output rs)
 unfolding output
@@ -182,6 +200,11 @@ record-byte (SpliceComplete c r x flag played) f =
 record-byte (AbortResponse c r x) f = frame-byte c 0x000F r (bytes 4 x) (bytes-byte 4 x)
 record-byte (CueRequest c a u l) f =
     frame-byte c 0x000C 0xFFFF _ (all-append Byte (bytes 4 a) _ (bytes-byte 4 a) (all-append Byte (bytes 4 u) l (bytes-byte 4 u) (f .4)))
+record-byte (ExtendedFound c x event ended played) f =
+    let p = all-append Byte (bytes 4 event) _ (bytes-byte 4 event) (all-append Byte (bytes 2 ended) _ (bytes-byte 2 ended) (bytes-byte 4 played)) in
+    let d = all-append Byte (bytes 1 14) _ (bytes-byte 1 14) (all-append Byte (bytes 4 0x43415244) _ (bytes-byte 4 0x43415244) p) in
+    frame-byte c 0x0004 100 _ (all-append Byte (bytes 4 x) _ (bytes-byte 4 x) (all-append Byte (bytes 1 0x01) _ (bytes-byte 1 0x01) d))
+record-byte (ExtendedNone c x) f = frame-byte c 0x0004 121 (bytes 4 x) (bytes-byte 4 x)
 
 pub output-byte : (rs : List Record) → All Fits rs → All Byte (output rs)
 unfolding output

@@ -12,10 +12,10 @@ use Rattle.rules.specs.declared.Ending.{Ending}
 use Rattle.rules.specs.declared.Ending.the-variants.{Complete, Failed, Response}
 use Rattle.rules.specs.Lists.{put, keep, place, removeAt}
 use Rattle.rules.specs.State.{Queue, Splicer, empty, of, is, startsAt, endsAt, toCome, withWaiting, withStarted}
-use Rattle.rules.specs.Records.{Record, General, InitResponse, AliveResponse, SpliceResponse, AbortResponse, output}
+use Rattle.rules.specs.Records.{Record, General, InitResponse, AliveResponse, SpliceResponse, AbortResponse, ExtendedNone, output}
 use Rattle.rules.specs.Ends.{Turn, quiet, andThen, ended, ending, oneEnd, endings, followers, dismissed, evictedAt, evicted, cancelled, aborted, closedBy}
 use Rattle.rules.specs.Instants.{mayStart, began, meetsEqual, ousted, launched, startAt, endAt, instant, runAll}
-use Rattle.rules.specs.Answers.{Answered, requested, accepts, accepted, aliveResponse, answer}
+use Rattle.rules.specs.Answers.{Answered, requested, accepts, accepted, aliveResponse, extendedResponse, answer}
 use Rattle.rules.specs.Calls.{writtenBy, ticked, Call, call}
 use Rattle.rules.specs.Cues.{readCue, cueTime, initialised}
 use Rattle.rules.proofs.Tests.{by}
@@ -182,7 +182,7 @@ module _ (s : Splicer) (h : Bounded s) where
   one-fits r a b = omega (arith, weight-one r a)
 
   message-size : (c : ℕ) (l : List ℕ) → Answering c l s Fits
-  unfolding accepted andThen aliveResponse
+  unfolding accepted andThen aliveResponse extendedResponse
   message-size c l =
       let q = s .queue in
       record {
@@ -199,6 +199,7 @@ module _ (s : Splicer) (h : Bounded s) where
           h .waiting,
           h .started,
         );
+        recalling = λ x e i. one-fits (ExtendedNone c x) tt (omega arith);
         declining = λ r v e i b n. one-fits (SpliceResponse c v (r .id)) tt (omega arith);
         accepting = λ r e i p. let new = requested c r q in
             omega (arith, weight-append (evicted (new .start .0) q .written) (accepts new ∷ []), weight-one (accepts new) tt, evicted-lean (new .start .0) q, h .waiting, h .started);

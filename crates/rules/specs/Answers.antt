@@ -8,7 +8,7 @@ use Rattle.rules.specs.declared.Start.{Start}
 use Rattle.rules.specs.declared.Start.the-variants.{Timed, Linked}
 use Rattle.rules.specs.declared.Request.{Request}
 use Rattle.rules.specs.declared.Message.{Message}
-use Rattle.rules.specs.declared.Message.the-variants.{Init, Alive, Splice, Abort, Unreadable}
+use Rattle.rules.specs.declared.Message.the-variants.{Init, Alive, Splice, Abort, Extended, Unreadable}
 use Rattle.rules.specs.declared.Link.the-variants.{Initialised}
 use Rattle.rules.specs.declared.Session.{Session}
 use Rattle.rules.specs.Units.{timeOf, fromMicros, fromTicks, toMicros}
@@ -16,7 +16,7 @@ use Rattle.rules.specs.Lists.{some, count, place, insertAt}
 use Rattle.rules.specs.Bytes.{sameName}
 use Rattle.rules.specs.Reading.{nobody, averageMux, initRequest, channelName, isRead, read}
 use Rattle.rules.specs.State.{Queue, Splicer, empty, of, is, startsAt, startsAfter, held, holds, linkOf, isInitialised, withQueue, withLink, withWaiting}
-use Rattle.rules.specs.Records.{Record, General, InitResponse, AliveResponse, SpliceResponse, AbortResponse}
+use Rattle.rules.specs.Records.{Record, General, InitResponse, AliveResponse, SpliceResponse, AbortResponse, ExtendedNone}
 use Rattle.rules.specs.Ends.{Turn, andThen, writes, evicted, aborted}
 use Rattle.rules.specs.Instants.{outranks}
 
@@ -76,6 +76,12 @@ answerAbort c x q =
     cond (holds c x q)
     (andThen (writes (AbortResponse c 100 x ∷ []) q) (aborted c x))
     (writes (AbortResponse c 121 x ∷ []) q)
+
+-- ## 02, CR 8: what ended lately
+
+-- "ExtendedData_Response 121 with the SessionID alone where none is kept"
+unfoldable pub extendedResponse : ℕ → ℕ → Queue → Record
+extendedResponse c x q = ExtendedNone c x
 
 -- ## Splice
 
@@ -199,16 +205,17 @@ splices a s =
 
 -- ## The answer
 
--- a message of the list of four, read from the data d; "5. Not readable: General_Response 123."
+-- a message of that list, read from the data d; "5. Not readable: General_Response 123."
 unfoldable pub answerRead : ℕ → Message → List ℕ → Splicer → Answered
 answerRead c (Init revision) d s = answerInit c revision d s
 answerRead c Alive d s = says (aliveResponse c s ∷ []) s
 answerRead c (Splice r) d s = splices (answerSplice (s .clock) c r (s .queue)) s
 answerRead c (Abort x) d s = turns (answerAbort c x (s .queue)) s
+answerRead c (Extended x) d s = says (extendedResponse c x (s .queue) ∷ []) s
 answerRead c Unreadable d s = says (General c 123 ∷ []) s
 
 -- "1. ID 0x0000: no answer. 2. Not initialised and not Init_Request: General_Response 103. 3. ID 0x000D: no answer.
--- 4. ID not in the list of four: General_Response 120."
+-- 4. ID not in the list of four: General_Response 120." 02, CR 8: of five
 unfoldable pub answer : ℕ → ℕ → List ℕ → Splicer → Answered
 answer c id d s =
     cond (eqb id 0x0000) (says [] s)

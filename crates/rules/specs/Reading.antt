@@ -10,7 +10,7 @@ use Rattle.rules.specs.declared.Priority.{Priority}
 use Rattle.rules.specs.declared.Priority.the-variants.{Is, Bad}
 use Rattle.rules.specs.declared.Request.{Request}
 use Rattle.rules.specs.declared.Message.{Message}
-use Rattle.rules.specs.declared.Message.the-variants.{Init, Alive, Splice, Abort, Unreadable}
+use Rattle.rules.specs.declared.Message.the-variants.{Init, Alive, Splice, Abort, Extended, Unreadable}
 use Rattle.rules.specs.Units.{timeOf, badMicros}
 use Rattle.rules.specs.Bytes.{messageID, messageSize, dataOf, bytes, part, field, hasZero}
 
@@ -22,7 +22,7 @@ nobody = 0xFFFFFFFF
 abbrev pub separateService : ℕ
 separateService = 0xFFFF
 
--- "Read: Init_Request, Alive_Request, Splice_Request, Abort_Request."
+-- "Read: Init_Request, Alive_Request, Splice_Request, Abort_Request."; 02, CR 8: and ExtendedData_Request
 abbrev pub initRequest : ℕ
 initRequest = 0x0001
 
@@ -34,6 +34,9 @@ spliceRequest = 0x0007
 
 abbrev pub abortRequest : ℕ
 abortRequest = 0x000E
+
+abbrev pub extendedRequest : ℕ
+extendedRequest = 0x0003
 
 -- Init_Request: Revision_Num 2, ChannelName 32, SplicerName 32, the rest unread
 abbrev pub channelName : List ℕ → List ℕ
@@ -55,6 +58,17 @@ readAlive d = cond (eqb (length d) 8) Alive Unreadable
 -- Abort_Request: SessionID 4
 unfoldable pub readAbort : List ℕ → Message
 readAbort d = cond (eqb (length d) 4) (Abort (field 0 4 d)) Unreadable
+
+-- 02, CR 8: ExtendedData_Request: SessionID 4, ExtendedDataType 4 (000, Table 7-12). "the default type, 0xFFFFFFFF"
+abbrev pub defaultType : ℕ
+defaultType = 0xFFFFFFFF
+
+-- "123 for another type or a size not 8"
+abbrev pub badExtended : List ℕ → Bool
+badExtended d = not (eqb (length d) 8) || not (eqb (field 4 4 d) defaultType)
+
+unfoldable pub readExtended : List ℕ → Message
+readExtended d = cond (badExtended d) Unreadable (Extended (field 0 4 d))
 
 -- "Descriptor: tag 1, length 1, identifier 4, private bytes. Length counts what follows it, is 4 to 254, and the descriptors
 -- fill the message exactly." n is at least the number of descriptors.
@@ -292,17 +306,19 @@ readWhole d t = cond (badSplice d t) Unreadable (Splice (wholeRequest d t))
 unfoldable pub readSplice : List ℕ → Message
 readSplice d = cond (ltb (length d) 18) Unreadable (readWhole d (tailOf d))
 
--- the list of four
+-- the list of four, and 02's fifth
 abbrev pub isRead : ℕ → Bool
-isRead id = eqb id initRequest || (eqb id aliveRequest || (eqb id spliceRequest || eqb id abortRequest))
+isRead id =
+    eqb id initRequest || (eqb id aliveRequest || (eqb id spliceRequest || (eqb id abortRequest || eqb id extendedRequest)))
 
--- a message of the list of four, by its MessageID and its data
+-- a message of that list, by its MessageID and its data
 unfoldable pub read : ℕ → List ℕ → Message
 read id d =
     cond (eqb id initRequest) (readInit d)
     (cond (eqb id aliveRequest) (readAlive d)
     (cond (eqb id spliceRequest) (readSplice d)
-    (cond (eqb id abortRequest) (readAbort d) Unreadable)))
+    (cond (eqb id abortRequest) (readAbort d)
+    (cond (eqb id extendedRequest) (readExtended d) Unreadable))))
 
 -- the data of the message that l begins with
 abbrev pub dataIn : List ℕ → List ℕ

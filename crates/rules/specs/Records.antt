@@ -16,6 +16,8 @@ pub data Record : Type 0 where
   SpliceComplete : (conn result id flag played : ℕ) → Record
   AbortResponse : (conn result id : ℕ) → Record
   CueRequest : (conn seconds micros : ℕ) (section : List ℕ) → Record
+  ExtendedFound : (conn id event ended played : ℕ) → Record
+  ExtendedNone : (conn id : ℕ) → Record
 
 abbrev pub resultOf : Record → ℕ
 resultOf (General c r) = r
@@ -26,6 +28,8 @@ resultOf (SpliceComplete c r x flag played) = r
 resultOf (AbortResponse c r x) = r
 -- 02, CR 7: "Result and Result_Extension both 0xFFFF"
 resultOf (CueRequest c a u l) = 0xFFFF
+resultOf (ExtendedFound c x event ended played) = 100
+resultOf (ExtendedNone c x) = 121
 
 -- "after a two-byte mark: 0x52, and the connection it is for"; "in answers Result_Extension is 0xFFFF"
 unfoldable pub framed : (conn id result : ℕ) (body : List ℕ) → List ℕ
@@ -47,6 +51,11 @@ recordBytes (SpliceComplete c r x flag played) = framed c 0x0009 r (bytes 4 x ++
 recordBytes (AbortResponse c r x) = framed c 0x000F r (bytes 4 x)
 -- 02, CR 7: Cue_Request 0x000C: time 8, the section
 recordBytes (CueRequest c a u l) = framed c 0x000C 0xFFFF (bytes 4 a ++ (bytes 4 u ++ l))
+-- 02, CR 8: ExtendedData_Response 0x0004: SessionID 4 (000, Table 7-13), then "one descriptor of ours: tag 0x01, length 14, identifier
+-- 0x43415244, SpliceEventID 4, result 2, PlayedDuration 4"; "121 with the SessionID alone where none is kept"
+recordBytes (ExtendedFound c x event ended played) =
+    framed c 0x0004 100 (bytes 4 x ++ (bytes 1 0x01 ++ (bytes 1 14 ++ (bytes 4 0x43415244 ++ (bytes 4 event ++ (bytes 2 ended ++ bytes 4 played))))))
+recordBytes (ExtendedNone c x) = framed c 0x0004 121 (bytes 4 x)
 
 -- "Every outgoing message goes directly behind the last one in the output buffer"
 unfoldable pub output : List Record → List ℕ
@@ -54,6 +63,12 @@ output [] = []
 output (r ∷ rs) = recordBytes r ++ output rs
 
 -- ## Read back
+
+-- of connection c, with the result r: SessionID 10, then the descriptor's tag 14, length 15, identifier 16, SpliceEventID 20, result 24,
+-- PlayedDuration 26
+abbrev pub extendedIn : ℕ → ℕ → List ℕ → Record
+extendedIn c r l =
+    cond (eqb r 100) (ExtendedFound c (field 10 4 l) (field 20 4 l) (field 24 2 l) (field 26 4 l)) (ExtendedNone c (field 10 4 l))
 
 -- the first record of l: mark 0, connection 1, MessageID 2, MessageSize 4, Result 6, Result_Extension 8, data 10
 unfoldable pub recordIn : List ℕ → Record
@@ -66,7 +81,8 @@ recordIn l =
     (cond (eqb id 0x0008) (SpliceResponse c r (field 10 4 l))
     (cond (eqb id 0x0009) (SpliceComplete c r (field 10 4 l) (field 14 1 l) (field 19 4 l))
     (cond (eqb id 0x000F) (AbortResponse c r (field 10 4 l))
-    (cond (eqb id 0x000C) (CueRequest c (field 10 4 l) (field 14 4 l) (part 18 (field 4 2 l - 8) l)) (General c r))))))
+    (cond (eqb id 0x000C) (CueRequest c (field 10 4 l) (field 14 4 l) (part 18 (field 4 2 l - 8) l))
+    (cond (eqb id 0x0004) (extendedIn c r l) (General c r)))))))
 
 -- the records of l, n at most
 unfoldable pub recordsUpTo : ℕ → List ℕ → List Record

@@ -11,7 +11,7 @@ use Rattle.rules.specs.Lists.{All, some, count}
 use Rattle.rules.specs.Bytes.{Byte, NoZero}
 use Rattle.rules.specs.Reading.{nobody}
 use Rattle.rules.specs.State.{Queue, Splicer, of, is, Sorted, linkOf, isOpen, mostKept, Lately}
-use Rattle.rules.specs.Records.{Record, General, InitResponse, AliveResponse, SpliceResponse, SpliceComplete, AbortResponse, CueRequest, resultOf}
+use Rattle.rules.specs.Records.{Record, General, InitResponse, AliveResponse, SpliceResponse, SpliceComplete, AbortResponse, CueRequest, ExtendedFound, ExtendedNone, resultOf}
 use Rattle.rules.specs.Answers.{waits, raisedSum}
 use Rattle.rules.specs.Calls.{fresh, Call, opens, closes, messages, ticks, moves, cues, after}
 
@@ -165,6 +165,8 @@ codesOf (SpliceResponse c r x) = codes
 codesOf (SpliceComplete c r x flag played) = codes
 codesOf (AbortResponse c r x) = codes
 codesOf (CueRequest c a u l) = 0xFFFF ∷ []
+codesOf (ExtendedFound c x event ended played) = codes
+codesOf (ExtendedNone c x) = codes
 
 abbrev pub Coded : Record → Type 0
 Coded r = some (eqb (resultOf r)) (codesOf r) ≡ true

@@ -45,6 +45,7 @@ pub enum Message {
     Alive,
     Splice(Request),
     Abort(u32),
+    Extended(u32),
     Unreadable,
 }
 
