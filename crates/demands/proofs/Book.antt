@@ -20,7 +20,7 @@ use Rattle.rules.specs.declared.Request.{Request}
 use Rattle.rules.specs.Reading.{readSplice, dataIn}
 use Rattle.rules.specs.State.{sameNumber, Queue, Splicer, empty, of, is, held, holds, noneHeld}
 use Rattle.rules.proofs.Checks.{read-id}
-use Rattle.rules.specs.Records.{Record, General, InitResponse, AliveResponse, SpliceResponse, SpliceComplete, AbortResponse, CueRequest}
+use Rattle.rules.specs.Records.{Record, General, InitResponse, AliveResponse, SpliceResponse, SpliceComplete, AbortResponse, ExtendedFound, ExtendedNone, CueRequest}
 use Rattle.rules.specs.Ends.{Turn, writes, andThen, evicted, cancelled, closedBy}
 use Rattle.rules.specs.Instants.{runAll}
 use Rattle.rules.specs.Answers.{endOf, startOf, sessionAt, requested, unknownPrior, accepts, accepted}
@@ -55,6 +55,8 @@ end-one c x c′ x′ (SpliceResponse d n y) f e = other-one (endResult n) c x c
 end-one c x c′ x′ (SpliceComplete d n y k p) f e = other-one (eqb k 1 || (eqb k 0 && eqb n 109)) c x c′ x′ d y f e
 end-one c x c′ x′ (AbortResponse d n y) f e = refl
 end-one c x c′ x′ (CueRequest d a u l) f e = refl
+end-one c x c′ x′ (ExtendedFound d y event ended played) f e = refl
+end-one c x c′ x′ (ExtendedNone d y) f e = refl
 
 entry-key : (c x : ℕ) (e : Entry) → entryIs c x e ≡ true → (c ≡ e .conn) × (x ≡ e .id)
 entry-key c x e k = let h = and-both (eqb c (e .conn)) (eqb x (e .id)) k in (eqb-true c (e .conn) (h .0), eqb-true x (e .id) (h .1))

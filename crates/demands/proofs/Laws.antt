@@ -12,7 +12,7 @@ use Rattle.rules.specs.declared.Ending.{Ending}
 use Rattle.rules.specs.declared.Ending.the-variants.{Complete, Failed, Response}
 use Rattle.rules.specs.Lists.{bit, keep, count, place, removeAt}
 use Rattle.rules.specs.State.{sameNumber, Queue, empty, of, is, startsAt, endsAt, toCome, withWaiting, withStarted}
-use Rattle.rules.specs.Records.{Record, General, InitResponse, AliveResponse, SpliceResponse, SpliceComplete, AbortResponse, CueRequest}
+use Rattle.rules.specs.Records.{Record, General, InitResponse, AliveResponse, SpliceResponse, SpliceComplete, AbortResponse, ExtendedFound, ExtendedNone, CueRequest}
 use Rattle.rules.specs.Ends.{Turn, quiet, writes, andThen, ended, ending, oneEnd, endings, followers, dismissed, evictedAt, evicted, cancelled, aborted, closedBy}
 use Rattle.rules.specs.Instants.{mayStart, began, meetsEqual, ousted, launched, startAt, endAt, instant, elapse, runAll}
 use Rattle.demands.specs.History.{isStart, isEnd, startsOf, endsOf}
@@ -94,6 +94,8 @@ module _ (c x : ℕ) where
       one (SpliceComplete d n y f p) = flag (eqb f 1) (eqb f 0 && eqb n 109) (sameNumber c x d y)
       one (AbortResponse d n y) = omega arith
       one (CueRequest d a u l) = omega arith
+      one (ExtendedFound d y event ended played) = omega arith
+      one (ExtendedNone d y) = omega arith
 
   outs-responses : (r : ℕ) (l : List Session) → outsOf c x (map (ended (Response r)) l) ≡ 0
   unfolding isOut

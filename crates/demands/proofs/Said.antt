@@ -13,7 +13,7 @@ use Rattle.rules.specs.Units.{timeOf, fromMicros}
 use Rattle.rules.specs.Lists.{All, bit, some, count, place, removeAt}
 use Rattle.rules.specs.declared.Ending.the-variants.{Response}
 use Rattle.rules.specs.State.{sameNumber, Queue, Splicer, empty, is, held, startsAt}
-use Rattle.rules.specs.Records.{Record, General, InitResponse, AliveResponse, SpliceResponse, SpliceComplete, AbortResponse, CueRequest, recordsIn}
+use Rattle.rules.specs.Records.{Record, General, InitResponse, AliveResponse, SpliceResponse, SpliceComplete, AbortResponse, ExtendedFound, ExtendedNone, CueRequest, recordsIn}
 use Rattle.rules.specs.Ends.{Turn, andThen, ended, evicted, evictedAt, dismissed, followers, closedBy}
 use Rattle.rules.specs.Instants.{runAll}
 use Rattle.rules.specs.Answers.{requested, accepts, accepted}
@@ -115,6 +115,8 @@ module _ (c x u : ℕ) where
       (h .0, record { ends = λ d′ y′. rw (i, eqb-true c d (k .0), eqb-true x y (k .1)); starts = λ d′ y′. rw i })
   out-end (AbortResponse d n y) e = absurd (clash false e refl)
   out-end (CueRequest d a u l) e = absurd (clash false e refl)
+  out-end (ExtendedFound d y event ended played) e = absurd (clash false e refl)
+  out-end (ExtendedNone d y) e = absurd (clash false e refl)
 
   is-end : (r : Record) → EndOf c x r → isEnd c x r ≡ true
   is-end r e = e .ends c x ∙ rw (eqb-same c, eqb-same x)

@@ -7,7 +7,7 @@ use native.Mathlib.Omega.{arith}
 use lib.ListN.{length}
 use borrow.Author.Tests.{le-ltb}
 use Rattle.rules.specs.Bytes.{bytes, valueFrom, value, padded, largestSize}
-use Rattle.rules.specs.Records.{Record, General, InitResponse, AliveResponse, SpliceResponse, SpliceComplete, AbortResponse, CueRequest, timeBytes, framed, recordBytes, output}
+use Rattle.rules.specs.Records.{Record, General, InitResponse, AliveResponse, SpliceResponse, SpliceComplete, AbortResponse, ExtendedFound, ExtendedNone, endDescriptor, CueRequest, timeBytes, framed, recordBytes, output}
 use Rattle.rules.specs.declared.Refusal.{Refusal}
 use Rattle.rules.specs.State.{Splicer}
 use Rattle.rules.specs.Sound.{Wired, Sound}
@@ -61,6 +61,9 @@ record-entry (SpliceComplete c r x flag played) h =
     framed-entry c 0x0009 r (bytes 4 x ++ (bytes 1 flag ++ (bytes 4 0 ++ bytes 4 played))) (omega arith)
 record-entry (AbortResponse c r x) h = framed-entry c 0x000F r (bytes 4 x) (omega arith)
 record-entry (CueRequest c a u l) h = framed-entry c 0x000C 0xFFFF (bytes 4 a ++ (bytes 4 u ++ l)) (omega arith)
+record-entry (ExtendedFound c x event ended played) h =
+    framed-entry c 0x0004 100 (bytes 4 x ++ endDescriptor event ended played) (omega arith)
+record-entry (ExtendedNone c x) h = framed-entry c 0x0004 121 (bytes 4 x) (omega arith)
 
 -- ## All that is written for a call
 

@@ -9,7 +9,7 @@ use lib.ListN.{length, take, drop, length-append}
 use lib.Seq.{drop-at, take-at}
 use borrow.Author.Tests.{ne-eqb}
 use Rattle.rules.specs.Bytes.{bytes, valueFrom, value, field, padded, nameIn}
-use Rattle.rules.specs.Records.{Record, General, InitResponse, AliveResponse, SpliceResponse, SpliceComplete, AbortResponse, ExtendedFound, ExtendedNone, CueRequest, framed, recordBytes, output, recordIn, recordsUpTo, recordsIn}
+use Rattle.rules.specs.Records.{Record, General, InitResponse, AliveResponse, SpliceResponse, SpliceComplete, AbortResponse, ExtendedFound, ExtendedNone, endDescriptor, CueRequest, framed, recordBytes, output, recordIn, recordsUpTo, recordsIn}
 use Rattle.rules.proofs.All.{All, all-append}
 use Rattle.rules.proofs.Bytes.{Byte, bytes-byte, value-bytes, NoZero, length-padded, nameIn-padded, padded-byte}
 
@@ -134,7 +134,7 @@ rest-back (SpliceComplete c r x flag played) h more =
 rest-back (AbortResponse c r x) h more = frame-rest c 0x000F r (bytes 4 x) more (omega arith)
 rest-back (CueRequest c a u l) h more = frame-rest c 0x000C 0xFFFF (bytes 4 a ++ (bytes 4 u ++ l)) more (omega arith)
 rest-back (ExtendedFound c x event ended played) h more =
-    frame-rest c 0x0004 100 (bytes 4 x ++ (bytes 1 0x01 ++ (bytes 1 14 ++ (bytes 4 0x43415244 ++ (bytes 4 event ++ (bytes 2 ended ++ bytes 4 played)))))) more (omega arith)
+    frame-rest c 0x0004 100 (bytes 4 x ++ endDescriptor event ended played) more (omega arith)
 rest-back (ExtendedNone c x) h more = frame-rest c 0x0004 121 (bytes 4 x) more (omega arith)
 
 size-positive : (r : Record) → 0 < sizeOf r

@@ -39,9 +39,15 @@ framed c id r d = 0x52 ∷ (bytes 1 c ++ (bytes 2 id ++ (bytes 2 (length d) ++ (
 abbrev pub timeBytes : ℕ → List ℕ
 timeBytes t = bytes 4 (t / second) ++ bytes 4 (t % second)
 
+-- 02, CR 8: "one descriptor of ours: tag 0x01, length 14, identifier 0x43415244, SpliceEventID 4, result 2, PlayedDuration 4"
+abbrev pub endDescriptor : (event ended played : ℕ) → List ℕ
+endDescriptor event ended played =
+    bytes 1 0x01 ++ (bytes 1 14 ++ (bytes 4 0x43415244 ++ (bytes 4 event ++ (bytes 2 ended ++ bytes 4 played))))
+
 -- Init_Response 0x0002: Revision_Num 2 bytes (value 2), configured ChannelName 32. Alive_Response 0x0006: State 4, SessionID 4, time 8.
 -- Splice_Response 0x0008, Abort_Response 0x000F: SessionID 4. General_Response 0x0000: no data.
 -- SpliceComplete_Response 0x0009: SessionID 4, SpliceTypeFlag 1, Bitrate 4 (always 0 here), PlayedDuration 4.
+-- 02, CR 8: ExtendedData_Response 0x0004: SessionID 4 (000, Table 7-13) and the descriptor; "121 with the SessionID alone where none is kept".
 unfoldable pub recordBytes : Record → List ℕ
 recordBytes (General c r) = framed c 0x0000 r []
 recordBytes (InitResponse c r name) = framed c 0x0002 r (bytes 2 2 ++ padded name)
@@ -51,10 +57,7 @@ recordBytes (SpliceComplete c r x flag played) = framed c 0x0009 r (bytes 4 x ++
 recordBytes (AbortResponse c r x) = framed c 0x000F r (bytes 4 x)
 -- 02, CR 7: Cue_Request 0x000C: time 8, the section
 recordBytes (CueRequest c a u l) = framed c 0x000C 0xFFFF (bytes 4 a ++ (bytes 4 u ++ l))
--- 02, CR 8: ExtendedData_Response 0x0004: SessionID 4 (000, Table 7-13), then "one descriptor of ours: tag 0x01, length 14, identifier
--- 0x43415244, SpliceEventID 4, result 2, PlayedDuration 4"; "121 with the SessionID alone where none is kept"
-recordBytes (ExtendedFound c x event ended played) =
-    framed c 0x0004 100 (bytes 4 x ++ (bytes 1 0x01 ++ (bytes 1 14 ++ (bytes 4 0x43415244 ++ (bytes 4 event ++ (bytes 2 ended ++ bytes 4 played))))))
+recordBytes (ExtendedFound c x event ended played) = framed c 0x0004 100 (bytes 4 x ++ endDescriptor event ended played)
 recordBytes (ExtendedNone c x) = framed c 0x0004 121 (bytes 4 x)
 
 -- "Every outgoing message goes directly behind the last one in the output buffer"

@@ -11,7 +11,7 @@ use Rattle.rules.specs.declared.Session.{Session}
 use Rattle.rules.specs.Lists.{some, count, place, insertAt}
 use Rattle.rules.specs.Bytes.{messageSize, hasZero}
 use Rattle.rules.specs.State.{Splicer, sameNumber, startsAt, startsAfter}
-use Rattle.rules.specs.Records.{Record, General, InitResponse, AliveResponse, SpliceResponse, SpliceComplete, AbortResponse, CueRequest}
+use Rattle.rules.specs.Records.{Record, General, InitResponse, AliveResponse, SpliceResponse, SpliceComplete, AbortResponse, ExtendedFound, ExtendedNone, CueRequest}
 use Rattle.rules.specs.Ends.{Turn, andThen, evicted}
 use Rattle.rules.specs.Answers.{requested, spliceResult, inserted, accepted, later, grants, splices, answerSplice}
 use Rattle.rules.specs.Calls.{Called, Call, messages, lending, call, replies, fresh, ticked}
@@ -69,6 +69,8 @@ one-code (SpliceResponse d n i) a b c x e f =
 one-code (SpliceComplete d n i g p) a b c x e f = absurd (clash false e refl)
 one-code (AbortResponse d n i) a b c x e f = absurd (clash false e refl)
 one-code (CueRequest d s u l) a b c x e f = absurd (clash false e refl)
+one-code (ExtendedFound d i event ended played) a b c x e f = absurd (clash false e refl)
+one-code (ExtendedNone d i) a b c x e f = absurd (clash false e refl)
 
 pub last-code : (l : List Record) (a b c x : ℕ) → last (answers a c x) l ≡ true → last (answers b c x) l ≡ true → a ≡ b
 unfolding last

@@ -2,13 +2,13 @@
 -- Rests on the definitions of the bytes alone: `bytes` at a given width computes.
 use mathlib.Core.Path.{_≡_, refl, sym, ap, _∙_}
 use mathlib.Core.List.{List, [], _∷_, _++_}
-use Prim.Native.Nat.{ℕ, _+_, _≤_, _<_}
+use Prim.Native.Nat.{ℕ, _+_, _/_, _≤_, _<_}
 use native.Mathlib.Omega.{arith}
 use native.Mathlib.Numerals.{add-one}
 use lib.ListN.{length, take, set, getD}
 use lib.Seq.{length-take-le, take-suc}
 use Rattle.rules.specs.Bytes.{bytes, nameIn, padded, written}
-use Rattle.rules.specs.Records.{General, InitResponse, AliveResponse, SpliceComplete, CueRequest, framed, timeBytes, recordBytes}
+use Rattle.rules.specs.Records.{General, InitResponse, AliveResponse, SpliceComplete, ExtendedFound, CueRequest, framed, timeBytes, endDescriptor, recordBytes}
 use Rattle.rules.proofs.Written.{written-set, written-more, length-written}
 use Rattle.writing.specs.Header.{headerOf}
 
@@ -49,6 +49,17 @@ pub cue-parts : (c a u : ℕ) (l : List ℕ) →
     headerOf c 0x000C (8 + length l) 0xFFFF ++ bytes 4 a ++ bytes 4 u ++ l ≡ recordBytes (CueRequest c a u l)
 unfolding recordBytes headerOf bytes
 cue-parts c a u l = framed-header c 0x000C (8 + length l) 0xFFFF (bytes 4 a ++ (bytes 4 u ++ l)) (omega arith)
+
+-- the tag and the length are one number, and so are the two bytes of the result
+pub end-parts : (event ended played : ℕ) →
+    bytes 2 0x010E ++ bytes 4 0x43415244 ++ bytes 4 event ++ bytes 1 (ended / 256) ++ bytes 1 ended ++ bytes 4 played ≡ endDescriptor event ended played
+unfolding bytes
+end-parts event ended played = refl
+
+pub found-parts : (c x event ended played : ℕ) →
+    headerOf c 0x0004 20 100 ++ bytes 4 x ++ endDescriptor event ended played ≡ recordBytes (ExtendedFound c x event ended played)
+unfolding recordBytes framed headerOf bytes
+found-parts c x event ended played = refl
 
 -- a turn of a copy: one byte more of l
 pub copied : (e l o : List ℕ) (i : ℕ) → i < length l → length l ≤ length e → o ≡ written e 0 (take i l) →

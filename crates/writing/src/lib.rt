@@ -7,8 +7,8 @@ ghost use mathlib.Core.Path.{_≡_};
 ghost use Prim.Native.Nat.{_+_, _≤_};
 ghost use lib.ListN.{length};
 ghost use Rattle.rules.specs.Bytes.{bytes, written, nameIn, padded};
-ghost use Rattle.rules.specs.Records.{framed, timeBytes, recordBytes};
-ghost use Rattle.rules.specs.Records.{General, InitResponse, AliveResponse, SpliceResponse, SpliceComplete, AbortResponse, CueRequest};
+ghost use Rattle.rules.specs.Records.{framed, timeBytes, endDescriptor, recordBytes};
+ghost use Rattle.rules.specs.Records.{General, InitResponse, AliveResponse, SpliceResponse, SpliceComplete, AbortResponse, ExtendedFound, ExtendedNone, CueRequest};
 ghost use Rattle.writing.specs.Header.{headerOf, Turned};
 
 // ---- parts of a record. "All numbers are big-endian."
@@ -165,4 +165,33 @@ pub fn cue_request(out: &mut [u8], conn: u64, time: WireTime, section: &[u8])
     put4(&mut out[10..], time.seconds as u64);
     put4(&mut out[14..], time.micros as u64);
     copy(&mut out[18..], section);
+}
+
+// 02, CR 8: the descriptor: tag 0x01 and length 14, the identifier, and what is kept of the end.
+fn put_end(out: &mut [u8], event: u64, ended: u64, played: u64)
+    requires { ⌜ 16 ≤ length (now out) ⌝ }
+    ensures { λ _. ⌜ now (out .exit) ≡ written (now (out .entry)) 0 (endDescriptor event ended played) ⌝ }
+{
+    put2(&mut *out, 0x010E);
+    put4(&mut out[2..], 0x43415244);
+    put4(&mut out[6..], event);
+    put1(&mut out[10..], ended / 256);
+    put1(&mut out[11..], ended);
+    put4(&mut out[12..], played);
+}
+
+pub fn extended_found(out: &mut [u8], conn: u64, id: u64, event: u64, ended: u64, played: u64)
+    requires { ⌜ 30 ≤ length (now out) ⌝ }
+    ensures { λ _. ⌜ now (out .exit) ≡ written (now (out .entry)) 0 (recordBytes (ExtendedFound conn id event ended played)) ⌝ }
+{
+    header(&mut *out, conn, 0x0004, 20, 100);
+    put4(&mut out[10..], id);
+    put_end(&mut out[14..], event, ended, played);
+}
+
+pub fn extended_none(out: &mut [u8], conn: u64, id: u64)
+    requires { ⌜ 14 ≤ length (now out) ⌝ }
+    ensures { λ _. ⌜ now (out .exit) ≡ written (now (out .entry)) 0 (recordBytes (ExtendedNone conn id)) ⌝ }
+{
+    session_response(out, conn, 0x0004, 121, id);
 }
