@@ -6,7 +6,7 @@ ghost use Rattle.rules.specs.Bytes.{dataOf};
 ghost use Rattle.rules.specs.Calls.{framing};
 ghost use mathlib.Core.Bool.{false};
 ghost use Rattle.rules.specs.declared.Priority.the-variants.{Is};
-ghost use Rattle.rules.specs.Reading.{channelName, splicerName, readInit, readAlive, readAbort, readStart, badSplice, descriptorsOf, muxOf, isBad};
+ghost use Rattle.rules.specs.Reading.{channelName, splicerName, readInit, readAlive, readAbort, readExtended, readStart, badSplice, descriptorsOf, muxOf, isBad};
 ghost use Rattle.rules.specs.Reading.{wholeRequest, readWhole, readSplice, isRead, «read»};
 ghost use Rattle.reading.specs.Structures.{tailPlace};
 
@@ -37,6 +37,11 @@ const ALIVE_REQUEST: u16 = 0x0005;
 const SPLICE_REQUEST: u16 = 0x0007;
 
 const ABORT_REQUEST: u16 = 0x000E;
+
+// 02, CR 8: and ExtendedData_Request, "for the default type".
+const EXTENDED_REQUEST: u16 = 0x0003;
+
+const DEFAULT_TYPE: u32 = 0xFFFFFFFF;
 
 // "4: MessageSize above 4,088".
 pub const LONGEST: u16 = 4088;
@@ -117,6 +122,19 @@ fn read_abort(d: &[u8]) -> Message
         return Message::Abort(number4(d, 0));
     }
     Message::Unreadable
+}
+
+// 02, CR 8: "123 for another type or a size not 8".
+fn read_extended(d: &[u8]) -> Message
+    ensures { λ r. ⌜ r ≡ readExtended (now (d .entry)) ⌝ }
+{
+    if d.len() != 8 {
+        return Message::Unreadable;
+    }
+    if number4(d, 4) != DEFAULT_TYPE {
+        return Message::Unreadable;
+    }
+    Message::Extended(number4(d, 0))
 }
 
 // "a Splice_Request's start is in turn either timed or linked"
@@ -221,17 +239,17 @@ fn read_splice(d: &[u8]) -> Message
     read_whole(d, &d[at..], start)
 }
 
-// The list of four.
+// The list of four, and 02's fifth.
 pub fn is_read(id: u16) -> bool
     ensures { λ r. ⌜ r ≡ isRead id ⌝ }
 {
     match id {
-        INIT_REQUEST | ALIVE_REQUEST | SPLICE_REQUEST | ABORT_REQUEST => true,
+        INIT_REQUEST | ALIVE_REQUEST | SPLICE_REQUEST | ABORT_REQUEST | EXTENDED_REQUEST => true,
         _ => false,
     }
 }
 
-// A message of the list of four, by its MessageID and its data; any other is unreadable, as the definition has it.
+// A message of that list, by its MessageID and its data; any other is unreadable, as the definition has it.
 pub fn read(id: u16, d: &[u8]) -> Message
     ensures { λ r. ⌜ r ≡ «read» id (now (d .entry)) ⌝ }
 {
@@ -240,6 +258,7 @@ pub fn read(id: u16, d: &[u8]) -> Message
         ALIVE_REQUEST => read_alive(d),
         SPLICE_REQUEST => read_splice(d),
         ABORT_REQUEST => read_abort(d),
+        EXTENDED_REQUEST => read_extended(d),
         _ => Message::Unreadable,
     }
 }

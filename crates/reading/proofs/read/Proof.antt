@@ -1,6 +1,6 @@
 -- The MessageID decides.
 use borrow.Author.Tests.{ne-eqb}
-use Rattle.rules.specs.Reading.{initRequest, aliveRequest, spliceRequest, abortRequest, «read»}
+use Rattle.rules.specs.Reading.{initRequest, aliveRequest, spliceRequest, abortRequest, extendedRequest, «read»}
 use borrow.Author.Needs.{needs}
 use Rattle.reading.proofs.read.Statement.{statement}
 use Rattle.reading.proofs.read.Tie as tie
@@ -16,6 +16,9 @@ read-splice-requires c κs = search needs
 
 read-abort-requires : tie.Need-read-abort-requires
 read-abort-requires c κs = search needs
+
+read-extended-requires : tie.Need-read-extended-requires
+read-extended-requires c κs = search needs
 
 returns : tie.Need-returns
 unfolding «read»
@@ -35,14 +38,19 @@ returns-4 c = rw (c .before .match .keys4) (c .read-abort .ensures)
 
 returns-5 : tie.Need-returns-5
 unfolding «read»
-returns-5 c =
+returns-5 c = rw (c .before .match .keys5) (c .read-extended .ensures)
+
+returns-6 : tie.Need-returns-6
+unfolding «read»
+returns-6 c =
     let id = c .before .before .args .id in
     let none = c .match .rest in
     rw (
-      ne-eqb id initRequest (none .0 .0 .0 .1),
-      ne-eqb id aliveRequest (none .0 .0 .1),
-      ne-eqb id spliceRequest (none .0 .1),
-      ne-eqb id abortRequest (none .1),
+      ne-eqb id initRequest (none .0 .0 .0 .0 .1),
+      ne-eqb id aliveRequest (none .0 .0 .0 .1),
+      ne-eqb id spliceRequest (none .0 .0 .1),
+      ne-eqb id abortRequest (none .0 .1),
+      ne-eqb id extendedRequest (none .1),
     )
 
 pub read-spec : {M : Type 1} → statement M
@@ -53,8 +61,10 @@ read-spec =
     read-alive-requires
     read-splice-requires
     read-abort-requires
+    read-extended-requires
     returns
     returns-2
     returns-3
     returns-4
-    returns-5)
+    returns-5
+    returns-6)
