@@ -25,6 +25,7 @@ use Rattle.rules.specs.Calls.{Called, refuse, does, replies, ticked, Loans, Cal
 use Rattle.demands.specs.History.{isStart, isEnd, isYes}
 use Rattle.rules.proofs.Tests.{by}
 use Rattle.rules.proofs.Checks.{Passed}
+use Rattle.rules.proofs.Recall.{by-recall}
 use Rattle.rules.proofs.Cases as rules
 use Rattle.demands.specs.Told.{isOut}
 use Rattle.demands.proofs.Laws.{Plain, plain-none}
@@ -81,7 +82,7 @@ module _ (s : Splicer) (P : Call → Called → Type 0) (k : Cases s P) where
         go false e = k .saying c l loans n (r ∷ []) e p
 
     message-case : rules.Answering c l s (rules.Handles P c l loans)
-    unfolding isYes isStart isEnd isOut aliveResponse extendedResponse andThen
+    unfolding isYes isStart isEnd isOut aliveResponse andThen
     message-case =
         record {
           silent = λ e. k .saying c l loans n [] e plain-none;
@@ -92,7 +93,7 @@ module _ (s : Splicer) (P : Call → Called → Type 0) (k : Cases s P) where
           alive = λ e. k .saying c l loans n (aliveResponse c s ∷ []) e (record { starts = λ d x. refl; ends = λ d x. refl });
           unknown = λ x e i. k .saying c l loans n (AbortResponse c 121 x ∷ []) e (record { starts = λ d x. refl; ends = λ d x. refl });
           aborting = λ x e i held. k .aborting c l loans n x e held;
-          recalling = λ x e i. k .saying c l loans n (extendedResponse c x (s .queue) ∷ []) e (record { starts = λ d y. refl; ends = λ d y. refl });
+          recalling = λ x e i. k .saying c l loans n (extendedResponse c x (s .queue) ∷ []) e (by-recall (λ (r : Record). Plain (r ∷ [])) c x (s .queue) (λ h. record { starts = λ d y. refl; ends = λ d y. refl }) (record { starts = λ d y. refl; ends = λ d y. refl }));
           declining = λ r v e i b m. k .declining c l loans n (SpliceResponse c v (r .id)) e (rw m) (record { starts = λ d y. refl; outs = λ d y. refl });
           accepting = λ r. k .accepting c l loans n r;
         }

@@ -97,6 +97,7 @@ healthy : (s : Splicer) → Sound s → Healthy s
 healthy s h =
     let j = h .holding in
     record {
+      lately = h .lately;
       aired = record { timed = j .timed; played = j .played };
       proper = j .proper;
       small = j .small;

@@ -13,12 +13,13 @@ use Rattle.rules.specs.State.{Queue, Splicer, empty, of, is, startsAt, e
 use Rattle.rules.specs.Records.{Record}
 use Rattle.rules.specs.Ends.{Turn, andThen, ended, ending, oneEnd, endings, followers, dismissed, evictedAt, evicted, cancelled, aborted, closedBy}
 use Rattle.rules.specs.Instants.{mayStart, began, meetsEqual, ousted, launched, startAt, endAt, instant, elapse, run, runAll}
-use Rattle.rules.specs.Answers.{aliveResponse, extendedResponse, requested, accepts, accepted}
+use Rattle.rules.specs.Answers.{aliveResponse, requested, accepts, accepted}
 use Rattle.rules.specs.Calls.{ticked, Call, call}
 use Rattle.rules.specs.Cues.{readCue, cueTime, initialised}
 use Rattle.rules.specs.Sound.{Given, Coded}
 use Rattle.rules.proofs.Tests.{by}
 use Rattle.rules.proofs.All.{All, all-append}
+use Rattle.rules.proofs.Recall.{by-recall}
 use Rattle.rules.proofs.Cases.{Answering, cases}
 use Rattle.rules.proofs.Cued.{initialised-low, cue-all}
 use Rattle.rules.proofs.Tick.{moved, by-next}
@@ -126,7 +127,7 @@ run-coded (suc n) now until q =
 -- ## Every call
 
 message-coded : (s : Splicer) (c : ℕ) (l : List ℕ) → Answering c l s (λ a. All Coded (a .written))
-unfolding andThen aliveResponse extendedResponse
+unfolding andThen aliveResponse
 message-coded s c l =
     record {
       silent = λ e. tt;
@@ -135,7 +136,7 @@ message-coded s c l =
       alive = λ e. (refl, tt);
       unknown = λ x e i. (refl, tt);
       aborting = λ x e i held. (refl, aborted-coded c x (s .queue));
-      recalling = λ x e i. (refl, tt);
+      recalling = λ x e i. (by-recall Coded c x (s .queue) (λ k. refl) refl, tt);
       declining = λ r v e i b n. (b, tt);
       accepting = λ r e i p. accepted-coded (requested c r (s .queue)) (s .queue);
     }

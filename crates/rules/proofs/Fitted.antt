@@ -27,6 +27,7 @@ use Rattle.rules.proofs.All.{All, all-append, all-into}
 use Rattle.rules.proofs.Bytes.{Byte, part-byte, field-below}
 use Rattle.rules.proofs.Records.{Fits, read-back}
 use Rattle.rules.proofs.Readings.{splice-grants}
+use Rattle.rules.proofs.Recall.{by-recall, latest-noted}
 use Rattle.rules.proofs.Cases.{given-below, Answering, cases}
 use Rattle.rules.specs.Asked.{Asked}
 use Rattle.rules.specs.Cues.{readCue, cueTime, initialised}
@@ -38,6 +39,7 @@ use Rattle.rules.proofs.Always.{Wired}
 use Rattle.rules.proofs.Tick.{Due, meets, due-first, due-meets, elapse-due, moved, by-next}
 use Rattle.rules.proofs.Timed.{meets-after}
 use Rattle.rules.proofs.Sessions.{each-elapse, each-instant}
+use Rattle.rules.specs.Sound.{Recalled}
 use Rattle.rules.proofs.Held.{Proper, Small, Linking}
 use Rattle.rules.proofs.Aired.{Played, elapse-played, Aired, moved-aired}
 
@@ -232,6 +234,7 @@ pub record Healthy (s : Splicer) : Type 0 where
   pub small : Each Small (s .queue)
   pub clock : s .clock < 4294967296 * 9000000
   pub linking : Linking s
+  pub lately : Recalled (s .queue .lately)
 
 numbers : (l : List Session) → All Proper l → All Small l → All Numbered l
 numbers [] a b = tt
@@ -259,6 +262,12 @@ alive-fits c low s h = ((omega arith, omega arith), state (s .queue .started), n
     number [] a = omega arith
     number (u ∷ k) a = a .0 .1
 
+-- 02, CR 8: what is kept has the sizes of its fields
+extended-fits : (c x : ℕ) → c ≤ 3 → x < 4294967296 → (s : Splicer) → Healthy s → Fits (extendedResponse c x (s .queue))
+extended-fits c x low k s h =
+    let n = latest-noted c x (s .queue .lately) (h .lately) in
+    by-recall Fits c x (s .queue) (λ i. (omega arith, k, omega (arith, n .event), n .result, omega (arith, n .played))) (omega arith, k)
+
 -- ## Calls
 
 -- the records of an answer
@@ -271,7 +280,7 @@ unfolding read
 read-asked d a r e = splice-grants d a spliceRequest r e
 
 message-fits : (s : Splicer) → Healthy s → (c : ℕ) (l : List ℕ) → c ≤ 3 → Answering c l s (λ a. All Byte l → All Fits (a .written))
-unfolding andThen requested sessionAt extendedResponse
+unfolding andThen requested sessionAt
 message-fits s h c l low =
     record {
       silent = λ e a. tt;
@@ -280,7 +289,7 @@ message-fits s h c l low =
       alive = λ e a. (alive-fits c low s h, tt);
       unknown = λ x e i a. (((omega arith, omega arith), number x i a), tt);
       aborting = λ x e i held a. (((omega arith, omega arith), number x i a), aborted-fits c x (s .queue) (tell-now (s .clock) (s .queue) (telling-of s h)));
-      recalling = λ x e i a. ((omega arith, number x i a), tt);
+      recalling = λ x e i a. (extended-fits c x low (number x i a) s h, tt);
       declining = λ r v e i b n a. (((omega arith, given-below v b), asked r i a .id), tt);
       accepting = λ r e i p a. accepted-fits (requested c r (s .queue)) (s .queue) ((omega arith, omega arith), asked r i a .id) (telling-of s h .numbered);
     }

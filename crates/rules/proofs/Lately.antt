@@ -82,12 +82,12 @@ unfolding rememberedAll
 remembered-append [] b l = refl
 remembered-append (e ∷ a) b l = remembered-append a b (remembered e l)
 
+pub unused-noted : Noted unused
+unused-noted = record { conn = omega arith; id = omega arith; event = omega arith; result = omega arith; played = omega arith }
+
 pub recalled-none : Recalled noneEnded
 recalled-none = record { sixteen = refl; next = omega arith; noted = go 16 }
   where
-    unused-noted : Noted unused
-    unused-noted = record { conn = omega arith; id = omega arith; event = omega arith; result = omega arith; played = omega arith }
-
     go : (n : ℕ) → All Noted (replicate n unused)
     go zero = tt
     go (suc n) = (unused-noted, go n)

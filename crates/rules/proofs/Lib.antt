@@ -15,6 +15,7 @@ pub mod Cued
 pub mod Always
 pub mod Leaving
 pub mod Lately
+pub mod Recall
 pub mod Moves
 pub mod Tick
 pub mod Readings

@@ -211,7 +211,7 @@ sound-size s h k =
 -- what is said of its records is said of its bytes
 pub sound-found : (s : Splicer) (k : Call) → Wired k → Sound s → recordsIn (writtenBy (call k s .answer)) ≡ recordsOf (call k s .answer)
 sound-found s k f h =
-    found k s f (record { aired = aired (h .holding); proper = h .holding .proper; small = h .holding .small; clock = h .clock; linking = h .linking })
+    found k s f (record { aired = aired (h .holding); proper = h .holding .proper; small = h .holding .small; clock = h .clock; linking = h .linking; lately = h .lately })
 
 -- ## A splicer that fresh and the calls since have given
 

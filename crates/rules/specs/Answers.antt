@@ -11,12 +11,13 @@ use Rattle.rules.specs.declared.Message.{Message}
 use Rattle.rules.specs.declared.Message.the-variants.{Init, Alive, Splice, Abort, Extended, Unreadable}
 use Rattle.rules.specs.declared.Link.the-variants.{Initialised}
 use Rattle.rules.specs.declared.Session.{Session}
+use Rattle.rules.specs.declared.Past.{Past}
 use Rattle.rules.specs.Units.{timeOf, fromMicros, fromTicks, toMicros}
 use Rattle.rules.specs.Lists.{some, count, place, insertAt}
 use Rattle.rules.specs.Bytes.{sameName}
 use Rattle.rules.specs.Reading.{nobody, averageMux, initRequest, channelName, isRead, read}
-use Rattle.rules.specs.State.{Queue, Splicer, empty, of, is, startsAt, startsAfter, held, holds, linkOf, isInitialised, withQueue, withLink, withWaiting}
-use Rattle.rules.specs.Records.{Record, General, InitResponse, AliveResponse, SpliceResponse, AbortResponse, ExtendedNone}
+use Rattle.rules.specs.State.{Queue, Splicer, empty, of, sameNumber, is, startsAt, startsAfter, held, holds, linkOf, isInitialised, withQueue, withLink, withWaiting, unused, isKept, recent}
+use Rattle.rules.specs.Records.{Record, General, InitResponse, AliveResponse, SpliceResponse, AbortResponse, ExtendedFound, ExtendedNone}
 use Rattle.rules.specs.Ends.{Turn, andThen, writes, evicted, aborted}
 use Rattle.rules.specs.Instants.{outranks}
 
@@ -79,9 +80,20 @@ answerAbort c x q =
 
 -- ## 02, CR 8: what ended lately
 
--- "ExtendedData_Response 121 with the SessionID alone where none is kept"
+-- e is kept, and is of connection c's number x
+abbrev pub isPast : ℕ → ℕ → Past → Bool
+isPast c x e = isKept e && sameNumber c x (e .conn) (e .id)
+
+-- "the asking connection's latest ended session of that number": the first such of l, which has the newest first, or what stands where none is
+unfoldable pub latest : ℕ → ℕ → List Past → Past
+latest c x l = getD l (place (isPast c x) l) unused
+
+-- "121 with the SessionID alone where none is kept"
+abbrev pub recalls : ℕ → ℕ → Past → Record
+recalls c x e = cond (isKept e) (ExtendedFound c x (e .event) (e .result) (e .played)) (ExtendedNone c x)
+
 unfoldable pub extendedResponse : ℕ → ℕ → Queue → Record
-extendedResponse c x q = ExtendedNone c x
+extendedResponse c x q = recalls c x (latest c x (recent (q .lately)))
 
 -- ## Splice
 
