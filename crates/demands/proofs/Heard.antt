@@ -32,7 +32,7 @@ bookOf (k ∷ ks) s es = bookOf ks (call k s .splicer) (bookAnswer k (call k s .
 pub sound-fits : (s : Splicer) (k : Call) → Wired k → Sound s → All Fits (recordsOf (call k s .answer))
 sound-fits s k w h =
     let g = h .holding in
-    call-fits k s w (record { aired = record { timed = g .timed; played = g .played }; proper = g .proper; small = g .small; clock = h .clock; linking = h .linking })
+    call-fits k s w (record { aired = record { timed = g .timed; played = g .played }; proper = g .proper; small = g .small; clock = h .clock; linking = h .linking; lately = h .lately })
 
 wait-answer : (c : ℕ) (k : Call) (a : Answer) (w : List ℕ) → All Fits (recordsOf a) → waitReplied c k (replyOf a) w ≡ waitAnswer c k a w
 unfolding waitReplied writtenBy
