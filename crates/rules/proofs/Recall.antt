@@ -81,3 +81,37 @@ answers-latest c x q h = rw (recalled-kept c x (recent (q .lately)) ∙ h)
 pub answers-none : (c x : ℕ) (q : Queue) → some (isPast c x) (recent (q .lately)) ≡ false → extendedResponse c x q ≡ ExtendedNone c x
 unfolding extendedResponse
 answers-none c x q h = rw (recalled-kept c x (recent (q .lately)) ∙ h)
+
+-- ## A search from the newest down
+
+-- none of the newest i is of the number: what is found is among the others
+abbrev pub Seeking : (c x : ℕ) → Lately → ℕ → Type 0
+Seeking c x l i = latest c x (recent l) ≡ latest c x (recentFrom i (mostKept - i) l)
+
+module _ (c x : ℕ) (l : Lately) where
+  pub seek-none : Seeking c x l 0
+  unfolding recent
+  seek-none = refl
+
+  -- the next of them is not, or is
+  seek-next : (i n : ℕ) → mostKept - i ≡ suc n → recentFrom i (mostKept - i) l ≡ recentAt i l ∷ recentFrom (suc i) n l
+  unfolding recentFrom
+  seek-next i n e = ap (λ (k : ℕ). recentFrom i k l) e
+
+  passed-over : (e : Past) (m : List Past) → isPast c x e ≡ false → latest c x (e ∷ m) ≡ latest c x m
+  unfolding latest place
+  passed-over e m h = rw h refl
+
+  pub seek-more : (i : ℕ) → i < mostKept → isPast c x (recentAt i l) ≡ false → Seeking c x l i → Seeking c x l (i + 1)
+  seek-more i h e s =
+      let n = mostKept - suc i in
+      let k : i + 1 ≡ suc i = omega arith in
+      rw k (s ∙ ap (latest c x) (seek-next i n (omega arith)) ∙ passed-over (recentAt i l) (recentFrom (suc i) n l) e)
+
+  pub seek-hit : (i : ℕ) → i < mostKept → isPast c x (recentAt i l) ≡ true → Seeking c x l i → recentAt i l ≡ latest c x (recent l)
+  unfolding latest place
+  seek-hit i h e s = let n = mostKept - suc i in sym (s ∙ ap (latest c x) (seek-next i n (omega arith)) ∙ rw e refl)
+
+  pub seek-out : (i : ℕ) → mostKept ≤ i → Seeking c x l i → unused ≡ latest c x (recent l)
+  unfolding latest place recentFrom
+  seek-out i h s = let none : mostKept - i ≡ zero = omega arith in sym (s ∙ ap (λ (k : ℕ). latest c x (recentFrom i k l)) none)
