@@ -1,11 +1,12 @@
--- 01, Bytes: every kind of record as literal bytes, worked by hand from 01's list and J.280's tables 7-1, 7-4, 7-7, 7-8, 7-10 and 7-15.
+-- 01, Bytes: every kind of record as literal bytes, worked by hand from 01's list and J.280's tables 7-1, 7-4, 7-7, 7-8, 7-10, 7-13
+-- and 7-15.
 -- The same bytes are written of a record and read back as it. Assumes nothing.
 use mathlib.Core.Path.{_≡_, refl}
 use mathlib.Core.List.{List, [], _∷_, _++_, map}
 use Prim.Native.Nat.{ℕ}
 use Prim.Native.String.{String}
 use lib.ListN.{replicate}
-use Rattle.rules.specs.Records.{Record, General, InitResponse, AliveResponse, SpliceResponse, SpliceComplete, AbortResponse, recordBytes, output, recordsIn}
+use Rattle.rules.specs.Records.{Record, General, InitResponse, AliveResponse, SpliceResponse, SpliceComplete, AbortResponse, ExtendedFound, ExtendedNone, recordBytes, output, recordsIn}
 use Rattle.cases.specs.Scenario.{hex}
 use Rattle.cases.specs.Computing.{computing}
 
@@ -39,6 +40,9 @@ rows =
     ∷ row (SpliceComplete 1 125 0x00010203 1 2700000) (hex "52 01  0009 000D 007D FFFF  00010203 01 00000000 002932E0")
     -- SessionID 4
     ∷ row (AbortResponse 3 121 9) (hex "52 03  000F 0004 0079 FFFF  00000009")
+    -- 02, CR 8: SessionID 4, tag 0x01, length 14 = 0x0E, "CARD", SpliceEventID 4, result 2, PlayedDuration 4: 20 = 0x14; 116 = 0x74
+    ∷ row (ExtendedFound 2 0x01020304 0xA1B2C3D4 116 2700000) (hex "52 02  0004 0014 0064 FFFF  01020304  01 0E 43415244 A1B2C3D4 0074 002932E0")
+    ∷ row (ExtendedNone 1 7) (hex "52 01  0004 0004 0079 FFFF  00000007")
     ∷ []
 
 joined : List Row → List ℕ

@@ -12,6 +12,7 @@ pub mod Mux
 pub mod Lately
 pub mod Sections
 pub mod Cued
+pub mod Extended
 pub mod Case-01-card-cut-header
 pub mod Case-01-card-cut-mark
 pub mod Case-01-card-cut-message
