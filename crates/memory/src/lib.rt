@@ -18,7 +18,8 @@ ghost use lib.Seq.{paste};
 ghost use Rattle.rules.specs.declared.Link.the-variants.{Closed};
 ghost use Rattle.rules.specs.Bytes.{nameIn};
 ghost use Rattle.rules.specs.Lists.{omit, place, insertAt, removeAt};
-ghost use Rattle.rules.specs.State.{empty, of, Sorted, earliest, mostKept, recentAt};
+ghost use Rattle.rules.specs.State.{empty, of, Sorted, earliest, mostKept, unused, recentAt, recent};
+ghost use Rattle.rules.specs.Answers.{isPast, latest};
 ghost use Rattle.rules.specs.Instants.{onAir};
 ghost use Rattle.places.specs.Places.{Narrow, keyTest, startsFrom, round};
 ghost use Rattle.memory.specs.declared.Which.the-variants.{Waiting, Started};
@@ -408,6 +409,48 @@ pub fn recent_at(m: &[u64], i: usize) -> Past
         result: m[b + 3],
         played: m[b + 4],
     }
+}
+
+// What stands where none is kept.
+fn no_past() -> Past
+    ensures { λ r. ⌜ r ≡ unused ⌝ }
+{
+    Past {
+        conn: 0,
+        id: 0,
+        event: 0,
+        result: 0,
+        played: 0,
+    }
+}
+
+// An end is kept there, of the connection's number.
+fn is_past(e: Past, conn: u64, id: u64) -> bool
+    ensures { λ r. ⌜ r ≡ isPast conn id e ⌝ }
+{
+    if e.result == 0 {
+        return false;
+    }
+    if conn != e.conn {
+        return false;
+    }
+    id == e.id
+}
+
+// The latest end of the connection's number, or what stands where none is kept: looked for from the newest down.
+pub fn recall(m: &[u64], conn: u64, id: u64) -> Past
+    requires { ⌜ Form (now m) ⌝ }
+    ensures { λ r. ⌜ r ≡ latest conn id (recent (see (now (m .entry)) .queue .lately)) ⌝ }
+{
+    let mut i = 0;
+    while i < KEPT {
+        let e = recent_at(m, i);
+        if is_past(e, conn, id) {
+            return e;
+        }
+        i += 1;
+    }
+    no_past()
 }
 
 // What a word says of its connection.
