@@ -15,13 +15,14 @@ use Rattle.rules.specs.declared.Link.{Link}
 use Rattle.rules.specs.declared.Link.the-variants.{Initialised}
 use Rattle.rules.specs.declared.Message.{Message}
 use Rattle.rules.specs.declared.Session.{Session}
+use Rattle.rules.specs.declared.Past.{Past}
 use Rattle.rules.specs.Units.{toMicros}
 use Rattle.rules.specs.Bytes.{nameIn, padded, sameName, written}
 use Rattle.rules.specs.Reading.{nobody, channelName, isRead, read}
-use Rattle.rules.specs.State.{Splicer, empty, linkOf, withLink}
-use Rattle.rules.specs.Records.{Record, General, InitResponse, AliveResponse, recordBytes}
+use Rattle.rules.specs.State.{Queue, Splicer, empty, linkOf, withLink, isKept, recent}
+use Rattle.rules.specs.Records.{Record, General, InitResponse, AliveResponse, ExtendedFound, ExtendedNone, recordBytes}
 use Rattle.rules.specs.Ends.{Turn}
-use Rattle.rules.specs.Answers.{Answered, Spliced, says, turns, splices, initResult, answerInit, airState, airID, aliveResponse, answerRead, answer}
+use Rattle.rules.specs.Answers.{Answered, Spliced, says, turns, splices, initResult, answerInit, airState, airID, aliveResponse, latest, extendedResponse, answerRead, answer}
 use Rattle.rules.proofs.Bytes.{nameIn-twice}
 use Rattle.rules.proofs.Records.{sizeOf, Roomy, length-record}
 use Rattle.memory.specs.Memory.{Memory, see, Now, linked, nameSize, nameBytes, nameOf, Stored, Whole, shown}
@@ -137,6 +138,24 @@ alive-says m b c {e} {o} {x} {i} a p q h =
     let time : ℕ → ℕ = λ k. toMicros (record { 0 = k }) .0 in
     says-one tt refl
     (rw (a .0, a .1) (h ∙ ap (λ (y : ℕ). written e 0 (recordBytes (AliveResponse c 100 x i y))) (ap (λ (y : Micros). y .0) q ∙ ap time p)))
+
+-- ## 02, CR 8: what ended lately
+
+-- y: what was found; o: the buffer that held e
+module _ (c x : ℕ) (q : Queue) {y : Past} (f : y ≡ latest c x (recent (q .lately))) {e o : List ℕ} where
+  found-kept : {t : Bool} → isKept y ≡ t → isKept (latest c x (recent (q .lately))) ≡ t
+  found-kept h = ap isKept (sym f) ∙ h
+
+  pub extended-none : y .result ≡ 0 → o ≡ written e 0 (recordBytes (ExtendedNone c x)) → Says (extendedResponse c x q) e 14 o
+  unfolding extendedResponse
+  extended-none h b = rw (found-kept (rw (eq-eqb (y .result) 0 h))) (says-one tt refl b)
+
+  pub extended-found : (y .result ≡ 0 → ⊥) → o ≡ written e 0 (recordBytes (ExtendedFound c x (y .event) (y .result) (y .played))) →
+      Says (extendedResponse c x q) e 30 o
+  unfolding extendedResponse
+  extended-found h b =
+      rw (found-kept (rw (ne-eqb (y .result) 0 h)))
+      (says-one tt refl (b ∙ ap (λ (z : Past). written e 0 (recordBytes (ExtendedFound c x (z .event) (z .result) (z .played)))) f))
 
 -- ## A message that is read
 

@@ -10,9 +10,9 @@ ghost use lib.ListN.{length};
 ghost use Rattle.rules.specs.Bytes.{nameIn};
 ghost use Rattle.rules.specs.Reading.{«read»};
 ghost use Rattle.rules.specs.Records.{General};
-ghost use Rattle.rules.specs.Answers.{initResult, answerInit, aliveResponse, answerRead, answer};
+ghost use Rattle.rules.specs.Answers.{initResult, answerInit, aliveResponse, extendedResponse, answerRead, answer};
 ghost use Rattle.rules.specs.Sound.{Sound};
-ghost use Rattle.memory.specs.Memory.{Whole, see, shown};
+ghost use Rattle.memory.specs.Memory.{Form, Whole, see, shown};
 ghost use Rattle.answers.specs.Gives.{Gives, Says, unmoved, barred};
 
 // Init: "Revision not 2 gives 102, another name 104, else 100".
@@ -69,6 +69,21 @@ fn answer_alive(m: &[u64], b: &[u8], conn: u32, out: &mut [u8]) -> usize
     26
 }
 
+// 02, CR 8: the latest end of the number that is kept, "121 with the SessionID alone where none is kept".
+fn answer_extended(m: &[u64], conn: u32, x: u32, out: &mut [u8]) -> usize
+    requires { ⌜ Form (now m) ⌝ }
+    requires { ⌜ 30 ≤ length (now out) ⌝ }
+    ensures { λ r. ⌜ Says (extendedResponse conn x (see (now (m .entry)) .queue)) (now (out .entry)) r (now (out .exit)) ⌝ }
+{
+    let e = memory::recall(m, conn as u64, x as u64);
+    if e.result == 0 {
+        writing::extended_none(&mut *out, conn as u64, x as u64);
+        return 14;
+    }
+    writing::extended_found(&mut *out, conn as u64, x as u64, e.event, e.result, e.played);
+    30
+}
+
 fn general(conn: u32, result: u16, out: &mut [u8]) -> usize
     requires { ⌜ 10 ≤ length (now out) ⌝ }
     ensures { λ r. ⌜ Says (General conn result) (now (out .entry)) r (now (out .exit)) ⌝ }
@@ -77,7 +92,7 @@ fn general(conn: u32, result: u16, out: &mut [u8]) -> usize
     10
 }
 
-// A message of the list of four; "5. Not readable: General_Response 123."
+// A message of that list; "5. Not readable: General_Response 123."
 fn answer_read(
     m: &mut [u64; WORDS],
     b: &[u8],
@@ -109,6 +124,10 @@ fn answer_read(
             len: requests::answer_abort(&mut *m, conn as u64, x as u64, &mut *out),
             moved: 0,
         },
+        Message::Extended(x) => Given {
+            len: answer_extended(&*m, conn, x, &mut *out),
+            moved: 0,
+        },
         Message::Unreadable => Given {
             len: general(conn, 123, &mut *out),
             moved: 0,
@@ -128,7 +147,7 @@ fn is_barred(link: Link, id: u16) -> bool
 }
 
 // "1. ID 0x0000: no answer. 2. Not initialised and not Init_Request: General_Response 103. 3. ID 0x000D: no answer.
-// 4. ID not in the list of four: General_Response 120."
+// 4. ID not in the list of four: General_Response 120." 02, CR 8: of five.
 pub fn answer(m: &mut [u64; WORDS], b: &[u8], conn: u32, id: u16, d: &[u8], out: &mut [u8]) -> Given
     requires { ⌜ Whole (now m) (now b) ⌝ }
     requires { ⌜ Sound (shown (now m) (now b)) ⌝ }

@@ -5,6 +5,7 @@ use engine::Answer;
 use memory::BYTES;
 use memory::WORDS;
 use relay::Anchor;
+use rows::Row;
 use streams::KEPT;
 use streams::LIST;
 ghost use mathlib.Core.Path.{_≡_};
@@ -14,6 +15,7 @@ ghost use Rattle.rules.specs.Calls.{fresh, openCall, closeCall, messageCall, ti
 ghost use Rattle.engine.specs.Lent.{Lent, Counts, Primary, ReadsMux};
 ghost use Rattle.streams.specs.Rows.{ReadsList, WritesList};
 ghost use Rattle.door.specs.Door.{replyOf, Replies, Hears, anchorOf, cueOf};
+ghost use Rattle.rows.specs.Rows.{Pages};
 
 // The house number of a refusal or 0, the bytes consumed and written, and how many places an acceptance shifted.
 fn reply_of(a: Answer) -> [u64; 4]
@@ -201,4 +203,21 @@ pub extern "C" fn splicer_5_cue(
 {
     let a = engine::cue(words, bytes, section, anchor_of(given), &mut *out);
     *reply = reply_of(a);
+}
+
+// 02, CR 8: the driver's page: the last 16 that ended, from the newest down, into sixteen rows that the caller lends. How many it filled, all
+// or, of another number, none: then every row stays as it was. Lent are the last words of the memory, in which what ended is kept. It only
+// reads them. The one function that is walked by hand: Rattle covers no lent slice of structs.
+#[no_mangle]
+pub extern "C" fn splicer_5_ended(ended: &[u64], page: &mut [Row]) -> usize
+    ensures { λ r. ⌜ Pages (now (ended .entry)) (now (page .entry)) r (now (page .exit)) ⌝ }
+{
+    let n = rows::to_fill(page.len());
+    let mut i = 0;
+    while i < n {
+        let r = rows::row_at(ended, i);
+        page[i] = r;
+        i += 1;
+    }
+    n
 }

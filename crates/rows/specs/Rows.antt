@@ -1,10 +1,12 @@
 -- 02, CR 8: the driver's page. From the words in which what ended is kept, sixteen rows, the newest first; for any words.
 use mathlib.Core.Path.{_≡_}
 use mathlib.Core.Bool.{cond}
-use mathlib.Core.List.{List}
+use mathlib.Core.List.{List, map}
 use Prim.Native.Nat.{ℕ, zero, suc, _+_, _-_, _*_, _%_}
 use lib.Dec.{eqb, ltb}
 use lib.ListN.{length, set, getD}
+use Rattle.rules.specs.declared.Past.{Past}
+use Rattle.rules.specs.State.{Lately, isKept, recent}
 use Rattle.rows.specs.declared.Row.{Row}
 
 -- "the last 16 ended sessions": sixteen places of five words, and which of them is written next
@@ -43,7 +45,7 @@ keptRow e b =
       played = narrow (getD e (b + 4) 0);
     }
 
--- no end has the result 0: a place whose result is 0 keeps nothing
+-- a place whose result is 0 keeps nothing (rules' `isKept`)
 unfoldable pub placeRow : List ℕ → ℕ → Row
 placeRow e b = cond (eqb (getD e (b + 3) 0) 0) unusedRow (keptRow e b)
 
@@ -64,3 +66,16 @@ filled (suc n) f l = set (filled n f l) n (f n)
 pub record Pages (e : List ℕ) (lent : List Row) (r : ℕ) (after : List Row) : Type 0 where
   pub count : r ≡ sixteen (length lent)
   pub rows : after ≡ filled (sixteen (length lent)) (rowAt e) lent
+
+-- ## The rows of a splicer
+
+-- what is kept of an end, as a row
+abbrev pub rowOf : Past → Row
+rowOf e =
+    cond (isKept e)
+    (record { kept = 1; connection = e .conn; session = e .id; event = e .event; result = e .result; played = e .played })
+    unusedRow
+
+-- "filled from the newest down"
+abbrev pub rowsOf : Lately → List Row
+rowsOf l = map rowOf (recent l)

@@ -1,8 +1,9 @@
-// 02, CR 8: the driver's page: sixteen rows that the caller lends, filled from the words in which what ended is kept. It only reads them.
+// 02, CR 8: the rows of the driver's page, read from the words in which what ended is kept. The page itself is the
+// door's.
 ghost use mathlib.Core.Path.{_≡_};
 ghost use Prim.Native.Nat.{_+_, _≤_, _<_};
 ghost use lib.ListN.{length};
-ghost use Rattle.rows.specs.Rows.{rows, width, unusedRow, placeRow, rowAt, sixteen, Pages};
+ghost use Rattle.rows.specs.Rows.{rows, width, unusedRow, placeRow, rowAt, sixteen};
 
 // How many rows the page has, and how many words the place of one that ended.
 pub const ROWS: usize = 16;
@@ -80,20 +81,4 @@ pub fn to_fill(n: usize) -> usize
         return ROWS;
     }
     0
-}
-
-// The page: how many rows it filled, all of sixteen or none; then every row stays as it was. The one function that is walked by hand: a lent
-// slice of structs.
-#[no_mangle]
-pub extern "C" fn splicer_5_ended(e: &[u64], rows: &mut [Row]) -> usize
-    ensures { λ r. ⌜ Pages (now (e .entry)) (now (rows .entry)) r (now (rows .exit)) ⌝ }
-{
-    let n = to_fill(rows.len());
-    let mut i = 0;
-    while i < n {
-        let r = row_at(e, i);
-        rows[i] = r;
-        i += 1;
-    }
-    n
 }

@@ -32,10 +32,14 @@ or-default P d h [] i a = h
 or-default P d h (e ∷ l) zero a = a .0
 or-default P d h (e ∷ l) (suc i) a = or-default P d h l i (a .1)
 
+pub noted-at : (l : Lately) → Recalled l → (i : ℕ) → Noted (recentAt i l)
+unfolding recentAt
+noted-at l r i = or-default Noted unused unused-noted (l .places) ((l .next + (mostKept - 1 - i)) % mostKept) (r .noted)
+
 recent-noted : (l : Lately) → Recalled l → (i n : ℕ) → All Noted (recentFrom i n l)
-unfolding recentFrom recentAt
+unfolding recentFrom
 recent-noted l r i zero = tt
-recent-noted l r i (suc n) = (or-default Noted unused unused-noted (l .places) ((l .next + (mostKept - 1 - i)) % mostKept) (r .noted), recent-noted l r (suc i) n)
+recent-noted l r i (suc n) = (noted-at l r i, recent-noted l r (suc i) n)
 
 pub latest-noted : (c x : ℕ) (l : Lately) → Recalled l → Noted (latest c x (recent l))
 unfolding latest recent

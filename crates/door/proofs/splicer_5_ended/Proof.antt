@@ -1,5 +1,5 @@
--- `fill::fill` meets its contract: a walk of its MIR, by hand. The borrow of the rows is opened once, before the loop, and closed once, after it; each turn calls `row_at` and stores
--- one row. Assumes nothing.
+-- The page meets its contract: a walk of its MIR, by hand. The borrow of the rows is opened once, before the loop, and closed once, after it;
+-- each turn calls `row_at` and stores one row. Assumes nothing.
 use mathlib.Core.Path.{_≡_, refl, sym, ap, subst, _∙_}
 use Prim.Native.Nat.{ℕ, zero, suc, _+_, _*_, _≤_, _<_, _^_}
 use native.Mathlib.Nat.{add-zero, add-suc, lt-irrefl}
@@ -48,23 +48,23 @@ use denote.Triple.Table.{entered, cited}
 use denote.Triple.Clauses.{ensured, lasts}
 use denote.Triple.Walked.{says, Stays, stay-none-slice, stay-slice, walkOf, goes-none-slice, goes-slice, Walks, ends-at, walked, walk-meets}
 use denote.Exit.{yes}
 use Rattle.rows.specs.declared.Row.{Row}
 use Rattle.rows.specs.Rows.{rowAt, sixteen, filled}
 use Rattle.rows.proofs.Row as T
 use Rattle.rows.proofs.Row.Laws as T′
 use Rattle.rows.proofs.row_at as row-at
 use Rattle.rows.proofs.row_at.Symbol as row-at-def
 use Rattle.rows.proofs.row_at.Symbol.{name as #rows·row-at}
 use Rattle.rows.proofs.row_at.Met as row-at-thm
 use Rattle.rows.proofs.to_fill as to-fill
 use Rattle.rows.proofs.to_fill.Symbol as to-fill-def
 use Rattle.rows.proofs.to_fill.Symbol.{name as #rows·to-fill}
 use Rattle.rows.proofs.to_fill.Met as to-fill-thm
-use Rattle.rows.proofs.«splicer_5_ended».Key.{name as #rows·fill}
-use Rattle.rows.proofs.«splicer_5_ended» as page
-use Rattle.rows.proofs.«splicer_5_ended».Statement as stated
-use Rattle.rows.proofs.«splicer_5_ended».Code as code
-use Rattle.rows.proofs.«splicer_5_ended».Code.Mir as steps
+use Rattle.door.proofs.«splicer_5_ended».Key.{name as #door·page}
+use Rattle.door.proofs.«splicer_5_ended» as page
+use Rattle.door.proofs.«splicer_5_ended».Statement as stated
+use Rattle.door.proofs.«splicer_5_ended».Code as code
+use Rattle.door.proofs.«splicer_5_ended».Code.Mir as steps
 
 -- ## Numbers and lists
 holds : (t : Bool) → Holds t → t ≡ true
@@ -328,7 +328,7 @@ pub splicer-5-ended-spec : {M : Type 1} → stated.statement M
 unfolding code.routine tablesOf
 splicer-5-ended-spec 𝓤 H 𝓜 𝓖 𝓡 =
     entered 𝓤 H (tripleOf 𝓤 H (𝓖 .A) page.signature (page.spec 𝓤 H (𝓖 .A) (𝓜 .mem) (𝓡 .run)))
-    (tables 𝓤 H 𝓜 𝓡 code.env .C) (tables 𝓤 H 𝓜 𝓡 code.env .Λ) #rows·fill code.function (code.unfolded 𝓤 H 𝓜 𝓡)
+    (tables 𝓤 H 𝓜 𝓡 code.env .C) (tables 𝓤 H 𝓜 𝓡 code.env .Λ) #door·page code.function (code.unfolded 𝓤 H 𝓜 𝓡)
     (page-meets 𝓤 H (𝓖 .A) (givenOf 𝓤 H 𝓜 𝓖) (𝓜 .mem) (𝓡 .run) (tablesOf 𝓤 H 𝓜 (tables 𝓤 H 𝓜 𝓡 code.env))
     (cited 𝓤 H (RowAt 𝓤 H (𝓖 .A) (𝓜 .mem) (𝓡 .run)) 𝓜 𝓡 code.env #rows·row-at row-at-def.routine code.calls-rows·row-at (row-at-thm.met 𝓤 H 𝓜 𝓖 𝓡))
     (cited 𝓤 H (ToFill 𝓤 H (𝓖 .A) (𝓜 .mem) (𝓡 .run)) 𝓜 𝓡 code.env #rows·to-fill to-fill-def.routine code.calls-rows·to-fill (to-fill-thm.met 𝓤 H 𝓜 𝓖 𝓡)))
