@@ -83,6 +83,19 @@ static void counts(void) {
     printf("\n");
 }
 
+/* The desk's page: the sessions that ended lately, the newest first. Cheap at any time between two calls. */
+static void page(void) {
+    struct splicer_row rows[SPLICER_ROWS];
+    uint32_t refused = splicer_call_ended(&channel, rows, SPLICER_ROWS - 1);
+    printf("page of fifteen: refused %u, %s\n", refused, splicer_refusal_text(refused));
+    if (splicer_call_ended(&channel, rows, SPLICER_ROWS) == SPLICER_GOOD) {
+        for (uint32_t i = 0; i < SPLICER_ROWS && rows[i].kept; i++) {
+            printf("ended: connection %u, session %u, result %u, played %u\n", rows[i].connection, rows[i].session, rows[i].result,
+                   rows[i].played);
+        }
+    }
+}
+
 static void connected(uint32_t conn) {
     report("open", conn, splicer_recorded_open(&channel, &sink, conn));
 }
@@ -262,7 +275,9 @@ int main(int words, char **word) {
     }
     report("fresh", 1, splicer_call_fresh(&channel, field));
     beginning(name);
+    page();
     avail();
     trouble();
+    page();
     return 0;
 }

@@ -19,6 +19,7 @@ static void deliver(size_t written) {
     struct splicer_record r;
     struct splicer_alive_response alive;
     struct splicer_splice_complete complete;
+    struct splicer_extended_data ended;
     size_t at = 0;
     while (splicer_next_record(out, written, &at, &r)) {
         printf("  send to %u: %s %u", r.connection, splicer_message_text(r.message_id), r.result);
@@ -26,6 +27,8 @@ static void deliver(size_t written) {
             printf(", state %u, time %u s %u us", alive.state, alive.seconds, alive.micros);
         } else if (splicer_read_complete(&r, &complete)) {
             printf(", session %u, flag %u, played %u", complete.session, complete.flag, complete.played);
+        } else if (splicer_read_extended(&r, &ended) && ended.found) {
+            printf(", session %u, event %u, result %u, played %u", ended.session, ended.event, ended.result, ended.played);
         }
         printf("\n");
     }
@@ -77,13 +80,30 @@ static void init(void) {
 static void splice(uint32_t session, uint32_t seconds, uint32_t duration) {
     uint8_t wire[SPLICER_HEADER + 33], *p = put(put(header(wire, SPLICER_SPLICE_REQUEST, 33), session, 4), 0xFFFFFFFF, 4);
     p = put(put(put(p, seconds, 4), 0, 4), 1, 2);
-    p = put(put(put(p, duration, 4), 0xFFFFFFFF, 4), 0, 4);
+    p = put(put(put(p, duration, 4), 4711, 4), 0, 4);
     heard("Splice_Request", wire, put(put(put(p, 1, 1), 0, 1), 1, 1));
 }
 
 static void alive(void) {
     uint8_t wire[SPLICER_HEADER + 8], *p = header(wire, SPLICER_ALIVE_REQUEST, 8);
     heard("Alive_Request", wire, put(put(p, 0, 4), 0, 4));
+}
+
+/* What ended of a session, asked by its server. */
+static void extended(uint32_t session) {
+    uint8_t wire[SPLICER_HEADER + 8], *p = header(wire, SPLICER_EXTENDED_DATA_REQUEST, 8);
+    heard("ExtendedData_Request", wire, put(put(p, session, 4), 0xFFFFFFFF, 4));
+}
+
+/* The desk's page, from the newest down. */
+static void page(void) {
+    struct splicer_row rows[SPLICER_ROWS];
+    if (splicer_call_ended(&card.core, rows, SPLICER_ROWS) == SPLICER_GOOD) {
+        for (uint32_t i = 0; i < SPLICER_ROWS && rows[i].kept; i++) {
+            printf("ended: connection %u, session %u, event %u, result %u, played %u\n", rows[i].connection, rows[i].session, rows[i].event,
+                   rows[i].result, rows[i].played);
+        }
+    }
 }
 
 int main(void) {
@@ -107,7 +127,10 @@ int main(void) {
     reads();
     alive();
     counter += 3 * TICKS;
+    extended(1);
     reads();
+    extended(1);
+    page();
     /* not read for 90 s and a tick: refused, and no base for the next; 90 s are good */
     counter += 90 * TICKS + 1;
     reads();

@@ -48,10 +48,17 @@ enum {
     SPLICER_MESSAGE = 4096,
     SPLICER_OUT = 4096,
     SPLICER_MARK = 2,
-    SPLICER_WORDS = 605,
+    SPLICER_WORDS = 686,
     SPLICER_BYTES = 32,
     SPLICER_REPLY = 4,
     SPLICER_CUE_SECTION = 512 /* the longest section of cues; the shortest has 20 bytes */
+};
+
+/* The page of what ended lately: its rows, and where in the words what ended is kept. */
+enum {
+    SPLICER_ROWS = 16,
+    SPLICER_ENDED = 605,
+    SPLICER_ENDED_WORDS = 81
 };
 
 /* Document 01's house numbers: why a call was refused. A refused call wrote nothing, consumed nothing and changed nothing; only a
@@ -68,7 +75,8 @@ enum splicer_refusal {
     SPLICER_BAD_MICROS = 8,    /* MicroSeconds above 999,999: tick, instant, cue */
     SPLICER_BAD_NAME = 9,      /* name without a zero byte: fresh */
     SPLICER_BAD_SECTION = 11,  /* section not 3 + section_length bytes long, under 20 or over 512: cue */
-    SPLICER_COUNTER = 12       /* a second instant; a reading before the instant, more than 90 s after the last good one or past the last second: instant, reading */
+    SPLICER_COUNTER = 12,      /* a second instant; a reading before the instant, more than 90 s after the last good one or past the last second: instant, reading */
+    SPLICER_NOT_SIXTEEN = 16   /* other than sixteen rows: ended */
 };
 
 /* MessageIDs of the records that the core writes, and of the requests that it reads. */
@@ -76,6 +84,8 @@ enum splicer_message_id {
     SPLICER_GENERAL_RESPONSE = 0x0000,        /* no data */
     SPLICER_INIT_REQUEST = 0x0001,
     SPLICER_INIT_RESPONSE = 0x0002,           /* Revision_Num 2, ChannelName 32 */
+    SPLICER_EXTENDED_DATA_REQUEST = 0x0003,
+    SPLICER_EXTENDED_DATA_RESPONSE = 0x0004,  /* SessionID 4; with 100 a descriptor of 16 */
     SPLICER_ALIVE_REQUEST = 0x0005,
     SPLICER_ALIVE_RESPONSE = 0x0006,          /* State 4, SessionID 4, Seconds 4, MicroSeconds 4 */
     SPLICER_SPLICE_REQUEST = 0x0007,
@@ -111,9 +121,10 @@ enum {
 
 /* One output channel. Opaque: its content is the core's, and unused places are zero. words: 0 the clock in ninths of a microsecond, 1 how
  * many wait, 2 how many have started, 3 the place where the ring of those that wait ends, 4 the primary channel's ninths, 5 to 8 how many wait
- * of each connection, 9 to 12 the connections; then 64 places of 8 words for those that wait, then 10 for those that have started. Those that
- * wait stand in order of start in a ring, the last of them before the place of word 3, which goes one on with each acceptance; those that
- * have started stand at the end of their places, the first next to the free ones. bytes: the ChannelName. */
+ * of each connection, 9 to 12 the connections; then 64 places of 8 words for those that wait, then 10 for those that have started, then 16 of
+ * 5 for those that ended lately, then which of the 16 is written next. Those that wait stand in order of start in a ring, the last of them
+ * before the place of word 3, which goes one on with each acceptance; those that have started stand at the end of their places, the first
+ * next to the free ones. bytes: the ChannelName. */
 struct splicer {
     uint64_t words[SPLICER_WORDS];
     uint8_t bytes[SPLICER_BYTES];
@@ -157,11 +168,22 @@ struct splicer_streams {
     uint8_t kept[SPLICER_KEPT];
 };
 
+/* One of the last 16 sessions that ended (02, CR 8). kept is 1; in a row that is unused it is 0 and so are all the others. result: that of its
+ * end, 100, 109, 116 or 125. played: its time on air in ticks of 90 kHz, rounded down, also where its record shows none. */
+struct splicer_row {
+    uint32_t kept;
+    uint32_t connection;
+    uint32_t session;
+    uint32_t event;
+    uint32_t result;
+    uint32_t played;
+};
+
 /* The archive is made for machines on which these hold. */
 SPLICER_ASSERT(sizeof(size_t) == 8, "a length is 8 bytes");
-SPLICER_ASSERT(sizeof(struct splicer) == 4872, "size of struct splicer");
+SPLICER_ASSERT(sizeof(struct splicer) == 5520, "size of struct splicer");
 SPLICER_ASSERT(SPLICER_ALIGN(struct splicer) == 8, "alignment of struct splicer");
-SPLICER_ASSERT(SPLICER_OFFSET(struct splicer, bytes) == 4840, "layout of struct splicer");
+SPLICER_ASSERT(SPLICER_OFFSET(struct splicer, bytes) == 5488, "layout of struct splicer");
 SPLICER_ASSERT(sizeof(struct splicer_rolling) == sizeof(struct splicer) + 16, "size of struct splicer_rolling");
 SPLICER_ASSERT(SPLICER_OFFSET(struct splicer_rolling, counter) == sizeof(struct splicer), "layout of struct splicer_rolling");
 SPLICER_ASSERT(sizeof(struct splicer_reply) == 24, "size of struct splicer_reply");
@@ -174,6 +196,13 @@ SPLICER_ASSERT(sizeof(struct splicer_streams) == 4784, "size of struct splicer_s
 SPLICER_ASSERT(SPLICER_OFFSET(struct splicer_streams, pcr_pid) == 8, "layout of struct splicer_streams");
 SPLICER_ASSERT(SPLICER_OFFSET(struct splicer_streams, row) == 16, "layout of struct splicer_streams");
 SPLICER_ASSERT(SPLICER_OFFSET(struct splicer_streams, kept) == 1040, "layout of struct splicer_streams");
+SPLICER_ASSERT(sizeof(struct splicer_row) == 24, "size of struct splicer_row");
+SPLICER_ASSERT(SPLICER_OFFSET(struct splicer_row, connection) == 4, "layout of struct splicer_row");
+SPLICER_ASSERT(SPLICER_OFFSET(struct splicer_row, session) == 8, "layout of struct splicer_row");
+SPLICER_ASSERT(SPLICER_OFFSET(struct splicer_row, event) == 12, "layout of struct splicer_row");
+SPLICER_ASSERT(SPLICER_OFFSET(struct splicer_row, result) == 16, "layout of struct splicer_row");
+SPLICER_ASSERT(SPLICER_OFFSET(struct splicer_row, played) == 20, "layout of struct splicer_row");
+SPLICER_ASSERT(SPLICER_ENDED + SPLICER_ENDED_WORDS == SPLICER_WORDS, "what ended stands last in the words");
 
 /* The archive's functions, over the parts of a struct splicer. Drivers use the splicer_call_ functions below. Pointers and numbers only:
  * nothing is passed or returned by value that two compilers could pass in two ways. reply, SPLICER_REPLY words, gets the house number or
@@ -194,6 +223,7 @@ size_t splicer_5_write_streams(const uint64_t *list, const uint8_t *kept, uint8_
 uint64_t splicer_5_mux(const uint64_t *words, const uint8_t *bytes);
 void splicer_5_cue(const uint64_t *words, const uint8_t *bytes, const uint8_t *section, size_t length, const uint32_t *given, uint8_t *out,
                    size_t room, uint64_t *reply);
+size_t splicer_5_ended(const uint64_t *ended, size_t words, struct splicer_row *page, size_t rows);
 
 /* The words of a reply as a struct. */
 static inline struct splicer_reply splicer_reply_of(const uint64_t *reply) {
@@ -308,6 +338,12 @@ static inline struct splicer_reply splicer_call_cue(const struct splicer *s, con
     uint32_t given[4] = {(uint32_t)(pts >> 32), (uint32_t)pts, seconds, micros};
     splicer_5_cue(s->words, s->bytes, section, length, given, out, room, reply);
     return splicer_reply_of(reply);
+}
+
+/* The last 16 sessions that ended, of all connections, from the newest down: rows[0] is the one whose end was written last. 0, or 16 if `count`
+ * is not SPLICER_ROWS: then no row is written. It only reads. A close and an open drop nothing; fresh has none. */
+static inline uint32_t splicer_call_ended(const struct splicer *s, struct splicer_row *rows, size_t count) {
+    return splicer_5_ended(s->words + SPLICER_ENDED, SPLICER_ENDED_WORDS, rows, count) == SPLICER_ROWS ? SPLICER_GOOD : SPLICER_NOT_SIXTEEN;
 }
 
 /* A record in an output buffer: whom it is for, what it says, and the message as it is sent. The pointers lead into the buffer. */

@@ -90,6 +90,27 @@ static inline int splicer_read_session(const struct splicer_record *r, uint32_t 
     return 1;
 }
 
+/* ExtendedData_Response. found: 1, with what is kept of the session's end, or 0 (result 121), where the others are 0. */
+struct splicer_extended_data {
+    uint32_t session;
+    uint32_t found;
+    uint32_t event;
+    uint32_t result;
+    uint32_t played;
+};
+
+static inline int splicer_read_extended(const struct splicer_record *r, struct splicer_extended_data *to) {
+    if (r->message_id != SPLICER_EXTENDED_DATA_RESPONSE || (r->size != 4 && r->size != 20)) {
+        return 0;
+    }
+    to->session = splicer_u32(r->data);
+    to->found = r->size == 20;
+    to->event = to->found ? splicer_u32(r->data + 10) : 0;
+    to->result = to->found ? splicer_u16(r->data + 14) : 0;
+    to->played = to->found ? splicer_u32(r->data + 16) : 0;
+    return 1;
+}
+
 /* House numbers of documents 01 and 02. */
 static inline const char *splicer_refusal_text(uint32_t number) {
     static const char *const words[] = {

@@ -1,7 +1,7 @@
 //! The archive's functions, as `include/splicer.h` declares them: their link names carry the
 //! version, so that this crate and an archive of two versions do not link.
 
-use crate::Refusal;
+use crate::{Refusal, Row};
 
 /// Words of a reply: the house number of a refusal or 0, the bytes consumed, the bytes written and
 /// the places that an acceptance shifted.
@@ -129,4 +129,7 @@ extern "C" {
         room: usize,
         reply: *mut u64,
     );
+
+    #[link_name = "splicer_5_ended"]
+    pub fn ended(ended: *const u64, words: usize, page: *mut Row, rows: usize) -> usize;
 }

@@ -9,7 +9,7 @@
 //! bytes, time and length of a buffer may be handed in: the call tests them and answers with a
 //! house number, a [`Refusal`].
 //!
-//! What each unsafe call rests on: the parts have the lengths that the core takes (605 words and 32
+//! What each unsafe call rests on: the parts have the lengths that the core takes (686 words and 32
 //! bytes, by their types), and a state came from `fresh` and was changed by the calls only, since its
 //! fields are private. The reason beside each call says the rest.
 #![no_std]
@@ -18,6 +18,7 @@
 #[cfg(feature = "bench")]
 pub mod bench;
 mod door;
+mod ended;
 pub mod recorder;
 mod records;
 mod rolling;
@@ -27,6 +28,7 @@ mod streams;
 pub mod texts;
 
 use core::fmt;
+pub use ended::Row;
 pub use records::{message_id, records, result, Record, Records};
 pub use rolling::RollingSplicer;
 pub use saved::{NotSaved, SAVED};
@@ -48,7 +50,7 @@ pub const OUT: usize = 4096;
 /// Bytes of the mark before each record.
 pub const MARK: usize = 2;
 /// Words of a [`Splicer`]'s memory.
-pub const WORDS: usize = 605;
+pub const WORDS: usize = 686;
 /// Bytes of a [`Splicer`]'s memory, behind its words.
 pub const BYTES: usize = 32;
 /// The longest section of cues; the shortest has 20 bytes.
@@ -57,6 +59,13 @@ pub const CUE_SECTION: usize = 512;
 /// The MuxPriorityValue (J.280, Table 8-11) that changes nothing: what a session without a
 /// muxpriority_descriptor asks.
 pub const MUX_AVERAGE: u8 = 5;
+
+/// Rows of the page of what ended lately.
+pub const ROWS: usize = 16;
+/// Where in the words what ended is kept, and in how many.
+pub const ENDED: usize = 605;
+/// See [`ENDED`].
+pub const ENDED_WORDS: usize = 81;
 
 /// One output channel.
 ///
@@ -73,9 +82,9 @@ pub struct Splicer {
 
 // The numbers that the header asserts of its struct.
 const _: () = assert!(size_of::<usize>() == 8);
-const _: () = assert!(size_of::<Splicer>() == 4872);
+const _: () = assert!(size_of::<Splicer>() == 5520);
 const _: () = assert!(align_of::<Splicer>() == 8);
-const _: () = assert!(core::mem::offset_of!(Splicer, bytes) == 4840);
+const _: () = assert!(core::mem::offset_of!(Splicer, bytes) == 5488);
 
 /// Document 01's house numbers: why a call was refused. A refused call wrote nothing, consumed
 /// nothing and changed nothing.
@@ -105,6 +114,8 @@ pub enum Refusal {
     /// A second instant, or a reading before the instant, more than 90 s after the last good one or
     /// past the last second of the time field: instant, reading.
     Counter = 12,
+    /// Other than sixteen rows: ended.
+    NotSixteen = 16,
 }
 
 impl Refusal {
@@ -122,6 +133,7 @@ impl Refusal {
             9 => Refusal::BadName,
             11 => Refusal::BadSection,
             12 => Refusal::Counter,
+            16 => Refusal::NotSixteen,
             _ => return None,
         })
     }

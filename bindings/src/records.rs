@@ -11,6 +11,10 @@ pub mod message_id {
     /// Revision_Num 2, ChannelName 32.
     pub const INIT_RESPONSE: u16 = 0x0002;
     /// Read by the core.
+    pub const EXTENDED_DATA_REQUEST: u16 = 0x0003;
+    /// SessionID 4; with 100 a descriptor of 16.
+    pub const EXTENDED_DATA_RESPONSE: u16 = 0x0004;
+    /// Read by the core.
     pub const ALIVE_REQUEST: u16 = 0x0005;
     /// State 4, SessionID 4, Seconds 4, MicroSeconds 4.
     pub const ALIVE_RESPONSE: u16 = 0x0006;

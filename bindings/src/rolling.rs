@@ -1,6 +1,6 @@
 //! The card with a rolling counter (document 02, CR 9): an instant and readings in place of ticks.
 
-use crate::{door, Handled, Refusal, Splicer, BYTES, CONNECTIONS, NAME, WORDS};
+use crate::{door, Handled, Refusal, Row, Splicer, BYTES, CONNECTIONS, NAME, ROWS, WORDS};
 use core::fmt;
 
 /// One output channel of the card with a rolling counter.
@@ -117,6 +117,16 @@ impl RollingSplicer {
         out: &'o mut [u8],
     ) -> Result<&'o [u8], Refusal> {
         self.core.cue(section, pts, seconds, micros, out)
+    }
+
+    /// As [`Splicer::ended`].
+    pub fn ended(&self, rows: &mut [Row]) -> Result<(), Refusal> {
+        self.core.ended(rows)
+    }
+
+    /// As [`Splicer::rows`].
+    pub fn rows(&self) -> [Option<Row>; ROWS] {
+        self.core.rows()
     }
 }
 

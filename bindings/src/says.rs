@@ -56,6 +56,22 @@ pub enum Says<'o> {
         /// The section, as it came.
         section: &'o [u8],
     },
+    /// ExtendedData_Response of a session whose end is kept.
+    Ended {
+        /// SessionID.
+        session: u32,
+        /// SpliceEventID, as its Splice_Request had it.
+        event: u32,
+        /// The result of its end.
+        result: u16,
+        /// Its time on air in ticks of 90 kHz.
+        played: u32,
+    },
+    /// ExtendedData_Response where none is kept.
+    NotKept {
+        /// SessionID.
+        session: u32,
+    },
 }
 
 impl Refusal {
@@ -98,6 +114,13 @@ impl<'o> Record<'o> {
                 micros: word(4)?,
                 section: &self.data[8..],
             },
+            (message_id::EXTENDED_DATA_RESPONSE, 20) => Says::Ended {
+                session: word(0)?,
+                event: word(10)?,
+                result: u16::from_be_bytes([self.data[14], self.data[15]]),
+                played: word(16)?,
+            },
+            (message_id::EXTENDED_DATA_RESPONSE, 4) => Says::NotKept { session: word(0)? },
             _ => return None,
         })
     }

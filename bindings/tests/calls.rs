@@ -1,6 +1,8 @@
 //! The five calls through the archive, with values by hand from document 01.
 
-use splicer::{message_id, name, records, result, Refusal, Splicer, MUX_AVERAGE, OUT};
+use splicer::{
+    message_id, name, records, result, Refusal, Row, Says, Splicer, MUX_AVERAGE, OUT, ROWS,
+};
 
 /// A second in ninths of a microsecond.
 const SECOND: u64 = 9_000_000;
@@ -173,6 +175,91 @@ fn a_bad_mux_priority_is_unreadable() {
         assert_eq!(told(handled.written), [invalid]);
         assert_eq!(channel, before);
     }
+}
+
+/// An ExtendedData_Request for the default type.
+fn extended(session: u32) -> Vec<u8> {
+    let data = [session.to_be_bytes(), [0xFF; 4]].concat();
+    message(message_id::EXTENDED_DATA_REQUEST, &data)
+}
+
+#[test]
+fn what_ended_lately_is_answered_and_on_the_page() {
+    let (mut channel, mut out) = ready();
+    assert_eq!(channel.rows(), [None; ROWS], "nothing has ended");
+    let handled = channel.message(0, &extended(1), &mut out).unwrap();
+    let mut walk = records(handled.written);
+    let none = walk.next().unwrap();
+    assert_eq!(none.result, result::INVALID_SESSION);
+    assert_eq!(none.says(), Some(Says::NotKept { session: 1 }));
+    assert!(walk.next().is_none());
+    // One is aborted before its start, then one plays a second.
+    for request in [splice(2, 1010, 90_000), abort(2), splice(1, 1003, 90_000)] {
+        channel.message(0, &request, &mut out).unwrap();
+    }
+    channel.tick(1004, 0, &mut out).unwrap();
+    let played = Row {
+        kept: 1,
+        connection: 0,
+        session: 1,
+        event: 0xFFFF_FFFF,
+        result: 100,
+        played: 90_000,
+    };
+    let aborted = Row {
+        session: 2,
+        result: 116,
+        played: 0,
+        ..played
+    };
+    let rows = channel.rows();
+    assert_eq!(rows[..2], [Some(played), Some(aborted)]);
+    assert_eq!(rows[2..], [None; ROWS - 2]);
+    let handled = channel.message(0, &extended(1), &mut out).unwrap();
+    let found = records(handled.written).next().unwrap();
+    assert_eq!(found.result, result::SUCCESSFUL);
+    assert_eq!(found.data.len(), 20);
+    let expected = Says::Ended {
+        session: 1,
+        event: 0xFFFF_FFFF,
+        result: result::SUCCESSFUL,
+        played: 90_000,
+    };
+    assert_eq!(found.says(), Some(expected));
+}
+
+#[test]
+fn the_page_takes_sixteen_rows() {
+    let (mut channel, mut out) = ready();
+    let before = channel.clone();
+    let marked = Row {
+        kept: 9,
+        connection: 9,
+        session: 9,
+        event: 9,
+        result: 9,
+        played: 9,
+    };
+    for rows in [0, 1, 15, 17, 32] {
+        let mut lent = vec![marked; rows];
+        assert_eq!(channel.ended(&mut lent), Err(Refusal::NotSixteen));
+        assert_eq!(lent, vec![marked; rows]);
+    }
+    let mut lent = [marked; ROWS + 2];
+    assert_eq!(channel.ended(&mut lent[1..=ROWS]), Ok(()));
+    assert_eq!(lent[1..=ROWS], [Row::default(); ROWS]);
+    assert_eq!([lent[0], lent[ROWS + 1]], [marked; 2]);
+    // Seventeen ends: the first is dropped.
+    for id in 1..=17 {
+        channel
+            .message(0, &splice(id, 1010, 90_000), &mut out)
+            .unwrap();
+        channel.message(0, &abort(id), &mut out).unwrap();
+    }
+    let numbers = channel.rows().map(|row| row.unwrap().session);
+    let newest: Vec<u32> = (2..=17).rev().collect();
+    assert_eq!(numbers[..], newest[..]);
+    assert_ne!(channel, before);
 }
 
 #[test]

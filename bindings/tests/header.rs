@@ -5,8 +5,8 @@ use splicer::{message_id, result, Refusal};
 
 const HEADER_TEXT: &str = include_str!("../../include/splicer.h");
 const DOOR_TEXT: &str = include_str!("../src/door.rs");
-const CALLS: [&str; 9] = [
-    "fresh", "open", "close", "message", "tick", "waiting", "primary", "mux", "cue",
+const CALLS: [&str; 10] = [
+    "fresh", "open", "close", "message", "tick", "waiting", "primary", "mux", "cue", "ended",
 ];
 /// Those of the card with a rolling counter alone.
 const ROLLING: [&str; 3] = ["rolling_fresh", "instant", "reading"];
@@ -49,6 +49,9 @@ fn sizes() -> Vec<(&'static str, u32)> {
         ("KEPT", splicer::KEPT),
         ("MUX_AVERAGE", splicer::MUX_AVERAGE as usize),
         ("CUE_SECTION", splicer::CUE_SECTION),
+        ("ROWS", splicer::ROWS),
+        ("ENDED", splicer::ENDED),
+        ("ENDED_WORDS", splicer::ENDED_WORDS),
     ];
     list.map(|(name, size)| (name, size as u32)).to_vec()
 }
@@ -78,6 +81,7 @@ fn refusals() -> Vec<(&'static str, u32)> {
         ("BAD_NAME", Refusal::BadName),
         ("BAD_SECTION", Refusal::BadSection),
         ("COUNTER", Refusal::Counter),
+        ("NOT_SIXTEEN", Refusal::NotSixteen),
     ];
     list.map(|(name, r)| (name, u32::from(r.number()))).to_vec()
 }
@@ -87,6 +91,8 @@ fn ids_and_results() -> Vec<(&'static str, u32)> {
         ("GENERAL_RESPONSE", message_id::GENERAL_RESPONSE),
         ("INIT_REQUEST", message_id::INIT_REQUEST),
         ("INIT_RESPONSE", message_id::INIT_RESPONSE),
+        ("EXTENDED_DATA_REQUEST", message_id::EXTENDED_DATA_REQUEST),
+        ("EXTENDED_DATA_RESPONSE", message_id::EXTENDED_DATA_RESPONSE),
         ("ALIVE_REQUEST", message_id::ALIVE_REQUEST),
         ("ALIVE_RESPONSE", message_id::ALIVE_RESPONSE),
         ("SPLICE_REQUEST", message_id::SPLICE_REQUEST),
@@ -140,6 +146,8 @@ fn the_sizes_are_those_that_the_header_asserts() {
     assert_eq!(words + splicer::BYTES, size);
     let list = size_of::<splicer::Streams>();
     asserted(&format!("sizeof(struct splicer_streams) == {list}"));
+    let row = size_of::<splicer::Row>();
+    asserted(&format!("sizeof(struct splicer_row) == {row}"));
 }
 
 /// A function's parameters as the header declares them, in Rust's words.
@@ -152,6 +160,7 @@ fn of_header_call(name: &str) -> Vec<&'static str> {
         ("const uint32_t *", "*const u32"),
         ("uint8_t *", "*mut u8"),
         ("uint64_t *", "*mut u64"),
+        ("struct splicer_row *", "*mut Row"),
         ("uint32_t ", "u32"),
         ("size_t ", "usize"),
     ];
@@ -234,8 +243,8 @@ fn the_header_refers_to_versioned_names_only() {
 
 #[test]
 fn a_house_number_names_its_refusal() {
-    for number in (1..=9).chain([12]) {
-        let refusal = Refusal::of(number).expect("1 to 9, 12");
+    for number in (1..=9).chain([12, 16]) {
+        let refusal = Refusal::of(number).expect("1 to 9, 12, 16");
         assert_eq!(u32::from(refusal.number()), number);
     }
     assert_eq!(Refusal::of(0), None);
