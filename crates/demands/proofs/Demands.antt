@@ -20,12 +20,13 @@ use Rattle.demands.specs.History.{Event, startsOf, endsOf, history, ownA
 use Rattle.rules.specs.Sound.{Each, Wired, Coded}
 use Rattle.rules.proofs.Sound.{sound-size, sound-found}
 use Rattle.rules.proofs.Codes.{call-coded}
-use Rattle.demands.specs.Told.{FromFresh, Unchanged, firstNumber, checks, numberOf, answers, Asks, Passes, earlierCode, fullTold, outsOf, startedTold, unended, Ended, Stands, airMuxTold, MuxInRange, connOf, concerned, Carries, Alike}
+use Rattle.demands.specs.Told.{FromFresh, Unchanged, firstNumber, checks, numberOf, answers, Asks, Passes, earlierCode, fullTold, outsOf, startedTold, unended, Ended, Stands, airMuxTold, MuxInRange, Inquires, Finds, connOf, concerned, Carries, Alike}
 use Rattle.demands.proofs.Refusals.{unchanged, first-number, fresh-number, fresh-refused}
 use Rattle.demands.proofs.Room.{from-sound, count-room, own-answer, passes-or-earlier, full-answer}
 use Rattle.demands.proofs.Once.{all-ended}
 use Rattle.demands.proofs.Aired.{ends-accepted, outs-started}
 use Rattle.demands.proofs.Closed.{from-more, close-stands}
+use Rattle.demands.proofs.Recalled.{extended-recalled}
 use Rattle.demands.proofs.Mux.{air-told, air-in-range, held-in-range}
 use Rattle.demands.proofs.Cued.{cue-same, counts-nothing, to-whom, whole-section}
 use Rattle.demands.specs.Lately.{endedTold, ofNumber, endedOnce, KeptAs}
@@ -168,3 +169,11 @@ kept-as-told = lately-told
 -- each accepted session that has ended makes one of them, and one that has not ended none
 pub one-kept-for-each : (h : List Event) (s : Splicer) → FromFresh h s → (c x : ℕ) → count (ofNumber c x) (endedTold h [] []) ≡ endedOnce c x (book h [])
 one-kept-for-each = one-kept-each
+
+-- ## Document 02, CR 8
+
+-- "answered with the asking connection's latest ended session of that number", "121 .. where none is kept": the first of what ended lately,
+-- newest first, with the asking connection and the number, or 121 exactly when there is none
+pub extended-answered : (h : List Event) (s : Splicer) → FromFresh h s → (c : ℕ) (l : List ℕ) (loans : Loans) (x : ℕ) → Inquires c l loans x s
+    → Finds c x (recent (s .queue .lately)) (writtenBy (call (messages c l loans) s .answer))
+extended-answered h s f c l loans x a = extended-recalled c l loans x s a h f

@@ -5,6 +5,7 @@ pub mod Cases
 pub mod Refusals
 pub mod Waiting
 pub mod Room
+pub mod Recalled
 pub mod Moved
 pub mod Witness
 pub mod Book

@@ -31,7 +31,7 @@ from-sound h s f = reached-sound s (record { name = f .name; whole = f .whole; b
 pub count-room : (h : List Event) (s : Splicer) → FromFresh h s → (c : ℕ) → waitingCount c h ≤ 20
 count-room h s f c = omega (arith, waiting-counted h s f c, from-sound h s f .holding .room .each c)
 
-ready-open : (l : Link) → isInitialised l ≡ true → isOpen l ≡ true
+pub ready-open : (l : Link) → isInitialised l ≡ true → isOpen l ≡ true
 ready-open Closed e = absurd (clash false e refl)
 ready-open Opened e = refl
 ready-open Initialised e = refl

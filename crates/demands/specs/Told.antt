@@ -2,23 +2,24 @@
 use mathlib.Core.Path.{_≡_}
 use mathlib.Core.Bool.{Bool, true, false, cond, _&&_}
 use mathlib.Core.List.{List, [], _∷_, _++_}
-use Prim.Native.Nat.{ℕ, _+_, _-_, _≤_}
+use Prim.Native.Nat.{ℕ, _+_, _-_, _≤_, _<_}
 use lib.Dec.{eqb, ltb}
-use lib.ListN.{length, drop}
+use lib.ListN.{length, getD, drop}
 use Rattle.rules.specs.declared.Request.{Request}
 use Rattle.rules.specs.declared.Cue.{Cue}
 use Rattle.rules.specs.declared.Cue.the-variants.{At, Timeless, Silent, Bad}
 use Rattle.rules.specs.declared.Session.{Session}
-use Rattle.rules.specs.declared.Message.the-variants.{Splice}
+use Rattle.rules.specs.declared.Past.{Past}
+use Rattle.rules.specs.declared.Message.the-variants.{Splice, Extended}
 use Rattle.rules.specs.declared.Framing.the-variants.{Framed}
 use Rattle.rules.specs.Units.{timeOf, badMicros, fromMicros}
-use Rattle.rules.specs.Lists.{All, keep, count}
+use Rattle.rules.specs.Lists.{All, keep, some, count}
 use Rattle.rules.specs.Bytes.{Byte, messageSize, oversize}
-use Rattle.rules.specs.Reading.{averageMux, spliceRequest, readSplice, dataIn}
-use Rattle.rules.specs.State.{Splicer, linkOf, isOpen, isInitialised}
+use Rattle.rules.specs.Reading.{averageMux, spliceRequest, extendedRequest, readSplice, readExtended, dataIn}
+use Rattle.rules.specs.State.{Splicer, linkOf, isOpen, isInitialised, unused}
 use Rattle.rules.specs.Records.{Record, General, InitResponse, AliveResponse, SpliceResponse, SpliceComplete, AbortResponse, CueRequest, ExtendedFound, ExtendedNone, recordBytes, recordsIn}
 use Rattle.rules.specs.Cues.{badSection}
-use Rattle.rules.specs.Answers.{fullBy, firstOf, requested, wrongNumber, tooLate, collides}
+use Rattle.rules.specs.Answers.{fullBy, firstOf, requested, wrongNumber, tooLate, collides, isPast}
 use Rattle.rules.specs.Calls.{houseNumber, Answer, refused, good, Called, writtenBy, consumedBy, bufferAfter, noConnection, noRoom, notOpen, fresh, framing, Loans, Call, opens, closes, messages, ticks, moves, cues, after}
 use Rattle.demands.specs.History.{Reply, refusal, wrote, Event, Entry, entryIs, muxTold, startsOf, endsOf, history, grantedIn, waitingCount, book, clockAfter, tells, othersOf}
 use Rattle.demands.specs.Airing.{airings}
@@ -217,3 +218,24 @@ grantedBy (messages c l loans) rs = grantedIn c l rs
 grantedBy (ticks seconds micros room) rs = false
 grantedBy (moves until room) rs = false
 grantedBy (cues l pts seconds micros room) rs = false
+
+-- ## 02, CR 8: the answer to an ExtendedData_Request
+
+-- the bytes l of connection c begin with a whole one that is read, for the number x, and nothing stops its answer
+pub record Inquires (c : ℕ) (l : List ℕ) (loans : Loans) (x : ℕ) (s : Splicer) : Type 0 where
+  pub bytes : All Byte l
+  pub low : noConnection c ≡ false
+  pub roomy : noRoom (loans .room) ≡ false
+  pub ready : isInitialised (linkOf c s) ≡ true
+  pub framed : framing l ≡ Framed extendedRequest (messageSize l)
+  pub readable : readExtended (dataIn l) ≡ Extended x
+
+-- the answer's bytes b are what the list says, newest first: "the asking connection's latest ended session of that number", or "121 with the
+-- SessionID alone" exactly "where none is kept"
+pub record Finds (c x : ℕ) (list : List Past) (b : List ℕ) : Type 0 where
+  pub found : (i : ℕ) → i < length list → isPast c x (getD list i unused) ≡ true →
+      ((j : ℕ) → j < i → isPast c x (getD list j unused) ≡ false) →
+      let e = getD list i unused in
+      recordsIn b ≡ ExtendedFound c x (e .event) (e .result) (e .played) ∷ []
+  pub none : some (isPast c x) list ≡ false → recordsIn b ≡ ExtendedNone c x ∷ []
+  pub only : recordsIn b ≡ ExtendedNone c x ∷ [] → some (isPast c x) list ≡ false

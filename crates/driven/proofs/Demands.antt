@@ -18,12 +18,12 @@ use Rattle.rules.specs.Answers.{requested, spliceResult}
 use Rattle.rules.specs.Cues.{readCue}
 use Rattle.rules.specs.Calls.{lending, fresh, after}
 use Rattle.demands.specs.History.{Event, startsOf, endsOf, history, ownAnswer, othersOf, waitingCount, book, clockAfter}
-use Rattle.demands.specs.Told.{firstNumber, checks, answers, Asks, Passes, fullTold, countsTold, grantedBy, outsOf, startedTold, unended, Ended, Stands, airMuxTold, MuxInRange, connOf, concerned, Carries, Alike}
+use Rattle.demands.specs.Told.{firstNumber, checks, answers, Asks, Passes, fullTold, countsTold, grantedBy, outsOf, startedTold, unended, Ended, Stands, airMuxTold, MuxInRange, Inquires, Finds, connOf, concerned, Carries, Alike}
 use Rattle.demands.specs.Lately.{endedTold, ofNumber, endedOnce, KeptAs}
 use Rattle.demands.specs.Airing.{airingsTold, clockTold, primaryTold, timeTold, airTold, numberTold}
 use Rattle.demands.specs.Moments.{Gapless, Printed, Within, PlayedAs}
 use Rattle.places.specs.Places.{round, next}
-use Rattle.memory.specs.Memory.{see, placesFrom, countsOf}
+use Rattle.memory.specs.Memory.{see, placesFrom, countsOf, lateOf}
 use Rattle.engine.specs.Lent.{Lent, Counts, Primary, ReadsMux}
 use Rattle.door.specs.Door.{Input, aClose, aMessage, aCue, ptsOf, Typed, callOf, bufferOf, Seen}
 use Rattle.traces.specs.Trace.{Memory, emptyMemory, shown}
@@ -34,6 +34,12 @@ use Rattle.traces.proofs.Demands as called
 use Rattle.driven.specs.Driven.{left, Made, made, Trace, More, Point, numberIn, number, movedIn, moved, bytesOf, events, calls, inputs, Answerable, Run, AsRuled, inside, within}
 use Rattle.driven.proofs.Inside.{trace-inside, trace-events, more-inside, within-append, calls-inside, call-handed, buffer-handed, number-inside, moved-inside, bytes-inside, reply-ruled}
 use Rattle.door.proofs.Laws.{refused-unchanged}
+use Rattle.door.proofs.Page.{page-shown}
+use Rattle.rows.specs.declared.Row.{Row}
+use Rattle.rows.specs.Rows.{rows, Pages, rowsOf}
+use Rattle.rows.proofs.Laws.{page-filled}
+use Rattle.rules.proofs.Sound.{reached-sound}
+use Rattle.traces.proofs.Course.{trace-lent}
 use Rattle.driven.proofs.Course.{answerable, runs, trace-more, trace-point, trace-same}
 
 -- ## "On a splicer that came from fresh and the calls after it"
@@ -243,6 +249,26 @@ module _ (name : List ℕ) (h : List Made) (m : Memory) where
   -- each accepted session that has ended has made one of them, and one that has not ended none
   pub one-kept-for-each : Trace name h m → (c x : ℕ) → count (ofNumber c x) (endedTold (events h) [] []) ≡ endedOnce c x (book (events h) [])
   one-kept-for-each t = rw (trace-events name h m t) (called.one-kept-for-each name (within h) m (trace-inside name h m t))
+
+-- ## Document 02, CR 8
+
+-- the next message, from whatever connection d, which asks by an ExtendedData_Request for the number x
+module _ (name : List ℕ) (h : List Made) (m : Memory) (d : ℕ) (l e : List ℕ) (r : Seen) (c : More name h m (aMessage d l e) r) (x : ℕ)
+    (asks : Inquires d l (lending (length e)) x (shown m)) where
+  -- "answered with the asking connection's latest ended session of that number", "121 .. where none is kept": whatever the call's contract
+  -- allows is the first of what ended lately, newest first, with that connection and number, or 121 exactly when there is none
+  pub extended-answered : Finds d x (recent (shown m .queue .lately)) (bytesOf r)
+  extended-answered =
+      rw (bytes-inside (c .allowed)) (called.extended-answered name (within h) m d l e (inside r) (more-inside name h m (aMessage d l e) r c) x asks)
+
+module _ (name : List ℕ) (h : List Made) (m : Memory) (t : Trace name h m) where
+  -- "For the desk's page the caller lends sixteen rows and they are filled from the newest down": whatever the page's contract allows, lent the
+  -- words in which what ended is kept. That list is the one of the answers
+  pub page-read : (lent : List Row) {n : ℕ} {a : List Row} → length lent ≡ rows → Pages (lateOf (m .words)) lent n a →
+      (n ≡ rows) × (a ≡ rowsOf (shown m .queue .lately))
+  page-read lent k p =
+      let w = trace-lent name (within h) m (trace-inside name h m t) in
+      (page-filled (lateOf (m .words)) lent k p .0, page-shown (m .words) (w .whole .words) (reached-sound (shown m) (w .reached) .lately) lent k p)
 
 -- ## Document 02, CR 10
 

@@ -26,7 +26,7 @@ use Rattle.engine.specs.declared.Answer.the-variants.{Refused}
 use Rattle.places.specs.Places.{round, next}
 use Rattle.memory.specs.Memory.{see, placesFrom, countsOf, tallied}
 use Rattle.engine.specs.Lent.{Lent, Counts, Primary, ReadsMux}
-use Rattle.demands.specs.Told.{firstNumber, checks, answers, Asks, Passes, fullTold, countsTold, grantedBy, outsOf, startedTold, unended, Ended, Stands, airMuxTold, MuxInRange, connOf, concerned, Carries, Alike}
+use Rattle.demands.specs.Told.{firstNumber, checks, answers, Asks, Passes, fullTold, countsTold, grantedBy, outsOf, startedTold, unended, Ended, Stands, airMuxTold, MuxInRange, Inquires, Finds, connOf, concerned, Carries, Alike}
 use Rattle.demands.specs.Lately.{endedTold, ofNumber, endedOnce, KeptAs}
 use Rattle.demands.specs.Airing.{airingsTold, clockTold, primaryTold, timeTold, airTold, numberTold}
 use Rattle.demands.specs.Moments.{Gapless, Printed, Within, PlayedAs}
@@ -231,6 +231,18 @@ module _ (name : List ℕ) (h : List Made) (m : Memory) where
   -- each accepted session that has ended has made one of them, and one that has not ended none
   pub one-kept-for-each : Trace name h m → (c x : ℕ) → count (ofNumber c x) (endedTold (events h) [] []) ≡ endedOnce c x (book (events h) [])
   one-kept-for-each t = told.one-kept-for-each (events h) (shown m) (trace-told name h m t)
+
+-- ## Document 02, CR 8
+
+-- the next message, from whatever connection d, which asks by an ExtendedData_Request for the number x
+module _ (name : List ℕ) (h : List Made) (m : Memory) (d : ℕ) (l e : List ℕ) (r : Result) (c : More name h m (aMessage d l e) r) (x : ℕ)
+    (asks : Inquires d l (lending (length e)) x (shown m)) where
+  -- "answered with the asking connection's latest ended session of that number", "121 .. where none is kept": whatever the call's contract
+  -- allows is the first of what ended lately, newest first, with that connection and number, or 121 exactly when there is none
+  pub extended-answered : Finds d x (recent (shown m .queue .lately)) (bytesOf r)
+  extended-answered =
+      rw (as-ruled m (aMessage d l e) r (c .allowed) .bytes)
+      (told.extended-answered (events h) (shown m) (trace-told name h m (c .trace)) d l (lending (length e)) x asks)
 
 -- ## Document 02, CR 10
 
