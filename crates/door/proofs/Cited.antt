@@ -22,6 +22,7 @@ use Rattle.rules.specs.Calls as rules
 use Rattle.rules.specs.Calls.{call}
 use Rattle.engine.specs.Lent.{Lent, Counts, Primary, ReadsMux}
 use Rattle.streams.specs.Rows.{ReadsList, WritesList}
+use Rattle.rows.specs.Rows.{Pages}
 use Rattle.engine.proofs.Held.{kind, Holds, Same, both, number-held, bytes-held}
 use Rattle.door.specs.Door.{Replies, anOpen, aClose, aMessage, aTick, aCue, Typed, Seen, Allowed}
 use Rattle.door.proofs.«splicer_5_fresh» as fresh
@@ -33,6 +34,7 @@ use Rattle.door.proofs.«splicer_5_cue» as cue
 use Rattle.door.proofs.«splicer_5_waiting» as waiting
 use Rattle.door.proofs.«splicer_5_primary» as primary
 use Rattle.door.proofs.«splicer_5_mux» as mux
+use Rattle.door.proofs.«splicer_5_ended» as page
 use Rattle.door.proofs.«splicer_5_read_streams» as reads
 use Rattle.door.proofs.«splicer_5_write_streams» as writes
 
@@ -134,6 +136,14 @@ module _ {M : Type 1} (𝓤 : URA M) (H : Heap 𝓤) (A : Atoms 𝓤) (mem : sto
 
     pub mux-ensures : mux.clauses 𝓤 H A mem run κs a .ensures tt r z ≡ ⌜ ReadsMux (now (a .0)) (now (a .1 .0)) r ⌝
     mux-ensures = refl
+
+  -- splicer_5_ended(ended, page)
+  module _ (κs : Lfts 2) (a : Args page.signature κs) (r : Res page.signature κs) (z : AtExit page.ended κs) where
+    pub page-requires : page.clauses 𝓤 H A mem run κs a .requires tt ≡ ⊤ₛ
+    page-requires = refl
+
+    pub page-ensures : page.clauses 𝓤 H A mem run κs a .ensures tt r z ≡ ⌜ Pages (now (a .0)) (now (a .1 .0)) r (now (z .1 .0)) ⌝
+    page-ensures = refl
 
   -- splicer_5_read_streams(l, words, kept)
   module _ (κs : Lfts 3) (a : Args reads.signature κs) (r : Res reads.signature κs) (z : AtExit reads.ended κs) where
