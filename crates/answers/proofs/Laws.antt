@@ -142,19 +142,19 @@ alive-says m b c {e} {o} {x} {i} a p q h =
 -- ## 02, CR 8: what ended lately
 
 -- y: what was found; o: the buffer that held e
-module _ (c x : ℕ) (q : Queue) {y : Past} (f : y ≡ latest c x (recent (q .lately))) {e o : List ℕ} where
+module _ (c x : ℕ) (q : Queue) {y : Past} (f : y ≡ latest c x (recent (q .lately))) where
   found-kept : {t : Bool} → isKept y ≡ t → isKept (latest c x (recent (q .lately))) ≡ t
   found-kept h = ap isKept (sym f) ∙ h
 
-  pub extended-none : y .result ≡ 0 → o ≡ written e 0 (recordBytes (ExtendedNone c x)) → Says (extendedResponse c x q) e 14 o
+  pub extended-none : {e o : List ℕ} → y .result ≡ 0 → o ≡ written e 0 (recordBytes (ExtendedNone c x)) → Says (extendedResponse c x q) e 14 o
   unfolding extendedResponse
-  extended-none h b = rw (found-kept (rw (eq-eqb (y .result) 0 h))) (says-one tt refl b)
+  extended-none h b = rw (found-kept {t = false} (rw (eq-eqb (y .result) 0 h))) (says-one tt refl b)
 
-  pub extended-found : (y .result ≡ 0 → ⊥) → o ≡ written e 0 (recordBytes (ExtendedFound c x (y .event) (y .result) (y .played))) →
+  pub extended-found : {e o : List ℕ} → (y .result ≡ 0 → ⊥) → o ≡ written e 0 (recordBytes (ExtendedFound c x (y .event) (y .result) (y .played))) →
       Says (extendedResponse c x q) e 30 o
   unfolding extendedResponse
-  extended-found h b =
-      rw (found-kept (rw (ne-eqb (y .result) 0 h)))
+  extended-found {e} h b =
+      rw (found-kept {t = true} (rw (ne-eqb (y .result) 0 h)))
       (says-one tt refl (b ∙ ap (λ (z : Past). written e 0 (recordBytes (ExtendedFound c x (z .event) (z .result) (z .played)))) f))
 
 -- ## A message that is read

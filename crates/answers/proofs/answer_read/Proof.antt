@@ -54,6 +54,12 @@ cast-answer-abort c = search needs
 answer-abort-requires : tie.Need-answer-abort-requires
 answer-abort-requires c κs = search needs
 
+enum-known-message-4 : tie.Need-enum-known-message-4
+enum-known-message-4 c = search needs
+
+answer-extended-requires : tie.Need-answer-extended-requires
+answer-extended-requires c κs = search needs
+
 enum-told-2 : tie.Need-enum-told-2
 enum-told-2 c = search needs
 
@@ -114,6 +120,18 @@ same-length-5 c = search needs
 returns-5 : tie.Need-returns-5
 unfolding answerRead
 returns-5 c =
+    let r = c .before .before .before .before .before .before .before .before .before in
+    let s = r .before .before .before .before in
+    reads (shown (s .args .m .now) (s .args .b .now)) (s .args .conn) (s .args .id) (s .args .d .now)
+    (r .read .ensures) (c .before .before .before .before .before .before .before .message4 .given .1)
+    (said (s .pre .0) (c .before .before .answer-extended .ensures))
+
+same-length-6 : tie.Need-same-length-6
+same-length-6 c = search needs
+
+returns-6 : tie.Need-returns-6
+unfolding answerRead
+returns-6 c =
     let r = c .before .before .before .before .before .before in
     let s = r .before .before .before .before in
     reads (shown (s .args .m .now) (s .args .b .now)) (s .args .conn) (s .args .id) (s .args .d .now)
@@ -134,6 +152,8 @@ answer-read-spec =
     enum-known-message-3
     cast-answer-abort
     answer-abort-requires
+    enum-known-message-4
+    answer-extended-requires
     enum-told-2
     general-requires
     same-length
@@ -145,4 +165,6 @@ answer-read-spec =
     same-length-4
     returns-4
     same-length-5
-    returns-5)
+    returns-5
+    same-length-6
+    returns-6)
