@@ -170,8 +170,6 @@ kept-as-told = lately-told
 pub one-kept-for-each : (h : List Event) (s : Splicer) → FromFresh h s → (c x : ℕ) → count (ofNumber c x) (endedTold h [] []) ≡ endedOnce c x (book h [])
 one-kept-for-each = one-kept-each
 
--- ## Document 02, CR 8
-
 -- "answered with the asking connection's latest ended session of that number", "121 .. where none is kept": the first of what ended lately,
 -- newest first, with the asking connection and the number, or 121 exactly when there is none
 pub extended-answered : (h : List Event) (s : Splicer) → FromFresh h s → (c : ℕ) (l : List ℕ) (loans : Loans) (x : ℕ) → Inquires c l loans x s

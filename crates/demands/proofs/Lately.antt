@@ -16,7 +16,7 @@ use Rattle.rules.specs.Units.{timeOf, fromMicros}
 use Rattle.rules.specs.Lists.{All, bit, put, keep, omit, count, place, removeAt}
 use Rattle.rules.specs.Bytes.{hasZero}
 use Rattle.rules.specs.State.{sameNumber, Lately, Queue, Splicer, empty, of, is, startsAt, endsAt, due, notAfter, withWaiting, withStarted, mostKept, unused, noneEnded, remembered, rememberedAll, recentAt, recentFrom, recent}
-use Rattle.rules.specs.Records.{Record, General, InitResponse, AliveResponse, SpliceResponse, SpliceComplete, AbortResponse}
+use Rattle.rules.specs.Records.{Record, General, InitResponse, AliveResponse, SpliceResponse, SpliceComplete, AbortResponse, ExtendedFound, ExtendedNone}
 use Rattle.rules.specs.Ends.{Turn, andThen, writes, ended, past, ending, oneEnd, endings, followers, dismissed, evictedAt, evicted, cancelled, aborted, closedBy}
 use Rattle.rules.specs.Instants.{mayStart, began, meetsEqual, ousted, launched, startAt, endAt, instant, elapse, run, runAll}
 use Rattle.rules.specs.Reading.{dataIn}
@@ -276,6 +276,8 @@ module _ (es : List Entry) where
   not-any (SpliceResponse c n x) h = no-bit _ (h c x)
   not-any (SpliceComplete c n x f d) h = no-bit _ (h c x)
   not-any (AbortResponse c n x) h = refl
+  not-any (ExtendedFound c x event ended played) h = refl
+  not-any (ExtendedNone c x) h = refl
 
   none-told : (rs : List Record) → ((c x : ℕ) → endsOf c x rs ≡ 0) → endsIn es rs ≡ []
   none-told [] h = refl
@@ -387,6 +389,8 @@ module _ (c x : ℕ) where
       go true = omega (arith, h)
       go false = omega (arith, h)
   told-one es (AbortResponse d m y) l n h = omega (arith, h)
+  told-one es (ExtendedFound d y event ended played) l n h = omega (arith, h)
+  told-one es (ExtendedNone d y) l n h = omega (arith, h)
 
   map-put : (es : List Entry) (b : Bool) (r : Record) (rs : List Record) → map (toldIn es) (put b r rs) ≡ put b (toldIn es r) (map (toldIn es) rs)
   map-put es true r rs = refl

@@ -7,7 +7,7 @@ use Rattle.rules.specs.declared.Past.{Past}
 use lib.Dec.{eqb}
 use Rattle.rules.specs.Lists.{keep, count}
 use Rattle.rules.specs.State.{sameNumber, unused}
-use Rattle.rules.specs.Records.{Record, General, InitResponse, AliveResponse, SpliceResponse, SpliceComplete, AbortResponse, recordsIn}
+use Rattle.rules.specs.Records.{Record, General, InitResponse, AliveResponse, SpliceResponse, SpliceComplete, AbortResponse, ExtendedFound, ExtendedNone, recordsIn}
 use Rattle.rules.specs.Calls.{Call}
 use Rattle.demands.specs.History.{isEnd, Reply, refusal, wrote, Event, othersOf, Entry, entryIs, eventTold, bookReplied}
 
@@ -32,6 +32,8 @@ isAnEnd (AliveResponse c r state x t) = false
 isAnEnd (SpliceResponse c r x) = isEnd c x (SpliceResponse c r x)
 isAnEnd (SpliceComplete c r x flag played) = isEnd c x (SpliceComplete c r x flag played)
 isAnEnd (AbortResponse c r x) = false
+isAnEnd (ExtendedFound c x event ended played) = false
+isAnEnd (ExtendedNone c x) = false
 
 -- "SpliceEventID from the request that its connection last had accepted under that SessionID": es, the book
 abbrev pub endOf : List Entry → (conn id result : ℕ) → Shown → Told
@@ -45,6 +47,8 @@ toldIn es (AliveResponse c r state x t) = endOf es c x r hides
 toldIn es (SpliceResponse c r x) = endOf es c x r hides
 toldIn es (SpliceComplete c r x flag played) = endOf es c x r (shows played)
 toldIn es (AbortResponse c r x) = endOf es c x r hides
+toldIn es (ExtendedFound c x event ended played) = endOf es c x 100 hides
+toldIn es (ExtendedNone c x) = endOf es c x 121 hides
 
 -- the ends among the records rs, in their order
 abbrev pub endsIn : List Entry → List Record → List Told
