@@ -6,7 +6,7 @@ use mathlib.Core.List.{List, [], _∷_, _++_, map}
 use Prim.Native.Nat.{ℕ, _*_}
 use lib.ListN.{length}
 use Rattle.rules.specs.Lists.{bit}
-use Rattle.rules.specs.Records.{Record, General, InitResponse, AliveResponse, SpliceResponse, SpliceComplete, AbortResponse}
+use Rattle.rules.specs.Records.{Record, General, InitResponse, AliveResponse, SpliceResponse, SpliceComplete, AbortResponse, ExtendedFound, ExtendedNone}
 use Rattle.rules.specs.Calls.{Call, opens, closes, moves}
 use Rattle.demands.specs.History.{isStart, isEnd, isYes, ownAnswer, othersOf, wrote, Event, Entry, history, waitingCount, book, clockAfter}
 use Rattle.cases.specs.Scenario.{hex}
@@ -43,6 +43,8 @@ marks =
     ∷ mark (SpliceComplete 1 100 8 1 0) 0 0 0
     ∷ mark (SpliceResponse 1 100 8) 0 0 0
     ∷ mark (AbortResponse 1 100 7) 0 0 0
+    ∷ mark (ExtendedFound 1 7 0 116 90000) 0 0 0
+    ∷ mark (ExtendedNone 1 7) 0 0 0
     ∷ mark (AliveResponse 1 100 2 7 0) 0 0 0
     ∷ mark (InitResponse 1 100 []) 0 0 0
     ∷ mark (General 1 103) 0 0 0
