@@ -80,7 +80,14 @@ fn answer_extended(m: &[u64], conn: u32, x: u32, out: &mut [u8]) -> usize
         writing::extended_none(&mut *out, conn as u64, x as u64);
         return 14;
     }
-    writing::extended_found(&mut *out, conn as u64, x as u64, e.event, e.result, e.played);
+    writing::extended_found(
+        &mut *out,
+        conn as u64,
+        x as u64,
+        e.event,
+        e.result,
+        e.played,
+    );
     30
 }
 
