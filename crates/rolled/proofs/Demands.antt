@@ -20,11 +20,11 @@ use Rattle.rules.specs.State.{Sorted, recent}
 use Rattle.rules.specs.Sound.{horizon, Each, Falling, Coded}
 use Rattle.rules.specs.Rolling.{none, Rolling, stepOf, rollingOf, rollingFresh, instants, readings, roll, rolledAfter, asMoves}
 use Rattle.demands.specs.History.{startsOf, endsOf, history, ownAnswer, waitingCount, book, clockAfter}
-use Rattle.demands.specs.Told.{firstNumber, numberOf, answers, Asks, Passes, fullTold, countsTold, outsOf, startedTold, unended, Ended, Stands, airMuxTold, MuxInRange}
+use Rattle.demands.specs.Told.{firstNumber, numberOf, answers, Asks, Passes, fullTold, countsTold, outsOf, startedTold, unended, Ended, Stands, airMuxTold, MuxInRange, Inquires, Finds}
 use Rattle.demands.specs.Lately.{endedTold, ofNumber, endedOnce, KeptAs}
 use Rattle.demands.specs.Airing.{airingsTold, clockTold, primaryTold, timeTold, airTold, numberTold}
 use Rattle.demands.specs.Moments.{Gapless, Printed, Within, PlayedAs}
-use Rattle.memory.specs.Memory.{see, countsOf}
+use Rattle.memory.specs.Memory.{see, countsOf, lateOf}
 use Rattle.engine.specs.Lent.{Counts, Primary, ReadsMux}
 use Rattle.rolling.specs.LentRolling.{LentRolling}
 use Rattle.rolling.specs.Ruled.{rollChecks, Act, InTime, ticked, callsAt}
@@ -34,7 +34,13 @@ use Rattle.rolldoor.specs.RollDoor.{RollInput, aKnown, RollTyped, rollCallOf, r
 use Rattle.traces.specs.Trace.{emptyMemory}
 use Rattle.traces.specs.Trace as engine
 use Rattle.traces.proofs.Closed.{not-full, unended-newer}
+use Rattle.traces.proofs.Course as core
 use Rattle.traces.proofs.Demands as called
+use Rattle.rules.proofs.Sound.{reached-sound}
+use Rattle.rows.specs.declared.Row.{Row}
+use Rattle.rows.specs.Rows.{rows, Pages, rowsOf}
+use Rattle.rows.proofs.Laws.{page-filled}
+use Rattle.door.proofs.Page.{page-shown}
 use Rattle.driven.specs.Driven.{numberIn, inside}
 use Rattle.driven.proofs.Inside.{number-inside}
 use Rattle.rolled.specs.Rolled.{Memory, shown, LentAt, left, Made, made, Trace, More, Point, seenOf, number, bytesOf, calls, inputs, othersBy, within, events, AsRuled, Answerable, Run}
@@ -281,6 +287,23 @@ module _ (name : List ℕ) (h : List Made) (m : Memory) where
   -- each accepted session that has ended has made one of them, and one that has not ended none
   pub one-kept-for-each : Trace name h m → (c x : ℕ) → count (ofNumber c x) (endedTold (events h) [] []) ≡ endedOnce c x (book (events h) [])
   one-kept-for-each t = called.one-kept-for-each name (within h) (m .core) (trace-inside name h m t)
+
+-- the next message, from whatever connection d, which asks by an ExtendedData_Request for the number x
+module _ (name : List ℕ) (h : List Made) (m : Memory) (d : ℕ) (l e : List ℕ) (r : RollSeen) (c : More name h m (aKnown (aMessage d l e)) r) (x : ℕ)
+    (asks : Inquires d l (lending (length e)) x (shown m .splicer)) where
+  -- "answered with the asking connection's latest ended session of that number", "121 .. where none is kept"
+  pub extended-answered : Finds d x (recent (shown m .splicer .queue .lately)) (bytesOf r)
+  extended-answered =
+      rw (bytes-are name h m _ r c)
+      (called.extended-answered name (within h) (m .core) d l e (inside (seenOf r)) (known-more name h m (aMessage d l e) r c) x asks)
+
+module _ (name : List ℕ) (h : List Made) (m : Memory) (t : Trace name h m) where
+  -- "For the desk's page the caller lends sixteen rows and they are filled from the newest down"
+  pub page-read : (lent : List Row) {n : ℕ} {a : List Row} → length lent ≡ rows → Pages (lateOf (m .core .words)) lent n a →
+      (n ≡ rows) × (a ≡ rowsOf (shown m .splicer .queue .lately))
+  page-read lent k p =
+      let w = core.trace-lent name (within h) (m .core) (trace-inside name h m t) in
+      (page-filled (lateOf (m .core .words)) lent k p .0, page-shown (m .core .words) (w .whole .words) (reached-sound _ (w .reached) .lately) lent k p)
 
 -- ## Document 02, CR 10
 
