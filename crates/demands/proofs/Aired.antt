@@ -98,7 +98,11 @@ module _ (c x : ℕ) where
       (replied-started k (r .answer) (tally c x (s .queue .started)) (sound-found s k (a .0) h) ∙ call-airs s (h .holding .once) k .started)
       ∙ started-after ks (r .splicer) (a .1) (sound-call s k (a .0) h)
 
-  fresh-started : (name : List ℕ) → tally c x (fresh name .splicer .queue .started) ≡ 0
+  -- after a call, from its answer
+  pub call-started : (k : Call) (s : Splicer) → Wired k → Sound s → startedReplied c x k (replyOf (call k s .answer)) (tally c x (s .queue .started)) ≡ tally c x (call k s .splicer .queue .started)
+  call-started k s w h = replied-started k (call k s .answer) (tally c x (s .queue .started)) (sound-found s k w h) ∙ call-airs s (h .holding .once) k .started
+
+  pub fresh-started : (name : List ℕ) → tally c x (fresh name .splicer .queue .started) ≡ 0
   unfolding fresh named
   fresh-started name = by (λ (r : Called). tally c x (r .splicer .queue .started) ≡ 0) (hasZero name) _ _ (λ e. refl) (λ e. refl)
 

@@ -29,7 +29,7 @@ use Rattle.demands.proofs.Closed.{from-more, close-stands}
 use Rattle.demands.proofs.Recalled.{extended-recalled}
 use Rattle.demands.proofs.Mux.{air-told, air-in-range, held-in-range}
 use Rattle.demands.proofs.Cued.{cue-same, counts-nothing, to-whom, whole-section}
-use Rattle.demands.specs.Lately.{endedTold, ofNumber, endedOnce, KeptAs}
+use Rattle.demands.specs.Lately.{ofNumber, endedOnce, KeptAs, endsTold}
 use Rattle.demands.proofs.Lately.{lately-told, one-kept-each}
 
 -- ## "Over all sequences of opens, closes, messages and ticks from a fresh splicer"
@@ -162,12 +162,12 @@ cue-whole = whole-section
 
 -- "the last 16 ended sessions": what is kept is, newest first, the first 16 of the ends that the answers tell; connection, SessionID and result
 -- from each end record that is no Splice_Request's own answer, SpliceEventID from the request that its connection last had accepted under that
--- SessionID, PlayedDuration from the record where it shows one
-pub kept-as-told : (h : List Event) (s : Splicer) → FromFresh h s → KeptAs (recent (s .queue .lately)) (endedTold h [] [])
+-- SessionID, PlayedDuration from the record where it shows one, 0 where the session's start was never written
+pub kept-as-told : (h : List Event) (s : Splicer) → FromFresh h s → KeptAs (recent (s .queue .lately)) (endsTold h)
 kept-as-told = lately-told
 
 -- each accepted session that has ended makes one of them, and one that has not ended none
-pub one-kept-for-each : (h : List Event) (s : Splicer) → FromFresh h s → (c x : ℕ) → count (ofNumber c x) (endedTold h [] []) ≡ endedOnce c x (book h [])
+pub one-kept-for-each : (h : List Event) (s : Splicer) → FromFresh h s → (c x : ℕ) → count (ofNumber c x) (endsTold h) ≡ endedOnce c x (book h [])
 one-kept-for-each = one-kept-each
 
 -- "answered with the asking connection's latest ended session of that number", "121 .. where none is kept": the first of what ended lately,

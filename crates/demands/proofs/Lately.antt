@@ -7,12 +7,12 @@ use Prim.Native.Nat.{ℕ, zero, suc, _+_, _-_, _%_, _≤_, _<_}
 use native.Mathlib.Omega.{arith}
 use lib.Dec.{eqb, ltb}
 use lib.ListN.{length, take, getD, set, length-set, replicate}
-use borrow.Author.Tests.{ltb-true, eq-eqb}
+use borrow.Author.Tests.{ltb-true, eq-eqb, ne-eqb}
 use Rattle.rules.specs.declared.Session.{Session}
 use Rattle.rules.specs.declared.Past.{Past}
 use Rattle.rules.specs.declared.Ending.{Ending}
 use Rattle.rules.specs.declared.Ending.the-variants.{Complete, Failed, Response}
-use Rattle.rules.specs.Units.{timeOf, fromMicros}
+use Rattle.rules.specs.Units.{timeOf, fromMicros, toTicks}
 use Rattle.rules.specs.Lists.{All, bit, put, keep, omit, count, place, removeAt}
 use Rattle.rules.specs.Bytes.{hasZero}
 use Rattle.rules.specs.State.{sameNumber, Lately, Queue, Splicer, empty, of, is, startsAt, endsAt, due, notAfter, withWaiting, withStarted, mostKept, unused, noneEnded, remembered, rememberedAll, recentAt, recentFrom, recent}
@@ -25,7 +25,7 @@ use Rattle.rules.specs.Calls.{Answer, refused, good, Called, ticked, Call, call
 use Rattle.rules.specs.Sound.{Each, heldCount, Holding}
 use Rattle.rules.proofs.Tests.{by, eqb-same}
 use Rattle.rules.proofs.All.{all-into}
-use Rattle.rules.proofs.Every.{all-keep, all-getD, fewer-all, fewer-removeAt, fewer-each}
+use Rattle.rules.proofs.Every.{all-keep, all-both, all-getD, fewer-all, fewer-removeAt}
 use Rattle.rules.proofs.Walk.{followers-gone}
 use Rattle.rules.proofs.Leaving.{meets-some, dismissed-fewer, removed-fewer, endAt-fewer, cancelled-fewer}
 use Rattle.rules.proofs.Lately.{recent-next, remembered-append}
@@ -37,14 +37,15 @@ use Rattle.rules.proofs.Always.{Wired}
 use Rattle.rules.proofs.Records.{Fits, read-back}
 use Rattle.rules.proofs.Sound.{Sound, sound-call, sound-fresh, holding-next}
 use Rattle.demands.specs.History.{isEnd, isYes, endsOf, endResult, front, last, Event, replyOf, history, othersOf, Entry, entryIs, eventTold, credited, shut, bookAnswered, bookAfter, bookReplied, book}
-use Rattle.demands.specs.Told.{FromFresh}
-use Rattle.demands.specs.Lately.{Shown, shows, hides, Told, isAnEnd, toldIn, endsIn, newer, endedReplied, endedTold, ofNumber, endedOnce, Plays, As, KeptAs}
+use Rattle.demands.specs.Told.{FromFresh, startedReplied}
+use Rattle.demands.specs.Lately.{Shown, shows, hides, Told, isAnEnd, toldIn, endsIn, unshown, newer, endedReplied, endedTold, endsTold, ofNumber, endedOnce, Plays, As, KeptAs}
 use Rattle.demands.proofs.Laws.{evicted-law, closedBy-law, answered-law, tick-law}
 use Rattle.demands.proofs.Cases.{cases}
 use Rattle.demands.proofs.Waiting.{front-last, last-last}
 use Rattle.demands.proofs.Heard.{bookAnswer, sound-fits, book-answer}
 use Rattle.demands.proofs.Book.{Settled, Owed, Dated, Booked, asked-entry, call-booked, booked-fresh}
 use Rattle.demands.proofs.Once.{book-told}
+use Rattle.demands.proofs.Aired.{call-started, fresh-started}
 
 -- ## The sixteen, one end further
 
@@ -91,62 +92,71 @@ kept-all (e ∷ es) (o ∷ os) l ts f m h = kept-all es os (remembered e l) (o �
 abbrev Knows : List Entry → Session → Type 0
 Knows es s = eventTold (s .conn) (s .id) es ≡ s .event
 
--- how sessions end: not with the 100 of an answer
-abbrev Ends : Ending → Type 0
-Ends (Complete r) = Unit {0}
-Ends Failed = ⊥
-Ends (Response r) = endResult r ≡ true
+-- its time on air is what a Splice_Response tells of it: 0 if it has not started
+abbrev Airs : (ℕ → ℕ → ℕ) → Session → Type 0
+Airs st s = Plays (unshown (st (s .conn) (s .id))) (toTicks (s .played) .0)
 
-module _ (es : List Entry) where
+airs-silent : (st : ℕ → ℕ → ℕ) (s : Session) → s .played .0 ≡ 0 → Airs st s
+airs-silent st s z = go (eqb (st (s .conn) (s .id)) 0)
+  where
+    go : (b : Bool) → Plays (cond b (shows 0) hides) (toTicks (s .played) .0)
+    go true = omega (arith, z)
+    go false = tt
+
+airs-started : (st : ℕ → ℕ → ℕ) (s : Session) → 0 < st (s .conn) (s .id) → Airs st s
+airs-started st s h = rw (ne-eqb (st (s .conn) (s .id)) 0 (λ e. omega (arith, e))) tt
+
+-- how a session may end: not with the 100 of an answer
+abbrev Fine : (ℕ → ℕ → ℕ) → Ending → Session → Type 0
+Fine st (Complete r) s = Unit {0}
+Fine st Failed s = s .played .0 ≡ 0
+Fine st (Response r) s = (endResult r ≡ true) × Airs st s
+
+module _ (es : List Entry) (st : ℕ → ℕ → ℕ) where
   -- the record of an end is one, and tells what is kept
   abbrev Says : Ending → Session → Type 0
-  Says how s = (isAnEnd (ended how s) ≡ true) × As (past how s) (toldIn es (ended how s))
+  Says how s = (isAnEnd (ended how s) ≡ true) × As (past how s) (toldIn es st (ended how s))
 
-  says : (how : Ending) (s : Session) → Ends how → Knows es s → Says how s
+  says : (how : Ending) (s : Session) → Fine st how s → Knows es s → Says how s
   unfolding isAnEnd isEnd toldIn
   says (Complete r) s h k = (rw (eqb-same (s .conn), eqb-same (s .id)), record { conn = refl; id = refl; event = sym k; result = refl; played = refl })
-  says Failed s h k = absurd h
-  says (Response r) s h k = (rw (h, eqb-same (s .conn), eqb-same (s .id)), record { conn = refl; id = refl; event = sym k; result = refl; played = tt })
+  says Failed s h k = (rw (eqb-same (s .conn), eqb-same (s .id)), record { conn = refl; id = refl; event = sym k; result = refl; played = omega (arith, h) })
+  says (Response r) s h k = (rw (h .0, eqb-same (s .conn), eqb-same (s .id)), record { conn = refl; id = refl; event = sym k; result = refl; played = h .1 })
 
-  -- a start that fails: it was never on air
-  says-failed : (s : Session) → s .played .0 ≡ 0 → Knows es s → Says Failed s
-  unfolding isAnEnd isEnd toldIn
-  says-failed s z k = (rw (eqb-same (s .conn), eqb-same (s .id)), record { conn = refl; id = refl; event = sym k; result = refl; played = omega (arith, z) })
-
-  one-end : (how : Ending) (s : Session) → Says how s → Matches (past how s ∷ []) (endsIn es (ended how s ∷ []))
+  one-end : (how : Ending) (s : Session) → Says how s → Matches (past how s ∷ []) (endsIn es st (ended how s ∷ []))
   one-end how s h = rw (h .0) (h .1, tt)
 
-  all-end : (how : Ending) → Ends how → (l : List Session) → All (Knows es) l → Matches (map (past how) l) (endsIn es (map (ended how) l))
-  all-end how h [] a = tt
-  all-end how h (s ∷ l) a = let k = says how s h (a .0) in rw (k .0) (k .1, all-end how h l (a .1))
+  all-end : (how : Ending) (l : List Session) → All (λ s. Knows es s × Fine st how s) l → Matches (map (past how) l) (endsIn es st (map (ended how) l))
+  all-end how [] a = tt
+  all-end how (s ∷ l) a = let k = says how s (a .0 .1) (a .0 .0) in rw (k .0) (k .1, all-end how l (a .1))
 
-  endings-end : (air cover : Ending) → Ends air → Ends cover → (p : Session → Bool) (k : List Session) → All (Knows es) k
-      → Matches (endings air cover p k Past past) (endsIn es (endings air cover p k Record ended))
+  endings-end : (air cover : Ending) (p : Session → Bool) (k : List Session) → All (λ s. (Knows es s × Fine st cover s) × Fine st air s) k
+      → Matches (endings air cover p k Past past) (endsIn es st (endings air cover p k Record ended))
   unfolding endings
-  endings-end air cover f g p [] a = tt
-  endings-end air cover f g p (s ∷ k) a = go (p s)
+  endings-end air cover p [] a = tt
+  endings-end air cover p (s ∷ k) a = go (p s)
     where
-      rest : Matches (map (past cover) (keep p k)) (endsIn es (map (ended cover) (keep p k)))
-      rest = all-end cover g (keep p k) (all-keep (Knows es) p k (a .1))
+      rest : Matches (map (past cover) (keep p k)) (endsIn es st (map (ended cover) (keep p k)))
+      rest = all-end cover (keep p k) (all-keep (λ u. Knows es u × Fine st cover u) p k (all-into (λ u. (Knows es u × Fine st cover u) × Fine st air u) (λ u. Knows es u × Fine st cover u) (λ u h. h .0) k (a .1)))
 
-      go : (b : Bool) → Matches (put b (past air s) (map (past cover) (keep p k))) (endsIn es (put b (ended air s) (map (ended cover) (keep p k))))
-      go true = let k = says air s f (a .0) in rw (k .0) (k .1, rest)
+      go : (b : Bool) → Matches (put b (past air s) (map (past cover) (keep p k))) (endsIn es st (put b (ended air s) (map (ended cover) (keep p k))))
+      go true = let k = says air s (a .0 .1) (a .0 .0 .0) in rw (k .0) (k .1, rest)
       go false = rest
 
-  ends-append : (a b : List Record) → endsIn es (a ++ b) ≡ endsIn es a ++ endsIn es b
+  ends-append : (a b : List Record) → endsIn es st (a ++ b) ≡ endsIn es st a ++ endsIn es st b
   ends-append [] b = refl
   ends-append (r ∷ a) b = go (isAnEnd r) (ends-append a b)
     where
-      go : (t : Bool) → endsIn es (a ++ b) ≡ endsIn es a ++ endsIn es b
-          → map (toldIn es) (put t r (keep isAnEnd (a ++ b))) ≡ map (toldIn es) (put t r (keep isAnEnd a)) ++ endsIn es b
-      go true h = ap (λ (z : List Told). toldIn es r ∷ z) h
+      go : (t : Bool) → endsIn es st (a ++ b) ≡ endsIn es st a ++ endsIn es st b
+          → map (toldIn es st) (put t r (keep isAnEnd (a ++ b))) ≡ map (toldIn es st) (put t r (keep isAnEnd a)) ++ endsIn es st b
+      go true h = ap (λ (z : List Told). toldIn es st r ∷ z) h
       go false h = h
 
   -- from what was kept before: what the turn keeps is what its records tell
   record Keeps (l : Lately) (t : Turn) : Type 0 where
     gone : List Past
     lately : t .queue .lately ≡ rememberedAll gone l
-    told : Matches gone (endsIn es (t .written))
+    told : Matches gone (endsIn es st (t .written))
 
   keeps-join : (l : Lately) (t u : Turn) → Keeps l t → Keeps (t .queue .lately) u → Keeps l (record { queue = u .queue; written = t .written ++ u .written })
   keeps-join l t u a b =
@@ -157,99 +167,116 @@ module _ (es : List Entry) where
       }
 
   -- nothing ends
-  keeps-none : (q : Queue) (rs : List Record) → endsIn es rs ≡ [] → Keeps (q .lately) (writes rs q)
+  keeps-none : (q : Queue) (rs : List Record) → endsIn es st rs ≡ [] → Keeps (q .lately) (writes rs q)
   unfolding rememberedAll
   keeps-none q rs e = record { gone = []; lately = refl; told = rw e tt }
 
-  began-none : (s : Session) → endsIn es (began s ∷ []) ≡ []
+  began-none : (s : Session) → endsIn es st (began s ∷ []) ≡ []
   unfolding isAnEnd isEnd
   began-none s = refl
 
   -- ## Pieces of work
 
-  dismissed-keeps : (r c x : ℕ) (q : Queue) → endResult r ≡ true → All (Knows es) (q .waiting) → Keeps (q .lately) (dismissed r c x q)
+  -- of one that waits
+  abbrev Waits : Session → Type 0
+  Waits s = Knows es s × (s .played .0 ≡ 0)
+
+  waits-fine : (r : ℕ) → endResult r ≡ true → (l : List Session) → All Waits l → All (λ s. Knows es s × Fine st (Response r) s) l
+  waits-fine r h l a = all-into Waits (λ s. Knows es s × Fine st (Response r) s) (λ s k. (k .0, (h, airs-silent st s (k .1)))) l a
+
+  dismissed-keeps : (r c x : ℕ) (q : Queue) → endResult r ≡ true → All Waits (q .waiting) → Keeps (q .lately) (dismissed r c x q)
   unfolding dismissed
   dismissed-keeps r c x q h a =
       let g = followers c x (q .waiting) .gone in
-      record { gone = map (past (Response r)) g; lately = refl; told = all-end (Response r) h g (followers-gone c x (q .waiting) (Knows es) a) }
+      record { gone = map (past (Response r)) g; lately = refl; told = all-end (Response r) g (waits-fine r h g (followers-gone c x (q .waiting) Waits a)) }
 
   one-keeps : (how : Ending) (s : Session) (q : Queue) → Says how s → Keeps (q .lately) (ending (oneEnd how s) q)
   one-keeps how s q h = record { gone = past how s ∷ []; lately = refl; told = one-end how s h }
 
-  evicted-keeps : (t : ℕ) (q : Queue) → All (Knows es) (q .waiting) → Keeps (q .lately) (evicted t q)
+  evicted-keeps : (t : ℕ) (q : Queue) → All Waits (q .waiting) → Keeps (q .lately) (evicted t q)
   unfolding evicted evictedAt andThen
   evicted-keeps t q a =
       let i = place (startsAt t) (q .waiting) in
       let s = getD (q .waiting) i empty in
       let u = ending (oneEnd (Response 109) s) (withWaiting (removeAt i (q .waiting)) q) in
       by (Keeps (q .lately)) (ltb i (length (q .waiting))) _ _
-      (λ e. let k = all-getD (Knows es) (q .waiting) i empty (ltb-true i (length (q .waiting)) e) a in
-      keeps-join (q .lately) u (dismissed 109 (s .conn) (s .id) (u .queue)) (one-keeps (Response 109) s (withWaiting (removeAt i (q .waiting)) q) (says (Response 109) s refl k))
-      (dismissed-keeps 109 (s .conn) (s .id) (u .queue) refl (fewer-all (Knows es) (fewer-removeAt i (q .waiting)) a)))
+      (λ e. let k = all-getD Waits (q .waiting) i empty (ltb-true i (length (q .waiting)) e) a in
+      keeps-join (q .lately) u (dismissed 109 (s .conn) (s .id) (u .queue))
+      (one-keeps (Response 109) s (withWaiting (removeAt i (q .waiting)) q) (says (Response 109) s (refl, airs-silent st s (k .1)) (k .0)))
+      (dismissed-keeps 109 (s .conn) (s .id) (u .queue) refl (fewer-all Waits (fewer-removeAt i (q .waiting)) a)))
       (λ e. keeps-none q [] refl)
 
-  cancelled-keeps : (p : Session → Bool) (q : Queue) → Each (Knows es) q → Keeps (q .lately) (cancelled p q)
+  -- those that have started are told so
+  cancelled-keeps : (p : Session → Bool) (q : Queue) → All Waits (q .waiting) → All (λ s. Knows es s × Airs st s) (q .started) → Keeps (q .lately) (cancelled p q)
   unfolding cancelled
-  cancelled-keeps p q a =
+  cancelled-keeps p q a k =
       let g = endings (Complete 116) (Response 116) p (q .started) in
       let w = keep p (q .waiting) in
       record {
         gone = g Past past ++ map (past (Response 116)) w;
         lately = refl;
         told = rw (ends-append (g Record ended) (map (ended (Response 116)) w))
-            (matches-append (g Past past) (map (past (Response 116)) w) _ _ (endings-end (Complete 116) (Response 116) tt refl p (q .started) (a .started))
-            (all-end (Response 116) refl w (all-keep (Knows es) p (q .waiting) (a .waiting))));
+            (matches-append (g Past past) (map (past (Response 116)) w) _ _
+            (endings-end (Complete 116) (Response 116) p (q .started)
+            (all-into (λ s. Knows es s × Airs st s) (λ s. (Knows es s × Fine st (Response 116) s) × Fine st (Complete 116) s) (λ s h. ((h .0, (refl, h .1)), tt)) (q .started) k))
+            (all-end (Response 116) w (waits-fine 116 refl w (all-keep Waits p (q .waiting) a))));
       }
 
-  aborted-keeps : (c x : ℕ) (q : Queue) → Each (Knows es) q → Keeps (q .lately) (aborted c x q)
+  aborted-keeps : (c x : ℕ) (q : Queue) → All Waits (q .waiting) → All (λ s. Knows es s × Airs st s) (q .started) → Keeps (q .lately) (aborted c x q)
   unfolding aborted andThen
-  aborted-keeps c x q a =
+  aborted-keeps c x q a k =
       let t = cancelled (is c x) q in
-      keeps-join (q .lately) t (dismissed 116 c x (t .queue)) (cancelled-keeps (is c x) q a)
-      (dismissed-keeps 116 c x (t .queue) refl (fewer-each (Knows es) q (t .queue) (cancelled-fewer q (is c x)) a .waiting))
+      keeps-join (q .lately) t (dismissed 116 c x (t .queue)) (cancelled-keeps (is c x) q a k)
+      (dismissed-keeps 116 c x (t .queue) refl (fewer-all Waits (cancelled-fewer q (is c x) .waiting) a))
 
   -- ## Instants
 
   endAt-keeps : (t : ℕ) (q : Queue) → All (Knows es) (q .started) → Keeps (q .lately) (endAt t q)
   unfolding endAt
   endAt-keeps t q a =
-      record { gone = endings (Complete 100) (Complete 125) (endsAt t) (q .started) Past past; lately = refl; told = endings-end (Complete 100) (Complete 125) tt tt (endsAt t) (q .started) a }
+      record {
+        gone = endings (Complete 100) (Complete 125) (endsAt t) (q .started) Past past;
+        lately = refl;
+        told = endings-end (Complete 100) (Complete 125) (endsAt t) (q .started) (all-into (Knows es) (λ s. (Knows es s × Unit {0}) × Unit {0}) (λ s k. ((k, tt), tt)) (q .started) a);
+      }
 
-  ousted-keeps : (s : Session) (q : Queue) → Each (Knows es) q → Keeps (q .lately) (ousted s q)
+  ousted-keeps : (s : Session) (q : Queue) → All Waits (q .waiting) → All (Knows es) (q .started) → Keeps (q .lately) (ousted s q)
   unfolding ousted andThen
-  ousted-keeps s q a =
+  ousted-keeps s q a b =
       let air = getD (q .started) 0 empty in
       let u = ending (oneEnd (Complete 125) air) (withStarted (removeAt 0 (q .started)) q) in
       by (Keeps (q .lately)) (meetsEqual s (q .started)) _ _
-      (λ e. let k = all-getD (Knows es) (q .started) 0 empty (meets-some s (q .started) e) (a .started) in
+      (λ e. let k = all-getD (Knows es) (q .started) 0 empty (meets-some s (q .started) e) b in
       keeps-join (q .lately) u (dismissed 125 (air .conn) (air .id) (u .queue)) (one-keeps (Complete 125) air (withStarted (removeAt 0 (q .started)) q) (says (Complete 125) air tt k))
-      (dismissed-keeps 125 (air .conn) (air .id) (u .queue) refl (a .waiting)))
+      (dismissed-keeps 125 (air .conn) (air .id) (u .queue) refl a))
       (λ e. keeps-none q [] refl)
 
-  launched-keeps : (s : Session) (q : Queue) → s .played .0 ≡ 0 → Knows es s → Each (Knows es) q → Keeps (q .lately) (launched s q)
+  launched-keeps : (s : Session) (q : Queue) → Waits s → All Waits (q .waiting) → All (Knows es) (q .started) → Keeps (q .lately) (launched s q)
   unfolding launched andThen
-  launched-keeps s q z k a =
+  launched-keeps s q z a b =
       let f = ending (oneEnd Failed s) q in
       let o = ousted s q in
       by (Keeps (q .lately)) (mayStart s (q .started)) _ _
-      (λ e. keeps-join (q .lately) o (writes (began s ∷ []) (withStarted (s ∷ o .queue .started) (o .queue))) (ousted-keeps s q a) (keeps-none (withStarted (s ∷ o .queue .started) (o .queue)) (began s ∷ []) (began-none s)))
-      (λ e. keeps-join (q .lately) f (dismissed 109 (s .conn) (s .id) (f .queue)) (one-keeps Failed s q (says-failed s z k)) (dismissed-keeps 109 (s .conn) (s .id) (f .queue) refl (a .waiting)))
+      (λ e. keeps-join (q .lately) o (writes (began s ∷ []) (withStarted (s ∷ o .queue .started) (o .queue))) (ousted-keeps s q a b) (keeps-none (withStarted (s ∷ o .queue .started) (o .queue)) (began s ∷ []) (began-none s)))
+      (λ e. keeps-join (q .lately) f (dismissed 109 (s .conn) (s .id) (f .queue)) (one-keeps Failed s q (says Failed s (z .1) (z .0))) (dismissed-keeps 109 (s .conn) (s .id) (f .queue) refl a))
 
-  startAt-keeps : (t : ℕ) (q : Queue) → All (λ s. s .played .0 ≡ 0) (q .waiting) → Each (Knows es) q → Keeps (q .lately) (startAt t q)
+  startAt-keeps : (t : ℕ) (q : Queue) → All Waits (q .waiting) → All (Knows es) (q .started) → Keeps (q .lately) (startAt t q)
   unfolding startAt
-  startAt-keeps t q z a =
+  startAt-keeps t q a b =
       let i = place (startsAt t) (q .waiting) in
       by (Keeps (q .lately)) (ltb i (length (q .waiting))) _ _
-      (λ e. let l = ltb-true i (length (q .waiting)) e in
-      launched-keeps (getD (q .waiting) i empty) (withWaiting (removeAt i (q .waiting)) q) (all-getD (λ s. s .played .0 ≡ 0) (q .waiting) i empty l z) (all-getD (Knows es) (q .waiting) i empty l (a .waiting))
-      (fewer-each (Knows es) q _ (removed-fewer q i) a))
+      (λ e. launched-keeps (getD (q .waiting) i empty) (withWaiting (removeAt i (q .waiting)) q) (all-getD Waits (q .waiting) i empty (ltb-true i (length (q .waiting)) e) a)
+      (fewer-all Waits (fewer-removeAt i (q .waiting)) a) b)
       (λ e. keeps-none q [] refl)
 
-  instant-keeps : (t : ℕ) (q : Queue) → All (λ s. s .played .0 ≡ 0) (q .waiting) → Each (Knows es) q → Keeps (q .lately) (instant t q)
+  instant-keeps : (t : ℕ) (q : Queue) → All Waits (q .waiting) → All (Knows es) (q .started) → Keeps (q .lately) (instant t q)
   unfolding instant andThen endAt
-  instant-keeps t q z a =
+  instant-keeps t q a b =
       let u = endAt t q in
-      keeps-join (q .lately) u (startAt t (u .queue)) (endAt-keeps t q (a .started)) (startAt-keeps t (u .queue) z (fewer-each (Knows es) q (u .queue) (endAt-fewer q t) a))
+      keeps-join (q .lately) u (startAt t (u .queue)) (endAt-keeps t q b) (startAt-keeps t (u .queue) a (fewer-all (Knows es) (endAt-fewer q t .started) b))
+
+  waits-now : (now : ℕ) (q : Queue) → Holding now q → Each (Knows es) q → All Waits (q .waiting)
+  waits-now now q h a = all-both (Knows es) (λ s. s .played .0 ≡ 0) (q .waiting) (a .waiting) (h .played .silent)
 
   run-keeps : (n now until : ℕ) (q : Queue) → Holding now q → Each (Knows es) q → Keeps (q .lately) (run n now until q)
   unfolding run andThen elapse
@@ -259,7 +286,7 @@ module _ (es : List Entry) where
       (λ t e. let u = elapse (t .0 - now) q in
       let b = each-elapse (Knows es) (λ d s k. k) (t .0 - now) q a in
       let i = moved now (t .0) q in
-      keeps-join (q .lately) i (run n (t .0) until (i .queue)) (instant-keeps (t .0) u (h .played .silent) b)
+      keeps-join (q .lately) i (run n (t .0) until (i .queue)) (instant-keeps (t .0) u (waits-now now q h a) (b .started))
       (run-keeps n (t .0) until (i .queue) (holding-next now until t q e h) (each-instant (Knows es) (λ d s k. k) (t .0) u b)))
       (λ e. keeps-none (elapse (until - now) q) [] refl)
 
@@ -279,7 +306,7 @@ module _ (es : List Entry) where
   not-any (ExtendedFound c x event ended played) h = refl
   not-any (ExtendedNone c x) h = refl
 
-  none-told : (rs : List Record) → ((c x : ℕ) → endsOf c x rs ≡ 0) → endsIn es rs ≡ []
+  none-told : (rs : List Record) → ((c x : ℕ) → endsOf c x rs ≡ 0) → endsIn es st rs ≡ []
   none-told [] h = refl
   none-told (r ∷ rs) h = rw (not-any r (λ c x. omega (arith, h c x))) (none-told rs (λ c x. omega (arith, h c x)))
 
@@ -290,12 +317,13 @@ abbrev othersBy : Call → Answer → List Record
 othersBy k (refused n) = []
 othersBy k (good consumed rs) = othersOf k rs
 
-module _ (s : Splicer) (es : List Entry) (b : Booked (s .queue) es) (h : Sound s) where
+module _ (s : Splicer) (es : List Entry) (st : ℕ → ℕ → ℕ) (b : Booked (s .queue) es) (h : Sound s)
+    (told : (c x : ℕ) → st c x ≡ count (is c x) (s .queue .started)) where
   abbrev q : Queue
   q = s .queue
 
   abbrev Does : Call → Called → Type 0
-  Does k r = Keeps es (q .lately) (record { queue = r .splicer .queue; written = othersBy k (r .answer) })
+  Does k r = Keeps es st (q .lately) (record { queue = r .splicer .queue; written = othersBy k (r .answer) })
 
   knows : Each (Knows es) q
   knows =
@@ -304,24 +332,41 @@ module _ (s : Splicer) (es : List Entry) (b : Booked (s .queue) es) (h : Sound s
         started = all-into (Dated es) (Knows es) (λ u d. d .2) (q .started) (b .dated .started);
       }
 
-  tick-keeps : (until : ℕ) → Keeps es (q .lately) (runAll (s .clock) until q)
+  waiting : All (Waits es st) (q .waiting)
+  waiting = waits-now es st (s .clock) q (h .holding) knows
+
+  -- those on air or covered are told to have started
+  started : (l : List Session) → ((c x : ℕ) → count (is c x) l ≤ count (is c x) (q .started)) → All (Knows es) l → All (λ u. Knows es u × Airs st u) l
+  started [] f a = tt
+  started (u ∷ l) f a = (
+    (a .0, airs-started st u (omega (arith, told (u .conn) (u .id), f (u .conn) (u .id), own))),
+    started l (λ c x. omega (arith, f c x)) (a .1),
+  )
+    where
+      own : bit (is (u .conn) (u .id) u) ≡ 1
+      own = rw (eqb-same (u .conn), eqb-same (u .id)) refl
+
+  airing : All (λ u. Knows es u × Airs st u) (q .started)
+  airing = started (q .started) (λ c x. omega arith) (knows .started)
+
+  tick-keeps : (until : ℕ) → Keeps es st (q .lately) (runAll (s .clock) until q)
   unfolding runAll
-  tick-keeps until = run-keeps es _ (s .clock) until q (h .holding) knows
+  tick-keeps until = run-keeps es st _ (s .clock) until q (h .holding) knows
 
   call-keeps : (k : Call) → Does k (call k s)
   unfolding othersOf front accepted andThen ticked closedBy isAnEnd
   call-keeps =
       cases s Does (record {
-        refusing = λ k n. keeps-none es q [] refl;
-        opening = λ c low e. keeps-none es q [] refl;
-        closing = λ c room low e. cancelled-keeps es (of c) q knows;
-        saying = λ c l loans n rs e p. rw e (keeps-none es q rs (none-told es rs (p .ends)));
-        naming = λ c l loans n r e p. rw e (keeps-none es q (r ∷ []) (none-told es (r ∷ []) (p .ends)));
-        aborting = λ c l loans n x e i. let k = aborted-keeps es c x q knows in
+        refusing = λ k n. keeps-none es st q [] refl;
+        opening = λ c low e. keeps-none es st q [] refl;
+        closing = λ c room low e. cancelled-keeps es st (of c) q waiting airing;
+        saying = λ c l loans n rs e p. rw e (keeps-none es st q rs (none-told es st rs (p .ends)));
+        naming = λ c l loans n r e p. rw e (keeps-none es st q (r ∷ []) (none-told es st (r ∷ []) (p .ends)));
+        aborting = λ c l loans n x e i. let k = aborted-keeps es st c x q waiting airing in
             rw e (record { gone = k .gone; lately = k .lately; told = k .told });
-        declining = λ c l loans n r e y o. rw e (keeps-none es q [] refl);
+        declining = λ c l loans n r e y o. rw e (keeps-none es st q [] refl);
         accepting = λ c l loans n r e f p. let new = requested c r q in
-            let k = evicted-keeps es (new .start .0) q (knows .waiting) in
+            let k = evicted-keeps es st (new .start .0) q waiting in
             rw (e, front-last (evicted (new .start .0) q .written) (accepts new)) (record { gone = k .gone; lately = k .lately; told = k .told });
         ticking = λ seconds micros room le. tick-keeps (fromMicros (timeOf seconds micros) .0);
         moving = λ until room le. tick-keeps until;
@@ -329,26 +374,37 @@ module _ (s : Splicer) (es : List Entry) (b : Booked (s .queue) es) (h : Sound s
 
 -- ## Every sequence of calls
 
-ended-answer : (k : Call) (a : Answer) (es : List Entry) (os : List Told) → All Fits (recordsOf a) → endedReplied k (replyOf a) es os ≡ newer (endsIn es (othersBy k a)) os
+ended-answer : (k : Call) (a : Answer) (es : List Entry) (st : ℕ → ℕ → ℕ) (os : List Told) → All Fits (recordsOf a)
+    → endedReplied k (replyOf a) es st os ≡ newer (endsIn es st (othersBy k a)) os
 unfolding endedReplied newer writtenBy
-ended-answer k (refused n) es os f = refl
-ended-answer k (good consumed rs) es os f = ap (λ l. newer (endsIn es (othersOf k l)) os) (read-back rs f)
+ended-answer k (refused n) es st os f = refl
+ended-answer k (good consumed rs) es st os f = ap (λ l. newer (endsIn es st (othersOf k l)) os) (read-back rs f)
 
-kept-always : (ks : List Call) (s : Splicer) (es : List Entry) (os : List Told) → All Wired ks → Sound s → Booked (s .queue) es → KeptAs (recent (s .queue .lately)) os
-    → KeptAs (recent (after ks s .queue .lately)) (endedTold (history ks s) es os)
+-- which have started after a call
+abbrev startedBy : Call → Splicer → (ℕ → ℕ → ℕ) → ℕ → ℕ → ℕ
+startedBy k s st c x = startedReplied c x k (replyOf (call k s .answer)) (st c x)
+
+started-next : (k : Call) (s : Splicer) (st : ℕ → ℕ → ℕ) → Wired k → Sound s → ((c x : ℕ) → st c x ≡ count (is c x) (s .queue .started))
+    → (c x : ℕ) → startedBy k s st c x ≡ count (is c x) (call k s .splicer .queue .started)
+started-next k s st w h t c x = ap (startedReplied c x k (replyOf (call k s .answer))) (t c x) ∙ call-started c x k s w h
+
+kept-always : (ks : List Call) (s : Splicer) (es : List Entry) (st : ℕ → ℕ → ℕ) (os : List Told) → All Wired ks → Sound s → Booked (s .queue) es
+    → ((c x : ℕ) → st c x ≡ count (is c x) (s .queue .started)) → KeptAs (recent (s .queue .lately)) os
+    → KeptAs (recent (after ks s .queue .lately)) (endedTold (history ks s) es st os)
 unfolding after history endedTold
-kept-always [] s es os w h b k = k
-kept-always (j ∷ ks) s es os w h b k =
+kept-always [] s es st os w h b t k = k
+kept-always (j ∷ ks) s es st os w h b t k =
     let n = call j s in
-    let d = call-keeps s es b h j in
+    let d = call-keeps s es st b h t j in
     let f = sound-fits s j (w .0) h in
-    let m = kept-all (d .gone) (endsIn es (othersBy j (n .answer))) (s .queue .lately) os (h .lately .sixteen, h .lately .next) (d .told) k in
-    let same : endedTold (history ks (n .splicer)) (bookReplied j (replyOf (n .answer)) es) (endedReplied j (replyOf (n .answer)) es os)
-    ≡ endedTold (history ks (n .splicer)) (bookAnswer j (n .answer) es) (newer (endsIn es (othersBy j (n .answer))) os) =
-    λ i. endedTold (history ks (n .splicer)) (book-answer j (n .answer) es f i) (ended-answer j (n .answer) es os f i) in
+    let more = newer (endsIn es st (othersBy j (n .answer))) os in
+    let m = kept-all (d .gone) (endsIn es st (othersBy j (n .answer))) (s .queue .lately) os (h .lately .sixteen, h .lately .next) (d .told) k in
+    let same : endedTold (history ks (n .splicer)) (bookReplied j (replyOf (n .answer)) es) (startedBy j s st) (endedReplied j (replyOf (n .answer)) es st os)
+    ≡ endedTold (history ks (n .splicer)) (bookAnswer j (n .answer) es) (startedBy j s st) more =
+    λ i. endedTold (history ks (n .splicer)) (book-answer j (n .answer) es f i) (startedBy j s st) (ended-answer j (n .answer) es st os f i) in
     subst (λ (z : List Told). KeptAs (recent (after ks (n .splicer) .queue .lately)) z) (sym same)
-    (kept-always ks (n .splicer) (bookAnswer j (n .answer) es) (newer (endsIn es (othersBy j (n .answer))) os) (w .1) (sound-call s j (w .0) h) (call-booked s es b j)
-    (subst (λ (l : Lately). KeptAs (recent l) (newer (endsIn es (othersBy j (n .answer))) os)) (sym (d .lately)) m))
+    (kept-always ks (n .splicer) (bookAnswer j (n .answer) es) (startedBy j s st) more (w .1) (sound-call s j (w .0) h) (call-booked s es b j) (started-next j s st (w .0) h t)
+    (subst (λ (l : Lately). KeptAs (recent l) more) (sym (d .lately)) m))
 
 -- a fresh splicer has none
 empty-at : (n i : ℕ) → getD (replicate n unused) i unused ≡ unused
@@ -365,40 +421,41 @@ none-kept : (name : List ℕ) → KeptAs (recent (fresh name .splicer .queue .la
 unfolding fresh named recent
 none-kept name = by (λ (r : Called). KeptAs (recent (r .splicer .queue .lately)) []) (hasZero name) _ _ (λ e. none-from 0 mostKept) (λ e. none-from 0 mostKept)
 
-pub lately-told : (h : List Event) (s : Splicer) → FromFresh h s → KeptAs (recent (s .queue .lately)) (endedTold h [] [])
+pub lately-told : (h : List Event) (s : Splicer) → FromFresh h s → KeptAs (recent (s .queue .lately)) (endsTold h)
 lately-told h s f =
     rw (f .heard, f .same)
-    (kept-always (f .calls) (fresh (f .name) .splicer) [] [] (f .wired) (sound-fresh (f .name) (f .whole) (f .bytes)) (booked-fresh (f .name)) (none-kept (f .name)))
+    (kept-always (f .calls) (fresh (f .name) .splicer) [] (λ c x. 0) [] (f .wired) (sound-fresh (f .name) (f .whole) (f .bytes)) (booked-fresh (f .name)) (λ c x. sym (fresh-started c x (f .name)))
+    (none-kept (f .name)))
 
 -- ## One for each session that has ended
 
 module _ (c x : ℕ) where
-  told-one : (es : List Entry) (r : Record) (l : List Told) (n : ℕ) → count (ofNumber c x) l ≡ n → count (ofNumber c x) (put (isAnEnd r) (toldIn es r) l) ≡ bit (isEnd c x r) + n
+  told-one : (es : List Entry) (st : ℕ → ℕ → ℕ) (r : Record) (l : List Told) (n : ℕ) → count (ofNumber c x) l ≡ n → count (ofNumber c x) (put (isAnEnd r) (toldIn es st r) l) ≡ bit (isEnd c x r) + n
   unfolding isAnEnd isEnd toldIn
-  told-one es (General d m) l n h = omega (arith, h)
-  told-one es (InitResponse d m name) l n h = omega (arith, h)
-  told-one es (AliveResponse d m a y t) l n h = omega (arith, h)
-  told-one es (SpliceResponse d m y) l n h = rw (eqb-same d, eqb-same y) (go (endResult m))
+  told-one es st (General d m) l n h = omega (arith, h)
+  told-one es st (InitResponse d m name) l n h = omega (arith, h)
+  told-one es st (AliveResponse d m a y t) l n h = omega (arith, h)
+  told-one es st (SpliceResponse d m y) l n h = rw (eqb-same d, eqb-same y) (go (endResult m))
     where
-      go : (b : Bool) → count (ofNumber c x) (put (b && true) (toldIn es (SpliceResponse d m y)) l) ≡ bit (b && sameNumber c x d y) + n
+      go : (b : Bool) → count (ofNumber c x) (put (b && true) (toldIn es st (SpliceResponse d m y)) l) ≡ bit (b && sameNumber c x d y) + n
       go true = omega (arith, h)
       go false = omega (arith, h)
-  told-one es (SpliceComplete d m y f p) l n h = rw (eqb-same d, eqb-same y) (go (eqb f 1 || (eqb f 0 && eqb m 109)))
+  told-one es st (SpliceComplete d m y f p) l n h = rw (eqb-same d, eqb-same y) (go (eqb f 1 || (eqb f 0 && eqb m 109)))
     where
-      go : (b : Bool) → count (ofNumber c x) (put (b && true) (toldIn es (SpliceComplete d m y f p)) l) ≡ bit (b && sameNumber c x d y) + n
+      go : (b : Bool) → count (ofNumber c x) (put (b && true) (toldIn es st (SpliceComplete d m y f p)) l) ≡ bit (b && sameNumber c x d y) + n
       go true = omega (arith, h)
       go false = omega (arith, h)
-  told-one es (AbortResponse d m y) l n h = omega (arith, h)
+  told-one es st (AbortResponse d m y) l n h = omega (arith, h)
   told-one es (ExtendedFound d y event ended played) l n h = omega (arith, h)
   told-one es (ExtendedNone d y) l n h = omega (arith, h)
 
-  map-put : (es : List Entry) (b : Bool) (r : Record) (rs : List Record) → map (toldIn es) (put b r rs) ≡ put b (toldIn es r) (map (toldIn es) rs)
-  map-put es true r rs = refl
-  map-put es false r rs = refl
+  map-put : (es : List Entry) (st : ℕ → ℕ → ℕ) (b : Bool) (r : Record) (rs : List Record) → map (toldIn es st) (put b r rs) ≡ put b (toldIn es st r) (map (toldIn es st) rs)
+  map-put es st true r rs = refl
+  map-put es st false r rs = refl
 
-  told-count : (es : List Entry) (rs : List Record) → count (ofNumber c x) (endsIn es rs) ≡ endsOf c x rs
-  told-count es [] = refl
-  told-count es (r ∷ rs) = rw (map-put es (isAnEnd r) r (keep isAnEnd rs)) (told-one es r (endsIn es rs) (endsOf c x rs) (told-count es rs))
+  told-count : (es : List Entry) (st : ℕ → ℕ → ℕ) (rs : List Record) → count (ofNumber c x) (endsIn es st rs) ≡ endsOf c x rs
+  told-count es st [] = refl
+  told-count es st (r ∷ rs) = rw (map-put es st (isAnEnd r) r (keep isAnEnd rs)) (told-one es st r (endsIn es st rs) (endsOf c x rs) (told-count es st rs))
 
   newer-count : (ts os : List Told) → count (ofNumber c x) (newer ts os) ≡ count (ofNumber c x) ts + count (ofNumber c x) os
   unfolding newer
@@ -447,21 +504,21 @@ module _ (c x : ℕ) where
           moving = λ until room le. tick-counts until;
         })
 
-  counted-always : (ks : List Call) (s : Splicer) (es : List Entry) (os : List Told) → All Wired ks → Sound s → Booked (s .queue) es
+  counted-always : (ks : List Call) (s : Splicer) (es : List Entry) (st : ℕ → ℕ → ℕ) (os : List Told) → All Wired ks → Sound s → Booked (s .queue) es
       → count (ofNumber c x) os + heldCount (s .queue) (is c x) ≡ count (entryIs c x) es
-      → count (ofNumber c x) (endedTold (history ks s) es os) + heldCount (after ks s .queue) (is c x) ≡ count (entryIs c x) (book (history ks s) es)
+      → count (ofNumber c x) (endedTold (history ks s) es st os) + heldCount (after ks s .queue) (is c x) ≡ count (entryIs c x) (book (history ks s) es)
   unfolding after history endedTold book
-  counted-always [] s es os w h b k = k
-  counted-always (j ∷ ks) s es os w h b k =
+  counted-always [] s es st os w h b k = k
+  counted-always (j ∷ ks) s es st os w h b k =
       let n = call j s in
       let f = sound-fits s j (w .0) h in
       let rs = othersBy j (n .answer) in
-      let g : count (ofNumber c x) (newer (endsIn es rs) os) + heldCount (n .splicer .queue) (is c x) ≡ count (entryIs c x) (bookAnswer j (n .answer) es) =
-      omega (arith, newer-count (endsIn es rs) os, told-count es rs, call-counts s es b j, k) in
-      let ih = counted-always ks (n .splicer) (bookAnswer j (n .answer) es) (newer (endsIn es rs) os) (w .1) (sound-call s j (w .0) h) (call-booked s es b j) g in
+      let g : count (ofNumber c x) (newer (endsIn es st rs) os) + heldCount (n .splicer .queue) (is c x) ≡ count (entryIs c x) (bookAnswer j (n .answer) es) =
+      omega (arith, newer-count (endsIn es st rs) os, told-count es st rs, call-counts s es b j, k) in
+      let ih = counted-always ks (n .splicer) (bookAnswer j (n .answer) es) (startedBy j s st) (newer (endsIn es st rs) os) (w .1) (sound-call s j (w .0) h) (call-booked s es b j) g in
       let p = book-answer j (n .answer) es f in
-      let o = ended-answer j (n .answer) es os f in
-      ap (λ (z : List Told). count (ofNumber c x) z + heldCount (after ks (n .splicer) .queue) (is c x)) (λ i. endedTold (history ks (n .splicer)) (p i) (o i))
+      let o = ended-answer j (n .answer) es st os f in
+      ap (λ (z : List Told). count (ofNumber c x) z + heldCount (after ks (n .splicer) .queue) (is c x)) (λ i. endedTold (history ks (n .splicer)) (p i) (startedBy j s st) (o i))
       ∙ ih
       ∙ ap (λ (z : List Entry). count (entryIs c x) (book (history ks (n .splicer)) z)) (sym p)
 
@@ -494,8 +551,8 @@ module _ (c x : ℕ) where
       go false f ih = omega (arith, ih f)
 
 -- as many ends are kept in turn under a number as accepted sessions of that number have ended
-pub one-kept-each : (h : List Event) (s : Splicer) → FromFresh h s → (c x : ℕ) → count (ofNumber c x) (endedTold h [] []) ≡ endedOnce c x (book h [])
+pub one-kept-each : (h : List Event) (s : Splicer) → FromFresh h s → (c x : ℕ) → count (ofNumber c x) (endsTold h) ≡ endedOnce c x (book h [])
 one-kept-each h s f c x =
-    let a = counted-always c x (f .calls) (fresh (f .name) .splicer) [] [] (f .wired) (sound-fresh (f .name) (f .whole) (f .bytes)) (booked-fresh (f .name)) (omega (arith, fresh-held c x (f .name))) in
-    let b : count (ofNumber c x) (endedTold h [] []) + heldCount (s .queue) (is c x) ≡ count (entryIs c x) (book h []) = rw (f .heard, f .same) a in
+    let a = counted-always c x (f .calls) (fresh (f .name) .splicer) [] (λ c x. 0) [] (f .wired) (sound-fresh (f .name) (f .whole) (f .bytes)) (booked-fresh (f .name)) (omega (arith, fresh-held c x (f .name))) in
+    let b : count (ofNumber c x) (endsTold h) + heldCount (s .queue) (is c x) ≡ count (entryIs c x) (book h []) = rw (f .heard, f .same) a in
     omega (arith, b, owed-ended c x (heldCount (s .queue) (is c x)) (book h []) (book-told h s f .owed c x))

@@ -12,8 +12,8 @@ pub mod Book
 pub mod Once
 pub mod Closed
 pub mod Mux
-pub mod Lately
 pub mod Aired
+pub mod Lately
 pub mod Ninths
 pub mod Marks
 pub mod Owned

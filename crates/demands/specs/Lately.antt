@@ -1,6 +1,6 @@
 -- 02, CR 8: what ended lately, from calls and answer bytes alone.
 use mathlib.Core.Path.{_≡_}
-use mathlib.Core.Bool.{Bool, false, _&&_}
+use mathlib.Core.Bool.{Bool, false, cond, _&&_}
 use mathlib.Core.List.{List, [], _∷_, map}
 use Prim.Native.Nat.{ℕ}
 use Rattle.rules.specs.declared.Past.{Past}
@@ -10,8 +10,9 @@ use Rattle.rules.specs.State.{sameNumber, unused}
 use Rattle.rules.specs.Records.{Record, General, InitResponse, AliveResponse, SpliceResponse, SpliceComplete, AbortResponse, ExtendedFound, ExtendedNone, recordsIn}
 use Rattle.rules.specs.Calls.{Call}
 use Rattle.demands.specs.History.{isEnd, Reply, refusal, wrote, Event, othersOf, Entry, entryIs, eventTold, bookReplied}
+use Rattle.demands.specs.Told.{startedReplied}
 
--- the PlayedDuration that a record shows: a Splice_Response shows none
+-- the PlayedDuration that is told: a Splice_Response shows none
 pub data Shown : Type 0 where
   shows : ℕ → Shown
   hides : Shown
@@ -39,20 +40,24 @@ isAnEnd (ExtendedNone c x) = false
 abbrev pub endOf : List Entry → (conn id result : ℕ) → Shown → Told
 endOf es c x r p = record { conn = c; id = x; event = eventTold c x es; result = r; played = p }
 
--- what the record of an end tells; another record tells none
-unfoldable pub toldIn : List Entry → Record → Told
-toldIn es (General c r) = endOf es c 0 r hides
-toldIn es (InitResponse c r name) = endOf es c 0 r hides
-toldIn es (AliveResponse c r state x t) = endOf es c x r hides
-toldIn es (SpliceResponse c r x) = endOf es c x r hides
-toldIn es (SpliceComplete c r x flag played) = endOf es c x r (shows played)
-toldIn es (AbortResponse c r x) = endOf es c x r hides
+-- a Splice_Response tells "0 where the session's start was never written": n, whether it has started
+abbrev pub unshown : ℕ → Shown
+unshown n = cond (eqb n 0) (shows 0) hides
+
+-- what the record of an end tells; another record tells none. st: which sessions have started
+unfoldable pub toldIn : List Entry → (st : ℕ → ℕ → ℕ) → Record → Told
+toldIn es st (General c r) = endOf es c 0 r hides
+toldIn es st (InitResponse c r name) = endOf es c 0 r hides
+toldIn es st (AliveResponse c r state x t) = endOf es c x r hides
+toldIn es st (SpliceResponse c r x) = endOf es c x r (unshown (st c x))
+toldIn es st (SpliceComplete c r x flag played) = endOf es c x r (shows played)
+toldIn es st (AbortResponse c r x) = endOf es c x r hides
 toldIn es (ExtendedFound c x event ended played) = endOf es c x 100 hides
 toldIn es (ExtendedNone c x) = endOf es c x 121 hides
 
 -- the ends among the records rs, in their order
-abbrev pub endsIn : List Entry → List Record → List Told
-endsIn es rs = map (toldIn es) (keep isAnEnd rs)
+abbrev pub endsIn : List Entry → (ℕ → ℕ → ℕ) → List Record → List Told
+endsIn es st rs = map (toldIn es st) (keep isAnEnd rs)
 
 -- ts, one after the other, in front of the older ones
 unfoldable pub newer : List Told → List Told → List Told
@@ -60,14 +65,19 @@ newer [] l = l
 newer (t ∷ ts) l = newer ts (t ∷ l)
 
 -- the ends told by a call, newest first, before those of l: each record "that is not a Splice_Request's own answer"
-unfoldable pub endedReplied : Call → Reply → List Entry → List Told → List Told
-endedReplied k (refusal n) es l = l
-endedReplied k (wrote b) es l = newer (endsIn es (othersOf k (recordsIn b))) l
+unfoldable pub endedReplied : Call → Reply → List Entry → (ℕ → ℕ → ℕ) → List Told → List Told
+endedReplied k (refusal n) es st l = l
+endedReplied k (wrote b) es st l = newer (endsIn es st (othersOf k (recordsIn b))) l
 
--- of a history, the newest first
-unfoldable pub endedTold : List Event → List Entry → List Told → List Told
-endedTold [] es l = l
-endedTold (e ∷ h) es l = endedTold h (bookReplied (e .call) (e .reply) es) (endedReplied (e .call) (e .reply) es l)
+-- of a history behind the book es, the sessions started st and the ends l
+unfoldable pub endedTold : List Event → List Entry → (ℕ → ℕ → ℕ) → List Told → List Told
+endedTold [] es st l = l
+endedTold (e ∷ h) es st l =
+    endedTold h (bookReplied (e .call) (e .reply) es) (λ c x. startedReplied c x (e .call) (e .reply) (st c x)) (endedReplied (e .call) (e .reply) es st l)
+
+-- of a history from fresh on, the newest first
+abbrev pub endsTold : List Event → List Told
+endsTold h = endedTold h [] (λ c x. 0) []
 
 -- of number x of connection c
 abbrev pub ofNumber : ℕ → ℕ → Told → Bool

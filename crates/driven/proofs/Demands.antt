@@ -19,7 +19,7 @@ use Rattle.rules.specs.Cues.{readCue}
 use Rattle.rules.specs.Calls.{lending, fresh, after}
 use Rattle.demands.specs.History.{Event, startsOf, endsOf, history, ownAnswer, othersOf, waitingCount, book, clockAfter}
 use Rattle.demands.specs.Told.{firstNumber, checks, answers, Asks, Passes, fullTold, countsTold, grantedBy, outsOf, startedTold, unended, Ended, Stands, airMuxTold, MuxInRange, Inquires, Finds, connOf, concerned, Carries, Alike}
-use Rattle.demands.specs.Lately.{endedTold, ofNumber, endedOnce, KeptAs}
+use Rattle.demands.specs.Lately.{ofNumber, endedOnce, KeptAs, endsTold}
 use Rattle.demands.specs.Airing.{airingsTold, clockTold, primaryTold, timeTold, airTold, numberTold}
 use Rattle.demands.specs.Moments.{Gapless, Printed, Within, PlayedAs}
 use Rattle.places.specs.Places.{round, next}
@@ -242,12 +242,12 @@ module _ (name : List ℕ) (h : List Made) (m : Memory) where
 module _ (name : List ℕ) (h : List Made) (m : Memory) where
   -- "The state now also keeps the last 16 ended sessions .. oldest dropped first": what the words keep is, newest first, the first 16 of the ends
   -- that the answers' bytes tell: connection, SessionID and result of each end record, the SpliceEventID of the request that its connection last had
-  -- accepted under that SessionID, and the PlayedDuration where the record shows one
-  pub kept-as-told : Trace name h m → KeptAs (recent (shown m .queue .lately)) (endedTold (events h) [] [])
+  -- accepted under that SessionID, and the PlayedDuration where the record shows one, 0 where the start was never written
+  pub kept-as-told : Trace name h m → KeptAs (recent (shown m .queue .lately)) (endsTold (events h))
   kept-as-told t = rw (trace-events name h m t) (called.kept-as-told name (within h) m (trace-inside name h m t))
 
   -- each accepted session that has ended has made one of them, and one that has not ended none
-  pub one-kept-for-each : Trace name h m → (c x : ℕ) → count (ofNumber c x) (endedTold (events h) [] []) ≡ endedOnce c x (book (events h) [])
+  pub one-kept-for-each : Trace name h m → (c x : ℕ) → count (ofNumber c x) (endsTold (events h)) ≡ endedOnce c x (book (events h) [])
   one-kept-for-each t = rw (trace-events name h m t) (called.one-kept-for-each name (within h) m (trace-inside name h m t))
 
 -- the next message, from whatever connection d, which asks by an ExtendedData_Request for the number x

@@ -21,7 +21,7 @@ use Rattle.rules.specs.Sound.{horizon, Each, Falling, Coded}
 use Rattle.rules.specs.Rolling.{none, Rolling, stepOf, rollingOf, rollingFresh, instants, readings, roll, rolledAfter, asMoves}
 use Rattle.demands.specs.History.{startsOf, endsOf, history, ownAnswer, waitingCount, book, clockAfter}
 use Rattle.demands.specs.Told.{firstNumber, numberOf, answers, Asks, Passes, fullTold, countsTold, outsOf, startedTold, unended, Ended, Stands, airMuxTold, MuxInRange, Inquires, Finds}
-use Rattle.demands.specs.Lately.{endedTold, ofNumber, endedOnce, KeptAs}
+use Rattle.demands.specs.Lately.{ofNumber, endedOnce, KeptAs, endsTold}
 use Rattle.demands.specs.Airing.{airingsTold, clockTold, primaryTold, timeTold, airTold, numberTold}
 use Rattle.demands.specs.Moments.{Gapless, Printed, Within, PlayedAs}
 use Rattle.memory.specs.Memory.{see, countsOf, lateOf}
@@ -280,12 +280,12 @@ module _ (name : List ℕ) (h : List Made) (m : Memory) where
 module _ (name : List ℕ) (h : List Made) (m : Memory) where
   -- "The state now also keeps the last 16 ended sessions .. oldest dropped first": what the words keep is, newest first, the first 16 of the ends
   -- that the answers' bytes tell: connection, SessionID and result of each end record, the SpliceEventID of the request that its connection last had
-  -- accepted under that SessionID, and the PlayedDuration where the record shows one
-  pub kept-as-told : Trace name h m → KeptAs (recent (shown m .splicer .queue .lately)) (endedTold (events h) [] [])
+  -- accepted under that SessionID, and the PlayedDuration where the record shows one, 0 where the start was never written
+  pub kept-as-told : Trace name h m → KeptAs (recent (shown m .splicer .queue .lately)) (endsTold (events h))
   kept-as-told t = called.kept-as-told name (within h) (m .core) (trace-inside name h m t)
 
   -- each accepted session that has ended has made one of them, and one that has not ended none
-  pub one-kept-for-each : Trace name h m → (c x : ℕ) → count (ofNumber c x) (endedTold (events h) [] []) ≡ endedOnce c x (book (events h) [])
+  pub one-kept-for-each : Trace name h m → (c x : ℕ) → count (ofNumber c x) (endsTold (events h)) ≡ endedOnce c x (book (events h) [])
   one-kept-for-each t = called.one-kept-for-each name (within h) (m .core) (trace-inside name h m t)
 
 -- the next message, from whatever connection d, which asks by an ExtendedData_Request for the number x

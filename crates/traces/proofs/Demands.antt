@@ -27,7 +27,7 @@ use Rattle.places.specs.Places.{round, next}
 use Rattle.memory.specs.Memory.{see, placesFrom, countsOf, tallied}
 use Rattle.engine.specs.Lent.{Lent, Counts, Primary, ReadsMux}
 use Rattle.demands.specs.Told.{firstNumber, checks, answers, Asks, Passes, fullTold, countsTold, grantedBy, outsOf, startedTold, unended, Ended, Stands, airMuxTold, MuxInRange, Inquires, Finds, connOf, concerned, Carries, Alike}
-use Rattle.demands.specs.Lately.{endedTold, ofNumber, endedOnce, KeptAs}
+use Rattle.demands.specs.Lately.{ofNumber, endedOnce, KeptAs, endsTold}
 use Rattle.demands.specs.Airing.{airingsTold, clockTold, primaryTold, timeTold, airTold, numberTold}
 use Rattle.demands.specs.Moments.{Gapless, Printed, Within, PlayedAs}
 use Rattle.demands.proofs.Demands as told
@@ -224,12 +224,12 @@ module _ (name : List ℕ) (h : List Made) (m : Memory) where
 module _ (name : List ℕ) (h : List Made) (m : Memory) where
   -- "The state now also keeps the last 16 ended sessions .. oldest dropped first": what the words keep is, newest first, the first 16 of the ends
   -- that the answers' bytes tell: connection, SessionID and result of each end record, the SpliceEventID of the request that its connection last had
-  -- accepted under that SessionID, and the PlayedDuration where the record shows one
-  pub kept-as-told : Trace name h m → KeptAs (recent (shown m .queue .lately)) (endedTold (events h) [] [])
+  -- accepted under that SessionID, and the PlayedDuration where the record shows one, 0 where the start was never written
+  pub kept-as-told : Trace name h m → KeptAs (recent (shown m .queue .lately)) (endsTold (events h))
   kept-as-told t = told.kept-as-told (events h) (shown m) (trace-told name h m t)
 
   -- each accepted session that has ended has made one of them, and one that has not ended none
-  pub one-kept-for-each : Trace name h m → (c x : ℕ) → count (ofNumber c x) (endedTold (events h) [] []) ≡ endedOnce c x (book (events h) [])
+  pub one-kept-for-each : Trace name h m → (c x : ℕ) → count (ofNumber c x) (endsTold (events h)) ≡ endedOnce c x (book (events h) [])
   one-kept-for-each t = told.one-kept-for-each (events h) (shown m) (trace-told name h m t)
 
 -- the next message, from whatever connection d, which asks by an ExtendedData_Request for the number x
