@@ -15,6 +15,7 @@ use crate::rules::{ninths, NONE, TICK};
 struct Row {
     conn: u8,
     id: u32,
+    event: u32,
     access: u8,
     start: u64,
     end: u64,
@@ -67,6 +68,7 @@ pub fn as_rolled(calls: &[rolling::Call]) -> String {
                 to: 0,
                 output,
                 mux: card.splicer.mux(),
+                rows: card.splicer.rows(),
             }),
             _ => {
                 day.clock = card.splicer.clock;
@@ -147,6 +149,7 @@ impl Day {
         self.rows.push(Row {
             conn,
             id: fields.id,
+            event: fields.event,
             access: fields.access,
             start,
             end: start + u64::from(fields.duration) * TICK,
@@ -238,6 +241,11 @@ impl Day {
                 (None, Some(_)) => "still on air or covered".to_string(),
                 (None, None) => "still waiting".to_string(),
             };
+            // "to relate this insertion event back" to its cue; all ones is none
+            let result = match row.event {
+                NONE => result,
+                event => format!("{result}, SpliceEventID {event}"),
+            };
             let played = row.played.map_or("-".to_string(), |p| p.to_string());
             match row.began {
                 Some(at) => {
@@ -327,7 +335,7 @@ mod tests {
              > splice 0 id=1 at=1003 duration=900000 access=2\n\
              > splice 0 id=2 prior=1 duration=90000\n\
              > splice 1 id=1 at=1005 duration=180000 access=5 override=1\n\
-             > splice 1 id=9 at=1004 duration=1\n\
+             > splice 1 id=9 at=1004 duration=1 event=4711\n\
              > tick 1020\n";
         let input = scenario::input_of(&scenario::parse(text).unwrap());
         let output = card::run(&input, None).output();
@@ -341,7 +349,7 @@ mod tests {
             "0 1 1003.000000 1013.000000 720000 100 (Successful Response)",
             "0 2 1013.000000 1014.000000 90000 100 (Successful Response)",
             "1 1 1005.000000 1007.000000 180000 100 (Successful Response)",
-            "1 9 1004.000000 1004.000000 109 (Splice Collision)",
+            "1 9 1004.000000 1004.000000 109 (Splice Collision), SpliceEventID 4711",
             "0.000000 1003.000000 primary channel",
             "1003.000000 1005.000000 connection 0 session 1",
             "1005.000000 1007.000000 connection 1 session 1",

@@ -1,6 +1,7 @@
 //! 01's card program: records of standard input become calls, and what the calls write
 //! becomes standard output.
 
+use crate::ended::{Row, KEPT};
 use crate::faults::Fault;
 use crate::records;
 use crate::rules::{Splicer, LARGEST_SIZE, ROOM};
@@ -43,6 +44,8 @@ pub struct Done {
     pub output: Vec<u8>,
     /// The muxpriority value that is read after it (02, CR 5).
     pub mux: u8,
+    /// The desk's page that is read after it (02, CR 8).
+    pub rows: [Row; KEPT],
 }
 
 /// A run of the card program.
@@ -89,6 +92,7 @@ pub fn run(input: &[u8], fault: Option<Fault>) -> Run {
                     to: at,
                     output,
                     mux: splicer.mux(),
+                    rows: splicer.rows(),
                 });
                 // "it makes the call, writes the refusal and stops"
                 if too_large {

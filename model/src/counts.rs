@@ -67,6 +67,16 @@ pub const WAITING_FOLLOWERS: [&str; 3] = [
     "Abort waiting with one follower",
     "Abort waiting with two followers or more",
 ];
+pub const CLOSE_ENDS: [&str; 3] = [
+    "Close with 15 ends",
+    "Close with 16 ends",
+    "Close with 17 ends or more",
+];
+pub const TICK_ENDS: [&str; 3] = [
+    "tick with 15 ends",
+    "tick with 16 ends",
+    "tick with 17 ends or more",
+];
 pub const DEPTH: [&str; 10] = [
     "stack 1 deep",
     "stack 2 deep",
@@ -105,7 +115,7 @@ const OTHERS: &[(&str, u64)] = &[
     ("tick exactly on an instant", 2000),
     ("tick just before an instant", 1000),
     ("tick just after an instant", 1000),
-    ("tick to the top of the range", 100),
+    ("tick to the top of the range", 80),
     ("tick over no instant", 3000),
     ("tick over one instant", 3000),
     ("tick over 2 to 9 instants", 2000),
@@ -129,6 +139,11 @@ const OTHERS: &[(&str, u64)] = &[
     ("123 Alive above 8 bytes", 50),
     ("123 Abort below 4 bytes", 60),
     ("123 Abort above 4 bytes", 60),
+    ("123 ExtendedData below 8 bytes", 40),
+    ("123 ExtendedData above 8 bytes", 30),
+    ("123 ExtendedData type reserved", 30),
+    ("123 ExtendedData type of a vendor", 15),
+    ("123 ExtendedData type 0xFFFFFFFE", 10),
     ("123 Splice below 18 bytes", 20),
     ("123 Splice below 33 bytes", 30),
     ("123 Splice Duration 0", 20),
@@ -247,7 +262,7 @@ const OTHERS: &[(&str, u64)] = &[
     ("Splice c 112", 500),
     ("Splice d 109 same AccessType, own connection", 300),
     ("Splice d 109 higher AccessType, own connection", 600),
-    ("Splice d 109 same AccessType, another connection", 250),
+    ("Splice d 109 same AccessType, another connection", 200),
     ("Splice d 109 higher AccessType, another connection", 800),
     ("Splice d 109 for a linked request", 600),
     ("Splice e 114 by the sum 64 with exactly 10 of its own", 50),
@@ -306,7 +321,7 @@ const OTHERS: &[(&str, u64)] = &[
     ("instant with one end and a start", 3000),
     ("instant with several ends and a start", 200),
     ("on air again", 1000),
-    ("on air again, past one ending at the same instant", 10),
+    ("on air again, past one ending at the same instant", 5),
     ("on air again after an abort", 100),
     ("on air again after a close", 40),
     ("value on air changes by a start", 2000),
@@ -324,6 +339,40 @@ const OTHERS: &[(&str, u64)] = &[
     ("Close with one waiting", 100),
     ("Close with 2 to 9 waiting", 100),
     ("Close with 10 waiting or more", 30),
+    ("ended: on air at its end, 100", 5000),
+    ("ended: covered at its end, 125", 500),
+    ("ended: on air, by an equal, 125", 100),
+    ("ended: on air, aborted or closed, 116", 400),
+    ("ended: covered, aborted or closed, 116", 300),
+    ("ended: a failed start, 109", 1000),
+    ("ended: waiting, evicted or a follower, 109", 2000),
+    ("ended: waiting, aborted or closed or a follower, 116", 2000),
+    ("ended: waiting, a follower, 125", 100),
+    ("an end is the 16th kept", 100),
+    ("an end drops the oldest of 16", 10000),
+    ("ExtendedData 121 SessionID 0xFFFFFFFF", 20),
+    ("ExtendedData 121 held, none ended", 50),
+    ("ExtendedData 121 another connection's only", 50),
+    ("ExtendedData 121 dropped", 50),
+    ("ExtendedData 121 the last one dropped", 50),
+    ("ExtendedData 121 never ended", 50),
+    ("ExtendedData 100 of a 100", 300),
+    ("ExtendedData 100 of a 109", 300),
+    ("ExtendedData 100 of a 116, played 0", 200),
+    ("ExtendedData 100 of a 116, played some", 50),
+    ("ExtendedData 100 of a 125, played 0", 5),
+    ("ExtendedData 100 of a 125, played some", 50),
+    ("ExtendedData 100 of a number that ended twice", 50),
+    ("ExtendedData 100 of a number held again", 50),
+    (
+        "ExtendedData 100 from before its connection was opened again",
+        50,
+    ),
+    (
+        "ExtendedData 100 of a number that ended on two connections",
+        50,
+    ),
+    ("ExtendedData 100 of the oldest of 16", 20),
     ("card stops at the end of the input", 20),
     ("card stops at a cut record", 30),
     ("card stops at another mark", 4),
@@ -346,6 +395,8 @@ const LISTS: &[(&[&str], u64)] = &[
     (&ON_AIR_FOLLOWERS, 60),
     (&COVERED_FOLLOWERS, 20),
     (&WAITING_FOLLOWERS, 90),
+    (&CLOSE_ENDS, 10),
+    (&TICK_ENDS, 20),
     (&DEPTH, 100),
 ];
 
@@ -355,6 +406,9 @@ pub struct Counts {
     hits: BTreeMap<&'static str, u64>,
     /// The numbers accepted so far, only to count those used again.
     accepted: BTreeSet<(u8, u32)>,
+    /// Those whose end was kept and is no longer, the last one and all, only to count who asks for them.
+    pub last_dropped: Option<(u8, u32)>,
+    dropped: BTreeSet<(u8, u32)>,
 }
 
 /// Every branch with its floor, in the order of the table.
@@ -375,6 +429,8 @@ impl Counts {
                 BTreeMap::new()
             },
             accepted: BTreeSet::new(),
+            last_dropped: None,
+            dropped: BTreeSet::new(),
         }
     }
 
@@ -392,6 +448,17 @@ impl Counts {
         if !self.accepted.insert((conn, id)) {
             self.hit("Splice f SessionID used before on this connection");
         }
+    }
+
+    pub fn dropped(&mut self, conn: u8, id: u32) {
+        if COUNTED {
+            self.last_dropped = Some((conn, id));
+            self.dropped.insert((conn, id));
+        }
+    }
+
+    pub fn was_dropped(&self, conn: u8, id: u32) -> bool {
+        self.dropped.contains(&(conn, id))
     }
 
     pub fn of(&self, branch: &str) -> u64 {

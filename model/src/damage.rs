@@ -56,6 +56,25 @@ pub fn alive_and_abort(gen: &mut Gen) {
     }
 }
 
+/// An ExtendedData_Request of a number whose end is kept, of another size or type (02, CR 8).
+pub fn extended(gen: &mut Gen) {
+    let conn = maybe_uninitialised(gen);
+    let own = gen.model.ended.iter().rfind(|e| e.conn == conn);
+    let id = own.map_or(1, |e| e.id);
+    let other = gen.rng.next() as u32;
+    let vendors = [0x8000_0000, 0x8000_0000, NONE - 1, NONE - 1];
+    let reserved = [0, 1, 0x7FFF_FFFF, 0x00FF_FFFF];
+    let kinds = [&vendors[..], &reserved[..], &[other]].concat();
+    let (kind, size) = match gen.rng.below(5) {
+        0 | 1 => (gen.rng.pick(&kinds), 8),
+        2 | 3 => (NONE, gen.rng.pick(&[0, 4, 7, 7, 9, 9, 12])),
+        _ => (NONE, 8),
+    };
+    let mut data = [id.to_be_bytes(), kind.to_be_bytes()].concat();
+    data.resize(size, 0xFF);
+    gen.send(conn, 0x0003, data);
+}
+
 /// A Splice_Request that would be accepted, but for one change on either side of a boundary.
 pub fn splice(gen: &mut Gen) {
     let conn = maybe_uninitialised(gen);

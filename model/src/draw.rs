@@ -317,6 +317,12 @@ impl Gen {
         self.send(conn, 0x000E, id.to_be_bytes().to_vec());
     }
 
+    /// An ExtendedData_Request for the default type (02, CR 8).
+    pub fn extended(&mut self, conn: u8, id: u32) {
+        let data = [id.to_be_bytes(), NONE.to_be_bytes()].concat();
+        self.send(conn, 0x0003, data);
+    }
+
     pub fn alive(&mut self, conn: u8) {
         let drawn = self.rng.next().to_be_bytes();
         self.send(conn, 0x0005, drawn.to_vec());

@@ -24,7 +24,7 @@ const fn theme(favourites: &'static [Episode]) -> Theme {
 pub const ALL: &[Episode] = &[
     request, request, request, request, chain, chain, collide, collide, abort_one, abort_one,
     close_one, step, step, step, step, step, stack, fill, reuse, evict, failing, covered, equals, late,
-    order, ninth, extreme, wrong_numbers, alive, damage::init, damage::alive_and_abort,
+    order, ninth, extreme, wrong_numbers, alive, lately, lately, lately, many_ends, damage::extended, damage::init, damage::alive_and_abort,
     damage::splice, damage::separate, damage::mux, damage::unknown, damage::refused, damage::largest,
 ];
 
@@ -46,6 +46,7 @@ pub const THEMES: &[Theme] = &[
     theme(&[equals, equals, evict, collide, step, abort_one]),
     theme(&[damage::separate, damage::separate, damage::separate, collide, step]),
     theme(&[damage::mux, damage::mux, collide, step, close_one]),
+    theme(&[lately, lately, many_ends, damage::extended, close_one, covered, equals, evict]),
 ];
 
 const HELD: [State; 3] = [State::Waiting, State::OnAir, State::Covered];
@@ -181,6 +182,77 @@ fn close_one(gen: &mut Gen) {
     if gen.rng.chance(80) {
         gen.ready(conn);
     }
+}
+
+/// Asks for what ended lately (02, CR 8): numbers that are kept, of its own and of another connection,
+/// dropped or never used; those held again, at times, and ended once more.
+fn lately(gen: &mut Gen) {
+    for _ in 0..gen.rng.between(1, 4) {
+        let kept: Vec<(u8, u32)> = gen.model.ended.iter().map(|e| (e.conn, e.id)).collect();
+        if kept.is_empty() || gen.rng.chance(20) {
+            let conn = gen.conn();
+            let held = gen.some(Some(conn), &HELD).map_or(7, |s| s.id);
+            let free = gen.free_id(conn);
+            let id = gen.rng.pick(&[held, held, free, free, NONE]);
+            gen.extended(conn, id);
+            continue;
+        }
+        if let (Some((conn, id)), true) = (gen.model.counts.last_dropped, gen.rng.chance(15)) {
+            gen.ready(conn);
+            gen.extended(conn, id);
+        }
+        let oldest = kept[0];
+        let drawn = gen.rng.pick(&kept);
+        let (conn, id) = gen
+            .rng
+            .pick(&[oldest, drawn, drawn, drawn, kept[kept.len() - 1]]);
+        let other = gen.rng.below(4) as u8;
+        let conn = gen.rng.pick(&[conn, conn, conn, conn, other]);
+        gen.ready(conn);
+        gen.extended(conn, id);
+        if gen.rng.chance(25) {
+            again(gen, conn, id);
+        }
+    }
+}
+
+/// A number used again: asked for while it is held, and behind its next end.
+fn again(gen: &mut Gen, conn: u8, id: u32) {
+    let units = gen.rng.between(0, 40);
+    let at = gen.ahead(units);
+    let mut ask = gen.timed(conn, at);
+    ask.id = id;
+    gen.ask(conn, &ask);
+    gen.extended(conn, id);
+    if gen.rng.chance(60) {
+        gen.abort(conn, id);
+        gen.extended(conn, id);
+    }
+}
+
+/// 15, 16, 17 or 20 ends by one close or one tick, and who is kept of them.
+fn many_ends(gen: &mut Gen) {
+    if gen.rng.chance(70) {
+        gen.clear();
+    }
+    let conn = gen.conn();
+    let from = gen.ahead(5);
+    let count = gen.rng.pick(&[14, 15, 15, 16, 16, 17, 17, 20]);
+    let at = fill_to(gen, conn, count, from);
+    let before: Vec<u32> = gen.model.sessions.iter().map(|s| s.id).collect();
+    if gen.rng.chance(50) {
+        gen.call(Call::Close(conn));
+        gen.ready(conn);
+    } else {
+        gen.tick_to(at + 2 * even(gen));
+    }
+    for _ in 0..gen.rng.between(1, 4) {
+        if !before.is_empty() {
+            let id = gen.rng.pick(&before);
+            gen.extended(conn, id);
+        }
+    }
+    lately(gen);
 }
 
 /// A tick: near the next instant, near a later one, a small step, or over everything.

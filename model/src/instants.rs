@@ -2,6 +2,7 @@
 
 use crate::counts::{self, COUNTED};
 use crate::descriptors::AVERAGE;
+use crate::ended::By;
 use crate::faults::Fault;
 use crate::records::{Record, What};
 use crate::rules::{Session, Splicer, State, MICROSECOND, TICK};
@@ -11,6 +12,7 @@ impl Splicer {
     /// "A tick works through every start and end not later than its time, in order of time."
     pub fn work_through(&mut self, until: u64, out: &mut Vec<Record>) {
         self.count_tick(until);
+        let ends = self.ends;
         let mut instants = 0;
         let (mut last, primary) = (self.clock, self.primary);
         while let Some(time) = self.next_instant(until) {
@@ -23,6 +25,7 @@ impl Splicer {
             self.pass(last, until);
         }
         self.count_passing(until - self.clock, self.primary - primary, instants);
+        self.count_ends(ends, &counts::TICK_ENDS);
         self.hit(match instants {
             0 => "tick over no instant",
             1 => "tick over one instant",
@@ -301,8 +304,8 @@ impl Splicer {
         }
     }
 
-    /// "Bitrate 4 (always 0 here)".
-    fn complete(&self, s: &Session, result: u16, flag: u8, played: u32, out: &mut Vec<Record>) {
+    /// "Bitrate 4 (always 0 here)". An end is kept (02, CR 8).
+    fn complete(&mut self, s: &Session, result: u16, flag: u8, played: u32, out: &mut Vec<Record>) {
         let what = What::Complete {
             result,
             id: s.id,
@@ -312,11 +315,17 @@ impl Splicer {
         };
         // "a session's record: the one that requested it"
         out.push(Record { conn: s.conn, what });
+        if flag == 1 || result == 109 {
+            self.remember(s, By::Complete(flag), result, played);
+        }
     }
 
-    fn splice_response(&self, s: &Session, result: u16, out: &mut Vec<Record>) {
+    /// An end that is no SpliceComplete. It is kept (02, CR 8).
+    fn splice_response(&mut self, s: &Session, result: u16, out: &mut Vec<Record>) {
         let what = What::Splice { result, id: s.id };
         out.push(Record { conn: s.conn, what });
+        let played = self.unshown(s);
+        self.remember(s, By::Splice, result, played);
     }
 
     fn remove(&mut self, session: &Session) {
@@ -388,6 +397,10 @@ impl Splicer {
         self.remove(&session);
         if !self.faulty(Fault::EvictionLeavesFollowers) {
             let ended = self.end_followers(&session, result, out);
+            if self.faulty(Fault::EvictedKeptLast) {
+                let from = self.ended.len().saturating_sub(ended + 1);
+                self.ended[from..].rotate_left(1);
+            }
             let branches = [counts::EVICTED_FOLLOWERS, counts::EQUAL_EVICTED_FOLLOWERS];
             self.hit(branches[equal as usize][ended.min(2)]);
         }

@@ -17,6 +17,7 @@ pub mod damage;
 pub mod demand3;
 pub mod descriptors;
 pub mod draw;
+pub mod ended;
 pub mod episodes;
 pub mod faults;
 pub mod fuzz;

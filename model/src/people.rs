@@ -27,6 +27,10 @@ fn message_line(bytes: &[u8]) -> String {
         (0x0005, 8) => format!("time={}", wire_time(data, 0)),
         (0x0007, 33..) => splice_line(data).unwrap_or(format!("data {}", shortened(data))),
         (0x000E, 4) => format!("id={}", number(word(data, 0))),
+        (0x0003, 8) => {
+            let (id, kind) = (number(word(data, 0)), number(word(data, 4)));
+            format!("id={id} type={kind}")
+        }
         (_, 0) => String::new(),
         _ => format!("data {}", shortened(data)),
     };

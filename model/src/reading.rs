@@ -1,17 +1,26 @@
-//! Reading the four requests: 01's "Bytes" and its "Not readable" sentence.
+//! Reading the requests: 01's "Bytes" and its "Not readable" sentence.
 //! A request that cannot be read gives the name of its branch.
 
 use crate::descriptors;
 use crate::faults::Fault;
 use crate::streams::{self, Streams};
 
-/// A message of the list of four, read.
+/// A message of 01's list, or of 02's, read.
 #[derive(Clone, Debug, PartialEq, Eq)]
 pub enum Request {
-    Init { revision: u16, name: [u8; 32] },
+    Init {
+        revision: u16,
+        name: [u8; 32],
+    },
     Alive,
     Splice(SpliceFields),
-    Abort { id: u32 },
+    Abort {
+        id: u32,
+    },
+    /// 02, CR 8, for the default type.
+    Extended {
+        id: u32,
+    },
 }
 
 /// The fields of a Splice_Request that have an effect. Of the ServiceID it matters only whether it is
@@ -23,6 +32,8 @@ pub struct SpliceFields {
     pub seconds: u32,
     pub micros: u32,
     pub duration: u32,
+    /// It decides nothing; the session carries it all its life (02, CR 8).
+    pub event: u32,
     pub access: u8,
     pub overrides: u8,
     /// What its muxpriority_descriptors ask of the multiplexer (02, CR 5).
@@ -36,6 +47,7 @@ type Read = Result<Request, &'static str>;
 pub fn read(id: u16, data: &[u8], fault: Option<Fault>) -> Read {
     match id {
         0x0001 => read_init(data),
+        0x0003 => read_extended(data, fault),
         0x0005 => read_alive(data),
         0x0007 => read_splice(data, fault),
         _ => read_abort(data),
@@ -172,6 +184,25 @@ fn read_abort(data: &[u8]) -> Read {
     Ok(Request::Abort { id: word(data, 0) })
 }
 
+/// 02, CR 8: "General_Response 123 for another type or a size not 8".
+fn read_extended(data: &[u8], fault: Option<Fault>) -> Read {
+    if data.len() < 8 {
+        return Err("123 ExtendedData below 8 bytes");
+    }
+    if data.len() > 8 && fault != Some(Fault::Extended9Taken) {
+        return Err("123 ExtendedData above 8 bytes");
+    }
+    let id = word(data, 0);
+    match word(data, 4) {
+        0xFFFF_FFFF => {}
+        _ if fault == Some(Fault::AnyTypeTaken) => {}
+        0xFFFF_FFFE => return Err("123 ExtendedData type 0xFFFFFFFE"),
+        0x8000_0000.. => return Err("123 ExtendedData type of a vendor"),
+        _ => return Err("123 ExtendedData type reserved"),
+    }
+    Ok(Request::Extended { id })
+}
+
 /// "Splice data below 18 bytes, or any of: ..." 02, CR 1: a request with ServiceID 0xFFFF goes
 /// "through the other reading rules" too.
 fn read_splice(data: &[u8], fault: Option<Fault>) -> Read {
@@ -182,6 +213,10 @@ fn read_splice(data: &[u8], fault: Option<Fault>) -> Read {
         seconds: word(data, 8),
         micros: word(data, 12),
         duration: word(bytes, 0),
+        event: match fault {
+            Some(Fault::EventAt22) => word(data, 22),
+            _ => word(bytes, 4),
+        },
         access: bytes[12],
         overrides: bytes[13],
         mux: descriptors::AVERAGE,
@@ -285,6 +320,7 @@ mod tests {
             seconds: 1_003,
             micros: 5,
             duration: 1,
+            event: 0,
             access: 9,
             overrides: 1,
             mux: 5,

@@ -7,7 +7,7 @@ pub struct Record {
     pub what: What,
 }
 
-/// The seven kinds of outgoing message.
+/// The kinds of outgoing message.
 #[derive(Clone, Debug, PartialEq, Eq)]
 pub enum What {
     General {
@@ -46,6 +46,34 @@ pub enum What {
         micros: u32,
         section: Vec<u8>,
     },
+    /// 02, CR 8.
+    Extended {
+        result: u16,
+        id: u32,
+        shown: Option<Shown>,
+    },
+}
+
+/// An ended session in "one descriptor of ours: tag 0x01, length 14, identifier 0x43415244, SpliceEventID
+/// 4, result 2, PlayedDuration 4" (02, CR 8).
+#[derive(Clone, Copy, Debug, PartialEq, Eq)]
+pub struct Shown {
+    pub event: u32,
+    pub result: u16,
+    pub played: u32,
+}
+
+impl Shown {
+    /// "CARD" in ASCII.
+    const IDENTIFIER: u32 = 0x4341_5244;
+
+    fn bytes(self) -> Vec<u8> {
+        let mut bytes = vec![0x01, 14];
+        bytes.extend(words(&[Shown::IDENTIFIER, self.event]));
+        bytes.extend(self.result.to_be_bytes());
+        bytes.extend(words(&[self.played]));
+        bytes
+    }
 }
 
 impl What {
@@ -90,6 +118,10 @@ impl What {
             } => {
                 let data = [words(&[*seconds, *micros]), section.clone()].concat();
                 (0x000C, NO_RESULT, data)
+            }
+            What::Extended { result, id, shown } => {
+                let descriptor = shown.map_or(Vec::new(), Shown::bytes);
+                (0x0004, *result, [words(&[*id]), descriptor].concat())
             }
         }
     }
@@ -138,6 +170,14 @@ impl What {
                 let digits: String = section.iter().map(|b| format!("{b:02X}")).collect();
                 let fields = format!(" time={} section={digits}", cue_time(*seconds, *micros));
                 ("Cue_Request", NO_RESULT, fields)
+            }
+            What::Extended { result, id, shown } => {
+                let mut fields = id_word(*id);
+                if let Some(s) = shown {
+                    let event = number(s.event);
+                    fields += &format!(" event={event} result={} played={}", s.result, s.played);
+                }
+                ("ExtendedData_Response", *result, fields)
             }
         }
     }
@@ -263,6 +303,18 @@ fn what_of(id: u16, result: u16, data: &[u8]) -> Option<What> {
             result,
             revision: u16::from_be_bytes([*data.first()?, *data.get(1)?]),
             name: data.get(2..34)?.try_into().ok()?,
+        },
+        0x0004 => What::Extended {
+            result,
+            id: word(0)?,
+            shown: match data.len() {
+                4 => None,
+                _ => Some(Shown {
+                    event: word(10)?,
+                    result: u16::from_be_bytes([*data.get(14)?, *data.get(15)?]),
+                    played: word(16)?,
+                }),
+            },
         },
         0x0006 => What::Alive {
             result,

@@ -8,6 +8,7 @@
 use crate::counts::{Counts, COUNTED};
 use crate::cues::Cueing;
 use crate::descriptors::AVERAGE;
+use crate::ended::Ended;
 use crate::faults::Fault;
 use crate::reading::{self, Request, SpliceFields};
 use crate::records::{Record, What};
@@ -43,6 +44,8 @@ pub struct Session {
     pub overrides: bool,
     /// Its request's muxpriority value, all its life (02, CR 5).
     pub mux: u8,
+    /// Its request's SpliceEventID, all its life (02, CR 8).
+    pub event: u32,
     pub state: State,
     /// Time on air before `since`.
     pub played: u64,
@@ -61,6 +64,10 @@ pub struct Splicer {
     pub moved: usize,
     /// 02, CR 13: the time on the primary channel, in ninths.
     pub primary: u64,
+    /// 02, CR 8: the last 16 ended sessions, the newest last.
+    pub ended: Vec<Ended>,
+    /// All ends so far. For the branch table only.
+    pub ends: u64,
     pub fault: Option<Fault>,
     pub counts: Counts,
     /// Of the cue calls (02, CR 7): a mistake and their branches, no state.
@@ -84,6 +91,8 @@ impl Splicer {
             sessions: Vec::new(),
             moved: 0,
             primary: 0,
+            ended: Vec::new(),
+            ends: 0,
             fault: None,
             counts: Counts::new(),
             cueing: Cueing::default(),
@@ -124,6 +133,12 @@ impl Splicer {
         }
         self.hit("open good");
         self.open[conn as usize] = true;
+        for ended in self.ended.iter_mut().filter(|e| e.conn == conn) {
+            ended.reopened = true;
+        }
+        if self.faulty(Fault::OpenDropsEnded) {
+            self.ended.retain(|e| e.conn != conn);
+        }
         if !self.faulty(Fault::ReopenedInitialised) {
             self.initialised[conn as usize] = false;
         }
@@ -144,7 +159,12 @@ impl Splicer {
         }
         self.hit("close good");
         let mut out = Vec::new();
+        let ends = self.ends;
         self.end_all_of(conn, &mut out);
+        self.count_ends(ends, &crate::counts::CLOSE_ENDS);
+        if self.faulty(Fault::CloseDropsEnded) {
+            self.ended.retain(|e| e.conn != conn);
+        }
         // "and leaves it closed"
         self.open[conn as usize] = false;
         Ok(out)
@@ -239,8 +259,8 @@ impl Splicer {
         if id == 0x000D {
             return self.hit("answer 3 ID 0x000D after Init");
         }
-        // 4. "ID not in the list of four: General_Response 120."
-        if ![0x0001, 0x0005, 0x0007, 0x000E].contains(&id) {
+        // 4. "ID not in the list of four: General_Response 120." 02, CR 8, adds 0x0003.
+        if ![0x0001, 0x0003, 0x0005, 0x0007, 0x000E].contains(&id) {
             self.hit("answer 4 unknown ID 120");
             return self.general(conn, 120, out);
         }
@@ -284,6 +304,7 @@ impl Splicer {
             Request::Alive => self.alive(conn, out),
             Request::Abort { id } => self.abort(conn, id, out),
             Request::Splice(fields) => self.splice(conn, &fields, out),
+            Request::Extended { id } => self.extended(conn, id, out),
         }
     }
 
@@ -369,6 +390,17 @@ impl Splicer {
         let before = out.len();
         if result == 100 {
             self.accept(conn, fields, out);
+        } else if self.faulty(Fault::RefusedKept) {
+            self.ended.push(Ended {
+                conn,
+                id: fields.id,
+                event: fields.event,
+                result,
+                played: 0,
+                reopened: false,
+            });
+            let most = self.ended.len().saturating_sub(crate::ended::KEPT);
+            self.ended.drain(..most);
         }
         let what = What::Splice {
             result,
@@ -605,6 +637,7 @@ impl Splicer {
             access: fields.access,
             overrides: fields.overrides == 1,
             mux: fields.mux,
+            event: fields.event,
             state: State::Waiting,
             played: 0,
             since: 0,

@@ -4,7 +4,8 @@ use crate::card::{self, Call, Run};
 use crate::compare;
 use crate::cues::Given;
 use crate::descriptors::AVERAGE;
-use crate::records::{self, Record, What};
+use crate::ended::{Row, KEPT};
+use crate::records::{self, Record, Shown, What};
 use crate::rolling;
 use crate::rules::{Splicer, ROOM};
 use crate::streams::{self, Stream, Streams};
@@ -22,6 +23,15 @@ pub struct Step {
     pub mux: Option<u8>,
     /// A cue call (02, CR 7): the card program has no mark of it.
     pub cue: Option<Given>,
+    /// `> rows ..`: no call of the card program either, but the desk's page here (02, CR 8).
+    pub rows: Option<[Row; KEPT]>,
+}
+
+impl Step {
+    /// Whether it is no call, but something that is read.
+    pub fn is_read(&self) -> bool {
+        self.mux.is_some() || self.rows.is_some()
+    }
 }
 
 /// Reads a scenario file's text. An error names the line.
@@ -37,8 +47,9 @@ pub fn parse(text: &str) -> Result<Vec<Step>, String> {
             let rolling = rolling_call(rest.trim()).map_err(at)?;
             let mux = mux_word(rest.trim()).map_err(at)?;
             let cue = cue_call(rest.trim()).map_err(at)?;
-            let input = match (&rolling, mux, &cue) {
-                (None, None, None) => call_bytes(rest.trim()).map_err(at)?,
+            let rows = rows_word(rest.trim()).map_err(at)?;
+            let input = match (&rolling, mux, &cue, &rows) {
+                (None, None, None, None) => call_bytes(rest.trim()).map_err(at)?,
                 _ => Vec::new(),
             };
             steps.push(Step {
@@ -49,11 +60,12 @@ pub fn parse(text: &str) -> Result<Vec<Step>, String> {
                 rolling,
                 mux,
                 cue,
+                rows,
             });
         } else if let Some(rest) = line.strip_prefix('<') {
             let bytes = expected_bytes(rest.trim()).map_err(at)?;
             match steps.last_mut() {
-                Some(step) if step.mux.is_some() => {
+                Some(step) if step.is_read() => {
                     return Err(at("a read writes no record".to_string()));
                 }
                 Some(step) => step.expected.extend(bytes),
@@ -251,6 +263,33 @@ pub fn is_cued(steps: &[Step]) -> bool {
     steps.iter().any(|step| step.cue.is_some())
 }
 
+/// The page of `rows C:ID:EVENT:RESULT:PLAYED ..`, the newest first; the rows behind are empty.
+fn rows_word(line: &str) -> Result<Option<[Row; KEPT]>, String> {
+    let words = words_of(line)?;
+    let Some((first, list)) = words.split_first().filter(|(first, _)| *first == "rows") else {
+        return Ok(None);
+    };
+    if list.len() > KEPT {
+        return Err(format!("{first} has more than {KEPT}"));
+    }
+    let mut rows = [Row::default(); KEPT];
+    for (row, word) in rows.iter_mut().zip(list) {
+        let parts: Vec<&str> = word.split(':').collect();
+        let [conn, id, event, result, played] = parts[..] else {
+            return Err(format!("five numbers are needed: {word}"));
+        };
+        *row = Row {
+            kept: true,
+            conn: small(conn)?,
+            id: number(id)?,
+            event: number(event)?,
+            result: u16::try_from(number(result)?).map_err(|_| "result too large")?,
+            played: number(played)?,
+        };
+    }
+    Ok(Some(rows))
+}
+
 /// Whether the scenario is one of a rolling card.
 pub fn is_rolling(steps: &[Step]) -> bool {
     steps.iter().any(|step| step.rolling.is_some())
@@ -261,7 +300,7 @@ pub fn rolling_calls(steps: &[Step]) -> Result<Vec<rolling::Call>, String> {
     let call = |step: &Step| match &step.rolling {
         Some(call) => Ok(call.clone()),
         None if step.cue.is_some() => Err(format!("line {}: no cue of a rolling card", step.line)),
-        None if step.mux.is_some() => Err(format!("line {}: no mux of a rolling card", step.line)),
+        None if step.is_read() => Err(format!("line {}: no read of a rolling card", step.line)),
         None => match card::next_call(&step.input) {
             Ok((Call::Tick(..), _)) => {
                 Err(format!("line {}: a rolling card has no tick", step.line))
@@ -306,6 +345,11 @@ fn call_of(kind: &str, rest: &str) -> Result<Call, String> {
         "abort" => {
             let id = fields.required("id")?;
             Call::Message(conn, message(0x000E, id.to_be_bytes().to_vec()))
+        }
+        "extended" => {
+            let id = fields.required("id")?.to_be_bytes();
+            let kind = fields.number("type", 0xFFFF_FFFF)?.to_be_bytes();
+            Call::Message(conn, message(0x0003, [id, kind].concat()))
         }
         _ => return Err(format!("unknown call {kind}")),
     };
@@ -500,8 +544,26 @@ fn expected_record(kind: &str, result: u16, fields: &mut Fields) -> Result<What,
             result,
             id: fields.required("id")?,
         },
+        "ExtendedData_Response" => What::Extended {
+            result,
+            id: fields.required("id")?,
+            shown: expected_shown(fields)?,
+        },
         _ => return Err(format!("unknown record {kind}")),
     })
+}
+
+/// The descriptor of an ExtendedData_Response, if there is an `event=`.
+fn expected_shown(fields: &mut Fields) -> Result<Option<Shown>, String> {
+    let Some(event) = fields.take("event") else {
+        return Ok(None);
+    };
+    let result = fields.required("result")?;
+    Ok(Some(Shown {
+        event: number(&event)?,
+        result: u16::try_from(result).map_err(|_| "result too large")?,
+        played: fields.required("played")?,
+    }))
 }
 
 /// The card input of a scenario.
@@ -510,18 +572,39 @@ pub fn input_of(steps: &[Step]) -> Vec<u8> {
 }
 
 /// Holds what is read after the calls so far to the scenario. The text tells the first difference.
-pub fn mux_difference(steps: &[Step], run: &Run) -> Option<String> {
+pub fn read_difference(steps: &[Step], run: &Run) -> Option<String> {
     let mut at = 0;
     for step in steps {
         at += step.input.len();
         let made = run.calls.iter().take_while(|done| done.to <= at);
-        let found = made.last().map_or(AVERAGE, |done| done.mux);
-        if step.mux.is_some_and(|wanted| wanted != found) {
-            let text = format!("  line {}: {}\n", step.line, step.text);
-            return Some(format!("{text}    the second program reads {found}\n"));
+        let last = made.last();
+        let mux = last.map_or(AVERAGE, |done| done.mux);
+        let rows = last.map_or([Row::default(); KEPT], |done| done.rows);
+        if let Some(text) = misread(step, mux, &rows) {
+            return Some(text);
         }
     }
     None
+}
+
+/// Holds what is read here to one line of a scenario.
+fn misread(step: &Step, mux: u8, rows: &[Row; KEPT]) -> Option<String> {
+    let found = match (step.mux, step.rows) {
+        (Some(wanted), _) if wanted != mux => mux.to_string(),
+        (_, Some(wanted)) if wanted != *rows => rows_text(rows),
+        _ => return None,
+    };
+    let text = format!("  line {}: {}\n", step.line, step.text);
+    Some(format!("{text}    the second program reads {found}\n"))
+}
+
+/// A page in the words of a scenario, its last empty rows left out.
+pub fn rows_text(rows: &[Row; KEPT]) -> String {
+    let used = rows.iter().rposition(|row| *row != Row::default());
+    let texts = rows[..used.map_or(0, |last| last + 1)]
+        .iter()
+        .map(Row::text);
+    format!("rows {}", texts.collect::<Vec<_>>().join(" "))
 }
 
 /// Holds one output to the scenario. The text tells the first difference.
@@ -593,13 +676,11 @@ fn run_cued(steps: &[Step]) -> Result<usize, String> {
         if let Some(text) = difference(std::slice::from_ref(step), "the second program", &output) {
             return Err(text);
         }
-        let found = splicer.mux();
-        if step.mux.is_some_and(|wanted| wanted != found) {
-            let text = format!("  line {}: {}\n", step.line, step.text);
-            return Err(format!("{text}    the second program reads {found}\n"));
+        if let Some(text) = misread(step, splicer.mux(), &splicer.rows()) {
+            return Err(text);
         }
     }
-    Ok(steps.iter().filter(|step| step.mux.is_some()).count())
+    Ok(steps.iter().filter(|step| step.is_read()).count())
 }
 
 /// What a call writes, as the card program would show it.
@@ -621,7 +702,7 @@ fn calls_of(input: &[u8]) -> Vec<Call> {
 }
 
 /// Runs one scenario file through the second program and, if given, the card program; says if it did
-/// not run there. Gives the number of its `> mux` lines too.
+/// not run there. Gives the number of its lines that read too.
 fn run_file(path: &str, card: Option<&str>) -> Result<(usize, &'static str), String> {
     let text = std::fs::read_to_string(path).map_err(|e| format!("  {e}\n"))?;
     let steps = parse(&text).map_err(|e| format!("  {e}\n"))?;
@@ -641,7 +722,7 @@ fn run_file(path: &str, card: Option<&str>) -> Result<(usize, &'static str), Str
     if let Some(text) = difference(&steps, "the second program", &run.output()) {
         return Err(text);
     }
-    if let Some(text) = mux_difference(&steps, &run) {
+    if let Some(text) = read_difference(&steps, &run) {
         return Err(text);
     }
     if let Some(command) = card {
@@ -653,7 +734,7 @@ fn run_file(path: &str, card: Option<&str>) -> Result<(usize, &'static str), Str
             return Err(format!("  {text}\n"));
         }
     }
-    let reads = steps.iter().filter(|step| step.mux.is_some()).count();
+    let reads = steps.iter().filter(|step| step.is_read()).count();
     Ok((reads, ""))
 }
 
@@ -661,9 +742,9 @@ fn run_file(path: &str, card: Option<&str>) -> Result<(usize, &'static str), Str
 fn who_ran(card: bool, reads: usize) -> String {
     let with = if card { " and the card program" } else { "" };
     let without = match (card, reads) {
-        (true, 1..) => format!(" ({reads} mux lines: the second program only)"),
+        (true, 1..) => format!(" ({reads} lines that read: the second program only)"),
         (_, 0) => String::new(),
-        _ => format!(" ({reads} mux lines)"),
+        _ => format!(" ({reads} lines that read)"),
     };
     format!("run: the second program{with}{without}; the archive by beside")
 }
@@ -707,6 +788,14 @@ mod tests {
         assert_eq!(
             bytes_of("abort 2 id=0x01020304"),
             "4D 02 00 0E 00 04 FF FF FF FF 01 02 03 04"
+        );
+        assert_eq!(
+            bytes_of("extended 2 id=7"),
+            "4D 02 00 03 00 08 FF FF FF FF 00 00 00 07 FF FF FF FF"
+        );
+        assert_eq!(
+            bytes_of("extended 2 id=7 type=0x80000000"),
+            "4D 02 00 03 00 08 FF FF FF FF 00 00 00 07 80 00 00 00"
         );
         assert_eq!(
             bytes_of("alive 0 time=2.000001"),
@@ -778,6 +867,7 @@ mod tests {
             "splice 0 id=1 at=5 duration=1 pcr=1 stream=0x2000:2:3:4:5:6:7",
             "splice 0 id=1 at=5 duration=1 pcr=1 pcr=2",
             "abort 0",
+            "extended 0",
             "jump 0",
             "raw 4",
             "message 0 0G",
@@ -809,6 +899,15 @@ mod tests {
             (
                 "1 Abort_Response 121 id=5",
                 "52 01 00 0F 00 04 00 79 FF FF 00 00 00 05",
+            ),
+            (
+                "1 ExtendedData_Response 121 id=5",
+                "52 01 00 04 00 04 00 79 FF FF 00 00 00 05",
+            ),
+            (
+                "1 ExtendedData_Response 100 id=5 event=4001 result=116 played=900000",
+                "52 01 00 04 00 14 00 64 FF FF 00 00 00 05 01 0E 43 41 52 44 00 00 0F A1 00 74 \
+                 00 0D BB A0",
             ),
             (
                 "3 SpliceComplete_Response 116 id=5 flag=1 played=900000",
@@ -900,14 +999,42 @@ mod tests {
                     desc=02055341504907\n> mux 5\n> tick 9\n> mux 7\n> tick 10\n> mux 5\n";
         let steps = parse(text).unwrap();
         let run = card::run(&input_of(&steps), None);
-        assert_eq!(mux_difference(&steps, &run), None);
+        assert_eq!(read_difference(&steps, &run), None);
         for line in [1, 4, 6, 8, 10] {
             let mut other = parse(text).unwrap();
             let step = other.iter_mut().find(|step| step.line == line).unwrap();
             step.mux = Some(9);
-            let told = mux_difference(&other, &run).unwrap();
+            let told = read_difference(&other, &run).unwrap();
             assert!(told.contains(&format!("line {line}: > mux")), "{told}");
         }
+    }
+
+    #[test]
+    fn a_page_is_read_after_the_calls_so_far() {
+        let text = "> rows\n> open 0\n> init 0\n> splice 0 id=1 at=9 duration=90000 event=7\n\
+                    > rows\n> tick 10\n> rows 0:1:7:100:90000\n> extended 0 id=1\n";
+        let steps = parse(text).unwrap();
+        let run = card::run(&input_of(&steps), None);
+        assert_eq!(read_difference(&steps, &run), None);
+        for line in [1, 5, 7] {
+            let mut other = parse(text).unwrap();
+            let step = other.iter_mut().find(|step| step.line == line).unwrap();
+            step.rows = Some(
+                [Row {
+                    kept: true,
+                    ..Row::default()
+                }; KEPT],
+            );
+            let told = read_difference(&other, &run).unwrap();
+            assert!(told.contains(&format!("line {line}: > rows")), "{told}");
+        }
+        let mut other = parse(text).unwrap();
+        other.iter_mut().find(|s| s.line == 7).unwrap().rows = Some([Row::default(); KEPT]);
+        let told = read_difference(&other, &run).unwrap();
+        assert!(told.ends_with("reads rows 0:1:7:100:90000\n"), "{told}");
+        assert!(parse("> rows 0:1:7:100").is_err());
+        assert!(parse("> rows\n< refused 1").is_err());
+        assert!(parse(&format!("> rows{}", " 0:0:0:0:0".repeat(17))).is_err());
     }
 
     #[test]

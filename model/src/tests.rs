@@ -9,8 +9,8 @@ use crate::scenario;
 fn hold(text: &str) -> Splicer {
     let mut steps = scenario::parse(text).unwrap();
     let run = card::run(&scenario::input_of(&steps), None);
-    assert_eq!(scenario::mux_difference(&steps, &run), None);
-    steps.retain(|step| step.mux.is_none());
+    assert_eq!(scenario::read_difference(&steps, &run), None);
+    steps.retain(|step| !step.is_read());
     let lines =
         |bytes: &[u8]| -> Vec<String> { records::items(bytes).iter().map(Item::line).collect() };
     for (step, done) in steps.iter().zip(&run.calls) {
