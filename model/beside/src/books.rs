@@ -2,7 +2,7 @@
 //! rebuilt from the records, and each answer is compared with 01's sentences about it. It uses
 //! neither the second program nor the core's state.
 
-use crate::calls::{Act, Call, Said};
+use crate::calls::{Act, Call, Row, Said, ROWS};
 use crate::cuebooks::{self, Due};
 use crate::intervals::{share, Live};
 use model::cues::Given;
@@ -11,6 +11,8 @@ use splicer::{message_id as id, records, result, Record, CONNECTIONS, HEADER, OU
 const NONE: u32 = 0xFFFF_FFFF;
 const COMPLETE: u16 = id::SPLICE_COMPLETE_RESPONSE;
 const CUE: u16 = 0x000C;
+const EXTENDED_REQUEST: u16 = 0x0003;
+const EXTENDED_RESPONSE: u16 = 0x0004;
 /// 01: "in ninths of a microsecond, a second is 9,000,000, a microsecond 9, a tick 100".
 const SECOND: u64 = 9_000_000;
 /// No answer is longer (docs/DEMANDS.md, `answers-fit`).
@@ -29,6 +31,8 @@ struct Held {
     overrides: bool,
     /// The value that its request asks of the multiplexer (02, CR 5).
     mux: u8,
+    /// Its request's SpliceEventID (02, CR 8).
+    event: u32,
     started: bool,
     /// Its time on air up to the clock, in ninths (02, CR 13).
     aired: u64,
@@ -45,6 +49,18 @@ pub struct Books {
     /// Time on the primary channel and of all sessions, in ninths (02, CR 13).
     primary: u64,
     aired: u64,
+    /// The ends written lately, the newest first (02, CR 8).
+    ended: Vec<Ended>,
+}
+
+/// An end as the calls and records alone show it.
+#[derive(Clone, Copy, PartialEq, Eq)]
+struct Ended {
+    conn: u8,
+    id: u32,
+    event: u32,
+    result: u16,
+    played: u32,
 }
 
 type Kept = Result<(), String>;
@@ -78,6 +94,7 @@ fn least(kind: u16) -> usize {
         id::ALIVE_REQUEST => 8,
         id::SPLICE_REQUEST => 18,
         id::ABORT_REQUEST => 4,
+        EXTENDED_REQUEST => 8,
         _ => 0,
     }
 }
@@ -393,13 +410,21 @@ impl Books {
             id::INIT_REQUEST => {}
             _ if !ready => return must(general(result::ACCESS_DENIED), "no 103"),
             0x000D => return must(list.is_empty(), "0x000D answered"),
-            id::ALIVE_REQUEST | id::SPLICE_REQUEST | id::ABORT_REQUEST => {}
+            id::ALIVE_REQUEST | id::SPLICE_REQUEST | id::ABORT_REQUEST | EXTENDED_REQUEST => {}
             _ => return must(general(result::UNKNOWN_MESSAGE), "no 120"),
+        }
+        let data = &message[HEADER..];
+        // 02, CR 8: "123 for another type or a size not 8"
+        if kind == EXTENDED_REQUEST {
+            let asked = data.len() == 8 && word(data, 4) == NONE;
+            must(
+                asked != general(result::INVALID_DATA),
+                "123 not by size or type",
+            )?;
         }
         if general(result::INVALID_DATA) {
             return Ok(());
         }
-        let data = &message[HEADER..];
         let splice = kind == id::SPLICE_REQUEST;
         let good = |tail: &[u8]| mux_of(&tail[15..]).is_some();
         let readable = data.len() >= least(kind) && (!splice || tail(data).is_some_and(good));
@@ -408,6 +433,7 @@ impl Books {
             (id::INIT_REQUEST, [answer]) => self.init(conn, data, answer),
             (id::ALIVE_REQUEST, [answer]) => self.alive(conn, answer),
             (id::ABORT_REQUEST, [answer, ends @ ..]) => self.abort(conn, data, answer, ends),
+            (EXTENDED_REQUEST, [answer]) => self.extended(conn, data, answer),
             (id::SPLICE_REQUEST, [evicted @ .., answer]) => {
                 let ask = (data, tail(data).unwrap_or_default());
                 self.splice(conn, ask, evicted, answer)
@@ -472,6 +498,31 @@ impl Books {
         Ok(())
     }
 
+    /// 02, CR 8: "the asking connection's latest ended session of that number, in one descriptor of ours"; "121
+    /// with the SessionID alone where none is kept".
+    fn extended(&self, conn: u8, data: &[u8], answer: &Record) -> Kept {
+        let session = word(data, 0);
+        let own = |e: &&Ended| e.conn == conn && e.id == session;
+        let (code, shown) = match self.ended.iter().find(own) {
+            Some(e) => (result::SUCCESSFUL, descriptor(e)),
+            None => (result::INVALID_SESSION, Vec::new()),
+        };
+        let kind = is(answer, conn, EXTENDED_RESPONSE, code);
+        must(kind, "another ExtendedData_Response")?;
+        let wanted = [&data[..4], &shown].concat();
+        must(answer.data == wanted, "another end than the latest kept")
+    }
+
+    /// 02, CR 8: the page is "filled from the newest down, unused rows marked empty, numbers 0".
+    pub fn rows(&self, found: &[Row; ROWS]) -> Kept {
+        let row = |e: &Ended| [1, e.conn.into(), e.id, e.event, e.result.into(), e.played];
+        let mut wanted = [[0; 6]; ROWS];
+        for (place, ended) in wanted.iter_mut().zip(&self.ended) {
+            *place = row(ended);
+        }
+        must(*found == wanted, "another page of what ended lately")
+    }
+
     /// "Splice_Response with the first that applies"; "written before the 100" the evicted ones.
     fn splice(&mut self, conn: u8, ask: Ask, evicted: &[Record], answer: &Record) -> Kept {
         let (data, _) = ask;
@@ -524,6 +575,7 @@ impl Books {
             access: tail[12],
             overrides: tail[13] == 1,
             mux: mux_of(&tail[15..]).unwrap_or(5),
+            event: word(tail, 4),
             started: false,
             aired: 0,
         });
@@ -626,9 +678,28 @@ impl Books {
         if (flag, record.result) == (Some(0), 100) {
             self.held[place].started = true;
         } else {
-            self.held.swap_remove(place);
+            let gone = self.held.swap_remove(place);
+            self.end(&gone, record);
         }
         Ok(())
+    }
+
+    /// 02, CR 8: "the last 16 ended sessions", with "PlayedDuration (0 if never on air)", also of an end whose
+    /// record shows none.
+    fn end(&mut self, gone: &Held, record: &Record) {
+        let played = match record.message_id {
+            COMPLETE => word(record.data, 9),
+            _ => (gone.aired / 100) as u32,
+        };
+        let ended = Ended {
+            conn: gone.conn,
+            id: gone.id,
+            event: gone.event,
+            result: record.result,
+            played,
+        };
+        self.ended.insert(0, ended);
+        self.ended.truncate(ROWS);
     }
 
     /// 02, CR 4: "no two started sessions ever have the same AccessType".
@@ -674,6 +745,15 @@ impl Books {
     }
 }
 
+/// "tag 0x01, length 14, identifier 0x43415244, SpliceEventID 4, result 2, PlayedDuration 4"
+fn descriptor(ended: &Ended) -> Vec<u8> {
+    let mut bytes = vec![0x01, 14, 0x43, 0x41, 0x52, 0x44];
+    bytes.extend(ended.event.to_be_bytes());
+    bytes.extend(ended.result.to_be_bytes());
+    bytes.extend(ended.played.to_be_bytes());
+    bytes
+}
+
 fn is_kind(record: &Record, kind: u16, code: u16) -> bool {
     record.message_id == kind && record.result == code
 }
@@ -692,6 +772,8 @@ fn well_formed(record: &Record) -> Kept {
         COMPLETE => 13,
         // the time and a section
         CUE => record.data.len().clamp(28, 520),
+        EXTENDED_RESPONSE if record.result == result::INVALID_SESSION => 4,
+        EXTENDED_RESPONSE => 20,
         _ => return must(false, "a MessageID that is not written"),
     };
     must(record.data.len() == size, "a record of another size")?;

@@ -97,6 +97,19 @@ fn hex(bytes: &[u8]) -> String {
     }
 }
 
+/// A row of the desk's page (02, CR 8) as the header's struct has it: kept, connection, session, event, result,
+/// played.
+pub type Row = [u32; 6];
+pub const ROWS: usize = 16;
+
+/// The page of the second program.
+pub fn model_rows(model: &rules::Splicer) -> [Row; ROWS] {
+    model.rows().map(|row| {
+        let (conn, result) = (row.conn.into(), row.result.into());
+        [row.kept.into(), conn, row.id, row.event, result, row.played]
+    })
+}
+
 /// The second program's answer. It keeps connections in a byte; 01 knows only "above 3".
 pub fn ask_model(model: &mut rules::Splicer, act: &Act) -> Said {
     let byte = |conn: &u32| (*conn).min(255) as u8;

@@ -2,7 +2,7 @@
 
 use crate::acts::{self, Stream, LONGEST};
 use crate::books::Books;
-use crate::calls::{ask_model, Act, Call, Desk};
+use crate::calls::{ask_model, model_rows, Act, Call, Desk};
 use crate::pair::Pair;
 use crate::wrong::{Drift, Wrong};
 use model::counts::Counts;
@@ -238,6 +238,7 @@ pub fn booked(list: &[Stream], wrong: Wrong) -> Option<String> {
             let primary = wrong.primary(model.primary, model.clock);
             let kept = kept.and_then(|()| books.primary(primary));
             let kept = kept.and_then(|()| books.mux(model.mux()));
+            let kept = kept.and_then(|()| books.rows(&model_rows(&model)));
             if let Err(text) = kept {
                 let index = stream.index;
                 return Some(format!("stream {index}, call {}, {text}", at + 1));
