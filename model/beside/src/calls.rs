@@ -169,6 +169,11 @@ impl Desk {
         }
     }
 
+    /// Another number after every call.
+    pub fn turn(&self) -> usize {
+        self.turn
+    }
+
     /// Where the next output buffer begins: at every alignment in turn.
     pub fn begin(&self) -> usize {
         GUARD + self.turn % 16

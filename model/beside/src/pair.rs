@@ -1,7 +1,8 @@
 //! A splicer of the second program and one of the core, given the same calls.
 
 use crate::books::Books;
-use crate::calls::{ask_core, ask_model, Act, Call, Desk, Said};
+use crate::calls::{ask_core, ask_model, model_rows, Act, Call, Desk, Said};
+use crate::pages;
 use crate::wrong::{Drift, Wrong};
 use model::counts::Counts;
 use model::rules;
@@ -37,6 +38,7 @@ impl Pair {
         pair.same_waiting(pair.core.waiting())?;
         pair.same_primary(pair.core.primary())?;
         pair.same_mux()?;
+        pair.same_rows(0, wrong)?;
         Ok(pair)
     }
 
@@ -68,6 +70,24 @@ impl Pair {
             return Err(format!("mux: core {found}, second program {wanted}"));
         }
         Ok(())
+    }
+
+    /// The page read from the core (02, CR 8) is the second program's, and what the records alone give.
+    fn same_rows(&self, turn: usize, wrong: Wrong) -> Result<(), String> {
+        let (found, wanted) = (
+            pages::read(&self.core, turn, wrong)?,
+            model_rows(&self.model),
+        );
+        if found != wanted {
+            let (place, (own, other)) = (0..)
+                .zip(found.iter().zip(&wanted))
+                .find(|(_, (own, other))| own != other)
+                .unwrap_or((0, (&found[0], &wanted[0])));
+            return Err(format!(
+                "row {place}: core {own:?}, second program {other:?}"
+            ));
+        }
+        self.books.rows(&found)
     }
 
     /// Makes the call on both and compares all that is seen of it.
@@ -105,6 +125,7 @@ impl Pair {
         self.books.waiting(waiting)?;
         self.same_primary(wrong.primary(self.core.primary(), self.model.clock))?;
         self.books.mux(self.core.mux())?;
+        self.same_rows(desk.turn(), wrong)?;
         Ok(found)
     }
 

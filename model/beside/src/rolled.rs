@@ -3,7 +3,9 @@
 
 use crate::acts::LONGEST;
 use crate::books::Books;
-use crate::calls::{self, Act, Desk, Said};
+use crate::calls::{self, model_rows, Act, Desk, Said};
+use crate::pages;
+use crate::wrong::Wrong;
 use model::card;
 use model::draw::Rng;
 use model::records;
@@ -180,6 +182,11 @@ impl RollingPair {
             return Err("another time on the primary channel".to_string());
         }
         self.books.books.primary(primary)?;
+        let rows = pages::read(&self.core, desk.turn(), Wrong::Nothing)?;
+        if rows != model_rows(&self.model.splicer) {
+            return Err("another page of what ended lately".to_string());
+        }
+        self.books.books.rows(&rows)?;
         self.as_plain(call, room, &found, desk)?;
         Ok(found)
     }

@@ -1,9 +1,11 @@
-//! The scenario files against the archive: the records of every call and the values read in between.
-//! The card program has no call that reads a value (02, CR 5) and none with a cue (02, CR 7), so `> mux` and
-//! `> cue` lines are held to it here.
+//! The scenario files against the archive: the records of every call and what is read in between. The card
+//! program has no call that reads and none with a cue, so `> mux` (02, CR 5), `> cue` (02, CR 7) and `> rows` lines
+//! (02, CR 8) are held to it here.
 
 use crate::acts::LONGEST;
-use crate::calls::{ask_core, Call};
+use crate::calls::{ask_core, Call, Row, ROWS};
+use crate::pages;
+use crate::wrong::Wrong;
 use model::card;
 use model::scenario::{self, Step};
 use splicer::{name, Splicer};
@@ -30,7 +32,7 @@ pub fn run() -> bool {
             }
         }
     }
-    println!("beside: {files} scenarios against the archive, {reads} mux lines, {cues} cues, {failed} differ");
+    println!("beside: {files} scenarios against the archive, {reads} lines that read, {cues} cues, {failed} differ");
     failed == 0 && files > 0 && reads > 0 && cues > 0
 }
 
@@ -62,8 +64,18 @@ fn run_file(path: &str) -> Result<Option<(usize, usize)>, String> {
         if step.mux.is_some_and(|wanted| wanted != core.mux()) {
             return Err(told(step, &format!("reads {}", core.mux())));
         }
+        if let Some(rows) = step.rows {
+            let wanted: [Row; ROWS] = rows.map(|row| {
+                let (conn, result) = (row.conn.into(), row.result.into());
+                [row.kept.into(), conn, row.id, row.event, result, row.played]
+            });
+            let found = pages::read(&core, step.line, Wrong::Nothing)?;
+            if found != wanted {
+                return Err(told(step, &format!("reads {found:?}")));
+            }
+        }
     }
-    let reads = steps.iter().filter(|step| step.mux.is_some()).count();
+    let reads = steps.iter().filter(|step| step.is_read()).count();
     let cues = steps.iter().filter(|step| step.cue.is_some()).count();
     Ok(Some((reads, cues)))
 }

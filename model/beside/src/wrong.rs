@@ -93,6 +93,20 @@ pub const CUEING: &[(&str, &str)] = &[
     ("cue-opens", "a good cue call opens a connection"),
 ];
 
+/// Faults in the page that the core is read to fill (02, CR 8).
+pub const PAGING: &[(&str, &str)] = &[
+    ("rows-oldest", "the page filled from the oldest up"),
+    (
+        "rows-stale",
+        "an unused row keeps a number that it was lent with",
+    ),
+    ("rows-unmarked", "an unused row marked as kept"),
+    ("rows-connection", "a row's connection not written"),
+    ("rows-fifteen", "fifteen rows taken"),
+    ("rows-more", "32 rows taken"),
+    ("rows-behind", "a row behind the sixteenth written"),
+];
+
 /// How far a fault's waiting counts have gone from the true ones, and the true ones before the call.
 #[derive(Clone, Default)]
 pub struct Drift {
@@ -103,7 +117,11 @@ pub struct Drift {
 /// Every fault that must be noticed.
 pub fn all() -> Vec<Wrong> {
     let model = FAULTS.iter().map(|(fault, _)| Wrong::Model(*fault));
-    model.chain(own()).chain(reporting()).collect()
+    model
+        .chain(own())
+        .chain(paging())
+        .chain(reporting())
+        .collect()
 }
 
 /// Every mistake about cues.
@@ -115,6 +133,10 @@ pub fn cues() -> Vec<Wrong> {
 
 fn own() -> impl Iterator<Item = Wrong> {
     OWN.iter().map(|(name, _)| Wrong::Core(name))
+}
+
+fn paging() -> impl Iterator<Item = Wrong> {
+    PAGING.iter().map(|(name, _)| Wrong::Core(name))
 }
 
 /// The faults in the numbers beside the records: the records alone give them away too.
@@ -142,7 +164,7 @@ impl Wrong {
             Wrong::Cue(miscue) => format!("{}: {}", miscue.name(), miscue.text()),
             Wrong::Core(name) => {
                 let numbers = COUNTING.iter().chain(MOVING).chain(TIMING);
-                let mut all = OWN.iter().chain(numbers).chain(CUEING);
+                let mut all = OWN.iter().chain(PAGING).chain(numbers).chain(CUEING);
                 let text = all.find(|(n, _)| *n == name);
                 format!("{name}: {}", text.map_or("", |(_, t)| t))
             }
@@ -246,6 +268,36 @@ impl Wrong {
             ("moved-itself", 100) => said.moved += 1,
             ("moved-refused", 109) => said.moved = 1,
             _ => {}
+        }
+    }
+
+    /// Spoils the rows of a page.
+    pub fn filled(self, rows: &mut [splicer::Row]) {
+        let Wrong::Core(name) = self else {
+            return;
+        };
+        let used = rows.iter().filter(|row| row.kept == 1).count();
+        match (name, rows.get_mut(used)) {
+            ("rows-oldest", _) => rows[..used].reverse(),
+            ("rows-stale", Some(row)) => row.session = 7,
+            ("rows-unmarked", Some(row)) => row.kept = 1,
+            ("rows-connection", _) => rows.iter_mut().for_each(|row| row.connection = 0),
+            _ => {}
+        }
+    }
+
+    /// Spoils the row behind a page.
+    pub fn beyond(self, row: &mut splicer::Row) {
+        if self.is("rows-behind") {
+            row.kept = 0;
+        }
+    }
+
+    /// The house number or 0 of so many rows.
+    pub fn taken(self, count: usize, number: u8) -> u8 {
+        match (self, count) {
+            (Wrong::Core("rows-fifteen"), 15) | (Wrong::Core("rows-more"), 32) => 0,
+            _ => number,
         }
     }
 
