@@ -54,6 +54,7 @@ for _, name in ipairs { "AccessType", "OverridePlaying", "ReturnToPriorChannel" 
 end
 number("State", 4, states)
 number("ServiceID", 2)
+number("EndResult", 2, results)
 number("SpliceTypeFlag", 1, flags)
 number("stream_Length", 1)
 for _, name in ipairs { "ChannelName", "SplicerName" } do
@@ -135,6 +136,18 @@ function Walk:hardware()
     end
 end
 
+-- document 02, CR 8: the card's own descriptor of an ended session, with its end's result; any other as bytes
+function Walk:ended()
+    if self.cut or self.tvb:len() - self.at ~= 16 or self.tvb(self.at, 6):bytes() ~= ByteArray.new("010E43415244") then
+        self:left("descriptors")
+        return
+    end
+    self:take(6)
+    self:number("SpliceEventID", 4)
+    self:number("EndResult", 2)
+    self:number("PlayedDuration", 4)
+end
+
 -- splice_elementary_stream( ), Table 8-6: Length counts the whole structure
 function Walk:stream()
     local first = self.at
@@ -171,7 +184,7 @@ local layouts = {
     [0x0001] = function(w) w:number("Revision_Num", 2) w:name("ChannelName") w:name("SplicerName") w:hardware() w:left("descriptors") end,
     [0x0002] = function(w) w:number("Revision_Num", 2) w:name("ChannelName") end,
     [0x0003] = function(w) w:number("SessionID", 4) w:number("ExtendedDataType", 4) end,
-    [0x0004] = function(w) w:number("SessionID", 4) w:left("descriptors") end,
+    [0x0004] = function(w) w:number("SessionID", 4) w:ended() end,
     [0x0005] = function(w) w:time() end,
     [0x0006] = function(w) w:number("State", 4) w:number("SessionID", 4) w:time() end,
     [0x0007] = function(w) w:splice() end,

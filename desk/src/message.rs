@@ -95,6 +95,17 @@ impl<'m> Walk<'m> {
         Some(())
     }
 
+    /// 02, CR 8: the card's own descriptor of an ended session, with its end's result; any other as bytes.
+    fn ended(&mut self) -> Option<()> {
+        if self.rest.len() != 16 || !self.rest.starts_with(b"\x01\x0ECARD") {
+            return self.left("descriptors");
+        }
+        self.bytes(6)?;
+        self.number("SpliceEventID", 4)?;
+        self.number("EndResult", 2)?;
+        self.number("PlayedDuration", 4).map(|_| ())
+    }
+
     /// splice_elementary_stream structures: PIDs and stream types.
     fn streams(&mut self) -> Option<()> {
         self.number("PcrPID", 2)?;
@@ -149,7 +160,7 @@ impl<'m> Walk<'m> {
             }
             0x0004 => {
                 self.number("SessionID", 4)?;
-                self.left("descriptors")
+                self.ended()
             }
             0x0005 => self.time(),
             0x0006 => {
@@ -324,6 +335,23 @@ mod tests {
         assert!(cue.ends_with(words), "{cue}");
         assert_eq!(name(0x11), "TearDownFeed_Response");
         assert_eq!(name(0x12), "message 0x0012");
+    }
+
+    /// 02, CR 8: "in one descriptor of ours".
+    #[test]
+    fn an_ended_session() {
+        let asked = [0, 0, 0, 7, 255, 255, 255, 255];
+        let expected = " SessionID=7 ExtendedDataType=0xFFFFFFFF";
+        assert_eq!(told(3, &asked), expected);
+        assert_eq!(told(4, &asked[..4]), " SessionID=7");
+        let mut shown = [&asked[..4], b"\x01\x0ECARD"].concat();
+        shown.extend([0, 0, 0x0F, 0xA1, 0, 116, 0, 0x0D, 0xBB, 0xA0]);
+        let expected = " SessionID=7 SpliceEventID=4001 EndResult=116 PlayedDuration=900000";
+        assert_eq!(told(4, &shown), expected);
+        // another's descriptor
+        shown[6] = b'c';
+        let bytes = " SessionID=7 descriptors=010e6341524400000fa10074000dbba0";
+        assert_eq!(told(4, &shown), bytes);
     }
 
     /// 02, CR 1: PcrPID, PIDCount and that many structures stand behind ServiceID 0xFFFF.
