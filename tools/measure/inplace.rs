@@ -1,4 +1,4 @@
-//! The card rules of document 01, with 02's CR 1, 4, 5 and 13, as an in-place engine in plain Rust: the measuring peer of the proved core.
+//! The card rules of document 01, with 02's CR 1, 4, 5, 8 and 13, as an in-place engine in plain Rust: the measuring peer of the proved core.
 //!
 //! Written from the documents and J.280 alone, in the way one would write it for the card without counting instructions: one struct of
 //! fixed size changed in place, lists of fixed capacity, iterators, bounds checks left on. Not proved, not part of the product.
@@ -22,6 +22,8 @@ const ALL_WAITING: usize = 64;
 const OWN_WAITING: u64 = 20;
 const SURE_WAITING: u64 = 10;
 const ACCESS_TYPES: usize = 10;
+/// Ended sessions that are kept.
+const KEPT: usize = 16;
 const LAST_MICROSECOND: u32 = 999_999;
 const REVISION: u16 = 2;
 const NONE: u32 = 0xFFFF_FFFF;
@@ -39,6 +41,8 @@ mod id {
     pub const GENERAL_RESPONSE: u16 = 0x0000;
     pub const INIT_REQUEST: u16 = 0x0001;
     pub const INIT_RESPONSE: u16 = 0x0002;
+    pub const EXTENDED_DATA_REQUEST: u16 = 0x0003;
+    pub const EXTENDED_DATA_RESPONSE: u16 = 0x0004;
     pub const ALIVE_REQUEST: u16 = 0x0005;
     pub const ALIVE_RESPONSE: u16 = 0x0006;
     pub const SPLICE_REQUEST: u16 = 0x0007;
@@ -181,6 +185,7 @@ struct Session {
     access: u8,
     overrides: bool,
     mux: u8,
+    event: u32,
 }
 
 impl Session {
@@ -198,6 +203,16 @@ impl Session {
 struct Started {
     session: Session,
     played: Ninths,
+}
+
+/// An ended session.
+#[derive(Clone, Copy, Default)]
+struct Ended {
+    connection: u8,
+    id: u32,
+    event: u32,
+    result: u16,
+    played: u32,
 }
 
 #[derive(Clone, Copy, PartialEq)]
@@ -228,6 +243,7 @@ enum Request {
     Alive,
     Splice(Splice),
     Abort { id: u32 },
+    ExtendedData { id: u32 },
 }
 
 struct Splice {
@@ -237,6 +253,7 @@ struct Splice {
     access: u8,
     overrides: bool,
     mux: u8,
+    event: u32,
 }
 
 #[derive(Clone, Copy)]
@@ -352,6 +369,7 @@ impl Request {
             id::ALIVE_REQUEST => Self::parse_alive(&mut reader),
             id::SPLICE_REQUEST => Self::parse_splice(&mut reader),
             id::ABORT_REQUEST => Self::parse_abort(&mut reader),
+            id::EXTENDED_DATA_REQUEST => Self::parse_extended(&mut reader),
             _ => return Err(Unfit::Unknown),
         };
         request.ok_or(Unfit::Unreadable)
@@ -376,6 +394,15 @@ impl Request {
         Some(Request::Abort { id })
     }
 
+    fn parse_extended(reader: &mut Reader) -> Option<Self> {
+        let id = reader.u32()?;
+        if reader.u32()? != NONE {
+            return None;
+        }
+        reader.end()?;
+        Some(Request::ExtendedData { id })
+    }
+
     fn parse_splice(reader: &mut Reader) -> Option<Self> {
         let id = reader.u32()?;
         let prior = reader.u32()?;
@@ -385,7 +412,7 @@ impl Request {
             reader.streams()?;
         }
         let duration = reader.u32()?;
-        let _event_id = reader.u32()?;
+        let event = reader.u32()?;
         let _post_black = reader.u32()?;
         let access = reader.u8()?;
         let overrides = reader.flag()?;
@@ -399,7 +426,7 @@ impl Request {
             NONE => Start::Timed(Ninths::from_time(seconds, micros)),
             prior => Start::Linked(prior),
         };
-        Some(Request::Splice(Splice { id, start, duration, access, overrides, mux }))
+        Some(Request::Splice(Splice { id, start, duration, access, overrides, mux, event }))
     }
 }
 
@@ -474,6 +501,19 @@ impl<'a> Output<'a> {
         self.u32(session);
     }
 
+    fn extended(&mut self, connection: u8, session: u32, ended: Option<Ended>) {
+        let Some(ended) = ended else {
+            self.header(connection, id::EXTENDED_DATA_RESPONSE, 4, code::INVALID_SESSION);
+            return self.u32(session);
+        };
+        self.header(connection, id::EXTENDED_DATA_RESPONSE, 20, code::SUCCESSFUL);
+        self.u32(session);
+        self.put(b"\x01\x0ECARD");
+        self.u32(ended.event);
+        self.u16(ended.result);
+        self.u32(ended.played);
+    }
+
     fn complete_in(&mut self, session: &Session, result: u16) {
         self.complete(session, 0, result, Ninths(0));
     }
@@ -506,6 +546,28 @@ pub struct InPlace {
     counts: [u64; CONNECTIONS],
     /// By AccessType; the last is on air.
     started: List<Started, ACCESS_TYPES>,
+    /// The last ones ended, in turn (02, CR 8).
+    ended: Past,
+}
+
+/// The ended sessions, the newest over the oldest.
+struct Past {
+    items: [Ended; KEPT],
+    next: usize,
+}
+
+impl Past {
+    fn keep(&mut self, session: &Session, result: u16, played: Ninths) {
+        let Session { connection, id, event, .. } = *session;
+        self.items[self.next % KEPT] = Ended { connection, id, event, result, played: played.to_ticks() };
+        self.next += 1;
+    }
+
+    /// The latest end of this number.
+    fn find(&self, connection: u8, id: u32) -> Option<Ended> {
+        let mut newest_first = (1..=self.next.min(KEPT)).map(|back| self.items[(self.next - back) % KEPT]);
+        newest_first.find(|ended| ended.connection == connection && ended.id == id)
+    }
 }
 
 impl InPlace {
@@ -519,6 +581,7 @@ impl InPlace {
             waiting: List::new(),
             counts: [0; CONNECTIONS],
             started: List::new(),
+            ended: Past { items: [Ended::default(); KEPT], next: 0 },
         }
     }
 
@@ -600,6 +663,7 @@ impl InPlace {
             if self.started[index].session.end == now {
                 let ended = self.started.remove(index);
                 out.complete_out(&ended, result);
+                self.ended.keep(&ended.session, result, ended.played);
             }
             result = code::OVERRIDDEN;
         }
@@ -620,6 +684,7 @@ impl InPlace {
             self.started.push(Started { session, played: Ninths(0) });
         } else {
             out.complete_in(&session, code::COLLISION);
+            self.ended.keep(&session, code::COLLISION, Ninths(0));
             self.end_followers(session.connection, session.id, code::COLLISION, out);
         }
     }
@@ -629,6 +694,7 @@ impl InPlace {
         if self.started.last().is_some_and(|on_air| on_air.session.access == access) {
             let old = self.started.remove(self.started.len() - 1);
             out.complete_out(&old, code::OVERRIDDEN);
+            self.ended.keep(&old.session, code::OVERRIDDEN, old.played);
             self.end_followers(old.session.connection, old.session.id, code::OVERRIDDEN, out);
         }
     }
@@ -643,11 +709,13 @@ impl InPlace {
     /// Ends the followers of a session. Each stands behind the one it is linked to, so one pass finds them all.
     fn end_followers(&mut self, connection: u8, id: u32, result: u16, out: &mut Output) {
         let count = &mut self.counts[usize::from(connection)];
+        let past = &mut self.ended;
         let mut prior = id;
         self.waiting.retain(|session| {
             let follows = session.follows(connection, prior);
             if follows {
                 out.splice(connection, result, session.id);
+                past.keep(session, result, Ninths(0));
                 prior = session.id;
                 *count -= 1;
             }
@@ -661,21 +729,24 @@ impl InPlace {
         for index in (0..self.started.len()).rev() {
             if self.started[index].session.connection == connection {
                 let ended = self.started.remove(index);
-                Self::abort_started(&ended, on_air, out);
+                self.abort_started(&ended, on_air, out);
             }
             on_air = false;
         }
+        let past = &mut self.ended;
         self.waiting.retain(|session| {
             let ends = session.connection == connection;
             if ends {
                 out.splice(connection, code::ABORTED, session.id);
+                past.keep(session, code::ABORTED, Ninths(0));
             }
             !ends
         });
         self.counts[usize::from(connection)] = 0;
     }
 
-    fn abort_started(started: &Started, on_air: bool, out: &mut Output) {
+    fn abort_started(&mut self, started: &Started, on_air: bool, out: &mut Output) {
+        self.ended.keep(&started.session, code::ABORTED, started.played);
         if on_air {
             out.complete_out(started, code::ABORTED);
         } else {
@@ -697,6 +768,7 @@ impl InPlace {
             Ok(Request::Alive) => out.alive(connection, self.on_air(), self.clock),
             Ok(Request::Splice(splice)) => self.splice(connection, &splice, out),
             Ok(Request::Abort { id }) => self.abort(connection, id, out),
+            Ok(Request::ExtendedData { id }) => out.extended(connection, id, self.ended.find(connection, id)),
             Err(Unfit::Unknown) => out.general(connection, code::UNKNOWN_MESSAGE),
             Err(Unfit::Unreadable) => out.general(connection, code::INVALID_DATA),
         }
@@ -724,11 +796,12 @@ impl InPlace {
             self.settle(self.clock);
             let ended = self.started.remove(index);
             out.abort(connection, code::SUCCESSFUL, id);
-            Self::abort_started(&ended, on_air, out);
+            self.abort_started(&ended, on_air, out);
         } else if let Some(index) = self.waiting.iter().position(|session| session.is(connection, id)) {
-            self.take_waiting(index);
+            let session = self.take_waiting(index);
             out.abort(connection, code::SUCCESSFUL, id);
             out.splice(connection, code::ABORTED, id);
+            self.ended.keep(&session, code::ABORTED, Ninths(0));
         } else {
             return out.abort(connection, code::INVALID_SESSION, id);
         }
@@ -779,6 +852,7 @@ impl InPlace {
             access: splice.access,
             overrides: splice.overrides,
             mux: splice.mux,
+            event: splice.event,
         })
     }
 
@@ -798,6 +872,7 @@ impl InPlace {
         if let Some(index) = self.waiting.iter().position(|session| session.start == start) {
             let evicted = self.take_waiting(index);
             out.splice(evicted.connection, code::COLLISION, evicted.id);
+            self.ended.keep(&evicted, code::COLLISION, Ninths(0));
             self.end_followers(evicted.connection, evicted.id, code::COLLISION, out);
         }
     }

@@ -1,5 +1,5 @@
 /* A splicer in plain C, in place, as one would write it by hand: what the proved core's instruction counts are held against.
- * Document 01's rules in full, with 02's CR 1, 4, 5 and 13; waiting sessions in an array by start and counted by connection, started ones in an array by AccessType. */
+ * Document 01's rules in full, with 02's CR 1, 4, 5, 8 and 13; waiting sessions in an array by start and counted by connection, started ones in an array by AccessType. */
 #include "splicer.h"
 
 void *memcpy(void *to, const void *from, size_t n);
@@ -9,15 +9,26 @@ int strncmp(const char *a, const char *b, size_t n);
 
 struct session {
     uint64_t start, end, played;
-    uint32_t id, prior;
+    uint32_t id, prior, event;
     uint8_t conn, access, over, mux;
 };
+
+/* an ended session (02, CR 8); result 0: none */
+struct past {
+    uint32_t id, event, played;
+    uint16_t result;
+    uint8_t conn;
+};
+
+enum { PASTS = 16 };
 
 struct peer {
     uint64_t clock, primary, counts[4];
     uint32_t waits, starts;
     uint8_t link[4], name[32];
     struct session waiting[64], started[10];
+    struct past ended[PASTS]; /* a ring; `next` is the place of the next end */
+    uint32_t next;
 };
 
 /* the records, and the places that an acceptance shifts */
@@ -55,6 +66,21 @@ static void completes(struct sink *o, const struct session *s, uint8_t flag, uin
     put32(p + 9, flag ? (uint32_t)(s->played / 100) : 0);
 }
 
+/* an end is kept over the oldest one */
+static void remember(struct peer *p, const struct session *s, uint32_t result) {
+    p->ended[p->next++ % PASTS] = (struct past){s->id, s->event, (uint32_t)(s->played / 100), (uint16_t)result, s->conn};
+}
+
+static void ends_by(struct peer *p, struct sink *o, const struct session *s, uint32_t result) {
+    says(o, s, result);
+    remember(p, s, result);
+}
+
+static void ends_out(struct peer *p, struct sink *o, const struct session *s, uint8_t flag, uint32_t result) {
+    completes(o, s, flag, result);
+    remember(p, s, result);
+}
+
 static void drop(struct session *from, uint32_t *n, uint32_t at) {
     *n -= 1;
     memmove(from + at, from + at + 1, (*n - at) * sizeof *from);
@@ -73,7 +99,7 @@ static void end_followers(struct peer *p, struct sink *o, uint8_t conn, uint32_t
             }
         }
         if (follows) {
-            says(o, s, result);
+            ends_by(p, o, s, result);
             gone[n++] = s->id;
         } else {
             if (kept != i) {
@@ -93,7 +119,7 @@ static void starts_now(struct peer *p, struct sink *o) {
     if (p->starts == 0 || (s.over && s.access >= p->started[0].access)) {
         if (p->starts && s.access == p->started[0].access) {
             struct session old = p->started[0];
-            completes(o, &old, 1, 125);
+            ends_out(p, o, &old, 1, 125);
             drop(p->started, &p->starts, 0);
             end_followers(p, o, old.conn, old.id, 125);
         }
@@ -102,7 +128,7 @@ static void starts_now(struct peer *p, struct sink *o) {
         p->starts++;
         completes(o, &s, 0, 100);
     } else {
-        completes(o, &s, 0, 109);
+        ends_out(p, o, &s, 0, 109);
         end_followers(p, o, s.conn, s.id, 109);
     }
 }
@@ -111,7 +137,7 @@ static void ends_at(struct peer *p, struct sink *o, uint64_t t) {
     uint32_t kept = 0;
     for (uint32_t i = 0; i < p->starts; i++) {
         if (p->started[i].end == t) {
-            completes(o, &p->started[i], 1, i == 0 ? 100 : 125);
+            ends_out(p, o, &p->started[i], 1, i == 0 ? 100 : 125);
         } else {
             if (kept != i) {
                 p->started[kept] = p->started[i];
@@ -173,9 +199,9 @@ static struct session *held(struct peer *p, uint8_t conn, uint32_t id) {
 
 static void cancel_started(struct peer *p, struct sink *o, uint32_t at, int on_air) {
     if (on_air) {
-        completes(o, &p->started[at], 1, 116);
+        ends_out(p, o, &p->started[at], 1, 116);
     } else {
-        says(o, &p->started[at], 116);
+        ends_by(p, o, &p->started[at], 116);
     }
     drop(p->started, &p->starts, at);
 }
@@ -190,7 +216,7 @@ static void answer_abort(struct peer *p, struct sink *o, uint8_t conn, const uin
     if (s >= p->started && s < p->started + p->starts) {
         cancel_started(p, o, (uint32_t)(s - p->started), s == p->started);
     } else {
-        says(o, s, 116);
+        ends_by(p, o, s, 116);
         drop(p->waiting, &p->waits, (uint32_t)(s - p->waiting));
         p->counts[conn]--;
     }
@@ -213,7 +239,7 @@ __attribute__((noinline)) struct splicer_reply peer_close(struct peer *p, uint32
     uint32_t kept = 0;
     for (uint32_t i = 0; i < p->waits; i++) {
         if (p->waiting[i].conn == conn) {
-            says(&o, &p->waiting[i], 116);
+            ends_by(p, &o, &p->waiting[i], 116);
         } else {
             p->waiting[kept++] = p->waiting[i];
         }
@@ -281,7 +307,7 @@ static int answer_splice(struct peer *p, struct sink *o, uint8_t conn, const uin
     if (n < 18) {
         return 0;
     }
-    struct session s = {0, 0, 0, splicer_u32(d), splicer_u32(d + 4), conn, 0, 0, 0};
+    struct session s = {0, 0, 0, splicer_u32(d), splicer_u32(d + 4), 0, conn, 0, 0, 0};
     size_t separate = splicer_u16(d + 16) == 0xFFFF;
     size_t list = separate ? streams_length(d + 18, n - 18) : 0;
     const uint8_t *t = d + 18 + list;
@@ -294,7 +320,7 @@ static int answer_splice(struct peer *p, struct sink *o, uint8_t conn, const uin
         return 0;
     }
     const struct session *prior = s.prior == nobody ? 0 : held(p, conn, s.prior);
-    s.access = t[12], s.over = t[13];
+    s.event = splicer_u32(t + 4), s.access = t[12], s.over = t[13];
     s.start = prior ? prior->end : (uint64_t)splicer_u32(d + 8) * 9000000 + (uint64_t)splicer_u32(d + 12) * 9;
     s.end = s.start + (uint64_t)splicer_u32(t) * 100;
     uint32_t result = splice_result(p, &s, prior), at = 0;
@@ -304,7 +330,7 @@ static int answer_splice(struct peer *p, struct sink *o, uint8_t conn, const uin
         }
         if (at < p->waits && p->waiting[at].start == s.start) {
             struct session old = p->waiting[at];
-            says(o, &old, 109);
+            ends_by(p, o, &old, 109);
             drop(p->waiting, &p->waits, at);
             p->counts[old.conn]--;
             end_followers(p, o, old.conn, old.id, 109);
@@ -350,6 +376,27 @@ static void answer_alive(struct peer *p, struct sink *o, uint8_t conn) {
     put32(q + 12, (uint32_t)(p->clock % 9000000 / 9));
 }
 
+/* the latest end of this number that is kept of the asking connection, as the card's descriptor (02, CR 8) */
+static int answer_extended(struct peer *p, struct sink *o, uint8_t conn, const uint8_t *d, size_t n) {
+    if (n != 8 || splicer_u32(d + 4) != nobody) {
+        return 0;
+    }
+    for (uint32_t i = 1; i <= PASTS; i++) {
+        const struct past *e = &p->ended[(p->next - i) % PASTS];
+        if (e->result && e->conn == conn && e->id == splicer_u32(d)) {
+            uint8_t *q = framed(o, conn, 0x0004, 100, 20);
+            memcpy(q, d, 4);
+            memcpy(q + 4, "\1\16CARD", 6);
+            put32(q + 10, e->event);
+            q[14] = (uint8_t)(e->result >> 8), q[15] = (uint8_t)e->result;
+            put32(q + 16, e->played);
+            return 1;
+        }
+    }
+    memcpy(framed(o, conn, 0x0004, 121, 4), d, 4);
+    return 1;
+}
+
 __attribute__((noinline)) struct splicer_reply peer_message(struct peer *p, uint32_t conn, const uint8_t *in, size_t length, uint8_t *out,
                                                             size_t room) {
     struct sink o = {out, 0, 0};
@@ -380,6 +427,8 @@ __attribute__((noinline)) struct splicer_reply peer_message(struct peer *p, uint
         if (readable) {
             answer_abort(p, &o, (uint8_t)conn, d);
         }
+    } else if (id == 0x0003) {
+        readable = answer_extended(p, &o, (uint8_t)conn, d, n);
     } else if (id != 0x000D) {
         framed(&o, (uint8_t)conn, SPLICER_GENERAL_RESPONSE, 120, 0);
     }

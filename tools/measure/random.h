@@ -75,6 +75,7 @@ static struct call any_splice(void) {
     uint32_t prior = once_in(2) ? TIMED : once_in(40) ? below(0xFFFFFFFF) : below(mood.ids);
     uint32_t ticks = once_in(60) ? 0 : once_in(60) ? 0xFFFFFFFF : once_in(4) ? 1 + below(3000000) : (1 + below(6)) * SECOND;
     struct call c = splice(below(4), once_in(60) ? TIMED : below(mood.ids), prior, clock_now + below(mood.spread), ticks);
+    put(c.in + 30, below(4) ? below(1000) : 0xFFFFFFFF, 4);
     put(c.in + 20, once_in(3) ? 500000 : once_in(50) ? 999999 + below(2) : 0, 4);
     c = ranked(c, once_in(60) ? 10 : below(10), once_in(60) ? 2 : below(2));
     c.in[40] = (uint8_t)(once_in(60) ? 2 : below(2));
@@ -106,8 +107,14 @@ static struct call any_message(void) {
     if (r < 80) {
         return aborting(below(4), below(mood.ids));
     }
-    if (r < 90) {
+    if (r < 88) {
         return any_init();
+    }
+    if (r < 90) {
+        /* ExtendedData_Request (02, CR 8), at times of another type or size */
+        struct call c = message(below(4), 0x0003, once_in(10) ? 7 + below(3) : 8);
+        put(put(c.in + 8, below(mood.ids), 4), once_in(10) ? 0x7FFFFFFF + below(2) : 0xFFFFFFFF, 4);
+        return c;
     }
     return message(below(4), r < 96 ? SPLICER_ALIVE_REQUEST : below(20), r < 96 ? 8 : below(40));
 }

@@ -1,4 +1,4 @@
-//! An engine in place for the rules of document 01 with 02's CR 1, 4, 5 and 13, written from the documents alone, as a yardstick: plain Rust, and the waiting sessions
+//! An engine in place for the rules of document 01 with 02's CR 1, 4, 5, 8 and 13, written from the documents alone, as a yardstick: plain Rust, and the waiting sessions
 //! in an array without order. A new one goes behind the last, one that goes is replaced by the last, and each question about them is a scan,
 //! one by one.
 #![no_std]
@@ -7,6 +7,8 @@ use core::mem::{size_of, MaybeUninit};
 use core::slice;
 
 const CONNECTIONS: usize = 4;
+/// The ended sessions that are kept (02, CR 8).
+const ENDED: usize = 16;
 const WAITING: usize = 64;
 /// The places that each connection is sure of, and those it can have.
 const SURE: u8 = 10;
@@ -29,6 +31,8 @@ const NEVER: u64 = u64::MAX;
 const GENERAL_RESPONSE: u16 = 0x0000;
 const INIT_REQUEST: u16 = 0x0001;
 const INIT_RESPONSE: u16 = 0x0002;
+const EXTENDED_REQUEST: u16 = 0x0003;
+const EXTENDED_RESPONSE: u16 = 0x0004;
 const ALIVE_REQUEST: u16 = 0x0005;
 const ALIVE_RESPONSE: u16 = 0x0006;
 const SPLICE_REQUEST: u16 = 0x0007;
@@ -53,6 +57,7 @@ enum Line {
 #[repr(C)]
 struct Plan {
     duration: u32,
+    event: u32,
     access: u8,
     overrides: bool,
     mux: u8,
@@ -73,8 +78,19 @@ struct Started {
     /// Time on air, without the present stay.
     played: u64,
     id: Id,
+    event: u32,
     access: u8,
     mux: u8,
+}
+
+/// An ended session (02, CR 8).
+#[derive(Clone, Copy)]
+#[repr(C)]
+struct Past {
+    id: Id,
+    event: u32,
+    played: u32,
+    result: u16,
 }
 
 #[repr(C, align(64))]
@@ -87,6 +103,9 @@ pub struct Splicer {
     plans: [Plan; WAITING],
     /// The started ones, AccessType rising: the last is on air, those before it are covered.
     started: [Started; STARTED],
+    /// The ended ones in turn, and how many there were.
+    ended: [Past; ENDED],
+    next: usize,
     waits: usize,
     plays: usize,
     clock: u64,
@@ -351,6 +370,7 @@ impl Splicer {
     fn end_waiting(&mut self, place: usize, result: u16, out: &mut Output) {
         let id = self.id(place);
         out.splice(id, result);
+        self.remember(id, self.plans[place].event, result, 0);
         self.remove(place);
         self.end_followers(id, result, out);
     }
@@ -360,8 +380,47 @@ impl Splicer {
         while let Some(place) = self.find(&self.priors, id) {
             id = self.id(place);
             out.splice(id, result);
+            self.remember(id, self.plans[place].event, result, 0);
             self.remove(place);
         }
+    }
+
+    /// Keeps an end over the oldest one.
+    fn remember(&mut self, id: Id, event: u32, result: u16, played: u64) {
+        self.ended[self.next % ENDED] = Past {
+            id,
+            event,
+            result,
+            played: (played / TICK) as u32,
+        };
+        self.next += 1;
+    }
+
+    /// The latest end of this number that is kept of the asking connection (02, CR 8).
+    fn extended(&mut self, connection: u8, data: &[u8], out: &mut Output) -> Option<()> {
+        let data: &[u8; 8] = data.try_into().ok()?;
+        if be32(data, 4) != NONE {
+            return None;
+        }
+        let id = Id {
+            session: be32(data, 0),
+            owner: connection,
+        };
+        let [a, b, c, d, ..] = *data;
+        let all = (1..=ENDED.min(self.next)).map(|back| self.ended[(self.next - back) % ENDED]);
+        for past in all {
+            if past.id == id {
+                let mut answer = *b"\0\0\0\0\x01\x0ECARD\0\0\0\0\0\0\0\0\0\0";
+                answer[..4].copy_from_slice(&[a, b, c, d]);
+                answer[10..14].copy_from_slice(&past.event.to_be_bytes());
+                answer[14..16].copy_from_slice(&past.result.to_be_bytes());
+                answer[16..].copy_from_slice(&past.played.to_be_bytes());
+                out.put(connection, EXTENDED_RESPONSE, 100, answer);
+                return Some(());
+            }
+        }
+        out.put(connection, EXTENDED_RESPONSE, 121, [a, b, c, d]);
+        Some(())
     }
 
     fn tick(&mut self, now: u64, out: &mut Output) {
@@ -393,17 +452,22 @@ impl Splicer {
         let top = self.plays - 1;
         for place in (0..=top).rev() {
             let Started {
-                end, played, id, ..
+                end,
+                mut played,
+                id,
+                event,
+                ..
             } = self.started[place];
             if end != now {
                 continue;
             }
+            let mut result = 125;
             if place == top {
-                let played = self.leave_air(place, now);
-                out.complete(id, 1, 100, played);
-            } else {
-                out.complete(id, 1, 125, played);
+                played = self.leave_air(place, now);
+                result = 100;
             }
+            out.complete(id, 1, result, played);
+            self.remember(id, event, result, played);
             self.finish(place);
         }
     }
@@ -417,11 +481,13 @@ impl Splicer {
             let air = self.started[top];
             if !plan.overrides || plan.access < air.access {
                 out.complete(id, 0, 109, 0);
+                self.remember(id, plan.event, 109, 0);
                 return self.end_followers(id, 109, out);
             }
             let played = self.leave_air(top, start);
             if plan.access == air.access {
                 out.complete(air.id, 1, 125, played);
+                self.remember(air.id, air.event, 125, played);
                 self.finish(top);
                 self.end_followers(air.id, 125, out);
             } else {
@@ -436,6 +502,7 @@ impl Splicer {
             end: start + u64::from(plan.duration) * TICK,
             played: 0,
             id,
+            event: plan.event,
             access: plan.access,
             mux: plan.mux,
         };
@@ -444,13 +511,19 @@ impl Splicer {
 
     /// Ends a started session before its time, by what it is (`top`: the last place before the call).
     fn cut(&mut self, place: usize, top: usize, out: &mut Output) {
-        let id = self.started[place].id;
+        let Started {
+            id,
+            event,
+            mut played,
+            ..
+        } = self.started[place];
         if place == top {
-            let played = self.leave_air(place, self.clock);
+            played = self.leave_air(place, self.clock);
             out.complete(id, 1, 116, played);
         } else {
             out.splice(id, 116);
         }
+        self.remember(id, event, 116, played);
         self.finish(place);
     }
 
@@ -473,7 +546,10 @@ impl Splicer {
         let order = &mut order[..found];
         order.sort_unstable();
         for key in &*order {
-            out.splice(self.id(*key as usize % WAITING), 116);
+            let place = *key as usize % WAITING;
+            let id = self.id(place);
+            out.splice(id, 116);
+            self.remember(id, self.plans[place].event, 116, 0);
         }
         for place in (0..self.waits).rev() {
             if self.owners[place] == connection {
@@ -493,6 +569,7 @@ impl Splicer {
         let read = match message {
             INIT_REQUEST => self.init(connection, data, out),
             ALIVE_REQUEST => self.alive(connection, data, out),
+            EXTENDED_REQUEST => self.extended(connection, data, out),
             SPLICE_REQUEST => self.splice(connection, data, out),
             ABORT_REQUEST => self.abort(connection, data, out),
             CUE_RESPONSE => return,
@@ -503,7 +580,7 @@ impl Splicer {
         }
     }
 
-    // The four answers: `None`, and nothing is done, if the data is not readable.
+    // The answers: `None`, and nothing is done, if the data is not readable.
 
     fn init(&mut self, connection: u8, data: &[u8], out: &mut Output) -> Option<()> {
         let (revision, names) = data.split_first_chunk::<2>()?;
@@ -580,6 +657,7 @@ impl Splicer {
         let [access, overrides, returns] = [fields[12], fields[13], fields[14]];
         let plan = Plan {
             duration: be32(fields, 0),
+            event: be32(fields, 4),
             access,
             overrides: overrides == 1,
             mux: mux_of(descriptors)?,
@@ -674,6 +752,7 @@ pub extern "C" fn unordered_fresh(s: &mut MaybeUninit<Splicer>, name: &[u8; 32])
         owners: [0; WAITING],
         plans: [Plan {
             duration: 0,
+            event: 0,
             access: 0,
             overrides: false,
             mux: 0,
@@ -685,9 +764,20 @@ pub extern "C" fn unordered_fresh(s: &mut MaybeUninit<Splicer>, name: &[u8; 32])
                 session: 0,
                 owner: 0,
             },
+            event: 0,
             access: 0,
             mux: 0,
         }; STARTED],
+        ended: [Past {
+            id: Id {
+                session: 0,
+                owner: 0,
+            },
+            event: 0,
+            played: 0,
+            result: 0,
+        }; ENDED],
+        next: 0,
         waits: 0,
         plays: 0,
         clock: 0,
