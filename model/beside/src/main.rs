@@ -229,7 +229,7 @@ fn compared(plan: &Plan) -> bool {
     for branch in &never {
         println!("never taken: {branch}");
     }
-    println!("refusals 1 to 11: {:?}", &tally.refusals[1..]);
+    println!("refusals from 1 on: {:?}", &tally.refusals[1..]);
     println!(
         "beside: seed {}, {} streams, {} calls ({} cues), {} differences",
         plan.seed,

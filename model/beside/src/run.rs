@@ -12,6 +12,8 @@ use model::table::Hits;
 
 /// Splicers alive at once in a thread, their calls interleaved.
 pub const GROUP: u64 = 4;
+/// House numbers with 0, which is none: up to 16 (02, CR 8).
+const NUMBERS: usize = 17;
 
 /// What is to be run: N streams of a seed, from the first one on.
 #[derive(Clone, Copy)]
@@ -31,7 +33,7 @@ pub struct Tally {
     pub calls: u64,
     /// Cue calls among them (02, CR 7).
     pub cues: u64,
-    pub refusals: [u64; 12],
+    pub refusals: [u64; NUMBERS],
     pub differences: Vec<String>,
     pub counts: Counts,
     /// The branches of the cue calls.
@@ -44,7 +46,7 @@ impl Tally {
             streams: 0,
             calls: 0,
             cues: 0,
-            refusals: [0; 12],
+            refusals: [0; NUMBERS],
             differences: Vec::new(),
             counts: Counts::new(),
             hits: Hits::default(),
