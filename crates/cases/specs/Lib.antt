@@ -44,6 +44,11 @@ pub mod Case-01-rehearsed-all
 pub mod Case-01-rehearsed-three-linked
 pub mod Case-01-splice-order-of-codes
 pub mod Case-01-whole-case
+pub mod Case-02-ended-again
+pub mod Case-02-ended-close
+pub mod Case-02-ended-kinds
+pub mod Case-02-ended-played
+pub mod Case-02-ended-sixteen
 pub mod Case-02-equal-on-air-followers
 pub mod Case-02-equal-over-covered
 pub mod Case-02-equal-three-in-a-row
@@ -79,6 +84,7 @@ pub mod Case-7-5-queue-20
 pub mod Case-7-5-queue-64
 pub mod Case-7-5-three-seconds
 pub mod Case-7-6-alive
+pub mod Case-7-7-extended-data
 pub mod Case-7-8-abort-before-start
 pub mod Case-7-8-abort-first-on-air
 pub mod Case-7-8-abort-middle
