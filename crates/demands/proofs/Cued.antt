@@ -85,7 +85,7 @@ unfolding credited
 quiet-credits rs a [] = refl
 quiet-credits rs a (e ∷ es) =
     let n : e .ends + endsOf (e .conn) (e .id) rs ≡ e .ends = omega (arith, none-end (e .conn) (e .id) rs a) in
-    let same : withEnds rs e ≡ e = ap (λ (y : ℕ). record { conn = e .conn; id = e .id; end = e .end; mux = e .mux; ends = y; closed = e .closed }) n in
+    let same : withEnds rs e ≡ e = ap (λ (y : ℕ). record { conn = e .conn; id = e .id; end = e .end; mux = e .mux; event = e .event; ends = y; closed = e .closed }) n in
     ap₂ _∷_ same (quiet-credits (omit (isEnd (e .conn) (e .id)) rs) (all-keep Quiet _ rs a) es)
 
 quiet-heard : (u : ℕ) (rs : List Record) → All Quiet rs → (es : List Airing) → heardAll u rs es ≡ es

@@ -16,7 +16,7 @@ use Rattle.rules.specs.Units.{timeOf, fromMicros, toTicks}
 use Rattle.rules.specs.Lists.{All, bit, put, keep, omit, count, place, removeAt}
 use Rattle.rules.specs.Bytes.{hasZero}
 use Rattle.rules.specs.State.{sameNumber, Lately, Queue, Splicer, empty, of, is, startsAt, endsAt, due, notAfter, withWaiting, withStarted, mostKept, unused, noneEnded, remembered, rememberedAll, recentAt, recentFrom, recent}
-use Rattle.rules.specs.Records.{Record, General, InitResponse, AliveResponse, SpliceResponse, SpliceComplete, AbortResponse, ExtendedFound, ExtendedNone}
+use Rattle.rules.specs.Records.{Record, General, InitResponse, AliveResponse, SpliceResponse, SpliceComplete, AbortResponse, CueRequest, ExtendedFound, ExtendedNone}
 use Rattle.rules.specs.Ends.{Turn, andThen, writes, ended, past, ending, oneEnd, endings, followers, dismissed, evictedAt, evicted, cancelled, aborted, closedBy}
 use Rattle.rules.specs.Instants.{mayStart, began, meetsEqual, ousted, launched, startAt, endAt, instant, elapse, run, runAll}
 use Rattle.rules.specs.Reading.{dataIn}
@@ -303,6 +303,7 @@ module _ (es : List Entry) (st : ℕ → ℕ → ℕ) where
   not-any (SpliceResponse c n x) h = no-bit _ (h c x)
   not-any (SpliceComplete c n x f d) h = no-bit _ (h c x)
   not-any (AbortResponse c n x) h = refl
+  not-any (CueRequest c a u l) h = refl
   not-any (ExtendedFound c x event ended played) h = refl
   not-any (ExtendedNone c x) h = refl
 
@@ -370,6 +371,7 @@ module _ (s : Splicer) (es : List Entry) (st : ℕ → ℕ → ℕ) (b : Booked 
             rw (e, front-last (evicted (new .start .0) q .written) (accepts new)) (record { gone = k .gone; lately = k .lately; told = k .told });
         ticking = λ seconds micros room le. tick-keeps (fromMicros (timeOf seconds micros) .0);
         moving = λ until room le. tick-keeps until;
+        cueing = λ l pts seconds micros room rs p. keeps-none es st q rs (none-told es st rs (p .ends));
       })
 
 -- ## Every sequence of calls
@@ -446,8 +448,9 @@ module _ (c x : ℕ) where
       go true = omega (arith, h)
       go false = omega (arith, h)
   told-one es st (AbortResponse d m y) l n h = omega (arith, h)
-  told-one es (ExtendedFound d y event ended played) l n h = omega (arith, h)
-  told-one es (ExtendedNone d y) l n h = omega (arith, h)
+  told-one es st (CueRequest d a u m) l n h = omega (arith, h)
+  told-one es st (ExtendedFound d y event ended played) l n h = omega (arith, h)
+  told-one es st (ExtendedNone d y) l n h = omega (arith, h)
 
   map-put : (es : List Entry) (st : ℕ → ℕ → ℕ) (b : Bool) (r : Record) (rs : List Record) → map (toldIn es st) (put b r rs) ≡ put b (toldIn es st r) (map (toldIn es st) rs)
   map-put es st true r rs = refl
@@ -502,6 +505,7 @@ module _ (c x : ℕ) where
               (omega (arith, entries-credited rs es, evicted-law c x (new .start .0) (s .queue) .kept, held-accepted (is c x) new (s .queue)));
           ticking = λ seconds micros room le. tick-counts (fromMicros (timeOf seconds micros) .0);
           moving = λ until room le. tick-counts until;
+          cueing = λ l pts seconds micros room rs p. omega (arith, entries-credited rs es, p .ends c x);
         })
 
   counted-always : (ks : List Call) (s : Splicer) (es : List Entry) (st : ℕ → ℕ → ℕ) (os : List Told) → All Wired ks → Sound s → Booked (s .queue) es

@@ -7,7 +7,7 @@ use Rattle.rules.specs.declared.Past.{Past}
 use lib.Dec.{eqb}
 use Rattle.rules.specs.Lists.{keep, count}
 use Rattle.rules.specs.State.{sameNumber, unused}
-use Rattle.rules.specs.Records.{Record, General, InitResponse, AliveResponse, SpliceResponse, SpliceComplete, AbortResponse, ExtendedFound, ExtendedNone, recordsIn}
+use Rattle.rules.specs.Records.{Record, General, InitResponse, AliveResponse, SpliceResponse, SpliceComplete, AbortResponse, CueRequest, ExtendedFound, ExtendedNone, recordsIn}
 use Rattle.rules.specs.Calls.{Call}
 use Rattle.demands.specs.History.{isEnd, Reply, refusal, wrote, Event, othersOf, Entry, entryIs, eventTold, bookReplied}
 use Rattle.demands.specs.Told.{startedReplied}
@@ -33,6 +33,7 @@ isAnEnd (AliveResponse c r state x t) = false
 isAnEnd (SpliceResponse c r x) = isEnd c x (SpliceResponse c r x)
 isAnEnd (SpliceComplete c r x flag played) = isEnd c x (SpliceComplete c r x flag played)
 isAnEnd (AbortResponse c r x) = false
+isAnEnd (CueRequest c a u l) = false
 isAnEnd (ExtendedFound c x event ended played) = false
 isAnEnd (ExtendedNone c x) = false
 
@@ -52,8 +53,9 @@ toldIn es st (AliveResponse c r state x t) = endOf es c x r hides
 toldIn es st (SpliceResponse c r x) = endOf es c x r (unshown (st c x))
 toldIn es st (SpliceComplete c r x flag played) = endOf es c x r (shows played)
 toldIn es st (AbortResponse c r x) = endOf es c x r hides
-toldIn es (ExtendedFound c x event ended played) = endOf es c x 100 hides
-toldIn es (ExtendedNone c x) = endOf es c x 121 hides
+toldIn es st (CueRequest c a u l) = endOf es c 0 0 hides
+toldIn es st (ExtendedFound c x event ended played) = endOf es c x 100 hides
+toldIn es st (ExtendedNone c x) = endOf es c x 121 hides
 
 -- the ends among the records rs, in their order
 abbrev pub endsIn : List Entry → (ℕ → ℕ → ℕ) → List Record → List Told
