@@ -1,20 +1,20 @@
 -- A fact that open, Init, close, abort, acceptance and tick keep holds after every sequence of calls. Assumes nothing.
 -- The calls' choices are walked in Cases.
-use mathlib.Core.Path.{_≡_}
+use mathlib.Core.Path.{_≡_, refl}
 use mathlib.Core.Bool.{true, false}
 use mathlib.Core.List.{List, [], _∷_}
 use Prim.Native.Nat.{ℕ, _≤_}
 use lib.Dec.{eqb}
-use Rattle.rules.specs.declared.Link.the-variants.{Closed, Opened, Initialised}
+use Rattle.rules.specs.declared.Link.the-variants.{Opened}
 use Rattle.rules.specs.declared.Request.{Request}
 use Rattle.rules.specs.declared.Message.the-variants.{Splice}
 use Rattle.rules.specs.Bytes.{part, hasZero, messageSize}
-use Rattle.rules.specs.Reading.{isRead, readSplice}
+use Rattle.rules.specs.Reading.{isRead, readSplice, dataIn, badInit, hardwareIn}
 use Rattle.rules.specs.State.{Queue, Splicer, holds, linkOf, isOpen, withQueue, withLink, withClock, noneHeld}
 use Rattle.rules.specs.Ends.{andThen, aborted, closedBy}
 use Rattle.rules.specs.Instants.{runAll, silentAll}
-use Rattle.rules.specs.Answers.{requested, accepted}
-use Rattle.rules.specs.Calls.{Called, ticked, Loans, Call, messages, call, after, named, fresh}
+use Rattle.rules.specs.Answers.{initialised, requested, accepted}
+use Rattle.rules.specs.Calls.{Called, shut, ticked, Loans, Call, messages, call, after, named, fresh}
 use Rattle.rules.proofs.Tests.{by}
 use Rattle.rules.proofs.Cases.{Brings, Answering, cases}
 use Rattle.rules.proofs.All.{All}
@@ -46,14 +46,23 @@ module _ {F : Call → Type 0} {s : Splicer} {c : ℕ} {r : Request} where
   grants a = granted (part 8 (a .size) (a .bytes)) r (a .isRead)
 
 pub fits : {s : Splicer} {c : ℕ} {r : Request} → Admitted Wired s c r → Fitting r
-fits {r = r} a = fitting (part 8 (a .size) (a .bytes)) r (a .isRead) (part-byte 8 (a .size) (a .bytes) (a .given))
+fits {r = r} a = fitting (part 8 (a .size) (a .bytes)) r (a .isRead) (part-byte 8 (a .size) (a .bytes) (a .given .0))
+
+-- connection c's Init_Request with the Hardware_Config h was read, from a message of which F holds
+pub record Named (F : Call → Type 0) (c : ℕ) (h : List ℕ) : Type 0 where
+  pub low : c ≤ 3
+  pub bytes : List ℕ
+  pub loans : Loans
+  pub given : F (messages c bytes loans)
+  pub good : badInit (dataIn bytes) ≡ false
+  pub same : h ≡ hardwareIn (dataIn bytes)
 
 -- ## What has to be shown of a fact P
 
 pub record Kept (F : Call → Type 0) (P : Splicer → Type 0) : Type 0 where
   pub opening : (s : Splicer) (c : ℕ) → c ≤ 3 → isOpen (linkOf c s) ≡ false → P s → P (withLink c Opened s)
-  pub naming : (s : Splicer) (c : ℕ) → c ≤ 3 → isOpen (linkOf c s) ≡ true → P s → P (withLink c Initialised s)
-  pub closing : (s : Splicer) (c : ℕ) → c ≤ 3 → isOpen (linkOf c s) ≡ true → P s → P (withLink c Closed (withQueue (closedBy c (s .queue) .queue) s))
+  pub naming : (s : Splicer) (c : ℕ) (h : List ℕ) → Named F c h → isOpen (linkOf c s) ≡ true → P s → P (initialised c h s)
+  pub closing : (s : Splicer) (c : ℕ) → c ≤ 3 → isOpen (linkOf c s) ≡ true → P s → P (shut c (withQueue (closedBy c (s .queue) .queue) s))
   pub aborting : (s : Splicer) (c x : ℕ) → c ≤ 3 → isOpen (linkOf c s) ≡ true → holds c x (s .queue) ≡ true → P s → P (withQueue (aborted c x (s .queue) .queue) s)
   pub accepting : (s : Splicer) (c : ℕ) (r : Request) → Admitted F s c r → P s → P (withQueue (accepted (requested c r (s .queue)) (s .queue) .queue) s)
   pub ticking : (s : Splicer) (k : Call) (until : ℕ) → F k → Brings k until → s .clock ≤ until → P s → P (withClock until (silentAll (s .clock) until (s .queue)) (withQueue (runAll (s .clock) until (s .queue) .queue) s))
@@ -69,7 +78,7 @@ pub held-kept : {F : Call → Type 0} (J : ℕ → Queue → Type 0) → KeptHel
 held-kept J k =
     record {
       opening = λ s c l e h. h;
-      naming = λ s c l e h. h;
+      naming = λ s c x n e h. h;
       closing = λ s c l e h. k .closing (s .clock) (s .queue) c h;
       aborting = λ s c x l e a h. k .aborting (s .clock) (s .queue) c x a h;
       accepting = λ s c r a h. k .accepting s c r a h;
@@ -80,14 +89,15 @@ held-kept J k =
 
 module _ (F : Call → Type 0) (P : Splicer → Type 0) (k : Kept F P) where
   -- only what is done to the splicer counts
-  message-kept : (s : Splicer) → P s → (c : ℕ) (l : List ℕ) (loans : Loans) → c ≤ 3 → isOpen (linkOf c s) ≡ true → Answering c l s (λ a. F (messages c l loans) → P (a .splicer))
+  message-kept : (s : Splicer) → P s → (c : ℕ) (l : List ℕ) (loans : Loans) → c ≤ 3 → isOpen (linkOf c s) ≡ true → Answering c l loans s (λ a. F (messages c l loans) → P (a .splicer))
   unfolding andThen
   message-kept s h c l loans low up =
       record {
         silent = λ e f. h;
         general = λ r b f. h;
-        naming = λ r b e f. by P (eqb r 100) _ _ (λ i. k .naming s c low up h) (λ i. h);
+        naming = λ r b e g f. by P (eqb r 100) _ _ (λ i. k .naming s c (hardwareIn (dataIn l)) (record { low = low; bytes = l; loans = loans; given = f; good = g; same = refl }) up h) (λ i. h);
         alive = λ e f. h;
+        telling = λ e f. h;
         unknown = λ x e i f. h;
         aborting = λ x e i held f. k .aborting s c x low up held h;
         recalling = λ x e i f. h;
@@ -103,7 +113,7 @@ module _ (F : Call → Type 0) (P : Splicer → Type 0) (k : Kept F P) where
         refusing = λ j n f. h;
         opening = λ c low e f. k .opening s c low e h;
         closing = λ c room low e f. k .closing s c low e h;
-        answering = message-kept s h;
+        answering = λ c l loans low up short. message-kept s h c l loans low up;
         bringing = λ j until b le f. k .ticking s j until f b le h;
         cueing = λ l pts seconds micros room g f. h;
       }) j f

@@ -13,15 +13,15 @@ use Rattle.rules.specs.declared.Framing.{Framing}
 use Rattle.rules.specs.declared.Request.{Request}
 use Rattle.rules.specs.declared.Message.{Message}
 use Rattle.rules.specs.declared.Message.the-variants.{Splice}
-use Rattle.rules.specs.declared.Link.the-variants.{Closed, Opened, Initialised}
+use Rattle.rules.specs.declared.Link.the-variants.{Opened}
 use Rattle.rules.specs.Units.{timeOf, badMicros, fromMicros}
 use Rattle.rules.specs.Bytes.{messageID, messageSize, oversize, field, sameName}
-use Rattle.rules.specs.Reading.{initRequest, aliveRequest, spliceRequest, abortRequest, extendedRequest, channelName, sessionID, badInit, badExtended, tailOf, badSplice, wholeRequest, readInit, readAlive, readAbort, readExtended, readWhole, readSplice, isRead, read, dataIn, isSplice}
+use Rattle.rules.specs.Reading.{initRequest, aliveRequest, spliceRequest, abortRequest, configRequest, extendedRequest, channelName, hardwareIn, sessionID, badInit, badExtended, tailOf, badSplice, wholeRequest, readInit, readAlive, readAbort, readConfig, readExtended, readWhole, readSplice, isRead, read, dataIn, isSplice}
 use Rattle.rules.specs.State.{Splicer, holds, linkOf, isOpen, isInitialised, withQueue, withLink}
 use Rattle.rules.specs.Records.{General, InitResponse, SpliceResponse, AbortResponse}
 use Rattle.rules.specs.Ends.{Turn, andThen, writes, aborted, closedBy}
-use Rattle.rules.specs.Answers.{Answered, says, turns, requested, wrongNumber, tooLate, collides, full, firstOf, spliceResult, Spliced, grants, splices, answerSplice, answerAbort, initResult, answerInit, aliveResponse, extendedResponse, answerRead, answer}
-use Rattle.rules.specs.Calls.{Called, refuse, does, replies, noConnection, noRoom, notOpen, openCall, closeCall, framing, handled, messageCall, ticked, moveCall, tickCall, Loans, Call, opens, closes, messages, ticks, moves, cues, cueCall, call}
+use Rattle.rules.specs.Answers.{Answered, says, turns, requested, wrongNumber, tooLate, collides, full, firstOf, spliceResult, Spliced, grants, splices, answerSplice, answerAbort, initResult, initialised, answerInit, aliveResponse, configResponse, extendedResponse, answerRead, answer}
+use Rattle.rules.specs.Calls.{Called, refuse, does, replies, noConnection, noRoom, notOpen, longSection, shut, openCall, closeCall, framing, handled, messageCall, ticked, moveCall, tickCall, Loans, Call, opens, closes, messages, ticks, moves, cues, cueCall, call}
 use Rattle.rules.specs.Cues.{badSection, readCue, cueTime, initialised, cueRecords}
 use Rattle.rules.specs.Lists.{All, some}
 use Rattle.rules.specs.Sound.{codes, Given}
@@ -33,13 +33,14 @@ pub data Brings : Call → ℕ → Type 0 where
   tick : (seconds micros room : ℕ) → micros ≤ 999999 → Brings (ticks seconds micros room) (fromMicros (timeOf seconds micros) .0)
   move : (until room : ℕ) → Brings (moves until room) until
 
--- what the answer to the message l of connection c can be; D: what is to be shown of an answer
-pub record Answering (c : ℕ) (l : List ℕ) (s : Splicer) (D : Answered → Type 0) : Type 0 where
+-- what the answer to the message l of connection c, lent the loans, can be; D: what is to be shown of an answer
+pub record Answering (c : ℕ) (l : List ℕ) (loans : Loans) (s : Splicer) (D : Answered → Type 0) : Type 0 where
   pub silent : isSplice l ≡ false → D (says [] s)
   pub general : (r : ℕ) → Given r → D (says (General c r ∷ []) s)
-  pub naming : (r : ℕ) → Given r → isSplice l ≡ false
-      → D (says (InitResponse c r (s .name) ∷ []) (cond (eqb r 100) (withLink c Initialised s) s))
+  pub naming : (r : ℕ) → Given r → isSplice l ≡ false → badInit (dataIn l) ≡ false
+      → D (says (InitResponse c r (s .name) ∷ []) (cond (eqb r 100) (initialised c (hardwareIn (dataIn l)) s) s))
   pub alive : isSplice l ≡ false → D (says (aliveResponse c s ∷ []) s)
+  pub telling : isSplice l ≡ false → D (says (configResponse c loans s ∷ []) s)
   pub unknown : (x : ℕ) → isSplice l ≡ false → x ≡ sessionID (dataIn l) → D (says (AbortResponse c 121 x ∷ []) s)
   pub aborting : (x : ℕ) → isSplice l ≡ false → x ≡ sessionID (dataIn l) → holds c x (s .queue) ≡ true
       → D (turns (andThen (writes (AbortResponse c 100 x ∷ []) (s .queue)) (aborted c x)) s)
@@ -58,8 +59,9 @@ pub record Cases (s : Splicer) (P : Call → Called → Type 0) : Type 0 where
   pub refusing : (k : Call) (n : Refusal) → P k (refuse n s)
   pub opening : (c : ℕ) → c ≤ 3 → isOpen (linkOf c s) ≡ false → P (opens c) (does 0 [] (withLink c Opened s))
   pub closing : (c room : ℕ) → c ≤ 3 → isOpen (linkOf c s) ≡ true
-      → P (closes c room) (does 0 (closedBy c (s .queue) .written) (withLink c Closed (withQueue (closedBy c (s .queue) .queue) s)))
-  pub answering : (c : ℕ) (l : List ℕ) (loans : Loans) → c ≤ 3 → isOpen (linkOf c s) ≡ true → Answering c l s (Handles P c l loans)
+      → P (closes c room) (does 0 (closedBy c (s .queue) .written) (shut c (withQueue (closedBy c (s .queue) .queue) s)))
+  pub answering : (c : ℕ) (l : List ℕ) (loans : Loans) → c ≤ 3 → isOpen (linkOf c s) ≡ true → longSection loans ≡ false
+      → Answering c l loans s (Handles P c l loans)
   pub bringing : (k : Call) (until : ℕ) → Brings k until → s .clock ≤ until → P k (ticked until s)
   -- 02, CR 7
   pub cueing : (l : List ℕ) (pts seconds micros room : ℕ) → badSection l ≡ false
@@ -93,7 +95,7 @@ init-given revision asked name =
 
 -- ## Messages
 
-module _ (c : ℕ) (l : List ℕ) (s : Splicer) (D : Answered → Type 0) (k : Answering c l s D) where
+module _ (c : ℕ) (l : List ℕ) (loans : Loans) (s : Splicer) (D : Answered → Type 0) (k : Answering c l loans s D) where
   -- another MessageID than a Splice_Request's
   other : (id : ℕ) → eqb (messageID l) id ≡ true → eqb id spliceRequest ≡ false → isSplice l ≡ false
   other id e f = rw (eqb-true (messageID l) id e) f
@@ -111,14 +113,14 @@ module _ (c : ℕ) (l : List ℕ) (s : Splicer) (D : Answered → Type 0) (k : A
       by (λ (a : Spliced). D (splices a s)) (eqb v 100) _ _
       (λ i. k .accepting r e f (passed-all (s .clock) c r q (eqb-true v 100 i))) (λ i. k .declining r v e f low i)
 
-  read-case : D (answerRead c (read (messageID l) (dataIn l)) (dataIn l) s)
-  unfolding answerRead answerInit read readInit readAlive readAbort readExtended readWhole readSplice
+  read-case : D (answerRead c (read (messageID l) (dataIn l)) (dataIn l) loans s)
+  unfolding answerRead answerInit read readInit readAlive readAbort readConfig readExtended readWhole readSplice
   read-case =
       let d = dataIn l in
-      let M : Message → Type 0 = λ m. D (answerRead c m d s) in
+      let M : Message → Type 0 = λ m. D (answerRead c m d loans s) in
       let bad = k .general 123 refl in
       by M (eqb (messageID l) initRequest) _ _
-      (λ e. by M (badInit d) _ _ (λ f. bad) (λ f. k .naming _ (init-given (field 0 2 d) (channelName d) (s .name)) (other initRequest e refl)))
+      (λ e. by M (badInit d) _ _ (λ f. bad) (λ f. k .naming _ (init-given (field 0 2 d) (channelName d) (s .name)) (other initRequest e refl) f))
       (λ e. by M (eqb (messageID l) aliveRequest) _ _
       (λ f. by M (eqb (length d) 8) _ _ (λ g. k .alive (other aliveRequest f refl)) (λ g. bad))
       (λ f. by M (eqb (messageID l) spliceRequest) _ _
@@ -126,9 +128,11 @@ module _ (c : ℕ) (l : List ℕ) (s : Splicer) (D : Answered → Type 0) (k : A
       (λ h. by M (badSplice d (tailOf d)) _ _ (λ i. bad) (λ i. splice-case (wholeRequest d (tailOf d)) g (rw (h, i)))))
       (λ g. by M (eqb (messageID l) abortRequest) _ _
       (λ h. by M (eqb (length d) 4) _ _ (λ i. abort-case (sessionID d) g refl) (λ i. bad))
-      (λ h. by M (eqb (messageID l) extendedRequest) _ _ (λ i. by M (badExtended d) _ _ (λ j. bad) (λ j. k .recalling (sessionID d) g refl)) (λ i. bad)))))
+      (λ h. by M (eqb (messageID l) extendedRequest) _ _ (λ i. by M (badExtended d) _ _ (λ j. bad) (λ j. k .recalling (sessionID d) g refl))
+      (λ i. by M (eqb (messageID l) configRequest) _ _
+      (λ j. by M (eqb (length d) 0) _ _ (λ m. k .telling (other configRequest j refl)) (λ m. bad)) (λ j. bad))))))
 
-  answer-case : D (answer c (messageID l) (dataIn l) s)
+  answer-case : D (answer c (messageID l) (dataIn l) loans s)
   unfolding answer
   answer-case =
       by D (eqb (messageID l) 0x0000) _ _ (λ e. k .silent (other 0x0000 e refl))
@@ -139,14 +143,15 @@ module _ (c : ℕ) (l : List ℕ) (s : Splicer) (D : Answered → Type 0) (k : A
 -- ## Calls
 
 module _ (s : Splicer) (P : Call → Called → Type 0) (k : Cases s P) where
-  handled-case : (c : ℕ) (l : List ℕ) (loans : Loans) → c ≤ 3 → isOpen (linkOf c s) ≡ true → P (messages c l loans) (handled c (framing l) l s)
+  handled-case : (c : ℕ) (l : List ℕ) (loans : Loans) → c ≤ 3 → isOpen (linkOf c s) ≡ true → longSection loans ≡ false
+      → P (messages c l loans) (handled c (framing l) l loans s)
   unfolding handled framing
-  handled-case c l loans low up =
-      let G : Framing → Type 0 = λ g. P (messages c l loans) (handled c g l s) in
+  handled-case c l loans low up short =
+      let G : Framing → Type 0 = λ g. P (messages c l loans) (handled c g l loans s) in
       by G (ltb (length l) 8) _ _ (λ e. k .refusing (messages c l loans) _)
       (λ e. by G (oversize l) _ _ (λ f. k .refusing (messages c l loans) _)
       (λ f. by G (ltb (length l) (8 + messageSize l)) _ _ (λ g. k .refusing (messages c l loans) _)
-      (λ g. answer-case c l s (Handles P c l loans) (k .answering c l loans low up))))
+      (λ g. answer-case c l loans s (Handles P c l loans) (k .answering c l loans low up short))))
 
   move-case : (j : Call) (until room : ℕ) → Brings j until → P j (moveCall until room s)
   unfolding moveCall
@@ -168,7 +173,8 @@ module _ (s : Splicer) (P : Call → Called → Type 0) (k : Cases s P) where
       by (P (messages c l loans)) (noConnection c) _ _ (λ e. k .refusing (messages c l loans) _)
       (λ e. by (P (messages c l loans)) (noRoom (loans .room)) _ _ (λ i. k .refusing (messages c l loans) _)
       (λ i. by (P (messages c l loans)) (notOpen c s) _ _ (λ j. k .refusing (messages c l loans) _)
-      (λ j. handled-case c l loans (ltb-false 3 c e) (not-false (isOpen (linkOf c s)) j))))
+      (λ j. by (P (messages c l loans)) (longSection loans) _ _ (λ m. k .refusing (messages c l loans) _)
+      (λ m. handled-case c l loans (ltb-false 3 c e) (not-false (isOpen (linkOf c s)) j) m))))
   cases (ticks seconds micros room) =
       by (P (ticks seconds micros room)) (noRoom room) _ _ (λ e. k .refusing (ticks seconds micros room) _)
       (λ e. by (P (ticks seconds micros room)) (badMicros micros) _ _ (λ i. k .refusing (ticks seconds micros room) _)

@@ -10,10 +10,10 @@ use borrow.Author.Tests.{ltb-false, eqb-false}
 use Rattle.rules.specs.declared.Start.{Start}
 use Rattle.rules.specs.declared.Start.the-variants.{Timed, Linked}
 use Rattle.rules.specs.declared.Request.{Request}
-use Rattle.rules.specs.declared.Message.the-variants.{Init, Alive, Splice, Abort, Extended, Unreadable}
+use Rattle.rules.specs.declared.Message.the-variants.{Init, Alive, Splice, Abort, Config, Extended, Unreadable}
 use Rattle.rules.specs.Units.{timeOf}
 use Rattle.rules.specs.Bytes.{field}
-use Rattle.rules.specs.Reading.{nobody, sessionID, badInit, badExtended, readInit, readAlive, readAbort, readExtended, isBad, muxOf, descriptorsOf, priorSession, seconds, microSeconds, duration, accessType, overridePlaying, returnToPriorChannel, readStart, tailOf, badTail, badSplice, wholeRequest, readWhole, readSplice, read}
+use Rattle.rules.specs.Reading.{nobody, sessionID, badInit, badExtended, readInit, readAlive, readAbort, readConfig, readExtended, isBad, muxOf, descriptorsOf, priorSession, seconds, microSeconds, duration, accessType, overridePlaying, returnToPriorChannel, readStart, tailOf, badTail, badSplice, wholeRequest, readWhole, readSplice, read}
 use Rattle.rules.specs.State.{Queue, holds}
 use Rattle.rules.specs.Answers.{requested, unknownPrior, wrongNumber, tooLate, collides, full, firstOf, spliceResult}
 use Rattle.rules.proofs.Tests.{tests, or-none}
@@ -81,19 +81,29 @@ extended-other d r = go (badExtended d)
     go true e = let z : _≡_ {A = ℕ} 0 1 = cc in omega arith
     go false e = let z : _≡_ {A = ℕ} 0 1 = cc in omega arith
 
+config-other : (d : List ℕ) (r : Request) → readConfig d ≡ Splice r → ⊥
+unfolding readConfig
+config-other d r = go (eqb (length d) 0)
+  where
+    go : (b : Bool) → cond b Config Unreadable ≡ Splice r → ⊥
+    go true e = let z : _≡_ {A = ℕ} 0 1 = cc in omega arith
+    go false e = let z : _≡_ {A = ℕ} 0 1 = cc in omega arith
+
 -- only a Splice_Request is read as one
 pub read-splice : (id : ℕ) (d : List ℕ) (r : Request) → read id d ≡ Splice r → readSplice d ≡ Splice r
 unfolding read
-read-splice id d r = go (eqb id 0x0001) (eqb id 0x0005) (eqb id 0x0007) (eqb id 0x000E) (eqb id 0x0003)
+read-splice id d r = go (eqb id 0x0001) (eqb id 0x0005) (eqb id 0x0007) (eqb id 0x000E) (eqb id 0x0003) (eqb id 0x000A)
   where
-    go : (a b c e f : Bool) → cond a (readInit d) (cond b (readAlive d) (cond c (readSplice d) (cond e (readAbort d) (cond f (readExtended d) Unreadable)))) ≡ Splice r
+    go : (a b c e f g : Bool)
+        → cond a (readInit d) (cond b (readAlive d) (cond c (readSplice d) (cond e (readAbort d) (cond f (readExtended d) (cond g (readConfig d) Unreadable))))) ≡ Splice r
         → readSplice d ≡ Splice r
-    go true b c e f h = absurd (init-other d r h)
-    go false true c e f h = absurd (alive-other d r h)
-    go false false true e f h = h
-    go false false false true f h = absurd (abort-other d r h)
-    go false false false false true h = absurd (extended-other d r h)
-    go false false false false false h = let z : _≡_ {A = ℕ} 0 1 = cc in absurd (omega arith)
+    go true b c e f g h = absurd (init-other d r h)
+    go false true c e f g h = absurd (alive-other d r h)
+    go false false true e f g h = h
+    go false false false true f g h = absurd (abort-other d r h)
+    go false false false false true g h = absurd (extended-other d r h)
+    go false false false false false true h = absurd (config-other d r h)
+    go false false false false false false h = let z : _≡_ {A = ℕ} 0 1 = cc in absurd (omega arith)
 
 -- what is read whole has a good tail, and a good time if it is timed
 pub whole-read : (d t : List ℕ) (r : Request) → readWhole d t ≡ Splice r → (r ≡ wholeRequest d t) × (badSplice d t ≡ false)

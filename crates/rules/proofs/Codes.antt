@@ -13,8 +13,8 @@ use Rattle.rules.specs.State.{Queue, Splicer, empty, of, is, startsAt, e
 use Rattle.rules.specs.Records.{Record}
 use Rattle.rules.specs.Ends.{Turn, andThen, ended, ending, oneEnd, endings, followers, dismissed, evictedAt, evicted, cancelled, aborted, closedBy}
 use Rattle.rules.specs.Instants.{mayStart, began, meetsEqual, ousted, launched, startAt, endAt, instant, elapse, run, runAll}
-use Rattle.rules.specs.Answers.{aliveResponse, requested, accepts, accepted}
-use Rattle.rules.specs.Calls.{ticked, Call, call}
+use Rattle.rules.specs.Answers.{aliveResponse, configResponse, requested, accepts, accepted}
+use Rattle.rules.specs.Calls.{ticked, Loans, Call, call}
 use Rattle.rules.specs.Cues.{readCue, cueTime, initialised}
 use Rattle.rules.specs.Sound.{Given, Coded}
 use Rattle.rules.proofs.Tests.{by}
@@ -126,14 +126,15 @@ run-coded (suc n) now until q =
 
 -- ## Every call
 
-message-coded : (s : Splicer) (c : ℕ) (l : List ℕ) → Answering c l s (λ a. All Coded (a .written))
-unfolding andThen aliveResponse
-message-coded s c l =
+message-coded : (s : Splicer) (c : ℕ) (l : List ℕ) (loans : Loans) → Answering c l loans s (λ a. All Coded (a .written))
+unfolding andThen aliveResponse configResponse
+message-coded s c l loans =
     record {
       silent = λ e. tt;
       general = λ r b. (b, tt);
-      naming = λ r b e. (b, tt);
+      naming = λ r b e g. (b, tt);
       alive = λ e. (refl, tt);
+      telling = λ e. (refl, tt);
       unknown = λ x e i. (refl, tt);
       aborting = λ x e i held. (refl, aborted-coded c x (s .queue));
       recalling = λ x e i. (by-recall Coded c x (s .queue) (λ k. refl) refl, tt);
@@ -149,7 +150,7 @@ call-coded k s =
       refusing = λ k n. tt;
       opening = λ c low e. tt;
       closing = λ c room low e. closedBy-coded c (s .queue);
-      answering = λ c l loans low e. message-coded s c l;
+      answering = λ c l loans low e short. message-coded s c l loans;
       bringing = λ k until b le. run-coded _ (s .clock) until (s .queue);
       cueing = λ l pts seconds micros room g. let x = readCue l in
           cue-all Coded (cueTime pts seconds micros x) l (λ c low. refl) (λ c low. refl) x (initialised (s .links)) (initialised-low (s .links));

@@ -5,7 +5,7 @@ use mathlib.Core.Bool.{Bool, true, false}
 use mathlib.Core.List.{List, [], _∷_, map}
 use Prim.Native.Nat.{ℕ, zero, suc, _+_, _-_, _*_, _/_, _≤_, _<_}
 use native.Mathlib.Omega.{arith}
-use lib.Dec.{ltb}
+use lib.Dec.{eqb, ltb}
 use lib.ListN.{length, getD}
 use borrow.Author.Tests.{ltb-true}
 use Rattle.rules.specs.declared.Session.{Session}
@@ -20,8 +20,8 @@ use Rattle.rules.specs.State.{Queue, Splicer, empty, of, is, startsAt, e
 use Rattle.rules.specs.Records.{Record, output, recordsIn}
 use Rattle.rules.specs.Ends.{Turn, andThen, ended, ending, oneEnd, endings, followers, dismissed, evictedAt, evicted, cancelled, aborted, closedBy}
 use Rattle.rules.specs.Instants.{mayStart, began, meetsEqual, ousted, launched, startAt, endAt, instant, elapse, run, runAll}
-use Rattle.rules.specs.Answers.{airState, airID, aliveResponse, extendedResponse, sessionAt, requested, accepts, accepted, answer}
-use Rattle.rules.specs.Calls.{Answer, refused, good, ticked, Call, call, writtenBy}
+use Rattle.rules.specs.Answers.{airState, airID, aliveResponse, airFeed, configResponse, extendedResponse, sessionAt, requested, accepts, accepted, answer}
+use Rattle.rules.specs.Calls.{Answer, refused, good, longSection, Loans, ticked, Call, messages, call, writtenBy}
 use Rattle.rules.proofs.Tests.{by}
 use Rattle.rules.proofs.All.{All, all-append, all-into}
 use Rattle.rules.proofs.Bytes.{Byte, part-byte, field-below}
@@ -40,7 +40,8 @@ use Rattle.rules.proofs.Tick.{Due, meets, due-first, due-meets, elapse-
 use Rattle.rules.proofs.Timed.{meets-after}
 use Rattle.rules.proofs.Sessions.{each-elapse, each-instant}
 use Rattle.rules.specs.Sound.{Recalled}
-use Rattle.rules.proofs.Held.{Proper, Small, Linking}
+use Rattle.rules.proofs.Held.{Proper, Small, Linking, structure-at}
+use Rattle.rules.proofs.Size.{air-short}
 use Rattle.rules.proofs.Aired.{Played, elapse-played, Aired, moved-aired}
 
 -- ## Sessions
@@ -268,6 +269,21 @@ extended-fits c x low k s h =
     let n = latest-noted c x (s .queue .lately) (h .lately) in
     by-recall Fits c x (s .queue) (λ i. (omega arith, k, omega (arith, n .event), n .result, omega (arith, n .played))) (omega arith, k)
 
+config-fits : (c : ℕ) → c ≤ 3 → (s : Splicer) → Healthy s → (loans : Loans) → longSection loans ≡ false
+    → All Byte (loans .primary) × All Byte (loans .insertion) → Fits (configResponse c loans s)
+unfolding configResponse
+config-fits c low s h loans e b =
+    let k = s .queue .started in
+    let l = h .linking in (
+      (omega arith, omega arith),
+      omega (arith, l .short),
+      l .zeros,
+      l .bytes,
+      structure-at c (s .hardware) (l .kept),
+      air-short k loans e,
+      by (All Byte) (eqb (airFeed k) 0) _ _ (λ i. b .0) (λ i. b .1),
+    )
+
 -- ## Calls
 
 -- the records of an answer
@@ -279,19 +295,21 @@ read-asked : (d : List ℕ) → All Byte d → (r : Request) → readSplice d �
 unfolding read
 read-asked d a r e = splice-grants d a spliceRequest r e
 
-message-fits : (s : Splicer) → Healthy s → (c : ℕ) (l : List ℕ) → c ≤ 3 → Answering c l s (λ a. All Byte l → All Fits (a .written))
+message-fits : (s : Splicer) → Healthy s → (c : ℕ) (l : List ℕ) (loans : Loans) → c ≤ 3 → longSection loans ≡ false
+    → Answering c l loans s (λ a. Wired (messages c l loans) → All Fits (a .written))
 unfolding andThen requested sessionAt
-message-fits s h c l low =
+message-fits s h c l loans low short =
     record {
       silent = λ e a. tt;
       general = λ r b a. ((omega arith, given-below r b), tt);
-      naming = λ r b e a. (((omega arith, given-below r b), omega (arith, h .linking .short), h .linking .zeros, h .linking .bytes), tt);
+      naming = λ r b e g a. (((omega arith, given-below r b), omega (arith, h .linking .short), h .linking .zeros, h .linking .bytes), tt);
       alive = λ e a. (alive-fits c low s h, tt);
-      unknown = λ x e i a. (((omega arith, omega arith), number x i a), tt);
-      aborting = λ x e i held a. (((omega arith, omega arith), number x i a), aborted-fits c x (s .queue) (tell-now (s .clock) (s .queue) (telling-of s h)));
-      recalling = λ x e i a. (extended-fits c x low (number x i a) s h, tt);
-      declining = λ r v e i b n a. (((omega arith, given-below v b), asked r i a .id), tt);
-      accepting = λ r e i p a. accepted-fits (requested c r (s .queue)) (s .queue) ((omega arith, omega arith), asked r i a .id) (telling-of s h .numbered);
+      telling = λ e a. (config-fits c low s h loans short (a .1, a .2), tt);
+      unknown = λ x e i a. (((omega arith, omega arith), number x i (a .0)), tt);
+      aborting = λ x e i held a. (((omega arith, omega arith), number x i (a .0)), aborted-fits c x (s .queue) (tell-now (s .clock) (s .queue) (telling-of s h)));
+      recalling = λ x e i a. (extended-fits c x low (number x i (a .0)) s h, tt);
+      declining = λ r v e i b n a. (((omega arith, given-below v b), asked r i (a .0) .id), tt);
+      accepting = λ r e i p a. accepted-fits (requested c r (s .queue)) (s .queue) ((omega arith, omega arith), asked r i (a .0) .id) (telling-of s h .numbered);
     }
   where
     bytes : All Byte l → All Byte (dataIn l)
@@ -311,7 +329,7 @@ call-fits k s w h =
       refusing = λ k n w. tt;
       opening = λ c low e w. tt;
       closing = λ c room low e w. closedBy-fits c (s .queue) (tell-now (s .clock) (s .queue) (telling-of s h));
-      answering = λ c l loans low e. message-fits s h c l low;
+      answering = λ c l loans low e short. message-fits s h c l loans low short;
       bringing = λ k until b le w. run-fits _ (s .clock) until (s .queue) (telling-of s h);
       cueing = λ l pts seconds micros room g w. let x = readCue l in
           let t = cueTime pts seconds micros x in

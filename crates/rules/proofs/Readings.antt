@@ -10,7 +10,7 @@ use lib.Seq.{drop-drop}
 use borrow.Author.Tests.{eqb-false, ltb-false, eq-eqb, ne-eqb}
 use Rattle.rules.specs.declared.Request.{Request}
 use Rattle.rules.specs.declared.Message.the-variants.{Splice}
-use Rattle.rules.specs.Reading.{nobody, initRequest, aliveRequest, spliceRequest, abortRequest, extendedRequest, badInit, badExtended, badTail, badSplice, readInit, readAlive, readAbort, readExtended, readStart, readWhole, readSplice, read, priorSession, tailOf, wholeRequest, descriptorsOf}
+use Rattle.rules.specs.Reading.{nobody, initRequest, aliveRequest, spliceRequest, abortRequest, configRequest, extendedRequest, badInit, badExtended, badTail, badSplice, readInit, readAlive, readAbort, readConfig, readExtended, readStart, readWhole, readSplice, read, priorSession, tailOf, wholeRequest, descriptorsOf}
 use Rattle.rules.specs.Asked.{Within, Asked, Reads}
 use Rattle.rules.proofs.Tests.{by, or-none}
 use Rattle.rules.proofs.All.{All}
@@ -44,7 +44,7 @@ module _ (d : List ℕ) (a : All Byte d) where
 
   -- whatever the message
   pub read-grants : (id : ℕ) → Reads (read id d)
-  unfolding read readInit readAlive readAbort readExtended readWhole readSplice
+  unfolding read readInit readAlive readAbort readConfig readExtended readWhole readSplice
   read-grants id =
       by Reads (eqb id initRequest) _ _ (λ e. by Reads (badInit d) _ _ (λ f. tt) (λ f. field-below 0 2 d a))
       (λ e. by Reads (eqb id aliveRequest) _ _ (λ f. by Reads (eqb (length d) 8) _ _ (λ g. tt) (λ g. tt))
@@ -52,7 +52,8 @@ module _ (d : List ℕ) (a : All Byte d) where
       (λ g. by Reads (ltb (length d) 18) _ _ (λ h. tt)
       (λ h. by Reads (badSplice d (tailOf d)) _ _ (λ i. tt) (asked-whole (tailOf d) (tail-byte d a))))
       (λ g. by Reads (eqb id abortRequest) _ _ (λ h. by Reads (eqb (length d) 4) _ _ (λ i. field-below 0 4 d a) (λ i. tt))
-      (λ h. by Reads (eqb id extendedRequest) _ _ (λ i. by Reads (badExtended d) _ _ (λ j. tt) (λ j. field-below 0 4 d a)) (λ i. tt)))))
+      (λ h. by Reads (eqb id extendedRequest) _ _ (λ i. by Reads (badExtended d) _ _ (λ j. tt) (λ j. field-below 0 4 d a))
+      (λ i. by Reads (eqb id configRequest) _ _ (λ j. by Reads (eqb (length d) 0) _ _ (λ k. tt) (λ k. tt)) (λ j. tt))))))
 
   pub splice-grants : (id : ℕ) (r : Request) → read id d ≡ Splice r → Asked r
   splice-grants id r e = subst Reads e (read-grants id)

@@ -4,21 +4,22 @@ use mathlib.Core.Bool.{Bool, true, false}
 use mathlib.Core.List.{List, [], _∷_, _++_, map}
 use Prim.Native.Nat.{ℕ, _+_, _*_, _≤_, _<_}
 use native.Mathlib.Omega.{arith}
-use lib.Dec.{ltb}
+use lib.Dec.{eqb, ltb}
 use lib.ListN.{length, getD, length-append}
-use borrow.Author.Tests.{ltb-true}
+use borrow.Author.Tests.{ltb-true, ltb-false}
 use Rattle.rules.specs.declared.Session.{Session}
 use Rattle.rules.specs.declared.Ending.{Ending}
 use Rattle.rules.specs.declared.Ending.the-variants.{Complete, Failed, Response}
 use Rattle.rules.specs.Lists.{put, keep, place, removeAt}
-use Rattle.rules.specs.State.{Queue, Splicer, empty, of, is, startsAt, endsAt, toCome, withWaiting, withStarted}
-use Rattle.rules.specs.Records.{Record, General, InitResponse, AliveResponse, SpliceResponse, AbortResponse, ExtendedFound, ExtendedNone, output}
+use Rattle.rules.specs.State.{Queue, Splicer, empty, of, is, startsAt, endsAt, toCome, hardwareOf, withWaiting, withStarted}
+use Rattle.rules.specs.Records.{Record, General, InitResponse, AliveResponse, SpliceResponse, AbortResponse, ConfigResponse, ExtendedFound, ExtendedNone, output}
 use Rattle.rules.specs.Ends.{Turn, quiet, andThen, ended, ending, oneEnd, endings, followers, dismissed, evictedAt, evicted, cancelled, aborted, closedBy}
+use Rattle.rules.specs.Reading.{longestHardware}
 use Rattle.rules.specs.Instants.{mayStart, began, meetsEqual, ousted, launched, startAt, endAt, instant, runAll}
-use Rattle.rules.specs.Answers.{Answered, requested, accepts, accepted, aliveResponse, answer}
-use Rattle.rules.specs.Calls.{writtenBy, ticked, Call, call}
+use Rattle.rules.specs.Answers.{Answered, airFeed, airMap, requested, accepts, accepted, aliveResponse, configResponse, answer}
+use Rattle.rules.specs.Calls.{writtenBy, longestSection, longSection, Loans, ticked, Call, call}
 use Rattle.rules.specs.Cues.{readCue, cueTime, initialised}
-use Rattle.rules.proofs.Tests.{by}
+use Rattle.rules.proofs.Tests.{by, or-none}
 use Rattle.rules.proofs.Cued.{section-size, initialised-four, cue-weight}
 use Rattle.rules.proofs.Recall.{by-recall}
 use Rattle.rules.proofs.Cases.{Answering, cases}
@@ -174,22 +175,37 @@ pub record Bounded (s : Splicer) : Type 0 where
   pub waiting : length (s .queue .waiting) ≤ 64
   pub started : length (s .queue .started) ≤ 10
   pub name : length (s .name) ≤ 32
+  pub hardware : (c : ℕ) → length (hardwareOf c s) ≤ longestHardware
+
+-- one of two sections that are not over 1,024 bytes is not
+pub air-short : (k : List Session) (loans : Loans) → longSection loans ≡ false → length (airMap k loans) ≤ longestSection
+air-short k loans e =
+    let o = or-none (ltb longestSection (length (loans .primary))) _ e in
+    by (λ (m : List ℕ). length m ≤ longestSection) (eqb (airFeed k) 0) _ _ (λ f. ltb-false _ _ (o .0)) (λ f. ltb-false _ _ (o .1))
 
 module _ (s : Splicer) (h : Bounded s) where
   abbrev Fits : Answered → Type 0
   Fits a = weight (a .written) ≤ 3174
 
-  one-fits : (r : Record) → Roomy r → sizeOf r ≤ 44 → weight (r ∷ []) ≤ 3174
+  one-fits : (r : Record) → Roomy r → sizeOf r ≤ 1322 → weight (r ∷ []) ≤ 3174
   one-fits r a b = omega (arith, weight-one r a)
 
-  message-size : (c : ℕ) (l : List ℕ) → Answering c l s Fits
+  -- a GetConfig_Response is at most 1,322 bytes
+  config-size : (c : ℕ) (loans : Loans) → longSection loans ≡ false → weight (configResponse c loans s ∷ []) ≤ 3174
+  unfolding configResponse
+  config-size c loans e =
+      let m = air-short (s .queue .started) loans e in
+      one-fits (ConfigResponse c 100 (s .name) (hardwareOf c s) (airMap (s .queue .started) loans)) (h .name, h .hardware c, m) (omega (arith, h .hardware c))
+
+  message-size : (c : ℕ) (l : List ℕ) (loans : Loans) → longSection loans ≡ false → Answering c l loans s Fits
   unfolding accepted andThen aliveResponse
-  message-size c l =
+  message-size c l loans short =
       let q = s .queue in
       record {
         silent = λ e. omega (arith, weight-none);
         general = λ r b. one-fits (General c r) tt (omega arith);
-        naming = λ r b e. one-fits (InitResponse c r (s .name)) (h .name) (omega arith);
+        naming = λ r b e g. one-fits (InitResponse c r (s .name)) (h .name) (omega arith);
+        telling = λ e. config-size c loans short;
         alive = λ e. one-fits (AliveResponse c 100 _ _ _) tt (omega arith);
         unknown = λ x e i. one-fits (AbortResponse c 121 x) tt (omega arith);
         aborting = λ x e i held. omega (
@@ -214,7 +230,7 @@ module _ (s : Splicer) (h : Bounded s) where
         refusing = λ k n. omega arith;
         opening = λ c low e. omega (arith, weight-none);
         closing = λ c room low e. omega (arith, cancelled-lean (of c) (s .queue), h .waiting, h .started);
-        answering = λ c l loans low e. message-size c l;
+        answering = λ c l loans low e short. message-size c l loans short;
         bringing = λ k until b le. omega (arith, tick-brief (s .clock) until (s .queue), h .waiting, h .started);
         cueing = λ l pts seconds micros room g. let x = readCue l in
             omega (arith, cue-weight x (cueTime pts seconds micros x) l (initialised (s .links)) (section-size l g .1), initialised-four (s .links));

@@ -27,7 +27,7 @@ use Rattle.rules.proofs.Silence.{silentAll-most}
 use Rattle.rules.proofs.Aired.{elapse-played, Aired, aired-kept, moved-aired}
 use Rattle.rules.proofs.Ranked.{Falling, falling-kept, falling-instant, falling-onAir, ten}
 use Rattle.rules.proofs.Room.{Room, room-kept, room-fewer, room-none, sixty-four}
-use Rattle.rules.proofs.Held.{Proper, Small, proper-plays, small-plays, small-kept, Linking, linking-kept, linking-fresh}
+use Rattle.rules.proofs.Held.{Proper, Small, proper-plays, small-plays, small-kept, Linking, structure-at, linking-kept, linking-fresh}
 use Rattle.rules.proofs.Priors.{Chained, Orderly, orderly}
 use Rattle.rules.proofs.Chained.{chained-kept, moved-chained}
 use Rattle.rules.proofs.Bounds.{horizon, longest, never, ends-early}
@@ -165,7 +165,7 @@ sound-kept =
     let k = held-kept Holding holding-kept in
     record {
       opening = λ s c low e h. record { linking = l .opening s c low e (h .linking); clock = h .clock; primary = h .primary; holding = h .holding; lately = h .lately };
-      naming = λ s c low e h. record { linking = l .naming s c low e (h .linking); clock = h .clock; primary = h .primary; holding = h .holding; lately = h .lately };
+      naming = λ s c x n e h. record { linking = l .naming s c x n e (h .linking); clock = h .clock; primary = h .primary; holding = h .holding; lately = h .lately };
       closing = λ s c low e h. record { linking = l .closing s c low e (h .linking); clock = h .clock; primary = h .primary; holding = k .closing s c low e (h .holding); lately = closedBy-keeps c (s .queue) (keeping-now (s .clock) (s .queue) (h .holding) (h .lately)) .lately };
       aborting = λ s c x low e a h. record { linking = l .aborting s c x low e a (h .linking); clock = h .clock; primary = h .primary; holding = k .aborting s c x low e a (h .holding); lately = aborted-keeps c x (s .queue) (keeping-now (s .clock) (s .queue) (h .holding) (h .lately)) .lately };
       accepting = λ s c r a h. record { linking = l .accepting s c r a (h .linking); clock = h .clock; primary = h .primary; holding = k .accepting s c r a (h .holding); lately = accepted-recalls _ (s .queue) (keeping-now (s .clock) (s .queue) (h .holding) (h .lately)) };
@@ -206,7 +206,7 @@ sound-always ks name e a f = always Wired Sound sound-kept ks (fresh name .splic
 -- no call writes more than 3,174 bytes
 pub sound-size : (s : Splicer) → Sound s → (k : Call) → length (writtenBy (call k s .answer)) ≤ 3174
 sound-size s h k =
-    call-size s (record { waiting = few-wait (h .holding); started = few-started (h .holding); name = omega (arith, h .linking .short) }) k
+    call-size s (record { waiting = few-wait (h .holding); started = few-started (h .holding); name = omega (arith, h .linking .short); hardware = λ c. structure-at c (s .hardware) (h .linking .kept) .short }) k
 
 -- what is said of its records is said of its bytes
 pub sound-found : (s : Splicer) (k : Call) → Wired k → Sound s → recordsIn (writtenBy (call k s .answer)) ≡ recordsOf (call k s .answer)

@@ -8,16 +8,16 @@ use Rattle.rules.specs.declared.Start.{Start}
 use Rattle.rules.specs.declared.Start.the-variants.{Timed, Linked}
 use Rattle.rules.specs.declared.Request.{Request}
 use Rattle.rules.specs.declared.Message.{Message}
-use Rattle.rules.specs.declared.Message.the-variants.{Init, Alive, Splice, Abort, Extended, Unreadable}
+use Rattle.rules.specs.declared.Message.the-variants.{Init, Alive, Splice, Abort, Config, Extended, Unreadable}
 use Rattle.rules.specs.declared.Link.the-variants.{Initialised}
 use Rattle.rules.specs.declared.Session.{Session}
 use Rattle.rules.specs.declared.Past.{Past}
 use Rattle.rules.specs.Units.{timeOf, fromMicros, fromTicks, toMicros}
 use Rattle.rules.specs.Lists.{some, count, place, insertAt}
 use Rattle.rules.specs.Bytes.{sameName}
-use Rattle.rules.specs.Reading.{nobody, averageMux, initRequest, channelName, isRead, read}
-use Rattle.rules.specs.State.{Queue, Splicer, empty, of, sameNumber, is, startsAt, startsAfter, held, holds, linkOf, isInitialised, withQueue, withLink, withWaiting, unused, isKept, recent}
-use Rattle.rules.specs.Records.{Record, General, InitResponse, AliveResponse, SpliceResponse, AbortResponse, ExtendedFound, ExtendedNone}
+use Rattle.rules.specs.Reading.{nobody, averageMux, initRequest, channelName, hardwareIn, isRead, read}
+use Rattle.rules.specs.State.{Queue, Splicer, empty, of, sameNumber, is, startsAt, startsAfter, held, holds, linkOf, isInitialised, hardwareOf, withQueue, withLink, withHardware, withWaiting, unused, isKept, recent}
+use Rattle.rules.specs.Records.{Record, General, InitResponse, AliveResponse, SpliceResponse, AbortResponse, ConfigResponse, ExtendedFound, ExtendedNone}
 use Rattle.rules.specs.Ends.{Turn, andThen, writes, evicted, aborted}
 use Rattle.rules.specs.Instants.{outranks}
 
@@ -36,17 +36,35 @@ says rs s = record { splicer = s; written = rs; accepted = false; moved = 0 }
 abbrev pub turns : Turn → Splicer → Answered
 turns t s = record { splicer = withQueue (t .queue) s; written = t .written; accepted = false; moved = 0 }
 
+-- what a message call is lent; room: the length of its output buffer; 02, CR 6: "the caller lends both sections, the primary's and the
+-- insertion's"
+pub record Loans : Type 0 where
+  pub room : ℕ
+  pub primary : List ℕ
+  pub insertion : List ℕ
+
+abbrev pub lendingMaps : (primary insertion : List ℕ) (room : ℕ) → Loans
+lendingMaps primary insertion room = record { room = room; primary = primary; insertion = insertion }
+
+-- empty sections
+abbrev pub lending : ℕ → Loans
+lending room = lendingMaps [] [] room
+
 -- ## Init
 
 -- "Revision not 2 gives 102, another name 104, else 100"
 unfoldable pub initResult : ℕ → List ℕ → List ℕ → ℕ
 initResult revision asked name = cond (not (eqb revision 2)) 102 (cond (not (sameName asked name)) 104 100)
 
--- "else 100 and initialised. A failed later Init leaves the connection initialised. All three are Init_Response."
+-- "else 100 and initialised"; 02, CR 6: "A later Init that gets 100 replaces it"
+abbrev pub initialised : ℕ → List ℕ → Splicer → Splicer
+initialised c hardware s = withHardware c hardware (withLink c Initialised s)
+
+-- "A failed later Init leaves the connection initialised. All three are Init_Response."
 unfoldable pub answerInit : ℕ → ℕ → List ℕ → Splicer → Answered
 answerInit c revision d s =
     let r = initResult revision (channelName d) (s .name) in
-    says (InitResponse c r (s .name) ∷ []) (cond (eqb r 100) (withLink c Initialised s) s)
+    says (InitResponse c r (s .name) ∷ []) (cond (eqb r 100) (initialised c (hardwareIn d) s) s)
 
 -- ## Alive
 
@@ -68,6 +86,21 @@ airMux (air ∷ k) = air .mux
 unfoldable pub aliveResponse : ℕ → Splicer → Record
 aliveResponse c s =
     AliveResponse c 100 (airState (s .queue .started)) (airID (s .queue .started)) (toMicros (record { 0 = s .clock }) .0)
+
+-- ## 02, CR 6: GetConfig
+
+-- "Our card passes the map of the feed that is on air", which is the insertion's exactly where Alive's State is 2: 0 the primary's, 1 the
+-- insertion's
+unfoldable pub airFeed : List Session → ℕ
+airFeed [] = 0
+airFeed (air ∷ k) = 1
+
+-- "the caller .. gets back the one on air"
+abbrev pub airMap : List Session → Loans → List ℕ
+airMap k loans = cond (eqb (airFeed k) 0) (loans .primary) (loans .insertion)
+
+unfoldable pub configResponse : ℕ → Loans → Splicer → Record
+configResponse c loans s = ConfigResponse c 100 (s .name) (hardwareOf c s) (airMap (s .queue .started) loans)
 
 -- ## Abort
 
@@ -218,20 +251,21 @@ splices a s =
 -- ## The answer
 
 -- a message of that list, read from the data d; "5. Not readable: General_Response 123."
-unfoldable pub answerRead : ℕ → Message → List ℕ → Splicer → Answered
-answerRead c (Init revision) d s = answerInit c revision d s
-answerRead c Alive d s = says (aliveResponse c s ∷ []) s
-answerRead c (Splice r) d s = splices (answerSplice (s .clock) c r (s .queue)) s
-answerRead c (Abort x) d s = turns (answerAbort c x (s .queue)) s
-answerRead c (Extended x) d s = says (extendedResponse c x (s .queue) ∷ []) s
-answerRead c Unreadable d s = says (General c 123 ∷ []) s
+unfoldable pub answerRead : ℕ → Message → List ℕ → Loans → Splicer → Answered
+answerRead c (Init revision) d loans s = answerInit c revision d s
+answerRead c Alive d loans s = says (aliveResponse c s ∷ []) s
+answerRead c (Splice r) d loans s = splices (answerSplice (s .clock) c r (s .queue)) s
+answerRead c (Abort x) d loans s = turns (answerAbort c x (s .queue)) s
+answerRead c (Extended x) d loans s = says (extendedResponse c x (s .queue) ∷ []) s
+answerRead c Config d loans s = says (configResponse c loans s ∷ []) s
+answerRead c Unreadable d loans s = says (General c 123 ∷ []) s
 
 -- "1. ID 0x0000: no answer. 2. Not initialised and not Init_Request: General_Response 103. 3. ID 0x000D: no answer.
 -- 4. ID not in the list of four: General_Response 120." 02, CR 8: of five
-unfoldable pub answer : ℕ → ℕ → List ℕ → Splicer → Answered
-answer c id d s =
+unfoldable pub answer : ℕ → ℕ → List ℕ → Loans → Splicer → Answered
+answer c id d loans s =
     cond (eqb id 0x0000) (says [] s)
     (cond (not (isInitialised (linkOf c s)) && not (eqb id initRequest)) (says (General c 103 ∷ []) s)
     (cond (eqb id 0x000D) (says [] s)
     (cond (not (isRead id)) (says (General c 120 ∷ []) s)
-    (answerRead c (read id d) d s))))
+    (answerRead c (read id d) d loans s))))

@@ -4,7 +4,7 @@ use Rattle.rules.specs.declared.Start.{Start}
 use Rattle.rules.specs.declared.Start.the-variants.{Timed, Linked}
 use Rattle.rules.specs.declared.Request.{Request}
 use Rattle.rules.specs.declared.Message.{Message}
-use Rattle.rules.specs.declared.Message.the-variants.{Init, Alive, Splice, Abort, Extended, Unreadable}
+use Rattle.rules.specs.declared.Message.the-variants.{Init, Alive, Splice, Abort, Config, Extended, Unreadable}
 use Rattle.rules.specs.Reading.{nobody}
 
 -- a time stays below 2^52
@@ -28,4 +28,5 @@ Reads Alive = Unit {0}
 Reads (Splice r) = Asked r
 Reads (Abort x) = x < 4294967296
 Reads (Extended x) = x < 4294967296
+Reads Config = Unit {0}
 Reads Unreadable = Unit {0}

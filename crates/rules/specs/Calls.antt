@@ -1,20 +1,21 @@
 -- 01, "Calls and house numbers".
-use mathlib.Core.Bool.{Bool, false, cond, not}
+use mathlib.Core.Bool.{Bool, false, cond, not, _||_}
 use mathlib.Core.List.{List, [], _∷_}
 use Prim.Native.Nat.{ℕ, _+_}
 use lib.Dec.{ltb}
 use lib.ListN.{length}
 use Rattle.rules.specs.declared.Link.the-variants.{Closed, Opened}
 use Rattle.rules.specs.declared.Refusal.{Refusal}
-use Rattle.rules.specs.declared.Refusal.the-variants.{NoConnection, NoRoom, ClockBack, Oversize, Short, AlreadyOpen, NotOpen, BadMicros, BadName, Counter, BadSection}
+use Rattle.rules.specs.declared.Refusal.the-variants.{NoConnection, NoRoom, ClockBack, Oversize, Short, AlreadyOpen, NotOpen, BadMicros, BadName, Counter, LongSection, BadSection}
 use Rattle.rules.specs.declared.Framing.{Framing}
 use Rattle.rules.specs.declared.Framing.the-variants.{Framed, Unframed}
 use Rattle.rules.specs.Units.{timeOf, badMicros, fromMicros}
 use Rattle.rules.specs.Bytes.{messageID, messageSize, oversize, dataOf, hasZero, nameIn, written}
-use Rattle.rules.specs.State.{Splicer, linkOf, isOpen, withLink, withQueue, withClock, noneHeld}
+use Rattle.rules.specs.State.{Splicer, noHardware, linkOf, isOpen, withLink, withHardware, withQueue, withClock, noneHeld}
 use Rattle.rules.specs.Records.{Record, output}
 use Rattle.rules.specs.Ends.{closedBy}
 use Rattle.rules.specs.Answers.{Answered, answer}
+pub use Rattle.rules.specs.Answers.{Loans, lending, lendingMaps}
 use Rattle.rules.specs.Instants.{runAll, silentAll}
 use Rattle.rules.specs.Cues.{badSection, readCue, cueTime, initialised, cueRecords}
 
@@ -33,6 +34,8 @@ houseNumber BadName = 9
 houseNumber Counter = 12
 -- 02, CR 7
 houseNumber BadSection = 11
+-- 02, CR 6
+houseNumber LongSection = 10
 
 -- "A good call returns the bytes written, and message also the bytes consumed." "A refusal returns its number, writes nothing,
 -- consumes nothing"
@@ -87,6 +90,13 @@ noRoom room = ltb room 4096
 abbrev pub notOpen : ℕ → Splicer → Bool
 notOpen c s = not (isOpen (linkOf c s))
 
+-- 02, CR 6, 10: "for a lent section over 1,024 bytes"
+abbrev pub longestSection : ℕ
+longestSection = 1024
+
+abbrev pub longSection : Loans → Bool
+longSection loans = ltb longestSection (length (loans .primary)) || ltb longestSection (length (loans .insertion))
+
 -- ## The five calls
 
 -- "A fresh splicer has clock 0, all connections closed."
@@ -97,6 +107,7 @@ named name =
       clock = 0;
       primary = 0;
       links = Closed ∷ Closed ∷ Closed ∷ Closed ∷ [];
+      hardware = noHardware ∷ noHardware ∷ noHardware ∷ noHardware ∷ [];
       queue = noneHeld;
     }
 
@@ -111,6 +122,10 @@ openCall c s =
     (cond (isOpen (linkOf c s)) (refuse AlreadyOpen s)
     (does 0 [] (withLink c Opened s)))
 
+-- a connection that is closed; 02, CR 6: "close forgets it"
+abbrev pub shut : ℕ → Splicer → Splicer
+shut c s = withHardware c noHardware (withLink c Closed s)
+
 -- "close 1, 2, 7"
 unfoldable pub closeCall : ℕ → ℕ → Splicer → Called
 closeCall c room s =
@@ -118,7 +133,7 @@ closeCall c room s =
     cond (noConnection c) (refuse NoConnection s)
     (cond (noRoom room) (refuse NoRoom s)
     (cond (notOpen c s) (refuse NotOpen s)
-    (does 0 (t .written) (withLink c Closed (withQueue (t .queue) s)))))
+    (does 0 (t .written) (shut c (withQueue (t .queue) s)))))
 
 -- "5 (header), 4, 5 (body)"; l: the bytes read so far
 unfoldable pub framing : List ℕ → Framing
@@ -128,24 +143,18 @@ framing l =
     (cond (ltb (length l) (8 + messageSize l)) (Unframed Short) (Framed (messageID l) (messageSize l))))
 
 -- "Message handles the first message only, and each is handed on as its own part of what was read."
-unfoldable pub handled : ℕ → Framing → List ℕ → Splicer → Called
-handled c (Unframed n) l s = refuse n s
-handled c (Framed id size) l s = replies (8 + size) (answer c id (dataOf size l) s)
+unfoldable pub handled : ℕ → Framing → List ℕ → Loans → Splicer → Called
+handled c (Unframed n) l loans s = refuse n s
+handled c (Framed id size) l loans s = replies (8 + size) (answer c id (dataOf size l) loans s)
 
--- what a message call is lent; room: the length of its output buffer
-pub record Loans : Type 0 where
-  pub room : ℕ
-
-abbrev pub lending : ℕ → Loans
-lending room = record { room = room }
-
--- "message 1, 2, 7", then as above
+-- "message 1, 2, 7"; 02, CR 6: "house number 10 .., in the message call after 7"; then as above
 unfoldable pub messageCall : ℕ → List ℕ → Loans → Splicer → Called
 messageCall c l loans s =
     cond (noConnection c) (refuse NoConnection s)
     (cond (noRoom (loans .room)) (refuse NoRoom s)
     (cond (notOpen c s) (refuse NotOpen s)
-    (handled c (framing l) l s)))
+    (cond (longSection loans) (refuse LongSection s)
+    (handled c (framing l) l loans s))))
 
 -- the clock brought to until
 unfoldable pub ticked : ℕ → Splicer → Called

@@ -6,7 +6,7 @@ use lib.Dec.{eqb, ltb}
 use lib.ListN.{length, drop}
 use Rattle.rules.specs.Bytes.{part, field, messageSize, oversize, padded}
 use Rattle.rules.specs.State.{Splicer}
-use Rattle.rules.specs.Calls.{Answer, refused, good, writtenBy, houseNumber, fresh, Loans, Call, opens, closes, messages, ticks, call}
+use Rattle.rules.specs.Calls.{Answer, refused, good, writtenBy, houseNumber, fresh, Loans, lending, Call, opens, closes, messages, ticks, call}
 
 -- "ChannelName is "CH1"."
 unfoldable pub cardName : List ℕ
@@ -16,9 +16,9 @@ cardName = 0x43 ∷ 0x48 ∷ 0x31 ∷ []
 abbrev pub cardRoom : ℕ
 cardRoom = 4096
 
--- what it lends a message call
+-- what it lends a message call; 02, CR 6: "The card program lends empty sections."
 abbrev pub cardLoans : Loans
-cardLoans = record { room = cardRoom }
+cardLoans = lending cardRoom
 
 -- a call with the input behind it, or the last call, or none
 pub data Next : Type 0 where

@@ -10,7 +10,7 @@ use Rattle.rules.specs.declared.Priority.{Priority}
 use Rattle.rules.specs.declared.Priority.the-variants.{Is, Bad}
 use Rattle.rules.specs.declared.Request.{Request}
 use Rattle.rules.specs.declared.Message.{Message}
-use Rattle.rules.specs.declared.Message.the-variants.{Init, Alive, Splice, Abort, Extended, Unreadable}
+use Rattle.rules.specs.declared.Message.the-variants.{Init, Alive, Splice, Abort, Config, Extended, Unreadable}
 use Rattle.rules.specs.Units.{timeOf, badMicros}
 use Rattle.rules.specs.Bytes.{messageID, messageSize, dataOf, bytes, part, field, hasZero}
 
@@ -38,15 +38,43 @@ abortRequest = 0x000E
 abbrev pub extendedRequest : ℕ
 extendedRequest = 0x0003
 
--- Init_Request: Revision_Num 2, ChannelName 32, SplicerName 32, the rest unread
+-- 02, CR 6: "Servers ask with GetConfig_Request (0x000A, no data)"
+abbrev pub configRequest : ℕ
+configRequest = 0x000A
+
+-- Init_Request: Revision_Num 2, ChannelName 32, SplicerName 32, then Hardware_Config, the rest unread
 abbrev pub channelName : List ℕ → List ℕ
 channelName d = part 2 32 d
 
 abbrev pub splicerName : List ℕ → List ℕ
 splicerName d = part 34 32 d
 
+-- 02, CR 6: a structure l of any kind begins with its Length 2, which counts what follows it; of Hardware_Config nothing else is looked at
+abbrev pub lengthIn : List ℕ → ℕ
+lengthIn l = field 0 2 l
+
+-- where Hardware_Config begins; its Length, and the structure with its Length
+abbrev pub hardwarePlace : ℕ
+hardwarePlace = 66
+
+abbrev pub hardwareLength : List ℕ → ℕ
+hardwareLength d = field hardwarePlace 2 d
+
+abbrev pub hardwareIn : List ℕ → List ℕ
+hardwareIn d = part hardwarePlace (2 + hardwareLength d) d
+
+-- "Keep Hardware_Config per connection, up to 256 bytes with its Length."
+abbrev pub longestHardware : ℕ
+longestHardware = 256
+
+-- "for a Hardware_Config over 256 bytes or past the message's end": its Length field, or the bytes that this counts
+abbrev pub badHardware : List ℕ → Bool
+badHardware d =
+    ltb (length d) (hardwarePlace + 2)
+    || (ltb longestHardware (2 + hardwareLength d) || ltb (length d) (hardwarePlace + 2 + hardwareLength d))
+
 abbrev pub badInit : List ℕ → Bool
-badInit d = ltb (length d) 66 || (not (hasZero (channelName d)) || not (hasZero (splicerName d)))
+badInit d = badHardware d || (not (hasZero (channelName d)) || not (hasZero (splicerName d)))
 
 unfoldable pub readInit : List ℕ → Message
 readInit d = cond (badInit d) Unreadable (Init (field 0 2 d))
@@ -69,6 +97,10 @@ badExtended d = not (eqb (length d) 8) || not (eqb (field 4 4 d) defaultType)
 
 unfoldable pub readExtended : List ℕ → Message
 readExtended d = cond (badExtended d) Unreadable (Extended (field 0 4 d))
+
+-- 02, CR 6: "GetConfig_Request (0x000A, no data)"; "123 for data present"
+unfoldable pub readConfig : List ℕ → Message
+readConfig d = cond (eqb (length d) 0) Config Unreadable
 
 -- "Descriptor: tag 1, length 1, identifier 4, private bytes. Length counts what follows it, is 4 to 254, and the descriptors
 -- fill the message exactly." n is at least the number of descriptors.
@@ -306,10 +338,11 @@ readWhole d t = cond (badSplice d t) Unreadable (Splice (wholeRequest d t))
 unfoldable pub readSplice : List ℕ → Message
 readSplice d = cond (ltb (length d) 18) Unreadable (readWhole d (tailOf d))
 
--- the list of four, and 02's fifth
+-- the list of four; 02: and ExtendedData_Request (CR 8), GetConfig_Request (CR 6)
 abbrev pub isRead : ℕ → Bool
 isRead id =
-    eqb id initRequest || (eqb id aliveRequest || (eqb id spliceRequest || (eqb id abortRequest || eqb id extendedRequest)))
+    eqb id initRequest
+    || (eqb id aliveRequest || (eqb id spliceRequest || (eqb id abortRequest || (eqb id extendedRequest || eqb id configRequest))))
 
 -- a message of that list, by its MessageID and its data
 unfoldable pub read : ℕ → List ℕ → Message
@@ -318,7 +351,8 @@ read id d =
     (cond (eqb id aliveRequest) (readAlive d)
     (cond (eqb id spliceRequest) (readSplice d)
     (cond (eqb id abortRequest) (readAbort d)
-    (cond (eqb id extendedRequest) (readExtended d) Unreadable))))
+    (cond (eqb id extendedRequest) (readExtended d)
+    (cond (eqb id configRequest) (readConfig d) Unreadable)))))
 
 -- the data of the message that l begins with
 abbrev pub dataIn : List ℕ → List ℕ

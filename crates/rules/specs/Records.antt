@@ -18,6 +18,7 @@ pub data Record : Type 0 where
   CueRequest : (conn seconds micros : ℕ) (section : List ℕ) → Record
   ExtendedFound : (conn id event ended played : ℕ) → Record
   ExtendedNone : (conn id : ℕ) → Record
+  ConfigResponse : (conn result : ℕ) (name hardware section : List ℕ) → Record
 
 abbrev pub resultOf : Record → ℕ
 resultOf (General c r) = r
@@ -30,6 +31,7 @@ resultOf (AbortResponse c r x) = r
 resultOf (CueRequest c a u l) = 0xFFFF
 resultOf (ExtendedFound c x event ended played) = 100
 resultOf (ExtendedNone c x) = 121
+resultOf (ConfigResponse c r name hardware section) = r
 
 -- "after a two-byte mark: 0x52, and the connection it is for"; "in answers Result_Extension is 0xFFFF"
 unfoldable pub framed : (conn id result : ℕ) (body : List ℕ) → List ℕ
@@ -48,6 +50,8 @@ endDescriptor event ended played =
 -- Splice_Response 0x0008, Abort_Response 0x000F: SessionID 4. General_Response 0x0000: no data.
 -- SpliceComplete_Response 0x0009: SessionID 4, SpliceTypeFlag 1, Bitrate 4 (always 0 here), PlayedDuration 4.
 -- 02, CR 8: ExtendedData_Response 0x0004: SessionID 4 (000, Table 7-13) and the descriptor; "121 with the SessionID alone where none is kept".
+-- 02, CR 6: GetConfig_Response 0x000B (000, 7.13): "ChannelName, the Hardware_Config of their Init_Request and the output channel's program
+-- map section"
 unfoldable pub recordBytes : Record → List ℕ
 recordBytes (General c r) = framed c 0x0000 r []
 recordBytes (InitResponse c r name) = framed c 0x0002 r (bytes 2 2 ++ padded name)
@@ -59,6 +63,7 @@ recordBytes (AbortResponse c r x) = framed c 0x000F r (bytes 4 x)
 recordBytes (CueRequest c a u l) = framed c 0x000C 0xFFFF (bytes 4 a ++ (bytes 4 u ++ l))
 recordBytes (ExtendedFound c x event ended played) = framed c 0x0004 100 (bytes 4 x ++ endDescriptor event ended played)
 recordBytes (ExtendedNone c x) = framed c 0x0004 121 (bytes 4 x)
+recordBytes (ConfigResponse c r name hardware section) = framed c 0x000B r (padded name ++ (hardware ++ section))
 
 -- "Every outgoing message goes directly behind the last one in the output buffer"
 unfoldable pub output : List Record → List ℕ
@@ -73,6 +78,10 @@ abbrev pub extendedIn : ℕ → ℕ → List ℕ → Record
 extendedIn c r l =
     cond (eqb r 100) (ExtendedFound c (field 10 4 l) (field 20 4 l) (field 24 2 l) (field 26 4 l)) (ExtendedNone c (field 10 4 l))
 
+-- a GetConfig_Response whose Hardware_Config has n bytes with its Length: what is left of its data is the section
+abbrev pub configIn : (conn result n : ℕ) → List ℕ → Record
+configIn c r n l = ConfigResponse c r (nameIn (part 10 32 l)) (part 42 n l) (part (42 + n) (field 4 2 l - (32 + n)) l)
+
 -- the first record of l: mark 0, connection 1, MessageID 2, MessageSize 4, Result 6, Result_Extension 8, data 10
 unfoldable pub recordIn : List ℕ → Record
 recordIn l =
@@ -85,7 +94,8 @@ recordIn l =
     (cond (eqb id 0x0009) (SpliceComplete c r (field 10 4 l) (field 14 1 l) (field 19 4 l))
     (cond (eqb id 0x000F) (AbortResponse c r (field 10 4 l))
     (cond (eqb id 0x000C) (CueRequest c (field 10 4 l) (field 14 4 l) (part 18 (field 4 2 l - 8) l))
-    (cond (eqb id 0x0004) (extendedIn c r l) (General c r)))))))
+    (cond (eqb id 0x0004) (extendedIn c r l)
+    (cond (eqb id 0x000B) (configIn c r (2 + field 42 2 l) l) (General c r))))))))
 
 -- the records of l, n at most
 unfoldable pub recordsUpTo : ℕ → List ℕ → List Record

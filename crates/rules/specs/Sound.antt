@@ -9,8 +9,8 @@ use Rattle.rules.specs.declared.Session.{Session}
 use Rattle.rules.specs.declared.Past.{Past}
 use Rattle.rules.specs.Lists.{All, some, count}
 use Rattle.rules.specs.Bytes.{Byte, NoZero}
-use Rattle.rules.specs.Reading.{nobody}
-use Rattle.rules.specs.State.{Queue, Splicer, of, is, Sorted, linkOf, isOpen, mostKept, Lately}
+use Rattle.rules.specs.Reading.{nobody, lengthIn, longestHardware}
+use Rattle.rules.specs.State.{Queue, Splicer, of, is, Sorted, noHardware, linkOf, isOpen, isInitialised, hardwareOf, mostKept, Lately}
 use Rattle.rules.specs.Records.{Record, General, InitResponse, AliveResponse, SpliceResponse, SpliceComplete, AbortResponse, CueRequest, ExtendedFound, ExtendedNone, resultOf}
 use Rattle.rules.specs.Answers.{waits, raisedSum}
 use Rattle.rules.specs.Calls.{fresh, Call, opens, closes, messages, ticks, moves, cues, after}
@@ -113,13 +113,23 @@ pub record Recalled (l : Lately) : Type 0 where
 
 -- ## The splicer
 
--- four connections, of which a closed one holds nothing; a name of less than 32 bytes, none of them zero
+-- 02, CR 6: a Hardware_Config that is kept has as many bytes as its Length says, "up to 256 bytes with its Length"
+pub record Structure (h : List ℕ) : Type 0 where
+  pub whole : length h ≡ 2 + lengthIn h
+  pub short : length h ≤ longestHardware
+  pub bytes : All Byte h
+
+-- four connections, of which a closed one holds nothing; a name of less than 32 bytes, none of them zero; 02, CR 6: of each connection a
+-- Hardware_Config, of Length 0 where it is not initialised
 pub record Linking (s : Splicer) : Type 0 where
   pub four : length (s .links) ≡ 4
   pub shut : (c : ℕ) → isOpen (linkOf c s) ≡ false → heldCount (s .queue) (of c) ≡ 0
   pub zeros : NoZero (s .name)
   pub short : length (s .name) < 32
   pub bytes : All Byte (s .name)
+  pub keeping : length (s .hardware) ≡ 4
+  pub kept : All Structure (s .hardware)
+  pub unkept : (c : ℕ) → isInitialised (linkOf c s) ≡ false → hardwareOf c s ≡ noHardware
 
 pub record Sound (s : Splicer) : Type 0 where
   pub linking : Linking s
@@ -130,11 +140,11 @@ pub record Sound (s : Splicer) : Type 0 where
 
 -- ## "A splicer is what fresh and the calls since have given; a call may rely on that and on nothing else."
 
--- a call whose bytes are bytes and whose Seconds are four of them, or whose time in ninths is below all that those have
+-- a call whose bytes, those of lent sections too, are bytes and whose Seconds are four of them, or whose time in ninths is below all that those have
 abbrev pub Wired : Call → Type 0
 Wired (opens c) = Unit {0}
 Wired (closes c room) = Unit {0}
-Wired (messages c l loans) = All Byte l
+Wired (messages c l loans) = All Byte l × All Byte (loans .primary) × All Byte (loans .insertion)
 Wired (ticks seconds micros room) = seconds < 4294967296
 Wired (moves until room) = until < horizon
 Wired (cues l pts seconds micros room) = All Byte l

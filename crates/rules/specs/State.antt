@@ -27,12 +27,13 @@ pub record Queue : Type 0 where
   pub lately : Lately
 
 -- name: the configured ChannelName, up to its first zero. links: of connections 0 to 3. primary: 02, CR 13, the ninths up to the clock in
--- which nothing was on air
+-- which nothing was on air. hardware: 02, CR 6, of connections 0 to 3, the Hardware_Config that is kept, its Length before it
 pub record Splicer : Type 0 where
   pub name : List ℕ
   pub clock : ℕ
   pub primary : ℕ
   pub links : List Link
+  pub hardware : List (List ℕ)
   pub queue : Queue
 
 -- ## Sessions
@@ -131,17 +132,31 @@ isInitialised Closed = false
 isInitialised Opened = false
 isInitialised Initialised = true
 
+-- 02, CR 6: what stands where no Hardware_Config is kept: a Length 0
+abbrev pub noHardware : List ℕ
+noHardware = 0 ∷ 0 ∷ []
+
+abbrev pub hardwareOf : ℕ → Splicer → List ℕ
+hardwareOf c s = getD (s .hardware) c noHardware
+
 -- ## The state with one part made anew
 
 abbrev pub withQueue : Queue → Splicer → Splicer
-withQueue q s = record { name = s .name; clock = s .clock; primary = s .primary; links = s .links; queue = q }
+withQueue q s = record { name = s .name; clock = s .clock; primary = s .primary; links = s .links; hardware = s .hardware; queue = q }
 
 abbrev pub withLink : ℕ → Link → Splicer → Splicer
-withLink c l s = record { name = s .name; clock = s .clock; primary = s .primary; links = set (s .links) c l; queue = s .queue }
+withLink c l s =
+    record { name = s .name; clock = s .clock; primary = s .primary; links = set (s .links) c l; hardware = s .hardware; queue = s .queue }
+
+-- connection c keeps the Hardware_Config h
+abbrev pub withHardware : ℕ → List ℕ → Splicer → Splicer
+withHardware c h s =
+    record { name = s .name; clock = s .clock; primary = s .primary; links = s .links; hardware = set (s .hardware) c h; queue = s .queue }
 
 -- d ninths more of it were the primary channel's
 abbrev pub withClock : (clock d : ℕ) → Splicer → Splicer
-withClock t d s = record { name = s .name; clock = t; primary = s .primary + d; links = s .links; queue = s .queue }
+withClock t d s =
+    record { name = s .name; clock = t; primary = s .primary + d; links = s .links; hardware = s .hardware; queue = s .queue }
 
 abbrev pub withWaiting : List Session → Queue → Queue
 withWaiting w q = record { waiting = w; started = q .started; lately = q .lately }

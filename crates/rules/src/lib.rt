@@ -39,13 +39,14 @@ pub struct Request {
     pub mux: u8,
 }
 
-// A parsed message is one of its kinds. Init holds the Revision_Num; its names stay in the message's data.
+// A parsed message is one of its kinds. Init holds the Revision_Num; its names and its Hardware_Config stay in the message's data.
 pub enum Message {
     Init(u16),
     Alive,
     Splice(Request),
     Abort(u32),
     Extended(u32),
+    Config,
     Unreadable,
 }
 
@@ -102,6 +103,7 @@ pub enum Refusal {
     BadName,
     Counter,
     BadSection,
+    LongSection,
 }
 
 // The first message of what was read: its MessageID and MessageSize, or the refusal that it gets.
