@@ -67,7 +67,7 @@ module _ (c x : ℕ) where
           opening = λ d low e. airs-turn q q (quiet q) (opens d) [] once (quiet-law c x q) refl refl refl refl;
           closing = λ d room low e. airs-turn q _ (closedBy d q) (closes d room) _ once (closedBy-law c x d q) refl refl refl refl;
           saying = λ d l loans n rs e p. airs-turn q q (writes rs q) (messages d l loans) rs once (plain-law c x q rs p) refl (rw e) refl refl;
-          naming = λ d l loans n r e p. airs-turn q q (writes (r ∷ []) q) (messages d l loans) (r ∷ []) once (plain-law c x q (r ∷ []) p) refl (rw e) refl refl;
+          naming = λ d l loans n r hw e p. airs-turn q q (writes (r ∷ []) q) (messages d l loans) (r ∷ []) once (plain-law c x q (r ∷ []) p) refl (rw e) refl refl;
           aborting = λ d l loans n y e i. airs-turn q _ _ (messages d l loans) _ once (answered-law c x d y q) refl (rw e) refl refl;
           declining = λ d l loans n r e y o. airs-turn q q (quiet q) (messages d l loans) (r ∷ []) once (quiet-law c x q) refl (rw e)
               (omega (arith, ap bit (o .starts c x))) (omega (arith, ap bit (o .outs c x)));

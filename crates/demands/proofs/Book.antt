@@ -20,7 +20,7 @@ use Rattle.rules.specs.declared.Request.{Request}
 use Rattle.rules.specs.Reading.{readSplice, dataIn}
 use Rattle.rules.specs.State.{sameNumber, Queue, Splicer, empty, of, is, held, holds, noneHeld}
 use Rattle.rules.proofs.Checks.{read-id}
-use Rattle.rules.specs.Records.{Record, General, InitResponse, AliveResponse, SpliceResponse, SpliceComplete, AbortResponse, ExtendedFound, ExtendedNone, CueRequest}
+use Rattle.rules.specs.Records.{Record, General, InitResponse, AliveResponse, SpliceResponse, SpliceComplete, AbortResponse, ConfigResponse, ExtendedFound, ExtendedNone, CueRequest}
 use Rattle.rules.specs.Ends.{Turn, writes, andThen, evicted, cancelled, closedBy}
 use Rattle.rules.specs.Instants.{runAll}
 use Rattle.rules.specs.Answers.{endOf, startOf, sessionAt, requested, unknownPrior, accepts, accepted}
@@ -57,6 +57,7 @@ end-one c x c′ x′ (AbortResponse d n y) f e = refl
 end-one c x c′ x′ (CueRequest d a u l) f e = refl
 end-one c x c′ x′ (ExtendedFound d y event ended played) f e = refl
 end-one c x c′ x′ (ExtendedNone d y) f e = refl
+end-one c x c′ x′ (ConfigResponse d n name h m) f e = refl
 
 entry-key : (c x : ℕ) (e : Entry) → entryIs c x e ≡ true → (c ≡ e .conn) × (x ≡ e .id)
 entry-key c x e k = let h = and-both (eqb c (e .conn)) (eqb x (e .id)) k in (eqb-true c (e .conn) (h .0), eqb-true x (e .id) (h .1))
@@ -299,7 +300,7 @@ module _ (s : Splicer) (es : List Entry) (b : Booked (s .queue) es) where
         opening = λ c low e. plain-booked q es [] plain-none b;
         closing = λ c room low e. closed-booked c;
         saying = λ c l loans n rs e p. rw e (plain-booked q es rs p b);
-        naming = λ c l loans n r e p. rw e (plain-booked q es (r ∷ []) p b);
+        naming = λ c l loans n r hw e p. rw e (plain-booked q es (r ∷ []) p b);
         aborting = λ c l loans n x e i. rw e (turn-booked q es _ b (λ d y. answered-law d y c x q) (fewer-each (Dated es) q _ (aborted-fewer c x q) (b .dated)));
         declining = λ c l loans n r e y o. rw (e, y) (plain-booked q es [] plain-none b);
         accepting = λ c l loans n r e f p. let new = requested c r q in

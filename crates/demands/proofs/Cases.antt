@@ -10,8 +10,8 @@ use Rattle.rules.specs.declared.Request.{Request}
 use Rattle.rules.specs.declared.Message.the-variants.{Splice}
 use Rattle.rules.specs.Units.{timeOf, fromMicros}
 use Rattle.rules.specs.Bytes.{messageSize}
-use Rattle.rules.specs.Reading.{sessionID, readSplice, dataIn, isSplice}
-use Rattle.rules.specs.declared.Link.the-variants.{Closed, Opened, Initialised}
+use Rattle.rules.specs.Reading.{sessionID, hardwareIn, readSplice, dataIn, isSplice}
+use Rattle.rules.specs.declared.Link.the-variants.{Opened}
 use Rattle.rules.specs.State.{Splicer, holds, linkOf, isOpen, withQueue, withLink}
 use Rattle.rules.specs.Records.{Record, General, InitResponse, SpliceResponse, AbortResponse}
 use Rattle.rules.specs.Ends.{andThen, aborted, closedBy}
@@ -20,8 +20,8 @@ use Rattle.rules.specs.declared.Cue.the-variants.{At, Timeless, Silent, Bad}
 use Rattle.rules.specs.declared.WireTime.{WireTime}
 use Rattle.rules.specs.Lists.{count}
 use Rattle.rules.specs.Cues.{readCue, cueTime, initialised, passedTo, complainedTo, cueRecords}
-use Rattle.rules.specs.Answers.{requested, grants, splices, aliveResponse, extendedResponse}
-use Rattle.rules.specs.Calls.{Called, refuse, does, replies, ticked, Loans, Call, opens, closes, messages, ticks, moves, cues, call}
+use Rattle.rules.specs.Answers.{requested, grants, splices, aliveResponse, configResponse, extendedResponse, initialised}
+use Rattle.rules.specs.Calls.{Called, refuse, does, replies, shut, ticked, Loans, Call, opens, closes, messages, ticks, moves, cues, call}
 use Rattle.demands.specs.History.{isStart, isEnd, isYes}
 use Rattle.rules.proofs.Tests.{by}
 use Rattle.rules.proofs.Checks.{Passed}
@@ -40,10 +40,10 @@ pub record Cases (s : Splicer) (P : Call → Called → Type 0) : Type 0 where
   pub refusing : (k : Call) (n : Refusal) → P k (refuse n s)
   pub opening : (c : ℕ) → c ≤ 3 → isOpen (linkOf c s) ≡ false → P (opens c) (does 0 [] (withLink c Opened s))
   pub closing : (c room : ℕ) → c ≤ 3 → isOpen (linkOf c s) ≡ true
-      → P (closes c room) (does 0 (closedBy c (s .queue) .written) (withLink c Closed (withQueue (closedBy c (s .queue) .queue) s)))
+      → P (closes c room) (does 0 (closedBy c (s .queue) .written) (shut c (withQueue (closedBy c (s .queue) .queue) s)))
   -- an answer, and nothing done
   pub saying : (c : ℕ) (l : List ℕ) (loans : Loans) (n : ℕ) (rs : List Record) → isSplice l ≡ false → Plain rs → P (messages c l loans) (does n rs s)
-  pub naming : (c : ℕ) (l : List ℕ) (loans : Loans) (n : ℕ) (r : Record) → isSplice l ≡ false → Plain (r ∷ []) → P (messages c l loans) (does n (r ∷ []) (withLink c Initialised s))
+  pub naming : (c : ℕ) (l : List ℕ) (loans : Loans) (n : ℕ) (r : Record) (h : List ℕ) → isSplice l ≡ false → Plain (r ∷ []) → P (messages c l loans) (does n (r ∷ []) (initialised c h s))
   pub aborting : (c : ℕ) (l : List ℕ) (loans : Loans) (n x : ℕ) → isSplice l ≡ false → holds c x (s .queue) ≡ true
       → P (messages c l loans) (does n (AbortResponse c 100 x ∷ aborted c x (s .queue) .written) (withQueue (aborted c x (s .queue) .queue) s))
   -- a Splice_Request that is not accepted, and one that is
@@ -81,16 +81,17 @@ module _ (s : Splicer) (P : Call → Called → Type 0) (k : Cases s P) where
         go true e = k .declining c l loans n r e y o
         go false e = k .saying c l loans n (r ∷ []) e p
 
-    message-case : rules.Answering c l s (rules.Handles P c l loans)
-    unfolding isYes isStart isEnd isOut aliveResponse andThen
+    message-case : rules.Answering c l loans s (rules.Handles P c l loans)
+    unfolding isYes isStart isEnd isOut aliveResponse configResponse andThen
     message-case =
         record {
           silent = λ e. k .saying c l loans n [] e plain-none;
           general = λ r b. one (General c r) refl (record { starts = λ d x. refl; outs = λ d x. refl }) (record { starts = λ d x. refl; ends = λ d x. refl });
-          naming = λ r b e. let p : Plain (InitResponse c r (s .name) ∷ []) = record { starts = λ d x. refl; ends = λ d x. refl } in
+          naming = λ r b e g. let p : Plain (InitResponse c r (s .name) ∷ []) = record { starts = λ d x. refl; ends = λ d x. refl } in
               by (λ (z : Splicer). P (messages c l loans) (does n (InitResponse c r (s .name) ∷ []) z)) (eqb r 100) _ _
-              (λ i. k .naming c l loans n (InitResponse c r (s .name)) e p) (λ i. k .saying c l loans n (InitResponse c r (s .name) ∷ []) e p);
+              (λ i. k .naming c l loans n (InitResponse c r (s .name)) (hardwareIn (dataIn l)) e p) (λ i. k .saying c l loans n (InitResponse c r (s .name) ∷ []) e p);
           alive = λ e. k .saying c l loans n (aliveResponse c s ∷ []) e (record { starts = λ d x. refl; ends = λ d x. refl });
+          telling = λ e. k .saying c l loans n (configResponse c loans s ∷ []) e (record { starts = λ d x. refl; ends = λ d x. refl });
           unknown = λ x e i. k .saying c l loans n (AbortResponse c 121 x ∷ []) e (record { starts = λ d x. refl; ends = λ d x. refl });
           aborting = λ x e i held. k .aborting c l loans n x e held;
           recalling = λ x e i. k .saying c l loans n (extendedResponse c x (s .queue) ∷ []) e (by-recall (λ (r : Record). Plain (r ∷ [])) c x (s .queue) (λ h. record { starts = λ d y. refl; ends = λ d y. refl }) (record { starts = λ d y. refl; ends = λ d y. refl }));
@@ -109,7 +110,7 @@ module _ (s : Splicer) (P : Call → Called → Type 0) (k : Cases s P) where
         refusing = k .refusing;
         opening = k .opening;
         closing = k .closing;
-        answering = λ c l loans low e. message-case c l loans;
+        answering = λ c l loans low e short. message-case c l loans;
         bringing = bring-case;
         cueing = λ l pts seconds micros room g. let x = readCue l in
             let t = cueTime pts seconds micros x in k .cueing l pts seconds micros room (cueRecords x t l (initialised (s .links))) (plain-cue x t l (initialised (s .links)));

@@ -12,7 +12,7 @@ use Rattle.rules.specs.declared.Ending.{Ending}
 use Rattle.rules.specs.declared.Ending.the-variants.{Complete, Failed, Response}
 use Rattle.rules.specs.Lists.{bit, keep, count, place, removeAt}
 use Rattle.rules.specs.State.{sameNumber, Queue, empty, of, is, startsAt, endsAt, toCome, withWaiting, withStarted}
-use Rattle.rules.specs.Records.{Record, General, InitResponse, AliveResponse, SpliceResponse, SpliceComplete, AbortResponse, ExtendedFound, ExtendedNone, CueRequest}
+use Rattle.rules.specs.Records.{Record, General, InitResponse, AliveResponse, SpliceResponse, SpliceComplete, AbortResponse, ConfigResponse, ExtendedFound, ExtendedNone, CueRequest}
 use Rattle.rules.specs.Ends.{Turn, quiet, writes, andThen, ended, ending, oneEnd, endings, followers, dismissed, evictedAt, evicted, cancelled, aborted, closedBy}
 use Rattle.rules.specs.Instants.{mayStart, began, meetsEqual, ousted, launched, startAt, endAt, instant, elapse, runAll}
 use Rattle.demands.specs.History.{isStart, isEnd, startsOf, endsOf}
@@ -96,6 +96,7 @@ module _ (c x : ℕ) where
       one (CueRequest d a u l) = omega arith
       one (ExtendedFound d y event ended played) = omega arith
       one (ExtendedNone d y) = omega arith
+      one (ConfigResponse d n name h m) = omega arith
 
   outs-responses : (r : ℕ) (l : List Session) → outsOf c x (map (ended (Response r)) l) ≡ 0
   unfolding isOut

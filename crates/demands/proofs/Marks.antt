@@ -8,7 +8,7 @@ use lib.Dec.{eqb}
 use borrow.Author.Tests.{eqb-true}
 use Rattle.rules.specs.Lists.{All, bit, some, count}
 use Rattle.rules.specs.State.{sameNumber}
-use Rattle.rules.specs.Records.{Record, General, InitResponse, AliveResponse, SpliceResponse, SpliceComplete, AbortResponse, ExtendedFound, ExtendedNone, CueRequest}
+use Rattle.rules.specs.Records.{Record, General, InitResponse, AliveResponse, SpliceResponse, SpliceComplete, AbortResponse, ConfigResponse, ExtendedFound, ExtendedNone, CueRequest}
 use Rattle.demands.specs.History.{isStart, isEnd}
 use Rattle.rules.proofs.Tests.{clash, and-both, eqb-same}
 use Rattle.demands.specs.Airing.{Airing, airingIs, newest, begins, ends, marked, concerns, heard, byThen, heardAll, liveAt, peakAt}
@@ -194,6 +194,7 @@ byThen-same u l m h (AbortResponse c r y ∷ rs) = byThen-same u l m h rs
 byThen-same u l m h (CueRequest c a v b ∷ rs) = byThen-same u l m h rs
 byThen-same u l m h (ExtendedFound c y event ended played ∷ rs) = byThen-same u l m h rs
 byThen-same u l m h (ExtendedNone c y ∷ rs) = byThen-same u l m h rs
+byThen-same u l m h (ConfigResponse c r n k p ∷ rs) = byThen-same u l m h rs
 
 pub byThen-append : (u : ℕ) (l : List Airing) (rs ss : List Record) → byThen u l (rs ++ ss) ≡ byThen (byThen u l ss) l rs
 unfolding byThen
@@ -207,6 +208,7 @@ byThen-append u l (AbortResponse c r y ∷ rs) ss = byThen-append u l rs ss
 byThen-append u l (CueRequest c a v b ∷ rs) ss = byThen-append u l rs ss
 byThen-append u l (ExtendedFound c y event ended played ∷ rs) ss = byThen-append u l rs ss
 byThen-append u l (ExtendedNone c y ∷ rs) ss = byThen-append u l rs ss
+byThen-append u l (ConfigResponse c r n k p ∷ rs) ss = byThen-append u l rs ss
 
 -- some records and then more: what comes first is over by what comes next
 pub heardAll-append : (u : ℕ) (rs ss : List Record) (l : List Airing) → heardAll u (rs ++ ss) l ≡ heardAll u ss (heardAll (byThen u l ss) rs l)
@@ -227,6 +229,7 @@ Late t l (AbortResponse c r y) = Unit {0}
 Late t l (CueRequest c a v b) = Unit {0}
 Late t l (ExtendedFound c y event ended played) = Unit {0}
 Late t l (ExtendedNone c y) = Unit {0}
+Late t l (ConfigResponse c r n k p) = Unit {0}
 
 pub byThen-late : (t u : ℕ) (l : List Airing) (rs : List Record) → t ≤ u → All (Late t l) rs → t ≤ byThen u l rs
 unfolding byThen Late
@@ -244,6 +247,7 @@ byThen-late t u l (AbortResponse c r y ∷ rs) h a = byThen-late t u l rs h (a .
 byThen-late t u l (CueRequest c d v b ∷ rs) h a = byThen-late t u l rs h (a .1)
 byThen-late t u l (ExtendedFound c y event ended played ∷ rs) h a = byThen-late t u l rs h (a .1)
 byThen-late t u l (ExtendedNone c y ∷ rs) h a = byThen-late t u l rs h (a .1)
+byThen-late t u l (ConfigResponse c r n k p ∷ rs) h a = byThen-late t u l rs h (a .1)
 
 -- ## What was told stays told
 

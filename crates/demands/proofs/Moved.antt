@@ -36,7 +36,7 @@ module _ (s : Splicer) where
         opening = λ c low e g. refl;
         closing = λ c room low e g. refl;
         saying = λ c l loans n rs e p g. refl;
-        naming = λ c l loans n r e p g. refl;
+        naming = λ c l loans n r hw e p g. refl;
         aborting = λ c l loans n x e i g. refl;
         declining = λ c l loans n r e y o g. refl;
         accepting = λ c l loans n r e f p g. let new = requested c r (s .queue) in
@@ -57,7 +57,7 @@ module _ (s : Splicer) where
         opening = λ c low e h. omega arith;
         closing = λ c room low e h. omega arith;
         saying = λ c l loans n rs e p h. omega arith;
-        naming = λ c l loans n r e p h. omega arith;
+        naming = λ c l loans n r hw e p h. omega arith;
         aborting = λ c l loans n x e i h. omega arith;
         declining = λ c l loans n r e y o h. omega arith;
         accepting = λ c l loans n r e f p h. omega (arith, h, later-fewer (requested c r (s .queue)) (s .queue));

@@ -141,7 +141,7 @@ module _ (β : Base) (s : Splicer) (l : List Airing) (h : Sound s) (o : Kept β 
         opening = λ c low e. o;
         closing = λ c room low e. closedBy-owned β (s .clock) (s .primary) (s .clock) (omega arith) c q l ending o;
         saying = λ c b loans n rs e p. rw e (plain-owned rs p);
-        naming = λ c b loans n r e p. rw e (plain-owned (r ∷ []) p);
+        naming = λ c b loans n r hw e p. rw e (plain-owned (r ∷ []) p);
         aborting = λ c b loans n x e i. rw e (aborted-owned β (s .clock) (s .primary) (s .clock) (omega arith) c x q l ending o);
         declining = λ c b loans n r e y f. rw (e, y) o;
         accepting = λ c b loans n r e f p. let new = requested c r q in
@@ -242,7 +242,7 @@ call-adds s h =
       opening = λ c low e. record { clock = omega arith; least = omega arith; most = omega arith };
       closing = λ c room low e. record { clock = omega arith; least = omega arith; most = omega arith };
       saying = λ c b loans n rs e p. adds-none s;
-      naming = λ c b loans n r e p. record { clock = omega arith; least = omega arith; most = omega arith };
+      naming = λ c b loans n r hw e p. record { clock = omega arith; least = omega arith; most = omega arith };
       aborting = λ c b loans n x e i. record { clock = omega arith; least = omega arith; most = omega arith };
       declining = λ c b loans n r e y f. adds-none s;
       accepting = λ c b loans n r e f p. record { clock = omega arith; least = omega arith; most = omega arith };

@@ -8,7 +8,7 @@ use lib.Dec.{ltb}
 use lib.ListN.{length}
 use Rattle.rules.specs.declared.Refusal.{Refusal}
 use Rattle.rules.specs.declared.Link.the-variants.{Closed, Opened}
-use Rattle.rules.specs.declared.Refusal.the-variants.{NoConnection, NoRoom, ClockBack, Oversize, Short, AlreadyOpen, NotOpen, BadMicros, BadName, Counter, BadSection}
+use Rattle.rules.specs.declared.Refusal.the-variants.{NoConnection, NoRoom, ClockBack, Oversize, Short, AlreadyOpen, NotOpen, BadMicros, BadName, Counter, LongSection, BadSection}
 use Rattle.rules.specs.declared.Framing.the-variants.{Framed, Unframed}
 use Rattle.rules.specs.Units.{timeOf, badMicros, fromMicros}
 use Rattle.rules.specs.Bytes.{messageID, messageSize, oversize, hasZero, nameIn}
@@ -16,7 +16,7 @@ use Rattle.rules.specs.State.{Splicer, linkOf, isOpen, withLink, withQueue}
 use Rattle.rules.specs.Records.{Record}
 use Rattle.rules.specs.Ends.{closedBy}
 use Rattle.rules.specs.Cues.{badSection, readCue, cueTime, initialised, cueRecords}
-use Rattle.rules.specs.Calls.{houseNumber, refused, good, Called, refuse, does, writtenBy, consumedBy, bufferAfter, noConnection, noRoom, notOpen, named, fresh, openCall, closeCall, framing, handled, messageCall, ticked, moveCall, tickCall, Call, opens, closes, messages, ticks, moves, cueCall, cues, call}
+use Rattle.rules.specs.Calls.{houseNumber, refused, good, Called, refuse, does, writtenBy, consumedBy, bufferAfter, noConnection, noRoom, notOpen, longSection, shut, named, fresh, openCall, closeCall, framing, handled, messageCall, ticked, moveCall, tickCall, Call, opens, closes, messages, ticks, moves, cueCall, cues, call}
 use Rattle.rules.proofs.Written.{written-none}
 use Rattle.demands.specs.Told.{firstNumber, checks, numberOf, Unchanged}
 use Rattle.demands.proofs.Cases.{cases}
@@ -37,7 +37,7 @@ module _ (s : Splicer) where
         opening = λ c low i n e. good-other e;
         closing = λ c room low i n e. good-other e;
         saying = λ c l loans m rs i p n e. good-other e;
-        naming = λ c l loans m r i p n e. good-other e;
+        naming = λ c l loans m r hw i p n e. good-other e;
         aborting = λ c l loans m x i j n e. good-other e;
         declining = λ c l loans m r i y o n e. good-other e;
         accepting = λ c l loans m r i j p n e. good-other e;
@@ -63,25 +63,26 @@ module _ (s : Splicer) where
     where
       go : (a b d : Bool)
           → numberOf (cond a (refuse NoConnection s) (cond b (refuse NoRoom s) (cond d (refuse NotOpen s)
-          (does 0 (closedBy c (s .queue) .written) (withLink c Closed (withQueue (closedBy c (s .queue) .queue) s))))) .answer)
+          (does 0 (closedBy c (s .queue) .written) (shut c (withQueue (closedBy c (s .queue) .queue) s))))) .answer)
           ≡ cond a 1 (cond b 2 (cond d 7 0))
       go true b d = refl
       go false true d = refl
       go false false true = refl
       go false false false = refl
-  first-number (messages c l loans) = go (noConnection c) (noRoom (loans .room)) (notOpen c s) (ltb (length l) 8) (oversize l) (ltb (length l) (8 + messageSize l))
+  first-number (messages c l loans) = go (noConnection c) (noRoom (loans .room)) (notOpen c s) (longSection loans) (ltb (length l) 8) (oversize l) (ltb (length l) (8 + messageSize l))
     where
-      go : (a b d e f g : Bool)
-          → numberOf (cond a (refuse NoConnection s) (cond b (refuse NoRoom s) (cond d (refuse NotOpen s)
-          (handled c (cond e (Unframed Short) (cond f (Unframed Oversize) (cond g (Unframed Short) (Framed (messageID l) (messageSize l))))) l s))) .answer)
-          ≡ cond a 1 (cond b 2 (cond d 7 (cond e 5 (cond f 4 (cond g 5 0)))))
-      go true b d e f g = refl
-      go false true d e f g = refl
-      go false false true e f g = refl
-      go false false false true f g = refl
-      go false false false false true g = refl
-      go false false false false false true = refl
-      go false false false false false false = refl
+      go : (a b d h e f g : Bool)
+          → numberOf (cond a (refuse NoConnection s) (cond b (refuse NoRoom s) (cond d (refuse NotOpen s) (cond h (refuse LongSection s)
+          (handled c (cond e (Unframed Short) (cond f (Unframed Oversize) (cond g (Unframed Short) (Framed (messageID l) (messageSize l))))) l loans s)))) .answer)
+          ≡ cond a 1 (cond b 2 (cond d 7 (cond h 10 (cond e 5 (cond f 4 (cond g 5 0))))))
+      go true b d h e f g = refl
+      go false true d h e f g = refl
+      go false false true h e f g = refl
+      go false false false true e f g = refl
+      go false false false false true f g = refl
+      go false false false false false true g = refl
+      go false false false false false false true = refl
+      go false false false false false false false = refl
   first-number (ticks seconds micros room) = go (noRoom room) (badMicros micros) (ltb (fromMicros (timeOf seconds micros) .0) (s .clock))
     where
       go : (a b d : Bool)
@@ -123,6 +124,7 @@ a-number BadMicros = omega arith
 a-number BadName = omega arith
 a-number Counter = omega arith
 a-number BadSection = omega arith
+a-number LongSection = omega arith
 
 -- "name without a zero byte"; "A refused fresh gives, with number 9, the splicer of an empty name."
 pub fresh-number : (name : List ℕ) → numberOf (fresh name .answer) ≡ cond (hasZero name) 0 9

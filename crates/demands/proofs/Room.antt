@@ -40,7 +40,7 @@ module _ (c : ℕ) (l : List ℕ) (loans : Loans) (r : Request) (s : Splicer) (a
   pub splice-call : call (messages c l loans) s
       ≡ replies (8 + messageSize l) (splices (answerSplice (s .clock) c r (s .queue)) s)
   unfolding call messageCall handled answer answerRead read
-  splice-call = rw (a .low, a .roomy, ready-open (linkOf c s) (a .ready), a .framed, a .ready, a .readable)
+  splice-call = rw (a .low, a .roomy, ready-open (linkOf c s) (a .ready), a .sections, a .framed, a .ready, a .readable)
 
   own : last (answers (spliceResult (s .clock) c r (requested c r (s .queue)) (s .queue)) c (r .id)) (answerSplice (s .clock) c r (s .queue) .turn .written) ≡ true
   unfolding answerSplice accepted andThen last answers requested sessionAt

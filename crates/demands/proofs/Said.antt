@@ -13,7 +13,7 @@ use Rattle.rules.specs.Units.{timeOf, fromMicros}
 use Rattle.rules.specs.Lists.{All, bit, some, count, place, removeAt}
 use Rattle.rules.specs.declared.Ending.the-variants.{Response}
 use Rattle.rules.specs.State.{sameNumber, Queue, Splicer, empty, is, held, startsAt}
-use Rattle.rules.specs.Records.{Record, General, InitResponse, AliveResponse, SpliceResponse, SpliceComplete, AbortResponse, ExtendedFound, ExtendedNone, CueRequest, recordsIn}
+use Rattle.rules.specs.Records.{Record, General, InitResponse, AliveResponse, SpliceResponse, SpliceComplete, AbortResponse, ConfigResponse, ExtendedFound, ExtendedNone, CueRequest, recordsIn}
 use Rattle.rules.specs.Ends.{Turn, andThen, ended, evicted, evictedAt, dismissed, followers, closedBy}
 use Rattle.rules.specs.Instants.{runAll}
 use Rattle.rules.specs.Answers.{requested, accepts, accepted}
@@ -117,6 +117,7 @@ module _ (c x u : ℕ) where
   out-end (CueRequest d a u l) e = absurd (clash false e refl)
   out-end (ExtendedFound d y event ended played) e = absurd (clash false e refl)
   out-end (ExtendedNone d y) e = absurd (clash false e refl)
+  out-end (ConfigResponse d n name h m) e = absurd (clash false e refl)
 
   is-end : (r : Record) → EndOf c x r → isEnd c x r ≡ true
   is-end r e = e .ends c x ∙ rw (eqb-same c, eqb-same x)
@@ -223,7 +224,7 @@ module _ (β : Base) (s : Splicer) (l : List Airing) (h : Sound s) (o : Kept β 
         opening = λ d low e. tt;
         closing = λ d room low e. turn-told (s .clock) (closedBy d q) (closedBy-law c x d q);
         saying = λ d b loans n rs e p. plain-out _ rs p;
-        naming = λ d b loans n r e p. plain-out _ (r ∷ []) p;
+        naming = λ d b loans n r hw e p. plain-out _ (r ∷ []) p;
         aborting = λ d b loans n y e i. rw e (turn-told (s .clock) _ (answered-law c x d y q));
         declining = λ d b loans n r e y f. ((λ i. absurd (clash (isOut c x r) i (f .outs c x))), tt);
         accepting = λ d b loans n r e f p. let new = requested d r q in

@@ -9,7 +9,7 @@ use borrow.Author.Tests.{eqb-true}
 use Rattle.rules.specs.declared.Start.{Start}
 use Rattle.rules.specs.declared.Start.the-variants.{Timed, Linked}
 use Rattle.rules.specs.declared.Message.{Message}
-use Rattle.rules.specs.declared.Message.the-variants.{Init, Alive, Splice, Abort, Extended, Unreadable}
+use Rattle.rules.specs.declared.Message.the-variants.{Init, Alive, Splice, Abort, Config, Extended, Unreadable}
 use Rattle.rules.specs.Units.{fromTicks}
 use Rattle.rules.specs.Lists.{put, keep}
 use Rattle.rules.specs.Reading.{sessionID, readSplice, dataIn}
@@ -106,6 +106,7 @@ module _ (l : List Airing) (es : List Entry) (h : map ofAiring l ≡ map ofEntry
   key-asked c x (Splice r) = rw (start-told c (r .start))
   key-asked c x (Abort y) = refl
   key-asked c x (Extended y) = refl
+  key-asked c x Config = refl
   key-asked c x Unreadable = refl
 
   heard-credited : (u : ℕ) (rs : List Record) → map ofAiring (heardAll u rs l) ≡ map ofEntry (credited rs es)

@@ -121,7 +121,7 @@ module _ (s : Splicer) (L : ℕ → List ℕ) (h : Sound s) (g : Counted (s .que
         opening = λ c low e. opened-counted c (λ x. omega (arith, count-le (is c x) (of c) (λ u. bit-and (eqb c (u .conn)) (eqb x (u .id))) (q .waiting), h .linking .shut c e));
         closing = λ c room low e. turn-counted q L once g (closedBy c q) (λ d x. closedBy-law d x c q);
         saying = λ c l loans n rs e p. rw e (plain-counted q L once g rs p);
-        naming = λ c l loans n r e p. rw e (plain-counted q L once g (r ∷ []) p);
+        naming = λ c l loans n r hw e p. rw e (plain-counted q L once g (r ∷ []) p);
         aborting = λ c l loans n x e i. rw e (turn-counted q L once g _ (λ d y. answered-law d y c x q));
         declining = λ c l loans n r e y o. relist q (λ d. keep (unmarked d []) (L d)) _ (λ d. rw (e, y)) (plain-counted q L once g [] plain-none);
         accepting = λ c l loans n r e f p. let new = requested c r q in

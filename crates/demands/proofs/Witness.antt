@@ -30,9 +30,9 @@ name = padded cardName
 unfoldable message : (id size : ℕ) (d : List ℕ) → List ℕ
 message id size d = bytes 2 id ++ (bytes 2 size ++ (bytes 4 0xFFFFFFFF ++ d))
 
--- Revision_Num 2, the ChannelName, an empty SplicerName
+-- Revision_Num 2, the ChannelName, an empty SplicerName, a Hardware_Config of Length 0
 unfoldable initialise : List ℕ
-initialise = message 1 66 (bytes 2 2 ++ (name ++ replicate 32 0))
+initialise = message 1 68 (bytes 2 2 ++ (name ++ replicate 34 0))
 
 -- number 1, timed, at some second; ServiceID 1, a second long, AccessType 1
 unfoldable asking : ℕ → List ℕ
@@ -80,12 +80,12 @@ computing = 0
 reached : FromFresh heard now
 unfolding computing
 reached =
-    record { name = name; whole = refl; bytes = small name tt; calls = calls; wired = (tt, (small initialise tt, tt)); heard = refl; same = refl }
+    record { name = name; whole = refl; bytes = small name tt; calls = calls; wired = (tt, ((small initialise tt, tt, tt), tt)); heard = refl; same = refl }
 
 -- 10 s on
 asks : Asks 0 (asking 10) room (request 10) now
 unfolding computing
-asks = record { bytes = small (asking 10) tt; low = refl; roomy = refl; ready = refl; framed = refl; readable = refl }
+asks = record { bytes = (small (asking 10) tt, tt, tt); low = refl; roomy = refl; sections = refl; ready = refl; framed = refl; readable = refl }
 
 passes : Passes 0 (request 10) now
 unfolding computing
@@ -94,7 +94,7 @@ passes = record { b = refl; c′ = refl; d = refl }
 -- a second on: 112
 late-asks : Asks 0 (asking 1) room (request 1) now
 unfolding computing
-late-asks = record { bytes = small (asking 1) tt; low = refl; roomy = refl; ready = refl; framed = refl; readable = refl }
+late-asks = record { bytes = (small (asking 1) tt, tt, tt); low = refl; roomy = refl; sections = refl; ready = refl; framed = refl; readable = refl }
 
 late : earlierCode 0 (request 1) now ≡ 112
 unfolding computing

@@ -6,12 +6,12 @@ use lib.Dec.{eqb, leb, ltb}
 use Rattle.rules.specs.declared.Start.{Start}
 use Rattle.rules.specs.declared.Start.the-variants.{Timed, Linked}
 use Rattle.rules.specs.declared.Message.{Message}
-use Rattle.rules.specs.declared.Message.the-variants.{Init, Alive, Splice, Abort, Extended, Unreadable}
+use Rattle.rules.specs.declared.Message.the-variants.{Init, Alive, Splice, Abort, Config, Extended, Unreadable}
 use Rattle.rules.specs.Units.{fromMicros, fromTicks}
 use Rattle.rules.specs.Lists.{bit, some, put}
 use Rattle.rules.specs.Reading.{sessionID, readSplice, dataIn}
 use Rattle.rules.specs.State.{sameNumber}
-use Rattle.rules.specs.Records.{Record, General, InitResponse, AliveResponse, SpliceResponse, SpliceComplete, AbortResponse, ExtendedFound, ExtendedNone, CueRequest, recordsIn}
+use Rattle.rules.specs.Records.{Record, General, InitResponse, AliveResponse, SpliceResponse, SpliceComplete, AbortResponse, ConfigResponse, ExtendedFound, ExtendedNone, CueRequest, recordsIn}
 use Rattle.rules.specs.Calls.{Call, opens, closes, messages, ticks, moves, cues}
 use Rattle.demands.specs.History.{Reply, refusal, wrote, Event, isStart, isEnd, grantedIn, othersIn, clockReplied, clockAfter}
 
@@ -62,6 +62,7 @@ lists (AbortResponse c r y) = false
 lists (CueRequest c a u l) = false
 lists (ExtendedFound c y event ended played) = false
 lists (ExtendedNone c y) = false
+lists (ConfigResponse c r n h m) = false
 
 unfoldable pub saysPlayed : Record → ℕ
 saysPlayed (General c r) = 0
@@ -73,6 +74,7 @@ saysPlayed (AbortResponse c r y) = 0
 saysPlayed (CueRequest c a u l) = 0
 saysPlayed (ExtendedFound c y event ended played) = 0
 saysPlayed (ExtendedNone c y) = 0
+saysPlayed (ConfigResponse c r n h m) = 0
 
 -- its end r was written, by the time t at the latest
 abbrev pub ends : ℕ → Record → Airing → Airing
@@ -114,6 +116,7 @@ byThen u es (AbortResponse c r y ∷ rs) = byThen u es rs
 byThen u es (CueRequest c a v l ∷ rs) = byThen u es rs
 byThen u es (ExtendedFound c y event ended played ∷ rs) = byThen u es rs
 byThen u es (ExtendedNone c y ∷ rs) = byThen u es rs
+byThen u es (ConfigResponse c r n h m ∷ rs) = byThen u es rs
 
 -- the records of an answer, one after another
 unfoldable pub heardAll : ℕ → List Record → List Airing → List Airing
@@ -139,6 +142,7 @@ airingAsked c x (Splice r) es =
     granted c x (r .access) t (t + fromTicks (r .duration) .0)
 airingAsked c x (Abort y) es = granted c x 0 0 0
 airingAsked c x (Extended y) es = granted c x 0 0 0
+airingAsked c x Config es = granted c x 0 0 0
 airingAsked c x Unreadable es = granted c x 0 0 0
 
 -- the answer to a message l of connection d. A Splice_Request's own answer is no end

@@ -8,12 +8,12 @@ use Rattle.rules.specs.declared.Refusal.{Refusal}
 use Rattle.rules.specs.declared.Start.{Start}
 use Rattle.rules.specs.declared.Start.the-variants.{Timed, Linked}
 use Rattle.rules.specs.declared.Message.{Message}
-use Rattle.rules.specs.declared.Message.the-variants.{Init, Alive, Splice, Abort, Extended, Unreadable}
+use Rattle.rules.specs.declared.Message.the-variants.{Init, Alive, Splice, Abort, Config, Extended, Unreadable}
 use Rattle.rules.specs.Units.{timeOf, fromMicros, fromTicks}
 use Rattle.rules.specs.Lists.{put, keep, count}
 use Rattle.rules.specs.Reading.{sessionID, readSplice, dataIn, isSplice}
 use Rattle.rules.specs.State.{Splicer, sameNumber}
-use Rattle.rules.specs.Records.{Record, General, InitResponse, AliveResponse, SpliceResponse, SpliceComplete, AbortResponse, ExtendedFound, ExtendedNone, CueRequest, recordsIn}
+use Rattle.rules.specs.Records.{Record, General, InitResponse, AliveResponse, SpliceResponse, SpliceComplete, AbortResponse, ConfigResponse, ExtendedFound, ExtendedNone, CueRequest, recordsIn}
 use Rattle.rules.specs.Calls.{Answer, refused, good, Call, opens, closes, messages, ticks, moves, cues, call, writtenBy}
 
 -- ## Starts and ends among records
@@ -30,6 +30,7 @@ tells completes responds c x (AbortResponse c′ r y) = false
 tells completes responds c x (CueRequest c′ a u l) = false
 tells completes responds c x (ExtendedFound c′ y event ended played) = false
 tells completes responds c x (ExtendedNone c′ y) = false
+tells completes responds c x (ConfigResponse c′ r n h m) = false
 
 -- the start of number x of connection c: SpliceComplete flag 0, result 100
 unfoldable pub isStart : ℕ → ℕ → Record → Bool
@@ -201,6 +202,7 @@ endAsked c Alive es = 0
 endAsked c (Splice r) es = startTold c (r .start) es + fromTicks (r .duration) .0
 endAsked c (Abort x) es = 0
 endAsked c (Extended x) es = 0
+endAsked c Config es = 0
 endAsked c Unreadable es = 0
 
 -- what a message asks of the multiplexer
@@ -210,6 +212,7 @@ muxAsked Alive = 0
 muxAsked (Splice r) = r .mux
 muxAsked (Abort x) = 0
 muxAsked (Extended x) = 0
+muxAsked Config = 0
 muxAsked Unreadable = 0
 
 -- the SpliceEventID of a message

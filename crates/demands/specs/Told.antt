@@ -20,7 +20,7 @@ use Rattle.rules.specs.State.{Splicer, linkOf, isOpen, isInitialised, unused}
 use Rattle.rules.specs.Records.{Record, General, InitResponse, AliveResponse, SpliceResponse, SpliceComplete, AbortResponse, CueRequest, ExtendedFound, ExtendedNone, recordBytes, recordsIn}
 use Rattle.rules.specs.Cues.{badSection}
 use Rattle.rules.specs.Answers.{fullBy, firstOf, requested, wrongNumber, tooLate, collides, isPast}
-use Rattle.rules.specs.Calls.{houseNumber, Answer, refused, good, Called, writtenBy, consumedBy, bufferAfter, noConnection, noRoom, notOpen, fresh, framing, Loans, Call, opens, closes, messages, ticks, moves, cues, after}
+use Rattle.rules.specs.Calls.{houseNumber, Answer, refused, good, Called, writtenBy, consumedBy, bufferAfter, noConnection, noRoom, notOpen, longSection, fresh, framing, Loans, Call, opens, closes, messages, ticks, moves, cues, after}
 use Rattle.demands.specs.History.{Reply, refusal, wrote, Event, Entry, entryIs, muxTold, startsOf, endsOf, history, grantedIn, waitingCount, book, clockAfter, tells, othersOf}
 use Rattle.demands.specs.Airing.{airings}
 use Rattle.rules.specs.Sound.{Wired}
@@ -44,10 +44,11 @@ answers n c x r = tells (λ m flag. false) (λ m. eqb n m) c x r
 
 -- the bytes l of connection c begin with a whole Splice_Request that is read as r, and nothing before the checks b to f stops it
 pub record Asks (c : ℕ) (l : List ℕ) (loans : Loans) (r : Request) (s : Splicer) : Type 0 where
-  pub bytes : All Byte l
+  pub bytes : Wired (messages c l loans)
   -- the call is not refused
   pub low : noConnection c ≡ false
   pub roomy : noRoom (loans .room) ≡ false
+  pub sections : longSection loans ≡ false
   pub ready : isInitialised (linkOf c s) ≡ true
   pub framed : framing l ≡ Framed spliceRequest (messageSize l)
   pub readable : readSplice (dataIn l) ≡ Splice r
@@ -83,12 +84,12 @@ unfoldable pub earlierCode : ℕ → Request → Splicer → ℕ
 earlierCode c r s =
     firstOf (wrongNumber c r (s .queue)) (tooLate (s .clock) (r .start)) (collides (requested c r (s .queue)) (s .queue .waiting)) false
 
--- "Order: open 1, 6; close 1, 2, 7; message 1, 2, 7, 5 (header), 4, 5 (body); tick 2, 8, 3." 02, CR 7: cue 2, 8, 11
+-- "Order: open 1, 6; close 1, 2, 7; message 1, 2, 7, 5 (header), 4, 5 (body); tick 2, 8, 3." 02, CR 6: "10 .. after 7"; CR 7: cue 2, 8, 11
 unfoldable pub checks : Call → Splicer → List Check
 checks (opens c) s = check 1 (noConnection c) ∷ check 6 (isOpen (linkOf c s)) ∷ []
 checks (closes c room) s = check 1 (noConnection c) ∷ check 2 (noRoom room) ∷ check 7 (notOpen c s) ∷ []
 checks (messages c l loans) s =
-    check 1 (noConnection c) ∷ check 2 (noRoom (loans .room)) ∷ check 7 (notOpen c s)
+    check 1 (noConnection c) ∷ check 2 (noRoom (loans .room)) ∷ check 7 (notOpen c s) ∷ check 10 (longSection loans)
     ∷ check 5 (ltb (length l) 8) ∷ check 4 (oversize l) ∷ check 5 (ltb (length l) (8 + messageSize l)) ∷ []
 checks (ticks seconds micros room) s =
     check 2 (noRoom room) ∷ check 8 (badMicros micros) ∷ check 3 (ltb (fromMicros (timeOf seconds micros) .0) (s .clock)) ∷ []
