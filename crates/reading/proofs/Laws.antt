@@ -13,10 +13,10 @@ use lib.Seq.{take-all}
 use Rattle.rules.specs.declared.Framing.{Framing}
 use Rattle.rules.specs.declared.Framing.the-variants.{Framed, Unframed}
 use Rattle.rules.specs.declared.Message.{Message}
-use Rattle.rules.specs.declared.Message.the-variants.{Init, Alive, Splice, Abort, Extended, Unreadable}
+use Rattle.rules.specs.declared.Message.the-variants.{Init, Alive, Splice, Abort, Config, Extended, Unreadable}
 use Rattle.rules.specs.Bytes.{messageSize, oversize}
 use Rattle.rules.specs.Calls.{framing}
-use Rattle.rules.specs.Reading.{initRequest, aliveRequest, spliceRequest, abortRequest, extendedRequest, badInit, badExtended, readInit, readAlive, readAbort, readExtended, tailOf, badSplice, readWhole, readSplice, isRead, read}
+use Rattle.rules.specs.Reading.{initRequest, aliveRequest, spliceRequest, abortRequest, configRequest, hardwarePlace, hardwareLength, longestHardware, badHardware, extendedRequest, badInit, badExtended, readInit, readAlive, readAbort, readConfig, readExtended, tailOf, badSplice, readWhole, readSplice, isRead, read}
 use Rattle.rules.proofs.Tests.{by, or-none}
 
 -- what was said of a part, by a test that is turned round
@@ -27,27 +27,30 @@ said f e p g = ap not (ap f (sym p) ∙ sym e) ∙ g
 pub behind : (a : ℕ) (l : List ℕ) → take (length l - a) (drop a l) ≡ drop a l
 behind a l = take-all (length l - a) (drop a l) (simp length-drop (omega arith))
 
--- ## The list of four, and 02's fifth
+-- ## The list of those that are read
 
 -- as code asks it
-abbrev Five : ℕ → Type 0
-Five id = (id ≡ initRequest) ⊎ ((id ≡ extendedRequest) ⊎ ((id ≡ aliveRequest) ⊎ ((id ≡ spliceRequest) ⊎ (id ≡ abortRequest))))
+abbrev Listed : ℕ → Type 0
+Listed id =
+    (id ≡ initRequest) ⊎ ((id ≡ extendedRequest) ⊎ ((id ≡ aliveRequest) ⊎ ((id ≡ spliceRequest) ⊎ ((id ≡ configRequest) ⊎ (id ≡ abortRequest)))))
 
-pub read-yes : (id : ℕ) → Five id → true ≡ isRead id
+pub read-yes : (id : ℕ) → Listed id → true ≡ isRead id
 read-yes id (inl e) = rw e
 read-yes id (inr (inl e)) = rw e
 read-yes id (inr (inr (inl e))) = rw e
 read-yes id (inr (inr (inr (inl e)))) = rw e
-read-yes id (inr (inr (inr (inr e)))) = rw e
+read-yes id (inr (inr (inr (inr (inl e))))) = rw e
+read-yes id (inr (inr (inr (inr (inr e))))) = rw e
 
-pub read-no : (id : ℕ) → (Five id → ⊥) → false ≡ isRead id
+pub read-no : (id : ℕ) → (Listed id → ⊥) → false ≡ isRead id
 read-no id n =
     rw (
       ne-eqb id initRequest (λ e. n (inl e)),
       ne-eqb id aliveRequest (λ e. n (inr (inr (inl e)))),
       ne-eqb id spliceRequest (λ e. n (inr (inr (inr (inl e))))),
-      ne-eqb id abortRequest (λ e. n (inr (inr (inr (inr e))))),
+      ne-eqb id abortRequest (λ e. n (inr (inr (inr (inr (inr e)))))),
       ne-eqb id extendedRequest (λ e. n (inr (inl e))),
+      ne-eqb id configRequest (λ e. n (inr (inr (inr (inr (inl e)))))),
     )
 
 -- ## What callers go on with
@@ -68,26 +71,36 @@ frames l =
 pub framed : (l : List ℕ) (id size : ℕ) → framing l ≡ Framed id size → (8 + size ≤ length l) × (size ≤ 4088)
 framed l id size e = subst (Frames l) e (frames l)
 
--- an Init_Request that was read has both its names
+-- an Init_Request that was read has its names and its Hardware_Config
 abbrev Holds : List ℕ → Message → Type 0
-Holds d (Init revision) = 66 ≤ length d
+Holds d (Init revision) = badInit d ≡ false
 Holds d Alive = Unit {0}
 Holds d (Splice r) = Unit {0}
 Holds d (Abort x) = Unit {0}
 Holds d (Extended x) = Unit {0}
+Holds d Config = Unit {0}
 Holds d Unreadable = Unit {0}
 
 holds : (id : ℕ) (d : List ℕ) → Holds d (read id d)
-unfolding read readInit readAlive readWhole readSplice readAbort readExtended
+unfolding read readInit readAlive readWhole readSplice readAbort readConfig readExtended
 holds id d =
     by (Holds d) (eqb id initRequest) _ _
-    (λ e. by (Holds d) (badInit d) _ _ (λ f. tt) (λ f. ltb-false (length d) 66 (or-none (ltb (length d) 66) _ f .0)))
+    (λ e. by (Holds d) (badInit d) _ _ (λ f. tt) (λ f. f))
     (λ e. by (Holds d) (eqb id aliveRequest) _ _ (λ f. by (Holds d) (eqb (length d) 8) _ _ (λ g. tt) (λ g. tt))
     (λ f. by (Holds d) (eqb id spliceRequest) _ _
     (λ g. by (Holds d) (ltb (length d) 18) _ _ (λ h. tt)
     (λ h. by (Holds d) (badSplice d (tailOf d)) _ _ (λ i. tt) (λ i. tt)))
     (λ g. by (Holds d) (eqb id abortRequest) _ _ (λ h. by (Holds d) (eqb (length d) 4) _ _ (λ i. tt) (λ i. tt))
-    (λ h. by (Holds d) (eqb id extendedRequest) _ _ (λ i. by (Holds d) (badExtended d) _ _ (λ j. tt) (λ j. tt)) (λ i. tt)))))
+    (λ h. by (Holds d) (eqb id extendedRequest) _ _ (λ i. by (Holds d) (badExtended d) _ _ (λ j. tt) (λ j. tt))
+    (λ i. by (Holds d) (eqb id configRequest) _ _ (λ j. by (Holds d) (eqb (length d) 0) _ _ (λ k. tt) (λ k. tt)) (λ j. tt))))))
 
-pub init-length : (id : ℕ) (d : List ℕ) (revision : ℕ) → read id d ≡ Init revision → 66 ≤ length d
-init-length id d revision e = subst (Holds d) e (holds id d)
+pub init-good : (id : ℕ) (d : List ℕ) (revision : ℕ) → read id d ≡ Init revision → badInit d ≡ false
+init-good id d revision e = subst (Holds d) e (holds id d)
+
+-- which therefore ends within the data, and is not over 256 bytes
+pub hardware-fits : (d : List ℕ) → badInit d ≡ false → (2 + hardwareLength d ≤ longestHardware) × (68 + hardwareLength d ≤ length d)
+hardware-fits d e =
+    let n = hardwareLength d in
+    let o = or-none (ltb (length d) (hardwarePlace + 2)) _ (or-none (badHardware d) _ e .0) .1 in
+    let p = or-none (ltb longestHardware (2 + n)) _ o in
+    (ltb-false longestHardware (2 + n) (p .0), ltb-false (length d) (hardwarePlace + 2 + n) (p .1))

@@ -6,7 +6,8 @@ ghost use Rattle.rules.specs.Bytes.{dataOf};
 ghost use Rattle.rules.specs.Calls.{framing};
 ghost use mathlib.Core.Bool.{false};
 ghost use Rattle.rules.specs.declared.Priority.the-variants.{Is};
-ghost use Rattle.rules.specs.Reading.{channelName, splicerName, readInit, readAlive, readAbort, readExtended, readStart, badSplice, descriptorsOf, muxOf, isBad};
+ghost use Rattle.rules.specs.Reading.{readExtended, lengthIn, structureIn, hardwareLength, hardwareIn, readConfig};
+ghost use Rattle.rules.specs.Reading.{channelName, splicerName, readInit, readAlive, readAbort, readStart, badSplice, descriptorsOf, muxOf, isBad};
 ghost use Rattle.rules.specs.Reading.{wholeRequest, readWhole, readSplice, isRead, «read»};
 ghost use Rattle.reading.specs.Structures.{tailPlace};
 
@@ -43,6 +44,12 @@ const EXTENDED_REQUEST: u16 = 0x0003;
 
 const DEFAULT_TYPE: u32 = 0xFFFFFFFF;
 
+// 02, CR 6: "GetConfig_Request (0x000A, no data)".
+const CONFIG_REQUEST: u16 = 0x000A;
+
+// "Keep Hardware_Config per connection, up to 256 bytes with its Length."
+const HARDWARE: usize = 256;
+
 // "4: MessageSize above 4,088".
 pub const LONGEST: u16 = 4088;
 
@@ -75,7 +82,7 @@ pub fn data_of(l: &[u8], size: usize) -> &[u8]
     &l[8..end]
 }
 
-// Of Init_Request's data: "Revision_Num 2, ChannelName 32, SplicerName 32, the rest unread".
+// Of Init_Request's data: "Revision_Num 2, ChannelName 32, SplicerName 32", then Hardware_Config, the rest unread.
 pub fn channel_name(d: &[u8]) -> &[u8]
     requires { ⌜ 34 ≤ length (now d) ⌝ }
     ensures { λ r. ⌜ now r ≡ channelName (now (d .entry)) ⌝ }
@@ -90,10 +97,35 @@ fn splicer_name(d: &[u8]) -> &[u8]
     &d[34..66]
 }
 
+// 02, CR 6: the structure that l begins with: its Length and the bytes that this counts.
+pub fn structure(l: &[u8]) -> &[u8]
+    requires { ⌜ 2 + lengthIn (now l) ≤ length (now l) ⌝ }
+    ensures { λ r. ⌜ now r ≡ structureIn (now (l .entry)) ⌝ }
+{
+    let end = 2 + number2(l, 0) as usize;
+    &l[0..end]
+}
+
+// The Hardware_Config of Init_Request's data.
+pub fn hardware(d: &[u8]) -> &[u8]
+    requires { ⌜ 68 + hardwareLength (now d) ≤ length (now d) ⌝ }
+    ensures { λ r. ⌜ now r ≡ hardwareIn (now (d .entry)) ⌝ }
+{
+    structure(&d[66..])
+}
+
+// The Hardware_Config is not over 256 bytes and not past the message's end; each name has its zero.
 fn read_init(d: &[u8]) -> Message
     ensures { λ r. ⌜ r ≡ readInit (now (d .entry)) ⌝ }
 {
-    if d.len() < 66 {
+    if d.len() < 68 {
+        return Message::Unreadable;
+    }
+    let n = number2(d, 66) as usize;
+    if HARDWARE < 2 + n {
+        return Message::Unreadable;
+    }
+    if d.len() < 68 + n {
         return Message::Unreadable;
     }
     if !has_zero(channel_name(d)) {
@@ -135,6 +167,16 @@ fn read_extended(d: &[u8]) -> Message
         return Message::Unreadable;
     }
     Message::Extended(number4(d, 0))
+}
+
+// 02, CR 6: "123 for data present".
+fn read_config(d: &[u8]) -> Message
+    ensures { λ r. ⌜ r ≡ readConfig (now (d .entry)) ⌝ }
+{
+    if d.len() == 0 {
+        return Message::Config;
+    }
+    Message::Unreadable
 }
 
 // "a Splice_Request's start is in turn either timed or linked"
@@ -239,12 +281,12 @@ fn read_splice(d: &[u8]) -> Message
     read_whole(d, &d[at..], start)
 }
 
-// The list of four, and 02's fifth.
+// The list of four; 02: and ExtendedData_Request (CR 8), GetConfig_Request (CR 6).
 pub fn is_read(id: u16) -> bool
     ensures { λ r. ⌜ r ≡ isRead id ⌝ }
 {
     match id {
-        INIT_REQUEST | ALIVE_REQUEST | SPLICE_REQUEST | ABORT_REQUEST | EXTENDED_REQUEST => true,
+        INIT_REQUEST | ALIVE_REQUEST | SPLICE_REQUEST | ABORT_REQUEST | EXTENDED_REQUEST | CONFIG_REQUEST => true,
         _ => false,
     }
 }
@@ -259,6 +301,7 @@ pub fn read(id: u16, d: &[u8]) -> Message
         SPLICE_REQUEST => read_splice(d),
         ABORT_REQUEST => read_abort(d),
         EXTENDED_REQUEST => read_extended(d),
+        CONFIG_REQUEST => read_config(d),
         _ => Message::Unreadable,
     }
 }

@@ -49,11 +49,14 @@ channelName d = part 2 32 d
 abbrev pub splicerName : List ℕ → List ℕ
 splicerName d = part 34 32 d
 
--- 02, CR 6: a structure l of any kind begins with its Length 2, which counts what follows it; of Hardware_Config nothing else is looked at
+-- 02, CR 6: the structure that l begins with, with its Length 2, which counts what follows it; of Hardware_Config nothing else is looked at
 abbrev pub lengthIn : List ℕ → ℕ
 lengthIn l = field 0 2 l
 
--- where Hardware_Config begins; its Length, and the structure with its Length
+abbrev pub structureIn : List ℕ → List ℕ
+structureIn l = part 0 (2 + lengthIn l) l
+
+-- where Hardware_Config begins
 abbrev pub hardwarePlace : ℕ
 hardwarePlace = 66
 
@@ -61,7 +64,7 @@ abbrev pub hardwareLength : List ℕ → ℕ
 hardwareLength d = field hardwarePlace 2 d
 
 abbrev pub hardwareIn : List ℕ → List ℕ
-hardwareIn d = part hardwarePlace (2 + hardwareLength d) d
+hardwareIn d = structureIn (drop hardwarePlace d)
 
 -- "Keep Hardware_Config per connection, up to 256 bytes with its Length."
 abbrev pub longestHardware : ℕ

@@ -1,4 +1,4 @@
--- The list of four, as a sum of equations (`read-yes`, `read-no`).
+-- The list, as a sum of equations (`read-yes`, `read-no`).
 use Rattle.reading.proofs.Laws.{read-yes, read-no}
 use Rattle.reading.proofs.is_read.Statement.{statement}
 use Rattle.reading.proofs.is_read.Tie as tie

@@ -1,6 +1,6 @@
 -- The MessageID decides.
 use borrow.Author.Tests.{ne-eqb}
-use Rattle.rules.specs.Reading.{initRequest, aliveRequest, spliceRequest, abortRequest, extendedRequest, «read»}
+use Rattle.rules.specs.Reading.{initRequest, aliveRequest, spliceRequest, abortRequest, configRequest, extendedRequest, «read»}
 use borrow.Author.Needs.{needs}
 use Rattle.reading.proofs.read.Statement.{statement}
 use Rattle.reading.proofs.read.Tie as tie
@@ -19,6 +19,9 @@ read-abort-requires c κs = search needs
 
 read-extended-requires : tie.Need-read-extended-requires
 read-extended-requires c κs = search needs
+
+read-config-requires : tie.Need-read-config-requires
+read-config-requires c κs = search needs
 
 returns : tie.Need-returns
 unfolding «read»
@@ -42,15 +45,20 @@ returns-5 c = rw (c .before .match .keys5) (c .read-extended .ensures)
 
 returns-6 : tie.Need-returns-6
 unfolding «read»
-returns-6 c =
+returns-6 c = rw (c .before .match .keys6) (c .read-config .ensures)
+
+returns-7 : tie.Need-returns-7
+unfolding «read»
+returns-7 c =
     let id = c .before .before .args .id in
     let none = c .match .rest in
     rw (
-      ne-eqb id initRequest (none .0 .0 .0 .0 .1),
-      ne-eqb id aliveRequest (none .0 .0 .0 .1),
-      ne-eqb id spliceRequest (none .0 .0 .1),
-      ne-eqb id abortRequest (none .0 .1),
-      ne-eqb id extendedRequest (none .1),
+      ne-eqb id initRequest (none .0 .0 .0 .0 .0 .1),
+      ne-eqb id aliveRequest (none .0 .0 .0 .0 .1),
+      ne-eqb id spliceRequest (none .0 .0 .0 .1),
+      ne-eqb id abortRequest (none .0 .0 .1),
+      ne-eqb id extendedRequest (none .0 .1),
+      ne-eqb id configRequest (none .1),
     )
 
 pub read-spec : {M : Type 1} → statement M
@@ -62,6 +70,7 @@ read-spec =
     read-splice-requires
     read-abort-requires
     read-extended-requires
+    read-config-requires
     returns
     returns-2
     returns-3
