@@ -1,14 +1,14 @@
 -- Each record is its parts, in the order in which they are written.
 -- Rests on the definitions of the bytes alone: `bytes` at a given width computes.
 use mathlib.Core.Path.{_≡_, refl, sym, ap, _∙_}
-use mathlib.Core.List.{List, [], _∷_, _++_}
+use mathlib.Core.List.{List, [], _∷_, _++_, append-assoc}
 use Prim.Native.Nat.{ℕ, _+_, _/_, _≤_, _<_}
 use native.Mathlib.Omega.{arith}
 use native.Mathlib.Numerals.{add-one}
-use lib.ListN.{length, take, set, getD}
+use lib.ListN.{length, take, set, getD, length-append}
 use lib.Seq.{length-take-le, take-suc}
 use Rattle.rules.specs.Bytes.{bytes, nameIn, padded, written}
-use Rattle.rules.specs.Records.{General, InitResponse, AliveResponse, SpliceComplete, ExtendedFound, CueRequest, framed, timeBytes, endDescriptor, recordBytes}
+use Rattle.rules.specs.Records.{General, InitResponse, AliveResponse, SpliceComplete, ConfigResponse, ExtendedFound, CueRequest, framed, timeBytes, endDescriptor, recordBytes}
 use Rattle.rules.proofs.Written.{written-set, written-more, length-written}
 use Rattle.writing.specs.Header.{headerOf}
 
@@ -60,6 +60,15 @@ pub found-parts : (c x event ended played : ℕ) →
     headerOf c 0x0004 20 100 ++ bytes 4 x ++ endDescriptor event ended played ≡ recordBytes (ExtendedFound c x event ended played)
 unfolding recordBytes framed headerOf bytes
 found-parts c x event ended played = refl
+
+pub config-parts : (c n : ℕ) (name h m : List ℕ) → n ≡ 32 + (length h + length m) → length name ≡ 32 → name ≡ padded (nameIn name) →
+    ((headerOf c 0x000B n 100 ++ name) ++ h) ++ m ≡ recordBytes (ConfigResponse c 100 (nameIn name) h m)
+unfolding recordBytes
+config-parts c n name h m k l e =
+    append-assoc (headerOf c 0x000B n 100 ++ name) h m
+    ∙ append-assoc (headerOf c 0x000B n 100) name (h ++ m)
+    ∙ framed-header c 0x000B n 100 (name ++ (h ++ m)) (omega (arith, k, l, length-append name (h ++ m), length-append h m))
+    ∙ ap (λ x. framed c 0x000B 100 (x ++ (h ++ m))) e
 
 -- a turn of a copy: one byte more of l
 pub copied : (e l o : List ℕ) (i : ℕ) → i < length l → length l ≤ length e → o ≡ written e 0 (take i l) →

@@ -8,7 +8,7 @@ ghost use Prim.Native.Nat.{_+_, _≤_};
 ghost use lib.ListN.{length};
 ghost use Rattle.rules.specs.Bytes.{bytes, written, nameIn, padded};
 ghost use Rattle.rules.specs.Records.{framed, timeBytes, endDescriptor, recordBytes};
-ghost use Rattle.rules.specs.Records.{General, InitResponse, AliveResponse, SpliceResponse, SpliceComplete, AbortResponse, ExtendedFound, ExtendedNone, CueRequest};
+ghost use Rattle.rules.specs.Records.{General, InitResponse, AliveResponse, SpliceResponse, SpliceComplete, AbortResponse, ConfigResponse, ExtendedFound, ExtendedNone, CueRequest};
 ghost use Rattle.writing.specs.Header.{headerOf, Turned};
 
 // ---- parts of a record. "All numbers are big-endian."
@@ -194,4 +194,23 @@ pub fn extended_none(out: &mut [u8], conn: u64, id: u64)
     ensures { λ _. ⌜ now (out .exit) ≡ written (now (out .entry)) 0 (recordBytes (ExtendedNone conn id)) ⌝ }
 {
     session_response(out, conn, 0x0004, 121, id);
+}
+
+// 02, CR 6: the name, the Hardware_Config with its Length and the section, each directly behind the other. A GetConfig_Request is always
+// answered 100.
+pub fn config_response(out: &mut [u8], conn: u64, name: &[u8], hardware: &[u8], section: &[u8])
+    requires { ⌜ 42 + (length (now hardware) + length (now section)) ≤ length (now out) ⌝ }
+    requires { ⌜ (length (now hardware) ≤ 256) × (length (now section) ≤ 1024) ⌝ }
+    requires { ⌜ length (now name) ≡ 32 ⌝ }
+    requires { ⌜ now name ≡ padded (nameIn (now name)) ⌝ }
+    ensures { λ _.
+        ⌜ now (out .exit) ≡ written (now (out .entry)) 0
+        (recordBytes (ConfigResponse conn 100 (nameIn (now (name .entry))) (now (hardware .entry)) (now (section .entry)))) ⌝ }
+{
+    let at = 42 + hardware.len();
+    let size = at + section.len() - 10;
+    header(&mut *out, conn, 0x000B, size as u16, 100);
+    copy(&mut out[10..], name);
+    copy(&mut out[42..], hardware);
+    copy(&mut out[at..], section);
 }
