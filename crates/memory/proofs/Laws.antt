@@ -19,7 +19,8 @@ use Rattle.rules.specs.declared.Link.the-variants.{Closed, Opened, Initialised}
 use Rattle.rules.specs.Lists.{All, bit, omit, insertAt, removeAt}
 use Rattle.rules.specs.Bytes.{part, padded}
 use Rattle.rules.specs.Answers.{waits}
-use Rattle.rules.specs.State.{Queue, Splicer, empty, of, Sorted, sooner, earliest, withWaiting, withLately, Lately, mostKept, unused, remembered, recentAt}
+use Rattle.rules.specs.State.{Queue, Splicer, empty, noHardware, of, Sorted, sooner, earliest, withWaiting, withLately, Lately, mostKept, unused, remembered, recentAt}
+use Rattle.rules.specs.Reading.{longestHardware, structureIn}
 use Rattle.rules.specs.Sound.{Each, Proper, Holding}
 use Rattle.rules.proofs.All.{all-replicate, all-into}
 use Rattle.rules.proofs.Count.{count-insertAt, count-removeAt, count-omitted, count-other}
@@ -33,7 +34,7 @@ use Rattle.memory.specs.declared.Which.{Which}
 use Rattle.memory.proofs.Late.{pasts-at, late-same, none-late, written5, length5, far5, lateAfter, late-after}
 use Rattle.memory.specs.declared.Which.the-variants.{Waiting, Started}
 use Rattle.memory.specs.Memory.{clockWord, slotOf, ringWord, primaryWord, firstCount, firstLink, connections, placesOf, fromOf, toOf, spanOf, words, wordOf, linkIn, IsLink, linksOf, countsOf, ringOf, lotOf, sessions, OfFour, tallied, Form, Memory, see, Now, firstPast, pastWidth, pastWords, nextWord, lateSize, lateOf, nextIn, latelyIn, recalling}
-use Rattle.memory.specs.Memory.{timed, silenced, linked, listOf, relisted, onward, nothingShown, nameSize, nameOf, Stored, Whole, shown}
+use Rattle.memory.specs.Memory.{timed, silenced, linked, listOf, relisted, onward, nothingShown, nameSize, bytes, nameBytes, nameOf, keptFrom, keptBytes, keptOf, spread, Stored, Whole, shown}
 
 -- a list of the words is that list of the queue that they show
 pub sessions-list : (v : Which) (m : List ℕ) → sessions v m ≡ listOf v (see m .queue)
@@ -54,21 +55,21 @@ module _ (m ys : List ℕ) (a e : ℕ) (h : a ≤ e) (g : e ≤ length m) (l : l
   abbrev put : List ℕ
   put = putMid a (e - a) m ys
 
-  length-put : length put ≡ length m
+  pub length-put : length put ≡ length m
   length-put = same-len-mid a (e - a) m ys (omega (arith, l, mid-len a e m g))
 
-  put-here : part a (e - a) put ≡ ys
+  pub put-here : part a (e - a) put ≡ ys
   put-here =
       ap (take (e - a)) (drop-at (take a m) (ys ++ postOf a (e - a) m) a (length-take-le a m (omega arith)))
       ∙ take-at ys (postOf a (e - a) m) (e - a) l
 
-  put-before : (b j : ℕ) → b + j ≤ a → part b j put ≡ part b j m
+  pub put-before : (b j : ℕ) → b + j ≤ a → part b j put ≡ part b j m
   put-before b j i =
       cut b j put (omega (arith, length-put))
       ∙ ap (drop b) (sym (take-take (b + j) a put i) ∙ ap (take (b + j)) (take-put a (e - a) m ys (omega arith)) ∙ take-take (b + j) a m i)
       ∙ sym (cut b j m (omega arith))
 
-  put-behind : (b j : ℕ) → e ≤ b → part b j put ≡ part b j m
+  pub put-behind : (b j : ℕ) → e ≤ b → part b j put ≡ part b j m
   put-behind b j i =
       let q : e + (b - e) ≡ b = omega arith in
       ap (take j) (
@@ -109,7 +110,7 @@ drop-zeros zero n = let e : n ≡ n - 0 = omega arith in ap zeros e
 drop-zeros (suc k) zero = let e : 0 ≡ 0 - suc k = omega arith in ap zeros e
 drop-zeros (suc k) (suc n) = let e : n - k ≡ suc n - suc k = omega arith in drop-zeros k n ∙ ap zeros e
 
-part-zeros : (b j n : ℕ) → b + j ≤ n → part b j (zeros n) ≡ zeros j
+pub part-zeros : (b j n : ℕ) → b + j ≤ n → part b j (zeros n) ≡ zeros j
 part-zeros b j n h = ap (take j) (drop-zeros b n) ∙ take-zeros j (n - b) (omega arith)
 
 -- ## The connections' words
@@ -765,19 +766,49 @@ same-words m n f g e =
     ∙ (λ i. clock i ∷ waiting .1 i ∷ started .1 i ∷ ring i ∷ primary i ∷ (counts i ++ (links i ++ (waiting .0 i ++ (started .0 i ++ late i)))))
     ∙ sym (parts n (g .whole))
 
-pub same-bytes : (b c : List ℕ) → Stored b → Stored c → nameOf b ≡ nameOf c → b ≡ c
-same-bytes b c f g e =
-    sym (take-all nameSize b (omega (arith, f .whole)))
-    ∙ f .name
-    ∙ ap padded e
-    ∙ sym (g .name)
-    ∙ take-all nameSize c (omega (arith, g .whole))
+-- the bytes are their parts
+bytes-parts : (b : List ℕ) → length b ≡ bytes → b ≡ nameBytes b ++ (keptBytes 0 b ++ (keptBytes 1 b ++ (keptBytes 2 b ++ keptBytes 3 b)))
+bytes-parts b w =
+    sym (take-append-drop nameSize b) ∙ ap (λ (z : List ℕ). nameBytes b ++ z) (from 0 ∙ ap (behind 0) (from 1 ∙ ap (behind 1) (from 2 ∙ ap (behind 2) last)))
+  where
+    behind : ℕ → List ℕ → List ℕ
+    behind c z = keptBytes c b ++ z
+
+    from : (c : ℕ) → drop (keptFrom c) b ≡ keptBytes c b ++ drop (keptFrom (suc c)) b
+    from c =
+        let e : keptFrom c + longestHardware ≡ keptFrom (suc c) = omega arith in
+        sym (take-append-drop longestHardware (drop (keptFrom c) b))
+        ∙ ap (λ (z : List ℕ). keptBytes c b ++ z) (drop-drop longestHardware (keptFrom c) b ∙ ap (λ (k : ℕ). drop k b) e)
+
+    last : drop (keptFrom 3) b ≡ keptBytes 3 b
+    last = sym (take-all longestHardware (drop (keptFrom 3) b) (omega (arith, w, length-drop (keptFrom 3) b)))
+
+-- what connection c keeps, of the four
+pub kept-at : (b : List ℕ) (c : ℕ) → c ≤ 3 → getD (keptOf b) c noHardware ≡ structureIn (keptBytes c b)
+kept-at b zero h = refl
+kept-at b (suc zero) h = refl
+kept-at b (suc (suc zero)) h = refl
+kept-at b (suc (suc (suc zero))) h = refl
+kept-at b (suc (suc (suc (suc c)))) h = absurd (omega arith)
+
+pub same-bytes : (b c : List ℕ) → Stored b → Stored c → nameOf b ≡ nameOf c → keptOf b ≡ keptOf c → b ≡ c
+same-bytes b c f g e k =
+    let n : nameBytes b ≡ nameBytes c = f .name ∙ ap padded e ∙ sym (g .name) in
+    bytes-parts b (f .whole)
+    ∙ (λ i. n i ++ (slot 0 (omega arith) i ++ (slot 1 (omega arith) i ++ (slot 2 (omega arith) i ++ slot 3 (omega arith) i))))
+    ∙ sym (bytes-parts c (g .whole))
+  where
+    slot : (d : ℕ) → d ≤ 3 → keptBytes d b ≡ keptBytes d c
+    slot d h =
+        f .kept d h .zeros
+        ∙ ap spread (sym (kept-at b d h) ∙ ap (λ (l : List (List ℕ)). getD l d noHardware) k ∙ kept-at c d h)
+        ∙ sym (g .kept d h .zeros)
 
 -- and a splicer with where the ring ends
 pub memory-same : (m b n c : List ℕ) → Whole m b → Whole n c → see m .ringEnd ≡ see n .ringEnd → shown m b ≡ shown n c → (m ≡ n) × (b ≡ c)
 memory-same m b n c f g r e = (
   same-words m n (f .words) (g .words) (λ i. record { clock = e i .clock; primary = e i .primary; links = e i .links; queue = e i .queue; ringEnd = r i }),
-  same-bytes b c (f .bytes) (g .bytes) (ap (λ (s : Splicer). s .name) e),
+  same-bytes b c (f .bytes) (g .bytes) (ap (λ (s : Splicer). s .name) e) (ap (λ (s : Splicer). s .hardware) e),
 )
 
 -- ## What a word says

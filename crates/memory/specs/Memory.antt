@@ -1,7 +1,7 @@
 -- Where what stands in the lent words and bytes, what they show, and what is asked of them.
 use mathlib.Core.Path.{_≡_}
 use mathlib.Core.Bool.{Bool, cond}
-use mathlib.Core.List.{List, [], _∷_, map}
+use mathlib.Core.List.{List, [], _∷_, _++_, map}
 use Prim.Native.Nat.{ℕ, zero, suc, _+_, _-_, _*_, _≤_, _<_}
 use lib.Dec.{eqb}
 use lib.ListN.{length, drop, set, getD, replicate}
@@ -11,8 +11,9 @@ use Rattle.rules.specs.declared.Link.{Link}
 use Rattle.rules.specs.declared.Link.the-variants.{Closed, Opened, Initialised}
 use Rattle.rules.specs.Lists.{All}
 use Rattle.rules.specs.Bytes.{part, nameIn, padded}
+use Rattle.rules.specs.Reading.{longestHardware, lengthIn, structureIn}
 use Rattle.rules.specs.Answers.{waits}
-use Rattle.rules.specs.State.{Lately, Queue, Splicer, withWaiting, withStarted, withLately, mostKept, remembered, noneHeld}
+use Rattle.rules.specs.State.{Lately, Queue, Splicer, noHardware, withWaiting, withStarted, withLately, mostKept, remembered, noneHeld}
 use Rattle.places.specs.Places.{Narrow, Lot, lot, Good, used, width, places, turned, round, next}
 use Rattle.memory.specs.declared.Which.{Which}
 use Rattle.memory.specs.declared.Which.the-variants.{Waiting, Started}
@@ -231,13 +232,18 @@ abbrev pub nothingShown : Memory
 nothingShown =
     record { clock = 0; primary = 0; links = replicate connections Closed; queue = noneHeld; ringEnd = 0 }
 
--- ## The bytes: the ChannelName, with zeros behind its end
+-- ## The bytes: the ChannelName, with zeros behind its end; 02, CR 6: and of each connection the Hardware_Config that it keeps, with zeros
+-- behind its end
 
 abbrev pub nameSize : ℕ
 nameSize = 32
 
+-- the first byte of connection c's, and the byte behind the last of all
+abbrev pub keptFrom : ℕ → ℕ
+keptFrom c = nameSize + c * longestHardware
+
 abbrev pub bytes : ℕ
-bytes = nameSize
+bytes = keptFrom connections
 
 abbrev pub nameBytes : List ℕ → List ℕ
 nameBytes b = part 0 nameSize b
@@ -245,14 +251,34 @@ nameBytes b = part 0 nameSize b
 abbrev pub nameOf : List ℕ → List ℕ
 nameOf b = nameIn (nameBytes b)
 
+abbrev pub keptBytes : ℕ → List ℕ → List ℕ
+keptBytes c b = part (keptFrom c) longestHardware b
+
+abbrev pub keptOf : List ℕ → List (List ℕ)
+keptOf b = map (λ c. structureIn (keptBytes c b)) (0 ∷ 1 ∷ 2 ∷ 3 ∷ [])
+
+-- a structure in a connection's bytes
+abbrev pub spread : List ℕ → List ℕ
+spread h = h ++ replicate (longestHardware - length h) 0
+
+pub record Spread (x : List ℕ) : Type 0 where
+  pub fits : 2 + lengthIn x ≤ longestHardware
+  pub zeros : x ≡ spread (structureIn x)
+
 pub record Stored (b : List ℕ) : Type 0 where
   pub whole : length b ≡ bytes
   pub name : nameBytes b ≡ padded (nameOf b)
+  pub kept : (c : ℕ) → c ≤ 3 → Spread (keptBytes c b)
 
--- the bytes hold just that name
-pub record Named (b name : List ℕ) : Type 0 where
+-- the bytes hold just that name and those structures
+pub record Holds (b x : List ℕ) (l : List (List ℕ)) : Type 0 where
   pub stored : Stored b
-  pub is : nameOf b ≡ name
+  pub name : nameOf b ≡ x
+  pub kept : keptOf b ≡ l
+
+-- that name, and nothing is kept
+abbrev pub Named : (b name : List ℕ) → Type 0
+Named b name = Holds b name (replicate connections noHardware)
 
 -- ## Both
 
@@ -261,4 +287,12 @@ pub record Whole (m b : List ℕ) : Type 0 where
   pub bytes : Stored b
 
 abbrev pub shown : List ℕ → List ℕ → Splicer
-shown m b = record { name = nameOf b; clock = see m .clock; primary = see m .primary; links = see m .links; queue = see m .queue }
+shown m b =
+    record {
+      name = nameOf b;
+      clock = see m .clock;
+      primary = see m .primary;
+      links = see m .links;
+      hardware = keptOf b;
+      queue = see m .queue;
+    }

@@ -1,7 +1,7 @@
 // A splicer in two pieces that the caller lends. Its words: the clock, how many wait, how many have started, where the ring of those that
 // wait ends, the primary sum, how many of those that wait are each connection's, a word for each connection, the places of those that wait
-// and of those that have started, what ended lately. Its bytes: the ChannelName with zeros behind its end. Only this crate knows where what
-// stands.
+// and of those that have started, what ended lately. Its bytes: the ChannelName with zeros behind its end, and of each connection the
+// Hardware_Config that it keeps, with zeros behind its end. Only this crate knows where what stands.
 use places::Key;
 use places::WIDTH;
 use rules::Link;
@@ -13,19 +13,20 @@ ghost use mathlib.Core.Path.{_≡_};
 ghost use mathlib.Core.Bool.{true};
 ghost use mathlib.Core.List.{[], _∷_};
 ghost use Prim.Native.Nat.{_+_, _-_, _≤_, _<_};
-ghost use lib.ListN.{length, getD};
+ghost use lib.ListN.{length, getD, set};
 ghost use lib.Seq.{paste};
 ghost use Rattle.rules.specs.declared.Link.the-variants.{Closed};
 ghost use Rattle.rules.specs.Bytes.{nameIn};
 ghost use Rattle.rules.specs.Lists.{omit, place, insertAt, removeAt};
-ghost use Rattle.rules.specs.State.{empty, of, Sorted, earliest, mostKept, unused, recentAt, recent};
+ghost use Rattle.rules.specs.State.{empty, of, Sorted, earliest, noHardware, mostKept, unused, recentAt, recent};
 ghost use Rattle.rules.specs.Answers.{isPast, latest};
+ghost use Rattle.rules.specs.Reading.{longestHardware, lengthIn, structureIn};
 ghost use Rattle.rules.specs.Instants.{onAir};
-ghost use Rattle.places.specs.Places.{Narrow, keyTest, startsFrom, round};
+ghost use Rattle.places.specs.Places.{Narrow, keyTest, startsFrom, round, zeros};
 ghost use Rattle.memory.specs.declared.Which.the-variants.{Waiting, Started};
 ghost use Rattle.memory.specs.Memory.{slotOf, ringOf, firstLink, fromOf, toOf, words, placesOf, wordOf, linkIn};
 ghost use Rattle.memory.specs.Memory.{sessions, see, Form, Now, timed, silenced, linked, relisted, recalling, onward, nothingShown, Storable, tallied};
-ghost use Rattle.memory.specs.Memory.{nameBytes, Stored, Named};
+ghost use Rattle.memory.specs.Memory.{nameBytes, nameOf, keptOf, spread, Stored, Holds, Named};
 
 // Where what stands in the words.
 const CLOCK: usize = 0;
@@ -70,10 +71,12 @@ const OPENED: u64 = 1;
 
 const INITIALISED: u64 = 2;
 
-// The bytes of the name, and all of them.
+// The bytes of the name, those of a connection's Hardware_Config, and all of them.
 const NAME: usize = 32;
 
-pub const BYTES: usize = NAME;
+const KEPT: usize = 256;
+
+pub const BYTES: usize = NAME + CONNECTIONS * KEPT;
 
 // The lists of sessions.
 pub enum Which {
@@ -552,4 +555,61 @@ pub fn clear_name(b: &mut [u8; BYTES])
     ensures { λ _. ⌜ Named (now (b .exit)) [] ⌝ }
 {
     *b = [0; BYTES];
+}
+
+// 02, CR 6: the bytes of connection c, which begin with the Hardware_Config that it keeps.
+pub fn kept(b: &[u8], c: u32) -> &[u8]
+    requires { ⌜ Stored (now b) ⌝ }
+    requires { ⌜ c ≤ 3 ⌝ }
+    ensures is { λ r. ⌜ structureIn (now r) ≡ getD (keptOf (now (b .entry))) c noHardware ⌝ }
+    ensures whole { λ r. ⌜ (2 + lengthIn (now r) ≤ length (now r)) × (length (now r) ≡ longestHardware) ⌝ }
+{
+    let at = NAME + c as usize * KEPT;
+    let end = at + KEPT;
+    &b[at..end]
+}
+
+// Zeros in the bytes of a connection.
+fn clear_kept(k: &mut [u8])
+    requires { ⌜ length (now k) ≡ longestHardware ⌝ }
+    ensures { λ _. ⌜ now (k .exit) ≡ zeros longestHardware ⌝ }
+{
+    let mut i = 0;
+    while i < KEPT {
+        k[i] = 0;
+        i += 1;
+    }
+}
+
+// Connection c keeps nothing.
+pub fn forget(b: &mut [u8], c: u32)
+    requires { ⌜ Stored (now b) ⌝ }
+    requires { ⌜ c ≤ 3 ⌝ }
+    ensures { λ _. ⌜ Holds (now (b .exit)) (nameOf (now (b .entry))) (set (keptOf (now (b .entry))) c noHardware) ⌝ }
+{
+    let at = NAME + c as usize * KEPT;
+    let end = at + KEPT;
+    clear_kept(&mut b[at..end])
+}
+
+// The structure h over zeros.
+fn put_kept(k: &mut [u8], h: &[u8])
+    requires { ⌜ length (now k) ≡ longestHardware ⌝ }
+    requires { ⌜ length (now h) ≤ longestHardware ⌝ }
+    ensures { λ _. ⌜ now (k .exit) ≡ spread (now (h .entry)) ⌝ }
+{
+    clear_kept(&mut *k);
+    copy(&mut *k, h, h.len())
+}
+
+// Connection c keeps the structure h, in place of any older one.
+pub fn keep(b: &mut [u8], c: u32, h: &[u8])
+    requires { ⌜ Stored (now b) ⌝ }
+    requires { ⌜ c ≤ 3 ⌝ }
+    requires { ⌜ (length (now h) ≡ 2 + lengthIn (now h)) × (length (now h) ≤ longestHardware) ⌝ }
+    ensures { λ _. ⌜ Holds (now (b .exit)) (nameOf (now (b .entry))) (set (keptOf (now (b .entry))) c (now (h .entry))) ⌝ }
+{
+    let at = NAME + c as usize * KEPT;
+    let end = at + KEPT;
+    put_kept(&mut b[at..end], h)
 }
