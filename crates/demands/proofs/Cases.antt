@@ -21,7 +21,7 @@ use Rattle.rules.specs.declared.WireTime.{WireTime}
 use Rattle.rules.specs.Lists.{count}
 use Rattle.rules.specs.Cues.{readCue, cueTime, initialised, passedTo, complainedTo, cueRecords}
 use Rattle.rules.specs.Answers.{requested, grants, splices, aliveResponse, configResponse, extendedResponse, initialised}
-use Rattle.rules.specs.Calls.{Called, refuse, does, replies, shut, ticked, Loans, Call, opens, closes, messages, ticks, moves, cues, call}
+use Rattle.rules.specs.Calls.{Called, refuse, does, replies, sectionOf, shut, ticked, Loans, Call, opens, closes, messages, ticks, moves, cues, call}
 use Rattle.demands.specs.History.{isStart, isEnd, isYes}
 use Rattle.rules.proofs.Tests.{by}
 use Rattle.rules.proofs.Checks.{Passed}
@@ -81,7 +81,7 @@ module _ (s : Splicer) (P : Call → Called → Type 0) (k : Cases s P) where
         go true e = k .declining c l loans n r e y o
         go false e = k .saying c l loans n (r ∷ []) e p
 
-    message-case : rules.Answering c l loans s (rules.Handles P c l loans)
+    message-case : rules.Answering c l (sectionOf loans s) s (rules.Handles P c l loans)
     unfolding isYes isStart isEnd isOut aliveResponse configResponse andThen
     message-case =
         record {
@@ -91,7 +91,7 @@ module _ (s : Splicer) (P : Call → Called → Type 0) (k : Cases s P) where
               by (λ (z : Splicer). P (messages c l loans) (does n (InitResponse c r (s .name) ∷ []) z)) (eqb r 100) _ _
               (λ i. k .naming c l loans n (InitResponse c r (s .name)) (hardwareIn (dataIn l)) e p) (λ i. k .saying c l loans n (InitResponse c r (s .name) ∷ []) e p);
           alive = λ e. k .saying c l loans n (aliveResponse c s ∷ []) e (record { starts = λ d x. refl; ends = λ d x. refl });
-          telling = λ e. k .saying c l loans n (configResponse c loans s ∷ []) e (record { starts = λ d x. refl; ends = λ d x. refl });
+          telling = λ e. k .saying c l loans n (configResponse c (sectionOf loans s) s ∷ []) e (record { starts = λ d x. refl; ends = λ d x. refl });
           unknown = λ x e i. k .saying c l loans n (AbortResponse c 121 x ∷ []) e (record { starts = λ d x. refl; ends = λ d x. refl });
           aborting = λ x e i held. k .aborting c l loans n x e held;
           recalling = λ x e i. k .saying c l loans n (extendedResponse c x (s .queue) ∷ []) e (by-recall (λ (r : Record). Plain (r ∷ [])) c x (s .queue) (λ h. record { starts = λ d y. refl; ends = λ d y. refl }) (record { starts = λ d y. refl; ends = λ d y. refl }));

@@ -14,7 +14,7 @@ use Rattle.rules.specs.State.{Queue, Splicer, holds, linkOf, isOpen, wit
 use Rattle.rules.specs.Ends.{andThen, aborted, closedBy}
 use Rattle.rules.specs.Instants.{runAll, silentAll}
 use Rattle.rules.specs.Answers.{initialised, requested, accepted}
-use Rattle.rules.specs.Calls.{Called, shut, ticked, Loans, Call, messages, call, after, named, fresh}
+use Rattle.rules.specs.Calls.{Called, sectionOf, shut, ticked, Loans, Call, messages, call, after, named, fresh}
 use Rattle.rules.proofs.Tests.{by}
 use Rattle.rules.proofs.Cases.{Brings, Answering, cases}
 use Rattle.rules.proofs.All.{All}
@@ -89,7 +89,7 @@ held-kept J k =
 
 module _ (F : Call → Type 0) (P : Splicer → Type 0) (k : Kept F P) where
   -- only what is done to the splicer counts
-  message-kept : (s : Splicer) → P s → (c : ℕ) (l : List ℕ) (loans : Loans) → c ≤ 3 → isOpen (linkOf c s) ≡ true → Answering c l loans s (λ a. F (messages c l loans) → P (a .splicer))
+  message-kept : (s : Splicer) → P s → (c : ℕ) (l : List ℕ) (loans : Loans) → c ≤ 3 → isOpen (linkOf c s) ≡ true → Answering c l (sectionOf loans s) s (λ a. F (messages c l loans) → P (a .splicer))
   unfolding andThen
   message-kept s h c l loans low up =
       record {

@@ -21,7 +21,7 @@ use Rattle.rules.specs.State.{Splicer, holds, linkOf, isOpen, isInitiali
 use Rattle.rules.specs.Records.{General, InitResponse, SpliceResponse, AbortResponse}
 use Rattle.rules.specs.Ends.{Turn, andThen, writes, aborted, closedBy}
 use Rattle.rules.specs.Answers.{Answered, says, turns, requested, wrongNumber, tooLate, collides, full, firstOf, spliceResult, Spliced, grants, splices, answerSplice, answerAbort, initResult, initialised, answerInit, aliveResponse, configResponse, extendedResponse, answerRead, answer}
-use Rattle.rules.specs.Calls.{Called, refuse, does, replies, noConnection, noRoom, notOpen, longSection, shut, openCall, closeCall, framing, handled, messageCall, ticked, moveCall, tickCall, Loans, Call, opens, closes, messages, ticks, moves, cues, cueCall, call}
+use Rattle.rules.specs.Calls.{Called, refuse, does, replies, noConnection, noRoom, notOpen, longSection, sectionOf, shut, openCall, closeCall, framing, handled, messageCall, ticked, moveCall, tickCall, Loans, Call, opens, closes, messages, ticks, moves, cues, cueCall, call}
 use Rattle.rules.specs.Cues.{badSection, readCue, cueTime, initialised, cueRecords}
 use Rattle.rules.specs.Lists.{All, some}
 use Rattle.rules.specs.Sound.{codes, Given}
@@ -33,14 +33,14 @@ pub data Brings : Call → ℕ → Type 0 where
   tick : (seconds micros room : ℕ) → micros ≤ 999999 → Brings (ticks seconds micros room) (fromMicros (timeOf seconds micros) .0)
   move : (until room : ℕ) → Brings (moves until room) until
 
--- what the answer to the message l of connection c, lent the loans, can be; D: what is to be shown of an answer
-pub record Answering (c : ℕ) (l : List ℕ) (loans : Loans) (s : Splicer) (D : Answered → Type 0) : Type 0 where
+-- what the answer to the message l of connection c, where the map on air is the section, can be; D: what is to be shown of an answer
+pub record Answering (c : ℕ) (l section : List ℕ) (s : Splicer) (D : Answered → Type 0) : Type 0 where
   pub silent : isSplice l ≡ false → D (says [] s)
   pub general : (r : ℕ) → Given r → D (says (General c r ∷ []) s)
   pub naming : (r : ℕ) → Given r → isSplice l ≡ false → badInit (dataIn l) ≡ false
       → D (says (InitResponse c r (s .name) ∷ []) (cond (eqb r 100) (initialised c (hardwareIn (dataIn l)) s) s))
   pub alive : isSplice l ≡ false → D (says (aliveResponse c s ∷ []) s)
-  pub telling : isSplice l ≡ false → D (says (configResponse c loans s ∷ []) s)
+  pub telling : isSplice l ≡ false → D (says (configResponse c section s ∷ []) s)
   pub unknown : (x : ℕ) → isSplice l ≡ false → x ≡ sessionID (dataIn l) → D (says (AbortResponse c 121 x ∷ []) s)
   pub aborting : (x : ℕ) → isSplice l ≡ false → x ≡ sessionID (dataIn l) → holds c x (s .queue) ≡ true
       → D (turns (andThen (writes (AbortResponse c 100 x ∷ []) (s .queue)) (aborted c x)) s)
@@ -61,7 +61,7 @@ pub record Cases (s : Splicer) (P : Call → Called → Type 0) : Type 0 where
   pub closing : (c room : ℕ) → c ≤ 3 → isOpen (linkOf c s) ≡ true
       → P (closes c room) (does 0 (closedBy c (s .queue) .written) (shut c (withQueue (closedBy c (s .queue) .queue) s)))
   pub answering : (c : ℕ) (l : List ℕ) (loans : Loans) → c ≤ 3 → isOpen (linkOf c s) ≡ true → longSection loans ≡ false
-      → Answering c l loans s (Handles P c l loans)
+      → Answering c l (sectionOf loans s) s (Handles P c l loans)
   pub bringing : (k : Call) (until : ℕ) → Brings k until → s .clock ≤ until → P k (ticked until s)
   -- 02, CR 7
   pub cueing : (l : List ℕ) (pts seconds micros room : ℕ) → badSection l ≡ false
@@ -95,7 +95,7 @@ init-given revision asked name =
 
 -- ## Messages
 
-module _ (c : ℕ) (l : List ℕ) (loans : Loans) (s : Splicer) (D : Answered → Type 0) (k : Answering c l loans s D) where
+module _ (c : ℕ) (l section : List ℕ) (s : Splicer) (D : Answered → Type 0) (k : Answering c l section s D) where
   -- another MessageID than a Splice_Request's
   other : (id : ℕ) → eqb (messageID l) id ≡ true → eqb id spliceRequest ≡ false → isSplice l ≡ false
   other id e f = rw (eqb-true (messageID l) id e) f
@@ -113,11 +113,11 @@ module _ (c : ℕ) (l : List ℕ) (loans : Loans) (s : Splicer) (D : Answered �
       by (λ (a : Spliced). D (splices a s)) (eqb v 100) _ _
       (λ i. k .accepting r e f (passed-all (s .clock) c r q (eqb-true v 100 i))) (λ i. k .declining r v e f low i)
 
-  read-case : D (answerRead c (read (messageID l) (dataIn l)) (dataIn l) loans s)
+  read-case : D (answerRead c (read (messageID l) (dataIn l)) (dataIn l) section s)
   unfolding answerRead answerInit read readInit readAlive readAbort readConfig readExtended readWhole readSplice
   read-case =
       let d = dataIn l in
-      let M : Message → Type 0 = λ m. D (answerRead c m d loans s) in
+      let M : Message → Type 0 = λ m. D (answerRead c m d section s) in
       let bad = k .general 123 refl in
       by M (eqb (messageID l) initRequest) _ _
       (λ e. by M (badInit d) _ _ (λ f. bad) (λ f. k .naming _ (init-given (field 0 2 d) (channelName d) (s .name)) (other initRequest e refl) f))
@@ -132,7 +132,7 @@ module _ (c : ℕ) (l : List ℕ) (loans : Loans) (s : Splicer) (D : Answered �
       (λ i. by M (eqb (messageID l) configRequest) _ _
       (λ j. by M (eqb (length d) 0) _ _ (λ m. k .telling (other configRequest j refl)) (λ m. bad)) (λ j. bad))))))
 
-  answer-case : D (answer c (messageID l) (dataIn l) loans s)
+  answer-case : D (answer c (messageID l) (dataIn l) section s)
   unfolding answer
   answer-case =
       by D (eqb (messageID l) 0x0000) _ _ (λ e. k .silent (other 0x0000 e refl))
@@ -151,7 +151,7 @@ module _ (s : Splicer) (P : Call → Called → Type 0) (k : Cases s P) where
       by G (ltb (length l) 8) _ _ (λ e. k .refusing (messages c l loans) _)
       (λ e. by G (oversize l) _ _ (λ f. k .refusing (messages c l loans) _)
       (λ f. by G (ltb (length l) (8 + messageSize l)) _ _ (λ g. k .refusing (messages c l loans) _)
-      (λ g. answer-case c l loans s (Handles P c l loans) (k .answering c l loans low up short))))
+      (λ g. answer-case c l (sectionOf loans s) s (Handles P c l loans) (k .answering c l loans low up short))))
 
   move-case : (j : Call) (until room : ℕ) → Brings j until → P j (moveCall until room s)
   unfolding moveCall

@@ -14,7 +14,7 @@ use Rattle.rules.specs.Records.{Record}
 use Rattle.rules.specs.Ends.{Turn, andThen, ended, ending, oneEnd, endings, followers, dismissed, evictedAt, evicted, cancelled, aborted, closedBy}
 use Rattle.rules.specs.Instants.{mayStart, began, meetsEqual, ousted, launched, startAt, endAt, instant, elapse, run, runAll}
 use Rattle.rules.specs.Answers.{aliveResponse, configResponse, requested, accepts, accepted}
-use Rattle.rules.specs.Calls.{ticked, Loans, Call, call}
+use Rattle.rules.specs.Calls.{ticked, Call, call, sectionOf}
 use Rattle.rules.specs.Cues.{readCue, cueTime, initialised}
 use Rattle.rules.specs.Sound.{Given, Coded}
 use Rattle.rules.proofs.Tests.{by}
@@ -126,9 +126,9 @@ run-coded (suc n) now until q =
 
 -- ## Every call
 
-message-coded : (s : Splicer) (c : ℕ) (l : List ℕ) (loans : Loans) → Answering c l loans s (λ a. All Coded (a .written))
+message-coded : (s : Splicer) (c : ℕ) (l section : List ℕ) → Answering c l section s (λ a. All Coded (a .written))
 unfolding andThen aliveResponse configResponse
-message-coded s c l loans =
+message-coded s c l section =
     record {
       silent = λ e. tt;
       general = λ r b. (b, tt);
@@ -150,7 +150,7 @@ call-coded k s =
       refusing = λ k n. tt;
       opening = λ c low e. tt;
       closing = λ c room low e. closedBy-coded c (s .queue);
-      answering = λ c l loans low e short. message-coded s c l loans;
+      answering = λ c l loans low e short. message-coded s c l (sectionOf loans s);
       bringing = λ k until b le. run-coded _ (s .clock) until (s .queue);
       cueing = λ l pts seconds micros room g. let x = readCue l in
           cue-all Coded (cueTime pts seconds micros x) l (λ c low. refl) (λ c low. refl) x (initialised (s .links)) (initialised-low (s .links));

@@ -21,7 +21,7 @@ use Rattle.rules.specs.Records.{Record, output, recordsIn}
 use Rattle.rules.specs.Ends.{Turn, andThen, ended, ending, oneEnd, endings, followers, dismissed, evictedAt, evicted, cancelled, aborted, closedBy}
 use Rattle.rules.specs.Instants.{mayStart, began, meetsEqual, ousted, launched, startAt, endAt, instant, elapse, run, runAll}
 use Rattle.rules.specs.Answers.{airState, airID, aliveResponse, airFeed, configResponse, extendedResponse, sessionAt, requested, accepts, accepted, answer}
-use Rattle.rules.specs.Calls.{Answer, refused, good, longSection, Loans, ticked, Call, messages, call, writtenBy}
+use Rattle.rules.specs.Calls.{Answer, refused, good, longestSection, longSection, sectionOf, Loans, ticked, Call, messages, call, writtenBy}
 use Rattle.rules.proofs.Tests.{by}
 use Rattle.rules.proofs.All.{All, all-append, all-into}
 use Rattle.rules.proofs.Bytes.{Byte, part-byte, field-below}
@@ -41,7 +41,7 @@ use Rattle.rules.proofs.Timed.{meets-after}
 use Rattle.rules.proofs.Sessions.{each-elapse, each-instant}
 use Rattle.rules.specs.Sound.{Recalled}
 use Rattle.rules.proofs.Held.{Proper, Small, Linking, structure-at}
-use Rattle.rules.proofs.Size.{air-short}
+use Rattle.rules.proofs.Size.{section-short}
 use Rattle.rules.proofs.Aired.{Played, elapse-played, Aired, moved-aired}
 
 -- ## Sessions
@@ -269,20 +269,12 @@ extended-fits c x low k s h =
     let n = latest-noted c x (s .queue .lately) (h .lately) in
     by-recall Fits c x (s .queue) (λ i. (omega arith, k, omega (arith, n .event), n .result, omega (arith, n .played))) (omega arith, k)
 
-config-fits : (c : ℕ) → c ≤ 3 → (s : Splicer) → Healthy s → (loans : Loans) → longSection loans ≡ false
-    → All Byte (loans .primary) × All Byte (loans .insertion) → Fits (configResponse c loans s)
+config-fits : (c : ℕ) → c ≤ 3 → (s : Splicer) → Healthy s → (section : List ℕ) → length section ≤ longestSection → All Byte section
+    → Fits (configResponse c section s)
 unfolding configResponse
-config-fits c low s h loans e b =
-    let k = s .queue .started in
-    let l = h .linking in (
-      (omega arith, omega arith),
-      omega (arith, l .short),
-      l .zeros,
-      l .bytes,
-      structure-at c (s .hardware) (l .kept),
-      air-short k loans e,
-      by (All Byte) (eqb (airFeed k) 0) _ _ (λ i. b .0) (λ i. b .1),
-    )
+config-fits c low s h section short b =
+    let l = h .linking in
+    ((omega arith, omega arith), omega (arith, l .short), l .zeros, l .bytes, structure-at c (s .hardware) (l .kept), short, b)
 
 -- ## Calls
 
@@ -296,7 +288,7 @@ unfolding read
 read-asked d a r e = splice-grants d a spliceRequest r e
 
 message-fits : (s : Splicer) → Healthy s → (c : ℕ) (l : List ℕ) (loans : Loans) → c ≤ 3 → longSection loans ≡ false
-    → Answering c l loans s (λ a. Wired (messages c l loans) → All Fits (a .written))
+    → Answering c l (sectionOf loans s) s (λ a. Wired (messages c l loans) → All Fits (a .written))
 unfolding andThen requested sessionAt
 message-fits s h c l loans low short =
     record {
@@ -304,7 +296,7 @@ message-fits s h c l loans low short =
       general = λ r b a. ((omega arith, given-below r b), tt);
       naming = λ r b e g a. (((omega arith, given-below r b), omega (arith, h .linking .short), h .linking .zeros, h .linking .bytes), tt);
       alive = λ e a. (alive-fits c low s h, tt);
-      telling = λ e a. (config-fits c low s h loans short (a .1, a .2), tt);
+      telling = λ e a. (config-fits c low s h (sectionOf loans s) (section-short loans s short) (by (All Byte) (eqb (airFeed (s .queue .started)) 0) _ _ (λ i. a .1) (λ i. a .2)), tt);
       unknown = λ x e i a. (((omega arith, omega arith), number x i (a .0)), tt);
       aborting = λ x e i held a. (((omega arith, omega arith), number x i (a .0)), aborted-fits c x (s .queue) (tell-now (s .clock) (s .queue) (telling-of s h)));
       recalling = λ x e i a. (extended-fits c x low (number x i (a .0)) s h, tt);

@@ -16,8 +16,8 @@ use Rattle.rules.specs.Records.{Record, General, InitResponse, AliveResp
 use Rattle.rules.specs.Ends.{Turn, quiet, andThen, ended, ending, oneEnd, endings, followers, dismissed, evictedAt, evicted, cancelled, aborted, closedBy}
 use Rattle.rules.specs.Reading.{longestHardware}
 use Rattle.rules.specs.Instants.{mayStart, began, meetsEqual, ousted, launched, startAt, endAt, instant, runAll}
-use Rattle.rules.specs.Answers.{Answered, airFeed, airMap, requested, accepts, accepted, aliveResponse, configResponse, answer}
-use Rattle.rules.specs.Calls.{writtenBy, longestSection, longSection, Loans, ticked, Call, call}
+use Rattle.rules.specs.Answers.{Answered, airFeed, requested, accepts, accepted, aliveResponse, configResponse, answer}
+use Rattle.rules.specs.Calls.{writtenBy, longestSection, longSection, sectionOf, Loans, ticked, Call, call}
 use Rattle.rules.specs.Cues.{readCue, cueTime, initialised}
 use Rattle.rules.proofs.Tests.{by, or-none}
 use Rattle.rules.proofs.Cued.{section-size, initialised-four, cue-weight}
@@ -178,10 +178,10 @@ pub record Bounded (s : Splicer) : Type 0 where
   pub hardware : (c : ℕ) → length (hardwareOf c s) ≤ longestHardware
 
 -- one of two sections that are not over 1,024 bytes is not
-pub air-short : (k : List Session) (loans : Loans) → longSection loans ≡ false → length (airMap k loans) ≤ longestSection
-air-short k loans e =
+pub section-short : (loans : Loans) (s : Splicer) → longSection loans ≡ false → length (sectionOf loans s) ≤ longestSection
+section-short loans s e =
     let o = or-none (ltb longestSection (length (loans .primary))) _ e in
-    by (λ (m : List ℕ). length m ≤ longestSection) (eqb (airFeed k) 0) _ _ (λ f. ltb-false _ _ (o .0)) (λ f. ltb-false _ _ (o .1))
+    by (λ (m : List ℕ). length m ≤ longestSection) (eqb (airFeed (s .queue .started)) 0) _ _ (λ f. ltb-false _ _ (o .0)) (λ f. ltb-false _ _ (o .1))
 
 module _ (s : Splicer) (h : Bounded s) where
   abbrev Fits : Answered → Type 0
@@ -191,21 +191,20 @@ module _ (s : Splicer) (h : Bounded s) where
   one-fits r a b = omega (arith, weight-one r a)
 
   -- a GetConfig_Response is at most 1,322 bytes
-  config-size : (c : ℕ) (loans : Loans) → longSection loans ≡ false → weight (configResponse c loans s ∷ []) ≤ 3174
+  config-size : (c : ℕ) (section : List ℕ) → length section ≤ longestSection → weight (configResponse c section s ∷ []) ≤ 3174
   unfolding configResponse
-  config-size c loans e =
-      let m = air-short (s .queue .started) loans e in
-      one-fits (ConfigResponse c 100 (s .name) (hardwareOf c s) (airMap (s .queue .started) loans)) (h .name, h .hardware c, m) (omega (arith, h .hardware c))
+  config-size c section m =
+      one-fits (ConfigResponse c 100 (s .name) (hardwareOf c s) section) (h .name, h .hardware c, m) (omega (arith, h .hardware c))
 
-  message-size : (c : ℕ) (l : List ℕ) (loans : Loans) → longSection loans ≡ false → Answering c l loans s Fits
+  message-size : (c : ℕ) (l section : List ℕ) → length section ≤ longestSection → Answering c l section s Fits
   unfolding accepted andThen aliveResponse
-  message-size c l loans short =
+  message-size c l section short =
       let q = s .queue in
       record {
         silent = λ e. omega (arith, weight-none);
         general = λ r b. one-fits (General c r) tt (omega arith);
         naming = λ r b e g. one-fits (InitResponse c r (s .name)) (h .name) (omega arith);
-        telling = λ e. config-size c loans short;
+        telling = λ e. config-size c section short;
         alive = λ e. one-fits (AliveResponse c 100 _ _ _) tt (omega arith);
         unknown = λ x e i. one-fits (AbortResponse c 121 x) tt (omega arith);
         aborting = λ x e i held. omega (
@@ -230,7 +229,7 @@ module _ (s : Splicer) (h : Bounded s) where
         refusing = λ k n. omega arith;
         opening = λ c low e. omega (arith, weight-none);
         closing = λ c room low e. omega (arith, cancelled-lean (of c) (s .queue), h .waiting, h .started);
-        answering = λ c l loans low e short. message-size c l loans short;
+        answering = λ c l loans low e short. message-size c l (sectionOf loans s) (section-short loans s short);
         bringing = λ k until b le. omega (arith, tick-brief (s .clock) until (s .queue), h .waiting, h .started);
         cueing = λ l pts seconds micros room g. let x = readCue l in
             omega (arith, cue-weight x (cueTime pts seconds micros x) l (initialised (s .links)) (section-size l g .1), initialised-four (s .links));

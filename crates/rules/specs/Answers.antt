@@ -36,20 +36,6 @@ says rs s = record { splicer = s; written = rs; accepted = false; moved = 0 }
 abbrev pub turns : Turn → Splicer → Answered
 turns t s = record { splicer = withQueue (t .queue) s; written = t .written; accepted = false; moved = 0 }
 
--- what a message call is lent; room: the length of its output buffer; 02, CR 6: "the caller lends both sections, the primary's and the
--- insertion's"
-pub record Loans : Type 0 where
-  pub room : ℕ
-  pub primary : List ℕ
-  pub insertion : List ℕ
-
-abbrev pub lendingMaps : (primary insertion : List ℕ) (room : ℕ) → Loans
-lendingMaps primary insertion room = record { room = room; primary = primary; insertion = insertion }
-
--- empty sections
-abbrev pub lending : ℕ → Loans
-lending room = lendingMaps [] [] room
-
 -- ## Init
 
 -- "Revision not 2 gives 102, another name 104, else 100"
@@ -95,12 +81,13 @@ unfoldable pub airFeed : List Session → ℕ
 airFeed [] = 0
 airFeed (air ∷ k) = 1
 
--- "the caller .. gets back the one on air"
-abbrev pub airMap : List Session → Loans → List ℕ
-airMap k loans = cond (eqb (airFeed k) 0) (loans .primary) (loans .insertion)
+-- "the caller lends both sections, the primary's and the insertion's, and gets back the one on air"
+abbrev pub airMap : List Session → (primary insertion : List ℕ) → List ℕ
+airMap k primary insertion = cond (eqb (airFeed k) 0) primary insertion
 
-unfoldable pub configResponse : ℕ → Loans → Splicer → Record
-configResponse c loans s = ConfigResponse c 100 (s .name) (hardwareOf c s) (airMap (s .queue .started) loans)
+-- section: the one on air
+unfoldable pub configResponse : ℕ → (section : List ℕ) → Splicer → Record
+configResponse c section s = ConfigResponse c 100 (s .name) (hardwareOf c s) section
 
 -- ## Abort
 
@@ -250,22 +237,22 @@ splices a s =
 
 -- ## The answer
 
--- a message of that list, read from the data d; "5. Not readable: General_Response 123."
-unfoldable pub answerRead : ℕ → Message → List ℕ → Loans → Splicer → Answered
-answerRead c (Init revision) d loans s = answerInit c revision d s
-answerRead c Alive d loans s = says (aliveResponse c s ∷ []) s
-answerRead c (Splice r) d loans s = splices (answerSplice (s .clock) c r (s .queue)) s
-answerRead c (Abort x) d loans s = turns (answerAbort c x (s .queue)) s
-answerRead c (Extended x) d loans s = says (extendedResponse c x (s .queue) ∷ []) s
-answerRead c Config d loans s = says (configResponse c loans s ∷ []) s
-answerRead c Unreadable d loans s = says (General c 123 ∷ []) s
+-- a message of that list, read from the data d; section: the map on air. "5. Not readable: General_Response 123."
+unfoldable pub answerRead : ℕ → Message → List ℕ → (section : List ℕ) → Splicer → Answered
+answerRead c (Init revision) d section s = answerInit c revision d s
+answerRead c Alive d section s = says (aliveResponse c s ∷ []) s
+answerRead c (Splice r) d section s = splices (answerSplice (s .clock) c r (s .queue)) s
+answerRead c (Abort x) d section s = turns (answerAbort c x (s .queue)) s
+answerRead c (Extended x) d section s = says (extendedResponse c x (s .queue) ∷ []) s
+answerRead c Config d section s = says (configResponse c section s ∷ []) s
+answerRead c Unreadable d section s = says (General c 123 ∷ []) s
 
 -- "1. ID 0x0000: no answer. 2. Not initialised and not Init_Request: General_Response 103. 3. ID 0x000D: no answer.
 -- 4. ID not in the list of four: General_Response 120." 02, CR 8: of five
-unfoldable pub answer : ℕ → ℕ → List ℕ → Loans → Splicer → Answered
-answer c id d loans s =
+unfoldable pub answer : ℕ → ℕ → List ℕ → (section : List ℕ) → Splicer → Answered
+answer c id d section s =
     cond (eqb id 0x0000) (says [] s)
     (cond (not (isInitialised (linkOf c s)) && not (eqb id initRequest)) (says (General c 103 ∷ []) s)
     (cond (eqb id 0x000D) (says [] s)
     (cond (not (isRead id)) (says (General c 120 ∷ []) s)
-    (answerRead c (read id d) d loans s))))
+    (answerRead c (read id d) d section s))))

@@ -14,8 +14,7 @@ use Rattle.rules.specs.Bytes.{messageID, messageSize, oversize, dataOf, 
 use Rattle.rules.specs.State.{Splicer, noHardware, linkOf, isOpen, withLink, withHardware, withQueue, withClock, noneHeld}
 use Rattle.rules.specs.Records.{Record, output}
 use Rattle.rules.specs.Ends.{closedBy}
-use Rattle.rules.specs.Answers.{Answered, answer}
-pub use Rattle.rules.specs.Answers.{Loans, lending, lendingMaps}
+use Rattle.rules.specs.Answers.{Answered, airMap, answer}
 use Rattle.rules.specs.Instants.{runAll, silentAll}
 use Rattle.rules.specs.Cues.{badSection, readCue, cueTime, initialised, cueRecords}
 
@@ -90,6 +89,20 @@ noRoom room = ltb room 4096
 abbrev pub notOpen : ℕ → Splicer → Bool
 notOpen c s = not (isOpen (linkOf c s))
 
+-- what a message call is lent; room: the length of its output buffer; 02, CR 6: "the caller lends both sections, the primary's and the
+-- insertion's"
+pub record Loans : Type 0 where
+  pub room : ℕ
+  pub primary : List ℕ
+  pub insertion : List ℕ
+
+abbrev pub lendingMaps : (primary insertion : List ℕ) (room : ℕ) → Loans
+lendingMaps primary insertion room = record { room = room; primary = primary; insertion = insertion }
+
+-- empty sections
+abbrev pub lending : ℕ → Loans
+lending room = lendingMaps [] [] room
+
 -- 02, CR 6, 10: "for a lent section over 1,024 bytes"
 abbrev pub longestSection : ℕ
 longestSection = 1024
@@ -142,10 +155,14 @@ framing l =
     (cond (oversize l) (Unframed Oversize)
     (cond (ltb (length l) (8 + messageSize l)) (Unframed Short) (Framed (messageID l) (messageSize l))))
 
+-- 02, CR 6: of the sections "the one on air"
+abbrev pub sectionOf : Loans → Splicer → List ℕ
+sectionOf loans s = airMap (s .queue .started) (loans .primary) (loans .insertion)
+
 -- "Message handles the first message only, and each is handed on as its own part of what was read."
 unfoldable pub handled : ℕ → Framing → List ℕ → Loans → Splicer → Called
 handled c (Unframed n) l loans s = refuse n s
-handled c (Framed id size) l loans s = replies (8 + size) (answer c id (dataOf size l) loans s)
+handled c (Framed id size) l loans s = replies (8 + size) (answer c id (dataOf size l) (sectionOf loans s) s)
 
 -- "message 1, 2, 7"; 02, CR 6: "house number 10 .., in the message call after 7"; then as above
 unfoldable pub messageCall : ℕ → List ℕ → Loans → Splicer → Called
