@@ -49,9 +49,10 @@ enum {
     SPLICER_OUT = 4096,
     SPLICER_MARK = 2,
     SPLICER_WORDS = 686,
-    SPLICER_BYTES = 32,
+    SPLICER_BYTES = 1056,
     SPLICER_REPLY = 4,
-    SPLICER_CUE_SECTION = 512 /* the longest section of cues; the shortest has 20 bytes */
+    SPLICER_CUE_SECTION = 512, /* the longest section of cues; the shortest has 20 bytes */
+    SPLICER_MAP_SECTION = 1024 /* the longest section that a message call may be lent (02, CR 6) */
 };
 
 /* The page of what ended lately: its rows, and where in the words what ended is kept. */
@@ -74,6 +75,7 @@ enum splicer_refusal {
     SPLICER_NOT_OPEN = 7,      /* close, message */
     SPLICER_BAD_MICROS = 8,    /* MicroSeconds above 999,999: tick, instant, cue */
     SPLICER_BAD_NAME = 9,      /* name without a zero byte: fresh */
+    SPLICER_LONG_SECTION = 10, /* a lent section over 1,024 bytes: message */
     SPLICER_BAD_SECTION = 11,  /* section not 3 + section_length bytes long, under 20 or over 512: cue */
     SPLICER_COUNTER = 12,      /* a second instant; a reading before the instant, more than 90 s after the last good one or past the last second: instant, reading */
     SPLICER_NOT_SIXTEEN = 16   /* other than sixteen rows: ended */
@@ -93,6 +95,8 @@ enum splicer_message_id {
     SPLICER_SPLICE_COMPLETE_RESPONSE = 0x0009, /* SessionID 4, SpliceTypeFlag 1, Bitrate 4, PlayedDuration 4 */
     SPLICER_CUE_REQUEST = 0x000C,             /* Seconds 4, MicroSeconds 4, the section; Result 0xFFFF, as it is no answer */
     SPLICER_CUE_RESPONSE = 0x000D,            /* read, and not answered */
+    SPLICER_GET_CONFIG_REQUEST = 0x000A,
+    SPLICER_GET_CONFIG_RESPONSE = 0x000B,     /* ChannelName 32, Hardware_Config with its Length 2, program map section */
     SPLICER_ABORT_REQUEST = 0x000E,
     SPLICER_ABORT_RESPONSE = 0x000F           /* SessionID 4 */
 };
@@ -124,7 +128,8 @@ enum {
  * of each connection, 9 to 12 the connections; then 64 places of 8 words for those that wait, then 10 for those that have started, then 16 of
  * 5 for those that ended lately, then which of the 16 is written next. Those that wait stand in order of start in a ring, the last of them
  * before the place of word 3, which goes one on with each acceptance; those that have started stand at the end of their places, the first
- * next to the free ones. bytes: the ChannelName. */
+ * next to the free ones. bytes: the ChannelName 32, then for each connection 256, the Hardware_Config of its Init_Request with zeros behind
+ * it, all zeros where none is kept. */
 struct splicer {
     uint64_t words[SPLICER_WORDS];
     uint8_t bytes[SPLICER_BYTES];
@@ -146,6 +151,16 @@ struct splicer_reply {
     uint32_t moved;
     size_t consumed;
     size_t written;
+};
+
+/* What a message call is lent beside its buffers (02, CR 6): the program map sections of the two feeds, each of any length; one over
+ * SPLICER_MAP_SECTION is refused (10). They are the driver's, are read during the call only, and may be others at the next call. A pointer
+ * may be null where its length is 0. */
+struct splicer_maps {
+    const uint8_t *primary;
+    size_t primary_length;
+    const uint8_t *insertion;
+    size_t insertion_length;
 };
 
 /* For each connection the sessions that wait: accepted, and neither started nor ended. */
@@ -181,7 +196,7 @@ struct splicer_row {
 
 /* The archive is made for machines on which these hold. */
 SPLICER_ASSERT(sizeof(size_t) == 8, "a length is 8 bytes");
-SPLICER_ASSERT(sizeof(struct splicer) == 5520, "size of struct splicer");
+SPLICER_ASSERT(sizeof(struct splicer) == 6544, "size of struct splicer");
 SPLICER_ASSERT(SPLICER_ALIGN(struct splicer) == 8, "alignment of struct splicer");
 SPLICER_ASSERT(SPLICER_OFFSET(struct splicer, bytes) == 5488, "layout of struct splicer");
 SPLICER_ASSERT(sizeof(struct splicer_rolling) == sizeof(struct splicer) + 16, "size of struct splicer_rolling");
@@ -210,7 +225,8 @@ SPLICER_ASSERT(SPLICER_ENDED + SPLICER_ENDED_WORDS == SPLICER_WORDS, "what ended
 void splicer_5_fresh(const uint8_t *name, uint64_t *words, uint8_t *bytes, uint64_t *reply);
 void splicer_5_open(uint64_t *words, uint8_t *bytes, uint32_t conn, uint64_t *reply);
 void splicer_5_close(uint64_t *words, uint8_t *bytes, uint32_t conn, uint8_t *out, size_t room, uint64_t *reply);
-void splicer_5_message(uint64_t *words, uint8_t *bytes, uint32_t conn, const uint8_t *in, size_t length, uint8_t *out, size_t room,
+void splicer_5_message(uint64_t *words, uint8_t *bytes, uint32_t conn, const uint8_t *in, size_t length, const uint8_t *primary,
+                       size_t primary_length, const uint8_t *insertion, size_t insertion_length, uint8_t *out, size_t room,
                        uint64_t *reply);
 void splicer_5_tick(uint64_t *words, uint8_t *bytes, uint32_t seconds, uint32_t micros, uint8_t *out, size_t room, uint64_t *reply);
 void splicer_5_waiting(const uint64_t *words, const uint8_t *bytes, uint64_t *counts);
@@ -224,6 +240,7 @@ uint64_t splicer_5_mux(const uint64_t *words, const uint8_t *bytes);
 void splicer_5_cue(const uint64_t *words, const uint8_t *bytes, const uint8_t *section, size_t length, const uint32_t *given, uint8_t *out,
                    size_t room, uint64_t *reply);
 size_t splicer_5_ended(const uint64_t *ended, size_t words, struct splicer_row *page, size_t rows);
+uint64_t splicer_5_map(const uint64_t *words, const uint8_t *bytes);
 
 /* The words of a reply as a struct. */
 static inline struct splicer_reply splicer_reply_of(const uint64_t *reply) {
@@ -256,11 +273,21 @@ static inline struct splicer_reply splicer_call_close(struct splicer *s, uint32_
     return splicer_reply_of(reply);
 }
 
-/* Handles the first message of the `length` bytes read so far from conn; `consumed` says how many it was. Refused: 1, 2, 7, 5, 4. */
+/* Handles the first message of the `length` bytes read so far from conn; `consumed` says how many it was. A GetConfig_Request is answered
+ * with the section of the feed that is on air. Refused: 1, 2, 7, 10, 5, 4. */
+static inline struct splicer_reply splicer_call_message_maps(struct splicer *s, uint32_t conn, const uint8_t *in, size_t length,
+                                                             const struct splicer_maps *maps, uint8_t *out, size_t room) {
+    uint64_t reply[SPLICER_REPLY];
+    splicer_5_message(s->words, s->bytes, conn, in, length, maps->primary, maps->primary_length, maps->insertion, maps->insertion_length, out,
+                      room, reply);
+    return splicer_reply_of(reply);
+}
+
+/* The same with two empty sections: a driver that has no maps, or whose servers ask for none. Refused: 1, 2, 7, 5, 4. */
 static inline struct splicer_reply splicer_call_message(struct splicer *s, uint32_t conn, const uint8_t *in, size_t length, uint8_t *out,
                                                         size_t room) {
     uint64_t reply[SPLICER_REPLY];
-    splicer_5_message(s->words, s->bytes, conn, in, length, out, room, reply);
+    splicer_5_message(s->words, s->bytes, conn, in, length, in, 0, in, 0, out, room, reply);
     return splicer_reply_of(reply);
 }
 
@@ -344,6 +371,17 @@ static inline struct splicer_reply splicer_call_cue(const struct splicer *s, con
  * is not SPLICER_ROWS: then no row is written. It only reads. A close and an open drop nothing; fresh has none. */
 static inline uint32_t splicer_call_ended(const struct splicer *s, struct splicer_row *rows, size_t count) {
     return splicer_5_ended(s->words + SPLICER_ENDED, SPLICER_ENDED_WORDS, rows, count) == SPLICER_ROWS ? SPLICER_GOOD : SPLICER_NOT_SIXTEEN;
+}
+
+/* Of the lent sections the one of the feed that is on air, the pointer that was lent, and its length: the insertion's exactly when a session
+ * is on air (Alive's State 2). It only reads, and nothing is refused; a section over SPLICER_MAP_SECTION is given too. */
+static inline const uint8_t *splicer_call_map(const struct splicer *s, const struct splicer_maps *maps, size_t *length) {
+    if (splicer_5_map(s->words, s->bytes) == 0) {
+        *length = maps->primary_length;
+        return maps->primary;
+    }
+    *length = maps->insertion_length;
+    return maps->insertion;
 }
 
 /* A record in an output buffer: whom it is for, what it says, and the message as it is sent. The pointers lead into the buffer. */

@@ -56,6 +56,10 @@ extern "C" {
         conn: u32,
         read: *const u8,
         length: usize,
+        primary: *const u8,
+        primary_length: usize,
+        insertion: *const u8,
+        insertion_length: usize,
         out: *mut u8,
         room: usize,
         reply: *mut u64,
@@ -132,4 +136,7 @@ extern "C" {
 
     #[link_name = "splicer_5_ended"]
     pub fn ended(ended: *const u64, words: usize, page: *mut Row, rows: usize) -> usize;
+
+    #[link_name = "splicer_5_map"]
+    pub fn map(words: *const u64, bytes: *const u8) -> u64;
 }

@@ -9,7 +9,7 @@
 //! bytes, time and length of a buffer may be handed in: the call tests them and answers with a
 //! house number, a [`Refusal`].
 //!
-//! What each unsafe call rests on: the parts have the lengths that the core takes (686 words and 32
+//! What each unsafe call rests on: the parts have the lengths that the core takes (686 words and 1,056
 //! bytes, by their types), and a state came from `fresh` and was changed by the calls only, since its
 //! fields are private. The reason beside each call says the rest.
 #![no_std]
@@ -52,7 +52,9 @@ pub const MARK: usize = 2;
 /// Words of a [`Splicer`]'s memory.
 pub const WORDS: usize = 686;
 /// Bytes of a [`Splicer`]'s memory, behind its words.
-pub const BYTES: usize = 32;
+pub const BYTES: usize = 1056;
+/// The longest section that a message call may be lent.
+pub const MAP_SECTION: usize = 1024;
 /// The longest section of cues; the shortest has 20 bytes.
 pub const CUE_SECTION: usize = 512;
 
@@ -71,7 +73,7 @@ pub const ENDED_WORDS: usize = 81;
 ///
 /// Two splicers are equal if their memory is. The same calls from `fresh` on give equal splicers, and
 /// equal ones answer every call alike and stay equal. Two that show the same (clock, primary time,
-/// connections, sessions and name) answer every call alike too, and are equal exactly if as many requests, or 64, 128
+/// connections, what they keep, sessions and name) answer every call alike too, and are equal exactly if as many requests, or 64, 128
 /// and so on more, were accepted in the one as in the other: the ring of places goes one on with each.
 #[derive(Clone, PartialEq, Eq)]
 #[repr(C)]
@@ -82,7 +84,7 @@ pub struct Splicer {
 
 // The numbers that the header asserts of its struct.
 const _: () = assert!(size_of::<usize>() == 8);
-const _: () = assert!(size_of::<Splicer>() == 5520);
+const _: () = assert!(size_of::<Splicer>() == 6544);
 const _: () = assert!(align_of::<Splicer>() == 8);
 const _: () = assert!(core::mem::offset_of!(Splicer, bytes) == 5488);
 
@@ -111,6 +113,8 @@ pub enum Refusal {
     BadName = 9,
     /// A section not 3 + section_length bytes long, under 20 or over 512: cue.
     BadSection = 11,
+    /// A lent section over 1,024 bytes: message.
+    LongSection = 10,
     /// A second instant, or a reading before the instant, more than 90 s after the last good one or
     /// past the last second of the time field: instant, reading.
     Counter = 12,
@@ -132,6 +136,7 @@ impl Refusal {
             8 => Refusal::BadMicros,
             9 => Refusal::BadName,
             11 => Refusal::BadSection,
+            10 => Refusal::LongSection,
             12 => Refusal::Counter,
             16 => Refusal::NotSixteen,
             _ => return None,
@@ -151,6 +156,16 @@ impl fmt::Display for Refusal {
 }
 
 impl core::error::Error for Refusal {}
+
+/// The program map sections of the two feeds (document 02, CR 6), lent to [`Splicer::message_with`] and
+/// [`Splicer::map`]. They are not parsed; an empty one adds nothing to an answer.
+#[derive(Clone, Copy, Debug, Default, PartialEq, Eq)]
+pub struct Maps<'m> {
+    /// That of the primary channel.
+    pub primary: &'m [u8],
+    /// That of the channel that is inserted.
+    pub insertion: &'m [u8],
+}
 
 /// What a good [`Splicer::message`] did.
 #[derive(Clone, Copy, Debug, PartialEq, Eq)]
@@ -215,7 +230,7 @@ impl Splicer {
         Ok(&out[..done.written])
     }
 
-    /// Handles the first message of the bytes read so far from a connection.
+    /// Handles the first message of the bytes read so far from a connection, with empty [`Maps`].
     /// Refused: 1, 2, 7, 5, 4.
     pub fn message<'o>(
         &mut self,
@@ -223,12 +238,30 @@ impl Splicer {
         read: &[u8],
         out: &'o mut [u8],
     ) -> Result<Handled<'o>, Refusal> {
+        self.message_with(connection, read, Maps::default(), out)
+    }
+
+    /// The same with the sections of the two feeds: a GetConfig_Request is answered with that of the
+    /// feed on air. Refused: 1, 2, 7, 10, 5, 4.
+    pub fn message_with<'o>(
+        &mut self,
+        connection: u32,
+        read: &[u8],
+        maps: Maps<'_>,
+        out: &'o mut [u8],
+    ) -> Result<Handled<'o>, Refusal> {
         let (words, bytes) = self.parts();
         let (from, length) = (read.as_ptr(), read.len());
+        let (primary, first) = (maps.primary.as_ptr(), maps.primary.len());
+        let (insertion, second) = (maps.insertion.as_ptr(), maps.insertion.len());
         let (at, room) = (out.as_mut_ptr(), out.len());
-        // SAFETY: the state came from fresh; `self` and `out` are lent for writing, so apart.
+        // SAFETY: the state came from fresh; `self` and `out` are lent for writing, so apart, and
+        // the sections only for reading.
         let done = door::replied(|reply| unsafe {
-            door::message(words, bytes, connection, from, length, at, room, reply);
+            door::message(
+                words, bytes, connection, from, length, primary, first, insertion, second, at, room,
+                reply,
+            );
         })?;
         Ok(Handled {
             consumed: done.consumed,
@@ -269,6 +302,17 @@ impl Splicer {
     pub fn primary(&self) -> u64 {
         // SAFETY: the state came from fresh; both parts are lent for reading.
         unsafe { door::primary(self.words.as_ptr(), self.bytes.as_ptr()) }
+    }
+
+    /// Of the lent sections the one of the feed that is on air: the insertion's exactly when a session
+    /// is on air. It only reads.
+    pub fn map<'m>(&self, maps: &Maps<'m>) -> &'m [u8] {
+        let (words, bytes) = (self.words.as_ptr(), self.bytes.as_ptr());
+        // SAFETY: the state came from fresh, and is only read.
+        match unsafe { door::map(words, bytes) } {
+            0 => maps.primary,
+            _ => maps.insertion,
+        }
     }
 
     /// What the one on air asked of the multiplexer: 1 to 10; [`MUX_AVERAGE`] if it asked nothing or

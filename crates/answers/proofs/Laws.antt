@@ -3,11 +3,11 @@
 use mathlib.Core.Path.{_≡_, refl, sym, ap, ap₂, subst, _∙_}
 use mathlib.Core.Bool.{Bool, true, false, cond, not}
 use mathlib.Core.List.{List, [], _∷_}
-use Prim.Native.Nat.{ℕ, _<_}
+use Prim.Native.Nat.{ℕ, _+_, _≤_, _<_}
 use native.Mathlib.Omega.{arith}
 use lib.Dec.{eqb}
-use lib.ListN.{length, getD}
-use lib.Seq.{length-take-le}
+use lib.ListN.{length, getD, set, drop, length-take, length-drop}
+use lib.Seq.{length-take-le, take-take}
 use borrow.Author.Tests.{eq-eqb, ne-eqb}
 use Rattle.rules.specs.declared.Ninths.{Ninths}
 use Rattle.rules.specs.declared.Micros.{Micros}
@@ -17,16 +17,18 @@ use Rattle.rules.specs.declared.Message.{Message}
 use Rattle.rules.specs.declared.Session.{Session}
 use Rattle.rules.specs.declared.Past.{Past}
 use Rattle.rules.specs.Units.{toMicros}
-use Rattle.rules.specs.Bytes.{nameIn, padded, sameName, written}
-use Rattle.rules.specs.Reading.{nobody, channelName, isRead, read}
-use Rattle.rules.specs.State.{Queue, Splicer, empty, linkOf, withLink, isKept, recent}
-use Rattle.rules.specs.Records.{Record, General, InitResponse, AliveResponse, ExtendedFound, ExtendedNone, recordBytes}
+use Rattle.rules.specs.Bytes.{nameIn, padded, sameName, written, value}
+use Rattle.rules.specs.Reading.{nobody, channelName, hardwarePlace, hardwareLength, hardwareIn, longestHardware, lengthIn, badInit, isRead, read}
+use Rattle.rules.specs.State.{Queue, Splicer, empty, noHardware, linkOf, isKept, recent}
+use Rattle.rules.specs.Records.{Record, General, InitResponse, AliveResponse, ConfigResponse, ExtendedFound, ExtendedNone, recordBytes}
 use Rattle.rules.specs.Ends.{Turn}
-use Rattle.rules.specs.Answers.{Answered, Spliced, says, turns, splices, initResult, answerInit, airState, airID, aliveResponse, latest, extendedResponse, answerRead, answer}
+use Rattle.rules.specs.Answers.{Answered, Spliced, says, turns, splices, initResult, initialised, answerInit, airState, airID, aliveResponse, configResponse, latest, extendedResponse, answerRead, answer}
 use Rattle.rules.proofs.Bytes.{nameIn-twice}
 use Rattle.rules.proofs.Records.{sizeOf, Roomy, length-record}
-use Rattle.memory.specs.Memory.{Memory, see, Now, linked, nameSize, nameBytes, nameOf, Stored, Whole, shown}
-use Rattle.memory.proofs.Laws.{memory-same}
+use Rattle.rules.specs.Calls.{longestSection}
+use Rattle.reading.proofs.Laws.{hardware-fits}
+use Rattle.memory.specs.Memory.{Memory, see, Now, linked, nameSize, nameBytes, nameOf, keptBytes, keptOf, Stored, Holds, Whole, shown}
+use Rattle.memory.proofs.Laws.{memory-same, kept-at}
 use Rattle.memory.proofs.Names.{name-short}
 use Rattle.ends.specs.Does.{Turns}
 use Rattle.ends.proofs.Laws.{tells-none, tells-one}
@@ -40,9 +42,9 @@ says-one {x = x} h k b = tells-one {len = 0} {r = x} (omega (arith, k, length-re
 
 -- ## The whole, from a part
 
--- a splicer of that name, of which the words show s
+-- a splicer of the name and the structures in b, of which the words show s
 abbrev named : List ℕ → Memory → Splicer
-named name s = record { name = name; clock = s .clock; primary = s .primary; links = s .links; queue = s .queue }
+named b s = record { name = nameOf b; clock = s .clock; primary = s .primary; links = s .links; hardware = keptOf b; queue = s .queue }
 
 module _ {m b : List ℕ} (w : Whole m b) {e : List ℕ} where
   -- no answer
@@ -58,7 +60,7 @@ module _ {m b : List ℕ} (w : Whole m b) {e : List ℕ} where
   spliced g =
       record {
         whole = record { words = g .does .shows .form; bytes = w .bytes };
-        splicer = ap (named (nameOf b)) (g .does .shows .is);
+        splicer = ap (named b) (g .does .shows .is);
         ring = ap (λ (s : Memory). s .ringEnd) (g .does .shows .is);
         tells = g .does .tells;
         moved = g .moved;
@@ -80,6 +82,14 @@ module _ (revision : ℕ) (asked name : List ℕ) where
   unfolding initResult
   init-name b n e f g = rw (eq-eqb revision 2 e, nameIn-twice name, ← f, g)
 
+-- the Hardware_Config of a good Init_Request is as `memory` asks
+pub hardware-whole : (d : List ℕ) → badInit d ≡ false → (length (hardwareIn d) ≡ 2 + lengthIn (hardwareIn d)) × (length (hardwareIn d) ≤ longestHardware)
+hardware-whole d e =
+    let n = hardwareLength d in
+    let f = hardware-fits d e in
+    let long : length (hardwareIn d) ≡ 2 + n = length-take-le (2 + n) (drop hardwarePlace d) (omega (arith, f .1, length-drop hardwarePlace d)) in
+    (long ∙ ap (λ x. 2 + value x) (sym (take-take 2 (2 + n) (drop hardwarePlace d) (omega arith))), omega (arith, long, f .0))
+
 -- x: the stored name
 module _ {b x : List ℕ} (s : Stored b) (e : x ≡ nameBytes b) where
   pub stored-length : length x ≡ nameSize
@@ -92,26 +102,29 @@ module _ {b x : List ℕ} (s : Stored b) (e : x ≡ nameBytes b) where
 module _ {m b : List ℕ} (w : Whole m b) (c revision : ℕ) (d : List ℕ) {e : List ℕ} {r : ℕ} {asked x y o : List ℕ}
     (ra : asked ≡ channelName d) (rx : x ≡ nameBytes b) (ry : y ≡ nameBytes b) (rr : r ≡ initResult revision asked (nameIn x))
     (ro : o ≡ written e 0 (recordBytes (InitResponse c r (nameIn y)))) where
-  -- n: the words after the answer
-  init-gives : {n : List ℕ} → Whole n b → shown n b ≡ cond (eqb r 100) (withLink c Initialised (shown m b)) (shown m b) →
-      see n .ringEnd ≡ see m .ringEnd → Gives (answerInit c revision d (shown m b)) (see m .ringEnd) e (unmoved 44) n b o
+  -- n, p: the words and the bytes after the answer
+  init-gives : {n p : List ℕ} → Whole n p → shown n p ≡ cond (eqb r 100) (initialised c (hardwareIn d) (shown m b)) (shown m b) →
+      see n .ringEnd ≡ see m .ringEnd → Gives (answerInit c revision d (shown m b)) (see m .ringEnd) e (unmoved 44) n p o
   unfolding answerInit
   init-gives k h g =
       let p : r ≡ initResult revision (channelName d) (nameOf b) = rr ∙ ap₂ (λ (y z : List ℕ). initResult revision y (nameIn z)) ra rx in
       record {
         whole = k;
-        splicer = h ∙ ap (λ (k : ℕ). cond (eqb k 100) (withLink c Initialised (shown m b)) (shown m b)) p;
+        splicer = h ∙ ap (λ (k : ℕ). cond (eqb k 100) (initialised c (hardwareIn d) (shown m b)) (shown m b)) p;
         ring = g;
         moved = refl;
         tells = says-one (omega (arith, name-short (nameBytes b), stored-length (w .bytes) refl)) refl
             (ro ∙ ap₂ (λ (k : ℕ) (z : List ℕ). written e 0 (recordBytes (InitResponse c k (nameIn z)))) p ry);
       }
 
-  -- "else 100 and initialised"
-  pub init-done : {n : List ℕ} → r ≡ 100 → Now n (linked c Initialised (see m)) → Gives (answerInit c revision d (shown m b)) (see m .ringEnd) e (unmoved 44) n b o
-  init-done i h =
-      init-gives (record { words = h .form; bytes = w .bytes })
-      (ap (named (nameOf b)) (h .is) ∙ rw (eq-eqb r 100 i)) (ap (λ (s : Memory). s .ringEnd) (h .is))
+  -- "else 100 and initialised"; x: the Hardware_Config that is kept
+  pub init-done : {n p x : List ℕ} → r ≡ 100 → Now n (linked c Initialised (see m)) → x ≡ hardwareIn d → Holds p (nameOf b) (set (keptOf b) c x) →
+      Gives (answerInit c revision d (shown m b)) (see m .ringEnd) e (unmoved 44) n p o
+  init-done i h q k =
+      let same = k .kept ∙ ap (λ (y : List ℕ). set (keptOf b) c y) q in
+      init-gives (record { words = h .form; bytes = k .stored })
+      ((λ j. record { name = k .name j; clock = h .is j .clock; primary = h .is j .primary; links = h .is j .links; hardware = same j; queue = h .is j .queue })
+      ∙ rw (eq-eqb r 100 i)) (ap (λ (s : Memory). s .ringEnd) (h .is))
 
   -- "A failed later Init leaves the connection initialised."
   pub init-failed : (r ≡ 100 → ⊥) → Gives (answerInit c revision d (shown m b)) (see m .ringEnd) e (unmoved 44) m b o
@@ -157,12 +170,31 @@ module _ (c x : ℕ) (q : Queue) {y : Past} (f : y ≡ latest c x (recent (q .la
       rw (found-kept {t = true} (rw (ne-eqb (y .result) 0 h)))
       (says-one tt refl (b ∙ ap (λ (z : Past). written e 0 (recordBytes (ExtendedFound c x (z .event) (z .result) (z .played)))) f))
 
+-- ## GetConfig
+
+-- what the connection keeps, taken from its bytes, is not over 256 bytes
+pub kept-short : {b h : List ℕ} → Stored b → (c : ℕ) → c ≤ 3 → h ≡ getD (keptOf b) c noHardware → length h ≤ longestHardware
+kept-short {b} s c low e =
+    let l = ap length (e ∙ kept-at b c low) in
+    omega (arith, l, length-take (2 + lengthIn (keptBytes c b)) (keptBytes c b), s .kept c low .fits)
+
+-- x: the stored name; h: what the connection keeps; y: the section
+module _ {m b : List ℕ} (w : Whole m b) (c : ℕ) {e o x : List ℕ} (h y : List ℕ) (rx : x ≡ nameBytes b) (rh : h ≡ getD (keptOf b) c noHardware)
+    (short : length h ≤ longestHardware) (brief : length y ≤ longestSection) where
+  pub config-says : {n : ℕ} → n ≡ 42 + length h + length y → o ≡ written e 0 (recordBytes (ConfigResponse c 100 (nameIn x) h y)) →
+      Says (configResponse c y (shown m b)) e n o
+  unfolding configResponse
+  config-says k g =
+      says-one (omega (arith, name-short (nameBytes b), stored-length (w .bytes) refl), subst (λ (z : List ℕ). length z ≤ longestHardware) rh short, brief)
+      (omega (arith, k, ap length rh))
+      (g ∙ ap₂ (λ (z u : List ℕ). written e 0 (recordBytes (ConfigResponse c 100 (nameIn z) u y))) rx rh)
+
 -- ## A message that is read
 
 -- y: the message that was read; x: what it is
-pub reads : (s : Splicer) (c id : ℕ) (d : List ℕ) {at : ℕ} {e : List ℕ} {r : Given} {n b o : List ℕ} {y x : Message} → y ≡ read id d → y ≡ x →
-    Gives (answerRead c x d s) at e r n b o → Gives (answerRead c (read id d) d s) at e r n b o
-reads s c id d {at} {e} {r} {n} {b} {o} p q g = subst (λ (z : Message). Gives (answerRead c z d s) at e r n b o) (sym q ∙ p) g
+pub reads : (s : Splicer) (c id : ℕ) (d section : List ℕ) {at : ℕ} {e : List ℕ} {r : Given} {n b o : List ℕ} {y x : Message} → y ≡ read id d → y ≡ x →
+    Gives (answerRead c x d section s) at e r n b o → Gives (answerRead c (read id d) d section s) at e r n b o
+reads s c id d section {at} {e} {r} {n} {b} {o} p q g = subst (λ (z : Message). Gives (answerRead c z d section s) at e r n b o) (sym q ∙ p) g
 
 -- ## "first that applies"
 
@@ -170,56 +202,58 @@ bars : (s : Splicer) (c id : ℕ) {l : Link} {t v : Bool} → l ≡ linkOf c s �
 bars s c id p q i = ap (λ (y : Link). barred y id) (sym p) ∙ sym q ∙ i
 
 -- of an answer from the memory m and b
-abbrev GivesOf : (m b e : List ℕ) → Answered → Given → (n o : List ℕ) → Type 0
-GivesOf m b e a r n o = Gives a (see m .ringEnd) e r n b o
+abbrev GivesOf : (m e : List ℕ) → Answered → Given → (n b o : List ℕ) → Type 0
+GivesOf m e a r n b o = Gives a (see m .ringEnd) e r n b o
 
-module _ {m b : List ℕ} (w : Whole m b) (c id : ℕ) (d : List ℕ) {e : List ℕ} where
-  by-answer : (a : Answered) {r : Given} {n o : List ℕ} → answer c id d (shown m b) ≡ a → GivesOf m b e a r n o →
-      GivesOf m b e (answer c id d (shown m b)) r n o
-  by-answer a {r} {n} {o} p g = subst (λ (y : Answered). GivesOf m b e y r n o) (sym p) g
+module _ {m b : List ℕ} (w : Whole m b) (c id : ℕ) (d section : List ℕ) {e : List ℕ} where
+  by-answer : (a : Answered) {r : Given} {n p o : List ℕ} → answer c id d section (shown m b) ≡ a → GivesOf m e a r n p o →
+      GivesOf m e (answer c id d section (shown m b)) r n p o
+  by-answer a {r} {n} {p} {o} q g = subst (λ (y : Answered). GivesOf m e y r n p o) (sym q) g
 
   -- "1. ID 0x0000: no answer."
-  pub first : id ≡ 0x0000 → GivesOf m b e (answer c id d (shown m b)) (unmoved 0) m e
+  pub first : id ≡ 0x0000 → GivesOf m e (answer c id d section (shown m b)) (unmoved 0) m b e
   unfolding answer
   first z = by-answer (says [] (shown m b)) (rw z) (silent w)
 
   -- l: what the connection is; t: whether that bars the message
   module _ (h : id ≡ 0x0000 → ⊥) {l : Link} {t : Bool} (p : l ≡ linkOf c (shown m b)) (q : t ≡ barred l id) where
     -- "2. Not initialised and not Init_Request: General_Response 103."
-    pub second : t ≡ true → {to : ℕ} {o : List ℕ} → Says (General c 103) e to o → GivesOf m b e (answer c id d (shown m b)) (unmoved to) m o
+    pub second : t ≡ true → {to : ℕ} {o : List ℕ} → Says (General c 103) e to o → GivesOf m e (answer c id d section (shown m b)) (unmoved to) m b o
     unfolding answer
     second i g = by-answer (says (General c 103 ∷ []) (shown m b)) (rw (ne-eqb id 0x0000 h, bars (shown m b) c id p q i)) (said w g)
 
     module _ (i : t ≡ false) where
       -- "3. ID 0x000D: no answer."
-      pub third : id ≡ 0x000D → GivesOf m b e (answer c id d (shown m b)) (unmoved 0) m e
+      pub third : id ≡ 0x000D → GivesOf m e (answer c id d section (shown m b)) (unmoved 0) m b e
       unfolding answer
       third z = by-answer (says [] (shown m b)) (rw (ne-eqb id 0x0000 h, bars (shown m b) c id p q i, eq-eqb id 0x000D z)) (silent w)
 
-      -- v: whether it is in the list of four
+      -- v: whether it is in the list
       module _ (j : id ≡ 0x000D → ⊥) {v : Bool} (r : v ≡ isRead id) {o : List ℕ} where
         -- "4. ID not in the list of four: General_Response 120."
-        pub fourth : {to : ℕ} → not v ≡ true → Says (General c 120) e to o → GivesOf m b e (answer c id d (shown m b)) (unmoved to) m o
+        pub fourth : {to : ℕ} → not v ≡ true → Says (General c 120) e to o → GivesOf m e (answer c id d section (shown m b)) (unmoved to) m b o
         unfolding answer
         fourth k g =
             by-answer (says (General c 120 ∷ []) (shown m b))
             (rw (ne-eqb id 0x0000 h, bars (shown m b) c id p q i, ne-eqb id 0x000D j, ← r, k)) (said w g)
 
-        -- a message of the list of four
-        pub fifth : {g : Given} {n : List ℕ} → not v ≡ false → GivesOf m b e (answerRead c (read id d) d (shown m b)) g n o →
-            GivesOf m b e (answer c id d (shown m b)) g n o
+        -- a message of the list
+        pub fifth : {g : Given} {n p : List ℕ} → not v ≡ false → GivesOf m e (answerRead c (read id d) d section (shown m b)) g n p o →
+            GivesOf m e (answer c id d section (shown m b)) g n p o
         unfolding answer
         fifth k g =
-            by-answer (answerRead c (read id d) d (shown m b))
+            by-answer (answerRead c (read id d) d section (shown m b))
             (rw (ne-eqb id 0x0000 h, bars (shown m b) c id p q i, ne-eqb id 0x000D j, ← r, k)) g
 
 -- ## "any two results it allows are proved equal"
 
--- the lent words and the buffer included
-pub answer-same : (a : Answered) (at : ℕ) (e : List ℕ) (r s : Given) (m n b o p : List ℕ) → Gives a at e r m b o → Gives a at e s n b p →
-    (r ≡ s) × (m ≡ n) × (o ≡ p)
-answer-same a at e r s m n b o p x y = (
-  (λ i. record { len = (x .tells .count ∙ sym (y .tells .count)) i; moved = (x .moved ∙ sym (y .moved)) i }),
-  memory-same m b n b (x .whole) (y .whole) (x .ring ∙ sym (y .ring)) (x .splicer ∙ sym (y .splicer)) .0,
-  x .tells .bytes ∙ sym (y .tells .bytes),
-)
+-- the lent words and bytes and the buffer included
+pub answer-same : (a : Answered) (at : ℕ) (e : List ℕ) (r s : Given) (m n b c o p : List ℕ) → Gives a at e r m b o → Gives a at e s n c p →
+    (r ≡ s) × (m ≡ n) × (b ≡ c) × (o ≡ p)
+answer-same a at e r s m n b c o p x y =
+    let same = memory-same m b n c (x .whole) (y .whole) (x .ring ∙ sym (y .ring)) (x .splicer ∙ sym (y .splicer)) in (
+      (λ i. record { len = (x .tells .count ∙ sym (y .tells .count)) i; moved = (x .moved ∙ sym (y .moved)) i }),
+      same .0,
+      same .1,
+      x .tells .bytes ∙ sym (y .tells .bytes),
+    )

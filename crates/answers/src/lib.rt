@@ -5,12 +5,15 @@ use requests::Given;
 use rules::Link;
 use rules::Message;
 ghost use mathlib.Core.Path.{_≡_};
+ghost use mathlib.Core.Bool.{false, cond};
 ghost use Prim.Native.Nat.{_≤_};
+ghost use lib.Dec.{eqb};
 ghost use lib.ListN.{length};
 ghost use Rattle.rules.specs.Bytes.{nameIn};
-ghost use Rattle.rules.specs.Reading.{«read»};
+ghost use Rattle.rules.specs.Reading.{badInit, «read»};
 ghost use Rattle.rules.specs.Records.{General};
-ghost use Rattle.rules.specs.Answers.{initResult, answerInit, aliveResponse, extendedResponse, answerRead, answer};
+ghost use Rattle.rules.specs.Answers.{initResult, answerInit, aliveResponse, configResponse, extendedResponse, answerRead, answer};
+ghost use Rattle.rules.specs.Calls.{longestSection};
 ghost use Rattle.rules.specs.Sound.{Sound};
 ghost use Rattle.memory.specs.Memory.{Form, Whole, see, shown};
 ghost use Rattle.answers.specs.Gives.{Gives, Says, unmoved, barred};
@@ -28,10 +31,10 @@ fn init_result(revision: u16, asked: &[u8], name: &[u8]) -> u16
     100
 }
 
-// Init: "else 100 and initialised. A failed later Init leaves the connection initialised."
+// Init: "else 100 and initialised. A failed later Init leaves the connection initialised." 02, CR 6: with 100 its Hardware_Config is kept.
 fn answer_init(
     m: &mut [u64; WORDS],
-    b: &[u8],
+    b: &mut [u8],
     conn: u32,
     revision: u16,
     d: &[u8],
@@ -39,16 +42,17 @@ fn answer_init(
 ) -> usize
     requires { ⌜ Whole (now m) (now b) ⌝ }
     requires { ⌜ conn ≤ 3 ⌝ }
-    requires { ⌜ 34 ≤ length (now d) ⌝ }
+    requires { ⌜ badInit (now d) ≡ false ⌝ }
     requires { ⌜ 44 ≤ length (now out) ⌝ }
     ensures { λ r.
         ⌜ Gives (answerInit conn revision (now (d .entry)) (shown (now (m .entry)) (now (b .entry)))) (see (now (m .entry)) .ringEnd)
-        (now (out .entry)) (unmoved r) (now (m .exit)) (now (b .entry)) (now (out .exit)) ⌝ }
+        (now (out .entry)) (unmoved r) (now (m .exit)) (now (b .exit)) (now (out .exit)) ⌝ }
 {
-    let r = init_result(revision, reading::channel_name(d), memory::name(b));
-    writing::init_response(&mut *out, conn as u64, r, memory::name(b));
+    let r = init_result(revision, reading::channel_name(d), memory::name(&*b));
+    writing::init_response(&mut *out, conn as u64, r, memory::name(&*b));
     if r == 100 {
         memory::set_link(&mut *m, conn, Link::Initialised);
+        memory::keep(&mut *b, conn, reading::hardware(d));
     }
     44
 }
@@ -91,6 +95,31 @@ fn answer_extended(m: &[u64], conn: u32, x: u32, out: &mut [u8]) -> usize
     30
 }
 
+// 02, CR 6: "the caller lends both sections .. and gets back the one on air, as part of what was lent": the very slice, by whether a session
+// has started.
+pub fn map_on_air<'a>(primary: &'a [u8], insertion: &'a [u8], started: usize) -> &'a [u8]
+    ensures { λ r. ⌜ r ≡ cond (eqb started 0) (primary .entry) (insertion .entry) ⌝ }
+{
+    if started == 0 {
+        return primary;
+    }
+    insertion
+}
+
+// GetConfig: the ChannelName, what the connection keeps and the section on air.
+fn answer_config(m: &[u64], b: &[u8], conn: u32, section: &[u8], out: &mut [u8]) -> usize
+    requires { ⌜ Whole (now m) (now b) ⌝ }
+    requires { ⌜ conn ≤ 3 ⌝ }
+    requires { ⌜ length (now section) ≤ longestSection ⌝ }
+    requires { ⌜ 4096 ≤ length (now out) ⌝ }
+    ensures { λ r.
+        ⌜ Says (configResponse conn (now (section .entry)) (shown (now (m .entry)) (now (b .entry)))) (now (out .entry)) r (now (out .exit)) ⌝ }
+{
+    let hardware = reading::structure(memory::kept(b, conn));
+    writing::config_response(&mut *out, conn as u64, memory::name(b), hardware, section);
+    42 + hardware.len() + section.len()
+}
+
 fn general(conn: u32, result: u16, out: &mut [u8]) -> usize
     requires { ⌜ 10 ≤ length (now out) ⌝ }
     ensures { λ r. ⌜ Says (General conn result) (now (out .entry)) r (now (out .exit)) ⌝ }
@@ -99,31 +128,33 @@ fn general(conn: u32, result: u16, out: &mut [u8]) -> usize
     10
 }
 
-// A message of that list; "5. Not readable: General_Response 123."
+// A message of that list; "5. Not readable: General_Response 123." section: the map on air.
 fn answer_read(
     m: &mut [u64; WORDS],
-    b: &[u8],
+    b: &mut [u8],
     conn: u32,
     id: u16,
     d: &[u8],
+    section: &[u8],
     out: &mut [u8],
 ) -> Given
     requires { ⌜ Whole (now m) (now b) ⌝ }
     requires { ⌜ Sound (shown (now m) (now b)) ⌝ }
     requires { ⌜ conn ≤ 3 ⌝ }
+    requires { ⌜ length (now section) ≤ longestSection ⌝ }
     requires { ⌜ 4096 ≤ length (now out) ⌝ }
     ensures { λ r.
-        ⌜ Gives (answerRead conn («read» id (now (d .entry))) (now (d .entry)) (shown (now (m .entry)) (now (b .entry))))
-        (see (now (m .entry)) .ringEnd) (now (out .entry)) r (now (m .exit)) (now (b .entry)) (now (out .exit)) ⌝ }
+        ⌜ Gives (answerRead conn («read» id (now (d .entry))) (now (d .entry)) (now (section .entry)) (shown (now (m .entry)) (now (b .entry))))
+        (see (now (m .entry)) .ringEnd) (now (out .entry)) r (now (m .exit)) (now (b .exit)) (now (out .exit)) ⌝ }
 {
     let message = reading::read(id, d);
     match message {
         Message::Init(revision) => Given {
-            len: answer_init(&mut *m, b, conn, revision, d, &mut *out),
+            len: answer_init(&mut *m, &mut *b, conn, revision, d, &mut *out),
             moved: 0,
         },
         Message::Alive => Given {
-            len: answer_alive(&*m, b, conn, &mut *out),
+            len: answer_alive(&*m, &*b, conn, &mut *out),
             moved: 0,
         },
         Message::Splice(r) => requests::answer_splice(&mut *m, conn as u64, r, &mut *out),
@@ -133,6 +164,10 @@ fn answer_read(
         },
         Message::Extended(x) => Given {
             len: answer_extended(&*m, conn, x, &mut *out),
+            moved: 0,
+        },
+        Message::Config => Given {
+            len: answer_config(&*m, &*b, conn, section, &mut *out),
             moved: 0,
         },
         Message::Unreadable => Given {
@@ -154,15 +189,24 @@ fn is_barred(link: Link, id: u16) -> bool
 }
 
 // "1. ID 0x0000: no answer. 2. Not initialised and not Init_Request: General_Response 103. 3. ID 0x000D: no answer.
-// 4. ID not in the list of four: General_Response 120." 02, CR 8: of five.
-pub fn answer(m: &mut [u64; WORDS], b: &[u8], conn: u32, id: u16, d: &[u8], out: &mut [u8]) -> Given
+// 4. ID not in the list of four: General_Response 120." 02, CR 8 and CR 6: of six. section: the map on air.
+pub fn answer(
+    m: &mut [u64; WORDS],
+    b: &mut [u8],
+    conn: u32,
+    id: u16,
+    d: &[u8],
+    section: &[u8],
+    out: &mut [u8],
+) -> Given
     requires { ⌜ Whole (now m) (now b) ⌝ }
     requires { ⌜ Sound (shown (now m) (now b)) ⌝ }
     requires { ⌜ conn ≤ 3 ⌝ }
+    requires { ⌜ length (now section) ≤ longestSection ⌝ }
     requires { ⌜ 4096 ≤ length (now out) ⌝ }
     ensures { λ r.
-        ⌜ Gives (answer conn id (now (d .entry)) (shown (now (m .entry)) (now (b .entry)))) (see (now (m .entry)) .ringEnd)
-        (now (out .entry)) r (now (m .exit)) (now (b .entry)) (now (out .exit)) ⌝ }
+        ⌜ Gives (answer conn id (now (d .entry)) (now (section .entry)) (shown (now (m .entry)) (now (b .entry))))
+        (see (now (m .entry)) .ringEnd) (now (out .entry)) r (now (m .exit)) (now (b .exit)) (now (out .exit)) ⌝ }
 {
     if id == 0x0000 {
         return Given { len: 0, moved: 0 };
@@ -183,5 +227,5 @@ pub fn answer(m: &mut [u64; WORDS], b: &[u8], conn: u32, id: u16, d: &[u8], out:
             moved: 0,
         };
     }
-    answer_read(&mut *m, b, conn, id, d, &mut *out)
+    answer_read(&mut *m, &mut *b, conn, id, d, section, &mut *out)
 }

@@ -42,9 +42,9 @@ needsInit = hex "5200 0000 0000 0067 FFFF"
 ch1 : ℕ → List ℕ
 ch1 b = hex "43483100" ++ replicate 28 b
 
--- Init_Request with a ChannelName of 32 bytes and an empty SplicerName: 66 = 0x42 bytes of data, 74 in all
+-- Init_Request with a ChannelName of 32 bytes, an empty SplicerName and a Hardware_Config of Length 0: 68 = 0x44 bytes of data, 76 in all
 init : List ℕ → List ℕ
-init name = hex "0001 0042 FFFF FFFF 0002" ++ (name ++ replicate 32 0)
+init name = hex "0001 0044 FFFF FFFF 0002" ++ (name ++ replicate 34 0)
 
 -- Init_Response with a result and a name of 32 bytes
 initAnswer : String → List ℕ → List ℕ
@@ -83,7 +83,7 @@ rows =
     ∷ row (ticks 999 999999 4095) (number 2)
     -- initialised, the first of two messages is answered alike. 1,000 = 0x3E8
     ∷ row (opens 0) (takes 0 [])
-    ∷ row (messages 0 (init (ch1 0)) (lending 4096)) (takes 74 (initAnswer "0064" (ch1 0)))
+    ∷ row (messages 0 (init (ch1 0)) (lending 4096)) (takes 76 (initAnswer "0064" (ch1 0)))
     ∷ row (messages 0 (alive ++ alive) (lending 4096)) (takes 16 (hex "5200 0006 0010 0064 FFFF 00000001 FFFFFFFF 000003E8 00000000"))
     -- 1,000 s and 17 ninths are 1,000 s and 1 µs, "rounded down"
     ∷ row (moves 9000000017 4096) (takes 0 [])
@@ -125,12 +125,12 @@ named s names = map seen (answers (opens 0 ∷ map (λ n. messages 0 (init n) (l
 
 -- the name ends at its first zero, and is written "with zeros behind the end"
 configured : named (fresh (ch1 0x58) .splicer) (ch1 0 ∷ ch1 0x59 ∷ [])
-    ≡ takes 0 [] ∷ takes 74 (initAnswer "0064" (ch1 0)) ∷ takes 74 (initAnswer "0064" (ch1 0)) ∷ []
+    ≡ takes 0 [] ∷ takes 76 (initAnswer "0064" (ch1 0)) ∷ takes 76 (initAnswer "0064" (ch1 0)) ∷ []
 unfolding seen ch1 init initAnswer named computing
 configured = refl
 
 -- "A refused fresh gives, with number 9, the splicer of an empty name.": 104 for 31 bytes 0x58, 100 for an empty name
 nameless : named (fresh (replicate 32 0x58) .splicer) ((replicate 31 0x58 ++ (0 ∷ [])) ∷ replicate 32 0 ∷ [])
-    ≡ takes 0 [] ∷ takes 74 (initAnswer "0068" (replicate 32 0)) ∷ takes 74 (initAnswer "0064" (replicate 32 0)) ∷ []
+    ≡ takes 0 [] ∷ takes 76 (initAnswer "0068" (replicate 32 0)) ∷ takes 76 (initAnswer "0064" (replicate 32 0)) ∷ []
 unfolding seen init initAnswer named computing
 nameless = refl

@@ -20,7 +20,7 @@ use denote.Triple.Entry.{Args, Res}
 use Rattle.rules.specs.Lists.{All}
 use Rattle.rules.specs.Calls as rules
 use Rattle.rules.specs.Calls.{call}
-use Rattle.engine.specs.Lent.{Lent, Counts, Primary, ReadsMux}
+use Rattle.engine.specs.Lent.{Lent, Counts, Primary, ReadsMux, ReadsFeed}
 use Rattle.streams.specs.Rows.{ReadsList, WritesList}
 use Rattle.rows.specs.Rows.{Pages}
 use Rattle.engine.proofs.Held.{kind, Holds, Same, both, number-held, bytes-held}
@@ -35,6 +35,7 @@ use Rattle.door.proofs.«splicer_5_waiting» as waiting
 use Rattle.door.proofs.«splicer_5_primary» as primary
 use Rattle.door.proofs.«splicer_5_mux» as mux
 use Rattle.door.proofs.«splicer_5_ended» as page
+use Rattle.door.proofs.«splicer_5_map» as mapping
 use Rattle.door.proofs.«splicer_5_read_streams» as reads
 use Rattle.door.proofs.«splicer_5_write_streams» as writes
 
@@ -79,14 +80,14 @@ module _ {M : Type 1} (𝓤 : URA M) (H : Heap 𝓤) (A : Atoms 𝓤) (mem : sto
     unfolding call
     close-ensures = refl
 
-  -- splicer_5_message(words, bytes, conn, l, out, reply)
-  module _ (κs : Lfts 5) (a : Args message.signature κs) (r : Res message.signature κs) (z : AtExit message.ended κs) where
+  -- splicer_5_message(words, bytes, conn, l, primary, insertion, out, reply)
+  module _ (κs : Lfts 6) (a : Args message.signature κs) (r : Res message.signature κs) (z : AtExit message.ended κs) where
     pub message-requires : message.clauses 𝓤 H A mem run κs a .requires tt ≡ ⌜ Lent (now (a .0)) (now (a .1 .0)) ⌝
     message-requires = refl
 
     pub message-ensures : message.clauses 𝓤 H A mem run κs a .ensures tt r z
-        ≡ ⌜ Allowed (now (a .0)) (now (a .1 .0)) (aMessage (a .1 .1 .0) (now (a .1 .1 .1 .0)) (now (a .1 .1 .1 .1 .0)))
-        (ended (now (z .1 .1 .1 .1 .1 .0)) (now (z .0)) (now (z .1 .0)) (now (z .1 .1 .1 .1 .0))) ⌝
+        ≡ ⌜ Allowed (now (a .0)) (now (a .1 .0)) (aMessage (a .1 .1 .0) (now (a .1 .1 .1 .0)) (now (a .1 .1 .1 .1 .0)) (now (a .1 .1 .1 .1 .1 .0)) (now (a .1 .1 .1 .1 .1 .1 .0)))
+        (ended (now (z .1 .1 .1 .1 .1 .1 .1 .0)) (now (z .0)) (now (z .1 .0)) (now (z .1 .1 .1 .1 .1 .1 .0))) ⌝
     unfolding call
     message-ensures = refl
 
@@ -145,6 +146,14 @@ module _ {M : Type 1} (𝓤 : URA M) (H : Heap 𝓤) (A : Atoms 𝓤) (mem : sto
     pub page-ensures : page.clauses 𝓤 H A mem run κs a .ensures tt r z ≡ ⌜ Pages (now (a .0)) (now (a .1 .0)) r (now (z .1 .0)) ⌝
     page-ensures = refl
 
+  -- splicer_5_map(words, bytes)
+  module _ (κs : Lfts 2) (a : Args mapping.signature κs) (r : Res mapping.signature κs) (z : AtExit mapping.ended κs) where
+    pub mapping-requires : mapping.clauses 𝓤 H A mem run κs a .requires tt ≡ ⌜ Lent (now (a .0)) (now (a .1 .0)) ⌝
+    mapping-requires = refl
+
+    pub mapping-ensures : mapping.clauses 𝓤 H A mem run κs a .ensures tt r z ≡ ⌜ ReadsFeed (now (a .0)) (now (a .1 .0)) r ⌝
+    mapping-ensures = refl
+
   -- splicer_5_read_streams(l, words, kept)
   module _ (κs : Lfts 3) (a : Args reads.signature κs) (r : Res reads.signature κs) (z : AtExit reads.ended κs) where
     pub reads-requires : reads.clauses 𝓤 H A mem run κs a .requires tt ≡ ⊤ₛ
@@ -180,14 +189,25 @@ module _ (κs : Lfts 4) (e : List ℕ) where
       → Same (Holds (kind tick.signature κs 2) seconds × Holds (kind tick.signature κs 3) micros) (Typed (aTick seconds micros e))
   tick-typed seconds micros = both (number-held seconds) (number-held micros)
 
-module _ (κs : Lfts 5) where
-  -- l is a &[u8]
-  pub bytes-typed : kind message.signature κs 3 ≡ typeAt {n = 5} (SliceRef 2 tt u8 tt) κs
+module _ (κs : Lfts 6) where
+  -- l and the sections are each a &[u8], the sections of one lifetime
+  pub bytes-typed : kind message.signature κs 3 ≡ typeAt {n = 6} (SliceRef 3 tt u8 tt) κs
   bytes-typed = refl
 
-  pub message-typed : (conn : ℕ) (l e : List ℕ)
-      → Same (Holds (kind message.signature κs 2) conn × All (Holds u8) l) (Typed (aMessage conn l e))
-  message-typed conn l e = both (number-held conn) (bytes-held l)
+  pub section-typed : kind message.signature κs 4 ≡ typeAt {n = 6} (SliceRef 0 tt u8 tt) κs
+  section-typed = refl
+
+  pub second-typed : kind message.signature κs 5 ≡ typeAt {n = 6} (SliceRef 0 tt u8 tt) κs
+  second-typed = refl
+
+  pub message-typed : (conn : ℕ) (l pm im e : List ℕ)
+      → Same (Holds (kind message.signature κs 2) conn × All (Holds u8) l × All (Holds u8) pm × All (Holds u8) im) (Typed (aMessage conn l pm im e))
+  message-typed conn l pm im e =
+      let n = number-held conn in
+      let b = bytes-held l in
+      let p = bytes-held pm in
+      let i = bytes-held im in
+      ((λ h. (n .0 (h .0), b .0 (h .1), p .0 (h .2), i .0 (h .3))), λ t. (n .1 (t .0), b .1 (t .1), p .1 (t .2), i .1 (t .3)))
 
 module _ (κs : Lfts 6) where
   -- a section is a &[u8], and what is given with it is a &[u32; 4]

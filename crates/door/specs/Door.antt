@@ -6,7 +6,7 @@ use lib.ListN.{length, getD}
 use Rattle.rules.specs.Lists.{All}
 use Rattle.rules.specs.Bytes.{Byte}
 use Rattle.rules.specs.State.{Splicer}
-use Rattle.rules.specs.Calls.{Called, houseNumber, Call, opens, closes, messages, lending, ticks, cues, cueCall, call}
+use Rattle.rules.specs.Calls.{Called, houseNumber, Call, opens, closes, messages, lendingMaps, ticks, cues, cueCall, call}
 use Rattle.memory.specs.Memory.{see, shown}
 use Rattle.relay.specs.declared.Anchor.{Anchor}
 use Rattle.engine.specs.declared.Answer.{Answer}
@@ -45,7 +45,7 @@ cueOf l g = cueCall l (anchorOf g .pts) (anchorOf g .seconds) (anchorOf g .micro
 pub data Input : Type 0 where
   anOpen : (conn : ℕ) → Input
   aClose : (conn : ℕ) (buffer : List ℕ) → Input
-  aMessage : (conn : ℕ) (l buffer : List ℕ) → Input
+  aMessage : (conn : ℕ) (l primary insertion buffer : List ℕ) → Input
   aTick : (seconds micros : ℕ) (buffer : List ℕ) → Input
   aCue : (section given buffer : List ℕ) → Input
 
@@ -53,7 +53,7 @@ pub data Input : Type 0 where
 abbrev pub Typed : Input → Type 0
 Typed (anOpen conn) = conn < 4294967296
 Typed (aClose conn e) = conn < 4294967296
-Typed (aMessage conn l e) = (conn < 4294967296) × All Byte l
+Typed (aMessage conn l pm im e) = (conn < 4294967296) × All Byte l × All Byte pm × All Byte im
 Typed (aTick seconds micros e) = (seconds < 4294967296) × (micros < 4294967296)
 Typed (aCue l g e) = All Byte l × (length g ≡ 4) × All (λ x. x < 4294967296) g
 
@@ -61,7 +61,7 @@ Typed (aCue l g e) = All Byte l × (length g ≡ 4) × All (λ x. x < 4294967296
 abbrev pub callOf : Input → Call
 callOf (anOpen conn) = opens conn
 callOf (aClose conn e) = closes conn (length e)
-callOf (aMessage conn l e) = messages conn l (lending (length e))
+callOf (aMessage conn l pm im e) = messages conn l (lendingMaps pm im (length e))
 callOf (aTick seconds micros e) = ticks seconds micros (length e)
 callOf (aCue l g e) = cues l (ptsOf g) (getD g 2 0) (getD g 3 0) (length e)
 
@@ -69,7 +69,7 @@ callOf (aCue l g e) = cues l (ptsOf g) (getD g 2 0) (getD g 3 0) (length e)
 abbrev pub bufferOf : Input → List ℕ
 bufferOf (anOpen conn) = []
 bufferOf (aClose conn e) = e
-bufferOf (aMessage conn l e) = e
+bufferOf (aMessage conn l pm im e) = e
 bufferOf (aTick seconds micros e) = e
 bufferOf (aCue l g e) = e
 

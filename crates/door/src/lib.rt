@@ -11,8 +11,8 @@ use streams::LIST;
 ghost use mathlib.Core.Path.{_≡_};
 ghost use mathlib.Core.List.{[]};
 ghost use lib.ListN.{length};
-ghost use Rattle.rules.specs.Calls.{fresh, openCall, closeCall, messageCall, tickCall, lending};
-ghost use Rattle.engine.specs.Lent.{Lent, Counts, Primary, ReadsMux};
+ghost use Rattle.rules.specs.Calls.{fresh, openCall, closeCall, messageCall, tickCall, lendingMaps};
+ghost use Rattle.engine.specs.Lent.{Lent, Counts, Primary, ReadsMux, ReadsFeed};
 ghost use Rattle.streams.specs.Rows.{ReadsList, WritesList};
 ghost use Rattle.door.specs.Door.{replyOf, Replies, Hears, anchorOf, cueOf};
 ghost use Rattle.rows.specs.Rows.{Pages};
@@ -79,22 +79,25 @@ pub extern "C" fn splicer_5_close(
     *reply = reply_of(a);
 }
 
-// l: the bytes read so far.
+// l: the bytes read so far. 02, CR 6: the lent sections have one lifetime, as the function has that returns one of them.
 #[no_mangle]
-pub extern "C" fn splicer_5_message(
+pub extern "C" fn splicer_5_message<'a>(
     words: &mut [u64; WORDS],
     bytes: &mut [u8; BYTES],
     conn: u32,
     l: &[u8],
+    primary: &'a [u8],
+    insertion: &'a [u8],
     out: &mut [u8],
     reply: &mut [u64; 4],
 )
     requires { ⌜ Lent (now words) (now bytes) ⌝ }
     ensures { λ _.
-        ⌜ Hears (λ room. messageCall conn (now (l .entry)) (lending room)) (now (words .entry)) (now (bytes .entry)) (now (out .entry))
+        ⌜ Hears (λ room. messageCall conn (now (l .entry)) (lendingMaps (now (primary .entry)) (now (insertion .entry)) room))
+        (now (words .entry)) (now (bytes .entry)) (now (out .entry))
         (now (reply .exit)) (now (words .exit)) (now (bytes .exit)) (now (out .exit)) ⌝ }
 {
-    let a = engine::message(&mut *words, &mut *bytes, conn, l, &mut *out);
+    let a = engine::message(&mut *words, &mut *bytes, conn, l, primary, insertion, &mut *out);
     *reply = reply_of(a);
 }
 
@@ -220,4 +223,14 @@ pub extern "C" fn splicer_5_ended(ended: &[u64], page: &mut [Row]) -> usize
         i += 1;
     }
     n
+}
+
+// 02, CR 6: whose section is on air: 0 the primary's, 1 the insertion's. It only reads, and nothing is refused. C then takes its own pointer:
+// an exported function returns no reference.
+#[no_mangle]
+pub extern "C" fn splicer_5_map(words: &[u64; WORDS], bytes: &[u8; BYTES]) -> u64
+    requires { ⌜ Lent (now words) (now bytes) ⌝ }
+    ensures { λ r. ⌜ ReadsFeed (now (words .entry)) (now (bytes .entry)) r ⌝ }
+{
+    engine::on_air(words, bytes)
 }

@@ -16,7 +16,7 @@ use Rattle.rules.specs.State.{empty, Sorted, startsAt, startsAfter, earliest, d
 use Rattle.rules.specs.Sound.{Each, Falling, Coded}
 use Rattle.rules.specs.Answers.{requested, spliceResult}
 use Rattle.rules.specs.Cues.{readCue}
-use Rattle.rules.specs.Calls.{lending, fresh, after}
+use Rattle.rules.specs.Calls.{fresh, after, lendingMaps}
 use Rattle.demands.specs.History.{Event, startsOf, endsOf, history, ownAnswer, othersOf, waitingCount, book, clockAfter}
 use Rattle.demands.specs.Told.{firstNumber, checks, answers, Asks, Passes, fullTold, countsTold, grantedBy, outsOf, startedTold, unended, Ended, Stands, airMuxTold, MuxInRange, Inquires, Finds, connOf, concerned, Carries, Alike}
 use Rattle.demands.specs.Lately.{ofNumber, endedOnce, KeptAs, endsTold}
@@ -126,13 +126,13 @@ module _ (name : List ℕ) (h : List Made) (m : Memory) where
 
   -- "An accepted request is accepted because the rules accept it; a refused one carries the first result code that applies.": connection d sends
   -- the bytes l, which are a Splice_Request q; the last record in the answer's bytes is the Splice_Response with the code of 01's b to f
-  pub first-code-applies : (d : ℕ) (l e : List ℕ) (r : Seen) → More name h m (aMessage d l e) r
-      → (q : Request) → Asks d l (lending (length e)) q (shown m)
+  pub first-code-applies : (d : ℕ) (l pm im e : List ℕ) (r : Seen) → More name h m (aMessage d l pm im e) r
+      → (q : Request) → Asks d l (lendingMaps pm im (length e)) q (shown m)
       → ownAnswer (answers (spliceResult (shown m .clock) d q (requested d q (shown m .queue)) (shown m .queue)) d (q .id))
       (recordsIn (bytesOf r)) ≡ true
-  first-code-applies d l e r c q asks =
+  first-code-applies d l pm im e r c q asks =
       rw (bytes-inside (c .allowed))
-      (called.first-code-applies name (within h) m d l e (inside r) (more-inside name h m (aMessage d l e) r c) q asks)
+      (called.first-code-applies name (within h) m d l pm im e (inside r) (more-inside name h m (aMessage d l pm im e) r c) q asks)
 
   -- 02, CR 1: "From here result 110 is no longer met": the result of every record in the answer's bytes, of every call, is one of 100, 102, 103,
   -- 104, 109, 112, 114, 116, 117, 120, 121, 123, 125; of a Cue_Request 0xFFFF
@@ -147,14 +147,14 @@ module _ (name : List ℕ) (h : List Made) (m : Memory) where
   count-never-passes-20 t d =
       rw (trace-events name h m t) (called.count-never-passes-20 name (within h) m (trace-inside name h m t) d)
 
-  module _ (d : ℕ) (l e : List ℕ) (r : Seen) (c : More name h m (aMessage d l e) r) (q : Request)
-      (asks : Asks d l (lending (length e)) q (shown m)) (passes : Passes d q (shown m)) where
+  module _ (d : ℕ) (l pm im e : List ℕ) (r : Seen) (c : More name h m (aMessage d l pm im e) r) (q : Request)
+      (asks : Asks d l (lendingMaps pm im (length e)) q (shown m)) (passes : Passes d q (shown m)) where
     -- "A request that passes every earlier check in 01's order is refused for a full queue exactly when the count is 20, or when it is
     -- at least 10 and the four counts, each taken as at least 10, add up to 64." Else it is accepted
     pub full-exactly-when : ownAnswer (answers (cond (fullTold d (events h)) 114 100) d (q .id)) (recordsIn (bytesOf r)) ≡ true
     full-exactly-when =
         rw (trace-events name h m (c .trace), bytes-inside (c .allowed))
-        (called.full-exactly-when name (within h) m d l e (inside r) (more-inside name h m (aMessage d l e) r c) q asks passes)
+        (called.full-exactly-when name (within h) m d l pm im e (inside r) (more-inside name h m (aMessage d l pm im e) r c) q asks passes)
 
     -- "Reserved places hold against the other connections.": with fewer than 10 waiting it is accepted, whatever the others have
     pub reserved-places-hold : waitingCount d (events h) < 10 → ownAnswer (answers 100 d (q .id)) (recordsIn (bytesOf r)) ≡ true
@@ -304,8 +304,8 @@ module _ (name : List ℕ) (h : List Made) (m : Memory) where
   at-most-63 i r c = rw (moved-inside (c .allowed)) (called.at-most-63 name (within h) m _ _ (more-inside name h m i r c))
 
   -- connection d sends the bytes l, which are a Splice_Request q, and the last record in the answer's bytes is its 100
-  module _ (d : ℕ) (l e : List ℕ) (r : Seen) (c : More name h m (aMessage d l e) r) (q : Request)
-      (asks : Asks d l (lending (length e)) q (shown m)) (yes : ownAnswer (answers 100 d (q .id)) (recordsIn (bytesOf r)) ≡ true) where
+  module _ (d : ℕ) (l pm im e : List ℕ) (r : Seen) (c : More name h m (aMessage d l pm im e) r) (q : Request)
+      (asks : Asks d l (lendingMaps pm im (length e)) q (shown m)) (yes : ownAnswer (answers 100 d (q .id)) (recordsIn (bytesOf r)) ≡ true) where
     abbrev start : ℕ
     start = requested d q (shown m .queue) .start .0
 
@@ -316,7 +316,7 @@ module _ (name : List ℕ) (h : List Made) (m : Memory) where
     pub moved-is-later : moved r ≡ count (startsAfter start) (shown (left r) .queue .waiting)
     moved-is-later =
         moved-inside (c .allowed)
-        ∙ called.moved-is-later name (within h) m d l e (inside r) (more-inside name h m (aMessage d l e) r c) q asks granted
+        ∙ called.moved-is-later name (within h) m d l pm im e (inside r) (more-inside name h m (aMessage d l pm im e) r c) q asks granted
 
     -- "how many places an acceptance shifts": where it evicts nobody, of the lent places, from the ring's new end on, all but the last
     -- `moved` and its own hold what they held
@@ -325,7 +325,7 @@ module _ (name : List ℕ) (h : List Made) (m : Memory) where
         take (round - (moved r + 1)) (placesFrom k (r .words)) ≡ take (round - (moved r + 1)) (placesFrom k (m .words))
     places-stay free =
         rw (moved-inside (c .allowed))
-        (called.places-stay name (within h) m d l e (inside r) (more-inside name h m (aMessage d l e) r c) q asks granted free)
+        (called.places-stay name (within h) m d l pm im e (inside r) (more-inside name h m (aMessage d l pm im e) r c) q asks granted free)
 
 -- ## Document 02, CR 13
 

@@ -100,21 +100,21 @@ module _ {c : Called} {at : ℕ} {e r m b o : List ℕ} (x : Replies c at e r m 
 pub call-handed : (i : Input) → callOf i ≡ engine.callOf (handed i)
 call-handed (anOpen conn) = refl
 call-handed (aClose conn e) = refl
-call-handed (aMessage conn l e) = refl
+call-handed (aMessage conn l pm im e) = refl
 call-handed (aTick seconds micros e) = refl
 call-handed (aCue l g e) = refl
 
 pub buffer-handed : (i : Input) → bufferOf i ≡ engine.bufferOf (handed i)
 buffer-handed (anOpen conn) = refl
 buffer-handed (aClose conn e) = refl
-buffer-handed (aMessage conn l e) = refl
+buffer-handed (aMessage conn l pm im e) = refl
 buffer-handed (aTick seconds micros e) = refl
 buffer-handed (aCue l g e) = refl
 
 pub typed-handed : (i : Input) → Typed i → engine.Typed (handed i)
 typed-handed (anOpen conn) t = t
 typed-handed (aClose conn e) t = t
-typed-handed (aMessage conn l e) t = t
+typed-handed (aMessage conn l pm im e) t = t
 typed-handed (aTick seconds micros e) t = t
 typed-handed (aCue l g e) t =
     let w = at-all (λ x. x < 4294967296) 0 g (omega arith) (t .2) in
@@ -125,7 +125,7 @@ pub allowed-inside : (m : Memory) (i : Input) (r : Seen) → Allowed (m .words) 
 unfolding call
 allowed-inside m (anOpen conn) r x = told x
 allowed-inside m (aClose conn e) r x = told x
-allowed-inside m (aMessage conn l e) r x = told x
+allowed-inside m (aMessage conn l pm im e) r x = told x
 allowed-inside m (aTick seconds micros e) r x = told x
 allowed-inside m (aCue l g e) r x = told x
 

@@ -147,7 +147,7 @@ pub record AsRuled (m : Memory) (i : Input) (r : Seen) : Type 0 where
 abbrev pub handed : Input → engine.Input
 handed (anOpen conn) = engine.anOpen conn
 handed (aClose conn e) = engine.aClose conn e
-handed (aMessage conn l e) = engine.aMessage conn l e
+handed (aMessage conn l pm im e) = engine.aMessage conn l pm im e
 handed (aTick seconds micros e) = engine.aTick seconds micros e
 handed (aCue l g e) = engine.aCue l (ptsOf g) (getD g 2 0) (getD g 3 0) e
 

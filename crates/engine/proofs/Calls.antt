@@ -6,8 +6,9 @@ use mathlib.Core.List.{List, [], _∷_}
 use mathlib.Core.Logic.{inl, inr}
 use Prim.Native.Nat.{ℕ, _+_, _≤_, _<_}
 use native.Mathlib.Omega.{arith}
-use lib.ListN.{length, getD}
-use borrow.Author.Tests.{lt-ltb, le-ltb, ltb-false}
+use lib.Dec.{eqb}
+use lib.ListN.{length, getD, set}
+use borrow.Author.Tests.{lt-ltb, le-ltb, ltb-false, ne-eqb}
 use types.Run.{OneOf}
 use denote.Enum.Declared.{tagOf}
 use Rattle.rules.proofs.Link.{the-type}
@@ -15,23 +16,24 @@ use Rattle.rules.specs.declared.Ninths.{Ninths}
 use Rattle.rules.specs.declared.Link.{Link}
 use Rattle.rules.specs.declared.Link.the-variants.{Closed, Opened, Initialised}
 use Rattle.rules.specs.declared.Refusal.{Refusal}
-use Rattle.rules.specs.declared.Refusal.the-variants.{NoConnection, NoRoom, ClockBack, AlreadyOpen, NotOpen, BadMicros, BadSection}
+use Rattle.rules.specs.declared.Refusal.the-variants.{NoConnection, NoRoom, ClockBack, AlreadyOpen, NotOpen, BadMicros, LongSection, BadSection}
 use Rattle.rules.specs.declared.Framing.{Framing}
 use Rattle.rules.specs.declared.Framing.the-variants.{Framed, Unframed}
 use Rattle.rules.specs.Lists.{All}
 use Rattle.rules.specs.Bytes.{Byte, dataOf}
 use Rattle.rules.specs.Units.{timeOf, fromMicros}
-use Rattle.rules.specs.State.{Queue, Splicer, isOpen, linkOf, toCome, withLink}
+use Rattle.rules.specs.declared.Session.{Session}
+use Rattle.rules.specs.State.{Queue, Splicer, noHardware, isOpen, linkOf, toCome, withLink}
 use Rattle.rules.specs.Records.{output}
 use Rattle.rules.specs.Ends.{Turn, closedBy}
 use Rattle.rules.specs.Instants.{runAll, silentAll}
-use Rattle.rules.specs.Answers.{Answered, says, answer}
+use Rattle.rules.specs.Answers.{Answered, says, airFeed, airMap, answer}
 use Rattle.rules.specs.Cues.{badSection, readCue, cueTime, initialised, cueRecords}
-use Rattle.rules.specs.Calls.{Called, Call, opens, closes, messages, moves, cues, cueCall, call, noConnection, noRoom, notOpen, openCall, closeCall, framing, handled, lending, messageCall, moveCall, tickCall, ticked, refuse, does, replies, writtenBy, bufferAfter}
+use Rattle.rules.specs.Calls.{Called, Call, opens, closes, messages, moves, cues, cueCall, call, noConnection, noRoom, notOpen, openCall, closeCall, framing, handled, Loans, lendingMaps, longestSection, longSection, messageCall, moveCall, tickCall, ticked, refuse, does, replies, writtenBy, bufferAfter}
 use Rattle.rules.specs.Sound.{Holding, Reached, Wired, horizon}
 use Rattle.rules.proofs.Written.{written-none}
 use Rattle.rules.proofs.Sound.{reached-call, reached-sound, few-wait, few-started}
-use Rattle.memory.specs.Memory.{Memory, see, Now, timed, linked, queued, silenced, shifted, nameOf, shown}
+use Rattle.memory.specs.Memory.{Memory, see, Now, timed, linked, queued, silenced, shifted, nameOf, keptOf, Holds, shown}
 use Rattle.ends.specs.Does.{roomFor, Tells, Turns}
 use Rattle.instants.specs.Runs.{Ticked}
 use Rattle.requests.specs.declared.Given.{Given}
@@ -56,9 +58,13 @@ refused-as {m} {b} {e} c n l f =
       buffer = sym (ap (λ y. bufferAfter (y .answer) e) f ∙ written-none e 0);
     }
 
--- the splicer of the name in b whose words show s
-abbrev told : List ℕ → Memory → Splicer
-told b s = record { name = nameOf b; clock = s .clock; primary = s .primary; links = s .links; queue = s .queue }
+-- the splicer of the name x and the structures h whose words show s
+abbrev told : List ℕ → List (List ℕ) → Memory → Splicer
+told x h s = record { name = x; clock = s .clock; primary = s .primary; links = s .links; hardware = h; queue = s .queue }
+
+-- bytes that stay
+stay : {m b : List ℕ} → Lent m b → Holds b (nameOf b) (keptOf b)
+stay l = record { stored = l .whole .bytes; name = refl; kept = refl }
 
 -- k is called of the memory m and b, and lent the buffer e: the memory is v and c after it, and "bytes beyond those written stay unchanged"
 done-as : (k : Call) {m b e : List ℕ} (consumed : ℕ) (a : Answered) {r : Given} {v c o : List ℕ} → Lent m b → Wired k
@@ -76,16 +82,18 @@ done-as k {m} {b} {e} consumed a {r} {v} {c} l wired f g =
       buffer = g .tells .bytes ∙ sym (ap (λ y. bufferAfter (y .answer) e) f);
     }
 
--- a turn of the queue, all else as in z, and then one change f of what the words show, which leaves the ring's end
-turned-as : (k : Call) {m b e : List ℕ} (z : Memory) (f : Memory → Memory) (t : Turn) {n v o : List ℕ} {len : ℕ} → f (queued (t .queue) z) .ringEnd ≡ see m .ringEnd
-    → Lent m b → Wired k → call k (shown m b) ≡ does 0 (t .written) (told b (f (queued (t .queue) z)))
-    → Turns e 0 t z n len o → Now v (f (see n)) → Answers (call k (shown m b)) (see m .ringEnd) e (Done 0 len 0) v b o
-turned-as k {m} {b} z f t stays l wired g x y =
+-- a turn of the queue, all else as in z, and then one change f of what the words show, which leaves the ring's end; the bytes c hold the
+-- structures h then
+turned-as : (k : Call) {m b e : List ℕ} (z : Memory) (f : Memory → Memory) (t : Turn) (h : List (List ℕ)) {n v c o : List ℕ} {len : ℕ}
+    → f (queued (t .queue) z) .ringEnd ≡ see m .ringEnd → Lent m b → Wired k
+    → call k (shown m b) ≡ does 0 (t .written) (told (nameOf b) h (f (queued (t .queue) z)))
+    → Turns e 0 t z n len o → Now v (f (see n)) → Holds c (nameOf b) h → Answers (call k (shown m b)) (see m .ringEnd) e (Done 0 len 0) v c o
+turned-as k {m} {b} z f t h stays l wired g x y q =
     let is = y .is ∙ ap f (x .shows .is) in
-    done-as k 0 (says (t .written) (told b (f (queued (t .queue) z)))) {r = unmoved _} l wired g
+    done-as k 0 (says (t .written) (told (nameOf b) h (f (queued (t .queue) z)))) {r = unmoved _} l wired g
     (record {
-      whole = record { words = y .form; bytes = l .whole .bytes };
-      splicer = ap (told b) is;
+      whole = record { words = y .form; bytes = q .stored };
+      splicer = λ i. told (q .name i) (q .kept i) (is i);
       ring = ap (λ (s : Memory). s .ringEnd) is ∙ stays;
       tells = x .tells;
       moved = refl;
@@ -144,7 +152,7 @@ module _ {m b : List ℕ} (c : ℕ) (l : Lent m b) where
         done-as (opens c) 0 (says [] (withLink c Opened (shown m b))) {r = unmoved 0} l tt (open-good c (shown m b) low (ap isOpen (sym is) ∙ f))
         (record {
           whole = record { words = n .form; bytes = l .whole .bytes };
-          splicer = ap (told b) (n .is);
+          splicer = ap (told (nameOf b) (keptOf b)) (n .is);
           ring = ap (λ (s : Memory). s .ringEnd) (n .is);
           tells = record { count = refl; bytes = sym (written-none [] 0) };
           moved = refl;
@@ -207,37 +215,78 @@ pub guard-refused : {m b e : List ℕ} (c : ℕ) (x : Called) (n : Refusal) {t :
 guard-refused {m} {b} {e} c x n l f g =
     refused-as (guarded c (length e) (shown m b) x) n l (guarded-is c (length e) (shown m b) x (Bad n) (sym g ∙ f))
 
-message-framed : (c room : ℕ) (s : Splicer) (d : List ℕ) (f : Framing) → Good ≡ openTest c room (s .links) → framing d ≡ f
-    → messageCall c d (lending room) s ≡ handled c f d s
-unfolding messageCall
-message-framed c room s d f e i = guarded-is c room s _ Good e ∙ ap (λ y. handled c y d s) i
+-- p, q: the sections
+module _ (c room : ℕ) (s : Splicer) (d p q : List ℕ) (e : Good ≡ openTest c room (s .links)) where
+  abbrev loans : Loans
+  loans = lendingMaps p q room
+
+  message-past : messageCall c d loans s ≡ cond (longSection loans) (refuse LongSection s) (handled c (framing d) d loans s)
+  unfolding messageCall
+  message-past = guarded-is c room s _ Good e
+
+  message-long : longSection loans ≡ true → messageCall c d loans s ≡ refuse LongSection s
+  message-long i = message-past ∙ rw i
+
+  message-framed : (f : Framing) → longSection loans ≡ false → framing d ≡ f → messageCall c d loans s ≡ handled c f d loans s
+  message-framed f i j = message-past ∙ rw (i, j)
+
+-- what `map_on_air` gives: one of the two lent, by how many have started
+pub chosen : {A B : Type 0} (f : A → B) (b : Bool) (x y : A) → f (cond b x y) ≡ cond b (f x) (f y)
+chosen f true x y = refl
+chosen f false x y = refl
+
+on-air : (k : List Session) (n : ℕ) (p q : List ℕ) → n ≡ length k → cond (eqb n 0) p q ≡ airMap k p q
+unfolding airFeed
+on-air [] n p q e = rw e
+on-air (s ∷ k) n p q e = rw (ne-eqb n 0 (λ z. omega (arith, z)))
+
+pub brief : (b : Bool) (p q : List ℕ) → length p ≤ longestSection → length q ≤ longestSection → length (cond b p q) ≤ longestSection
+brief true p q h k = h
+brief false p q h k = k
 
 module _ {m b e : List ℕ} (c : ℕ) (l : Lent m b) (good : Good ≡ openTest c (length e) (see m .links)) where
-  pub close-done : {n v o : List ℕ} {len : ℕ} → Turns e 0 (closedBy c (see m .queue)) (see m) n len o → Now v (linked c Closed (see n))
-      → Answers (closeCall c (length e) (shown m b)) (see m .ringEnd) e (Done 0 len 0) v b o
+  pub close-done : {n v p o : List ℕ} {len : ℕ} → Turns e 0 (closedBy c (see m .queue)) (see m) n len o → Now v (linked c Closed (see n))
+      → Holds p (nameOf b) (set (keptOf b) c noHardware) → Answers (closeCall c (length e) (shown m b)) (see m .ringEnd) e (Done 0 len 0) v p o
   unfolding closeCall call
   close-done =
-      turned-as (closes c (length e)) (see m) (linked c Closed) (closedBy c (see m .queue)) refl l tt (guarded-is c (length e) (shown m b) _ Good good)
+      turned-as (closes c (length e)) (see m) (linked c Closed) (closedBy c (see m .queue)) (set (keptOf b) c noHardware) refl l tt (guarded-is c (length e) (shown m b) _ Good good)
 
-  -- d is what was read
+  -- d is what was read; p, q: the sections
+  module _ (d p q : List ℕ) where
+    pub message-section : longSection (lendingMaps p q (length e)) ≡ true
+        → Answers (messageCall c d (lendingMaps p q (length e)) (shown m b)) (see m .ringEnd) e (Refused LongSection) m b e
+    message-section h =
+        refused-as (messageCall c d (lendingMaps p q (length e)) (shown m b)) LongSection l (message-long c (length e) (shown m b) d p q good h)
 
-  pub message-unframed : (d : List ℕ) (n : Refusal) {f : Framing} → f ≡ framing d → f ≡ Unframed n
-      → Answers (messageCall c d (lending (length e)) (shown m b)) (see m .ringEnd) e (Refused n) m b e
-  unfolding handled
-  message-unframed d n i u =
-      refused-as (messageCall c d (lending (length e)) (shown m b)) n l
-      (message-framed c (length e) (shown m b) d (Unframed n) good (sym i ∙ u))
+    pub long-first : longestSection < length p → longSection (lendingMaps p q (length e)) ≡ true
+    long-first h = rw (lt-ltb longestSection (length p) h)
 
-  -- p: the data that was handed on
-  pub message-done : (d : List ℕ) {v o p : List ℕ} (id size : ℕ) {r : Given} {f : Framing} → All Byte d → f ≡ framing d → f ≡ Framed id size
-      → p ≡ dataOf size d → Gives (answer c id p (shown m b)) (see m .ringEnd) e r v b o
-      → Answers (messageCall c d (lending (length e)) (shown m b)) (see m .ringEnd) e (Done (8 + size) (r .len) (r .moved)) v b o
-  unfolding handled call
-  message-done d {p = p} id size y i u z g =
-      let s = shown m b in
-      let q = message-framed c (length e) s d (Framed id size) good (sym i ∙ u)
-      ∙ ap (λ x. replies (8 + size) (answer c id x s)) (sym z) in
-      done-as (messages c d (lending (length e))) (8 + size) (answer c id p s) l y q g
+    pub long-second : length p ≤ longestSection → longestSection < length q → longSection (lendingMaps p q (length e)) ≡ true
+    long-second h k = rw (le-ltb longestSection (length p) h, lt-ltb longestSection (length q) k)
+
+    module _ (h : length p ≤ longestSection) (k : length q ≤ longestSection) where
+      short : longSection (lendingMaps p q (length e)) ≡ false
+      short = rw (le-ltb longestSection (length p) h, le-ltb longestSection (length q) k)
+
+      pub message-unframed : (n : Refusal) {f : Framing} → f ≡ framing d → f ≡ Unframed n
+          → Answers (messageCall c d (lendingMaps p q (length e)) (shown m b)) (see m .ringEnd) e (Refused n) m b e
+      unfolding handled
+      message-unframed n i u =
+          refused-as (messageCall c d (lendingMaps p q (length e)) (shown m b)) n l
+          (message-framed c (length e) (shown m b) d p q good (Unframed n) short (sym i ∙ u))
+
+      -- y: the data that was handed on; x: the section that was chosen, where n have started
+      pub message-done : {v w o y x : List ℕ} (id size n : ℕ) {r : Given} {f : Framing} → All Byte d × All Byte p × All Byte q → f ≡ framing d
+          → f ≡ Framed id size → y ≡ dataOf size d → n ≡ length (see m .queue .started) → x ≡ cond (eqb n 0) p q
+          → Gives (answer c id y x (shown m b)) (see m .ringEnd) e r v w o
+          → Answers (messageCall c d (lendingMaps p q (length e)) (shown m b)) (see m .ringEnd) e (Done (8 + size) (r .len) (r .moved)) v w o
+      unfolding handled call
+      message-done {y = y} {x = x} id size n a i u z t t′ g =
+          let s = shown m b in
+          let o : x ≡ airMap (s .queue .started) p q = t′ ∙ on-air (s .queue .started) n p q t in
+          let g′ = message-framed c (length e) s d p q good (Framed id size) short (sym i ∙ u)
+          ∙ ap₂ (λ k j. replies (8 + size) (answer c id k j s)) (sym z) (sym o) in
+          done-as (messages c d (lendingMaps p q (length e))) (8 + size) (answer c id y x s) l a g′ g
 
 -- ## The clock brought to until
 
@@ -265,9 +314,9 @@ module _ {m b e : List ℕ} (until : ℕ) (l : Lent m b) where
       → Ticked until (see m) e len n o → Now v (timed until (see n))
       → Answers (moveCall until (length e) (shown m b)) (see m .ringEnd) e (Done 0 len 0) v b o
   unfolding call ticked
-  move-done low h i =
-      turned-as (moves until (length e)) (silenced (silentAll (see m .clock) until (see m .queue)) (see m)) (timed until) (runAll (see m .clock) until (see m .queue)) refl l low
-      (move-good until (length e) (shown m b) h i)
+  move-done low h i x y =
+      turned-as (moves until (length e)) (silenced (silentAll (see m .clock) until (see m .queue)) (see m)) (timed until) (runAll (see m .clock) until (see m .queue)) (keptOf b) refl l low
+      (move-good until (length e) (shown m b) h i) x y (stay l)
 
 -- ## Tick
 

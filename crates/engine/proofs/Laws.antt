@@ -8,7 +8,7 @@ use native.Mathlib.Omega.{arith}
 use lib.Dec.{ltb}
 use lib.ListN.{length, replicate}
 use Rattle.rules.specs.declared.Refusal.{Refusal}
-use Rattle.rules.specs.declared.Refusal.the-variants.{NoConnection, NoRoom, ClockBack, AlreadyOpen, NotOpen, BadMicros, BadName, BadSection}
+use Rattle.rules.specs.declared.Refusal.the-variants.{NoConnection, NoRoom, ClockBack, AlreadyOpen, NotOpen, BadMicros, BadName, LongSection, BadSection}
 use Rattle.rules.specs.declared.Framing.{Framing}
 use Rattle.rules.specs.declared.Framing.the-variants.{Framed, Unframed}
 use Rattle.rules.specs.Lists.{All}
@@ -17,13 +17,13 @@ use Rattle.rules.specs.Bytes.{Byte, hasZero}
 use Rattle.rules.specs.State.{Splicer, isOpen, linkOf}
 use Rattle.rules.specs.Answers.{Answered, says}
 use Rattle.rules.specs.Cues.{badSection}
-use Rattle.rules.specs.Calls.{Called, Call, opens, closes, messages, ticks, moves, cues, cueCall, call, refused, good, refuse, does, replies, bufferAfter, noConnection, noRoom, notOpen, openCall, closeCall, messageCall, framing, handled, moveCall, tickCall, ticked, fresh}
+use Rattle.rules.specs.Calls.{Called, Call, opens, closes, messages, ticks, moves, cues, cueCall, call, refused, good, refuse, does, replies, bufferAfter, noConnection, noRoom, notOpen, Loans, longSection, openCall, closeCall, messageCall, framing, handled, moveCall, tickCall, ticked, fresh}
 use Rattle.rules.specs.Calls as calls
 use Rattle.rules.specs.Records.{Record}
 use Rattle.rules.proofs.Tests.{by}
 use Rattle.memory.specs.Memory.{words, bytes, see, shown}
 use Rattle.memory.proofs.Laws.{memory-same, cleared-now}
-use Rattle.memory.proofs.Names.{named}
+use Rattle.memory.proofs.Names.{cleared}
 use Rattle.engine.specs.declared.Answer.{Answer}
 use Rattle.engine.specs.declared.Answer.the-variants.{Refused}
 use Rattle.engine.specs.Lent.{Lent, answerOf, Answers}
@@ -58,10 +58,10 @@ module _ (s : Splicer) (n : Refusal) where
   keeps-does : (consumed : ℕ) (rs : List Record) (t : Splicer) → Keeps (does consumed rs t)
   keeps-does consumed rs t = keeps-replies consumed (says rs t)
 
-  keeps-handled : (c : ℕ) (f : Framing) (l : List ℕ) → Keeps (handled c f l s)
+  keeps-handled : (c : ℕ) (f : Framing) (l : List ℕ) (loans : Loans) → Keeps (handled c f l loans s)
   unfolding handled
-  keeps-handled c (Unframed m) l = keeps-refuse m
-  keeps-handled c (Framed id size) l = keeps-replies _ _
+  keeps-handled c (Unframed m) l loans = keeps-refuse m
+  keeps-handled c (Framed id size) l loans = keeps-replies _ _
 
   -- a test, and what follows it
   keeps-test : (b : Bool) (m : Refusal) (c : Called) → Keeps c → Keeps (cond b (refuse m s) c)
@@ -80,7 +80,7 @@ module _ (s : Splicer) (n : Refusal) where
   call-refused (opens c) =
       keeps-test (noConnection c) NoConnection _ (keeps-test (isOpen (linkOf c s)) AlreadyOpen _ (keeps-does _ _ _))
   call-refused (closes c room) = keeps-guarded c room _ (keeps-does _ _ _)
-  call-refused (messages c l loans) = keeps-guarded c (loans .room) _ (keeps-handled c (framing l) l)
+  call-refused (messages c l loans) = keeps-guarded c (loans .room) _ (keeps-test (longSection loans) LongSection _ (keeps-handled c (framing l) l loans))
   call-refused (ticks seconds micros room) =
       keeps-test (noRoom room) NoRoom _
       (keeps-test (badMicros micros) BadMicros _ (keeps-move (fromMicros (timeOf seconds micros) .0) room))
@@ -107,4 +107,4 @@ pub fresh-refused : (name : List ℕ) (r : Answer) (m b o : List ℕ) → length
     → Answers (fresh name) 0 [] r m b o → (r ≡ Refused BadName) × (m ≡ replicate words 0) × (b ≡ replicate bytes 0) × (o ≡ [])
 fresh-refused name r m b o long wide z a =
     answers-same (fresh name) 0 [] r (Refused BadName) m b o (replicate words 0) (replicate bytes 0) [] a
-    (fresh-bad name long wide cleared-now (named [] refl (omega arith)) z)
+    (fresh-bad name long wide cleared-now cleared z)

@@ -9,7 +9,7 @@ use Rattle.rules.specs.declared.Link.the-variants.{Closed}
 use Rattle.rules.specs.declared.Refusal.the-variants.{NoConnection, NoRoom, NotOpen}
 use Rattle.rules.specs.Records.{output}
 use Rattle.rules.specs.State.{Splicer, isOpen}
-use Rattle.rules.specs.Answers.{airMux}
+use Rattle.rules.specs.Answers.{airMux, airFeed}
 use Rattle.rules.specs.Calls.{Called, refused, good, noConnection, noRoom, bufferAfter}
 use Rattle.rules.specs.Calls as calls
 use Rattle.rules.specs.Sound.{Reached}
@@ -52,6 +52,10 @@ openTest c room links =
 -- 02, CR 5: the value r that is read of the memory m and b: "that of the one on air, 5 with none"
 abbrev pub ReadsMux : (m b : List ℕ) (r : ℕ) → Type 0
 ReadsMux m b r = r ≡ airMux (shown m b .queue .started)
+
+-- 02, CR 6: the feed r that is read of them: "whichever feed is on air"
+abbrev pub ReadsFeed : (m b : List ℕ) (r : ℕ) → Type 0
+ReadsFeed m b r = r ≡ airFeed (shown m b .queue .started)
 
 -- 02, CR 2: the four waiting counts r that are read of the memory m and b
 abbrev pub Counts : (m b r : List ℕ) → Type 0

@@ -12,10 +12,13 @@ ghost use mathlib.Core.List.{[]};
 ghost use Prim.Native.Nat.{_<_};
 ghost use Rattle.rules.specs.Lists.{All};
 ghost use Rattle.rules.specs.Bytes.{Byte, hasZero};
-ghost use Rattle.rules.specs.Calls.{houseNumber, fresh, openCall, closeCall, messageCall, moveCall, tickCall, cueCall, lending};
+ghost use Rattle.rules.specs.Calls.{houseNumber, fresh, openCall, closeCall, messageCall, moveCall, tickCall, lendingMaps, cueCall};
 ghost use Rattle.rules.specs.Sound.{horizon};
 ghost use Rattle.memory.specs.Memory.{Form, see};
-ghost use Rattle.engine.specs.Lent.{Lent, Answers, Makes, openTest, Counts, Primary, ReadsMux};
+ghost use Rattle.engine.specs.Lent.{Lent, Answers, Makes, openTest, Counts, Primary, ReadsMux, ReadsFeed};
+
+// 02, CR 6, 10: "a lent section over 1,024 bytes".
+const SECTION: usize = 1024;
 
 // What a call answers: a refusal, or the bytes consumed, the bytes written, and how many places an acceptance shifted.
 pub enum Answer {
@@ -45,6 +48,7 @@ pub fn house_number(n: Refusal) -> u8
         Refusal::BadName => 9,
         Refusal::Counter => 12,
         Refusal::BadSection => 11,
+        Refusal::LongSection => 10,
     }
 }
 
@@ -96,6 +100,17 @@ pub fn mux(m: &[u64; WORDS], b: &[u8]) -> u64
     memory::mux_at(m, 0)
 }
 
+// 02, CR 6: whose section is "the one on air": 0 the primary's, 1 the insertion's. It only reads.
+pub fn on_air(m: &[u64; WORDS], b: &[u8]) -> u64
+    requires { ⌜ Lent (now m) (now b) ⌝ }
+    ensures { λ r. ⌜ ReadsFeed (now (m .entry)) (now (b .entry)) r ⌝ }
+{
+    if memory::count(m, Which::Started) == 0 {
+        return 0;
+    }
+    1
+}
+
 // Open: 1, 6.
 pub fn open(m: &mut [u64; WORDS], b: &mut [u8], conn: u32) -> Answer
     requires { ⌜ Lent (now m) (now b) ⌝ }
@@ -130,7 +145,7 @@ fn test_open(m: &[u64], conn: u32, room: usize) -> Tested
     Tested::Good
 }
 
-// Close: 1, 2, 7.
+// Close: 1, 2, 7. 02, CR 6: it forgets the connection's Hardware_Config.
 pub fn close(m: &mut [u64; WORDS], b: &mut [u8], conn: u32, out: &mut [u8]) -> Answer
     requires { ⌜ Lent (now m) (now b) ⌝ }
     ensures { λ r.
@@ -143,25 +158,42 @@ pub fn close(m: &mut [u64; WORDS], b: &mut [u8], conn: u32, out: &mut [u8]) -> A
     }
     let len = ends::end_all_of(&mut *m, conn as u64, &mut *out);
     memory::set_link(&mut *m, conn, Link::Closed);
+    memory::forget(&mut *b, conn);
     Answer::Done(0, len, 0)
 }
 
-// Message: 1, 2, 7, then 5 (header), 4, 5 (body); then the answer. l: the bytes read so far.
-pub fn message(m: &mut [u64; WORDS], b: &mut [u8], conn: u32, l: &[u8], out: &mut [u8]) -> Answer
+// Message: 1, 2, 7, 10, then 5 (header), 4, 5 (body); then the answer. l: the bytes read so far; primary, insertion: the lent sections.
+pub fn message<'a>(
+    m: &mut [u64; WORDS],
+    b: &mut [u8],
+    conn: u32,
+    l: &[u8],
+    primary: &'a [u8],
+    insertion: &'a [u8],
+    out: &mut [u8],
+) -> Answer
     requires { ⌜ Lent (now m) (now b) ⌝ }
     ensures { λ r.
-        ⌜ Makes (λ room. messageCall conn (now (l .entry)) (lending room)) (now (m .entry)) (now (b .entry)) (now (out .entry)) r
-        (now (m .exit)) (now (b .exit)) (now (out .exit)) ⌝ }
+        ⌜ Makes (λ room. messageCall conn (now (l .entry)) (lendingMaps (now (primary .entry)) (now (insertion .entry)) room))
+        (now (m .entry)) (now (b .entry)) (now (out .entry)) r (now (m .exit)) (now (b .exit)) (now (out .exit)) ⌝ }
 {
     let test = test_open(&*m, conn, out.len());
     if let Tested::Bad(n) = test {
         return Answer::Refused(n);
     }
+    if SECTION < primary.len() {
+        return Answer::Refused(Refusal::LongSection);
+    }
+    if SECTION < insertion.len() {
+        return Answer::Refused(Refusal::LongSection);
+    }
     match reading::frame(l) {
         Framing::Unframed(n) => Answer::Refused(n),
         Framing::Framed(id, size) => {
             let d = reading::data_of(l, size as usize);
-            let given = answers::answer(&mut *m, &*b, conn, id, d, &mut *out);
+            let started = memory::count(&*m, Which::Started);
+            let section = answers::map_on_air(primary, insertion, started);
+            let given = answers::answer(&mut *m, &mut *b, conn, id, d, section, &mut *out);
             Answer::Done(8 + size as usize, given.len, given.moved)
         }
     }

@@ -10,7 +10,8 @@ ghost use mathlib.Core.Path.{_≡_};
 ghost use Prim.Native.Nat.{_≤_};
 ghost use lib.ListN.{length};
 ghost use Rattle.memory.specs.Memory.{see, shown};
-ghost use Rattle.engine.specs.Lent.{Lent};
+ghost use Rattle.rules.specs.Calls.{messageCall, lending};
+ghost use Rattle.engine.specs.Lent.{Lent, Makes};
 ghost use Rattle.feed.specs.Feed.{recordIn};
 ghost use Rattle.feed.specs.Play.{stepOf, Plays, Tells, Ended};
 
@@ -53,6 +54,18 @@ fn stopped(more: bool) -> Played
     }
 }
 
+// A message call: "The card program lends empty sections." Both are the one empty part.
+fn message(m: &mut [u64; WORDS], b: &mut [u8], conn: u32, l: &[u8], out: &mut [u8]) -> Answer
+    requires { ⌜ Lent (now m) (now b) ⌝ }
+    ensures { λ r.
+        ⌜ Makes (λ room. messageCall conn (now (l .entry)) (lending room)) (now (m .entry)) (now (b .entry)) (now (out .entry)) r
+        (now (m .exit)) (now (b .exit)) (now (out .exit)) ⌝ }
+{
+    let none = [0u8; 1];
+    let e = &none[..0];
+    engine::message(&mut *m, &mut *b, conn, l, e, e, &mut *out)
+}
+
 // The call of a record that l begins with, and what the card program writes for it: more says whether the program goes on.
 pub fn play(r: Record, m: &mut [u64; WORDS], b: &mut [u8], l: &[u8], out: &mut [u8]) -> Played
     requires { ⌜ Lent (now m) (now b) ⌝ }
@@ -73,11 +86,11 @@ pub fn play(r: Record, m: &mut [u64; WORDS], b: &mut [u8], l: &[u8], out: &mut [
         }
         Record::Message(c, size) => {
             let end = HEADER_END + size as usize;
-            let a = engine::message(&mut *m, &mut *b, c as u32, &l[MARK_END..end], &mut *out);
+            let a = message(&mut *m, &mut *b, c as u32, &l[MARK_END..end], &mut *out);
             ended(a, end, true, &mut *out)
         }
         Record::Oversize(c) => {
-            let a = engine::message(
+            let a = message(
                 &mut *m,
                 &mut *b,
                 c as u32,

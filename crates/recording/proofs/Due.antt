@@ -4,10 +4,10 @@ use mathlib.Core.Path.{_≡_, refl, sym, ap, _∙_}
 use mathlib.Core.List.{List, [], _∷_, _++_, map, append-assoc}
 use Prim.Native.Nat.{ℕ, _+_, _≤_}
 use native.Mathlib.Omega.{arith}
-use lib.ListN.{length}
+use lib.ListN.{length, length-append}
 use borrow.Author.Tests.{le-ltb}
 use Rattle.rules.specs.Bytes.{bytes, valueFrom, value, padded, largestSize}
-use Rattle.rules.specs.Records.{Record, General, InitResponse, AliveResponse, SpliceResponse, SpliceComplete, AbortResponse, ExtendedFound, ExtendedNone, endDescriptor, CueRequest, timeBytes, framed, recordBytes, output}
+use Rattle.rules.specs.Records.{Record, General, InitResponse, AliveResponse, SpliceResponse, SpliceComplete, AbortResponse, ConfigResponse, ExtendedFound, ExtendedNone, endDescriptor, CueRequest, timeBytes, framed, recordBytes, output}
 use Rattle.rules.specs.declared.Refusal.{Refusal}
 use Rattle.rules.specs.State.{Splicer}
 use Rattle.rules.specs.Sound.{Wired, Sound}
@@ -64,6 +64,9 @@ record-entry (CueRequest c a u l) h = framed-entry c 0x000C 0xFFFF (bytes 4 a ++
 record-entry (ExtendedFound c x event ended played) h =
     framed-entry c 0x0004 100 (bytes 4 x ++ endDescriptor event ended played) (omega arith)
 record-entry (ExtendedNone c x) h = framed-entry c 0x0004 121 (bytes 4 x) (omega arith)
+record-entry (ConfigResponse c r name s m) h =
+    framed-entry c 0x000B r (padded name ++ (s ++ m))
+    (omega (arith, length-append (padded name) (s ++ m), length-append s m, length-padded name (h .0), h .1, h .2))
 
 -- ## All that is written for a call
 

@@ -48,8 +48,8 @@ module _ (l : List ℕ) (a : All Byte l) where
   wired-message =
       let m = messageFrom l in
       wired-whole headerEnd _
-      (wired-choice (oversize m) _ _ (part-byte 0 8 m (rest 2))
-      (wired-whole (messageEnd (messageSize m)) _ (part-byte 0 (8 + messageSize m) m (rest 2), rest (messageEnd (messageSize m)))))
+      (wired-choice (oversize m) _ _ (part-byte 0 8 m (rest 2), tt, tt)
+      (wired-whole (messageEnd (messageSize m)) _ ((part-byte 0 (8 + messageSize m) m (rest 2), tt, tt), rest (messageEnd (messageSize m)))))
 
   wired-tick : WiredNext (nextTick l)
   unfolding nextTick

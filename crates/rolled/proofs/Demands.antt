@@ -15,7 +15,7 @@ use Rattle.rules.specs.Bytes.{Byte, hasZero}
 use Rattle.rules.specs.Records.{recordsIn}
 use Rattle.rules.specs.Answers.{requested, spliceResult}
 use Rattle.rules.specs.Units.{timeOf, fromMicros}
-use Rattle.rules.specs.Calls.{lending, fresh, after}
+use Rattle.rules.specs.Calls.{fresh, after, lendingMaps}
 use Rattle.rules.specs.State.{Sorted, recent}
 use Rattle.rules.specs.Sound.{horizon, Each, Falling, Coded}
 use Rattle.rules.specs.Rolling.{none, Rolling, stepOf, rollingOf, rollingFresh, instants, readings, roll, rolledAfter, asMoves}
@@ -162,13 +162,13 @@ module _ (name : List ℕ) (h : List Made) (m : Memory) where
   trace-as-ruled t = called.trace-as-ruled name (within h) (m .core) (trace-inside name h m t)
 
   -- "An accepted request is accepted because the rules accept it; a refused one carries the first result code that applies."
-  pub first-code-applies : (d : ℕ) (l e : List ℕ) (r : RollSeen) → More name h m (aKnown (aMessage d l e)) r
-      → (q : Request) → Asks d l (lending (length e)) q (shown m .splicer)
+  pub first-code-applies : (d : ℕ) (l pm im e : List ℕ) (r : RollSeen) → More name h m (aKnown (aMessage d l pm im e)) r
+      → (q : Request) → Asks d l (lendingMaps pm im (length e)) q (shown m .splicer)
       → ownAnswer (answers (spliceResult (shown m .splicer .clock) d q (requested d q (shown m .splicer .queue)) (shown m .splicer .queue)) d (q .id))
       (recordsIn (bytesOf r)) ≡ true
-  first-code-applies d l e r c q asks =
+  first-code-applies d l pm im e r c q asks =
       rw (bytes-are name h m _ r c)
-      (called.first-code-applies name (within h) (m .core) d l e (inside (seenOf r)) (known-more name h m (aMessage d l e) r c) q asks)
+      (called.first-code-applies name (within h) (m .core) d l pm im e (inside (seenOf r)) (known-more name h m (aMessage d l pm im e) r c) q asks)
 
   -- 02, CR 1: "From here result 110 is no longer met": the result of every record in the answer's bytes, of every call, is one of 100, 102, 103,
   -- 104, 109, 112, 114, 116, 120, 121, 123, 125
@@ -185,14 +185,14 @@ module _ (name : List ℕ) (h : List Made) (m : Memory) where
   pub count-never-passes-20 : Trace name h m → (d : ℕ) → waitingCount d (events h) ≤ 20
   count-never-passes-20 t = called.count-never-passes-20 name (within h) (m .core) (trace-inside name h m t)
 
-  module _ (d : ℕ) (l e : List ℕ) (r : RollSeen) (c : More name h m (aKnown (aMessage d l e)) r) (q : Request)
-      (asks : Asks d l (lending (length e)) q (shown m .splicer)) (passes : Passes d q (shown m .splicer)) where
+  module _ (d : ℕ) (l pm im e : List ℕ) (r : RollSeen) (c : More name h m (aKnown (aMessage d l pm im e)) r) (q : Request)
+      (asks : Asks d l (lendingMaps pm im (length e)) q (shown m .splicer)) (passes : Passes d q (shown m .splicer)) where
     -- "A request that passes every earlier check in 01's order is refused for a full queue exactly when the count is 20, or when it is
     -- at least 10 and the four counts, each taken as at least 10, add up to 64." Else it is accepted
     pub full-exactly-when : ownAnswer (answers (cond (fullTold d (events h)) 114 100) d (q .id)) (recordsIn (bytesOf r)) ≡ true
     full-exactly-when =
         rw (bytes-are name h m _ r c)
-        (called.full-exactly-when name (within h) (m .core) d l e (inside (seenOf r)) (known-more name h m (aMessage d l e) r c) q asks passes)
+        (called.full-exactly-when name (within h) (m .core) d l pm im e (inside (seenOf r)) (known-more name h m (aMessage d l pm im e) r c) q asks passes)
 
     -- "Reserved places hold against the other connections."
     pub reserved-places-hold : waitingCount d (events h) < 10 → ownAnswer (answers 100 d (q .id)) (recordsIn (bytesOf r)) ≡ true

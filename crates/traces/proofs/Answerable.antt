@@ -1,5 +1,5 @@
 -- From every point of a trace every call has a result that its contract allows: the splicer that document 01 gives stands in some memory.
--- Rests on memory's stood-now and named.
+-- Rests on memory's stood-now and stands.
 use mathlib.Core.Path.{_≡_, refl, sym, ap, subst}
 use mathlib.Core.Bool.{Bool, true, false}
 use mathlib.Core.List.{List, [], _∷_}
@@ -8,7 +8,7 @@ use native.Mathlib.Omega.{arith}
 use lib.ListN.{length, replicate}
 use Rattle.rules.specs.declared.Refusal.the-variants.{BadName}
 use Rattle.rules.specs.Lists.{All}
-use Rattle.rules.specs.Bytes.{Byte, hasZero, nameIn, padded}
+use Rattle.rules.specs.Bytes.{Byte, hasZero, nameIn}
 use Rattle.rules.specs.State.{Splicer}
 use Rattle.rules.specs.Calls.{Called, call, bufferAfter, fresh}
 use Rattle.rules.specs.Sound.{Reached}
@@ -17,7 +17,7 @@ use Rattle.rules.proofs.Sound.{few-wait, few-started, reached-call, reached-sou
 use Rattle.places.specs.Places.{round}
 use Rattle.memory.specs.Memory as lent
 use Rattle.memory.proofs.Laws.{all-flagged, waiting-of-four, cleared-now}
-use Rattle.memory.proofs.Names.{named, name-short}
+use Rattle.memory.proofs.Names.{blank, named, standing, stands, name-short}
 use Rattle.memory.proofs.Packed.{stood, stood-now}
 use Rattle.engine.specs.declared.Answer.{Answer}
 use Rattle.engine.specs.declared.Answer.the-variants.{Refused, Done}
@@ -34,7 +34,7 @@ abbrev seen : ℕ → Splicer → lent.Memory
 seen at s = record { clock = s .clock; primary = s .primary; links = s .links; queue = s .queue; ringEnd = at }
 
 abbrev memoryOf : ℕ → Splicer → Memory
-memoryOf at s = record { words = stood (seen at s); bytes = padded (s .name) }
+memoryOf at s = record { words = stood (seen at s); bytes = standing (s .name) (s .hardware) }
 
 -- what document 01 says of a call, with the buffer e
 abbrev resultOf : Called → ℕ → List ℕ → Result
@@ -51,16 +51,16 @@ within false at h = h
 
 answered : (c : Called) (at : ℕ) (e : List ℕ) → at < round → Reached (c .splicer)
     → let k = lent.shifted (c .accepted) at in
-    Answers c at e (answerOf (c .answer) (c .moved)) (stood (seen k (c .splicer))) (padded (c .splicer .name)) (bufferAfter (c .answer) e)
+    Answers c at e (answerOf (c .answer) (c .moved)) (stood (seen k (c .splicer))) (standing (c .splicer .name) (c .splicer .hardware)) (bufferAfter (c .answer) e)
 answered c at e low r =
     let s = c .splicer in
     let k = lent.shifted (c .accepted) at in
     let x = reached-sound s r in
     let w = stood-now (seen k s) (x .linking .four) (few-wait (x .holding)) (few-started (x .holding))
     (waiting-of-four (s .clock) (s .queue) (x .holding)) (within (c .accepted) at low) (all-flagged (s .clock) (s .queue) (x .holding)) (x .lately .sixteen) (x .lately .next) in
-    let b = named (s .name) (x .linking .zeros) (omega (arith, x .linking .short)) in
+    let b = stands (s .name) (s .hardware) (x .linking .zeros) (omega (arith, x .linking .short)) (x .linking .keeping) (x .linking .kept) in
     let same : shown (memoryOf k s) ≡ s =
-    λ i. record { name = b .is i; clock = w .is i .clock; primary = w .is i .primary; links = w .is i .links; queue = w .is i .queue } in
+    λ i. record { name = b .name i; clock = w .is i .clock; primary = w .is i .primary; links = w .is i .links; hardware = b .kept i; queue = w .is i .queue } in
     record {
       lent = record {
         whole = record { words = w .form; bytes = b .stored };
@@ -91,7 +91,7 @@ module _ (m : Memory) (l : Lent (m .words) (m .bytes)) where
   unfolding call
   answerable (anOpen c) t = record { result = found (anOpen c); allowed = allows (anOpen c) t }
   answerable (aClose c e) t = record { result = found (aClose c e); allowed = allows (aClose c e) t }
-  answerable (aMessage c b e) t = record { result = found (aMessage c b e); allowed = allows (aMessage c b e) t }
+  answerable (aMessage c b pm im e) t = record { result = found (aMessage c b pm im e); allowed = allows (aMessage c b pm im e) t }
   answerable (aTick seconds micros e) t =
       record { result = found (aTick seconds micros e); allowed = allows (aTick seconds micros e) t }
   answerable (aMove until e) t = record { result = found (aMove until e); allowed = allows (aMove until e) t }
@@ -132,8 +132,8 @@ module _ (name : List ℕ) (long : length name ≡ 32) (bytes : All Byte name) w
 
       go : (z : Bool) → hasZero name ≡ z → Run name is
       go true e =
-          from (padded (nameIn name)) (Done 0 0 0)
+          from (blank (nameIn name)) (Done 0 0 0)
           (fresh-good name long bytes cleared-now (named (nameIn name) (nameIn-zero name) (omega (arith, name-short name))) e)
       go false e =
-          from (padded []) (Refused BadName)
+          from (blank []) (Refused BadName)
           (fresh-bad name long bytes cleared-now (named [] refl (omega arith)) e)

@@ -23,7 +23,7 @@ use Rattle.rules.specs.Calls as rules
 use Rattle.rules.specs.Calls.{call}
 use Rattle.memory.specs.Memory.{see}
 use Rattle.engine.specs.declared.Answer.{Answer}
-use Rattle.engine.specs.Lent.{Answers, Counts, Primary, ReadsMux}
+use Rattle.engine.specs.Lent.{Answers, Counts, Primary, ReadsMux, ReadsFeed}
 use Rattle.engine.proofs.Held.{kind, Holds, Same, both, number-held, bytes-held}
 use Rattle.engine.proofs.fresh as fresh
 use Rattle.engine.proofs.«open» as opening
@@ -35,6 +35,7 @@ use Rattle.engine.proofs.cue as cue
 use Rattle.engine.proofs.waiting as waiting
 use Rattle.engine.proofs.primary as primary
 use Rattle.engine.proofs.mux as mux
+use Rattle.engine.proofs.on_air as airing
 use Rattle.traces.specs.Trace.{Memory, shown, Input, anOpen, aClose, aMessage, aTick, aMove, aCue, Typed, callOf, bufferOf, Result, Allowed}
 use Rattle.traces.proofs.Course.{LentAt}
 
@@ -85,8 +86,8 @@ module _ {M : Type 1} (𝓤 : URA M) (H : Heap 𝓤) (A : Atoms 𝓤) (mem : sto
         ≡ ⌜ Allowed close-at (aClose (a .1 .1 .0) (now (a .1 .1 .1 .0))) (ended r (now (z .0)) (now (z .1 .0)) (now (z .1 .1 .1 .0))) ⌝
     close-ensures = refl
 
-  -- message(m, b, conn, l, out)
-  module _ (κs : Lfts 4) (a : Args message.signature κs) (r : Res message.signature κs) (z : AtExit message.ended κs) where
+  -- message(m, b, conn, l, primary, insertion, out)
+  module _ (κs : Lfts 5) (a : Args message.signature κs) (r : Res message.signature κs) (z : AtExit message.ended κs) where
     abbrev message-at : Memory
     message-at = at (now (a .0)) (now (a .1 .0))
 
@@ -94,8 +95,8 @@ module _ {M : Type 1} (𝓤 : URA M) (H : Heap 𝓤) (A : Atoms 𝓤) (mem : sto
     message-requires = refl
 
     pub message-ensures : message.clauses 𝓤 H A mem run κs a .ensures tt r z
-        ≡ ⌜ Allowed message-at (aMessage (a .1 .1 .0) (now (a .1 .1 .1 .0)) (now (a .1 .1 .1 .1 .0)))
-        (ended r (now (z .0)) (now (z .1 .0)) (now (z .1 .1 .1 .1 .0))) ⌝
+        ≡ ⌜ Allowed message-at (aMessage (a .1 .1 .0) (now (a .1 .1 .1 .0)) (now (a .1 .1 .1 .1 .0)) (now (a .1 .1 .1 .1 .1 .0)) (now (a .1 .1 .1 .1 .1 .1 .0)))
+        (ended r (now (z .0)) (now (z .1 .0)) (now (z .1 .1 .1 .1 .1 .1 .0))) ⌝
     message-ensures = refl
 
   -- tick(m, b, seconds, micros, out)
@@ -161,6 +162,14 @@ module _ {M : Type 1} (𝓤 : URA M) (H : Heap 𝓤) (A : Atoms 𝓤) (mem : sto
     pub mux-ensures : mux.clauses 𝓤 H A mem run κs a .ensures tt r z ≡ ⌜ ReadsMux (now (a .0)) (now (a .1 .0)) r ⌝
     mux-ensures = refl
 
+  -- on_air(m, b)
+  module _ (κs : Lfts 2) (a : Args airing.signature κs) (r : Res airing.signature κs) (z : AtExit airing.ended κs) where
+    pub airing-requires : airing.clauses 𝓤 H A mem run κs a .requires tt ≡ ⌜ LentAt (at (now (a .0)) (now (a .1 .0))) ⌝
+    airing-requires = refl
+
+    pub airing-ensures : airing.clauses 𝓤 H A mem run κs a .ensures tt r z ≡ ⌜ ReadsFeed (now (a .0)) (now (a .1 .0)) r ⌝
+    airing-ensures = refl
+
 -- ## What Allowed says is of the call `callOf`
 
 pub called : (m : Memory) (i : Input) (r : Result)
@@ -168,7 +177,7 @@ pub called : (m : Memory) (i : Input) (r : Result)
 unfolding call
 called m (anOpen conn) r = refl
 called m (aClose conn e) r = refl
-called m (aMessage conn l e) r = refl
+called m (aMessage conn l pm im e) r = refl
 called m (aTick seconds micros e) r = refl
 called m (aMove until e) r = refl
 called m (aCue l pts seconds micros e) r = refl
@@ -190,14 +199,25 @@ module _ (κs : Lfts 3) (e : List ℕ) where
       → Same (Holds (kind tick.signature κs 2) seconds × Holds (kind tick.signature κs 3) micros) (Typed (aTick seconds micros e))
   tick-typed seconds micros = both (number-held seconds) (number-held micros)
 
-module _ (κs : Lfts 4) where
-  -- l is a &[u8]
-  pub bytes-typed : kind message.signature κs 3 ≡ typeAt {n = 4} (SliceRef 2 tt u8 tt) κs
+module _ (κs : Lfts 5) where
+  -- l and the sections are each a &[u8], the sections of one lifetime
+  pub bytes-typed : kind message.signature κs 3 ≡ typeAt {n = 5} (SliceRef 3 tt u8 tt) κs
   bytes-typed = refl
 
-  pub message-typed : (conn : ℕ) (l e : List ℕ)
-      → Same (Holds (kind message.signature κs 2) conn × All (Holds u8) l) (Typed (aMessage conn l e))
-  message-typed conn l e = both (number-held conn) (bytes-held l)
+  pub section-typed : kind message.signature κs 4 ≡ typeAt {n = 5} (SliceRef 0 tt u8 tt) κs
+  section-typed = refl
+
+  pub second-typed : kind message.signature κs 5 ≡ typeAt {n = 5} (SliceRef 0 tt u8 tt) κs
+  second-typed = refl
+
+  pub message-typed : (conn : ℕ) (l pm im e : List ℕ)
+      → Same (Holds (kind message.signature κs 2) conn × All (Holds u8) l × All (Holds u8) pm × All (Holds u8) im) (Typed (aMessage conn l pm im e))
+  message-typed conn l pm im e =
+      let n = number-held conn in
+      let b = bytes-held l in
+      let p = bytes-held pm in
+      let i = bytes-held im in
+      ((λ h. (n .0 (h .0), b .0 (h .1), p .0 (h .2), i .0 (h .3))), λ t. (n .1 (t .0), b .1 (t .1), p .1 (t .2), i .1 (t .3)))
 
 module _ (κs : Lfts 4) where
   -- the section is a &[u8]

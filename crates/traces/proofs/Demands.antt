@@ -17,7 +17,7 @@ use Rattle.rules.specs.State.{Splicer, empty, Sorted, startsAt, startsAfter, so
 use Rattle.rules.specs.Sound.{Each, Later, Falling, Coded}
 use Rattle.rules.specs.Answers.{requested, spliceResult}
 use Rattle.rules.specs.Cues.{readCue}
-use Rattle.rules.specs.Calls.{lending, fresh, after}
+use Rattle.rules.specs.Calls.{fresh, after, lendingMaps}
 use Rattle.rules.proofs.All.{all-into}
 use Rattle.rules.proofs.Sound.{reached-sound}
 use Rattle.rules.proofs.Tick.{earliest-start}
@@ -112,13 +112,13 @@ module _ (name : List ℕ) (h : List Made) (m : Memory) where
 
   -- "An accepted request is accepted because the rules accept it; a refused one carries the first result code that applies.": connection d sends
   -- the bytes l, which are a Splice_Request q; the last record in the answer's bytes is the Splice_Response with the code of 01's b to f
-  pub first-code-applies : (d : ℕ) (l e : List ℕ) (r : Result) → More name h m (aMessage d l e) r
-      → (q : Request) → Asks d l (lending (length e)) q (shown m)
+  pub first-code-applies : (d : ℕ) (l pm im e : List ℕ) (r : Result) → More name h m (aMessage d l pm im e) r
+      → (q : Request) → Asks d l (lendingMaps pm im (length e)) q (shown m)
       → ownAnswer (answers (spliceResult (shown m .clock) d q (requested d q (shown m .queue)) (shown m .queue)) d (q .id))
       (recordsIn (bytesOf r)) ≡ true
-  first-code-applies d l e r c q asks =
-      rw (as-ruled m (aMessage d l e) r (c .allowed) .bytes)
-      (told.first-code-applies (events h) (shown m) (trace-told name h m (c .trace)) d l (lending (length e)) q asks)
+  first-code-applies d l pm im e r c q asks =
+      rw (as-ruled m (aMessage d l pm im e) r (c .allowed) .bytes)
+      (told.first-code-applies (events h) (shown m) (trace-told name h m (c .trace)) d l (lendingMaps pm im (length e)) q asks)
 
   -- 02, CR 1: "From here result 110 is no longer met": the result of every record in the answer's bytes, of every call, is one of 100, 102, 103,
   -- 104, 109, 112, 114, 116, 117, 120, 121, 123, 125; of a Cue_Request 0xFFFF
@@ -133,14 +133,14 @@ module _ (name : List ℕ) (h : List Made) (m : Memory) where
   pub count-never-passes-20 : Trace name h m → (d : ℕ) → waitingCount d (events h) ≤ 20
   count-never-passes-20 t = told.count-never-passes-20 (events h) (shown m) (trace-told name h m t)
 
-  module _ (d : ℕ) (l e : List ℕ) (r : Result) (c : More name h m (aMessage d l e) r) (q : Request)
-      (asks : Asks d l (lending (length e)) q (shown m)) (passes : Passes d q (shown m)) where
+  module _ (d : ℕ) (l pm im e : List ℕ) (r : Result) (c : More name h m (aMessage d l pm im e) r) (q : Request)
+      (asks : Asks d l (lendingMaps pm im (length e)) q (shown m)) (passes : Passes d q (shown m)) where
     -- "A request that passes every earlier check in 01's order is refused for a full queue exactly when the count is 20, or when it is
     -- at least 10 and the four counts, each taken as at least 10, add up to 64." Else it is accepted
     pub full-exactly-when : ownAnswer (answers (cond (fullTold d (events h)) 114 100) d (q .id)) (recordsIn (bytesOf r)) ≡ true
     full-exactly-when =
-        rw (as-ruled m (aMessage d l e) r (c .allowed) .bytes)
-        (told.full-exactly-when (events h) (shown m) (trace-told name h m (c .trace)) d l (lending (length e)) q asks passes)
+        rw (as-ruled m (aMessage d l pm im e) r (c .allowed) .bytes)
+        (told.full-exactly-when (events h) (shown m) (trace-told name h m (c .trace)) d l (lendingMaps pm im (length e)) q asks passes)
 
     -- "Reserved places hold against the other connections.": with fewer than 10 waiting it is accepted, whatever the others have
     pub reserved-places-hold : waitingCount d (events h) < 10 → ownAnswer (answers 100 d (q .id)) (recordsIn (bytesOf r)) ≡ true
@@ -282,27 +282,27 @@ module _ (name : List ℕ) (h : List Made) (m : Memory) where
       rw (moved-is m i r (c .allowed)) (shifting.at-most-63 (events h) (shown m) (trace-told name h m (c .trace)) (callOf i) (wired i (c .typed)))
 
   -- connection d sends the bytes l, which are a Splice_Request q, and the last record in the answer's bytes is its 100
-  module _ (d : ℕ) (l e : List ℕ) (r : Result) (c : More name h m (aMessage d l e) r) (q : Request)
-      (asks : Asks d l (lending (length e)) q (shown m)) (yes : ownAnswer (answers 100 d (q .id)) (recordsIn (bytesOf r)) ≡ true) where
+  module _ (d : ℕ) (l pm im e : List ℕ) (r : Result) (c : More name h m (aMessage d l pm im e) r) (q : Request)
+      (asks : Asks d l (lendingMaps pm im (length e)) q (shown m)) (yes : ownAnswer (answers 100 d (q .id)) (recordsIn (bytesOf r)) ≡ true) where
     abbrev start : ℕ
     start = requested d q (shown m .queue) .start .0
 
     code : spliceResult (shown m .clock) d q (requested d q (shown m .queue)) (shown m .queue) ≡ 100
-    code = last-code (recordsIn (bytesOf r)) _ _ d (q .id) (first-code-applies name h m d l e r c q asks) yes
+    code = last-code (recordsIn (bytesOf r)) _ _ d (q .id) (first-code-applies name h m d l pm im e r c q asks) yes
 
     -- "It equals the waiting sessions, after any eviction, whose start is later than the new one's": of those that wait after the call
     pub moved-is-later : moved r ≡ count (startsAfter start) (shown (r .memory) .queue .waiting)
     moved-is-later =
-        moved-is m (aMessage d l e) r (c .allowed)
-        ∙ shifting.moved-is-later d l (lending (length e)) q (shown m) asks code
-        ∙ ap (λ (s : Splicer). count (startsAfter start) (s .queue .waiting)) (sym (as-ruled m (aMessage d l e) r (c .allowed) .state))
+        moved-is m (aMessage d l pm im e) r (c .allowed)
+        ∙ shifting.moved-is-later d l (lendingMaps pm im (length e)) q (shown m) asks code
+        ∙ ap (λ (s : Splicer). count (startsAfter start) (s .queue .waiting)) (sym (as-ruled m (aMessage d l pm im e) r (c .allowed) .state))
 
     -- "how many places an acceptance shifts": where it evicts nobody, of the lent places, from the ring's new end on, all but the last
     -- `moved` and its own hold what they held
     pub places-stay : some (startsAt start) (shown m .queue .waiting) ≡ false
         → let k = next (see (m .words) .ringEnd) in
         take (round - (moved r + 1)) (placesFrom k (r .memory .words)) ≡ take (round - (moved r + 1)) (placesFrom k (m .words))
-    places-stay = others-stay m (trace-lent name h m (c .trace)) d l e r (c .allowed) q asks code
+    places-stay = others-stay m (trace-lent name h m (c .trace)) d l pm im e r (c .allowed) q asks code
 
 -- ## Document 02, CR 13
 

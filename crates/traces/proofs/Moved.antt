@@ -11,10 +11,10 @@ use Rattle.rules.specs.declared.Session.{Session}
 use Rattle.rules.specs.Lists.{some, count, place, insertAt}
 use Rattle.rules.specs.Bytes.{messageSize, hasZero}
 use Rattle.rules.specs.State.{Splicer, sameNumber, startsAt, startsAfter}
-use Rattle.rules.specs.Records.{Record, General, InitResponse, AliveResponse, SpliceResponse, SpliceComplete, AbortResponse, ExtendedFound, ExtendedNone, CueRequest}
+use Rattle.rules.specs.Records.{Record, General, InitResponse, AliveResponse, SpliceResponse, SpliceComplete, AbortResponse, ConfigResponse, ExtendedFound, ExtendedNone, CueRequest}
 use Rattle.rules.specs.Ends.{Turn, andThen, evicted}
 use Rattle.rules.specs.Answers.{requested, spliceResult, inserted, accepted, later, grants, splices, answerSplice}
-use Rattle.rules.specs.Calls.{Called, Call, messages, lending, call, replies, fresh, ticked}
+use Rattle.rules.specs.Calls.{Called, Call, messages, lendingMaps, call, replies, fresh, ticked}
 use Rattle.rules.proofs.Tests.{by, and-both, clash}
 use Rattle.rules.proofs.Count.{place≤}
 use Rattle.rules.proofs.Moves.{evicted-none, later-behind}
@@ -71,6 +71,7 @@ one-code (AbortResponse d n i) a b c x e f = absurd (clash false e refl)
 one-code (CueRequest d s u l) a b c x e f = absurd (clash false e refl)
 one-code (ExtendedFound d i event ended played) a b c x e f = absurd (clash false e refl)
 one-code (ExtendedNone d i) a b c x e f = absurd (clash false e refl)
+one-code (ConfigResponse d n l h s) a b c x e f = absurd (clash false e refl)
 
 pub last-code : (l : List Record) (a b c x : ℕ) → last (answers a c x) l ≡ true → last (answers b c x) l ≡ true → a ≡ b
 unfolding last
@@ -80,8 +81,8 @@ last-code (r ∷ s ∷ l) a b c x e f = last-code (s ∷ l) a b c x e f
 
 -- ## An acceptance that evicts nobody
 
-module _ (m : Memory) (l : Lent (m .words) (m .bytes)) (d : ℕ) (i e : List ℕ) (r : Result) (a : Allowed m (aMessage d i e) r) (q : Request)
-    (asks : Asks d i (lending (length e)) q (shown m))
+module _ (m : Memory) (l : Lent (m .words) (m .bytes)) (d : ℕ) (i pm im e : List ℕ) (r : Result) (a : Allowed m (aMessage d i pm im e) r) (q : Request)
+    (asks : Asks d i (lendingMaps pm im (length e)) q (shown m))
     (code : spliceResult (shown m .clock) d q (requested d q (shown m .queue)) (shown m .queue) ≡ 100) where
   abbrev new : Session
   new = requested d q (shown m .queue)
@@ -90,9 +91,9 @@ module _ (m : Memory) (l : Lent (m .words) (m .bytes)) (d : ℕ) (i e : List ℕ
   w = shown m .queue .waiting
 
   -- the call is the acceptance of the new one
-  granted : call (messages d i (lending (length e))) (shown m) ≡ replies (8 + messageSize i) (splices (grants new (shown m .queue)) (shown m))
+  granted : call (messages d i (lendingMaps pm im (length e))) (shown m) ≡ replies (8 + messageSize i) (splices (grants new (shown m .queue)) (shown m))
   unfolding answerSplice
-  granted = splice-call d i (lending (length e)) q (shown m) asks ∙ rw code
+  granted = splice-call d i (lendingMaps pm im (length e)) q (shown m) asks ∙ rw code
 
   -- where none has the new one's start
   pub others-stay : some (startsAt (new .start .0)) w ≡ false
@@ -102,7 +103,7 @@ module _ (m : Memory) (l : Lent (m .words) (m .bytes)) (d : ℕ) (i e : List ℕ
   others-stay free =
       let t = new .start .0 in
       let at = place (startsAfter t) w in
-      let p = promised m (aMessage d i e) r a in
+      let p = promised m (aMessage d i pm im e) r a in
       let none : w ≡ evicted t (shown m .queue) .queue .waiting = ap (λ (u : Turn). u .queue .waiting) (evicted-none t (shown m .queue) free) in
       let ring : see (r .memory .words) .ringEnd ≡ next (see (m .words) .ringEnd) =
       p .ring ∙ ap (λ (c : Called). shifted (c .accepted) (see (m .words) .ringEnd)) granted in
@@ -111,7 +112,7 @@ module _ (m : Memory) (l : Lent (m .words) (m .bytes)) (d : ℕ) (i e : List ℕ
       ∙ ap (λ (v : List Session). insertAt (place (startsAfter t) v) new v) (sym none) in
       let holds = reached-sound (shown m) (l .reached) .holding in
       let shifts : moved r ≡ length w - at =
-      moved-is m (aMessage d i e) r a ∙ ap (λ (c : Called). c .moved) granted
+      moved-is m (aMessage d i pm im e) r a ∙ ap (λ (c : Called). c .moved) granted
       ∙ ap (count (startsAfter t)) (sym none) ∙ sym (later-behind t w (holds .timed .sorted)) in
       let few = few-wait (reached-sound (shown (r .memory)) (p .lent .reached) .holding) in
       places-stay (m .words) (r .memory .words) at (moved r) new (l .whole .words) (p .lent .whole .words) ring list (place≤ (startsAfter t) w) few shifts

@@ -25,7 +25,7 @@ use Rattle.traces.specs.Trace.{Result, Allowed, numberIn, bytesIn, numbe
 pub wired : (i : Input) → Typed i → Wired (callOf i)
 wired (anOpen c) t = tt
 wired (aClose c e) t = tt
-wired (aMessage c l e) t = t .1
+wired (aMessage c l pm im e) t = (t .1, t .2, t .3)
 wired (aTick seconds micros e) t = t .0
 wired (aMove until e) t = t
 wired (aCue l pts seconds micros e) t = t .0
@@ -63,7 +63,7 @@ module _ (m : Memory) where
   unfolding call
   promised (anOpen c) r a = a
   promised (aClose c e) r a = a
-  promised (aMessage c l e) r a = a
+  promised (aMessage c l pm im e) r a = a
   promised (aTick seconds micros e) r a = a
   promised (aMove until e) r a = a
   promised (aCue l pts seconds micros e) r a = a

@@ -7,7 +7,7 @@ use lib.ListN.{length, take, replicate}
 use Rattle.rules.specs.Lists.{All}
 use Rattle.rules.specs.Bytes.{Byte}
 use Rattle.rules.specs.State.{Splicer}
-use Rattle.rules.specs.Calls.{houseNumber, Called, fresh, openCall, closeCall, messageCall, lending, tickCall, moveCall, cueCall}
+use Rattle.rules.specs.Calls.{houseNumber, Called, fresh, openCall, closeCall, messageCall, lendingMaps, tickCall, moveCall, cueCall}
 use Rattle.rules.specs.Calls.{call, writtenBy, bufferAfter, Call, opens, closes, messages, ticks, moves, cues}
 use Rattle.rules.specs.Sound.{horizon}
 use Rattle.demands.specs.History.{Reply, refusal, wrote, Event}
@@ -35,7 +35,7 @@ emptyMemory = record { words = replicate lent.words 0; bytes = replicate lent.by
 pub data Input : Type 0 where
   anOpen : (conn : ℕ) → Input
   aClose : (conn : ℕ) (buffer : List ℕ) → Input
-  aMessage : (conn : ℕ) (l buffer : List ℕ) → Input
+  aMessage : (conn : ℕ) (l primary insertion buffer : List ℕ) → Input
   aTick : (seconds micros : ℕ) (buffer : List ℕ) → Input
   aMove : (until : ℕ) (buffer : List ℕ) → Input
   aCue : (section : List ℕ) (pts seconds micros : ℕ) (buffer : List ℕ) → Input
@@ -45,7 +45,7 @@ pub data Input : Type 0 where
 abbrev pub Typed : Input → Type 0
 Typed (anOpen conn) = conn < 4294967296
 Typed (aClose conn e) = conn < 4294967296
-Typed (aMessage conn l e) = (conn < 4294967296) × All Byte l
+Typed (aMessage conn l pm im e) = (conn < 4294967296) × All Byte l × All Byte pm × All Byte im
 Typed (aTick seconds micros e) = (seconds < 4294967296) × (micros < 4294967296)
 Typed (aMove until e) = until < horizon
 Typed (aCue l pts seconds micros e) = All Byte l × (pts < 18446744073709551616) × (seconds < 4294967296) × (micros < 4294967296)
@@ -54,7 +54,7 @@ Typed (aCue l pts seconds micros e) = All Byte l × (pts < 18446744073709551616)
 abbrev pub callOf : Input → Call
 callOf (anOpen conn) = opens conn
 callOf (aClose conn e) = closes conn (length e)
-callOf (aMessage conn l e) = messages conn l (lending (length e))
+callOf (aMessage conn l pm im e) = messages conn l (lendingMaps pm im (length e))
 callOf (aTick seconds micros e) = ticks seconds micros (length e)
 callOf (aMove until e) = moves until (length e)
 callOf (aCue l pts seconds micros e) = cues l pts seconds micros (length e)
@@ -63,7 +63,7 @@ callOf (aCue l pts seconds micros e) = cues l pts seconds micros (length e)
 abbrev pub bufferOf : Input → List ℕ
 bufferOf (anOpen conn) = []
 bufferOf (aClose conn e) = e
-bufferOf (aMessage conn l e) = e
+bufferOf (aMessage conn l pm im e) = e
 bufferOf (aTick seconds micros e) = e
 bufferOf (aMove until e) = e
 bufferOf (aCue l pts seconds micros e) = e
@@ -84,7 +84,7 @@ Promises k m e r = Makes k (m .words) (m .bytes) e (r .answer) (r .memory .words
 abbrev pub Allowed : Memory → Input → Result → Type 0
 Allowed m (anOpen conn) r = Promises (λ _. openCall conn) m [] r
 Allowed m (aClose conn e) r = Promises (closeCall conn) m e r
-Allowed m (aMessage conn l e) r = Promises (λ room. messageCall conn l (lending room)) m e r
+Allowed m (aMessage conn l pm im e) r = Promises (λ room. messageCall conn l (lendingMaps pm im room)) m e r
 Allowed m (aTick seconds micros e) r = Promises (tickCall seconds micros) m e r
 Allowed m (aMove until e) r = Promises (moveCall until) m e r
 Allowed m (aCue l pts seconds micros e) r = Promises (cueCall l pts seconds micros) m e r

@@ -5,9 +5,10 @@ use Rattle.answers.proofs.answer.Statement.{statement}
 use Rattle.answers.proofs.answer.Tie as tie
 
 returns : tie.Need-returns
-returns c =
-    let s = c .before .before .before .before in
-    first (s .pre .0) (s .args .conn) (s .args .id) (s .args .d .now) (c .if1 .taken)
+returns c = 
+    let s = c .before .before .before .before .before in
+    let if1 = c .if1 in
+    first (s .pre .0) (s .args .conn) (s .args .id) (s .args .d .now) (s .args .section .now) (if1 .taken)
 
 link-requires : tie.Need-link-requires
 link-requires c κs = search needs
@@ -22,20 +23,26 @@ same-length : tie.Need-same-length
 same-length c = search needs
 
 returns-2 : tie.Need-returns-2
-returns-2 c =
-    let k = c .before .before .before .before in
-    let s = k .before .before .before .before .before .before .before .before .before in
-    second (s .pre .0) (s .args .conn) (s .args .id) (s .args .d .now) (k .before .before .before .before .before .if1 .left)
-    (k .before .before .link .ensures) (k .before .is-barred .ensures) (k .if2 .taken)
-    (c .before .before .general .ensures)
+returns-2 c = 
+    let s = c .before .before .before .before .before .before .before .before .before .before .before .before .before .before in
+    let if1 = c .before .before .before .before .before .before .before .before .before .if1 in
+    let link = c .before .before .before .before .before .before .link in
+    let is-barred = c .before .before .before .before .before .is-barred in
+    let if2 = c .before .before .before .before .if2 in
+    let general = c .before .before .general in
+    second (s .pre .0) (s .args .conn) (s .args .id) (s .args .d .now) (s .args .section .now) (if1 .left)
+    (link .ensures) (is-barred .ensures) (if2 .taken) (general .ensures)
 
 returns-3 : tie.Need-returns-3
-returns-3 c =
-    let k = c .before in
-    let s = k .before .before .before .before .before .before .before .before .before in
-    third (s .pre .0) (s .args .conn) (s .args .id) (s .args .d .now) (k .before .before .before .before .before .if1 .left)
-    (k .before .before .link .ensures) (k .before .is-barred .ensures) (k .if2 .left)
-    (c .if3 .taken)
+returns-3 c = 
+    let s = c .before .before .before .before .before .before .before .before .before .before .before in
+    let if1 = c .before .before .before .before .before .before .if1 in
+    let link = c .before .before .before .link in
+    let is-barred = c .before .before .is-barred in
+    let if2 = c .before .if2 in
+    let if3 = c .if3 in
+    third (s .pre .0) (s .args .conn) (s .args .id) (s .args .d .now) (s .args .section .now) (if1 .left)
+    (link .ensures) (is-barred .ensures) (if2 .left) (if3 .taken)
 
 is-read-requires : tie.Need-is-read-requires
 is-read-requires c κs = search needs
@@ -47,13 +54,18 @@ same-length-2 : tie.Need-same-length-2
 same-length-2 c = search needs
 
 returns-4 : tie.Need-returns-4
-returns-4 c =
-    let k = c .before .before .before .before .before .before .before in
-    let s = k .before .before .before .before .before .before .before .before .before in
-    fourth (s .pre .0) (s .args .conn) (s .args .id) (s .args .d .now) (k .before .before .before .before .before .if1 .left)
-    (k .before .before .link .ensures) (k .before .is-barred .ensures) (k .if2 .left)
-    (c .before .before .before .before .before .before .if3 .left) (c .before .before .before .before .before .is-read .ensures)
-    (c .before .before .before .before .if4 .taken) (c .before .before .general2 .ensures)
+returns-4 c = 
+    let s = c .before .before .before .before .before .before .before .before .before .before .before .before .before .before .before .before .before in
+    let if1 = c .before .before .before .before .before .before .before .before .before .before .before .before .if1 in
+    let link = c .before .before .before .before .before .before .before .before .before .link in
+    let is-barred = c .before .before .before .before .before .before .before .before .is-barred in
+    let if2 = c .before .before .before .before .before .before .before .if2 in
+    let if3 = c .before .before .before .before .before .before .if3 in
+    let is-read = c .before .before .before .before .before .is-read in
+    let if4 = c .before .before .before .before .if4 in
+    let general2 = c .before .before .general2 in
+    fourth (s .pre .0) (s .args .conn) (s .args .id) (s .args .d .now) (s .args .section .now) (if1 .left)
+    (link .ensures) (is-barred .ensures) (if2 .left) (if3 .left) (is-read .ensures) (if4 .taken) (general2 .ensures)
 
 answer-read-requires : tie.Need-answer-read-requires
 answer-read-requires c κs = search needs
@@ -61,16 +73,22 @@ answer-read-requires c κs = search needs
 same-length-3 : tie.Need-same-length-3
 same-length-3 c = search needs
 
+same-length-4 : tie.Need-same-length-4
+same-length-4 c = search needs
+
 returns-5 : tie.Need-returns-5
-returns-5 c =
-    let k = c .before .before .before .before .before .before .before .before in
-    let s = k .before .before .before .before .before .before .before .before .before in
-    fifth (s .pre .0) (s .args .conn) (s .args .id) (s .args .d .now) (k .before .before .before .before .before .if1 .left)
-    (k .before .before .link .ensures) (k .before .is-barred .ensures) (k .if2 .left)
-    (c .before .before .before .before .before .before .before .if3 .left)
-    (c .before .before .before .before .before .before .is-read .ensures)
-    (c .before .before .before .before .before .if4 .left)
-    (c .before .before .answer-read .ensures)
+returns-5 c = 
+    let s = c .before .before .before .before .before .before .before .before .before .before .before .before .before .before .before .before .before .before .before .before .before in
+    let if1 = c .before .before .before .before .before .before .before .before .before .before .before .before .before .before .before .before .if1 in
+    let link = c .before .before .before .before .before .before .before .before .before .before .before .before .before .link in
+    let is-barred = c .before .before .before .before .before .before .before .before .before .before .before .before .is-barred in
+    let if2 = c .before .before .before .before .before .before .before .before .before .before .before .if2 in
+    let if3 = c .before .before .before .before .before .before .before .before .before .before .if3 in
+    let is-read = c .before .before .before .before .before .before .before .before .before .is-read in
+    let if4 = c .before .before .before .before .before .before .before .before .if4 in
+    let answer-read = c .before .before .before .before .answer-read in
+    fifth (s .pre .0) (s .args .conn) (s .args .id) (s .args .d .now) (s .args .section .now) (if1 .left)
+    (link .ensures) (is-barred .ensures) (if2 .left) (if3 .left) (is-read .ensures) (if4 .left) (answer-read .ensures)
 
 pub answer-spec : {M : Type 1} → statement M
 answer-spec =
@@ -89,4 +107,5 @@ answer-spec =
     returns-4
     answer-read-requires
     same-length-3
+    same-length-4
     returns-5)
