@@ -22,3 +22,4 @@ pub mod Owners
 pub mod Said
 pub mod Same
 pub mod Cued
+pub mod Kept

@@ -3,3 +3,4 @@ pub mod Lately
 pub mod Airing
 pub mod Told
 pub mod Moments
+pub mod Kept

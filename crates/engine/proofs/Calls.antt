@@ -230,6 +230,17 @@ module _ (c room : ℕ) (s : Splicer) (d p q : List ℕ) (e : Good ≡ openTest 
   message-framed : (f : Framing) → longSection loans ≡ false → framing d ≡ f → messageCall c d loans s ≡ handled c f d loans s
   message-framed f i j = message-past ∙ rw (i, j)
 
+-- 10: "a lent section over 1,024 bytes"
+module _ (p q : List ℕ) (room : ℕ) where
+  pub long-first : longestSection < length p → longSection (lendingMaps p q room) ≡ true
+  long-first h = rw (lt-ltb longestSection (length p) h)
+
+  pub long-second : length p ≤ longestSection → longestSection < length q → longSection (lendingMaps p q room) ≡ true
+  long-second h k = rw (le-ltb longestSection (length p) h, lt-ltb longestSection (length q) k)
+
+  both-short : length p ≤ longestSection → length q ≤ longestSection → longSection (lendingMaps p q room) ≡ false
+  both-short h k = rw (le-ltb longestSection (length p) h, le-ltb longestSection (length q) k)
+
 -- what `map_on_air` gives: one of the two lent, by how many have started
 pub chosen : {A B : Type 0} (f : A → B) (b : Bool) (x y : A) → f (cond b x y) ≡ cond b (f x) (f y)
 chosen f true x y = refl
@@ -239,6 +250,17 @@ on-air : (k : List Session) (n : ℕ) (p q : List ℕ) → n ≡ length k → co
 unfolding airFeed
 on-air [] n p q e = rw e
 on-air (s ∷ k) n p q e = rw (ne-eqb n 0 (λ z. omega (arith, z)))
+
+-- the read of the feed on air
+pub feed-none : (l : List Session) → length l ≡ 0 → 0 ≡ airFeed l
+unfolding airFeed
+feed-none [] h = refl
+feed-none (x ∷ l) h = absurd (omega arith)
+
+pub feed-some : (l : List Session) → 0 < length l → 1 ≡ airFeed l
+unfolding airFeed
+feed-some [] h = absurd (omega arith)
+feed-some (x ∷ l) h = refl
 
 pub brief : (b : Bool) (p q : List ℕ) → length p ≤ longestSection → length q ≤ longestSection → length (cond b p q) ≤ longestSection
 brief true p q h k = h
@@ -258,22 +280,13 @@ module _ {m b e : List ℕ} (c : ℕ) (l : Lent m b) (good : Good ≡ openTest c
     message-section h =
         refused-as (messageCall c d (lendingMaps p q (length e)) (shown m b)) LongSection l (message-long c (length e) (shown m b) d p q good h)
 
-    pub long-first : longestSection < length p → longSection (lendingMaps p q (length e)) ≡ true
-    long-first h = rw (lt-ltb longestSection (length p) h)
-
-    pub long-second : length p ≤ longestSection → longestSection < length q → longSection (lendingMaps p q (length e)) ≡ true
-    long-second h k = rw (le-ltb longestSection (length p) h, lt-ltb longestSection (length q) k)
-
     module _ (h : length p ≤ longestSection) (k : length q ≤ longestSection) where
-      short : longSection (lendingMaps p q (length e)) ≡ false
-      short = rw (le-ltb longestSection (length p) h, le-ltb longestSection (length q) k)
-
       pub message-unframed : (n : Refusal) {f : Framing} → f ≡ framing d → f ≡ Unframed n
           → Answers (messageCall c d (lendingMaps p q (length e)) (shown m b)) (see m .ringEnd) e (Refused n) m b e
       unfolding handled
       message-unframed n i u =
           refused-as (messageCall c d (lendingMaps p q (length e)) (shown m b)) n l
-          (message-framed c (length e) (shown m b) d p q good (Unframed n) short (sym i ∙ u))
+          (message-framed c (length e) (shown m b) d p q good (Unframed n) (both-short p q (length e) h k) (sym i ∙ u))
 
       -- y: the data that was handed on; x: the section that was chosen, where n have started
       pub message-done : {v w o y x : List ℕ} (id size n : ℕ) {r : Given} {f : Framing} → All Byte d × All Byte p × All Byte q → f ≡ framing d
@@ -284,7 +297,7 @@ module _ {m b e : List ℕ} (c : ℕ) (l : Lent m b) (good : Good ≡ openTest c
       message-done {y = y} {x = x} id size n a i u z t t′ g =
           let s = shown m b in
           let o : x ≡ airMap (s .queue .started) p q = t′ ∙ on-air (s .queue .started) n p q t in
-          let g′ = message-framed c (length e) s d p q good (Framed id size) short (sym i ∙ u)
+          let g′ = message-framed c (length e) s d p q good (Framed id size) (both-short p q (length e) h k) (sym i ∙ u)
           ∙ ap₂ (λ k j. replies (8 + size) (answer c id k j s)) (sym z) (sym o) in
           done-as (messages c d (lendingMaps p q (length e))) (8 + size) (answer c id y x s) l a g′ g
 
