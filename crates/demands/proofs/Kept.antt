@@ -178,6 +178,10 @@ module _ (c : ℕ) (l : List ℕ) (loans : Loans) (s : Splicer) where
   unfolding call messageCall handled answer answerRead read readConfig
   config-call a r = rw (a .low, a .roomy, ready-open (linkOf c s) r, a .sections, a .framed, r)
 
+  denied-call : AsksConfig c l loans s → linkOf c s ≡ Opened → call (messages c l loans) s ≡ replies 8 (says (General c 103 ∷ []) s)
+  unfolding call messageCall handled answer
+  denied-call a r = rw (a .low, a .roomy, r, a .sections, a .framed, r)
+
   alive-call : AsksAlive c l loans s → Ready c s → call (messages c l loans) s ≡ replies 16 (says (aliveResponse c s ∷ []) s)
   unfolding call messageCall handled answer answerRead read readAlive
   alive-call a r =
@@ -197,14 +201,13 @@ config-told h s f c l loans a r =
 -- its section is the insertion's exactly where an Alive_Request in its place, lent whatever, is answered with State 2
 pub section-told : (h : List Event) (s : Splicer) → FromFresh h s → (c : ℕ) (l : List ℕ) (loans other : Loans) → AsksAlive c l other s → Ready c s
     → sectionOf loans s ≡ cond (eqb (stateIn (recordsIn (writtenBy (call (messages c l other) s .answer)))) 2) (loans .insertion) (loans .primary)
-unfolding stateIn aliveResponse
+unfolding stateIn aliveResponse airFeed airState
 section-told h s f c l loans other a r =
     by-state (s .queue .started)
     ∙ sym (ap (λ (x : List Record). cond (eqb (stateIn x) 2) (loans .insertion) (loans .primary))
     (sound-found s (messages c l other) (a .bytes) (from-sound h s f) ∙ ap (λ (x : Called). recordsOf (x .answer)) (alive-call c l other s a r)))
   where
     by-state : (k : List Session) → cond (eqb (airFeed k) 0) (loans .primary) (loans .insertion) ≡ cond (eqb (airState k) 2) (loans .insertion) (loans .primary)
-    unfolding airFeed airState
     by-state [] = refl
     by-state (x ∷ k) = refl
 
@@ -212,14 +215,14 @@ section-told h s f c l loans other a r =
 pub opened-denied : (h : List Event) (s : Splicer) → FromFresh h s → (c : ℕ) → numberOf (call (opens c) s .answer) ≡ 0
     → (l : List ℕ) (loans : Loans) → let t = call (opens c) s .splicer in AsksConfig c l loans t
     → recordsIn (writtenBy (call (messages c l loans) t .answer)) ≡ General c 103 ∷ []
+unfolding call openCall numberOf
 opened-denied h s f c z l loans a =
-    sound-found t (messages c l loans) (a .bytes) (sound-call s (opens c) tt (from-sound h s f)) ∙ ap (λ (x : Called). recordsOf (x .answer)) denied
+    sound-found t (messages c l loans) (a .bytes) (sound-call s (opens c) tt (from-sound h s f)) ∙ ap (λ (x : Called). recordsOf (x .answer)) (denied-call c l loans t a is-open)
   where
     t : Splicer
     t = call (opens c) s .splicer
 
     is-open : linkOf c t ≡ Opened
-    unfolding call openCall numberOf
     is-open = go (noConnection c) (isOpen (linkOf c s)) refl z
       where
         go : (x y : Bool) → noConnection c ≡ x → numberOf (cond x (refuse NoConnection s) (cond y (refuse AlreadyOpen s) (does 0 [] (withLink c Opened s))) .answer) ≡ 0
@@ -227,7 +230,3 @@ opened-denied h s f c z l loans a =
         go true y e n = absurd (omega (arith, a-number NoConnection))
         go false true e n = absurd (omega (arith, a-number AlreadyOpen))
         go false false e n = getD-set-same (s .links) c Opened Closed (omega (arith, from-sound h s f .linking .four, ltb-false 3 c e))
-
-    denied : call (messages c l loans) t ≡ replies 8 (says (General c 103 ∷ []) t)
-    unfolding call messageCall handled answer
-    denied = rw (a .low, a .roomy, is-open, a .sections, a .framed)
