@@ -51,6 +51,8 @@ mod id {
     pub const CUE_RESPONSE: u16 = 0x000D;
     pub const ABORT_REQUEST: u16 = 0x000E;
     pub const ABORT_RESPONSE: u16 = 0x000F;
+    pub const GET_CONFIG_REQUEST: u16 = 0x000A;
+    pub const GET_CONFIG_RESPONSE: u16 = 0x000B;
 }
 
 /// Result codes.
@@ -237,9 +239,21 @@ impl Name {
     }
 }
 
+/// A connection's Hardware_Config with its Length, and zeros behind it (02, CR 6).
+type Hardware = [u8; 256];
+
+const NO_HARDWARE: Hardware = [0; 256];
+
+/// The bytes of the structure itself.
+fn kept(hardware: &Hardware) -> &[u8] {
+    let length = usize::from(u16::from_be_bytes([hardware[0], hardware[1]]));
+    &hardware[..2 + length]
+}
+
 /// A message that could be read.
 enum Request {
-    Init { revision: u16, channel: Name },
+    Init { revision: u16, channel: Name, hardware: Hardware },
+    Config,
     Alive,
     Splice(Splice),
     Abort { id: u32 },
@@ -339,6 +353,16 @@ impl<'a> Reader<'a> {
         Some(())
     }
 
+    /// A Hardware_Config with its Length, in 256 bytes with zeros behind it; what follows it is unread.
+    fn hardware(&mut self) -> Option<Hardware> {
+        let (length, rest) = self.0.split_first_chunk::<2>()?;
+        let own = rest.get(..usize::from(u16::from_be_bytes(*length)))?;
+        let mut kept = NO_HARDWARE;
+        kept[..2].copy_from_slice(length);
+        kept.get_mut(2..2 + own.len())?.copy_from_slice(own);
+        Some(kept)
+    }
+
     /// The descriptors to the message's end, and the value of the last muxpriority_descriptor among them.
     fn descriptors(&mut self) -> Option<u8> {
         let mut mux = AVERAGE;
@@ -370,6 +394,7 @@ impl Request {
             id::SPLICE_REQUEST => Self::parse_splice(&mut reader),
             id::ABORT_REQUEST => Self::parse_abort(&mut reader),
             id::EXTENDED_DATA_REQUEST => Self::parse_extended(&mut reader),
+            id::GET_CONFIG_REQUEST => Self::parse_config(&mut reader),
             _ => return Err(Unfit::Unknown),
         };
         request.ok_or(Unfit::Unreadable)
@@ -379,7 +404,13 @@ impl Request {
         let revision = reader.u16()?;
         let channel = reader.name()?;
         let _splicer = reader.name()?;
-        Some(Request::Init { revision, channel })
+        let hardware = reader.hardware()?;
+        Some(Request::Init { revision, channel, hardware })
+    }
+
+    fn parse_config(reader: &mut Reader) -> Option<Self> {
+        reader.end()?;
+        Some(Request::Config)
     }
 
     fn parse_alive(reader: &mut Reader) -> Option<Self> {
@@ -482,6 +513,14 @@ impl<'a> Output<'a> {
         self.put(&name.0);
     }
 
+    /// With an empty section.
+    fn config(&mut self, connection: u8, name: &Name, hardware: &Hardware) {
+        let kept = kept(hardware);
+        self.header(connection, id::GET_CONFIG_RESPONSE, 32 + kept.len() as u16, code::SUCCESSFUL);
+        self.put(&name.0);
+        self.put(kept);
+    }
+
     fn alive(&mut self, connection: u8, on_air: Option<u32>, clock: Ninths) {
         let (seconds, micros) = clock.to_time();
         self.header(connection, id::ALIVE_RESPONSE, 16, code::SUCCESSFUL);
@@ -540,6 +579,7 @@ pub struct InPlace {
     primary: Ninths,
     name: Name,
     links: [Link; CONNECTIONS],
+    hardware: [Hardware; CONNECTIONS],
     /// By start.
     waiting: List<Session, ALL_WAITING>,
     /// How many of them each connection has.
@@ -578,6 +618,7 @@ impl InPlace {
             primary: Ninths(0),
             name,
             links: [Link::Closed; CONNECTIONS],
+            hardware: [NO_HARDWARE; CONNECTIONS],
             waiting: List::new(),
             counts: [0; CONNECTIONS],
             started: List::new(),
@@ -602,6 +643,7 @@ impl InPlace {
         }
         self.end_connection(conn as u8, &mut out);
         self.links[conn as usize] = Link::Closed;
+        self.hardware[conn as usize] = NO_HARDWARE;
         Ok(out.written)
     }
 
@@ -764,7 +806,8 @@ impl InPlace {
             _ => {}
         }
         match Request::parse(message_id, data) {
-            Ok(Request::Init { revision, channel }) => self.init(connection, revision, &channel, out),
+            Ok(Request::Init { revision, channel, hardware }) => self.init(connection, revision, &channel, &hardware, out),
+            Ok(Request::Config) => out.config(connection, &self.name, &self.hardware[usize::from(connection)]),
             Ok(Request::Alive) => out.alive(connection, self.on_air(), self.clock),
             Ok(Request::Splice(splice)) => self.splice(connection, &splice, out),
             Ok(Request::Abort { id }) => self.abort(connection, id, out),
@@ -778,13 +821,14 @@ impl InPlace {
         self.started.last().map(|started| started.session.id)
     }
 
-    fn init(&mut self, connection: u8, revision: u16, channel: &Name, out: &mut Output) {
+    fn init(&mut self, connection: u8, revision: u16, channel: &Name, hardware: &Hardware, out: &mut Output) {
         let result = if revision != REVISION {
             code::INVALID_VERSION
         } else if *channel != self.name {
             code::UNKNOWN_CHANNEL
         } else {
             self.links[usize::from(connection)] = Link::Initialised;
+            self.hardware[usize::from(connection)] = *hardware;
             code::SUCCESSFUL
         };
         out.init(connection, result, &self.name);

@@ -25,7 +25,7 @@ enum { PASTS = 16 };
 struct peer {
     uint64_t clock, primary, counts[4];
     uint32_t waits, starts;
-    uint8_t link[4], name[32];
+    uint8_t link[4], name[32], hardware[4][256];
     struct session waiting[64], started[10];
     struct past ended[PASTS]; /* a ring; `next` is the place of the next end */
     uint32_t next;
@@ -247,6 +247,7 @@ __attribute__((noinline)) struct splicer_reply peer_close(struct peer *p, uint32
     p->waits = kept;
     p->counts[conn] = 0;
     p->link[conn] = 0;
+    memset(p->hardware[conn], 0, 256);
     return (struct splicer_reply){0, 0, 0, o.length};
 }
 
@@ -355,7 +356,7 @@ __attribute__((noinline)) uint32_t peer_mux(const struct peer *p) { return p->st
 __attribute__((noinline)) uint64_t peer_primary(const struct peer *p) { return p->primary; }
 
 static int answer_init(struct peer *p, struct sink *o, uint8_t conn, const uint8_t *d, size_t n) {
-    if (n < 66 || !memchr(d + 2, 0, 32) || !memchr(d + 34, 0, 32)) {
+    if (n < 68 || splicer_u16(d + 66) > 254 || n < 68 + splicer_u16(d + 66) || !memchr(d + 2, 0, 32) || !memchr(d + 34, 0, 32)) {
         return 0;
     }
     uint32_t result = splicer_u16(d) != 2 ? 102 : strncmp((const char *)d + 2, (const char *)p->name, 32) ? 104 : 100;
@@ -364,8 +365,19 @@ static int answer_init(struct peer *p, struct sink *o, uint8_t conn, const uint8
     memcpy(q + 2, p->name, 32);
     if (result == 100) {
         p->link[conn] = 2;
+        size_t kept = 2 + splicer_u16(d + 66);
+        memcpy(p->hardware[conn], d + 66, kept);
+        memset(p->hardware[conn] + kept, 0, 256 - kept);
     }
     return 1;
+}
+
+/* with an empty section */
+static void answer_config(struct peer *p, struct sink *o, uint8_t conn) {
+    size_t kept = 2 + splicer_u16(p->hardware[conn]);
+    uint8_t *q = framed(o, conn, SPLICER_GET_CONFIG_RESPONSE, 100, 32 + kept);
+    memcpy(q, p->name, 32);
+    memcpy(q + 32, p->hardware[conn], kept);
 }
 
 static void answer_alive(struct peer *p, struct sink *o, uint8_t conn) {
@@ -429,6 +441,11 @@ __attribute__((noinline)) struct splicer_reply peer_message(struct peer *p, uint
         }
     } else if (id == 0x0003) {
         readable = answer_extended(p, &o, (uint8_t)conn, d, n);
+    } else if (id == SPLICER_GET_CONFIG_REQUEST) {
+        readable = n == 0;
+        if (readable) {
+            answer_config(p, &o, (uint8_t)conn);
+        }
     } else if (id != 0x000D) {
         framed(&o, (uint8_t)conn, SPLICER_GENERAL_RESPONSE, 120, 0);
     }

@@ -41,6 +41,8 @@ const SPLICE_COMPLETE: u16 = 0x0009;
 const CUE_RESPONSE: u16 = 0x000D;
 const ABORT_REQUEST: u16 = 0x000E;
 const ABORT_RESPONSE: u16 = 0x000F;
+const GET_CONFIG_REQUEST: u16 = 0x000A;
+const GET_CONFIG_RESPONSE: u16 = 0x000B;
 
 const REVISION: u16 = 2;
 
@@ -114,6 +116,8 @@ pub struct Splicer {
     /// The primary channel's time, without the present stay (02, CR 13).
     primary: u64,
     lines: [Line; CONNECTIONS],
+    /// Each connection's Hardware_Config with its Length, and zeros behind it (02, CR 6).
+    hardware: [[u8; 256]; CONNECTIONS],
     name: [u8; 32],
 }
 
@@ -193,6 +197,18 @@ impl Output {
             self.next.add(8).cast::<[u8; 2]>().write([0xFF; 2]);
             self.next.add(10).cast::<[u8; N]>().write(data);
             self.next = self.next.add(10 + N);
+        }
+    }
+
+    /// A record of two parts, whose lengths are not known before.
+    fn parts(&mut self, connection: u8, message: u16, result: u16, name: &[u8; 32], rest: &[u8]) {
+        let at = self.next;
+        self.put(connection, message, result, *name);
+        // SAFETY: as `new` says; the size is put anew, and what stands behind the name goes there.
+        unsafe {
+            at.add(4).cast::<[u8; 2]>().write((32 + rest.len() as u16).to_be_bytes());
+            self.next.copy_from_nonoverlapping(rest.as_ptr(), rest.len());
+            self.next = self.next.add(rest.len());
         }
     }
 
@@ -557,6 +573,7 @@ impl Splicer {
             }
         }
         self.lines[usize::from(connection)] = Line::Closed;
+        self.hardware[usize::from(connection)] = [0; 256];
     }
 
     fn message(&mut self, connection: u8, message: u16, data: &[u8], out: &mut Output) {
@@ -572,6 +589,7 @@ impl Splicer {
             EXTENDED_REQUEST => self.extended(connection, data, out),
             SPLICE_REQUEST => self.splice(connection, data, out),
             ABORT_REQUEST => self.abort(connection, data, out),
+            GET_CONFIG_REQUEST => self.config(connection, data, out),
             CUE_RESPONSE => return,
             _ => return out.general(connection, 120),
         };
@@ -585,8 +603,10 @@ impl Splicer {
     fn init(&mut self, connection: u8, data: &[u8], out: &mut Output) -> Option<()> {
         let (revision, names) = data.split_first_chunk::<2>()?;
         let (channel, names) = names.split_first_chunk::<32>()?;
-        let splicer = names.first_chunk::<32>()?;
-        if !has_zero(channel) || !has_zero(splicer) {
+        let (splicer, rest) = names.split_first_chunk::<32>()?;
+        let length = usize::from(u16::from_be_bytes(*rest.first_chunk::<2>()?));
+        let hardware = rest.get(..2 + length)?;
+        if hardware.len() > 256 || !has_zero(channel) || !has_zero(splicer) {
             return None;
         }
         let result = if u16::from_be_bytes(*revision) != REVISION {
@@ -595,12 +615,26 @@ impl Splicer {
             104
         } else {
             self.lines[usize::from(connection)] = Line::Initialised;
+            let kept = &mut self.hardware[usize::from(connection)];
+            *kept = [0; 256];
+            kept[..hardware.len()].copy_from_slice(hardware);
             100
         };
         let mut answer = [0; 34];
         answer[..2].copy_from_slice(&REVISION.to_be_bytes());
         answer[2..].copy_from_slice(&self.name);
         out.put(connection, INIT_RESPONSE, result, answer);
+        Some(())
+    }
+
+    /// With an empty section.
+    fn config(&mut self, connection: u8, data: &[u8], out: &mut Output) -> Option<()> {
+        if !data.is_empty() {
+            return None;
+        }
+        let kept = &self.hardware[usize::from(connection)];
+        let length = 2 + usize::from(u16::from_be_bytes([kept[0], kept[1]]));
+        out.parts(connection, GET_CONFIG_RESPONSE, 100, &self.name, &kept[..length]);
         Some(())
     }
 
@@ -784,6 +818,7 @@ pub extern "C" fn unordered_fresh(s: &mut MaybeUninit<Splicer>, name: &[u8; 32])
         since: 0,
         primary: 0,
         lines: [Line::Closed; CONNECTIONS],
+        hardware: [[0; 256]; CONNECTIONS],
         name: kept,
     });
     match length {

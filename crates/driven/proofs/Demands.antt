@@ -6,25 +6,28 @@ use mathlib.Core.Bool.{true, false, cond}
 use mathlib.Core.List.{List, [], _∷_, _++_, map}
 use Prim.Native.Nat.{ℕ, _+_, _-_, _/_, _≤_, _<_}
 use native.Mathlib.Nat.{le-trans}
-use lib.ListN.{length, take, getD}
+use lib.Dec.{eqb}
+use lib.ListN.{length, take, getD, replicate}
 use Rattle.rules.specs.declared.Request.{Request}
 use Rattle.rules.specs.declared.When.the-variants.{At}
 use Rattle.rules.specs.Lists.{All, some, count}
 use Rattle.rules.specs.Bytes.{Byte, hasZero}
-use Rattle.rules.specs.Records.{recordsIn}
-use Rattle.rules.specs.State.{empty, Sorted, startsAt, startsAfter, earliest, due, recent}
+use Rattle.rules.specs.Records.{recordsIn, ConfigResponse}
+use Rattle.rules.specs.State.{empty, Sorted, startsAt, startsAfter, earliest, due, recent, hardwareOf}
+use Rattle.rules.specs.Reading.{longestHardware}
 use Rattle.rules.specs.Sound.{Each, Falling, Coded}
 use Rattle.rules.specs.Answers.{requested, spliceResult}
 use Rattle.rules.specs.Cues.{readCue}
-use Rattle.rules.specs.Calls.{fresh, after, lendingMaps}
+use Rattle.rules.specs.Calls.{fresh, after, lendingMaps, sectionOf, Loans}
 use Rattle.demands.specs.History.{Event, startsOf, endsOf, history, ownAnswer, othersOf, waitingCount, book, clockAfter}
 use Rattle.demands.specs.Told.{firstNumber, checks, answers, Asks, Passes, fullTold, countsTold, grantedBy, outsOf, startedTold, unended, Ended, Stands, airMuxTold, MuxInRange, Inquires, Finds, connOf, concerned, Carries, Alike}
 use Rattle.demands.specs.Lately.{ofNumber, endedOnce, KeptAs, endsTold}
 use Rattle.demands.specs.Airing.{airingsTold, clockTold, primaryTold, timeTold, airTold, numberTold}
+use Rattle.demands.specs.Kept.{keptTold, AsksConfig, AsksAlive, Ready, stateIn}
 use Rattle.demands.specs.Moments.{Gapless, Printed, Within, PlayedAs}
 use Rattle.places.specs.Places.{round, next}
-use Rattle.memory.specs.Memory.{see, placesFrom, countsOf, lateOf}
-use Rattle.engine.specs.Lent.{Lent, Counts, Primary, ReadsMux}
+use Rattle.memory.specs.Memory.{see, placesFrom, countsOf, keptBytes, lateOf}
+use Rattle.engine.specs.Lent.{Lent, Counts, Primary, ReadsMux, ReadsFeed}
 use Rattle.door.specs.Door.{Input, aClose, aMessage, aCue, ptsOf, Typed, callOf, bufferOf, Seen}
 use Rattle.traces.specs.Trace.{Memory, emptyMemory, shown}
 use Rattle.traces.specs.Trace as engine
@@ -418,3 +421,37 @@ module _ (name : List ℕ) (h : List Made) (m : Memory) (l g e : List ℕ) (r : 
   cue-whole =
       rw (bytes-inside (c .allowed))
       (called.cue-whole name (within h) m l (ptsOf g) (getD g 2 0) (getD g 3 0) e (inside r) (more-inside name h m (aCue l g e) r c))
+
+-- ## Document 02, CR 6
+
+module _ (name : List ℕ) (h : List Made) (m : Memory) where
+  -- "Keep Hardware_Config per connection": what is kept is what the calls and the answers' bytes tell, the structure of the connection's latest
+  -- Init_Request whose answer was Init_Response 100, since it was opened
+  pub kept-told : Trace name h m → (d : ℕ) → hardwareOf d (shown m) ≡ keptTold d (events h)
+  kept-told t d = called.kept-told name (within h) m (trace-inside name h m t) d ∙ ap (keptTold d) (sym (trace-events name h m t))
+
+  -- "Servers ask with GetConfig_Request (0x000A, no data) and expect ChannelName, the Hardware_Config of their Init_Request and the output
+  -- channel's program map section.": of an initialised connection, the answer is that one record
+  pub config-told : (d : ℕ) (l pm im e : List ℕ) (r : Seen) → More name h m (aMessage d l pm im e) r
+      → AsksConfig d l (lendingMaps pm im (length e)) (shown m) → Ready d (shown m)
+      → recordsIn (bytesOf r) ≡ ConfigResponse d 100 (shown m .name) (keptTold d (events h)) (sectionOf (lendingMaps pm im (length e)) (shown m)) ∷ []
+  config-told d l pm im e r c asks ready =
+      rw (bytes-inside (c .allowed), trace-events name h m (c .trace))
+      (called.config-told name (within h) m d l pm im e (inside r) (more-inside name h m (aMessage d l pm im e) r c) asks ready)
+
+  -- "Our card passes the map of the feed that is on air": the insertion's exactly where an Alive_Request in its place is answered with State 2
+  pub section-told : (d : ℕ) (l pm im e : List ℕ) (r : Seen) → More name h m (aMessage d l pm im e) r
+      → AsksAlive d l (lendingMaps pm im (length e)) (shown m) → Ready d (shown m)
+      → (loans : Loans) → sectionOf loans (shown m) ≡ cond (eqb (stateIn (recordsIn (bytesOf r))) 2) (loans .insertion) (loans .primary)
+  section-told d l pm im e r c asks ready loans =
+      rw (bytes-inside (c .allowed))
+      (called.section-told name (within h) m d l pm im e (inside r) (more-inside name h m (aMessage d l pm im e) r c) asks ready loans)
+
+  -- what C is told of it, 0 or 1, is whose section that is
+  pub section-read : (r : ℕ) → ReadsFeed (m .words) (m .bytes) r → (loans : Loans) → sectionOf loans (shown m) ≡ cond (eqb r 0) (loans .primary) (loans .insertion)
+  section-read r c loans = ap (λ (k : ℕ). cond (eqb k 0) (loans .primary) (loans .insertion)) (sym c)
+
+  -- "close forgets it": after a good close the connection's 256 bytes are zero
+  pub close-forgets : (d : ℕ) (e : List ℕ) (r : Seen) → More name h m (aClose d e) r → number r ≡ 0 → keptBytes d (r .bytes) ≡ replicate longestHardware 0
+  close-forgets d e r c z =
+      called.close-forgets name (within h) m d e (inside r) (more-inside name h m (aClose d e) r c) (sym (number-inside (c .allowed)) ∙ z)

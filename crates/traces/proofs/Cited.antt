@@ -201,13 +201,13 @@ module _ (κs : Lfts 3) (e : List ℕ) where
 
 module _ (κs : Lfts 5) where
   -- l and the sections are each a &[u8], the sections of one lifetime
-  pub bytes-typed : kind message.signature κs 3 ≡ typeAt {n = 5} (SliceRef 3 tt u8 tt) κs
+  pub bytes-typed : kind message.signature κs 3 ≡ typeAt {n = 5} (SliceRef 2 tt u8 tt) κs
   bytes-typed = refl
 
-  pub section-typed : kind message.signature κs 4 ≡ typeAt {n = 5} (SliceRef 0 tt u8 tt) κs
+  pub section-typed : kind message.signature κs 4 ≡ typeAt {n = 5} (SliceRef 3 tt u8 tt) κs
   section-typed = refl
 
-  pub second-typed : kind message.signature κs 5 ≡ typeAt {n = 5} (SliceRef 0 tt u8 tt) κs
+  pub second-typed : kind message.signature κs 5 ≡ typeAt {n = 5} (SliceRef 3 tt u8 tt) κs
   second-typed = refl
 
   pub message-typed : (conn : ℕ) (l pm im e : List ℕ)

@@ -6,39 +6,44 @@ use mathlib.Core.Bool.{true, false, cond}
 use mathlib.Core.List.{List, [], _∷_, _++_, map}
 use Prim.Native.Nat.{ℕ, _+_, _-_, _/_, _≤_, _<_}
 use native.Mathlib.Nat.{le-trans}
-use lib.ListN.{length, take, getD}
+use lib.Dec.{eqb}
+use lib.ListN.{length, take, getD, replicate}
 use Rattle.rules.specs.declared.Request.{Request}
 use Rattle.rules.specs.declared.Refusal.{Refusal}
 use Rattle.rules.specs.declared.When.the-variants.{At, Never}
 use Rattle.rules.specs.Lists.{All, some, count}
 use Rattle.rules.specs.Bytes.{Byte, hasZero}
-use Rattle.rules.specs.Records.{recordsIn}
-use Rattle.rules.specs.State.{Splicer, empty, Sorted, startsAt, startsAfter, sooner, earliest, due, recent}
+use Rattle.rules.specs.Records.{recordsIn, General, ConfigResponse}
+use Rattle.rules.specs.State.{Splicer, hardwareOf, empty, Sorted, startsAt, startsAfter, sooner, earliest, due, recent}
+use Rattle.rules.specs.Reading.{longestHardware}
 use Rattle.rules.specs.Sound.{Each, Later, Falling, Coded}
 use Rattle.rules.specs.Answers.{requested, spliceResult}
 use Rattle.rules.specs.Cues.{readCue}
-use Rattle.rules.specs.Calls.{fresh, after, lendingMaps}
+use Rattle.rules.specs.Calls.{fresh, after, lendingMaps, messages, call, writtenBy, sectionOf, Loans}
 use Rattle.rules.proofs.All.{all-into}
 use Rattle.rules.proofs.Sound.{reached-sound}
 use Rattle.rules.proofs.Tick.{earliest-start}
 use Rattle.demands.specs.History.{Event, startsOf, endsOf, history, ownAnswer, othersOf, waitingCount, book, clockAfter}
 use Rattle.engine.specs.declared.Answer.the-variants.{Refused}
 use Rattle.places.specs.Places.{round, next}
-use Rattle.memory.specs.Memory.{see, placesFrom, countsOf, tallied}
+use Rattle.memory.specs.Memory.{see, placesFrom, countsOf, tallied, keptBytes}
 use Rattle.engine.specs.Lent.{Lent, Counts, Primary, ReadsMux}
 use Rattle.demands.specs.Told.{firstNumber, checks, answers, Asks, Passes, fullTold, countsTold, grantedBy, outsOf, startedTold, unended, Ended, Stands, airMuxTold, MuxInRange, Inquires, Finds, connOf, concerned, Carries, Alike}
 use Rattle.demands.specs.Lately.{ofNumber, endedOnce, KeptAs, endsTold}
 use Rattle.demands.specs.Airing.{airingsTold, clockTold, primaryTold, timeTold, airTold, numberTold}
+use Rattle.demands.specs.Kept.{keptTold, changed, AsksConfig, AsksAlive, Ready, stateIn}
 use Rattle.demands.specs.Moments.{Gapless, Printed, Within, PlayedAs}
 use Rattle.demands.proofs.Demands as told
 use Rattle.demands.proofs.Waiting.{waiting-counted}
 use Rattle.demands.proofs.Moved as shifting
 use Rattle.demands.proofs.Owners as owners
 use Rattle.demands.proofs.Said as said
-use Rattle.traces.specs.Trace.{Memory, emptyMemory, shown, Input, aClose, aMessage, aCue, Typed, callOf, bufferOf, Result, Made, made, Leads, Trace, More, Point, numberIn, number, movedIn, moved, bytesOf, events, calls, inputs, Answerable, Run, AsRuled}
-use Rattle.traces.proofs.Steps.{wired, as-ruled, number-is, number-first, unchanged}
+use Rattle.demands.proofs.Kept as kept
+use Rattle.traces.specs.Trace.{Memory, emptyMemory, shown, Input, anOpen, aClose, aMessage, aCue, Typed, callOf, bufferOf, Result, Allowed, Made, made, Leads, Trace, More, Point, numberIn, number, movedIn, moved, bytesOf, replyIn, events, calls, inputs, Answerable, Run, AsRuled}
+use Rattle.traces.proofs.Steps.{wired, promised, as-ruled, replied, number-is, number-first, unchanged}
 use Rattle.traces.proofs.Course.{events-append, led-wired, led-heard, trace-lent, trace-history, trace-told, trace-more, trace-point, trace-same, fresh-number, fresh-empty}
 use Rattle.traces.proofs.Closed.{not-full, closed-stands, unended-newer}
+use Rattle.traces.proofs.Kept.{close-low, forgotten}
 use Rattle.traces.proofs.Answerable.{answerable, runs}
 use Rattle.traces.proofs.Moved.{moved-is, fresh-none, last-code, others-stay}
 use Rattle.traces.proofs.Cued.{memory-stays}
@@ -393,3 +398,57 @@ module _ (name : List ℕ) (h : List Made) (m : Memory) (l : List ℕ) (pts seco
   cue-whole =
       rw (as-ruled m (aCue l pts seconds micros e) r (c .allowed) .bytes)
       (told.cue-whole (events h) (shown m) (trace-told name h m (c .trace)) l pts seconds micros (length e) (c .typed .0))
+
+-- ## Document 02, CR 6
+
+module _ (name : List ℕ) (h : List Made) (m : Memory) where
+  -- "Keep Hardware_Config per connection": what is kept is what the calls and the answers' bytes tell, the structure of the connection's latest
+  -- Init_Request whose answer was Init_Response 100, since it was opened
+  pub kept-told : Trace name h m → (d : ℕ) → hardwareOf d (shown m) ≡ keptTold d (events h)
+  kept-told t d = sym (kept.kept-told (events h) (shown m) (trace-told name h m t) d)
+
+  -- "Servers ask with GetConfig_Request (0x000A, no data) and expect ChannelName, the Hardware_Config of their Init_Request and the output
+  -- channel's program map section.": of an initialised connection, the answer is that one record
+  pub config-told : (d : ℕ) (l pm im e : List ℕ) (r : Result) → More name h m (aMessage d l pm im e) r
+      → AsksConfig d l (lendingMaps pm im (length e)) (shown m) → Ready d (shown m)
+      → recordsIn (bytesOf r) ≡ ConfigResponse d 100 (shown m .name) (keptTold d (events h)) (sectionOf (lendingMaps pm im (length e)) (shown m)) ∷ []
+  config-told d l pm im e r c asks ready =
+      ap recordsIn (as-ruled m (aMessage d l pm im e) r (c .allowed) .bytes)
+      ∙ kept.config-told (events h) (shown m) (trace-told name h m (c .trace)) d l (lendingMaps pm im (length e)) asks ready
+
+  -- "Our card passes the map of the feed that is on air": the insertion's exactly where an Alive_Request in its place is answered with State 2
+  pub section-told : (d : ℕ) (l pm im e : List ℕ) (r : Result) → More name h m (aMessage d l pm im e) r
+      → AsksAlive d l (lendingMaps pm im (length e)) (shown m) → Ready d (shown m)
+      → (loans : Loans) → sectionOf loans (shown m) ≡ cond (eqb (stateIn (recordsIn (bytesOf r))) 2) (loans .insertion) (loans .primary)
+  section-told d l pm im e r c asks ready loans =
+      kept.section-told (events h) (shown m) (trace-told name h m (c .trace)) d l loans (lendingMaps pm im (length e)) asks ready
+      ∙ ap (λ (b : List ℕ). cond (eqb (stateIn (recordsIn b)) 2) (loans .insertion) (loans .primary)) (sym (as-ruled m (aMessage d l pm im e) r (c .allowed) .bytes))
+
+  -- "A later Init that gets 100 replaces it; close forgets it.": nothing else changes what a connection keeps
+  pub nothing-else-changes : (i : Input) (r : Result) → More name h m i r → (d : ℕ) → changed d (callOf i) (replyIn (r .answer) (r .buffer)) ≡ false
+      → hardwareOf d (shown (r .memory)) ≡ hardwareOf d (shown m)
+  nothing-else-changes i r c d e =
+      ap (hardwareOf d) (as-ruled m i r (c .allowed) .state)
+      ∙ kept.nothing-else (events h) (shown m) (trace-told name h m (c .trace)) (callOf i) (wired i (c .typed)) d
+      (ap (changed d (callOf i)) (sym (replied m i r (c .allowed))) ∙ e)
+
+  -- "close forgets it": after a good close the connection's 256 bytes are zero
+  pub close-forgets : (d : ℕ) (e : List ℕ) (r : Result) → More name h m (aClose d e) r → number r ≡ 0
+      → keptBytes d (r .memory .bytes) ≡ replicate longestHardware 0
+  close-forgets d e r c z =
+      forgotten d (r .memory .bytes) (close-low d (length e) (shown m) (sym (number-first m (aClose d e) r (c .allowed)) ∙ z))
+      (promised m (aClose d e) r (c .allowed) .lent .whole .bytes)
+      (ap (hardwareOf d) (as-ruled m (aClose d e) r (c .allowed) .state)
+      ∙ kept.close-forgets (events h) (shown m) (trace-told name h m (c .trace)) d (length e) (sym (number-is m (aClose d e) r (c .allowed)) ∙ z))
+
+  -- and after a good open, so after a later one too, a GetConfig_Request gets 103
+  pub opened-denied : (d : ℕ) (r : Result) → More name h m (anOpen d) r → number r ≡ 0
+      → (l pm im e : List ℕ) (q : Result) → Allowed (r .memory) (aMessage d l pm im e) q → AsksConfig d l (lendingMaps pm im (length e)) (shown (r .memory))
+      → recordsIn (bytesOf q) ≡ General d 103 ∷ []
+  opened-denied d r c z l pm im e q a asks =
+      let loans = lendingMaps pm im (length e) in
+      let same = as-ruled m (anOpen d) r (c .allowed) .state in
+      ap recordsIn (as-ruled (r .memory) (aMessage d l pm im e) q a .bytes)
+      ∙ ap (λ (s : Splicer). recordsIn (writtenBy (call (messages d l loans) s .answer))) same
+      ∙ kept.opened-denied (events h) (shown m) (trace-told name h m (c .trace)) d (sym (number-is m (anOpen d) r (c .allowed)) ∙ z) l loans
+      (subst (λ (s : Splicer). AsksConfig d l loans s) same asks)

@@ -6,3 +6,4 @@ pub mod Cited
 pub mod Answerable
 pub mod Moved
 pub mod Cued
+pub mod Kept
