@@ -87,12 +87,12 @@ awk '
     function say(    n, i, words, line) {
         line = text
         sub(/^.*fn +/, "", line)
-        sub(/\(.*/, "", line)
+        sub(/[(<].*/, "", line)
         sub(/^[^(]*\(/, "", text)
         sub(/\).*/, "", text)
         n = split(text, words, ",")
         for (i = 1; i <= n; i++)
-            if (words[i] ~ /:/) line = line " " (words[i] ~ /&(mut +)?\[[^;]*\] *$/ ? 1 : 0)
+            if (words[i] ~ /:/) line = line " " (words[i] ~ /&('"'"'[a-z]+ +)?(mut +)?\[[^;]*\] *$/ ? 1 : 0)
         print line
     }' "$trial/crates/$door/src/main.rt" >"$work/exported"
 [ -s "$work/exported" ] || fail "the door exports nothing"

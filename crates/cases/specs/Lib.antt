@@ -13,6 +13,7 @@ pub mod Lately
 pub mod Sections
 pub mod Cued
 pub mod Extended
+pub mod Config
 pub mod Case-01-card-cut-header
 pub mod Case-01-card-cut-mark
 pub mod Case-01-card-cut-message
