@@ -4,7 +4,6 @@
 #include "peer.h"
 
 int memcmp(const void *a, const void *b, size_t n);
-void *memset(void *to, int byte, size_t n);
 
 /* the C names of an engine in Rust */
 #define NAMED(engine)                                                                                                                     \
@@ -63,7 +62,7 @@ INLINE void core_call(uint64_t *reply, const struct call *c) {
     case FRESH: splicer_5_fresh(c->in, core.words, core.bytes, reply); break;
     case OPEN: splicer_5_open(core.words, core.bytes, c->conn, reply); break;
     case CLOSE: splicer_5_close(core.words, core.bytes, c->conn, outs[CORE], c->room, reply); break;
-    case MESSAGE: splicer_5_message(core.words, core.bytes, c->conn, c->in, c->length, outs[CORE], c->room, reply); break;
+    case MESSAGE: splicer_5_message(core.words, core.bytes, c->conn, c->in, c->length, c->in, 0, c->in, 0, outs[CORE], c->room, reply); break;
     case TICK: splicer_5_tick(core.words, core.bytes, c->seconds, c->micros, outs[CORE], c->room, reply); break;
     case WAITING: splicer_5_waiting(core.words, core.bytes, counts[CORE]); /* fall through: no reply */
     default: reply[0] = reply[1] = reply[2] = reply[3] = 0; break;

@@ -4,6 +4,7 @@
 
 void *memcpy(void *to, const void *from, size_t n);
 void *memmove(void *to, const void *from, size_t n);
+void *memset(void *to, int byte, size_t n);
 void *memchr(const void *s, int c, size_t n);
 int strncmp(const char *a, const char *b, size_t n);
 
