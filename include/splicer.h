@@ -286,9 +286,8 @@ static inline struct splicer_reply splicer_call_message_maps(struct splicer *s, 
 /* The same with two empty sections: a driver that has no maps, or whose servers ask for none. Refused: 1, 2, 7, 5, 4. */
 static inline struct splicer_reply splicer_call_message(struct splicer *s, uint32_t conn, const uint8_t *in, size_t length, uint8_t *out,
                                                         size_t room) {
-    uint64_t reply[SPLICER_REPLY];
-    splicer_5_message(s->words, s->bytes, conn, in, length, in, 0, in, 0, out, room, reply);
-    return splicer_reply_of(reply);
+    struct splicer_maps none = {in, 0, in, 0};
+    return splicer_call_message_maps(s, conn, in, length, &none, out, room);
 }
 
 /* Brings the clock to a time and does what is due until then. Refused: 2, 8, 3. */

@@ -259,8 +259,8 @@ impl Splicer {
         // the sections only for reading.
         let done = door::replied(|reply| unsafe {
             door::message(
-                words, bytes, connection, from, length, primary, first, insertion, second, at, room,
-                reply,
+                words, bytes, connection, from, length, primary, first, insertion, second, at,
+                room, reply,
             );
         })?;
         Ok(Handled {

@@ -28,6 +28,10 @@ pub mod message_id {
     pub const CUE_REQUEST: u16 = 0x000C;
     /// Read by the core, and not answered.
     pub const CUE_RESPONSE: u16 = 0x000D;
+    /// Read by the core: no data.
+    pub const GET_CONFIG_REQUEST: u16 = 0x000A;
+    /// ChannelName 32, Hardware_Config with its Length 2, program map section.
+    pub const GET_CONFIG_RESPONSE: u16 = 0x000B;
     /// Read by the core.
     pub const ABORT_REQUEST: u16 = 0x000E;
     /// SessionID 4.

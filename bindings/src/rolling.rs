@@ -1,6 +1,6 @@
 //! The card with a rolling counter (document 02, CR 9): an instant and readings in place of ticks.
 
-use crate::{door, Handled, Refusal, Row, Splicer, BYTES, CONNECTIONS, NAME, ROWS, WORDS};
+use crate::{door, Handled, Maps, Refusal, Row, Splicer, BYTES, CONNECTIONS, NAME, ROWS, WORDS};
 use core::fmt;
 
 /// One output channel of the card with a rolling counter.
@@ -55,6 +55,22 @@ impl RollingSplicer {
         out: &'o mut [u8],
     ) -> Result<Handled<'o>, Refusal> {
         self.core.message(connection, read, out)
+    }
+
+    /// As [`Splicer::message_with`].
+    pub fn message_with<'o>(
+        &mut self,
+        connection: u32,
+        read: &[u8],
+        maps: Maps<'_>,
+        out: &'o mut [u8],
+    ) -> Result<Handled<'o>, Refusal> {
+        self.core.message_with(connection, read, maps, out)
+    }
+
+    /// As [`Splicer::map`].
+    pub fn map<'m>(&self, maps: &Maps<'m>) -> &'m [u8] {
+        self.core.map(maps)
     }
 
     /// Once: the UTC time, and what the counter reads at it. Brings the clock there and does what is

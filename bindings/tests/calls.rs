@@ -1,7 +1,8 @@
 //! The five calls through the archive, with values by hand from document 01.
 
 use splicer::{
-    message_id, name, records, result, Refusal, Row, Says, Splicer, MUX_AVERAGE, OUT, ROWS,
+    message_id, name, records, result, Maps, Refusal, Row, Says, Splicer, MAP_SECTION, MUX_AVERAGE, OUT,
+    ROWS,
 };
 
 /// A second in ninths of a microsecond.
@@ -16,7 +17,7 @@ fn message(id: u16, data: &[u8]) -> Vec<u8> {
 }
 
 fn init(channel: &[u8]) -> Vec<u8> {
-    let data = [&[0, 2], &name(channel)[..], &name(b"SERVER")].concat();
+    let data = [&[0, 2], &name(channel)[..], &name(b"SERVER"), &[0, 2, 7, 9]].concat();
     message(message_id::INIT_REQUEST, &data)
 }
 
@@ -129,6 +130,55 @@ fn asking(id: u32, seconds: u32, duration: u32, access: u8, descriptors: &[u8]) 
     data[31] = 1;
     data.extend_from_slice(descriptors);
     message(message_id::SPLICE_REQUEST, &data)
+}
+
+/// GetConfig_Response to connection 0 with what is kept and a section.
+fn config(hardware: &[u8], section: &[u8]) -> Vec<u8> {
+    let data = [&name(b"CH1")[..], hardware, section].concat();
+    let size = (data.len() as u16).to_be_bytes();
+    [&[0x52, 0, 0, 11], &size[..], &[0, 100, 0xFF, 0xFF], &data].concat()
+}
+
+#[test]
+fn a_server_gets_its_configuration_and_the_map_on_air() {
+    let (mut channel, mut out) = ready();
+    let maps = Maps {
+        primary: &[2, 0xB0, 1],
+        insertion: &[2, 0xB1],
+    };
+    let asks = message(message_id::GET_CONFIG_REQUEST, &[]);
+    let kept = [0, 2, 7, 9];
+    assert_eq!(channel.map(&maps), maps.primary);
+    let answer = channel.message_with(0, &asks, maps, &mut out).unwrap();
+    assert_eq!(answer.written, config(&kept, maps.primary));
+    channel
+        .message(0, &splice(1, 1003, 90_000), &mut out)
+        .unwrap();
+    channel.tick(1003, 0, &mut out).unwrap();
+    assert_eq!(channel.map(&maps), maps.insertion);
+    let answer = channel.message_with(0, &asks, maps, &mut out).unwrap();
+    assert_eq!(answer.written, config(&kept, maps.insertion));
+    let none = channel.message(0, &asks, &mut out).unwrap();
+    assert_eq!(none.written, config(&kept, &[]));
+    // Number 10: one byte more than a section may have.
+    let long = [0; MAP_SECTION + 1];
+    for maps in [(&long[..], &long[1..]), (&long[1..], &long[..])] {
+        let (primary, insertion) = maps;
+        let maps = Maps { primary, insertion };
+        let refused = channel.message_with(0, &asks, maps, &mut out);
+        assert_eq!(refused, Err(Refusal::LongSection));
+    }
+    let most = Maps {
+        primary: &long[1..],
+        insertion: &long[1..],
+    };
+    let answer = channel.message_with(0, &asks, most, &mut out).unwrap();
+    assert_eq!(answer.written, config(&kept, most.insertion));
+    // Close forgets.
+    channel.close(0, &mut out).unwrap();
+    channel.open(0).unwrap();
+    let denied = channel.message(0, &asks, &mut out).unwrap();
+    assert_eq!(denied.written, [0x52, 0, 0, 0, 0, 0, 0, 103, 0xFF, 0xFF]);
 }
 
 #[test]

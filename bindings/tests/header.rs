@@ -5,8 +5,8 @@ use splicer::{message_id, result, Refusal};
 
 const HEADER_TEXT: &str = include_str!("../../include/splicer.h");
 const DOOR_TEXT: &str = include_str!("../src/door.rs");
-const CALLS: [&str; 10] = [
-    "fresh", "open", "close", "message", "tick", "waiting", "primary", "mux", "cue", "ended",
+const CALLS: [&str; 11] = [
+    "fresh", "open", "close", "message", "tick", "waiting", "primary", "mux", "cue", "ended", "map",
 ];
 /// Those of the card with a rolling counter alone.
 const ROLLING: [&str; 3] = ["rolling_fresh", "instant", "reading"];
@@ -44,6 +44,7 @@ fn sizes() -> Vec<(&'static str, u32)> {
         ("WORDS", splicer::WORDS),
         ("BYTES", splicer::BYTES),
         ("REPLY", reply_words()),
+        ("MAP_SECTION", splicer::MAP_SECTION),
         ("STREAMS", splicer::STREAMS),
         ("STREAM_WORDS", splicer::STREAM_WORDS),
         ("KEPT", splicer::KEPT),
@@ -80,6 +81,7 @@ fn refusals() -> Vec<(&'static str, u32)> {
         ("BAD_MICROS", Refusal::BadMicros),
         ("BAD_NAME", Refusal::BadName),
         ("BAD_SECTION", Refusal::BadSection),
+        ("LONG_SECTION", Refusal::LongSection),
         ("COUNTER", Refusal::Counter),
         ("NOT_SIXTEEN", Refusal::NotSixteen),
     ];
@@ -103,6 +105,8 @@ fn ids_and_results() -> Vec<(&'static str, u32)> {
         ),
         ("CUE_REQUEST", message_id::CUE_REQUEST),
         ("CUE_RESPONSE", message_id::CUE_RESPONSE),
+        ("GET_CONFIG_REQUEST", message_id::GET_CONFIG_REQUEST),
+        ("GET_CONFIG_RESPONSE", message_id::GET_CONFIG_RESPONSE),
         ("ABORT_REQUEST", message_id::ABORT_REQUEST),
         ("ABORT_RESPONSE", message_id::ABORT_RESPONSE),
         ("SUCCESSFUL", result::SUCCESSFUL),
@@ -214,7 +218,11 @@ fn the_header_refers_to_versioned_names_only() {
     for name in CALLS.iter().chain(&ROLLING) {
         let call = format!("splicer_{version}_{name}(");
         assert_eq!(HEADER_TEXT.matches(&call).count(), 2, "{call}");
-        let inline = format!("splicer_call_{name}(");
+        // The one without sections calls the one with them.
+        let inline = match *name {
+            "message" => "splicer_call_message_maps(".to_string(),
+            _ => format!("splicer_call_{name}("),
+        };
         let body = between(HEADER_TEXT, &inline, "\n}");
         // A call that only reads takes the splicer as const.
         let lent = body.trim_start_matches("const ");
@@ -224,7 +232,7 @@ fn the_header_refers_to_versioned_names_only() {
             "struct splicer *s"
         };
         assert!(lent.starts_with(own), "{name}");
-        let made = ["", "return ", "return (uint32_t)"]
+        let made = ["", "return ", "return (uint32_t)", "if ("]
             .iter()
             .any(|how| body.contains(&format!("    {how}{call}")));
         assert!(made, "{name}");

@@ -81,7 +81,7 @@ fn ready() -> Splicer {
     let (mut channel, _) = Splicer::fresh(&name(b"CH1"));
     for connection in 0..4 {
         channel.open(connection).unwrap();
-        let data = [&[0, 2], &name(b"CH1")[..], &name(b"SERVER")].concat();
+        let data = [&[0, 2], &name(b"CH1")[..], &name(b"SERVER"), &[0, 0]].concat();
         let init = message(message_id::INIT_REQUEST, &data);
         channel.message(connection, &init, &mut out).unwrap();
     }

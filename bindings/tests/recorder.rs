@@ -10,7 +10,7 @@ fn request(id: u16, data: &[u8]) -> Vec<u8> {
 }
 
 fn init(channel: &[u8]) -> Vec<u8> {
-    let data = [&[0, 2], &name(channel)[..], &name(b"SERVER")].concat();
+    let data = [&[0, 2], &name(channel)[..], &name(b"SERVER"), &[0, 0]].concat();
     request(message_id::INIT_REQUEST, &data)
 }
 

@@ -10,9 +10,9 @@ fn ready() -> (RollingSplicer, [u8; OUT]) {
     let (mut card, named) = RollingSplicer::fresh(&name(b"CH1"));
     assert_eq!(named, Ok(()));
     assert_eq!(card.open(0), Ok(()));
-    let data = [&[0, 2], &name(b"CH1")[..], &name(b"SERVER")].concat();
+    let data = [&[0, 2], &name(b"CH1")[..], &name(b"SERVER"), &[0, 0]].concat();
     let init = message(message_id::INIT_REQUEST, &data);
-    assert_eq!(card.message(0, &init, &mut out).map(|h| h.consumed), Ok(74));
+    assert_eq!(card.message(0, &init, &mut out).map(|h| h.consumed), Ok(76));
     (card, out)
 }
 
