@@ -69,6 +69,7 @@ pub fn as_rolled(calls: &[rolling::Call]) -> String {
                 output,
                 mux: card.splicer.mux(),
                 rows: card.splicer.rows(),
+                insertion: card.splicer.insertion(),
             }),
             _ => {
                 day.clock = card.splicer.clock;

@@ -46,6 +46,15 @@ pub struct Done {
     pub mux: u8,
     /// The desk's page that is read after it (02, CR 8).
     pub rows: [Row; KEPT],
+    /// Whether the insertion's map section is the one on air after it (02, CR 6).
+    pub insertion: bool,
+}
+
+impl Done {
+    /// What is read after it.
+    pub fn read(&self) -> (u8, &[Row; KEPT], bool) {
+        (self.mux, &self.rows, self.insertion)
+    }
 }
 
 /// A run of the card program.
@@ -93,6 +102,7 @@ pub fn run(input: &[u8], fault: Option<Fault>) -> Run {
                     output,
                     mux: splicer.mux(),
                     rows: splicer.rows(),
+                    insertion: splicer.insertion(),
                 });
                 // "it makes the call, writes the refusal and stops"
                 if too_large {

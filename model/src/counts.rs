@@ -104,6 +104,10 @@ const OTHERS: &[(&str, u64)] = &[
     ("message 1 connection above 3", 30),
     ("message 2 output buffer too small", 0),
     ("message 7 not open", 20),
+    ("message 10 the primary's section above 1,024 bytes", 0),
+    ("message 10 the insertion's section above 1,024 bytes", 0),
+    ("message 10 before 5", 0),
+    ("message with a section of 1,024 bytes", 0),
     ("message 5 header cut", 0),
     ("message 4 MessageSize above 4,088", 6),
     ("message 5 body cut", 0),
@@ -133,6 +137,12 @@ const OTHERS: &[(&str, u64)] = &[
     ("answer 3 ID 0x000D after Init", 20),
     ("answer 4 unknown ID 120", 100),
     ("123 Init below 66 bytes", 50),
+    ("123 Init of 66 or 67 bytes", 20),
+    ("123 Init Length 255", 5),
+    ("123 Init Length above 255", 10),
+    ("123 Init Hardware_Config a byte past the end", 5),
+    ("123 Init Hardware_Config past the end", 10),
+    ("123 GetConfig with data", 20),
     ("123 Init ChannelName without a zero", 30),
     ("123 Init SplicerName without a zero", 20),
     ("123 Alive below 8 bytes", 70),
@@ -175,7 +185,14 @@ const OTHERS: &[(&str, u64)] = &[
     ("123 Splice muxpriority bad behind a good one", 30),
     ("123 Splice muxpriority cut in its value", 15),
     ("123 Splice muxpriority behind separate PIDs", 50),
-    ("read Init of 66 bytes", 300),
+    ("read Init of 68 bytes", 30),
+    ("read Init Hardware_Config to the message's end", 200),
+    ("read Init with bytes behind Hardware_Config", 200),
+    ("read Init Length 0", 50),
+    ("read Init Length 1 to 7", 50),
+    ("read Init Length 8", 200),
+    ("read Init Length 253", 30),
+    ("read Init Length 254", 50),
     ("read Init ChannelName with a last zero", 10),
     ("read Init SplicerName with a last zero", 10),
     ("read Splice of 33 bytes", 20000),
@@ -227,6 +244,14 @@ const OTHERS: &[(&str, u64)] = &[
     ("Init 104", 10),
     ("Init 104 when initialised", 80),
     ("Init name with other bytes behind its end", 600),
+    ("Init 100 replaces a Hardware_Config", 50),
+    ("GetConfig 100 with nothing on air", 50),
+    ("GetConfig 100 with nothing on air, some waiting", 50),
+    ("GetConfig 100 with its own on air", 20),
+    ("GetConfig 100 with another's on air", 20),
+    ("GetConfig 100 with several started", 20),
+    ("GetConfig 100 behind a failed later Init", 30),
+    ("GetConfig 100 behind another good Init", 30),
     ("Alive 1 nothing on air", 800),
     ("Alive 2 on air of its own", 300),
     ("Alive 2 on air of another", 300),
@@ -409,6 +434,9 @@ pub struct Counts {
     /// Those whose end was kept and is no longer, the last one and all, only to count who asks for them.
     pub last_dropped: Option<(u8, u32)>,
     dropped: BTreeSet<(u8, u32)>,
+    /// Of each connection: a later Init failed, or a further one was good, since; only to count who asks then.
+    pub failed: [bool; 4],
+    pub again: [bool; 4],
 }
 
 /// Every branch with its floor, in the order of the table.
@@ -431,6 +459,8 @@ impl Counts {
             accepted: BTreeSet::new(),
             last_dropped: None,
             dropped: BTreeSet::new(),
+            failed: [false; 4],
+            again: [false; 4],
         }
     }
 

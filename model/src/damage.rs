@@ -31,6 +31,66 @@ pub fn init(gen: &mut Gen) {
     gen.send(conn, 0x0001, data);
 }
 
+/// An Init_Request whose Hardware_Config is on either side of a boundary, good or not by its revision and name
+/// too, and GetConfig_Requests before and behind it, at times with data (02, CR 6).
+pub fn config(gen: &mut Gen) {
+    let conn = maybe_uninitialised(gen);
+    if gen.rng.chance(40) {
+        gen.config(conn);
+    }
+    let mut data = gen.good_init();
+    data.truncate(66);
+    match gen.rng.below(8) {
+        0 => data.resize(gen.rng.pick(&[65, 66, 67, 67, 68]), 0),
+        1 | 2 => {
+            let length = gen.rng.pick(&[0, 7, 8, 253, 254, 254, 255, 255, 256, 257]);
+            data.extend(gen.hardware(length));
+        }
+        3 => {
+            // Length one more than follows, or two; or a byte behind it.
+            let length = gen.rng.pick(&[0, 7, 8, 14, 253, 254]);
+            data.extend(gen.hardware(length));
+            match gen.rng.below(3) {
+                0 => data.truncate(data.len() - 1),
+                1 => data.truncate((data.len() - 2).max(67)),
+                _ => data.push(7),
+            }
+        }
+        4 => {
+            // Far past the end, or far too long.
+            let length: u16 = gen.rng.pick(&[0x0100, 0x0800, 0x8008, 0xFFFF, 200]);
+            data.extend(length.to_be_bytes());
+            data.extend([7; 8]);
+        }
+        kind => {
+            let length = gen.rng.pick(&[0, 8, 14, 254]);
+            data.extend(gen.hardware(length));
+            match kind {
+                5 => data[1] = 3,
+                6 => data[2] = b'X',
+                _ => {}
+            }
+        }
+    }
+    gen.send(conn, 0x0001, data);
+    asked(gen, conn);
+}
+
+/// GetConfig_Requests of this connection or another, at times with data.
+pub fn asked(gen: &mut Gen, conn: u8) {
+    if gen.rng.chance(80) {
+        gen.config(conn);
+    }
+    if gen.rng.chance(25) {
+        let other = gen.conn();
+        gen.config(other);
+    }
+    if gen.rng.chance(20) {
+        let size = gen.rng.pick(&[1, 1, 2, 8, 66]);
+        gen.send(conn, 0x000A, vec![0; size]);
+    }
+}
+
 /// A connection; at times one that is open and not initialised.
 fn maybe_uninitialised(gen: &mut Gen) -> u8 {
     let conn = gen.conn();
@@ -460,7 +520,8 @@ pub fn largest(gen: &mut Gen) {
         1 => {
             let mut init = gen.good_init();
             init.resize(4_088, 7);
-            return gen.send(conn, 0x0001, init);
+            gen.send(conn, 0x0001, init);
+            return gen.config(conn);
         }
         _ => {}
     }

@@ -155,10 +155,24 @@ impl Gen {
             data[from..34].fill(self.rng.pick(&[1, 0x41, 0xFF]));
         }
         data[34..41].copy_from_slice(b"SPLICER");
-        for _ in 0..self.rng.pick(&[0, 1, 10, 10, 30]) {
+        let length = self.rng.pick(&[0, 0, 1, 7, 8, 8, 8, 14, 26, 253, 254]);
+        data.extend(self.hardware(length));
+        for _ in 0..self.rng.pick(&[0, 0, 1, 10, 30]) {
             data.push(self.rng.next() as u8);
         }
         data
+    }
+
+    /// A Hardware_Config of this Length, its bytes drawn (02, CR 6).
+    pub fn hardware(&mut self, length: u16) -> Vec<u8> {
+        let mut bytes = length.to_be_bytes().to_vec();
+        bytes.extend((0..length).map(|_| self.rng.next() as u8));
+        bytes
+    }
+
+    /// A GetConfig_Request (02, CR 6).
+    pub fn config(&mut self, conn: u8) {
+        self.send(conn, 0x000A, Vec::new());
     }
 
     /// Any of the four connections, made ready.

@@ -24,7 +24,7 @@ const fn theme(favourites: &'static [Episode]) -> Theme {
 pub const ALL: &[Episode] = &[
     request, request, request, request, chain, chain, collide, collide, abort_one, abort_one,
     close_one, step, step, step, step, step, stack, fill, reuse, evict, failing, covered, equals, late,
-    order, ninth, extreme, wrong_numbers, alive, lately, lately, lately, many_ends, damage::extended, damage::init, damage::alive_and_abort,
+    order, ninth, extreme, wrong_numbers, alive, lately, lately, lately, many_ends, damage::extended, damage::config, damage::init, damage::alive_and_abort,
     damage::splice, damage::separate, damage::mux, damage::unknown, damage::refused, damage::largest,
 ];
 
@@ -37,7 +37,7 @@ pub const THEMES: &[Theme] = &[
     theme(&[fill, order, collide, step]),
     theme(&[fill_all, alive]),
     theme(&[fill_all, step, collide, close_one]),
-    theme(&[damage::init, damage::alive_and_abort, damage::splice, damage::splice, damage::unknown]),
+    theme(&[damage::init, damage::config, damage::alive_and_abort, damage::splice, damage::splice, damage::unknown]),
     theme(&[ninth, ninth, step, late, chain]),
     theme(&[close_one, request, chain, damage::refused, stack, step]),
     theme(&[reuse, covered, failing, evict, step]),
@@ -408,6 +408,9 @@ fn alive(gen: &mut Gen) {
         _ => gen.conn(),
     };
     gen.alive(conn);
+    if gen.rng.chance(40) {
+        gen.config(conn);
+    }
 }
 
 /// Brings a connection's waiting sessions to `count` with short sessions of their own.

@@ -119,6 +119,20 @@ faults! {
     Extended9Taken: "an ExtendedData_Request of 9 bytes taken",
     AnyTypeTaken: "any ExtendedDataType taken",
     RowsFromTheOldest: "the page from the oldest up",
+    Init66Taken: "an Init of 66 or 67 bytes taken",
+    HardwareAt64: "Hardware_Config read at 64",
+    Length255Taken: "a Hardware_Config of Length 255 taken",
+    Length254Refused: "a Hardware_Config of Length 254 refused",
+    LengthNotCounted: "a Hardware_Config of 256 bytes behind its Length taken",
+    HardwareToTheEnd: "all behind the names kept as Hardware_Config",
+    HardwarePastTheEnd: "a Hardware_Config past the message's end taken",
+    FailedInitKept: "the Hardware_Config of a failed Init kept",
+    FirstHardwareKept: "a later Init does not replace the Hardware_Config",
+    OneHardware: "one Hardware_Config for all connections",
+    LengthLeftOut: "GetConfig_Response without the Length",
+    ConfigDataTaken: "a GetConfig_Request with data answered",
+    MapAlwaysPrimary: "the primary's map always",
+    MapWhileWaiting: "the insertion's map while one waits",
 }
 
 impl Fault {

@@ -155,10 +155,10 @@ pub fn faults(seed: u64, n: u64) -> Result<bool, String> {
             let faulty = card::run(input, Some(*fault));
             let (agreed, _, same) = agreement(&clean[index], &faulty.output());
             let read = clean[index].calls.iter().zip(&faulty.calls);
-            // The value and the page that are read show in no record.
+            // What is read shows in no record.
             let other = read
                 .take(agreed)
-                .position(|(own, found)| own.mux != found.mux || own.rows != found.rows);
+                .position(|(own, found)| own.read() != found.read());
             if !same || other.is_some() {
                 first = Some((index, other.unwrap_or(agreed) + 1));
                 break;

@@ -9,6 +9,7 @@ pub mod carriage;
 pub mod cases;
 pub mod check;
 pub mod compare;
+pub mod config;
 pub mod counts;
 pub mod cue;
 pub mod cueing;

@@ -1,6 +1,7 @@
 //! Calls as lines for people, and the `decode` command.
 
 use crate::card::{self, Call, Run};
+use crate::config;
 use crate::descriptors;
 use crate::reading;
 use crate::records::{self, hex, name_text, number};
@@ -51,13 +52,18 @@ fn wire_time(data: &[u8], at: usize) -> String {
 }
 
 fn init_line(data: &[u8]) -> String {
-    format!(
-        "revision={} name={} splicer={} rest {} bytes",
+    // What is no Hardware_Config counts to the rest.
+    let hardware = config::hardware_of(data, None).unwrap_or_default();
+    let mut line = format!(
+        "revision={} name={} splicer={}",
         u16::from_be_bytes([data[0], data[1]]),
         name_text(&data[2..34]),
         name_text(&data[34..66]),
-        data.len() - 66
-    )
+    );
+    if !hardware.is_empty() {
+        line += &format!(" hardware={}", shortened(&hardware).replace(' ', ""));
+    }
+    format!("{line} rest {} bytes", data.len() - 66 - hardware.len())
 }
 
 /// A Splice_Request, if its parts stand where they should.

@@ -1,6 +1,7 @@
 //! Reading the requests: 01's "Bytes" and its "Not readable" sentence.
 //! A request that cannot be read gives the name of its branch.
 
+use crate::config;
 use crate::descriptors;
 use crate::faults::Fault;
 use crate::streams::{self, Streams};
@@ -11,8 +12,12 @@ pub enum Request {
     Init {
         revision: u16,
         name: [u8; 32],
+        /// Its Hardware_Config, Length included (02, CR 6).
+        hardware: Vec<u8>,
     },
     Alive,
+    /// GetConfig_Request (02, CR 6).
+    Config,
     Splice(SpliceFields),
     Abort {
         id: u32,
@@ -46,8 +51,9 @@ type Read = Result<Request, &'static str>;
 
 pub fn read(id: u16, data: &[u8], fault: Option<Fault>) -> Read {
     match id {
-        0x0001 => read_init(data),
+        0x0001 => read_init(data, fault),
         0x0003 => read_extended(data, fault),
+        0x000A => read_config(data, fault),
         0x0005 => read_alive(data),
         0x0007 => read_splice(data, fault),
         _ => read_abort(data),
@@ -74,9 +80,11 @@ pub fn failed_boundaries(data: &[u8]) -> Vec<&'static str> {
 
 /// The boundaries of "Not readable" that a readable message just keeps, for the branch table.
 pub fn kept_boundaries(id: u16, data: &[u8]) -> Vec<&'static str> {
-    let mut list = Vec::new();
+    let mut list = match id {
+        0x0001 => config::kept_boundaries(data),
+        _ => Vec::new(),
+    };
     match (id, data.len()) {
-        (0x0001, 66) => list.push("read Init of 66 bytes"),
         (0x0001, _) if data[33] == 0 && data[2..33].iter().all(|b| *b != 0) => {
             list.push("read Init ChannelName with a last zero");
         }
@@ -143,8 +151,9 @@ fn word(data: &[u8], at: usize) -> u32 {
     u32::from_be_bytes([data[at], data[at + 1], data[at + 2], data[at + 3]])
 }
 
-/// "Init data below 66 bytes or either name without a zero"; "the rest unread".
-fn read_init(data: &[u8]) -> Read {
+/// "Init data below 66 bytes or either name without a zero"; 02, CR 6: "a Hardware_Config over 256 bytes or
+/// past the message's end"; "the rest unread".
+fn read_init(data: &[u8], fault: Option<Fault>) -> Read {
     if data.len() < 66 {
         return Err("123 Init below 66 bytes");
     }
@@ -159,7 +168,16 @@ fn read_init(data: &[u8]) -> Read {
     Ok(Request::Init {
         revision: half(data, 0),
         name,
+        hardware: config::hardware_of(data, fault)?,
     })
+}
+
+/// 02, CR 6: "General_Response 123 for data present".
+fn read_config(data: &[u8], fault: Option<Fault>) -> Read {
+    if !data.is_empty() && fault != Some(Fault::ConfigDataTaken) {
+        return Err("123 GetConfig with data");
+    }
+    Ok(Request::Config)
 }
 
 /// "Alive data other than 8 bytes". "An Alive time is not checked."
@@ -455,10 +473,14 @@ mod tests {
 
     #[test]
     fn init_alive_and_abort_sizes() {
-        assert!(read(1, &[0; 66], None).is_ok());
+        assert!(read(1, &[0; 68], None).is_ok());
+        for size in [66, 67] {
+            let short = read(1, &vec![0; size], None);
+            assert_eq!(short, Err("123 Init of 66 or 67 bytes"));
+        }
         assert_eq!(read(1, &[0; 65], None), Err("123 Init below 66 bytes"));
-        let mut names = [65; 66];
-        names[65] = 0;
+        let mut names = [65; 68];
+        names[65..].fill(0);
         assert_eq!(
             read(1, &names, None),
             Err("123 Init ChannelName without a zero")
@@ -470,6 +492,8 @@ mod tests {
             read(1, &names, None),
             Err("123 Init SplicerName without a zero")
         );
+        assert_eq!(read(10, &[], None), Ok(Request::Config));
+        assert_eq!(read(10, &[0], None), Err("123 GetConfig with data"));
         assert_eq!(read(5, &[0; 7], None), Err("123 Alive below 8 bytes"));
         assert_eq!(read(5, &[0xFF; 8], None), Ok(Request::Alive));
         assert_eq!(read(5, &[0; 9], None), Err("123 Alive above 8 bytes"));

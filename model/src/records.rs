@@ -46,6 +46,13 @@ pub enum What {
         micros: u32,
         section: Vec<u8>,
     },
+    /// GetConfig_Response (02, CR 6): Hardware_Config with its Length, and the map section.
+    Config {
+        result: u16,
+        name: [u8; 32],
+        hardware: Vec<u8>,
+        map: Vec<u8>,
+    },
     /// 02, CR 8.
     Extended {
         result: u16,
@@ -119,6 +126,12 @@ impl What {
                 let data = [words(&[*seconds, *micros]), section.clone()].concat();
                 (0x000C, NO_RESULT, data)
             }
+            What::Config {
+                result,
+                name,
+                hardware,
+                map,
+            } => (0x000B, *result, [&name[..], hardware, map].concat()),
             What::Extended { result, id, shown } => {
                 let descriptor = shown.map_or(Vec::new(), Shown::bytes);
                 (0x0004, *result, [words(&[*id]), descriptor].concat())
@@ -167,9 +180,19 @@ impl What {
                 micros,
                 section,
             } => {
-                let digits: String = section.iter().map(|b| format!("{b:02X}")).collect();
-                let fields = format!(" time={} section={digits}", cue_time(*seconds, *micros));
+                let (time, section) = (cue_time(*seconds, *micros), packed(section));
+                let fields = format!(" time={time} section={section}");
                 ("Cue_Request", NO_RESULT, fields)
+            }
+            What::Config {
+                result,
+                name,
+                hardware,
+                map,
+            } => {
+                let (name, hardware) = (name_text(name), packed(hardware));
+                let fields = format!(" name={name} hardware={hardware} map={}", packed(map));
+                ("GetConfig_Response", *result, fields)
             }
             What::Extended { result, id, shown } => {
                 let mut fields = id_word(*id);
@@ -343,6 +366,16 @@ fn what_of(id: u16, result: u16, data: &[u8]) -> Option<What> {
             micros: word(4)?,
             section: data[8..].to_vec(),
         },
+        0x000B => {
+            let length = u16::from_be_bytes([*data.get(32)?, *data.get(33)?]);
+            let end = 34 + usize::from(length);
+            What::Config {
+                result,
+                name: data.get(..32)?.try_into().ok()?,
+                hardware: data.get(32..end)?.to_vec(),
+                map: data.get(end..)?.to_vec(),
+            }
+        }
         _ => return None,
     })
 }
@@ -398,6 +431,11 @@ pub fn name_text(name: &[u8]) -> String {
     } else {
         format!("\"{text}\"")
     }
+}
+
+/// Hexadecimal without blanks, as a word of a scenario.
+fn packed(bytes: &[u8]) -> String {
+    hex(bytes).replace(' ', "")
 }
 
 pub fn hex(bytes: &[u8]) -> String {

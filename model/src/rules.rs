@@ -5,6 +5,7 @@
 //! `fault` is none in the true program. One of `faults.rs` switches in that deliberate fault, so
 //! that the generator can be shown to notice it.
 
+use crate::config::{self, Maps};
 use crate::counts::{Counts, COUNTED};
 use crate::cues::Cueing;
 use crate::descriptors::AVERAGE;
@@ -64,6 +65,8 @@ pub struct Splicer {
     pub moved: usize,
     /// 02, CR 13: the time on the primary channel, in ninths.
     pub primary: u64,
+    /// 02, CR 6: each connection's Hardware_Config, Length included.
+    pub hardware: [Vec<u8>; 4],
     /// 02, CR 8: the last 16 ended sessions, the newest last.
     pub ended: Vec<Ended>,
     /// All ends so far. For the branch table only.
@@ -91,6 +94,7 @@ impl Splicer {
             sessions: Vec::new(),
             moved: 0,
             primary: 0,
+            hardware: std::array::from_fn(|_| config::nothing()),
             ended: Vec::new(),
             ends: 0,
             fault: None,
@@ -165,17 +169,29 @@ impl Splicer {
         if self.faulty(Fault::CloseDropsEnded) {
             self.ended.retain(|e| e.conn != conn);
         }
-        // "and leaves it closed"
+        // "and leaves it closed"; 02, CR 6: "close forgets it"
         self.open[conn as usize] = false;
+        self.hardware[conn as usize] = config::nothing();
         Ok(out)
     }
 
-    /// "Order: message 1, 2, 7, 5 (header), 4, 5 (body)". Gives the records and the bytes
-    /// consumed. "Message handles the first message only".
+    /// A message with empty sections lent, as the card program does.
     pub fn message(
         &mut self,
         conn: u8,
         bytes: &[u8],
+        room: usize,
+    ) -> Result<(Vec<Record>, usize), u8> {
+        self.message_with(conn, bytes, &Maps::EMPTY, room)
+    }
+
+    /// "Order: message 1, 2, 7, 5 (header), 4, 5 (body)"; 02, CR 6: "house number 10 [...] after 7". Gives the
+    /// records and the bytes consumed. "Message handles the first message only".
+    pub fn message_with(
+        &mut self,
+        conn: u8,
+        bytes: &[u8],
+        maps: &Maps,
         room: usize,
     ) -> Result<(Vec<Record>, usize), u8> {
         // 02, CR 11: "A request not accepted reports 0."
@@ -188,6 +204,9 @@ impl Splicer {
         }
         if !self.open[conn as usize] {
             return self.refuse("message 7 not open", 7);
+        }
+        if self.long_section(bytes, maps) {
+            return Err(10);
         }
         if bytes.len() < 8 {
             return self.refuse("message 5 header cut", 5);
@@ -205,7 +224,7 @@ impl Splicer {
         // "Result fields of incoming messages are not read"
         let id = u16::from_be_bytes([bytes[0], bytes[1]]);
         let mut out = Vec::new();
-        self.answer(conn, id, &bytes[8..8 + size], &mut out);
+        self.answer(conn, id, &bytes[8..8 + size], maps, &mut out);
         Ok((out, 8 + size))
     }
 
@@ -237,7 +256,7 @@ impl Splicer {
     }
 
     /// "Answering a message, first that applies", 1 to 5.
-    fn answer(&mut self, conn: u8, id: u16, data: &[u8], out: &mut Vec<Record>) {
+    fn answer(&mut self, conn: u8, id: u16, data: &[u8], maps: &Maps, out: &mut Vec<Record>) {
         let ready = self.initialised[conn as usize];
         // 1. "ID 0x0000: no answer."
         if id == 0x0000 && (ready || !self.faulty(Fault::ZeroAnsweredBeforeInit)) {
@@ -259,16 +278,23 @@ impl Splicer {
         if id == 0x000D {
             return self.hit("answer 3 ID 0x000D after Init");
         }
-        // 4. "ID not in the list of four: General_Response 120." 02, CR 8, adds 0x0003.
-        if ![0x0001, 0x0003, 0x0005, 0x0007, 0x000E].contains(&id) {
+        // 4. "ID not in the list of four: General_Response 120." 02, CR 8, adds 0x0003, CR 6 0x000A.
+        if ![0x0001, 0x0003, 0x0005, 0x0007, 0x000A, 0x000E].contains(&id) {
             self.hit("answer 4 unknown ID 120");
             return self.general(conn, 120, out);
         }
-        self.read_and_obey(conn, id, data, out);
+        self.read_and_obey(conn, id, data, maps, out);
     }
 
     /// 5. "Not readable: General_Response 123."
-    fn read_and_obey(&mut self, conn: u8, id: u16, data: &[u8], out: &mut Vec<Record>) {
+    fn read_and_obey(
+        &mut self,
+        conn: u8,
+        id: u16,
+        data: &[u8],
+        maps: &Maps,
+        out: &mut Vec<Record>,
+    ) {
         match reading::read(id, data, self.fault) {
             Err(branch) => {
                 self.hit(branch);
@@ -276,6 +302,9 @@ impl Splicer {
                     for branch in reading::failed_boundaries(data) {
                         self.hit(branch);
                     }
+                }
+                if id == 0x0001 && self.initialised[conn as usize] {
+                    self.counts.failed[conn as usize] = true;
                 }
                 if id == 0x0001 && self.faulty(Fault::FailedInitUndoes) {
                     self.initialised[conn as usize] = false;
@@ -288,7 +317,7 @@ impl Splicer {
                         self.hit(branch);
                     }
                 }
-                self.obey(conn, request, out);
+                self.obey(conn, request, maps, out);
             }
         }
     }
@@ -298,9 +327,18 @@ impl Splicer {
         out.push(Record { conn, what });
     }
 
-    fn obey(&mut self, conn: u8, request: Request, out: &mut Vec<Record>) {
+    fn obey(&mut self, conn: u8, request: Request, maps: &Maps, out: &mut Vec<Record>) {
         match request {
-            Request::Init { revision, name } => self.init(conn, revision, &name, out),
+            Request::Init {
+                revision,
+                name,
+                hardware,
+            } => {
+                let result = self.init_result(conn, revision, &name);
+                self.keep_hardware(conn, result, &hardware);
+                self.init(conn, result, out);
+            }
+            Request::Config => self.config(conn, maps, out),
             Request::Alive => self.alive(conn, out),
             Request::Abort { id } => self.abort(conn, id, out),
             Request::Splice(fields) => self.splice(conn, &fields, out),
@@ -310,7 +348,7 @@ impl Splicer {
 
     /// "Init: Revision not 2 gives 102, another name 104, else 100 and initialised. A failed
     /// later Init leaves the connection initialised. All three are Init_Response."
-    fn init(&mut self, conn: u8, revision: u16, name: &[u8; 32], out: &mut Vec<Record>) {
+    fn init_result(&mut self, conn: u8, revision: u16, name: &[u8; 32]) -> u16 {
         let later = self.initialised[conn as usize];
         let same = match self.fault {
             Some(Fault::WholeNameCompared) => name == &self.name,
@@ -328,6 +366,10 @@ impl Splicer {
         if same && name != &self.name {
             self.hit("Init name with other bytes behind its end");
         }
+        result
+    }
+
+    fn init(&mut self, conn: u8, result: u16, out: &mut Vec<Record>) {
         if result == 100 {
             self.initialised[conn as usize] = true;
         } else if self.faulty(Fault::FailedInitUndoes) {

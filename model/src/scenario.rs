@@ -25,12 +25,14 @@ pub struct Step {
     pub cue: Option<Given>,
     /// `> rows ..`: no call of the card program either, but the desk's page here (02, CR 8).
     pub rows: Option<[Row; KEPT]>,
+    /// `> map primary` or `insertion`: which lent section is the one on air here (02, CR 6).
+    pub insertion: Option<bool>,
 }
 
 impl Step {
     /// Whether it is no call, but something that is read.
     pub fn is_read(&self) -> bool {
-        self.mux.is_some() || self.rows.is_some()
+        self.mux.is_some() || self.rows.is_some() || self.insertion.is_some()
     }
 }
 
@@ -48,8 +50,9 @@ pub fn parse(text: &str) -> Result<Vec<Step>, String> {
             let mux = mux_word(rest.trim()).map_err(at)?;
             let cue = cue_call(rest.trim()).map_err(at)?;
             let rows = rows_word(rest.trim()).map_err(at)?;
-            let input = match (&rolling, mux, &cue, &rows) {
-                (None, None, None, None) => call_bytes(rest.trim()).map_err(at)?,
+            let insertion = map_word(rest.trim()).map_err(at)?;
+            let input = match (&rolling, mux, &cue, &rows, insertion) {
+                (None, None, None, None, None) => call_bytes(rest.trim()).map_err(at)?,
                 _ => Vec::new(),
             };
             steps.push(Step {
@@ -61,6 +64,7 @@ pub fn parse(text: &str) -> Result<Vec<Step>, String> {
                 mux,
                 cue,
                 rows,
+                insertion,
             });
         } else if let Some(rest) = line.strip_prefix('<') {
             let bytes = expected_bytes(rest.trim()).map_err(at)?;
@@ -263,6 +267,18 @@ pub fn is_cued(steps: &[Step]) -> bool {
     steps.iter().any(|step| step.cue.is_some())
 }
 
+/// Whether `map` says `insertion`.
+fn map_word(line: &str) -> Result<Option<bool>, String> {
+    match line.split_once(char::is_whitespace) {
+        Some(("map", which)) => match which.trim() {
+            "primary" => Ok(Some(false)),
+            "insertion" => Ok(Some(true)),
+            other => Err(format!("neither primary nor insertion: {other}")),
+        },
+        _ => Ok(None),
+    }
+}
+
 /// The page of `rows C:ID:EVENT:RESULT:PLAYED ..`, the newest first; the rows behind are empty.
 fn rows_word(line: &str) -> Result<Option<[Row; KEPT]>, String> {
     let words = words_of(line)?;
@@ -346,6 +362,7 @@ fn call_of(kind: &str, rest: &str) -> Result<Call, String> {
             let id = fields.required("id")?;
             Call::Message(conn, message(0x000E, id.to_be_bytes().to_vec()))
         }
+        "config" => Call::Message(conn, message(0x000A, Vec::new())),
         "extended" => {
             let id = fields.required("id")?.to_be_bytes();
             let kind = fields.number("type", 0xFFFF_FFFF)?.to_be_bytes();
@@ -380,13 +397,14 @@ fn name_field(name: &str, junk: &[u8]) -> Result<[u8; 32], String> {
     bytes.try_into().map_err(|_| "name".to_string())
 }
 
+/// Hardware_Config if none is given: Length 8, Chassis 1, Card 1, Port 1, type 0.
+const HARDWARE: &str = "00080001000100010000";
+
 fn init_data(fields: &mut Fields) -> Result<Vec<u8>, String> {
     let name = fields.take("name").unwrap_or("CH1".to_string());
     let junk = hex_bytes(&fields.take("junk").unwrap_or_default())?;
     let splicer = fields.take("splicer").unwrap_or("SPLICER".to_string());
-    let extra = fields
-        .take("extra")
-        .unwrap_or("00080001000100010000".to_string());
+    let extra = fields.take("extra").unwrap_or(HARDWARE.to_string());
     let mut data = fields.half("revision", 2)?.to_be_bytes().to_vec();
     data.extend(name_field(&name, &junk)?);
     data.extend(name_field(&splicer, &[])?);
@@ -544,6 +562,12 @@ fn expected_record(kind: &str, result: u16, fields: &mut Fields) -> Result<What,
             result,
             id: fields.required("id")?,
         },
+        "GetConfig_Response" => What::Config {
+            result,
+            name: name_field(&fields.take("name").unwrap_or("CH1".to_string()), &[])?,
+            hardware: hex_bytes(&fields.take("hardware").unwrap_or(HARDWARE.to_string()))?,
+            map: hex_bytes(&fields.take("map").unwrap_or_default())?,
+        },
         "ExtendedData_Response" => What::Extended {
             result,
             id: fields.required("id")?,
@@ -580,7 +604,8 @@ pub fn read_difference(steps: &[Step], run: &Run) -> Option<String> {
         let last = made.last();
         let mux = last.map_or(AVERAGE, |done| done.mux);
         let rows = last.map_or([Row::default(); KEPT], |done| done.rows);
-        if let Some(text) = misread(step, mux, &rows) {
+        let insertion = last.is_some_and(|done| done.insertion);
+        if let Some(text) = misread(step, mux, &rows, insertion) {
             return Some(text);
         }
     }
@@ -588,14 +613,15 @@ pub fn read_difference(steps: &[Step], run: &Run) -> Option<String> {
 }
 
 /// Holds what is read here to one line of a scenario.
-fn misread(step: &Step, mux: u8, rows: &[Row; KEPT]) -> Option<String> {
-    let found = match (step.mux, step.rows) {
-        (Some(wanted), _) if wanted != mux => mux.to_string(),
-        (_, Some(wanted)) if wanted != *rows => rows_text(rows),
+fn misread(step: &Step, mux: u8, rows: &[Row; KEPT], insertion: bool) -> Option<String> {
+    let found = match (step.mux, step.rows, step.insertion) {
+        (Some(wanted), ..) if wanted != mux => format!("reads {mux}"),
+        (_, Some(wanted), _) if wanted != *rows => format!("reads {}", rows_text(rows)),
+        (.., Some(wanted)) if wanted != insertion => "gives the other".to_string(),
         _ => return None,
     };
     let text = format!("  line {}: {}\n", step.line, step.text);
-    Some(format!("{text}    the second program reads {found}\n"))
+    Some(format!("{text}    the second program {found}\n"))
 }
 
 /// A page in the words of a scenario, its last empty rows left out.
@@ -676,7 +702,8 @@ fn run_cued(steps: &[Step]) -> Result<usize, String> {
         if let Some(text) = difference(std::slice::from_ref(step), "the second program", &output) {
             return Err(text);
         }
-        if let Some(text) = misread(step, splicer.mux(), &splicer.rows()) {
+        let (mux, insertion) = (splicer.mux(), splicer.insertion());
+        if let Some(text) = misread(step, mux, &splicer.rows(), insertion) {
             return Err(text);
         }
     }
@@ -789,6 +816,7 @@ mod tests {
             bytes_of("abort 2 id=0x01020304"),
             "4D 02 00 0E 00 04 FF FF FF FF 01 02 03 04"
         );
+        assert_eq!(bytes_of("config 2"), "4D 02 00 0A 00 00 FF FF FF FF");
         assert_eq!(
             bytes_of("extended 2 id=7"),
             "4D 02 00 03 00 08 FF FF FF FF 00 00 00 07 FF FF FF FF"
@@ -868,6 +896,8 @@ mod tests {
             "splice 0 id=1 at=5 duration=1 pcr=1 pcr=2",
             "abort 0",
             "extended 0",
+            "config",
+            "config 0 id=1",
             "jump 0",
             "raw 4",
             "message 0 0G",
@@ -879,6 +909,9 @@ mod tests {
         assert!(parse("> mux 5\n< refused 1").is_err());
         assert!(parse("> mux 256").is_err());
         assert!(parse("> mux").is_err());
+        assert!(parse("> map").is_err());
+        assert!(parse("> map both").is_err());
+        assert!(parse("> map primary\n< refused 1").is_err());
         assert!(parse("open 1").is_err());
     }
 
@@ -899,6 +932,11 @@ mod tests {
             (
                 "1 Abort_Response 121 id=5",
                 "52 01 00 0F 00 04 00 79 FF FF 00 00 00 05",
+            ),
+            (
+                "1 GetConfig_Response 100 name=A hardware=0001FF map=02B0",
+                "52 01 00 0B 00 25 00 64 FF FF 41 00 00 00 00 00 00 00 00 00 00 00 00 00 00 00 00 00 \
+                 00 00 00 00 00 00 00 00 00 00 00 00 00 00 00 01 FF 02 B0",
             ),
             (
                 "1 ExtendedData_Response 121 id=5",
@@ -1006,6 +1044,22 @@ mod tests {
             step.mux = Some(9);
             let told = read_difference(&other, &run).unwrap();
             assert!(told.contains(&format!("line {line}: > mux")), "{told}");
+        }
+    }
+
+    #[test]
+    fn a_map_is_given_after_the_calls_so_far() {
+        let text = "> map primary\n> open 0\n> init 0\n> splice 0 id=1 at=9 duration=90000\n\
+                    > map primary\n> tick 9\n> map insertion\n> tick 10\n> map primary\n";
+        let steps = parse(text).unwrap();
+        let run = card::run(&input_of(&steps), None);
+        assert_eq!(read_difference(&steps, &run), None);
+        for line in [1, 5, 7, 9] {
+            let mut other = parse(text).unwrap();
+            let step = other.iter_mut().find(|step| step.line == line).unwrap();
+            step.insertion = step.insertion.map(|insertion| !insertion);
+            let told = read_difference(&other, &run).unwrap();
+            assert!(told.contains(&format!("line {line}: > map")), "{told}");
         }
     }
 

@@ -407,6 +407,8 @@ fn answers_before_and_after_init() {
          < 2 General_Response 103
          > message 2 1234 0000 FFFF FFFF
          < 2 General_Response 103
+         > config 2
+         < 2 General_Response 103
          > message 2 0001 0000 FFFF FFFF
          < 2 General_Response 123
          > init 2 revision=1 name=OTHER
@@ -423,8 +425,10 @@ fn answers_before_and_after_init() {
          < 2 General_Response 123
          > message 2 0000 0000 FFFF FFFF
          > message 2 000D 0000 FFFF FFFF
-         > message 2 000A 0000 FFFF FFFF
+         > message 2 0010 0000 FFFF FFFF
          < 2 General_Response 120
+         > config 2
+         < 2 GetConfig_Response 100
          > alive 2
          < 2 Alive_Response 100 state=1 id=0xFFFFFFFF time=0.000000",
     );
