@@ -11,6 +11,8 @@ use splicer::{message_id as id, records, result, Record, CONNECTIONS, HEADER, OU
 const NONE: u32 = 0xFFFF_FFFF;
 const COMPLETE: u16 = id::SPLICE_COMPLETE_RESPONSE;
 const CUE: u16 = 0x000C;
+const CONFIG_REQUEST: u16 = 0x000A;
+const CONFIG_RESPONSE: u16 = 0x000B;
 const EXTENDED_REQUEST: u16 = 0x0003;
 const EXTENDED_RESPONSE: u16 = 0x0004;
 /// 01: "in ninths of a microsecond, a second is 9,000,000, a microsecond 9, a tick 100".
@@ -40,6 +42,10 @@ struct Held {
 
 #[derive(Clone, Default)]
 pub struct Books {
+    /// The splicer's ChannelName as the Init_Responses show it (02, CR 6).
+    name: Option<Vec<u8>>,
+    /// Each connection's Hardware_Config: that of its latest Init_Request with 100 since it was opened.
+    hardware: [Vec<u8>; CONNECTIONS],
     clock: u64,
     open: [bool; CONNECTIONS],
     initialised: [bool; CONNECTIONS],
@@ -90,7 +96,7 @@ fn ninths(seconds: u32, micros: u32) -> u64 {
 /// The fewest bytes of data that are readable in any message of this kind.
 fn least(kind: u16) -> usize {
     match kind {
-        id::INIT_REQUEST => 66,
+        id::INIT_REQUEST => 68,
         id::ALIVE_REQUEST => 8,
         id::SPLICE_REQUEST => 18,
         id::ABORT_REQUEST => 4,
@@ -410,7 +416,8 @@ impl Books {
             id::INIT_REQUEST => {}
             _ if !ready => return must(general(result::ACCESS_DENIED), "no 103"),
             0x000D => return must(list.is_empty(), "0x000D answered"),
-            id::ALIVE_REQUEST | id::SPLICE_REQUEST | id::ABORT_REQUEST | EXTENDED_REQUEST => {}
+            id::ALIVE_REQUEST | id::SPLICE_REQUEST | id::ABORT_REQUEST => {}
+            CONFIG_REQUEST | EXTENDED_REQUEST => {}
             _ => return must(general(result::UNKNOWN_MESSAGE), "no 120"),
         }
         let data = &message[HEADER..];
@@ -420,6 +427,18 @@ impl Books {
             must(
                 asked != general(result::INVALID_DATA),
                 "123 not by size or type",
+            )?;
+        }
+        // 02, CR 6: "123 for data present"
+        if kind == CONFIG_REQUEST {
+            let bad = !data.is_empty();
+            must(bad == general(result::INVALID_DATA), "123 not by its data")?;
+        }
+        if kind == id::INIT_REQUEST {
+            let bad = !named(data) || hardware(data).is_none();
+            must(
+                bad == general(result::INVALID_DATA),
+                "123 not by names or hardware",
             )?;
         }
         if general(result::INVALID_DATA) {
@@ -434,6 +453,7 @@ impl Books {
             (id::ALIVE_REQUEST, [answer]) => self.alive(conn, answer),
             (id::ABORT_REQUEST, [answer, ends @ ..]) => self.abort(conn, data, answer, ends),
             (EXTENDED_REQUEST, [answer]) => self.extended(conn, data, answer),
+            (CONFIG_REQUEST, [answer]) => self.config(conn, answer),
             (id::SPLICE_REQUEST, [evicted @ .., answer]) => {
                 let ask = (data, tail(data).unwrap_or_default());
                 self.splice(conn, ask, evicted, answer)
@@ -450,8 +470,28 @@ impl Books {
         must(kind && half(answer.data, 0) == 2, "no Init_Response")?;
         if answer.result == result::SUCCESSFUL {
             self.initialised[usize::from(conn)] = true;
+            self.hardware[usize::from(conn)] = hardware(data).unwrap_or_default().to_vec();
         }
-        Ok(())
+        let shown = answer.data[2..].to_vec();
+        let name = self.name.get_or_insert(shown);
+        must(answer.data[2..] == name[..], "another ChannelName")
+    }
+
+    /// 02, CR 6: "ChannelName, the Hardware_Config of their Init_Request and the output channel's program map
+    /// section".
+    fn config(&self, conn: u8, answer: &Record) -> Kept {
+        must(
+            is(answer, conn, CONFIG_RESPONSE, 100),
+            "no GetConfig_Response",
+        )?;
+        let name = self.name.clone().unwrap_or_default();
+        let wanted = [&name[..], &self.hardware[usize::from(conn)], self.map()].concat();
+        must(answer.data == wanted, "another configuration")
+    }
+
+    /// The map section of the feed on air. The card program lends empty ones.
+    fn map(&self) -> &[u8] {
+        &[]
     }
 
     /// "State 2 and the SessionID on air, or State 1 and 0xFFFFFFFF; the present clock, microseconds
@@ -745,6 +785,19 @@ impl Books {
     }
 }
 
+/// "either name without a zero"
+fn named(data: &[u8]) -> bool {
+    data.len() >= 66 && data[2..34].contains(&0) && data[34..66].contains(&0)
+}
+
+/// The Hardware_Config of an Init_Request with its Length: none "over 256 bytes or past the message's end"
+/// (02, CR 6).
+fn hardware(data: &[u8]) -> Option<&[u8]> {
+    let (length, _) = data.get(66..)?.split_first_chunk::<2>()?;
+    let all = 2 + usize::from(u16::from_be_bytes(*length));
+    data[66..].get(..all).filter(|_| all <= 256)
+}
+
 /// "tag 0x01, length 14, identifier 0x43415244, SpliceEventID 4, result 2, PlayedDuration 4"
 fn descriptor(ended: &Ended) -> Vec<u8> {
     let mut bytes = vec![0x01, 14, 0x43, 0x41, 0x52, 0x44];
@@ -774,6 +827,8 @@ fn well_formed(record: &Record) -> Kept {
         CUE => record.data.len().clamp(28, 520),
         EXTENDED_RESPONSE if record.result == result::INVALID_SESSION => 4,
         EXTENDED_RESPONSE => 20,
+        // its parts are looked at with the request
+        CONFIG_RESPONSE => record.data.len(),
         _ => return must(false, "a MessageID that is not written"),
     };
     must(record.data.len() == size, "a record of another size")?;

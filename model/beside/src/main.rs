@@ -129,6 +129,18 @@ const BOOKED: &[Fault] = &[
     Fault::Extended9Taken,
     Fault::AnyTypeTaken,
     Fault::RowsFromTheOldest,
+    Fault::Init66Taken,
+    Fault::HardwareAt64,
+    Fault::Length255Taken,
+    Fault::Length254Refused,
+    Fault::LengthNotCounted,
+    Fault::HardwareToTheEnd,
+    Fault::HardwarePastTheEnd,
+    Fault::FailedInitKept,
+    Fault::FirstHardwareKept,
+    Fault::OneHardware,
+    Fault::LengthLeftOut,
+    Fault::ConfigDataTaken,
 ];
 
 fn main() {

@@ -195,7 +195,8 @@ fn afresh(name: &[u8; NAME], seconds: u32) -> Vec<Call> {
     let mut calls = Vec::new();
     for conn in 0..CONNECTIONS as u32 {
         calls.push(Call::Open(conn));
-        let init = [&[0, 2], &name[..], &[0; NAME]].concat();
+        // a Hardware_Config of Length 0
+        let init = [&[0, 2], &name[..], &[0; NAME + 2]].concat();
         calls.push(Call::Message(conn, message(0x0001, init)));
         for id in 0..5 {
             let ahead = 10 + (id * 7 + conn * 3) % 20;
