@@ -1,7 +1,7 @@
 //! The calls of a stream: those of the second program's generator, and between them calls that the
 //! card program cannot make.
 
-use crate::calls::{Act, Call};
+use crate::calls::{Act, Call, Sections};
 use model::card;
 use model::cueing;
 use model::draw::Rng;
@@ -35,7 +35,12 @@ pub fn stream(seed: u64, index: u64) -> Stream {
         }
         let call = run_on(&mut rng, call);
         let room = rng.pick(&[OUT, OUT, OUT, OUT + 1, LONGEST]);
-        acts.push(Act { call, room });
+        let sections = good_sections(&mut rng, &call);
+        acts.push(Act {
+            call,
+            room,
+            sections,
+        });
     }
     Stream { index, name, acts }
 }
@@ -44,7 +49,7 @@ pub fn stream(seed: u64, index: u64) -> Stream {
 fn cue(rng: &mut Rng) -> Act {
     let call = Call::Cue(cueing::given(rng));
     let room = rng.pick(&[OUT, OUT, OUT, OUT, OUT + 1, LONGEST, OUT - 1]);
-    Act { call, room }
+    Act::plain(call, room)
 }
 
 /// Half of the streams have the card program's name; the others one with bytes behind its end, one
@@ -81,16 +86,61 @@ fn foreign(rng: &mut Rng, call: &Call, acts: &mut Vec<Act>) {
     if rng.chance(12) {
         let below = rng.below(OUT as u64) as usize;
         let room = rng.pick(&[0, 1, OUT - 1, OUT - 1, below]);
-        let call = call.clone();
-        acts.push(Act { call, room });
+        acts.push(Act::plain(call.clone(), room));
+    }
+    if rng.chance(6) {
+        let room = rng.pick(&[OUT, OUT, OUT, OUT - 1]);
+        acts.push(long_sections(rng, call.clone(), room));
     }
     if rng.chance(4) {
         let call = elsewhere(rng, call);
         let room = rng.pick(&[OUT, OUT, OUT - 1]);
-        acts.push(Act { call, room });
+        acts.push(Act::plain(call.clone(), room));
+        acts.push(long_sections(rng, call, OUT));
     }
     if let Call::Message(conn, bytes) = call {
         foreign_messages(rng, *conn, bytes, acts);
+    }
+}
+
+/// A section of this many bytes, drawn.
+fn section(rng: &mut Rng, length: usize) -> Vec<u8> {
+    let first = rng.next() as u8;
+    (0..length).map(|at| first.wrapping_add(at as u8)).collect()
+}
+
+/// Sections up to 1,024 bytes (02, CR 6), most often for a GetConfig_Request.
+fn good_sections(rng: &mut Rng, call: &Call) -> Sections {
+    let asks = matches!(call, Call::Message(_, bytes) if bytes[..2] == [0, 0x0A]);
+    if !rng.chance(if asks { 85 } else { 8 }) {
+        return Sections::default();
+    }
+    let lengths = [0, 1, 183, 1_023, 1_024, 1_024];
+    let [primary, insertion] = [0; 2].map(|_| rng.pick(&lengths));
+    Sections {
+        primary: section(rng, primary),
+        insertion: section(rng, insertion),
+    }
+}
+
+/// The same call with a section above 1,024 bytes on one side or both; at times the message is cut.
+fn long_sections(rng: &mut Rng, mut call: Call, room: usize) -> Act {
+    if let Call::Message(_, bytes) = &mut call {
+        if rng.chance(30) {
+            bytes.truncate(rng.below(bytes.len() as u64) as usize);
+        }
+    }
+    let long = rng.pick(&[1_025, 1_025, 1_026, 2_048, 70_000]);
+    let other = rng.pick(&[0, 1, 1_023, 1_024, 1_025]);
+    let (primary, insertion) = rng.pick(&[(long, other), (other, long)]);
+    let sections = Sections {
+        primary: section(rng, primary),
+        insertion: section(rng, insertion),
+    };
+    Act {
+        call,
+        room,
+        sections,
     }
 }
 
@@ -107,7 +157,7 @@ fn elsewhere(rng: &mut Rng, call: &Call) -> Call {
 fn foreign_messages(rng: &mut Rng, conn: u32, bytes: &[u8], acts: &mut Vec<Act>) {
     let mut push = |bytes: Vec<u8>| {
         let call = Call::Message(conn, bytes);
-        acts.push(Act { call, room: OUT });
+        acts.push(Act::plain(call, OUT));
     };
     if rng.chance(15) {
         let any = rng.below(bytes.len() as u64) as usize;

@@ -2,7 +2,7 @@
 //! rebuilt from the records, and each answer is compared with 01's sentences about it. It uses
 //! neither the second program nor the core's state.
 
-use crate::calls::{Act, Call, Row, Said, ROWS};
+use crate::calls::{Act, Call, Row, Said, Sections, ROWS};
 use crate::cuebooks::{self, Due};
 use crate::intervals::{share, Live};
 use model::cues::Given;
@@ -46,6 +46,8 @@ pub struct Books {
     name: Option<Vec<u8>>,
     /// Each connection's Hardware_Config: that of its latest Init_Request with 100 since it was opened.
     hardware: [Vec<u8>; CONNECTIONS],
+    /// The sections lent to the present call.
+    lent: Sections,
     clock: u64,
     open: [bool; CONNECTIONS],
     initialised: [bool; CONNECTIONS],
@@ -155,6 +157,7 @@ fn mux_of(descriptors: &[u8]) -> Option<u8> {
 impl Books {
     /// Enters a call and its answer.
     pub fn call(&mut self, act: &Act, said: &Said) -> Kept {
+        self.lent = act.sections.clone();
         self.entered(self.refusal(act), said, |books, list| match &act.call {
             Call::Open(conn) => books.opened(*conn as u8, list),
             Call::Close(conn) => books.closed(*conn as u8, list),
@@ -217,6 +220,8 @@ impl Books {
             _ if short => 2,
             Call::Close(conn) | Call::Message(conn, _) if !self.open[*conn as usize] => 7,
             Call::Close(_) => 0,
+            // 02, CR 6: "house number 10 for a lent section over 1,024 bytes, in the message call after 7"
+            Call::Message(..) if act.sections.longest() > 1_024 => 10,
             Call::Message(_, bytes) if bytes.len() < HEADER => 5,
             Call::Message(_, bytes) if half(bytes, 2) > 4_088 => 4,
             Call::Message(_, bytes) if bytes.len() < HEADER + usize::from(half(bytes, 2)) => 5,
@@ -489,9 +494,17 @@ impl Books {
         must(answer.data == wanted, "another configuration")
     }
 
-    /// The map section of the feed on air. The card program lends empty ones.
+    /// The map section of the feed on air.
     fn map(&self) -> &[u8] {
-        &[]
+        match self.on_air() {
+            Some(_) => &self.lent.insertion,
+            None => &self.lent.primary,
+        }
+    }
+
+    /// 02, CR 6: "the caller lends both sections [..] and gets back the one on air".
+    pub fn insertion(&self, found: bool) -> Kept {
+        must(found == self.on_air().is_some(), "the map of another feed")
     }
 
     /// "State 2 and the SessionID on air, or State 1 and 0xFFFFFFFF; the present clock, microseconds

@@ -1,6 +1,7 @@
 //! A call as both programs get it, what each of them says, and the memory lent to the core.
 
 use model::card;
+use model::config;
 use model::cues::Given;
 use model::records;
 use model::rules;
@@ -27,11 +28,40 @@ impl From<card::Call> for Call {
     }
 }
 
-/// A call and the length of the output buffer lent to it.
+/// The two map sections lent to a message (02, CR 6).
+#[derive(Clone, Debug, Default, PartialEq, Eq)]
+pub struct Sections {
+    pub primary: Vec<u8>,
+    pub insertion: Vec<u8>,
+}
+
+impl Sections {
+    pub fn of_model(&self) -> config::Maps<'_> {
+        config::Maps {
+            primary: &self.primary,
+            insertion: &self.insertion,
+        }
+    }
+
+    pub fn of_core(&self) -> splicer::Maps<'_> {
+        splicer::Maps {
+            primary: &self.primary,
+            insertion: &self.insertion,
+        }
+    }
+
+    /// The longer one's length.
+    pub fn longest(&self) -> usize {
+        self.primary.len().max(self.insertion.len())
+    }
+}
+
+/// A call, the length of the output buffer and the sections lent to it.
 #[derive(Clone, Debug)]
 pub struct Act {
     pub call: Call,
     pub room: usize,
+    pub sections: Sections,
 }
 
 /// What a call gave: its house number or 0, the bytes consumed, the bytes written and the places
@@ -77,12 +107,26 @@ impl Said {
 }
 
 impl Act {
+    /// With empty sections, as the card program lends them.
+    pub fn plain(call: Call, room: usize) -> Act {
+        Act {
+            call,
+            room,
+            sections: Sections::default(),
+        }
+    }
+
     pub fn line(&self) -> String {
         let room = self.room;
         match &self.call {
             Call::Open(conn) => format!("open {conn}"),
             Call::Close(conn) => format!("close {conn}, room {room}"),
-            Call::Message(conn, bytes) => format!("message {conn}, room {room}: {}", hex(bytes)),
+            Call::Message(conn, bytes) => {
+                let Sections { primary, insertion } = &self.sections;
+                let (primary, insertion) = (primary.len(), insertion.len());
+                let lent = format!("room {room}, sections {primary} and {insertion}");
+                format!("message {conn}, {lent}: {}", hex(bytes))
+            }
             Call::Tick(seconds, micros) => format!("tick {seconds} {micros}, room {room}"),
             Call::Cue(given) => format!("{}, room {room}", given.line()),
         }
@@ -116,7 +160,9 @@ pub fn ask_model(model: &mut rules::Splicer, act: &Act) -> Said {
     let result = match &act.call {
         Call::Open(conn) => model.open(byte(conn)).map(|()| (Vec::new(), 0)),
         Call::Close(conn) => model.close(byte(conn), act.room).map(|r| (r, 0)),
-        Call::Message(conn, bytes) => model.message(byte(conn), bytes, act.room),
+        Call::Message(conn, bytes) => {
+            model.message_with(byte(conn), bytes, &act.sections.of_model(), act.room)
+        }
         Call::Tick(seconds, micros) => model.tick(*seconds, *micros, act.room).map(|r| (r, 0)),
         Call::Cue(given) => model.cue(given, act.room).map(|r| (r, 0)),
     };
@@ -130,13 +176,27 @@ pub fn ask_model(model: &mut rules::Splicer, act: &Act) -> Said {
     }
 }
 
-/// The core's answer, with `out` lent to it. Only a message can move places (02, CR 11).
+/// The core's answer with empty sections lent.
 pub fn ask_core(core: &mut splicer::Splicer, call: &Call, out: &mut [u8]) -> Said {
+    ask_core_with(core, call, &Sections::default(), out)
+}
+
+/// The core's answer, with `out` and the sections lent to it. Only a message can move places (02, CR 11).
+pub fn ask_core_with(
+    core: &mut splicer::Splicer,
+    call: &Call,
+    sections: &Sections,
+    out: &mut [u8],
+) -> Said {
     let result = match call {
         Call::Open(conn) => core.open(*conn).map(|()| (&[][..], 0, 0)),
         Call::Close(conn) => core.close(*conn, out).map(|w| (w, 0, 0)),
-        Call::Message(conn, bytes) => core
+        // both names of the call
+        Call::Message(conn, bytes) if sections.longest() == 0 => core
             .message(*conn, bytes, out)
+            .map(|h| (h.written, h.consumed, h.moved as usize)),
+        Call::Message(conn, bytes) => core
+            .message_with(*conn, bytes, sections.of_core(), out)
             .map(|h| (h.written, h.consumed, h.moved as usize)),
         Call::Tick(seconds, micros) => core.tick(*seconds, *micros, out).map(|w| (w, 0, 0)),
         Call::Cue(given) => core

@@ -19,14 +19,8 @@ const FOR_A_MISTAKE: u64 = 30;
 /// The calls of a generated stream of cues.
 pub fn stream(seed: u64, index: u64) -> Stream {
     let act = |call: cueing::Call| match call {
-        cueing::Call::Plain(call) => Act {
-            call: Call::from(call),
-            room: OUT,
-        },
-        cueing::Call::Cue(given, room) => Act {
-            call: Call::Cue(given),
-            room: room.min(LONGEST),
-        },
+        cueing::Call::Plain(call) => Act::plain(Call::from(call), OUT),
+        cueing::Call::Cue(given, room) => Act::plain(Call::Cue(given), room.min(LONGEST)),
     };
     let calls = cueing::stream(seed, index);
     Stream {
@@ -94,7 +88,8 @@ fn compared(plan: &Plan, n: u64) -> bool {
 /// Connections 0 and 2 initialised, 1 open.
 fn ready() -> Vec<Act> {
     let name = card::channel_name();
-    let init = [&[0, 2], &name[..], &[0; 32]].concat();
+    // a Hardware_Config of Length 0
+    let init = [&[0, 2], &name[..], &[0; 34]].concat();
     let calls = [
         Call::Open(0),
         Call::Open(1),
@@ -102,15 +97,12 @@ fn ready() -> Vec<Act> {
         Call::Message(0, message(0x0001, init.clone())),
         Call::Message(2, message(0x0001, init)),
     ];
-    calls.map(|call| Act { call, room: OUT }).to_vec()
+    calls.map(|call| Act::plain(call, OUT)).to_vec()
 }
 
 fn plainest() -> bool {
     let list = cueing::systematic();
-    let cue = |given: &Given| Act {
-        call: Call::Cue(given.clone()),
-        room: OUT,
-    };
+    let cue = |given: &Given| Act::plain(Call::Cue(given.clone()), OUT);
     let acts = ready().into_iter().chain(list.iter().map(cue));
     let mut desk = Desk::new(LONGEST);
     let mut pair = match Pair::fresh(&card::channel_name(), Wrong::Nothing) {

@@ -1,6 +1,6 @@
 //! The second program and the proved core, called side by side in one process. After every call the
 //! refusal, the bytes consumed and written, the places moved, the waiting counts, the value on air, the page
-//! of what ended lately and the rest of the memory are compared.
+//! of what ended lately, the map section on air and the rest of the memory are compared.
 
 mod acts;
 mod books;
@@ -10,6 +10,7 @@ mod cuebooks;
 mod cued;
 mod intervals;
 mod lists;
+mod maps;
 mod pages;
 mod pair;
 mod rolled;
@@ -141,6 +142,8 @@ const BOOKED: &[Fault] = &[
     Fault::OneHardware,
     Fault::LengthLeftOut,
     Fault::ConfigDataTaken,
+    Fault::MapAlwaysPrimary,
+    Fault::MapWhileWaiting,
 ];
 
 fn main() {

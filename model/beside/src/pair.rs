@@ -1,7 +1,8 @@
 //! A splicer of the second program and one of the core, given the same calls.
 
 use crate::books::Books;
-use crate::calls::{ask_core, ask_model, model_rows, Act, Call, Desk, Said};
+use crate::calls::{ask_core, ask_core_with, ask_model, model_rows, Act, Call, Desk, Said};
+use crate::maps;
 use crate::pages;
 use crate::wrong::{Drift, Wrong};
 use model::counts::Counts;
@@ -39,6 +40,7 @@ impl Pair {
         pair.same_primary(pair.core.primary())?;
         pair.same_mux()?;
         pair.same_rows(0, wrong)?;
+        pair.same_map(0, wrong)?;
         Ok(pair)
     }
 
@@ -90,6 +92,15 @@ impl Pair {
         self.books.rows(&found)
     }
 
+    /// The map section given back by the core (02, CR 6) is the very one that was lent for the feed on air.
+    fn same_map(&self, turn: usize, wrong: Wrong) -> Result<(), String> {
+        let insertion = maps::read(&self.core, turn, wrong)?;
+        if insertion != self.model.insertion() {
+            return Err(format!("map: core gives the insertion's: {insertion}"));
+        }
+        self.books.insertion(insertion)
+    }
+
     /// Makes the call on both and compares all that is seen of it.
     pub fn call(&mut self, act: &Act, desk: &mut Desk, wrong: Wrong) -> Result<Said, String> {
         let wanted = ask_model(&mut self.model, act);
@@ -97,7 +108,12 @@ impl Pair {
         let kept = wanted.refused != 0 || matches!(act.call, Call::Cue(_));
         let before = kept.then(|| self.core.clone());
         let handed = wrong.handed(act);
-        let mut found = ask_core(&mut self.core, &handed.call, desk.buffer(handed.room));
+        let lent = handed.sections.clone();
+        let out = desk.buffer(handed.room);
+        let mut found = ask_core_with(&mut self.core, &handed.call, &handed.sections, out);
+        if handed.sections != lent {
+            return Err("a lent section changed".to_string());
+        }
         wrong.told(act, &mut found, &mut self.core, desk);
         wrong.moved(act, &mut found, self.core.waiting());
         if found != wanted {
@@ -126,6 +142,7 @@ impl Pair {
         self.same_primary(wrong.primary(self.core.primary(), self.model.clock))?;
         self.books.mux(self.core.mux())?;
         self.same_rows(desk.turn(), wrong)?;
+        self.same_map(desk.turn(), wrong)?;
         Ok(found)
     }
 
@@ -139,7 +156,7 @@ impl Pair {
         desk: &mut Desk,
     ) -> Result<(), String> {
         let mut copy = Box::new(before.clone());
-        let again = ask_core(&mut copy, &act.call, desk.buffer(act.room));
+        let again = ask_core_with(&mut copy, &act.call, &act.sections, desk.buffer(act.room));
         if desk.touched(again.written.len()) || again != *said || *copy != self.core {
             return Err("a copy of the core went another way".to_string());
         }
@@ -158,7 +175,7 @@ impl Pair {
         let mut calls = vec![Call::Tick(seconds, (time % 1_000_000) as u32)];
         calls.extend((0..4).map(Call::Close));
         for call in calls {
-            let act = Act { call, room: OUT };
+            let act = Act::plain(call, OUT);
             let told = |text| format!("on a copy, {}\n{text}", act.line());
             copy.call(&act, desk, wrong).map_err(told)?;
         }

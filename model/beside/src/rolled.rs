@@ -85,7 +85,7 @@ struct RollingBooks {
 impl RollingBooks {
     fn call(&mut self, call: &Call, room: usize, said: &Said) -> Result<(), String> {
         if let Some(call) = plain(call) {
-            return self.books.call(&Act { call, room }, said);
+            return self.books.call(&Act::plain(call, room), said);
         }
         let (number, until, reading) = self.due(call, room);
         self.books.brought(number, until, said)?;

@@ -241,6 +241,7 @@ pub fn booked(list: &[Stream], wrong: Wrong) -> Option<String> {
             let kept = kept.and_then(|()| books.primary(primary));
             let kept = kept.and_then(|()| books.mux(model.mux()));
             let kept = kept.and_then(|()| books.rows(&model_rows(&model)));
+            let kept = kept.and_then(|()| books.insertion(model.insertion()));
             if let Err(text) = kept {
                 let index = stream.index;
                 return Some(format!("stream {index}, call {}, {text}", at + 1));

@@ -1,9 +1,10 @@
 //! The scenario files against the archive: the records of every call and what is read in between. The card
-//! program has no call that reads and none with a cue, so `> mux` (02, CR 5), `> cue` (02, CR 7) and `> rows` lines
-//! (02, CR 8) are held to it here.
+//! program has no call that reads and none with a cue, so `> mux` (02, CR 5), `> map` (02, CR 6), `> cue` (02, CR 7)
+//! and `> rows` lines (02, CR 8) are held to it here.
 
 use crate::acts::LONGEST;
 use crate::calls::{ask_core, Call, Row, ROWS};
+use crate::maps;
 use crate::pages;
 use crate::wrong::Wrong;
 use model::card;
@@ -63,6 +64,11 @@ fn run_file(path: &str) -> Result<Option<(usize, usize)>, String> {
         }
         if step.mux.is_some_and(|wanted| wanted != core.mux()) {
             return Err(told(step, &format!("reads {}", core.mux())));
+        }
+        if let Some(wanted) = step.insertion {
+            if maps::read(&core, step.line, Wrong::Nothing)? != wanted {
+                return Err(told(step, "gives the other section"));
+            }
         }
         if let Some(rows) = step.rows {
             let wanted: [Row; ROWS] = rows.map(|row| {

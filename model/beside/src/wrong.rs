@@ -1,7 +1,7 @@
 //! Deliberate faults, to show that the comparison notices them: those of the second program's list,
 //! and some in what the core is handed or seen to do.
 
-use crate::calls::{Act, Call, Desk, Said};
+use crate::calls::{Act, Call, Desk, Said, Sections};
 use model::cues::{Miscue, MISCUES};
 use model::faults::{Fault, FAULTS};
 use splicer::{message_id as id, records, Record};
@@ -93,6 +93,21 @@ pub const CUEING: &[(&str, &str)] = &[
     ("cue-opens", "a good cue call opens a connection"),
 ];
 
+/// Faults in what the core is lent and gives back of map sections (02, CR 6).
+pub const MAPPING: &[(&str, &str)] = &[
+    ("section-1025", "sections of 1,025 bytes taken"),
+    ("section-1024", "a section of 1,024 bytes refused"),
+    (
+        "section-insertion",
+        "the insertion's section of any length taken",
+    ),
+    ("section-behind-5", "10 behind 5"),
+    ("section-before-7", "10 before 7"),
+    ("section-other", "GetConfig with the other section"),
+    ("map-other", "the other section given back"),
+    ("map-shorter", "a section given back without its last byte"),
+];
+
 /// Faults in the page that the core is read to fill (02, CR 8).
 pub const PAGING: &[(&str, &str)] = &[
     ("rows-oldest", "the page filled from the oldest up"),
@@ -120,6 +135,7 @@ pub fn all() -> Vec<Wrong> {
     model
         .chain(own())
         .chain(paging())
+        .chain(mapping())
         .chain(reporting())
         .collect()
 }
@@ -133,6 +149,10 @@ pub fn cues() -> Vec<Wrong> {
 
 fn own() -> impl Iterator<Item = Wrong> {
     OWN.iter().map(|(name, _)| Wrong::Core(name))
+}
+
+fn mapping() -> impl Iterator<Item = Wrong> {
+    MAPPING.iter().map(|(name, _)| Wrong::Core(name))
 }
 
 fn paging() -> impl Iterator<Item = Wrong> {
@@ -164,7 +184,8 @@ impl Wrong {
             Wrong::Cue(miscue) => format!("{}: {}", miscue.name(), miscue.text()),
             Wrong::Core(name) => {
                 let numbers = COUNTING.iter().chain(MOVING).chain(TIMING);
-                let mut all = OWN.iter().chain(PAGING).chain(numbers).chain(CUEING);
+                let lent = PAGING.iter().chain(MAPPING).chain(CUEING);
+                let mut all = OWN.iter().chain(lent).chain(numbers);
                 let text = all.find(|(n, _)| *n == name);
                 format!("{name}: {}", text.map_or("", |(_, t)| t))
             }
@@ -204,6 +225,7 @@ impl Wrong {
         if self.is("room") && act.room == OUT - 1 {
             act.room = OUT;
         }
+        self.lent(&mut act.sections);
         match &mut act.call {
             Call::Message(_, bytes) if self.is("cut-message") && bytes.len() >= HEADER => {
                 let size = usize::from(u16::from_be_bytes([bytes[2], bytes[3]]));
@@ -217,6 +239,34 @@ impl Wrong {
             _ => {}
         }
         act
+    }
+
+    /// Spoils the sections lent to a message.
+    fn lent(self, sections: &mut Sections) {
+        let Wrong::Core(name) = self else {
+            return;
+        };
+        let Sections { primary, insertion } = sections;
+        match name {
+            "section-1025" => {
+                primary.truncate(1_024);
+                insertion.truncate(1_024);
+            }
+            "section-1024" if primary.len() == 1_024 => primary.push(0),
+            "section-1024" if insertion.len() == 1_024 => insertion.push(0),
+            "section-insertion" => insertion.truncate(1_024),
+            "section-other" => std::mem::swap(primary, insertion),
+            _ => {}
+        }
+    }
+
+    /// Spoils the section given back.
+    pub fn given<'m>(self, found: &'m [u8], other: &'m [u8]) -> &'m [u8] {
+        match self {
+            Wrong::Core("map-other") => other,
+            Wrong::Core("map-shorter") => &found[..found.len().saturating_sub(1)],
+            _ => found,
+        }
     }
 
     /// Spoils what the call gave.
@@ -238,6 +288,10 @@ impl Wrong {
                 let _ = (0..4).find(|conn| core.open(*conn).is_ok());
             }
             "house-number" if said.refused == 5 => said.refused = 4,
+            "section-behind-5" if said.refused == 10 && cut(&act.call) => said.refused = 5,
+            "section-before-7" if said.refused == 7 && act.sections.longest() > 1_024 => {
+                said.refused = 10;
+            }
             "consumed" if good_message => said.consumed += 1,
             "written-short" => drop(said.written.pop()),
             "byte-changed" if end > begin => desk.lent[end - 1] ^= 1,
@@ -342,6 +396,11 @@ impl Wrong {
         drift.before = now;
         std::array::from_fn(|at| now[at].wrapping_add_signed(drift.by[at]))
     }
+}
+
+/// Whether its header is not whole.
+fn cut(call: &Call) -> bool {
+    matches!(call, Call::Message(_, bytes) if bytes.len() < HEADER)
 }
 
 fn is_splice(bytes: &[u8]) -> bool {
