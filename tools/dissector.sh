@@ -52,7 +52,7 @@ by_tshark() {
         else if (name ~ /^(MessageSize|Result_Extension|time|stream_Length|...Bitrate|.Resolution|response_in|request_in)$/) next
         else {
             if (pids != "") { put("PID", "[" pids "]"); put("StreamType", "[" kinds "]"); pids = kinds = "" }
-            if (name ~ /^(descriptors|Logical_Multiplex|TS_program|splice_info|data)/) gsub(/:/, "", value)
+            if (name ~ /^(descriptors|Hardware_Config|Logical_Multiplex|TS_program|splice_info|data)/) gsub(/:/, "", value)
             put(name, value)
         }
     }

@@ -60,7 +60,7 @@ number("stream_Length", 1)
 for _, name in ipairs { "ChannelName", "SplicerName" } do
     f[name] = ProtoField.stringz("j280." .. name, name)
 end
-for _, name in ipairs { "descriptors", "Logical_Multiplex", "TS_program_map_section", "splice_info_section", "data" } do
+for _, name in ipairs { "descriptors", "Hardware_Config", "Logical_Multiplex", "TS_program_map_section", "splice_info_section", "data" } do
     f[name] = ProtoField.bytes("j280." .. name, name)
 end
 f.time = ProtoField.absolute_time("j280.time", "time", base.UTC)
@@ -128,6 +128,12 @@ function Walk:hardware()
     if self.cut or self.at == self.tvb:len() then return end
     local length = self:number("Length", 2)
     local last = self.at + (length or 0)
+    -- document 02, CR 6: kept and given back whatever its Length
+    if not self.cut and length < 8 then
+        local part = self:take(length)
+        if part and length > 0 then self.tree:add(f.Hardware_Config, part) end
+        return
+    end
     for _, name in ipairs { "Chassis", "Card", "Port", "Logical_Multiplex_Type" } do self:number(name, 2) end
     if self.cut or last < self.at or last > self.tvb:len() then
         self.cut = true

@@ -87,10 +87,15 @@ impl<'m> Walk<'m> {
         let length = self.number("Length", 2)? as usize;
         let (inside, behind) = self.rest.split_at_checked(length)?;
         self.rest = inside;
-        for name in ["Chassis", "Card", "Port", "Logical_Multiplex_Type"] {
-            self.number(name, 2)?;
+        if length < 8 {
+            // 02, CR 6: kept and given back whatever its Length
+            self.left("Hardware_Config")?;
+        } else {
+            for name in ["Chassis", "Card", "Port", "Logical_Multiplex_Type"] {
+                self.number(name, 2)?;
+            }
+            self.left("Logical_Multiplex")?;
         }
-        self.left("Logical_Multiplex")?;
         self.rest = behind;
         Some(())
     }
@@ -324,6 +329,13 @@ mod tests {
         let expected = " ChannelName=CH1 Length=9 Chassis=1 Card=2 Port=3 \
                         Logical_Multiplex_Type=4 Logical_Multiplex=05 TS_program_map_section=02";
         assert_eq!(told(11, &config), expected);
+        let short = [&config[..32], &[0, 3, 1, 2, 3, 0x02]].concat();
+        let expected = " ChannelName=CH1 Length=3 Hardware_Config=010203 TS_program_map_section=02";
+        assert_eq!(told(11, &short), expected);
+        assert_eq!(
+            told(11, &[&config[..32], &[0, 0]].concat()),
+            " ChannelName=CH1 Length=0"
+        );
         assert_eq!(told(12, &[255; 9]), " time=none splice_info_section=ff");
         // docs/SCTE35.md's second section
         let section = [

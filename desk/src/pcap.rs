@@ -219,7 +219,7 @@ mod tests {
         let mut flow = to.open(0);
         let head = |id: u8, size: u8, result: u8| vec![0, id, 0, size, 0, result, 255, 255];
         let name = [&b"CH1"[..], &[0; 29]].concat();
-        let init = [&head(1, 66, 255)[..], &[0, 2], &name, &name].concat();
+        let init = [&head(1, 68, 255)[..], &[0, 2], &name, &name, &[0, 0]].concat();
         to.clock = (1_000, 0);
         to.data(&mut flow, true, &init);
         to.clock = (1_000, 40_000);
