@@ -169,13 +169,14 @@ static uint8_t *header(uint8_t *p, uint32_t id, uint32_t size) {
 }
 
 static uint8_t *init(uint8_t *p, const char *name) {
-    p = put(header(p, SPLICER_INIT_REQUEST, 66), 2, 2);
+    p = put(header(p, SPLICER_INIT_REQUEST, 76), 2, 2);
     for (int i = 0; i < SPLICER_NAME; i++) {
         p[i] = (uint8_t)*name;
         p[SPLICER_NAME + i] = 0;
         name += *name != 0;
     }
-    return p + 2 * SPLICER_NAME;
+    /* Hardware_Config: Length 8, Chassis 1, Card 1, Port 1, Logical_Multiplex_Type 0 */
+    return put(put(put(p + 2 * SPLICER_NAME, 0x00080001, 4), 0x00010001, 4), 0, 2);
 }
 
 static uint8_t *splice(uint8_t *p, uint32_t session, uint32_t prior, uint32_t seconds, uint32_t duration, uint32_t access, uint32_t override) {

@@ -69,11 +69,12 @@ static void heard(const char *what, const uint8_t *wire, const uint8_t *end) {
 }
 
 static void init(void) {
-    uint8_t wire[SPLICER_HEADER + 66], *p = put(header(wire, SPLICER_INIT_REQUEST, 66), 2, 2);
+    uint8_t wire[SPLICER_HEADER + 76], *p = put(header(wire, SPLICER_INIT_REQUEST, 76), 2, 2);
     for (int i = 0; i < 2 * SPLICER_NAME; i++) {
         p[i] = i < 3 ? (uint8_t) "CH1"[i] : 0;
     }
-    heard("Init_Request", wire, p + 2 * SPLICER_NAME);
+    /* Hardware_Config: Length 8, Chassis 1, Card 1, Port 1, Logical_Multiplex_Type 0 */
+    heard("Init_Request", wire, put(put(put(p + 2 * SPLICER_NAME, 0x00080001, 4), 0x00010001, 4), 0, 2));
 }
 
 /* A timed spot of AccessType 1. */
