@@ -35,15 +35,12 @@ static struct call fresh(void) {
 }
 
 static struct call init(uint32_t conn) {
-    /* a Hardware_Config of Length 8, the least that J.280 has, behind the two names */
     struct call c = message(conn, SPLICER_INIT_REQUEST, 76);
     memcpy(c.in + 8, "\0\2CH1", 5);
-    put(c.in + 8 + 66, 8, 2);
-    put(put(c.in + 8 + 68, 0x12345678, 4), 0x9ABCDEF0, 4);
+    /* Hardware_Config: Length 8, Chassis 1, Card 1, Port 1, Logical_Multiplex_Type 0 */
+    memcpy(c.in + 74, "\0\10\0\1\0\1\0\1\0", 10);
     return c;
 }
-
-static struct call config(uint32_t conn) { return message(conn, SPLICER_GET_CONFIG_REQUEST, 0); }
 
 static struct call aborting(uint32_t conn, uint32_t session) {
     struct call c = message(conn, SPLICER_ABORT_REQUEST, 4);
@@ -213,8 +210,6 @@ static struct call case_close(uint32_t n) {
 }
 
 static struct call case_init(uint32_t n) { return init(n); }
-
-static struct call case_config(uint32_t n) { return config(n); }
 static struct call case_alive(uint32_t n) { return message(n, SPLICER_ALIVE_REQUEST, 8); }
 static struct call case_fresh(uint32_t n) { return n ? plain(NOTHING, 0, 0) : fresh(); }
 
@@ -301,7 +296,7 @@ static const struct {
     const char *name;
     struct call (*prepare)(uint32_t n);
 } cases[] = {{"idle", case_idle},         {"busy", case_busy},           {"splice", case_splice},       {"abort", case_abort},
-             {"close", case_close},       {"init", case_init},           {"config", case_config},           {"alive", case_alive},         {"fresh", case_fresh},
+             {"close", case_close},       {"init", case_init},           {"alive", case_alive},         {"fresh", case_fresh},
              {"open", case_open},         {"air", case_air},             {"fail", case_fail},           {"evict", case_evict},
              {"play", case_play},         {"fulltick", case_fulltick},   {"fullclose", case_fullclose}, {"fullabort", case_fullabort},
              {"fullevict", case_fullevict}, {"airidle", case_airidle},   {"start", case_start},         {"end", case_end},

@@ -1,4 +1,4 @@
-//! The card rules of document 01, with 02's CR 1, 4, 5, 8 and 13, as an in-place engine in plain Rust: the measuring peer of the proved core.
+//! The card rules of document 01, with 02's CR 1, 4, 5, 6 (sections empty), 8 and 13, as an in-place engine in plain Rust: the measuring peer of the proved core.
 //!
 //! Written from the documents and J.280 alone, in the way one would write it for the card without counting instructions: one struct of
 //! fixed size changed in place, lists of fixed capacity, iterators, bounds checks left on. Not proved, not part of the product.
@@ -22,6 +22,8 @@ const ALL_WAITING: usize = 64;
 const OWN_WAITING: u64 = 20;
 const SURE_WAITING: u64 = 10;
 const ACCESS_TYPES: usize = 10;
+/// Bytes of a Hardware_Config with its Length.
+const HARDWARE: usize = 256;
 /// Ended sessions that are kept.
 const KEPT: usize = 16;
 const LAST_MICROSECOND: u32 = 999_999;
@@ -48,11 +50,11 @@ mod id {
     pub const SPLICE_REQUEST: u16 = 0x0007;
     pub const SPLICE_RESPONSE: u16 = 0x0008;
     pub const SPLICE_COMPLETE_RESPONSE: u16 = 0x0009;
+    pub const GET_CONFIG_REQUEST: u16 = 0x000A;
+    pub const GET_CONFIG_RESPONSE: u16 = 0x000B;
     pub const CUE_RESPONSE: u16 = 0x000D;
     pub const ABORT_REQUEST: u16 = 0x000E;
     pub const ABORT_RESPONSE: u16 = 0x000F;
-    pub const GET_CONFIG_REQUEST: u16 = 0x000A;
-    pub const GET_CONFIG_RESPONSE: u16 = 0x000B;
 }
 
 /// Result codes.
@@ -239,21 +241,10 @@ impl Name {
     }
 }
 
-/// A connection's Hardware_Config with its Length, and zeros behind it (02, CR 6).
-type Hardware = [u8; 256];
-
-const NO_HARDWARE: Hardware = [0; 256];
-
-/// The bytes of the structure itself.
-fn kept(hardware: &Hardware) -> &[u8] {
-    let length = usize::from(u16::from_be_bytes([hardware[0], hardware[1]]));
-    &hardware[..2 + length]
-}
-
 /// A message that could be read.
-enum Request {
-    Init { revision: u16, channel: Name, hardware: Hardware },
-    Config,
+enum Request<'a> {
+    Init { revision: u16, channel: Name, hardware: &'a [u8] },
+    GetConfig,
     Alive,
     Splice(Splice),
     Abort { id: u32 },
@@ -316,6 +307,12 @@ impl<'a> Reader<'a> {
         }
     }
 
+    /// A Hardware_Config with its Length.
+    fn hardware(&mut self) -> Option<&'a [u8]> {
+        let length = 2 + usize::from(u16::from_be_bytes(*self.0.first_chunk()?));
+        self.0.get(..length).filter(|_| length <= HARDWARE)
+    }
+
     fn end(&self) -> Option<()> {
         self.0.is_empty().then_some(())
     }
@@ -353,16 +350,6 @@ impl<'a> Reader<'a> {
         Some(())
     }
 
-    /// A Hardware_Config with its Length, in 256 bytes with zeros behind it; what follows it is unread.
-    fn hardware(&mut self) -> Option<Hardware> {
-        let (length, rest) = self.0.split_first_chunk::<2>()?;
-        let own = rest.get(..usize::from(u16::from_be_bytes(*length)))?;
-        let mut kept = NO_HARDWARE;
-        kept[..2].copy_from_slice(length);
-        kept.get_mut(2..2 + own.len())?.copy_from_slice(own);
-        Some(kept)
-    }
-
     /// The descriptors to the message's end, and the value of the last muxpriority_descriptor among them.
     fn descriptors(&mut self) -> Option<u8> {
         let mut mux = AVERAGE;
@@ -385,8 +372,8 @@ impl<'a> Reader<'a> {
     }
 }
 
-impl Request {
-    fn parse(message_id: u16, data: &[u8]) -> Result<Self, Unfit> {
+impl<'a> Request<'a> {
+    fn parse(message_id: u16, data: &'a [u8]) -> Result<Self, Unfit> {
         let mut reader = Reader(data);
         let request = match message_id {
             id::INIT_REQUEST => Self::parse_init(&mut reader),
@@ -394,23 +381,18 @@ impl Request {
             id::SPLICE_REQUEST => Self::parse_splice(&mut reader),
             id::ABORT_REQUEST => Self::parse_abort(&mut reader),
             id::EXTENDED_DATA_REQUEST => Self::parse_extended(&mut reader),
-            id::GET_CONFIG_REQUEST => Self::parse_config(&mut reader),
+            id::GET_CONFIG_REQUEST => reader.end().map(|()| Request::GetConfig),
             _ => return Err(Unfit::Unknown),
         };
         request.ok_or(Unfit::Unreadable)
     }
 
-    fn parse_init(reader: &mut Reader) -> Option<Self> {
+    fn parse_init(reader: &mut Reader<'a>) -> Option<Self> {
         let revision = reader.u16()?;
         let channel = reader.name()?;
         let _splicer = reader.name()?;
         let hardware = reader.hardware()?;
         Some(Request::Init { revision, channel, hardware })
-    }
-
-    fn parse_config(reader: &mut Reader) -> Option<Self> {
-        reader.end()?;
-        Some(Request::Config)
     }
 
     fn parse_alive(reader: &mut Reader) -> Option<Self> {
@@ -513,14 +495,6 @@ impl<'a> Output<'a> {
         self.put(&name.0);
     }
 
-    /// With an empty section.
-    fn config(&mut self, connection: u8, name: &Name, hardware: &Hardware) {
-        let kept = kept(hardware);
-        self.header(connection, id::GET_CONFIG_RESPONSE, 32 + kept.len() as u16, code::SUCCESSFUL);
-        self.put(&name.0);
-        self.put(kept);
-    }
-
     fn alive(&mut self, connection: u8, on_air: Option<u32>, clock: Ninths) {
         let (seconds, micros) = clock.to_time();
         self.header(connection, id::ALIVE_RESPONSE, 16, code::SUCCESSFUL);
@@ -538,6 +512,12 @@ impl<'a> Output<'a> {
     fn splice(&mut self, connection: u8, result: u16, session: u32) {
         self.header(connection, id::SPLICE_RESPONSE, 4, result);
         self.u32(session);
+    }
+
+    fn config(&mut self, connection: u8, name: &Name, hardware: &[u8]) {
+        self.header(connection, id::GET_CONFIG_RESPONSE, (NAME + hardware.len()) as u16, code::SUCCESSFUL);
+        self.put(&name.0);
+        self.put(hardware);
     }
 
     fn extended(&mut self, connection: u8, session: u32, ended: Option<Ended>) {
@@ -579,7 +559,8 @@ pub struct InPlace {
     primary: Ninths,
     name: Name,
     links: [Link; CONNECTIONS],
-    hardware: [Hardware; CONNECTIONS],
+    /// Of each connection, with its Length (02, CR 6).
+    hardware: [[u8; HARDWARE]; CONNECTIONS],
     /// By start.
     waiting: List<Session, ALL_WAITING>,
     /// How many of them each connection has.
@@ -618,7 +599,7 @@ impl InPlace {
             primary: Ninths(0),
             name,
             links: [Link::Closed; CONNECTIONS],
-            hardware: [NO_HARDWARE; CONNECTIONS],
+            hardware: [[0; HARDWARE]; CONNECTIONS],
             waiting: List::new(),
             counts: [0; CONNECTIONS],
             started: List::new(),
@@ -643,7 +624,7 @@ impl InPlace {
         }
         self.end_connection(conn as u8, &mut out);
         self.links[conn as usize] = Link::Closed;
-        self.hardware[conn as usize] = NO_HARDWARE;
+        self.hardware[conn as usize][..2].fill(0);
         Ok(out.written)
     }
 
@@ -806,8 +787,17 @@ impl InPlace {
             _ => {}
         }
         match Request::parse(message_id, data) {
-            Ok(Request::Init { revision, channel, hardware }) => self.init(connection, revision, &channel, &hardware, out),
-            Ok(Request::Config) => out.config(connection, &self.name, &self.hardware[usize::from(connection)]),
+            Ok(Request::Init { revision, channel, hardware }) => {
+                let result = self.init(connection, revision, &channel, out);
+                if result == code::SUCCESSFUL {
+                    self.hardware[usize::from(connection)][..hardware.len()].copy_from_slice(hardware);
+                }
+            }
+            Ok(Request::GetConfig) => {
+                let kept = &self.hardware[usize::from(connection)];
+                let length = 2 + usize::from(u16::from_be_bytes([kept[0], kept[1]]));
+                out.config(connection, &self.name, &kept[..length]);
+            }
             Ok(Request::Alive) => out.alive(connection, self.on_air(), self.clock),
             Ok(Request::Splice(splice)) => self.splice(connection, &splice, out),
             Ok(Request::Abort { id }) => self.abort(connection, id, out),
@@ -821,17 +811,17 @@ impl InPlace {
         self.started.last().map(|started| started.session.id)
     }
 
-    fn init(&mut self, connection: u8, revision: u16, channel: &Name, hardware: &Hardware, out: &mut Output) {
+    fn init(&mut self, connection: u8, revision: u16, channel: &Name, out: &mut Output) -> u16 {
         let result = if revision != REVISION {
             code::INVALID_VERSION
         } else if *channel != self.name {
             code::UNKNOWN_CHANNEL
         } else {
             self.links[usize::from(connection)] = Link::Initialised;
-            self.hardware[usize::from(connection)] = *hardware;
             code::SUCCESSFUL
         };
         out.init(connection, result, &self.name);
+        result
     }
 
     fn abort(&mut self, connection: u8, id: u32, out: &mut Output) {

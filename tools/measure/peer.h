@@ -1,10 +1,9 @@
 /* A splicer in plain C, in place, as one would write it by hand: what the proved core's instruction counts are held against.
- * Document 01's rules in full, with 02's CR 1, 4, 5, 6, 8 and 13; waiting sessions in an array by start and counted by connection, started ones in an array by AccessType. */
+ * Document 01's rules in full, with 02's CR 1, 4, 5, 6, 8 and 13, sections empty; waiting sessions in an array by start and counted by connection, started ones in an array by AccessType. */
 #include "splicer.h"
 
 void *memcpy(void *to, const void *from, size_t n);
 void *memmove(void *to, const void *from, size_t n);
-void *memset(void *to, int byte, size_t n);
 void *memchr(const void *s, int c, size_t n);
 int strncmp(const char *a, const char *b, size_t n);
 
@@ -26,7 +25,7 @@ enum { PASTS = 16 };
 struct peer {
     uint64_t clock, primary, counts[4];
     uint32_t waits, starts;
-    uint8_t link[4], name[32], hardware[4][256];
+    uint8_t link[4], name[32], hardware[4][256]; /* with its Length */
     struct session waiting[64], started[10];
     struct past ended[PASTS]; /* a ring; `next` is the place of the next end */
     uint32_t next;
@@ -248,7 +247,7 @@ __attribute__((noinline)) struct splicer_reply peer_close(struct peer *p, uint32
     p->waits = kept;
     p->counts[conn] = 0;
     p->link[conn] = 0;
-    memset(p->hardware[conn], 0, 256);
+    p->hardware[conn][0] = p->hardware[conn][1] = 0;
     return (struct splicer_reply){0, 0, 0, o.length};
 }
 
@@ -357,7 +356,11 @@ __attribute__((noinline)) uint32_t peer_mux(const struct peer *p) { return p->st
 __attribute__((noinline)) uint64_t peer_primary(const struct peer *p) { return p->primary; }
 
 static int answer_init(struct peer *p, struct sink *o, uint8_t conn, const uint8_t *d, size_t n) {
-    if (n < 68 || splicer_u16(d + 66) > 254 || n < 68 + splicer_u16(d + 66) || !memchr(d + 2, 0, 32) || !memchr(d + 34, 0, 32)) {
+    if (n < 68 || !memchr(d + 2, 0, 32) || !memchr(d + 34, 0, 32)) {
+        return 0;
+    }
+    size_t kept = 2 + splicer_u16(d + 66);
+    if (kept > 256 || n < 66 + kept) {
         return 0;
     }
     uint32_t result = splicer_u16(d) != 2 ? 102 : strncmp((const char *)d + 2, (const char *)p->name, 32) ? 104 : 100;
@@ -366,19 +369,9 @@ static int answer_init(struct peer *p, struct sink *o, uint8_t conn, const uint8
     memcpy(q + 2, p->name, 32);
     if (result == 100) {
         p->link[conn] = 2;
-        size_t kept = 2 + splicer_u16(d + 66);
         memcpy(p->hardware[conn], d + 66, kept);
-        memset(p->hardware[conn] + kept, 0, 256 - kept);
     }
     return 1;
-}
-
-/* with an empty section */
-static void answer_config(struct peer *p, struct sink *o, uint8_t conn) {
-    size_t kept = 2 + splicer_u16(p->hardware[conn]);
-    uint8_t *q = framed(o, conn, SPLICER_GET_CONFIG_RESPONSE, 100, 32 + kept);
-    memcpy(q, p->name, 32);
-    memcpy(q + 32, p->hardware[conn], kept);
 }
 
 static void answer_alive(struct peer *p, struct sink *o, uint8_t conn) {
@@ -387,6 +380,14 @@ static void answer_alive(struct peer *p, struct sink *o, uint8_t conn) {
     put32(q + 4, p->starts ? p->started[0].id : nobody);
     put32(q + 8, (uint32_t)(p->clock / 9000000));
     put32(q + 12, (uint32_t)(p->clock % 9000000 / 9));
+}
+
+/* ChannelName and the kept Hardware_Config (02, CR 6); the map sections are empty */
+static void answer_config(struct peer *p, struct sink *o, uint8_t conn) {
+    size_t kept = 2 + splicer_u16(p->hardware[conn]);
+    uint8_t *q = framed(o, conn, 0x000B, 100, 32 + kept);
+    memcpy(q, p->name, 32);
+    memcpy(q + 32, p->hardware[conn], kept);
 }
 
 /* the latest end of this number that is kept of the asking connection, as the card's descriptor (02, CR 8) */
@@ -440,13 +441,13 @@ __attribute__((noinline)) struct splicer_reply peer_message(struct peer *p, uint
         if (readable) {
             answer_abort(p, &o, (uint8_t)conn, d);
         }
-    } else if (id == 0x0003) {
-        readable = answer_extended(p, &o, (uint8_t)conn, d, n);
-    } else if (id == SPLICER_GET_CONFIG_REQUEST) {
+    } else if (id == 0x000A) {
         readable = n == 0;
         if (readable) {
             answer_config(p, &o, (uint8_t)conn);
         }
+    } else if (id == 0x0003) {
+        readable = answer_extended(p, &o, (uint8_t)conn, d, n);
     } else if (id != 0x000D) {
         framed(&o, (uint8_t)conn, SPLICER_GENERAL_RESPONSE, 120, 0);
     }

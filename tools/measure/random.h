@@ -96,6 +96,17 @@ static struct call any_init(void) {
         memset(c.in + 14, 0x41, below(29));
         memset(c.in + 42, 0x41, below(33));
     }
+    if (once_in(2)) {
+        /* another Hardware_Config (02, CR 6): as long as it says, or a byte or two less or more */
+        uint32_t length = once_in(3) ? 252 + below(5) : below(20), size = 68 + length;
+        put(c.in + 74, length, 2);
+        for (uint32_t i = 0; i < length; i++) {
+            c.in[76 + i] = (uint8_t)below(256);
+        }
+        size += once_in(4) ? below(5) - 2 : 0;
+        put(c.in + 2, size, 2);
+        c.length = 8 + size;
+    }
     return c;
 }
 
@@ -107,8 +118,11 @@ static struct call any_message(void) {
     if (r < 80) {
         return aborting(below(4), below(mood.ids));
     }
-    if (r < 88) {
+    if (r < 86) {
         return any_init();
+    }
+    if (r < 88) {
+        return message(below(4), 0x000A, once_in(10) ? 1 : 0);
     }
     if (r < 90) {
         /* ExtendedData_Request (02, CR 8), at times of another type or size */

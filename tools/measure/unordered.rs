@@ -1,4 +1,4 @@
-//! An engine in place for the rules of document 01 with 02's CR 1, 4, 5, 8 and 13, written from the documents alone, as a yardstick: plain Rust, and the waiting sessions
+//! An engine in place for the rules of document 01 with 02's CR 1, 4, 5, 6 (sections empty), 8 and 13, written from the documents alone, as a yardstick: plain Rust, and the waiting sessions
 //! in an array without order. A new one goes behind the last, one that goes is replaced by the last, and each question about them is a scan,
 //! one by one.
 #![no_std]
@@ -7,6 +7,8 @@ use core::mem::{size_of, MaybeUninit};
 use core::slice;
 
 const CONNECTIONS: usize = 4;
+/// The bytes of a Hardware_Config with its Length (02, CR 6).
+const HARDWARE: usize = 256;
 /// The ended sessions that are kept (02, CR 8).
 const ENDED: usize = 16;
 const WAITING: usize = 64;
@@ -38,11 +40,11 @@ const ALIVE_RESPONSE: u16 = 0x0006;
 const SPLICE_REQUEST: u16 = 0x0007;
 const SPLICE_RESPONSE: u16 = 0x0008;
 const SPLICE_COMPLETE: u16 = 0x0009;
+const CONFIG_REQUEST: u16 = 0x000A;
+const CONFIG_RESPONSE: u16 = 0x000B;
 const CUE_RESPONSE: u16 = 0x000D;
 const ABORT_REQUEST: u16 = 0x000E;
 const ABORT_RESPONSE: u16 = 0x000F;
-const GET_CONFIG_REQUEST: u16 = 0x000A;
-const GET_CONFIG_RESPONSE: u16 = 0x000B;
 
 const REVISION: u16 = 2;
 
@@ -116,9 +118,8 @@ pub struct Splicer {
     /// The primary channel's time, without the present stay (02, CR 13).
     primary: u64,
     lines: [Line; CONNECTIONS],
-    /// Each connection's Hardware_Config with its Length, and zeros behind it (02, CR 6).
-    hardware: [[u8; 256]; CONNECTIONS],
     name: [u8; 32],
+    hardware: [[u8; HARDWARE]; CONNECTIONS],
 }
 
 #[repr(C)]
@@ -200,15 +201,14 @@ impl Output {
         }
     }
 
-    /// A record of two parts, whose lengths are not known before.
-    fn parts(&mut self, connection: u8, message: u16, result: u16, name: &[u8; 32], rest: &[u8]) {
-        let at = self.next;
-        self.put(connection, message, result, *name);
-        // SAFETY: as `new` says; the size is put anew, and what stands behind the name goes there.
+    /// More data of the record of 32 bytes that was put last.
+    fn more(&mut self, data: &[u8]) {
+        let size = (32 + data.len()) as u16;
+        // SAFETY: as `new` says.
         unsafe {
-            at.add(4).cast::<[u8; 2]>().write((32 + rest.len() as u16).to_be_bytes());
-            self.next.copy_from_nonoverlapping(rest.as_ptr(), rest.len());
-            self.next = self.next.add(rest.len());
+            self.next.sub(38).cast::<[u8; 2]>().write(size.to_be_bytes());
+            self.next.copy_from_nonoverlapping(data.as_ptr(), data.len());
+            self.next = self.next.add(data.len());
         }
     }
 
@@ -573,7 +573,7 @@ impl Splicer {
             }
         }
         self.lines[usize::from(connection)] = Line::Closed;
-        self.hardware[usize::from(connection)] = [0; 256];
+        self.hardware[usize::from(connection)][..2].fill(0);
     }
 
     fn message(&mut self, connection: u8, message: u16, data: &[u8], out: &mut Output) {
@@ -586,10 +586,10 @@ impl Splicer {
         let read = match message {
             INIT_REQUEST => self.init(connection, data, out),
             ALIVE_REQUEST => self.alive(connection, data, out),
+            CONFIG_REQUEST => self.config(connection, data, out),
             EXTENDED_REQUEST => self.extended(connection, data, out),
             SPLICE_REQUEST => self.splice(connection, data, out),
             ABORT_REQUEST => self.abort(connection, data, out),
-            GET_CONFIG_REQUEST => self.config(connection, data, out),
             CUE_RESPONSE => return,
             _ => return out.general(connection, 120),
         };
@@ -604,9 +604,9 @@ impl Splicer {
         let (revision, names) = data.split_first_chunk::<2>()?;
         let (channel, names) = names.split_first_chunk::<32>()?;
         let (splicer, rest) = names.split_first_chunk::<32>()?;
-        let length = usize::from(u16::from_be_bytes(*rest.first_chunk::<2>()?));
-        let hardware = rest.get(..2 + length)?;
-        if hardware.len() > 256 || !has_zero(channel) || !has_zero(splicer) {
+        let length = 2 + usize::from(be16(rest.first_chunk::<2>()?, 0));
+        let hardware = rest.get(..length)?;
+        if !has_zero(channel) || !has_zero(splicer) || length > HARDWARE {
             return None;
         }
         let result = if u16::from_be_bytes(*revision) != REVISION {
@@ -615,9 +615,7 @@ impl Splicer {
             104
         } else {
             self.lines[usize::from(connection)] = Line::Initialised;
-            let kept = &mut self.hardware[usize::from(connection)];
-            *kept = [0; 256];
-            kept[..hardware.len()].copy_from_slice(hardware);
+            self.hardware[usize::from(connection)][..length].copy_from_slice(hardware);
             100
         };
         let mut answer = [0; 34];
@@ -627,14 +625,15 @@ impl Splicer {
         Some(())
     }
 
-    /// With an empty section.
+    /// ChannelName and the kept Hardware_Config (02, CR 6); the map sections are empty.
     fn config(&mut self, connection: u8, data: &[u8], out: &mut Output) -> Option<()> {
         if !data.is_empty() {
             return None;
         }
         let kept = &self.hardware[usize::from(connection)];
-        let length = 2 + usize::from(u16::from_be_bytes([kept[0], kept[1]]));
-        out.parts(connection, GET_CONFIG_RESPONSE, 100, &self.name, &kept[..length]);
+        let length = 2 + usize::from(be16(kept, 0));
+        out.put(connection, CONFIG_RESPONSE, 100, self.name);
+        out.more(&kept[..length]);
         Some(())
     }
 
@@ -818,8 +817,8 @@ pub extern "C" fn unordered_fresh(s: &mut MaybeUninit<Splicer>, name: &[u8; 32])
         since: 0,
         primary: 0,
         lines: [Line::Closed; CONNECTIONS],
-        hardware: [[0; 256]; CONNECTIONS],
         name: kept,
+        hardware: [[0; HARDWARE]; CONNECTIONS],
     });
     match length {
         Some(_) => Reply::good(0, 0),
