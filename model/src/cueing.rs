@@ -608,16 +608,25 @@ fn play(stream: &[Call], miscue: Option<Miscue>) -> Played {
     }
 }
 
-type Kept = (u64, [bool; 4], [bool; 4], Vec<crate::rules::Session>, u64);
+/// All of a splicer's state: also Hardware_Config (02, CR 6) and what ended lately (02, CR 8).
+#[derive(PartialEq)]
+struct Kept {
+    clock: u64,
+    connections: [(bool, bool, Vec<u8>); 4],
+    sessions: Vec<crate::rules::Session>,
+    primary: u64,
+    ended: Vec<crate::ended::Ended>,
+}
 
 fn state_of(s: &Splicer) -> Kept {
-    (
-        s.clock,
-        s.open,
-        s.initialised,
-        s.sessions.clone(),
-        s.primary,
-    )
+    let of = |conn: usize| (s.open[conn], s.initialised[conn], s.hardware[conn].clone());
+    Kept {
+        clock: s.clock,
+        connections: std::array::from_fn(of),
+        sessions: s.sessions.clone(),
+        primary: s.primary,
+        ended: s.ended.clone(),
+    }
 }
 
 /// What must hold of a cue call by its records alone. The text tells what does not.
