@@ -19,7 +19,7 @@ use Rattle.rules.specs.declared.Cue.{Cue}
 use Rattle.rules.specs.declared.Cue.the-variants.{At, Timeless, Silent, Bad}
 use Rattle.rules.specs.declared.WireTime.{WireTime}
 use Rattle.rules.specs.Lists.{count}
-use Rattle.rules.specs.Cues.{readCue, cueTime, initialised, passedTo, complainedTo, cueRecords}
+use Rattle.rules.specs.Cues.{readCue, cueTime, initialisedOnes, passedTo, complainedTo, cueRecords}
 use Rattle.rules.specs.Answers.{requested, grants, splices, aliveResponse, configResponse, extendedResponse, initialised}
 use Rattle.rules.specs.Calls.{Called, refuse, does, replies, sectionOf, shut, ticked, Loans, Call, opens, closes, messages, ticks, moves, cues, call}
 use Rattle.demands.specs.History.{isStart, isEnd, isYes}
@@ -113,5 +113,5 @@ module _ (s : Splicer) (P : Call → Called → Type 0) (k : Cases s P) where
         answering = λ c l loans low e short. message-case c l loans;
         bringing = bring-case;
         cueing = λ l pts seconds micros room g. let x = readCue l in
-            let t = cueTime pts seconds micros x in k .cueing l pts seconds micros room (cueRecords x t l (initialised (s .links))) (plain-cue x t l (initialised (s .links)));
+            let t = cueTime pts seconds micros x in k .cueing l pts seconds micros room (cueRecords x t l (initialisedOnes (s .links))) (plain-cue x t l (initialisedOnes (s .links)));
       })

@@ -16,7 +16,7 @@ use Rattle.rules.specs.Bytes.{Byte, bytes}
 use Rattle.rules.specs.Units.{badMicros}
 use Rattle.rules.specs.State.{Splicer}
 use Rattle.rules.specs.Records.{Record, CueRequest, framed, recordBytes, output, recordsIn}
-use Rattle.rules.specs.Cues.{badSection, readCue, cueTime, initialised, passedTo, complainedTo, cueRecords}
+use Rattle.rules.specs.Cues.{badSection, readCue, cueTime, initialisedOnes, passedTo, complainedTo, cueRecords}
 use Rattle.rules.specs.Calls.{Answer, refused, good, Called, refuse, does, noRoom, writtenBy, Call, cues, cueCall, call}
 use Rattle.rules.proofs.Tests.{by, clash}
 use Rattle.rules.proofs.Every.{all-keep}
@@ -63,7 +63,7 @@ module _ (s : Splicer) (l : List ℕ) (pts seconds micros room : ℕ) where
   quiet =
       let x = readCue l in
       by Q (noRoom room) _ _ (λ e. tt) (λ e. by Q (badMicros micros) _ _ (λ f. tt) (λ f. by Q (badSection l) _ _ (λ g. tt)
-      (λ g. cue-all Quiet (cueTime pts seconds micros x) l (λ c low d y. (refl, refl)) (λ c low d y. (refl, refl)) x (initialised (s .links)) (initialised-low (s .links)))))
+      (λ g. cue-all Quiet (cueTime pts seconds micros x) l (λ c low d y. (refl, refl)) (λ c low d y. (refl, refl)) x (initialisedOnes (s .links)) (initialised-low (s .links)))))
     where
       Q : Called → Type 0
       Q r = All Quiet (recordsOf (r .answer))
@@ -178,7 +178,7 @@ module _ (h : List Event) (s : Splicer) (f : FromFresh h s) (l : List ℕ) (pts 
 
   -- ## To whom, and what
 
-  good-records : numberOf a ≡ 0 → recordsOf a ≡ cueRecords (readCue l) (cueTime pts seconds micros (readCue l)) l (initialised (s .links))
+  good-records : numberOf a ≡ 0 → recordsOf a ≡ cueRecords (readCue l) (cueTime pts seconds micros (readCue l)) l (initialisedOnes (s .links))
   unfolding call cueCall numberOf
   good-records =
       by G (noRoom room) _ _ (λ e n. absurd (omega (arith, n, a-number NoRoom)))
@@ -186,28 +186,28 @@ module _ (h : List Event) (s : Splicer) (f : FromFresh h s) (l : List ℕ) (pts 
       (λ f. by G (badSection l) _ _ (λ g n. absurd (omega (arith, n, a-number BadSection))) (λ g n. refl)))
     where
       G : Called → Type 0
-      G r = numberOf (r .answer) ≡ 0 → recordsOf (r .answer) ≡ cueRecords (readCue l) (cueTime pts seconds micros (readCue l)) l (initialised (s .links))
+      G r = numberOf (r .answer) ≡ 0 → recordsOf (r .answer) ≡ cueRecords (readCue l) (cueTime pts seconds micros (readCue l)) l (initialisedOnes (s .links))
 
   pub to-whom : numberOf a ≡ 0 → map connOf (recordsIn (writtenBy a)) ≡ concerned (readCue l) s
-  unfolding concerned initialised cueRecords
+  unfolding concerned initialisedOnes cueRecords
   to-whom n = ap (map connOf) (found ∙ good-records n) ∙ go (readCue l)
     where
       same : (g : ℕ → Record) → ((c : ℕ) → connOf (g c) ≡ c) → (cs : List ℕ) → map connOf (map g cs) ≡ cs
       same g e [] = refl
       same g e (c ∷ cs) = ap₂ _∷_ (e c) (same g e cs)
 
-      go : (x : Cue) → map connOf (cueRecords x (cueTime pts seconds micros (readCue l)) l (initialised (s .links))) ≡ concerned x s
-      go (At p) = same (passedTo (cueTime pts seconds micros (readCue l)) l) (λ c. refl) (initialised (s .links))
-      go Timeless = same (passedTo (cueTime pts seconds micros (readCue l)) l) (λ c. refl) (initialised (s .links))
+      go : (x : Cue) → map connOf (cueRecords x (cueTime pts seconds micros (readCue l)) l (initialisedOnes (s .links))) ≡ concerned x s
+      go (At p) = same (passedTo (cueTime pts seconds micros (readCue l)) l) (λ c. refl) (initialisedOnes (s .links))
+      go Timeless = same (passedTo (cueTime pts seconds micros (readCue l)) l) (λ c. refl) (initialisedOnes (s .links))
       go Silent = refl
-      go Bad = same complainedTo (λ c. refl) (initialised (s .links))
+      go Bad = same complainedTo (λ c. refl) (initialisedOnes (s .links))
 
   pub whole-section : All (Carries l) (recordsIn (writtenBy a))
   unfolding call cueCall Carries recordBytes framed bytes
   whole-section =
       let x = readCue l in
       rw found (by C (noRoom room) _ _ (λ e. tt) (λ e. by C (badMicros micros) _ _ (λ f. tt) (λ f. by C (badSection l) _ _ (λ g. tt)
-      (λ g. cue-all (Carries l) (cueTime pts seconds micros x) l (λ c low. refl) (λ c low. tt) x (initialised (s .links)) (initialised-low (s .links))))))
+      (λ g. cue-all (Carries l) (cueTime pts seconds micros x) l (λ c low. refl) (λ c low. tt) x (initialisedOnes (s .links)) (initialised-low (s .links))))))
     where
       C : Called → Type 0
       C r = All (Carries l) (recordsOf (r .answer))

@@ -26,6 +26,7 @@ use Rattle.rules.proofs.Tests.{by, eqb-same}
 use Rattle.rules.proofs.All.{All}
 use Rattle.rules.proofs.Cases as rules
 use Rattle.rules.proofs.Fitted.{recordsOf}
+use Rattle.rules.proofs.Recall.{by-recall}
 use Rattle.rules.proofs.Sound.{sound-call, sound-fresh, sound-found}
 use Rattle.demands.specs.History.{Event, replyOf, history}
 use Rattle.demands.specs.Told.{FromFresh, numberOf}
@@ -80,6 +81,7 @@ module _ (c : ℕ) (s : Splicer) (keeping : length (s .hardware) ≡ 4) where
         naming = λ r b e g. named-keeps d r (hardwareIn (dataIn l)) low;
         alive = λ e. refl;
         telling = λ e. refl;
+        recalling = λ x e i. by-recall (λ (r : Record). rules.Handles Keeps d l loans (says (r ∷ []) s)) d x (s .queue) (λ k. refl) refl;
         unknown = λ x e i. refl;
         aborting = λ x e i held. rw (more-than-one (AbortResponse d 100 x) (aborted d x (s .queue) .written) refl);
         declining = λ r v e i b n. refl;
@@ -101,6 +103,7 @@ module _ (c : ℕ) (s : Splicer) (keeping : length (s .hardware) ≡ 4) where
         closing = λ d room low e. own-set d noHardware low;
         answering = λ d l loans low e short. message-keeps d l loans low;
         bringing = λ k until b le. brings-keeps k until b;
+        cueing = λ l pts seconds micros room g. refl;
       })
 
 -- by the answer's bytes

@@ -16,7 +16,7 @@ use Rattle.rules.specs.Units.{timeOf, fromMicros, toTicks}
 use Rattle.rules.specs.Lists.{All, bit, put, keep, omit, count, place, removeAt}
 use Rattle.rules.specs.Bytes.{hasZero}
 use Rattle.rules.specs.State.{sameNumber, Lately, Queue, Splicer, empty, of, is, startsAt, endsAt, due, notAfter, withWaiting, withStarted, mostKept, unused, noneEnded, remembered, rememberedAll, recentAt, recentFrom, recent}
-use Rattle.rules.specs.Records.{Record, General, InitResponse, AliveResponse, SpliceResponse, SpliceComplete, AbortResponse, CueRequest, ExtendedFound, ExtendedNone}
+use Rattle.rules.specs.Records.{Record, General, InitResponse, AliveResponse, SpliceResponse, SpliceComplete, AbortResponse, CueRequest, ConfigResponse, ExtendedFound, ExtendedNone}
 use Rattle.rules.specs.Ends.{Turn, andThen, writes, ended, past, ending, oneEnd, endings, followers, dismissed, evictedAt, evicted, cancelled, aborted, closedBy}
 use Rattle.rules.specs.Instants.{mayStart, began, meetsEqual, ousted, launched, startAt, endAt, instant, elapse, run, runAll}
 use Rattle.rules.specs.Reading.{dataIn}
@@ -304,6 +304,7 @@ module _ (es : List Entry) (st : ℕ → ℕ → ℕ) where
   not-any (SpliceComplete c n x f d) h = no-bit _ (h c x)
   not-any (AbortResponse c n x) h = refl
   not-any (CueRequest c a u l) h = refl
+  not-any (ConfigResponse c r n m l) h = refl
   not-any (ExtendedFound c x event ended played) h = refl
   not-any (ExtendedNone c x) h = refl
 
@@ -362,7 +363,7 @@ module _ (s : Splicer) (es : List Entry) (st : ℕ → ℕ → ℕ) (b : Booked 
         opening = λ c low e. keeps-none es st q [] refl;
         closing = λ c room low e. cancelled-keeps es st (of c) q waiting airing;
         saying = λ c l loans n rs e p. rw e (keeps-none es st q rs (none-told es st rs (p .ends)));
-        naming = λ c l loans n r e p. rw e (keeps-none es st q (r ∷ []) (none-told es st (r ∷ []) (p .ends)));
+        naming = λ c l loans n r hw e p. rw e (keeps-none es st q (r ∷ []) (none-told es st (r ∷ []) (p .ends)));
         aborting = λ c l loans n x e i. let k = aborted-keeps es st c x q waiting airing in
             rw e (record { gone = k .gone; lately = k .lately; told = k .told });
         declining = λ c l loans n r e y o. rw e (keeps-none es st q [] refl);
@@ -449,6 +450,7 @@ module _ (c x : ℕ) where
       go false = omega (arith, h)
   told-one es st (AbortResponse d m y) l n h = omega (arith, h)
   told-one es st (CueRequest d a u m) l n h = omega (arith, h)
+  told-one es st (ConfigResponse d m name hardware section) l n h = omega (arith, h)
   told-one es st (ExtendedFound d y event ended played) l n h = omega (arith, h)
   told-one es st (ExtendedNone d y) l n h = omega (arith, h)
 
@@ -496,7 +498,7 @@ module _ (c x : ℕ) where
           closing = λ d room low e. let t = closedBy d (s .queue) in
               omega (arith, entries-shut d (credited (t .written) es), entries-credited (t .written) es, closedBy-law c x d (s .queue) .kept);
           saying = λ d l loans n rs e p. rw e (omega (arith, entries-credited rs es, p .ends c x));
-          naming = λ d l loans n r e p. rw e (omega (arith, entries-credited (r ∷ []) es, p .ends c x));
+          naming = λ d l loans n r hw e p. rw e (omega (arith, entries-credited (r ∷ []) es, p .ends c x));
           aborting = λ d l loans n y e i. rw e (omega (arith, entries-credited (AbortResponse d 100 y ∷ aborted d y (s .queue) .written) es, answered-law c x d y (s .queue) .kept));
           declining = λ d l loans n r e y o. rw (e, y) (omega (arith, entries-credited [] es));
           accepting = λ d l loans n r e f p. let new = requested d r (s .queue) in

@@ -24,10 +24,10 @@ use Rattle.demands.proofs.Room.{from-sound, ready-open}
 module _ (c : ℕ) (l : List ℕ) (loans : Loans) (x : ℕ) (s : Splicer) (a : Inquires c l loans x s) where
   extended-call : call (messages c l loans) s ≡ replies (8 + messageSize l) (says (extendedResponse c x (s .queue) ∷ []) s)
   unfolding call messageCall handled answer answerRead read
-  extended-call = rw (a .low, a .roomy, ready-open (linkOf c s) (a .ready), a .framed, a .ready, a .readable)
+  extended-call = rw (a .low, a .roomy, ready-open (linkOf c s) (a .ready), a .short, a .framed, a .ready, a .readable)
 
   extended-told : (h : List Event) → FromFresh h s → recordsIn (writtenBy (call (messages c l loans) s .answer)) ≡ extendedResponse c x (s .queue) ∷ []
-  extended-told h f = rw (sound-found s (messages c l loans) (a .bytes) (from-sound h s f), extended-call) refl
+  extended-told h f = rw (sound-found s (messages c l loans) (a .wired) (from-sound h s f), extended-call) refl
 
   -- the first that passes is at a place before which none does
   first-place : (p : Past → Bool) (l : List Past) (i : ℕ) → i < length l → p (getD l i unused) ≡ true → ((j : ℕ) → j < i → p (getD l j unused) ≡ false)

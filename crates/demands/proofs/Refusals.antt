@@ -15,7 +15,7 @@ use Rattle.rules.specs.Bytes.{messageID, messageSize, oversize, hasZero, nameIn
 use Rattle.rules.specs.State.{Splicer, linkOf, isOpen, withLink, withQueue}
 use Rattle.rules.specs.Records.{Record}
 use Rattle.rules.specs.Ends.{closedBy}
-use Rattle.rules.specs.Cues.{badSection, readCue, cueTime, initialised, cueRecords}
+use Rattle.rules.specs.Cues.{badSection, readCue, cueTime, initialisedOnes, cueRecords}
 use Rattle.rules.specs.Calls.{houseNumber, refused, good, Called, refuse, does, writtenBy, consumedBy, bufferAfter, noConnection, noRoom, notOpen, longSection, shut, named, fresh, openCall, closeCall, framing, handled, messageCall, ticked, moveCall, tickCall, Call, opens, closes, messages, ticks, moves, cueCall, cues, call}
 use Rattle.rules.proofs.Written.{written-none}
 use Rattle.demands.specs.Told.{firstNumber, checks, numberOf, Unchanged}
@@ -103,7 +103,7 @@ module _ (s : Splicer) where
     where
       go : (a b d : Bool)
           → numberOf (cond a (refuse NoRoom s) (cond b (refuse BadMicros s) (cond d (refuse BadSection s)
-          (does 0 (cueRecords (readCue l) (cueTime pts seconds micros (readCue l)) l (initialised (s .links))) s))) .answer)
+          (does 0 (cueRecords (readCue l) (cueTime pts seconds micros (readCue l)) l (initialisedOnes (s .links))) s))) .answer)
           ≡ cond a 2 (cond b 8 (cond d 11 0))
       go true b d = refl
       go false true d = refl

@@ -222,6 +222,7 @@ eventAsked Alive = 0
 eventAsked (Splice r) = r .event
 eventAsked (Abort x) = 0
 eventAsked (Extended x) = 0
+eventAsked Config = 0
 eventAsked Unreadable = 0
 
 -- the entry of a Splice_Request with the data d

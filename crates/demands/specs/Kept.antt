@@ -7,8 +7,8 @@ use lib.Dec.{eqb}
 use Rattle.rules.specs.declared.Framing.the-variants.{Framed}
 use Rattle.rules.specs.Reading.{aliveRequest, configRequest, hardwareIn, dataIn}
 use Rattle.rules.specs.State.{Splicer, noHardware, linkOf, isInitialised}
-use Rattle.rules.specs.Records.{Record, General, InitResponse, AliveResponse, SpliceResponse, SpliceComplete, AbortResponse, ConfigResponse, recordsIn}
-use Rattle.rules.specs.Calls.{noConnection, noRoom, longSection, framing, Loans, Call, opens, closes, messages, ticks, moves}
+use Rattle.rules.specs.Records.{Record, General, InitResponse, AliveResponse, SpliceResponse, SpliceComplete, AbortResponse, ConfigResponse, ExtendedFound, ExtendedNone, CueRequest, recordsIn}
+use Rattle.rules.specs.Calls.{noConnection, noRoom, longSection, framing, Loans, Call, opens, closes, messages, ticks, moves, cues}
 use Rattle.rules.specs.Sound.{Wired}
 use Rattle.demands.specs.History.{Reply, refusal, wrote, Event}
 
@@ -23,6 +23,9 @@ isInitialising (SpliceResponse c r x) = false
 isInitialising (SpliceComplete c r x flag played) = false
 isInitialising (AbortResponse c r x) = false
 isInitialising (ConfigResponse c r n h m) = false
+isInitialising (ExtendedFound c x event ended played) = false
+isInitialising (ExtendedNone c x) = false
+isInitialising (CueRequest c a u l) = false
 
 -- the answer is that one record
 unfoldable pub initialises : List Record → Bool
@@ -37,6 +40,7 @@ changes c (closes d room) rs = eqb c d
 changes c (messages d l loans) rs = initialises rs && eqb c d
 changes c (ticks seconds micros room) rs = false
 changes c (moves until room) rs = false
+changes c (cues l pts seconds micros room) rs = false
 
 -- to this
 unfoldable pub left : Call → List ℕ
@@ -45,6 +49,7 @@ left (closes d room) = noHardware
 left (messages d l loans) = hardwareIn (dataIn l)
 left (ticks seconds micros room) = noHardware
 left (moves until room) = noHardware
+left (cues l pts seconds micros room) = noHardware
 
 unfoldable pub changed : ℕ → Call → Reply → Bool
 changed c k (refusal n) = false
@@ -91,3 +96,6 @@ stateIn (SpliceResponse c r x ∷ rs) = 0
 stateIn (SpliceComplete c r x flag played ∷ rs) = 0
 stateIn (AbortResponse c r x ∷ rs) = 0
 stateIn (ConfigResponse c r n h m ∷ rs) = 0
+stateIn (ExtendedFound c x event ended played ∷ rs) = 0
+stateIn (ExtendedNone c x ∷ rs) = 0
+stateIn (CueRequest c a u l ∷ rs) = 0

@@ -7,7 +7,7 @@ use Rattle.rules.specs.declared.Past.{Past}
 use lib.Dec.{eqb}
 use Rattle.rules.specs.Lists.{keep, count}
 use Rattle.rules.specs.State.{sameNumber, unused}
-use Rattle.rules.specs.Records.{Record, General, InitResponse, AliveResponse, SpliceResponse, SpliceComplete, AbortResponse, CueRequest, ExtendedFound, ExtendedNone, recordsIn}
+use Rattle.rules.specs.Records.{Record, General, InitResponse, AliveResponse, SpliceResponse, SpliceComplete, AbortResponse, CueRequest, ConfigResponse, ExtendedFound, ExtendedNone, recordsIn}
 use Rattle.rules.specs.Calls.{Call}
 use Rattle.demands.specs.History.{isEnd, Reply, refusal, wrote, Event, othersOf, Entry, entryIs, eventTold, bookReplied}
 use Rattle.demands.specs.Told.{startedReplied}
@@ -34,6 +34,7 @@ isAnEnd (SpliceResponse c r x) = isEnd c x (SpliceResponse c r x)
 isAnEnd (SpliceComplete c r x flag played) = isEnd c x (SpliceComplete c r x flag played)
 isAnEnd (AbortResponse c r x) = false
 isAnEnd (CueRequest c a u l) = false
+isAnEnd (ConfigResponse c r n h m) = false
 isAnEnd (ExtendedFound c x event ended played) = false
 isAnEnd (ExtendedNone c x) = false
 
@@ -54,6 +55,7 @@ toldIn es st (SpliceResponse c r x) = endOf es c x r (unshown (st c x))
 toldIn es st (SpliceComplete c r x flag played) = endOf es c x r (shows played)
 toldIn es st (AbortResponse c r x) = endOf es c x r hides
 toldIn es st (CueRequest c a u l) = endOf es c 0 0 hides
+toldIn es st (ConfigResponse c r n h m) = endOf es c 0 r hides
 toldIn es st (ExtendedFound c x event ended played) = endOf es c x 100 hides
 toldIn es st (ExtendedNone c x) = endOf es c x 121 hides
 

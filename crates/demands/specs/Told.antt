@@ -17,7 +17,7 @@ use Rattle.rules.specs.Lists.{All, keep, some, count}
 use Rattle.rules.specs.Bytes.{Byte, messageSize, oversize}
 use Rattle.rules.specs.Reading.{averageMux, spliceRequest, extendedRequest, readSplice, readExtended, dataIn}
 use Rattle.rules.specs.State.{Splicer, linkOf, isOpen, isInitialised, unused}
-use Rattle.rules.specs.Records.{Record, General, InitResponse, AliveResponse, SpliceResponse, SpliceComplete, AbortResponse, CueRequest, ExtendedFound, ExtendedNone, recordBytes, recordsIn}
+use Rattle.rules.specs.Records.{Record, General, InitResponse, AliveResponse, SpliceResponse, SpliceComplete, AbortResponse, CueRequest, ExtendedFound, ExtendedNone, ConfigResponse, recordBytes, recordsIn}
 use Rattle.rules.specs.Cues.{badSection}
 use Rattle.rules.specs.Answers.{fullBy, firstOf, requested, wrongNumber, tooLate, collides, isPast}
 use Rattle.rules.specs.Calls.{houseNumber, Answer, refused, good, Called, writtenBy, consumedBy, bufferAfter, noConnection, noRoom, notOpen, longSection, fresh, framing, Loans, Call, opens, closes, messages, ticks, moves, cues, after}
@@ -180,6 +180,7 @@ connOf (AbortResponse c r x) = c
 connOf (CueRequest c a u l) = c
 connOf (ExtendedFound c x event ended played) = c
 connOf (ExtendedNone c x) = c
+connOf (ConfigResponse c r name hardware section) = c
 
 -- whom a section concerns of which x comes: every initialised connection, from 0 upward, or nobody
 unfoldable pub concerned : Cue → Splicer → List ℕ
@@ -198,6 +199,7 @@ Carries l (SpliceComplete c r x flag played) = Unit {0}
 Carries l (AbortResponse c r x) = Unit {0}
 Carries l (ExtendedFound c x event ended played) = Unit {0}
 Carries l (ExtendedNone c x) = Unit {0}
+Carries l (ConfigResponse c r name hardware section) = Unit {0}
 Carries l (CueRequest c a u m) = drop 18 (recordBytes (CueRequest c a u m)) ≡ l
 
 -- what the answers of g tell is what those of h tell: each connection's waiting sessions, the book, the clock, what has started, and so who owned each
@@ -224,9 +226,10 @@ grantedBy (cues l pts seconds micros room) rs = false
 
 -- the bytes l of connection c begin with a whole one that is read, for the number x, and nothing stops its answer
 pub record Inquires (c : ℕ) (l : List ℕ) (loans : Loans) (x : ℕ) (s : Splicer) : Type 0 where
-  pub bytes : All Byte l
+  pub wired : Wired (messages c l loans)
   pub low : noConnection c ≡ false
   pub roomy : noRoom (loans .room) ≡ false
+  pub short : longSection loans ≡ false
   pub ready : isInitialised (linkOf c s) ≡ true
   pub framed : framing l ≡ Framed extendedRequest (messageSize l)
   pub readable : readExtended (dataIn l) ≡ Extended x

@@ -28,7 +28,7 @@ use Rattle.rules.specs.Records.{output}
 use Rattle.rules.specs.Ends.{Turn, closedBy}
 use Rattle.rules.specs.Instants.{runAll, silentAll}
 use Rattle.rules.specs.Answers.{Answered, says, airFeed, airMap, answer}
-use Rattle.rules.specs.Cues.{badSection, readCue, cueTime, initialised, cueRecords}
+use Rattle.rules.specs.Cues.{badSection, readCue, cueTime, initialisedOnes, cueRecords}
 use Rattle.rules.specs.Calls.{Called, Call, opens, closes, messages, moves, cues, cueCall, call, noConnection, noRoom, notOpen, openCall, closeCall, framing, handled, Loans, lendingMaps, longestSection, longSection, messageCall, moveCall, tickCall, ticked, refuse, does, replies, writtenBy, bufferAfter}
 use Rattle.rules.specs.Sound.{Holding, Reached, Wired, horizon}
 use Rattle.rules.proofs.Written.{written-none}
@@ -381,7 +381,7 @@ module _ (x : List ℕ) (pts seconds micros room : ℕ) (s : Splicer) where
   cue-unfit e f g = rw (le-ltb room 4096 e, le-ltb 999999 micros f, g)
 
   cue-good : 4096 ≤ room → micros ≤ 999999 → badSection x ≡ false
-      → cueCall x pts seconds micros room s ≡ does 0 (cueRecords (readCue x) (cueTime pts seconds micros (readCue x)) x (initialised (s .links))) s
+      → cueCall x pts seconds micros room s ≡ does 0 (cueRecords (readCue x) (cueTime pts seconds micros (readCue x)) x (initialisedOnes (s .links))) s
   unfolding cueCall
   cue-good e f g = rw (le-ltb room 4096 e, le-ltb 999999 micros f, g)
 
@@ -400,7 +400,7 @@ module _ {m b e : List ℕ} (x : List ℕ) (pts seconds micros : ℕ) (l : Lent 
       refused-as (cueCall x pts seconds micros (length e) (shown m b)) BadSection l (cue-unfit x pts seconds micros (length e) (shown m b) h i g)
 
   pub cue-done : {o : List ℕ} {len : ℕ} → All Byte x → 4096 ≤ length e → micros ≤ 999999 → badSection x ≡ false
-      → Tells e 0 (cueRecords (readCue x) (cueTime pts seconds micros (readCue x)) x (initialised (see m .links))) len o
+      → Tells e 0 (cueRecords (readCue x) (cueTime pts seconds micros (readCue x)) x (initialisedOnes (see m .links))) len o
       → Answers (cueCall x pts seconds micros (length e) (shown m b)) (see m .ringEnd) e (Done 0 len 0) m b o
   unfolding call
   cue-done y h i g t =

@@ -22,7 +22,7 @@ use Rattle.rules.specs.Lists.{put, keep}
 use Rattle.rules.specs.Bytes.{written}
 use Rattle.rules.specs.State.{isInitialised}
 use Rattle.rules.specs.Records.{Record, General, recordBytes, output}
-use Rattle.rules.specs.Cues.{initialised, passedTo, complainedTo, cueRecords}
+use Rattle.rules.specs.Cues.{initialisedOnes, passedTo, complainedTo, cueRecords}
 use Rattle.rules.proofs.Written.{length-written}
 use Rattle.rules.proofs.Cued.{cue-weight}
 use Rattle.ends.specs.Does.{Tells}
@@ -151,8 +151,8 @@ module _ (x : Cue) (t : WireTime) (l : List ℕ) (links : List Link) (e : List �
           long = v .long;
         }
 
-  pub sofar-done : {n len : ℕ} {o : List ℕ} → 4 ≤ n → Sofar n len o → Tells e 0 (cueRecords x t l (initialised links)) len o
-  unfolding initialised below
+  pub sofar-done : {n len : ℕ} {o : List ℕ} → 4 ≤ n → Sofar n len o → Tells e 0 (cueRecords x t l (initialisedOnes links)) len o
+  unfolding initialisedOnes below
   sofar-done {n} {len} {o} h v =
       let four : n ≡ 4 = omega (arith, v .few) in
       subst (λ (k : ℕ). Tells e 0 (cueRecords x t l (first links k)) len o) four (v .tells)

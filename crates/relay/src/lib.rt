@@ -7,7 +7,7 @@ use rules::WireTime;
 ghost use mathlib.Core.List.{_∷_, []};
 ghost use Prim.Native.Nat.{_+_, _≤_};
 ghost use lib.ListN.{length};
-ghost use Rattle.rules.specs.Cues.{readCue, cueTime, initialised, cueRecords};
+ghost use Rattle.rules.specs.Cues.{readCue, cueTime, initialisedOnes, cueRecords};
 ghost use Rattle.memory.specs.Memory.{Form, see};
 ghost use Rattle.ends.specs.Does.{Tells};
 ghost use Rattle.relay.specs.Room.{cueRoom};
@@ -52,7 +52,7 @@ fn tell(m: &[u64; WORDS], cue: Cue, time: WireTime, section: &[u8], out: &mut [u
     requires { ⌜ length (now section) ≤ 512 ⌝ }
     requires { ⌜ cueRoom 4 ≤ length (now out) ⌝ }
     ensures { λ r.
-        ⌜ Tells (now (out .entry)) 0 (cueRecords cue time (now (section .entry)) (initialised (see (now (m .entry)) .links)))
+        ⌜ Tells (now (out .entry)) 0 (cueRecords cue time (now (section .entry)) (initialisedOnes (see (now (m .entry)) .links)))
         r (now (out .exit)) ⌝ }
 {
     let mut len = 0;
@@ -76,7 +76,7 @@ pub fn pass_on(m: &[u64; WORDS], section: &[u8], at: Anchor, out: &mut [u8]) -> 
     ensures { λ r.
         ⌜ Tells (now (out .entry)) 0 (cueRecords (readCue (now (section .entry)))
         (cueTime (at .pts) (at .seconds) (at .micros) (readCue (now (section .entry)))) (now (section .entry))
-        (initialised (see (now (m .entry)) .links))) r (now (out .exit)) ⌝ }
+        (initialisedOnes (see (now (m .entry)) .links))) r (now (out .exit)) ⌝ }
 {
     let cue = cues::read_cue(section);
     let time = cues::time_of_cue(cue, at.pts, at.seconds, at.micros);

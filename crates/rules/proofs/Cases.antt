@@ -22,7 +22,7 @@ use Rattle.rules.specs.Records.{General, InitResponse, SpliceResponse, A
 use Rattle.rules.specs.Ends.{Turn, andThen, writes, aborted, closedBy}
 use Rattle.rules.specs.Answers.{Answered, says, turns, requested, wrongNumber, tooLate, collides, full, firstOf, spliceResult, Spliced, grants, splices, answerSplice, answerAbort, initResult, initialised, answerInit, aliveResponse, configResponse, extendedResponse, answerRead, answer}
 use Rattle.rules.specs.Calls.{Called, refuse, does, replies, noConnection, noRoom, notOpen, longSection, sectionOf, shut, openCall, closeCall, framing, handled, messageCall, ticked, moveCall, tickCall, Loans, Call, opens, closes, messages, ticks, moves, cues, cueCall, call}
-use Rattle.rules.specs.Cues.{badSection, readCue, cueTime, initialised, cueRecords}
+use Rattle.rules.specs.Cues.{badSection, readCue, cueTime, initialisedOnes, cueRecords}
 use Rattle.rules.specs.Lists.{All, some}
 use Rattle.rules.specs.Sound.{codes, Given}
 use Rattle.rules.proofs.Tests.{by, clash}
@@ -65,7 +65,7 @@ pub record Cases (s : Splicer) (P : Call → Called → Type 0) : Type 0 where
   pub bringing : (k : Call) (until : ℕ) → Brings k until → s .clock ≤ until → P k (ticked until s)
   -- 02, CR 7
   pub cueing : (l : List ℕ) (pts seconds micros room : ℕ) → badSection l ≡ false
-      → P (cues l pts seconds micros room) (does 0 (cueRecords (readCue l) (cueTime pts seconds micros (readCue l)) l (initialised (s .links))) s)
+      → P (cues l pts seconds micros room) (does 0 (cueRecords (readCue l) (cueTime pts seconds micros (readCue l)) l (initialisedOnes (s .links))) s)
 
 -- ## Result codes
 

@@ -15,7 +15,7 @@ use Rattle.rules.specs.Ends.{Turn, andThen, ended, ending, oneEnd, endin
 use Rattle.rules.specs.Instants.{mayStart, began, meetsEqual, ousted, launched, startAt, endAt, instant, elapse, run, runAll}
 use Rattle.rules.specs.Answers.{aliveResponse, configResponse, requested, accepts, accepted}
 use Rattle.rules.specs.Calls.{ticked, Call, call, sectionOf}
-use Rattle.rules.specs.Cues.{readCue, cueTime, initialised}
+use Rattle.rules.specs.Cues.{readCue, cueTime, initialisedOnes}
 use Rattle.rules.specs.Sound.{Given, Coded}
 use Rattle.rules.proofs.Tests.{by}
 use Rattle.rules.proofs.All.{All, all-append}
@@ -153,5 +153,5 @@ call-coded k s =
       answering = λ c l loans low e short. message-coded s c l (sectionOf loans s);
       bringing = λ k until b le. run-coded _ (s .clock) until (s .queue);
       cueing = λ l pts seconds micros room g. let x = readCue l in
-          cue-all Coded (cueTime pts seconds micros x) l (λ c low. refl) (λ c low. refl) x (initialised (s .links)) (initialised-low (s .links));
+          cue-all Coded (cueTime pts seconds micros x) l (λ c low. refl) (λ c low. refl) x (initialisedOnes (s .links)) (initialised-low (s .links));
     }) k

@@ -16,7 +16,7 @@ use Rattle.rules.specs.declared.Link.the-variants.{Closed}
 use Rattle.rules.specs.State.{isInitialised}
 use Rattle.rules.specs.Units.{second, timeOf, fromMicros, toMicros}
 use Rattle.rules.specs.Records.{Record, output}
-use Rattle.rules.specs.Cues.{sectionLength, badSection, exactTime, wireTimeOf, cueTime, initialised, passedTo, complainedTo, cueRecords}
+use Rattle.rules.specs.Cues.{sectionLength, badSection, exactTime, wireTimeOf, cueTime, initialisedOnes, passedTo, complainedTo, cueRecords}
 use Rattle.rules.proofs.Tests.{by, or-none}
 use Rattle.rules.proofs.All.{All}
 use Rattle.rules.proofs.Records.{length-output}
@@ -61,12 +61,12 @@ module _ (p : ℕ → Bool) where
   keep-four : length (keep p (0 ∷ 1 ∷ 2 ∷ 3 ∷ [])) ≤ 4
   keep-four = omega (arith, put-length (p 0) 0 (keep p (1 ∷ 2 ∷ 3 ∷ [])), put-length (p 1) 1 (keep p (2 ∷ 3 ∷ [])), put-length (p 2) 2 (keep p (3 ∷ [])), put-length (p 3) 3 [])
 
-pub initialised-low : (links : List Link) → All (λ c. c ≤ 3) (initialised links)
-unfolding initialised
+pub initialised-low : (links : List Link) → All (λ c. c ≤ 3) (initialisedOnes links)
+unfolding initialisedOnes
 initialised-low links = keep-low (λ c. isInitialised (getD links c Closed))
 
-pub initialised-four : (links : List Link) → length (initialised links) ≤ 4
-unfolding initialised
+pub initialised-four : (links : List Link) → length (initialisedOnes links) ≤ 4
+unfolding initialisedOnes
 initialised-four links = keep-four (λ c. isInitialised (getD links c Closed))
 
 -- ## The records

@@ -30,7 +30,7 @@ use Rattle.rules.proofs.Readings.{splice-grants}
 use Rattle.rules.proofs.Recall.{by-recall, latest-noted}
 use Rattle.rules.proofs.Cases.{given-below, Answering, cases}
 use Rattle.rules.specs.Asked.{Asked}
-use Rattle.rules.specs.Cues.{readCue, cueTime, initialised}
+use Rattle.rules.specs.Cues.{readCue, cueTime, initialisedOnes}
 use Rattle.rules.proofs.Cued.{section-size, cue-wide, initialised-low, cue-all}
 use Rattle.rules.proofs.Every.{all-keep, all-both, all-getD, fewer-all, fewer-removeAt, Each, FewerHeld, fewer-each}
 use Rattle.rules.proofs.Walk.{followers-gone}
@@ -326,7 +326,7 @@ call-fits k s w h =
       cueing = λ l pts seconds micros room g w. let x = readCue l in
           let t = cueTime pts seconds micros x in
           let d = cue-wide pts seconds micros x in
-          cue-all Fits t l (λ c low. (omega arith, d .0, d .1, section-size l g .1, w)) (λ c low. (omega arith, omega arith)) x (initialised (s .links)) (initialised-low (s .links));
+          cue-all Fits t l (λ c low. (omega arith, d .0, d .1, section-size l g .1, w)) (λ c low. (omega arith, omega arith)) x (initialisedOnes (s .links)) (initialised-low (s .links));
     }) k w
 
 -- what is found in the bytes that a call wrote is what it answered

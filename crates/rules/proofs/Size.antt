@@ -18,7 +18,7 @@ use Rattle.rules.specs.Reading.{longestHardware}
 use Rattle.rules.specs.Instants.{mayStart, began, meetsEqual, ousted, launched, startAt, endAt, instant, runAll}
 use Rattle.rules.specs.Answers.{Answered, airFeed, requested, accepts, accepted, aliveResponse, configResponse, answer}
 use Rattle.rules.specs.Calls.{writtenBy, longestSection, longSection, sectionOf, Loans, ticked, Call, call}
-use Rattle.rules.specs.Cues.{readCue, cueTime, initialised}
+use Rattle.rules.specs.Cues.{readCue, cueTime, initialisedOnes}
 use Rattle.rules.proofs.Tests.{by, or-none}
 use Rattle.rules.proofs.Cued.{section-size, initialised-four, cue-weight}
 use Rattle.rules.proofs.Recall.{by-recall}
@@ -232,5 +232,5 @@ module _ (s : Splicer) (h : Bounded s) where
         answering = λ c l loans low e short. message-size c l (sectionOf loans s) (section-short loans s short);
         bringing = λ k until b le. omega (arith, tick-brief (s .clock) until (s .queue), h .waiting, h .started);
         cueing = λ l pts seconds micros room g. let x = readCue l in
-            omega (arith, cue-weight x (cueTime pts seconds micros x) l (initialised (s .links)) (section-size l g .1), initialised-four (s .links));
+            omega (arith, cue-weight x (cueTime pts seconds micros x) l (initialisedOnes (s .links)) (section-size l g .1), initialised-four (s .links));
       })

@@ -16,7 +16,7 @@ use Rattle.rules.specs.Records.{Record, output}
 use Rattle.rules.specs.Ends.{closedBy}
 use Rattle.rules.specs.Answers.{Answered, airMap, answer}
 use Rattle.rules.specs.Instants.{runAll, silentAll}
-use Rattle.rules.specs.Cues.{badSection, readCue, cueTime, initialised, cueRecords}
+use Rattle.rules.specs.Cues.{badSection, readCue, cueTime, initialisedOnes, cueRecords}
 
 -- the table of house numbers
 unfoldable pub houseNumber : Refusal → ℕ
@@ -199,7 +199,7 @@ cueCall l pts seconds micros room s =
     cond (noRoom room) (refuse NoRoom s)
     (cond (badMicros micros) (refuse BadMicros s)
     (cond (badSection l) (refuse BadSection s)
-    (does 0 (cueRecords (readCue l) (cueTime pts seconds micros (readCue l)) l (initialised (s .links))) s)))
+    (does 0 (cueRecords (readCue l) (cueTime pts seconds micros (readCue l)) l (initialisedOnes (s .links))) s)))
 
 -- ## Sequences of calls: "A splicer is what fresh and the calls since have given"
 

@@ -169,8 +169,8 @@ cueTime pts seconds micros Bad = allOnes
 -- ## What is written
 
 -- "every initialised connection", by the connections' states: open ones that are not initialised get nothing
-unfoldable pub initialised : List Link → List ℕ
-initialised links = keep (λ c. isInitialised (getD links c Closed)) (0 ∷ 1 ∷ 2 ∷ 3 ∷ [])
+unfoldable pub initialisedOnes : List Link → List ℕ
+initialisedOnes links = keep (λ c. isInitialised (getD links c Closed)) (0 ∷ 1 ∷ 2 ∷ 3 ∷ [])
 
 abbrev pub passedTo : WireTime → (section : List ℕ) → ℕ → Record
 passedTo t l c = CueRequest c (t .seconds) (t .micros) l

@@ -11,7 +11,7 @@ use Rattle.rules.specs.Lists.{All, some, count}
 use Rattle.rules.specs.Bytes.{Byte, NoZero}
 use Rattle.rules.specs.Reading.{nobody, lengthIn, longestHardware}
 use Rattle.rules.specs.State.{Queue, Splicer, of, is, Sorted, noHardware, linkOf, isOpen, isInitialised, hardwareOf, mostKept, Lately}
-use Rattle.rules.specs.Records.{Record, General, InitResponse, AliveResponse, SpliceResponse, SpliceComplete, AbortResponse, CueRequest, ExtendedFound, ExtendedNone, resultOf}
+use Rattle.rules.specs.Records.{Record, General, InitResponse, AliveResponse, SpliceResponse, SpliceComplete, AbortResponse, CueRequest, ExtendedFound, ExtendedNone, ConfigResponse, resultOf}
 use Rattle.rules.specs.Answers.{waits, raisedSum}
 use Rattle.rules.specs.Calls.{fresh, Call, opens, closes, messages, ticks, moves, cues, after}
 
@@ -177,6 +177,7 @@ codesOf (AbortResponse c r x) = codes
 codesOf (CueRequest c a u l) = 0xFFFF ∷ []
 codesOf (ExtendedFound c x event ended played) = codes
 codesOf (ExtendedNone c x) = codes
+codesOf (ConfigResponse c r name hardware section) = codes
 
 abbrev pub Coded : Record → Type 0
 Coded r = some (eqb (resultOf r)) (codesOf r) ≡ true
