@@ -1,7 +1,7 @@
 -- model/scenarios/01-house-number-4.txt, made by tools/cases.sh. Line numbers are that file's.
 -- Document 01, house number 4: MessageSize above 4,088; and the largest message there is.
--- Shows: 4,088 = 0x0FF8 bytes of data are read (an Init_Request whose last 4,022 bytes are
--- unread), 4,089 = 0x0FF9 is refusal 4 at the header; the card program stops there, so
+-- Shows: 4,088 = 0x0FF8 bytes of data are read (an Init_Request whose last 4,020 bytes are
+-- unread, behind a Hardware_Config of Length 0), 4,089 = 0x0FF9 is refusal 4 at the header; the card program stops there, so
 -- the two closes behind it, which would write refusal 7, aren't made.
 use mathlib.Core.List.{List, [], _∷_}
 use Prim.Native.String.{_++_}

@@ -59,7 +59,7 @@ start = fresh (hex "43483100") .splicer
 
 -- Init_Request for "CH1", 74 bytes; Init_Response 100
 init : List ℕ
-init = hex "0001 0042 FFFF FFFF 0002 43483100" ++ replicate 60 0
+init = hex "0001 0044 FFFF FFFF 0002 43483100" ++ replicate 62 0
 
 named : String → Seen
 named conn = takes 74 (hex "52" ++ (hex conn ++ (hex "0002 0022 0064 FFFF 0002 43483100" ++ replicate 28 0)))

@@ -45,6 +45,7 @@ pub mod Case-01-rehearsed-all
 pub mod Case-01-rehearsed-three-linked
 pub mod Case-01-splice-order-of-codes
 pub mod Case-01-whole-case
+pub mod Case-02-config-map
 pub mod Case-02-ended-again
 pub mod Case-02-ended-close
 pub mod Case-02-ended-kinds
@@ -73,6 +74,7 @@ pub mod Case-6-3-three-levels
 pub mod Case-6-5-reinitialisation
 pub mod Case-7-1-bytes
 pub mod Case-7-1-message-ids
+pub mod Case-7-13-get-config
 pub mod Case-7-2-names
 pub mod Case-7-2-unreadable
 pub mod Case-7-3-init
@@ -91,6 +93,7 @@ pub mod Case-7-8-abort-first-on-air
 pub mod Case-7-8-abort-middle
 pub mod Case-7-8-abort-other-connection
 pub mod Case-7-8-abort-reused-number
+pub mod Case-8-2-hardware-config
 pub mod Case-8-3-separate-pids
 pub mod Case-8-5-2-mux-priority
 pub mod Case-8-5-descriptors-ill-formed

@@ -58,9 +58,9 @@ const PASTS: usize = STARTED_FROM + STARTED_PLACES * WIDTH;
 
 const PAST_WIDTH: usize = 5;
 
-const KEPT: usize = 16;
+const PAST_PLACES: usize = 16;
 
-const NEXT: usize = PASTS + KEPT * PAST_WIDTH;
+const NEXT: usize = PASTS + PAST_PLACES * PAST_WIDTH;
 
 pub const WORDS: usize = NEXT + 1;
 
@@ -74,9 +74,9 @@ const INITIALISED: u64 = 2;
 // The bytes of the name, those of a connection's Hardware_Config, and all of them.
 const NAME: usize = 32;
 
-const KEPT: usize = 256;
+const HARDWARE: usize = 256;
 
-pub const BYTES: usize = NAME + CONNECTIONS * KEPT;
+pub const BYTES: usize = NAME + CONNECTIONS * HARDWARE;
 
 // The lists of sessions.
 pub enum Which {
@@ -394,7 +394,7 @@ pub fn remember(m: &mut [u64], x: Past)
     m[b + 2] = x.event;
     m[b + 3] = x.result;
     m[b + 4] = x.played;
-    m[NEXT] = ((next + 1) % KEPT) as u64;
+    m[NEXT] = ((next + 1) % PAST_PLACES) as u64;
 }
 
 // The one that ended i ends before the newest, or nothing where fewer have ended.
@@ -404,7 +404,7 @@ pub fn recent_at(m: &[u64], i: usize) -> Past
     ensures { λ r. ⌜ r ≡ recentAt i (see (now (m .entry)) .queue .lately) ⌝ }
 {
     let next = next_past(m);
-    let b = PASTS + (next + (KEPT - 1 - i)) % KEPT * PAST_WIDTH;
+    let b = PASTS + (next + (PAST_PLACES - 1 - i)) % PAST_PLACES * PAST_WIDTH;
     Past {
         conn: m[b],
         id: m[b + 1],
@@ -446,7 +446,7 @@ pub fn recall(m: &[u64], conn: u64, id: u64) -> Past
     ensures { λ r. ⌜ r ≡ latest conn id (recent (see (now (m .entry)) .queue .lately)) ⌝ }
 {
     let mut i = 0;
-    while i < KEPT {
+    while i < PAST_PLACES {
         let e = recent_at(m, i);
         if is_past(e, conn, id) {
             return e;
@@ -564,8 +564,8 @@ pub fn kept(b: &[u8], c: u32) -> &[u8]
     ensures is { λ r. ⌜ structureIn (now r) ≡ getD (keptOf (now (b .entry))) c noHardware ⌝ }
     ensures whole { λ r. ⌜ (2 + lengthIn (now r) ≤ length (now r)) × (length (now r) ≡ longestHardware) ⌝ }
 {
-    let at = NAME + c as usize * KEPT;
-    let end = at + KEPT;
+    let at = NAME + c as usize * HARDWARE;
+    let end = at + HARDWARE;
     &b[at..end]
 }
 
@@ -575,7 +575,7 @@ fn clear_kept(k: &mut [u8])
     ensures { λ _. ⌜ now (k .exit) ≡ zeros longestHardware ⌝ }
 {
     let mut i = 0;
-    while i < KEPT {
+    while i < HARDWARE {
         k[i] = 0;
         i += 1;
     }
@@ -587,8 +587,8 @@ pub fn forget(b: &mut [u8], c: u32)
     requires { ⌜ c ≤ 3 ⌝ }
     ensures { λ _. ⌜ Holds (now (b .exit)) (nameOf (now (b .entry))) (set (keptOf (now (b .entry))) c noHardware) ⌝ }
 {
-    let at = NAME + c as usize * KEPT;
-    let end = at + KEPT;
+    let at = NAME + c as usize * HARDWARE;
+    let end = at + HARDWARE;
     clear_kept(&mut b[at..end])
 }
 
@@ -609,7 +609,7 @@ pub fn keep(b: &mut [u8], c: u32, h: &[u8])
     requires { ⌜ (length (now h) ≡ 2 + lengthIn (now h)) × (length (now h) ≤ longestHardware) ⌝ }
     ensures { λ _. ⌜ Holds (now (b .exit)) (nameOf (now (b .entry))) (set (keptOf (now (b .entry))) c (now (h .entry))) ⌝ }
 {
-    let at = NAME + c as usize * KEPT;
-    let end = at + KEPT;
+    let at = NAME + c as usize * HARDWARE;
+    let end = at + HARDWARE;
     put_kept(&mut b[at..end], h)
 }

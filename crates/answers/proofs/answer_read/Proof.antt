@@ -19,7 +19,7 @@ enum-known-message : tie.Need-enum-known-message
 enum-known-message c = search needs
 
 answer-init-requires : tie.Need-answer-init-requires
-answer-init-requires c κs = 
+answer-init-requires c κs =
     let s = c .before .before .before .before .before .before .before .before .before .before .before in
     let read = c .before .before .before .before .before .before .read in
     let message = c .before .before .before .before .message in
@@ -36,7 +36,7 @@ enum-known-message-2 : tie.Need-enum-known-message-2
 enum-known-message-2 c = search needs
 
 answer-splice-requires : tie.Need-answer-splice-requires
-answer-splice-requires c κs = 
+answer-splice-requires c κs =
     let shared-slice-known = c .before .before .before .before .before .before .before .before .shared-slice-known in
     let s = c .before .before .before .before .before .before .before .before .before .before in
     let read = c .before .before .before .before .before .read in
@@ -55,6 +55,12 @@ cast-answer-abort c = search needs
 
 answer-abort-requires : tie.Need-answer-abort-requires
 answer-abort-requires c κs = search needs
+
+enum-known-message-4 : tie.Need-enum-known-message-4
+enum-known-message-4 c = search needs
+
+answer-extended-requires : tie.Need-answer-extended-requires
+answer-extended-requires c κs = search needs
 
 enum-told-2 : tie.Need-enum-told-2
 enum-told-2 c = search needs
@@ -76,7 +82,7 @@ same-length-2 c = search needs
 
 returns : tie.Need-returns
 unfolding answerRead
-returns c = 
+returns c =
     let s = c .before .before .before .before .before .before .before .before .before .before .before .before .before .before .before .before in
     let read = c .before .before .before .before .before .before .before .before .before .before .before .read in
     let message = c .before .before .before .before .before .before .before .before .before .message in
@@ -93,7 +99,7 @@ same-length-4 c = search needs
 
 returns-2 : tie.Need-returns-2
 unfolding answerRead
-returns-2 c = 
+returns-2 c =
     let s = c .before .before .before .before .before .before .before .before .before .before .before .before .before .before in
     let read = c .before .before .before .before .before .before .before .before .before .read in
     let enum-told = c .before .before .before .before .before .before .before .enum-told in
@@ -107,7 +113,7 @@ same-length-5 c = search needs
 
 returns-3 : tie.Need-returns-3
 unfolding answerRead
-returns-3 c = 
+returns-3 c =
     let s = c .before .before .before .before .before .before .before .before .before .before .before .before .before in
     let read = c .before .before .before .before .before .before .before .before .read in
     let message2 = c .before .before .before .before .before .before .message2 in
@@ -121,7 +127,7 @@ same-length-6 c = search needs
 
 returns-4 : tie.Need-returns-4
 unfolding answerRead
-returns-4 c = 
+returns-4 c =
     let s = c .before .before .before .before .before .before .before .before .before .before .before .before .before in
     let read = c .before .before .before .before .before .before .before .before .read in
     let message3 = c .before .before .before .before .before .before .message3 in
@@ -133,12 +139,26 @@ returns-4 c =
 same-length-7 : tie.Need-same-length-7
 same-length-7 c = search needs
 
+returns-5 : tie.Need-returns-5
+unfolding answerRead
+returns-5 c =
+    let s = c .before .before .before .before .before .before .before .before .before .before .before .before .before .before in
+    let read = c .before .before .before .before .before .before .before .before .before .read in
+    let message4 = c .before .before .before .before .before .before .before .message4 in
+    let answer-extended = c .before .before .answer-extended in
+    reads (shown (s .args .m .now) (s .args .b .now)) (s .args .conn) (s .args .id) (s .args .d .now) (s .args .section .now)
+    (read .ensures) (message4 .given .1)
+    (said (s .pre .0) (answer-extended .ensures))
+
 same-length-8 : tie.Need-same-length-8
 same-length-8 c = search needs
 
-returns-5 : tie.Need-returns-5
+same-length-9 : tie.Need-same-length-9
+same-length-9 c = search needs
+
+returns-6 : tie.Need-returns-6
 unfolding answerRead
-returns-5 c = 
+returns-6 c =
     let s = c .before .before .before .before .before .before .before .before .before .before .before .before .before .before in
     let read = c .before .before .before .before .before .before .before .before .before .read in
     let enum-told2 = c .before .before .before .before .before .before .before .enum-told2 in
@@ -147,12 +167,12 @@ returns-5 c =
     (read .ensures) (enum-told2 .given .1)
     (said (s .pre .0) (answer-config .ensures))
 
-same-length-9 : tie.Need-same-length-9
-same-length-9 c = search needs
+same-length-10 : tie.Need-same-length-10
+same-length-10 c = search needs
 
-returns-6 : tie.Need-returns-6
+returns-7 : tie.Need-returns-7
 unfolding answerRead
-returns-6 c = 
+returns-7 c =
     let s = c .before .before .before .before .before .before .before .before .before .before .before in
     let read = c .before .before .before .before .before .before .read in
     let enum-told3 = c .before .before .before .before .enum-told3 in
@@ -175,6 +195,8 @@ answer-read-spec =
     enum-known-message-3
     cast-answer-abort
     answer-abort-requires
+    enum-known-message-4
+    answer-extended-requires
     enum-told-2
     answer-config-requires
     enum-told-3
@@ -190,7 +212,9 @@ answer-read-spec =
     same-length-6
     returns-4
     same-length-7
-    same-length-8
     returns-5
+    same-length-8
     same-length-9
-    returns-6)
+    returns-6
+    same-length-10
+    returns-7)
