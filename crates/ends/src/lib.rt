@@ -111,8 +111,8 @@ fn end_one_started(
     write_end(&mut *m, how, x, &mut *out, len)
 }
 
-// The waiting session `at` ends with the result, and the others close up. A function of its own: the compiler takes it into `dismiss`,
-// which so keeps no session over its recursive call.
+// The waiting session `at` ends with the result, and the others close up. A function of its own, called at one place: the compiler takes it
+// into `dismiss`, which so keeps no session over its recursive call.
 fn end_one_waiting(
     m: &mut [u64; WORDS],
     at: usize,
@@ -145,10 +145,10 @@ pub fn end_waiting(
     ensures { λ r. ⌜ Does (chainEnded Waiting at (Response result) result)
         len (now (m .entry)) (now (out .entry)) r (now (m .exit)) (now (out .exit)) ⌝ }
 {
-    let conn = memory::conn_at(&*m, Which::Waiting, at);
-    let id = memory::id_at(&*m, Which::Waiting, at);
-    let to = end_one_waiting(&mut *m, at, result, &mut *out, len);
-    dismiss(&mut *m, result, conn, id, &mut *out, to)
+    let x = memory::load(&*m, Which::Waiting, at);
+    memory::remove(&mut *m, Which::Waiting, at);
+    let to = write_end(&mut *m, Ending::Response(result), x, &mut *out, len);
+    dismiss(&mut *m, result, x.conn, x.id, &mut *out, to)
 }
 
 // How the started session `at` ends with a result: the first is on air, any other is covered.
@@ -212,8 +212,8 @@ fn end_theirs(m: &mut [u64; WORDS], which: Which, conn: u64, out: &mut [u8], len
     let mut left = 0;
     let mut i = 0;
     while i < n {
-        if conn == memory::conn_at(&*m, which, i) {
-            let x = memory::load(&*m, which, i);
+        let x = memory::load(&*m, which, i);
+        if conn == x.conn {
             to = write_end(&mut *m, Ending::Response(116), x, &mut *out, to);
         } else {
             left += 1;

@@ -46,19 +46,14 @@ among c =
     let s = c .before .before .before .before .before .before in
     omega (arith, within c, ap length (theirs-list (s .args .which) (c .before .loop .inv)))
 
-conn-at-requires : tie.Need-conn-at-requires Inv-loop μ-loop
-conn-at-requires c κs =
-    let test = c .before .before in
-    (test .before .loop .inv .form, among test)
-
 load-requires : tie.Need-load-requires Inv-loop μ-loop
 load-requires c κs =
-    let test = c .before .before .before .before .before .before in
+    let test = c .before .before in
     (test .before .loop .inv .form, among test)
 
 write-end-requires : tie.Need-write-end-requires Inv-loop μ-loop
 write-end-requires c κs =
-    let test = c .before .before .before .before .before .before .before .before .before in
+    let test = c .before .before .before .before .before .before .before in
     let l = test .before .loop in
     let a = test .before .before .before .before .before .before .args in
     (l .inv .form, (tt, closing-room (listOf (a .which) (see (a .m .now) .queue)) (l .i) (l .inv .writes) (within test)))
@@ -74,14 +69,15 @@ loop-less c = search needs
 
 loop-again : tie.Need-loop-again Inv-loop μ-loop
 loop-again c =
-    let read = c .before in
+    let read = c .before .before in
     let test = read .before .before .before in
     let l = test .before .loop in
     let a = test .before .before .before .before .before .before .args in
     let same = theirs-list (a .which) (l .inv) in
-    let whose = read .conn-at .ensures ∙ ap (λ (u : List Session). getD u (l .i) empty .conn) same in
+    let found = read .load .ensures .0 ∙ ap (λ (u : List Session). getD u (l .i) empty) same in
+    let whose = ap (λ (x : Session). x .conn) found in
     ⊎-elim
-    (λ w. rw (w .9, w .10, w .11, w .12) (theirs-goes (a .which) (l .inv) (within test) (eq-eqb _ _ (w .0 .taken ∙ whose)) (w .3 .ensures .0 ∙ ap (λ (u : List Session). getD u (l .i) empty) same) (w .6 .ensures)))
+    (λ w. rw (w .6, w .7, w .8, w .9) (theirs-goes (a .which) (l .inv) (within test) (eq-eqb _ _ (w .0 .taken ∙ whose)) found (w .3 .ensures)))
     (λ w. rw (w .1, w .2, w .3, w .4) (theirs-stays (a .which) (l .inv) (within test) (ne-eqb _ _ (λ e. w .0 .left (e ∙ sym whose)))))
     (c .if1 .came)
 
@@ -129,7 +125,6 @@ end-theirs-spec =
     μ-loop
     count-requires
     loop-holds
-    conn-at-requires
     load-requires
     write-end-requires
     add-left
