@@ -97,7 +97,15 @@ pub extern "C" fn splicer_5_message<'a>(
         (now (words .entry)) (now (bytes .entry)) (now (out .entry))
         (now (reply .exit)) (now (words .exit)) (now (bytes .exit)) (now (out .exit)) ⌝ }
 {
-    let a = engine::message(&mut *words, &mut *bytes, conn, l, primary, insertion, &mut *out);
+    let a = engine::message(
+        &mut *words,
+        &mut *bytes,
+        conn,
+        l,
+        primary,
+        insertion,
+        &mut *out,
+    );
     *reply = reply_of(a);
 }
 

@@ -5,7 +5,7 @@ use Rattle.answers.proofs.answer.Statement.{statement}
 use Rattle.answers.proofs.answer.Tie as tie
 
 returns : tie.Need-returns
-returns c = 
+returns c =
     let s = c .before .before .before .before .before in
     let if1 = c .if1 in
     first (s .pre .0) (s .args .conn) (s .args .id) (s .args .d .now) (s .args .section .now) (if1 .taken)
@@ -23,7 +23,7 @@ same-length : tie.Need-same-length
 same-length c = search needs
 
 returns-2 : tie.Need-returns-2
-returns-2 c = 
+returns-2 c =
     let s = c .before .before .before .before .before .before .before .before .before .before .before .before .before .before in
     let if1 = c .before .before .before .before .before .before .before .before .before .if1 in
     let link = c .before .before .before .before .before .before .link in
@@ -34,7 +34,7 @@ returns-2 c =
     (link .ensures) (is-barred .ensures) (if2 .taken) (general .ensures)
 
 returns-3 : tie.Need-returns-3
-returns-3 c = 
+returns-3 c =
     let s = c .before .before .before .before .before .before .before .before .before .before .before in
     let if1 = c .before .before .before .before .before .before .if1 in
     let link = c .before .before .before .link in
@@ -54,7 +54,7 @@ same-length-2 : tie.Need-same-length-2
 same-length-2 c = search needs
 
 returns-4 : tie.Need-returns-4
-returns-4 c = 
+returns-4 c =
     let s = c .before .before .before .before .before .before .before .before .before .before .before .before .before .before .before .before .before in
     let if1 = c .before .before .before .before .before .before .before .before .before .before .before .before .if1 in
     let link = c .before .before .before .before .before .before .before .before .before .link in
@@ -77,7 +77,7 @@ same-length-4 : tie.Need-same-length-4
 same-length-4 c = search needs
 
 returns-5 : tie.Need-returns-5
-returns-5 c = 
+returns-5 c =
     let s = c .before .before .before .before .before .before .before .before .before .before .before .before .before .before .before .before .before .before .before .before .before in
     let if1 = c .before .before .before .before .before .before .before .before .before .before .before .before .before .before .before .before .if1 in
     let link = c .before .before .before .before .before .before .before .before .before .before .before .before .before .link in

@@ -16,7 +16,7 @@ name-requires : tie.Need-name-requires
 name-requires c κs = search needs
 
 config-response-requires : tie.Need-config-response-requires
-config-response-requires c κs = 
+config-response-requires c κs =
     let s = c .before .before .before .before .before .before .before .before in
     let kept = c .before .before .before .kept in
     let structure = c .before .before .structure in
@@ -35,7 +35,7 @@ same-length : tie.Need-same-length
 same-length c = search needs
 
 returns : tie.Need-returns
-returns c = 
+returns c =
     let s = c .before .before .before .before .before .before .before .before .before .before .before in
     let kept = c .before .before .before .before .before .before .kept in
     let structure = c .before .before .before .before .before .structure in

@@ -7,7 +7,7 @@ use Rattle.answers.proofs.answer_init.Statement.{statement}
 use Rattle.answers.proofs.answer_init.Tie as tie
 
 channel-name-requires : tie.Need-channel-name-requires
-channel-name-requires c κs = 
+channel-name-requires c κs =
     let s = c .before .before .before in
     omega (arith, hardware-fits (s .args .d .now) (s .pre .1 .1 .0))
 
@@ -21,7 +21,7 @@ name-requires-2 : tie.Need-name-requires-2
 name-requires-2 c κs = search needs
 
 init-response-requires : tie.Need-init-response-requires
-init-response-requires c κs = 
+init-response-requires c κs =
     let s = c .before .before .before .before .before .before .before .before .before .before in
     let name2 = c .name2 in
     let b = s .pre .0 .bytes in
@@ -31,12 +31,12 @@ set-link-requires : tie.Need-set-link-requires
 set-link-requires c κs = search needs
 
 hardware-requires : tie.Need-hardware-requires
-hardware-requires c κs = 
+hardware-requires c κs =
     let s = c .before .before .before .before .before .before .before .before .before .before .before .before .before .before .before .before .before in
     hardware-fits (s .args .d .now) (s .pre .1 .1 .0) .1
 
 keep-requires : tie.Need-keep-requires
-keep-requires c κs = 
+keep-requires c κs =
     let s = c .before .before .before .before .before .before .before .before .before .before .before .before .before .before .before .before .before .before in
     let hardware = c .hardware in
     let d = s .args .d .now in
@@ -50,7 +50,7 @@ same-length-2 : tie.Need-same-length-2
 same-length-2 c = search needs
 
 returns : tie.Need-returns
-returns c = 
+returns c =
     let s = c .before .before .before .before .before .before .before .before .before .before .before .before .before .before .before .before .before .before .before .before .before in
     let channel-name = c .before .before .before .before .before .before .before .before .before .before .before .before .before .before .before .before .before .channel-name in
     let name = c .before .before .before .before .before .before .before .before .before .before .before .before .before .before .before .name in
@@ -72,7 +72,7 @@ same-length-4 : tie.Need-same-length-4
 same-length-4 c = search needs
 
 returns-2 : tie.Need-returns-2
-returns-2 c = 
+returns-2 c =
     let s = c .before .before .before .before .before .before .before .before .before .before .before .before .before .before in
     let channel-name = c .before .before .before .before .before .before .before .before .before .before .channel-name in
     let name = c .before .before .before .before .before .before .before .before .name in

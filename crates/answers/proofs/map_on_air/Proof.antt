@@ -5,12 +5,12 @@ use Rattle.answers.proofs.map_on_air.Statement.{statement}
 use Rattle.answers.proofs.map_on_air.Tie as tie
 
 returns : tie.Need-returns
-returns c = 
+returns c =
     let if1 = c .if1 in
     rw (eq-eqb _ _ (if1 .taken)) refl
 
 returns-2 : tie.Need-returns-2
-returns-2 c = 
+returns-2 c =
     let if1 = c .if1 in
     rw (ne-eqb _ _ (if1 .left)) refl
 

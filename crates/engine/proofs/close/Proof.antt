@@ -19,7 +19,7 @@ enum-known-test c = search needs
 
 returns : tie.Need-returns
 unfolding closeCall
-returns c = 
+returns c =
     let s = c .before .before .before .before .before .before .before .before in
     let test-open = c .before .before .before .test-open in
     let test = c .before .test in
@@ -29,7 +29,7 @@ enum-told : tie.Need-enum-told
 enum-told c = search needs
 
 end-all-of-requires : tie.Need-end-all-of-requires
-end-all-of-requires c κs = 
+end-all-of-requires c κs =
     let s = c .before .before .before .before .before .before .before .before .before in
     let test-open = c .before .before .before .before .test-open in
     let enum-told = c .before .before .enum-told in
@@ -39,7 +39,7 @@ end-all-of-requires c κs =
     (s .pre .whole .words, (playable Started (s .args .m .now) h, (past .0, room-all h (past .1))))
 
 set-link-requires : tie.Need-set-link-requires
-set-link-requires c κs = 
+set-link-requires c κs =
     let s = c .before .before .before .before .before .before .before .before .before .before .before .before .before in
     let test-open = c .before .before .before .before .before .before .before .before .test-open in
     let enum-told = c .before .before .before .before .before .before .enum-told in
@@ -49,7 +49,7 @@ set-link-requires c κs =
     (end-all-of .ensures .shows .form, past .0)
 
 forget-requires : tie.Need-forget-requires
-forget-requires c κs = 
+forget-requires c κs =
     let s = c .before .before .before .before .before .before .before .before .before .before .before .before .before .before .before in
     let test-open = c .before .before .before .before .before .before .before .before .before .before .test-open in
     let enum-told = c .before .before .before .before .before .before .before .before .enum-told in
@@ -64,7 +64,7 @@ same-length-2 : tie.Need-same-length-2
 same-length-2 c = search needs
 
 returns-2 : tie.Need-returns-2
-returns-2 c = 
+returns-2 c =
     let s = c .before .before .before .before .before .before .before .before .before .before .before .before .before .before .before .before .before .before in
     let test-open = c .before .before .before .before .before .before .before .before .before .before .before .before .before .test-open in
     let enum-told = c .before .before .before .before .before .before .before .before .before .before .before .enum-told in

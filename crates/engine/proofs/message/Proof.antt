@@ -26,7 +26,7 @@ enum-known-test c = search needs
 
 returns : tie.Need-returns
 unfolding messageCall
-returns c = 
+returns c =
     let s = c .before .before .before .before .before .before .before .before .before .before .before in
     let test-open = c .before .before .before .test-open in
     let test = c .before .test in
@@ -36,7 +36,7 @@ enum-told : tie.Need-enum-told
 enum-told c = search needs
 
 returns-2 : tie.Need-returns-2
-returns-2 c = 
+returns-2 c =
     let s = c .before .before .before .before .before .before .before .before .before .before .before in
     let test-open = c .before .before .before .test-open in
     let enum-told = c .before .enum-told in
@@ -47,7 +47,7 @@ returns-2 c =
     message-section (s .args .conn) (s .pre) good (s .args .l .now) p q (long-first p q (length (s .args .out .now)) (omega (arith, if1 .taken)))
 
 returns-3 : tie.Need-returns-3
-returns-3 c = 
+returns-3 c =
     let s = c .before .before .before .before .before .before .before .before .before .before .before .before in
     let test-open = c .before .before .before .before .test-open in
     let enum-told = c .before .before .enum-told in
@@ -71,7 +71,7 @@ cast-data-of : tie.Need-cast-data-of
 cast-data-of c = search needs
 
 data-of-requires : tie.Need-data-of-requires
-data-of-requires c κs = 
+data-of-requires c κs =
     let s = c .before .before .before .before .before .before .before .before .before .before .before .before .before .before .before .before in
     let frame = c .before .before .before .frame in
     let id = c .before .id in
@@ -84,7 +84,7 @@ map-on-air-requires : tie.Need-map-on-air-requires
 map-on-air-requires c κs = search needs
 
 answer-requires : tie.Need-answer-requires
-answer-requires c κs = 
+answer-requires c κs =
     let s = c .before .before .before .before .before .before .before .before .before .before .before .before .before .before .before .before .before .before .before .before .before .before .before .before in
     let test-open = c .before .before .before .before .before .before .before .before .before .before .before .before .before .before .before .before .test-open in
     let enum-told = c .before .before .before .before .before .before .before .before .before .before .before .before .before .before .enum-told in
@@ -108,7 +108,7 @@ add-t34 : tie.Need-add-t34
 add-t34 c = search needs
 
 returns-4 : tie.Need-returns-4
-returns-4 c = 
+returns-4 c =
     let s = c .before .before .before .before .before .before .before .before .before .before .before .before .before .before .before .before in
     let test-open = c .before .before .before .before .before .before .before .before .test-open in
     let enum-told = c .before .before .before .before .before .before .enum-told in
@@ -130,7 +130,7 @@ same-length-2 : tie.Need-same-length-2
 same-length-2 c = search needs
 
 returns-5 : tie.Need-returns-5
-returns-5 c = 
+returns-5 c =
     let shared-slice-known = c .before .before .before .before .before .before .before .before .before .before .before .before .before .before .before .before .before .before .before .before .before .before .before .before .before .before .before .shared-slice-known in
     let s = c .before .before .before .before .before .before .before .before .before .before .before .before .before .before .before .before .before .before .before .before .before .before .before .before .before .before .before .before .before in
     let shared-slice-known2 = c .before .before .before .before .before .before .before .before .before .before .before .before .before .before .before .before .before .before .before .before .before .before .before .before .before .before .shared-slice-known2 in

@@ -12,14 +12,14 @@ count-requires : tie.Need-count-requires
 count-requires c κs = search needs
 
 returns : tie.Need-returns
-returns c = 
+returns c =
     let s = c .before .before .before .before in
     let count = c .before .count in
     let if1 = c .if1 in
     feed-none (sessions Started (s .args .m .now)) (omega (arith, count .ensures, if1 .taken))
 
 returns-2 : tie.Need-returns-2
-returns-2 c = 
+returns-2 c =
     let s = c .before .before .before .before in
     let count = c .before .count in
     let if1 = c .if1 in

@@ -18,7 +18,7 @@ abbrev μ-loop : tie.MeasureT-loop
 μ-loop k₀ i₀ k i = longestHardware - i
 
 loop-holds : tie.Need-loop-holds Inv-loop μ-loop
-loop-holds c = 
+loop-holds c =
     let s = c in
     (omega arith, refl, paste-zero (s .args .k .now) 0 (zeros longestHardware))
 
@@ -32,7 +32,7 @@ loop-less : tie.Need-loop-less Inv-loop μ-loop
 loop-less c = search needs
 
 loop-again : tie.Need-loop-again Inv-loop μ-loop
-loop-again c = 
+loop-again c =
     let s = c .before .before in
     let loop = c .before .loop in
     let z = getD-replicate {A = ℕ} longestHardware (loop .i) 0 0 (omega arith) in
@@ -42,7 +42,7 @@ same-length : tie.Need-same-length Inv-loop μ-loop
 same-length c = search needs
 
 returns : tie.Need-returns Inv-loop μ-loop
-returns c = 
+returns c =
     let s = c .before .before in
     let loop = c .before .loop in
     let e : loop .i ≡ longestHardware = omega arith in

@@ -29,7 +29,7 @@ same-length : tie.Need-same-length
 same-length c = search needs
 
 returns : tie.Need-returns
-returns c = 
+returns c =
     let s = c .before .before .before .before .before in
     let clear-kept = c .before .before .clear-kept in
     rw (clear-kept .ensures) (forgotten (s .args .b .now) (s .args .c) (s .pre .0) (s .pre .1))

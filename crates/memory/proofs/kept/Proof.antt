@@ -23,7 +23,7 @@ part-result-end : tie.Need-part-result-end
 part-result-end c = search needs
 
 returns : tie.Need-returns
-returns c = 
+returns c =
     let s = c .before in
     kept-part (s .args .b .now) (s .args .c) (s .pre .0) (s .pre .1)
 

@@ -17,7 +17,7 @@ same-length : tie.Need-same-length
 same-length c = search needs
 
 returns : tie.Need-returns
-returns c = 
+returns c =
     let s = c .before .before .before .before .before .before .before .before .before .before in
     let clear-kept = c .before .before .before .before .before .before .clear-kept in
     let copy = c .before .before .copy in

@@ -18,12 +18,12 @@ part-structure-end : tie.Need-part-structure-end
 part-structure-end c = search needs
 
 structure-requires : tie.Need-structure-requires
-structure-requires c κs = 
+structure-requires c κs =
     let s = c .before .before in
     let e = behind 66 (s .args .d .now) in rw e (omega (arith, s .pre, length-drop 66 (s .args .d .now)))
 
 returns : tie.Need-returns
-returns c = 
+returns c =
     let s = c .before .before .before in
     let structure = c .structure in
     structure .ensures ∙ ap structureIn (behind 66 (s .args .d .now))

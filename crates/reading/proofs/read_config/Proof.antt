@@ -8,13 +8,13 @@ use Rattle.reading.proofs.read_config.Tie as tie
 
 returns : tie.Need-returns
 unfolding readConfig
-returns c = 
+returns c =
     let s = c .before in
     rw (eq-eqb (length (s .args .d .now)) 0 (omega arith))
 
 returns-2 : tie.Need-returns-2
 unfolding readConfig
-returns-2 c = 
+returns-2 c =
     let s = c .before in
     rw (ne-eqb (length (s .args .d .now)) 0 (omega arith))
 

@@ -15,7 +15,7 @@ use Rattle.reading.proofs.read_init.Tie as tie
 
 returns : tie.Need-returns
 unfolding readInit
-returns c = 
+returns c =
     let s = c .before .before in
     let d = s .args .d .now in
     rw (lt-ltb (length d) (hardwarePlace + 2) (omega arith))
@@ -31,7 +31,7 @@ add-if2 c = search needs
 
 returns-2 : tie.Need-returns-2
 unfolding readInit
-returns-2 c = 
+returns-2 c =
     let s = c .before .before .before .before in
     let number2 = c .before .number2 in
     let d = s .args .d .now in
@@ -42,7 +42,7 @@ add-if3 c = search needs
 
 returns-3 : tie.Need-returns-3
 unfolding readInit
-returns-3 c = 
+returns-3 c =
     let s = c .before .before .before .before .before in
     let number2 = c .before .before .number2 in
     let d = s .args .d .now in
@@ -56,7 +56,7 @@ has-zero-requires c κs = search needs
 
 returns-4 : tie.Need-returns-4
 unfolding readInit
-returns-4 c = 
+returns-4 c =
     let s = c .before .before .before .before .before .before .before .before in
     let number2 = c .before .before .before .before .before .number2 in
     let channel-name = c .before .before .channel-name in
@@ -73,7 +73,7 @@ has-zero-requires-2 c κs = search needs
 
 returns-5 : tie.Need-returns-5
 unfolding readInit
-returns-5 c = 
+returns-5 c =
     let s = c .before .before .before .before .before .before .before .before .before .before .before in
     let number2 = c .before .before .before .before .before .before .before .before .number2 in
     let channel-name = c .before .before .before .before .before .channel-name in
@@ -90,7 +90,7 @@ number2-requires-2 c κs = search needs
 
 returns-6 : tie.Need-returns-6
 unfolding readInit
-returns-6 c = 
+returns-6 c =
     let s = c .before .before .before .before .before .before .before .before .before .before .before .before in
     let number2 = c .before .before .before .before .before .before .before .before .before .number2 in
     let channel-name = c .before .before .before .before .before .before .channel-name in

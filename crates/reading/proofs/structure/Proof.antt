@@ -26,7 +26,7 @@ part-result-end : tie.Need-part-result-end
 part-result-end c = search needs
 
 returns : tie.Need-returns
-returns c = 
+returns c =
     let s = c .before .before .before in
     let number2 = c .before .number2 in
     let n = number2 .result in let e : 2 + n - 0 ≡ 2 + n = omega arith in

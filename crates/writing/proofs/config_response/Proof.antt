@@ -67,7 +67,7 @@ same-length : tie.Need-same-length
 same-length c = search needs
 
 returns : tie.Need-returns
-returns c = 
+returns c =
     let s = c .before .before .before .before .before .before .before .before .before .before .before .before .before .before .before .before .before .before .before .before in
     let header = c .before .before .before .before .before .before .before .before .before .before .before .before .before .before .header in
     let copy = c .before .before .before .before .before .before .before .before .before .before .copy in
