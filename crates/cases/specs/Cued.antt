@@ -57,12 +57,12 @@ cue l = cues (hex l) 591651064 1000 0 4096
 start : Splicer
 start = fresh (hex "43483100") .splicer
 
--- Init_Request for "CH1", 74 bytes; Init_Response 100
+-- Init_Request for "CH1" with a Hardware_Config of Length 0, 76 bytes; Init_Response 100
 init : List ℕ
 init = hex "0001 0044 FFFF FFFF 0002 43483100" ++ replicate 62 0
 
 named : String → Seen
-named conn = takes 74 (hex "52" ++ (hex conn ++ (hex "0002 0022 0064 FFFF 0002 43483100" ++ replicate 28 0)))
+named conn = takes 76 (hex "52" ++ (hex conn ++ (hex "0002 0022 0064 FFFF 0002 43483100" ++ replicate 28 0)))
 
 -- Alive_Request; at 1,000 s on the primary channel
 alive : List ℕ
