@@ -33,13 +33,13 @@ pub fn replied(call: impl FnOnce(*mut u64)) -> Result<Counts, Refusal> {
 }
 
 extern "C" {
-    #[link_name = "splicer_5_fresh"]
+    #[link_name = "splicer_6_fresh"]
     pub fn fresh(name: *const u8, words: *mut u64, bytes: *mut u8, reply: *mut u64);
 
-    #[link_name = "splicer_5_open"]
+    #[link_name = "splicer_6_open"]
     pub fn open(words: *mut u64, bytes: *mut u8, conn: u32, reply: *mut u64);
 
-    #[link_name = "splicer_5_close"]
+    #[link_name = "splicer_6_close"]
     pub fn close(
         words: *mut u64,
         bytes: *mut u8,
@@ -49,7 +49,7 @@ extern "C" {
         reply: *mut u64,
     );
 
-    #[link_name = "splicer_5_message"]
+    #[link_name = "splicer_6_message"]
     pub fn message(
         words: *mut u64,
         bytes: *mut u8,
@@ -65,7 +65,7 @@ extern "C" {
         reply: *mut u64,
     );
 
-    #[link_name = "splicer_5_tick"]
+    #[link_name = "splicer_6_tick"]
     pub fn tick(
         words: *mut u64,
         bytes: *mut u8,
@@ -76,10 +76,10 @@ extern "C" {
         reply: *mut u64,
     );
 
-    #[link_name = "splicer_5_waiting"]
+    #[link_name = "splicer_6_waiting"]
     pub fn waiting(words: *const u64, bytes: *const u8, counts: *mut u64);
 
-    #[link_name = "splicer_5_rolling_fresh"]
+    #[link_name = "splicer_6_rolling_fresh"]
     pub fn rolling_fresh(
         name: *const u8,
         words: *mut u64,
@@ -88,7 +88,7 @@ extern "C" {
         reply: *mut u64,
     );
 
-    #[link_name = "splicer_5_instant"]
+    #[link_name = "splicer_6_instant"]
     pub fn instant(
         words: *mut u64,
         bytes: *mut u8,
@@ -99,7 +99,7 @@ extern "C" {
         reply: *mut u64,
     );
 
-    #[link_name = "splicer_5_reading"]
+    #[link_name = "splicer_6_reading"]
     pub fn reading(
         words: *mut u64,
         bytes: *mut u8,
@@ -110,19 +110,19 @@ extern "C" {
         reply: *mut u64,
     );
 
-    #[link_name = "splicer_5_primary"]
+    #[link_name = "splicer_6_primary"]
     pub fn primary(words: *const u64, bytes: *const u8) -> u64;
 
-    #[link_name = "splicer_5_read_streams"]
+    #[link_name = "splicer_6_read_streams"]
     pub fn read_streams(read: *const u8, length: usize, list: *mut u64, kept: *mut u8) -> usize;
 
-    #[link_name = "splicer_5_write_streams"]
+    #[link_name = "splicer_6_write_streams"]
     pub fn write_streams(list: *const u64, kept: *const u8, out: *mut u8, room: usize) -> usize;
 
-    #[link_name = "splicer_5_mux"]
+    #[link_name = "splicer_6_mux"]
     pub fn mux(words: *const u64, bytes: *const u8) -> u64;
 
-    #[link_name = "splicer_5_cue"]
+    #[link_name = "splicer_6_cue"]
     pub fn cue(
         words: *const u64,
         bytes: *const u8,
@@ -134,9 +134,9 @@ extern "C" {
         reply: *mut u64,
     );
 
-    #[link_name = "splicer_5_ended"]
+    #[link_name = "splicer_6_ended"]
     pub fn ended(ended: *const u64, words: usize, page: *mut Row, rows: usize) -> usize;
 
-    #[link_name = "splicer_5_map"]
+    #[link_name = "splicer_6_map"]
     pub fn map(words: *const u64, bytes: *const u8) -> u64;
 }

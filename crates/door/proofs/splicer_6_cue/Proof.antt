@@ -6,8 +6,8 @@ use Rattle.memory.specs.Memory.{see, shown}
 use Rattle.relay.specs.declared.Anchor.{Anchor}
 use Rattle.engine.specs.Lent.{Answers}
 use borrow.Author.Needs.{needs}
-use Rattle.door.proofs.splicer_5_cue.Statement.{statement}
-use Rattle.door.proofs.splicer_5_cue.Tie as tie
+use Rattle.door.proofs.splicer_6_cue.Statement.{statement}
+use Rattle.door.proofs.splicer_6_cue.Tie as tie
 
 anchor-of-requires : tie.Need-anchor-of-requires
 anchor-of-requires c κs = search needs
@@ -36,6 +36,6 @@ returns c =
       reply = c .reply-of .ensures;
     }
 
-pub splicer-5-cue-spec : {M : Type 1} → statement M
-splicer-5-cue-spec =
+pub splicer-6-cue-spec : {M : Type 1} → statement M
+splicer-6-cue-spec =
     tie.close (tie.spec anchor-of-requires cue-requires reply-of-requires same-length returns)
