@@ -211,8 +211,8 @@ module _ (κs : Lfts 6) where
 
 module _ (κs : Lfts 6) where
   -- a section is a &[u8], and what is given with it is a &[u32; 4]
-  pub section-typed : kind cue.signature κs 2 ≡ typeAt {n = 6} (SliceRef 2 tt u8 tt) κs
-  section-typed = refl
+  pub cue-section-typed : kind cue.signature κs 2 ≡ typeAt {n = 6} (SliceRef 2 tt u8 tt) κs
+  cue-section-typed = refl
 
   pub given-typed : kind cue.signature κs 3 ≡ typeAt {n = 6} (Ref 3 tt (Array u32 tt 4) tt) κs
   given-typed = refl

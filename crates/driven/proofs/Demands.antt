@@ -254,13 +254,13 @@ module _ (name : List ℕ) (h : List Made) (m : Memory) where
   one-kept-for-each t = rw (trace-events name h m t) (called.one-kept-for-each name (within h) m (trace-inside name h m t))
 
 -- the next message, from whatever connection d, which asks by an ExtendedData_Request for the number x
-module _ (name : List ℕ) (h : List Made) (m : Memory) (d : ℕ) (l e : List ℕ) (r : Seen) (c : More name h m (aMessage d l e) r) (x : ℕ)
-    (asks : Inquires d l (lending (length e)) x (shown m)) where
+module _ (name : List ℕ) (h : List Made) (m : Memory) (d : ℕ) (l pm im e : List ℕ) (r : Seen) (c : More name h m (aMessage d l pm im e) r) (x : ℕ)
+    (asks : Inquires d l (lendingMaps pm im (length e)) x (shown m)) where
   -- "answered with the asking connection's latest ended session of that number", "121 .. where none is kept": whatever the call's contract
   -- allows is the first of what ended lately, newest first, with that connection and number, or 121 exactly when there is none
   pub extended-answered : Finds d x (recent (shown m .queue .lately)) (bytesOf r)
   extended-answered =
-      rw (bytes-inside (c .allowed)) (called.extended-answered name (within h) m d l e (inside r) (more-inside name h m (aMessage d l e) r c) x asks)
+      rw (bytes-inside (c .allowed)) (called.extended-answered name (within h) m d l pm im e (inside r) (more-inside name h m (aMessage d l pm im e) r c) x asks)
 
 module _ (name : List ℕ) (h : List Made) (m : Memory) (t : Trace name h m) where
   -- "For the desk's page the caller lends sixteen rows and they are filled from the newest down": whatever the page's contract allows, lent the

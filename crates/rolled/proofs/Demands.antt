@@ -289,13 +289,13 @@ module _ (name : List ℕ) (h : List Made) (m : Memory) where
   one-kept-for-each t = called.one-kept-for-each name (within h) (m .core) (trace-inside name h m t)
 
 -- the next message, from whatever connection d, which asks by an ExtendedData_Request for the number x
-module _ (name : List ℕ) (h : List Made) (m : Memory) (d : ℕ) (l e : List ℕ) (r : RollSeen) (c : More name h m (aKnown (aMessage d l e)) r) (x : ℕ)
-    (asks : Inquires d l (lending (length e)) x (shown m .splicer)) where
+module _ (name : List ℕ) (h : List Made) (m : Memory) (d : ℕ) (l pm im e : List ℕ) (r : RollSeen) (c : More name h m (aKnown (aMessage d l pm im e)) r) (x : ℕ)
+    (asks : Inquires d l (lendingMaps pm im (length e)) x (shown m .splicer)) where
   -- "answered with the asking connection's latest ended session of that number", "121 .. where none is kept"
   pub extended-answered : Finds d x (recent (shown m .splicer .queue .lately)) (bytesOf r)
   extended-answered =
       rw (bytes-are name h m _ r c)
-      (called.extended-answered name (within h) (m .core) d l e (inside (seenOf r)) (known-more name h m (aMessage d l e) r c) x asks)
+      (called.extended-answered name (within h) (m .core) d l pm im e (inside (seenOf r)) (known-more name h m (aMessage d l pm im e) r c) x asks)
 
 module _ (name : List ℕ) (h : List Made) (m : Memory) (t : Trace name h m) where
   -- "For the desk's page the caller lends sixteen rows and they are filled from the newest down"

@@ -221,5 +221,5 @@ module _ (κs : Lfts 5) where
 
 module _ (κs : Lfts 4) where
   -- the section is a &[u8]
-  pub section-typed : kind cue.signature κs 2 ≡ typeAt {n = 4} (SliceRef 2 tt u8 tt) κs
-  section-typed = refl
+  pub cue-section-typed : kind cue.signature κs 2 ≡ typeAt {n = 4} (SliceRef 2 tt u8 tt) κs
+  cue-section-typed = refl

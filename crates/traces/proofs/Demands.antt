@@ -238,14 +238,14 @@ module _ (name : List ℕ) (h : List Made) (m : Memory) where
   one-kept-for-each t = told.one-kept-for-each (events h) (shown m) (trace-told name h m t)
 
 -- the next message, from whatever connection d, which asks by an ExtendedData_Request for the number x
-module _ (name : List ℕ) (h : List Made) (m : Memory) (d : ℕ) (l e : List ℕ) (r : Result) (c : More name h m (aMessage d l e) r) (x : ℕ)
-    (asks : Inquires d l (lending (length e)) x (shown m)) where
+module _ (name : List ℕ) (h : List Made) (m : Memory) (d : ℕ) (l pm im e : List ℕ) (r : Result) (c : More name h m (aMessage d l pm im e) r) (x : ℕ)
+    (asks : Inquires d l (lendingMaps pm im (length e)) x (shown m)) where
   -- "answered with the asking connection's latest ended session of that number", "121 .. where none is kept": whatever the call's contract
   -- allows is the first of what ended lately, newest first, with that connection and number, or 121 exactly when there is none
   pub extended-answered : Finds d x (recent (shown m .queue .lately)) (bytesOf r)
   extended-answered =
-      rw (as-ruled m (aMessage d l e) r (c .allowed) .bytes)
-      (told.extended-answered (events h) (shown m) (trace-told name h m (c .trace)) d l (lending (length e)) x asks)
+      rw (as-ruled m (aMessage d l pm im e) r (c .allowed) .bytes)
+      (told.extended-answered (events h) (shown m) (trace-told name h m (c .trace)) d l (lendingMaps pm im (length e)) x asks)
 
 -- ## Document 02, CR 10
 
