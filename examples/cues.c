@@ -56,7 +56,8 @@ static void section(const char *what, const uint8_t *bytes, size_t length, uint6
 }
 
 static void init(uint32_t conn) {
-    uint8_t wire[SPLICER_HEADER + 66] = {0, SPLICER_INIT_REQUEST, 0, 66, 0xFF, 0xFF, 0xFF, 0xFF, 0, 2, 'C', 'H', '1'};
+    /* a Hardware_Config of Length 0 behind the two names */
+    uint8_t wire[SPLICER_HEADER + 68] = {0, SPLICER_INIT_REQUEST, 0, 68, 0xFF, 0xFF, 0xFF, 0xFF, 0, 2, 'C', 'H', '1'};
     report("Init_Request", splicer_call_message(&channel, conn, wire, sizeof wire, out, sizeof out));
 }
 

@@ -1,8 +1,8 @@
 //! The five calls through the archive, with values by hand from document 01.
 
 use splicer::{
-    message_id, name, records, result, Maps, Refusal, Row, Says, Splicer, MAP_SECTION, MUX_AVERAGE, OUT,
-    ROWS,
+    message_id, name, records, result, Maps, Refusal, Row, Says, Splicer, MAP_SECTION, MUX_AVERAGE,
+    OUT, ROWS,
 };
 
 /// A second in ninths of a microsecond.

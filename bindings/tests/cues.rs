@@ -16,9 +16,11 @@ const SIGNAL: [u8; 25] = [
 ];
 
 fn init() -> Vec<u8> {
-    let mut bytes = vec![0, 1, 0, 66, 0xFF, 0xFF, 0xFF, 0xFF, 0, 2];
+    let mut bytes = vec![0, 1, 0, 68, 0xFF, 0xFF, 0xFF, 0xFF, 0, 2];
     bytes.extend(name(b"CH1"));
     bytes.extend(name(b"SERVER"));
+    // a Hardware_Config of Length 0
+    bytes.extend([0, 0]);
     bytes
 }
 

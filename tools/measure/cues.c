@@ -132,7 +132,7 @@ APART struct splicer_reply c_crc(void) { return (struct splicer_reply){plain_crc
 APART struct splicer_reply nothing(void) { return (struct splicer_reply){0, 0, 0, 0}; }
 
 static void init(uint32_t conn) {
-    uint8_t wire[SPLICER_HEADER + 66] = {0, SPLICER_INIT_REQUEST, 0, 66, 0xFF, 0xFF, 0xFF, 0xFF, 0, 2, 'C', 'H', '1'};
+    uint8_t wire[SPLICER_HEADER + 68] = {0, SPLICER_INIT_REQUEST, 0, 68, 0xFF, 0xFF, 0xFF, 0xFF, 0, 2, 'C', 'H', '1'};
     splicer_call_message(&core, conn, wire, sizeof wire, out[0], 4096);
     link[conn] = 2;
 }
