@@ -111,10 +111,10 @@ pub enum Refusal {
     BadMicros = 8,
     /// Name without a zero byte: fresh.
     BadName = 9,
-    /// A section not 3 + section_length bytes long, under 20 or over 512: cue.
-    BadSection = 11,
     /// A lent section over 1,024 bytes: message.
     LongSection = 10,
+    /// A section not 3 + section_length bytes long, under 20 or over 512: cue.
+    BadSection = 11,
     /// A second instant, or a reading before the instant, more than 90 s after the last good one or
     /// past the last second of the time field: instant, reading.
     Counter = 12,
@@ -135,8 +135,8 @@ impl Refusal {
             7 => Refusal::NotOpen,
             8 => Refusal::BadMicros,
             9 => Refusal::BadName,
-            11 => Refusal::BadSection,
             10 => Refusal::LongSection,
+            11 => Refusal::BadSection,
             12 => Refusal::Counter,
             16 => Refusal::NotSixteen,
             _ => return None,
