@@ -1,7 +1,7 @@
 //! 02, CR 11: `moved` is the number of places that an acceptance shifts. The waiting places before and
 //! after it are laid side by side, and the sessions whose place changed are counted.
 
-use splicer::{message_id, name, records, result, Handled, Splicer, OUT, WORDS};
+use splicer::{message_id, name, records, result, Handled, Splicer, ENDED, OUT, WORDS};
 
 /// Where the waiting places stand in the words (`include/splicer.h`), and their fields.
 const FIRST: usize = 13;
@@ -186,7 +186,8 @@ fn wherever_the_ring_stands() {
         assert_ne!(channel, shown);
         assert_eq!(channel.waiting(), shown.waiting());
     }
-    assert_eq!(channel, ready(), "128 acceptances: twice round");
+    // 128 acceptances: twice round; what ended lately alone differs (02, CR 8)
+    assert_eq!(words(&channel)[..ENDED], words(&ready())[..ENDED]);
 }
 
 #[test]
