@@ -28,7 +28,7 @@ static void deliver(size_t written) {
     while (splicer_next_record(out, written, &at, &r)) {
         printf("  send to %u: %s %u", r.connection, splicer_message_text(r.message_id), r.result);
         if (splicer_read_cue(&r, &cue)) {
-            if (cue.seconds == 0xFFFFFFFF) {
+            if (cue.micros == 0xFFFFFFFF) {
                 printf(", no time, %u bytes", (uint32_t)cue.length);
             } else {
                 printf(", time %u s %u us, %u bytes", cue.seconds, cue.micros, (uint32_t)cue.length);

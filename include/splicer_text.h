@@ -63,7 +63,7 @@ static inline int splicer_read_complete(const struct splicer_record *r, struct s
 }
 
 struct splicer_cue_request {
-    uint32_t seconds; /* since 1970-01-01 UTC; 0xFFFFFFFF in both without a time */
+    uint32_t seconds; /* since 1970-01-01 UTC; 0xFFFFFFFF in both without a pts_time or past the field: test micros */
     uint32_t micros;
     const uint8_t *section; /* as it came */
     size_t length;

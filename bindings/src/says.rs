@@ -49,7 +49,8 @@ pub enum Says<'o> {
     },
     /// Cue_Request.
     Cue {
-        /// Since 1970-01-01 UTC; 0xFFFFFFFF in both without a time.
+        /// Since 1970-01-01 UTC; 0xFFFFFFFF in both without a pts_time or past the time field. Test micros:
+        /// 0xFFFFFFFF seconds alone are a time.
         seconds: u32,
         /// Below 1,000,000, or 0xFFFFFFFF.
         micros: u32,
