@@ -188,6 +188,9 @@ module _ (h : List Event) (s : Splicer) (f : FromFresh h s) (l : List ℕ) (pts 
       G : Called → Type 0
       G r = numberOf (r .answer) ≡ 0 → recordsOf (r .answer) ≡ cueRecords (readCue l) (cueTime pts seconds micros (readCue l)) l (initialisedOnes (s .links))
 
+  pub told-records : numberOf a ≡ 0 → recordsIn (writtenBy a) ≡ cueRecords (readCue l) (cueTime pts seconds micros (readCue l)) l (initialisedOnes (s .links))
+  told-records n = found ∙ good-records n
+
   pub to-whom : numberOf a ≡ 0 → map connOf (recordsIn (writtenBy a)) ≡ concerned (readCue l) s
   unfolding concerned initialisedOnes cueRecords
   to-whom n = ap (map connOf) (found ∙ good-records n) ∙ go (readCue l)

@@ -14,7 +14,7 @@ use Rattle.rules.specs.Bytes.{Byte, hasZero}
 use Rattle.rules.specs.State.{Splicer, recent}
 use Rattle.rules.specs.Records.{recordsIn}
 use Rattle.rules.specs.Answers.{airMux, requested, spliceResult}
-use Rattle.rules.specs.Cues.{readCue}
+use Rattle.rules.specs.Cues.{readCue, cueTime, initialisedOnes, cueRecords}
 use Rattle.rules.specs.Calls.{refused, refuse, writtenBy, named, fresh, Loans, Call, closes, messages, cues, call, after}
 use Rattle.demands.specs.History.{Event, startsOf, endsOf, history, ownAnswer, othersOf, waitingCount, book, clockAfter}
 use Rattle.rules.specs.Sound.{Each, Wired, Coded}
@@ -28,7 +28,7 @@ use Rattle.demands.proofs.Aired.{ends-accepted, outs-started}
 use Rattle.demands.proofs.Closed.{from-more, close-stands}
 use Rattle.demands.proofs.Recalled.{extended-recalled}
 use Rattle.demands.proofs.Mux.{air-told, air-in-range, held-in-range}
-use Rattle.demands.proofs.Cued.{cue-same, counts-nothing, to-whom, whole-section}
+use Rattle.demands.proofs.Cued.{cue-same, counts-nothing, told-records, to-whom, whole-section}
 use Rattle.demands.specs.Lately.{ofNumber, endedOnce, KeptAs, endsTold}
 use Rattle.demands.proofs.Lately.{lately-told, one-kept-each}
 
@@ -152,6 +152,13 @@ pub cue-to-whom : (h : List Event) (s : Splicer) → FromFresh h s → (l : List
     → numberOf (call (cues l pts seconds micros room) s .answer) ≡ 0
     → map connOf (recordsIn (writtenBy (call (cues l pts seconds micros room) s .answer))) ≡ concerned (readCue l) s
 cue-to-whom = to-whom
+
+-- and which records those are: 117 for a bad section, else the Cue_Request with the cue's time (`cue-time` of `cues/proofs/Times`)
+pub cue-records : (h : List Event) (s : Splicer) → FromFresh h s → (l : List ℕ) (pts seconds micros room : ℕ) → All Byte l
+    → numberOf (call (cues l pts seconds micros room) s .answer) ≡ 0
+    → recordsIn (writtenBy (call (cues l pts seconds micros room) s .answer))
+    ≡ cueRecords (readCue l) (cueTime pts seconds micros (readCue l)) l (initialisedOnes (s .links))
+cue-records = told-records
 
 -- "the whole section as it came": each Cue_Request's bytes from the 19th on
 pub cue-whole : (h : List Event) (s : Splicer) → FromFresh h s → (l : List ℕ) (pts seconds micros room : ℕ) → All Byte l

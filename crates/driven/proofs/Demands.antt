@@ -17,7 +17,7 @@ use Rattle.rules.specs.State.{empty, Sorted, startsAt, startsAfter, earliest, d
 use Rattle.rules.specs.Reading.{longestHardware}
 use Rattle.rules.specs.Sound.{Each, Falling, Coded}
 use Rattle.rules.specs.Answers.{requested, spliceResult}
-use Rattle.rules.specs.Cues.{readCue}
+use Rattle.rules.specs.Cues.{readCue, cueTime, initialisedOnes, cueRecords}
 use Rattle.rules.specs.Calls.{fresh, after, lendingMaps, sectionOf, Loans}
 use Rattle.demands.specs.History.{Event, startsOf, endsOf, history, ownAnswer, othersOf, waitingCount, book, clockAfter}
 use Rattle.demands.specs.Told.{firstNumber, checks, answers, Asks, Passes, fullTold, countsTold, grantedBy, outsOf, startedTold, unended, Ended, Stands, airMuxTold, MuxInRange, Inquires, Finds, connOf, concerned, Carries, Alike}
@@ -415,6 +415,12 @@ module _ (name : List ℕ) (h : List Made) (m : Memory) (l g e : List ℕ) (r : 
   cue-to-whom n =
       rw (bytes-inside (c .allowed))
       (called.cue-to-whom name (within h) m l (ptsOf g) (getD g 2 0) (getD g 3 0) e (inside r) (more-inside name h m (aCue l g e) r c) (sym (number-inside (c .allowed)) ∙ n))
+
+  -- and which records those are: 117 for a bad section, else the Cue_Request with the cue's time
+  pub cue-records : number r ≡ 0 → recordsIn (bytesOf r) ≡ cueRecords (readCue l) (cueTime (ptsOf g) (getD g 2 0) (getD g 3 0) (readCue l)) l (initialisedOnes (shown m .links))
+  cue-records n =
+      rw (bytes-inside (c .allowed))
+      (called.cue-records name (within h) m l (ptsOf g) (getD g 2 0) (getD g 3 0) e (inside r) (more-inside name h m (aCue l g e) r c) (sym (number-inside (c .allowed)) ∙ n))
 
   -- "the whole section as it came": each Cue_Request's bytes from the 19th on
   pub cue-whole : All (Carries l) (recordsIn (bytesOf r))

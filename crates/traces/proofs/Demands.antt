@@ -18,7 +18,7 @@ use Rattle.rules.specs.State.{Splicer, hardwareOf, empty, Sorted, startsAt, sta
 use Rattle.rules.specs.Reading.{longestHardware}
 use Rattle.rules.specs.Sound.{Each, Later, Falling, Coded}
 use Rattle.rules.specs.Answers.{requested, spliceResult}
-use Rattle.rules.specs.Cues.{readCue}
+use Rattle.rules.specs.Cues.{readCue, cueTime, initialisedOnes, cueRecords}
 use Rattle.rules.specs.Calls.{fresh, after, lendingMaps, messages, call, writtenBy, sectionOf, Loans}
 use Rattle.rules.proofs.All.{all-into}
 use Rattle.rules.proofs.Sound.{reached-sound}
@@ -391,6 +391,13 @@ module _ (name : List ℕ) (h : List Made) (m : Memory) (l : List ℕ) (pts seco
   cue-to-whom n =
       rw (as-ruled m (aCue l pts seconds micros e) r (c .allowed) .bytes)
       (told.cue-to-whom (events h) (shown m) (trace-told name h m (c .trace)) l pts seconds micros (length e) (c .typed .0)
+      (sym (number-is m (aCue l pts seconds micros e) r (c .allowed)) ∙ n))
+
+  -- and which records those are: 117 for a bad section, else the Cue_Request with the cue's time
+  pub cue-records : number r ≡ 0 → recordsIn (bytesOf r) ≡ cueRecords (readCue l) (cueTime pts seconds micros (readCue l)) l (initialisedOnes (shown m .links))
+  cue-records n =
+      rw (as-ruled m (aCue l pts seconds micros e) r (c .allowed) .bytes)
+      (told.cue-records (events h) (shown m) (trace-told name h m (c .trace)) l pts seconds micros (length e) (c .typed .0)
       (sym (number-is m (aCue l pts seconds micros e) r (c .allowed)) ∙ n))
 
   -- "the whole section as it came": each Cue_Request's bytes from the 19th on
