@@ -1,0 +1,3 @@
+pub mod Firsts
+pub mod Walks
+pub mod Appends

@@ -1,0 +1,114 @@
+-- 02, CR 12: what the log keeps of a call, and the log after it.
+use mathlib.Core.Bool.{Bool, true, false}
+use mathlib.Core.List.{List, [], _∷_, _++_}
+use Prim.Native.Nat.{ℕ, _+_}
+use lib.Dec.{ltb}
+use lib.ListN.{length, drop, replicate}
+use Rattle.rules.specs.Lists.{put}
+use Rattle.rules.specs.Bytes.{bytes, part, messageSize, written}
+use Rattle.rules.specs.Records.{output}
+use Rattle.rules.specs.Calls.{Answer, refused, good, houseNumber, Call, opens, closes, messages, ticks, moves}
+use Rattle.rules.specs.Card.{cardRoom, cardLoans, openMark, closeMark, messageMark, tickMark, markEnd, tickEnd}
+use Rattle.rules.specs.Card.{Next, calls, ends, stops, next}
+use Rattle.kept.specs.declared.Record.{Record}
+use Rattle.kept.specs.declared.Record.the-variants.{Open, Close, Message, Tick, None}
+use Rattle.kept.specs.declared.Reply.{Reply}
+use Rattle.kept.specs.declared.Reply.the-variants.{Full, Refused, Done}
+use Rattle.kept.specs.Log.{keptCalls, taken}
+
+-- ## A call in the form that is kept
+
+-- its calls are 01's: a clock brought to an instant in ninths, as the rolling counter's, is not among them
+abbrev pub Its : Call → Type 0
+Its (opens c) = Unit {0}
+Its (closes c room) = Unit {0}
+Its (messages c l loans) = Unit {0}
+Its (ticks seconds micros room) = Unit {0}
+Its (moves until room) = ⊥
+
+-- what the card program lends, and of what was read the first message: its 8 + MessageSize bytes and no more
+unfoldable pub keptForm : Call → Call
+keptForm (opens c) = opens c
+keptForm (closes c room) = closes c cardRoom
+keptForm (messages c l loans) = messages c (part 0 (8 + messageSize l) l) cardLoans
+keptForm (ticks seconds micros room) = ticks seconds micros cardRoom
+keptForm (moves until room) = moves until room
+
+-- "in the card program's marks": 4F c, 43 c, 4D c and the message, 54 00 and the time
+unfoldable pub marked : Call → List ℕ
+marked (opens c) = openMark ∷ c ∷ []
+marked (closes c room) = closeMark ∷ c ∷ []
+marked (messages c l loans) = messageMark ∷ c ∷ l
+marked (ticks seconds micros room) = tickMark ∷ 0x00 ∷ (bytes 4 seconds ++ bytes 4 micros)
+marked (moves until room) = []
+
+-- ## The log after a call
+
+-- a zero is no mark, so a log says itself where its calls end
+abbrev pub zeroBehind : ℕ → List ℕ → List ℕ
+zeroBehind end l = put (ltb end (length l)) 0 []
+
+-- the call k in that form behind the last; a zero byte behind it if there is room, and every other byte as it was
+unfoldable pub appended : Call → List ℕ → List ℕ
+appended k l = written l (taken l) (marked k ++ zeroBehind (taken l + length (marked k)) l)
+
+-- fresh
+unfoldable pub cleared : List ℕ → List ℕ
+cleared l = replicate (length l) 0
+
+-- a good call is kept, a refused one is not
+unfoldable pub logAfter : Call → Answer → List ℕ → List ℕ
+logAfter k (refused n) l = l
+logAfter k (good consumed rs) l = appended (keptForm k) l
+
+abbrev pub Good : Answer → Type 0
+Good (refused n) = ⊥
+Good (good consumed rs) = Unit {0}
+
+abbrev pub isGood : Answer → Bool
+isGood (refused n) = false
+isGood (good consumed rs) = true
+
+-- ## What is answered
+
+-- "house number 13 from this engine alone"; no number: it is good
+unfoldable pub numberOf : Reply → ℕ
+numberOf Full = 13
+numberOf (Refused n) = houseNumber n
+numberOf (Done consumed len moved) = 0
+
+-- an answer of the rules
+unfoldable pub replyOf : Answer → (moved : ℕ) → Reply
+replyOf (refused n) moved = Refused n
+replyOf (good consumed rs) moved = Done consumed (length (output rs)) moved
+
+-- ## One record of the log, as the code reads it
+
+-- of a message: how long it is
+unfoldable pub recordOf : Next → Record
+recordOf (calls (opens c) m) = Open c
+recordOf (calls (closes c room) m) = Close c
+recordOf (calls (messages c l loans) m) = Message c (length l)
+recordOf (calls (ticks seconds micros room) m) = Tick seconds micros
+recordOf (calls (moves until room) m) = None
+recordOf (ends k) = None
+recordOf stops = None
+
+unfoldable pub recordIn : List ℕ → Record
+recordIn l = recordOf (next l)
+
+-- the call of a record that l begins with
+unfoldable pub callOf : Record → List ℕ → Call
+callOf (Open c) l = opens c
+callOf (Close c) l = closes c cardRoom
+callOf (Message c n) l = messages c (part markEnd n l) cardLoans
+callOf (Tick seconds micros) l = ticks seconds micros cardRoom
+callOf None l = opens 0
+
+-- the bytes that it takes
+unfoldable pub spanOf : Record → ℕ
+spanOf (Open c) = markEnd
+spanOf (Close c) = markEnd
+spanOf (Message c n) = markEnd + n
+spanOf (Tick seconds micros) = tickEnd
+spanOf None = 0
