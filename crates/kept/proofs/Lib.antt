@@ -1,3 +1,4 @@
 pub mod Firsts
 pub mod Walks
 pub mod Appends
+pub mod Keeps

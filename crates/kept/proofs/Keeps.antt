@@ -1,0 +1,145 @@
+-- A good call and what the log keeps of it are one call: good both, with the same splicer behind them. And what is kept can be kept.
+-- Rests on: the first message is all that a message call reads.
+use mathlib.Core.Path.{_≡_, refl, sym, ap, _∙_}
+use mathlib.Core.Bool.{Bool, true, false, cond}
+use mathlib.Core.List.{List}
+use Prim.Native.Nat.{ℕ, _+_, _^_, _≤_, _<_}
+use native.Mathlib.Omega.{arith}
+use lib.Dec.{ltb}
+use lib.ListN.{length, take, drop, take-append-drop}
+use lib.Seq.{length-take-le}
+use borrow.Author.Tests.{ltb-false, le-ltb}
+use Rattle.rules.specs.declared.Refusal.{Refusal}
+use Rattle.rules.specs.declared.Refusal.the-variants.{Oversize, Short}
+use Rattle.rules.specs.declared.Framing.the-variants.{Framed, Unframed}
+use Rattle.rules.specs.Bytes.{value, part, messageID, messageSize, oversize}
+use Rattle.rules.specs.Units.{badMicros}
+use Rattle.rules.specs.State.{Splicer}
+use Rattle.rules.specs.Calls.{Called, refuse, noConnection, noRoom, notOpen, framing, handled}
+use Rattle.rules.specs.Calls.{openCall, closeCall, messageCall, moveCall, tickCall, Call, opens, closes, messages, ticks, moves, call}
+use Rattle.rules.specs.Sound.{Wired}
+use Rattle.rules.proofs.Bytes.{part-byte}
+use Rattle.kept.specs.Kept.{Its, keptForm, Good}
+use Rattle.kept.proofs.Firsts.{part-front}
+use Rattle.kept.proofs.Appends.{Keepable}
+
+-- ## One call
+
+-- the call y in place of the good call x
+pub record Stands (x y : Called) : Type 0 where
+  pub good : Good (y .answer)
+  pub splicer : y .splicer ≡ x .splicer
+
+itself : (x : Called) → Good (x .answer) → Stands x x
+itself x g = record { good = g; splicer = refl }
+
+-- a test that both make
+both : (b : Bool) (n : Refusal) (s : Splicer) (x y : Called) → Good (cond b (refuse n s) x .answer) → (Good (x .answer) → Stands x y)
+    → Stands (cond b (refuse n s) x) (cond b (refuse n s) y)
+both true n s x y g f = absurd g
+both false n s x y g f = f g
+
+-- a test that the kept one passes
+past : (b : Bool) (n : Refusal) (s : Splicer) (x y : Called) → Good (cond b (refuse n s) x .answer) → (Good (x .answer) → Stands x y)
+    → Stands (cond b (refuse n s) x) y
+past true n s x y g f = absurd g
+past false n s x y g f = f g
+
+-- l has a whole message that is not too long
+pub record Framing (l : List ℕ) : Type 0 where
+  pub whole : 8 + messageSize l ≤ length l
+  pub fits : oversize l ≡ false
+  pub framed : framing l ≡ Framed (messageID l) (messageSize l)
+
+framing-of : (c : ℕ) (l : List ℕ) (s : Splicer) → Good (handled c (framing l) l s .answer) → Framing l
+unfolding framing handled
+framing-of c l s g = go (ltb (length l) 8) (oversize l) (ltb (length l) (8 + messageSize l)) refl refl refl g
+  where
+    go : (a b d : Bool) → ltb (length l) 8 ≡ a → oversize l ≡ b → ltb (length l) (8 + messageSize l) ≡ d
+        → Good (handled c (cond a (Unframed Short) (cond b (Unframed Oversize) (cond d (Unframed Short) (Framed (messageID l) (messageSize l))))) l s .answer)
+        → Framing l
+    go true b d e f h g = absurd g
+    go false true d e f h g = absurd g
+    go false false true e f h g = absurd g
+    go false false false e f h g = record { whole = ltb-false (length l) (8 + messageSize l) h; fits = f; framed = rw (e, f, h) }
+
+-- the first message of l
+module _ (l : List ℕ) (f : Framing l) where
+  abbrev size : ℕ
+  size = 8 + messageSize l
+
+  abbrev front : List ℕ
+  front = part 0 (8 + messageSize l) l
+
+  long : length front ≡ size
+  long = length-take-le size l (f .whole)
+
+  front-part : (a n : ℕ) → a + n ≤ size → part a n front ≡ part a n l
+  front-part a n h = sym (part-front a n front (drop size l) (omega (arith, long))) ∙ ap (part a n) (take-append-drop size l)
+
+  same-id : messageID front ≡ messageID l
+  same-id = ap value (front-part 0 2 (omega arith))
+
+  same-size : messageSize front ≡ messageSize l
+  same-size = ap value (front-part 2 2 (omega arith))
+
+  front-framed : framing front ≡ Framed (messageID l) (messageSize l)
+  unfolding framing
+  front-framed = rw (long, same-size, same-id, f .fits, le-ltb size 8 (omega arith), le-ltb size size (omega arith))
+
+  front-stands : (c : ℕ) (s : Splicer) → Stands (handled c (framing l) l s) (handled c (framing front) front s)
+  unfolding handled
+  front-stands c s = rw (f .framed, front-framed, front-part 8 (messageSize l) (omega arith)) (record { good = tt; splicer = refl })
+
+  front-keepable : (length front ≡ 8 + messageSize front) × (oversize front ≡ false)
+  front-keepable = (long ∙ ap (λ x. 8 + x) (sym same-size), rw same-size (f .fits))
+
+pub kept-stands : (k : Call) (s : Splicer) → Good (call k s .answer) → Stands (call k s) (call (keptForm k) s)
+unfolding call keptForm openCall closeCall messageCall moveCall tickCall
+kept-stands (opens c) s g = itself _ g
+kept-stands (closes c room) s g = both (noConnection c) _ s _ _ g (λ h. past (noRoom room) _ s _ _ h (λ i. itself _ i))
+kept-stands (messages c l loans) s g =
+    both (noConnection c) _ s _ _ g
+    (λ h. past (noRoom (loans .room)) _ s _ _ h (λ i. both (notOpen c s) _ s _ _ i (λ j. front-stands l (framing-of c l s j) c s)))
+kept-stands (ticks seconds micros room) s g =
+    past (noRoom room) _ s _ _ g (λ h. both (badMicros micros) _ s _ _ h (λ i. past (noRoom room) _ s _ _ i (λ j. itself _ j)))
+kept-stands (moves until room) s g = itself _ g
+
+-- ## What is kept can be kept
+
+-- behind a test
+under : (b : Bool) (n : Refusal) (s : Splicer) (x : Called) → Good (cond b (refuse n s) x .answer) → (b ≡ false) × Good (x .answer)
+under true n s x g = absurd g
+under false n s x g = (refl, g)
+
+pub keepable : (k : Call) (s : Splicer) → Its k → Wired k → Good (call k s .answer) → Keepable (keptForm k)
+unfolding call keptForm openCall closeCall messageCall tickCall
+keepable (opens c) s i w g = tt
+keepable (closes c room) s i w g = refl
+keepable (messages c l loans) s i w g =
+    let a = under (noConnection c) _ s _ g in
+    let b = under (noRoom (loans .room)) _ s _ (a .1) in
+    let d = under (notOpen c s) _ s _ (b .1) in
+    let k = front-keepable l (framing-of c l s (d .1)) in
+    (refl, k .0, k .1)
+keepable (ticks seconds micros room) s i w g =
+    let a = under (noRoom room) _ s _ g in
+    let b = under (badMicros micros) _ s _ (a .1) in
+    (refl, omega arith, omega (arith, ltb-false 999999 micros (b .0)))
+keepable (moves until room) s i w g = absurd i
+
+pub kept-wired : (k : Call) → Wired k → Wired (keptForm k)
+unfolding keptForm
+kept-wired (opens c) w = tt
+kept-wired (closes c room) w = tt
+kept-wired (messages c l loans) w = part-byte 0 (8 + messageSize l) l w
+kept-wired (ticks seconds micros room) w = w
+kept-wired (moves until room) w = w
+
+pub kept-its : (k : Call) → Its k → Its (keptForm k)
+unfolding keptForm
+kept-its (opens c) i = tt
+kept-its (closes c room) i = tt
+kept-its (messages c l loans) i = tt
+kept-its (ticks seconds micros room) i = tt
+kept-its (moves until room) i = i
