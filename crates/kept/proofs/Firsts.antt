@@ -9,11 +9,13 @@ use lib.Dec.{eqb, ltb}
 use lib.ListN.{length, take, drop, length-append, length-drop, take-append-drop}
 use lib.Seq.{length-take-le, take-at, drop-at, drop-drop, take-append-le, drop-append-le}
 use borrow.Author.Tests.{ltb-false, le-ltb}
-use Rattle.rules.specs.Bytes.{value, part, field, messageSize, oversize}
+use Rattle.rules.specs.Bytes.{value, bytes, part, field, messageSize, oversize}
 use Rattle.rules.specs.Calls.{Call, opens, closes, messages, ticks}
 use Rattle.rules.specs.Card.{openMark, closeMark, messageMark, tickMark, markIn, connIn, messageFrom, secondsIn, microsIn}
 use Rattle.rules.specs.Card.{markEnd, tickEnd, headerEnd, messageEnd, Next, calls, ends, stops, cardRoom, cardLoans, next, nextMessage, nextTick}
 use Rattle.rules.proofs.Tests.{by}
+use Rattle.rules.proofs.Bytes.{length-bytes}
+use Rattle.kept.specs.Kept.{marked}
 
 -- ## Parts of the first bytes
 
@@ -53,6 +55,7 @@ pub record First (l : List ℕ) (k : Call) (m : List ℕ) : Type 0 where
   pub two : 2 ≤ size
   pub there : size ≤ length l
   pub rest : m ≡ drop size l
+  pub marks : length (marked k) ≡ size
   pub again : (y : List ℕ) → next (take size l ++ y) ≡ calls k y
 
 abbrev pub Begins : List ℕ → Next → Type 0
@@ -65,25 +68,27 @@ module _ (l : List ℕ) where
   P = Begins l
 
   begins-open : markEnd ≤ length l → eqb (markIn l) openMark ≡ true → First l (opens (connIn l)) (drop markEnd l)
-  unfolding next
+  unfolding next marked
   begins-open h e =
       record {
         size = markEnd;
         two = omega arith;
         there = h;
         rest = refl;
+        marks = refl;
         again = λ y. rw (enough 2 l h y 2 (omega arith), field-kept 2 l h y 0 1 (omega arith), field-kept 2 l h y 1 1 (omega arith), e, rest-kept 2 l h y);
       }
 
   begins-close : markEnd ≤ length l → eqb (markIn l) openMark ≡ false → eqb (markIn l) closeMark ≡ true
       → First l (closes (connIn l) cardRoom) (drop markEnd l)
-  unfolding next
+  unfolding next marked
   begins-close h d e =
       record {
         size = markEnd;
         two = omega arith;
         there = h;
         rest = refl;
+        marks = refl;
         again = λ y. rw (enough 2 l h y 2 (omega arith), field-kept 2 l h y 0 1 (omega arith), field-kept 2 l h y 1 1 (omega arith), d, e, rest-kept 2 l h y);
       }
 
@@ -92,7 +97,7 @@ module _ (l : List ℕ) where
     begins-message : eqb (markIn l) messageMark ≡ true → headerEnd ≤ length l → oversize (messageFrom l) ≡ false
         → messageEnd (messageSize (messageFrom l)) ≤ length l
         → First l (messages (connIn l) (part 0 (8 + messageSize (messageFrom l)) (messageFrom l)) cardLoans) (drop (messageEnd (messageSize (messageFrom l))) l)
-    unfolding next nextMessage
+    unfolding next nextMessage marked
     begins-message e g o h =
         let n = messageEnd (messageSize (messageFrom l)) in
         record {
@@ -100,6 +105,7 @@ module _ (l : List ℕ) where
           two = omega arith;
           there = h;
           rest = refl;
+          marks = omega (arith, length-take-le (8 + messageSize (messageFrom l)) (messageFrom l) (omega (arith, length-drop 2 l)));
           again =
               λ y.
                 rw (enough n l h y 2 (omega arith), field-kept n l h y 0 1 (omega arith), c, d, e, enough n l h y 10 (omega arith), field-kept n l h y 1 1 (omega arith), size-kept n l h y (omega arith), o, enough n l h y n (omega arith), rest-kept n l h y, part-kept n l h y 2 (8 + messageSize (messageFrom l)) (omega arith));
@@ -107,13 +113,14 @@ module _ (l : List ℕ) where
 
     begins-tick : eqb (markIn l) messageMark ≡ false → eqb (markIn l) tickMark ≡ true → tickEnd ≤ length l
         → First l (ticks (secondsIn l) (microsIn l) cardRoom) (drop tickEnd l)
-    unfolding next nextTick
+    unfolding next nextTick marked
     begins-tick e f h =
         record {
           size = tickEnd;
           two = omega arith;
           there = h;
           rest = refl;
+          marks = omega (arith, length-append (bytes 4 (secondsIn l)) (bytes 4 (microsIn l)), length-bytes 4 (secondsIn l), length-bytes 4 (microsIn l));
           again =
               λ y.
                 rw (enough 10 l h y 2 (omega arith), field-kept 10 l h y 0 1 (omega arith), c, d, e, f, enough 10 l h y 10 (omega arith), field-kept 10 l h y 2 4 (omega arith), field-kept 10 l h y 6 4 (omega arith), rest-kept 10 l h y);

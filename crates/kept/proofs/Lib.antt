@@ -2,3 +2,4 @@ pub mod Firsts
 pub mod Walks
 pub mod Appends
 pub mod Keeps
+pub mod Logs

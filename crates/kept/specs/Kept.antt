@@ -1,9 +1,10 @@
 -- 02, CR 12: what the log keeps of a call, and the log after it.
+use mathlib.Core.Path.{_≡_}
 use mathlib.Core.Bool.{Bool, true, false}
 use mathlib.Core.List.{List, [], _∷_, _++_}
 use Prim.Native.Nat.{ℕ, _+_}
 use lib.Dec.{ltb}
-use lib.ListN.{length, drop, replicate}
+use lib.ListN.{length, take, drop, replicate}
 use Rattle.rules.specs.Lists.{put}
 use Rattle.rules.specs.Bytes.{bytes, part, messageSize, written}
 use Rattle.rules.specs.Records.{output}
@@ -14,7 +15,7 @@ use Rattle.kept.specs.declared.Record.{Record}
 use Rattle.kept.specs.declared.Record.the-variants.{Open, Close, Message, Tick, None}
 use Rattle.kept.specs.declared.Reply.{Reply}
 use Rattle.kept.specs.declared.Reply.the-variants.{Full, Refused, Done}
-use Rattle.kept.specs.Log.{keptCalls, taken}
+use Rattle.kept.specs.Log.{keptCalls, taken, free}
 
 -- ## A call in the form that is kept
 
@@ -42,6 +43,11 @@ marked (messages c l loans) = messageMark ∷ c ∷ l
 marked (ticks seconds micros room) = tickMark ∷ 0x00 ∷ (bytes 4 seconds ++ bytes 4 micros)
 marked (moves until room) = []
 
+-- the records of calls, one behind the other
+abbrev pub recorded : List Call → List ℕ
+recorded [] = []
+recorded (k ∷ ks) = marked k ++ recorded ks
+
 -- ## The log after a call
 
 -- a zero is no mark, so a log says itself where its calls end
@@ -60,6 +66,11 @@ cleared l = replicate (length l) 0
 unfoldable pub logAfter : Call → Answer → List ℕ → List ℕ
 logAfter k (refused n) l = l
 logAfter k (good consumed rs) l = appended (keptForm k) l
+
+-- a log as this engine leaves it: the records of its calls, and zeros behind
+pub record Neat (l : List ℕ) : Type 0 where
+  pub records : take (taken l) l ≡ recorded (keptCalls l)
+  pub zeros : drop (taken l) l ≡ replicate (free l) 0
 
 abbrev pub Good : Answer → Type 0
 Good (refused n) = ⊥
