@@ -15,7 +15,7 @@ use Rattle.rules.specs.Card.{openMark, closeMark, messageMark, tickMark, markIn
 use Rattle.rules.specs.Card.{markEnd, tickEnd, headerEnd, messageEnd, Next, calls, ends, stops, cardRoom, cardLoans, next, nextMessage, nextTick}
 use Rattle.rules.proofs.Tests.{by}
 use Rattle.rules.proofs.Bytes.{length-bytes}
-use Rattle.kept.specs.Kept.{marked}
+use Rattle.kept.specs.Kept.{marked, recordOf, callOf, spanOf}
 
 -- ## Parts of the first bytes
 
@@ -23,16 +23,17 @@ pub part-front : (a n : ℕ) (x y : List ℕ) → a + n ≤ length x → part a 
 part-front a n x y h =
     ap (take n) (drop-append-le a x y (omega arith)) ∙ take-append-le n (drop a x) y (simp length-drop (omega arith))
 
+pub part-take : (a k n : ℕ) (l : List ℕ) → a + k ≤ n → n ≤ length l → part a k (take n l) ≡ part a k l
+part-take a k n l i h =
+    sym (part-front a k (take n l) (drop n l) (omega (arith, length-take-le n l h))) ∙ ap (part a k) (take-append-drop n l)
+
 -- n bytes of l with anything behind them
 module _ (n : ℕ) (l : List ℕ) (h : n ≤ length l) (y : List ℕ) where
   long : length (take n l) ≡ n
   long = length-take-le n l h
 
   pub part-kept : (a k : ℕ) → a + k ≤ n → part a k (take n l ++ y) ≡ part a k l
-  part-kept a k i =
-      part-front a k (take n l) y (omega (arith, long))
-      ∙ sym (part-front a k (take n l) (drop n l) (omega (arith, long)))
-      ∙ ap (part a k) (take-append-drop n l)
+  part-kept a k i = part-front a k (take n l) y (omega (arith, long)) ∙ part-take a k n l i h
 
   field-kept : (a k : ℕ) → a + k ≤ n → field a k (take n l ++ y) ≡ field a k l
   field-kept a k i = ap value (part-kept a k i)
@@ -56,6 +57,8 @@ pub record First (l : List ℕ) (k : Call) (m : List ℕ) : Type 0 where
   pub there : size ≤ length l
   pub rest : m ≡ drop size l
   pub marks : length (marked k) ≡ size
+  pub span : spanOf (recordOf (calls k m)) ≡ size
+  pub made : callOf (recordOf (calls k m)) l ≡ k
   pub again : (y : List ℕ) → next (take size l ++ y) ≡ calls k y
 
 abbrev pub Begins : List ℕ → Next → Type 0
@@ -68,7 +71,7 @@ module _ (l : List ℕ) where
   P = Begins l
 
   begins-open : markEnd ≤ length l → eqb (markIn l) openMark ≡ true → First l (opens (connIn l)) (drop markEnd l)
-  unfolding next marked
+  unfolding next marked recordOf spanOf callOf
   begins-open h e =
       record {
         size = markEnd;
@@ -76,12 +79,14 @@ module _ (l : List ℕ) where
         there = h;
         rest = refl;
         marks = refl;
+        span = refl;
+        made = refl;
         again = λ y. rw (enough 2 l h y 2 (omega arith), field-kept 2 l h y 0 1 (omega arith), field-kept 2 l h y 1 1 (omega arith), e, rest-kept 2 l h y);
       }
 
   begins-close : markEnd ≤ length l → eqb (markIn l) openMark ≡ false → eqb (markIn l) closeMark ≡ true
       → First l (closes (connIn l) cardRoom) (drop markEnd l)
-  unfolding next marked
+  unfolding next marked recordOf spanOf callOf
   begins-close h d e =
       record {
         size = markEnd;
@@ -89,15 +94,21 @@ module _ (l : List ℕ) where
         there = h;
         rest = refl;
         marks = refl;
+        span = refl;
+        made = refl;
         again = λ y. rw (enough 2 l h y 2 (omega arith), field-kept 2 l h y 0 1 (omega arith), field-kept 2 l h y 1 1 (omega arith), d, e, rest-kept 2 l h y);
       }
+
+  own-size : messageEnd (messageSize (messageFrom l)) ≤ length l
+      → messageSize (part 0 (8 + messageSize (messageFrom l)) (messageFrom l)) ≡ messageSize (messageFrom l)
+  own-size h = ap value (part-take 2 2 (8 + messageSize (messageFrom l)) (messageFrom l) (omega arith) (omega (arith, length-drop 2 l)))
 
   -- behind the mark of a message, and of a tick
   module _ (c : eqb (markIn l) openMark ≡ false) (d : eqb (markIn l) closeMark ≡ false) where
     begins-message : eqb (markIn l) messageMark ≡ true → headerEnd ≤ length l → oversize (messageFrom l) ≡ false
         → messageEnd (messageSize (messageFrom l)) ≤ length l
         → First l (messages (connIn l) (part 0 (8 + messageSize (messageFrom l)) (messageFrom l)) cardLoans) (drop (messageEnd (messageSize (messageFrom l))) l)
-    unfolding next nextMessage marked
+    unfolding next nextMessage marked recordOf spanOf callOf
     begins-message e g o h =
         let n = messageEnd (messageSize (messageFrom l)) in
         record {
@@ -105,6 +116,8 @@ module _ (l : List ℕ) where
           two = omega arith;
           there = h;
           rest = refl;
+          span = ap messageEnd (own-size h);
+          made = ap (λ x. messages (connIn l) (part markEnd (8 + x) l) cardLoans) (own-size h);
           marks = omega (arith, length-take-le (8 + messageSize (messageFrom l)) (messageFrom l) (omega (arith, length-drop 2 l)));
           again =
               λ y.
@@ -113,13 +126,15 @@ module _ (l : List ℕ) where
 
     begins-tick : eqb (markIn l) messageMark ≡ false → eqb (markIn l) tickMark ≡ true → tickEnd ≤ length l
         → First l (ticks (secondsIn l) (microsIn l) cardRoom) (drop tickEnd l)
-    unfolding next nextTick marked
+    unfolding next nextTick marked recordOf spanOf callOf
     begins-tick e f h =
         record {
           size = tickEnd;
           two = omega arith;
           there = h;
           rest = refl;
+          span = refl;
+          made = refl;
           marks = omega (arith, length-append (bytes 4 (secondsIn l)) (bytes 4 (microsIn l)), length-bytes 4 (secondsIn l), length-bytes 4 (microsIn l));
           again =
               λ y.

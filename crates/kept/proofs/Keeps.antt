@@ -6,7 +6,7 @@ use mathlib.Core.List.{List}
 use Prim.Native.Nat.{ℕ, _+_, _^_, _≤_, _<_}
 use native.Mathlib.Omega.{arith}
 use lib.Dec.{ltb}
-use lib.ListN.{length, take, drop, take-append-drop}
+use lib.ListN.{length}
 use lib.Seq.{length-take-le}
 use borrow.Author.Tests.{ltb-false, le-ltb}
 use Rattle.rules.specs.declared.Refusal.{Refusal}
@@ -20,7 +20,7 @@ use Rattle.rules.specs.Calls.{openCall, closeCall, messageCall, moveCall, tickC
 use Rattle.rules.specs.Sound.{Wired}
 use Rattle.rules.proofs.Bytes.{part-byte}
 use Rattle.kept.specs.Kept.{Its, keptForm, Good}
-use Rattle.kept.proofs.Firsts.{part-front}
+use Rattle.kept.proofs.Firsts.{part-take}
 use Rattle.kept.proofs.Appends.{Keepable}
 
 -- ## One call
@@ -75,7 +75,7 @@ module _ (l : List ℕ) (f : Framing l) where
   long = length-take-le size l (f .whole)
 
   front-part : (a n : ℕ) → a + n ≤ size → part a n front ≡ part a n l
-  front-part a n h = sym (part-front a n front (drop size l) (omega (arith, long))) ∙ ap (part a n) (take-append-drop size l)
+  front-part a n h = part-take a n size l h (f .whole)
 
   same-id : messageID front ≡ messageID l
   same-id = ap value (front-part 0 2 (omega arith))

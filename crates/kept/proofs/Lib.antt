@@ -3,3 +3,5 @@ pub mod Walks
 pub mod Appends
 pub mod Keeps
 pub mod Logs
+pub mod Reading
+pub mod Puts

@@ -1,21 +1,24 @@
 -- 02, CR 12: what the log keeps of a call, and the log after it.
 use mathlib.Core.Path.{_≡_}
-use mathlib.Core.Bool.{Bool, true, false}
+use mathlib.Core.Bool.{Bool, true, false, cond}
 use mathlib.Core.List.{List, [], _∷_, _++_}
-use Prim.Native.Nat.{ℕ, _+_}
+use Prim.Native.Nat.{ℕ, _+_, _≤_}
 use lib.Dec.{ltb}
 use lib.ListN.{length, take, drop, replicate}
 use Rattle.rules.specs.Lists.{put}
 use Rattle.rules.specs.Bytes.{bytes, part, messageSize, written}
 use Rattle.rules.specs.Records.{output}
 use Rattle.rules.specs.Calls.{Answer, refused, good, houseNumber, Call, opens, closes, messages, ticks, moves}
-use Rattle.rules.specs.Card.{cardRoom, cardLoans, openMark, closeMark, messageMark, tickMark, markEnd, tickEnd}
+use Rattle.rules.specs.Card.{cardRoom, cardLoans, openMark, closeMark, messageMark, tickMark, markEnd, tickEnd, messageEnd}
 use Rattle.rules.specs.Card.{Next, calls, ends, stops, next}
 use Rattle.kept.specs.declared.Record.{Record}
 use Rattle.kept.specs.declared.Record.the-variants.{Open, Close, Message, Tick, None}
+use Rattle.kept.specs.declared.Held.{Held}
+use Rattle.kept.specs.declared.Space.{Space}
+use Rattle.kept.specs.declared.Space.the-variants.{From, NoSpace}
 use Rattle.kept.specs.declared.Reply.{Reply}
 use Rattle.kept.specs.declared.Reply.the-variants.{Full, Refused, Done}
-use Rattle.kept.specs.Log.{keptCalls, taken, free}
+use Rattle.kept.specs.Log.{keptCalls, taken, free, longestRecord, full}
 
 -- ## A call in the form that is kept
 
@@ -93,26 +96,27 @@ unfoldable pub replyOf : Answer → (moved : ℕ) → Reply
 replyOf (refused n) moved = Refused n
 replyOf (good consumed rs) moved = Done consumed (length (output rs)) moved
 
--- ## One record of the log, as the code reads it
+-- ## As the code has it
 
--- of a message: how long it is
+-- one record
 unfoldable pub recordOf : Next → Record
 recordOf (calls (opens c) m) = Open c
 recordOf (calls (closes c room) m) = Close c
-recordOf (calls (messages c l loans) m) = Message c (length l)
+recordOf (calls (messages c l loans) m) = Message c (messageSize l)
 recordOf (calls (ticks seconds micros room) m) = Tick seconds micros
 recordOf (calls (moves until room) m) = None
 recordOf (ends k) = None
 recordOf stops = None
 
+-- that l begins with
 unfoldable pub recordIn : List ℕ → Record
 recordIn l = recordOf (next l)
 
--- the call of a record that l begins with
+-- its call; none is no call
 unfoldable pub callOf : Record → List ℕ → Call
 callOf (Open c) l = opens c
 callOf (Close c) l = closes c cardRoom
-callOf (Message c n) l = messages c (part markEnd n l) cardLoans
+callOf (Message c size) l = messages c (part markEnd (8 + size) l) cardLoans
 callOf (Tick seconds micros) l = ticks seconds micros cardRoom
 callOf None l = opens 0
 
@@ -120,6 +124,20 @@ callOf None l = opens 0
 unfoldable pub spanOf : Record → ℕ
 spanOf (Open c) = markEnd
 spanOf (Close c) = markEnd
-spanOf (Message c n) = markEnd + n
+spanOf (Message c size) = messageEnd size
 spanOf (Tick seconds micros) = tickEnd
 spanOf None = 0
+
+-- how many calls are in l, and the bytes that they take
+pub record Counts (l : List ℕ) (h : Held) : Type 0 where
+  pub calls : h .calls ≡ length (keptCalls l)
+  pub taken : h .taken ≡ taken l
+
+-- where the next record goes, or 13
+unfoldable pub spaceIn : List ℕ → Space
+spaceIn l = cond (full l) NoSpace (From (taken l))
+
+-- `at` is that place
+pub record Behind (l : List ℕ) (at : ℕ) : Type 0 where
+  pub place : at ≡ taken l
+  pub room : at + longestRecord ≤ length l
