@@ -124,11 +124,11 @@ module _ (k : Call) (h : Keepable k) (y : List ℕ) (none : NoCall (next y)) whe
   taken-with =
       through (λ l. taken (with l) ≡ taken l + length (marked k))
       (λ l f.
-        let e = alone l (taken-none l f) in
-        omega (arith, taken-more (with l) e, rest-long (with l) e, taken-none l f, long-with l, taken-none y none))
+      let e = alone l (taken-none l f) in
+      omega (arith, taken-more (with l) e, rest-long (with l) e, taken-none l f, long-with l, taken-none y none))
       (λ l j m e i.
-        let g = then l e in
-        omega (arith, taken-more (with l) g, rest-long (with l) g, taken-more l e, long-with l, long-with m, i))
+      let g = then l e in
+      omega (arith, taken-more (with l) g, rest-long (with l) g, taken-more l e, long-with l, long-with m, i))
 
 -- ## The zero behind the last
 

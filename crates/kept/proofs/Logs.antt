@@ -20,7 +20,8 @@ use Rattle.rules.proofs.Tests.{by, clash, or-none}
 use Rattle.rules.proofs.All.{all-drop}
 use Rattle.rules.proofs.Bytes.{part-byte, field-below}
 use Rattle.kept.specs.Log.{keptCalls, taken, free, logLength, mostCalls, longestRecord, otherLength, full}
-use Rattle.kept.specs.Kept.{Its, marked, recorded, zeroBehind, appended, cleared, logAfter, Neat}
+use Rattle.kept.specs.Kept.{Its, marked, recorded, zeroBehind, appended, cleared, logAfter, Neat, spaceIn, Behind}
+use Rattle.kept.specs.declared.Space.the-variants.{From, NoSpace}
 use Rattle.kept.proofs.Firsts.{first}
 use Rattle.kept.proofs.Walks.{NoCall, calls-none, taken-none, calls-more, taken-more, through, within}
 use Rattle.kept.proofs.Appends.{Keepable, marked-length, left, appended-is, appended-calls, appended-taken, appended-length}
@@ -79,6 +80,18 @@ pub full-space : (l : List ℕ) → length l ≡ logLength → length (keptCalls
 unfolding full
 full-space l e h = rw (same-length l e, lt-leb mostCalls (length (keptCalls l)) h)
 
+-- where the next record goes
+pub place-none : (l : List ℕ) → full l ≡ true → spaceIn l ≡ NoSpace
+unfolding spaceIn
+place-none l e = rw e
+
+pub place-from : (l : List ℕ) → full l ≡ false → spaceIn l ≡ From (taken l)
+unfolding spaceIn
+place-from l e = rw e
+
+pub place-behind : (l : List ℕ) → full l ≡ false → Behind l (taken l)
+place-behind l e = record { place = refl; room = omega (arith, not-full l e .space, within l .1) }
+
 -- there is room for one call more, whatever it is
 module _ (k : Call) (h : Keepable k) (l : List ℕ) (r : Room l) where
   pub record-fits : taken l + length (marked k) ≤ length l
@@ -99,9 +112,9 @@ taken-recorded =
     through (λ l. taken l ≡ length (recorded (keptCalls l)))
     (λ l f. taken-none l f ∙ ap (λ x. length (recorded x)) (sym (calls-none l f)))
     (λ l k m e i.
-      taken-more l e
-      ∙ omega (arith, first l e .marks, length-append (marked k) (recorded (keptCalls m)), i)
-      ∙ ap (λ x. length (recorded x)) (sym (calls-more l e)))
+    taken-more l e
+    ∙ omega (arith, first l e .marks, length-append (marked k) (recorded (keptCalls m)), i)
+    ∙ ap (λ x. length (recorded x)) (sym (calls-more l e)))
 
 pub recorded-append : (ks js : List Call) → recorded (ks ++ js) ≡ recorded ks ++ recorded js
 recorded-append [] js = refl
@@ -196,6 +209,6 @@ any-log =
     through (λ l. All Byte l → All Wired (keptCalls l) × All Its (keptCalls l))
     (λ l f a. subst (λ x. All Wired x × All Its x) (sym (calls-none l f)) (tt, tt))
     (λ l k m e i a.
-      let g : Its k × Wired k × All Byte m = subst Fits e (fits l a) in
-      let r = i (g .2) in
-      subst (λ x. All Wired x × All Its x) (sym (calls-more l e)) ((g .1, r .0), (g .0, r .1)))
+    let g : Its k × Wired k × All Byte m = subst Fits e (fits l a) in
+    let r = i (g .2) in
+    subst (λ x. All Wired x × All Its x) (sym (calls-more l e)) ((g .1, r .0), (g .0, r .1)))

@@ -84,7 +84,7 @@ module _ (l : List ℕ) {k : Call} {m : List ℕ} (e : next l ≡ calls k m) whe
 -- ## A fact of every log
 
 module _ (P : List ℕ → Type 0) (none : (l : List ℕ) → NoCall (next l) → P l)
-  (more : (l : List ℕ) (k : Call) (m : List ℕ) → next l ≡ calls k m → P m → P l) where
+    (more : (l : List ℕ) (k : Call) (m : List ℕ) → next l ≡ calls k m → P m → P l) where
   through-by : (n : ℕ) (l : List ℕ) → length l ≤ n → P l
   unfolding next
   through-by zero [] h = none [] tt

@@ -1,59 +1,71 @@
+-- The invariant: the calls before the place are counted.
+-- Rests on proofs/Reading: one record more.
+use borrow.Author.Needs.{needs}
+use mathlib.Core.Path.{ap, _∙_}
+use Prim.Native.Nat.{_-_}
+use native.Mathlib.Omega.{arith}
+use lib.ListN.{length}
+use Rattle.kept.specs.Kept.{spanOf}
+use Rattle.kept.proofs.Reading.{Counting, counting-none, counting-end, counting-within, counting-more}
 use Rattle.kept.proofs.count.Statement.{statement}
 use Rattle.kept.proofs.count.Tie as tie
-use Rattle.kept.proofs.count.Reads as reads
-use Rattle.kept.proofs.count.Lts as lts
-use Rattle.kept.proofs.records.record_at.Reads as record-at-reads
-use Rattle.kept.proofs.records.span_of.Reads as span-of-reads
 
 abbrev Inv-loop : tie.InvT-loop
-Inv-loop l at₀ n₀ at n = ?
+Inv-loop l at₀ n₀ at n = Counting l at n
 
 abbrev μ-loop : tie.MeasureT-loop
-μ-loop l at₀ n₀ at n = ?
+μ-loop l at₀ n₀ at n = length l - at
 
--- src/lib.rt:59:5
 loop-holds : tie.Need-loop-holds Inv-loop μ-loop
-loop-holds c = ?
+loop-holds c = counting-none _
 
--- src/lib.rt:60:35
 sub-record-at : tie.Need-sub-record-at Inv-loop μ-loop
-sub-record-at c = ?
+sub-record-at c = search needs
 
--- src/lib.rt:60:35
 part-record-at-start : tie.Need-part-record-at-start Inv-loop μ-loop
-part-record-at-start c = ?
+part-record-at-start c = search needs
 
--- src/lib.rt:60:35
 part-record-at-end : tie.Need-part-record-at-end Inv-loop μ-loop
-part-record-at-end c = ?
+part-record-at-end c = search needs
 
--- src/lib.rt:60:25
 record-at-requires : tie.Need-record-at-requires Inv-loop μ-loop
-record-at-requires c κs = ?
+record-at-requires c κs = search needs
 
--- src/lib.rt:60:13
 span-of-requires : tie.Need-span-of-requires Inv-loop μ-loop
-span-of-requires c κs = ?
+span-of-requires c κs = search needs
 
--- src/lib.rt:62:13
 returns : tie.Need-returns Inv-loop μ-loop
-returns c = ?
+returns c =
+    let loop = c .before .before .before .before .loop in
+    let span = c .before .span-of .ensures ∙ ap spanOf (c .before .before .record-at .ensures) in
+    counting-end (loop .inv) span (c .if1 .taken)
 
--- src/lib.rt:67:9
 add-at : tie.Need-add-at Inv-loop μ-loop
-add-at c = ?
+add-at c =
+    let loop = c .before .before .before .before .loop in
+    let span = c .before .span-of .ensures ∙ ap spanOf (c .before .before .record-at .ensures) in
+    let w = counting-within (loop .inv) span (c .if1 .left) in
+    omega arith
 
--- src/lib.rt:68:9
 add-n : tie.Need-add-n Inv-loop μ-loop
-add-n c = ?
+add-n c =
+    let loop = c .before .before .before .before .loop in
+    let span = c .before .span-of .ensures ∙ ap spanOf (c .before .before .record-at .ensures) in
+    let w = counting-within (loop .inv) span (c .if1 .left) in
+    omega (arith, loop .inv .few)
 
--- src/lib.rt:59:5
 loop-less : tie.Need-loop-less Inv-loop μ-loop
-loop-less c = ?
+loop-less c =
+    let loop = c .before .before .before .before .loop in
+    let span = c .before .span-of .ensures ∙ ap spanOf (c .before .before .record-at .ensures) in
+    let w = counting-within (loop .inv) span (c .if1 .left) in
+    omega arith
 
--- src/lib.rt:59:5
 loop-again : tie.Need-loop-again Inv-loop μ-loop
-loop-again c = ?
+loop-again c =
+    let loop = c .before .before .before .before .loop in
+    let span = c .before .span-of .ensures ∙ ap spanOf (c .before .before .record-at .ensures) in
+    counting-more (loop .inv) span (c .if1 .left)
 
 pub count-spec : {M : Type 1} → statement M
 count-spec =

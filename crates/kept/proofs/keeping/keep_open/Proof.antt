@@ -1,30 +1,32 @@
+-- The mark and the zero behind it are the appended log.
+use Prim.Native.Nat.{_+_}
+use native.Mathlib.Omega.{arith}
+use Rattle.rules.specs.Calls.{opens}
+use Rattle.kept.specs.Kept.{marked}
+use Rattle.kept.proofs.Puts.{record-put}
 use borrow.Author.Needs.{needs}
 use Rattle.kept.proofs.keeping.keep_open.Statement.{statement}
 use Rattle.kept.proofs.keeping.keep_open.Tie as tie
-use Rattle.kept.proofs.keeping.keep_open.Reads as reads
-use Rattle.kept.proofs.keeping.keep_open.Lts as lts
-use Rattle.kept.proofs.keeping.put_mark.Reads as put-mark-reads
-use Rattle.kept.proofs.keeping.put_zero.Reads as put-zero-reads
 
--- src/keeping.rt:35:5
 put-mark-requires : tie.Need-put-mark-requires
 put-mark-requires c κs = search needs
 
--- src/keeping.rt:36:23
 add-put-zero : tie.Need-add-put-zero
 add-put-zero c = search needs
 
--- src/keeping.rt:36:5
 put-zero-requires : tie.Need-put-zero-requires
 put-zero-requires c κs = search needs
 
--- src/keeping.rt:31:1
 same-length : tie.Need-same-length
 same-length c = search needs
 
--- src/keeping.rt:31:1
 returns : tie.Need-returns
-returns c = ?
+unfolding marked
+returns c =
+    let s = c .before .before .before .before .before .before .before .before .before in
+    let mark = c .before .before .before .before .before .before .put-mark in
+    let zero = c .before .before .put-zero in
+    record-put (opens (s .args .conn)) (s .args .l .now) (mark .last .0) (zero .last .0) (s .args .at) (s .args .at + 2) (s .pre) (omega arith) (omega arith) (mark .ensures) (zero .ensures)
 
 pub keep-open-spec : {M : Type 1} → statement M
 keep-open-spec =

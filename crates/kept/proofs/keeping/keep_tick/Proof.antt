@@ -1,71 +1,78 @@
+-- The mark, Seconds, MicroSeconds behind them, and the zero: each goes directly behind the last.
+use mathlib.Core.List.{[], _∷_, _++_}
+use Prim.Native.Nat.{_+_}
+use native.Mathlib.Omega.{arith}
+use lib.ListN.{length-append}
+use Rattle.rules.specs.Bytes.{bytes}
+use Rattle.rules.specs.Calls.{ticks}
+use Rattle.rules.specs.Card.{cardRoom, tickMark, markEnd, tickEnd}
+use Rattle.rules.proofs.Bytes.{length-bytes}
+use Rattle.rules.proofs.Written.{written-next}
+use Rattle.kept.specs.Kept.{marked}
+use Rattle.kept.proofs.Puts.{record-put}
 use borrow.Author.Needs.{needs}
 use Rattle.kept.proofs.keeping.keep_tick.Statement.{statement}
 use Rattle.kept.proofs.keeping.keep_tick.Tie as tie
-use Rattle.kept.proofs.keeping.keep_tick.Reads as reads
-use Rattle.kept.proofs.keeping.keep_tick.Lts as lts
-use Rattle.kept.proofs.keeping.put_mark.Reads as put-mark-reads
-use Rattle.kept.proofs.keeping.put_zero.Reads as put-zero-reads
-use Rattle.writing.proofs.put4.Reads as put4-reads
 
--- src/keeping.rt:66:16
 add-from : tie.Need-add-from
 add-from c = search needs
 
--- src/keeping.rt:67:16
 add-then : tie.Need-add-then
 add-then c = search needs
 
--- src/keeping.rt:68:5
 put-mark-requires : tie.Need-put-mark-requires
 put-mark-requires c κs = search needs
 
--- src/keeping.rt:69:19
 sub-put4 : tie.Need-sub-put4
 sub-put4 c = search needs
 
--- src/keeping.rt:69:19
 part-put4-start : tie.Need-part-put4-start
 part-put4-start c = search needs
 
--- src/keeping.rt:69:19
 part-put4-end : tie.Need-part-put4-end
 part-put4-end c = search needs
 
--- src/keeping.rt:69:5
 put4-requires : tie.Need-put4-requires
 put4-requires c κs = search needs
 
--- src/keeping.rt:70:19
 sub-put4-2 : tie.Need-sub-put4-2
 sub-put4-2 c = search needs
 
--- src/keeping.rt:70:19
 part-put4-start-2 : tie.Need-part-put4-start-2
 part-put4-start-2 c = search needs
 
--- src/keeping.rt:70:19
 part-put4-end-2 : tie.Need-part-put4-end-2
 part-put4-end-2 c = search needs
 
--- src/keeping.rt:70:5
 put4-requires-2 : tie.Need-put4-requires-2
 put4-requires-2 c κs = search needs
 
--- src/keeping.rt:71:23
 add-put-zero : tie.Need-add-put-zero
 add-put-zero c = search needs
 
--- src/keeping.rt:71:5
 put-zero-requires : tie.Need-put-zero-requires
 put-zero-requires c κs = search needs
 
--- src/keeping.rt:62:1
 same-length : tie.Need-same-length
 same-length c = search needs
 
--- src/keeping.rt:62:1
 returns : tie.Need-returns
-returns c = ?
+unfolding marked
+returns c =
+    let s = c .before .before .before .before .before .before .before .before .before .before .before .before .before .before .before .before .before in
+    let e = s .args .l .now in
+    let at = s .args .at in
+    let mark = c .before .before .before .before .before .before .before .before .before .before .before .before .before .before .put-mark in
+    let first = c .before .before .before .before .before .before .before .before .before .before .put4 in
+    let then = c .before .before .before .before .before .before .put42 in
+    let zero = c .before .before .put-zero in
+    let a = bytes 4 (s .args .seconds) in
+    let b = bytes 4 (s .args .micros) in
+    let n = length-bytes 4 (s .args .seconds) in
+    let k = length-bytes 4 (s .args .micros) in
+    let o = written-next e at (tickMark ∷ 0x00 ∷ []) a (mark .last .0) (first .last .0) (at + markEnd) (mark .ensures) (omega arith) (omega (arith, s .pre .room)) (first .ensures) in
+    let p = written-next e at ((tickMark ∷ 0x00 ∷ []) ++ a) b _ (then .last .0) (at + markEnd + 4) o (omega arith) (omega (arith, s .pre .room)) (then .ensures) in
+    record-put (ticks (s .args .seconds) (s .args .micros) cardRoom) e _ (zero .last .0) at (at + tickEnd) (s .pre) (omega (arith, length-append a b)) (omega (arith, length-append a b)) p (zero .ensures)
 
 pub keep-tick-spec : {M : Type 1} → statement M
 keep-tick-spec =

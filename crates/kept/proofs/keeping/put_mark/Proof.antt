@@ -1,28 +1,26 @@
+-- Two stores.
+use mathlib.Core.Path.{_≡_}
+use native.Mathlib.Omega.{arith}
+use lib.ListN.{length-set}
+use Rattle.kept.proofs.Puts.{two-set}
 use borrow.Author.Needs.{needs}
 use Rattle.kept.proofs.keeping.put_mark.Statement.{statement}
 use Rattle.kept.proofs.keeping.put_mark.Tie as tie
-use Rattle.kept.proofs.keeping.put_mark.Reads as reads
-use Rattle.kept.proofs.keeping.put_mark.Lts as lts
 
--- src/keeping.rt:17:5
 slice-write-l : tie.Need-slice-write-l
 slice-write-l c = search needs
 
--- src/keeping.rt:18:7
 add-l : tie.Need-add-l
 add-l c = search needs
 
--- src/keeping.rt:18:5
 slice-write-l-2 : tie.Need-slice-write-l-2
-slice-write-l-2 c = ?
+slice-write-l-2 c = simp length-set (omega arith)
 
--- src/keeping.rt:13:1
 same-length : tie.Need-same-length
 same-length c = search needs
 
--- src/keeping.rt:13:1
 returns : tie.Need-returns
-returns c = ?
+returns c = two-set (c .args .l .now) (c .args .at) (c .args .mark) (c .args .second) (omega arith)
 
 pub put-mark-spec : {M : Type 1} → statement M
 put-mark-spec = tie.close (tie.spec slice-write-l add-l slice-write-l-2 same-length returns)

@@ -14,7 +14,7 @@ number2-requires : tie.Need-number2-requires
 number2-requires c κs = search needs
 
 returns-2 : tie.Need-returns-2
-returns-2 c = 
+returns-2 c =
     let n = c .before .number2 in
     sym (message-oversize (c .before .before .before .before .args .l .now) (n .result) (omega arith) (n .ensures) (omega arith))
 
@@ -25,7 +25,7 @@ add-if3 : tie.Need-add-if3
 add-if3 c = search needs
 
 returns-3 : tie.Need-returns-3
-returns-3 c = 
+returns-3 c =
     let n = c .before .before .number2 in
     sym (message-cut (c .before .before .before .before .before .args .l .now) (n .result) (omega arith) (n .ensures) (omega arith) (omega arith))
 
@@ -33,7 +33,7 @@ shared-slice-read-t8 : tie.Need-shared-slice-read-t8
 shared-slice-read-t8 c = search needs
 
 returns-4 : tie.Need-returns-4
-returns-4 c = 
+returns-4 c =
     let n = c .before .before .before .number2 in
     sym (message-whole (c .before .before .before .before .before .before .args .l .now) (n .result) (omega arith) (n .ensures) (omega arith) (omega arith))
 

@@ -20,7 +20,7 @@ shared-slice-read-t8 : tie.Need-shared-slice-read-t8
 shared-slice-read-t8 c = search needs
 
 returns-2 : tie.Need-returns-2
-returns-2 c = 
+returns-2 c =
     let l = c .before .before .before .before .before .args .l .now in
     rw (
       record-at l (omega arith),
@@ -31,7 +31,7 @@ shared-slice-read-t10 : tie.Need-shared-slice-read-t10
 shared-slice-read-t10 c = search needs
 
 returns-3 : tie.Need-returns-3
-returns-3 c = 
+returns-3 c =
     let l = c .before .before .before .before .before .before .args .l .now in
     rw (
       record-at l (omega arith),
@@ -43,7 +43,7 @@ message-at-requires : tie.Need-message-at-requires
 message-at-requires c κs = search needs
 
 returns-4 : tie.Need-returns-4
-returns-4 c = 
+returns-4 c =
     let l = c .before .before .before .before .before .before .before .args .l .now in
     rw (
       record-at l (omega arith),
@@ -57,7 +57,7 @@ tick-at-requires : tie.Need-tick-at-requires
 tick-at-requires c κs = search needs
 
 returns-5 : tie.Need-returns-5
-returns-5 c = 
+returns-5 c =
     let l = c .before .before .before .before .before .before .before .before .args .l .now in
     rw (
       record-at l (omega arith),
@@ -69,7 +69,7 @@ returns-5 c =
     (c .tick-at .ensures)
 
 returns-6 : tie.Need-returns-6
-returns-6 c = 
+returns-6 c =
     let l = c .before .before .before .before .before .before .before .args .l .now in
     rw (
       record-at l (omega arith),
