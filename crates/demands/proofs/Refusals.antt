@@ -13,43 +13,18 @@ use Rattle.rules.specs.declared.Framing.the-variants.{Framed, Unframed}
 use Rattle.rules.specs.Units.{timeOf, badMicros, fromMicros}
 use Rattle.rules.specs.Bytes.{messageID, messageSize, oversize, hasZero, nameIn}
 use Rattle.rules.specs.State.{Splicer, linkOf, isOpen, withLink, withQueue}
-use Rattle.rules.specs.Records.{Record}
 use Rattle.rules.specs.Ends.{closedBy}
 use Rattle.rules.specs.Cues.{badSection, readCue, cueTime, initialisedOnes, cueRecords}
-use Rattle.rules.specs.Calls.{houseNumber, refused, good, Called, refuse, does, writtenBy, consumedBy, bufferAfter, noConnection, noRoom, notOpen, longSection, shut, named, fresh, openCall, closeCall, framing, handled, messageCall, ticked, moveCall, tickCall, Call, opens, closes, messages, ticks, moves, cueCall, cues, call}
+use Rattle.rules.specs.Calls.{houseNumber, refused, refuse, does, writtenBy, consumedBy, bufferAfter, noConnection, noRoom, notOpen, longSection, shut, named, fresh, openCall, closeCall, framing, handled, messageCall, ticked, moveCall, tickCall, Call, opens, closes, messages, ticks, moves, cueCall, cues, call}
+use Rattle.rules.proofs.Refused as rules
 use Rattle.rules.proofs.Written.{written-none}
 use Rattle.demands.specs.Told.{firstNumber, checks, numberOf, Unchanged}
-use Rattle.demands.proofs.Cases.{cases}
 
 module _ (s : Splicer) where
-  -- r: what came of a call to s
-  abbrev Same : Call → Called → Type 0
-  Same k r = (n : Refusal) → r .answer ≡ refused n → r .splicer ≡ s
-
-  good-other : {n : Refusal} {consumed : ℕ} {rs : List Record} {A : Type 0} → good consumed rs ≡ refused n → A
-  good-other e = let z : _≡_ {A = ℕ} 0 1 = cc in absurd (omega arith)
-
-  same-state : (k : Call) → Same k (call k s)
-  unfolding ticked
-  same-state =
-      cases s Same (record {
-        refusing = λ k n m e. refl;
-        opening = λ c low i n e. good-other e;
-        closing = λ c room low i n e. good-other e;
-        saying = λ c l loans m rs i p n e. good-other e;
-        naming = λ c l loans m r hw i p n e. good-other e;
-        aborting = λ c l loans m x i j n e. good-other e;
-        declining = λ c l loans m r i y o n e. good-other e;
-        accepting = λ c l loans m r i j p n e. good-other e;
-        ticking = λ seconds micros room le n e. good-other e;
-        moving = λ until room le n e. good-other e;
-        cueing = λ l pts seconds micros room rs p n e. good-other e;
-      })
-
   pub unchanged : (k : Call) (n : Refusal) → call k s .answer ≡ refused n → Unchanged s (call k s)
   unfolding bufferAfter writtenBy consumedBy
   unchanged k n e =
-      record { splicer = same-state k n e; written = rw e; consumed = rw e; buffer = λ b. rw e (written-none b 0) }
+      record { splicer = rules.unchanged s k n e; written = rw e; consumed = rw e; buffer = λ b. rw e (written-none b 0) }
 
   pub first-number : (k : Call) → numberOf (call k s .answer) ≡ firstNumber (checks k s)
   unfolding call openCall closeCall messageCall framing handled moveCall tickCall cueCall ticked numberOf houseNumber firstNumber checks

@@ -12,6 +12,7 @@ pub mod Descriptors
 pub mod Checks
 pub mod Cases
 pub mod Cued
+pub mod Refused
 pub mod Always
 pub mod Leaving
 pub mod Lately
