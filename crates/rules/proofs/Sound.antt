@@ -215,7 +215,7 @@ sound-found s k f h =
 
 -- ## A splicer that fresh and the calls since have given
 
-after-last : (ks : List Call) (k : Call) (s : Splicer) → after (ks ++ (k ∷ [])) s ≡ call k (after ks s) .splicer
+pub after-last : (ks : List Call) (k : Call) (s : Splicer) → after (ks ++ (k ∷ [])) s ≡ call k (after ks s) .splicer
 unfolding after
 after-last [] k s = refl
 after-last (j ∷ ks) k s = after-last ks k (call j s .splicer)
