@@ -5,3 +5,4 @@ pub mod Keeps
 pub mod Logs
 pub mod Reading
 pub mod Puts
+pub mod Worked

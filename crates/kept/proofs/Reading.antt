@@ -154,3 +154,10 @@ module _ {l : List ℕ} {at n : ℕ} (c : Counting l at n) {k : ℕ} (e : k ≡ 
           calls = omega (arith, c .calls, ap length (calls-more (drop at l) stands), ap (λ x. length (keptCalls x)) rest);
           bytes = omega (arith, c .bytes, taken-more (drop at l) stands, size-is-k, ap taken rest);
         }
+
+-- any two results that the promise allows are equal
+pub counts-same : (l : List ℕ) (g h : Held) → Counts l g → Counts l h → g ≡ h
+counts-same l g h a b = same (g .calls) (g .taken) (h .calls) (h .taken) (a .calls ∙ sym (b .calls)) (a .taken ∙ sym (b .taken))
+  where
+    same : (m t n u : ℕ) → m ≡ n → t ≡ u → _≡_ {A = Held} (record { calls = m; taken = t }) (record { calls = n; taken = u })
+    same m t n u e f = cc
