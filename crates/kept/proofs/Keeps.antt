@@ -15,7 +15,7 @@ use Rattle.rules.specs.declared.Framing.the-variants.{Framed, Unframed}
 use Rattle.rules.specs.Bytes.{value, part, messageID, messageSize, oversize}
 use Rattle.rules.specs.Units.{badMicros}
 use Rattle.rules.specs.State.{Splicer}
-use Rattle.rules.specs.Calls.{Called, refuse, noConnection, noRoom, notOpen, framing, handled}
+use Rattle.rules.specs.Calls.{Loans, Called, refuse, noConnection, noRoom, notOpen, framing, handled}
 use Rattle.rules.specs.Calls.{openCall, closeCall, messageCall, moveCall, tickCall, Call, opens, closes, messages, ticks, moves, call}
 use Rattle.rules.specs.Sound.{Wired}
 use Rattle.rules.proofs.Bytes.{part-byte}
@@ -112,20 +112,36 @@ under : (b : Bool) (n : Refusal) (s : Splicer) (x : Called) → Good (cond b (re
 under true n s x g = absurd g
 under false n s x g = (refl, g)
 
+-- a good message call: its connection, and what was read
+module _ (c : ℕ) (l : List ℕ) (loans : Loans) (s : Splicer) (g : Good (call (messages c l loans) s .answer)) where
+  behind : Good (handled c (framing l) l s .answer)
+  unfolding call messageCall
+  behind = under (notOpen c s) _ s _ (under (noRoom (loans .room)) _ s _ (under (noConnection c) _ s _ g .1) .1) .1
+
+  pub good-framing : Framing l
+  good-framing = framing-of c l s behind
+
+  pub message-low : c ≤ 3
+  unfolding call messageCall
+  message-low = ltb-false 3 c (under (noConnection c) _ s _ g .0)
+
+pub open-low : (c : ℕ) (s : Splicer) → Good (call (opens c) s .answer) → c ≤ 3
+unfolding call openCall
+open-low c s g = ltb-false 3 c (under (noConnection c) _ s _ g .0)
+
+pub close-low : (c room : ℕ) (s : Splicer) → Good (call (closes c room) s .answer) → c ≤ 3
+unfolding call closeCall
+close-low c room s g = ltb-false 3 c (under (noConnection c) _ s _ g .0)
+
 pub keepable : (k : Call) (s : Splicer) → Its k → Wired k → Good (call k s .answer) → Keepable (keptForm k)
-unfolding call keptForm openCall closeCall messageCall tickCall
+unfolding call keptForm tickCall
 keepable (opens c) s i w g = tt
 keepable (closes c room) s i w g = refl
-keepable (messages c l loans) s i w g =
-    let a = under (noConnection c) _ s _ g in
-    let b = under (noRoom (loans .room)) _ s _ (a .1) in
-    let d = under (notOpen c s) _ s _ (b .1) in
-    let k = front-keepable l (framing-of c l s (d .1)) in
-    (refl, k .0, k .1)
+keepable (messages c l loans) s i w g = let k = front-keepable l (good-framing c l loans s g) in (refl, k .0, k .1)
 keepable (ticks seconds micros room) s i w g =
     let a = under (noRoom room) _ s _ g in
     let b = under (badMicros micros) _ s _ (a .1) in
-    (refl, omega arith, omega (arith, ltb-false 999999 micros (b .0)))
+    (refl, omega arith, omega (arith, ltb-false _ micros (b .0)))
 keepable (moves until room) s i w g = absurd i
 
 pub kept-wired : (k : Call) → Wired k → Wired (keptForm k)

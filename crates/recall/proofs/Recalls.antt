@@ -12,7 +12,7 @@ use Rattle.rules.specs.declared.Refusal.the-variants.{NoConnection, NoRoom, Clo
 use Rattle.rules.specs.Lists.{All, put}
 use Rattle.rules.specs.Bytes.{written}
 use Rattle.rules.specs.State.{Splicer}
-use Rattle.rules.specs.Calls.{Answer, refused, good, houseNumber, writtenBy, bufferAfter, Call, call, after}
+use Rattle.rules.specs.Calls.{Answer, refused, good, Called, houseNumber, writtenBy, bufferAfter, Call, call, after}
 use Rattle.rules.specs.Sound.{Wired}
 use Rattle.rules.proofs.Tests.{by}
 use Rattle.kept.specs.declared.Reply.the-variants.{Full, Refused, Done}
@@ -181,21 +181,27 @@ refused-leaves k l n = go (full l) (call k (after (keptCalls l) begun) .answer)
 
 -- ## The theorems
 
+fresh-log : (l : List ℕ) → length l ≡ logLength → recallFresh l .log ≡ cleared l
+unfolding recallFresh
+fresh-log l h = rw (same-length l h)
+
 -- "Until it first refuses with 13, the log unchanged between calls, it is proved to answer like the card's engine, byte for byte": any calls
--- from fresh, each handed the log that the last one left
+-- from its fresh, each handed the log that the last one left
 pub recalls-like-the-card : (l : List ℕ) → length l ≡ logLength → (ks : List Call) → All Its ks → All Wired ks
-    → LikeTheCard (before13 ks (cleared l)) (cleared l)
+    → LikeTheCard (before13 ks (recallFresh l .log)) (recallFresh l .log)
 recalls-like-the-card l h ks i w =
     let c = cleared l in
-    like-the-card l h (before13 ks c) (before-all Its ks c i) (before-all Wired ks c w) (before-none ks c)
+    subst (λ x. LikeTheCard (before13 ks x) x) (sym (fresh-log l h))
+    (like-the-card l h (before13 ks c) (before-all Its ks c i) (before-all Wired ks c w) (before-none ks c))
+
+-- what is told of a call says what its buffer holds, which held e
+pub told-buffer : (c : Called) (e : List ℕ) → written e 0 (toldBy c .shows) ≡ bufferAfter (c .answer) e
+unfolding bufferAfter toldBy
+told-buffer c e = refl
 
 -- the next call gets 13 exactly when the good ones of the calls before it have spent the log
-pub thirteen-exactly : (l : List ℕ) → length l ≡ logLength → (ks : List Call) → All Its ks → All Wired ks → None13 ks (cleared l) → (k : Call)
-    → eqb (numberOf (recallCall k (logLeft ks (cleared l)) .told .reply)) 13 ≡ spent (goods ks begun)
-thirteen-exactly l h ks i w n k = thirteen-of-any k (logLeft ks (cleared l)) ∙ full-is-spent l h ks i w n
-
--- and the buffer that it was lent: e before the call
-pub buffer-like-the-card : (k : Call) (l : List ℕ) (s : Splicer) → Its k → Wired k → Leads l s → full l ≡ false → (e : List ℕ)
-    → written e 0 (recallCall k l .told .shows) ≡ bufferAfter (call k s .answer) e
-unfolding bufferAfter toldBy
-buffer-like-the-card k l s i w h f e = ap (λ t. written e 0 (t .shows)) (told-same k l s i w h f)
+pub thirteen-exactly : (l : List ℕ) → length l ≡ logLength → (ks : List Call) → All Its ks → All Wired ks → None13 ks (recallFresh l .log)
+    → (k : Call) → eqb (numberOf (recallCall k (logLeft ks (recallFresh l .log)) .told .reply)) 13 ≡ spent (goods ks begun)
+thirteen-exactly l h ks i w n k =
+    thirteen-of-any k (logLeft ks (recallFresh l .log))
+    ∙ ap (λ x. full (logLeft ks x)) (fresh-log l h) ∙ full-is-spent l h ks i w (subst (None13 ks) (fresh-log l h) n)
