@@ -1,25 +1,25 @@
 -- The calls in a log to which one was appended are those before and the new one.
 -- Rests on Walks: from call to call through a log; and on `again` of Firsts: what is read does not change with what stands behind it.
 use mathlib.Core.Path.{_≡_, refl, sym, subst, ap, _∙_}
-use mathlib.Core.Bool.{Bool, true, false, cond}
+use mathlib.Core.Bool.{Bool, true, false}
 use mathlib.Core.List.{List, [], _∷_, _++_, append-assoc, append-nil}
-use Prim.Native.Nat.{ℕ, zero, suc, _+_, _-_, _^_, _≤_, _<_}
+use Prim.Native.Nat.{ℕ, suc, _+_, _-_, _^_, _≤_, _<_}
 use native.Mathlib.Omega.{arith}
 use lib.Dec.{ltb}
-use lib.ListN.{length, take, drop, replicate, length-append, length-drop, length-replicate, drop-of-length-le}
+use lib.ListN.{length, take, drop, replicate, length-append, length-replicate, drop-of-length-le}
 use lib.Seq.{length-take-le, take-all, take-at, drop-at, take-add}
 use borrow.Author.Tests.{ltb-true, ltb-false, le-ltb}
 use Rattle.rules.specs.Lists.{put}
-use Rattle.rules.specs.Bytes.{value, valueFrom, part, field, messageSize, oversize, bytes, written, largestSize}
-use Rattle.rules.specs.Calls.{Call, opens, closes, messages, ticks, moves, Loans}
+use Rattle.rules.specs.Bytes.{value, valueFrom, messageSize, oversize, bytes, written, largestSize}
+use Rattle.rules.specs.Calls.{Call, opens, closes, messages, ticks, moves}
 use Rattle.rules.specs.Card.{openMark, closeMark, messageMark, tickMark, markEnd, tickEnd, headerEnd, messageEnd}
-use Rattle.rules.specs.Card.{Next, calls, ends, stops, next, nextMessage, nextTick, cardRoom, cardLoans}
+use Rattle.rules.specs.Card.{calls, stops, next, nextMessage, nextTick, cardRoom, cardLoans}
 use Rattle.rules.proofs.Tests.{by}
 use Rattle.rules.proofs.Bytes.{length-bytes, value-bytes}
 use Rattle.rules.proofs.Written.{length-written}
-use Rattle.kept.specs.Log.{keptCalls, taken, free, logLength, longestRecord}
+use Rattle.kept.specs.Log.{keptCalls, taken, free, longestRecord}
 use Rattle.kept.specs.Kept.{marked, zeroBehind, appended, cleared}
-use Rattle.kept.proofs.Firsts.{part-front, First, first}
+use Rattle.kept.proofs.Firsts.{part-front, first}
 use Rattle.kept.proofs.Walks.{NoCall, calls-none, taken-none, calls-more, taken-more, through, within, rest-long}
 
 -- ## One record

@@ -2,12 +2,12 @@
 -- Rests on the lists' laws of `take`, `drop` and `++` alone.
 use mathlib.Core.Path.{_≡_, refl, sym, subst, ap, _∙_}
 use mathlib.Core.Bool.{true, false}
-use mathlib.Core.List.{List, [], _∷_, _++_}
-use Prim.Native.Nat.{ℕ, suc, _+_, _≤_, _<_}
+use mathlib.Core.List.{List, _++_}
+use Prim.Native.Nat.{ℕ, _+_, _≤_}
 use native.Mathlib.Omega.{arith}
 use lib.Dec.{eqb, ltb}
 use lib.ListN.{length, take, drop, length-append, length-drop, take-append-drop}
-use lib.Seq.{length-take-le, take-at, drop-at, drop-drop, take-append-le, drop-append-le}
+use lib.Seq.{length-take-le, drop-at, drop-drop, take-append-le, drop-append-le}
 use borrow.Author.Tests.{ltb-false, le-ltb}
 use Rattle.rules.specs.Bytes.{value, bytes, part, field, messageSize, oversize}
 use Rattle.rules.specs.Calls.{Call, opens, closes, messages, ticks}

@@ -1,18 +1,18 @@
 -- 02, CR 12: the log as a whole: when it is full, the bytes that its calls take, logs with the same calls, and any bytes as a log.
 -- Rests on Walks and Appends.
 use mathlib.Core.Path.{_≡_, refl, sym, subst, ap, ap₂, _∙_}
-use mathlib.Core.Bool.{Bool, true, false, not, _||_}
+use mathlib.Core.Bool.{Bool, true, false, not}
 use mathlib.Core.List.{List, [], _∷_, _++_, append-assoc, append-nil}
 use Prim.Native.Nat.{ℕ, zero, suc, _+_, _-_, _≤_, _<_}
 use native.Mathlib.Omega.{arith}
 use native.Mathlib.Nat.{add-zero}
 use lib.Dec.{eqb, leb, ltb}
-use lib.ListN.{length, take, drop, replicate, length-append, length-drop, take-append-drop}
-use lib.Seq.{length-take-le, take-all, take-at, drop-at, drop-drop, drop-nil}
-use borrow.Author.Tests.{ltb-true, ltb-false, lt-ltb, le-ltb, leb-true, leb-false, le-leb, lt-leb, eqb-true, eq-eqb, ne-eqb}
+use lib.ListN.{length, take, drop, replicate, length-append, take-append-drop}
+use lib.Seq.{length-take-le, take-at, drop-at, drop-drop}
+use borrow.Author.Tests.{ltb-true, ltb-false, le-ltb, leb-false, le-leb, lt-leb, eqb-true, eq-eqb, ne-eqb}
 use Rattle.rules.specs.Lists.{All, put}
-use Rattle.rules.specs.Bytes.{Byte, field, messageSize, oversize}
-use Rattle.rules.specs.Calls.{Answer, refused, good, Call, opens, closes, messages, ticks}
+use Rattle.rules.specs.Bytes.{Byte, messageSize, oversize}
+use Rattle.rules.specs.Calls.{Answer, refused, Call}
 use Rattle.rules.specs.Card.{openMark, closeMark, messageMark, tickMark, markIn, messageFrom, markEnd, tickEnd, headerEnd, messageEnd}
 use Rattle.rules.specs.Card.{Next, calls, ends, stops, next, nextMessage, nextTick}
 use Rattle.rules.specs.Sound.{Wired}
@@ -20,10 +20,10 @@ use Rattle.rules.proofs.Tests.{by, clash, or-none}
 use Rattle.rules.proofs.All.{all-drop}
 use Rattle.rules.proofs.Bytes.{part-byte, field-below}
 use Rattle.kept.specs.Log.{keptCalls, taken, free, logLength, mostCalls, longestRecord, otherLength, full}
-use Rattle.kept.specs.Kept.{Its, marked, recorded, zeroBehind, appended, cleared, logAfter, Neat, spaceIn, Behind}
+use Rattle.kept.specs.Kept.{Its, marked, recorded, appended, cleared, logAfter, Neat, spaceIn, Behind}
 use Rattle.kept.specs.declared.Space.the-variants.{From, NoSpace}
 use Rattle.kept.proofs.Firsts.{first}
-use Rattle.kept.proofs.Walks.{NoCall, calls-none, taken-none, calls-more, taken-more, through, within}
+use Rattle.kept.proofs.Walks.{calls-none, taken-none, calls-more, taken-more, through, within}
 use Rattle.kept.proofs.Appends.{Keepable, marked-length, left, appended-is, appended-calls, appended-taken, appended-length}
 use Rattle.kept.proofs.Appends.{cleared-calls, cleared-taken, cleared-length}
 

@@ -6,14 +6,12 @@ use Prim.Native.Nat.{ℕ, _+_, _-_, _≤_, _<_}
 use native.Mathlib.Omega.{arith}
 use lib.Dec.{ltb}
 use lib.ListN.{length, set, length-set, replicate, length-replicate, replicate-append-replicate, drop-of-length-le}
-use borrow.Rule.Slice.PartMut.{putMid, midOf}
 use borrow.Author.Tests.{lt-ltb, le-ltb}
 use Rattle.rules.specs.Lists.{put}
-use Rattle.rules.specs.Bytes.{bytes, written}
+use Rattle.rules.specs.Bytes.{written}
 use Rattle.rules.specs.Calls.{Call}
-use Rattle.rules.proofs.Bytes.{length-bytes}
-use Rattle.rules.proofs.Written.{written-none, length-written, written-set, written-more, written-next}
-use Rattle.kept.specs.Log.{taken, longestRecord}
+use Rattle.rules.proofs.Written.{written-none, length-written, written-set, written-more}
+use Rattle.kept.specs.Log.{longestRecord}
 use Rattle.kept.specs.Kept.{marked, zeroBehind, appended, cleared, Behind}
 
 pub two-set : (e : List ℕ) (at a b : ℕ) → at + 2 ≤ length e → set (set e at a) (at + 1) b ≡ written e at (a ∷ b ∷ [])

@@ -2,8 +2,8 @@
 -- Rests on `first` of Firsts: the call that some bytes begin with, and its bytes.
 use mathlib.Core.Path.{_≡_, refl, sym, ap, _∙_}
 use mathlib.Core.Bool.{Bool, true, false, cond}
-use mathlib.Core.List.{List, [], _∷_}
-use Prim.Native.Nat.{ℕ, _+_, _-_, _*_, _≤_, _<_}
+use mathlib.Core.List.{List}
+use Prim.Native.Nat.{ℕ, _+_, _-_, _≤_, _<_}
 use native.Mathlib.Omega.{arith}
 use lib.Dec.{eqb}
 use lib.ListN.{length, getD, take, drop, length-drop}
@@ -11,17 +11,15 @@ use lib.Seq.{take-all, drop-drop}
 use borrow.Rule.Slice.PartMut.{midOf}
 use borrow.Author.Tests.{lt-ltb, le-ltb}
 use Rattle.rules.specs.Bytes.{value, field, messageSize, largestSize}
-use Rattle.rules.specs.Calls.{Call, opens}
 use Rattle.rules.specs.Card.{openMark, closeMark, messageMark, tickMark, messageFrom, markEnd, tickEnd, headerEnd, messageEnd}
 use Rattle.rules.specs.Card.{Next, calls, ends, stops, next, nextMessage, nextTick}
 use Rattle.rules.proofs.Values.{field-one}
-use Rattle.kept.specs.declared.Record.{Record}
 use Rattle.kept.specs.declared.Record.the-variants.{Open, Close, Message, Tick, None}
 use Rattle.kept.specs.declared.Held.{Held}
 use Rattle.kept.specs.Log.{keptCalls, taken}
 use Rattle.kept.specs.Kept.{recordOf, recordIn, callOf, spanOf, Counts}
 use Rattle.kept.proofs.Firsts.{part-take, first}
-use Rattle.kept.proofs.Walks.{NoCall, calls-none, taken-none, calls-more, taken-more, within}
+use Rattle.kept.proofs.Walks.{NoCall, calls-none, taken-none, calls-more, taken-more}
 
 -- ## The tests
 

@@ -2,14 +2,14 @@
 -- Rests on `begins` of Firsts: a call takes two bytes or more of the log.
 use mathlib.Core.Path.{_≡_, refl, sym, subst, ap, _∙_}
 use mathlib.Core.List.{List, [], _∷_}
-use Prim.Native.Nat.{ℕ, zero, suc, _+_, _-_, _*_, _≤_, _<_}
+use Prim.Native.Nat.{ℕ, zero, suc, _+_, _-_, _*_, _≤_}
 use native.Mathlib.Omega.{arith}
-use lib.ListN.{length, take, drop, length-drop}
+use lib.ListN.{length, drop, length-drop}
 use lib.Seq.{drop-drop}
 use Rattle.rules.specs.Calls.{Call}
 use Rattle.rules.specs.Card.{Next, calls, ends, stops, next}
 use Rattle.kept.specs.Log.{stepped, callsIn, bytesIn, keptCalls, taken}
-use Rattle.kept.proofs.Firsts.{First, Begins, begins, first}
+use Rattle.kept.proofs.Firsts.{first}
 
 -- no call stands first
 abbrev pub NoCall : Next → Type 0

@@ -1,15 +1,15 @@
 -- 02, CR 12, worked by hand: small logs byte by byte, which the prover computes, and the boundaries of 13.
 -- Rests on the definitions, and for the boundaries on the laws of Logs and Appends.
-use mathlib.Core.Path.{_≡_, refl, ap, _∙_}
+use mathlib.Core.Path.{_≡_, refl, _∙_}
 use mathlib.Core.Bool.{true, false}
 use mathlib.Core.List.{List, [], _∷_}
-use Prim.Native.Nat.{ℕ, _+_, _≤_, _<_}
+use Prim.Native.Nat.{ℕ, _≤_, _<_}
 use native.Mathlib.Omega.{arith}
 use lib.ListN.{length}
 use borrow.Author.Tests.{lt-ltb, le-ltb}
 use Rattle.rules.specs.Bytes.{bytes, value, valueFrom, messageSize, written}
-use Rattle.rules.specs.Calls.{Call, opens, closes, messages, ticks, lending}
-use Rattle.rules.specs.Card.{cardRoom, cardLoans, next, nextMessage, nextTick}
+use Rattle.rules.specs.Calls.{opens, closes, messages, ticks, lending}
+use Rattle.rules.specs.Card.{cardLoans, next, nextMessage, nextTick}
 use Rattle.kept.specs.declared.Reply.the-variants.{Full}
 use Rattle.kept.specs.Log.{stepped, callsIn, bytesIn, keptCalls, taken, free, full, longestRecord}
 use Rattle.kept.specs.Kept.{keptForm, marked, appended, cleared, numberOf}

@@ -1,12 +1,12 @@
 -- 02, CR 12, the theorems between the definitions: `recalls-like-the-card` and `thirteen-exactly`.
 -- Rests on Steps: one call.
 use mathlib.Core.Path.{_≡_, refl, sym, subst, ap, ap₂, _∙_}
-use mathlib.Core.Bool.{Bool, true, false, cond, _||_}
+use mathlib.Core.Bool.{Bool, true, false, cond}
 use mathlib.Core.List.{List, [], _∷_, _++_, append-assoc, append-nil}
-use Prim.Native.Nat.{ℕ, _+_, _-_, _≤_}
+use Prim.Native.Nat.{ℕ, _+_, _-_}
 use native.Mathlib.Omega.{arith}
-use lib.Dec.{eqb, leb, ltb}
-use lib.ListN.{length, take, drop, replicate, take-append-drop}
+use lib.Dec.{eqb}
+use lib.ListN.{length, take, replicate, take-append-drop}
 use Rattle.rules.specs.declared.Refusal.{Refusal}
 use Rattle.rules.specs.declared.Refusal.the-variants.{NoConnection, NoRoom, ClockBack, Oversize, Short, AlreadyOpen, NotOpen, BadMicros, BadName, Counter}
 use Rattle.rules.specs.Lists.{All, put}
@@ -15,12 +15,12 @@ use Rattle.rules.specs.State.{Splicer}
 use Rattle.rules.specs.Calls.{Answer, refused, good, Called, houseNumber, writtenBy, bufferAfter, Call, call, after}
 use Rattle.rules.specs.Sound.{Wired}
 use Rattle.rules.proofs.Tests.{by}
-use Rattle.kept.specs.declared.Reply.the-variants.{Full, Refused, Done}
-use Rattle.kept.specs.Log.{keptCalls, taken, free, logLength, mostCalls, longestRecord, otherLength, full}
+use Rattle.kept.specs.declared.Reply.the-variants.{Refused, Done}
+use Rattle.kept.specs.Log.{keptCalls, taken, logLength, otherLength, full}
 use Rattle.kept.specs.Kept.{Its, keptForm, recorded, isGood, Neat, numberOf, replyOf, cleared, logAfter}
 use Rattle.kept.proofs.Appends.{cleared-calls}
 use Rattle.kept.proofs.Logs.{same-length, taken-recorded}
-use Rattle.recall.specs.Recall.{begun, Told, toldBy, thirteen, recallCall, recallFresh, recalls, logLeft, before13, None13, cardTells, goods, spent, LikeTheCard}
+use Rattle.recall.specs.Recall.{begun, toldBy, thirteen, recallCall, recallFresh, recalls, logLeft, before13, None13, cardTells, goods, spent, LikeTheCard}
 use Rattle.recall.proofs.Steps.{Leads, leads-cleared, told-same, leads-on, calls-on}
 
 -- ## From a log that leads to the splicer s

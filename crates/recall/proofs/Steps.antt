@@ -1,8 +1,8 @@
 -- One call: with a log whose calls lead to the card's splicer, both tell the same, and the log after it leads to the card's splicer after it.
 -- Rests on kept's laws of an appended log, and on: a good call and what is kept of it are one call.
 use mathlib.Core.Path.{_≡_, refl, sym, subst, ap, _∙_}
-use mathlib.Core.Bool.{true, false}
-use mathlib.Core.List.{List, [], _∷_, _++_, append-nil}
+use mathlib.Core.Bool.{false}
+use mathlib.Core.List.{List, [], _++_, append-nil}
 use Prim.Native.Nat.{ℕ}
 use lib.ListN.{length}
 use Rattle.rules.specs.Lists.{put}

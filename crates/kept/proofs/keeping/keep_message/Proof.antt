@@ -3,7 +3,6 @@ use mathlib.Core.Path.{sym}
 use mathlib.Core.List.{[], _∷_}
 use Prim.Native.Nat.{_+_}
 use native.Mathlib.Omega.{arith}
-use lib.ListN.{length}
 use lib.Seq.{length-take-le}
 use Rattle.rules.specs.Bytes.{part}
 use Rattle.rules.specs.Calls.{messages}

@@ -1,5 +1,4 @@
 -- Two stores.
-use mathlib.Core.Path.{_≡_}
 use native.Mathlib.Omega.{arith}
 use lib.ListN.{length-set}
 use Rattle.kept.proofs.Puts.{two-set}
