@@ -61,7 +61,8 @@ tick-next s u y f g =
     let m = length-append x y in
     let n : length x ≡ 8 = length-append (bytes 4 s) (bytes 4 u) ∙ omega (arith, length-bytes 4 s, length-bytes 4 u) in
     let a : take 4 (x ++ y) ≡ bytes 4 s = part-front 0 4 x y (omega arith) ∙ take-at (bytes 4 s) (bytes 4 u) 4 (length-bytes 4 s) in
-    let b : take 4 (drop 4 (x ++ y)) ≡ bytes 4 u = part-front 4 4 x y (omega arith) ∙ ap (take 4) (drop-at (bytes 4 s) (bytes 4 u) 4 (length-bytes 4 s)) ∙ take-all 4 (bytes 4 u) (omega (arith, length-bytes 4 u)) in
+    let b : take 4 (drop 4 (x ++ y)) ≡ bytes 4 u =
+    part-front 4 4 x y (omega arith) ∙ ap (take 4) (drop-at (bytes 4 s) (bytes 4 u) 4 (length-bytes 4 s)) ∙ take-all 4 (bytes 4 u) (omega (arith, length-bytes 4 u)) in
     rw (
       le-ltb (suc (suc (length (x ++ y)))) markEnd (omega arith),
       one tickMark,
@@ -106,7 +107,8 @@ module _ (k : Call) (h : Keepable k) (y : List ℕ) (none : NoCall (next y)) whe
   then : (l : List ℕ) {j : Call} {m : List ℕ} → next l ≡ calls j m → next (with l) ≡ calls j (with m)
   then l {j} {m} e =
       let f = first l e in
-      let split : take (taken l) l ≡ take (f .size) l ++ take (taken m) m = ap (λ n. take n l) (taken-more l e) ∙ take-add (f .size) (taken m) l ∙ ap (λ x. take (f .size) l ++ take (taken m) x) (sym (f .rest)) in
+      let split : take (taken l) l ≡ take (f .size) l ++ take (taken m) m =
+      ap (λ n. take n l) (taken-more l e) ∙ take-add (f .size) (taken m) l ∙ ap (λ x. take (f .size) l ++ take (taken m) x) (sym (f .rest)) in
       ap (λ x. next (x ++ (marked k ++ y))) split ∙ ap next (append-assoc (take (f .size) l) (take (taken m) m) (marked k ++ y)) ∙ f .again (with m)
 
   calls-with : (l : List ℕ) → keptCalls (with l) ≡ keptCalls l ++ (k ∷ [])

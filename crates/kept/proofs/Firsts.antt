@@ -121,7 +121,20 @@ module _ (l : List ℕ) where
           marks = omega (arith, length-take-le (8 + messageSize (messageFrom l)) (messageFrom l) (omega (arith, length-drop 2 l)));
           again =
               λ y.
-              rw (enough n l h y 2 (omega arith), field-kept n l h y 0 1 (omega arith), c, d, e, enough n l h y 10 (omega arith), field-kept n l h y 1 1 (omega arith), size-kept n l h y (omega arith), o, enough n l h y n (omega arith), rest-kept n l h y, part-kept n l h y 2 (8 + messageSize (messageFrom l)) (omega arith));
+              rw (
+                enough n l h y 2 (omega arith),
+                field-kept n l h y 0 1 (omega arith),
+                c,
+                d,
+                e,
+                enough n l h y 10 (omega arith),
+                field-kept n l h y 1 1 (omega arith),
+                size-kept n l h y (omega arith),
+                o,
+                enough n l h y n (omega arith),
+                rest-kept n l h y,
+                part-kept n l h y 2 (8 + messageSize (messageFrom l)) (omega arith),
+              );
         }
 
     begins-tick : eqb (markIn l) messageMark ≡ false → eqb (markIn l) tickMark ≡ true → tickEnd ≤ length l
@@ -138,7 +151,18 @@ module _ (l : List ℕ) where
           marks = omega (arith, length-append (bytes 4 (secondsIn l)) (bytes 4 (microsIn l)), length-bytes 4 (secondsIn l), length-bytes 4 (microsIn l));
           again =
               λ y.
-              rw (enough 10 l h y 2 (omega arith), field-kept 10 l h y 0 1 (omega arith), c, d, e, f, enough 10 l h y 10 (omega arith), field-kept 10 l h y 2 4 (omega arith), field-kept 10 l h y 6 4 (omega arith), rest-kept 10 l h y);
+              rw (
+                enough 10 l h y 2 (omega arith),
+                field-kept 10 l h y 0 1 (omega arith),
+                c,
+                d,
+                e,
+                f,
+                enough 10 l h y 10 (omega arith),
+                field-kept 10 l h y 2 4 (omega arith),
+                field-kept 10 l h y 6 4 (omega arith),
+                rest-kept 10 l h y,
+              );
         }
 
   pub begins : Begins l (next l)
