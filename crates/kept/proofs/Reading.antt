@@ -1,8 +1,8 @@
 -- A record of the log as the code reads it: its tests in their order, and from one record to the next.
 -- Rests on `first` of Firsts: the call that some bytes begin with, and its bytes.
-use mathlib.Core.Path.{_≡_, refl, sym, ap, _∙_}
+use mathlib.Core.Path.{_≡_, refl, sym, subst, ap, ap₂, _∙_}
 use mathlib.Core.Bool.{Bool, true, false, cond}
-use mathlib.Core.List.{List}
+use mathlib.Core.List.{List, [], _∷_}
 use Prim.Native.Nat.{ℕ, _+_, _-_, _≤_, _<_}
 use native.Mathlib.Omega.{arith}
 use lib.Dec.{eqb}
@@ -14,6 +14,7 @@ use Rattle.rules.specs.Bytes.{value, field, messageSize, largestSize}
 use Rattle.rules.specs.Card.{openMark, closeMark, messageMark, tickMark, messageFrom, markEnd, tickEnd, headerEnd, messageEnd}
 use Rattle.rules.specs.Card.{Next, calls, ends, stops, next, nextMessage, nextTick}
 use Rattle.rules.proofs.Values.{field-one}
+use Rattle.kept.specs.declared.Record.{Record}
 use Rattle.kept.specs.declared.Record.the-variants.{Open, Close, Message, Tick, None}
 use Rattle.kept.specs.declared.Held.{Held}
 use Rattle.kept.specs.Log.{keptCalls, taken}
@@ -97,6 +98,43 @@ span-some l h = go (next l) refl h
     go (ends k) f h = absurd (omega arith)
     go stops f h = absurd (omega arith)
 
+-- ## A walk through the log l, at the place `at`; r: the record there
+
+-- the bytes from there on
+tail : (l : List ℕ) (at : ℕ) → midOf at (length l - at) l ≡ drop at l
+tail l at = take-all (length l - at) (drop at l) (omega (arith, length-drop at l))
+
+module _ (l : List ℕ) (at : ℕ) (h : at ≤ length l) {r : Record} (e : r ≡ recordIn (midOf at (length l - at) l)) where
+  record-is : recordIn (drop at l) ≡ r
+  record-is = ap recordIn (sym (tail l at)) ∙ sym e
+
+  none-there : spanOf r ≡ 0 → NoCall (next (drop at l))
+  none-there z = span-none (drop at l) (ap spanOf record-is ∙ z)
+
+  pub walk-end : spanOf r ≡ 0 → (keptCalls (drop at l) ≡ []) × (taken (drop at l) ≡ 0)
+  walk-end z = (calls-none (drop at l) (none-there z), taken-none (drop at l) (none-there z))
+
+  module _ (z : 0 < spanOf r) where
+    there : next (drop at l) ≡ calls (callOf r (drop at l)) (drop (spanOf r) (drop at l))
+    there =
+        subst (λ x. 0 < spanOf x → next (drop at l) ≡ calls (callOf x (drop at l)) (drop (spanOf x) (drop at l))) record-is (span-some (drop at l)) z
+
+    size-is-span : first (drop at l) there .size ≡ spanOf r
+    unfolding recordIn
+    size-is-span = sym (first (drop at l) there .span) ∙ ap (λ x. spanOf (recordOf x)) (sym there) ∙ ap spanOf record-is
+
+    pub walk-within : (2 ≤ spanOf r) × (at + spanOf r ≤ length l)
+    walk-within =
+        let f = first (drop at l) there in
+        (omega (arith, size-is-span, f .two), omega (arith, size-is-span, f .there, length-drop at l))
+
+    -- the call there, and those behind it
+    pub walk-calls : keptCalls (drop at l) ≡ callOf r (drop at l) ∷ keptCalls (drop (at + spanOf r) l)
+    walk-calls = calls-more (drop at l) there ∙ ap (λ x. callOf r (drop at l) ∷ keptCalls x) (drop-drop (spanOf r) at l)
+
+    pub walk-taken : taken (drop at l) ≡ spanOf r + taken (drop (at + spanOf r) l)
+    walk-taken = taken-more (drop at l) there ∙ ap₂ _+_ size-is-span (ap taken (drop-drop (spanOf r) at l))
+
 -- ## The count
 
 -- n calls stand before the place `at`
@@ -109,49 +147,30 @@ pub record Counting (l : List ℕ) (at n : ℕ) : Type 0 where
 pub counting-none : (l : List ℕ) → Counting l 0 0
 counting-none l = record { there = omega arith; few = omega arith; calls = omega arith; bytes = omega arith }
 
--- the bytes from the place `at` on
-tail : (l : List ℕ) (at : ℕ) → midOf at (length l - at) l ≡ drop at l
-tail l at = take-all (length l - at) (drop at l) (omega (arith, length-drop at l))
-
--- k: the bytes of the record there
-module _ {l : List ℕ} {at n : ℕ} (c : Counting l at n) {k : ℕ} (e : k ≡ spanOf (recordIn (midOf at (length l - at) l))) where
-  span-is : spanOf (recordIn (drop at l)) ≡ k
-  span-is = ap (λ x. spanOf (recordIn x)) (sym (tail l at)) ∙ sym e
-
+-- k: the bytes of the record r there
+module _ {l : List ℕ} {at n : ℕ} (c : Counting l at n) {r : Record} (e : r ≡ recordIn (midOf at (length l - at) l)) {k : ℕ} (f : k ≡ spanOf r) where
   pub counting-end : k ≡ 0 → Counts l (record { calls = n; taken = at })
   counting-end z =
-      let f = span-none (drop at l) (span-is ∙ z) in
-      record {
-        calls = omega (arith, c .calls, ap length (calls-none (drop at l) f));
-        taken = omega (arith, c .bytes, taken-none (drop at l) f);
-      }
+      let w = walk-end l at (c .there) e (sym f ∙ z) in
+      record { calls = omega (arith, c .calls, ap length (w .0)); taken = omega (arith, c .bytes, w .1) }
 
   module _ (z : k ≡ 0 → ⊥) where
-    stands : next (drop at l) ≡ calls (callOf (recordIn (drop at l)) (drop at l)) (drop k (drop at l))
-    stands = span-some (drop at l) (go (spanOf (recordIn (drop at l))) span-is) ∙ ap (λ i. calls (callOf (recordIn (drop at l)) (drop at l)) (drop i (drop at l))) span-is
-      where
-        go : (i : ℕ) → i ≡ k → 0 < i
-        go i f = omega (arith, z)
-
-    size-is-k : first (drop at l) stands .size ≡ k
-    unfolding recordIn
-    size-is-k = sym (first (drop at l) stands .span) ∙ ap (λ x. spanOf (recordOf x)) (sym stands) ∙ span-is
+    some : 0 < spanOf r
+    some = omega (arith, z)
 
     pub counting-within : (2 ≤ k) × (at + k ≤ length l)
-    counting-within =
-        let f = first (drop at l) stands in
-        (omega (arith, size-is-k, f .two), omega (arith, size-is-k, f .there, length-drop at l, c .there))
+    counting-within = let w = walk-within l at (c .there) e some in (omega (arith, w .0), omega (arith, w .1))
 
     pub counting-more : Counting l (at + k) (n + 1)
     counting-more =
-        let rest : drop k (drop at l) ≡ drop (at + k) l = drop-drop k at l in
         let w = counting-within in
-        record {
-          there = w .1;
+        subst (λ i. Counting l (at + i) (n + 1)) (sym f)
+        (record {
+          there = walk-within l at (c .there) e some .1;
           few = omega (arith, w .0, c .few);
-          calls = omega (arith, c .calls, ap length (calls-more (drop at l) stands), ap (λ x. length (keptCalls x)) rest);
-          bytes = omega (arith, c .bytes, taken-more (drop at l) stands, size-is-k, ap taken rest);
-        }
+          calls = omega (arith, c .calls, ap length (walk-calls l at (c .there) e some));
+          bytes = omega (arith, c .bytes, walk-taken l at (c .there) e some);
+        })
 
 -- any two results that the promise allows are equal
 pub counts-same : (l : List ℕ) (g h : Held) → Counts l g → Counts l h → g ≡ h

@@ -1,11 +1,9 @@
 -- The invariant: the calls before the place are counted.
 -- Rests on proofs/Reading: one record more.
 use borrow.Author.Needs.{needs}
-use mathlib.Core.Path.{ap, _∙_}
 use Prim.Native.Nat.{_-_}
 use native.Mathlib.Omega.{arith}
 use lib.ListN.{length}
-use Rattle.kept.specs.Kept.{spanOf}
 use Rattle.kept.proofs.Reading.{Counting, counting-none, counting-end, counting-within, counting-more}
 use Rattle.kept.proofs.count.Statement.{statement}
 use Rattle.kept.proofs.count.Tie as tie
@@ -37,35 +35,40 @@ span-of-requires c κs = search needs
 returns : tie.Need-returns Inv-loop μ-loop
 returns c =
     let loop = c .before .before .before .before .loop in
-    let span = c .before .span-of .ensures ∙ ap spanOf (c .before .before .record-at .ensures) in
-    counting-end (loop .inv) span (c .if1 .taken)
+    let span = c .before .span-of .ensures in
+    let r = c .before .before .record-at .ensures in
+    counting-end (loop .inv) r span (c .if1 .taken)
 
 add-at : tie.Need-add-at Inv-loop μ-loop
 add-at c =
     let loop = c .before .before .before .before .loop in
-    let span = c .before .span-of .ensures ∙ ap spanOf (c .before .before .record-at .ensures) in
-    let w = counting-within (loop .inv) span (c .if1 .left) in
+    let span = c .before .span-of .ensures in
+    let r = c .before .before .record-at .ensures in
+    let w = counting-within (loop .inv) r span (c .if1 .left) in
     omega arith
 
 add-n : tie.Need-add-n Inv-loop μ-loop
 add-n c =
     let loop = c .before .before .before .before .loop in
-    let span = c .before .span-of .ensures ∙ ap spanOf (c .before .before .record-at .ensures) in
-    let w = counting-within (loop .inv) span (c .if1 .left) in
+    let span = c .before .span-of .ensures in
+    let r = c .before .before .record-at .ensures in
+    let w = counting-within (loop .inv) r span (c .if1 .left) in
     omega (arith, loop .inv .few)
 
 loop-less : tie.Need-loop-less Inv-loop μ-loop
 loop-less c =
     let loop = c .before .before .before .before .loop in
-    let span = c .before .span-of .ensures ∙ ap spanOf (c .before .before .record-at .ensures) in
-    let w = counting-within (loop .inv) span (c .if1 .left) in
+    let span = c .before .span-of .ensures in
+    let r = c .before .before .record-at .ensures in
+    let w = counting-within (loop .inv) r span (c .if1 .left) in
     omega arith
 
 loop-again : tie.Need-loop-again Inv-loop μ-loop
 loop-again c =
     let loop = c .before .before .before .before .loop in
-    let span = c .before .span-of .ensures ∙ ap spanOf (c .before .before .record-at .ensures) in
-    counting-more (loop .inv) span (c .if1 .left)
+    let span = c .before .span-of .ensures in
+    let r = c .before .before .record-at .ensures in
+    counting-more (loop .inv) r span (c .if1 .left)
 
 pub count-spec : {M : Type 1} → statement M
 count-spec =
