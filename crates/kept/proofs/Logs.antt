@@ -199,7 +199,7 @@ fits l a =
     (λ g. by Fits (eqb (markIn l) messageMark) _ _
     (λ h. by Fits (ltb (length l) headerEnd) _ _ (λ i. tt)
     (λ i. by Fits (oversize m) _ _ (λ j. tt)
-    (λ j. by Fits (ltb (length l) n) _ _ (λ k. tt) (λ k. (tt, part-byte 0 (8 + messageSize m) m (all-drop Byte markEnd l a), all-drop Byte n l a)))))
+    (λ j. by Fits (ltb (length l) n) _ _ (λ k. tt) (λ k. (tt, (part-byte 0 (8 + messageSize m) m (all-drop Byte markEnd l a), tt, tt), all-drop Byte n l a)))))
     (λ h. by Fits (eqb (markIn l) tickMark) _ _
     (λ i. by Fits (ltb (length l) tickEnd) _ _ (λ j. tt) (λ j. (tt, field-below 2 4 l a, all-drop Byte tickEnd l a)))
     (λ i. tt)))))

@@ -8,7 +8,7 @@ use native.Mathlib.Omega.{arith}
 use lib.Dec.{eqb}
 use lib.ListN.{length, take, replicate, take-append-drop}
 use Rattle.rules.specs.declared.Refusal.{Refusal}
-use Rattle.rules.specs.declared.Refusal.the-variants.{NoConnection, NoRoom, ClockBack, Oversize, Short, AlreadyOpen, NotOpen, BadMicros, BadName, Counter}
+use Rattle.rules.specs.declared.Refusal.the-variants.{NoConnection, NoRoom, ClockBack, Oversize, Short, AlreadyOpen, NotOpen, BadMicros, BadName, Counter, LongSection}
 use Rattle.rules.specs.Lists.{All, put}
 use Rattle.rules.specs.Bytes.{written}
 use Rattle.rules.specs.State.{Splicer}
@@ -126,6 +126,7 @@ number-other NotOpen = refl
 number-other BadMicros = refl
 number-other BadName = refl
 number-other Counter = refl
+number-other LongSection = refl
 
 told-other : (k : Call) (s : Splicer) → eqb (numberOf (toldBy (call k s) .reply)) 13 ≡ false
 unfolding toldBy replyOf numberOf
