@@ -11,7 +11,7 @@ use lib.Seq.{length-take-le, take-all, take-at, drop-at, take-add}
 use borrow.Author.Tests.{ltb-true, ltb-false, le-ltb}
 use Rattle.rules.specs.Lists.{put}
 use Rattle.rules.specs.Bytes.{value, valueFrom, messageSize, oversize, bytes, written, largestSize}
-use Rattle.rules.specs.Calls.{Call, opens, closes, messages, ticks, moves}
+use Rattle.rules.specs.Calls.{Call, opens, closes, messages, ticks, moves, cues}
 use Rattle.rules.specs.Card.{openMark, closeMark, messageMark, tickMark, markEnd, tickEnd, headerEnd, messageEnd}
 use Rattle.rules.specs.Card.{calls, stops, next, nextMessage, nextTick, cardRoom, cardLoans}
 use Rattle.rules.proofs.Tests.{by}
@@ -31,6 +31,7 @@ Keepable (closes c room) = room ≡ cardRoom
 Keepable (messages c l loans) = (loans ≡ cardLoans) × (length l ≡ 8 + messageSize l) × (oversize l ≡ false)
 Keepable (ticks seconds micros room) = (room ≡ cardRoom) × (seconds < 256 ^ 4) × (micros < 256 ^ 4)
 Keepable (moves until room) = ⊥
+Keepable (cues section pts seconds micros room) = ⊥
 
 one : (c : ℕ) → value (c ∷ []) ≡ c
 unfolding value valueFrom
@@ -82,6 +83,7 @@ next-marked (closes c room) h y = rw (le-ltb (suc (suc (length y))) markEnd (ome
 next-marked (messages c l loans) h y = message-next c l y (h .1) (h .2) ∙ rw (h .0)
 next-marked (ticks seconds micros room) h y = tick-next seconds micros y (h .1) (h .2) ∙ rw (h .0)
 next-marked (moves until room) h y = absurd h
+next-marked (cues section pts seconds micros room) h y = absurd h
 
 pub marked-length : (k : Call) → Keepable k → (2 ≤ length (marked k)) × (length (marked k) ≤ longestRecord)
 unfolding marked
@@ -92,6 +94,7 @@ marked-length (ticks seconds micros room) h =
     let n = length-append (bytes 4 seconds) (bytes 4 micros) in
     (omega arith, omega (arith, length-bytes 4 seconds, length-bytes 4 micros))
 marked-length (moves until room) h = absurd h
+marked-length (cues section pts seconds micros room) h = absurd h
 
 -- ## A record behind the last
 

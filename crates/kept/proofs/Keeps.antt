@@ -13,7 +13,7 @@ use Rattle.rules.specs.declared.Refusal.{Refusal}
 use Rattle.rules.specs.declared.Refusal.the-variants.{Oversize, Short}
 use Rattle.rules.specs.declared.Framing.the-variants.{Framed, Unframed}
 use Rattle.rules.specs.declared.Message.{Message}
-use Rattle.rules.specs.declared.Message.the-variants.{Init, Alive, Splice, Abort, Config, Unreadable}
+use Rattle.rules.specs.declared.Message.the-variants.{Init, Alive, Splice, Abort, Config, Extended, Unreadable}
 use Rattle.rules.specs.Bytes.{dataOf, value, part, messageID, messageSize, oversize}
 use Rattle.rules.specs.Units.{badMicros}
 use Rattle.rules.specs.Reading.{initRequest, isRead, read}
@@ -22,7 +22,7 @@ use Rattle.rules.specs.Records.{General}
 use Rattle.rules.specs.Answers.{says, answerRead, answer}
 use Rattle.rules.specs.Card.{cardLoans}
 use Rattle.rules.specs.Calls.{Loans, Called, refuse, noConnection, noRoom, notOpen, longSection, sectionOf, framing, handled}
-use Rattle.rules.specs.Calls.{openCall, closeCall, messageCall, moveCall, tickCall, Call, opens, closes, messages, ticks, moves, call}
+use Rattle.rules.specs.Calls.{openCall, closeCall, messageCall, moveCall, tickCall, Call, opens, closes, messages, ticks, moves, cues, call}
 use Rattle.rules.specs.Sound.{Wired}
 use Rattle.rules.proofs.Bytes.{part-byte}
 use Rattle.kept.specs.Kept.{Its, keptForm, Good}
@@ -63,6 +63,7 @@ any-section c id d m n s =
     one (Splice r) = refl
     one (Abort x) = refl
     one Config = refl
+    one (Extended x) = refl
     one Unreadable = refl
 
     go : (a b e f : Bool) (r : Message)
@@ -137,6 +138,7 @@ kept-stands (messages c l loans) s g =
 kept-stands (ticks seconds micros room) s g =
     past (noRoom room) _ s _ _ g (λ h. both (badMicros micros) _ s _ _ h (λ i. past (noRoom room) _ s _ _ i (λ j. itself _ j)))
 kept-stands (moves until room) s g = itself _ g
+kept-stands (cues section pts seconds micros room) s g = itself _ g
 
 -- ## What is kept can be kept
 
@@ -177,6 +179,7 @@ keepable (ticks seconds micros room) s i w g =
     let b = under (badMicros micros) _ s _ (a .1) in
     (refl, omega arith, omega (arith, ltb-false _ micros (b .0)))
 keepable (moves until room) s i w g = absurd i
+keepable (cues section pts seconds micros room) s i w g = absurd i
 
 pub kept-wired : (k : Call) → Wired k → Wired (keptForm k)
 unfolding keptForm
@@ -185,6 +188,7 @@ kept-wired (closes c room) w = tt
 kept-wired (messages c l loans) w = (part-byte 0 (8 + messageSize l) l (w .0), tt, tt)
 kept-wired (ticks seconds micros room) w = w
 kept-wired (moves until room) w = w
+kept-wired (cues section pts seconds micros room) w = w
 
 pub kept-its : (k : Call) → Its k → Its (keptForm k)
 unfolding keptForm
@@ -193,3 +197,4 @@ kept-its (closes c room) i = tt
 kept-its (messages c l loans) i = tt
 kept-its (ticks seconds micros room) i = tt
 kept-its (moves until room) i = i
+kept-its (cues section pts seconds micros room) i = i

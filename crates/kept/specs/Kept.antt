@@ -8,7 +8,7 @@ use lib.ListN.{length, take, drop, replicate}
 use Rattle.rules.specs.Lists.{put}
 use Rattle.rules.specs.Bytes.{bytes, part, messageSize, written}
 use Rattle.rules.specs.Records.{output}
-use Rattle.rules.specs.Calls.{Answer, refused, good, houseNumber, Call, opens, closes, messages, ticks, moves}
+use Rattle.rules.specs.Calls.{Answer, refused, good, houseNumber, Call, opens, closes, messages, ticks, moves, cues}
 use Rattle.rules.specs.Card.{cardRoom, cardLoans, openMark, closeMark, messageMark, tickMark, markEnd, tickEnd, messageEnd}
 use Rattle.rules.specs.Card.{Next, calls, ends, stops, next}
 use Rattle.kept.specs.declared.Record.{Record}
@@ -22,13 +22,14 @@ use Rattle.kept.specs.Log.{keptCalls, taken, free, longestRecord, full}
 
 -- ## A call in the form that is kept
 
--- its calls are 01's: a clock brought to an instant in ninths, as the rolling counter's, is not among them
+-- its calls are 01's: a clock brought to an instant in ninths, as the rolling counter's, and a cue are not among them
 abbrev pub Its : Call → Type 0
 Its (opens c) = Unit {0}
 Its (closes c room) = Unit {0}
 Its (messages c l loans) = Unit {0}
 Its (ticks seconds micros room) = Unit {0}
 Its (moves until room) = ⊥
+Its (cues section pts seconds micros room) = ⊥
 
 -- what the card program lends, and of what was read the first message: its 8 + MessageSize bytes and no more
 unfoldable pub keptForm : Call → Call
@@ -37,6 +38,7 @@ keptForm (closes c room) = closes c cardRoom
 keptForm (messages c l loans) = messages c (part 0 (8 + messageSize l) l) cardLoans
 keptForm (ticks seconds micros room) = ticks seconds micros cardRoom
 keptForm (moves until room) = moves until room
+keptForm (cues section pts seconds micros room) = cues section pts seconds micros room
 
 -- "in the card program's marks": 4F c, 43 c, 4D c and the message, 54 00 and the time
 unfoldable pub marked : Call → List ℕ
@@ -45,6 +47,7 @@ marked (closes c room) = closeMark ∷ c ∷ []
 marked (messages c l loans) = messageMark ∷ c ∷ l
 marked (ticks seconds micros room) = tickMark ∷ 0x00 ∷ (bytes 4 seconds ++ bytes 4 micros)
 marked (moves until room) = []
+marked (cues section pts seconds micros room) = []
 
 -- the records of calls, one behind the other
 abbrev pub recorded : List Call → List ℕ
@@ -105,6 +108,7 @@ recordOf (calls (closes c room) m) = Close c
 recordOf (calls (messages c l loans) m) = Message c (messageSize l)
 recordOf (calls (ticks seconds micros room) m) = Tick seconds micros
 recordOf (calls (moves until room) m) = None
+recordOf (calls (cues section pts seconds micros room) m) = None
 recordOf (ends k) = None
 recordOf stops = None
 
