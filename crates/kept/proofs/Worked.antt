@@ -8,7 +8,7 @@ use native.Mathlib.Omega.{arith}
 use lib.ListN.{length}
 use borrow.Author.Tests.{lt-ltb, le-ltb}
 use Rattle.rules.specs.Bytes.{bytes, value, valueFrom, messageSize, written}
-use Rattle.rules.specs.Calls.{opens, closes, messages, ticks, lending}
+use Rattle.rules.specs.Calls.{opens, closes, messages, ticks, lending, lendingMaps}
 use Rattle.rules.specs.Card.{cardLoans, next, nextMessage, nextTick}
 use Rattle.kept.specs.declared.Reply.the-variants.{Full}
 use Rattle.kept.specs.Log.{stepped, callsIn, bytesIn, keptCalls, taken, free, full, longestRecord}
@@ -67,6 +67,12 @@ keeps-message : appended (keptForm (messages 3 read (lending 5000))) (cleared lo
     ≡ 0x4D ∷ 0x03 ∷ 0x00 ∷ 0x05 ∷ 0x00 ∷ 0x01 ∷ 0xFF ∷ 0xFF ∷ 0xFF ∷ 0xFF ∷ 0x07 ∷ 0x00 ∷ 0x00 ∷ 0x00 ∷ 0x00 ∷ 0x00 ∷ []
 unfolding computing
 keeps-message = refl
+
+-- 02, CR 6: lent sections are not kept; "The card program lends empty sections."
+keeps-no-section : keptForm (messages 3 read (lendingMaps (0x02 ∷ []) (0x02 ∷ 0xB0 ∷ []) 5000))
+    ≡ messages 3 (0x00 ∷ 0x05 ∷ 0x00 ∷ 0x01 ∷ 0xFF ∷ 0xFF ∷ 0xFF ∷ 0xFF ∷ 0x07 ∷ []) (lending 4096)
+unfolding computing
+keeps-no-section = refl
 
 -- "54 00 and the time"
 keeps-tick : appended (keptForm (ticks 1 2 4096)) (0x00 ∷ 0xEE ∷ 0xEE ∷ 0xEE ∷ 0xEE ∷ 0xEE ∷ 0xEE ∷ 0xEE ∷ 0xEE ∷ 0xEE ∷ 0xEE ∷ 0xEE ∷ [])
