@@ -2,6 +2,7 @@
  * Document 01's rules in full, with 02's CR 1, 4, 5, 6, 8 and 13, sections empty; waiting sessions in an array by start and counted by connection, started ones in an array by AccessType. */
 #include "splicer.h"
 
+void *memset(void *to, int byte, size_t n);
 void *memcpy(void *to, const void *from, size_t n);
 void *memmove(void *to, const void *from, size_t n);
 void *memchr(const void *s, int c, size_t n);
@@ -15,8 +16,7 @@ struct session {
 
 /* an ended session (02, CR 8); result 0: none */
 struct past {
-    uint32_t id, event, played;
-    uint16_t result;
+    uint32_t id, event, played, result;
     uint8_t conn;
 };
 
@@ -68,7 +68,7 @@ static void completes(struct sink *o, const struct session *s, uint8_t flag, uin
 
 /* an end is kept over the oldest one */
 static void remember(struct peer *p, const struct session *s, uint32_t result) {
-    p->ended[p->next++ % PASTS] = (struct past){s->id, s->event, (uint32_t)(s->played / 100), (uint16_t)result, s->conn};
+    p->ended[p->next++ % PASTS] = (struct past){s->id, s->event, (uint32_t)(s->played / 100), result, s->conn};
 }
 
 static void ends_by(struct peer *p, struct sink *o, const struct session *s, uint32_t result) {
