@@ -36,7 +36,7 @@ use Rattle.rules.proofs.Priors.{isPrior, Tied, tied-more, prior-parts, 
 -- ## Abort
 
 -- a number that is held is one
-holds-somebody : (c x : ℕ) (q : Queue) → Each Proper q → holds c x q ≡ true → eqb x nobody ≡ false
+pub holds-somebody : (c x : ℕ) (q : Queue) → Each Proper q → holds c x q ≡ true → eqb x nobody ≡ false
 holds-somebody c x q a e = failed (eqb x nobody) none
   where
     none : eqb x nobody ≡ true → ⊥

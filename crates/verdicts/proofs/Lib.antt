@@ -1,0 +1,9 @@
+pub mod Same
+pub mod Found
+pub mod Walk
+pub mod Leaving
+pub mod Ends
+pub mod Instants
+pub mod Answers
+pub mod Calls
+pub mod Twice
