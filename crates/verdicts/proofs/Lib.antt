@@ -7,3 +7,5 @@ pub mod Instants
 pub mod Answers
 pub mod Calls
 pub mod Twice
+pub mod Rows
+pub mod Scans

@@ -10,11 +10,9 @@ use Rattle.rules.specs.Lists.{put, some, count, place}
 use Rattle.rules.specs.State.{Queue, empty}
 use Rattle.rules.specs.Records.{resultOf}
 use Rattle.rules.specs.Ends.{ended}
-
--- not held: not accepted, or about to start; waits; has started; has ended, the how-manieth of all ends and with which result
-pub data Phase : Type 0 where
-  Out Waits Started : Phase
-  Ended : (nth result : ℕ) → Phase
+pub use Rattle.verdicts.specs.declared.Phase.{Phase}
+pub use Rattle.verdicts.specs.declared.Phase.the-variants.{Out, Waits, Started, Ended}
+pub use Rattle.verdicts.specs.declared.Verdict.{Verdict}
 
 abbrev pub isWaiting : Phase → Bool
 isWaiting Out = false
@@ -40,10 +38,6 @@ hasEnded Out = false
 hasEnded Waits = false
 hasEnded Started = false
 hasEnded (Ended n r) = true
-
-pub record Verdict : Type 0 where
-  pub phase : Phase
-  pub session : Session
 
 abbrev pub verdict : Phase → Session → Verdict
 verdict f s = record { phase = f; session = s }

@@ -1,0 +1,41 @@
+-- What a scan looks for, and in which order.
+use mathlib.Core.Bool.{Bool, true, not, _&&_}
+use Prim.Native.Nat.{ℕ}
+use lib.Dec.{ltb}
+use Rattle.rules.specs.declared.Session.{Session}
+use Rattle.rules.specs.State.{of, is, follows, startsAt, startsAfter, endsAt}
+use Rattle.verdicts.specs.declared.Stand.{Stand}
+use Rattle.verdicts.specs.declared.Stand.the-variants.{Waiting, Started, Held}
+use Rattle.verdicts.specs.declared.Test.{Test}
+use Rattle.verdicts.specs.declared.Test.the-variants.{Any, Of, Is, Follows, StartsAt, StartsAfter, EndsAt, Unranked}
+use Rattle.verdicts.specs.declared.Order.{Order}
+use Rattle.verdicts.specs.declared.Order.the-variants.{Highest, Earliest, Ending}
+use Rattle.verdicts.specs.Verdicts.{Phase, isWaiting, hasStarted, isHeld}
+use Rattle.verdicts.specs.Work.{earlier, higher}
+
+abbrev pub standTest : Stand → Phase → Bool
+standTest Waiting = isWaiting
+standTest Started = hasStarted
+standTest Held = isHeld
+
+abbrev pub sessionTest : Test → Session → Bool
+sessionTest Any = λ s. true
+sessionTest (Of c) = of c
+sessionTest (Is c x) = is c x
+sessionTest (Follows c x) = follows c x
+sessionTest (StartsAt t) = startsAt t
+sessionTest (StartsAfter t) = startsAfter t
+sessionTest (EndsAt t) = endsAt t
+-- check d: the same start, and not below the rank
+sessionTest (Unranked t rank) = λ s. startsAt t s && not (ltb (s .access) rank)
+
+-- who is looked through in an order
+abbrev pub orderStand : Order → Phase → Bool
+orderStand Highest = hasStarted
+orderStand Earliest = isWaiting
+orderStand Ending = hasStarted
+
+abbrev pub orderTest : Order → Session → Session → Bool
+orderTest Highest = higher
+orderTest Earliest = earlier
+orderTest Ending = λ u s. ltb (u .end .0) (s .end .0)
