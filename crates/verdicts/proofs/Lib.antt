@@ -9,3 +9,4 @@ pub mod Calls
 pub mod Twice
 pub mod Rows
 pub mod Scans
+pub mod Best

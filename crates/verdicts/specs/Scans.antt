@@ -1,7 +1,9 @@
 -- What a scan looks for, and in which order.
-use mathlib.Core.Bool.{Bool, true, not, _&&_}
+use mathlib.Core.Bool.{Bool, true, not, _&&_, _||_}
+use mathlib.Core.List.{List}
 use Prim.Native.Nat.{ℕ}
 use lib.Dec.{ltb}
+use lib.ListN.{length, getD}
 use Rattle.rules.specs.declared.Session.{Session}
 use Rattle.rules.specs.State.{of, is, follows, startsAt, startsAfter, endsAt}
 use Rattle.verdicts.specs.declared.Stand.{Stand}
@@ -10,7 +12,7 @@ use Rattle.verdicts.specs.declared.Test.{Test}
 use Rattle.verdicts.specs.declared.Test.the-variants.{Any, Of, Is, Follows, StartsAt, StartsAfter, EndsAt, Unranked}
 use Rattle.verdicts.specs.declared.Order.{Order}
 use Rattle.verdicts.specs.declared.Order.the-variants.{Highest, Earliest, Ending}
-use Rattle.verdicts.specs.Verdicts.{Phase, isWaiting, hasStarted, isHeld}
+use Rattle.verdicts.specs.Verdicts.{Phase, isWaiting, hasStarted, isHeld, Verdict, none, stands, which, sessionOf, first}
 use Rattle.verdicts.specs.Work.{earlier, higher}
 
 abbrev pub standTest : Stand → Phase → Bool
@@ -39,3 +41,12 @@ abbrev pub orderTest : Order → Session → Session → Bool
 orderTest Highest = higher
 orderTest Earliest = earlier
 orderTest Ending = λ u s. ltb (u .end .0) (s .end .0)
+
+-- of those that are looked through and pass the test, the first call that none comes before, or the length
+abbrev pub firstIn : Order → Test → List Verdict → ℕ
+firstIn o t l = which (orderStand o) (first (orderStand o) (orderTest o) (sessionTest t) l) l
+
+-- call i is one, and comes before the call `best`, if that is any
+abbrev pub isBetter : Order → Test → List Verdict → (i best : ℕ) → Bool
+isBetter o t l i best =
+    stands (orderStand o) (sessionTest t) (getD l i none) && (not (ltb best (length l)) || orderTest o (sessionOf l i) (sessionOf l best))

@@ -8,7 +8,7 @@ ghost use lib.ListN.{length, getD, set};
 ghost use Rattle.rules.specs.Lists.{count};
 ghost use Rattle.verdicts.specs.Verdicts.{none, standing, stands, which};
 ghost use Rattle.verdicts.specs.Rows.{Fits, phaseOf, codeOf, nthOf, resultOf, verdictsIn};
-ghost use Rattle.verdicts.specs.Scans.{standTest, sessionTest, orderStand, orderTest};
+ghost use Rattle.verdicts.specs.Scans.{standTest, sessionTest, orderStand, orderTest, firstIn, isBetter};
 
 // How a session stands: it is not held (about to start), waits, has started, or has ended, the how-manieth of all ends and with
 // which result.
@@ -249,4 +249,60 @@ pub fn count(m: &[u64], n: usize, stand: Stand, test: Test) -> usize
         i += 1;
     }
     found
+}
+
+// How those stand that an order looks through.
+fn stand_of(order: Order) -> Stand
+    ensures { λ r. ⌜ standTest r ≡ orderStand order ⌝ }
+{
+    match order {
+        Order::Highest => Stand::Started,
+        Order::Earliest => Stand::Waiting,
+        Order::Ending => Stand::Started,
+    }
+}
+
+// Whether x comes before y.
+fn comes_before(x: Session, y: Session, order: Order) -> bool
+    ensures { λ r. ⌜ r ≡ orderTest order x y ⌝ }
+{
+    match order {
+        Order::Highest => y.access < x.access,
+        Order::Earliest => x.start.0 < y.start.0,
+        Order::Ending => x.end.0 < y.end.0,
+    }
+}
+
+// Whether the verdict i of n is one, and comes before the verdict `best`, if that is one of them.
+fn is_better(m: &[u64], n: usize, i: usize, best: usize, order: Order, test: Test) -> bool
+    requires { ⌜ Fits n (now m) ⌝ }
+    requires { ⌜ i < n ⌝ }
+    ensures { λ r. ⌜ r ≡ isBetter order test (verdictsIn n (now (m .entry))) i best ⌝ }
+{
+    let stand = stand_of(order);
+    if is_one(m, n, i, stand, test) {
+        if best < n {
+            let v = load(m, n, i);
+            let w = load(m, n, best);
+            return comes_before(v.session, w.session, order);
+        }
+        return true;
+    }
+    false
+}
+
+// Of those that stand so and pass the test, the first of n that none comes before, or n.
+pub fn first_of(m: &[u64], n: usize, order: Order, test: Test) -> usize
+    requires { ⌜ Fits n (now m) ⌝ }
+    ensures { λ r. ⌜ r ≡ firstIn order test (verdictsIn n (now (m .entry))) ⌝ }
+{
+    let mut best = n;
+    let mut i = 0;
+    while i < n {
+        if is_better(m, n, i, best, order, test) {
+            best = i;
+        }
+        i += 1;
+    }
+    best
 }
