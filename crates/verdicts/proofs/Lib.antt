@@ -10,3 +10,4 @@ pub mod Twice
 pub mod Rows
 pub mod Scans
 pub mod Best
+pub mod Links

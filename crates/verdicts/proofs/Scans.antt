@@ -11,7 +11,7 @@ use borrow.Author.Tests.{eqb-true, le-leb, lt-leb, lt-ltb, le-ltb, ltb-true, ltb
 use Rattle.rules.specs.declared.Session.{Session}
 use Rattle.rules.specs.Lists.{bit, put, count, place}
 use Rattle.rules.proofs.Count.{count-put}
-use Rattle.verdicts.specs.Verdicts.{Phase, Out, Waits, Started, Ended, isWaiting, hasStarted, isHeld, Verdict, none, standing, stands}
+use Rattle.verdicts.specs.Verdicts.{Phase, Out, Waits, Started, Ended, isWaiting, hasStarted, isHeld, hasEnded, Verdict, none, standing, stands}
 use Rattle.verdicts.specs.Rows.{phaseOf, nthOf, resultOf}
 
 -- ## The words of a phase
@@ -53,6 +53,18 @@ module _ (k n r : ℕ) where
       go true c = refl
       go false true = refl
       go false false = refl
+
+  pub ended-code : eqb k 3 ≡ hasEnded (phaseOf k n r)
+  unfolding phaseOf
+  ended-code = go (eqb k 1) (eqb k 2) (eqb k 3) (λ e f. omega (arith, eqb-true k 1 e, eqb-true k 3 f)) (λ e f. omega (arith, eqb-true k 2 e, eqb-true k 3 f))
+    where
+      go : (a b c : Bool) → (a ≡ true → c ≡ true → ⊥) → (b ≡ true → c ≡ true → ⊥) → c ≡ hasEnded (cond a Waits (cond b Started (cond c (Ended n r) Out)))
+      go true b true h i = absurd (h refl refl)
+      go true b false h i = refl
+      go false true true h i = absurd (i refl refl)
+      go false true false h i = refl
+      go false false true h i = refl
+      go false false false h i = refl
 
 pub not-below : (a b : ℕ) → leb a b ≡ not (ltb b a)
 not-below a b = go (ltb b a) refl
@@ -114,3 +126,12 @@ module _ (h : Phase → Bool) (p : Session → Bool) (l : List Verdict) where
   counted-out i k g s =
       let f : count p (standing h (drop i l)) ≡ 0 = rw (drop-of-length-le l {i = i} g) refl in
       omega (arith, s .2)
+
+-- how many stand so
+pub count-all : (h : Phase → Bool) (l : List Verdict) → count (λ s. true) (standing h l) ≡ count (λ v. h (v .phase)) l
+count-all h [] = refl
+count-all h (v ∷ l) = count-put (λ s. true) (h (v .phase)) (v .session) (standing h l) ∙ go (h (v .phase)) (count-all h l)
+  where
+    go : (b : Bool) → count (λ s. true) (standing h l) ≡ count (λ v. h (v .phase)) l → bit (b && true) + count (λ s. true) (standing h l) ≡ bit b + count (λ v. h (v .phase)) l
+    go true e = omega (arith, e)
+    go false e = omega (arith, e)

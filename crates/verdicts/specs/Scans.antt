@@ -7,18 +7,19 @@ use lib.ListN.{length, getD}
 use Rattle.rules.specs.declared.Session.{Session}
 use Rattle.rules.specs.State.{of, is, follows, startsAt, startsAfter, endsAt}
 use Rattle.verdicts.specs.declared.Stand.{Stand}
-use Rattle.verdicts.specs.declared.Stand.the-variants.{Waiting, Started, Held}
+use Rattle.verdicts.specs.declared.Stand.the-variants.{Waiting, Started, Held, Ended}
 use Rattle.verdicts.specs.declared.Test.{Test}
 use Rattle.verdicts.specs.declared.Test.the-variants.{Any, Of, Is, Follows, StartsAt, StartsAfter, EndsAt, Unranked}
 use Rattle.verdicts.specs.declared.Order.{Order}
 use Rattle.verdicts.specs.declared.Order.the-variants.{Highest, Earliest, Ending}
-use Rattle.verdicts.specs.Verdicts.{Phase, isWaiting, hasStarted, isHeld, Verdict, none, stands, which, sessionOf, first}
+use Rattle.verdicts.specs.Verdicts.{Phase, isWaiting, hasStarted, isHeld, hasEnded, Verdict, none, stands, which, sessionOf, first}
 use Rattle.verdicts.specs.Work.{earlier, higher}
 
 abbrev pub standTest : Stand → Phase → Bool
 standTest Waiting = isWaiting
 standTest Started = hasStarted
 standTest Held = isHeld
+standTest Ended = hasEnded
 
 abbrev pub sessionTest : Test → Session → Bool
 sessionTest Any = λ s. true

@@ -29,6 +29,7 @@ pub enum Stand {
     Waiting,
     Started,
     Held,
+    Ended,
 }
 
 // Which of them it looks for: `sessionTest` gives each its test.
@@ -188,6 +189,7 @@ fn does_stand(m: &[u64], n: usize, i: usize, stand: Stand) -> bool
         Stand::Waiting => code == 1,
         Stand::Started => code == 2,
         Stand::Held => code == 1 || code == 2,
+        Stand::Ended => code == 3,
     }
 }
 

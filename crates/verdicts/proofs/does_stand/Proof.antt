@@ -1,9 +1,9 @@
 -- The first word of a row says how its session stands (`waiting-code` and the like).
 use mathlib.Core.Path.{ap, _∙_}
 use borrow.Author.Tests.{eq-eqb, ne-eqb}
-use Rattle.verdicts.specs.Verdicts.{isWaiting, hasStarted, isHeld, Verdict, none}
+use Rattle.verdicts.specs.Verdicts.{isWaiting, hasStarted, isHeld, hasEnded, Verdict, none}
 use Rattle.verdicts.proofs.Rows.{load-is}
-use Rattle.verdicts.proofs.Scans.{waiting-code, started-code, held-one, held-two}
+use Rattle.verdicts.proofs.Scans.{waiting-code, started-code, held-one, held-two, ended-code}
 use borrow.Author.Needs.{needs}
 use Rattle.verdicts.proofs.does_stand.Statement.{statement}
 use Rattle.verdicts.proofs.does_stand.Tie as tie
@@ -29,6 +29,9 @@ enum-told-2 c = search needs
 enum-told-3 : tie.Need-enum-told-3
 enum-told-3 c = search needs
 
+enum-told-4 : tie.Need-enum-told-4
+enum-told-4 c = search needs
+
 returns : tie.Need-returns
 returns c =
     let s = c .before .before .before in
@@ -49,6 +52,11 @@ returns-4 c =
     let s = c .before .before .before .before in
     rw (c .before .enum-told3 .given .1) (held-two _ _ _ (ne-eqb _ _ (c .if1 .left)) ∙ ap (λ (v : Verdict). isHeld (v .phase)) (load-is (s .args .n) (s .args .i) (s .args .m .now) none (s .pre .1)))
 
+returns-5 : tie.Need-returns-5
+returns-5 c =
+    let s = c .before .before .before in
+    rw (c .enum-told4 .given .1) (ended-code _ _ _ ∙ ap (λ (v : Verdict). hasEnded (v .phase)) (load-is (s .args .n) (s .args .i) (s .args .m .now) none (s .pre .1)))
+
 pub does-stand-spec : {M : Type 1} → statement M
 does-stand-spec =
     tie.close
@@ -60,7 +68,9 @@ does-stand-spec =
     enum-told
     enum-told-2
     enum-told-3
+    enum-told-4
     returns
     returns-2
     returns-3
-    returns-4)
+    returns-4
+    returns-5)
