@@ -1,0 +1,4 @@
+pub mod Laws
+pub mod Stages
+pub mod Going
+pub mod Loops
