@@ -7,7 +7,4 @@ pub mod Instants
 pub mod Answers
 pub mod Calls
 pub mod Twice
-pub mod Rows
-pub mod Scans
-pub mod Best
 pub mod Links

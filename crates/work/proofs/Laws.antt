@@ -25,9 +25,9 @@ use Rattle.verdicts.specs.declared.Phase.{Phase}
 use Rattle.verdicts.specs.declared.Phase.the-variants.{Ended}
 use Rattle.verdicts.specs.declared.Verdict.{Verdict}
 use Rattle.verdicts.specs.Verdicts.{isWaiting, hasEnded, none, standing, which, sessionOf, asEnded, over}
-use Rattle.verdicts.specs.Rows.{width, verdictsIn}
-use Rattle.verdicts.proofs.Rows.{length-in}
-use Rattle.verdicts.proofs.Scans.{count-all}
+use Rattle.scans.specs.Rows.{width, verdictsIn}
+use Rattle.scans.proofs.Rows.{length-in}
+use Rattle.scans.proofs.Scans.{count-all}
 use Rattle.verdicts.proofs.Links.{waitingIn, one-less, dismissed-none, dismissed-more}
 use Rattle.verdicts.specs.Work.{Turn, quiet, andThen, dismissed, cancelled, aborted}
 use Rattle.work.specs.Does.{all, Completing, Tells, Turns, Does, Room, oneOver, startedEnd, waitingEnd}

@@ -12,7 +12,7 @@ use Rattle.verdicts.specs.declared.Phase.{Phase}
 use Rattle.verdicts.specs.declared.Phase.the-variants.{Ended}
 use Rattle.verdicts.specs.declared.Verdict.{Verdict}
 use Rattle.verdicts.specs.Verdicts.{isWaiting, hasStarted, sessionOf, over, first}
-use Rattle.verdicts.specs.Rows.{width, verdictsIn, Fits}
+use Rattle.scans.specs.Rows.{width, verdictsIn, Fits}
 use Rattle.verdicts.specs.Work.{Turn, andThen, higher, earlier, waitingOnes}
 use Rattle.work.specs.Does.{all, Turns, Does, Room, oneOver, Top, byAccess, startedEnd, waitingEnd}
 use Rattle.work.proofs.Laws.{length-all}

@@ -19,12 +19,12 @@ use Rattle.verdicts.specs.declared.Phase.the-variants.{Ended}
 use Rattle.verdicts.specs.declared.Verdict.{Verdict}
 use Rattle.verdicts.specs.Verdicts.{isWaiting, hasStarted, none, verdict, standing, stands, which, sessionOf, asEnded, over, first}
 use Rattle.verdicts.specs.Work.{Walk, Turn, quiet, writes, andThen, leaving, higher, earlier, startedOnes, waitingOnes, airs, onAir, asWas, endings}
-use Rattle.verdicts.specs.declared.Test.the-variants.{Any}
-use Rattle.verdicts.specs.declared.Order.the-variants.{Highest}
-use Rattle.verdicts.specs.Rows.{width, verdictsIn}
-use Rattle.verdicts.specs.Scans.{isBetter, firstIn}
+use Rattle.scans.specs.declared.Test.the-variants.{Any}
+use Rattle.scans.specs.declared.Order.the-variants.{Highest}
+use Rattle.scans.specs.Rows.{width, verdictsIn}
+use Rattle.scans.specs.Scans.{isBetter, firstIn}
 use Rattle.verdicts.proofs.Found.{length-standing, count-set, counted-at}
-use Rattle.verdicts.proofs.Best.{strict, Leading, leading-none, leading-next, leading-stays, leading-out, better-true, better-false}
+use Rattle.scans.proofs.Best.{strict, Leading, leading-none, leading-next, leading-stays, leading-out, better-true, better-false}
 use Rattle.work.specs.Does.{all, oneOver, Top, byAccess, startedEnd}
 use Rattle.work.proofs.Laws.{loaded, length-all}
 

@@ -13,7 +13,7 @@ use Rattle.rules.specs.Records.{Record, output}
 use Rattle.rules.specs.Ends.{ended}
 use Rattle.verdicts.specs.declared.Verdict.{Verdict}
 use Rattle.verdicts.specs.Verdicts.{sessionOf, over}
-use Rattle.verdicts.specs.Rows.{width, verdictsIn}
+use Rattle.scans.specs.Rows.{width, verdictsIn}
 use Rattle.verdicts.specs.Work.{Turn, writes, onAir, asWas, endings, startedOnes, waitingOnes}
 
 -- every row of the words is a verdict

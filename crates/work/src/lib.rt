@@ -3,12 +3,12 @@ use rules::Ending;
 use rules::Ninths;
 use rules::Session;
 use rules::Ticks;
-use verdicts::Order;
+use scans::Order;
+use scans::Stand;
+use scans::Test;
+use scans::WIDTH;
 use verdicts::Phase;
-use verdicts::Stand;
-use verdicts::Test;
 use verdicts::Verdict;
-use verdicts::WIDTH;
 ghost use mathlib.Core.Path.{_≡_};
 ghost use mathlib.Core.List.{[], _∷_};
 ghost use Prim.Native.Nat.{_+_, _/_, _≤_, _<_};
@@ -16,9 +16,9 @@ ghost use lib.ListN.{length};
 ghost use Rattle.rules.specs.Records.{resultOf, output};
 ghost use Rattle.rules.specs.Ends.{ended};
 ghost use Rattle.verdicts.specs.Verdicts.{sessionOf};
-ghost use Rattle.verdicts.specs.Rows.{width};
+ghost use Rattle.scans.specs.Rows.{width};
 ghost use Rattle.verdicts.specs.Work.{dismissed, cancelled, aborted, closedBy, endAt};
-ghost use Rattle.verdicts.specs.Scans.{sessionTest};
+ghost use Rattle.scans.specs.Scans.{sessionTest};
 ghost use Rattle.work.specs.Does.{Completing, Tells, Room, Does, all, oneOver, Top, byAccess, startedEnd, waitingEnd};
 
 // How many rows the words have.
@@ -76,7 +76,7 @@ fn id_at(m: &[u64], i: usize) -> u64
     ensures { λ r. ⌜ r ≡ sessionOf (all (now (m .entry))) i .id ⌝ }
 {
     let n = rows_in(m);
-    let v = verdicts::load(m, n, i);
+    let v = scans::load(m, n, i);
     v.session.id
 }
 
@@ -87,12 +87,12 @@ fn end_one(m: &mut [u64], i: usize, how: Ending, out: &mut [u8], len: usize) -> 
     ensures { λ r. ⌜ Does (oneOver how i) len (now (m .entry)) (now (out .entry)) r (now (m .exit)) (now (out .exit)) ⌝ }
 {
     let n = rows_in(&*m);
-    let v = verdicts::load(&*m, n, i);
+    let v = scans::load(&*m, n, i);
     let session = v.session;
-    let nth = verdicts::count(&*m, n, Stand::Ended, Test::Any);
+    let nth = scans::count(&*m, n, Stand::Ended, Test::Any);
     let result = result_of(how, session);
     let phase = Phase::Ended(nth as u64, result as u64);
-    verdicts::store(&mut *m, n, i, Verdict { phase, session });
+    scans::store(&mut *m, n, i, Verdict { phase, session });
     write_end(how, session, &mut *out, len)
 }
 
@@ -103,7 +103,7 @@ fn dismiss(m: &mut [u64], result: u16, conn: u64, id: u64, out: &mut [u8], len: 
         ⌜ Does (dismissed result conn id) len (now (m .entry)) (now (out .entry)) r (now (m .exit)) (now (out .exit)) ⌝ }
 {
     let n = rows_in(&*m);
-    let i = verdicts::find(&*m, n, Stand::Waiting, Test::Follows(conn, id));
+    let i = scans::find(&*m, n, Stand::Waiting, Test::Follows(conn, id));
     if i < n {
         let next = id_at(&*m, i);
         let to = end_one(&mut *m, i, Ending::Response(result), &mut *out, len);
@@ -118,9 +118,9 @@ fn top_access(m: &[u64]) -> u64
     ensures { λ r. ⌜ Top (all (now (m .entry))) r ⌝ }
 {
     let n = rows_in(m);
-    let i = verdicts::first_of(m, n, Order::Highest, Test::Any);
+    let i = scans::first_of(m, n, Order::Highest, Test::Any);
     if i < n {
-        let v = verdicts::load(m, n, i);
+        let v = scans::load(m, n, i);
         return v.session.access;
     }
     0
@@ -132,7 +132,7 @@ fn as_was(m: &[u64], i: usize, top: u64, air: Ending, cover: Ending) -> Ending
     ensures { λ r. ⌜ r ≡ byAccess top air cover (sessionOf (all (now (m .entry))) i) ⌝ }
 {
     let n = rows_in(m);
-    let v = verdicts::load(m, n, i);
+    let v = scans::load(m, n, i);
     if top <= v.session.access {
         return air;
     }
@@ -155,11 +155,11 @@ fn end_started(
     let n = rows_in(&*m);
     let top = top_access(&*m);
     let mut to = len;
-    let mut i = verdicts::first_of(&*m, n, Order::Highest, test);
+    let mut i = scans::first_of(&*m, n, Order::Highest, test);
     while i < n {
         let how = as_was(&*m, i, top, air, cover);
         to = end_one(&mut *m, i, how, &mut *out, to);
-        i = verdicts::first_of(&*m, n, Order::Highest, test);
+        i = scans::first_of(&*m, n, Order::Highest, test);
     }
     to
 }
@@ -172,10 +172,10 @@ fn end_waiting(m: &mut [u64], test: Test, how: Ending, out: &mut [u8], len: usiz
 {
     let n = rows_in(&*m);
     let mut to = len;
-    let mut i = verdicts::first_of(&*m, n, Order::Earliest, test);
+    let mut i = scans::first_of(&*m, n, Order::Earliest, test);
     while i < n {
         to = end_one(&mut *m, i, how, &mut *out, to);
-        i = verdicts::first_of(&*m, n, Order::Earliest, test);
+        i = scans::first_of(&*m, n, Order::Earliest, test);
     }
     to
 }

@@ -1,5 +1,5 @@
 -- One link: the first that follows ends, and the walk goes on from its number; those that wait get fewer.
--- Rests on what `end_one` and verdicts promise, and on its own promise for fewer that wait.
+-- Rests on what `end_one` and scans promise, and on its own promise for fewer that wait.
 use mathlib.Core.Path.{_≡_, ap, _∙_}
 use Prim.Native.Nat.{ℕ, _/_, _<_, _≤_}
 use native.Mathlib.Omega.{arith}
@@ -9,9 +9,9 @@ use borrow.Fn.PlainCycle.{Measures, is, falls, and}
 use lib.ListN.{length}
 use Rattle.rules.specs.State.{follows}
 use Rattle.verdicts.specs.Verdicts.{isWaiting, which}
-use Rattle.verdicts.specs.Rows.{width, verdictsIn}
+use Rattle.scans.specs.Rows.{width, verdictsIn}
 use Rattle.verdicts.proofs.Links.{waitingIn}
-use Rattle.verdicts.proofs.find.Reads as find-reads
+use Rattle.scans.proofs.find.Reads as find-reads
 use Rattle.work.specs.Does.{all}
 use Rattle.work.proofs.Laws.{length-all, one-room, rest-room, rest-less, rest-done, none-done}
 use Rattle.work.proofs.rows_in.Reads as rows-in-reads

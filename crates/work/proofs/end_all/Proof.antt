@@ -1,6 +1,6 @@
 -- The started ones, then the waiting ones (`cancelled-is`). Rests on what `end_started` and `end_waiting` promise.
 use Rattle.rules.specs.declared.Ending.the-variants.{Complete, Response}
-use Rattle.verdicts.specs.Scans.{sessionTest}
+use Rattle.scans.specs.Scans.{sessionTest}
 use Rattle.verdicts.specs.Work.{cancelled}
 use Rattle.work.specs.Does.{all, startedEnd, waitingEnd}
 use Rattle.work.proofs.Laws.{cancelled-is, first-room, second-room, both-done}

@@ -1,4 +1,4 @@
--- Its row is read, stored as ended, and its end written (`one-over`). Rests on what `write_end` and verdicts promise.
+-- Its row is read, stored as ended, and its end written (`one-over`). Rests on what `write_end` and scans promise.
 use mathlib.Core.Path.{sym, subst}
 use mathlib.Core.List.{[], _∷_}
 use Prim.Native.Nat.{_+_, _≤_}

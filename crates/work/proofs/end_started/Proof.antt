@@ -1,9 +1,9 @@
 -- What is done so far and what is left (`Loop`): each turn the next one ends, and fewer have started. Rests on what `end_one`, `as_was`,
--- `top_access` and verdicts promise.
+-- `top_access` and scans promise.
 use native.Mathlib.Omega.{arith}
 use borrow.Author.Needs.{needs}
 use Rattle.verdicts.specs.Verdicts.{hasStarted}
-use Rattle.verdicts.specs.Scans.{sessionTest}
+use Rattle.scans.specs.Scans.{sessionTest}
 use Rattle.verdicts.specs.Work.{higher}
 use Rattle.work.specs.Does.{all, byAccess}
 use Rattle.work.proofs.Stages.{many, started-shut}

@@ -1,9 +1,9 @@
--- What is done so far and what is left (`Loop`): each turn the next one ends, and fewer wait. Rests on what `end_one` and verdicts promise.
+-- What is done so far and what is left (`Loop`): each turn the next one ends, and fewer wait. Rests on what `end_one` and scans promise.
 use mathlib.Core.Path.{refl}
 use native.Mathlib.Omega.{arith}
 use borrow.Author.Needs.{needs}
 use Rattle.verdicts.specs.Verdicts.{isWaiting}
-use Rattle.verdicts.specs.Scans.{sessionTest}
+use Rattle.scans.specs.Scans.{sessionTest}
 use Rattle.verdicts.specs.Work.{earlier}
 use Rattle.work.specs.Does.{all}
 use Rattle.work.proofs.Stages.{many, waiting-shut}

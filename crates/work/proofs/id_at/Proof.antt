@@ -4,7 +4,7 @@ use Prim.Native.Nat.{ℕ}
 use lib.ListN.{getD}
 use Rattle.verdicts.specs.declared.Verdict.{Verdict}
 use Rattle.verdicts.specs.Verdicts.{none}
-use Rattle.verdicts.specs.Rows.{verdictsIn}
+use Rattle.scans.specs.Rows.{verdictsIn}
 use borrow.Author.Needs.{needs}
 use Rattle.work.proofs.id_at.Statement.{statement}
 use Rattle.work.proofs.id_at.Tie as tie

@@ -1,4 +1,4 @@
--- The first of the started that none is higher than, if any (`top-found`, `top-none`). Rests on what verdicts promises.
+-- The first of the started that none is higher than, if any (`top-found`, `top-none`). Rests on what scans promises.
 use native.Mathlib.Omega.{arith}
 use Rattle.work.proofs.Stages.{top-found, top-none}
 use borrow.Author.Needs.{needs}
