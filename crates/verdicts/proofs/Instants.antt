@@ -268,11 +268,11 @@ due-same l q e =
 
 -- ## A tick
 
-fit-elapse : (d : ℕ) (q : Queue) → Fit q → Fit (instants.elapse d q)
+pub fit-elapse : (d : ℕ) (q : Queue) → Fit q → Fit (instants.elapse d q)
 unfolding instants.elapse
 fit-elapse d q f = record { sorted = f .sorted; orderly = f .orderly; falling = falling-onAir d (q .started) (f .falling) }
 
-proper-elapse : (d : ℕ) (q : Queue) → All Proper (q .started) → All Proper (instants.elapse d q .started)
+pub proper-elapse : (d : ℕ) (q : Queue) → All Proper (q .started) → All Proper (instants.elapse d q .started)
 unfolding instants.elapse
 proper-elapse d q p = all-onAir Proper proper-plays d (q .started) p
 

@@ -22,7 +22,7 @@ ghost use Rattle.scans.specs.Scans.{sessionTest};
 ghost use Rattle.work.specs.Does.{Completing, Tells, Room, Does, all, oneOver, Top, byAccess, startedEnd, waitingEnd};
 
 // How many rows the words have.
-fn rows_in(m: &[u64]) -> usize
+pub fn rows_in(m: &[u64]) -> usize
     ensures { λ r. ⌜ r ≡ length (now (m .entry)) / width ⌝ }
 {
     m.len() / WIDTH
@@ -81,7 +81,7 @@ fn id_at(m: &[u64], i: usize) -> u64
 }
 
 // The session of row i ends so, the next of all ends.
-fn end_one(m: &mut [u64], i: usize, how: Ending, out: &mut [u8], len: usize) -> usize
+pub fn end_one(m: &mut [u64], i: usize, how: Ending, out: &mut [u8], len: usize) -> usize
     requires { ⌜ i < length (now m) / width ⌝ }
     requires { ⌜ Room (oneOver how i) len (now m) (now out) ⌝ }
     ensures { λ r. ⌜ Does (oneOver how i) len (now (m .entry)) (now (out .entry)) r (now (m .exit)) (now (out .exit)) ⌝ }
@@ -97,7 +97,7 @@ fn end_one(m: &mut [u64], i: usize, how: Ending, out: &mut [u8], len: usize) -> 
 }
 
 // The waiting sessions that reach the number link by link end with the result.
-fn dismiss(m: &mut [u64], result: u16, conn: u64, id: u64, out: &mut [u8], len: usize) -> usize
+pub fn dismiss(m: &mut [u64], result: u16, conn: u64, id: u64, out: &mut [u8], len: usize) -> usize
     requires { ⌜ Room (dismissed result conn id) len (now m) (now out) ⌝ }
     ensures { λ r.
         ⌜ Does (dismissed result conn id) len (now (m .entry)) (now (out .entry)) r (now (m .exit)) (now (out .exit)) ⌝ }
