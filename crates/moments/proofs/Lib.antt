@@ -1,0 +1,4 @@
+pub mod Leads
+pub mod Words
+pub mod Starts
+pub mod Running

@@ -1,0 +1,32 @@
+-- Pieces of a start, and what time on air and a tick rely on.
+use mathlib.Core.List.{List, [], _∷_}
+use Prim.Native.Nat.{ℕ, _+_, _<_}
+use lib.ListN.{length, set}
+use Rattle.rules.specs.declared.Session.{Session}
+use Rattle.rules.specs.declared.Ending.{Ending}
+use Rattle.rules.specs.State.{Queue}
+use Rattle.rules.specs.Instants.{began}
+use Rattle.rules.specs.Sound.{Holding}
+use Rattle.verdicts.specs.declared.Phase.the-variants.{Started}
+use Rattle.verdicts.specs.declared.Verdict.{Verdict}
+use Rattle.verdicts.specs.Verdicts.{verdict, sessionOf, Shows}
+use Rattle.verdicts.specs.Work.{Turn, writes, andThen, dismissed, onAir}
+use Rattle.work.specs.Does.{oneOver}
+
+-- call i ends so, and then the waiting ones that follow it, with the result
+abbrev pub chained : Ending → (result i : ℕ) → List Verdict → Turn
+chained how r i l = andThen (oneOver how i l) (dismissed r (sessionOf l i .conn) (sessionOf l i .id))
+
+-- s goes on air, as call i
+abbrev pub begins : ℕ → Session → List Verdict → Turn
+begins i s l = writes (began s ∷ []) (set l i (verdict Started s))
+
+-- with d more, the time on air does not pass 64 bits
+abbrev pub Lasting : ℕ → List Verdict → Type 0
+Lasting d l = onAir l < length l → sessionOf l (onAir l) .played .0 + d < 18446744073709551616
+
+-- the verdicts show what is held at a time: so they do from fresh and the calls since
+pub record Keeps (at : ℕ) (l : List Verdict) : Type 0 where
+  pub queue : Queue
+  pub shows : Shows l queue
+  pub holding : Holding at queue
