@@ -22,11 +22,11 @@ use Rattle.verdicts.specs.declared.Phase.{Phase}
 use Rattle.verdicts.specs.declared.Verdict.{Verdict}
 use Rattle.verdicts.specs.Verdicts.{isWaiting, hasStarted, none, standing, stands, which, sessionOf, first}
 use Rattle.verdicts.specs.Work.{higher, onAir, mayStart}
-use Rattle.verdicts.specs.declared.Order.the-variants.{Highest, Earliest, Ending}
-use Rattle.verdicts.specs.declared.Test.the-variants.{Any}
-use Rattle.verdicts.specs.Scans.{orderTest, firstIn}
+use Rattle.scans.specs.declared.Order.the-variants.{Highest, Earliest, Ending}
+use Rattle.scans.specs.declared.Test.the-variants.{Any}
+use Rattle.scans.specs.Scans.{orderTest, firstIn}
 use Rattle.verdicts.proofs.Found.{some-stands, counted-at}
-use Rattle.verdicts.proofs.Best.{Strict, strict, Leading, leading-none, leading-next, leading-stays, leading-out}
+use Rattle.scans.proofs.Best.{Strict, strict, Leading, leading-none, leading-next, leading-stays, leading-out}
 
 -- ## What is found
 

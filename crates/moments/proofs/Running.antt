@@ -15,22 +15,24 @@ use Rattle.rules.specs.declared.Session.{Session}
 use Rattle.rules.specs.Lists.{All, count}
 use Rattle.rules.specs.State as state
 use Rattle.rules.specs.State.{notAfter}
-use Rattle.rules.specs.Records.{output}
+use Rattle.rules.specs.Records.{Record, output}
 use Rattle.rules.specs.Instants as instants
 use Rattle.rules.specs.Sound.{Since, Holding, horizon}
+use Rattle.rules.specs.Calls.{noRoom}
 use Rattle.rules.proofs.All.{all-into}
 use Rattle.rules.proofs.Every.{none-some}
 use Rattle.rules.proofs.Count.{some-none}
 use Rattle.rules.proofs.Tick.{due-time}
-use Rattle.rules.proofs.Sound.{next-after, holding-next}
+use Rattle.rules.proofs.Size.{tick-brief}
+use Rattle.rules.proofs.Sound.{few-wait, few-started, next-after, holding-next}
 use Rattle.verdicts.specs.declared.Verdict.{Verdict}
-use Rattle.verdicts.specs.declared.Order.the-variants.{Highest}
+use Rattle.scans.specs.declared.Order.the-variants.{Highest}
 use Rattle.verdicts.specs.Verdicts.{hasStarted, sessionOf}
-use Rattle.verdicts.specs.Rows.{width}
+use Rattle.scans.specs.Rows.{width}
 use Rattle.verdicts.specs.Work.{Turn, quiet, andThen, higher, onAir, instant, elapse, due, run, runAll}
-use Rattle.verdicts.proofs.Best.{strict}
+use Rattle.scans.proofs.Best.{strict}
 use Rattle.verdicts.proofs.Ends.{fit}
-use Rattle.verdicts.proofs.Instants.{elapse-same, due-same, instant-same, fit-elapse, proper-elapse}
+use Rattle.verdicts.proofs.Instants.{elapse-same, due-same, instant-same, fit-elapse, proper-elapse, runAll-same}
 use Rattle.work.specs.Does.{all, Tells, Turns, Room, Does}
 use Rattle.work.proofs.Laws.{length-all, tells-none}
 use Rattle.moments.specs.Moments.{Lasting, Keeps}
@@ -147,3 +149,18 @@ module _ {until : ℕ} {w : Turn} {e m : List ℕ} {at n : ℕ} {o : List ℕ} {
           room = next-room (instant (t .0) (all m′)) (run left′ (t .0) until) more o n (v .room) g z;
           rest = λ {k} {o′} {to} y. v .rest (both-done (instant (t .0) (all m′)) (run left′ (t .0) until) more o n (v .room) g y);
         }
+
+-- ## Room
+
+-- a buffer that no call refuses has room for a tick
+pub tick-room : {at : ℕ} {l : List Verdict} (until : ℕ) (e : List ℕ) → Keeps at l → noRoom (length e) ≡ false → length (output (runAll at until l .written)) ≤ length e
+tick-room {at} {l} until e k h =
+    let q = k .queue in
+    omega (
+      arith,
+      ap (λ (rs : List Record). length (output rs)) (runAll-same at until l q (k .shows) (k .holding) .written),
+      tick-brief at until q,
+      few-wait (k .holding),
+      few-started (k .holding),
+      ltb-false (length e) _ h,
+    )

@@ -11,7 +11,7 @@ use Rattle.verdicts.specs.declared.Phase.{Phase}
 use Rattle.verdicts.specs.declared.Phase.the-variants.{Started}
 use Rattle.verdicts.specs.declared.Verdict.{Verdict}
 use Rattle.verdicts.specs.Verdicts.{none, verdict, sessionOf}
-use Rattle.verdicts.specs.Rows.{width, verdictsIn}
+use Rattle.scans.specs.Rows.{width, verdictsIn}
 use Rattle.verdicts.specs.Work.{onAir, elapse}
 use Rattle.work.specs.Does.{all}
 use Rattle.moments.specs.Moments.{Lasting}

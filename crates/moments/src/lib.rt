@@ -4,10 +4,10 @@ use rules::Ninths;
 use rules::Session;
 use rules::Ticks;
 use rules::When;
-use verdicts::Order;
+use scans::Order;
+use scans::Stand;
+use scans::Test;
 use verdicts::Phase;
-use verdicts::Stand;
-use verdicts::Test;
 use verdicts::Verdict;
 ghost use mathlib.Core.Path.{_≡_};
 ghost use Prim.Native.Nat.{_+_, _/_, _≤_, _<_};
@@ -15,7 +15,7 @@ ghost use lib.ListN.{length};
 ghost use Rattle.rules.specs.State.{earliest, notAfter};
 ghost use Rattle.rules.specs.Sound.{horizon};
 ghost use Rattle.verdicts.specs.Verdicts.{isWaiting, hasStarted, standing, sessionOf};
-ghost use Rattle.verdicts.specs.Rows.{width};
+ghost use Rattle.scans.specs.Rows.{width};
 ghost use Rattle.verdicts.specs.Work.{onAir, elapse, due, mayStart, ousted, started, launched, startAt, instant, runAll};
 ghost use Rattle.work.specs.Does.{all, Room, Does};
 ghost use Rattle.moments.specs.Moments.{chained, begins, Lasting, Keeps};
@@ -25,7 +25,7 @@ pub fn on_air(m: &[u64]) -> usize
     ensures { λ r. ⌜ r ≡ onAir (all (now (m .entry))) ⌝ }
 {
     let n = work::rows_in(m);
-    verdicts::first_of(m, n, Order::Highest, Test::Any)
+    scans::first_of(m, n, Order::Highest, Test::Any)
 }
 
 // The one on air has played d ninths more: the one place where time is added.
@@ -36,11 +36,11 @@ fn elapse(m: &mut [u64], d: u64)
     let n = work::rows_in(&*m);
     let i = on_air(&*m);
     if i < n {
-        let v = verdicts::load(&*m, n, i);
+        let v = scans::load(&*m, n, i);
         let mut session = v.session;
         let played = Ninths(session.played.0 + d);
         session.played = played;
-        verdicts::store(
+        scans::store(
             &mut *m,
             n,
             i,
@@ -57,9 +57,9 @@ fn next_end(m: &[u64]) -> When
     ensures { λ r. ⌜ r ≡ earliest (λ s. s .end) (standing hasStarted (all (now (m .entry)))) ⌝ }
 {
     let n = work::rows_in(m);
-    let i = verdicts::first_of(m, n, Order::Ending, Test::Any);
+    let i = scans::first_of(m, n, Order::Ending, Test::Any);
     if i < n {
-        let v = verdicts::load(m, n, i);
+        let v = scans::load(m, n, i);
         let session = v.session;
         let end = session.end;
         return When::At(end);
@@ -72,9 +72,9 @@ fn next_start(m: &[u64]) -> When
     ensures { λ r. ⌜ r ≡ earliest (λ s. s .start) (standing isWaiting (all (now (m .entry)))) ⌝ }
 {
     let n = work::rows_in(m);
-    let i = verdicts::first_of(m, n, Order::Earliest, Test::Any);
+    let i = scans::first_of(m, n, Order::Earliest, Test::Any);
     if i < n {
-        let v = verdicts::load(m, n, i);
+        let v = scans::load(m, n, i);
         let session = v.session;
         let start = session.start;
         return When::At(start);
@@ -98,7 +98,7 @@ fn may_start(m: &[u64], x: Session) -> bool
     let n = work::rows_in(m);
     let i = on_air(m);
     if i < n {
-        let v = verdicts::load(m, n, i);
+        let v = scans::load(m, n, i);
         return x.overrides == 1 && v.session.access <= x.access;
     }
     true
@@ -110,7 +110,7 @@ fn session_at(m: &[u64], i: usize) -> Session
     ensures { λ r. ⌜ r ≡ sessionOf (all (now (m .entry))) i ⌝ }
 {
     let n = work::rows_in(m);
-    let v = verdicts::load(m, n, i);
+    let v = scans::load(m, n, i);
     v.session
 }
 
@@ -148,7 +148,7 @@ fn begin(m: &mut [u64], i: usize, x: Session, out: &mut [u8], len: usize) -> usi
     ensures { λ r. ⌜ Does (begins i x) len (now (m .entry)) (now (out .entry)) r (now (m .exit)) (now (out .exit)) ⌝ }
 {
     let n = work::rows_in(&*m);
-    verdicts::store(
+    scans::store(
         &mut *m,
         n,
         i,
@@ -169,7 +169,7 @@ fn start(m: &mut [u64], i: usize, out: &mut [u8], len: usize) -> usize
 {
     let n = work::rows_in(&*m);
     let x = session_at(&*m, i);
-    verdicts::store(
+    scans::store(
         &mut *m,
         n,
         i,
@@ -202,7 +202,7 @@ fn start_at(m: &mut [u64], t: Ninths, out: &mut [u8], len: usize) -> usize
     ensures { λ r. ⌜ Does (startAt (t .0)) len (now (m .entry)) (now (out .entry)) r (now (m .exit)) (now (out .exit)) ⌝ }
 {
     let n = work::rows_in(&*m);
-    let i = verdicts::find(&*m, n, Stand::Waiting, Test::StartsAt(t.0));
+    let i = scans::find(&*m, n, Stand::Waiting, Test::StartsAt(t.0));
     if i < n {
         launch(&mut *m, i, &mut *out, len)
     } else {

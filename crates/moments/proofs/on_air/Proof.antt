@@ -1,8 +1,8 @@
 -- Of the started the one than which none is higher: the order has no other test. Rests on what `first_of` promises.
 use mathlib.Core.Path.{ap, _∙_}
-use Rattle.verdicts.specs.declared.Order.the-variants.{Highest}
-use Rattle.verdicts.specs.declared.Test.the-variants.{Any}
-use Rattle.verdicts.specs.Scans.{firstIn}
+use Rattle.scans.specs.declared.Order.the-variants.{Highest}
+use Rattle.scans.specs.declared.Test.the-variants.{Any}
+use Rattle.scans.specs.Scans.{firstIn}
 use Rattle.moments.proofs.Words.{as-all}
 use borrow.Author.Needs.{needs}
 use Rattle.moments.proofs.on_air.Statement.{statement}
