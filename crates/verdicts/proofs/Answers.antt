@@ -12,6 +12,7 @@ use Rattle.rules.specs.declared.Session.{Session}
 use Rattle.rules.specs.declared.Start.{Start}
 use Rattle.rules.specs.declared.Start.the-variants.{Timed, Linked}
 use Rattle.rules.specs.declared.Request.{Request}
+use Rattle.rules.specs.declared.Past.{Past}
 use Rattle.rules.specs.Lists.{place}
 use Rattle.rules.specs.Reading.{nobody}
 use Rattle.rules.specs.State as state
@@ -19,13 +20,14 @@ use Rattle.rules.specs.State.{Queue, empty, of, is, startsAt, startsAfter, held
 use Rattle.rules.specs.Ends as ends
 use Rattle.rules.specs.Instants.{outranks}
 use Rattle.rules.specs.Answers as answers
-use Rattle.rules.specs.Answers.{sessionAt, fullBy, inserted}
+use Rattle.rules.specs.Answers.{sessionAt, fullBy, inserted, latest, recalls}
 use Rattle.rules.specs.Sound.{Once, Falling, Holding}
 use Rattle.rules.proofs.Count.{count-insertAt, count-append}
 use Rattle.verdicts.specs.Verdicts.{Waits, isWaiting, hasStarted, isHeld, Verdict, none, verdict, standing, which, sessionOf, Same, Shows}
-use Rattle.verdicts.specs.Work.{aborted, airs, onAir, holds, startOf, requested, unknownPrior, wrongNumber, collides, full, spliceResult, accepted, Spliced, later, answerSplice, answerAbort, airState, airID}
+use Rattle.verdicts.specs.Work.{aborted, airs, onAir, holds, startOf, requested, unknownPrior, wrongNumber, collides, full, spliceResult, accepted, Spliced, later, answerSplice, answerAbort, airState, airID, airFeed, extendedResponse}
 use Rattle.verdicts.proofs.Same.{same-some}
 use Rattle.verdicts.proofs.Found.{count-appended, found, same, shows-held}
+use Rattle.verdicts.proofs.Lately.{more-append, kept-same, recent-same}
 use Rattle.verdicts.proofs.Ends.{SameTurn, then-same, chosen, Fit, fit, evicted-same, aborted-same}
 use Rattle.verdicts.proofs.Instants.{top-place, top-one}
 
@@ -82,9 +84,12 @@ module _ (l : List Verdict) (q : Queue) (e : Shows l q) where
 appended-same : (s : Session) (l : List Verdict) (q : Queue) → Shows l q → Shows (l ++ (verdict Waits s ∷ [])) (withWaiting (inserted s (q .waiting)) q)
 unfolding inserted
 appended-same s l q e =
+    let a = more-append l (verdict Waits s) refl (e .numbered) in
     record {
       waiting = λ r. omega (arith, count-appended isWaiting r l (verdict Waits s), e .waiting r, count-insertAt r (place (startsAfter (s .start .0)) (q .waiting)) s (q .waiting));
       started = λ r. omega (arith, count-appended hasStarted r l (verdict Waits s), e .started r);
+      lately = kept-same l _ q e a;
+      numbered = a .numbered;
     }
 
 pub accepted-same : (s : Session) (l : List Verdict) (q : Queue) → Shows l q → Fit q → SameTurn (accepted s l) (answers.accepted s q)
@@ -121,18 +126,24 @@ module _ (now : ℕ) (l : List Verdict) (q : Queue) (e : Shows l q) (h : Holding
       (λ f. then-same _ _ (aborted c x) (ends.aborted c x) (record { written = refl; shows = e }) (aborted-same c x l q e (fit h) (h .proper) f))
       (λ f. record { written = refl; shows = e }))
 
-  -- ## Alive
+  -- ## 02, CR 8
 
-  pub alive-same : (airState l ≡ answers.airState (q .started)) × (airID l ≡ answers.airID (q .started))
-  unfolding airState airID answers.airState answers.airID
+  pub extended-same : (c x : ℕ) → extendedResponse c x l ≡ answers.extendedResponse c x q
+  unfolding extendedResponse answers.extendedResponse
+  extended-same c x = ap (λ (k : List Past). recalls c x (latest c x k)) (sym (recent-same l q e))
+
+  -- ## Alive, and the feed on air
+
+  pub alive-same : (airState l ≡ answers.airState (q .started)) × (airID l ≡ answers.airID (q .started)) × (airFeed l ≡ answers.airFeed (q .started))
+  unfolding airState airID airFeed answers.airState answers.airID answers.airFeed
   alive-same = go (q .started) (e .started) (h .falling)
     where
       i : ℕ
       i = onAir l
 
-      go : (k : List Session) → Same (standing hasStarted l) k → Falling k → (airState l ≡ answers.airState k) × (airID l ≡ answers.airID k)
-      go [] g o = rw (found hasStarted (airs l) l [] g, le-ltb (place (airs l) []) 0 (omega arith)) (refl, refl)
+      go : (k : List Session) → Same (standing hasStarted l) k → Falling k → (airState l ≡ answers.airState k) × (airID l ≡ answers.airID k) × (airFeed l ≡ answers.airFeed k)
+      go [] g o = rw (found hasStarted (airs l) l [] g, le-ltb (place (airs l) []) 0 (omega arith)) (refl, refl, refl)
       go (a ∷ k) g o =
           let f : ltb i (length l) ≡ true = found hasStarted (airs l) l (a ∷ k) g ∙ lt-ltb (place (airs l) (a ∷ k)) (length (a ∷ k)) (omega (arith, top-place l (a ∷ k) g o)) in
           let x = rw (top-place l (a ∷ k) g o) at (same hasStarted (airs l) l (a ∷ k) g (top-one l (a ∷ k) g o) (ltb-true i (length l) f)) in
-          rw f (refl, ap (λ (s : Session). s .id) (sym x))
+          rw f (refl, ap (λ (s : Session). s .id) (sym x), refl)

@@ -17,14 +17,15 @@ use Rattle.rules.specs.declared.Ending.the-variants.{Complete, Failed}
 use Rattle.rules.specs.Lists.{All, bit, some, count, place, removeAt}
 use Rattle.rules.specs.Reading.{nobody}
 use Rattle.rules.specs.State as state
-use Rattle.rules.specs.State.{Queue, empty, follows, startsAt, endsAt, sooner, earliest, notAfter, held, toCome, withWaiting, withStarted}
+use Rattle.rules.specs.State.{Queue, empty, follows, startsAt, endsAt, sooner, earliest, notAfter, held, toCome, withWaiting, withStarted, rememberedAll}
 use Rattle.rules.specs.Ends as ends
-use Rattle.rules.specs.Ends.{ended}
+use Rattle.rules.specs.Ends.{ended, past}
 use Rattle.rules.specs.Instants as instants
 use Rattle.rules.specs.Instants.{outranks, began, playing, onwards}
 use Rattle.rules.specs.Sound.{Falling, Proper, Holding}
 use Rattle.rules.proofs.Tests.{clash, by, and-both}
 use Rattle.rules.proofs.All.{all-into}
+use Rattle.rules.proofs.Count.{place-holds}
 use Rattle.rules.proofs.Every.{none-some, all-keep, fewer-removeAt, fewer-keep}
 use Rattle.rules.proofs.Ranked.{fewer-falling, falling-onAir}
 use Rattle.rules.proofs.Timed.{sorted-single}
@@ -36,8 +37,9 @@ use Rattle.verdicts.specs.Verdicts.{Phase, Out, Waits, Started, Ended, i
 use Rattle.verdicts.specs.Work.{Walk, Turn, quiet, andThen, walk, higher, airs, onAir, asWas, dismissed, mayStart, ousted, started, failed, launched, startAt, endAt, instant, elapse, due, run, runAll}
 use Rattle.verdicts.proofs.Same.{same-some, same-earliest, same-length}
 use Rattle.verdicts.proofs.Found.{length-standing, count-set, found, same, passes, there, left, others, shows-held}
+use Rattle.verdicts.proofs.Lately.{more-set, more-over, more-started, started-unended, found-unended, kept-more, kept-same}
 use Rattle.verdicts.proofs.Leaving.{same-not, started-apart, falling-ordered, leads, leads-first, started-same}
-use Rattle.verdicts.proofs.Ends.{SameTurn, then-same, chosen, Fit, fit, without, has-number, dismissed-same, endings-same}
+use Rattle.verdicts.proofs.Ends.{SameTurn, then-same, chosen, Fit, fit, without-out, without-end, has-number, dismissed-same, endings-same}
 
 -- ## The one on air
 
@@ -88,7 +90,7 @@ ousted-same s l q e w o p = go (q .started) (e .started) o p
     i = onAir l
 
     go : (k : List Session) → Same (standing hasStarted l) k → Falling k → All Proper k → SameTurn (ousted s l) (instants.ousted s (withStarted k q))
-    go [] g o p = rw (found hasStarted (airs l) l [] g, le-ltb (place (airs l) []) 0 (omega arith)) (record { written = refl; shows = record { waiting = e .waiting; started = g } })
+    go [] g o p = rw (found hasStarted (airs l) l [] g, le-ltb (place (airs l) []) 0 (omega arith)) (record { written = refl; shows = record { waiting = e .waiting; started = g; lately = e .lately; numbered = e .numbered } })
     go (a ∷ k) g o p =
         let at = top-place l (a ∷ k) g o in
         let one = top-one l (a ∷ k) g o in
@@ -96,36 +98,60 @@ ousted-same s l q e w o p = go (q .started) (e .started) o p
         let m = ltb-true i (length l) f in
         let u = sessionOf l i in
         let x : a ≡ u = rw at at (same hasStarted (airs l) l (a ∷ k) g one m) in
-        let v : Shows (over (Complete 125) i l) (withStarted k q) = record {
+        let b = more-over (Complete 125) l i m (found-unended hasStarted (airs l) l started-unended m) (e .numbered) in
+        let y = ends.ending (ends.oneEnd (Complete 125) u) (withStarted k q) .queue in
+        let v : Shows (over (Complete 125) i l) y = record {
           waiting = λ r. omega (arith, e .waiting r, others hasStarted isWaiting (airs l) l (verdict (asEnded (Complete 125) u l) u) started-apart m r);
           started = rw at at (left hasStarted (airs l) l (a ∷ k) g one m (asEnded (Complete 125) u l) refl);
+          lately = kept-more l _ q _ e b;
+          numbered = b .numbered;
         } in
         let z : eqb (u .id) nobody ≡ false = rw (← x) (p .0 .somebody) in
         rw (f, x)
         (chosen SameTurn (eqb (u .access) (s .access)) _ _ _ _
         (λ h. then-same _ _ (dismissed 125 (u .conn) (u .id)) (ends.dismissed 125 (u .conn) (u .id)) (record { written = refl; shows = v })
-        (dismissed-same 125 (u .conn) (u .id) (over (Complete 125) i l) (withStarted k q) v w z))
-        (λ h. record { written = refl; shows = record { waiting = e .waiting; started = rw x at g } }))
+        (dismissed-same 125 (u .conn) (u .id) (over (Complete 125) i l) y v w z))
+        (λ h. record { written = refl; shows = record { waiting = e .waiting; started = rw x at g; lately = e .lately; numbered = e .numbered } }))
 
--- what is not held stays so
+-- what is not held stays as it is
 pub record Stays (l m : List Verdict) : Type 0 where
   pub long : length m ≡ length l
-  pub out : (i : ℕ) → isHeld (getD l i none .phase) ≡ false → isHeld (getD m i none .phase) ≡ false
+  pub out : (i : ℕ) → isHeld (getD l i none .phase) ≡ false → getD m i none ≡ getD l i none
 
 stays-then : (l m n : List Verdict) → Stays l m → Stays m n → Stays l n
-stays-then l m n a b = record { long = b .long ∙ a .long; out = λ i e. b .out i (a .out i e) }
+stays-then l m n a b = record { long = b .long ∙ a .long; out = λ i e. b .out i (rw (a .out i e) e) ∙ a .out i e }
 
-stays-turned : (l : List Verdict) (j : ℕ) (f : Phase) → isHeld f ≡ false → j < length l → Stays l (turned j f l)
-stays-turned l j f z k = record { long = length-set l j (verdict f (sessionOf l j)); out = λ i e. go i (eqb i j) refl e }
+waiting-held : (f : Phase) → isWaiting f ≡ true → isHeld f ≡ true
+waiting-held Out e = e
+waiting-held Waits e = refl
+waiting-held Started e = refl
+waiting-held (Ended n r) e = e
+
+started-held : (f : Phase) → hasStarted f ≡ true → isHeld f ≡ true
+started-held Out e = e
+started-held Waits e = refl
+started-held Started e = refl
+started-held (Ended n r) e = e
+
+-- the one that is found stands otherwise
+stays-turned : (h : Phase → Bool) (p : Session → Bool) (l : List Verdict) (f : Phase) → ((g : Phase) → h g ≡ true → isHeld g ≡ true)
+    → which h p l < length l → Stays l (turned (which h p l) f l)
+stays-turned h p l f up k = record { long = length-set l j (verdict f (sessionOf l j)); out = λ i e. go i (eqb i j) refl e }
   where
-    go : (i : ℕ) (b : Bool) → eqb i j ≡ b → isHeld (getD l i none .phase) ≡ false → isHeld (getD (turned j f l) i none .phase) ≡ false
-    go i true g e = rw (eqb-true i j g, getD-set-same l j (verdict f (sessionOf l j)) none k) z
-    go i false g e = rw (getD-set-other l j i (verdict f (sessionOf l j)) none (eqb-false i j g)) e
+    j : ℕ
+    j = which h p l
+
+    is-held : isHeld (getD l j none .phase) ≡ true
+    is-held = up (getD l j none .phase) (and-both (h (getD l j none .phase)) (p (sessionOf l j)) (place-holds (stands h p) l none k) .0)
+
+    go : (i : ℕ) (b : Bool) → eqb i j ≡ b → isHeld (getD l i none .phase) ≡ false → getD (turned j f l) i none ≡ getD l i none
+    go i true g e = absurd (clash _ is-held (rw (eqb-true i j g) at e))
+    go i false g e = getD-set-other l j i (verdict f (sessionOf l j)) none (eqb-false i j g)
 
 stays-walk : (how : Ending) (n c x : ℕ) (l : List Verdict) → Stays l (walk how n c x l .left)
 unfolding walk
-stays-walk how zero c x l = record { long = refl; out = λ i e. e }
-stays-walk how (suc n) c x l = by (λ (w : Walk). Stays l (w .left)) (ltb j (length l)) _ _ (λ e. stays-then l (over how j l) _ (stays-turned l j (asEnded how (sessionOf l j) l) refl (ltb-true j (length l) e)) (stays-walk how n c (sessionOf l j .id) (over how j l))) (λ e. record { long = refl; out = λ i e. e })
+stays-walk how zero c x l = record { long = refl; out = λ i e. refl }
+stays-walk how (suc n) c x l = by (λ (w : Walk). Stays l (w .left)) (ltb j (length l)) _ _ (λ e. stays-then l (over how j l) _ (stays-turned isWaiting (follows c x) l (asEnded how (sessionOf l j) l) waiting-held (ltb-true j (length l) e)) (stays-walk how n c (sessionOf l j .id) (over how j l))) (λ e. record { long = refl; out = λ i e. refl })
   where
     j : ℕ
     j = which isWaiting (follows c x) l
@@ -135,32 +161,29 @@ unfolding ousted andThen dismissed
 stays-ousted s l =
     by (λ (t : Turn). Stays l (t .verdicts)) (ltb i (length l) && eqb (sessionOf l i .access) (s .access)) _ _
     (λ e. stays-then l (over (Complete 125) i l) _
-    (stays-turned l i (asEnded (Complete 125) (sessionOf l i) l) refl (ltb-true i (length l) (and-both (ltb i (length l)) _ e .0))) (stays-walk _ _ _ _ (over (Complete 125) i l)))
-    (λ e. record { long = refl; out = λ i e. e })
+    (stays-turned hasStarted (airs l) l (asEnded (Complete 125) (sessionOf l i) l) started-held (ltb-true i (length l) (and-both (ltb i (length l)) _ e .0))) (stays-walk _ _ _ _ (over (Complete 125) i l)))
+    (λ e. record { long = refl; out = λ i e. refl })
   where
     i : ℕ
     i = onAir l
 
--- call i, which is not held, has started
-pub onto : (i : ℕ) (s : Session) (m : List Verdict) (u : Queue) → Shows m u → i < length m → isHeld (getD m i none .phase) ≡ false
+-- call i, which is about to start, has started
+pub onto : (i : ℕ) (s : Session) (m : List Verdict) (u : Queue) → Shows m u → i < length m → getD m i none .phase ≡ Out
     → Shows (set m i (verdict Started s)) (withStarted (s ∷ u .started) u)
 onto i s m u e k z =
+    let a = more-set m i (verdict Started s) k (rw z) (e .numbered) refl in
     record {
-      waiting = λ r. omega (arith, e .waiting r, count-set isWaiting r m i (verdict Started s) k, not-waiting r (getD m i none .phase) z);
-      started = λ r. omega (arith, e .started r, count-set hasStarted r m i (verdict Started s) k, not-started r (getD m i none .phase) z);
+      waiting = λ r. omega (arith, e .waiting r, count-set isWaiting r m i (verdict Started s) k, not-waiting r);
+      started = λ r. omega (arith, e .started r, count-set hasStarted r m i (verdict Started s) k, not-started r);
+      lately = kept-same m _ u e a;
+      numbered = a .numbered;
     }
   where
-    not-waiting : (r : Session → Bool) (f : Phase) → isHeld f ≡ false → bit (isWaiting f && r (sessionOf m i)) ≡ 0
-    not-waiting r Out e = refl
-    not-waiting r Waits e = absurd (clash true refl e)
-    not-waiting r Started e = refl
-    not-waiting r (Ended a b) e = refl
+    not-waiting : (r : Session → Bool) → bit (isWaiting (getD m i none .phase) && r (sessionOf m i)) ≡ 0
+    not-waiting r = rw z
 
-    not-started : (r : Session → Bool) (f : Phase) → isHeld f ≡ false → bit (hasStarted f && r (sessionOf m i)) ≡ 0
-    not-started r Out e = refl
-    not-started r Waits e = refl
-    not-started r Started e = absurd (clash true refl e)
-    not-started r (Ended a b) e = refl
+    not-started : (r : Session → Bool) → bit (hasStarted (getD m i none .phase) && r (sessionOf m i)) ≡ 0
+    not-started r = rw z
 
 pub startAt-same : (t : ℕ) (l : List Verdict) (q : Queue) → Shows l q → Fit q → All Proper (q .started) → SameTurn (startAt t l) (instants.startAt t q)
 unfolding startAt launched started failed instants.startAt instants.launched
@@ -190,20 +213,21 @@ startAt-same t l q e f p =
     goes : i < length l → SameTurn (started i l) (ends.andThen (instants.ousted s v) (λ u. ends.writes (began s ∷ []) (withStarted (s ∷ u .started) u)))
     goes k =
         let n = turned i Out l in
-        let a = ousted-same s n v (without (startsAt t) l q e c k Out refl refl) w (f .falling) p in
+        let a = ousted-same s n v (without-out (startsAt t) l q e c k) w (f .falling) p in
         let b = stays-ousted s n in
+        let g = getD-set-same l i (verdict Out s) none k in
         then-same _ _ _ _ a
         (record {
           written = refl;
-          shows = onto i s _ _ (a .shows) (omega (arith, b .long, length-set l i (verdict Out s))) (b .out i (rw (getD-set-same l i (verdict Out s) none k)));
+          shows = onto i s _ _ (a .shows) (omega (arith, b .long, length-set l i (verdict Out s))) (ap (λ (x : Verdict). x .phase) (b .out i (rw g) ∙ g));
         })
 
     -- it fails
     fails : i < length l → SameTurn (failed i l) (instants.failed s v)
     fails k =
-        let y = without (startsAt t) l q e c k (asEnded Failed s l) refl refl in
+        let y = without-end (startsAt t) l q e c k Failed in
         then-same _ _ (dismissed 109 (s .conn) (s .id)) (ends.dismissed 109 (s .conn) (s .id)) (record { written = refl; shows = y })
-        (dismissed-same 109 (s .conn) (s .id) (over Failed i l) v y w (has-number (startsAt t) l q e c k (f .orderly)))
+        (dismissed-same 109 (s .conn) (s .id) (over Failed i l) _ y w (has-number (startsAt t) l q e c k (f .orderly)))
 
     one : i < length l → SameTurn (launched i l) (instants.launched (getD (q .waiting) j empty) v)
     one k =
@@ -216,9 +240,15 @@ pub endAt-same : (t : ℕ) (l : List Verdict) (q : Queue) → Shows l q → Fall
 unfolding endAt instants.endAt
 endAt-same t l q e o =
     let a = started-same (endsAt t) l (q .started) (asWas (Complete 100) (Complete 125) l) (e .started) o in
+    let b = more-started (endsAt t) (asWas (Complete 100) (Complete 125) l) l (e .numbered) in
     record {
-      written = endings-same (Complete 100) (Complete 125) (endsAt t) l (q .started) (e .started) o;
-      shows = record { waiting = λ r. a .others r ∙ e .waiting r; started = a .left };
+      written = endings-same (Complete 100) (Complete 125) ended (endsAt t) l (q .started) (e .started) o;
+      shows = record {
+        waiting = λ r. a .others r ∙ e .waiting r;
+        started = a .left;
+        lately = ap (λ x. rememberedAll x (q .lately)) (sym (endings-same (Complete 100) (Complete 125) past (endsAt t) l (q .started) (e .started) o)) ∙ kept-more l _ q _ e b;
+        numbered = b .numbered;
+      };
     }
 
 pub instant-same : (t : ℕ) (l : List Verdict) (q : Queue) → Shows l q → Fit q → All Proper (q .started) → SameTurn (instant t l) (instants.instant t q)
@@ -243,20 +273,23 @@ elapse-same d l q e o = go (ltb i (length l)) refl (q .started) (e .started) o
     s = sessionOf l i
 
     go : (b : Bool) → ltb i (length l) ≡ b → (k : List Session) → Same (standing hasStarted l) k → Falling k
-        → Shows (cond b (set l i (verdict Started (playing d s))) l) (record { waiting = q .waiting; started = instants.onAir d k })
+        → Shows (cond b (set l i (verdict Started (playing d s))) l) (withStarted (instants.onAir d k) q)
     go true f [] g o = absurd (omega (arith, there hasStarted (airs l) l [] g (omega arith) (ltb-true i (length l) f)))
     go true f (a ∷ k) g o =
         let m = ltb-true i (length l) f in
         let one = top-one l (a ∷ k) g o in
         let x : a ≡ s = rw (top-place l (a ∷ k) g o) at (same hasStarted (airs l) l (a ∷ k) g one m) in
+        let b = more-set l i (verdict Started (playing d s)) m (found-unended hasStarted (airs l) l started-unended m) (e .numbered) refl in
         record {
           waiting = λ r. omega (arith, e .waiting r, others hasStarted isWaiting (airs l) l (verdict Started (playing d s)) started-apart m r);
           started = λ r. omega (arith, g r, count-set hasStarted r l i (verdict Started (playing d s)) m, was one m r, ap (λ y. bit (r y)) x, ap (λ y. bit (r (playing d y))) x);
+          lately = kept-same l _ q e b;
+          numbered = b .numbered;
         }
       where
         was : count (airs l) (a ∷ k) ≤ 1 → i < length l → (r : Session → Bool) → bit (stands hasStarted r (getD l i none)) ≡ bit (r s)
         was one m r = rw (passes hasStarted (airs l) l (a ∷ k) g one m .0)
-    go false f [] g o = record { waiting = e .waiting; started = g }
+    go false f [] g o = record { waiting = e .waiting; started = g; lately = e .lately; numbered = e .numbered }
     go false f (a ∷ k) g o = absurd (omega (arith, ltb-false (place (airs l) (a ∷ k)) (length (a ∷ k)) (sym (found hasStarted (airs l) l (a ∷ k) g) ∙ f), top-place l (a ∷ k) g o))
 
 -- ## The next instant

@@ -1,5 +1,6 @@
 pub mod Same
 pub mod Found
+pub mod Lately
 pub mod Walk
 pub mod Leaving
 pub mod Ends

@@ -89,14 +89,14 @@ only-place p (s ∷ m) (suc j) u h e = go (p s) refl (λ v. only-place p m j v (
 abbrev alike : Session → Session → Bool
 alike a s =
     eqb (a .conn) (s .conn) && (eqb (a .id) (s .id) && (eqb (a .prior) (s .prior) && (eqb (a .start .0) (s .start .0) && (eqb (a .end .0) (s .end .0)
-    && (eqb (a .access) (s .access) && (eqb (a .overrides) (s .overrides) && (eqb (a .mux) (s .mux) && eqb (a .played .0) (s .played .0))))))))
+    && (eqb (a .access) (s .access) && (eqb (a .overrides) (s .overrides) && (eqb (a .mux) (s .mux) && (eqb (a .event) (s .event) && eqb (a .played .0) (s .played .0)))))))))
 
 alike-self : (a : Session) → alike a a ≡ true
 alike-self a = simp eqb-same
 
-fields : ℕ → ℕ → ℕ → ℕ → ℕ → ℕ → ℕ → ℕ → ℕ → Session
-fields c i p t e a o m d =
-    record { conn = c; id = i; prior = p; start = record { 0 = t }; end = record { 0 = e }; access = a; overrides = o; mux = m; played = record { 0 = d } }
+fields : ℕ → ℕ → ℕ → ℕ → ℕ → ℕ → ℕ → ℕ → ℕ → ℕ → Session
+fields c i p t e a o m v d =
+    record { conn = c; id = i; prior = p; start = record { 0 = t }; end = record { 0 = e }; access = a; overrides = o; mux = m; event = v; played = record { 0 = d } }
 
 alike-same : (a s : Session) → alike a s ≡ true → s ≡ a
 unfolding fields
@@ -109,14 +109,15 @@ alike-same a s e =
     let b6 = and-both (eqb (a .access) (s .access)) _ (b5 .1) in
     let b7 = and-both (eqb (a .overrides) (s .overrides)) _ (b6 .1) in
     let b8 = and-both (eqb (a .mux) (s .mux)) _ (b7 .1) in
+    let b9 = and-both (eqb (a .event) (s .event)) _ (b8 .1) in
     made (eqb-true _ _ (b1 .0)) (eqb-true _ _ (b2 .0)) (eqb-true _ _ (b3 .0)) (eqb-true _ _ (b4 .0)) (eqb-true _ _ (b5 .0)) (eqb-true _ _ (b6 .0)) (eqb-true _ _ (b7 .0))
-    (eqb-true _ _ (b8 .0)) (eqb-true _ _ (b8 .1))
+    (eqb-true _ _ (b8 .0)) (eqb-true _ _ (b9 .0)) (eqb-true _ _ (b9 .1))
   where
     made : a .conn ≡ s .conn → a .id ≡ s .id → a .prior ≡ s .prior → a .start .0 ≡ s .start .0 → a .end .0 ≡ s .end .0 → a .access ≡ s .access
-        → a .overrides ≡ s .overrides → a .mux ≡ s .mux → a .played .0 ≡ s .played .0 → s ≡ a
-    made c1 c2 c3 c4 c5 c6 c7 c8 c9 =
-        let g : _≡_ {A = Session} (fields (s .conn) (s .id) (s .prior) (s .start .0) (s .end .0) (s .access) (s .overrides) (s .mux) (s .played .0))
-        (fields (a .conn) (a .id) (a .prior) (a .start .0) (a .end .0) (a .access) (a .overrides) (a .mux) (a .played .0)) = rw (c1, c2, c3, c4, c5, c6, c7, c8, c9) in g
+        → a .overrides ≡ s .overrides → a .mux ≡ s .mux → a .event ≡ s .event → a .played .0 ≡ s .played .0 → s ≡ a
+    made c1 c2 c3 c4 c5 c6 c7 c8 c9 c10 =
+        let g : _≡_ {A = Session} (fields (s .conn) (s .id) (s .prior) (s .start .0) (s .end .0) (s .access) (s .overrides) (s .mux) (s .event) (s .played .0))
+        (fields (a .conn) (a .id) (a .prior) (a .start .0) (a .end .0) (a .access) (a .overrides) (a .mux) (a .event) (a .played .0)) = rw (c1, c2, c3, c4, c5, c6, c7, c8, c9, c10) in g
 
 -- where only one passes, both orders have the same one
 pub same-one : (p : Session → Bool) (l m : List Session) → Same l m → count p m ≤ 1 → (x : Session) → ((r : Session → Bool) → r x ≡ true → 0 < count r l) → p x ≡ true

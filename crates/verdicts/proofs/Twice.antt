@@ -21,11 +21,11 @@ use Rattle.rules.specs.Calls.{Call}
 use Rattle.rules.specs.Sound.{Holding, Wired}
 use Rattle.rules.proofs.Sound.{in-order, sound-fresh, sound-always}
 use Rattle.verdicts.specs.Verdicts.{Verdict, Shows}
-use Rattle.verdicts.specs.Work.{dismissed, evicted, aborted, closedBy, startAt, endAt, instant, elapse, due, runAll, requested, wrongNumber, collides, full, accepted, later, answerSplice, answerAbort, airState, airID}
+use Rattle.verdicts.specs.Work.{dismissed, evicted, aborted, closedBy, startAt, endAt, instant, elapse, due, runAll, requested, wrongNumber, collides, full, accepted, later, answerSplice, answerAbort, airState, airID, airFeed, extendedResponse}
 use Rattle.verdicts.specs.Calls.{call, begun, passed}
 use Rattle.verdicts.proofs.Ends.{SameTurn, fit, dismissed-same, evicted-same, aborted-same, closedBy-same}
 use Rattle.verdicts.proofs.Instants.{startAt-same, endAt-same, instant-same, elapse-same, due-same, runAll-same}
-use Rattle.verdicts.proofs.Answers.{requested-same, number-same, collides-same, full-same, accepted-same, later-same, SameSpliced, splice-same, abort-same, alive-same}
+use Rattle.verdicts.proofs.Answers.{requested-same, number-same, collides-same, full-same, accepted-same, later-same, SameSpliced, splice-same, abort-same, alive-same, extended-same}
 use Rattle.verdicts.proofs.Calls.{SameState, SameCalled, call-same, pass-same, begun-same}
 
 -- where verdicts l show the sessions q, at the time now
@@ -53,7 +53,9 @@ pub record TwoWays (now : ℕ) (l : List Verdict) (q : Queue) : Type 0 where
   -- the answers
   pub splicing : (clock c : ℕ) (r : Request) → SameSpliced (answerSplice clock c r l) (answers.answerSplice clock c r q)
   pub ceasing : (c x : ℕ) → SameTurn (answerAbort c x l) (answers.answerAbort c x q)
-  pub airing : (airState l ≡ answers.airState (q .started)) × (airID l ≡ answers.airID (q .started))
+  pub airing : (airState l ≡ answers.airState (q .started)) × (airID l ≡ answers.airID (q .started)) × (airFeed l ≡ answers.airFeed (q .started))
+  -- 02, CR 8
+  pub recalling : (c x : ℕ) → extendedResponse c x l ≡ answers.extendedResponse c x q
 
 pub one-rule-two-ways : (now : ℕ) (l : List Verdict) (q : Queue) → Shows l q → Holding now q → TwoWays now l q
 one-rule-two-ways now l q e h =
@@ -78,6 +80,7 @@ one-rule-two-ways now l q e h =
       splicing = λ clock c r. splice-same now l q e h clock c r;
       ceasing = λ c x. abort-same now l q e h c x;
       airing = alive-same now l q e h;
+      recalling = λ c x. extended-same now l q e h c x;
     }
 
 -- ## From fresh, over any calls: the next call is answered as the splicer that they lead to answers it, and its verdicts show the splicer after it

@@ -1,13 +1,16 @@
 -- A verdict for each call that asked for a session: the session, and how it stands. In no order, nothing moved or removed.
 use mathlib.Core.Path.{_≡_}
 use mathlib.Core.Bool.{Bool, true, false, not, _&&_}
-use mathlib.Core.List.{List, [], _∷_}
-use Prim.Native.Nat.{ℕ}
+use mathlib.Core.List.{List, [], _∷_, _++_}
+use Prim.Native.Nat.{ℕ, zero, suc, _≤_}
+use lib.Dec.{eqb}
 use lib.ListN.{getD, set}
 use Rattle.rules.specs.declared.Ending.{Ending}
 use Rattle.rules.specs.declared.Session.{Session}
+use Rattle.rules.specs.declared.Past.{Past}
+use Rattle.rules.specs.Units.{toTicks}
 use Rattle.rules.specs.Lists.{put, some, count, place}
-use Rattle.rules.specs.State.{Queue, empty}
+use Rattle.rules.specs.State.{Queue, empty, mostKept, unused, noneEnded, rememberedAll}
 use Rattle.rules.specs.Records.{resultOf}
 use Rattle.rules.specs.Ends.{ended}
 pub use Rattle.verdicts.specs.declared.Phase.{Phase}
@@ -81,7 +84,57 @@ over e i l = turned i (asEnded e (sessionOf l i) l) l
 abbrev pub first : (Phase → Bool) → (Session → Session → Bool) → (Session → Bool) → List Verdict → Session → Bool
 first h before p l s = p s && not (some (λ u. p u && before u s) (standing h l))
 
--- ## The tie to the two ordered lists
+-- ## 02, CR 8: what ended lately, by the numbers of the ends
+
+-- the end of number n, the first being 0
+abbrev pub isEnd : ℕ → Phase → Bool
+isEnd n Out = false
+isEnd n Waits = false
+isEnd n Started = false
+isEnd n (Ended m r) = eqb n m
+
+abbrev pub endedAs : ℕ → Verdict → Bool
+endedAs n v = isEnd n (v .phase)
+
+abbrev pub resultIn : Phase → ℕ
+resultIn Out = 0
+resultIn Waits = 0
+resultIn Started = 0
+resultIn (Ended n r) = r
+
+-- "connection, SessionID, SpliceEventID, result, PlayedDuration (0 if never on air)"
+abbrev pub pastOf : Verdict → Past
+pastOf v =
+    let s = v .session in
+    record { conn = s .conn; id = s .id; event = s .event; result = resultIn (v .phase); played = toTicks (s .played) .0 }
+
+-- what is told of the end of number n
+abbrev pub nthEnd : ℕ → List Verdict → Past
+nthEnd n l = pastOf (getD l (place (endedAs n) l) none)
+
+-- "from the newest down": k of them, from the one before number n
+unfoldable pub latelyFrom : (k n : ℕ) → List Verdict → List Past
+latelyFrom zero n l = []
+latelyFrom (suc k) zero l = unused ∷ latelyFrom k zero l
+latelyFrom (suc k) (suc n) l = nthEnd n l ∷ latelyFrom k n l
+
+-- "the last 16 ended sessions": the ended verdicts with the latest ends
+abbrev pub recent : List Verdict → List Past
+recent l = latelyFrom mostKept (ends l) l
+
+-- ## The tie to the two ordered lists, and to what is kept of those that ended
+
+-- the ends of numbers below n, from the first
+abbrev pub endsBelow : ℕ → List Verdict → List Past
+endsBelow zero l = []
+endsBelow (suc n) l = endsBelow n l ++ (nthEnd n l ∷ [])
+
+abbrev pub pasts : List Verdict → List Past
+pasts l = endsBelow (ends l) l
+
+-- no number is given that is not below the number of ends
+abbrev pub Numbered : List Verdict → Type 0
+Numbered l = (n : ℕ) → ends l ≤ n → count (endedAs n) l ≡ 0
 
 -- the same sessions, in any order: as many pass each test
 abbrev pub Same : List Session → List Session → Type 0
@@ -90,3 +143,5 @@ Same l m = (p : Session → Bool) → count p l ≡ count p m
 pub record Shows (l : List Verdict) (q : Queue) : Type 0 where
   pub waiting : Same (standing isWaiting l) (q .waiting)
   pub started : Same (standing hasStarted l) (q .started)
+  pub lately : q .lately ≡ rememberedAll (pasts l) noneEnded
+  pub numbered : Numbered l

@@ -19,8 +19,8 @@ use Rattle.rules.specs.State.{of, is, follows, startsAt, startsAfter, endsAt, s
 use Rattle.rules.specs.Records.{Record, SpliceResponse, AbortResponse}
 use Rattle.rules.specs.Ends.{ended}
 use Rattle.rules.specs.Instants.{outranks, began, playing, onwards}
-use Rattle.rules.specs.Answers.{sessionAt, tooLate, fullBy, firstOf, accepts}
-use Rattle.verdicts.specs.Verdicts.{Phase, Out, Waits, Started, isWaiting, hasStarted, isHeld, Verdict, verdict, standing, which, sessionOf, turned, over, first}
+use Rattle.rules.specs.Answers.{sessionAt, tooLate, fullBy, firstOf, accepts, latest, recalls}
+use Rattle.verdicts.specs.Verdicts.{Phase, Out, Waits, Started, isWaiting, hasStarted, isHeld, Verdict, verdict, standing, which, sessionOf, turned, over, first, recent}
 
 -- the verdicts after some of the work, and the records which that wrote
 pub record Turn : Type 0 where
@@ -272,3 +272,15 @@ airState l = cond (ltb (onAir l) (length l)) 2 1
 
 unfoldable pub airID : List Verdict → ℕ
 airID l = cond (ltb (onAir l) (length l)) (sessionOf l (onAir l) .id) nobody
+
+-- ## 02, CR 6: the feed on air
+
+-- the insertion's exactly where Alive's State is 2: 0 the primary's, 1 the insertion's
+unfoldable pub airFeed : List Verdict → ℕ
+airFeed l = cond (ltb (onAir l) (length l)) 1 0
+
+-- ## 02, CR 8: what ended lately
+
+-- "the asking connection's latest ended session of that number"; "121 with the SessionID alone where none is kept"
+unfoldable pub extendedResponse : ℕ → ℕ → List Verdict → Record
+extendedResponse c x l = recalls c x (latest c x (recent l))
