@@ -105,6 +105,7 @@ row-with (suc n) (suc i) m v h k =
           getD-front m b width 9 (omega arith) q,
           getD-front m b width 10 (omega arith) q,
           getD-front m b width 11 (omega arith) q,
+          getD-front m b width 12 (omega arith) q,
         ) refl
 
 -- what is left when v is written from the first word of row i on

@@ -11,7 +11,7 @@ use Rattle.verdicts.specs.declared.Verdict.{Verdict}
 
 -- the words of a row
 abbrev pub width : ℕ
-width = 12
+width = 13
 
 -- the phase that three words say
 unfoldable pub phaseOf : (code nth result : ℕ) → Phase
@@ -50,7 +50,8 @@ verdictOf f =
         access = f 8;
         overrides = f 9;
         mux = f 10;
-        played = record { 0 = f 11 };
+        event = f 11;
+        played = record { 0 = f 12 };
       };
     }
 
@@ -59,7 +60,7 @@ abbrev pub wordsOf : Verdict → List ℕ
 wordsOf v =
     let f = v .phase in
     let s = v .session in
-    codeOf f ∷ nthOf f ∷ resultOf f ∷ s .conn ∷ s .id ∷ s .prior ∷ s .start .0 ∷ s .end .0 ∷ s .access ∷ s .overrides ∷ s .mux ∷ s .played .0 ∷ []
+    codeOf f ∷ nthOf f ∷ resultOf f ∷ s .conn ∷ s .id ∷ s .prior ∷ s .start .0 ∷ s .end .0 ∷ s .access ∷ s .overrides ∷ s .mux ∷ s .event ∷ s .played .0 ∷ []
 
 -- the verdict in the first words
 abbrev pub row : List ℕ → Verdict

@@ -39,7 +39,7 @@ pub enum Order {
 }
 
 // The words of a row, and which of them is which part.
-pub const WIDTH: usize = 12;
+pub const WIDTH: usize = 13;
 
 const PHASE: usize = 0;
 
@@ -63,7 +63,9 @@ const OVERRIDES: usize = 9;
 
 const MUX: usize = 10;
 
-const PLAYED: usize = 11;
+const EVENT: usize = 11;
+
+const PLAYED: usize = 12;
 
 // The phase that three words say.
 fn phase_of(code: u64, nth: u64, result: u64) -> Phase
@@ -98,6 +100,7 @@ pub fn load(m: &[u64], n: usize, i: usize) -> Verdict
         access: m[b + ACCESS],
         overrides: m[b + OVERRIDES],
         mux: m[b + MUX],
+        event: m[b + EVENT],
         played: Ninths(m[b + PLAYED]),
     };
     Verdict { phase, session }
@@ -160,6 +163,7 @@ pub fn store(m: &mut [u64], n: usize, i: usize, v: Verdict)
     m[b + ACCESS] = x.access;
     m[b + OVERRIDES] = x.overrides;
     m[b + MUX] = x.mux;
+    m[b + EVENT] = x.event;
     m[b + PLAYED] = x.played.0;
 }
 

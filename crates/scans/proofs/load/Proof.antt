@@ -119,10 +119,19 @@ mul-t45 c = search needs
 shared-slice-read-t47 : tie.Need-shared-slice-read-t47
 shared-slice-read-t47 c = search needs
 
+add-t48 : tie.Need-add-t48
+add-t48 c = search needs
+
+mul-t49 : tie.Need-mul-t49
+mul-t49 c = search needs
+
+shared-slice-read-t51 : tie.Need-shared-slice-read-t51
+shared-slice-read-t51 c = search needs
+
 returns : tie.Need-returns
 returns c =
-    let s = c .before .before .before .before .before .before .before .before .before .before .before .before .before .before in
-    rw (c .before .before .before .before .before .before .before .before .before .phase-of .ensures) (load-is (s .args .n) (s .args .i) (s .args .m .now) none (s .pre .1))
+    let s = c .before .before .before .before .before .before .before .before .before .before .before .before .before .before .before in
+    rw (c .before .before .before .before .before .before .before .before .before .before .phase-of .ensures) (load-is (s .args .n) (s .args .i) (s .args .m .now) none (s .pre .1))
 
 pub load-spec : {M : Type 1} → statement M
 load-spec =
@@ -166,4 +175,7 @@ load-spec =
     add-t44
     mul-t45
     shared-slice-read-t47
+    add-t48
+    mul-t49
+    shared-slice-read-t51
     returns)

@@ -126,6 +126,15 @@ mul-m-12 c = search needs
 slice-write-m-12 : tie.Need-slice-write-m-12
 slice-write-m-12 c = simp length-set (omega arith)
 
+add-m-13 : tie.Need-add-m-13
+add-m-13 c = search needs
+
+mul-m-13 : tie.Need-mul-m-13
+mul-m-13 c = search needs
+
+slice-write-m-13 : tie.Need-slice-write-m-13
+slice-write-m-13 c = simp length-set (omega arith)
+
 same-length : tie.Need-same-length
 same-length c = simp length-set
 
@@ -179,5 +188,8 @@ store-spec =
     add-m-12
     mul-m-12
     slice-write-m-12
+    add-m-13
+    mul-m-13
+    slice-write-m-13
     same-length
     returns)
