@@ -7,6 +7,7 @@ use mathlib.Core.List.{List, [], _∷_, _++_}
 use Prim.Native.Nat.{ℕ, zero, suc, _+_, _-_, _*_, _/_, _%_, _≤_, _<_}
 use native.Mathlib.Omega.{arith}
 use lib.ListN.{length, getD, set, length-append}
+use borrow.Author.Tests.{lt-ltb, le-ltb}
 use borrow.Rule.Slice.PartMut.{putMid, midOf}
 use types.Run.{OneOf}
 use denote.Enum.Declared.{tagOf}
@@ -15,7 +16,7 @@ use Rattle.rules.specs.declared.Ending.{Ending}
 use Rattle.rules.specs.declared.Ending.the-variants.{Complete, Failed, Response}
 use Rattle.rules.specs.Bytes.{bytes, written}
 use Rattle.rules.specs.Records.{Record, SpliceComplete, resultOf, framed, recordBytes, output}
-use Rattle.rules.specs.State.{is, follows}
+use Rattle.rules.specs.State.{is, follows, startsAt}
 use Rattle.rules.specs.Ends.{ended}
 use Rattle.rules.proofs.Ending.{the-type}
 use Rattle.rules.proofs.Records.{sizeOf, Roomy, length-record}
@@ -29,8 +30,8 @@ use Rattle.scans.specs.Rows.{width, verdictsIn}
 use Rattle.scans.proofs.Rows.{length-in}
 use Rattle.scans.proofs.Scans.{count-all}
 use Rattle.verdicts.proofs.Links.{waitingIn, one-less, dismissed-none, dismissed-more}
-use Rattle.verdicts.specs.Work.{Turn, quiet, andThen, dismissed, cancelled, aborted}
-use Rattle.work.specs.Does.{all, Completing, Tells, Turns, Does, Room, oneOver, startedEnd, waitingEnd}
+use Rattle.verdicts.specs.Work.{Turn, quiet, andThen, dismissed, evicted, cancelled, aborted}
+use Rattle.work.specs.Does.{all, Completing, Tells, Turns, Does, Room, oneOver, chainOver, startedEnd, waitingEnd}
 
 -- ## Records, one behind another
 
@@ -234,3 +235,20 @@ cancelled-is p l = refl
 pub aborted-is : (c x : ℕ) (l : List Verdict) → aborted c x l ≡ andThen (cancelled (is c x) l) (dismissed 116 c x)
 unfolding aborted
 aborted-is c x l = refl
+
+-- c and x are the connection and the number of call i
+pub chain-is : (how : Ending) (r i c x : ℕ) (l : List Verdict) → c ≡ sessionOf l i .conn → x ≡ sessionOf l i .id → chainOver how r i l ≡ andThen (oneOver how i l) (dismissed r c x)
+chain-is how r i c x l e f = ap₂ (λ (d y : ℕ). andThen (oneOver how i l) (dismissed r d y)) (sym e) (sym f)
+
+module _ (t i : ℕ) (l : List Verdict) (f : i ≡ which isWaiting (startsAt t) l) where
+  pub evicted-one : i < length l → evicted t l ≡ chainOver (Response 109) 109 i l
+  unfolding evicted
+  evicted-one h = rw (← f, lt-ltb i (length l) h) refl
+
+  pub evicted-none : length l ≤ i → evicted t l ≡ quiet l
+  unfolding evicted
+  evicted-none h = rw (← f, le-ltb i (length l) h) refl
+
+pub evicted-does : (t i : ℕ) (m : List ℕ) → i ≡ which isWaiting (startsAt t) (all m) → i < length (all m) → {e k o : List ℕ} {len to : ℕ}
+    → Does (chainOver (Response 109) 109 i) len m e to k o → Does (evicted t) len m e to k o
+evicted-does t i m f h {e} {k} {o} {len} {to} d = subst (λ (u : Turn). Turns e len u k to o) (sym (evicted-one t i (all m) f h)) d

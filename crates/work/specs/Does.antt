@@ -14,7 +14,7 @@ use Rattle.rules.specs.Ends.{ended}
 use Rattle.verdicts.specs.declared.Verdict.{Verdict}
 use Rattle.verdicts.specs.Verdicts.{sessionOf, over}
 use Rattle.scans.specs.Rows.{width, verdictsIn}
-use Rattle.verdicts.specs.Work.{Turn, writes, onAir, asWas, endings, startedOnes, waitingOnes}
+use Rattle.verdicts.specs.Work.{Turn, writes, andThen, dismissed, onAir, asWas, endings, startedOnes, waitingOnes}
 
 -- every row of the words is a verdict
 abbrev pub all : List ℕ → List Verdict
@@ -47,6 +47,10 @@ Room work len m e = len + length (output (work (all m) .written)) ≤ length e
 -- call i ends so
 abbrev pub oneOver : Ending → ℕ → List Verdict → Turn
 oneOver how i l = writes (ended how (sessionOf l i) ∷ []) (over how i l)
+
+-- call i ends so, and then those that follow it, with the result r
+abbrev pub chainOver : Ending → ℕ → ℕ → List Verdict → Turn
+chainOver how r i l = andThen (oneOver how i l) (dismissed r (sessionOf l i .conn) (sessionOf l i .id))
 
 -- ## Those that leave one by one
 

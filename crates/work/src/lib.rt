@@ -17,9 +17,9 @@ ghost use Rattle.rules.specs.Records.{resultOf, output};
 ghost use Rattle.rules.specs.Ends.{ended};
 ghost use Rattle.verdicts.specs.Verdicts.{sessionOf};
 ghost use Rattle.scans.specs.Rows.{width};
-ghost use Rattle.verdicts.specs.Work.{dismissed, cancelled, aborted, closedBy, endAt};
+ghost use Rattle.verdicts.specs.Work.{dismissed, evicted, cancelled, aborted, closedBy, endAt};
 ghost use Rattle.scans.specs.Scans.{sessionTest};
-ghost use Rattle.work.specs.Does.{Completing, Tells, Room, Does, all, oneOver, Top, byAccess, startedEnd, waitingEnd};
+ghost use Rattle.work.specs.Does.{Completing, Tells, Room, Does, all, oneOver, chainOver, Top, byAccess, startedEnd, waitingEnd};
 
 // How many rows the words have.
 pub fn rows_in(m: &[u64]) -> usize
@@ -78,6 +78,16 @@ fn id_at(m: &[u64], i: usize) -> u64
     let n = rows_in(m);
     let v = scans::load(m, n, i);
     v.session.id
+}
+
+// The connection of the session of row i.
+fn conn_at(m: &[u64], i: usize) -> u64
+    requires { ⌜ i < length (now m) / width ⌝ }
+    ensures { λ r. ⌜ r ≡ sessionOf (all (now (m .entry))) i .conn ⌝ }
+{
+    let n = rows_in(m);
+    let v = scans::load(m, n, i);
+    v.session.conn
 }
 
 // The session of row i ends so, the next of all ends.
@@ -217,4 +227,37 @@ pub fn end_due(m: &mut [u64], t: u64, out: &mut [u8], len: usize) -> usize
     let air = Ending::Complete(100);
     let cover = Ending::Complete(125);
     end_started(&mut *m, Test::EndsAt(t), air, cover, &mut *out, len)
+}
+
+// The session of row i ends so, and then those that follow it, with the result.
+pub fn end_chain(
+    m: &mut [u64],
+    i: usize,
+    how: Ending,
+    result: u16,
+    out: &mut [u8],
+    len: usize,
+) -> usize
+    requires { ⌜ i < length (now m) / width ⌝ }
+    requires { ⌜ Room (chainOver how result i) len (now m) (now out) ⌝ }
+    ensures { λ r.
+        ⌜ Does (chainOver how result i) len (now (m .entry)) (now (out .entry)) r (now (m .exit)) (now (out .exit)) ⌝ }
+{
+    let conn = conn_at(&*m, i);
+    let id = id_at(&*m, i);
+    let to = end_one(&mut *m, i, how, &mut *out, len);
+    dismiss(&mut *m, result, conn, id, &mut *out, to)
+}
+
+// The one that waits for this start, if any, is evicted, and those that follow it.
+pub fn evict(m: &mut [u64], t: u64, out: &mut [u8], len: usize) -> usize
+    requires { ⌜ Room (evicted t) len (now m) (now out) ⌝ }
+    ensures { λ r. ⌜ Does (evicted t) len (now (m .entry)) (now (out .entry)) r (now (m .exit)) (now (out .exit)) ⌝ }
+{
+    let n = rows_in(&*m);
+    let i = scans::find(&*m, n, Stand::Waiting, Test::StartsAt(t));
+    if i < n {
+        return end_chain(&mut *m, i, Ending::Response(109), 109, &mut *out, len);
+    }
+    len
 }
