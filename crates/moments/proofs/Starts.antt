@@ -3,13 +3,12 @@
 use mathlib.Core.Path.{_≡_, refl, sym, ap, subst, _∙_}
 use mathlib.Core.Bool.{Bool, true, false, cond, _&&_}
 use mathlib.Core.List.{List, [], _∷_}
-use Prim.Native.Nat.{ℕ, _+_, _/_, _≤_, _<_}
+use Prim.Native.Nat.{ℕ, _+_, _≤_, _<_}
 use native.Mathlib.Omega.{arith}
-use lib.Dec.{eqb, ltb}
+use lib.Dec.{ltb}
 use lib.ListN.{length, set}
 use borrow.Author.Tests.{eq-eqb, ne-eqb, lt-ltb, le-ltb}
 use Rattle.rules.specs.declared.Session.{Session}
-use Rattle.rules.specs.declared.Ending.{Ending}
 use Rattle.rules.specs.declared.Ending.the-variants.{Complete, Failed}
 use Rattle.rules.specs.Records.{output}
 use Rattle.rules.specs.State.{startsAt}
@@ -19,10 +18,10 @@ use Rattle.rules.proofs.Written.{output-one}
 use Rattle.verdicts.specs.declared.Phase.the-variants.{Out}
 use Rattle.verdicts.specs.declared.Verdict.{Verdict}
 use Rattle.verdicts.specs.Verdicts.{isWaiting, verdict, which, sessionOf}
-use Rattle.verdicts.specs.Work.{Turn, quiet, andThen, dismissed, onAir, mayStart, ousted, started, failed, launched, startAt, endAt, instant}
-use Rattle.work.specs.Does.{all, Turns, Room, oneOver}
+use Rattle.verdicts.specs.Work.{Turn, quiet, andThen, onAir, mayStart, ousted, started, failed, launched, startAt, endAt, instant}
+use Rattle.work.specs.Does.{all, Turns, Room, chainOver}
 use Rattle.work.proofs.Laws.{turns-then, length-then}
-use Rattle.moments.specs.Moments.{chained, begins}
+use Rattle.moments.specs.Moments.{begins}
 
 -- ## One piece of work, and another from where it ended
 
@@ -54,9 +53,6 @@ module _ {v w : Turn} (is : v ≡ w) where
 pub length-began : (s : Session) → length (output (began s ∷ [])) ≡ 23
 length-began s = ap length (output-one (began s)) ∙ length-record (began s) tt
 
-pub chained-is : (how : Ending) (r i : ℕ) (l : List Verdict) (x : Session) → x ≡ sessionOf l i → chained how r i l ≡ andThen (oneOver how i l) (dismissed r (x .conn) (x .id))
-chained-is how r i l x e = ap (λ (y : Session). andThen (oneOver how i l) (dismissed r (y .conn) (y .id))) (sym e)
-
 module _ (x : Session) (l : List Verdict) (i : ℕ) (e : i ≡ onAir l) where
   pub ousted-none : length l ≤ i → ousted x l ≡ quiet l
   unfolding ousted
@@ -67,12 +63,12 @@ module _ (x : Session) (l : List Verdict) (i : ℕ) (e : i ≡ onAir l) where
     here = f ∙ ap (λ (j : ℕ). sessionOf l j) e
 
     -- an equal one is on air
-    pub ousted-equal : i < length l → air .access ≡ x .access → ousted x l ≡ chained (Complete 125) 125 i l
+    pub ousted-equal : i < length l → air .access ≡ x .access → ousted x l ≡ chainOver (Complete 125) 125 i l
     unfolding ousted
     ousted-equal h g =
         let k : sessionOf l (onAir l) .access ≡ x .access = ap (λ (y : Session). y .access) (sym here) ∙ g in
         rw (lt-ltb (onAir l) (length l) (omega (arith, h, e)), eq-eqb (sessionOf l (onAir l) .access) (x .access) k)
-        (ap (λ (j : ℕ). chained (Complete 125) 125 j l) (sym e))
+        (ap (λ (j : ℕ). chainOver (Complete 125) 125 j l) (sym e))
 
     -- another one is
     pub ousted-other : (air .access ≡ x .access → ⊥) → ousted x l ≡ quiet l
@@ -99,7 +95,7 @@ module _ (i : ℕ) (l : List Verdict) (x : Session) (e : x ≡ sessionOf l i) wh
   unfolding launched
   launched-on b f g = rw (may b f ∙ g) refl
 
-  pub launched-off : (b : Bool) → b ≡ mayStart x l → b ≡ false → launched i l ≡ chained Failed 109 i l
+  pub launched-off : (b : Bool) → b ≡ mayStart x l → b ≡ false → launched i l ≡ chainOver Failed 109 i l
   unfolding launched failed
   launched-off b f g = rw (may b f ∙ g) refl
 

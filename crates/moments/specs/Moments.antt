@@ -1,21 +1,15 @@
--- Pieces of a start, and what time on air and a tick rely on.
+-- A start, and what time on air and a tick rely on.
 use mathlib.Core.List.{List, [], _∷_}
 use Prim.Native.Nat.{ℕ, _+_, _<_}
 use lib.ListN.{length, set}
 use Rattle.rules.specs.declared.Session.{Session}
-use Rattle.rules.specs.declared.Ending.{Ending}
 use Rattle.rules.specs.State.{Queue}
 use Rattle.rules.specs.Instants.{began}
 use Rattle.rules.specs.Sound.{Holding}
 use Rattle.verdicts.specs.declared.Phase.the-variants.{Started}
 use Rattle.verdicts.specs.declared.Verdict.{Verdict}
 use Rattle.verdicts.specs.Verdicts.{verdict, sessionOf, Shows}
-use Rattle.verdicts.specs.Work.{Turn, writes, andThen, dismissed, onAir}
-use Rattle.work.specs.Does.{oneOver}
-
--- call i ends so, and then the waiting ones that follow it, with the result
-abbrev pub chained : Ending → (result i : ℕ) → List Verdict → Turn
-chained how r i l = andThen (oneOver how i l) (dismissed r (sessionOf l i .conn) (sessionOf l i .id))
+use Rattle.verdicts.specs.Work.{Turn, writes, onAir}
 
 -- s goes on air, as call i
 abbrev pub begins : ℕ → Session → List Verdict → Turn

@@ -18,7 +18,7 @@ ghost use Rattle.verdicts.specs.Verdicts.{isWaiting, hasStarted, standing, sess
 ghost use Rattle.scans.specs.Rows.{width};
 ghost use Rattle.verdicts.specs.Work.{onAir, elapse, due, mayStart, ousted, started, launched, startAt, instant, runAll};
 ghost use Rattle.work.specs.Does.{all, Room, Does};
-ghost use Rattle.moments.specs.Moments.{chained, begins, Lasting, Keeps};
+ghost use Rattle.moments.specs.Moments.{begins, Lasting, Keeps};
 
 // The row of the one on air, or how many rows there are.
 pub fn on_air(m: &[u64]) -> usize
@@ -114,17 +114,6 @@ fn session_at(m: &[u64], i: usize) -> Session
     v.session
 }
 
-// The session of row i ends so, and then the waiting ones that follow it, with the result.
-fn end_chain(m: &mut [u64], i: usize, how: Ending, result: u16, out: &mut [u8], len: usize) -> usize
-    requires { ⌜ i < length (now m) / width ⌝ }
-    requires { ⌜ Room (chained how result i) len (now m) (now out) ⌝ }
-    ensures { λ r. ⌜ Does (chained how result i) len (now (m .entry)) (now (out .entry)) r (now (m .exit)) (now (out .exit)) ⌝ }
-{
-    let x = session_at(&*m, i);
-    let to = work::end_one(&mut *m, i, how, &mut *out, len);
-    work::dismiss(&mut *m, result, x.conn, x.id, &mut *out, to)
-}
-
 // An equal one on air ends at once, before the start of x, and then the waiting ones that follow it.
 fn oust(m: &mut [u64], x: Session, out: &mut [u8], len: usize) -> usize
     requires { ⌜ Room (ousted x) len (now m) (now out) ⌝ }
@@ -135,7 +124,7 @@ fn oust(m: &mut [u64], x: Session, out: &mut [u8], len: usize) -> usize
     if i < n {
         let air = session_at(&*m, i);
         if air.access == x.access {
-            return end_chain(&mut *m, i, Ending::Complete(125), 125, &mut *out, len);
+            return work::end_chain(&mut *m, i, Ending::Complete(125), 125, &mut *out, len);
         }
     }
     len
@@ -192,7 +181,7 @@ fn launch(m: &mut [u64], i: usize, out: &mut [u8], len: usize) -> usize
     if may_start(&*m, x) {
         start(&mut *m, i, &mut *out, len)
     } else {
-        end_chain(&mut *m, i, Ending::Failed, 109, &mut *out, len)
+        work::end_chain(&mut *m, i, Ending::Failed, 109, &mut *out, len)
     }
 }
 

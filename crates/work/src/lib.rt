@@ -91,7 +91,7 @@ fn conn_at(m: &[u64], i: usize) -> u64
 }
 
 // The session of row i ends so, the next of all ends.
-pub fn end_one(m: &mut [u64], i: usize, how: Ending, out: &mut [u8], len: usize) -> usize
+fn end_one(m: &mut [u64], i: usize, how: Ending, out: &mut [u8], len: usize) -> usize
     requires { ⌜ i < length (now m) / width ⌝ }
     requires { ⌜ Room (oneOver how i) len (now m) (now out) ⌝ }
     ensures { λ r. ⌜ Does (oneOver how i) len (now (m .entry)) (now (out .entry)) r (now (m .exit)) (now (out .exit)) ⌝ }
@@ -107,7 +107,7 @@ pub fn end_one(m: &mut [u64], i: usize, how: Ending, out: &mut [u8], len: usize)
 }
 
 // The waiting sessions that reach the number link by link end with the result.
-pub fn dismiss(m: &mut [u64], result: u16, conn: u64, id: u64, out: &mut [u8], len: usize) -> usize
+fn dismiss(m: &mut [u64], result: u16, conn: u64, id: u64, out: &mut [u8], len: usize) -> usize
     requires { ⌜ Room (dismissed result conn id) len (now m) (now out) ⌝ }
     ensures { λ r.
         ⌜ Does (dismissed result conn id) len (now (m .entry)) (now (out .entry)) r (now (m .exit)) (now (out .exit)) ⌝ }
