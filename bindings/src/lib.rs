@@ -72,9 +72,10 @@ pub const ENDED_WORDS: usize = 81;
 /// One output channel.
 ///
 /// Two splicers are equal if their memory is. The same calls from `fresh` on give equal splicers, and
-/// equal ones answer every call alike and stay equal. Two that show the same (clock, primary time,
-/// connections, what they keep, sessions and name) answer every call alike too, and are equal exactly if as many requests, or 64, 128
-/// and so on more, were accepted in the one as in the other: the ring of places goes one on with each.
+/// equal ones answer every call alike and stay equal. Two that show the same (name, clock,
+/// primary time, connections and what they keep, sessions, what ended lately and in which places)
+/// answer every call alike too, and are equal exactly if as many requests, or 64, 128 and so on more,
+/// were accepted in the one as in the other: the ring of places goes one on with each.
 #[derive(Clone, PartialEq, Eq)]
 #[repr(C)]
 pub struct Splicer {

@@ -66,7 +66,7 @@ keptTold c es = keptBehind c es noHardware
 
 -- ## Requests
 
--- the bytes l of connection c begin with a whole message of that MessageID and that size, and the call is not refused
+-- the bytes l of connection c begin with a whole message of that MessageID and that size, and no number but 7 stops the call
 pub record Sends (c : ℕ) (l : List ℕ) (loans : Loans) (id size : ℕ) (s : Splicer) : Type 0 where
   pub bytes : Wired (messages c l loans)
   pub low : noConnection c ≡ false

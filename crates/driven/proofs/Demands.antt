@@ -249,7 +249,7 @@ module _ (name : List ℕ) (h : List Made) (m : Memory) where
   pub kept-as-told : Trace name h m → KeptAs (recent (shown m .queue .lately)) (endsTold (events h))
   kept-as-told t = rw (trace-events name h m t) (called.kept-as-told name (within h) m (trace-inside name h m t))
 
-  -- each accepted session that has ended has made one of them, and one that has not ended none
+  -- under each number as many are told as its accepted sessions have ended, so each has made one, and one that has not ended none
   pub one-kept-for-each : Trace name h m → (c x : ℕ) → count (ofNumber c x) (endsTold (events h)) ≡ endedOnce c x (book (events h) [])
   one-kept-for-each t = rw (trace-events name h m t) (called.one-kept-for-each name (within h) m (trace-inside name h m t))
 

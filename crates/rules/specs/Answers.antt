@@ -248,7 +248,7 @@ answerRead c Config d section s = says (configResponse c section s ∷ []) s
 answerRead c Unreadable d section s = says (General c 123 ∷ []) s
 
 -- "1. ID 0x0000: no answer. 2. Not initialised and not Init_Request: General_Response 103. 3. ID 0x000D: no answer.
--- 4. ID not in the list of four: General_Response 120." 02, CR 8: of five
+-- 4. ID not in the list of four: General_Response 120." 02, CR 8 and CR 6: of six
 unfoldable pub answer : ℕ → ℕ → List ℕ → (section : List ℕ) → Splicer → Answered
 answer c id d section s =
     cond (eqb id 0x0000) (says [] s)

@@ -233,7 +233,7 @@ module _ (name : List ℕ) (h : List Made) (m : Memory) where
   pub kept-as-told : Trace name h m → KeptAs (recent (shown m .queue .lately)) (endsTold (events h))
   kept-as-told t = told.kept-as-told (events h) (shown m) (trace-told name h m t)
 
-  -- each accepted session that has ended has made one of them, and one that has not ended none
+  -- under each number as many are told as its accepted sessions have ended, so each has made one, and one that has not ended none
   pub one-kept-for-each : Trace name h m → (c x : ℕ) → count (ofNumber c x) (endsTold (events h)) ≡ endedOnce c x (book (events h) [])
   one-kept-for-each t = told.one-kept-for-each (events h) (shown m) (trace-told name h m t)
 
