@@ -286,7 +286,12 @@ pub fn is_read(id: u16) -> bool
     ensures { λ r. ⌜ r ≡ isRead id ⌝ }
 {
     match id {
-        INIT_REQUEST | ALIVE_REQUEST | SPLICE_REQUEST | ABORT_REQUEST | EXTENDED_REQUEST | CONFIG_REQUEST => true,
+        INIT_REQUEST
+        | ALIVE_REQUEST
+        | SPLICE_REQUEST
+        | ABORT_REQUEST
+        | EXTENDED_REQUEST
+        | CONFIG_REQUEST => true,
         _ => false,
     }
 }
