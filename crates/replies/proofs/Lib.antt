@@ -1,0 +1,5 @@
+pub mod Laws
+pub mod Config
+pub mod Alive
+pub mod Extended
+pub mod Same
