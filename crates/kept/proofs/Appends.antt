@@ -137,7 +137,7 @@ module _ (k : Call) (h : Keepable k) (y : List ℕ) (none : NoCall (next y)) whe
 
 -- ## The zero behind the last
 
--- "a zero is no mark"
+-- a zero is no mark
 pub zero-none : (y : List ℕ) → NoCall (next (0 ∷ y))
 unfolding next value valueFrom
 zero-none y = by NoCall (ltb (suc (length y)) markEnd) stops stops (λ e. tt) (λ e. tt)
@@ -174,7 +174,7 @@ module _ (k : Call) (h : Keepable k) (l : List ℕ) where
   none : NoCall (next (left (taken l) (length (marked k)) l))
   none = left-none (taken l) (length (marked k)) l
 
-  -- "the calls in an appended log are those before and the new one"
+  -- the calls in an appended log are those before and the new one
   pub appended-calls : keptCalls (appended k l) ≡ keptCalls l ++ (k ∷ [])
   appended-calls = ap keptCalls (appended-is k l) ∙ calls-with k h (left (taken l) (length (marked k)) l) none l
 

@@ -100,7 +100,7 @@ module _ (k : Call) (h : Keepable k) (l : List ℕ) (r : Room l) where
   pub kept-long : length (appended k l) ≡ logLength
   kept-long = appended-length k l record-fits ∙ r .long
 
--- "a refused one is not and leaves the log as it was"
+-- a refused call is not kept and leaves the log as it was
 pub refused-leaves : (k : Call) (a : Answer) (l : List ℕ) {n : _} → a ≡ refused n → logAfter k a l ≡ l
 unfolding logAfter
 refused-leaves k a l e = rw e

@@ -46,7 +46,7 @@ takes-log : taken log ≡ 12
 unfolding computing
 takes-log = refl
 
--- "an oversize header ends the list too"
+-- an oversize header ends the list too
 reads-oversized : keptCalls oversized ≡ opens 0 ∷ []
 unfolding computing
 reads-oversized = refl
@@ -74,7 +74,7 @@ keeps-no-section : keptForm (messages 3 read (lendingMaps (0x02 ∷ []) (0x02 �
 unfolding computing
 keeps-no-section = refl
 
--- "54 00 and the time"
+-- 54 00 and the time
 keeps-tick : appended (keptForm (ticks 1 2 4096)) (0x00 ∷ 0xEE ∷ 0xEE ∷ 0xEE ∷ 0xEE ∷ 0xEE ∷ 0xEE ∷ 0xEE ∷ 0xEE ∷ 0xEE ∷ 0xEE ∷ 0xEE ∷ [])
     ≡ 0x54 ∷ 0x00 ∷ 0x00 ∷ 0x00 ∷ 0x00 ∷ 0x01 ∷ 0x00 ∷ 0x00 ∷ 0x00 ∷ 0x02 ∷ 0x00 ∷ 0xEE ∷ []
 unfolding computing
@@ -99,7 +99,7 @@ module _ (l : List ℕ) where
   length-65537 h = full-length l (λ e. omega arith)
 
   module _ (h : length l ≡ 65536) where
-    -- "with 255 kept a call is answered and becomes the 256th"
+    -- with 255 kept a call is answered and becomes the 256th
     kept-255 : length (keptCalls l) ≡ 255 → 4098 ≤ free l → full l ≡ false
     kept-255 n f = has-room l (record { long = h; few = omega arith; space = f })
 
@@ -112,7 +112,7 @@ module _ (l : List ℕ) where
     free-4097 : length (keptCalls l) < 256 → free l ≡ 4097 → full l ≡ true
     free-4097 n f = full-space l h n ∙ lt-ltb (free l) longestRecord (omega arith)
 
-    -- "with 4,098 free a message of 4,088 is kept and fills the log to its last byte"
+    -- with 4,098 free a message of 4,088 is kept and fills the log to its last byte
     largest-fills : (c : ℕ) (m : List ℕ) → Keepable (messages c m cardLoans) → messageSize m ≡ 4088 → free l ≡ 4098
         → free (appended (messages c m cardLoans) l) ≡ 0
     unfolding marked

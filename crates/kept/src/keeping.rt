@@ -18,7 +18,7 @@ fn put_mark(l: &mut [u8], at: usize, mark: u8, second: u8)
     l[at + 1] = second;
 }
 
-// "a zero is no mark": behind it no call is read.
+// A zero is no mark: behind it no call is read.
 fn put_zero(l: &mut [u8], end: usize)
     requires { ⌜ end ≤ length (now l) ⌝ }
     ensures { λ _. ⌜ now (l .exit) ≡ written (now (l .entry)) end (zeroBehind end (now (l .entry))) ⌝ }
@@ -44,7 +44,7 @@ pub fn keep_close(l: &mut [u8], at: usize, conn: u8)
     put_zero(&mut *l, at + MARK_END);
 }
 
-// Of what was read the first message, "its 8 + MessageSize bytes, no more".
+// Of what was read the first message, its 8 + MessageSize bytes and no more.
 pub fn keep_message(l: &mut [u8], at: usize, conn: u8, read: &[u8], size: u16)
     requires { ⌜ Behind (now l) at ⌝ }
     requires { ⌜ size ≤ largestSize ⌝ }
@@ -71,7 +71,7 @@ pub fn keep_tick(l: &mut [u8], at: usize, seconds: u32, micros: u32)
     put_zero(&mut *l, at + TICK_END);
 }
 
-// "Fresh clears the log."
+// Fresh clears the log.
 pub fn clear(l: &mut [u8])
     ensures { λ _. ⌜ now (l .exit) ≡ cleared (now (l .entry)) ⌝ }
 {

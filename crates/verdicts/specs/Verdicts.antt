@@ -1,4 +1,4 @@
--- A verdict for each call that asked for a session: the session, and how it stands. In no order, nothing moved or removed.
+-- A verdict for each request that was accepted: the session, and how it stands. In no order, nothing moved or removed.
 use mathlib.Core.Path.{_≡_}
 use mathlib.Core.Bool.{Bool, true, false, not, _&&_}
 use mathlib.Core.List.{List, [], _∷_, _++_}
