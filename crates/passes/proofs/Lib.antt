@@ -1,0 +1,5 @@
+pub mod Rows
+pub mod Calls
+pub mod Messages
+pub mod Laws
+pub mod Walks
