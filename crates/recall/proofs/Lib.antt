@@ -1,2 +1,5 @@
 pub mod Steps
 pub mod Recalls
+pub mod Calls
+pub mod Messages
+pub mod Cited

@@ -55,11 +55,16 @@ run-calls (k ∷ ks) l s i w h n =
 -- ## From fresh
 
 -- a neat log is the records of its calls and zeros
-neat-is : (l : List ℕ) (ks : List Call) → Neat l → length l ≡ logLength → keptCalls l ≡ ks → l ≡ recorded ks ++ replicate (logLength - length (recorded ks)) 0
+pub neat-is : (l : List ℕ) (ks : List Call) → Neat l → length l ≡ logLength → keptCalls l ≡ ks → l ≡ recorded ks ++ replicate (logLength - length (recorded ks)) 0
 neat-is l ks n h e =
     let t : taken l ≡ length (recorded ks) = taken-recorded l ∙ ap (λ x. length (recorded x)) e in
     sym (take-append-drop (taken l) l)
     ∙ ap₂ _++_ (n .records ∙ ap recorded e) (n .zeros ∙ ap (λ x. replicate x 0) (ap₂ _-_ h t))
+
+-- whether a log of that length is full can be counted from its calls
+pub full-spent : (l : List ℕ) → length l ≡ logLength → full l ≡ spent (keptCalls l)
+unfolding full spent
+full-spent l h = rw (same-length l h, h, taken-recorded l)
 
 module _ (l : List ℕ) (h : length l ≡ logLength) where
   -- the calls ks, none of which got 13
@@ -79,11 +84,7 @@ module _ (l : List ℕ) (h : length l ≡ logLength) where
         }
 
     pub full-is-spent : full (logLeft ks (cleared l)) ≡ spent (goods ks begun)
-    unfolding full spent
-    full-is-spent =
-        let m = logLeft ks (cleared l) in
-        let t : taken m ≡ length (recorded (goods ks begun)) = taken-recorded m ∙ ap (λ x. length (recorded x)) good-calls in
-        rw (same-length m (leads .long), ap length good-calls, leads .long, t)
+    full-is-spent = full-spent (logLeft ks (cleared l)) (leads .long) ∙ ap spent good-calls
 
 -- ## The calls before the first 13, of any calls
 
@@ -148,7 +149,7 @@ thirteen-of-any k l = go (full l)
     go true = refl
     go false = told-other k (after (keptCalls l) begun)
 
--- "for fresh only the length counts"
+-- for fresh only the length counts
 pub thirteen-of-fresh : (l : List ℕ) → eqb (numberOf (recallFresh l .told .reply)) 13 ≡ otherLength l
 unfolding recallFresh numberOf
 thirteen-of-fresh l = go (otherLength l)
@@ -167,7 +168,7 @@ pub fresh-leaves : (l : List ℕ) → otherLength l ≡ true → recallFresh l �
 unfolding recallFresh
 fresh-leaves l e = rw e
 
--- "a refused one is not and leaves the log as it was"
+-- a refused call is not kept and leaves the log as it was
 pub refused-leaves : (k : Call) (l : List ℕ) (n : Refusal) → recallCall k l .told .reply ≡ Refused n
     → (recallCall k l .log ≡ l) × (recallCall k l .told .shows ≡ [])
 unfolding recallCall toldBy replyOf logAfter writtenBy
@@ -183,7 +184,7 @@ refused-leaves k l n = go (full l) (call k (after (keptCalls l) begun) .answer)
 
 -- ## The theorems
 
-fresh-log : (l : List ℕ) → length l ≡ logLength → recallFresh l .log ≡ cleared l
+pub fresh-log : (l : List ℕ) → length l ≡ logLength → recallFresh l .log ≡ cleared l
 unfolding recallFresh
 fresh-log l h = rw (same-length l h)
 

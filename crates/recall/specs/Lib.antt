@@ -1,1 +1,2 @@
 pub mod Recall
+pub mod Finish

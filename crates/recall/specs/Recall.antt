@@ -6,7 +6,7 @@ use Prim.Native.Nat.{ℕ, _-_}
 use lib.Dec.{leb, ltb}
 use lib.ListN.{length, replicate}
 use Rattle.rules.specs.Lists.{put}
-use Rattle.rules.specs.Bytes.{padded}
+use Rattle.rules.specs.Bytes.{padded, written}
 use Rattle.rules.specs.State.{Splicer}
 use Rattle.rules.specs.Calls.{Called, writtenBy, fresh, Call, call, after}
 use Rattle.rules.specs.Card.{cardName}
@@ -48,6 +48,18 @@ recallCall k l =
 -- fresh: it forgets what is kept, so the length alone counts
 unfoldable pub recallFresh : List ℕ → Recalled
 recallFresh l = cond (otherLength l) (thirteen l) (record { told = record { reply = Done 0 0 0; shows = [] }; log = cleared l })
+
+-- ## What a call promises
+
+-- handed the log l, any bytes, and a buffer that held e: the reply, and what the log and the buffer hold after it
+pub record Remembers (k : Call) (l e : List ℕ) (r : Reply) (n o : List ℕ) : Type 0 where
+  pub reply : r ≡ recallCall k l .told .reply
+  pub log : n ≡ recallCall k l .log
+  pub buffer : o ≡ written e 0 (recallCall k l .told .shows)
+
+pub record Forgets (l : List ℕ) (r : Reply) (n : List ℕ) : Type 0 where
+  pub reply : r ≡ recallFresh l .told .reply
+  pub log : n ≡ recallFresh l .log
 
 -- ## Sequences of calls, "the log unchanged between calls"
 

@@ -1,2 +1,182 @@
-// 02, CR 12: no code. specs/ says what each call of the engine that only remembers answers from its log; proofs/ shows that it answers
-// like the card.
+// 02, CR 12: the engine that only remembers: its five calls over a lent log, any bytes. specs/ says what each answers; proofs/ shows that
+// it answers like the card.
+use kept::Reply;
+use kept::Space;
+use passes::Heard;
+use passes::WORDS;
+use replies::Carried;
+use replies::Effect;
+use rules::Framing;
+use rules::Refusal;
+ghost use mathlib.Core.Path.{_≡_};
+ghost use mathlib.Core.Bool.{cond};
+ghost use mathlib.Core.List.{[]};
+ghost use Prim.Native.Nat.{_≤_};
+ghost use lib.Dec.{eqb};
+ghost use lib.ListN.{length};
+ghost use Rattle.rules.specs.Lists.{All};
+ghost use Rattle.rules.specs.Calls.{houseNumber, lendingMaps, longestSection, longSection, opens, closes, messages, ticks};
+ghost use Rattle.rules.specs.Card.{cardRoom};
+ghost use Rattle.replies.specs.Replies.{Placed};
+ghost use Rattle.recall.specs.Recall.{Remembers, Forgets};
+ghost use Rattle.recall.specs.Finish.{Finishes};
+
+// 02, CR 6, 10: "a lent section over 1,024 bytes".
+const SECTION: usize = 1024;
+
+// The table of house numbers; 13 is no refusal of the rules.
+pub fn house_number(n: Refusal) -> u8
+    ensures { λ r. ⌜ r ≡ houseNumber n ⌝ }
+{
+    match n {
+        Refusal::NoConnection => 1,
+        Refusal::NoRoom => 2,
+        Refusal::ClockBack => 3,
+        Refusal::Oversize => 4,
+        Refusal::Short => 5,
+        Refusal::AlreadyOpen => 6,
+        Refusal::NotOpen => 7,
+        Refusal::BadMicros => 8,
+        Refusal::BadName => 9,
+        Refusal::Counter => 12,
+        Refusal::BadSection => 11,
+        Refusal::LongSection => 10,
+    }
+}
+
+// Fresh: no name, it is "CH1". It forgets what is kept, so the length alone counts.
+pub fn fresh(log: &mut [u8]) -> Reply
+    ensures { λ r. ⌜ Forgets (now (log .entry)) r (now (log .exit)) ⌝ }
+{
+    if log.len() != kept::LOG {
+        return Reply::Full;
+    }
+    kept::clear(&mut *log);
+    Reply::Done(0, 0, 0)
+}
+
+// Open: 13, 1, 6.
+pub fn open(log: &mut [u8], conn: u32) -> Reply
+    ensures { λ r. ⌜ Remembers (opens conn) (now (log .entry)) [] r (now (log .exit)) [] ⌝ }
+{
+    let space = kept::next_place(&*log);
+    let Space::From(at) = space else {
+        return Reply::Full;
+    };
+    let mut m = [0; WORDS];
+    let h = passes::pass(&*log, &mut m);
+    let p = passes::open(h, conn);
+    let reply = p.reply;
+    let Reply::Done(_, _, _) = reply else {
+        return reply;
+    };
+    kept::keep_open(&mut *log, at, conn as u8);
+    reply
+}
+
+// Close: 13, 1, 2, 7.
+pub fn close(log: &mut [u8], conn: u32, out: &mut [u8]) -> Reply
+    ensures { λ r.
+        ⌜ Remembers (closes conn (length (now (out .entry)))) (now (log .entry)) (now (out .entry)) r
+        (now (log .exit)) (now (out .exit)) ⌝ }
+{
+    let space = kept::next_place(&*log);
+    let Space::From(at) = space else {
+        return Reply::Full;
+    };
+    let mut m = [0; WORDS];
+    let h = passes::pass(&*log, &mut m);
+    let p = passes::close(&mut m, h, conn, &mut *out);
+    let reply = p.reply;
+    let Reply::Done(_, _, _) = reply else {
+        return reply;
+    };
+    kept::keep_close(&mut *log, at, conn as u8);
+    reply
+}
+
+// Tick: 13, 2, 8, 3.
+pub fn tick(log: &mut [u8], seconds: u32, micros: u32, out: &mut [u8]) -> Reply
+    ensures { λ r.
+        ⌜ Remembers (ticks seconds micros (length (now (out .entry)))) (now (log .entry)) (now (out .entry)) r
+        (now (log .exit)) (now (out .exit)) ⌝ }
+{
+    let space = kept::next_place(&*log);
+    let Space::From(at) = space else {
+        return Reply::Full;
+    };
+    let mut m = [0; WORDS];
+    let h = passes::pass(&*log, &mut m);
+    let p = passes::tick(&mut m, h, seconds, micros, &mut *out);
+    let reply = p.reply;
+    let Reply::Done(_, _, _) = reply else {
+        return reply;
+    };
+    kept::keep_tick(&mut *log, at, seconds, micros);
+    reply
+}
+
+// 02, CR 6: "gets back the one on air, as part of what was lent".
+fn map_on_air<'a>(primary: &'a [u8], insertion: &'a [u8], feed: usize) -> &'a [u8]
+    ensures { λ r. ⌜ r ≡ cond (eqb feed 0) (primary .entry) (insertion .entry) ⌝ }
+{
+    if feed == 0 {
+        return primary;
+    }
+    insertion
+}
+
+// 10: "a lent section over 1,024 bytes".
+fn is_long(primary: &[u8], insertion: &[u8]) -> bool
+    ensures { λ r. ⌜ r ≡ longSection (lendingMaps (now (primary .entry)) (now (insertion .entry)) 0) ⌝ }
+{
+    SECTION < primary.len() || SECTION < insertion.len()
+}
+
+// GetConfig's record is still to be written: its Hardware_Config stands in the log.
+fn finish(log: &[u8], h: Carried, conn: u32, section: &[u8], g: Heard, out: &mut [u8]) -> usize
+    requires { ⌜ conn ≤ 3 ⌝ }
+    requires { ⌜ All (Placed (now log)) (h .places) ⌝ }
+    requires { ⌜ length (now section) ≤ longestSection ⌝ }
+    requires { ⌜ cardRoom ≤ length (now out) ⌝ }
+    ensures { λ r. ⌜ Finishes (now (log .entry)) h conn (now (section .entry)) g (now (out .entry)) r (now (out .exit)) ⌝ }
+{
+    let effect = g.effect;
+    let Effect::Configures = effect else {
+        return g.len;
+    };
+    replies::answer_config(log, h, conn, section, &mut *out)
+}
+
+// Message: 13, 1, 2, 7, 10, then 5 (header), 4, 5 (body); then the answer. l: the bytes read so far; primary, insertion: the lent sections.
+pub fn message<'a>(
+    log: &mut [u8],
+    conn: u32,
+    l: &[u8],
+    primary: &'a [u8],
+    insertion: &'a [u8],
+    out: &mut [u8],
+) -> Reply
+    ensures { λ r.
+        ⌜ Remembers
+        (messages conn (now (l .entry)) (lendingMaps (now (primary .entry)) (now (insertion .entry)) (length (now (out .entry)))))
+        (now (log .entry)) (now (out .entry)) r (now (log .exit)) (now (out .exit)) ⌝ }
+{
+    let space = kept::next_place(&*log);
+    let Space::From(at) = space else {
+        return Reply::Full;
+    };
+    let mut m = [0; WORDS];
+    let h = passes::pass(&*log, &mut m);
+    match passes::framed(h, conn, l, out.len(), is_long(primary, insertion)) {
+        Framing::Unframed(n) => Reply::Refused(n),
+        Framing::Framed(id, size) => {
+            let section = map_on_air(primary, insertion, passes::feed(&m, h));
+            let d = reading::data_of(l, size as usize);
+            let g = passes::hear(&mut m, h, conn, id, d, &mut *out);
+            let len = finish(&*log, h, conn, section, g, &mut *out);
+            kept::keep_message(&mut *log, at, conn as u8, l, size);
+            Reply::Done(8 + size as usize, len, g.moved)
+        }
+    }
+}
