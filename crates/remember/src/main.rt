@@ -1,0 +1,188 @@
+// 02, CR 12: the engine that only remembers, as a program: the card program's input from standard input, this engine's output. It goes on
+// after 13.
+use kept::Record;
+use kept::Reply;
+use reading::LONGEST;
+use reading::numbers::number2;
+ghost use mathlib.Core.Path.{_≡_};
+ghost use Prim.Native.Nat.{_≤_};
+ghost use lib.ListN.{length};
+ghost use Rattle.rules.specs.Calls.{messages};
+ghost use Rattle.rules.specs.Card.{cardLoans, cardRoom};
+ghost use Rattle.recall.specs.Recall.{Remembers};
+ghost use Rattle.remember.specs.Said.{callFor, Says, Plays, headOf, endsWith, again};
+
+// A mark, a connection, and the longest message: 4,088 bytes behind a header of 8.
+const RECORD: usize = 4098;
+
+// Where the parts of a record begin and end: the message, the header of one, or a tick.
+const MARK_END: usize = 2;
+
+const HEADER_END: usize = 10;
+
+// "a refusal is 0x45 and the number". The output of a good call stands there already.
+fn say(r: Reply, out: &mut [u8]) -> usize
+    requires { ⌜ 2 ≤ length (now out) ⌝ }
+    ensures { λ n. ⌜ Says r (now (out .entry)) n (now (out .exit)) ⌝ }
+{
+    match r {
+        Reply::Full => {
+            out[0] = 0x45;
+            out[1] = 13;
+            2
+        }
+        Reply::Refused(n) => {
+            out[0] = 0x45;
+            out[1] = recall::house_number(n);
+            2
+        }
+        Reply::Done(_, len, _) => len,
+    }
+}
+
+// A message: "The card program lends empty sections."
+fn message(log: &mut [u8], conn: u32, l: &[u8], out: &mut [u8]) -> Reply
+    requires { ⌜ length (now out) ≡ cardRoom ⌝ }
+    ensures { λ r.
+        ⌜ Remembers (messages conn (now (l .entry)) cardLoans) (now (log .entry)) (now (out .entry)) r
+        (now (log .exit)) (now (out .exit)) ⌝ }
+{
+    let none = [0u8; 1];
+    let e = &none[..0];
+    recall::message(&mut *log, conn, l, e, e, &mut *out)
+}
+
+// The call of the record l.
+fn call(log: &mut [u8], l: &[u8], out: &mut [u8]) -> Reply
+    requires { ⌜ 2 ≤ length (now l) ⌝ }
+    requires { ⌜ length (now out) ≡ cardRoom ⌝ }
+    ensures { λ r.
+        ⌜ Remembers (callFor (now (l .entry))) (now (log .entry)) (now (out .entry)) r (now (log .exit)) (now (out .exit)) ⌝ }
+{
+    match kept::record_at(l) {
+        Record::Open(c) => recall::open(&mut *log, c as u32),
+        Record::Close(c) => recall::close(&mut *log, c as u32, &mut *out),
+        Record::Message(c, size) => {
+            let end = HEADER_END + size as usize;
+            message(&mut *log, c as u32, &l[MARK_END..end], &mut *out)
+        }
+        Record::Tick(seconds, micros) => recall::tick(&mut *log, seconds, micros, &mut *out),
+        Record::None => message(&mut *log, l[1] as u32, &l[MARK_END..], &mut *out),
+    }
+}
+
+// One record played: how many bytes of out are to be written.
+fn play(log: &mut [u8], l: &[u8], out: &mut [u8]) -> usize
+    requires { ⌜ 2 ≤ length (now l) ⌝ }
+    requires { ⌜ length (now out) ≡ cardRoom ⌝ }
+    ensures { λ n. ⌜ Plays (now (log .entry)) (now (l .entry)) n (now (log .exit)) (now (out .exit)) ⌝ }
+{
+    let r = call(&mut *log, l, &mut *out);
+    say(r, &mut *out)
+}
+
+// How many bytes a record has, as far as its mark tells: of a message the header; 0 behind another mark.
+fn head_of(mark: u8) -> usize
+    ensures { λ n. ⌜ n ≡ headOf mark ⌝ }
+{
+    if mark == 0x4F {
+        return MARK_END;
+    }
+    if mark == 0x43 {
+        return MARK_END;
+    }
+    if mark == 0x4D {
+        return HEADER_END;
+    }
+    if mark == 0x54 {
+        return HEADER_END;
+    }
+    0
+}
+
+// Whether so many bytes come.
+fn fill(part: &mut [u8]) -> bool {
+    io::read_full(libc::STDIN_FILENO, &mut *part) == part.len()
+}
+
+// One record of the input, which is read from its front on: how many bytes it has; 0 at the end, at a cut record or at another mark. Of a
+// message with MessageSize above 4,088 the header.
+fn read_record(l: &mut [u8]) -> usize
+    requires { ⌜ length (now l) ≡ 4098 ⌝ }
+    ensures { λ n. ⌜ n ≤ 4098 ⌝ }
+{
+    if !fill(&mut l[..MARK_END]) {
+        return 0;
+    }
+    let head = head_of(l[0]);
+    if head < HEADER_END {
+        return head;
+    }
+    if !fill(&mut l[MARK_END..HEADER_END]) {
+        return 0;
+    }
+    let size = number2(&*l, 4);
+    if l[0] == 0x54 || LONGEST < size {
+        return HEADER_END;
+    }
+    let end = HEADER_END + size as usize;
+    if fill(&mut l[HEADER_END..end]) {
+        end
+    } else {
+        0
+    }
+}
+
+// Whether the record is the header of a message that is too long: "writes the refusal and stops".
+fn is_last(l: &[u8]) -> bool
+    ensures { λ r. ⌜ r ≡ endsWith (now (l .entry)) ⌝ }
+{
+    if l.len() < HEADER_END {
+        return false;
+    }
+    l[0] == 0x4D && LONGEST < number2(l, 4)
+}
+
+// Whether there is one more turn: after 13 too.
+fn goes_on(is_written: bool, is_last: bool) -> bool
+    ensures { λ r. ⌜ r ≡ again «is_written» «is_last» ⌝ }
+{
+    is_written && !is_last
+}
+
+// One turn: whether there is one more.
+fn turn(log: &mut [u8], l: &mut [u8], out: &mut [u8]) -> bool
+    requires { ⌜ length (now l) ≡ 4098 ⌝ }
+    requires { ⌜ length (now out) ≡ cardRoom ⌝ }
+{
+    let n = read_record(&mut *l);
+    if n < MARK_END {
+        return false;
+    }
+    let len = play(&mut *log, &l[..n], &mut *out);
+    let is_written = io::write_all(libc::STDOUT_FILENO, &out[..len]);
+    let last = is_last(&l[..n]);
+    goes_on(is_written, last)
+}
+
+// A proved loop has to end, and nothing says that the input does. So it counts its turns down, from a number that no run uses up.
+fn turns(log: &mut [u8], l: &mut [u8], out: &mut [u8])
+    requires { ⌜ length (now l) ≡ 4098 ⌝ }
+    requires { ⌜ length (now out) ≡ cardRoom ⌝ }
+{
+    let mut left = u64::MAX;
+    while 0 < left {
+        if !turn(&mut *log, &mut *l, &mut *out) {
+            return;
+        }
+        left -= 1;
+    }
+}
+
+fn main() {
+    let mut log = io::large_buffer();
+    recall::fresh(&mut log);
+    let mut l = [0; RECORD];
+    let mut out = [0; 4096];
+    turns(&mut log, &mut l, &mut out);
+}
