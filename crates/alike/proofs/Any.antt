@@ -1,0 +1,138 @@
+-- Any inputs can be handed to both: what the theorems ask of a sequence is met by every one. Rests on traces' and driven's `any-calls`, and on
+-- that a call of the second engine always answers.
+use mathlib.Core.Path.{_≡_, refl, ap, _∙_}
+use mathlib.Core.List.{List, [], _∷_, map}
+use Prim.Native.Nat.{ℕ}
+use native.Mathlib.Omega.{arith}
+use Rattle.rules.specs.Lists.{All}
+use Rattle.rules.specs.Bytes.{Byte, padded, written}
+use Rattle.rules.specs.Card.{cardName}
+use Rattle.rules.proofs.Bytes.{padded-byte}
+use Rattle.kept.specs.Kept.{Its}
+use Rattle.recall.specs.Recall.{recallCall, recallFresh}
+use Rattle.traces.specs.Trace as engine
+use Rattle.traces.specs.Trace.{Memory}
+use Rattle.traces.proofs.Demands as engine-laws
+use Rattle.driven.specs.Driven as door
+use Rattle.door.specs.Door as door-calls
+use Rattle.driven.proofs.Demands as door-laws
+use Rattle.bench.specs.Bench.{replyWords}
+use Rattle.alike.specs.Beside as beside
+use Rattle.alike.specs.InC as in-c
+
+named : All Byte (padded cardName)
+unfolding cardName
+named = padded-byte cardName (omega arith, (omega arith, (omega arith, tt)))
+
+-- ## The engines
+
+both-of : List engine.Made → List ℕ → List beside.Both
+both-of [] l = []
+both-of (x ∷ h) l =
+    let k = engine.callOf (x .input) in
+    let r = recallCall k l in
+    record {
+      input = x .input;
+      card = x .result;
+      second = record { reply = r .told .reply; log = r .log; buffer = written (engine.bufferOf (x .input)) 0 (r .told .shows) };
+    }
+    ∷ both-of h (r .log)
+
+inputs-of : (h : List engine.Made) (l : List ℕ) → map (λ (x : beside.Both). x .input) (both-of h l) ≡ engine.inputs h
+unfolding both-of
+inputs-of [] l = refl
+inputs-of (x ∷ h) l = ap (λ (is : List engine.Input). x .input ∷ is) (inputs-of h (recallCall (engine.callOf (x .input)) l .log))
+
+course-of : (h : List engine.Made) (m n : Memory) (l : List ℕ) → All (λ (i : engine.Input). Its (engine.callOf i)) (engine.inputs h) → engine.Leads m h n → beside.Course m l (both-of h l)
+unfolding both-of
+course-of [] m n l a b = tt
+course-of (x ∷ h) m n l a b =
+    (b .0, a .0, b .1, record { reply = refl; log = refl; buffer = refl }, course-of h (x .result .memory) n (recallCall (engine.callOf (x .input)) l .log) (a .1) (b .2))
+
+pub record Run (is : List engine.Input) : Type 0 where
+  pub course : List beside.Both
+  pub run : beside.Beside course
+  pub same : map (λ (x : beside.Both). x .input) course ≡ is
+
+-- l: the log that is lent
+pub any-calls : (l : List ℕ) (is : List engine.Input) → All engine.Typed is → All (λ (i : engine.Input). Its (engine.callOf i)) is → Run is
+unfolding cardName
+any-calls l is t i =
+    let r = engine-laws.any-calls (padded cardName) refl named is t in
+    let n = recallFresh l .log in
+    let c = r .trace in
+    record {
+      course = both-of (r .course) n;
+      run =
+          record {
+            memory = c .begun;
+            answer = c .answer;
+            fresh = c .fresh;
+            lent = l;
+            reply = recallFresh l .told .reply;
+            log = n;
+            forgets = record { reply = refl; log = refl };
+            course = course-of (r .course) (c .begun) (r .memory) n (its (engine.inputs (r .course)) is (r .same) i) (c .leads);
+          };
+      same = inputs-of (r .course) n ∙ r .same;
+    }
+  where
+    its : (js is : List engine.Input) → js ≡ is → All (λ (i : engine.Input). Its (engine.callOf i)) is → All (λ (i : engine.Input). Its (engine.callOf i)) js
+    its js is e a = rw e a
+
+-- ## In C
+
+seen-of : List door.Made → List ℕ → List in-c.Both
+seen-of [] l = []
+seen-of (x ∷ h) l =
+    let k = door-calls.callOf (x .input) in
+    let r = recallCall k l in
+    record {
+      input = x .input;
+      card = x .seen;
+      second = record { reply = replyWords (r .told .reply); log = r .log; buffer = written (door-calls.bufferOf (x .input)) 0 (r .told .shows) };
+    }
+    ∷ seen-of h (r .log)
+
+handed-of : (h : List door.Made) (l : List ℕ) → map (λ (x : in-c.Both). x .input) (seen-of h l) ≡ door.inputs h
+unfolding seen-of
+handed-of [] l = refl
+handed-of (x ∷ h) l = ap (λ (is : List door-calls.Input). x .input ∷ is) (handed-of h (recallCall (door-calls.callOf (x .input)) l .log))
+
+run-of : (h : List door.Made) (m n : Memory) (l : List ℕ) → All (λ (i : door-calls.Input). Its (door-calls.callOf i)) (door.inputs h) → door.Leads m h n → in-c.Course (m .words) (m .bytes) l (seen-of h l)
+unfolding seen-of
+run-of [] m n l a b = tt
+run-of (x ∷ h) m n l a b =
+    (b .0, a .0, b .1, record { reply = recallCall (door-calls.callOf (x .input)) l .told .reply; remembers = record { reply = refl; log = refl; buffer = refl }; words = refl }, run-of h (door.left (x .seen)) n (recallCall (door-calls.callOf (x .input)) l .log) (a .1) (b .2))
+
+pub record RunInC (is : List door-calls.Input) : Type 0 where
+  pub course : List in-c.Both
+  pub run : in-c.Beside course
+  pub same : map (λ (x : in-c.Both). x .input) course ≡ is
+
+-- l: the log that is lent
+pub any-calls-in-c : (l : List ℕ) (is : List door-calls.Input) → All door-calls.Typed is → All (λ (i : door-calls.Input). Its (door-calls.callOf i)) is → RunInC is
+unfolding cardName
+any-calls-in-c l is t i =
+    let r = door-laws.any-calls (padded cardName) refl named is t in
+    let n = recallFresh l .log in
+    let c = r .trace in
+    record {
+      course = seen-of (r .course) n;
+      run =
+          record {
+            words = c .begun .words;
+            bytes = c .begun .bytes;
+            reply = c .reply;
+            fresh = c .fresh;
+            lent = l;
+            told = replyWords (recallFresh l .told .reply);
+            log = n;
+            forgets = record { reply = recallFresh l .told .reply; forgets = record { reply = refl; log = refl }; words = refl };
+            course = run-of (r .course) (c .begun) (r .memory) n (its (door.inputs (r .course)) is (r .same) i) (c .leads);
+          };
+      same = handed-of (r .course) n ∙ r .same;
+    }
+  where
+    its : (js is : List door-calls.Input) → js ≡ is → All (λ (i : door-calls.Input). Its (door-calls.callOf i)) is → All (λ (i : door-calls.Input). Its (door-calls.callOf i)) js
+    its js is e a = rw e a

@@ -1,0 +1,4 @@
+pub mod Sides
+pub mod Alike
+pub mod InC
+pub mod Any
