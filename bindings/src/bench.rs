@@ -1,5 +1,14 @@
-//! The checker of bench recordings (document 02, CR 14): `include/splicer_bench.h` as a safe
-//! interface. With the feature `bench` only, which links a second archive.
+//! For the bench: `include/splicer_bench.h` as a safe interface. The checker of recordings (document
+//! 02, CR 14), [`check`], and the engine that only remembers (CR 12), [`Recall`]. With the feature
+//! `bench` only, which links a second archive.
+
+pub mod raw;
+mod recall;
+
+pub use recall::{Recall, Refused, LOG};
+
+/// The version of the archive's functions, whose names carry it.
+pub const VERSION: u32 = 2;
 
 /// The longest recording that is read.
 pub const RECORDING: usize = 65536;
@@ -34,7 +43,7 @@ impl Finding {
 }
 
 extern "C" {
-    #[link_name = "splicer_bench_1_check"]
+    #[link_name = "splicer_bench_2_check"]
     fn check_recording(recording: *const u8, length: usize, reply: *mut u64);
 }
 

@@ -14,18 +14,25 @@ pub struct Counts {
     pub moved: u32,
 }
 
+/// Those of a reply that has no house number.
+impl From<[u64; REPLY]> for Counts {
+    fn from([_, consumed, written, moved]: [u64; REPLY]) -> Counts {
+        // A length is 8 bytes: lib.rs asserts it. At most 63 places are shifted.
+        Counts {
+            consumed: consumed as usize,
+            written: written as usize,
+            moved: moved as u32,
+        }
+    }
+}
+
 /// Lends the words of a reply to a call. Gives what it did, or why it was refused.
 pub fn replied(call: impl FnOnce(*mut u64)) -> Result<Counts, Refusal> {
     let mut reply = [0; REPLY];
     call(reply.as_mut_ptr());
-    let [number, consumed, written, moved] = reply;
+    let number = reply[0];
     if number == 0 {
-        // A length is 8 bytes: lib.rs asserts it. At most 63 places are shifted.
-        return Ok(Counts {
-            consumed: consumed as usize,
-            written: written as usize,
-            moved: moved as u32,
-        });
+        return Ok(Counts::from(reply));
     }
     // The core gives the numbers of `Refusal` alone; another archive is better noticed here.
     let refusal = u32::try_from(number).ok().and_then(Refusal::of);

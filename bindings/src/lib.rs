@@ -16,6 +16,9 @@
 #![warn(missing_docs)]
 
 #[cfg(feature = "bench")]
+extern crate alloc;
+
+#[cfg(feature = "bench")]
 pub mod bench;
 mod door;
 mod ended;
