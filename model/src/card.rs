@@ -155,7 +155,8 @@ fn next_message(conn: u8, rest: &[u8]) -> Result<(Call, usize), Stop> {
     Ok((Call::Message(conn, rest[..length].to_vec()), 2 + length))
 }
 
-fn is_too_large(call: &Call) -> bool {
+/// "a message header with MessageSize above 4,088"
+pub fn is_too_large(call: &Call) -> bool {
     match call {
         Call::Message(_, bytes) => u16::from_be_bytes([bytes[2], bytes[3]]) as usize > LARGEST_SIZE,
         _ => false,

@@ -60,6 +60,9 @@ pub struct Gen {
     pub model: Splicer,
     pub bytes: Vec<u8>,
     pub calls: u64,
+    /// The good calls among them, and the bytes of their records (02, CR 12).
+    pub kept: u64,
+    pub kept_bytes: usize,
     /// The stream's step of time in microseconds.
     pub unit: u64,
     /// The stream plays near the top of the range and must not run against it soon.
@@ -75,6 +78,8 @@ impl Gen {
             model: Splicer::fresh(&card::channel_name()).0,
             bytes: Vec::new(),
             calls: 0,
+            kept: 0,
+            kept_bytes: 0,
             unit: 1,
             at_the_top: false,
             rolling: None,
@@ -109,9 +114,14 @@ impl Gen {
         if self.rolling.is_some() {
             return rolls::call(self, call);
         }
-        self.bytes.extend(card::input_bytes(&call));
-        card::make(&mut self.model, &call);
+        let record = card::input_bytes(&call);
+        let output = card::make(&mut self.model, &call);
         self.calls += 1;
+        if output.first() != Some(&0x45) {
+            self.kept += 1;
+            self.kept_bytes += record.len();
+        }
+        self.bytes.extend(record);
     }
 
     /// Sends a message; the Result fields, which are not read, are drawn at times.

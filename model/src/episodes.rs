@@ -53,7 +53,7 @@ const HELD: [State; 3] = [State::Waiting, State::OnAir, State::Covered];
 const STARTED: [State; 2] = [State::OnAir, State::Covered];
 
 /// A plain request, timed or linked, mostly good.
-fn request(gen: &mut Gen) {
+pub fn request(gen: &mut Gen) {
     let conn = gen.conn();
     let prior = gen.some(Some(conn), &HELD);
     let ask = match prior {
@@ -68,7 +68,7 @@ fn request(gen: &mut Gen) {
 }
 
 /// Links `count` sessions behind `prior`; gives the last one accepted.
-fn link(gen: &mut Gen, conn: u8, prior: u32, count: u64) -> u32 {
+pub fn link(gen: &mut Gen, conn: u8, prior: u32, count: u64) -> u32 {
     let mut last = prior;
     for _ in 0..count {
         if gen.model.held(conn, last).is_none() {
@@ -135,7 +135,7 @@ fn same_start(gen: &mut Gen, other: &Session) -> Option<(u8, Ask)> {
     Some((conn, gen.timed(conn, other.start / MICROSECOND)))
 }
 
-fn collide(gen: &mut Gen) {
+pub fn collide(gen: &mut Gen) {
     let Some(other) = gen.some(None, &[State::Waiting]) else {
         return request(gen);
     };
@@ -169,7 +169,7 @@ fn abort_one(gen: &mut Gen) {
     }
 }
 
-fn close_one(gen: &mut Gen) {
+pub fn close_one(gen: &mut Gen) {
     let with_started = gen.some(None, &STARTED).map(|s| s.conn);
     let drawn = gen.rng.below(4) as u8;
     let conn = match with_started {
@@ -186,7 +186,7 @@ fn close_one(gen: &mut Gen) {
 
 /// Asks for what ended lately (02, CR 8): numbers that are kept, of its own and of another connection,
 /// dropped or never used; those held again, at times, and ended once more.
-fn lately(gen: &mut Gen) {
+pub fn lately(gen: &mut Gen) {
     for _ in 0..gen.rng.between(1, 4) {
         let kept: Vec<(u8, u32)> = gen.model.ended.iter().map(|e| (e.conn, e.id)).collect();
         if kept.is_empty() || gen.rng.chance(20) {
@@ -231,7 +231,7 @@ fn again(gen: &mut Gen, conn: u8, id: u32) {
 }
 
 /// 15, 16, 17 or 20 ends by one close or one tick, and who is kept of them.
-fn many_ends(gen: &mut Gen) {
+pub fn many_ends(gen: &mut Gen) {
     if gen.rng.chance(70) {
         gen.clear();
     }
@@ -300,7 +300,7 @@ fn even(gen: &Gen) -> u64 {
 
 /// Overriding sessions up to ten deep, with ends at one instant, nested, in order of start, in
 /// pairs or drawn, and a start at the first end.
-fn stack(gen: &mut Gen) {
+pub fn stack(gen: &mut Gen) {
     if gen.rng.chance(75) {
         gen.clear();
     }
@@ -402,7 +402,7 @@ fn held_number(gen: &mut Gen) {
     gen.ask(conn, &ask);
 }
 
-fn alive(gen: &mut Gen) {
+pub fn alive(gen: &mut Gen) {
     let conn = match gen.some(None, &[State::OnAir]) {
         Some(session) if gen.rng.chance(40) => session.conn,
         _ => gen.conn(),
@@ -456,7 +456,7 @@ fn one_more(gen: &mut Gen, conn: u8, at: u64) {
 
 /// All four connections up to the sum 64, each asking once more, and often one tick over it
 /// all.
-fn fill_all(gen: &mut Gen) {
+pub fn fill_all(gen: &mut Gen) {
     gen.clear();
     let sets = [
         [20, 20, 14, 10],
@@ -540,7 +540,7 @@ fn reuse(gen: &mut Gen) {
 }
 
 /// A waiting session with followers, evicted by its own or another connection.
-fn evict(gen: &mut Gen) {
+pub fn evict(gen: &mut Gen) {
     let conn = gen.conn();
     let units = gen.rng.between(0, 20);
     let at = gen.ahead(units);
@@ -564,7 +564,7 @@ fn evict(gen: &mut Gen) {
 }
 
 /// One long on air, and starts against it that fail or not, with followers.
-fn failing(gen: &mut Gen) {
+pub fn failing(gen: &mut Gen) {
     if gen.rng.chance(60) {
         gen.clear();
     }
@@ -586,7 +586,7 @@ fn failing(gen: &mut Gen) {
 }
 
 /// A covered session with followers: aborted, or ended under the other one.
-fn covered(gen: &mut Gen) {
+pub fn covered(gen: &mut Gen) {
     if gen.rng.chance(60) {
         gen.clear();
     }
@@ -618,7 +618,7 @@ fn covered(gen: &mut Gen) {
 }
 
 /// Up to ten deep, and then starts with the AccessType of the one on air, which has followers.
-fn equals(gen: &mut Gen) {
+pub fn equals(gen: &mut Gen) {
     if gen.rng.chance(60) {
         gen.clear();
     }

@@ -2,6 +2,7 @@
 //! one process with the proved core. It uses nothing of the core.
 #![allow(clippy::new_without_default, clippy::should_implement_trait)]
 
+pub mod aims;
 pub mod aside;
 pub mod asrun;
 pub mod card;
@@ -18,16 +19,22 @@ pub mod damage;
 pub mod demand3;
 pub mod descriptors;
 pub mod draw;
+pub mod driver;
+pub mod due;
 pub mod ended;
 pub mod episodes;
 pub mod faults;
 pub mod fuzz;
 pub mod gen;
 pub mod instants;
+pub mod lapses;
+pub mod logs;
 pub mod people;
 pub mod pieces;
 pub mod primary;
 pub mod reading;
+pub mod recall;
+pub mod recalls;
 pub mod recording;
 pub mod recordings;
 pub mod records;

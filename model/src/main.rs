@@ -2,14 +2,15 @@
 
 use model::faults::Fault;
 use model::{
-    asrun, card, cases, check, cue, cueing, fuzz, option, people, pieces, recording, recordings,
-    rolls, scenario,
+    asrun, card, cases, check, cue, cueing, fuzz, option, people, pieces, recall, recalls,
+    recording, recordings, rolls, scenario,
 };
 use std::io::{Read, Write};
 
 const HELP: &str = "\
 model card [--fault NAME]                    01's card program, standard input to output
                                              (with a deliberate fault, to try the harness)
+model recall                                 the engine that only remembers (02, CR 12), with the card program's input
 model scenario [--card CMD] FILE...          runs scenario files
 model scenario --bytes FILE                  writes a scenario's card input
 model scenario --tables DIR FILE...          writes scenarios as tables of antt
@@ -31,6 +32,10 @@ model rolls --seed S --n N [--table] [--floors off]
                                              N streams of a rolling card (02, CR 9) on the second program
 model rolls --seed S --n N --faults          shows that each deliberate mistake of a rolling card is noticed
 model recordings --seed S --n N --faults     shows that each deliberate mistake of a checker is noticed
+model recalls --seed S --n N [--remember CMD] [--card CMD] [--out DIR] [--table] [--floors off] [FILE...]
+                                             N streams, logs of each, and scenario files, through the engine that
+                                             only remembers and what is given; written with what is due into DIR
+model recalls --seed S --n N --faults        shows that each deliberate mistake of such an engine is noticed
 model cue (HEX | BASE64)... [--pts N --at TIME]
                                              sections: every field, the CRC, what the core would do, the time
 model cue --ts FILE [--pid N] ...            those of a transport stream, by its tables or this PID
@@ -65,6 +70,7 @@ fn command(args: &[String]) -> Result<bool, String> {
     let rest = &args[1..];
     match first.as_str() {
         "card" => run_card(rest),
+        "recall" => run_recall(rest),
         "scenario" => run_scenario(rest),
         "gen" => run_gen(rest),
         "fuzz" => run_fuzz(rest),
@@ -76,6 +82,7 @@ fn command(args: &[String]) -> Result<bool, String> {
         "check" => run_check(rest),
         "record" => run_record(rest),
         "recordings" => run_recordings(rest),
+        "recalls" => run_recalls(rest),
         "rolls" => run_rolls(rest),
         "cue" => write_out(cue::command(rest)?.as_bytes()),
         "cues" => run_cues(rest),
@@ -94,10 +101,19 @@ fn run_card(args: &[String]) -> Result<bool, String> {
         None => None,
     };
     nothing_left(&args)?;
+    write_out(&card::run(&read_in()?, fault).output())
+}
+
+fn run_recall(args: &[String]) -> Result<bool, String> {
+    nothing_left(args)?;
+    write_out(&recall::run(&read_in()?).output())
+}
+
+fn read_in() -> Result<Vec<u8>, String> {
     let mut input = Vec::new();
     let told = |e: std::io::Error| e.to_string();
     std::io::stdin().read_to_end(&mut input).map_err(told)?;
-    write_out(&card::run(&input, fault).output())
+    Ok(input)
 }
 
 fn write_out(bytes: &[u8]) -> Result<bool, String> {
@@ -232,6 +248,28 @@ fn run_recordings(args: &[String]) -> Result<bool, String> {
         return recordings::faults(plan.seed, plan.n);
     }
     recordings::recordings(&plan)
+}
+
+fn run_recalls(args: &[String]) -> Result<bool, String> {
+    let mut args = args.to_vec();
+    let faults = flag(&mut args, "--faults");
+    let plan = recalls::Plan {
+        seed: required(&mut args, "--seed")?,
+        n: required(&mut args, "--n")?,
+        remember: option(&mut args, "--remember")?,
+        card: option(&mut args, "--card")?,
+        out: option(&mut args, "--out")?,
+        table: flag(&mut args, "--table"),
+        floors: option(&mut args, "--floors")?.as_deref() != Some("off"),
+        files: args,
+    };
+    if let Some(word) = plan.files.iter().find(|word| word.starts_with("--")) {
+        return Err(format!("unknown word {word}"));
+    }
+    if faults {
+        return recalls::faults(plan.seed, plan.n);
+    }
+    recalls::recalls(&plan)
 }
 
 fn run_rolls(args: &[String]) -> Result<bool, String> {

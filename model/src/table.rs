@@ -12,8 +12,12 @@ pub type Floors = [(&'static str, u64)];
 
 impl Hits {
     pub fn hit(&mut self, name: &'static str) {
+        self.more(name, 1);
+    }
+
+    pub fn more(&mut self, name: &'static str, hits: u64) {
         if crate::counts::COUNTED {
-            *self.hits.entry(name).or_insert(0) += 1;
+            *self.hits.entry(name).or_insert(0) += hits;
         }
     }
 

@@ -13,9 +13,11 @@ mod lists;
 mod maps;
 mod pages;
 mod pair;
+mod recalled;
 mod rolled;
 mod run;
 mod scenarios;
+mod second;
 mod wrong;
 
 use acts::Stream;
@@ -29,6 +31,7 @@ beside [--seed S] [--n N] [--first I] [--threads T]   N streams through both, th
        [--recordings R]                               and recordings of R streams through both checkers
        [--rolling R]                                  and R streams of a rolling card through both
        [--cues R]                                     and R streams of cue calls through both
+       [--recalls R]                                  and R streams, and logs of each, through the second engine
 beside --cue-records FILE [--seed S]                  writes Cue_Requests of the core
 beside --fault NAME [--seed S]                        one deliberate fault, by its name
 ";
@@ -170,6 +173,7 @@ fn command(mut args: Vec<String>) -> Result<bool, String> {
     let recordings = number(&mut args, "--recordings", 40)?;
     let rolling = number(&mut args, "--rolling", 300)?;
     let cues = number(&mut args, "--cues", 420)?;
+    let recalls = number(&mut args, "--recalls", 36)?;
     let cue_records = option(&mut args, "--cue-records")?;
     if let Some(word) = args.first() {
         return Err(format!("unknown word {word}"));
@@ -194,6 +198,7 @@ fn command(mut args: Vec<String>) -> Result<bool, String> {
             results.extend(checked::everything(plan.seed, recordings));
             results.extend(rolled::everything(plan.seed, rolling));
             results.extend(cued::everything(&plan, cues));
+            results.extend(recalled::everything(plan.seed, recalls));
             results
         }
     };
