@@ -8,15 +8,15 @@ set -eu
 wants=
 for word; do
     case $wants$word in
-    --seed | --n | --first | --threads | --recordings | --rolling | --cues | --cue-records | --fault) wants=$word ;;
+    --seed | --n | --first | --threads | --recordings | --rolling | --cues | --recalls | --cue-records | --fault) wants=$word ;;
     --fault* | --cue-records*) wants= ;;
-    --seed* | --n* | --first* | --threads* | --recordings* | --rolling* | --cues*)
+    --seed* | --n* | --first* | --threads* | --recordings* | --rolling* | --cues* | --recalls*)
         case $word in
         '' | *[!0-9]*) refuse "$wants '$word': no number" ;;
         esac
         wants=
         ;;
-    *) refuse "'$word' is none of --seed S, --n N, --first I, --threads T, --recordings R, --rolling R, --cues R, --cue-records FILE, --fault NAME" ;;
+    *) refuse "'$word' is none of --seed S, --n N, --first I, --threads T, --recordings R, --rolling R, --cues R, --recalls R, --cue-records FILE, --fault NAME" ;;
     esac
 done
 [ -z "$wants" ] || refuse "$wants needs a value"
@@ -69,7 +69,8 @@ over_archive() {
     ran compared cargo run --release --offline --target $target --manifest-path model/beside/Cargo.toml -- "$@" || :
 }
 
-# over_card: the second program against the card program, on other and more streams than compare.sh
+# over_card: the second program against the card program, and the program that only remembers if it is there, on other and more streams
+# than compare.sh
 over_card() {
     CARGO_TARGET_DIR=target/model
     export CARGO_TARGET_DIR
@@ -78,6 +79,11 @@ over_card() {
         ran card rt check card || return 0
     fi
     if ran fuzz target/model/release/model fuzz --seed 281 --n 900 --card 'sh tools/run-program.sh target/bin/card'; then
+        passed=$((passed + 1))
+    fi
+    [ -x target/bin/remember ] || return 0
+    if ran recalls target/model/release/model recalls --seed 281 --n 72 --remember 'sh tools/run-program.sh target/bin/remember' \
+        --card 'sh tools/run-program.sh target/bin/card'; then
         passed=$((passed + 1))
     fi
 }

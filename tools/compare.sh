@@ -36,6 +36,14 @@ else
 fi
 ran mistakes "$model" recordings --seed 280 --n 10 --faults || :
 
+# the engine that only remembers (02, CR 12): the second program's, and the program once it is linked; both beside the card program
+if [ -x target/bin/remember ] && [ -x target/bin/card ]; then
+    ran recalls "$model" recalls --seed 280 --n 36 --remember "sh tools/run-program.sh target/bin/remember" --card "$card" "$@" || :
+else
+    ran recalls "$model" recalls --seed 280 --n 36 "$@" || :
+fi
+ran lapses "$model" recalls --seed 280 --n 9 --faults || :
+
 # a rolling card's calls (02, CR 9) have no marks: the second program by itself; beside.sh holds the archive to it
 ran rolls "$model" rolls --seed 280 --n 200 || :
 ran slips "$model" rolls --seed 280 --n 60 --faults || :

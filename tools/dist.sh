@@ -76,7 +76,7 @@ gathered() {
     cp "$source"/include/*.h include/
     for name in door rolldoor bench; do cp "$source/target/staticlib/lib$name.a" lib/; done
     pc >lib/pkgconfig/splicer.pc
-    cp "$source/target/bin/card" "$source/target/bin/checker" "$source/target/desk/release/desk" bin/
+    cp "$source/target/bin/card" "$source/target/bin/checker" "$source/target/bin/remember" "$source/target/desk/release/desk" bin/
     cp "$source/desk/desk.1" share/man/man1/
     cp -R "$source/examples" "$source/wireshark" share/splicer/
     for part in Cargo.toml Cargo.lock build.rs src; do cp -R "$source/bindings/$part" share/splicer/rust/; done
@@ -101,7 +101,7 @@ built() {
         proving "$1/archive.log" staticlib door
         proving "$1/rolldoor.log" staticlib rolldoor
         proving "$1/bench.log" staticlib bench
-        proving "$1/card.log" check card checker
+        proving "$1/card.log" check card checker remember
         echo 'building desk'
         desk
     )

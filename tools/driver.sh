@@ -1,6 +1,6 @@
 #!/bin/sh
 # driver.sh: the C headers, each by itself, as C11 and C++17, and the example drivers over the proved archive, their output compared with
-# examples/driver.out, rolling.out and cues.out, and the first one's recording with desk/recordings/sport.rec; a driver of version 1 must not link with it. All by the kit's own compiler and linker.
+# examples/driver.out, rolling.out, cues.out and remember.out, and the first one's recording with desk/recordings/sport.rec; a driver of version 1 must not link with it. All by the kit's own compiler and linker.
 # The last line is 'N passed, M failed'.
 set -eu
 . "$(dirname "$0")/words.sh"
@@ -43,7 +43,9 @@ built() {
     rt staticlib door && sh tools/build-driver.sh "$work/driver" examples/driver.c target/staticlib/libdoor.a -Iinclude &&
         sh tools/build-driver.sh "$work/cues" examples/cues.c target/staticlib/libdoor.a -Iinclude &&
         rt staticlib rolldoor &&
-        sh tools/build-driver.sh "$work/rolling" examples/rolling.c target/staticlib/libdoor.a target/staticlib/librolldoor.a -Iinclude
+        sh tools/build-driver.sh "$work/rolling" examples/rolling.c target/staticlib/libdoor.a target/staticlib/librolldoor.a -Iinclude &&
+        rt staticlib bench &&
+        sh tools/build-driver.sh "$work/remember" examples/remember.c target/staticlib/libdoor.a target/staticlib/libbench.a -Iinclude
 }
 
 # runs: the program writes what was worked out by hand
@@ -59,6 +61,11 @@ rolls() {
 # cues: so does the driver that passes cues on
 cues() {
     sh tools/run-program.sh "$work/cues" >"$work/cued" && diff examples/cues.out "$work/cued"
+}
+
+# remembers: so does the driver of the engine that only remembers
+remembers() {
+    sh tools/run-program.sh "$work/remember" >"$work/remembered" && diff examples/remember.out "$work/remembered"
 }
 
 # records: what it records on a channel "SPORT" is what desk/ reads in its tests
@@ -82,6 +89,7 @@ tried 'build' built
 tried 'run' runs
 tried 'run with a rolling counter' rolls
 tried 'run with cues' cues
+tried 'run with the engine that only remembers' remembers
 tried 'recording' records
 tried 'a driver of version 1 does not link' old
 echo "$passed passed, $failed failed"
