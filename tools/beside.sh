@@ -61,10 +61,10 @@ over_archive() {
         CARGO_TARGET_X86_64_UNKNOWN_LINUX_GNU_RUNNER=$runner
         export CARGO_TARGET_X86_64_UNKNOWN_LINUX_GNU_RUNNER
     fi
-    ran archive proving "$work/rt.log" staticlib door || return 0
-    ran rolldoor proving "$work/rolldoor.log" staticlib rolldoor || return 0
+    ran archive archive "$work/rt.log" door || return 0
+    ran rolldoor archive "$work/rolldoor.log" rolldoor || return 0
     ran bindings cargo test --release --offline --target $target --manifest-path bindings/Cargo.toml || :
-    ran archive-of-the-bench proving "$work/rt.log" staticlib bench || return 0
+    ran archive-of-the-bench archive "$work/rt.log" bench || return 0
     ran bindings-with-bench cargo test --release --offline --target $target --manifest-path bindings/Cargo.toml --features bench --test bench || :
     ran compared cargo run --release --offline --target $target --manifest-path model/beside/Cargo.toml -- "$@" || :
 }

@@ -40,11 +40,11 @@ header() {
 
 # built: the archives of the proved crates, and the programs over them
 built() {
-    rt staticlib door && sh tools/build-driver.sh "$work/driver" examples/driver.c target/staticlib/libdoor.a -Iinclude &&
+    archive "$work/archive" door && sh tools/build-driver.sh "$work/driver" examples/driver.c target/staticlib/libdoor.a -Iinclude &&
         sh tools/build-driver.sh "$work/cues" examples/cues.c target/staticlib/libdoor.a -Iinclude &&
-        rt staticlib rolldoor &&
+        archive "$work/archive" rolldoor &&
         sh tools/build-driver.sh "$work/rolling" examples/rolling.c target/staticlib/libdoor.a target/staticlib/librolldoor.a -Iinclude &&
-        rt staticlib bench &&
+        archive "$work/archive" bench &&
         sh tools/build-driver.sh "$work/remember" examples/remember.c target/staticlib/libdoor.a target/staticlib/libbench.a -Iinclude
 }
 

@@ -86,3 +86,23 @@ proving() {
     echo "proving $2 and what it depends on (some minutes where nothing is proved yet)"
     watched "$said" "$(reached "$2" | wc -l)" 'rt: * proved*' rt "$@" || { cat "$said" >&2; return 1; }
 }
+
+# made_of NAME: one number of the kit, of the listed crates, of all sources that the crate NAME is made of, and of its archive
+made_of() {
+    {
+        rt version
+        cat crates.txt
+        for crate in $(reached "$1"); do find "crates/$crate" -name '*.rt' -o -name '*.antt'; done | sort | xargs sha256sum
+        sha256sum "target/staticlib/lib$1.a"
+    } | sha256sum | cut -d ' ' -f 1
+}
+
+# archive LOG NAME: target/staticlib/libNAME.a of the proved crate; one that an earlier step made of the same sources is taken as it is
+archive() {
+    made=target/staticlib/$2.made
+    if [ -f "$made" ] && [ "$(cat "$made")" = "$(made_of "$2")" ]; then
+        echo "target/staticlib/lib$2.a is there, of these sources"
+    else
+        proving "$1" staticlib "$2" && made_of "$2" >"$made"
+    fi
+}
