@@ -72,6 +72,7 @@ pub record Sends (c : ℕ) (l : List ℕ) (loans : Loans) (id size : ℕ) (s : S
   pub low : noConnection c ≡ false
   pub roomy : noRoom (loans .room) ≡ false
   pub sections : longSection loans ≡ false
+  -- l begins with it
   pub framed : framing l ≡ Framed id size
 
 -- a GetConfig_Request without data

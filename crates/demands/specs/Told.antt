@@ -231,6 +231,7 @@ pub record Inquires (c : ℕ) (l : List ℕ) (loans : Loans) (x : ℕ) (s : Spli
   pub roomy : noRoom (loans .room) ≡ false
   pub short : longSection loans ≡ false
   pub ready : isInitialised (linkOf c s) ≡ true
+  -- l begins with one, for x
   pub framed : framing l ≡ Framed extendedRequest (messageSize l)
   pub readable : readExtended (dataIn l) ≡ Extended x
 
