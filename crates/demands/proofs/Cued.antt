@@ -1,7 +1,7 @@
 -- 02, CR 7: what a cue call does to the splicer and to what the answers tell (nothing), to whom it writes, and what. Rests on what holds of
 -- each of its records (rules' Cued) and on records being read back from bytes.
 use mathlib.Core.Path.{_≡_, refl, ap, ap₂, sym, _∙_}
-use mathlib.Core.Bool.{Bool, true, false}
+use mathlib.Core.Bool.{Bool, true, false, cond}
 use mathlib.Core.List.{List, [], _∷_, _++_, map}
 use Prim.Native.Nat.{ℕ, _+_, _-_, _≤_}
 use native.Mathlib.Omega.{arith}
@@ -14,8 +14,8 @@ use Rattle.rules.specs.declared.WireTime.{WireTime}
 use Rattle.rules.specs.Lists.{All, put, keep, count, omit}
 use Rattle.rules.specs.Bytes.{Byte, bytes}
 use Rattle.rules.specs.Units.{badMicros}
-use Rattle.rules.specs.State.{Splicer}
-use Rattle.rules.specs.Records.{Record, CueRequest, framed, recordBytes, output, recordsIn}
+use Rattle.rules.specs.State.{Splicer, noHardware}
+use Rattle.rules.specs.Records.{Record, General, InitResponse, AliveResponse, SpliceResponse, SpliceComplete, AbortResponse, CueRequest, ConfigResponse, ExtendedFound, ExtendedNone, framed, recordBytes, output, recordsIn}
 use Rattle.rules.specs.Cues.{badSection, readCue, cueTime, initialisedOnes, passedTo, complainedTo, cueRecords}
 use Rattle.rules.specs.Calls.{Answer, refused, good, Called, refuse, does, noRoom, writtenBy, Call, cues, cueCall, call}
 use Rattle.rules.proofs.Tests.{by, clash}
@@ -25,7 +25,10 @@ use Rattle.rules.proofs.Cued.{initialised-low, cue-all}
 use Rattle.rules.proofs.Sound.{sound-found}
 use Rattle.demands.specs.History.{Event, Entry, isStart, isEnd, startsOf, endsOf, unmarked, withEnds, credited, replyOf, history, othersOf, waitAfter, waitReplied, waitingTold, waitingCount, bookAfter, bookReplied, book, clockReplied, clockAfter}
 use Rattle.demands.specs.Airing.{Airing, heard, byThen, heardAll, airedAfter, airedReplied, airings}
-use Rattle.demands.specs.Told.{FromFresh, numberOf, startedReplied, startedTold, connOf, concerned, Carries, Alike}
+use Rattle.demands.specs.Told.{FromFresh, numberOf, startedReplied, startedTold, connOf, concerned, Carries}
+use Rattle.demands.specs.Lately.{Told, isAnEnd, timeSoFar, newer, endedReplied, endedTold}
+use Rattle.demands.specs.Kept.{changes, left, changed, keptBehind, keptTold}
+use Rattle.demands.specs.Alike.{Alike}
 use Rattle.demands.proofs.Room.{from-sound}
 use Rattle.demands.proofs.Refusals.{a-number}
 use Rattle.demands.proofs.Marks.{heard-plain}
@@ -93,6 +96,23 @@ unfolding heardAll
 quiet-heard u [] a es = refl
 quiet-heard u (r ∷ rs) a es = ap (heardAll u rs) (heard-plain (byThen u es rs) r (λ c x. a .0 c x .0) (λ c x. a .0 c x .1) es) ∙ quiet-heard u rs (a .1) es
 
+quiet-ends : (rs : List Record) → All Quiet rs → keep isAnEnd rs ≡ []
+unfolding isAnEnd
+quiet-ends [] a = refl
+quiet-ends (r ∷ rs) a = rw (no-end r (a .0)) (quiet-ends rs (a .1))
+  where
+    no-end : (r : Record) → Quiet r → isAnEnd r ≡ false
+    no-end (General c r) q = refl
+    no-end (InitResponse c r n) q = refl
+    no-end (AliveResponse c r state x t) q = refl
+    no-end (SpliceResponse c r x) q = q c x .1
+    no-end (SpliceComplete c r x flag played) q = q c x .1
+    no-end (AbortResponse c r x) q = refl
+    no-end (CueRequest c a u l) q = refl
+    no-end (ConfigResponse c r n h m) q = refl
+    no-end (ExtendedFound c x event ended played) q = refl
+    no-end (ExtendedNone c x) q = refl
+
 -- an answer to a cue call whose records are found in its bytes
 module _ (l : List ℕ) (pts seconds micros room : ℕ) where
   abbrev j : Call
@@ -122,6 +142,17 @@ module _ (l : List ℕ) (pts seconds micros room : ℕ) where
   unfolding airedReplied airedAfter
   aired-told (refused n) e q u es = refl
   aired-told (good consumed rs) e q u es = rw e (quiet-heard u rs q es)
+
+  ended-told : (a : Answer) → recordsIn (writtenBy a) ≡ recordsOf a → All Quiet (recordsOf a)
+      → (es : List Entry) (on : ℕ → ℕ → ℕ) (ts : List Told) → endedReplied j (replyOf a) es on ts ≡ ts
+  unfolding endedReplied othersOf newer
+  ended-told (refused n) e q es on ts = refl
+  ended-told (good consumed rs) e q es on ts = rw (e, quiet-ends rs q)
+
+  kept-told : (a : Answer) (c : ℕ) → changed c j (replyOf a) ≡ false
+  unfolding changed changes
+  kept-told (refused n) c = refl
+  kept-told (good consumed rs) c = refl
 
 -- one event more
 module _ (e : Event) where
@@ -153,6 +184,20 @@ module _ (e : Event) where
       let u = clockReplied (d .call) (d .reply) now in
       airings-more h u (airedReplied u (d .call) (d .reply) es)
 
+  ended-more : (h : List Event) (es : List Entry) (now : ℕ) (ss : List Airing) (ts : List Told) → endedTold (h ++ (e ∷ [])) es now ss ts
+      ≡ endedReplied (e .call) (e .reply) (book h es) (timeSoFar (clockAfter h now) (airings h now ss)) (endedTold h es now ss ts)
+  unfolding endedTold book clockAfter airings
+  ended-more [] es now ss ts = refl
+  ended-more (d ∷ h) es now ss ts =
+      let u = clockReplied (d .call) (d .reply) now in
+      ended-more h (bookReplied (d .call) (d .reply) es) u (airedReplied u (d .call) (d .reply) ss) (endedReplied (d .call) (d .reply) es (timeSoFar now ss) ts)
+
+  kept-more : (c : ℕ) (h : List Event) (k : List ℕ)
+      → keptBehind c (h ++ (e ∷ [])) k ≡ cond (changed c (e .call) (e .reply)) (left (e .call)) (keptBehind c h k)
+  unfolding keptBehind
+  kept-more c [] k = refl
+  kept-more c (d ∷ h) k = kept-more c h (cond (changed c (d .call) (d .reply)) (left (d .call)) k)
+
 module _ (h : List Event) (s : Splicer) (f : FromFresh h s) (l : List ℕ) (pts seconds micros room : ℕ) (w : All Byte l) where
   abbrev i : Call
   i = cues l pts seconds micros room
@@ -164,7 +209,7 @@ module _ (h : List Event) (s : Splicer) (f : FromFresh h s) (l : List ℕ) (pts 
   found = sound-found s i w (from-sound h s f)
 
   pub counts-nothing : Alike h (h ++ history (i ∷ []) s)
-  unfolding history waitingCount
+  unfolding history waitingCount keptTold
   counts-nothing =
       let q = quiet s l pts seconds micros room in
       let e : Event = record { call = i; reply = replyOf a } in
@@ -174,6 +219,8 @@ module _ (h : List Event) (s : Splicer) (f : FromFresh h s) (l : List ℕ) (pts 
         clock = clock-more e h 0 ∙ clock-told l pts seconds micros room a (clockAfter h 0);
         started = λ c x. started-more e c x h 0 ∙ started-told l pts seconds micros room a found q c x (startedTold c x h 0);
         aired = airings-more e h 0 [] ∙ aired-told l pts seconds micros room a found q _ (airings h 0 []);
+        ended = ended-more e h [] 0 [] [] ∙ ended-told l pts seconds micros room a found q (book h []) _ (endedTold h [] 0 [] []);
+        kept = λ c. kept-more e c h noHardware ∙ rw (kept-told l pts seconds micros room a c);
       }
 
   -- ## To whom, and what

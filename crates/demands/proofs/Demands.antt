@@ -5,13 +5,13 @@ use mathlib.Core.Bool.{true, false, cond}
 use mathlib.Core.List.{List, [], _∷_, _++_, map}
 use mathlib.Core.Logic.{_⊎_}
 use Prim.Native.Nat.{ℕ, _+_, _≤_}
-use lib.ListN.{length}
+use lib.ListN.{length, take}
 use Rattle.rules.specs.declared.Request.{Request}
 use Rattle.rules.specs.declared.Refusal.{Refusal}
 use Rattle.rules.specs.declared.Refusal.the-variants.{BadName}
 use Rattle.rules.specs.Lists.{All, count}
 use Rattle.rules.specs.Bytes.{Byte, hasZero}
-use Rattle.rules.specs.State.{Splicer, recent}
+use Rattle.rules.specs.State.{Splicer, mostKept, recent}
 use Rattle.rules.specs.Records.{recordsIn}
 use Rattle.rules.specs.Answers.{airMux, requested, spliceResult}
 use Rattle.rules.specs.Cues.{readCue, cueTime, initialisedOnes, cueRecords}
@@ -20,16 +20,17 @@ use Rattle.demands.specs.History.{Event, startsOf, endsOf, history, ownA
 use Rattle.rules.specs.Sound.{Each, Wired, Coded}
 use Rattle.rules.proofs.Sound.{sound-size, sound-found}
 use Rattle.rules.proofs.Codes.{call-coded}
-use Rattle.demands.specs.Told.{FromFresh, Unchanged, firstNumber, checks, numberOf, answers, Asks, Passes, earlierCode, fullTold, outsOf, startedTold, unended, Ended, Stands, airMuxTold, MuxInRange, Inquires, Finds, connOf, concerned, Carries, Alike}
+use Rattle.demands.specs.Told.{FromFresh, Unchanged, firstNumber, checks, numberOf, answers, Asks, Passes, earlierCode, fullTold, outsOf, startedTold, unended, Ended, Stands, airMuxTold, MuxInRange, Inquires, Finds, connOf, concerned, Carries}
+use Rattle.demands.specs.Alike.{Alike}
 use Rattle.demands.proofs.Refusals.{unchanged, first-number, fresh-number, fresh-refused}
 use Rattle.demands.proofs.Room.{from-sound, count-room, own-answer, passes-or-earlier, full-answer}
 use Rattle.demands.proofs.Once.{all-ended}
 use Rattle.demands.proofs.Aired.{ends-accepted, outs-started}
 use Rattle.demands.proofs.Closed.{from-more, close-stands}
-use Rattle.demands.proofs.Recalled.{extended-recalled}
+use Rattle.demands.proofs.Recalled.{extended-recalled, extended-of-told}
 use Rattle.demands.proofs.Mux.{air-told, air-in-range, held-in-range}
 use Rattle.demands.proofs.Cued.{cue-same, counts-nothing, told-records, to-whom, whole-section}
-use Rattle.demands.specs.Lately.{ofNumber, endedOnce, KeptAs, endsTold}
+use Rattle.demands.specs.Lately.{ofNumber, answerTold, endedOnce, KeptAs, endsTold}
 use Rattle.demands.proofs.Lately.{lately-told, one-kept-each}
 
 -- ## "Over all sequences of opens, closes, messages and ticks from a fresh splicer"
@@ -141,8 +142,8 @@ air-mux-in-range = air-in-range
 pub cue-changes-nothing : (s : Splicer) (l : List ℕ) (pts seconds micros room : ℕ) → call (cues l pts seconds micros room) s .splicer ≡ s
 cue-changes-nothing = cue-same
 
--- no record of it is a start, an end or an own answer: the waiting counts, the book, the clock, what has started and who owned each ninth are
--- with it what they were without it
+-- no record of it is a start, an end or an own answer: the waiting counts, the book, the clock, what has started, who owned each ninth, what
+-- has ended and what is kept are with it what they were without it
 pub cue-counts-nothing : (h : List Event) (s : Splicer) → FromFresh h s → (l : List ℕ) (pts seconds micros room : ℕ) → All Byte l
     → Alike h (h ++ history (cues l pts seconds micros room ∷ []) s)
 cue-counts-nothing = counts-nothing
@@ -169,7 +170,8 @@ cue-whole = whole-section
 
 -- "the last 16 ended sessions": what is kept is, newest first, the first 16 of the ends that the answers tell; connection, SessionID and result
 -- from each end record that is no Splice_Request's own answer, SpliceEventID from the request that its connection last had accepted under that
--- SessionID, PlayedDuration from the record where it shows one, 0 where the session's start was never written
+-- SessionID, PlayedDuration from the record, or of a Splice_Response, which shows none, from the session's time on air, counted from the history
+-- as CR 13 counts it: 0 where its start was never written
 pub kept-as-told : (h : List Event) (s : Splicer) → FromFresh h s → KeptAs (recent (s .queue .lately)) (endsTold h)
 kept-as-told = lately-told
 
@@ -182,3 +184,8 @@ one-kept-for-each = one-kept-each
 pub extended-answered : (h : List Event) (s : Splicer) → FromFresh h s → (c : ℕ) (l : List ℕ) (loans : Loans) (x : ℕ) → Inquires c l loans x s
     → Finds c x (recent (s .queue .lately)) (writtenBy (call (messages c l loans) s .answer))
 extended-answered h s f c l loans x a = extended-recalled c l loans x s a h f
+
+-- and so, from bytes to bytes: the first of the sixteen latest ends that the answers tell with the asking connection and the number, or 121
+pub extended-told : (h : List Event) (s : Splicer) → FromFresh h s → (c : ℕ) (l : List ℕ) (loans : Loans) (x : ℕ) → Inquires c l loans x s
+    → recordsIn (writtenBy (call (messages c l loans) s .answer)) ≡ answerTold c x (take mostKept (endsTold h)) ∷ []
+extended-told h s f c l loans x a = extended-of-told c x h s f l loans a

@@ -1,7 +1,7 @@
 -- 02, CR 8: what is kept is the first 16, newest first, of the ends that the answers tell.
 -- Rests on Book (a session held is as its entry says) and on what is known of every splicer from fresh.
 use mathlib.Core.Path.{_≡_, refl, sym, ap, subst, _∙_}
-use mathlib.Core.Bool.{Bool, true, false, cond, _&&_, _||_}
+use mathlib.Core.Bool.{Bool, true, false, cond, not, _&&_, _||_}
 use mathlib.Core.List.{List, [], _∷_, _++_, map}
 use Prim.Native.Nat.{ℕ, zero, suc, _+_, _-_, _%_, _≤_, _<_}
 use native.Mathlib.Omega.{arith}
@@ -15,7 +15,7 @@ use Rattle.rules.specs.declared.Ending.the-variants.{Complete, Failed, Response
 use Rattle.rules.specs.Units.{timeOf, fromMicros, toTicks}
 use Rattle.rules.specs.Lists.{All, bit, put, keep, omit, count, place, removeAt}
 use Rattle.rules.specs.Bytes.{hasZero}
-use Rattle.rules.specs.State.{sameNumber, Lately, Queue, Splicer, empty, of, is, startsAt, endsAt, due, notAfter, withWaiting, withStarted, mostKept, unused, noneEnded, remembered, rememberedAll, recentAt, recentFrom, recent}
+use Rattle.rules.specs.State.{sameNumber, Lately, Queue, Splicer, empty, of, is, startsAt, endsAt, due, notAfter, withWaiting, withStarted, mostKept, unused, isKept, noneEnded, remembered, rememberedAll, recentAt, recentFrom, recent}
 use Rattle.rules.specs.Records.{Record, General, InitResponse, AliveResponse, SpliceResponse, SpliceComplete, AbortResponse, CueRequest, ConfigResponse, ExtendedFound, ExtendedNone}
 use Rattle.rules.specs.Ends.{Turn, andThen, writes, ended, past, ending, oneEnd, endings, followers, dismissed, evictedAt, evicted, cancelled, aborted, closedBy}
 use Rattle.rules.specs.Instants.{mayStart, began, meetsEqual, ousted, launched, startAt, endAt, instant, elapse, run, runAll}
@@ -23,7 +23,7 @@ use Rattle.rules.specs.Reading.{dataIn}
 use Rattle.rules.specs.Answers.{sessionAt, requested, accepts, accepted}
 use Rattle.rules.specs.Calls.{Answer, refused, good, Called, ticked, Call, call, after, named, fresh, writtenBy}
 use Rattle.rules.specs.Sound.{Each, heldCount, Holding}
-use Rattle.rules.proofs.Tests.{by, eqb-same}
+use Rattle.rules.proofs.Tests.{by, clash, eqb-same}
 use Rattle.rules.proofs.All.{all-into}
 use Rattle.rules.proofs.Every.{all-keep, all-both, all-getD, fewer-all, fewer-removeAt}
 use Rattle.rules.proofs.Walk.{followers-gone}
@@ -35,17 +35,20 @@ use Rattle.rules.proofs.Sessions.{each-elapse, each-instant, held-accepted}
 use Rattle.rules.proofs.Fitted.{recordsOf}
 use Rattle.rules.proofs.Always.{Wired}
 use Rattle.rules.proofs.Records.{Fits, read-back}
-use Rattle.rules.proofs.Sound.{Sound, sound-call, sound-fresh, holding-next}
-use Rattle.demands.specs.History.{isEnd, isYes, endsOf, endResult, front, last, Event, replyOf, history, othersOf, Entry, entryIs, eventTold, credited, shut, bookAnswered, bookAfter, bookReplied, book}
-use Rattle.demands.specs.Told.{FromFresh, startedReplied}
-use Rattle.demands.specs.Lately.{Shown, shows, hides, Told, isAnEnd, toldIn, endsIn, unshown, newer, endedReplied, endedTold, endsTold, ofNumber, endedOnce, Plays, As, KeptAs}
+use Rattle.rules.proofs.Sound.{Sound, sound-call, sound-fresh, sound-found, holding-next}
+use Rattle.demands.specs.History.{isEnd, isYes, endsOf, endResult, front, last, Event, replyOf, history, othersOf, clockReplied, Entry, entryIs, eventTold, credited, shut, bookAnswered, bookAfter, bookReplied, book}
+use Rattle.demands.specs.Airing.{Airing, airedReplied, airTime}
+use Rattle.demands.specs.Told.{FromFresh}
+use Rattle.demands.specs.Lately.{Told, isAnEnd, toldIn, endsIn, timeSoFar, unshown, newer, endedReplied, endedTold, endsTold, ofNumber, endedOnce, As, KeptAs}
 use Rattle.demands.proofs.Laws.{evicted-law, closedBy-law, answered-law, tick-law}
 use Rattle.demands.proofs.Cases.{cases}
 use Rattle.demands.proofs.Waiting.{front-last, last-last}
 use Rattle.demands.proofs.Heard.{bookAnswer, sound-fits, book-answer}
 use Rattle.demands.proofs.Book.{Settled, Owed, Dated, Booked, asked-entry, call-booked, booked-fresh}
-use Rattle.demands.proofs.Once.{book-told}
-use Rattle.demands.proofs.Aired.{call-started, fresh-started}
+use Rattle.demands.proofs.Once.{book-told, call-clock, fresh-clock}
+use Rattle.demands.proofs.Owned.{airing, time-waiting}
+use Rattle.demands.proofs.Owned
+use Rattle.demands.proofs.Owners.{airedAnswer, Kept, start, call-owned, aired-answer, owned-fresh}
 
 -- ## The sixteen, one end further
 
@@ -54,7 +57,18 @@ abbrev Matches : List Past → List Told → Type 0
 Matches [] [] = Unit {0}
 Matches [] (t ∷ ts) = ⊥
 Matches (e ∷ es) [] = ⊥
-Matches (e ∷ es) (t ∷ ts) = As e t × Matches es ts
+Matches (e ∷ es) (t ∷ ts) = (As e t × (isKept e ≡ true)) × Matches es ts
+
+-- KeptAs, and no place that an end is told of is unused
+abbrev pub Stands : List Past → List Told → Type 0
+Stands [] l = Unit {0}
+Stands (e ∷ es) [] = (e ≡ unused) × Stands es []
+Stands (e ∷ es) (t ∷ l) = (As e t × (isKept e ≡ true)) × Stands es l
+
+stands-kept : (es : List Past) (l : List Told) → Stands es l → KeptAs es l
+stands-kept [] l h = tt
+stands-kept (e ∷ es) [] h = (h .0, stands-kept es [] (h .1))
+stands-kept (e ∷ es) (t ∷ l) h = (h .0 .0, stands-kept es l (h .1))
 
 matches-append : (a b : List Past) (s t : List Told) → Matches a s → Matches b t → Matches (a ++ b) (s ++ t)
 matches-append [] b [] t f g = g
@@ -62,7 +76,7 @@ matches-append [] b (x ∷ s) t f g = absurd f
 matches-append (e ∷ a) b [] t f g = absurd f
 matches-append (e ∷ a) b (x ∷ s) t f g = (f .0, matches-append a b s t (f .1) g)
 
-kept-take : (n : ℕ) (es : List Past) (l : List Told) → KeptAs es l → KeptAs (take n es) l
+kept-take : (n : ℕ) (es : List Past) (l : List Told) → Stands es l → Stands (take n es) l
 kept-take zero es l h = tt
 kept-take (suc n) [] l h = tt
 kept-take (suc n) (e ∷ es) [] h = (h .0, kept-take n es [] (h .1))
@@ -76,10 +90,10 @@ fit-next : (e : Past) (l : Lately) → Fit l → Fit (remembered e l)
 unfolding remembered
 fit-next e l f = (length-set (l .places) (l .next) e ∙ f .0, omega arith)
 
-kept-next : (e : Past) (t : Told) (l : Lately) (ts : List Told) → Fit l → As e t → KeptAs (recent l) ts → KeptAs (recent (remembered e l)) (t ∷ ts)
+kept-next : (e : Past) (t : Told) (l : Lately) (ts : List Told) → Fit l → As e t × (isKept e ≡ true) → Stands (recent l) ts → Stands (recent (remembered e l)) (t ∷ ts)
 kept-next e t l ts f a h = rw (recent-next e l (f .0) (f .1)) (kept-take mostKept (e ∷ recent l) (t ∷ ts) (a, h))
 
-kept-all : (es : List Past) (os : List Told) (l : Lately) (ts : List Told) → Fit l → Matches es os → KeptAs (recent l) ts → KeptAs (recent (rememberedAll es l)) (newer os ts)
+kept-all : (es : List Past) (os : List Told) (l : Lately) (ts : List Told) → Fit l → Matches es os → Stands (recent l) ts → Stands (recent (rememberedAll es l)) (newer os ts)
 unfolding rememberedAll newer
 kept-all [] [] l ts f m h = h
 kept-all [] (o ∷ os) l ts f m h = absurd m
@@ -88,75 +102,74 @@ kept-all (e ∷ es) (o ∷ os) l ts f m h = kept-all es os (remembered e l) (o �
 
 -- ## The ends of a piece of work
 
--- its SpliceEventID is the book's
-abbrev Knows : List Entry → Session → Type 0
-Knows es s = eventTold (s .conn) (s .id) es ≡ s .event
+-- its SpliceEventID is the book's; with no time on air, none is told
+abbrev Knows : List Entry → (ℕ → ℕ → ℕ) → Session → Type 0
+Knows es on s = (eventTold (s .conn) (s .id) es ≡ s .event) × (s .played .0 ≡ 0 → on (s .conn) (s .id) ≡ 0)
 
--- its time on air is what a Splice_Response tells of it: 0 if it has not started
+-- its time on air is what a Splice_Response tells of it
 abbrev Airs : (ℕ → ℕ → ℕ) → Session → Type 0
-Airs st s = Plays (unshown (st (s .conn) (s .id))) (toTicks (s .played) .0)
+Airs on s = toTicks (s .played) .0 ≡ unshown (on (s .conn) (s .id))
 
-airs-silent : (st : ℕ → ℕ → ℕ) (s : Session) → s .played .0 ≡ 0 → Airs st s
-airs-silent st s z = go (eqb (st (s .conn) (s .id)) 0)
-  where
-    go : (b : Bool) → Plays (cond b (shows 0) hides) (toTicks (s .played) .0)
-    go true = omega (arith, z)
-    go false = tt
+airs-silent : (es : List Entry) (on : ℕ → ℕ → ℕ) (s : Session) → Knows es on s → s .played .0 ≡ 0 → Airs on s
+airs-silent es on s k z = omega (arith, z, k .1 z)
 
-airs-started : (st : ℕ → ℕ → ℕ) (s : Session) → 0 < st (s .conn) (s .id) → Airs st s
-airs-started st s h = rw (ne-eqb (st (s .conn) (s .id)) 0 (λ e. omega (arith, e))) tt
+-- no end has the result 0
+end-some : (r : ℕ) → endResult r ≡ true → eqb r 0 ≡ false
+end-some zero h = absurd (clash (endResult 0) h refl)
+end-some (suc r) h = ne-eqb (suc r) 0 (λ e. omega (arith, e))
 
 -- how a session may end: not with the 100 of an answer
 abbrev Fine : (ℕ → ℕ → ℕ) → Ending → Session → Type 0
-Fine st (Complete r) s = Unit {0}
-Fine st Failed s = s .played .0 ≡ 0
-Fine st (Response r) s = (endResult r ≡ true) × Airs st s
+Fine on (Complete r) s = eqb r 0 ≡ false
+Fine on Failed s = s .played .0 ≡ 0
+Fine on (Response r) s = (endResult r ≡ true) × Airs on s
 
-module _ (es : List Entry) (st : ℕ → ℕ → ℕ) where
+module _ (es : List Entry) (on : ℕ → ℕ → ℕ) where
   -- the record of an end is one, and tells what is kept
   abbrev Says : Ending → Session → Type 0
-  Says how s = (isAnEnd (ended how s) ≡ true) × As (past how s) (toldIn es st (ended how s))
+  Says how s = (isAnEnd (ended how s) ≡ true) × (As (past how s) (toldIn es on (ended how s)) × (isKept (past how s) ≡ true))
 
-  says : (how : Ending) (s : Session) → Fine st how s → Knows es s → Says how s
+  says : (how : Ending) (s : Session) → Fine on how s → Knows es on s → Says how s
   unfolding isAnEnd isEnd toldIn
-  says (Complete r) s h k = (rw (eqb-same (s .conn), eqb-same (s .id)), record { conn = refl; id = refl; event = sym k; result = refl; played = refl })
-  says Failed s h k = (rw (eqb-same (s .conn), eqb-same (s .id)), record { conn = refl; id = refl; event = sym k; result = refl; played = omega (arith, h) })
-  says (Response r) s h k = (rw (h .0, eqb-same (s .conn), eqb-same (s .id)), record { conn = refl; id = refl; event = sym k; result = refl; played = h .1 })
+  says (Complete r) s h k = (rw (eqb-same (s .conn), eqb-same (s .id)), (record { conn = refl; id = refl; event = sym (k .0); result = refl; played = refl }, ap not h))
+  says Failed s h k = (rw (eqb-same (s .conn), eqb-same (s .id)), (record { conn = refl; id = refl; event = sym (k .0); result = refl; played = omega (arith, h) }, refl))
+  says (Response r) s h k =
+      (rw (h .0, eqb-same (s .conn), eqb-same (s .id)), (record { conn = refl; id = refl; event = sym (k .0); result = refl; played = h .1 }, ap not (end-some r (h .0))))
 
-  one-end : (how : Ending) (s : Session) → Says how s → Matches (past how s ∷ []) (endsIn es st (ended how s ∷ []))
+  one-end : (how : Ending) (s : Session) → Says how s → Matches (past how s ∷ []) (endsIn es on (ended how s ∷ []))
   one-end how s h = rw (h .0) (h .1, tt)
 
-  all-end : (how : Ending) (l : List Session) → All (λ s. Knows es s × Fine st how s) l → Matches (map (past how) l) (endsIn es st (map (ended how) l))
+  all-end : (how : Ending) (l : List Session) → All (λ s. Knows es on s × Fine on how s) l → Matches (map (past how) l) (endsIn es on (map (ended how) l))
   all-end how [] a = tt
   all-end how (s ∷ l) a = let k = says how s (a .0 .1) (a .0 .0) in rw (k .0) (k .1, all-end how l (a .1))
 
-  endings-end : (air cover : Ending) (p : Session → Bool) (k : List Session) → All (λ s. (Knows es s × Fine st cover s) × Fine st air s) k
-      → Matches (endings air cover p k Past past) (endsIn es st (endings air cover p k Record ended))
+  endings-end : (air cover : Ending) (p : Session → Bool) (k : List Session) → All (λ s. (Knows es on s × Fine on cover s) × Fine on air s) k
+      → Matches (endings air cover p k Past past) (endsIn es on (endings air cover p k Record ended))
   unfolding endings
   endings-end air cover p [] a = tt
   endings-end air cover p (s ∷ k) a = go (p s)
     where
-      rest : Matches (map (past cover) (keep p k)) (endsIn es st (map (ended cover) (keep p k)))
-      rest = all-end cover (keep p k) (all-keep (λ u. Knows es u × Fine st cover u) p k (all-into (λ u. (Knows es u × Fine st cover u) × Fine st air u) (λ u. Knows es u × Fine st cover u) (λ u h. h .0) k (a .1)))
+      rest : Matches (map (past cover) (keep p k)) (endsIn es on (map (ended cover) (keep p k)))
+      rest = all-end cover (keep p k) (all-keep (λ u. Knows es on u × Fine on cover u) p k (all-into (λ u. (Knows es on u × Fine on cover u) × Fine on air u) (λ u. Knows es on u × Fine on cover u) (λ u h. h .0) k (a .1)))
 
-      go : (b : Bool) → Matches (put b (past air s) (map (past cover) (keep p k))) (endsIn es st (put b (ended air s) (map (ended cover) (keep p k))))
+      go : (b : Bool) → Matches (put b (past air s) (map (past cover) (keep p k))) (endsIn es on (put b (ended air s) (map (ended cover) (keep p k))))
       go true = let k = says air s (a .0 .1) (a .0 .0 .0) in rw (k .0) (k .1, rest)
       go false = rest
 
-  ends-append : (a b : List Record) → endsIn es st (a ++ b) ≡ endsIn es st a ++ endsIn es st b
+  ends-append : (a b : List Record) → endsIn es on (a ++ b) ≡ endsIn es on a ++ endsIn es on b
   ends-append [] b = refl
   ends-append (r ∷ a) b = go (isAnEnd r) (ends-append a b)
     where
-      go : (t : Bool) → endsIn es st (a ++ b) ≡ endsIn es st a ++ endsIn es st b
-          → map (toldIn es st) (put t r (keep isAnEnd (a ++ b))) ≡ map (toldIn es st) (put t r (keep isAnEnd a)) ++ endsIn es st b
-      go true h = ap (λ (z : List Told). toldIn es st r ∷ z) h
+      go : (t : Bool) → endsIn es on (a ++ b) ≡ endsIn es on a ++ endsIn es on b
+          → map (toldIn es on) (put t r (keep isAnEnd (a ++ b))) ≡ map (toldIn es on) (put t r (keep isAnEnd a)) ++ endsIn es on b
+      go true h = ap (λ (z : List Told). toldIn es on r ∷ z) h
       go false h = h
 
   -- from what was kept before: what the turn keeps is what its records tell
   record Keeps (l : Lately) (t : Turn) : Type 0 where
     gone : List Past
     lately : t .queue .lately ≡ rememberedAll gone l
-    told : Matches gone (endsIn es st (t .written))
+    told : Matches gone (endsIn es on (t .written))
 
   keeps-join : (l : Lately) (t u : Turn) → Keeps l t → Keeps (t .queue .lately) u → Keeps l (record { queue = u .queue; written = t .written ++ u .written })
   keeps-join l t u a b =
@@ -167,11 +180,11 @@ module _ (es : List Entry) (st : ℕ → ℕ → ℕ) where
       }
 
   -- nothing ends
-  keeps-none : (q : Queue) (rs : List Record) → endsIn es st rs ≡ [] → Keeps (q .lately) (writes rs q)
+  keeps-none : (q : Queue) (rs : List Record) → endsIn es on rs ≡ [] → Keeps (q .lately) (writes rs q)
   unfolding rememberedAll
   keeps-none q rs e = record { gone = []; lately = refl; told = rw e tt }
 
-  began-none : (s : Session) → endsIn es st (began s ∷ []) ≡ []
+  began-none : (s : Session) → endsIn es on (began s ∷ []) ≡ []
   unfolding isAnEnd isEnd
   began-none s = refl
 
@@ -179,10 +192,10 @@ module _ (es : List Entry) (st : ℕ → ℕ → ℕ) where
 
   -- of one that waits
   abbrev Waits : Session → Type 0
-  Waits s = Knows es s × (s .played .0 ≡ 0)
+  Waits s = Knows es on s × (s .played .0 ≡ 0)
 
-  waits-fine : (r : ℕ) → endResult r ≡ true → (l : List Session) → All Waits l → All (λ s. Knows es s × Fine st (Response r) s) l
-  waits-fine r h l a = all-into Waits (λ s. Knows es s × Fine st (Response r) s) (λ s k. (k .0, (h, airs-silent st s (k .1)))) l a
+  waits-fine : (r : ℕ) → endResult r ≡ true → (l : List Session) → All Waits l → All (λ s. Knows es on s × Fine on (Response r) s) l
+  waits-fine r h l a = all-into Waits (λ s. Knows es on s × Fine on (Response r) s) (λ s k. (k .0, (h, airs-silent es on s (k .0) (k .1)))) l a
 
   dismissed-keeps : (r c x : ℕ) (q : Queue) → endResult r ≡ true → All Waits (q .waiting) → Keeps (q .lately) (dismissed r c x q)
   unfolding dismissed
@@ -202,12 +215,12 @@ module _ (es : List Entry) (st : ℕ → ℕ → ℕ) where
       by (Keeps (q .lately)) (ltb i (length (q .waiting))) _ _
       (λ e. let k = all-getD Waits (q .waiting) i empty (ltb-true i (length (q .waiting)) e) a in
       keeps-join (q .lately) u (dismissed 109 (s .conn) (s .id) (u .queue))
-      (one-keeps (Response 109) s (withWaiting (removeAt i (q .waiting)) q) (says (Response 109) s (refl, airs-silent st s (k .1)) (k .0)))
+      (one-keeps (Response 109) s (withWaiting (removeAt i (q .waiting)) q) (says (Response 109) s (refl, airs-silent es on s (k .0) (k .1)) (k .0)))
       (dismissed-keeps 109 (s .conn) (s .id) (u .queue) refl (fewer-all Waits (fewer-removeAt i (q .waiting)) a)))
       (λ e. keeps-none q [] refl)
 
   -- those that have started are told so
-  cancelled-keeps : (p : Session → Bool) (q : Queue) → All Waits (q .waiting) → All (λ s. Knows es s × Airs st s) (q .started) → Keeps (q .lately) (cancelled p q)
+  cancelled-keeps : (p : Session → Bool) (q : Queue) → All Waits (q .waiting) → All (λ s. Knows es on s × Airs on s) (q .started) → Keeps (q .lately) (cancelled p q)
   unfolding cancelled
   cancelled-keeps p q a k =
       let g = endings (Complete 116) (Response 116) p (q .started) in
@@ -218,11 +231,11 @@ module _ (es : List Entry) (st : ℕ → ℕ → ℕ) where
         told = rw (ends-append (g Record ended) (map (ended (Response 116)) w))
             (matches-append (g Past past) (map (past (Response 116)) w) _ _
             (endings-end (Complete 116) (Response 116) p (q .started)
-            (all-into (λ s. Knows es s × Airs st s) (λ s. (Knows es s × Fine st (Response 116) s) × Fine st (Complete 116) s) (λ s h. ((h .0, (refl, h .1)), tt)) (q .started) k))
+            (all-into (λ s. Knows es on s × Airs on s) (λ s. (Knows es on s × Fine on (Response 116) s) × Fine on (Complete 116) s) (λ s h. ((h .0, (refl, h .1)), refl)) (q .started) k))
             (all-end (Response 116) w (waits-fine 116 refl w (all-keep Waits p (q .waiting) a))));
       }
 
-  aborted-keeps : (c x : ℕ) (q : Queue) → All Waits (q .waiting) → All (λ s. Knows es s × Airs st s) (q .started) → Keeps (q .lately) (aborted c x q)
+  aborted-keeps : (c x : ℕ) (q : Queue) → All Waits (q .waiting) → All (λ s. Knows es on s × Airs on s) (q .started) → Keeps (q .lately) (aborted c x q)
   unfolding aborted andThen
   aborted-keeps c x q a k =
       let t = cancelled (is c x) q in
@@ -231,27 +244,27 @@ module _ (es : List Entry) (st : ℕ → ℕ → ℕ) where
 
   -- ## Instants
 
-  endAt-keeps : (t : ℕ) (q : Queue) → All (Knows es) (q .started) → Keeps (q .lately) (endAt t q)
+  endAt-keeps : (t : ℕ) (q : Queue) → All (Knows es on) (q .started) → Keeps (q .lately) (endAt t q)
   unfolding endAt
   endAt-keeps t q a =
       record {
         gone = endings (Complete 100) (Complete 125) (endsAt t) (q .started) Past past;
         lately = refl;
-        told = endings-end (Complete 100) (Complete 125) (endsAt t) (q .started) (all-into (Knows es) (λ s. (Knows es s × Unit {0}) × Unit {0}) (λ s k. ((k, tt), tt)) (q .started) a);
+        told = endings-end (Complete 100) (Complete 125) (endsAt t) (q .started) (all-into (Knows es on) (λ s. (Knows es on s × Fine on (Complete 125) s) × Fine on (Complete 100) s) (λ s k. ((k, refl), refl)) (q .started) a);
       }
 
-  ousted-keeps : (s : Session) (q : Queue) → All Waits (q .waiting) → All (Knows es) (q .started) → Keeps (q .lately) (ousted s q)
+  ousted-keeps : (s : Session) (q : Queue) → All Waits (q .waiting) → All (Knows es on) (q .started) → Keeps (q .lately) (ousted s q)
   unfolding ousted andThen
   ousted-keeps s q a b =
       let air = getD (q .started) 0 empty in
       let u = ending (oneEnd (Complete 125) air) (withStarted (removeAt 0 (q .started)) q) in
       by (Keeps (q .lately)) (meetsEqual s (q .started)) _ _
-      (λ e. let k = all-getD (Knows es) (q .started) 0 empty (meets-some s (q .started) e) b in
-      keeps-join (q .lately) u (dismissed 125 (air .conn) (air .id) (u .queue)) (one-keeps (Complete 125) air (withStarted (removeAt 0 (q .started)) q) (says (Complete 125) air tt k))
+      (λ e. let k = all-getD (Knows es on) (q .started) 0 empty (meets-some s (q .started) e) b in
+      keeps-join (q .lately) u (dismissed 125 (air .conn) (air .id) (u .queue)) (one-keeps (Complete 125) air (withStarted (removeAt 0 (q .started)) q) (says (Complete 125) air refl k))
       (dismissed-keeps 125 (air .conn) (air .id) (u .queue) refl a))
       (λ e. keeps-none q [] refl)
 
-  launched-keeps : (s : Session) (q : Queue) → Waits s → All Waits (q .waiting) → All (Knows es) (q .started) → Keeps (q .lately) (launched s q)
+  launched-keeps : (s : Session) (q : Queue) → Waits s → All Waits (q .waiting) → All (Knows es on) (q .started) → Keeps (q .lately) (launched s q)
   unfolding launched andThen
   launched-keeps s q z a b =
       let f = ending (oneEnd Failed s) q in
@@ -260,7 +273,7 @@ module _ (es : List Entry) (st : ℕ → ℕ → ℕ) where
       (λ e. keeps-join (q .lately) o (writes (began s ∷ []) (withStarted (s ∷ o .queue .started) (o .queue))) (ousted-keeps s q a b) (keeps-none (withStarted (s ∷ o .queue .started) (o .queue)) (began s ∷ []) (began-none s)))
       (λ e. keeps-join (q .lately) f (dismissed 109 (s .conn) (s .id) (f .queue)) (one-keeps Failed s q (says Failed s (z .1) (z .0))) (dismissed-keeps 109 (s .conn) (s .id) (f .queue) refl a))
 
-  startAt-keeps : (t : ℕ) (q : Queue) → All Waits (q .waiting) → All (Knows es) (q .started) → Keeps (q .lately) (startAt t q)
+  startAt-keeps : (t : ℕ) (q : Queue) → All Waits (q .waiting) → All (Knows es on) (q .started) → Keeps (q .lately) (startAt t q)
   unfolding startAt
   startAt-keeps t q a b =
       let i = place (startsAt t) (q .waiting) in
@@ -269,25 +282,25 @@ module _ (es : List Entry) (st : ℕ → ℕ → ℕ) where
       (fewer-all Waits (fewer-removeAt i (q .waiting)) a) b)
       (λ e. keeps-none q [] refl)
 
-  instant-keeps : (t : ℕ) (q : Queue) → All Waits (q .waiting) → All (Knows es) (q .started) → Keeps (q .lately) (instant t q)
+  instant-keeps : (t : ℕ) (q : Queue) → All Waits (q .waiting) → All (Knows es on) (q .started) → Keeps (q .lately) (instant t q)
   unfolding instant andThen endAt
   instant-keeps t q a b =
       let u = endAt t q in
-      keeps-join (q .lately) u (startAt t (u .queue)) (endAt-keeps t q b) (startAt-keeps t (u .queue) a (fewer-all (Knows es) (endAt-fewer q t .started) b))
+      keeps-join (q .lately) u (startAt t (u .queue)) (endAt-keeps t q b) (startAt-keeps t (u .queue) a (fewer-all (Knows es on) (endAt-fewer q t .started) b))
 
-  waits-now : (now : ℕ) (q : Queue) → Holding now q → Each (Knows es) q → All Waits (q .waiting)
-  waits-now now q h a = all-both (Knows es) (λ s. s .played .0 ≡ 0) (q .waiting) (a .waiting) (h .played .silent)
+  waits-now : (now : ℕ) (q : Queue) → Holding now q → Each (Knows es on) q → All Waits (q .waiting)
+  waits-now now q h a = all-both (Knows es on) (λ s. s .played .0 ≡ 0) (q .waiting) (a .waiting) (h .played .silent)
 
-  run-keeps : (n now until : ℕ) (q : Queue) → Holding now q → Each (Knows es) q → Keeps (q .lately) (run n now until q)
+  run-keeps : (n now until : ℕ) (q : Queue) → Holding now q → Each (Knows es on) q → Keeps (q .lately) (run n now until q)
   unfolding run andThen elapse
   run-keeps zero now until q h a = keeps-none (elapse (until - now) q) [] refl
   run-keeps (suc n) now until q h a =
       by-next (Keeps (q .lately)) _ _ (notAfter until (due q))
       (λ t e. let u = elapse (t .0 - now) q in
-      let b = each-elapse (Knows es) (λ d s k. k) (t .0 - now) q a in
+      let b = each-elapse (Knows es on) (λ d s k. (k .0, λ z. k .1 (omega (arith, z)))) (t .0 - now) q a in
       let i = moved now (t .0) q in
       keeps-join (q .lately) i (run n (t .0) until (i .queue)) (instant-keeps (t .0) u (waits-now now q h a) (b .started))
-      (run-keeps n (t .0) until (i .queue) (holding-next now until t q e h) (each-instant (Knows es) (λ d s k. k) (t .0) u b)))
+      (run-keeps n (t .0) until (i .queue) (holding-next now until t q e h) (each-instant (Knows es on) (λ d s k. (k .0, λ z. k .1 (omega (arith, z)))) (t .0) u b)))
       (λ e. keeps-none (elapse (until - now) q) [] refl)
 
   -- records that tell of no end
@@ -308,7 +321,7 @@ module _ (es : List Entry) (st : ℕ → ℕ → ℕ) where
   not-any (ExtendedFound c x event ended played) h = refl
   not-any (ExtendedNone c x) h = refl
 
-  none-told : (rs : List Record) → ((c x : ℕ) → endsOf c x rs ≡ 0) → endsIn es st rs ≡ []
+  none-told : (rs : List Record) → ((c x : ℕ) → endsOf c x rs ≡ 0) → endsIn es on rs ≡ []
   none-told [] h = refl
   none-told (r ∷ rs) h = rw (not-any r (λ c x. omega (arith, h c x))) (none-told rs (λ c x. omega (arith, h c x)))
 
@@ -319,95 +332,106 @@ abbrev othersBy : Call → Answer → List Record
 othersBy k (refused n) = []
 othersBy k (good consumed rs) = othersOf k rs
 
-module _ (s : Splicer) (es : List Entry) (st : ℕ → ℕ → ℕ) (b : Booked (s .queue) es) (h : Sound s)
-    (told : (c x : ℕ) → st c x ≡ count (is c x) (s .queue .started)) where
+module _ (s : Splicer) (es : List Entry) (ss : List Airing) (b : Booked (s .queue) es) (h : Sound s) (o : Kept start s ss) where
   abbrev q : Queue
   q = s .queue
 
-  abbrev Does : Call → Called → Type 0
-  Does k r = Keeps es st (q .lately) (record { queue = r .splicer .queue; written = othersBy k (r .answer) })
+  abbrev on : ℕ → ℕ → ℕ
+  on = timeSoFar (s .clock) ss
 
-  knows : Each (Knows es) q
+  abbrev Does : Call → Called → Type 0
+  Does k r = Keeps es on (q .lately) (record { queue = r .splicer .queue; written = othersBy k (r .answer) })
+
+  -- the answers tell no time of one that waits, and the time kept of one that has started
+  silent : (u : Session) → Owned.Waits ss u → on (u .conn) (u .id) ≡ 0
+  silent u w = ap (airTime (s .clock) ss) (w .told) ∙ time-waiting (s .clock) ss u
+
+  timed : (u : Session) → Owned.Plays (s .clock) ss u → on (u .conn) (u .id) ≡ u .played .0
+  timed u p = ap (airTime (s .clock) ss) (p .told) ∙ p .played
+
+  waiting-knows : All (Knows es on) (q .waiting)
+  waiting-knows =
+      all-into (λ u. Dated es u × Owned.Waits ss u) (Knows es on) (λ u d. (d .0 .2, λ z. silent u (d .1))) (q .waiting)
+      (all-both (Dated es) (Owned.Waits ss) (q .waiting) (b .dated .waiting) (o .waits))
+
+  dated-plays : All (λ u. Dated es u × Owned.Plays (s .clock) ss u) (q .started)
+  dated-plays = all-both (Dated es) (Owned.Plays (s .clock) ss) (q .started) (b .dated .started) (o .plays)
+
+  knows : Each (Knows es on) q
   knows =
       record {
-        waiting = all-into (Dated es) (Knows es) (λ u d. d .2) (q .waiting) (b .dated .waiting);
-        started = all-into (Dated es) (Knows es) (λ u d. d .2) (q .started) (b .dated .started);
+        waiting = waiting-knows;
+        started = all-into (λ u. Dated es u × Owned.Plays (s .clock) ss u) (Knows es on) (λ u d. (d .0 .2, λ z. timed u (d .1) ∙ z)) (q .started) dated-plays;
       }
 
-  waiting : All (Waits es st) (q .waiting)
-  waiting = waits-now es st (s .clock) q (h .holding) knows
+  waiting : All (Waits es on) (q .waiting)
+  waiting = waits-now es on (s .clock) q (h .holding) knows
 
-  -- those on air or covered are told to have started
-  started : (l : List Session) → ((c x : ℕ) → count (is c x) l ≤ count (is c x) (q .started)) → All (Knows es) l → All (λ u. Knows es u × Airs st u) l
-  started [] f a = tt
-  started (u ∷ l) f a = (
-    (a .0, airs-started st u (omega (arith, told (u .conn) (u .id), f (u .conn) (u .id), own))),
-    started l (λ c x. omega (arith, f c x)) (a .1),
-  )
-    where
-      own : bit (is (u .conn) (u .id) u) ≡ 1
-      own = rw (eqb-same (u .conn), eqb-same (u .id)) refl
+  airing-knows : All (λ u. Knows es on u × Airs on u) (q .started)
+  airing-knows =
+      all-into (λ u. Dated es u × Owned.Plays (s .clock) ss u) (λ u. Knows es on u × Airs on u)
+      (λ u d. ((d .0 .2, λ z. timed u (d .1) ∙ z), ap unshown (sym (timed u (d .1))))) (q .started) dated-plays
 
-  airing : All (λ u. Knows es u × Airs st u) (q .started)
-  airing = started (q .started) (λ c x. omega arith) (knows .started)
-
-  tick-keeps : (until : ℕ) → Keeps es st (q .lately) (runAll (s .clock) until q)
+  tick-keeps : (until : ℕ) → Keeps es on (q .lately) (runAll (s .clock) until q)
   unfolding runAll
-  tick-keeps until = run-keeps es st _ (s .clock) until q (h .holding) knows
+  tick-keeps until = run-keeps es on _ (s .clock) until q (h .holding) knows
 
   call-keeps : (k : Call) → Does k (call k s)
   unfolding othersOf front accepted andThen ticked closedBy isAnEnd
   call-keeps =
       cases s Does (record {
-        refusing = λ k n. keeps-none es st q [] refl;
-        opening = λ c low e. keeps-none es st q [] refl;
-        closing = λ c room low e. cancelled-keeps es st (of c) q waiting airing;
-        saying = λ c l loans n rs e p. rw e (keeps-none es st q rs (none-told es st rs (p .ends)));
-        naming = λ c l loans n r hw e p. rw e (keeps-none es st q (r ∷ []) (none-told es st (r ∷ []) (p .ends)));
-        aborting = λ c l loans n x e i. let k = aborted-keeps es st c x q waiting airing in
+        refusing = λ k n. keeps-none es on q [] refl;
+        opening = λ c low e. keeps-none es on q [] refl;
+        closing = λ c room low e. cancelled-keeps es on (of c) q waiting airing-knows;
+        saying = λ c l loans n rs e p. rw e (keeps-none es on q rs (none-told es on rs (p .ends)));
+        naming = λ c l loans n r hw e p. rw e (keeps-none es on q (r ∷ []) (none-told es on (r ∷ []) (p .ends)));
+        aborting = λ c l loans n x e i. let k = aborted-keeps es on c x q waiting airing-knows in
             rw e (record { gone = k .gone; lately = k .lately; told = k .told });
-        declining = λ c l loans n r e y o. rw e (keeps-none es st q [] refl);
+        declining = λ c l loans n r e y o. rw e (keeps-none es on q [] refl);
         accepting = λ c l loans n r e f p. let new = requested c r q in
-            let k = evicted-keeps es st (new .start .0) q waiting in
+            let k = evicted-keeps es on (new .start .0) q waiting in
             rw (e, front-last (evicted (new .start .0) q .written) (accepts new)) (record { gone = k .gone; lately = k .lately; told = k .told });
         ticking = λ seconds micros room le. tick-keeps (fromMicros (timeOf seconds micros) .0);
         moving = λ until room le. tick-keeps until;
-        cueing = λ l pts seconds micros room rs p. keeps-none es st q rs (none-told es st rs (p .ends));
+        cueing = λ l pts seconds micros room rs p. keeps-none es on q rs (none-told es on rs (p .ends));
       })
 
 -- ## Every sequence of calls
 
-ended-answer : (k : Call) (a : Answer) (es : List Entry) (st : ℕ → ℕ → ℕ) (os : List Told) → All Fits (recordsOf a)
-    → endedReplied k (replyOf a) es st os ≡ newer (endsIn es st (othersBy k a)) os
+ended-answer : (k : Call) (a : Answer) (es : List Entry) (on : ℕ → ℕ → ℕ) (os : List Told) → All Fits (recordsOf a)
+    → endedReplied k (replyOf a) es on os ≡ newer (endsIn es on (othersBy k a)) os
 unfolding endedReplied newer writtenBy
-ended-answer k (refused n) es st os f = refl
-ended-answer k (good consumed rs) es st os f = ap (λ l. newer (endsIn es st (othersOf k l)) os) (read-back rs f)
+ended-answer k (refused n) es on os f = refl
+ended-answer k (good consumed rs) es on os f = ap (λ l. newer (endsIn es on (othersOf k l)) os) (read-back rs f)
 
--- which have started after a call
-abbrev startedBy : Call → Splicer → (ℕ → ℕ → ℕ) → ℕ → ℕ → ℕ
-startedBy k s st c x = startedReplied c x k (replyOf (call k s .answer)) (st c x)
+-- the sessions accepted, after a call
+abbrev airedBy : Call → Splicer → List Airing → List Airing
+airedBy k s ss = airedAnswer (call k s .splicer .clock) k (call k s .answer) ss
 
-started-next : (k : Call) (s : Splicer) (st : ℕ → ℕ → ℕ) → Wired k → Sound s → ((c x : ℕ) → st c x ≡ count (is c x) (s .queue .started))
-    → (c x : ℕ) → startedBy k s st c x ≡ count (is c x) (call k s .splicer .queue .started)
-started-next k s st w h t c x = ap (startedReplied c x k (replyOf (call k s .answer))) (t c x) ∙ call-started c x k s w h
+-- a call further, with what its bytes tell
+told-next : (k : Call) (s : Splicer) (h : List Event) (es : List Entry) (ss : List Airing) (os : List Told) → Wired k → Sound s
+    → endedTold (record { call = k; reply = replyOf (call k s .answer) } ∷ h) es (s .clock) ss os
+    ≡ endedTold h (bookAnswer k (call k s .answer) es) (call k s .splicer .clock) (airedBy k s ss) (newer (endsIn es (timeSoFar (s .clock) ss) (othersBy k (call k s .answer))) os)
+unfolding endedTold
+told-next k s h es ss os w z =
+    let a = call k s .answer in
+    let f = sound-fits s k w z in
+    ap (λ (u : ℕ). endedTold h (bookReplied k (replyOf a) es) u (airedReplied u k (replyOf a) ss) (endedReplied k (replyOf a) es (timeSoFar (s .clock) ss) os)) (call-clock s k)
+    ∙ (λ i. endedTold h (book-answer k a es f i) (call k s .splicer .clock) (aired-answer (call k s .splicer .clock) k a ss (sound-found s k w z) i)
+    (ended-answer k a es (timeSoFar (s .clock) ss) os f i))
 
-kept-always : (ks : List Call) (s : Splicer) (es : List Entry) (st : ℕ → ℕ → ℕ) (os : List Told) → All Wired ks → Sound s → Booked (s .queue) es
-    → ((c x : ℕ) → st c x ≡ count (is c x) (s .queue .started)) → KeptAs (recent (s .queue .lately)) os
-    → KeptAs (recent (after ks s .queue .lately)) (endedTold (history ks s) es st os)
+kept-always : (ks : List Call) (s : Splicer) (es : List Entry) (ss : List Airing) (os : List Told) → All Wired ks → Sound s → Booked (s .queue) es
+    → Kept start s ss → Stands (recent (s .queue .lately)) os → Stands (recent (after ks s .queue .lately)) (endedTold (history ks s) es (s .clock) ss os)
 unfolding after history endedTold
-kept-always [] s es st os w h b t k = k
-kept-always (j ∷ ks) s es st os w h b t k =
+kept-always [] s es ss os w h b o k = k
+kept-always (j ∷ ks) s es ss os w h b o k =
     let n = call j s in
-    let d = call-keeps s es st b h t j in
-    let f = sound-fits s j (w .0) h in
-    let more = newer (endsIn es st (othersBy j (n .answer))) os in
-    let m = kept-all (d .gone) (endsIn es st (othersBy j (n .answer))) (s .queue .lately) os (h .lately .sixteen, h .lately .next) (d .told) k in
-    let same : endedTold (history ks (n .splicer)) (bookReplied j (replyOf (n .answer)) es) (startedBy j s st) (endedReplied j (replyOf (n .answer)) es st os)
-    ≡ endedTold (history ks (n .splicer)) (bookAnswer j (n .answer) es) (startedBy j s st) more =
-    λ i. endedTold (history ks (n .splicer)) (book-answer j (n .answer) es f i) (startedBy j s st) (ended-answer j (n .answer) es st os f i) in
-    subst (λ (z : List Told). KeptAs (recent (after ks (n .splicer) .queue .lately)) z) (sym same)
-    (kept-always ks (n .splicer) (bookAnswer j (n .answer) es) (startedBy j s st) more (w .1) (sound-call s j (w .0) h) (call-booked s es b j) (started-next j s st (w .0) h t)
-    (subst (λ (l : Lately). KeptAs (recent l) more) (sym (d .lately)) m))
+    let d = call-keeps s es ss b h o j in
+    let more = newer (endsIn es (timeSoFar (s .clock) ss) (othersBy j (n .answer))) os in
+    let m = kept-all (d .gone) (endsIn es (timeSoFar (s .clock) ss) (othersBy j (n .answer))) (s .queue .lately) os (h .lately .sixteen, h .lately .next) (d .told) k in
+    subst (λ (z : List Told). Stands (recent (after ks (n .splicer) .queue .lately)) z) (sym (told-next j s (history ks (n .splicer)) es ss os (w .0) h))
+    (kept-always ks (n .splicer) (bookAnswer j (n .answer) es) (airedBy j s ss) more (w .1) (sound-call s j (w .0) h) (call-booked s es b j) (call-owned start s ss h o j)
+    (subst (λ (l : Lately). Stands (recent l) more) (sym (d .lately)) m))
 
 -- a fresh splicer has none
 empty-at : (n i : ℕ) → getD (replicate n unused) i unused ≡ unused
@@ -415,52 +439,55 @@ empty-at zero i = refl
 empty-at (suc n) zero = refl
 empty-at (suc n) (suc i) = empty-at n i
 
-none-from : (i n : ℕ) → KeptAs (recentFrom i n noneEnded) []
+none-from : (i n : ℕ) → Stands (recentFrom i n noneEnded) []
 unfolding recentFrom recentAt
 none-from i zero = tt
 none-from i (suc n) = (empty-at mostKept ((0 + (mostKept - 1 - i)) % mostKept), none-from (suc i) n)
 
-none-kept : (name : List ℕ) → KeptAs (recent (fresh name .splicer .queue .lately)) []
+none-kept : (name : List ℕ) → Stands (recent (fresh name .splicer .queue .lately)) []
 unfolding fresh named recent
-none-kept name = by (λ (r : Called). KeptAs (recent (r .splicer .queue .lately)) []) (hasZero name) _ _ (λ e. none-from 0 mostKept) (λ e. none-from 0 mostKept)
+none-kept name = by (λ (r : Called). Stands (recent (r .splicer .queue .lately)) []) (hasZero name) _ _ (λ e. none-from 0 mostKept) (λ e. none-from 0 mostKept)
+
+pub lately-stands : (h : List Event) (s : Splicer) → FromFresh h s → Stands (recent (s .queue .lately)) (endsTold h)
+lately-stands h s f =
+    rw (f .heard, f .same)
+    (subst (λ (n : ℕ). Stands (recent (after (f .calls) (fresh (f .name) .splicer) .queue .lately)) (endedTold (history (f .calls) (fresh (f .name) .splicer)) [] n [] [])) (fresh-clock (f .name))
+    (kept-always (f .calls) (fresh (f .name) .splicer) [] [] [] (f .wired) (sound-fresh (f .name) (f .whole) (f .bytes)) (booked-fresh (f .name)) (owned-fresh (f .name)) (none-kept (f .name))))
 
 pub lately-told : (h : List Event) (s : Splicer) → FromFresh h s → KeptAs (recent (s .queue .lately)) (endsTold h)
-lately-told h s f =
-    rw (f .heard, f .same)
-    (kept-always (f .calls) (fresh (f .name) .splicer) [] (λ c x. 0) [] (f .wired) (sound-fresh (f .name) (f .whole) (f .bytes)) (booked-fresh (f .name)) (λ c x. sym (fresh-started c x (f .name)))
-    (none-kept (f .name)))
+lately-told h s f = stands-kept (recent (s .queue .lately)) (endsTold h) (lately-stands h s f)
 
 -- ## One for each session that has ended
 
 module _ (c x : ℕ) where
-  told-one : (es : List Entry) (st : ℕ → ℕ → ℕ) (r : Record) (l : List Told) (n : ℕ) → count (ofNumber c x) l ≡ n → count (ofNumber c x) (put (isAnEnd r) (toldIn es st r) l) ≡ bit (isEnd c x r) + n
+  told-one : (es : List Entry) (on : ℕ → ℕ → ℕ) (r : Record) (l : List Told) (n : ℕ) → count (ofNumber c x) l ≡ n → count (ofNumber c x) (put (isAnEnd r) (toldIn es on r) l) ≡ bit (isEnd c x r) + n
   unfolding isAnEnd isEnd toldIn
-  told-one es st (General d m) l n h = omega (arith, h)
-  told-one es st (InitResponse d m name) l n h = omega (arith, h)
-  told-one es st (AliveResponse d m a y t) l n h = omega (arith, h)
-  told-one es st (SpliceResponse d m y) l n h = rw (eqb-same d, eqb-same y) (go (endResult m))
+  told-one es on (General d m) l n h = omega (arith, h)
+  told-one es on (InitResponse d m name) l n h = omega (arith, h)
+  told-one es on (AliveResponse d m a y t) l n h = omega (arith, h)
+  told-one es on (SpliceResponse d m y) l n h = rw (eqb-same d, eqb-same y) (go (endResult m))
     where
-      go : (b : Bool) → count (ofNumber c x) (put (b && true) (toldIn es st (SpliceResponse d m y)) l) ≡ bit (b && sameNumber c x d y) + n
+      go : (b : Bool) → count (ofNumber c x) (put (b && true) (toldIn es on (SpliceResponse d m y)) l) ≡ bit (b && sameNumber c x d y) + n
       go true = omega (arith, h)
       go false = omega (arith, h)
-  told-one es st (SpliceComplete d m y f p) l n h = rw (eqb-same d, eqb-same y) (go (eqb f 1 || (eqb f 0 && eqb m 109)))
+  told-one es on (SpliceComplete d m y f p) l n h = rw (eqb-same d, eqb-same y) (go (eqb f 1 || (eqb f 0 && eqb m 109)))
     where
-      go : (b : Bool) → count (ofNumber c x) (put (b && true) (toldIn es st (SpliceComplete d m y f p)) l) ≡ bit (b && sameNumber c x d y) + n
+      go : (b : Bool) → count (ofNumber c x) (put (b && true) (toldIn es on (SpliceComplete d m y f p)) l) ≡ bit (b && sameNumber c x d y) + n
       go true = omega (arith, h)
       go false = omega (arith, h)
-  told-one es st (AbortResponse d m y) l n h = omega (arith, h)
-  told-one es st (CueRequest d a u m) l n h = omega (arith, h)
-  told-one es st (ConfigResponse d m name hardware section) l n h = omega (arith, h)
-  told-one es st (ExtendedFound d y event ended played) l n h = omega (arith, h)
-  told-one es st (ExtendedNone d y) l n h = omega (arith, h)
+  told-one es on (AbortResponse d m y) l n h = omega (arith, h)
+  told-one es on (CueRequest d a u m) l n h = omega (arith, h)
+  told-one es on (ConfigResponse d m name hardware section) l n h = omega (arith, h)
+  told-one es on (ExtendedFound d y event ended played) l n h = omega (arith, h)
+  told-one es on (ExtendedNone d y) l n h = omega (arith, h)
 
-  map-put : (es : List Entry) (st : ℕ → ℕ → ℕ) (b : Bool) (r : Record) (rs : List Record) → map (toldIn es st) (put b r rs) ≡ put b (toldIn es st r) (map (toldIn es st) rs)
-  map-put es st true r rs = refl
-  map-put es st false r rs = refl
+  map-put : (es : List Entry) (on : ℕ → ℕ → ℕ) (b : Bool) (r : Record) (rs : List Record) → map (toldIn es on) (put b r rs) ≡ put b (toldIn es on r) (map (toldIn es on) rs)
+  map-put es on true r rs = refl
+  map-put es on false r rs = refl
 
-  told-count : (es : List Entry) (st : ℕ → ℕ → ℕ) (rs : List Record) → count (ofNumber c x) (endsIn es st rs) ≡ endsOf c x rs
-  told-count es st [] = refl
-  told-count es st (r ∷ rs) = rw (map-put es st (isAnEnd r) r (keep isAnEnd rs)) (told-one es st r (endsIn es st rs) (endsOf c x rs) (told-count es st rs))
+  told-count : (es : List Entry) (on : ℕ → ℕ → ℕ) (rs : List Record) → count (ofNumber c x) (endsIn es on rs) ≡ endsOf c x rs
+  told-count es on [] = refl
+  told-count es on (r ∷ rs) = rw (map-put es on (isAnEnd r) r (keep isAnEnd rs)) (told-one es on r (endsIn es on rs) (endsOf c x rs) (told-count es on rs))
 
   newer-count : (ts os : List Told) → count (ofNumber c x) (newer ts os) ≡ count (ofNumber c x) ts + count (ofNumber c x) os
   unfolding newer
@@ -510,23 +537,22 @@ module _ (c x : ℕ) where
           cueing = λ l pts seconds micros room rs p. omega (arith, entries-credited rs es, p .ends c x);
         })
 
-  counted-always : (ks : List Call) (s : Splicer) (es : List Entry) (st : ℕ → ℕ → ℕ) (os : List Told) → All Wired ks → Sound s → Booked (s .queue) es
+  counted-always : (ks : List Call) (s : Splicer) (es : List Entry) (ss : List Airing) (os : List Told) → All Wired ks → Sound s → Booked (s .queue) es
       → count (ofNumber c x) os + heldCount (s .queue) (is c x) ≡ count (entryIs c x) es
-      → count (ofNumber c x) (endedTold (history ks s) es st os) + heldCount (after ks s .queue) (is c x) ≡ count (entryIs c x) (book (history ks s) es)
+      → count (ofNumber c x) (endedTold (history ks s) es (s .clock) ss os) + heldCount (after ks s .queue) (is c x) ≡ count (entryIs c x) (book (history ks s) es)
   unfolding after history endedTold book
-  counted-always [] s es st os w h b k = k
-  counted-always (j ∷ ks) s es st os w h b k =
+  counted-always [] s es ss os w h b k = k
+  counted-always (j ∷ ks) s es ss os w h b k =
       let n = call j s in
       let f = sound-fits s j (w .0) h in
       let rs = othersBy j (n .answer) in
-      let g : count (ofNumber c x) (newer (endsIn es st rs) os) + heldCount (n .splicer .queue) (is c x) ≡ count (entryIs c x) (bookAnswer j (n .answer) es) =
-      omega (arith, newer-count (endsIn es st rs) os, told-count es st rs, call-counts s es b j, k) in
-      let ih = counted-always ks (n .splicer) (bookAnswer j (n .answer) es) (startedBy j s st) (newer (endsIn es st rs) os) (w .1) (sound-call s j (w .0) h) (call-booked s es b j) g in
-      let p = book-answer j (n .answer) es f in
-      let o = ended-answer j (n .answer) es st os f in
-      ap (λ (z : List Told). count (ofNumber c x) z + heldCount (after ks (n .splicer) .queue) (is c x)) (λ i. endedTold (history ks (n .splicer)) (p i) (startedBy j s st) (o i))
+      let on = timeSoFar (s .clock) ss in
+      let g : count (ofNumber c x) (newer (endsIn es on rs) os) + heldCount (n .splicer .queue) (is c x) ≡ count (entryIs c x) (bookAnswer j (n .answer) es) =
+      omega (arith, newer-count (endsIn es on rs) os, told-count es on rs, call-counts s es b j, k) in
+      let ih = counted-always ks (n .splicer) (bookAnswer j (n .answer) es) (airedBy j s ss) (newer (endsIn es on rs) os) (w .1) (sound-call s j (w .0) h) (call-booked s es b j) g in
+      ap (λ (z : List Told). count (ofNumber c x) z + heldCount (after ks (n .splicer) .queue) (is c x)) (told-next j s (history ks (n .splicer)) es ss os (w .0) h)
       ∙ ih
-      ∙ ap (λ (z : List Entry). count (entryIs c x) (book (history ks (n .splicer)) z)) (sym p)
+      ∙ ap (λ (z : List Entry). count (entryIs c x) (book (history ks (n .splicer)) z)) (sym (book-answer j (n .answer) es f))
 
   fresh-held : (name : List ℕ) → heldCount (fresh name .splicer .queue) (is c x) ≡ 0
   unfolding fresh named
@@ -559,6 +585,6 @@ module _ (c x : ℕ) where
 -- as many ends are kept in turn under a number as accepted sessions of that number have ended
 pub one-kept-each : (h : List Event) (s : Splicer) → FromFresh h s → (c x : ℕ) → count (ofNumber c x) (endsTold h) ≡ endedOnce c x (book h [])
 one-kept-each h s f c x =
-    let a = counted-always c x (f .calls) (fresh (f .name) .splicer) [] (λ c x. 0) [] (f .wired) (sound-fresh (f .name) (f .whole) (f .bytes)) (booked-fresh (f .name)) (omega (arith, fresh-held c x (f .name))) in
-    let b : count (ofNumber c x) (endsTold h) + heldCount (s .queue) (is c x) ≡ count (entryIs c x) (book h []) = rw (f .heard, f .same) a in
+    let a = counted-always c x (f .calls) (fresh (f .name) .splicer) [] [] [] (f .wired) (sound-fresh (f .name) (f .whole) (f .bytes)) (booked-fresh (f .name)) (omega (arith, fresh-held c x (f .name))) in
+    let b : count (ofNumber c x) (endsTold h) + heldCount (s .queue) (is c x) ≡ count (entryIs c x) (book h []) = rw (f .heard, f .same, ← (fresh-clock (f .name))) a in
     omega (arith, b, owed-ended c x (heldCount (s .queue) (is c x)) (book h []) (book-told h s f .owed c x))

@@ -120,7 +120,7 @@ module _ (β : Base) (s : Splicer) (l : List Airing) (h : Sound s) (o : Kept β 
   abbrev q : Queue
   q = s .queue
 
-  abbrev Then : Call → Called → Type 0
+  abbrev pub Then : Call → Called → Type 0
   Then k r = Kept β (r .splicer) (airedAnswer (r .splicer .clock) k (r .answer) l)
 
   ending : All (λ u. (s .clock ≤ u .end .0) × (min (u .end .0) (s .clock) ≤ s .clock)) (q .started)
@@ -133,7 +133,7 @@ module _ (β : Base) (s : Splicer) (l : List Airing) (h : Sound s) (o : Kept β 
   unfolding ticked
   tick-owned until le = tick-clocked β (s .clock) (s .primary) until q l le (record { timed = h .holding .timed; falling = h .holding .falling; owned = o }) .owned
 
-  call-owned : (k : Call) → Then k (call k s)
+  pub call-owned : (k : Call) → Then k (call k s)
   unfolding airedAfter airedAnswered heardAll front last isYes accepted andThen requested sessionAt ticked
   call-owned =
       cases s Then (record {
@@ -166,7 +166,7 @@ owned-always β (k ∷ ks) s l a h o =
     owned-always β ks (call k s .splicer) (airedAnswer (call k s .splicer .clock) k (call k s .answer) l) (a .1) (sound-call s k (a .0) h) (call-owned β s l h o k)
 
 -- the bytes give back the records
-aired-answer : (u : ℕ) (k : Call) (a : Answer) (l : List Airing) → recordsIn (writtenBy a) ≡ recordsOf a → airedReplied u k (replyOf a) l ≡ airedAnswer u k a l
+pub aired-answer : (u : ℕ) (k : Call) (a : Answer) (l : List Airing) → recordsIn (writtenBy a) ≡ recordsOf a → airedReplied u k (replyOf a) l ≡ airedAnswer u k a l
 unfolding airedReplied
 aired-answer u k (refused n) l e = refl
 aired-answer u k (good consumed rs) l e = ap (λ (r : List Record). airedAfter u k r l) e
@@ -184,7 +184,7 @@ airings-found (k ∷ ks) s l a h =
 abbrev pub start : Base
 start = record { time = 0; told = [] }
 
-owned-fresh : (name : List ℕ) → Kept start (fresh name .splicer) []
+pub owned-fresh : (name : List ℕ) → Kept start (fresh name .splicer) []
 unfolding fresh named primaryTime during
 owned-fresh name =
     let none : Owned start 0 0 [] [] [] =

@@ -4,3 +4,4 @@ pub mod Airing
 pub mod Told
 pub mod Moments
 pub mod Kept
+pub mod Alike

@@ -202,15 +202,6 @@ Carries l (ExtendedNone c x) = Unit {0}
 Carries l (ConfigResponse c r name hardware section) = Unit {0}
 Carries l (CueRequest c a u m) = drop 18 (recordBytes (CueRequest c a u m)) ≡ l
 
--- what the answers of g tell is what those of h tell: each connection's waiting sessions, the book, the clock, what has started, and so who owned each
--- ninth (02, CR 13)
-pub record Alike (h g : List Event) : Type 0 where
-  pub waiting : (c : ℕ) → waitingCount c g ≡ waitingCount c h
-  pub book : book g [] ≡ book h []
-  pub clock : clockAfter g 0 ≡ clockAfter h 0
-  pub started : (c x : ℕ) → startedTold c x g 0 ≡ startedTold c x h 0
-  pub aired : airings g 0 [] ≡ airings h 0 []
-
 -- ## Document 02, CR 11
 
 -- the call is a Splice_Request answered with 100; rs: the records of its answer

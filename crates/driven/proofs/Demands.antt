@@ -13,15 +13,16 @@ use Rattle.rules.specs.declared.When.the-variants.{At}
 use Rattle.rules.specs.Lists.{All, some, count}
 use Rattle.rules.specs.Bytes.{Byte, hasZero}
 use Rattle.rules.specs.Records.{recordsIn, ConfigResponse}
-use Rattle.rules.specs.State.{empty, Sorted, startsAt, startsAfter, earliest, due, recent, hardwareOf}
+use Rattle.rules.specs.State.{empty, Sorted, startsAt, startsAfter, earliest, due, mostKept, recent, hardwareOf}
 use Rattle.rules.specs.Reading.{longestHardware}
 use Rattle.rules.specs.Sound.{Each, Falling, Coded}
 use Rattle.rules.specs.Answers.{requested, spliceResult}
 use Rattle.rules.specs.Cues.{readCue, cueTime, initialisedOnes, cueRecords}
 use Rattle.rules.specs.Calls.{fresh, after, lendingMaps, sectionOf, Loans}
 use Rattle.demands.specs.History.{Event, startsOf, endsOf, history, ownAnswer, othersOf, waitingCount, book, clockAfter}
-use Rattle.demands.specs.Told.{firstNumber, checks, answers, Asks, Passes, fullTold, countsTold, grantedBy, outsOf, startedTold, unended, Ended, Stands, airMuxTold, MuxInRange, Inquires, Finds, connOf, concerned, Carries, Alike}
-use Rattle.demands.specs.Lately.{ofNumber, endedOnce, KeptAs, endsTold}
+use Rattle.demands.specs.Told.{firstNumber, checks, answers, Asks, Passes, fullTold, countsTold, grantedBy, outsOf, startedTold, unended, Ended, Stands, airMuxTold, MuxInRange, Inquires, Finds, connOf, concerned, Carries}
+use Rattle.demands.specs.Alike.{Alike}
+use Rattle.demands.specs.Lately.{ofNumber, answerTold, endedOnce, KeptAs, endsTold}
 use Rattle.demands.specs.Airing.{airingsTold, clockTold, primaryTold, timeTold, airTold, numberTold}
 use Rattle.demands.specs.Kept.{keptTold, AsksConfig, AsksAlive, Ready, stateIn}
 use Rattle.demands.specs.Moments.{Gapless, Printed, Within, PlayedAs}
@@ -245,7 +246,8 @@ module _ (name : List ℕ) (h : List Made) (m : Memory) where
 module _ (name : List ℕ) (h : List Made) (m : Memory) where
   -- "The state now also keeps the last 16 ended sessions .. oldest dropped first": what the words keep is, newest first, the first 16 of the ends
   -- that the answers' bytes tell: connection, SessionID and result of each end record, the SpliceEventID of the request that its connection last had
-  -- accepted under that SessionID, and the PlayedDuration where the record shows one, 0 where the start was never written
+  -- accepted under that SessionID, and the PlayedDuration of the record, or where it shows none of the time on air, counted from the history as
+  -- CR 13 counts it: 0 where the start was never written
   pub kept-as-told : Trace name h m → KeptAs (recent (shown m .queue .lately)) (endsTold (events h))
   kept-as-told t = rw (trace-events name h m t) (called.kept-as-told name (within h) m (trace-inside name h m t))
 
@@ -261,6 +263,12 @@ module _ (name : List ℕ) (h : List Made) (m : Memory) (d : ℕ) (l pm im e : L
   pub extended-answered : Finds d x (recent (shown m .queue .lately)) (bytesOf r)
   extended-answered =
       rw (bytes-inside (c .allowed)) (called.extended-answered name (within h) m d l pm im e (inside r) (more-inside name h m (aMessage d l pm im e) r c) x asks)
+
+  -- and so the first of the sixteen latest ends that the answers' bytes tell with that connection and number, or 121
+  pub extended-told : recordsIn (bytesOf r) ≡ answerTold d x (take mostKept (endsTold (events h))) ∷ []
+  extended-told =
+      rw (bytes-inside (c .allowed), trace-events name h m (c .trace))
+      (called.extended-told name (within h) m d l pm im e (inside r) (more-inside name h m (aMessage d l pm im e) r c) x asks)
 
 module _ (name : List ℕ) (h : List Made) (m : Memory) (t : Trace name h m) where
   -- "For the desk's page the caller lends sixteen rows and they are filled from the newest down": whatever the page's contract allows, lent the
@@ -402,8 +410,8 @@ module _ (name : List ℕ) (h : List Made) (m : Memory) (l g e : List ℕ) (r : 
   pub cue-changes-nothing : left r ≡ m
   cue-changes-nothing = called.cue-changes-nothing name (within h) m l (ptsOf g) (getD g 2 0) (getD g 3 0) e (inside r) (more-inside name h m (aCue l g e) r c)
 
-  -- no record of it is a start, an end or an own answer: the waiting counts, the book, the clock, what has started and who owned each ninth,
-  -- from the answers, are with it what they were without it
+  -- no record of it is a start, an end or an own answer: the waiting counts, the book, the clock, what has started, who owned each ninth, what
+  -- has ended and what is kept, from the answers, are with it what they were without it
   pub cue-counts-nothing : Alike (events h) (events (h ++ one))
   cue-counts-nothing =
       subst (λ (x : List Event). Alike x (events (h ++ one))) (sym (trace-events name h m (c .trace)))

@@ -8,7 +8,7 @@ use mathlib.Core.List.{List, [], _∷_, _++_}
 use Prim.Native.Nat.{ℕ, _+_, _*_, _/_, _%_, _≤_, _<_}
 use native.Mathlib.Omega.{arith}
 use native.Mathlib.Nat.{le-trans}
-use lib.ListN.{length}
+use lib.ListN.{length, take}
 use Rattle.rules.specs.declared.Request.{Request}
 use Rattle.rules.specs.Lists.{All, count}
 use Rattle.rules.specs.Bytes.{Byte, hasZero}
@@ -16,12 +16,12 @@ use Rattle.rules.specs.Records.{recordsIn}
 use Rattle.rules.specs.Answers.{requested, spliceResult}
 use Rattle.rules.specs.Units.{timeOf, fromMicros}
 use Rattle.rules.specs.Calls.{fresh, after, lendingMaps}
-use Rattle.rules.specs.State.{Sorted, recent}
+use Rattle.rules.specs.State.{Sorted, mostKept, recent}
 use Rattle.rules.specs.Sound.{horizon, Each, Falling, Coded}
 use Rattle.rules.specs.Rolling.{none, Rolling, stepOf, rollingOf, rollingFresh, instants, readings, roll, rolledAfter, asMoves}
 use Rattle.demands.specs.History.{startsOf, endsOf, history, ownAnswer, waitingCount, book, clockAfter}
 use Rattle.demands.specs.Told.{firstNumber, numberOf, answers, Asks, Passes, fullTold, countsTold, outsOf, startedTold, unended, Ended, Stands, airMuxTold, MuxInRange, Inquires, Finds}
-use Rattle.demands.specs.Lately.{ofNumber, endedOnce, KeptAs, endsTold}
+use Rattle.demands.specs.Lately.{ofNumber, answerTold, endedOnce, KeptAs, endsTold}
 use Rattle.demands.specs.Airing.{airingsTold, clockTold, primaryTold, timeTold, airTold, numberTold}
 use Rattle.demands.specs.Moments.{Gapless, Printed, Within, PlayedAs}
 use Rattle.memory.specs.Memory.{see, countsOf, lateOf}
@@ -280,7 +280,8 @@ module _ (name : List ℕ) (h : List Made) (m : Memory) where
 module _ (name : List ℕ) (h : List Made) (m : Memory) where
   -- "The state now also keeps the last 16 ended sessions .. oldest dropped first": what the words keep is, newest first, the first 16 of the ends
   -- that the answers' bytes tell: connection, SessionID and result of each end record, the SpliceEventID of the request that its connection last had
-  -- accepted under that SessionID, and the PlayedDuration where the record shows one, 0 where the start was never written
+  -- accepted under that SessionID, and the PlayedDuration of the record, or where it shows none of the time on air, counted from the history as
+  -- CR 13 counts it: 0 where the start was never written
   pub kept-as-told : Trace name h m → KeptAs (recent (shown m .splicer .queue .lately)) (endsTold (events h))
   kept-as-told t = called.kept-as-told name (within h) (m .core) (trace-inside name h m t)
 
@@ -296,6 +297,12 @@ module _ (name : List ℕ) (h : List Made) (m : Memory) (d : ℕ) (l pm im e : L
   extended-answered =
       rw (bytes-are name h m _ r c)
       (called.extended-answered name (within h) (m .core) d l pm im e (inside (seenOf r)) (known-more name h m (aMessage d l pm im e) r c) x asks)
+
+  -- and so the first of the sixteen latest ends that the answers' bytes tell with that connection and number, or 121
+  pub extended-told : recordsIn (bytesOf r) ≡ answerTold d x (take mostKept (endsTold (events h))) ∷ []
+  extended-told =
+      rw (bytes-are name h m _ r c)
+      (called.extended-told name (within h) (m .core) d l pm im e (inside (seenOf r)) (known-more name h m (aMessage d l pm im e) r c) x asks)
 
 module _ (name : List ℕ) (h : List Made) (m : Memory) (t : Trace name h m) where
   -- "For the desk's page the caller lends sixteen rows and they are filled from the newest down"

@@ -14,7 +14,7 @@ use Rattle.rules.specs.declared.When.the-variants.{At, Never}
 use Rattle.rules.specs.Lists.{All, some, count}
 use Rattle.rules.specs.Bytes.{Byte, hasZero}
 use Rattle.rules.specs.Records.{recordsIn, General, ConfigResponse}
-use Rattle.rules.specs.State.{Splicer, hardwareOf, empty, Sorted, startsAt, startsAfter, sooner, earliest, due, recent}
+use Rattle.rules.specs.State.{Splicer, hardwareOf, empty, Sorted, startsAt, startsAfter, sooner, earliest, due, mostKept, recent}
 use Rattle.rules.specs.Reading.{longestHardware}
 use Rattle.rules.specs.Sound.{Each, Later, Falling, Coded}
 use Rattle.rules.specs.Answers.{requested, spliceResult}
@@ -28,8 +28,9 @@ use Rattle.engine.specs.declared.Answer.the-variants.{Refused}
 use Rattle.places.specs.Places.{round, next}
 use Rattle.memory.specs.Memory.{see, placesFrom, countsOf, tallied, keptBytes}
 use Rattle.engine.specs.Lent.{Lent, Counts, Primary, ReadsMux}
-use Rattle.demands.specs.Told.{firstNumber, checks, answers, Asks, Passes, fullTold, countsTold, grantedBy, outsOf, startedTold, unended, Ended, Stands, airMuxTold, MuxInRange, Inquires, Finds, connOf, concerned, Carries, Alike}
-use Rattle.demands.specs.Lately.{ofNumber, endedOnce, KeptAs, endsTold}
+use Rattle.demands.specs.Told.{firstNumber, checks, answers, Asks, Passes, fullTold, countsTold, grantedBy, outsOf, startedTold, unended, Ended, Stands, airMuxTold, MuxInRange, Inquires, Finds, connOf, concerned, Carries}
+use Rattle.demands.specs.Alike.{Alike}
+use Rattle.demands.specs.Lately.{ofNumber, answerTold, endedOnce, KeptAs, endsTold}
 use Rattle.demands.specs.Airing.{airingsTold, clockTold, primaryTold, timeTold, airTold, numberTold}
 use Rattle.demands.specs.Kept.{keptTold, changed, AsksConfig, AsksAlive, Ready, stateIn}
 use Rattle.demands.specs.Moments.{Gapless, Printed, Within, PlayedAs}
@@ -229,7 +230,8 @@ module _ (name : List ℕ) (h : List Made) (m : Memory) where
 module _ (name : List ℕ) (h : List Made) (m : Memory) where
   -- "The state now also keeps the last 16 ended sessions .. oldest dropped first": what the words keep is, newest first, the first 16 of the ends
   -- that the answers' bytes tell: connection, SessionID and result of each end record, the SpliceEventID of the request that its connection last had
-  -- accepted under that SessionID, and the PlayedDuration where the record shows one, 0 where the start was never written
+  -- accepted under that SessionID, and the PlayedDuration of the record, or where it shows none of the time on air, counted from the history as
+  -- CR 13 counts it: 0 where the start was never written
   pub kept-as-told : Trace name h m → KeptAs (recent (shown m .queue .lately)) (endsTold (events h))
   kept-as-told t = told.kept-as-told (events h) (shown m) (trace-told name h m t)
 
@@ -246,6 +248,12 @@ module _ (name : List ℕ) (h : List Made) (m : Memory) (d : ℕ) (l pm im e : L
   extended-answered =
       rw (as-ruled m (aMessage d l pm im e) r (c .allowed) .bytes)
       (told.extended-answered (events h) (shown m) (trace-told name h m (c .trace)) d l (lendingMaps pm im (length e)) x asks)
+
+  -- and so the first of the sixteen latest ends that the answers' bytes tell with that connection and number, or 121
+  pub extended-told : recordsIn (bytesOf r) ≡ answerTold d x (take mostKept (endsTold (events h))) ∷ []
+  extended-told =
+      rw (as-ruled m (aMessage d l pm im e) r (c .allowed) .bytes)
+      (told.extended-told (events h) (shown m) (trace-told name h m (c .trace)) d l (lendingMaps pm im (length e)) x asks)
 
 -- ## Document 02, CR 10
 
@@ -378,8 +386,8 @@ module _ (name : List ℕ) (h : List Made) (m : Memory) (l : List ℕ) (pts seco
   pub cue-changes-nothing : r .memory ≡ m
   cue-changes-nothing = memory-stays m l pts seconds micros e r (trace-lent name h m (c .trace)) (c .allowed)
 
-  -- no record of it is a start, an end or an own answer: the waiting counts, the book, the clock, what has started and who owned each ninth,
-  -- from the answers, are with it what they were without it
+  -- no record of it is a start, an end or an own answer: the waiting counts, the book, the clock, what has started, who owned each ninth, what
+  -- has ended and what is kept, from the answers, are with it what they were without it
   pub cue-counts-nothing : Alike (events h) (events (h ++ (made (aCue l pts seconds micros e) r ∷ [])))
   cue-counts-nothing =
       subst (λ (g : List Event). Alike (events h) g)
