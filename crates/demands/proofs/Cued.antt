@@ -15,7 +15,7 @@ use Rattle.rules.specs.Lists.{All, put, keep, count, omit}
 use Rattle.rules.specs.Bytes.{Byte, bytes}
 use Rattle.rules.specs.Units.{badMicros}
 use Rattle.rules.specs.State.{Splicer, noHardware}
-use Rattle.rules.specs.Records.{Record, General, InitResponse, AliveResponse, SpliceResponse, SpliceComplete, AbortResponse, CueRequest, ConfigResponse, ExtendedFound, ExtendedNone, framed, recordBytes, output, recordsIn}
+use Rattle.rules.specs.Records.{Record, CueRequest, framed, recordBytes, output, recordsIn}
 use Rattle.rules.specs.Cues.{badSection, readCue, cueTime, initialisedOnes, passedTo, complainedTo, cueRecords}
 use Rattle.rules.specs.Calls.{Answer, refused, good, Called, refuse, does, noRoom, writtenBy, Call, cues, cueCall, call}
 use Rattle.rules.proofs.Tests.{by, clash}
@@ -26,12 +26,13 @@ use Rattle.rules.proofs.Sound.{sound-found}
 use Rattle.demands.specs.History.{Event, Entry, isStart, isEnd, startsOf, endsOf, unmarked, withEnds, credited, replyOf, history, othersOf, waitAfter, waitReplied, waitingTold, waitingCount, bookAfter, bookReplied, book, clockReplied, clockAfter}
 use Rattle.demands.specs.Airing.{Airing, heard, byThen, heardAll, airedAfter, airedReplied, airings}
 use Rattle.demands.specs.Told.{FromFresh, numberOf, startedReplied, startedTold, connOf, concerned, Carries}
-use Rattle.demands.specs.Lately.{Told, isAnEnd, timeSoFar, newer, endedReplied, endedTold}
+use Rattle.demands.specs.Lately.{Told, timeSoFar, newer, endedReplied, endedTold}
 use Rattle.demands.specs.Kept.{changes, left, changed, keptBehind, keptTold}
 use Rattle.demands.specs.Alike.{Alike}
 use Rattle.demands.proofs.Room.{from-sound}
 use Rattle.demands.proofs.Refusals.{a-number}
 use Rattle.demands.proofs.Marks.{heard-plain}
+use Rattle.demands.proofs.Lately.{none-told}
 
 -- ## It changes nothing
 
@@ -96,23 +97,6 @@ unfolding heardAll
 quiet-heard u [] a es = refl
 quiet-heard u (r ∷ rs) a es = ap (heardAll u rs) (heard-plain (byThen u es rs) r (λ c x. a .0 c x .0) (λ c x. a .0 c x .1) es) ∙ quiet-heard u rs (a .1) es
 
-quiet-ends : (rs : List Record) → All Quiet rs → keep isAnEnd rs ≡ []
-unfolding isAnEnd
-quiet-ends [] a = refl
-quiet-ends (r ∷ rs) a = rw (no-end r (a .0)) (quiet-ends rs (a .1))
-  where
-    no-end : (r : Record) → Quiet r → isAnEnd r ≡ false
-    no-end (General c r) q = refl
-    no-end (InitResponse c r n) q = refl
-    no-end (AliveResponse c r state x t) q = refl
-    no-end (SpliceResponse c r x) q = q c x .1
-    no-end (SpliceComplete c r x flag played) q = q c x .1
-    no-end (AbortResponse c r x) q = refl
-    no-end (CueRequest c a u l) q = refl
-    no-end (ConfigResponse c r n h m) q = refl
-    no-end (ExtendedFound c x event ended played) q = refl
-    no-end (ExtendedNone c x) q = refl
-
 -- an answer to a cue call whose records are found in its bytes
 module _ (l : List ℕ) (pts seconds micros room : ℕ) where
   abbrev j : Call
@@ -147,12 +131,12 @@ module _ (l : List ℕ) (pts seconds micros room : ℕ) where
       → (es : List Entry) (on : ℕ → ℕ → ℕ) (ts : List Told) → endedReplied j (replyOf a) es on ts ≡ ts
   unfolding endedReplied othersOf newer
   ended-told (refused n) e q es on ts = refl
-  ended-told (good consumed rs) e q es on ts = rw (e, quiet-ends rs q)
+  ended-told (good consumed rs) e q es on ts = rw (e, none-told es on rs (λ c x. none-end c x rs q))
 
-  kept-told : (a : Answer) (c : ℕ) → changed c j (replyOf a) ≡ false
+  unchanged-told : (a : Answer) (c : ℕ) → changed c j (replyOf a) ≡ false
   unfolding changed changes
-  kept-told (refused n) c = refl
-  kept-told (good consumed rs) c = refl
+  unchanged-told (refused n) c = refl
+  unchanged-told (good consumed rs) c = refl
 
 -- one event more
 module _ (e : Event) where
@@ -220,7 +204,7 @@ module _ (h : List Event) (s : Splicer) (f : FromFresh h s) (l : List ℕ) (pts 
         started = λ c x. started-more e c x h 0 ∙ started-told l pts seconds micros room a found q c x (startedTold c x h 0);
         aired = airings-more e h 0 [] ∙ aired-told l pts seconds micros room a found q _ (airings h 0 []);
         ended = ended-more e h [] 0 [] [] ∙ ended-told l pts seconds micros room a found q (book h []) _ (endedTold h [] 0 [] []);
-        kept = λ c. kept-more e c h noHardware ∙ rw (kept-told l pts seconds micros room a c);
+        kept = λ c. kept-more e c h noHardware ∙ rw (unchanged-told l pts seconds micros room a c);
       }
 
   -- ## To whom, and what

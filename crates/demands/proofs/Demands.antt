@@ -185,7 +185,7 @@ pub extended-answered : (h : List Event) (s : Splicer) → FromFresh h s → (c 
     → Finds c x (recent (s .queue .lately)) (writtenBy (call (messages c l loans) s .answer))
 extended-answered h s f c l loans x a = extended-recalled c l loans x s a h f
 
--- and so, from bytes to bytes: the first of the sixteen latest ends that the answers tell with the asking connection and the number, or 121
+-- and so, from bytes to bytes: of the sixteen latest ends that the answers tell, the first with the asking connection and the number, or 121
 pub extended-told : (h : List Event) (s : Splicer) → FromFresh h s → (c : ℕ) (l : List ℕ) (loans : Loans) (x : ℕ) → Inquires c l loans x s
     → recordsIn (writtenBy (call (messages c l loans) s .answer)) ≡ answerTold c x (take mostKept (endsTold h)) ∷ []
 extended-told h s f c l loans x a = extended-of-told c x h s f l loans a

@@ -1,5 +1,5 @@
 -- 02, CR 8: what is kept is the first 16, newest first, of the ends that the answers tell.
--- Rests on Book (a session held is as its entry says) and on what is known of every splicer from fresh.
+-- Rests on Book (a session held is as its entry says), on Owners (its time on air is the history's) and on what is known of every splicer from fresh.
 use mathlib.Core.Path.{_≡_, refl, sym, ap, subst, _∙_}
 use mathlib.Core.Bool.{Bool, true, false, cond, not, _&&_, _||_}
 use mathlib.Core.List.{List, [], _∷_, _++_, map}
@@ -36,7 +36,7 @@ use Rattle.rules.proofs.Fitted.{recordsOf}
 use Rattle.rules.proofs.Always.{Wired}
 use Rattle.rules.proofs.Records.{Fits, read-back}
 use Rattle.rules.proofs.Sound.{Sound, sound-call, sound-fresh, sound-found, holding-next}
-use Rattle.demands.specs.History.{isEnd, isYes, endsOf, endResult, front, last, Event, replyOf, history, othersOf, clockReplied, Entry, entryIs, eventTold, credited, shut, bookAnswered, bookAfter, bookReplied, book}
+use Rattle.demands.specs.History.{isEnd, isYes, endsOf, endResult, front, last, Event, replyOf, history, othersOf, Entry, entryIs, eventTold, credited, shut, bookAnswered, bookAfter, bookReplied, book}
 use Rattle.demands.specs.Airing.{Airing, airedReplied, airTime}
 use Rattle.demands.specs.Told.{FromFresh}
 use Rattle.demands.specs.Lately.{Told, isAnEnd, toldIn, endsIn, timeSoFar, unshown, newer, endedReplied, endedTold, endsTold, ofNumber, endedOnce, As, KeptAs}
@@ -46,7 +46,7 @@ use Rattle.demands.proofs.Waiting.{front-last, last-last}
 use Rattle.demands.proofs.Heard.{bookAnswer, sound-fits, book-answer}
 use Rattle.demands.proofs.Book.{Settled, Owed, Dated, Booked, asked-entry, call-booked, booked-fresh}
 use Rattle.demands.proofs.Once.{book-told, call-clock, fresh-clock}
-use Rattle.demands.proofs.Owned.{airing, time-waiting}
+use Rattle.demands.proofs.Owned.{time-waiting}
 use Rattle.demands.proofs.Owned
 use Rattle.demands.proofs.Owners.{airedAnswer, Kept, start, call-owned, aired-answer, owned-fresh}
 
@@ -60,15 +60,15 @@ Matches (e ∷ es) [] = ⊥
 Matches (e ∷ es) (t ∷ ts) = (As e t × (isKept e ≡ true)) × Matches es ts
 
 -- KeptAs, and no place that an end is told of is unused
-abbrev pub Stands : List Past → List Told → Type 0
-Stands [] l = Unit {0}
-Stands (e ∷ es) [] = (e ≡ unused) × Stands es []
-Stands (e ∷ es) (t ∷ l) = (As e t × (isKept e ≡ true)) × Stands es l
+abbrev pub KeptWhole : List Past → List Told → Type 0
+KeptWhole [] l = Unit {0}
+KeptWhole (e ∷ es) [] = (e ≡ unused) × KeptWhole es []
+KeptWhole (e ∷ es) (t ∷ l) = (As e t × (isKept e ≡ true)) × KeptWhole es l
 
-stands-kept : (es : List Past) (l : List Told) → Stands es l → KeptAs es l
-stands-kept [] l h = tt
-stands-kept (e ∷ es) [] h = (h .0, stands-kept es [] (h .1))
-stands-kept (e ∷ es) (t ∷ l) h = (h .0 .0, stands-kept es l (h .1))
+whole-kept : (es : List Past) (l : List Told) → KeptWhole es l → KeptAs es l
+whole-kept [] l h = tt
+whole-kept (e ∷ es) [] h = (h .0, whole-kept es [] (h .1))
+whole-kept (e ∷ es) (t ∷ l) h = (h .0 .0, whole-kept es l (h .1))
 
 matches-append : (a b : List Past) (s t : List Told) → Matches a s → Matches b t → Matches (a ++ b) (s ++ t)
 matches-append [] b [] t f g = g
@@ -76,7 +76,7 @@ matches-append [] b (x ∷ s) t f g = absurd f
 matches-append (e ∷ a) b [] t f g = absurd f
 matches-append (e ∷ a) b (x ∷ s) t f g = (f .0, matches-append a b s t (f .1) g)
 
-kept-take : (n : ℕ) (es : List Past) (l : List Told) → Stands es l → Stands (take n es) l
+kept-take : (n : ℕ) (es : List Past) (l : List Told) → KeptWhole es l → KeptWhole (take n es) l
 kept-take zero es l h = tt
 kept-take (suc n) [] l h = tt
 kept-take (suc n) (e ∷ es) [] h = (h .0, kept-take n es [] (h .1))
@@ -90,10 +90,10 @@ fit-next : (e : Past) (l : Lately) → Fit l → Fit (remembered e l)
 unfolding remembered
 fit-next e l f = (length-set (l .places) (l .next) e ∙ f .0, omega arith)
 
-kept-next : (e : Past) (t : Told) (l : Lately) (ts : List Told) → Fit l → As e t × (isKept e ≡ true) → Stands (recent l) ts → Stands (recent (remembered e l)) (t ∷ ts)
+kept-next : (e : Past) (t : Told) (l : Lately) (ts : List Told) → Fit l → As e t × (isKept e ≡ true) → KeptWhole (recent l) ts → KeptWhole (recent (remembered e l)) (t ∷ ts)
 kept-next e t l ts f a h = rw (recent-next e l (f .0) (f .1)) (kept-take mostKept (e ∷ recent l) (t ∷ ts) (a, h))
 
-kept-all : (es : List Past) (os : List Told) (l : Lately) (ts : List Told) → Fit l → Matches es os → Stands (recent l) ts → Stands (recent (rememberedAll es l)) (newer os ts)
+kept-all : (es : List Past) (os : List Told) (l : Lately) (ts : List Told) → Fit l → Matches es os → KeptWhole (recent l) ts → KeptWhole (recent (rememberedAll es l)) (newer os ts)
 unfolding rememberedAll newer
 kept-all [] [] l ts f m h = h
 kept-all [] (o ∷ os) l ts f m h = absurd m
@@ -219,7 +219,7 @@ module _ (es : List Entry) (on : ℕ → ℕ → ℕ) where
       (dismissed-keeps 109 (s .conn) (s .id) (u .queue) refl (fewer-all Waits (fewer-removeAt i (q .waiting)) a)))
       (λ e. keeps-none q [] refl)
 
-  -- those that have started are told so
+  -- the time on air of those that have started is told
   cancelled-keeps : (p : Session → Bool) (q : Queue) → All Waits (q .waiting) → All (λ s. Knows es on s × Airs on s) (q .started) → Keeps (q .lately) (cancelled p q)
   unfolding cancelled
   cancelled-keeps p q a k =
@@ -321,7 +321,7 @@ module _ (es : List Entry) (on : ℕ → ℕ → ℕ) where
   not-any (ExtendedFound c x event ended played) h = refl
   not-any (ExtendedNone c x) h = refl
 
-  none-told : (rs : List Record) → ((c x : ℕ) → endsOf c x rs ≡ 0) → endsIn es on rs ≡ []
+  pub none-told : (rs : List Record) → ((c x : ℕ) → endsOf c x rs ≡ 0) → endsIn es on rs ≡ []
   none-told [] h = refl
   none-told (r ∷ rs) h = rw (not-any r (λ c x. omega (arith, h c x))) (none-told rs (λ c x. omega (arith, h c x)))
 
@@ -421,7 +421,7 @@ told-next k s h es ss os w z =
     (ended-answer k a es (timeSoFar (s .clock) ss) os f i))
 
 kept-always : (ks : List Call) (s : Splicer) (es : List Entry) (ss : List Airing) (os : List Told) → All Wired ks → Sound s → Booked (s .queue) es
-    → Kept start s ss → Stands (recent (s .queue .lately)) os → Stands (recent (after ks s .queue .lately)) (endedTold (history ks s) es (s .clock) ss os)
+    → Kept start s ss → KeptWhole (recent (s .queue .lately)) os → KeptWhole (recent (after ks s .queue .lately)) (endedTold (history ks s) es (s .clock) ss os)
 unfolding after history endedTold
 kept-always [] s es ss os w h b o k = k
 kept-always (j ∷ ks) s es ss os w h b o k =
@@ -429,9 +429,9 @@ kept-always (j ∷ ks) s es ss os w h b o k =
     let d = call-keeps s es ss b h o j in
     let more = newer (endsIn es (timeSoFar (s .clock) ss) (othersBy j (n .answer))) os in
     let m = kept-all (d .gone) (endsIn es (timeSoFar (s .clock) ss) (othersBy j (n .answer))) (s .queue .lately) os (h .lately .sixteen, h .lately .next) (d .told) k in
-    subst (λ (z : List Told). Stands (recent (after ks (n .splicer) .queue .lately)) z) (sym (told-next j s (history ks (n .splicer)) es ss os (w .0) h))
+    subst (λ (z : List Told). KeptWhole (recent (after ks (n .splicer) .queue .lately)) z) (sym (told-next j s (history ks (n .splicer)) es ss os (w .0) h))
     (kept-always ks (n .splicer) (bookAnswer j (n .answer) es) (airedBy j s ss) more (w .1) (sound-call s j (w .0) h) (call-booked s es b j) (call-owned start s ss h o j)
-    (subst (λ (l : Lately). Stands (recent l) more) (sym (d .lately)) m))
+    (subst (λ (l : Lately). KeptWhole (recent l) more) (sym (d .lately)) m))
 
 -- a fresh splicer has none
 empty-at : (n i : ℕ) → getD (replicate n unused) i unused ≡ unused
@@ -439,23 +439,23 @@ empty-at zero i = refl
 empty-at (suc n) zero = refl
 empty-at (suc n) (suc i) = empty-at n i
 
-none-from : (i n : ℕ) → Stands (recentFrom i n noneEnded) []
+none-from : (i n : ℕ) → KeptWhole (recentFrom i n noneEnded) []
 unfolding recentFrom recentAt
 none-from i zero = tt
 none-from i (suc n) = (empty-at mostKept ((0 + (mostKept - 1 - i)) % mostKept), none-from (suc i) n)
 
-none-kept : (name : List ℕ) → Stands (recent (fresh name .splicer .queue .lately)) []
+none-kept : (name : List ℕ) → KeptWhole (recent (fresh name .splicer .queue .lately)) []
 unfolding fresh named recent
-none-kept name = by (λ (r : Called). Stands (recent (r .splicer .queue .lately)) []) (hasZero name) _ _ (λ e. none-from 0 mostKept) (λ e. none-from 0 mostKept)
+none-kept name = by (λ (r : Called). KeptWhole (recent (r .splicer .queue .lately)) []) (hasZero name) _ _ (λ e. none-from 0 mostKept) (λ e. none-from 0 mostKept)
 
-pub lately-stands : (h : List Event) (s : Splicer) → FromFresh h s → Stands (recent (s .queue .lately)) (endsTold h)
-lately-stands h s f =
+pub lately-whole : (h : List Event) (s : Splicer) → FromFresh h s → KeptWhole (recent (s .queue .lately)) (endsTold h)
+lately-whole h s f =
     rw (f .heard, f .same)
-    (subst (λ (n : ℕ). Stands (recent (after (f .calls) (fresh (f .name) .splicer) .queue .lately)) (endedTold (history (f .calls) (fresh (f .name) .splicer)) [] n [] [])) (fresh-clock (f .name))
+    (subst (λ (n : ℕ). KeptWhole (recent (after (f .calls) (fresh (f .name) .splicer) .queue .lately)) (endedTold (history (f .calls) (fresh (f .name) .splicer)) [] n [] [])) (fresh-clock (f .name))
     (kept-always (f .calls) (fresh (f .name) .splicer) [] [] [] (f .wired) (sound-fresh (f .name) (f .whole) (f .bytes)) (booked-fresh (f .name)) (owned-fresh (f .name)) (none-kept (f .name))))
 
 pub lately-told : (h : List Event) (s : Splicer) → FromFresh h s → KeptAs (recent (s .queue .lately)) (endsTold h)
-lately-told h s f = stands-kept (recent (s .queue .lately)) (endsTold h) (lately-stands h s f)
+lately-told h s f = whole-kept (recent (s .queue .lately)) (endsTold h) (lately-whole h s f)
 
 -- ## One for each session that has ended
 

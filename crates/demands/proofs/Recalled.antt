@@ -1,7 +1,7 @@
 -- 02, CR 8: the answer to an ExtendedData_Request, from the answer's bytes: the first of what ended lately with the connection and the number,
 -- and so of the ends that the answers told. Rests on rules' Recall, on Lately and on the bytes giving back their records.
 use mathlib.Core.Path.{_≡_, refl, sym, ap, _∙_}
-use mathlib.Core.Bool.{Bool, true, false, cond}
+use mathlib.Core.Bool.{Bool, true, false}
 use mathlib.Core.List.{List, [], _∷_}
 use Prim.Native.Nat.{ℕ, zero, suc, _+_, _<_}
 use native.Mathlib.Omega.{arith}
@@ -21,7 +21,7 @@ use Rattle.demands.specs.History.{Event}
 use Rattle.demands.specs.Told.{FromFresh, Inquires, Finds}
 use Rattle.demands.specs.Lately.{Told, ofNumber, answerTold, endsTold, As}
 use Rattle.demands.proofs.Room.{from-sound, ready-open}
-use Rattle.demands.proofs.Lately.{Stands, lately-stands}
+use Rattle.demands.proofs.Lately.{KeptWhole, lately-whole}
 
 module _ (c : ℕ) (l : List ℕ) (loans : Loans) (x : ℕ) (s : Splicer) (a : Inquires c l loans x s) where
   extended-call : call (messages c l loans) s ≡ replies (8 + messageSize l) (says (extendedResponse c x (s .queue) ∷ []) s)
@@ -78,7 +78,7 @@ recent-long i zero l = refl
 recent-long i (suc n) l = ap suc (recent-long (suc i) n l)
 
 module _ (c x : ℕ) where
-  first-told : (es : List Past) (ts : List Told) → Stands es ts → recalls c x (latest c x es) ≡ answerTold c x (take (length es) ts)
+  first-told : (es : List Past) (ts : List Told) → KeptWhole es ts → recalls c x (latest c x es) ≡ answerTold c x (take (length es) ts)
   unfolding latest place answerTold
   first-told [] ts h = refl
   first-told (e ∷ es) [] h = rw (h .0) (first-told es [] (h .1) ∙ ap (answerTold c x) (take-none (length es)))
@@ -101,4 +101,4 @@ module _ (c x : ℕ) where
   extended-of-told h s f l loans a =
       let L = recent (s .queue .lately) in
       extended-record c l loans x s a h f
-      ∙ ap (λ (y : Record). y ∷ []) (first-told L (endsTold h) (lately-stands h s f) ∙ ap (λ (n : ℕ). answerTold c x (take n (endsTold h))) (recent-long 0 mostKept (s .queue .lately)))
+      ∙ ap (λ (y : Record). y ∷ []) (first-told L (endsTold h) (lately-whole h s f) ∙ ap (λ (n : ℕ). answerTold c x (take n (endsTold h))) (recent-long 0 mostKept (s .queue .lately)))

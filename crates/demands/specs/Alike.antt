@@ -1,4 +1,4 @@
--- All that the answers of a history tell, of two of them.
+-- Of two histories: that their answers tell the same.
 use mathlib.Core.Path.{_≡_}
 use mathlib.Core.List.{List, []}
 use Prim.Native.Nat.{ℕ}

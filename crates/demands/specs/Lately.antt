@@ -42,7 +42,7 @@ endOf es c x r p = record { conn = c; id = x; event = eventTold c x es; result =
 abbrev pub timeSoFar : ℕ → List Airing → ℕ → ℕ → ℕ
 timeSoFar now ss c x = airTime now ss (newest c x ss)
 
--- a Splice_Response shows no PlayedDuration: it is that of the time on air so far, n ninths, "0 where the session's start was never written"
+-- a Splice_Response shows no PlayedDuration: it is that of the time on air so far, n ninths, "0 if never on air"
 abbrev pub unshown : ℕ → ℕ
 unshown n = toTicks (record { 0 = n }) .0
 

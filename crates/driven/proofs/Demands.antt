@@ -264,7 +264,7 @@ module _ (name : List ℕ) (h : List Made) (m : Memory) (d : ℕ) (l pm im e : L
   extended-answered =
       rw (bytes-inside (c .allowed)) (called.extended-answered name (within h) m d l pm im e (inside r) (more-inside name h m (aMessage d l pm im e) r c) x asks)
 
-  -- and so the first of the sixteen latest ends that the answers' bytes tell with that connection and number, or 121
+  -- and so, of the sixteen latest ends that the answers' bytes tell, the first with that connection and number, or 121
   pub extended-told : recordsIn (bytesOf r) ≡ answerTold d x (take mostKept (endsTold (events h))) ∷ []
   extended-told =
       rw (bytes-inside (c .allowed), trace-events name h m (c .trace))

@@ -298,7 +298,7 @@ module _ (name : List ℕ) (h : List Made) (m : Memory) (d : ℕ) (l pm im e : L
       rw (bytes-are name h m _ r c)
       (called.extended-answered name (within h) (m .core) d l pm im e (inside (seenOf r)) (known-more name h m (aMessage d l pm im e) r c) x asks)
 
-  -- and so the first of the sixteen latest ends that the answers' bytes tell with that connection and number, or 121
+  -- and so, of the sixteen latest ends that the answers' bytes tell, the first with that connection and number, or 121
   pub extended-told : recordsIn (bytesOf r) ≡ answerTold d x (take mostKept (endsTold (events h))) ∷ []
   extended-told =
       rw (bytes-are name h m _ r c)

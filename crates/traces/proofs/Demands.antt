@@ -249,7 +249,7 @@ module _ (name : List ℕ) (h : List Made) (m : Memory) (d : ℕ) (l pm im e : L
       rw (as-ruled m (aMessage d l pm im e) r (c .allowed) .bytes)
       (told.extended-answered (events h) (shown m) (trace-told name h m (c .trace)) d l (lendingMaps pm im (length e)) x asks)
 
-  -- and so the first of the sixteen latest ends that the answers' bytes tell with that connection and number, or 121
+  -- and so, of the sixteen latest ends that the answers' bytes tell, the first with that connection and number, or 121
   pub extended-told : recordsIn (bytesOf r) ≡ answerTold d x (take mostKept (endsTold (events h))) ∷ []
   extended-told =
       rw (as-ruled m (aMessage d l pm im e) r (c .allowed) .bytes)
