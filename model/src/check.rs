@@ -3,6 +3,7 @@
 
 use crate::aside::{aside, Step};
 use crate::card;
+use crate::faults::mistakes;
 use crate::people::{call_line, time_text};
 use crate::recording::{entries, is_call, End, Entry};
 use crate::records;
@@ -34,19 +35,8 @@ impl Finding {
     }
 }
 
-/// One table: each deliberate mistake of a checker and what it does.
-macro_rules! lapses {
-    ($($lapse:ident: $text:literal,)*) => {
-        #[derive(Clone, Copy, Debug, PartialEq, Eq)]
-        pub enum Lapse {
-            $($lapse,)*
-        }
-
-        pub const LAPSES: &[(Lapse, &str)] = &[$((Lapse::$lapse, $text),)*];
-    };
-}
-
-lapses! {
+// of a checker
+mistakes! { Lapse, LAPSES;
     CutCompared: "a cut record is compared",
     CutCallEndsCall: "a cut call lets nothing off",
     CutLetsOffAll: "a cut entry lets off the records of every call",

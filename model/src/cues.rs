@@ -3,6 +3,7 @@
 //!
 //! `Cueing::miscue` is none in the true program; it switches in one deliberate mistake.
 
+use crate::faults::mistakes;
 use crate::records::{Record, What};
 use crate::rules::{ninths, Splicer, MICROSECOND, NONE, ROOM, SECOND, TICK};
 use crate::section;
@@ -57,19 +58,8 @@ pub enum Comes {
     Bad,
 }
 
-/// One table: each deliberate mistake about cues and what it does.
-macro_rules! miscues {
-    ($($miscue:ident: $text:literal,)*) => {
-        #[derive(Clone, Copy, Debug, PartialEq, Eq)]
-        pub enum Miscue {
-            $($miscue,)*
-        }
-
-        pub const MISCUES: &[(Miscue, &str)] = &[$((Miscue::$miscue, $text),)*];
-    };
-}
-
-miscues! {
+// about cues
+mistakes! { Miscue, MISCUES;
     RegisterFromZero: "the CRC's register begins at 0",
     ReflectedPolynomial: "the CRC's polynomial is 0xEDB88320",
     LowestBitFirst: "the lowest bit of a byte comes first",

@@ -1,19 +1,21 @@
 //! The deliberate faults that `Splicer::fault` switches in, one at a time.
 
-/// One table: each fault's name in the code and what it does. On a command line
-/// `OnlyDirectFollower` is `only-direct-follower`.
-macro_rules! faults {
-    ($($fault:ident: $text:literal,)*) => {
+// One table of deliberate mistakes: each by its name in the code, and what it does.
+macro_rules! mistakes {
+    ($kind:ident, $all:ident; $($one:ident: $text:literal,)*) => {
         #[derive(Clone, Copy, Debug, PartialEq, Eq)]
-        pub enum Fault {
-            $($fault,)*
+        pub enum $kind {
+            $($one,)*
         }
 
-        pub const FAULTS: &[(Fault, &str)] = &[$((Fault::$fault, $text),)*];
+        pub const $all: &[($kind, &str)] = &[$(($kind::$one, $text),)*];
     };
 }
 
-faults! {
+pub(crate) use mistakes;
+
+// on a command line `OnlyDirectFollower` is `only-direct-follower`
+mistakes! { Fault, FAULTS;
     LowestEndsFirst: "ends at one instant from the lowest AccessType up",
     OnlyDirectFollower: "only the direct follower ends",
     CountedAfterEviction: "114 counted after the eviction",

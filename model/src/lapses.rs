@@ -3,24 +3,12 @@
 
 use crate::card::{self, Call as Kept, Stop};
 use crate::config::{Maps, MOST_SECTION};
-use crate::faults::Fault;
+use crate::faults::{mistakes, Fault};
 use crate::recall::{self, Asked, List, Remembers, Reply, FULL, LEAST_FREE, LOG, MOST};
 use crate::records::{self, Record, What};
 use crate::rules::{ninths, Session, Splicer, State, ROOM};
 
-/// One table: each mistake and what it does.
-macro_rules! lapses {
-    ($($lapse:ident: $text:literal,)*) => {
-        #[derive(Clone, Copy, Debug, PartialEq, Eq)]
-        pub enum Lapse {
-            $($lapse,)*
-        }
-
-        pub const LAPSES: &[(Lapse, &str)] = &[$((Lapse::$lapse, $text),)*];
-    };
-}
-
-lapses! {
+mistakes! { Lapse, LAPSES;
     RefusedKept: "a refused call is kept",
     IdleTickDropped: "a good tick that writes nothing is not kept",
     PresentTickDropped: "a tick to the present time is not kept",

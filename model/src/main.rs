@@ -229,6 +229,14 @@ fn flag(args: &mut Vec<String>, word: &str) -> bool {
     place.map(|at| args.remove(at)).is_some()
 }
 
+/// What is left of the arguments: files.
+fn files(args: Vec<String>) -> Result<Vec<String>, String> {
+    match args.iter().find(|word| word.starts_with("--")) {
+        Some(word) => Err(format!("unknown word {word}")),
+        None => Ok(args),
+    }
+}
+
 fn run_recordings(args: &[String]) -> Result<bool, String> {
     let mut args = args.to_vec();
     let faults = flag(&mut args, "--faults");
@@ -239,11 +247,8 @@ fn run_recordings(args: &[String]) -> Result<bool, String> {
         out: option(&mut args, "--out")?,
         table: flag(&mut args, "--table"),
         floors: option(&mut args, "--floors")?.as_deref() != Some("off"),
-        files: args,
+        files: files(args)?,
     };
-    if let Some(word) = plan.files.iter().find(|word| word.starts_with("--")) {
-        return Err(format!("unknown word {word}"));
-    }
     if faults {
         return recordings::faults(plan.seed, plan.n);
     }
@@ -261,11 +266,8 @@ fn run_recalls(args: &[String]) -> Result<bool, String> {
         out: option(&mut args, "--out")?,
         table: flag(&mut args, "--table"),
         floors: option(&mut args, "--floors")?.as_deref() != Some("off"),
-        files: args,
+        files: files(args)?,
     };
-    if let Some(word) = plan.files.iter().find(|word| word.starts_with("--")) {
-        return Err(format!("unknown word {word}"));
-    }
     if faults {
         return recalls::faults(plan.seed, plan.n);
     }

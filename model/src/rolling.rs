@@ -3,6 +3,7 @@
 //! through the rollover."
 
 use crate::card;
+use crate::faults::mistakes;
 use crate::records::{self, Record};
 use crate::rules::{ninths, Session, Splicer, State, MICROSECOND, ROOM, SECOND, TICK};
 use crate::table::Hits;
@@ -39,19 +40,8 @@ impl Call {
     }
 }
 
-/// One table: each deliberate mistake of a rolling card and what it does.
-macro_rules! slips {
-    ($($slip:ident: $text:literal,)*) => {
-        #[derive(Clone, Copy, Debug, PartialEq, Eq)]
-        pub enum Slip {
-            $($slip,)*
-        }
-
-        pub const SLIPS: &[(Slip, &str)] = &[$((Slip::$slip, $text),)*];
-    };
-}
-
-slips! {
+// of a rolling card
+mistakes! { Slip, SLIPS;
     SmallerRefused: "a smaller reading is refused",
     SmallerStays: "a smaller reading is no step",
     Backwards: "the step is the last reading less this one",
