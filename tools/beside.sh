@@ -62,7 +62,7 @@ over_archive() {
         export CARGO_TARGET_X86_64_UNKNOWN_LINUX_GNU_RUNNER
     fi
     ran archive archive "$work/rt.log" door || return 0
-    ran rolldoor archive "$work/rolldoor.log" rolldoor || return 0
+    ran rolldoor archive "$work/rt.log" rolldoor || return 0
     ran bindings cargo test --release --offline --target $target --manifest-path bindings/Cargo.toml || :
     ran archive-of-the-bench archive "$work/rt.log" bench || return 0
     ran bindings-with-bench cargo test --release --offline --target $target --manifest-path bindings/Cargo.toml --features bench --test bench || :

@@ -1,8 +1,9 @@
 #!/bin/sh
 # edits.sh [--gate] [NAME..]: tries the further must-fail edits of the named crates, or of all, which stand in crates/NAME/more-edits so that
 # the gate does not get too long; with --gate only those that have a line '# gate', as the gate does. Each is made in a copy of its crate and
-# checked with `rt dev`, which takes the modules that it does not reach from the proved library and checks all others: some seconds each.
-# RT_JOBS crates at a time, 2 if it is not set. The last line is 'N passed, M failed'.
+# checked with `rt dev`, which takes the modules that it does not reach from the proved library and checks all others: some seconds each. So
+# that this alone refuses nothing, each job first tries a crate as it stands. RT_JOBS crates at a time, 2 if it is not set.
+# The last line is 'N passed, M failed'.
 set -eu
 . "$(dirname "$0")/words.sh"
 cd "$(dirname "$0")/.."
@@ -22,21 +23,26 @@ rm -rf "$work"
 mkdir -p "$work/taken"
 for name; do grep -l "$marked" "crates/$name/more-edits"/*.edit || :; done >"$work/list"
 edits=$(wc -l <"$work/list")
+[ "$edits" -gt 0 ] || refuse 'no edit to try'
 echo "edits: proving what they are made in (some minutes where nothing is proved yet)"
 rt check "$@" >"$work/proved" 2>&1 || { tail -n 5 "$work/proved"; echo "0 passed, $edits failed"; exit 1; }
+
+# the sources as they were proved, whatever is saved meanwhile
+cp -R crates "$work/whole"
 
 # room JOB: a repository for one job's copies, over the libraries that are proved here
 room() {
     mkdir -p "$work/$1/target"
-    cp -R crates crates.txt "$work/$1/"
+    cp -R "$work/whole" "$work/$1/crates"
+    cp crates.txt "$work/$1/"
     cp -R target/stamp "$work/$1/target/"
     ln -s "$PWD/target/rlib" "$work/$1/target/rlib"
 }
 
 # seeded NAME: the modules of the proved library, where the crate is one, and no others, for `rt dev` in this repository
 seeded() {
-    [ -d "target/rlib/$1.rlib" ] || return 0
     rm -rf "target/inc/$1"
+    [ -d "target/rlib/$1.rlib" ] || return 0
     kept=target/inc/$1/$(sed -n 's/^rattle-build //p' "target/rlib/$1.rlib/format" | tr / _)
     mkdir -p "$kept"
     cp "target/rlib/$1.rlib/toolchain/checked"/* "$kept/"
@@ -65,40 +71,63 @@ applied() {
     done <"$1"
 }
 
-# tried NAME EDIT: one edit, in this repository; a line that says what came of it
-tried() {
+# anew NAME: the crate as it stands, in this repository
+anew() {
     rm -rf "crates/$1"
-    cp -R "$here/crates/$1" crates/
-    label=$1/$(basename "$2" .edit)
-    if ! applied "$here/$2" "crates/$1"; then
-        echo "edits: $label: BAD EDIT: an old text does not stand once in its file"
-        return
-    fi
+    cp -R "$whole/$1" crates/
+}
+
+# judged NAME: 0 where the crate of this repository is proved, 1 where the prover refuses it and nothing below it, else 2
+judged() {
     seeded "$1"
     status=0
     rt dev "$1" >log 2>&1 || status=$?
-    if [ "$status" -eq 1 ] && grep -q '^logic=not-proved' log; then
-        first=$(grep -m 1 -o '^[^ ]*: error' log | sed "s,^.*/crates/$1/,,; s/: error$//")
-        echo "edits: $label: refused, as it must be${first:+ (first at $first)}"
-    elif [ "$status" -eq 0 ]; then
-        echo "edits: $label: NOT REFUSED"
-    else
+    case $status in
+    0) return 0 ;;
+    1) grep -q '^logic=not-proved' log && ! grep -q '^rt: FAILED' log && return 1 ;;
+    esac
+    return 2
+}
+
+# tried NAME EDIT: one edit, in this repository; a line that says what came of it
+tried() {
+    anew "$1"
+    label=$1/$(basename "$2" .edit)
+    if ! applied "$whole/${2#crates/}" "crates/$1"; then
+        echo "edits: $label: BAD EDIT: an old text does not stand once in its file"
+        return
+    fi
+    found=0
+    judged "$1" || found=$?
+    case $found in
+    0) echo "edits: $label: NOT REFUSED" ;;
+    1)
+        first=$(grep -m 1 -o '^[^ ]*: error' log | sed 's/: error$//')
+        [ -n "$first" ] || first=$(grep -m 1 -o '^note: [^ ]*:[0-9]*:[0-9]*:' log | sed 's/^note: //; s/:$//')
+        echo "edits: $label: refused, as it must be (first at ${first##*"/crates/$1/"})"
+        ;;
+    *)
         echo "edits: $label: BAD EDIT: it did not reach the prover"
         tail -n 3 log
-    fi
+        ;;
+    esac
 }
 
 # worked JOB NAME..: the crates that no other job has taken
 worked() {
-    here=$PWD
-    cd "$work/$1"
+    whole=$PWD/$work/whole list=$PWD/$work/list taken=$PWD/$work/taken control=
+    cd "$work/$1" || exit 1
     shift
     for name; do
-        grep -q "^crates/$name/" "$here/$work/list" || continue
-        mkdir "$here/$work/taken/$name" 2>/dev/null || continue
-        grep "^crates/$name/" "$here/$work/list" | while read -r edit; do tried "$name" "$edit"; done
-        rm -rf "crates/$name" "target/inc/$name"
-        cp -R "$here/crates/$name" crates/
+        grep -q "^crates/$name/" "$list" || continue
+        mkdir "$taken/$name" 2>/dev/null || continue
+        if [ -z "$control" ]; then
+            judged "$name" || { echo "edits: $name as it stands: REFUSED"; tail -n 3 log; return; }
+            control=$name
+        fi
+        grep "^crates/$name/" "$list" | while read -r edit; do tried "$name" "$edit"; done
+        anew "$name"
+        rm -rf "target/inc/$name"
     done
 }
 
