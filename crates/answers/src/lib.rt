@@ -95,8 +95,8 @@ fn answer_extended(m: &[u64], conn: u32, x: u32, out: &mut [u8]) -> usize
     30
 }
 
-// 02, CR 6: "the caller lends both sections .. and gets back the one on air, as part of what was lent": the very slice, by whether a session
-// has started.
+// 02, CR 6: "the caller lends both sections .. and gets back the one on air, as part of what was lent": the very slice, by whether a
+// session has started.
 pub fn map_on_air<'a>(primary: &'a [u8], insertion: &'a [u8], started: usize) -> &'a [u8]
     ensures { λ r. ⌜ r ≡ cond (eqb started 0) (primary .entry) (insertion .entry) ⌝ }
 {
@@ -113,7 +113,8 @@ fn answer_config(m: &[u64], b: &[u8], conn: u32, section: &[u8], out: &mut [u8])
     requires { ⌜ length (now section) ≤ longestSection ⌝ }
     requires { ⌜ 4096 ≤ length (now out) ⌝ }
     ensures { λ r.
-        ⌜ Says (configResponse conn (now (section .entry)) (shown (now (m .entry)) (now (b .entry)))) (now (out .entry)) r (now (out .exit)) ⌝ }
+        ⌜ Says (configResponse conn (now (section .entry)) (shown (now (m .entry)) (now (b .entry))))
+        (now (out .entry)) r (now (out .exit)) ⌝ }
 {
     let hardware = reading::structure(memory::kept(b, conn));
     writing::config_response(&mut *out, conn as u64, memory::name(b), hardware, section);
@@ -144,8 +145,8 @@ fn answer_read(
     requires { ⌜ length (now section) ≤ longestSection ⌝ }
     requires { ⌜ 4096 ≤ length (now out) ⌝ }
     ensures { λ r.
-        ⌜ Gives (answerRead conn («read» id (now (d .entry))) (now (d .entry)) (now (section .entry)) (shown (now (m .entry)) (now (b .entry))))
-        (see (now (m .entry)) .ringEnd) (now (out .entry)) r (now (m .exit)) (now (b .exit)) (now (out .exit)) ⌝ }
+        ⌜ Gives (answerRead conn («read» id (now (d .entry))) (now (d .entry)) (now (section .entry))
+        (shown (now (m .entry)) (now (b .entry)))) (see (now (m .entry)) .ringEnd) (now (out .entry)) r (now (m .exit)) (now (b .exit)) (now (out .exit)) ⌝ }
 {
     let message = reading::read(id, d);
     match message {

@@ -240,8 +240,8 @@ pub fn tick(m: &mut [u64; WORDS], b: &mut [u8], seconds: u32, micros: u32, out: 
 pub fn cue(m: &[u64; WORDS], b: &[u8], section: &[u8], at: Anchor, out: &mut [u8]) -> Answer
     requires { ⌜ Lent (now m) (now b) ⌝ }
     ensures { λ r.
-        ⌜ Makes (cueCall (now (section .entry)) (at .pts) (at .seconds) (at .micros)) (now (m .entry)) (now (b .entry)) (now (out .entry)) r
-        (now (m .entry)) (now (b .entry)) (now (out .exit)) ⌝ }
+        ⌜ Makes (cueCall (now (section .entry)) (at .pts) (at .seconds) (at .micros)) (now (m .entry)) (now (b .entry))
+        (now (out .entry)) r (now (m .entry)) (now (b .entry)) (now (out .exit)) ⌝ }
 {
     if out.len() < 4096 {
         return Answer::Refused(Refusal::NoRoom);
