@@ -146,7 +146,8 @@ fn answer_read(
     requires { ⌜ 4096 ≤ length (now out) ⌝ }
     ensures { λ r.
         ⌜ Gives (answerRead conn («read» id (now (d .entry))) (now (d .entry)) (now (section .entry))
-        (shown (now (m .entry)) (now (b .entry)))) (see (now (m .entry)) .ringEnd) (now (out .entry)) r (now (m .exit)) (now (b .exit)) (now (out .exit)) ⌝ }
+        (shown (now (m .entry)) (now (b .entry))))
+        (see (now (m .entry)) .ringEnd) (now (out .entry)) r (now (m .exit)) (now (b .exit)) (now (out .exit)) ⌝ }
 {
     let message = reading::read(id, d);
     match message {
