@@ -36,7 +36,7 @@ extern "C" {
 /* The version of struct splicer and of the archive's functions. Their names carry it, and every call below refers to such a name, so
  * a header and an archive of two versions do not link. */
 enum {
-    SPLICER_VERSION = 6
+    SPLICER_VERSION = 7
 };
 
 /* Sizes. A message is a header of 8 bytes and at most 4,088 bytes of data. A buffer of SPLICER_OUT bytes takes the records of any
@@ -222,25 +222,25 @@ SPLICER_ASSERT(SPLICER_ENDED + SPLICER_ENDED_WORDS == SPLICER_WORDS, "what ended
 /* The archive's functions, over the parts of a struct splicer. Drivers use the splicer_call_ functions below. Pointers and numbers only:
  * nothing is passed or returned by value that two compilers could pass in two ways. reply, SPLICER_REPLY words, gets the house number or
  * 0, the bytes consumed, the bytes written and the places shifted. */
-void splicer_6_fresh(const uint8_t *name, uint64_t *words, uint8_t *bytes, uint64_t *reply);
-void splicer_6_open(uint64_t *words, uint8_t *bytes, uint32_t conn, uint64_t *reply);
-void splicer_6_close(uint64_t *words, uint8_t *bytes, uint32_t conn, uint8_t *out, size_t room, uint64_t *reply);
-void splicer_6_message(uint64_t *words, uint8_t *bytes, uint32_t conn, const uint8_t *in, size_t length, const uint8_t *primary,
+void splicer_7_fresh(const uint8_t *name, uint64_t *words, uint8_t *bytes, uint64_t *reply);
+void splicer_7_open(uint64_t *words, uint8_t *bytes, uint32_t conn, uint64_t *reply);
+void splicer_7_close(uint64_t *words, uint8_t *bytes, uint32_t conn, uint8_t *out, size_t room, uint64_t *reply);
+void splicer_7_message(uint64_t *words, uint8_t *bytes, uint32_t conn, const uint8_t *in, size_t length, const uint8_t *primary,
                        size_t primary_length, const uint8_t *insertion, size_t insertion_length, uint8_t *out, size_t room,
                        uint64_t *reply);
-void splicer_6_tick(uint64_t *words, uint8_t *bytes, uint32_t seconds, uint32_t micros, uint8_t *out, size_t room, uint64_t *reply);
-void splicer_6_waiting(const uint64_t *words, const uint8_t *bytes, uint64_t *counts);
-uint64_t splicer_6_primary(const uint64_t *words, const uint8_t *bytes);
-void splicer_6_rolling_fresh(const uint8_t *name, uint64_t *words, uint8_t *bytes, uint64_t *counter, uint64_t *reply);
-void splicer_6_instant(uint64_t *words, uint8_t *bytes, uint64_t *counter, const uint32_t *given, uint8_t *out, size_t room, uint64_t *reply);
-void splicer_6_reading(uint64_t *words, uint8_t *bytes, uint64_t *counter, uint32_t reading, uint8_t *out, size_t room, uint64_t *reply);
-size_t splicer_6_read_streams(const uint8_t *in, size_t length, uint64_t *list, uint8_t *kept);
-size_t splicer_6_write_streams(const uint64_t *list, const uint8_t *kept, uint8_t *out, size_t room);
-uint64_t splicer_6_mux(const uint64_t *words, const uint8_t *bytes);
-void splicer_6_cue(const uint64_t *words, const uint8_t *bytes, const uint8_t *section, size_t length, const uint32_t *given, uint8_t *out,
+void splicer_7_tick(uint64_t *words, uint8_t *bytes, uint32_t seconds, uint32_t micros, uint8_t *out, size_t room, uint64_t *reply);
+void splicer_7_waiting(const uint64_t *words, const uint8_t *bytes, uint64_t *counts);
+uint64_t splicer_7_primary(const uint64_t *words, const uint8_t *bytes);
+void splicer_7_rolling_fresh(const uint8_t *name, uint64_t *words, uint8_t *bytes, uint64_t *counter, uint64_t *reply);
+void splicer_7_instant(uint64_t *words, uint8_t *bytes, uint64_t *counter, const uint32_t *given, uint8_t *out, size_t room, uint64_t *reply);
+void splicer_7_reading(uint64_t *words, uint8_t *bytes, uint64_t *counter, uint32_t reading, uint8_t *out, size_t room, uint64_t *reply);
+size_t splicer_7_read_streams(const uint8_t *in, size_t length, uint64_t *list, uint8_t *kept);
+size_t splicer_7_write_streams(const uint64_t *list, const uint8_t *kept, uint8_t *out, size_t room);
+uint64_t splicer_7_mux(const uint64_t *words, const uint8_t *bytes);
+void splicer_7_cue(const uint64_t *words, const uint8_t *bytes, const uint8_t *section, size_t length, const uint32_t *given, uint8_t *out,
                    size_t room, uint64_t *reply);
-size_t splicer_6_ended(const uint64_t *ended, size_t words, struct splicer_row *page, size_t rows);
-uint64_t splicer_6_map(const uint64_t *words, const uint8_t *bytes);
+size_t splicer_7_ended(const uint64_t *ended, size_t words, struct splicer_row *page, size_t rows);
+uint64_t splicer_7_map(const uint64_t *words, const uint8_t *bytes);
 
 /* The words of a reply as a struct. */
 static inline struct splicer_reply splicer_reply_of(const uint64_t *reply) {
@@ -255,21 +255,21 @@ static inline struct splicer_reply splicer_reply_of(const uint64_t *reply) {
 /* Makes a splicer, whatever s held: clock 0, all connections closed. name: 32 bytes, a zero among them (else 9). */
 static inline struct splicer_reply splicer_call_fresh(struct splicer *s, const uint8_t *name) {
     uint64_t reply[SPLICER_REPLY];
-    splicer_6_fresh(name, s->words, s->bytes, reply);
+    splicer_7_fresh(name, s->words, s->bytes, reply);
     return splicer_reply_of(reply);
 }
 
 /* A server has connected. Refused: 1, 6. */
 static inline struct splicer_reply splicer_call_open(struct splicer *s, uint32_t conn) {
     uint64_t reply[SPLICER_REPLY];
-    splicer_6_open(s->words, s->bytes, conn, reply);
+    splicer_7_open(s->words, s->bytes, conn, reply);
     return splicer_reply_of(reply);
 }
 
 /* The connection is gone. The records are not sent but logged. Refused: 1, 2, 7. */
 static inline struct splicer_reply splicer_call_close(struct splicer *s, uint32_t conn, uint8_t *out, size_t room) {
     uint64_t reply[SPLICER_REPLY];
-    splicer_6_close(s->words, s->bytes, conn, out, room, reply);
+    splicer_7_close(s->words, s->bytes, conn, out, room, reply);
     return splicer_reply_of(reply);
 }
 
@@ -278,7 +278,7 @@ static inline struct splicer_reply splicer_call_close(struct splicer *s, uint32_
 static inline struct splicer_reply splicer_call_message_maps(struct splicer *s, uint32_t conn, const uint8_t *in, size_t length,
                                                              const struct splicer_maps *maps, uint8_t *out, size_t room) {
     uint64_t reply[SPLICER_REPLY];
-    splicer_6_message(s->words, s->bytes, conn, in, length, maps->primary, maps->primary_length, maps->insertion, maps->insertion_length, out,
+    splicer_7_message(s->words, s->bytes, conn, in, length, maps->primary, maps->primary_length, maps->insertion, maps->insertion_length, out,
                       room, reply);
     return splicer_reply_of(reply);
 }
@@ -293,21 +293,21 @@ static inline struct splicer_reply splicer_call_message(struct splicer *s, uint3
 /* Brings the clock to a time and does what is due until then. Refused: 2, 8, 3. */
 static inline struct splicer_reply splicer_call_tick(struct splicer *s, uint32_t seconds, uint32_t micros, uint8_t *out, size_t room) {
     uint64_t reply[SPLICER_REPLY];
-    splicer_6_tick(s->words, s->bytes, seconds, micros, out, room, reply);
+    splicer_7_tick(s->words, s->bytes, seconds, micros, out, room, reply);
     return splicer_reply_of(reply);
 }
 
 /* How many sessions of each connection wait. It only reads, in a few instructions however many wait, and nothing is refused. */
 static inline struct splicer_waiting splicer_call_waiting(const struct splicer *s) {
     struct splicer_waiting w;
-    splicer_6_waiting(s->words, s->bytes, w.count);
+    splicer_7_waiting(s->words, s->bytes, w.count);
     return w;
 }
 
 /* The time on the primary channel, in which nothing was on air, up to the clock: in ninths of a microsecond since clock 0, so the first tick
  * adds its whole time. Of a stretch, take the difference of two reads. It only reads, and nothing is refused. */
 static inline uint64_t splicer_call_primary(const struct splicer *s) {
-    return splicer_6_primary(s->words, s->bytes);
+    return splicer_7_primary(s->words, s->bytes);
 }
 
 /* The card with a rolling counter (document 02, CR 9): docs/INTEGRATION.md says when to give the instant and how often to read. */
@@ -315,7 +315,7 @@ static inline uint64_t splicer_call_primary(const struct splicer *s) {
 /* Makes a rolling splicer, whatever r held: clock 0, all connections closed, no instant given. name as for splicer_call_fresh (else 9). */
 static inline struct splicer_reply splicer_call_rolling_fresh(struct splicer_rolling *r, const uint8_t *name) {
     uint64_t reply[SPLICER_REPLY];
-    splicer_6_rolling_fresh(name, r->core.words, r->core.bytes, r->counter, reply);
+    splicer_7_rolling_fresh(name, r->core.words, r->core.bytes, r->counter, reply);
     return splicer_reply_of(reply);
 }
 
@@ -324,7 +324,7 @@ static inline struct splicer_reply splicer_call_instant(struct splicer_rolling *
                                                         uint8_t *out, size_t room) {
     uint64_t reply[SPLICER_REPLY];
     uint32_t given[3] = {seconds, micros, reading};
-    splicer_6_instant(r->core.words, r->core.bytes, r->counter, given, out, room, reply);
+    splicer_7_instant(r->core.words, r->core.bytes, r->counter, given, out, room, reply);
     return splicer_reply_of(reply);
 }
 
@@ -332,26 +332,26 @@ static inline struct splicer_reply splicer_call_instant(struct splicer_rolling *
  * rollover, and does what is due until then. Refused: 2, 12. A refused reading is not kept. */
 static inline struct splicer_reply splicer_call_reading(struct splicer_rolling *r, uint32_t reading, uint8_t *out, size_t room) {
     uint64_t reply[SPLICER_REPLY];
-    splicer_6_reading(r->core.words, r->core.bytes, r->counter, reading, out, room, reply);
+    splicer_7_reading(r->core.words, r->core.bytes, r->counter, reading, out, room, reply);
     return splicer_reply_of(reply);
 }
 
 /* The list of a Splice_Request that names its PIDs itself. in: from PcrPID on, which is data + 18 of the request. The bytes taken, or 0 for a
  * bad one: then s stays as it was. Rows behind the last are zeroed; kept bytes behind the last stay. */
 static inline size_t splicer_call_read_streams(const uint8_t *in, size_t length, struct splicer_streams *s) {
-    return splicer_6_read_streams(in, length, (uint64_t *)(void *)s, s->kept);
+    return splicer_7_read_streams(in, length, (uint64_t *)(void *)s, s->kept);
 }
 
 /* The same written, from PcrPID on, for a bench. The bytes written, or 0 for a list that could not be read back or an output that is too
  * short: then out stays as it was. Bytes behind those written stay. */
 static inline size_t splicer_call_write_streams(const struct splicer_streams *s, uint8_t *out, size_t room) {
-    return splicer_6_write_streams((const uint64_t *)(const void *)s, s->kept, out, room);
+    return splicer_7_write_streams((const uint64_t *)(const void *)s, s->kept, out, room);
 }
 
 /* What the one on air asked of the multiplexer: 1 to 10; 5 if it asked nothing or nothing is on air. It only reads, and nothing is refused.
  * It changes with starts, ends, aborts and closes: a covered session that is on air again writes no record. */
 static inline uint32_t splicer_call_mux(const struct splicer *s) {
-    return (uint32_t)splicer_6_mux(s->words, s->bytes);
+    return (uint32_t)splicer_7_mux(s->words, s->bytes);
 }
 
 /* A section of cues (SCTE 35) from the feed, whole, and a PTS of its time base with the UTC instant that belongs to it; the PTS counts modulo
@@ -362,20 +362,20 @@ static inline struct splicer_reply splicer_call_cue(const struct splicer *s, con
                                                     uint32_t seconds, uint32_t micros, uint8_t *out, size_t room) {
     uint64_t reply[SPLICER_REPLY];
     uint32_t given[4] = {(uint32_t)(pts >> 32), (uint32_t)pts, seconds, micros};
-    splicer_6_cue(s->words, s->bytes, section, length, given, out, room, reply);
+    splicer_7_cue(s->words, s->bytes, section, length, given, out, room, reply);
     return splicer_reply_of(reply);
 }
 
 /* The last 16 sessions that ended, of all connections, from the newest down: rows[0] is the one whose end was written last. 0, or 16 if `count`
  * is not SPLICER_ROWS: then no row is written. It only reads. A close and an open drop nothing; fresh has none. */
 static inline uint32_t splicer_call_ended(const struct splicer *s, struct splicer_row *rows, size_t count) {
-    return splicer_6_ended(s->words + SPLICER_ENDED, SPLICER_ENDED_WORDS, rows, count) == SPLICER_ROWS ? SPLICER_GOOD : SPLICER_NOT_SIXTEEN;
+    return splicer_7_ended(s->words + SPLICER_ENDED, SPLICER_ENDED_WORDS, rows, count) == SPLICER_ROWS ? SPLICER_GOOD : SPLICER_NOT_SIXTEEN;
 }
 
 /* Of the lent sections the one of the feed that is on air, the pointer that was lent, and its length: the insertion's exactly when a session
  * is on air (Alive's State 2). It only reads, and nothing is refused; a section over SPLICER_MAP_SECTION is given too. */
 static inline const uint8_t *splicer_call_map(const struct splicer *s, const struct splicer_maps *maps, size_t *length) {
-    if (splicer_6_map(s->words, s->bytes) == 0) {
+    if (splicer_7_map(s->words, s->bytes) == 0) {
         *length = maps->primary_length;
         return maps->primary;
     }

@@ -45,4 +45,4 @@ short=$(call core none)
 echo "The register of C: $((($(call c crc512) - $(call c crc50)) * 100 / 462 / 8)) hundredths of an instruction a bit"
 echo "A bit of a section more, the core (copies to four connections included): $(((long - $(call core 50)) * 100 / 462 / 8)) hundredths; nobody initialised, 50 bytes: $short"
 echo
-echo "Code of splicer_6_cue, all that it takes into itself: $((0x$("$objdump" -h "$archive" | awk '$2 == ".text.splicer_6_cue" { print $3 }'))) bytes; constants of its own: $("$objdump" -h "$archive" | grep -c 'rodata.*cue' || true)"
+echo "Code of splicer_7_cue, all that it takes into itself: $((0x$("$objdump" -h "$archive" | awk '$2 == ".text.splicer_7_cue" { print $3 }'))) bytes; constants of its own: $("$objdump" -h "$archive" | grep -c 'rodata.*cue' || true)"

@@ -300,8 +300,8 @@ frames0() {
     quiet "$tools/bin/clang" --target=$target -march=x86-64 --no-default-config -no-canonical-prefixes -x ir -c -O0 target/try/door.ll \
         -o "$work/door0.o"
     "$objdump" -d --no-show-raw-insn "$work/door0.o" | framed | awk '{ print $1, $3 }' >"$work/frames0"
-    abort="door::splicer_6_message engine::message answers::answer answers::answer_read requests::answer_abort ends::end_started"
-    evict="door::splicer_6_message engine::message answers::answer answers::answer_read requests::answer_splice requests::accept requests::make_way"
+    abort="door::splicer_7_message engine::message answers::answer answers::answer_read requests::answer_abort ends::end_started"
+    evict="door::splicer_7_message engine::message answers::answer answers::answer_read requests::answer_splice requests::accept requests::make_way"
     below="ends::end_one_waiting memory::remove places::remove_at places::read_row"
     echo '| Way, at -O0 | Function | Frame | Times |'
     echo '|---|---|---|---|'

@@ -40,13 +40,13 @@ pub fn replied(call: impl FnOnce(*mut u64)) -> Result<Counts, Refusal> {
 }
 
 extern "C" {
-    #[link_name = "splicer_6_fresh"]
+    #[link_name = "splicer_7_fresh"]
     pub fn fresh(name: *const u8, words: *mut u64, bytes: *mut u8, reply: *mut u64);
 
-    #[link_name = "splicer_6_open"]
+    #[link_name = "splicer_7_open"]
     pub fn open(words: *mut u64, bytes: *mut u8, conn: u32, reply: *mut u64);
 
-    #[link_name = "splicer_6_close"]
+    #[link_name = "splicer_7_close"]
     pub fn close(
         words: *mut u64,
         bytes: *mut u8,
@@ -56,7 +56,7 @@ extern "C" {
         reply: *mut u64,
     );
 
-    #[link_name = "splicer_6_message"]
+    #[link_name = "splicer_7_message"]
     pub fn message(
         words: *mut u64,
         bytes: *mut u8,
@@ -72,7 +72,7 @@ extern "C" {
         reply: *mut u64,
     );
 
-    #[link_name = "splicer_6_tick"]
+    #[link_name = "splicer_7_tick"]
     pub fn tick(
         words: *mut u64,
         bytes: *mut u8,
@@ -83,10 +83,10 @@ extern "C" {
         reply: *mut u64,
     );
 
-    #[link_name = "splicer_6_waiting"]
+    #[link_name = "splicer_7_waiting"]
     pub fn waiting(words: *const u64, bytes: *const u8, counts: *mut u64);
 
-    #[link_name = "splicer_6_rolling_fresh"]
+    #[link_name = "splicer_7_rolling_fresh"]
     pub fn rolling_fresh(
         name: *const u8,
         words: *mut u64,
@@ -95,7 +95,7 @@ extern "C" {
         reply: *mut u64,
     );
 
-    #[link_name = "splicer_6_instant"]
+    #[link_name = "splicer_7_instant"]
     pub fn instant(
         words: *mut u64,
         bytes: *mut u8,
@@ -106,7 +106,7 @@ extern "C" {
         reply: *mut u64,
     );
 
-    #[link_name = "splicer_6_reading"]
+    #[link_name = "splicer_7_reading"]
     pub fn reading(
         words: *mut u64,
         bytes: *mut u8,
@@ -117,19 +117,19 @@ extern "C" {
         reply: *mut u64,
     );
 
-    #[link_name = "splicer_6_primary"]
+    #[link_name = "splicer_7_primary"]
     pub fn primary(words: *const u64, bytes: *const u8) -> u64;
 
-    #[link_name = "splicer_6_read_streams"]
+    #[link_name = "splicer_7_read_streams"]
     pub fn read_streams(read: *const u8, length: usize, list: *mut u64, kept: *mut u8) -> usize;
 
-    #[link_name = "splicer_6_write_streams"]
+    #[link_name = "splicer_7_write_streams"]
     pub fn write_streams(list: *const u64, kept: *const u8, out: *mut u8, room: usize) -> usize;
 
-    #[link_name = "splicer_6_mux"]
+    #[link_name = "splicer_7_mux"]
     pub fn mux(words: *const u64, bytes: *const u8) -> u64;
 
-    #[link_name = "splicer_6_cue"]
+    #[link_name = "splicer_7_cue"]
     pub fn cue(
         words: *const u64,
         bytes: *const u8,
@@ -141,9 +141,9 @@ extern "C" {
         reply: *mut u64,
     );
 
-    #[link_name = "splicer_6_ended"]
+    #[link_name = "splicer_7_ended"]
     pub fn ended(ended: *const u64, words: usize, page: *mut Row, rows: usize) -> usize;
 
-    #[link_name = "splicer_6_map"]
+    #[link_name = "splicer_7_map"]
     pub fn map(words: *const u64, bytes: *const u8) -> u64;
 }

@@ -39,7 +39,7 @@ pub use says::Says;
 pub use streams::{Stream, Streams, KEPT, STREAMS, STREAM_WORDS};
 
 /// The version of the state and of the archive's functions, whose names carry it.
-pub const VERSION: u32 = 6;
+pub const VERSION: u32 = 7;
 /// Connections of a channel: 0 to 3.
 pub const CONNECTIONS: usize = 4;
 /// Bytes of a ChannelName.

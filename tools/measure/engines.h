@@ -59,12 +59,12 @@ static uint64_t counts[ENGINES][SPLICER_CONNECTIONS];
 /* the reply goes to lent words; the others return theirs, through memory as well */
 INLINE void core_call(uint64_t *reply, const struct call *c) {
     switch (c->kind) {
-    case FRESH: splicer_6_fresh(c->in, core.words, core.bytes, reply); break;
-    case OPEN: splicer_6_open(core.words, core.bytes, c->conn, reply); break;
-    case CLOSE: splicer_6_close(core.words, core.bytes, c->conn, outs[CORE], c->room, reply); break;
-    case MESSAGE: splicer_6_message(core.words, core.bytes, c->conn, c->in, c->length, c->in, 0, c->in, 0, outs[CORE], c->room, reply); break;
-    case TICK: splicer_6_tick(core.words, core.bytes, c->seconds, c->micros, outs[CORE], c->room, reply); break;
-    case WAITING: splicer_6_waiting(core.words, core.bytes, counts[CORE]); /* fall through: no reply */
+    case FRESH: splicer_7_fresh(c->in, core.words, core.bytes, reply); break;
+    case OPEN: splicer_7_open(core.words, core.bytes, c->conn, reply); break;
+    case CLOSE: splicer_7_close(core.words, core.bytes, c->conn, outs[CORE], c->room, reply); break;
+    case MESSAGE: splicer_7_message(core.words, core.bytes, c->conn, c->in, c->length, c->in, 0, c->in, 0, outs[CORE], c->room, reply); break;
+    case TICK: splicer_7_tick(core.words, core.bytes, c->seconds, c->micros, outs[CORE], c->room, reply); break;
+    case WAITING: splicer_7_waiting(core.words, core.bytes, counts[CORE]); /* fall through: no reply */
     default: reply[0] = reply[1] = reply[2] = reply[3] = 0; break;
     }
 }

@@ -25,19 +25,19 @@ use Rattle.streams.specs.Rows.{ReadsList, WritesList}
 use Rattle.rows.specs.Rows.{Pages}
 use Rattle.engine.proofs.Held.{kind, Holds, Same, both, number-held, bytes-held}
 use Rattle.door.specs.Door.{Replies, anOpen, aClose, aMessage, aTick, aCue, Typed, Seen, Allowed}
-use Rattle.door.proofs.«splicer_6_fresh» as fresh
-use Rattle.door.proofs.«splicer_6_open» as opening
-use Rattle.door.proofs.«splicer_6_close» as close
-use Rattle.door.proofs.«splicer_6_message» as message
-use Rattle.door.proofs.«splicer_6_tick» as tick
-use Rattle.door.proofs.«splicer_6_cue» as cue
-use Rattle.door.proofs.«splicer_6_waiting» as waiting
-use Rattle.door.proofs.«splicer_6_primary» as primary
-use Rattle.door.proofs.«splicer_6_mux» as mux
-use Rattle.door.proofs.«splicer_6_ended» as page
-use Rattle.door.proofs.«splicer_6_map» as mapping
-use Rattle.door.proofs.«splicer_6_read_streams» as reads
-use Rattle.door.proofs.«splicer_6_write_streams» as writes
+use Rattle.door.proofs.«splicer_7_fresh» as fresh
+use Rattle.door.proofs.«splicer_7_open» as opening
+use Rattle.door.proofs.«splicer_7_close» as close
+use Rattle.door.proofs.«splicer_7_message» as message
+use Rattle.door.proofs.«splicer_7_tick» as tick
+use Rattle.door.proofs.«splicer_7_cue» as cue
+use Rattle.door.proofs.«splicer_7_waiting» as waiting
+use Rattle.door.proofs.«splicer_7_primary» as primary
+use Rattle.door.proofs.«splicer_7_mux» as mux
+use Rattle.door.proofs.«splicer_7_ended» as page
+use Rattle.door.proofs.«splicer_7_map» as mapping
+use Rattle.door.proofs.«splicer_7_read_streams» as reads
+use Rattle.door.proofs.«splicer_7_write_streams» as writes
 
 -- what C sees
 abbrev ended : (r m b o : List ℕ) → Seen
@@ -49,7 +49,7 @@ module _ {M : Type 1} (𝓤 : URA M) (H : Heap 𝓤) (A : Atoms 𝓤) (mem : sto
 
   open Connectives 𝓛 using (⌜_⌝, ⊤ₛ)
 
-  -- splicer_6_fresh(name, words, bytes, reply)
+  -- splicer_7_fresh(name, words, bytes, reply)
   module _ (κs : Lfts 4) (a : Args fresh.signature κs) (r : Res fresh.signature κs) (z : AtExit fresh.ended κs) where
     pub fresh-requires : fresh.clauses 𝓤 H A mem run κs a .requires tt ≡ ⊤ₛ
     fresh-requires = refl
@@ -58,7 +58,7 @@ module _ {M : Type 1} (𝓤 : URA M) (H : Heap 𝓤) (A : Atoms 𝓤) (mem : sto
         ≡ ⌜ Replies (rules.fresh (now (a .0))) 0 [] (now (z .1 .1 .1 .0)) (now (z .1 .0)) (now (z .1 .1 .0)) [] ⌝
     fresh-ensures = refl
 
-  -- splicer_6_open(words, bytes, conn, reply)
+  -- splicer_7_open(words, bytes, conn, reply)
   module _ (κs : Lfts 3) (a : Args opening.signature κs) (r : Res opening.signature κs) (z : AtExit opening.ended κs) where
     pub open-requires : opening.clauses 𝓤 H A mem run κs a .requires tt ≡ ⌜ Lent (now (a .0)) (now (a .1 .0)) ⌝
     open-requires = refl
@@ -69,7 +69,7 @@ module _ {M : Type 1} (𝓤 : URA M) (H : Heap 𝓤) (A : Atoms 𝓤) (mem : sto
     unfolding call
     open-ensures = refl
 
-  -- splicer_6_close(words, bytes, conn, out, reply)
+  -- splicer_7_close(words, bytes, conn, out, reply)
   module _ (κs : Lfts 4) (a : Args close.signature κs) (r : Res close.signature κs) (z : AtExit close.ended κs) where
     pub close-requires : close.clauses 𝓤 H A mem run κs a .requires tt ≡ ⌜ Lent (now (a .0)) (now (a .1 .0)) ⌝
     close-requires = refl
@@ -80,7 +80,7 @@ module _ {M : Type 1} (𝓤 : URA M) (H : Heap 𝓤) (A : Atoms 𝓤) (mem : sto
     unfolding call
     close-ensures = refl
 
-  -- splicer_6_message(words, bytes, conn, l, primary, insertion, out, reply)
+  -- splicer_7_message(words, bytes, conn, l, primary, insertion, out, reply)
   module _ (κs : Lfts 6) (a : Args message.signature κs) (r : Res message.signature κs) (z : AtExit message.ended κs) where
     pub message-requires : message.clauses 𝓤 H A mem run κs a .requires tt ≡ ⌜ Lent (now (a .0)) (now (a .1 .0)) ⌝
     message-requires = refl
@@ -91,7 +91,7 @@ module _ {M : Type 1} (𝓤 : URA M) (H : Heap 𝓤) (A : Atoms 𝓤) (mem : sto
     unfolding call
     message-ensures = refl
 
-  -- splicer_6_tick(words, bytes, seconds, micros, out, reply)
+  -- splicer_7_tick(words, bytes, seconds, micros, out, reply)
   module _ (κs : Lfts 4) (a : Args tick.signature κs) (r : Res tick.signature κs) (z : AtExit tick.ended κs) where
     pub tick-requires : tick.clauses 𝓤 H A mem run κs a .requires tt ≡ ⌜ Lent (now (a .0)) (now (a .1 .0)) ⌝
     tick-requires = refl
@@ -102,7 +102,7 @@ module _ {M : Type 1} (𝓤 : URA M) (H : Heap 𝓤) (A : Atoms 𝓤) (mem : sto
     unfolding call
     tick-ensures = refl
 
-  -- splicer_6_cue(words, bytes, section, given, out, reply): the words and the bytes are only read
+  -- splicer_7_cue(words, bytes, section, given, out, reply): the words and the bytes are only read
   module _ (κs : Lfts 6) (a : Args cue.signature κs) (r : Res cue.signature κs) (z : AtExit cue.ended κs) where
     pub cue-requires : cue.clauses 𝓤 H A mem run κs a .requires tt ≡ ⌜ Lent (now (a .0)) (now (a .1 .0)) ⌝
     cue-requires = refl
@@ -113,7 +113,7 @@ module _ {M : Type 1} (𝓤 : URA M) (H : Heap 𝓤) (A : Atoms 𝓤) (mem : sto
     unfolding call
     cue-ensures = refl
 
-  -- splicer_6_waiting(words, bytes, counts)
+  -- splicer_7_waiting(words, bytes, counts)
   module _ (κs : Lfts 3) (a : Args waiting.signature κs) (r : Res waiting.signature κs) (z : AtExit waiting.ended κs) where
     pub waiting-requires : waiting.clauses 𝓤 H A mem run κs a .requires tt ≡ ⌜ Lent (now (a .0)) (now (a .1 .0)) ⌝
     waiting-requires = refl
@@ -122,7 +122,7 @@ module _ {M : Type 1} (𝓤 : URA M) (H : Heap 𝓤) (A : Atoms 𝓤) (mem : sto
         ≡ ⌜ Counts (now (a .0)) (now (a .1 .0)) (now (z .1 .1 .0)) ⌝
     waiting-ensures = refl
 
-  -- splicer_6_primary(words, bytes)
+  -- splicer_7_primary(words, bytes)
   module _ (κs : Lfts 2) (a : Args primary.signature κs) (r : Res primary.signature κs) (z : AtExit primary.ended κs) where
     pub primary-requires : primary.clauses 𝓤 H A mem run κs a .requires tt ≡ ⌜ Lent (now (a .0)) (now (a .1 .0)) ⌝
     primary-requires = refl
@@ -130,7 +130,7 @@ module _ {M : Type 1} (𝓤 : URA M) (H : Heap 𝓤) (A : Atoms 𝓤) (mem : sto
     pub primary-ensures : primary.clauses 𝓤 H A mem run κs a .ensures tt r z ≡ ⌜ Primary (now (a .0)) (now (a .1 .0)) r ⌝
     primary-ensures = refl
 
-  -- splicer_6_mux(words, bytes)
+  -- splicer_7_mux(words, bytes)
   module _ (κs : Lfts 2) (a : Args mux.signature κs) (r : Res mux.signature κs) (z : AtExit mux.ended κs) where
     pub mux-requires : mux.clauses 𝓤 H A mem run κs a .requires tt ≡ ⌜ Lent (now (a .0)) (now (a .1 .0)) ⌝
     mux-requires = refl
@@ -138,7 +138,7 @@ module _ {M : Type 1} (𝓤 : URA M) (H : Heap 𝓤) (A : Atoms 𝓤) (mem : sto
     pub mux-ensures : mux.clauses 𝓤 H A mem run κs a .ensures tt r z ≡ ⌜ ReadsMux (now (a .0)) (now (a .1 .0)) r ⌝
     mux-ensures = refl
 
-  -- splicer_6_ended(ended, page)
+  -- splicer_7_ended(ended, page)
   module _ (κs : Lfts 2) (a : Args page.signature κs) (r : Res page.signature κs) (z : AtExit page.ended κs) where
     pub page-requires : page.clauses 𝓤 H A mem run κs a .requires tt ≡ ⊤ₛ
     page-requires = refl
@@ -146,7 +146,7 @@ module _ {M : Type 1} (𝓤 : URA M) (H : Heap 𝓤) (A : Atoms 𝓤) (mem : sto
     pub page-ensures : page.clauses 𝓤 H A mem run κs a .ensures tt r z ≡ ⌜ Pages (now (a .0)) (now (a .1 .0)) r (now (z .1 .0)) ⌝
     page-ensures = refl
 
-  -- splicer_6_map(words, bytes)
+  -- splicer_7_map(words, bytes)
   module _ (κs : Lfts 2) (a : Args mapping.signature κs) (r : Res mapping.signature κs) (z : AtExit mapping.ended κs) where
     pub mapping-requires : mapping.clauses 𝓤 H A mem run κs a .requires tt ≡ ⌜ Lent (now (a .0)) (now (a .1 .0)) ⌝
     mapping-requires = refl
@@ -154,7 +154,7 @@ module _ {M : Type 1} (𝓤 : URA M) (H : Heap 𝓤) (A : Atoms 𝓤) (mem : sto
     pub mapping-ensures : mapping.clauses 𝓤 H A mem run κs a .ensures tt r z ≡ ⌜ ReadsFeed (now (a .0)) (now (a .1 .0)) r ⌝
     mapping-ensures = refl
 
-  -- splicer_6_read_streams(l, words, kept)
+  -- splicer_7_read_streams(l, words, kept)
   module _ (κs : Lfts 3) (a : Args reads.signature κs) (r : Res reads.signature κs) (z : AtExit reads.ended κs) where
     pub reads-requires : reads.clauses 𝓤 H A mem run κs a .requires tt ≡ ⊤ₛ
     reads-requires = refl
@@ -163,7 +163,7 @@ module _ {M : Type 1} (𝓤 : URA M) (H : Heap 𝓤) (A : Atoms 𝓤) (mem : sto
         ≡ ⌜ ReadsList (now (a .0)) (now (a .1 .0)) (now (a .1 .1 .0)) r (now (z .1 .0)) (now (z .1 .1 .0)) ⌝
     reads-ensures = refl
 
-  -- splicer_6_write_streams(words, kept, out)
+  -- splicer_7_write_streams(words, kept, out)
   module _ (κs : Lfts 3) (a : Args writes.signature κs) (r : Res writes.signature κs) (z : AtExit writes.ended κs) where
     pub writes-requires : writes.clauses 𝓤 H A mem run κs a .requires tt ≡ ⊤ₛ
     writes-requires = refl

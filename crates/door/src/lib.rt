@@ -34,7 +34,7 @@ fn reply_of(a: Answer) -> [u64; 4]
 
 // Whatever stood in the words before.
 #[no_mangle]
-pub extern "C" fn splicer_6_fresh(
+pub extern "C" fn splicer_7_fresh(
     name: &[u8; 32],
     words: &mut [u64; WORDS],
     bytes: &mut [u8; BYTES],
@@ -47,7 +47,7 @@ pub extern "C" fn splicer_6_fresh(
 }
 
 #[no_mangle]
-pub extern "C" fn splicer_6_open(
+pub extern "C" fn splicer_7_open(
     words: &mut [u64; WORDS],
     bytes: &mut [u8; BYTES],
     conn: u32,
@@ -63,7 +63,7 @@ pub extern "C" fn splicer_6_open(
 }
 
 #[no_mangle]
-pub extern "C" fn splicer_6_close(
+pub extern "C" fn splicer_7_close(
     words: &mut [u64; WORDS],
     bytes: &mut [u8; BYTES],
     conn: u32,
@@ -81,7 +81,7 @@ pub extern "C" fn splicer_6_close(
 
 // l: the bytes read so far. 02, CR 6: the lent sections have one lifetime, as the function has that returns one of them.
 #[no_mangle]
-pub extern "C" fn splicer_6_message<'a>(
+pub extern "C" fn splicer_7_message<'a>(
     words: &mut [u64; WORDS],
     bytes: &mut [u8; BYTES],
     conn: u32,
@@ -110,7 +110,7 @@ pub extern "C" fn splicer_6_message<'a>(
 }
 
 #[no_mangle]
-pub extern "C" fn splicer_6_tick(
+pub extern "C" fn splicer_7_tick(
     words: &mut [u64; WORDS],
     bytes: &mut [u8; BYTES],
     seconds: u32,
@@ -129,7 +129,7 @@ pub extern "C" fn splicer_6_tick(
 
 // 02, CR 2: how many wait of each connection. It only reads, and nothing is refused.
 #[no_mangle]
-pub extern "C" fn splicer_6_waiting(
+pub extern "C" fn splicer_7_waiting(
     words: &[u64; WORDS],
     bytes: &[u8; BYTES],
     counts: &mut [u64; 4],
@@ -142,7 +142,7 @@ pub extern "C" fn splicer_6_waiting(
 
 // 02, CR 13: the ninths of a microsecond, since clock 0, in which nothing was on air. It only reads, and nothing is refused.
 #[no_mangle]
-pub extern "C" fn splicer_6_primary(words: &[u64; WORDS], bytes: &[u8; BYTES]) -> u64
+pub extern "C" fn splicer_7_primary(words: &[u64; WORDS], bytes: &[u8; BYTES]) -> u64
     requires { ⌜ Lent (now words) (now bytes) ⌝ }
     ensures { λ r. ⌜ Primary (now (words .entry)) (now (bytes .entry)) r ⌝ }
 {
@@ -153,7 +153,7 @@ pub extern "C" fn splicer_6_primary(words: &[u64; WORDS], bytes: &[u8; BYTES]) -
 // 02, CR 1: the list of a request that names its PIDs itself, from PcrPID on, into lent words and bytes. The bytes taken, or 0: then all
 // that is lent stays as it was.
 #[no_mangle]
-pub extern "C" fn splicer_6_read_streams(
+pub extern "C" fn splicer_7_read_streams(
     l: &[u8],
     words: &mut [u64; LIST],
     kept: &mut [u8; KEPT],
@@ -165,7 +165,7 @@ pub extern "C" fn splicer_6_read_streams(
 
 // The bytes written of it, from PcrPID on, or 0: then out stays as it was.
 #[no_mangle]
-pub extern "C" fn splicer_6_write_streams(
+pub extern "C" fn splicer_7_write_streams(
     words: &[u64; LIST],
     kept: &[u8; KEPT],
     out: &mut [u8],
@@ -177,7 +177,7 @@ pub extern "C" fn splicer_6_write_streams(
 
 // 02, CR 5: what the one on air asks of the multiplexer. It only reads, and nothing is refused.
 #[no_mangle]
-pub extern "C" fn splicer_6_mux(words: &[u64; WORDS], bytes: &[u8; BYTES]) -> u64
+pub extern "C" fn splicer_7_mux(words: &[u64; WORDS], bytes: &[u8; BYTES]) -> u64
     requires { ⌜ Lent (now words) (now bytes) ⌝ }
     ensures { λ r. ⌜ ReadsMux (now (words .entry)) (now (bytes .entry)) r ⌝ }
 {
@@ -199,7 +199,7 @@ fn anchor_of(given: &[u32]) -> Anchor
 // 02, CR 7: a section of cues. given: the PTS, its high 32 bits first, then Seconds and MicroSeconds of the instant that belongs to it. The
 // words and bytes are only read.
 #[no_mangle]
-pub extern "C" fn splicer_6_cue(
+pub extern "C" fn splicer_7_cue(
     words: &[u64; WORDS],
     bytes: &[u8; BYTES],
     section: &[u8],
@@ -220,7 +220,7 @@ pub extern "C" fn splicer_6_cue(
 // or, of another number, none: then every row stays as it was. Lent are the last words of the memory, in which what ended is kept. It only
 // reads them. The one function that is walked by hand: Rattle covers no lent slice of structs.
 #[no_mangle]
-pub extern "C" fn splicer_6_ended(ended: &[u64], page: &mut [Row]) -> usize
+pub extern "C" fn splicer_7_ended(ended: &[u64], page: &mut [Row]) -> usize
     ensures { λ r. ⌜ Pages (now (ended .entry)) (now (page .entry)) r (now (page .exit)) ⌝ }
 {
     let n = rows::to_fill(page.len());
@@ -236,7 +236,7 @@ pub extern "C" fn splicer_6_ended(ended: &[u64], page: &mut [Row]) -> usize
 // 02, CR 6: whose section is on air: 0 the primary's, 1 the insertion's. It only reads, and nothing is refused. C then takes its own pointer:
 // an exported function returns no reference.
 #[no_mangle]
-pub extern "C" fn splicer_6_map(words: &[u64; WORDS], bytes: &[u8; BYTES]) -> u64
+pub extern "C" fn splicer_7_map(words: &[u64; WORDS], bytes: &[u8; BYTES]) -> u64
     requires { ⌜ Lent (now words) (now bytes) ⌝ }
     ensures { λ r. ⌜ ReadsFeed (now (words .entry)) (now (bytes .entry)) r ⌝ }
 {

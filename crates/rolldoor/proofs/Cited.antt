@@ -21,9 +21,9 @@ use Rattle.rules.specs.Rolling.{rollingFresh, roll}
 use Rattle.engine.proofs.Held.{kind, Holds, Same, number-held}
 use Rattle.rolling.specs.LentRolling.{LentRolling}
 use Rattle.rolldoor.specs.RollDoor.{RollReplies, anInstant, aReading, RollTyped, RollSeen, RollAllowed}
-use Rattle.rolldoor.proofs.«splicer_6_rolling_fresh» as fresh
-use Rattle.rolldoor.proofs.«splicer_6_instant» as instant
-use Rattle.rolldoor.proofs.«splicer_6_reading» as reading
+use Rattle.rolldoor.proofs.«splicer_7_rolling_fresh» as fresh
+use Rattle.rolldoor.proofs.«splicer_7_instant» as instant
+use Rattle.rolldoor.proofs.«splicer_7_reading» as reading
 
 -- what C sees
 abbrev ended : (r m b k o : List ℕ) → RollSeen
@@ -35,7 +35,7 @@ module _ {M : Type 1} (𝓤 : URA M) (H : Heap 𝓤) (A : Atoms 𝓤) (mem : sto
 
   open Connectives 𝓛 using (⌜_⌝, ⊤ₛ)
 
-  -- splicer_6_rolling_fresh(name, words, bytes, counter, reply)
+  -- splicer_7_rolling_fresh(name, words, bytes, counter, reply)
   module _ (κs : Lfts 5) (a : Args fresh.signature κs) (r : Res fresh.signature κs) (z : AtExit fresh.ended κs) where
     pub fresh-requires : fresh.clauses 𝓤 H A mem run κs a .requires tt ≡ ⊤ₛ
     fresh-requires = refl
@@ -44,7 +44,7 @@ module _ {M : Type 1} (𝓤 : URA M) (H : Heap 𝓤) (A : Atoms 𝓤) (mem : sto
         ≡ ⌜ RollReplies (rollingFresh (now (a .0))) 0 [] (now (z .1 .1 .1 .1 .0)) (now (z .1 .0)) (now (z .1 .1 .0)) (now (z .1 .1 .1 .0)) [] ⌝
     fresh-ensures = refl
 
-  -- splicer_6_instant(words, bytes, counter, given, out, reply)
+  -- splicer_7_instant(words, bytes, counter, given, out, reply)
   module _ (κs : Lfts 6) (a : Args instant.signature κs) (r : Res instant.signature κs) (z : AtExit instant.ended κs) where
     pub instant-requires : instant.clauses 𝓤 H A mem run κs a .requires tt ≡ ⌜ LentRolling (now (a .0)) (now (a .1 .0)) (now (a .1 .1 .0)) ⌝
     instant-requires = refl
@@ -55,7 +55,7 @@ module _ {M : Type 1} (𝓤 : URA M) (H : Heap 𝓤) (A : Atoms 𝓤) (mem : sto
     unfolding roll
     instant-ensures = refl
 
-  -- splicer_6_reading(words, bytes, counter, reading, out, reply)
+  -- splicer_7_reading(words, bytes, counter, reading, out, reply)
   module _ (κs : Lfts 5) (a : Args reading.signature κs) (r : Res reading.signature κs) (z : AtExit reading.ended κs) where
     pub reading-requires : reading.clauses 𝓤 H A mem run κs a .requires tt ≡ ⌜ LentRolling (now (a .0)) (now (a .1 .0)) (now (a .1 .1 .0)) ⌝
     reading-requires = refl

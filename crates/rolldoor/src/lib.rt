@@ -29,7 +29,7 @@ fn reply_of(a: Answer) -> [u64; 4]
 // Whatever stood in the words before. The words and bytes go to the door's open, close, message and read; the counter's words stand beside
 // them.
 #[no_mangle]
-pub extern "C" fn splicer_6_rolling_fresh(
+pub extern "C" fn splicer_7_rolling_fresh(
     name: &[u8; 32],
     words: &mut [u64; WORDS],
     bytes: &mut [u8; BYTES],
@@ -46,7 +46,7 @@ pub extern "C" fn splicer_6_rolling_fresh(
 
 // given: Seconds, MicroSeconds and the counter's reading.
 #[no_mangle]
-pub extern "C" fn splicer_6_instant(
+pub extern "C" fn splicer_7_instant(
     words: &mut [u64; WORDS],
     bytes: &mut [u8; BYTES],
     counter: &mut [u64; 2],
@@ -69,7 +69,7 @@ pub extern "C" fn splicer_6_instant(
 }
 
 #[no_mangle]
-pub extern "C" fn splicer_6_reading(
+pub extern "C" fn splicer_7_reading(
     words: &mut [u64; WORDS],
     bytes: &mut [u8; BYTES],
     counter: &mut [u64; 2],

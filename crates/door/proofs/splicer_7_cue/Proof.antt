@@ -6,8 +6,8 @@ use Rattle.memory.specs.Memory.{see, shown}
 use Rattle.relay.specs.declared.Anchor.{Anchor}
 use Rattle.engine.specs.Lent.{Answers}
 use borrow.Author.Needs.{needs}
-use Rattle.door.proofs.splicer_6_cue.Statement.{statement}
-use Rattle.door.proofs.splicer_6_cue.Tie as tie
+use Rattle.door.proofs.splicer_7_cue.Statement.{statement}
+use Rattle.door.proofs.splicer_7_cue.Tie as tie
 
 anchor-of-requires : tie.Need-anchor-of-requires
 anchor-of-requires c κs = search needs

@@ -60,11 +60,11 @@ use Rattle.rows.proofs.to_fill as to-fill
 use Rattle.rows.proofs.to_fill.Symbol as to-fill-def
 use Rattle.rows.proofs.to_fill.Symbol.{name as #rows·to-fill}
 use Rattle.rows.proofs.to_fill.Met as to-fill-thm
-use Rattle.door.proofs.«splicer_6_ended».Key.{name as #door·page}
-use Rattle.door.proofs.«splicer_6_ended» as page
-use Rattle.door.proofs.«splicer_6_ended».Statement as stated
-use Rattle.door.proofs.«splicer_6_ended».Code as code
-use Rattle.door.proofs.«splicer_6_ended».Code.Mir as steps
+use Rattle.door.proofs.«splicer_7_ended».Key.{name as #door·page}
+use Rattle.door.proofs.«splicer_7_ended» as page
+use Rattle.door.proofs.«splicer_7_ended».Statement as stated
+use Rattle.door.proofs.«splicer_7_ended».Code as code
+use Rattle.door.proofs.«splicer_7_ended».Code.Mir as steps
 
 -- ## Numbers and lists
 holds : (t : Bool) → Holds t → t ≡ true
