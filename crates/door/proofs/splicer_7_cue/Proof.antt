@@ -36,6 +36,6 @@ returns c =
       reply = c .reply-of .ensures;
     }
 
-pub splicer-6-cue-spec : {M : Type 1} → statement M
-splicer-6-cue-spec =
+pub splicer-7-cue-spec : {M : Type 1} → statement M
+splicer-7-cue-spec =
     tie.close (tie.spec anchor-of-requires cue-requires reply-of-requires same-length returns)

@@ -324,9 +324,9 @@ page-meets 𝓤 H A W mem run 𝓣 known-row known-fill =
     walk-meets 𝓤 H A page.ended stayed W (goes-none-slice 𝓤 H A W 2 (0 ∷ []) tt (plain (λ _. u64)) yes, (goes-slice 𝓤 H A W 2 1 tt (plain (λ _. T.the-row)), tt)) (page.clauses 𝓤 H A mem run)
     (WpFn 𝓤 H (𝓣 .C) (𝓣 .Λ) code.function) (WpFn-mono 𝓤 H (W .laws) 𝓣 code.function) (page-walks 𝓤 H A W mem run 𝓣 known-row known-fill)
 
-pub splicer-6-ended-spec : {M : Type 1} → stated.statement M
+pub splicer-7-ended-spec : {M : Type 1} → stated.statement M
 unfolding code.routine tablesOf
-splicer-6-ended-spec 𝓤 H 𝓜 𝓖 𝓡 =
+splicer-7-ended-spec 𝓤 H 𝓜 𝓖 𝓡 =
     entered 𝓤 H (tripleOf 𝓤 H (𝓖 .A) page.signature (page.spec 𝓤 H (𝓖 .A) (𝓜 .mem) (𝓡 .run)))
     (tables 𝓤 H 𝓜 𝓡 code.env .C) (tables 𝓤 H 𝓜 𝓡 code.env .Λ) #door·page code.function (code.unfolded 𝓤 H 𝓜 𝓡)
     (page-meets 𝓤 H (𝓖 .A) (givenOf 𝓤 H 𝓜 𝓖) (𝓜 .mem) (𝓡 .run) (tablesOf 𝓤 H 𝓜 (tables 𝓤 H 𝓜 𝓡 code.env))
