@@ -7,7 +7,7 @@ use Prim.Native.Nat.{ℕ}
 use lib.Dec.{eqb}
 use lib.ListN.{length}
 use Rattle.rules.specs.declared.Refusal.{Refusal}
-use Rattle.rules.specs.declared.Refusal.the-variants.{NoConnection, NoRoom, ClockBack, Oversize, Short, AlreadyOpen, NotOpen, BadMicros, BadName, Counter, LongSection, BadSection}
+use Rattle.rules.specs.declared.Refusal.the-variants.{NoConnection, NoRoom, ClockBack, Oversize, Short, AlreadyOpen, NotOpen, BadMicros, BadName, Counter, LongSection, BadSection, NotSixteen}
 use Rattle.rules.specs.Lists.{All, put}
 use Rattle.rules.specs.State.{Splicer}
 use Rattle.rules.specs.Calls.{houseNumber, Call, call}
@@ -71,6 +71,7 @@ number-some BadName = refl
 number-some Counter = refl
 number-some BadSection = refl
 number-some LongSection = refl
+number-some NotSixteen = refl
 
 words-good : (a : Answer) → eqb (numberIn (replyOf a)) 0 ≡ isDone (asReply a)
 unfolding replyOf isDone asReply

@@ -8,7 +8,7 @@ use lib.Dec.{ltb}
 use lib.ListN.{length}
 use Rattle.rules.specs.declared.Refusal.{Refusal}
 use Rattle.rules.specs.declared.Link.the-variants.{Closed, Opened}
-use Rattle.rules.specs.declared.Refusal.the-variants.{NoConnection, NoRoom, ClockBack, Oversize, Short, AlreadyOpen, NotOpen, BadMicros, BadName, Counter, LongSection, BadSection}
+use Rattle.rules.specs.declared.Refusal.the-variants.{NoConnection, NoRoom, ClockBack, Oversize, Short, AlreadyOpen, NotOpen, BadMicros, BadName, Counter, LongSection, BadSection, NotSixteen}
 use Rattle.rules.specs.declared.Framing.the-variants.{Framed, Unframed}
 use Rattle.rules.specs.Units.{timeOf, badMicros, fromMicros}
 use Rattle.rules.specs.Bytes.{messageID, messageSize, oversize, hasZero, nameIn}
@@ -100,6 +100,7 @@ a-number BadName = omega arith
 a-number Counter = omega arith
 a-number BadSection = omega arith
 a-number LongSection = omega arith
+a-number NotSixteen = omega arith
 
 -- "name without a zero byte"; "A refused fresh gives, with number 9, the splicer of an empty name."
 pub fresh-number : (name : List ℕ) → numberOf (fresh name .answer) ≡ cond (hasZero name) 0 9

@@ -8,7 +8,7 @@ use native.Mathlib.Omega.{arith}
 use lib.Dec.{eqb}
 use lib.ListN.{take}
 use Rattle.rules.specs.declared.Refusal.{Refusal}
-use Rattle.rules.specs.declared.Refusal.the-variants.{NoConnection, NoRoom, ClockBack, Oversize, Short, AlreadyOpen, NotOpen, BadMicros, BadName, Counter, LongSection, BadSection}
+use Rattle.rules.specs.declared.Refusal.the-variants.{NoConnection, NoRoom, ClockBack, Oversize, Short, AlreadyOpen, NotOpen, BadMicros, BadName, Counter, LongSection, BadSection, NotSixteen}
 use Rattle.rules.specs.Calls as rules
 use Rattle.rules.specs.Calls.{refused, good, Called, call, houseNumber, consumedBy, writtenBy}
 use Rattle.rules.proofs.All.{at-all}
@@ -39,6 +39,7 @@ refusal-read BadName = (refl, refl)
 refusal-read Counter = (refl, refl)
 refusal-read BadSection = (refl, refl)
 refusal-read LongSection = (refl, refl)
+refusal-read NotSixteen = (refl, refl)
 
 -- of a reply that the door gives, C reads what the engine's answer has
 number-told : (a : Answer) → numberIn (replyOf a) ≡ engine.numberIn a

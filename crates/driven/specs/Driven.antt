@@ -7,7 +7,7 @@ use Prim.Native.Nat.{ℕ}
 use lib.Dec.{eqb}
 use lib.ListN.{length, getD, take}
 use Rattle.rules.specs.declared.Refusal.{Refusal}
-use Rattle.rules.specs.declared.Refusal.the-variants.{NoConnection, NoRoom, ClockBack, Oversize, Short, AlreadyOpen, NotOpen, BadMicros, BadName, Counter, LongSection, BadSection}
+use Rattle.rules.specs.declared.Refusal.the-variants.{NoConnection, NoRoom, ClockBack, Oversize, Short, AlreadyOpen, NotOpen, BadMicros, BadName, Counter, LongSection, BadSection, NotSixteen}
 use Rattle.rules.specs.Lists.{All}
 use Rattle.rules.specs.Bytes.{Byte}
 use Rattle.rules.specs.Calls as rules
@@ -90,7 +90,8 @@ bytesOf r = take (writtenIn (r .reply)) (r .buffer)
 -- the refusal that a number stands for, by the table of house numbers
 abbrev pub refusals : List Refusal
 refusals =
-    NoConnection ∷ NoRoom ∷ ClockBack ∷ Oversize ∷ Short ∷ AlreadyOpen ∷ NotOpen ∷ BadMicros ∷ BadName ∷ Counter ∷ BadSection ∷ LongSection ∷ []
+    NoConnection ∷ NoRoom ∷ ClockBack ∷ Oversize ∷ Short ∷ AlreadyOpen ∷ NotOpen ∷ BadMicros ∷ BadName ∷ Counter ∷ BadSection ∷ LongSection
+    ∷ NotSixteen ∷ []
 
 unfoldable pub refusalAmong : List Refusal → ℕ → Refusal
 refusalAmong [] n = BadName

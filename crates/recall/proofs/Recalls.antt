@@ -8,7 +8,7 @@ use native.Mathlib.Omega.{arith}
 use lib.Dec.{eqb}
 use lib.ListN.{length, take, replicate, take-append-drop}
 use Rattle.rules.specs.declared.Refusal.{Refusal}
-use Rattle.rules.specs.declared.Refusal.the-variants.{NoConnection, NoRoom, ClockBack, Oversize, Short, AlreadyOpen, NotOpen, BadMicros, BadName, Counter, LongSection, BadSection}
+use Rattle.rules.specs.declared.Refusal.the-variants.{NoConnection, NoRoom, ClockBack, Oversize, Short, AlreadyOpen, NotOpen, BadMicros, BadName, Counter, LongSection, BadSection, NotSixteen}
 use Rattle.rules.specs.Lists.{All, put}
 use Rattle.rules.specs.Bytes.{written}
 use Rattle.rules.specs.State.{Splicer}
@@ -129,6 +129,7 @@ number-other BadName = refl
 number-other Counter = refl
 number-other LongSection = refl
 number-other BadSection = refl
+number-other NotSixteen = refl
 
 told-other : (k : Call) (s : Splicer) → eqb (numberOf (toldBy (call k s) .reply)) 13 ≡ false
 unfolding toldBy replyOf numberOf

@@ -6,7 +6,7 @@ use lib.Dec.{ltb}
 use lib.ListN.{length}
 use Rattle.rules.specs.declared.Link.the-variants.{Closed, Opened}
 use Rattle.rules.specs.declared.Refusal.{Refusal}
-use Rattle.rules.specs.declared.Refusal.the-variants.{NoConnection, NoRoom, ClockBack, Oversize, Short, AlreadyOpen, NotOpen, BadMicros, BadName, Counter, LongSection, BadSection}
+use Rattle.rules.specs.declared.Refusal.the-variants.{NoConnection, NoRoom, ClockBack, Oversize, Short, AlreadyOpen, NotOpen, BadMicros, BadName, Counter, LongSection, BadSection, NotSixteen}
 use Rattle.rules.specs.declared.Framing.{Framing}
 use Rattle.rules.specs.declared.Framing.the-variants.{Framed, Unframed}
 use Rattle.rules.specs.Units.{timeOf, badMicros, fromMicros}
@@ -35,6 +35,8 @@ houseNumber Counter = 12
 houseNumber BadSection = 11
 -- 02, CR 6
 houseNumber LongSection = 10
+-- 02, CR 8: the page's alone, no call's
+houseNumber NotSixteen = 16
 
 -- "A good call returns the bytes written, and message also the bytes consumed." "A refusal returns its number, writes nothing,
 -- consumes nothing"

@@ -90,7 +90,7 @@ pub enum Link {
     Initialised,
 }
 
-// The refusals of document 01's table; `houseNumber` of specs/Calls gives each its number.
+// The refusals of document 01's table and of 02's requests; `houseNumber` of specs/Calls gives each its number.
 pub enum Refusal {
     NoConnection,
     NoRoom,
@@ -104,6 +104,7 @@ pub enum Refusal {
     Counter,
     BadSection,
     LongSection,
+    NotSixteen,
 }
 
 // The first message of what was read: its MessageID and MessageSize, or the refusal that it gets.
