@@ -6,6 +6,7 @@ use mathlib.Core.List.{List, [], _∷_, _++_, map}
 use Prim.Native.Nat.{ℕ}
 use Prim.Native.String.{String}
 use lib.ListN.{replicate}
+use Rattle.rules.specs.declared.Refusal.the-variants.{NotSixteen}
 use Rattle.rules.specs.State.{Splicer}
 use Rattle.rules.specs.Calls.{Answer, refused, good, Call, opens, closes, messages, ticks, moves, call, lending, answers, fresh, houseNumber, writtenBy, bufferAfter}
 use Rattle.cases.specs.Scenario.{hex}
@@ -134,3 +135,10 @@ nameless : named (fresh (replicate 32 0x58) .splicer) ((replicate 31 0x58 ++ (0 
     ≡ takes 0 [] ∷ takes 76 (initAnswer "0068" (replicate 32 0)) ∷ takes 76 (initAnswer "0064" (replicate 32 0)) ∷ []
 unfolding seen init initAnswer named computing
 nameless = refl
+
+-- ## The page
+
+-- 02, CR 8: "house number 16 for other than sixteen rows". No call gives it; what the page answers of how many rows is worked in rows
+not-sixteen : houseNumber NotSixteen ≡ 16
+unfolding houseNumber
+not-sixteen = refl
