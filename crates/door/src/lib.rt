@@ -216,11 +216,11 @@ pub extern "C" fn splicer_7_cue(
     *reply = reply_of(a);
 }
 
-// 02, CR 8: the driver's page: the last 16 that ended, from the newest down, into sixteen rows that the caller lends. How many it filled, all
-// or, of another number, none: then every row stays as it was. Lent are the last words of the memory, in which what ended is kept. It only
+// 02, CR 8: the driver's page: the last 16 that ended, from the newest down, into sixteen rows that the caller lends. 0, or house number 16
+// for other than sixteen rows: then every row stays as it was. Lent are the last words of the memory, in which what ended is kept. It only
 // reads them. The one function that is walked by hand: Rattle covers no lent slice of structs.
 #[no_mangle]
-pub extern "C" fn splicer_7_ended(ended: &[u64], page: &mut [Row]) -> usize
+pub extern "C" fn splicer_7_ended(ended: &[u64], page: &mut [Row]) -> u64
     ensures { λ r. ⌜ Pages (now (ended .entry)) (now (page .entry)) r (now (page .exit)) ⌝ }
 {
     let n = rows::to_fill(page.len());
@@ -230,7 +230,7 @@ pub extern "C" fn splicer_7_ended(ended: &[u64], page: &mut [Row]) -> usize
         page[i] = r;
         i += 1;
     }
-    n
+    rows::page_number(page.len())
 }
 
 // 02, CR 6: whose section is on air: 0 the primary's, 1 the insertion's. It only reads, and nothing is refused. C then takes its own pointer:

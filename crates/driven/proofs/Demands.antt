@@ -274,7 +274,7 @@ module _ (name : List ℕ) (h : List Made) (m : Memory) (t : Trace name h m) whe
   -- "For the desk's page the caller lends sixteen rows and they are filled from the newest down": whatever the page's contract allows, lent the
   -- words in which what ended is kept. That list is the one of the answers
   pub page-read : (lent : List Row) {n : ℕ} {a : List Row} → length lent ≡ rows → Pages (lateOf (m .words)) lent n a →
-      (n ≡ rows) × (a ≡ rowsOf (shown m .queue .lately))
+      (n ≡ 0) × (a ≡ rowsOf (shown m .queue .lately))
   page-read lent k p =
       let w = trace-lent name (within h) m (trace-inside name h m t) in
       (page-filled (lateOf (m .words)) lent k p .0, page-shown (m .words) (w .whole .words) (reached-sound (shown m) (w .reached) .lately) lent k p)

@@ -307,7 +307,7 @@ module _ (name : List ℕ) (h : List Made) (m : Memory) (d : ℕ) (l pm im e : L
 module _ (name : List ℕ) (h : List Made) (m : Memory) (t : Trace name h m) where
   -- "For the desk's page the caller lends sixteen rows and they are filled from the newest down"
   pub page-read : (lent : List Row) {n : ℕ} {a : List Row} → length lent ≡ rows → Pages (lateOf (m .core .words)) lent n a →
-      (n ≡ rows) × (a ≡ rowsOf (shown m .splicer .queue .lately))
+      (n ≡ 0) × (a ≡ rowsOf (shown m .splicer .queue .lately))
   page-read lent k p =
       let w = core.trace-lent name (within h) (m .core) (trace-inside name h m t) in
       (page-filled (lateOf (m .core .words)) lent k p .0, page-shown (m .core .words) (w .whole .words) (reached-sound _ (w .reached) .lately) lent k p)

@@ -10,24 +10,29 @@ use lib.ListN.{length, set, getD, length-set}
 use lib.Seq.{getD-set-same, getD-set-other, ext-getD}
 use borrow.Author.Tests.{eqb-true, eqb-false, eq-eqb, ne-eqb, le-ltb}
 use Rattle.rules.specs.declared.Past.{Past}
+use Rattle.rules.specs.declared.Refusal.the-variants.{NotSixteen}
 use Rattle.rules.specs.State.{Lately, mostKept, isKept, recentAt, recentFrom, recent}
+use Rattle.rules.specs.Calls.{houseNumber}
 use Rattle.rules.specs.Sound.{Noted}
 use Rattle.rules.proofs.Tests.{by}
 use Rattle.rows.specs.declared.Row.{Row}
-use Rattle.rows.specs.Rows.{rows, width, nextWord, words, placeOf, unusedRow, placeRow, rowAt, sixteen, filled, Pages, rowOf, rowsOf}
+use Rattle.rows.specs.Rows.{rows, width, nextWord, words, placeOf, unusedRow, placeRow, rowAt, sixteen, pageNumber, filled, Pages, rowOf, rowsOf}
 
 -- ## The promise
 
 -- "any two results it allows are proved equal", row by row
 pub page-same : (e : List ℕ) (lent : List Row) {r s : ℕ} {a b : List Row} → Pages e lent r a → Pages e lent s b → (r ≡ s) × (a ≡ b)
-page-same e lent p q = (p .count ∙ sym (q .count), p .rows ∙ sym (q .rows))
+page-same e lent p q = (p .number ∙ sym (q .number), p .rows ∙ sym (q .rows))
 
 -- "house number 16 for other than sixteen rows": none is filled
-pub page-refused : (e : List ℕ) (lent : List Row) {r : ℕ} {a : List Row} → (length lent ≡ rows → ⊥) → Pages e lent r a → (r ≡ 0) × (a ≡ lent)
-unfolding filled
+pub page-refused : (e : List ℕ) (lent : List Row) {r : ℕ} {a : List Row} → (length lent ≡ rows → ⊥) → Pages e lent r a →
+    (r ≡ houseNumber NotSixteen) × (a ≡ lent)
+unfolding filled pageNumber
 page-refused e lent n p =
-    let k : sixteen (length lent) ≡ 0 = rw (ne-eqb (length lent) rows n) in
-    (p .count ∙ k, p .rows ∙ ap (λ (m : ℕ). filled m (rowAt e) lent) k)
+    let b = ne-eqb (length lent) rows n in
+    let k : sixteen (length lent) ≡ 0 = rw b in
+    let l : pageNumber (length lent) ≡ houseNumber NotSixteen = rw b in
+    (p .number ∙ l, p .rows ∙ ap (λ (m : ℕ). filled m (rowAt e) lent) k)
 
 pub length-filled : (n : ℕ) (f : ℕ → Row) (l : List Row) → length (filled n f l) ≡ length l
 unfolding filled
@@ -47,14 +52,27 @@ filled-at (suc n) f l i d h k = go (eqb i n) refl (λ m. filled-at n f l i d m (
 
 -- of sixteen, all: each is that of its place
 pub page-filled : (e : List ℕ) (lent : List Row) {r : ℕ} {a : List Row} → length lent ≡ rows → Pages e lent r a →
-    (r ≡ rows) × (length a ≡ rows) × ((i : ℕ) → i < rows → getD a i unusedRow ≡ rowAt e i)
+    (r ≡ 0) × (length a ≡ rows) × ((i : ℕ) → i < rows → getD a i unusedRow ≡ rowAt e i)
+unfolding pageNumber
 page-filled e lent h p =
-    let k : sixteen (length lent) ≡ rows = rw (eq-eqb (length lent) rows h) in
+    let b = eq-eqb (length lent) rows h in
+    let k : sixteen (length lent) ≡ rows = rw b in
+    let l : pageNumber (length lent) ≡ 0 = rw b in
     let f = p .rows ∙ ap (λ (m : ℕ). filled m (rowAt e) lent) k in (
-      p .count ∙ k,
+      p .number ∙ l,
       ap length f ∙ length-filled rows (rowAt e) lent ∙ h,
       λ i l. ap (λ (x : List Row). getD x i unusedRow) f ∙ filled-at rows (rowAt e) lent i unusedRow l (omega arith),
     )
+
+-- the number says which of the two it was: 0 of sixteen rows alone, and of all others 16
+pub sixteen-exactly : (e : List ℕ) (lent : List Row) {r : ℕ} {a : List Row} → Pages e lent r a →
+    (r ≡ 0 → length lent ≡ rows) × (r ≡ houseNumber NotSixteen → length lent ≡ rows → ⊥)
+unfolding houseNumber
+sixteen-exactly e lent {r} p = (go (eqb (length lent) rows) refl, λ s h. omega (arith, page-filled e lent h p .0, s))
+  where
+    go : (b : Bool) → eqb (length lent) rows ≡ b → r ≡ 0 → length lent ≡ rows
+    go true t z = eqb-true (length lent) rows t
+    go false t z = absurd (omega (arith, page-refused e lent (eqb-false (length lent) rows t) p .0, z))
 
 -- ## The rows of a splicer
 

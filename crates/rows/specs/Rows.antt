@@ -6,7 +6,9 @@ use Prim.Native.Nat.{ℕ, zero, suc, _+_, _-_, _*_, _%_}
 use lib.Dec.{eqb, ltb}
 use lib.ListN.{length, set, getD}
 use Rattle.rules.specs.declared.Past.{Past}
+use Rattle.rules.specs.declared.Refusal.the-variants.{NotSixteen}
 use Rattle.rules.specs.State.{Lately, isKept, recent}
+use Rattle.rules.specs.Calls.{houseNumber}
 use Rattle.rows.specs.declared.Row.{Row}
 
 -- "the last 16 ended sessions": sixteen places of five words, and which of them is written next
@@ -53,18 +55,22 @@ placeRow e b = cond (eqb (getD e (b + 3) 0) 0) unusedRow (keptRow e b)
 unfoldable pub rowAt : List ℕ → ℕ → Row
 rowAt e i = cond (ltb (length e) words) unusedRow (placeRow e (placeOf (getD e nextWord 0) i * width))
 
--- "the caller lends sixteen rows"; "house number 16 for other than sixteen rows", of which none is filled
+-- "the caller lends sixteen rows and they are filled": of n rows, all of sixteen, of another number none
 abbrev pub sixteen : ℕ → ℕ
 sixteen n = cond (eqb n rows) rows 0
+
+-- "house number 16 for other than sixteen rows": the number that n rows get, 0 if they are filled
+unfoldable pub pageNumber : ℕ → ℕ
+pageNumber n = cond (eqb n rows) 0 (houseNumber NotSixteen)
 
 -- the first n rows are f's
 unfoldable pub filled : ℕ → (ℕ → Row) → List Row → List Row
 filled zero f l = l
 filled (suc n) f l = set (filled n f l) n (f n)
 
--- what the page promises, of the kept words e and the rows lent: how many it filled, all of sixteen or none, and the rows after
+-- what the page promises, of the kept words e and the rows lent: its number, and the rows after
 pub record Pages (e : List ℕ) (lent : List Row) (r : ℕ) (after : List Row) : Type 0 where
-  pub count : r ≡ sixteen (length lent)
+  pub number : r ≡ pageNumber (length lent)
   pub rows : after ≡ filled (sixteen (length lent)) (rowAt e) lent
 
 -- ## The rows of a splicer

@@ -3,7 +3,7 @@
 ghost use mathlib.Core.Path.{_≡_};
 ghost use Prim.Native.Nat.{_+_, _≤_, _<_};
 ghost use lib.ListN.{length};
-ghost use Rattle.rows.specs.Rows.{rows, width, unusedRow, placeRow, rowAt, sixteen};
+ghost use Rattle.rows.specs.Rows.{rows, width, unusedRow, placeRow, rowAt, sixteen, pageNumber};
 
 // How many rows the page has, and how many words the place of one that ended.
 pub const ROWS: usize = 16;
@@ -14,6 +14,9 @@ pub const WIDTH: usize = 5;
 const NEXT: usize = ROWS * WIDTH;
 
 pub const WORDS: usize = NEXT + 1;
+
+// The house number for other than sixteen rows.
+const NOT_SIXTEEN: u64 = 16;
 
 // A row has 32-bit numbers.
 const U32: u64 = 4294967296;
@@ -79,6 +82,16 @@ pub fn to_fill(n: usize) -> usize
 {
     if n == ROWS {
         return ROWS;
+    }
+    0
+}
+
+// What the page answers: 0, or the house number for other than sixteen rows.
+pub fn page_number(n: usize) -> u64
+    ensures { λ r. ⌜ r ≡ pageNumber n ⌝ }
+{
+    if n != ROWS {
+        return NOT_SIXTEEN;
     }
     0
 }

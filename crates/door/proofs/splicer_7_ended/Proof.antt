@@ -1,5 +1,5 @@
 -- The page meets its contract: a walk of its MIR, by hand. The borrow of the rows is opened once, before the loop, and closed once, after it;
--- each turn calls `row_at` and stores one row. Assumes nothing.
+-- each turn calls `row_at` and stores one row; the number is `page_number`'s. Assumes nothing.
 use mathlib.Core.Path.{_≡_, refl, sym, ap, subst, _∙_}
 use Prim.Native.Nat.{ℕ, zero, suc, _+_, _*_, _≤_, _<_, _^_}
 use native.Mathlib.Nat.{add-zero, add-suc, lt-irrefl}
@@ -49,7 +49,7 @@ use denote.Triple.Clauses.{ensured, lasts}
 use denote.Triple.Walked.{says, Stays, stay-none-slice, stay-slice, walkOf, goes-none-slice, goes-slice, Walks, ends-at, walked, walk-meets}
 use denote.Exit.{yes}
 use Rattle.rows.specs.declared.Row.{Row}
-use Rattle.rows.specs.Rows.{rowAt, sixteen, filled}
+use Rattle.rows.specs.Rows.{rowAt, sixteen, pageNumber, filled}
 use Rattle.rows.proofs.Row as T
 use Rattle.rows.proofs.Row.Laws as T′
 use Rattle.rows.proofs.row_at as row-at
@@ -60,6 +60,10 @@ use Rattle.rows.proofs.to_fill as to-fill
 use Rattle.rows.proofs.to_fill.Symbol as to-fill-def
 use Rattle.rows.proofs.to_fill.Symbol.{name as #rows·to-fill}
 use Rattle.rows.proofs.to_fill.Met as to-fill-thm
+use Rattle.rows.proofs.page_number as page-number
+use Rattle.rows.proofs.page_number.Symbol as page-number-def
+use Rattle.rows.proofs.page_number.Symbol.{name as #rows·page-number}
+use Rattle.rows.proofs.page_number.Met as page-number-thm
 use Rattle.door.proofs.«splicer_7_ended».Key.{name as #door·page}
 use Rattle.door.proofs.«splicer_7_ended» as page
 use Rattle.door.proofs.«splicer_7_ended».Statement as stated
@@ -100,6 +104,9 @@ module _ {M : Type 1} (𝓤 : URA M) (H : Heap 𝓤) (A : Atoms 𝓤) (mem : Mem
   abbrev ToFill : Contract 𝓤
   ToFill = tripleOf 𝓤 H A to-fill.signature (to-fill.spec 𝓤 H A mem run)
 
+  abbrev Number : Contract 𝓤
+  Number = tripleOf 𝓤 H A page-number.signature (page-number.spec 𝓤 H A mem run)
+
 abbrev word : Ty
 word = tyInt w64
 
@@ -112,6 +119,9 @@ lent = sliceTy (tyRef (named 1) mut (pointee (T.the-row .written)))
 module _ {M : Type 1} (𝓤 : URA M) (H : Heap 𝓤) (A : Atoms 𝓤) (W : Given 𝓤 H A) (mem : Memory → SProp 𝓤) (run : Routine → Fun 𝓤) (κe κ : Lft) (qe q : Share) (s : RefT (List ℕ)) (b o : ℕ) (γ : GName) (ys : List Row) where
   abbrev N : ℕ
   N = sixteen (length ys)
+
+  abbrev P : ℕ
+  P = pageNumber (length ys)
 
   abbrev f : ℕ → Row
   f = rowAt (now s)
@@ -143,15 +153,15 @@ module _ {M : Type 1} (𝓤 : URA M) (H : Heap 𝓤) (A : Atoms 𝓤) (W : Given
   abbrev Post : Val → SProp 𝓤
   Post = walkOf 𝓤 H A page.ended stayed (page.clauses 𝓤 H A mem run) .post (((κe, (κ, tt)), (qe, (q, tt)), tt, x, at), tt)
 
-  exits : Room T.the-row (length ys) → N < 2 ^ 64 → ent 𝓤 (⋆ 𝓤 H A (‵ (fobs γ (codedHoleys T.the-row .code (heres T.the-row (zs N)))) ∷ ‵ (fbor κ (Held T.the-row (length (zs N)) b o γ)) ∷ ‵ (flft κ q) ∷ ‵ (flft κe qe) ∷ ‵ OwnE ∷ []))
-      (Post (vint w64 N))
+  exits : Room T.the-row (length ys) → P < 2 ^ 64 → ent 𝓤 (⋆ 𝓤 H A (‵ (fobs γ (codedHoleys T.the-row .code (heres T.the-row (zs N)))) ∷ ‵ (fbor κ (Held T.the-row (length (zs N)) b o γ)) ∷ ‵ (flft κ q) ∷ ‵ (flft κe qe) ∷ ‵ OwnE ∷ []))
+      (Post (vint w64 P))
   exits room fits =
       qed W (‵ (fobs γ (codedHoleys T.the-row .code (heres T.the-row (zs N)))) ∷ ‵ (fbor κ (Held T.the-row (length (zs N)) b o γ)) ∷ ‵ (flft κ q) ∷ ‵ (flft κe qe) ∷ ‵ OwnE ∷ []) ∵
-      suffices ! _ (ends-at 𝓤 H A page.ended stayed (page.clauses 𝓤 H A mem run) W (((κe, (κ, tt)), (qe, (q, tt)), tt, x, at), tt) (vint w64 N) N (tt, (zs N, tt)) (tt, (length-filled N f ys, tt))) $ says ! (record { count = refl; rows = refl }) $
+      suffices ! _ (ends-at 𝓤 H A page.ended stayed (page.clauses 𝓤 H A mem run) W (((κe, (κ, tt)), (qe, (q, tt)), tt, x, at), tt) (vint w64 P) P (tt, (zs N, tt)) (tt, (length-filled N f ys, tt))) $ says ! (record { number = refl; rows = refl }) $
       nothing ! $ move ! (3 ∷ 0 ∷ []) $ join ! $ move ! (3 ∷ 0 ∷ []) $ join ! $ frame ! $
       fjoin ! $ pureI ! (at-slice T.the-row y (at .1 .0)) (tt, (tt, tt)) (ap (λ (m : ℕ). sliceVal (b, o) m ∷ []) (sym (length-filled N f ys)), subst (Room T.the-row) (sym (length-filled N f ys)) room) $ fjoin ! $
       nothing ! $ move ! (1 ∷ 0 ∷ []) $ fjoin ! $ move ! (1 ∷ 0 ∷ []) $ fjoin ! $ frame ! $
-      fltI ! N (2 ^ 64) fits $ feqI ! (List Val) (vint w64 N ∷ []) (vint w64 N ∷ []) refl $ done !
+      fltI ! P (2 ^ 64) fits $ feqI ! (List Val) (vint w64 P ∷ []) (vint w64 P ∷ []) refl $ done !
 
   -- the call of `to_fill`
   abbrev to-to-fill : ToFill 𝓤 H A mem run .Ghost
@@ -159,6 +169,14 @@ module _ {M : Type 1} (𝓤 : URA M) (H : Heap 𝓤) (A : Atoms 𝓤) (W : Given
 
   fill-said : (r : ℕ) → ent 𝓤 (ensured 𝓤 H A to-fill.ended (to-fill.clauses 𝓤 H A mem run) tt (length ys, tt) tt r) (fact 𝓤 (r ≡ N))
   fill-said r = exE 𝓤 _ (λ ws. snd∗ 𝓤 (sem 𝓤 H A (lasts to-fill.ended tt (length ys, tt) ws)) (fact 𝓤 (r ≡ N)))
+
+  -- the call of `page_number`
+  abbrev to-number : Number 𝓤 H A mem run .Ghost
+  to-number = ((tt, tt, tt, (length ys, tt), (vint w64 (length ys) ∷ [], tt)), tt)
+
+  number-said : (r : ℕ)
+      → ent 𝓤 (ensured 𝓤 H A page-number.ended (page-number.clauses 𝓤 H A mem run) tt (length ys, tt) tt r) (fact 𝓤 (r ≡ P))
+  number-said r = exE 𝓤 _ (λ ws. snd∗ 𝓤 (sem 𝓤 H A (lasts page-number.ended tt (length ys, tt) ws)) (fact 𝓤 (r ≡ P)))
 
   -- the call of `row_at`
   abbrev to-row : ℕ → RowAt 𝓤 H A mem run .Ghost
@@ -177,7 +195,9 @@ module _ {M : Type 1} (𝓤 : URA M) (H : Heap 𝓤) (A : Atoms 𝓤) (W : Given
   row-said : (i : ℕ) (r : Row) → ent 𝓤 (ensured 𝓤 H A row-at.ended (row-at.clauses 𝓤 H A mem run) (κe, tt) (s, (i, tt)) tt r) (fact 𝓤 (r ≡ f i))
   row-said i r = exE 𝓤 _ (λ ws. snd∗ 𝓤 (sem 𝓤 H A (lasts row-at.ended (κe, tt) (s, (i, tt)) ws)) (fact 𝓤 (r ≡ f i)))
 
-  module _ (𝓣 : Tables 𝓤 H) (known-row : Triple 𝓤 (𝓣 .C #rows·row-at) (RowAt 𝓤 H A mem run)) (room : Room T.the-row (length ys)) (l₀ l₁ l₂ l₃ l₄ l₅ l₆ l₇ l₈ l₉ : ℕ) where
+  module _ (𝓣 : Tables 𝓤 H) (known-row : Triple 𝓤 (𝓣 .C #rows·row-at) (RowAt 𝓤 H A mem run))
+      (known-number : Triple 𝓤 (𝓣 .C #rows·page-number) (Number 𝓤 H A mem run))
+      (room : Room T.the-row (length ys)) (l₀ l₁ l₂ l₃ l₄ l₅ l₆ l₇ l₈ l₉ : ℕ) where
     abbrev C : Calls 𝓤 H
     C = 𝓣 .C
 
@@ -255,16 +275,29 @@ module _ {M : Type 1} (𝓤 : URA M) (H : Heap 𝓤) (A : Atoms 𝓤) (W : Given
         assigns ! (bin ! (load ! (from ! (stop !)) (look ! 1 refl)) (load ! (from ! (stop !)) (look ! 10 refl)) tt) (from ! (stop !)) (init ! 3 refl (tt, tt)) $
         rewrite ! 3 (λ (t : Bool). ‵ (fat fullShare tyBool l₇ 0 (vbool t))) (fails (ltb N N) (λ a. lt-irrefl N (ltb→lt N N a))) refl $
         leaves-loop ! (load ! (from ! (stop !)) (look ! 3 refl)) $ exec ! C Λ En steps.t-5 (atRet En Post) $
-        assigns ! (of-opd ! (load ! (from ! (stop !)) (look ! 10 refl))) (from ! (stop !)) (init ! 11 refl (tt, record { fits = fits })) $
+        -- the number
+        assigns ! (of-opd ! (load ! (from ! (fld ! refl (stop !))) (look-in ! 9 (sub ! 1 refl (whole !))))) (from ! (stop !))
+        (init ! 12 refl (tt, record { fits = room .0 })) $
+        nothing ! $ owned ! usize (Is usize) (uint-makes 𝓤 H A W w64) (length ys) _ (refl, room .0) $ fjoin ! $ nothing ! $
+        use2 W (raw (Number 𝓤 H A mem run .pre to-number))
+        (qed W (‵ ftrue ∷ ‵ (owns (usize ∷ []) (length ys, tt) (vint w64 (length ys) ∷ [], tt)) ∷ []) ∵ join ! $ frame ! $ done !) $
+        calls-at ! fm (Number 𝓤 H A mem run) known-number to-number
+        (and-then ! (load ! (from ! (stop !)) (look ! 13 refl)) (no-more !)) (λ u.
+        use1 W (later (some (λ (r : ℕ).
+        (‵ ftrue ⊛ ‵ (u64 .own r (u ∷ [])))
+        ⊛ raw (ensured 𝓤 H A page-number.ended (page-number.clauses 𝓤 H A mem run) tt (length ys, tt) tt r))))
+        (id⊢ 𝓤 _) $ await ! tt $ pick ! (λ r.
+        split ! $ move ! (1 ∷ []) $ use1 W (raw (fact 𝓤 (r ≡ P))) (number-said r) $ heard ! (r ≡ P) (λ e. split ! $ drop ! $
+        peeks ! u64 (Is u64) (shows 𝓤 H A u64) r (u ∷ []) (λ is.
+        land ! (from ! (stop !)) (init ! 12 refl (uint-lawful 𝓤 H A W w64 .typed r _ is .0)) $
+        rewrite ! 12 (λ (v : Val). ‵ (fat fullShare word l₀ 0 v)) (ap only (is .0) ∙ ap (vint w64) e) refl $ drop ! $
         move ! (0 ∷ 13 ∷ 14 ∷ 15 ∷ []) $ closes-slice ! tt T.the-row ys (zs N) (length-filled N f ys) b o $
         -- [obs; the borrow; the token; _4; room for _5; _7; …; the token of e; what e owns; _1; _2; _3; _0; room for _6; and that each local dies]
-        returns ! (look ! 13 refl) $ forget ! 3 refl $ forget ! 5 refl $ forget ! 10 refl $ forget ! 11 refl $ forget ! 12 refl $ forget ! 13 refl $
+        returns ! (look ! 13 refl) $ forget ! 3 refl $ forget ! 5 refl $ forget ! 10 refl $ forget ! 11 refl $
+        forget ! 12 refl $ forget ! 13 refl $ forget ! 14 refl $
         move ! (13 ∷ 15 ∷ []) $ free1 ! $ move ! (10 ∷ 14 ∷ []) $ free1 ! $ move ! (10 ∷ 13 ∷ []) $ free1 ! $ move ! (10 ∷ 12 ∷ []) $ free1 ! $ move ! (3 ∷ 11 ∷ []) $ free1 ! $ move ! (3 ∷ 10 ∷ []) $ free1 ! $
         move ! (8 ∷ 9 ∷ []) $ free1 ! $ move ! (3 ∷ 8 ∷ []) $ free1 ! $ move ! (3 ∷ 7 ∷ []) $ free1 ! $ move ! (3 ∷ 6 ∷ []) $ free1 ! $ free0 ! $
-        keep ! (0 ∷ 1 ∷ 2 ∷ 3 ∷ 4 ∷ []) $ by ! (exits room fits)
-      where
-        fits : N < 2 ^ 64
-        fits = omega (arith, few (length ys) .0)
+        keep ! (0 ∷ 1 ∷ 2 ∷ 3 ∷ 4 ∷ []) $ by ! (exits room (subst (λ (k : ℕ). k < 2 ^ 64) e (is .1)))))))
 
     below : (t i : ℕ) → t + suc i ≡ N → ent 𝓤 (⋆ 𝓤 H A (At (suc i))) (Below (suc t))
     below t i e =
@@ -286,10 +319,11 @@ module _ {M : Type 1} (𝓤 : URA M) (H : Heap 𝓤) (A : Atoms 𝓤) (W : Given
         (loop-rule 𝓤 H (W .laws) 𝓣 _<_ (Nat·lt-wfRel .wf) En steps.turn-1 Left Inv turns N)
 
   walk : (𝓣 : Tables 𝓤 H) → Triple 𝓤 (𝓣 .C #rows·row-at) (RowAt 𝓤 H A mem run) → Triple 𝓤 (𝓣 .C #rows·to-fill) (ToFill 𝓤 H A mem run)
+      → Triple 𝓤 (𝓣 .C #rows·page-number) (Number 𝓤 H A mem run)
       → Is (ShrSlice (named 0) κe u64) s (sv ∷ []) → Room T.the-row (length ys)
       → ent 𝓤 (onEntry 𝓤 H A page.signature (κe, (κ, tt)) (qe, (q, tt)) x at) (WpFn 𝓤 H (𝓣 .C) (𝓣 .Λ) code.function (sv ∷ rv ∷ []) Post)
   unfolding filled
-  walk 𝓣 known-row known-fill p room =
+  walk 𝓣 known-row known-fill known-number p room =
       qed W ((‵ (flft κe qe) ⊛ (‵ (flft κ q) ⊛ ‵ ftrue)) ∷ ‵ (owns (ShrSlice (named 0) κe u64 ∷ MutSlice (named 1) κ T.the-row ∷ []) x at) ∷ []) ∵ enter ! (𝓣 .C) (𝓣 .Λ) code.function (sv ∷ rv ∷ []) _ $
       alloc1 ! (λ l₀. alloc1 ! (λ l₁. alloc1 ! (λ l₂. alloc1 ! (λ l₃. alloc1 ! (λ l₄. alloc1 ! (λ l₅. alloc1 ! (λ l₆. alloc1 ! (λ l₇. alloc1 ! (λ l₈. alloc1 ! (λ l₉. alloc0 ! $ params1 ! $
       pass1 ! (init ! 16 refl (shr-slice-lawful 𝓤 H A W (named 0) κe u64 .typed s (sv ∷ []) p .0)) $ pass1 ! (init ! 14 refl (tt, (tt, (record { fits = room .0 }, tt)))) $ pass0 ! $
@@ -307,22 +341,28 @@ module _ {M : Type 1} (𝓤 : URA M) (H : Heap 𝓤) (A : Atoms 𝓤) (W : Given
       move ! (21 ∷ []) $ fsplit ! $ move ! (1 ∷ []) $ fsplit ! $ fsplit ! $ move ! (1 ∷ []) $ fsplit ! $
       move ! (25 ∷ []) $ split ! $ move ! (1 ∷ []) $ split ! $ move ! (3 ∷ 4 ∷ 0 ∷ []) $
       opens-slice ! tt T.the-row ys b o $ forget ! 15 refl $
-      keep ! (0 ∷ 19 ∷ 17 ∷ 13 ∷ 11 ∷ 9 ∷ 5 ∷ 8 ∷ 25 ∷ 23 ∷ 21 ∷ 27 ∷ 15 ∷ 1 ∷ 2 ∷ 3 ∷ 28 ∷ 26 ∷ 24 ∷ 22 ∷ 20 ∷ 18 ∷ 16 ∷ 14 ∷ 12 ∷ 10 ∷ []) $ by ! (loops 𝓣 known-row room l₀ l₁ l₂ l₃ l₄ l₅ l₆ l₇ l₈ l₉)))))))))))))))
+      keep ! (0 ∷ 19 ∷ 17 ∷ 13 ∷ 11 ∷ 9 ∷ 5 ∷ 8 ∷ 25 ∷ 23 ∷ 21 ∷ 27 ∷ 15 ∷ 1 ∷ 2 ∷ 3 ∷ 28 ∷ 26 ∷ 24 ∷ 22 ∷ 20 ∷ 18 ∷ 16 ∷ 14 ∷ 12 ∷ 10 ∷ []) $
+      by ! (loops 𝓣 known-row known-number room l₀ l₁ l₂ l₃ l₄ l₅ l₆ l₇ l₈ l₉)))))))))))))))
 
 module _ {M : Type 1} (𝓤 : URA M) (H : Heap 𝓤) (A : Atoms 𝓤) (W : Given 𝓤 H A) (mem : Memory → SProp 𝓤) (run : Routine → Fun 𝓤) (𝓣 : Tables 𝓤 H) where
   page-walks : Triple 𝓤 (𝓣 .C #rows·row-at) (RowAt 𝓤 H A mem run) → Triple 𝓤 (𝓣 .C #rows·to-fill) (ToFill 𝓤 H A mem run)
+      → Triple 𝓤 (𝓣 .C #rows·page-number) (Number 𝓤 H A mem run)
       → Walks 𝓤 H A page.ended stayed (WpFn 𝓤 H (𝓣 .C) (𝓣 .Λ) code.function) (page.clauses 𝓤 H A mem run)
-  page-walks known-row known-fill = walked 𝓤 H A page.ended stayed (page.clauses 𝓤 H A mem run) (WpFn 𝓤 H (𝓣 .C) (𝓣 .Λ) code.function)
+  page-walks known-row known-fill known-number = walked 𝓤 H A page.ended stayed (page.clauses 𝓤 H A mem run)
+      (WpFn 𝓤 H (𝓣 .C) (𝓣 .Λ) code.function)
       (λ κs. (slice-vals, (slice-vals, tt))) (λ κs. (shr-slice-tells (named 0) (κs .0) u64, (mut-slice-tells (named 1) (κs .1 .0) T.the-row, tt)))
       (λ κs qs bounds a g are. via 𝓤 _ (fst∗ 𝓤 _ (emp 𝓤))
-      (walk 𝓤 H A W mem run (κs .0) (κs .1 .0) (qs .0) (qs .1 .0) (a .0) (a .1 .0 .ptr .0) (a .1 .0 .ptr .1) (a .1 .0 .name) (a .1 .0 .now) 𝓣 known-row known-fill (are .0) (are .1 .0 .0 .1)))
+      (walk 𝓤 H A W mem run (κs .0) (κs .1 .0) (qs .0) (qs .1 .0) (a .0) (a .1 .0 .ptr .0) (a .1 .0 .ptr .1) (a .1 .0 .name) (a .1 .0 .now) 𝓣
+      known-row known-fill known-number (are .0) (are .1 .0 .0 .1)))
 
 page-meets : {M : Type 1} (𝓤 : URA M) (H : Heap 𝓤) (A : Atoms 𝓤) → Given 𝓤 H A → (mem : Memory → SProp 𝓤) (run : Routine → Fun 𝓤) (𝓣 : Tables 𝓤 H)
     → Triple 𝓤 (𝓣 .C #rows·row-at) (RowAt 𝓤 H A mem run) → Triple 𝓤 (𝓣 .C #rows·to-fill) (ToFill 𝓤 H A mem run)
+    → Triple 𝓤 (𝓣 .C #rows·page-number) (Number 𝓤 H A mem run)
     → Meets 𝓤 H A page.signature (WpFn 𝓤 H (𝓣 .C) (𝓣 .Λ) code.function) (page.spec 𝓤 H A mem run)
-page-meets 𝓤 H A W mem run 𝓣 known-row known-fill =
+page-meets 𝓤 H A W mem run 𝓣 known-row known-fill known-number =
     walk-meets 𝓤 H A page.ended stayed W (goes-none-slice 𝓤 H A W 2 (0 ∷ []) tt (plain (λ _. u64)) yes, (goes-slice 𝓤 H A W 2 1 tt (plain (λ _. T.the-row)), tt)) (page.clauses 𝓤 H A mem run)
-    (WpFn 𝓤 H (𝓣 .C) (𝓣 .Λ) code.function) (WpFn-mono 𝓤 H (W .laws) 𝓣 code.function) (page-walks 𝓤 H A W mem run 𝓣 known-row known-fill)
+    (WpFn 𝓤 H (𝓣 .C) (𝓣 .Λ) code.function) (WpFn-mono 𝓤 H (W .laws) 𝓣 code.function)
+    (page-walks 𝓤 H A W mem run 𝓣 known-row known-fill known-number)
 
 pub splicer-7-ended-spec : {M : Type 1} → stated.statement M
 unfolding code.routine tablesOf
@@ -331,4 +371,7 @@ splicer-7-ended-spec 𝓤 H 𝓜 𝓖 𝓡 =
     (tables 𝓤 H 𝓜 𝓡 code.env .C) (tables 𝓤 H 𝓜 𝓡 code.env .Λ) #door·page code.function (code.unfolded 𝓤 H 𝓜 𝓡)
     (page-meets 𝓤 H (𝓖 .A) (givenOf 𝓤 H 𝓜 𝓖) (𝓜 .mem) (𝓡 .run) (tablesOf 𝓤 H 𝓜 (tables 𝓤 H 𝓜 𝓡 code.env))
     (cited 𝓤 H (RowAt 𝓤 H (𝓖 .A) (𝓜 .mem) (𝓡 .run)) 𝓜 𝓡 code.env #rows·row-at row-at-def.routine code.calls-rows·row-at (row-at-thm.met 𝓤 H 𝓜 𝓖 𝓡))
-    (cited 𝓤 H (ToFill 𝓤 H (𝓖 .A) (𝓜 .mem) (𝓡 .run)) 𝓜 𝓡 code.env #rows·to-fill to-fill-def.routine code.calls-rows·to-fill (to-fill-thm.met 𝓤 H 𝓜 𝓖 𝓡)))
+    (cited 𝓤 H (ToFill 𝓤 H (𝓖 .A) (𝓜 .mem) (𝓡 .run)) 𝓜 𝓡 code.env
+    #rows·to-fill to-fill-def.routine code.calls-rows·to-fill (to-fill-thm.met 𝓤 H 𝓜 𝓖 𝓡))
+    (cited 𝓤 H (Number 𝓤 H (𝓖 .A) (𝓜 .mem) (𝓡 .run)) 𝓜 𝓡 code.env
+    #rows·page-number page-number-def.routine code.calls-rows·page-number (page-number-thm.met 𝓤 H 𝓜 𝓖 𝓡)))
