@@ -239,7 +239,7 @@ size_t splicer_7_write_streams(const uint64_t *list, const uint8_t *kept, uint8_
 uint64_t splicer_7_mux(const uint64_t *words, const uint8_t *bytes);
 void splicer_7_cue(const uint64_t *words, const uint8_t *bytes, const uint8_t *section, size_t length, const uint32_t *given, uint8_t *out,
                    size_t room, uint64_t *reply);
-size_t splicer_7_ended(const uint64_t *ended, size_t words, struct splicer_row *page, size_t rows);
+uint64_t splicer_7_ended(const uint64_t *ended, size_t words, struct splicer_row *page, size_t rows);
 uint64_t splicer_7_map(const uint64_t *words, const uint8_t *bytes);
 
 /* The words of a reply as a struct. */
@@ -369,7 +369,7 @@ static inline struct splicer_reply splicer_call_cue(const struct splicer *s, con
 /* The last 16 sessions that ended, of all connections, from the newest down: rows[0] is the one whose end was written last. 0, or 16 if `count`
  * is not SPLICER_ROWS: then no row is written. It only reads. A close and an open drop nothing; fresh has none. */
 static inline uint32_t splicer_call_ended(const struct splicer *s, struct splicer_row *rows, size_t count) {
-    return splicer_7_ended(s->words + SPLICER_ENDED, SPLICER_ENDED_WORDS, rows, count) == SPLICER_ROWS ? SPLICER_GOOD : SPLICER_NOT_SIXTEEN;
+    return (uint32_t)splicer_7_ended(s->words + SPLICER_ENDED, SPLICER_ENDED_WORDS, rows, count);
 }
 
 /* Of the lent sections the one of the feed that is on air, the pointer that was lent, and its length: the insertion's exactly when a session

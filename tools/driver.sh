@@ -1,6 +1,7 @@
 #!/bin/sh
 # driver.sh: the C headers, each by itself, as C11 and C++17, and the example drivers over the proved archive, their output compared with
-# examples/driver.out, rolling.out, cues.out and remember.out, and the first one's recording with desk/recordings/sport.rec; a driver of version 1 must not link with it. All by the kit's own compiler and linker.
+# examples/driver.out, rolling.out, cues.out and remember.out, and the first one's recording with desk/recordings/sport.rec; a driver of
+# version 1 or 6 must not link with it. All by the kit's own compiler and linker.
 # The last line is 'N passed, M failed'.
 set -eu
 . "$(dirname "$0")/words.sh"
@@ -74,13 +75,13 @@ records() {
     cmp desk/recordings/sport.rec "$work/sport.rec" || { echo "if that is meant: cp $work/sport.rec desk/recordings/"; return 1; }
 }
 
-# old: a driver that was compiled with version 1's header must not link, for want of its functions
+# old VERSION FUNCTION: a driver that was compiled with that version's header must not link, for want of its functions
 old() {
-    if sh tools/build-driver.sh "$work/old" tools/driver/version-1.c target/staticlib/libdoor.a >"$work/old.log" 2>&1; then
+    if sh tools/build-driver.sh "$work/old" "tools/driver/version-$1.c" target/staticlib/libdoor.a >"$work/old.log" 2>&1; then
         echo 'it links'
         return 1
     fi
-    grep 'undefined symbol: splicer_fresh' "$work/old.log"
+    grep "undefined symbol: $2\$" "$work/old.log"
 }
 
 tried 'header as C11' header c c11
@@ -91,6 +92,7 @@ tried 'run with a rolling counter' rolls
 tried 'run with cues' cues
 tried 'run with the engine that only remembers' remembers
 tried 'recording' records
-tried 'a driver of version 1 does not link' old
+tried 'a driver of version 1 does not link' old 1 splicer_fresh
+tried 'a driver of version 6 does not link' old 6 splicer_6_ended
 echo "$passed passed, $failed failed"
 [ "$failed" -eq 0 ]

@@ -30,9 +30,14 @@ impl From<[u64; REPLY]> for Counts {
 pub fn replied(call: impl FnOnce(*mut u64)) -> Result<Counts, Refusal> {
     let mut reply = [0; REPLY];
     call(reply.as_mut_ptr());
-    let number = reply[0];
+    numbered(reply[0])?;
+    Ok(Counts::from(reply))
+}
+
+/// A house number as its refusal, 0 as none.
+pub fn numbered(number: u64) -> Result<(), Refusal> {
     if number == 0 {
-        return Ok(Counts::from(reply));
+        return Ok(());
     }
     // The core gives the numbers of `Refusal` alone; another archive is better noticed here.
     let refusal = u32::try_from(number).ok().and_then(Refusal::of);
@@ -142,7 +147,7 @@ extern "C" {
     );
 
     #[link_name = "splicer_7_ended"]
-    pub fn ended(ended: *const u64, words: usize, page: *mut Row, rows: usize) -> usize;
+    pub fn ended(ended: *const u64, words: usize, page: *mut Row, rows: usize) -> u64;
 
     #[link_name = "splicer_7_map"]
     pub fn map(words: *const u64, bytes: *const u8) -> u64;

@@ -31,11 +31,8 @@ impl Splicer {
     pub fn ended(&self, rows: &mut [Row]) -> Result<(), Refusal> {
         let (kept, page) = (&self.words[ENDED..], rows.as_mut_ptr());
         // SAFETY: any words may be handed in; `rows` is lent for writing, so apart from them.
-        let filled = unsafe { door::ended(kept.as_ptr(), kept.len(), page, rows.len()) };
-        match filled {
-            ROWS => Ok(()),
-            _ => Err(Refusal::NotSixteen),
-        }
+        let number = unsafe { door::ended(kept.as_ptr(), kept.len(), page, rows.len()) };
+        door::numbered(number)
     }
 
     /// The same, the unused ones as none.

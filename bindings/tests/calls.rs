@@ -1,8 +1,8 @@
 //! The five calls through the archive, with values by hand from document 01.
 
 use splicer::{
-    message_id, name, records, result, Maps, Refusal, Row, Says, Splicer, MAP_SECTION, MUX_AVERAGE,
-    OUT, ROWS,
+    message_id, name, records, result, Maps, NotSaved, Refusal, Row, Says, Splicer, MAP_SECTION,
+    MUX_AVERAGE, OUT, ROWS, SAVED,
 };
 
 /// A second in ninths of a microsecond.
@@ -395,4 +395,32 @@ fn the_walk_stops_at_what_is_no_record() {
     assert_eq!(walk.next(), None);
     assert_eq!(walk.rest(), &record[..13]);
     assert_eq!(records(&[0x45, 7, 0, 0, 0, 0, 0, 0, 0, 0]).next(), None);
+}
+
+/// The sum of what version 6 saved behind the calls of the next test, by its own archive.
+const SUM_OF_6: [u8; 4] = [0x41, 0x25, 0x77, 0xFB];
+
+#[test]
+fn what_version_6_saved_is_restored() {
+    let (mut channel, mut out) = ready();
+    for request in [splice(1, 1003, 900_000), splice(2, 1020, 90_000)] {
+        channel.message(0, &request, &mut out).unwrap();
+    }
+    channel.tick(1004, 5, &mut out).unwrap();
+    for request in [abort(1), splice(3, 1010, 90_000)] {
+        channel.message(0, &request, &mut out).unwrap();
+    }
+    channel.tick(1010, 7, &mut out).unwrap();
+    let mut bytes = channel.saved();
+    // SAFETY: the state is one that the calls made, or the bytes are refused.
+    let restored = |bytes: &[u8]| unsafe { Splicer::restored(bytes) };
+    assert_eq!(restored(&bytes), Ok(channel.clone()));
+    bytes[4] = 6;
+    bytes[SAVED - 4..].copy_from_slice(&SUM_OF_6);
+    assert_eq!(restored(&bytes), Ok(channel));
+    for version in [0, 5, 8] {
+        bytes[4] = version;
+        let other = NotSaved::Version(u32::from(version));
+        assert_eq!(restored(&bytes), Err(other));
+    }
 }

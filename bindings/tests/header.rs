@@ -207,7 +207,8 @@ fn the_functions_are_declared_as_in_the_header() {
         );
     }
     assert_eq!(DOOR_TEXT.matches("link_name").count(), all.len());
-    assert_eq!(DOOR_TEXT.matches("pub fn ").count(), all.len() + 1);
+    // and `replied` and `numbered`
+    assert_eq!(DOOR_TEXT.matches("pub fn ").count(), all.len() + 2);
 }
 
 /// Each is declared once and called once, by the inline function of its name, and nothing else of
