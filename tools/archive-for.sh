@@ -1,9 +1,10 @@
 #!/bin/sh
 # archive-for.sh TARGET OUT.a [CRATE]: the proved archive of CRATE (door, rolldoor or bench; door if it is not given) for another 64-bit
 # little-endian processor, as aarch64-unknown-linux-gnu or riscv64-unknown-linux-gnu. `rt staticlib` proves and writes the x86-64 archive
-# as ever; the LLVM module that the kit hands to its compiler is kept and compiled for TARGET, by the kit's clang too. The functions take
-# pointers and numbers only and return nothing or a number of 64 bits, so no rule of x86-64 about structs stands in the module.
-# No part of the gate: run examples/driver.c over it first.
+# as ever; the LLVM module that the kit hands to its compiler is kept (target/staticlib/CRATE.bc, of these sources or made anew) and compiled
+# for TARGET, by the kit's clang too. The functions take pointers and numbers only and return nothing or a number of 64 bits, so no rule
+# of x86-64 about structs stands in the module. On a machine that is not x86-64 the gate compares it with the second program (beside.sh).
+# For any other, run examples/driver.c over it first.
 set -eu
 . "$(dirname "$0")/words.sh"
 cd "$(dirname "$0")/.."
@@ -22,8 +23,7 @@ find_kit
 tools=$kit/on/$(uname -m)/toolchain
 work=target/archive-for
 mkdir -p "$work"
-echo "proving $crate and what it depends on (some minutes where nothing is proved yet)"
-watched "$work/log" "$(reached "$crate" | wc -l)" 'rt: * proved*' sh tools/kept-module.sh "$work" staticlib "$crate" || { cat "$work/log" >&2; exit 1; }
+module "$work/log" "$crate"
 
 # compiled FLAG..: the kit's clang for the target
 compiled() {
@@ -32,7 +32,7 @@ compiled() {
 
 target=$1
 # as text, without the name of x86-64's processor, which another has no use for
-compiled -S -emit-llvm -O0 -Xclang -disable-llvm-passes "$work/module.bc" -o "$work/module.ll"
+compiled -S -emit-llvm -O0 -Xclang -disable-llvm-passes "target/staticlib/$crate.bc" -o "$work/module.ll"
 sed 's/ "target-cpu"="x86-64"//' "$work/module.ll" >"$work/$crate.ll"
 if grep '^define ' "$work/$crate.ll" | grep -vE '^define (internal |([a-z_]+ )*(void|i64) @)' >&2; then
     echo "archive-for.sh: these return something, by the rule of x86-64" >&2

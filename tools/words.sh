@@ -83,26 +83,55 @@ watched() {
 proving() {
     said=$1
     shift
-    echo "proving $2 and what it depends on (some minutes where nothing is proved yet)"
-    watched "$said" "$(reached "$2" | wc -l)" 'rt: * proved*' rt "$@" || { cat "$said" >&2; return 1; }
+    proving_by "$said" "$2" rt "$@"
 }
 
-# made_of NAME: one number of the kit, of the listed crates, of all sources that the crate NAME is made of, and of its archive
+# proving_by LOG NAME COMMAND..: the same by a command that runs rt
+proving_by() {
+    said=$1 all=$(reached "$2" | wc -l)
+    echo "proving $2 and what it depends on (some minutes where nothing is proved yet)"
+    shift 2
+    watched "$said" "$all" 'rt: * proved*' "$@" || { cat "$said" >&2; return 1; }
+}
+
+# made_of NAME: one number of the kit, of the listed crates, of all sources that the crate NAME is made of, of its archive and of the module
+# that is kept of it
 made_of() {
     {
         rt version
         cat crates.txt
         for crate in $(reached "$1"); do find "crates/$crate" -name '*.rt' -o -name '*.antt'; done | sort | xargs sha256sum
         sha256sum "target/staticlib/lib$1.a"
+        if [ -f "target/staticlib/$1.bc" ]; then sha256sum "target/staticlib/$1.bc"; fi
     } | sha256sum | cut -d ' ' -f 1
 }
 
-# archive LOG NAME: target/staticlib/libNAME.a of the proved crate; one that an earlier step made of the same sources is taken as it is
+# is_made NAME: whether an earlier step made the archive of these sources
+is_made() {
+    [ -f "target/staticlib/$1.made" ] && [ "$(cat "target/staticlib/$1.made")" = "$(made_of "$1")" ]
+}
+
+# archive LOG NAME: target/staticlib/libNAME.a of the proved crate, for x86-64; one that an earlier step made of the same sources is taken as
+# it is. On another machine its module is kept too
 archive() {
-    made=target/staticlib/$2.made
-    if [ -f "$made" ] && [ "$(cat "$made")" = "$(made_of "$2")" ]; then
+    if [ "$(uname -m)" != x86_64 ]; then
+        module "$@"
+    elif is_made "$2"; then
         echo "target/staticlib/lib$2.a is there, of these sources"
     else
-        proving "$1" staticlib "$2" && made_of "$2" >"$made"
+        rm -f "target/staticlib/$2.bc"
+        proving "$1" staticlib "$2" && made_of "$2" >"target/staticlib/$2.made"
     fi
+}
+
+# module LOG NAME: the archive, and target/staticlib/NAME.bc, the LLVM module that the kit handed to its compiler for it
+module() {
+    kept=target/staticlib/$2
+    if is_made "$2" && [ -f "$kept.bc" ]; then
+        echo "target/staticlib/lib$2.a is there, of these sources, and its module"
+        return
+    fi
+    rm -f "$kept.bc" "$kept.made"
+    proving_by "$1" "$2" sh tools/kept-module.sh "$kept.kept" staticlib "$2" && mv "$kept.kept/module.bc" "$kept.bc" && rm -rf "$kept.kept" &&
+        made_of "$2" >"$kept.made"
 }
