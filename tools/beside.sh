@@ -1,7 +1,9 @@
 #!/bin/sh
-# beside.sh [ARG..]: the second program and the proved core called side by side in one process over the archive (model/beside, ARGs as it
-# takes them), and the tests of the Rust wrapper (bindings). The archive is x86-64: on another machine the programs are built for x86-64
-# and run by Debian's emulator. Where that cannot be had, or with ROUTE=card, more streams through the card program stand in.
+# beside.sh [ARG..]: the second program and the proved core called side by side in one process over the archives (model/beside, ARGs as it
+# takes them), and the tests of the Rust wrapper (bindings), built for this machine and run by it: on x86-64 over the archives that
+# `rt staticlib` makes, on another machine over the same proved modules compiled for it (tools/archive-for.sh). Where that cannot be done
+# it fails. By request alone: on another machine ROUTE=x86 takes the x86-64 archives, by a Rust for x86-64 and Debian's emulator (sh
+# tools/setup.sh x86), and ROUTE=card holds more streams through the card program to the second program instead.
 # The last line is 'N passed, M failed'.
 set -eu
 . "$(dirname "$0")/words.sh"
@@ -16,17 +18,35 @@ for word; do
         esac
         wants=
         ;;
-    *) refuse "'$word' is none of --seed S, --n N, --first I, --threads T, --recordings R, --rolling R, --cues R, --recalls R, --cue-records FILE, --fault NAME" ;;
+    *)
+        refuse "'$word' is none of --seed S, --n N, --first I, --threads T, --recordings R, --rolling R, --cues R, --recalls R," \
+            '--cue-records FILE, --fault NAME'
+        ;;
     esac
 done
 [ -z "$wants" ] || refuse "$wants needs a value"
+route=${ROUTE:-archive}
+case $route in
+archive | x86 | card) ;;
+*) refuse "no route '$route': archive, x86 or card" ;;
+esac
+needs rt cargo
 cd "$(dirname "$0")/.."
-target=x86_64-unknown-linux-gnu
 work=target/beside
 mkdir -p "$work"
 . tools/ran.sh
 
-# compiler: sets rustc to one that has the standard library for x86-64
+# for this machine, or for x86-64 on another one; native: the folder of archives that are not for x86-64
+machine=$(uname -m) linker=cc runner= native=
+if [ "$route" = x86 ] && [ "$machine" != x86_64 ]; then
+    # with erms the emulator runs each long memcpy byte by byte
+    machine=x86_64 linker=x86_64-linux-gnu-gcc runner='qemu-x86_64 -cpu max,-erms'
+elif [ "$machine" != x86_64 ]; then
+    native=target/native
+fi
+target=$machine-unknown-linux-gnu
+
+# compiler: sets rustc to one that has the standard library for the target
 compiler() {
     for rustc in "${RUSTC:-rustc}" rustc /usr/bin/rustc; do
         command -v "$rustc" >/dev/null 2>&1 || continue
@@ -34,39 +54,50 @@ compiler() {
             return 0
         fi
     done
+    echo "no rustc has the library for $target"
     return 1
 }
 
-# ready: whether programs in Rust over the archive can be built and run here; sets linker and runner
+# ready: whether programs in Rust over the archives can be built and run here
 ready() {
-    linker=cc runner=
-    if [ "$(uname -m)" != x86_64 ]; then
-        # with erms the emulator runs each long memcpy byte by byte
-        linker=x86_64-linux-gnu-gcc runner='qemu-x86_64 -cpu max,-erms'
-    fi
     for tool in cargo "$linker" ${runner%% *}; do
-        command -v "$tool" >/dev/null 2>&1 || return 1
+        command -v "$tool" >/dev/null 2>&1 || { echo "$tool is missing"; return 1; }
     done
     compiler || return 1
     # names alone do not say that a program of it runs: the loader may be missing
-    echo 'fn main() {}' | "$rustc" --target $target -C linker="$linker" -o "$work/try" - >"$work/try.log" 2>&1 && $runner "$work/try"
+    echo 'fn main() {}' | "$rustc" --target "$target" -C linker="$linker" -o "$work/try" - && $runner "$work/try"
 }
 
-# over_archive [ARG..]: the wrapper's tests and the comparison
-over_archive() {
-    RUSTC=$rustc CARGO_TARGET_DIR=$work
-    CARGO_TARGET_X86_64_UNKNOWN_LINUX_GNU_LINKER=$linker
-    export RUSTC CARGO_TARGET_DIR CARGO_TARGET_X86_64_UNKNOWN_LINUX_GNU_LINKER
-    if [ -n "$runner" ]; then
-        CARGO_TARGET_X86_64_UNKNOWN_LINUX_GNU_RUNNER=$runner
-        export CARGO_TARGET_X86_64_UNKNOWN_LINUX_GNU_RUNNER
+# made NAME: its archive for the target
+made() {
+    if [ -n "$native" ]; then
+        sh tools/archive-for.sh "$target" "$native/lib$1.a" "$1"
+    else
+        archive "$work/rt.log" "$1"
     fi
-    ran archive archive "$work/rt.log" door || return 0
-    ran rolldoor archive "$work/rt.log" rolldoor || return 0
-    ran bindings cargo test --release --offline --target $target --manifest-path bindings/Cargo.toml || :
-    ran archive-of-the-bench archive "$work/rt.log" bench || return 0
-    ran bindings-with-bench cargo test --release --offline --target $target --manifest-path bindings/Cargo.toml --features bench --test bench || :
-    ran compared cargo run --release --offline --target $target --manifest-path model/beside/Cargo.toml -- "$@" || :
+}
+
+# cargoed VERB PACKAGE [WORD..]: cargo for the target
+cargoed() {
+    verb=$1 package=$2
+    shift 2
+    cargo "$verb" --release --offline --target "$target" --manifest-path "$package/Cargo.toml" "$@"
+}
+
+# over_archives [ARG..]: the wrapper's tests and the comparison
+over_archives() {
+    RUSTC=$rustc CARGO_TARGET_DIR=$work
+    export RUSTC CARGO_TARGET_DIR
+    [ -z "$native" ] || export "SPLICER_LIB=$PWD/$native"
+    name=$(echo "$target" | tr a-z- A-Z_)
+    export "CARGO_TARGET_${name}_LINKER=$linker"
+    [ -z "$runner" ] || export "CARGO_TARGET_${name}_RUNNER=$runner"
+    ran archive made door || return 0
+    ran rolldoor made rolldoor || return 0
+    ran bindings cargoed test bindings || :
+    ran archive-of-the-bench made bench || return 0
+    ran bindings-with-bench cargoed test bindings --features bench --test bench || :
+    ran compared cargoed run model/beside -- "$@" || :
 }
 
 # over_card: the second program against the card program, and the program that only remembers if it is there, on other and more streams
@@ -88,27 +119,16 @@ over_card() {
     fi
 }
 
-needs rt
-route=${ROUTE:-archive}
-case $route in
-archive | card) ;;
-*) echo "beside.sh: no route '$route': archive or card" >&2; exit 2 ;;
-esac
-why='ROUTE=card'
-if [ "$route" = archive ] && ! ready; then
-    echo 'beside: installing what builds and runs x86-64 programs in Rust'
-    sh tools/setup.sh x86 >"$work/setup.log" 2>&1 || :
-    if ! ready; then
-        route=card
-        why='x86-64 programs in Rust cannot be built and run here'
-    fi
-fi
 if [ "$route" = card ]; then
-    echo "beside: by way of the card program ($why)"
+    echo 'beside: by way of the card program (ROUTE=card)'
     over_card
+elif ready >"$work/try.log" 2>&1; then
+    echo "beside: over the archives for $machine${runner:+ by ${runner%% *}}, $("$rustc" --version)"
+    over_archives "$@"
 else
-    echo "beside: over the archive, on $(uname -m)${runner:+ by ${runner%% *}}, $("$rustc" --version)"
-    over_archive "$@"
+    cat "$work/try.log"
+    echo "beside: programs in Rust for $target cannot be built and run here: sh tools/setup.sh${runner:+ x86} installs what they need"
+    failed=1
 fi
 echo "$passed passed, $failed failed"
 [ "$failed" -eq 0 ]

@@ -1,7 +1,8 @@
 #!/bin/sh
-# setup.sh [x86]: what the comparisons need beside the kit: cargo and rustc. With x86, also what builds x86-64 programs in Rust, runs and
-# counts them (tools/beside.sh, tools/measure.sh): on x86-64 gcc, objdump and Debian's emulator, which takes plugins; on Arm the library and the
-# linker for x86-64 too. Installs Debian's where there are none (as root).
+# setup.sh [x86]: what the comparisons need beside the kit: cargo, rustc and a C compiler to link with. With x86, also what builds x86-64
+# programs in Rust, runs and counts them (tools/measure.sh, and tools/beside.sh with ROUTE=x86; the gate needs none of it): on x86-64 gcc,
+# objdump and Debian's emulator, which takes plugins; on Arm the library and the linker for x86-64 too. Installs Debian's where there are
+# none (as root).
 set -eu
 . "$(dirname "$0")/words.sh"
 case $#${1:-} in
@@ -33,6 +34,10 @@ if lacks cargo; then
     update
     # Debian 12's plain cargo is too old for the second program
     install cargo-web rustc-web || install cargo rustc
+fi
+if lacks cc; then
+    update
+    install gcc libc6-dev
 fi
 cargo --version
 if lacks rt; then
