@@ -1,31 +1,82 @@
 #!/bin/sh
-# edits.sh [--gate] [NAME..]: tries the further must-fail edits of the named crates, or of all, which stand in crates/NAME/more-edits so that
-# the gate does not get too long; with --gate only those that have a line '# gate', as the gate does. Each is made in a copy of its crate and
-# checked with `rt dev`, which takes the modules that it does not reach from the proved library and checks all others: some seconds each. So
-# that this alone refuses nothing, each job first tries a crate as it stands. RT_JOBS crates at a time, 2 if it is not set.
+# edits.sh [--gate] [NAME | NAME/LABEL ..]: tries the further must-fail edits of the named crates, or the named ones, or all, which stand in
+# crates/NAME/more-edits so that the gate does not get too long. Each is made in a copy of its crate and checked with `rt dev`, which takes
+# the modules that it does not reach from the proved library and checks all others: some seconds each. So that this alone refuses nothing,
+# each job first tries a crate as it stands. RT_JOBS crates at a time, 2 if it is not set.
+# With --gate every edit of the repository is first made in its text (tools/applies.sh); then those of the named that have a line '# gate'
+# are tried, and of the others every tenth, from the one on that the commit's hash says. They are counted in the order of crates, so each
+# tenth has a tenth of each crate's, the slow ones' too, and takes about as long as any other.
 # The last line is 'N passed, M failed'.
 set -eu
 . "$(dirname "$0")/words.sh"
 cd "$(dirname "$0")/.."
 work=target/edits
-marked=.
+gate=
 if [ "${1:-}" = --gate ]; then
-    marked='^# gate$'
+    gate=yes
     shift
 fi
 [ $# -gt 0 ] || set -- $(ls -d crates/*/more-edits | cut -d / -f 2)
 for name; do
-    [ -d "crates/$name/more-edits" ] || refuse "no further edits of '$name'"
+    case $name in
+    */*) [ -f "crates/${name%%/*}/more-edits/${name#*/}.edit" ] || refuse "no further edit '$name'" ;;
+    *) [ -d "crates/$name/more-edits" ] || refuse "no further edits of '$name'" ;;
+    esac
 done
 needs rt
 jobs=${RT_JOBS:-2}
 rm -rf "$work"
 mkdir -p "$work/taken"
-for name; do grep -l "$marked" "crates/$name/more-edits"/*.edit || :; done >"$work/list"
+for name; do
+    case $name in
+    */*) echo "crates/${name%%/*}/more-edits/${name#*/}.edit" ;;
+    *) find "crates/$name/more-edits" -name '*.edit' ;;
+    esac
+done | LC_ALL=C sort -u >"$work/list"
+
+# tenth: of the further edits that the gate does not always try, those that it tries now: a line says by what, the list gets them
+tenth() {
+    if commit=$(git rev-parse HEAD 2>/dev/null); then
+        first=$((0x$(printf %s "$commit" | cut -c 1-7) % 10 + 1)) by="by commit $commit"
+    else
+        first=1 by='as no commit is known here'
+    fi
+    mv "$work/list" "$work/all"
+    xargs grep -l '^# gate$' <"$work/all" >"$work/marked" || :
+    grep -vxFf "$work/marked" "$work/all" >"$work/others" || :
+    awk -v first="$first" 'NR % 10 == first % 10' "$work/others" >"$work/chosen"
+    sort "$work/marked" "$work/chosen" >"$work/list"
+    echo "edits: $(wc -l <"$work/marked") that say '# gate', and of $(wc -l <"$work/others") others every tenth from number $first on, $by:"
+    sed 's|^crates/||; s|/more-edits/|/|; s|\.edit$||' "$work/chosen" | fold_words
+}
+
+# fold_words: words in lines of some length
+fold_words() { tr '\n' ' ' | fold -s -w 130 | sed 's/^/  /; s/ *$//'; echo; }
+
+stale=0
+if [ -n "$gate" ]; then
+    sh tools/applies.sh >"$work/applies" 2>&1 || stale=$(sed -n 's/^0 passed, \([0-9]*\) failed$/\1/p' "$work/applies")
+    sed '$d' "$work/applies"
+    tenth
+fi
 edits=$(wc -l <"$work/list")
-[ "$edits" -gt 0 ] || refuse 'no edit to try'
+
+# summed REFUSED: the last line, and its status
+summed() {
+    passed=$1 failed=$((edits - $1 + stale))
+    [ -z "$gate" ] || [ "$stale" -gt 0 ] || passed=$((passed + 1))
+    echo "$passed passed, $failed failed"
+    [ "$failed" -eq 0 ]
+}
+
+if [ "$edits" -eq 0 ]; then
+    echo 'edits: none of the named is to be tried'
+    summed 0 && exit
+    exit 1
+fi
+set -- $(cut -d / -f 2 "$work/list" | uniq)
 echo "edits: proving what they are made in (some minutes where nothing is proved yet)"
-rt check "$@" >"$work/proved" 2>&1 || { tail -n 5 "$work/proved"; echo "0 passed, $edits failed"; exit 1; }
+rt check "$@" >"$work/proved" 2>&1 || { tail -n 5 "$work/proved"; gate=; summed 0; exit 1; }
 
 # the sources as they were proved, whatever is saved meanwhile
 cp -R crates "$work/whole"
@@ -141,6 +192,4 @@ trial() {
     wait
 }
 watched "$work/log" "$edits" 'edits: *' trial "$@"
-refused=$(grep -c 'refused, as it must be' "$work/log" || :)
-echo "$refused passed, $((edits - refused)) failed"
-[ "$refused" -eq "$edits" ]
+summed "$(grep -c 'refused, as it must be' "$work/log" || :)"
