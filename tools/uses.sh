@@ -34,6 +34,15 @@ refuses() {
     [ "$status" -eq 2 ] && [ ! -s "$work/said" ] && [ "$(wc -l <"$work/wrong")" -eq 1 ]
 }
 
+# nowhere: beside.sh on a route that is none
+nowhere() {
+    (
+        ROUTE=nowhere
+        export ROUTE
+        refuses tools/beside.sh
+    )
+}
+
 # alone: run-program.sh where there is no kit
 alone() {
     status=0
@@ -48,12 +57,17 @@ for script in tools/*.sh; do
 done
 held 'readings.sh, no such reading' refuses tools/readings.sh no_such_reading
 held 'edits.sh, no such crate' refuses tools/edits.sh no_such_crate
+held 'edits.sh --gate, no such crate' refuses tools/edits.sh --gate no_such_crate
+held 'edits.sh, no such edit' refuses tools/edits.sh door/no_such_edit
 held 'definitions.sh, no number' refuses tools/definitions.sh 1 two
 held 'measure.sh, no such part' refuses tools/measure.sh counts weight
 held 'archive-for.sh, a 32-bit processor' refuses tools/archive-for.sh armv7-unknown-linux-gnu target/x.a
+held 'archive-for.sh, a crate without an archive' refuses tools/archive-for.sh aarch64-unknown-linux-gnu target/x.a engine
 held 'archive-for.sh, one word' refuses tools/archive-for.sh aarch64-unknown-linux-gnu
 held 'beside.sh, a value is missing' refuses tools/beside.sh --seed
 held 'beside.sh, no number' refuses tools/beside.sh --n many
+held 'beside.sh, no such route' nowhere
+held 'setup.sh, no such word' refuses tools/setup.sh arm
 held 'build-driver.sh, no source' refuses tools/build-driver.sh target/x no.c no.a
 held 'run-program.sh, no program' refuses tools/run-program.sh no-program
 if [ ! -x /usr/bin/rt ] && [ ! -x /bin/rt ]; then
