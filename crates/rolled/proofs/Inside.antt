@@ -31,7 +31,7 @@ use Rattle.traces.specs.Trace as engine
 use Rattle.traces.proofs.Steps.{wired, memory-same}
 use Rattle.driven.specs.Driven.{handed, inside, answerIn, numberIn}
 use Rattle.driven.proofs.Inside.{told, number-inside, call-handed, buffer-handed, typed-handed, allowed-inside, reply-back}
-use Rattle.rolled.specs.Rolled.{Memory, shown, LentAt, left, Made, made, AllowedAt, Leads, Trace, More, seenOf, number, calls, moved, asMade, within}
+use Rattle.rolled.specs.Rolled.{Memory, shown, LentAt, left, Made, made, AllowedAt, Leads, Trace, More, seenOf, number, calls, timeMade, asMade, within}
 
 -- ## One call, as this card's rules have it
 
@@ -141,12 +141,12 @@ module _ (m : Memory) (i : RollInput) (r : RollSeen) (l : LentAt m) (p : Promise
   one-move until = engine.made (engine.aMove until e) (inside (seenOf r)) ∷ []
 
   course-step : (c : Course) (x : ℕ) → r .reply ≡ replyOf (answerIn (r .reply)) → roll k (shown m) ≡ rolls c x (shown m)
-      → Ahead c (shown m .splicer .clock) (length e) → Stepped c (moved e r)
+      → Ahead c (shown m .splicer .clock) (length e) → Stepped c (timeMade e r)
   unfolding rolls answerOf ticked engine.numberIn
   course-step (refuses n) x f g a =
       let y : answerIn (r .reply) ≡ Refused n = p .answers .answer ∙ ap (λ z. answerOf (z .called .answer) (z .called .moved)) g in
       let u = refused-unchanged k n (m .core .words) (m .core .bytes) (m .counter) e (answerIn (r .reply)) (r .words) (r .bytes) (r .counter) (r .buffer) l p y in
-      let none-made : moved e r ≡ [] =
+      let none-made : timeMade e r ≡ [] =
       ap (λ b. cond b (one-move (shown (left r) .splicer .clock)) []) (ap (λ z. eqb z 0) (number-is (Refused n) f y) ∙ ne-eqb (houseNumber n) 0 (λ q. omega (arith, a-number n))) in
       subst (Stepped (refuses n)) (sym none-made) (memory-same (left r .core) (m .core) (u .0) (u .1), refl)
   course-step (brings until) x f g a =
@@ -154,7 +154,7 @@ module _ (m : Memory) (i : RollInput) (r : RollSeen) (l : LentAt m) (p : Promise
       let y : answerIn (r .reply) ≡ answerOf (ticked until s .answer) (ticked until s .moved) =
       p .answers .answer ∙ ap (λ z. answerOf (z .called .answer) (z .called .moved)) g in
       let t : shown (left r) .splicer .clock ≡ until = ap (λ z. z .clock) (p .answers .splicer ∙ ap (λ z. z .called .splicer) g) in
-      let one-made : moved e r ≡ one-move until =
+      let one-made : timeMade e r ≡ one-move until =
       ap (λ z. cond (eqb z 0) (one-move (shown (left r) .splicer .clock)) []) (number-is _ f y) ∙ ap one-move t in
       let q : roll k (shown m) .called ≡ moveCall until (length e) s =
       ap (λ z. z .called) g ∙ sym (move-same until (length e) s (ltb-false (length e) 4096 (a .0)) (a .1)) in

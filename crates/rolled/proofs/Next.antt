@@ -27,7 +27,7 @@ use Rattle.traces.specs.Trace as engine
 use Rattle.traces.proofs.Steps.{memory-same, bytes-read, number-read}
 use Rattle.driven.specs.Driven.{handed, inside, answerIn}
 use Rattle.driven.proofs.Inside.{number-inside, bytes-inside, reply-ruled, call-handed}
-use Rattle.rolled.specs.Rolled.{Memory, shown, LentAt, left, Made, made, More, seenOf, number, bytesOf, othersBy, moved, asMade, within, AsRuled}
+use Rattle.rolled.specs.Rolled.{Memory, shown, LentAt, left, Made, made, More, seenOf, number, bytesOf, othersBy, timeMade, asMade, within, AsRuled}
 use Rattle.rolled.proofs.Inside.{Promised, promised, state-is, Step, step, trace-lent, trace-inside, within-append, replies-of}
 
 module _ (name : List ℕ) (h : List Made) (m : Memory) (i : RollInput) (r : RollSeen) (c : More name h m i r) where
@@ -100,7 +100,7 @@ pub data Next (name : List ℕ) (h : List Made) (m : Memory) (i : RollInput) (r 
       → Next name h m i r
 
 time-next : (name : List ℕ) (h : List Made) (m : Memory) (i : RollInput) (r : RollSeen) (c : More name h m i r) (b : Bool) (e : List ℕ)
-    → eqb (number r) 0 ≡ b → asMade i r ≡ moved e r → ((rs : List Record) → othersBy i rs ≡ rs) → Step m i r → Next name h m i r
+    → eqb (number r) 0 ≡ b → asMade i r ≡ timeMade e r → ((rs : List Record) → othersBy i rs ≡ rs) → Step m i r → Next name h m i r
 unfolding othersOf
 time-next name h m i r c true e q f o s =
     let t = shown (left r) .splicer .clock in

@@ -103,13 +103,13 @@ othersBy (aReading x e) rs = rs
 
 -- the engine's call that one of this card's amounts to, with its result: a known one itself; a good instant or reading brings the clock to
 -- where it is then; a refused one is none
-abbrev pub moved : (buffer : List ℕ) → RollSeen → List engine.Made
-moved e r = cond (eqb (number r) 0) (engine.made (engine.aMove (shown (left r) .splicer .clock) e) (inside (seenOf r)) ∷ []) []
+abbrev pub timeMade : (buffer : List ℕ) → RollSeen → List engine.Made
+timeMade e r = cond (eqb (number r) 0) (engine.made (engine.aMove (shown (left r) .splicer .clock) e) (inside (seenOf r)) ∷ []) []
 
 abbrev pub asMade : RollInput → RollSeen → List engine.Made
 asMade (aKnown i) r = engine.made (handed i) (inside (seenOf r)) ∷ []
-asMade (anInstant g e) r = moved e r
-asMade (aReading x e) r = moved e r
+asMade (anInstant g e) r = timeMade e r
+asMade (aReading x e) r = timeMade e r
 
 unfoldable pub within : List Made → List engine.Made
 within [] = []
