@@ -27,7 +27,7 @@ use Rattle.demands.specs.History.{Event, startsOf, endsOf, history, ownAnswer, 
 use Rattle.engine.specs.declared.Answer.the-variants.{Refused}
 use Rattle.places.specs.Places.{round, next}
 use Rattle.memory.specs.Memory.{see, placesFrom, countsOf, tallied, keptBytes}
-use Rattle.engine.specs.Lent.{Lent, Counts, Primary, ReadsMux}
+use Rattle.engine.specs.Lent.{Lent, Counts, Primary, ReadsMux, ReadsFeed}
 use Rattle.demands.specs.Told.{firstNumber, checks, answers, Asks, Passes, fullTold, countsTold, grantedBy, outsOf, startedTold, unended, Ended, Stands, airMuxTold, MuxInRange, Inquires, Finds, connOf, concerned, Carries}
 use Rattle.demands.specs.Alike.{Alike}
 use Rattle.demands.specs.Lately.{ofNumber, answerTold, endedOnce, KeptAs, endsTold}
@@ -438,6 +438,11 @@ module _ (name : List ℕ) (h : List Made) (m : Memory) where
   section-told d l pm im e r c asks ready loans =
       kept.section-told (events h) (shown m) (trace-told name h m (c .trace)) d l loans (lendingMaps pm im (length e)) asks ready
       ∙ ap (λ (b : List ℕ). cond (eqb (stateIn (recordsIn b)) 2) (loans .insertion) (loans .primary)) (sym (as-ruled m (aMessage d l pm im e) r (c .allowed) .bytes))
+
+  -- what is read of it, 0 or 1, is whose section that is: every result that the read's contract allows
+  pub section-read : (r : ℕ) → ReadsFeed (m .words) (m .bytes) r
+      → (loans : Loans) → sectionOf loans (shown m) ≡ cond (eqb r 0) (loans .primary) (loans .insertion)
+  section-read r c loans = ap (λ (k : ℕ). cond (eqb k 0) (loans .primary) (loans .insertion)) (sym c)
 
   -- "A later Init that gets 100 replaces it; close forgets it.": nothing else changes what a connection keeps
   pub nothing-else-changes : (i : Input) (r : Result) → More name h m i r → (d : ℕ) → changed d (callOf i) (replyIn (r .answer) (r .buffer)) ≡ false
