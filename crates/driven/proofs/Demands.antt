@@ -12,7 +12,7 @@ use Rattle.rules.specs.declared.Request.{Request}
 use Rattle.rules.specs.declared.When.the-variants.{At}
 use Rattle.rules.specs.Lists.{All, some, count}
 use Rattle.rules.specs.Bytes.{Byte, hasZero}
-use Rattle.rules.specs.Records.{recordsIn, ConfigResponse}
+use Rattle.rules.specs.Records.{recordsIn, General, ConfigResponse}
 use Rattle.rules.specs.State.{empty, Sorted, startsAt, startsAfter, earliest, due, mostKept, recent, hardwareOf}
 use Rattle.rules.specs.Reading.{longestHardware}
 use Rattle.rules.specs.Sound.{Each, Falling, Coded}
@@ -24,19 +24,19 @@ use Rattle.demands.specs.Told.{firstNumber, checks, answers, Asks, Passes, full
 use Rattle.demands.specs.Alike.{Alike}
 use Rattle.demands.specs.Lately.{ofNumber, answerTold, endedOnce, KeptAs, endsTold}
 use Rattle.demands.specs.Airing.{airingsTold, clockTold, primaryTold, timeTold, airTold, numberTold}
-use Rattle.demands.specs.Kept.{keptTold, AsksConfig, AsksAlive, Ready, stateIn}
+use Rattle.demands.specs.Kept.{keptTold, changed, AsksConfig, AsksAlive, Ready, stateIn}
 use Rattle.demands.specs.Moments.{Gapless, Printed, Within, PlayedAs}
 use Rattle.places.specs.Places.{round, next}
 use Rattle.memory.specs.Memory.{see, placesFrom, countsOf, keptBytes, lateOf}
 use Rattle.engine.specs.Lent.{Lent, Counts, Primary, ReadsMux, ReadsFeed}
-use Rattle.door.specs.Door.{Input, aClose, aMessage, aCue, ptsOf, Typed, callOf, bufferOf, Seen}
+use Rattle.door.specs.Door.{Input, anOpen, aClose, aMessage, aCue, ptsOf, Typed, callOf, bufferOf, Seen, Allowed}
 use Rattle.traces.specs.Trace.{Memory, emptyMemory, shown}
 use Rattle.traces.specs.Trace as engine
 use Rattle.traces.proofs.Steps.{memory-same}
 use Rattle.traces.proofs.Closed.{not-full, unended-newer}
 use Rattle.traces.proofs.Demands as called
-use Rattle.driven.specs.Driven.{left, Made, made, Trace, More, Point, numberIn, number, movedIn, moved, bytesOf, events, calls, inputs, Answerable, Run, AsRuled, inside, within}
-use Rattle.driven.proofs.Inside.{trace-inside, trace-events, more-inside, within-append, calls-inside, call-handed, buffer-handed, number-inside, moved-inside, bytes-inside, reply-ruled}
+use Rattle.driven.specs.Driven.{left, Made, made, Trace, More, Point, numberIn, number, movedIn, moved, bytesOf, replyIn, events, calls, inputs, Answerable, Run, AsRuled, inside, within}
+use Rattle.driven.proofs.Inside.{trace-inside, trace-events, more-inside, within-append, calls-inside, call-handed, buffer-handed, number-inside, moved-inside, bytes-inside, reply-inside, reply-ruled, allowed-inside}
 use Rattle.door.proofs.Laws.{refused-unchanged}
 use Rattle.door.proofs.Page.{page-shown}
 use Rattle.rows.specs.declared.Row.{Row}
@@ -463,9 +463,25 @@ module _ (name : List ℕ) (h : List Made) (m : Memory) where
 
   -- what C is told of it, 0 or 1, is whose section that is
   pub section-read : (r : ℕ) → ReadsFeed (m .words) (m .bytes) r → (loans : Loans) → sectionOf loans (shown m) ≡ cond (eqb r 0) (loans .primary) (loans .insertion)
-  section-read r c loans = ap (λ (k : ℕ). cond (eqb k 0) (loans .primary) (loans .insertion)) (sym c)
+  section-read = called.section-read name (within h) m
+
+  -- "A later Init that gets 100 replaces it; close forgets it.": nothing else changes what a connection keeps
+  pub nothing-else-changes : (i : Input) (r : Seen) → More name h m i r → (d : ℕ) → changed d (callOf i) (replyIn (r .reply) (r .buffer)) ≡ false
+      → hardwareOf d (shown (left r)) ≡ hardwareOf d (shown m)
+  nothing-else-changes i r c d e =
+      called.nothing-else-changes name (within h) m _ _ (more-inside name h m i r c) d (rw (call-handed i, reply-inside (c .allowed)) at e)
 
   -- "close forgets it": after a good close the connection's 256 bytes are zero
   pub close-forgets : (d : ℕ) (e : List ℕ) (r : Seen) → More name h m (aClose d e) r → number r ≡ 0 → keptBytes d (r .bytes) ≡ replicate longestHardware 0
   close-forgets d e r c z =
       called.close-forgets name (within h) m d e (inside r) (more-inside name h m (aClose d e) r c) (sym (number-inside (c .allowed)) ∙ z)
+
+  -- and after a good open, so after a later one too, a GetConfig_Request gets 103
+  pub opened-denied : (d : ℕ) (r : Seen) → More name h m (anOpen d) r → number r ≡ 0
+      → (l pm im e : List ℕ) (q : Seen) → Allowed (r .words) (r .bytes) (aMessage d l pm im e) q
+      → AsksConfig d l (lendingMaps pm im (length e)) (shown (left r))
+      → recordsIn (bytesOf q) ≡ General d 103 ∷ []
+  opened-denied d r c z l pm im e q a asks =
+      rw (bytes-inside a)
+      (called.opened-denied name (within h) m d (inside r) (more-inside name h m (anOpen d) r c) (sym (number-inside (c .allowed)) ∙ z)
+      l pm im e (inside q) (allowed-inside (left r) (aMessage d l pm im e) q a) asks)

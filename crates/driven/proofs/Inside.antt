@@ -42,7 +42,7 @@ refusal-read LongSection = (refl, refl)
 refusal-read NotSixteen = (refl, refl)
 
 -- of a reply that the door gives, C reads what the engine's answer has
-number-told : (a : Answer) → numberIn (replyOf a) ≡ engine.numberIn a
+pub number-told : (a : Answer) → numberIn (replyOf a) ≡ engine.numberIn a
 unfolding replyOf engine.numberIn
 number-told (Refused n) = refl
 number-told (Done consumed written moved) = refl
@@ -52,7 +52,7 @@ unfolding replyOf
 answer-read (Refused n) = rw (refusal-read n .0, refusal-read n .1) refl
 answer-read (Done consumed written moved) = refl
 
-moved-told : (a : Answer) → movedIn (replyOf a) ≡ engine.movedIn a
+pub moved-told : (a : Answer) → movedIn (replyOf a) ≡ engine.movedIn a
 unfolding replyOf engine.movedIn
 moved-told (Refused n) = refl
 moved-told (Done consumed written moved) = refl
@@ -93,7 +93,7 @@ module _ {c : Called} {at : ℕ} {e r m b o : List ℕ} (x : Replies c at e r m 
   pub bytes-inside : take (writtenIn r) o ≡ engine.bytesIn (answerIn r) o
   bytes-inside = rw (x .reply, answer-read (x .answer)) (bytes-told (x .answer) o)
 
-  reply-inside : replyIn r o ≡ engine.replyIn (answerIn r) o
+  pub reply-inside : replyIn r o ≡ engine.replyIn (answerIn r) o
   reply-inside = rw (x .reply, answer-read (x .answer)) (reply-told (x .answer) o)
 
   pub reply-ruled : r ≡ wordsOf (c .answer) (c .moved)
