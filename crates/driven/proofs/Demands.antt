@@ -20,7 +20,8 @@ use Rattle.rules.specs.Answers.{requested, spliceResult}
 use Rattle.rules.specs.Cues.{readCue, cueTime, initialisedOnes, cueRecords}
 use Rattle.rules.specs.Calls.{fresh, after, lendingMaps, sectionOf, Loans}
 use Rattle.demands.specs.History.{Event, startsOf, endsOf, history, ownAnswer, othersOf, waitingCount, book, clockAfter}
-use Rattle.demands.specs.Told.{firstNumber, checks, answers, Asks, Passes, fullTold, countsTold, grantedBy, outsOf, startedTold, unended, Ended, Stands, airMuxTold, MuxInRange, Inquires, Finds, connOf, concerned, Carries}
+use Rattle.demands.specs.Told.{firstNumber, checks, answers, Asks, Passes, fullTold, countsTold, grantedBy, outsOf, startedTold, unended}
+use Rattle.demands.specs.Told.{Ended, Stands, airMuxTold, MuxInRange, Inquires, Finds, connOf, concerned, Carries}
 use Rattle.demands.specs.Alike.{Alike}
 use Rattle.demands.specs.Lately.{ofNumber, answerTold, endedOnce, KeptAs, endsTold}
 use Rattle.demands.specs.Airing.{airingsTold, clockTold, primaryTold, timeTold, airTold, numberTold}
@@ -35,8 +36,10 @@ use Rattle.traces.specs.Trace as engine
 use Rattle.traces.proofs.Steps.{memory-same}
 use Rattle.traces.proofs.Closed.{not-full, unended-newer}
 use Rattle.traces.proofs.Demands as called
-use Rattle.driven.specs.Driven.{left, Made, made, Trace, More, Point, numberIn, number, movedIn, moved, bytesOf, replyIn, events, calls, inputs, Answerable, Run, AsRuled, inside, within}
-use Rattle.driven.proofs.Inside.{trace-inside, trace-events, more-inside, within-append, calls-inside, call-handed, buffer-handed, number-inside, moved-inside, bytes-inside, reply-inside, reply-ruled, allowed-inside}
+use Rattle.driven.specs.Driven.{left, Made, made, Trace, More, Point, numberIn, number, movedIn, moved, bytesOf, replyIn, events}
+use Rattle.driven.specs.Driven.{calls, inputs, Answerable, Run, AsRuled, inside, within}
+use Rattle.driven.proofs.Inside.{trace-inside, trace-events, more-inside, within-append, calls-inside, call-handed, buffer-handed}
+use Rattle.driven.proofs.Inside.{number-inside, moved-inside, bytes-inside, reply-inside, reply-ruled, allowed-inside}
 use Rattle.door.proofs.Laws.{refused-unchanged}
 use Rattle.door.proofs.Page.{page-shown}
 use Rattle.rows.specs.declared.Row.{Row}
@@ -466,8 +469,8 @@ module _ (name : List ℕ) (h : List Made) (m : Memory) where
   section-read = called.section-read name (within h) m
 
   -- "A later Init that gets 100 replaces it; close forgets it.": nothing else changes what a connection keeps
-  pub nothing-else-changes : (i : Input) (r : Seen) → More name h m i r → (d : ℕ) → changed d (callOf i) (replyIn (r .reply) (r .buffer)) ≡ false
-      → hardwareOf d (shown (left r)) ≡ hardwareOf d (shown m)
+  pub nothing-else-changes : (i : Input) (r : Seen) → More name h m i r
+      → (d : ℕ) → changed d (callOf i) (replyIn (r .reply) (r .buffer)) ≡ false → hardwareOf d (shown (left r)) ≡ hardwareOf d (shown m)
   nothing-else-changes i r c d e =
       called.nothing-else-changes name (within h) m _ _ (more-inside name h m i r c) d (rw (call-handed i, reply-inside (c .allowed)) at e)
 
