@@ -140,7 +140,7 @@ module _ (name : List ℕ) (h : List Made) (m : Memory) where
     answers-fit = go (next name h m i r c)
       where
         go : Next name h m i r → length (bytesOf r) ≤ 3174
-        go (silent e) = none-long (bytesOf r) e
+        go (silent e) = none-long (bytesOf r) (e .bytes)
         go (calls-of j o e k) = rw (bytes-are name h m i r c) (called.answers-fit name (within h) (m .core) j (inside (seenOf r)) o)
 
   -- fresh: number 9 for a name without a zero byte, and then the memory is that of an empty name, and no instant was given
@@ -176,7 +176,7 @@ module _ (name : List ℕ) (h : List Made) (m : Memory) where
   codes-given i r c = go (next name h m i r c)
     where
       go : Next name h m i r → All Coded (recordsIn (bytesOf r))
-      go (silent e) = none-coded (bytesOf r) e
+      go (silent e) = none-coded (bytesOf r) (e .bytes)
       go (calls-of j o e k) = rw (bytes-are name h m i r c) (called.codes-given name (within h) (m .core) j (inside (seenOf r)) o)
 
   -- ## Demand 3
@@ -210,9 +210,10 @@ module _ (name : List ℕ) (h : List Made) (m : Memory) where
     ends-are-owed = go (next name h m i r c)
       where
         go : Next name h m i r → endsOf d x (othersBy i (recordsIn (bytesOf r))) ≤ unended d x (book (events h) [])
-        go (silent e) = none-ends d x i (bytesOf r) _ e
+        go (silent e) = none-ends d x i (bytesOf r) _ (e .bytes)
         go (calls-of j o f k) =
-            rw (f (recordsIn (bytesOf r)), bytes-are name h m i r c) (called.ends-are-owed name (within h) (m .core) j (inside (seenOf r)) o d x)
+            rw (f .others (recordsIn (bytesOf r)), bytes-are name h m i r c)
+            (called.ends-are-owed name (within h) (m .core) j (inside (seenOf r)) o d x)
 
     -- "Two operators' as-run logs listed a spot that never aired.": a SpliceComplete flag 1 is written only under a number whose start is
     -- written, since its last end or by the same call
@@ -220,7 +221,7 @@ module _ (name : List ℕ) (h : List Made) (m : Memory) where
     only-aired-is-listed = go (next name h m i r c)
       where
         go : Next name h m i r → outsOf d x (recordsIn (bytesOf r)) ≤ startedTold d x (events h) 0 + startsOf d x (recordsIn (bytesOf r))
-        go (silent e) = none-outs d x (bytesOf r) _ e
+        go (silent e) = none-outs d x (bytesOf r) _ (e .bytes)
         go (calls-of j o f k) =
             rw (bytes-are name h m i r c) (called.only-aired-is-listed name (within h) (m .core) j (inside (seenOf r)) o d x)
 
@@ -351,7 +352,7 @@ module _ (name : List ℕ) (h : List Made) (m : Memory) where
   played-as-counted i r c = go (next name h m i r c)
     where
       go : Next name h m i r → PlayedAs (events (h ++ (made i r ∷ []))) (recordsIn (bytesOf r))
-      go (silent e) = none-played (events (h ++ (made i r ∷ []))) (bytesOf r) e
+      go (silent e) = none-played (events (h ++ (made i r ∷ []))) (bytesOf r) (e .bytes)
       go (calls-of j o f k) =
           subst (λ (x : List engine.Made). PlayedAs (engine.events x) (recordsIn (bytesOf r))) (sym (within-more h i r ∙ ap (λ x. within h ++ x) k))
           (subst (λ (l : List ℕ). PlayedAs (engine.events (within h ++ (engine.made j (inside (seenOf r)) ∷ []))) (recordsIn l)) (sym (bytes-are name h m i r c))

@@ -12,7 +12,9 @@ use Rattle.rules.specs.declared.Refusal.{Refusal}
 use Rattle.rules.specs.Lists.{All}
 use Rattle.rules.specs.Calls.{Called, fresh, refuse, houseNumber, ticked, moveCall, Call, call, bufferAfter, writtenBy}
 use Rattle.rules.specs.Sound.{Wired}
-use Rattle.rules.specs.Rolling.{none, Rolling, Rolled, rollingOf, Course, refuses, brings, instantCourse, readingCourse, rolls, instantCall, readingCall, rollingFresh, RollingCall, known, instants, readings, roll, rolledAfter, asMove, asCalls, asMoves, RollWired, RollReached, Timeless}
+use Rattle.rules.specs.Rolling.{none, Rolling, Rolled, rollingOf, Course, refuses, brings, instantCourse, readingCourse, rolls, instantCall}
+use Rattle.rules.specs.Rolling.{readingCall, rollingFresh, RollingCall, known, instants, readings, roll, rolledAfter, asMove, asCalls}
+use Rattle.rules.specs.Rolling.{asMoves, RollWired, RollReached, Timeless}
 use Rattle.rules.proofs.All.{at-all}
 use Rattle.demands.specs.Told.{numberOf}
 use Rattle.demands.proofs.Refusals.{a-number}
@@ -21,7 +23,7 @@ use Rattle.memory.specs.Memory as lent
 use Rattle.engine.specs.declared.Answer.{Answer}
 use Rattle.engine.specs.declared.Answer.the-variants.{Refused, Done}
 use Rattle.engine.specs.Lent.{answerOf, Answers}
-use Rattle.rolling.specs.LentRolling.{lastOf, rolling, LentRolling, Rolls}
+use Rattle.rolling.specs.LentRolling.{counterOf, lastOf, rolling, LentRolling, Rolls}
 use Rattle.rolling.proofs.Ruled.{Ahead, move-same, instant-ahead, reading-ahead, reached-roll}
 use Rattle.rolling.proofs.Calls.{lent-steady, last-read}
 use Rattle.rolling.proofs.Laws.{refused-unchanged}
@@ -29,9 +31,11 @@ use Rattle.door.specs.Door.{replyOf, Replies, Input, callOf}
 use Rattle.rolldoor.specs.RollDoor.{RollReplies, RollInput, aKnown, anInstant, aReading, RollTyped, rollCallOf, rollBufferOf, RollSeen}
 use Rattle.traces.specs.Trace as engine
 use Rattle.traces.proofs.Steps.{wired, memory-same}
-use Rattle.driven.specs.Driven.{handed, inside, answerIn, numberIn}
-use Rattle.driven.proofs.Inside.{told, number-inside, call-handed, buffer-handed, typed-handed, allowed-inside, reply-back}
-use Rattle.rolled.specs.Rolled.{Memory, shown, LentAt, left, Made, made, AllowedAt, Leads, Trace, More, seenOf, number, calls, timeMade, asMade, within}
+use Rattle.driven.specs.Driven.{handed, inside, answerIn, numberIn, movedIn}
+use Rattle.driven.proofs.Inside.{number-told, moved-told, told, number-inside, call-handed, buffer-handed, typed-handed, allowed-inside}
+use Rattle.driven.proofs.Inside.{reply-back}
+use Rattle.rolled.specs.Rolled.{Memory, shown, LentAt, left, Made, made, AllowedAt, Leads, Trace, More, seenOf, number, calls}
+use Rattle.rolled.specs.Rolled.{timeMade, asMade, within}
 
 -- ## One call, as this card's rules have it
 
@@ -93,11 +97,6 @@ state-is m i r p =
     λ n. record { splicer = p .answers .splicer n; last = d n }
 
 -- ## The reply's words
-
-number-told : (a : Answer) → numberIn (replyOf a) ≡ engine.numberIn a
-unfolding replyOf engine.numberIn
-number-told (Refused n) = refl
-number-told (Done consumed written moved) = refl
 
 -- what C reads of the reply determines it
 reply-read : {c : Rolled} {ring : ℕ} {e r m b k o : List ℕ} → RollReplies c ring e r m b k o → r ≡ replyOf (answerIn r)
@@ -261,6 +260,14 @@ module _ (name : List ℕ) (h : List Made) (m : Memory) where
   -- what C reads of fresh's reply
   pub fresh-told : (t : Trace name h m) → numberIn (t .reply) ≡ engine.numberIn (t .fresh .answer)
   fresh-told t = ap numberIn (t .fresh .reply) ∙ number-told (t .fresh .answer)
+
+  pub fresh-moved : (t : Trace name h m) → movedIn (t .reply) ≡ engine.movedIn (t .fresh .answer)
+  fresh-moved t = ap movedIn (t .fresh .reply) ∙ moved-told (t .fresh .answer)
+
+  -- and the counter's words: no instant was given
+  pub fresh-counter : (t : Trace name h m) → t .begun .counter ≡ counterOf none
+  unfolding rollingFresh
+  fresh-counter t = t .fresh .rolls .counter
 
   pub trace-shown : Trace name h m → shown m ≡ rolledAfter (calls h) (rollingOf (rollingFresh name))
   trace-shown t = led-shown h (t .begun) m (t .fresh .rolls .lent) (t .leads) ∙ ap (rolledAfter (calls h)) (begun-is name (t .fresh))

@@ -1,8 +1,8 @@
--- A trace of the card with a rolling counter, as its driver in C sees it: its fresh, then opens, closes, messages, instants and readings, any
--- number of them in any order. What a contract allows (`RollAllowed`) stands in rolldoor/specs/RollDoor; rolldoor/proofs/Cited holds it to
--- the source.
+-- A trace of the card with a rolling counter, as its driver in C sees it: its fresh, then opens, closes, messages, cues, instants and
+-- readings, any number of them in any order. What a contract allows (`RollAllowed`) stands in rolldoor/specs/RollDoor; rolldoor's
+-- proofs/Cited holds it to the source.
 use mathlib.Core.Path.{_≡_}
-use mathlib.Core.Bool.{cond}
+use mathlib.Core.Bool.{Bool, false, cond}
 use mathlib.Core.List.{List, [], _∷_, _++_, map}
 use Prim.Native.Nat.{ℕ}
 use lib.Dec.{eqb}
@@ -12,7 +12,9 @@ use Rattle.rules.specs.Bytes.{Byte}
 use Rattle.rules.specs.Calls.{writtenBy, consumedBy, bufferAfter, Call}
 use Rattle.rules.specs.Records.{Record}
 use Rattle.rules.specs.Rolling.{Rolling, rollingOf, rollingFresh, RollingCall, roll}
-use Rattle.demands.specs.History.{Event, othersOf}
+use Rattle.demands.specs.History.{Reply, Event, othersOf}
+use Rattle.demands.specs.Told.{grantedBy}
+use Rattle.demands.specs.Kept.{changed}
 use Rattle.rolling.specs.LentRolling.{rolling, LentRolling}
 use Rattle.door.specs.Door.{callOf, Seen}
 use Rattle.rolldoor.specs.RollDoor.{RollReplies, RollInput, aKnown, anInstant, aReading, RollTyped, rollCallOf, rollBufferOf, RollSeen, RollAllowed}
@@ -84,6 +86,10 @@ seenOf r = record { reply = r .reply; words = r .words; bytes = r .bytes; buffer
 abbrev pub number : RollSeen → ℕ
 number r = plain.number (seenOf r)
 
+-- 02, CR 11, "how many places an acceptance shifts"
+abbrev pub moved : RollSeen → ℕ
+moved r = plain.moved (seenOf r)
+
 abbrev pub bytesOf : RollSeen → List ℕ
 bytesOf r = plain.bytesOf (seenOf r)
 
@@ -98,6 +104,18 @@ abbrev pub othersBy : RollInput → List Record → List Record
 othersBy (aKnown i) rs = othersOf (callOf i) rs
 othersBy (anInstant g e) rs = rs
 othersBy (aReading x e) rs = rs
+
+-- 02, CR 11: the call is a Splice_Request answered with 100; an instant or a reading is none
+abbrev pub grants : RollInput → List Record → Bool
+grants (aKnown i) rs = grantedBy (callOf i) rs
+grants (anInstant g e) rs = false
+grants (aReading x e) rs = false
+
+-- 02, CR 6: the call with that answer changes what connection d keeps; an instant or a reading never does
+abbrev pub changes : ℕ → RollInput → Reply → Bool
+changes d (aKnown i) a = changed d (callOf i) a
+changes d (anInstant g e) a = false
+changes d (aReading x e) a = false
 
 -- ## "Its answers must be those of document 01 with the clock brought to the same instants in ninths"
 
