@@ -1,35 +1,44 @@
--- READ THIS for the card with a rolling counter: 02's CR 9 and the customer's demands as theorems about its calls for C, from the words that C
--- sees, each under its sentence. The only hypothesis is a trace (specs/Rolled): its fresh, then any opens, closes, messages, instants and
--- readings, each result one that the call's contract allows; the Cited of door and of rolldoor hold it to the contracts in their src/lib.rt.
--- Each demand is its theorem about the engine's calls (traces), through rolls-as-ruled. No axiom, no hole.
+-- READ THIS for the card with a rolling counter: 02's CR 9 and the customer's demands as theorems about its calls for C, from the words
+-- that C sees, each under its sentence. The only hypothesis is a trace (specs/Rolled): its fresh, then any opens, closes, messages, cues,
+-- instants and readings, each result one that the call's contract allows; the Cited of door and of rolldoor hold it to the contracts in
+-- their src/lib.rt. Each demand is its theorem about the engine's calls (traces), through rolls-as-ruled. No axiom, no hole.
 use mathlib.Core.Path.{_≡_, refl, sym, ap, subst, _∙_}
 use mathlib.Core.Bool.{true, false, cond}
-use mathlib.Core.List.{List, [], _∷_, _++_}
-use Prim.Native.Nat.{ℕ, _+_, _*_, _/_, _%_, _≤_, _<_}
+use mathlib.Core.List.{List, [], _∷_, _++_, map}
+use Prim.Native.Nat.{ℕ, _+_, _-_, _*_, _/_, _%_, _≤_, _<_}
 use native.Mathlib.Omega.{arith}
 use native.Mathlib.Nat.{le-trans}
-use lib.ListN.{length, take}
+use lib.Dec.{eqb}
+use lib.ListN.{length, take, getD, replicate}
 use Rattle.rules.specs.declared.Request.{Request}
-use Rattle.rules.specs.Lists.{All, count}
+use Rattle.rules.specs.declared.When.the-variants.{At}
+use Rattle.rules.specs.Lists.{All, some, count}
 use Rattle.rules.specs.Bytes.{Byte, hasZero}
-use Rattle.rules.specs.Records.{recordsIn}
+use Rattle.rules.specs.Records.{recordsIn, General, ConfigResponse}
 use Rattle.rules.specs.Answers.{requested, spliceResult}
 use Rattle.rules.specs.Units.{timeOf, fromMicros}
-use Rattle.rules.specs.Calls.{fresh, after, lendingMaps}
-use Rattle.rules.specs.State.{Sorted, mostKept, recent}
+use Rattle.rules.specs.Cues.{readCue, cueTime, initialisedOnes, cueRecords}
+use Rattle.rules.specs.Calls.{fresh, after, lendingMaps, sectionOf, Loans}
+use Rattle.rules.specs.State.{empty, Sorted, startsAt, startsAfter, earliest, due, mostKept, recent, hardwareOf}
+use Rattle.rules.specs.Reading.{longestHardware}
 use Rattle.rules.specs.Sound.{horizon, Each, Falling, Coded}
 use Rattle.rules.specs.Rolling.{none, Rolling, stepOf, rollingOf, rollingFresh, instants, readings, roll, rolledAfter, asMoves}
 use Rattle.demands.specs.History.{startsOf, endsOf, history, ownAnswer, waitingCount, book, clockAfter}
-use Rattle.demands.specs.Told.{firstNumber, numberOf, answers, Asks, Passes, fullTold, countsTold, outsOf, startedTold, unended, Ended, Stands, airMuxTold, MuxInRange, Inquires, Finds}
+use Rattle.demands.specs.Told.{firstNumber, numberOf, answers, Asks, Passes, fullTold, countsTold, outsOf, startedTold, unended, Ended}
+use Rattle.demands.specs.Told.{Stands, airMuxTold, MuxInRange, Inquires, Finds, connOf, concerned, Carries}
+use Rattle.demands.specs.Alike.{Alike}
 use Rattle.demands.specs.Lately.{ofNumber, answerTold, endedOnce, KeptAs, endsTold}
 use Rattle.demands.specs.Airing.{airingsTold, clockTold, primaryTold, timeTold, airTold, numberTold}
+use Rattle.demands.specs.Kept.{keptTold, AsksConfig, AsksAlive, Ready, stateIn}
 use Rattle.demands.specs.Moments.{Gapless, Printed, Within, PlayedAs}
-use Rattle.memory.specs.Memory.{see, countsOf, lateOf}
-use Rattle.engine.specs.Lent.{Counts, Primary, ReadsMux}
-use Rattle.rolling.specs.LentRolling.{LentRolling}
+use Rattle.places.specs.Places.{round}
+use Rattle.places.specs.Places as places
+use Rattle.memory.specs.Memory.{see, placesFrom, countsOf, keptBytes, lateOf}
+use Rattle.engine.specs.Lent.{Counts, Primary, ReadsMux, ReadsFeed}
+use Rattle.rolling.specs.LentRolling.{counterOf, LentRolling}
 use Rattle.rolling.specs.Ruled.{rollChecks, Act, InTime, ticked, callsAt}
 use Rattle.rolling.proofs.Time as time
-use Rattle.door.specs.Door.{aClose, aMessage}
+use Rattle.door.specs.Door.{anOpen, aClose, aMessage, aCue, ptsOf}
 use Rattle.rolldoor.specs.RollDoor.{RollInput, aKnown, RollTyped, rollCallOf, rollBufferOf, RollSeen}
 use Rattle.traces.specs.Trace.{emptyMemory}
 use Rattle.traces.specs.Trace as engine
@@ -41,16 +50,19 @@ use Rattle.rows.specs.declared.Row.{Row}
 use Rattle.rows.specs.Rows.{rows, Pages, rowsOf}
 use Rattle.rows.proofs.Laws.{page-filled}
 use Rattle.door.proofs.Page.{page-shown}
-use Rattle.driven.specs.Driven.{numberIn, inside}
-use Rattle.driven.proofs.Inside.{number-inside}
-use Rattle.rolled.specs.Rolled.{Memory, shown, LentAt, left, Made, made, Trace, More, Point, seenOf, number, bytesOf, calls, inputs, othersBy, within, events, AsRuled, Answerable, Run}
-use Rattle.rolled.proofs.Inside.{trace-lent, trace-inside, trace-shown, trace-calls, within-append, fresh-told, known-more, calls-after}
+use Rattle.driven.specs.Driven.{numberIn, movedIn, replyIn, inside}
+use Rattle.driven.proofs.Inside.{number-inside, bytes-inside, allowed-inside}
+use Rattle.rolled.specs.Rolled.{Memory, shown, LentAt, left, Made, made, AllowedAt, Trace, More, Point, seenOf, number, moved}
+use Rattle.rolled.specs.Rolled.{bytesOf, calls, inputs, othersBy, grants, changes, within, events, AsRuled, Answerable, Run}
+use Rattle.rolled.proofs.Inside.{trace-lent, trace-inside, trace-shown, trace-calls, within-append, fresh-told, fresh-moved}
+use Rattle.rolled.proofs.Inside.{fresh-counter, known-more, calls-after}
 use Rattle.rolled.proofs.Course.{answerable, runs, trace-more, trace-point, trace-same}
-use Rattle.rolled.proofs.Next.{as-ruled, number-first, unchanged, Next, silent, calls-of, next, bytes-are, within-more, none-ends, none-outs, none-long, none-coded, none-played}
+use Rattle.rolled.proofs.Next.{as-ruled, number-first, unchanged, Next, silent, calls-of, next, bytes-are, moved-are, reply-are}
+use Rattle.rolled.proofs.Next.{within-more, none-ends, none-outs, none-long, none-coded, none-played}
 
 -- ## "On a splicer that came from fresh and the calls after it"
 
--- any name of 32 bytes and any inputs: this card's fresh, opens, closes, messages, instants and readings in any order
+-- any name of 32 bytes and any inputs: this card's fresh, opens, closes, messages, cues, instants and readings in any order
 pub any-calls : (name : List ℕ) → length name ≡ 32 → All Byte name → (is : List RollInput) → All RollTyped is → Run name is
 any-calls = runs
 
@@ -88,9 +100,10 @@ module _ (name : List ℕ) (h : List Made) (m : Memory) where
 pub true-step : (t d : ℕ) → d < 4294967296 → stepOf (t % 4294967296) ((t + d) % 4294967296) ≡ d
 true-step = time.true-step
 
--- "Given a UTC instant and a reading once, later readings move the clock on": after the calls h the counter has ticked t times and the clock
--- shows u, the last good call having read t; then come any opens, closes and messages, and readings, none more than 8,100,000 ticks after
--- the one before. The clock is exactly u and 100 ninths for each tick since, however often the counter has rolled over; no sum drifts
+-- "Given a UTC instant and a reading once, later readings move the clock on": after the calls h the counter has ticked t times and the
+-- clock shows u, the last good call having read t; then come any opens, closes, messages and cues, and readings, none more than 8,100,000
+-- ticks after the one before. The clock is exactly u and 100 ninths for each tick since, however often the counter has rolled over; no sum
+-- drifts
 module _ (name : List ℕ) (h : List Made) (m : Memory) (tr : Trace name h m) (t u : ℕ) (s : time.Shows t u (shown m)) where
   pub true-time : (acts : List Act) → All InTime acts → u + 100 * ticked acts < horizon
       → time.Shows (t + ticked acts) (u + 100 * ticked acts) (rolledAfter (callsAt t acts) (shown m))
@@ -143,12 +156,15 @@ module _ (name : List ℕ) (h : List Made) (m : Memory) where
         go (silent e) = none-long (bytesOf r) (e .bytes)
         go (calls-of j o e k) = rw (bytes-are name h m i r c) (called.answers-fit name (within h) (m .core) j (inside (seenOf r)) o)
 
-  -- fresh: number 9 for a name without a zero byte, and then the memory is that of an empty name, and no instant was given
+  -- fresh: number 9 for a name without a zero byte, and then the memory is that of an empty name, without sessions; the counter's words are
+  -- those of a card that no instant was given
   pub bad-name-number : (t : Trace name h m) → numberIn (t .reply) ≡ cond (hasZero name) 0 9
   bad-name-number t = fresh-told name h m t ∙ called.bad-name-number name (within h) (m .core) (trace-inside name h m t)
 
-  pub bad-name-gives-empty : (t : Trace name h m) → hasZero name ≡ false → t .begun .core ≡ emptyMemory
-  bad-name-gives-empty t = called.bad-name-gives-empty name (within h) (m .core) (trace-inside name h m t)
+  pub bad-name-gives-empty : (t : Trace name h m) → hasZero name ≡ false
+      → (t .begun .core ≡ emptyMemory) × (t .begun .counter ≡ counterOf none)
+  bad-name-gives-empty t bad =
+      (called.bad-name-gives-empty name (within h) (m .core) (trace-inside name h m t) bad, fresh-counter name h m t)
 
   -- ## Demand 2
 
@@ -170,8 +186,8 @@ module _ (name : List ℕ) (h : List Made) (m : Memory) where
       rw (bytes-are name h m _ r c)
       (called.first-code-applies name (within h) (m .core) d l pm im e (inside (seenOf r)) (known-more name h m (aMessage d l pm im e) r c) q asks)
 
-  -- 02, CR 1: "From here result 110 is no longer met": the result of every record in the answer's bytes, of every call, is one of 100, 102, 103,
-  -- 104, 109, 112, 114, 116, 120, 121, 123, 125
+  -- 02, CR 1: "From here result 110 is no longer met": the result of every record in the answer's bytes, of every call, is one of 100, 102,
+  -- 103, 104, 109, 112, 114, 116, 117, 120, 121, 123, 125; of a Cue_Request 0xFFFF
   pub codes-given : (i : RollInput) (r : RollSeen) → More name h m i r → All Coded (recordsIn (bytesOf r))
   codes-given i r c = go (next name h m i r c)
     where
@@ -276,6 +292,10 @@ module _ (name : List ℕ) (h : List Made) (m : Memory) where
       → r ≡ airMuxTold (shown m .splicer .queue .started) (book (events h) [])
   air-mux-told t = called.air-mux-told name (within h) (m .core) (trace-inside name h m t)
 
+  -- and it is 1 to 10
+  pub air-mux-in-range : Trace name h m → (r : ℕ) → ReadsMux (m .core .words) (m .core .bytes) r → (1 ≤ r) × (r ≤ 10)
+  air-mux-in-range t = called.air-mux-in-range name (within h) (m .core) (trace-inside name h m t)
+
 -- ## Document 02, CR 8
 
 module _ (name : List ℕ) (h : List Made) (m : Memory) where
@@ -321,6 +341,69 @@ module _ (name : List ℕ) (h : List Made) (m : Memory) where
   pub waiting-in-order : Trace name h m
       → Sorted (shown m .splicer .queue .waiting) × All (λ s. shown m .splicer .clock < s .start .0) (shown m .splicer .queue .waiting)
   waiting-in-order t = called.waiting-in-order name (within h) (m .core) (trace-inside name h m t)
+
+  -- so the first of them is the next start of all
+  pub first-starts-next : Trace name h m → 0 < length (shown m .splicer .queue .waiting) →
+      earliest (λ s. s .start) (shown m .splicer .queue .waiting) ≡ At (getD (shown m .splicer .queue .waiting) 0 empty .start)
+  first-starts-next t = called.first-starts-next name (within h) (m .core) (trace-inside name h m t)
+
+  -- and with none started it is what is due next
+  pub first-is-next : Trace name h m → 0 < length (shown m .splicer .queue .waiting) → shown m .splicer .queue .started ≡ [] →
+      due (shown m .splicer .queue) ≡ At (getD (shown m .splicer .queue .waiting) 0 empty .start)
+  first-is-next t = called.first-is-next name (within h) (m .core) (trace-inside name h m t)
+
+-- ## Document 02, CR 11
+
+module _ (name : List ℕ) (h : List Made) (m : Memory) where
+  -- "Report that number with the call. [..] A request not accepted reports 0.": and so does every call that is no Splice_Request answered
+  -- with 100, every instant and reading among them; fresh too
+  pub fresh-unmoved : (t : Trace name h m) → movedIn (t .reply) ≡ 0
+  fresh-unmoved t = fresh-moved name h m t ∙ called.fresh-unmoved name (within h) (m .core) (trace-inside name h m t)
+
+  pub unmoved-else : (i : RollInput) (r : RollSeen) → More name h m i r → grants i (recordsIn (bytesOf r)) ≡ false → moved r ≡ 0
+  unmoved-else i r c g = go (next name h m i r c)
+    where
+      go : Next name h m i r → moved r ≡ 0
+      go (silent e) = e .moved
+      go (calls-of j o f k) =
+          moved-are name h m i r c
+          ∙ called.unmoved-else name (within h) (m .core) j (inside (seenOf r)) o
+          (rw (f .grants (recordsIn (bytesOf r)), bytes-are name h m i r c) at g)
+
+  -- "and is at most 63", of every call
+  pub at-most-63 : (i : RollInput) (r : RollSeen) → More name h m i r → moved r ≤ 63
+  at-most-63 i r c = go (next name h m i r c)
+    where
+      go : Next name h m i r → moved r ≤ 63
+      go (silent e) = rw (e .moved) (omega arith)
+      go (calls-of j o f k) = rw (moved-are name h m i r c) (called.at-most-63 name (within h) (m .core) j (inside (seenOf r)) o)
+
+  -- connection d sends the bytes l, which are a Splice_Request q, and the last record in the answer's bytes is its 100
+  module _ (d : ℕ) (l pm im e : List ℕ) (r : RollSeen) (c : More name h m (aKnown (aMessage d l pm im e)) r) (q : Request)
+      (asks : Asks d l (lendingMaps pm im (length e)) q (shown m .splicer))
+      (yes : ownAnswer (answers 100 d (q .id)) (recordsIn (bytesOf r)) ≡ true) where
+    abbrev start : ℕ
+    start = requested d q (shown m .splicer .queue) .start .0
+
+    granted : ownAnswer (answers 100 d (q .id)) (recordsIn (engine.bytesOf (inside (seenOf r)))) ≡ true
+    granted = rw (bytes-are name h m _ r c) at yes
+
+    -- "It equals the waiting sessions, after any eviction, whose start is later than the new one's": of those that wait after the call
+    pub moved-is-later : moved r ≡ count (startsAfter start) (shown (left r) .splicer .queue .waiting)
+    moved-is-later =
+        moved-are name h m _ r c
+        ∙ called.moved-is-later name (within h) (m .core) d l pm im e (inside (seenOf r))
+        (known-more name h m (aMessage d l pm im e) r c) q asks granted
+
+    -- "how many places an acceptance shifts": where it evicts nobody, of the lent places, from the ring's new end on, all but the last
+    -- `moved` and its own hold what they held
+    pub places-stay : some (startsAt start) (shown m .splicer .queue .waiting) ≡ false
+        → let k = places.next (see (m .core .words) .ringEnd) in
+        take (round - (moved r + 1)) (placesFrom k (r .words)) ≡ take (round - (moved r + 1)) (placesFrom k (m .core .words))
+    places-stay free =
+        rw (moved-are name h m _ r c)
+        (called.places-stay name (within h) (m .core) d l pm im e (inside (seenOf r))
+        (known-more name h m (aMessage d l pm im e) r c) q asks granted free)
 
 -- ## Document 02, CR 13
 
@@ -374,3 +457,112 @@ module _ (name : List ℕ) (h g : List Made) (m : Memory) (t : Trace name (h ++ 
   -- a list printed later says the same: each session stands in it, in its order; its time never falls, and is fixed once its end is written
   pub prints-alike : Within (Printed (events h) (events (h ++ g))) (airingsTold (events h)) (airingsTold (events (h ++ g)))
   prints-alike = rw (within-append h g) (called.prints-alike name (within h) (within g) (m .core) both)
+
+-- ## Document 02, CR 7
+
+-- a cue call with the section l, what is given with it, and the buffer e; it needs no time of this card's
+module _ (name : List ℕ) (h : List Made) (m : Memory) (l g e : List ℕ) (r : RollSeen) (c : More name h m (aKnown (aCue l g e)) r) where
+  called-cue : engine.More name (within h) (m .core) (engine.aCue l (ptsOf g) (getD g 2 0) (getD g 3 0) e) (inside (seenOf r))
+  called-cue = known-more name h m (aCue l g e) r c
+
+  -- "It reads the connections' states and changes nothing": the lent words and bytes are after it what they were, also when it is good, and
+  -- the counter's words too
+  pub cue-changes-nothing : left r ≡ m
+  cue-changes-nothing =
+      let same =
+      called.cue-changes-nothing name (within h) (m .core) l (ptsOf g) (getD g 2 0) (getD g 3 0) e (inside (seenOf r)) called-cue in
+      λ j. record { core = same j; counter = c .allowed .1 j }
+
+  -- no record of it is a start, an end or an own answer: the waiting counts, the book, the clock, what has started, who owned each ninth,
+  -- what has ended and what is kept, from the answers, are with it what they were without it
+  pub cue-counts-nothing : Alike (events h) (events (h ++ (made (aKnown (aCue l g e)) r ∷ [])))
+  cue-counts-nothing =
+      subst (λ (x : List engine.Made). Alike (events h) (engine.events x)) (sym (within-more h (aKnown (aCue l g e)) r))
+      (called.cue-counts-nothing name (within h) (m .core) l (ptsOf g) (getD g 2 0) (getD g 3 0) e (inside (seenOf r)) called-cue)
+
+  good-cue : number r ≡ 0 → engine.number (inside (seenOf r)) ≡ 0
+  good-cue n = sym (number-inside (c .allowed .0)) ∙ n
+
+  -- of a good one: "to every initialised connection, from 0 upward", each once, and to no other
+  pub cue-to-whom : number r ≡ 0 → map connOf (recordsIn (bytesOf r)) ≡ concerned (readCue l) (shown m .splicer)
+  cue-to-whom n =
+      rw (bytes-are name h m _ r c)
+      (called.cue-to-whom name (within h) (m .core) l (ptsOf g) (getD g 2 0) (getD g 3 0) e (inside (seenOf r)) called-cue (good-cue n))
+
+  -- and which records those are: 117 for a bad section, else the Cue_Request with the cue's time
+  pub cue-records : number r ≡ 0 → let at = cueTime (ptsOf g) (getD g 2 0) (getD g 3 0) (readCue l) in
+      recordsIn (bytesOf r) ≡ cueRecords (readCue l) at l (initialisedOnes (shown m .splicer .links))
+  cue-records n =
+      rw (bytes-are name h m _ r c)
+      (called.cue-records name (within h) (m .core) l (ptsOf g) (getD g 2 0) (getD g 3 0) e (inside (seenOf r)) called-cue (good-cue n))
+
+  -- "the whole section as it came": each Cue_Request's bytes from the 19th on
+  pub cue-whole : All (Carries l) (recordsIn (bytesOf r))
+  cue-whole =
+      rw (bytes-are name h m _ r c)
+      (called.cue-whole name (within h) (m .core) l (ptsOf g) (getD g 2 0) (getD g 3 0) e (inside (seenOf r)) called-cue)
+
+-- ## Document 02, CR 6
+
+module _ (name : List ℕ) (h : List Made) (m : Memory) where
+  -- "Keep Hardware_Config per connection": what is kept is what the calls and the answers' bytes tell, the structure of the connection's
+  -- latest Init_Request whose answer was Init_Response 100, since it was opened
+  pub kept-told : Trace name h m → (d : ℕ) → hardwareOf d (shown m .splicer) ≡ keptTold d (events h)
+  kept-told t = called.kept-told name (within h) (m .core) (trace-inside name h m t)
+
+  -- "Servers ask with GetConfig_Request (0x000A, no data) and expect ChannelName, the Hardware_Config of their Init_Request and the output
+  -- channel's program map section.": of an initialised connection, the answer is that one record
+  pub config-told : (d : ℕ) (l pm im e : List ℕ) (r : RollSeen) → More name h m (aKnown (aMessage d l pm im e)) r
+      → AsksConfig d l (lendingMaps pm im (length e)) (shown m .splicer) → Ready d (shown m .splicer)
+      → let section = sectionOf (lendingMaps pm im (length e)) (shown m .splicer) in
+      recordsIn (bytesOf r) ≡ ConfigResponse d 100 (shown m .splicer .name) (keptTold d (events h)) section ∷ []
+  config-told d l pm im e r c asks ready =
+      rw (bytes-are name h m _ r c)
+      (called.config-told name (within h) (m .core) d l pm im e (inside (seenOf r))
+      (known-more name h m (aMessage d l pm im e) r c) asks ready)
+
+  -- "Our card passes the map of the feed that is on air": the insertion's exactly where an Alive_Request in its place is answered with
+  -- State 2
+  pub section-told : (d : ℕ) (l pm im e : List ℕ) (r : RollSeen) → More name h m (aKnown (aMessage d l pm im e)) r
+      → AsksAlive d l (lendingMaps pm im (length e)) (shown m .splicer) → Ready d (shown m .splicer)
+      → (loans : Loans)
+      → sectionOf loans (shown m .splicer) ≡ cond (eqb (stateIn (recordsIn (bytesOf r))) 2) (loans .insertion) (loans .primary)
+  section-told d l pm im e r c asks ready loans =
+      rw (bytes-are name h m _ r c)
+      (called.section-told name (within h) (m .core) d l pm im e (inside (seenOf r))
+      (known-more name h m (aMessage d l pm im e) r c) asks ready loans)
+
+  -- what C is told of it, 0 or 1, is whose section that is
+  pub section-read : (r : ℕ) → ReadsFeed (m .core .words) (m .core .bytes) r
+      → (loans : Loans) → sectionOf loans (shown m .splicer) ≡ cond (eqb r 0) (loans .primary) (loans .insertion)
+  section-read = called.section-read name (within h) (m .core)
+
+  -- "A later Init that gets 100 replaces it; close forgets it.": nothing else changes what a connection keeps, no instant and no reading
+  pub nothing-else-changes : (i : RollInput) (r : RollSeen) → More name h m i r
+      → (d : ℕ) → changes d i (replyIn (r .reply) (r .buffer)) ≡ false
+      → hardwareOf d (shown (left r) .splicer) ≡ hardwareOf d (shown m .splicer)
+  nothing-else-changes i r c d e = go (next name h m i r c)
+    where
+      go : Next name h m i r → hardwareOf d (shown (left r) .splicer) ≡ hardwareOf d (shown m .splicer)
+      go (silent s) = ap (λ (x : Memory). hardwareOf d (shown x .splicer)) (s .left)
+      go (calls-of j o f k) =
+          called.nothing-else-changes name (within h) (m .core) j (inside (seenOf r)) o d
+          (rw (f .changes d _, reply-are name h m i r c) at e)
+
+  -- "close forgets it": after a good close the connection's 256 bytes are zero
+  pub close-forgets : (d : ℕ) (e : List ℕ) (r : RollSeen) → More name h m (aKnown (aClose d e)) r → number r ≡ 0
+      → keptBytes d (r .bytes) ≡ replicate longestHardware 0
+  close-forgets d e r c z =
+      called.close-forgets name (within h) (m .core) d e (inside (seenOf r)) (known-more name h m (aClose d e) r c)
+      (sym (number-inside (c .allowed .0)) ∙ z)
+
+  -- and after a good open, so after a later one too, a GetConfig_Request gets 103
+  pub opened-denied : (d : ℕ) (r : RollSeen) → More name h m (aKnown (anOpen d)) r → number r ≡ 0
+      → (l pm im e : List ℕ) (q : RollSeen) → AllowedAt (left r) (aKnown (aMessage d l pm im e)) q
+      → AsksConfig d l (lendingMaps pm im (length e)) (shown (left r) .splicer)
+      → recordsIn (bytesOf q) ≡ General d 103 ∷ []
+  opened-denied d r c z l pm im e q a asks =
+      rw (bytes-inside (a .0))
+      (called.opened-denied name (within h) (m .core) d (inside (seenOf r)) (known-more name h m (anOpen d) r c)
+      (sym (number-inside (c .allowed .0)) ∙ z) l pm im e (inside (seenOf q))
+      (allowed-inside (left r .core) (aMessage d l pm im e) (seenOf q) (a .0)) asks)
