@@ -4,6 +4,7 @@
 use mathlib.Core.Path.{_≡_, sym, ap, _∙_, subst}
 use mathlib.Core.Bool.{true, false, cond}
 use mathlib.Core.List.{List, [], _∷_, _++_, map}
+use mathlib.Core.Logic.{_⊎_}
 use Prim.Native.Nat.{ℕ, _+_, _-_, _/_, _≤_, _<_}
 use native.Mathlib.Nat.{le-trans}
 use lib.Dec.{eqb}
@@ -20,7 +21,8 @@ use Rattle.rules.specs.Answers.{requested, spliceResult}
 use Rattle.rules.specs.Cues.{readCue, cueTime, initialisedOnes, cueRecords}
 use Rattle.rules.specs.Calls.{fresh, after, lendingMaps, sectionOf, Loans}
 use Rattle.demands.specs.History.{Event, startsOf, endsOf, history, ownAnswer, othersOf, waitingCount, book, clockAfter}
-use Rattle.demands.specs.Told.{firstNumber, checks, answers, Asks, Passes, fullTold, countsTold, grantedBy, outsOf, startedTold, unended}
+use Rattle.demands.specs.Told.{firstNumber, checks, answers, Asks, Passes, earlierCode, fullTold, countsTold, grantedBy, outsOf}
+use Rattle.demands.specs.Told.{startedTold, unended}
 use Rattle.demands.specs.Told.{Ended, Stands, airMuxTold, MuxInRange, Inquires, Finds, connOf, concerned, Carries}
 use Rattle.demands.specs.Alike.{Alike}
 use Rattle.demands.specs.Lately.{ofNumber, answerTold, endedOnce, KeptAs, endsTold}
@@ -140,6 +142,16 @@ module _ (name : List ℕ) (h : List Made) (m : Memory) where
   first-code-applies d l pm im e r c q asks =
       rw (bytes-inside (c .allowed))
       (called.first-code-applies name (within h) m d l pm im e (inside r) (more-inside name h m (aMessage d l pm im e) r c) q asks)
+
+  -- A request that is read passes b to d (a is gone: 02, CR 1), or the last record in the answer's bytes has the first of their codes that
+  -- applies
+  pub earlier-or-passes : (d : ℕ) (l pm im e : List ℕ) (r : Seen) → More name h m (aMessage d l pm im e) r
+      → (q : Request) → Asks d l (lendingMaps pm im (length e)) q (shown m)
+      → Passes d q (shown m) ⊎ ((earlierCode d q (shown m) ≡ 100 → ⊥)
+      × (ownAnswer (answers (earlierCode d q (shown m)) d (q .id)) (recordsIn (bytesOf r)) ≡ true))
+  earlier-or-passes d l pm im e r c q asks =
+      rw (bytes-inside (c .allowed))
+      (called.earlier-or-passes name (within h) m d l pm im e (inside r) (more-inside name h m (aMessage d l pm im e) r c) q asks)
 
   -- 02, CR 1: "From here result 110 is no longer met": the result of every record in the answer's bytes, of every call, is one of 100, 102, 103,
   -- 104, 109, 112, 114, 116, 117, 120, 121, 123, 125; of a Cue_Request 0xFFFF

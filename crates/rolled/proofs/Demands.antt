@@ -5,6 +5,7 @@
 use mathlib.Core.Path.{_≡_, refl, sym, ap, subst, _∙_}
 use mathlib.Core.Bool.{true, false, cond}
 use mathlib.Core.List.{List, [], _∷_, _++_, map}
+use mathlib.Core.Logic.{_⊎_}
 use Prim.Native.Nat.{ℕ, _+_, _-_, _*_, _/_, _%_, _≤_, _<_}
 use native.Mathlib.Omega.{arith}
 use native.Mathlib.Nat.{le-trans}
@@ -24,7 +25,8 @@ use Rattle.rules.specs.Reading.{longestHardware}
 use Rattle.rules.specs.Sound.{horizon, Each, Falling, Coded}
 use Rattle.rules.specs.Rolling.{none, Rolling, stepOf, rollingOf, rollingFresh, instants, readings, roll, rolledAfter, asMoves}
 use Rattle.demands.specs.History.{startsOf, endsOf, history, ownAnswer, waitingCount, book, clockAfter}
-use Rattle.demands.specs.Told.{firstNumber, numberOf, answers, Asks, Passes, fullTold, countsTold, outsOf, startedTold, unended, Ended}
+use Rattle.demands.specs.Told.{firstNumber, numberOf, answers, Asks, Passes, earlierCode, fullTold, countsTold, outsOf, startedTold}
+use Rattle.demands.specs.Told.{unended, Ended}
 use Rattle.demands.specs.Told.{Stands, airMuxTold, MuxInRange, Inquires, Finds, connOf, concerned, Carries}
 use Rattle.demands.specs.Alike.{Alike}
 use Rattle.demands.specs.Lately.{ofNumber, answerTold, endedOnce, KeptAs, endsTold}
@@ -185,6 +187,17 @@ module _ (name : List ℕ) (h : List Made) (m : Memory) where
   first-code-applies d l pm im e r c q asks =
       rw (bytes-are name h m _ r c)
       (called.first-code-applies name (within h) (m .core) d l pm im e (inside (seenOf r)) (known-more name h m (aMessage d l pm im e) r c) q asks)
+
+  -- A request that is read passes b to d (a is gone: 02, CR 1), or the last record in the answer's bytes has the first of their codes that
+  -- applies
+  pub earlier-or-passes : (d : ℕ) (l pm im e : List ℕ) (r : RollSeen) → More name h m (aKnown (aMessage d l pm im e)) r
+      → (q : Request) → Asks d l (lendingMaps pm im (length e)) q (shown m .splicer)
+      → Passes d q (shown m .splicer) ⊎ ((earlierCode d q (shown m .splicer) ≡ 100 → ⊥)
+      × (ownAnswer (answers (earlierCode d q (shown m .splicer)) d (q .id)) (recordsIn (bytesOf r)) ≡ true))
+  earlier-or-passes d l pm im e r c q asks =
+      rw (bytes-are name h m _ r c)
+      (called.earlier-or-passes name (within h) (m .core) d l pm im e (inside (seenOf r))
+      (known-more name h m (aMessage d l pm im e) r c) q asks)
 
   -- 02, CR 1: "From here result 110 is no longer met": the result of every record in the answer's bytes, of every call, is one of 100, 102,
   -- 103, 104, 109, 112, 114, 116, 117, 120, 121, 123, 125; of a Cue_Request 0xFFFF

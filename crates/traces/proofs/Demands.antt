@@ -4,6 +4,7 @@
 use mathlib.Core.Path.{_≡_, refl, sym, ap, subst, _∙_}
 use mathlib.Core.Bool.{true, false, cond}
 use mathlib.Core.List.{List, [], _∷_, _++_, map}
+use mathlib.Core.Logic.{_⊎_}
 use Prim.Native.Nat.{ℕ, _+_, _-_, _/_, _≤_, _<_}
 use native.Mathlib.Nat.{le-trans}
 use lib.Dec.{eqb}
@@ -28,7 +29,8 @@ use Rattle.engine.specs.declared.Answer.the-variants.{Refused}
 use Rattle.places.specs.Places.{round, next}
 use Rattle.memory.specs.Memory.{see, placesFrom, countsOf, tallied, keptBytes}
 use Rattle.engine.specs.Lent.{Lent, Counts, Primary, ReadsMux, ReadsFeed}
-use Rattle.demands.specs.Told.{firstNumber, checks, answers, Asks, Passes, fullTold, countsTold, grantedBy, outsOf, startedTold, unended, Ended, Stands, airMuxTold, MuxInRange, Inquires, Finds, connOf, concerned, Carries}
+use Rattle.demands.specs.Told.{firstNumber, checks, answers, Asks, Passes, earlierCode, fullTold, countsTold, grantedBy, outsOf}
+use Rattle.demands.specs.Told.{startedTold, unended, Ended, Stands, airMuxTold, MuxInRange, Inquires, Finds, connOf, concerned, Carries}
 use Rattle.demands.specs.Alike.{Alike}
 use Rattle.demands.specs.Lately.{ofNumber, answerTold, endedOnce, KeptAs, endsTold}
 use Rattle.demands.specs.Airing.{airingsTold, clockTold, primaryTold, timeTold, airTold, numberTold}
@@ -40,9 +42,12 @@ use Rattle.demands.proofs.Moved as shifting
 use Rattle.demands.proofs.Owners as owners
 use Rattle.demands.proofs.Said as said
 use Rattle.demands.proofs.Kept as kept
-use Rattle.traces.specs.Trace.{Memory, emptyMemory, shown, Input, anOpen, aClose, aMessage, aCue, Typed, callOf, bufferOf, Result, Allowed, Made, made, Leads, Trace, More, Point, numberIn, number, movedIn, moved, bytesOf, replyIn, events, calls, inputs, Answerable, Run, AsRuled}
+use Rattle.traces.specs.Trace.{Memory, emptyMemory, shown, Input, anOpen, aClose, aMessage, aCue, Typed, callOf, bufferOf, Result}
+use Rattle.traces.specs.Trace.{Allowed, Made, made, Leads, Trace, More, Point, numberIn, number, movedIn, moved, bytesOf, replyIn}
+use Rattle.traces.specs.Trace.{events, calls, inputs, Answerable, Run, AsRuled}
 use Rattle.traces.proofs.Steps.{wired, promised, as-ruled, replied, number-is, number-first, unchanged}
-use Rattle.traces.proofs.Course.{events-append, led-wired, led-heard, trace-lent, trace-history, trace-told, trace-more, trace-point, trace-same, fresh-number, fresh-empty}
+use Rattle.traces.proofs.Course.{events-append, led-wired, led-heard, trace-lent, trace-history, trace-told, trace-more, trace-point}
+use Rattle.traces.proofs.Course.{trace-same, fresh-number, fresh-empty}
 use Rattle.traces.proofs.Closed.{not-full, closed-stands, unended-newer}
 use Rattle.traces.proofs.Kept.{close-low, forgotten}
 use Rattle.traces.proofs.Answerable.{answerable, runs}
@@ -125,6 +130,16 @@ module _ (name : List ℕ) (h : List Made) (m : Memory) where
   first-code-applies d l pm im e r c q asks =
       rw (as-ruled m (aMessage d l pm im e) r (c .allowed) .bytes)
       (told.first-code-applies (events h) (shown m) (trace-told name h m (c .trace)) d l (lendingMaps pm im (length e)) q asks)
+
+  -- A request that is read passes b to d (a is gone: 02, CR 1), or the last record in the answer's bytes has the first of their codes that
+  -- applies
+  pub earlier-or-passes : (d : ℕ) (l pm im e : List ℕ) (r : Result) → More name h m (aMessage d l pm im e) r
+      → (q : Request) → Asks d l (lendingMaps pm im (length e)) q (shown m)
+      → Passes d q (shown m) ⊎ ((earlierCode d q (shown m) ≡ 100 → ⊥)
+      × (ownAnswer (answers (earlierCode d q (shown m)) d (q .id)) (recordsIn (bytesOf r)) ≡ true))
+  earlier-or-passes d l pm im e r c q asks =
+      rw (as-ruled m (aMessage d l pm im e) r (c .allowed) .bytes)
+      (told.earlier-or-passes (events h) (shown m) (trace-told name h m (c .trace)) d l (lendingMaps pm im (length e)) q asks)
 
   -- 02, CR 1: "From here result 110 is no longer met": the result of every record in the answer's bytes, of every call, is one of 100, 102, 103,
   -- 104, 109, 112, 114, 116, 117, 120, 121, 123, 125; of a Cue_Request 0xFFFF
