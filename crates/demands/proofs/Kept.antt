@@ -117,9 +117,9 @@ call-kept : (c : ℕ) (s : Splicer) (k : Call) → Wired k → Sound s
 call-kept c s k w h = kept-reply c k (call k s .answer) (hardwareOf c s) (sound-found s k w h) ∙ call-keeps c s (h .linking .keeping) k
 
 -- "Nothing but a good Init and a good close changes a kept structure"
-pub nothing-else : (h : List Event) (s : Splicer) → FromFresh h s → (k : Call) → Wired k → (c : ℕ) → changed c k (replyOf (call k s .answer)) ≡ false
+pub nothing-else-changes : (h : List Event) (s : Splicer) → FromFresh h s → (k : Call) → Wired k → (c : ℕ) → changed c k (replyOf (call k s .answer)) ≡ false
     → hardwareOf c (call k s .splicer) ≡ hardwareOf c s
-nothing-else h s f k w c e =
+nothing-else-changes h s f k w c e =
     sym (call-kept c s k w (from-sound h s f)) ∙ ap (λ (b : Bool). cond b (left k) (hardwareOf c s)) e
 
 -- "close forgets it"

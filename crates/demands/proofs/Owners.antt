@@ -323,8 +323,8 @@ no-gap h s f js w =
 
 -- ## "The sums .. from which PlayedDuration is rounded": what was told of a session is its time, now and in every later list
 
-pub listed-as-counted : (h : List Event) (s : Splicer) → FromFresh h s → All (λ a. a .listed ≡ true → a .said ≡ timeTold h a / 100) (airingsTold h)
-listed-as-counted h s f =
+pub lists-as-counted : (h : List Event) (s : Splicer) → FromFresh h s → All (λ a. a .listed ≡ true → a .said ≡ timeTold h a / 100) (airingsTold h)
+lists-as-counted h s f =
     let l = airingsTold h in
     rw (clock-told h s f) (all-into (Listed (s .clock) l) (λ a. a .listed ≡ true → a .said ≡ airTime (s .clock) l a / 100) (λ a i. i .said) l (owned-told h s f .listed))
 

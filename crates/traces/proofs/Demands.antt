@@ -371,7 +371,7 @@ module _ (name : List ℕ) (h : List Made) (m : Memory) where
 
   -- and so has each session in every later list
   pub lists-as-counted : Trace name h m → All (λ a. a .listed ≡ true → a .said ≡ timeTold (events h) a / 100) (airingsTold (events h))
-  lists-as-counted t = owners.listed-as-counted (events h) (shown m) (trace-told name h m t)
+  lists-as-counted t = owners.lists-as-counted (events h) (shown m) (trace-told name h m t)
 
 -- "Between any two points of any sequence of calls": the calls h were made before the first, and then the calls g
 module _ (name : List ℕ) (h g : List Made) (m : Memory) (t : Trace name (h ++ g) m) where
@@ -464,7 +464,7 @@ module _ (name : List ℕ) (h : List Made) (m : Memory) where
       → hardwareOf d (shown (r .memory)) ≡ hardwareOf d (shown m)
   nothing-else-changes i r c d e =
       ap (hardwareOf d) (as-ruled m i r (c .allowed) .state)
-      ∙ kept.nothing-else (events h) (shown m) (trace-told name h m (c .trace)) (callOf i) (wired i (c .typed)) d
+      ∙ kept.nothing-else-changes (events h) (shown m) (trace-told name h m (c .trace)) (callOf i) (wired i (c .typed)) d
       (ap (changed d (callOf i)) (sym (replied m i r (c .allowed))) ∙ e)
 
   -- "close forgets it": after a good close the connection's 256 bytes are zero
