@@ -1,0 +1,105 @@
+#!/bin/sh
+# theorems.sh: the customer's demands are one list of theorems. Each name that proofs/Demands of demands (of the definitions), traces (of
+# the engine's calls), driven (of the door's) or rolled (of the rolling card's) has, the three others have too, or the table below says why
+# one cannot, or in which file it has it; of the three that speak of calls in the same order. The last line is 'N passed, M failed'.
+set -eu
+. "$(dirname "$0")/words.sh"
+no_words "$@"
+cd "$(dirname "$0")/.."
+work=target/theorems
+rm -rf "$work"
+mkdir -p "$work"
+
+# LIST..: NAME..: why these lists cannot have these theorems, or `in FILE`, another of their proofs/ that has them by these names
+cat >"$work/lacking" <<'END'
+traces driven rolled: more-calls: trace-goes-on says it of calls
+demands: trace-goes-on: more-calls says it of a history
+demands: every-point same-calls-same-results: a definition gives each history one splicer at each point
+demands: every-call-may-be-made every-call-is-answered: a definition requires nothing, and answers everything
+demands: answers-as-ruled trace-as-ruled: the rules themselves are spoken of there
+demands: reserved-places-hold: full-exactly-when with a count below 10
+demands: the-incident: closed-stays-ended and ends-are-owed, put together where the calls that follow are made
+demands: stored-as-told read-as-told primary-read section-read: what the words of the memory hold and what a read gives
+demands: places-stay fresh-unmoved: the lent places, and the words of fresh's reply
+demands: no-two-alike waiting-in-order first-starts-next first-is-next waiting-played-none: of every splicer, by rules/proofs/Sound
+demands: unmoved-else at-most-63 moved-is-later: in Moved
+demands: every-moment primary-kept air-kept lists-as-counted no-gap prints-alike: in Owners
+demands: played-as-counted: in Said
+demands: kept-told config-told section-told nothing-else-changes close-forgets opened-denied: in Kept
+demands traces: page-read: the page is a call of the door's alone
+demands traces: calls-of-the-engine: these are the definitions, and the engine's calls themselves
+rolled: calls-of-the-engine: rolls-as-ruled says it, and calls-as-ruled which calls they are
+demands traces driven: rolls-as-ruled calls-as-ruled state-as-ruled: how the rolling card's calls amount to those of document 01
+demands traces driven: true-step true-time true-time-shown true-time-good instant-shows: 02, CR 9, the counter's time: no other card has one
+END
+
+lists='demands traces driven rolled'
+for list in $lists; do
+    sed -nE 's/^ *pub ([^ ]+) :.*/\1/p' "crates/$list/proofs/Demands.antt" >"$work/$list"
+done
+
+# each name of any list, in each list: it is there once, or the table says why not, and not both; each name of the table is in some list
+awk -v lists="$lists" -v work="$work" '
+function wrong(words) { print "theorems: " words ": FAILED"; bad = 1 }
+function stands(list, file, name,    path, line, found) {
+    path = "crates/" list "/proofs/" file ".antt"
+    while ((getline line < path) > 0) if (line ~ "^ *pub " name " :") found = 1
+    close(path)
+    return found
+}
+BEGIN {
+    FS = ": *"
+    n = split(lists, list, " ")
+    for (i = 1; i <= n; i++) {
+        while ((getline line < (work "/" list[i])) > 0) {
+            if (!(line in known)) { known[line] = 1; order[++all] = line }
+            has[list[i], line]++
+        }
+    }
+}
+{
+    k = split($1, in_list, " ")
+    m = split($2, name, " ")
+    for (i = 1; i <= k; i++) for (j = 1; j <= m; j++) {
+        if ($3 == "") wrong("the table gives no reason for " name[j])
+        else if (!(name[j] in known)) wrong("the table has " name[j] ", which no list has")
+        else if ((in_list[i], name[j]) in excused) wrong("the table has " name[j] " of " in_list[i] " twice")
+        else if ($3 ~ /^in [A-Z][a-z]*$/ && !stands(in_list[i], substr($3, 4), name[j])) wrong(in_list[i] " has no " name[j] " " $3)
+        excused[in_list[i], name[j]] = 1
+        if (bad) { failed++; bad = 0 }
+    }
+}
+END {
+    for (j = 1; j <= all; j++) {
+        for (i = 1; i <= n; i++) {
+            times = has[list[i], order[j]] + 0
+            told = (list[i], order[j]) in excused
+            if (times > 1) wrong(list[i] " has " order[j] " " times " times")
+            else if (times == 0 && !told) wrong(list[i] " lacks " order[j] ", and the table says no reason")
+            else if (times == 1 && told) wrong(list[i] " has " order[j] ", and the table says why it cannot")
+        }
+        if (bad) failed++
+        else passed++
+        bad = 0
+    }
+    print passed + 0, failed + 0 >(work "/count")
+}' "$work/lacking"
+read -r passed failed <"$work/count"
+
+# in_order ONE OTHER: the names that both have come in the same order
+in_order() {
+    grep -xFf "$work/$2" "$work/$1" >"$work/one"
+    grep -xFf "$work/$1" "$work/$2" >"$work/other"
+    if diff "$work/one" "$work/other"; then
+        passed=$((passed + 1))
+    else
+        echo "theorems: $1 and $2 have them in another order: FAILED"
+        failed=$((failed + 1))
+    fi
+}
+in_order traces driven
+in_order traces rolled
+in_order driven rolled
+for list in $lists; do echo "theorems: $(($(wc -l <"$work/$list"))) of $list"; done
+echo "$passed passed, $failed failed"
+[ "$failed" -eq 0 ]
