@@ -418,17 +418,15 @@ module _ (name : List ℕ) (h g : List Made) (m : Memory) (t : Trace name (h ++ 
 
 -- a cue call with the section l, what is given with it, and the buffer e
 module _ (name : List ℕ) (h : List Made) (m : Memory) (l g e : List ℕ) (r : Seen) (c : More name h m (aCue l g e) r) where
-  abbrev one : List Made
-  one = made (aCue l g e) r ∷ []
-
   -- "It reads the connections' states and changes nothing": the lent words and bytes are after it what they were, also when it is good
   pub cue-changes-nothing : left r ≡ m
   cue-changes-nothing = called.cue-changes-nothing name (within h) m l (ptsOf g) (getD g 2 0) (getD g 3 0) e (inside r) (more-inside name h m (aCue l g e) r c)
 
   -- no record of it is a start, an end or an own answer: the waiting counts, the book, the clock, what has started, who owned each ninth, what
   -- has ended and what is kept, from the answers, are with it what they were without it
-  pub cue-counts-nothing : Alike (events h) (events (h ++ one))
+  pub cue-counts-nothing : Alike (events h) (events (h ++ (made (aCue l g e) r ∷ [])))
   cue-counts-nothing =
+      let one = made (aCue l g e) r ∷ [] in
       subst (λ (x : List Event). Alike x (events (h ++ one))) (sym (trace-events name h m (c .trace)))
       (subst (λ (x : List Event). Alike (engine.events (within h)) x) (sym (trace-events name _ _ (trace-more name h m (aCue l g e) r c) ∙ ap engine.events (within-append h one)))
       (called.cue-counts-nothing name (within h) m l (ptsOf g) (getD g 2 0) (getD g 3 0) e (inside r) (more-inside name h m (aCue l g e) r c)))

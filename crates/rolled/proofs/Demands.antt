@@ -37,12 +37,11 @@ use Rattle.places.specs.Places.{round}
 use Rattle.places.specs.Places as places
 use Rattle.memory.specs.Memory.{see, placesFrom, countsOf, keptBytes, lateOf}
 use Rattle.engine.specs.Lent.{Counts, Primary, ReadsMux, ReadsFeed}
-use Rattle.rolling.specs.LentRolling.{counterOf, LentRolling}
+use Rattle.rolling.specs.LentRolling.{LentRolling}
 use Rattle.rolling.specs.Ruled.{rollChecks, Act, InTime, ticked, callsAt}
 use Rattle.rolling.proofs.Time as time
 use Rattle.door.specs.Door.{anOpen, aClose, aMessage, aCue, ptsOf}
 use Rattle.rolldoor.specs.RollDoor.{RollInput, aKnown, RollTyped, rollCallOf, rollBufferOf, RollSeen}
-use Rattle.traces.specs.Trace.{emptyMemory}
 use Rattle.traces.specs.Trace as engine
 use Rattle.traces.proofs.Closed.{not-full, unended-newer}
 use Rattle.traces.proofs.Course as core
@@ -54,7 +53,8 @@ use Rattle.rows.proofs.Laws.{page-filled}
 use Rattle.door.proofs.Page.{page-shown}
 use Rattle.driven.specs.Driven.{numberIn, movedIn, replyIn, inside}
 use Rattle.driven.proofs.Inside.{number-inside, bytes-inside, allowed-inside}
-use Rattle.rolled.specs.Rolled.{Memory, shown, LentAt, left, Made, made, AllowedAt, Trace, More, Point, seenOf, number, moved}
+use Rattle.rolled.specs.Rolled.{Memory, shown, emptyMemory, LentAt, left, Made, made, AllowedAt, Trace, More, Point, seenOf, number}
+use Rattle.rolled.specs.Rolled.{moved}
 use Rattle.rolled.specs.Rolled.{bytesOf, calls, inputs, othersBy, grants, changes, within, events, AsRuled, Answerable, Run}
 use Rattle.rolled.proofs.Inside.{trace-lent, trace-inside, trace-shown, trace-calls, within-append, fresh-told, fresh-moved}
 use Rattle.rolled.proofs.Inside.{fresh-counter, known-more, calls-after}
@@ -163,10 +163,10 @@ module _ (name : List ℕ) (h : List Made) (m : Memory) where
   pub bad-name-number : (t : Trace name h m) → numberIn (t .reply) ≡ cond (hasZero name) 0 9
   bad-name-number t = fresh-told name h m t ∙ called.bad-name-number name (within h) (m .core) (trace-inside name h m t)
 
-  pub bad-name-gives-empty : (t : Trace name h m) → hasZero name ≡ false
-      → (t .begun .core ≡ emptyMemory) × (t .begun .counter ≡ counterOf none)
+  pub bad-name-gives-empty : (t : Trace name h m) → hasZero name ≡ false → t .begun ≡ emptyMemory
   bad-name-gives-empty t bad =
-      (called.bad-name-gives-empty name (within h) (m .core) (trace-inside name h m t) bad, fresh-counter name h m t)
+      let same = called.bad-name-gives-empty name (within h) (m .core) (trace-inside name h m t) bad in
+      λ j. record { core = same j; counter = fresh-counter name h m t j }
 
   -- ## Demand 2
 
@@ -259,21 +259,22 @@ module _ (name : List ℕ) (h : List Made) (m : Memory) where
 -- "An ad server dropped its connection with its spot on air.": after the calls h connection d closes, by a good call, and the calls g follow
 module _ (name : List ℕ) (h g : List Made) (m : Memory) (d : ℕ) (e : List ℕ) (r : RollSeen)
     (t : Trace name (h ++ (made (aKnown (aClose d e)) r ∷ g)) m) (z : number r ≡ 0) where
-  abbrev x : Made
-  x = made (aKnown (aClose d e)) r
-
   -- its sessions of before stand in the book as they stood at the close, each with its one end; newer are those accepted since
-  pub closed-stays-ended : Stands d (book (events (h ++ (x ∷ []))) []) (book (events (h ++ (x ∷ g))) [])
+  pub closed-stays-ended : Stands d (book (events (h ++ (made (aKnown (aClose d e)) r ∷ []))) [])
+      (book (events (h ++ (made (aKnown (aClose d e)) r ∷ g))) [])
   unfolding within
   closed-stays-ended =
+      let x = made (aKnown (aClose d e)) r in
       rw (within-append h (x ∷ []), within-append h (x ∷ g))
       (called.closed-stays-ended name (within h) (within g) (m .core) d e (inside (seenOf r))
-      (subst (λ k. engine.Trace name k (m .core)) (within-append h (x ∷ g)) (trace-inside name (h ++ (x ∷ g)) m t)) (sym (number-inside (trace-point name h (x ∷ g) m t .behind .1 .0)) ∙ z))
+      (subst (λ k. engine.Trace name k (m .core)) (within-append h (x ∷ g)) (trace-inside name (h ++ (x ∷ g)) m t))
+      (sym (number-inside (trace-point name h (x ∷ g) m t .behind .1 .0)) ∙ z))
 
   -- an end of the connection that the next call writes is of a newer session that has had none
-  pub the-incident : (i : RollInput) (o : RollSeen) → More name (h ++ (x ∷ g)) m i o → (y : ℕ)
-      → endsOf d y (othersBy i (recordsIn (bytesOf o))) ≤ unended d y (closed-stays-ended .newer)
-  the-incident i o c y = le-trans (ends-are-owed name (h ++ (x ∷ g)) m i o c d y) (unended-newer d y _ _ closed-stays-ended)
+  pub the-incident : (i : RollInput) (o : RollSeen) → More name (h ++ (made (aKnown (aClose d e)) r ∷ g)) m i o → (x : ℕ)
+      → endsOf d x (othersBy i (recordsIn (bytesOf o))) ≤ unended d x (closed-stays-ended .newer)
+  the-incident i o c x =
+      le-trans (ends-are-owed name (h ++ (made (aKnown (aClose d e)) r ∷ g)) m i o c d x) (unended-newer d x _ _ closed-stays-ended)
 
 -- ## Document 02, CR 2
 
@@ -503,8 +504,8 @@ module _ (name : List ℕ) (h : List Made) (m : Memory) (l g e : List ℕ) (r : 
       (called.cue-to-whom name (within h) (m .core) l (ptsOf g) (getD g 2 0) (getD g 3 0) e (inside (seenOf r)) called-cue (good-cue n))
 
   -- and which records those are: 117 for a bad section, else the Cue_Request with the cue's time
-  pub cue-records : number r ≡ 0 → let at = cueTime (ptsOf g) (getD g 2 0) (getD g 3 0) (readCue l) in
-      recordsIn (bytesOf r) ≡ cueRecords (readCue l) at l (initialisedOnes (shown m .splicer .links))
+  pub cue-records : number r ≡ 0 → recordsIn (bytesOf r)
+      ≡ cueRecords (readCue l) (cueTime (ptsOf g) (getD g 2 0) (getD g 3 0) (readCue l)) l (initialisedOnes (shown m .splicer .links))
   cue-records n =
       rw (bytes-are name h m _ r c)
       (called.cue-records name (within h) (m .core) l (ptsOf g) (getD g 2 0) (getD g 3 0) e (inside (seenOf r)) called-cue (good-cue n))
@@ -527,8 +528,8 @@ module _ (name : List ℕ) (h : List Made) (m : Memory) where
   -- channel's program map section.": of an initialised connection, the answer is that one record
   pub config-told : (d : ℕ) (l pm im e : List ℕ) (r : RollSeen) → More name h m (aKnown (aMessage d l pm im e)) r
       → AsksConfig d l (lendingMaps pm im (length e)) (shown m .splicer) → Ready d (shown m .splicer)
-      → let section = sectionOf (lendingMaps pm im (length e)) (shown m .splicer) in
-      recordsIn (bytesOf r) ≡ ConfigResponse d 100 (shown m .splicer .name) (keptTold d (events h)) section ∷ []
+      → recordsIn (bytesOf r)
+      ≡ ConfigResponse d 100 (shown m .splicer .name) (keptTold d (events h)) (sectionOf (lendingMaps pm im (length e)) (shown m .splicer)) ∷ []
   config-told d l pm im e r c asks ready =
       rw (bytes-are name h m _ r c)
       (called.config-told name (within h) (m .core) d l pm im e (inside (seenOf r))

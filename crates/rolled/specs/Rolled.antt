@@ -11,13 +11,14 @@ use Rattle.rules.specs.Lists.{All}
 use Rattle.rules.specs.Bytes.{Byte}
 use Rattle.rules.specs.Calls.{writtenBy, consumedBy, bufferAfter, Call}
 use Rattle.rules.specs.Records.{Record}
-use Rattle.rules.specs.Rolling.{Rolling, rollingOf, rollingFresh, RollingCall, roll}
+use Rattle.rules.specs.Rolling.{none, Rolling, rollingOf, rollingFresh, RollingCall, roll}
 use Rattle.demands.specs.History.{Reply, Event, othersOf}
 use Rattle.demands.specs.Told.{grantedBy}
 use Rattle.demands.specs.Kept.{changed}
-use Rattle.rolling.specs.LentRolling.{rolling, LentRolling}
+use Rattle.rolling.specs.LentRolling.{counterOf, rolling, LentRolling}
 use Rattle.door.specs.Door.{callOf, Seen}
-use Rattle.rolldoor.specs.RollDoor.{RollReplies, RollInput, aKnown, anInstant, aReading, RollTyped, rollCallOf, rollBufferOf, RollSeen, RollAllowed}
+use Rattle.rolldoor.specs.RollDoor.{RollReplies, RollInput, aKnown, anInstant, aReading, RollTyped, rollCallOf, rollBufferOf, RollSeen}
+use Rattle.rolldoor.specs.RollDoor.{RollAllowed}
 use Rattle.traces.specs.Trace as engine
 use Rattle.driven.specs.Driven.{wordsOf, handed, inside}
 use Rattle.driven.specs.Driven as plain
@@ -32,6 +33,10 @@ pub record Memory : Type 0 where
 -- the rolling splicer that it shows
 abbrev pub shown : Memory → Rolling
 shown m = rolling (m .core .words) (m .core .bytes) (m .counter)
+
+-- that of a fresh splicer of an empty name, and no instant was given
+abbrev pub emptyMemory : Memory
+emptyMemory = record { core = engine.emptyMemory; counter = counterOf none }
 
 abbrev pub LentAt : Memory → Type 0
 LentAt m = LentRolling (m .core .words) (m .core .bytes) (m .counter)

@@ -6,11 +6,11 @@ use mathlib.Core.Bool.{true, false, cond}
 use mathlib.Core.List.{List, [], _∷_, _++_, map}
 use mathlib.Core.Logic.{_⊎_}
 use Prim.Native.Nat.{ℕ, _+_, _-_, _/_, _≤_, _<_}
+use native.Mathlib.Omega.{arith}
 use native.Mathlib.Nat.{le-trans}
 use lib.Dec.{eqb}
 use lib.ListN.{length, take, getD, replicate}
 use Rattle.rules.specs.declared.Request.{Request}
-use Rattle.rules.specs.declared.Refusal.{Refusal}
 use Rattle.rules.specs.declared.When.the-variants.{At, Never}
 use Rattle.rules.specs.Lists.{All, some, count}
 use Rattle.rules.specs.Bytes.{Byte, hasZero}
@@ -25,7 +25,8 @@ use Rattle.rules.proofs.All.{all-into}
 use Rattle.rules.proofs.Sound.{reached-sound}
 use Rattle.rules.proofs.Tick.{earliest-start}
 use Rattle.demands.specs.History.{Event, startsOf, endsOf, history, ownAnswer, othersOf, waitingCount, book, clockAfter}
-use Rattle.engine.specs.declared.Answer.the-variants.{Refused}
+use Rattle.engine.specs.declared.Answer.{Answer}
+use Rattle.engine.specs.declared.Answer.the-variants.{Refused, Done}
 use Rattle.places.specs.Places.{round, next}
 use Rattle.memory.specs.Memory.{see, placesFrom, countsOf, tallied, keptBytes}
 use Rattle.engine.specs.Lent.{Lent, Counts, Primary, ReadsMux, ReadsFeed}
@@ -95,8 +96,13 @@ module _ (name : List ℕ) (h : List Made) (m : Memory) where
     bad-call-number = number-first m i r (c .allowed)
 
     -- "and the splicer and the lent buffers stay as they were before it"
-    pub bad-call-changes-nothing : (n : Refusal) → r .answer ≡ Refused n → (r .memory ≡ m) × (r .buffer ≡ bufferOf i)
-    bad-call-changes-nothing = unchanged m i r (c .allowed) (trace-lent name h m (c .trace))
+    pub bad-call-changes-nothing : 0 < number r → (r .memory ≡ m) × (r .buffer ≡ bufferOf i)
+    unfolding numberIn
+    bad-call-changes-nothing bad = go (r .answer) refl
+      where
+        go : (a : Answer) → r .answer ≡ a → (r .memory ≡ m) × (r .buffer ≡ bufferOf i)
+        go (Refused n) e = unchanged m i r (c .allowed) (trace-lent name h m (c .trace)) n e
+        go (Done consumed written places) e = let z : number r ≡ 0 = ap numberIn e in absurd (omega arith)
 
     -- no answer is longer than 3,174 bytes, so the 4,096 that a good call has are enough
     pub answers-fit : length (bytesOf r) ≤ 3174
