@@ -1,7 +1,8 @@
 #!/bin/sh
 # theorems.sh: the customer's demands are one list of theorems. Each name that proofs/Demands of demands (of the definitions), traces (of
 # the engine's calls), driven (of the door's) or rolled (of the rolling card's) has, the three others have too, or the table below says why
-# one cannot, or in which file it has it; of the three that speak of calls in the same order. The last line is 'N passed, M failed'.
+# one cannot, or in which file it has it. The three that speak of calls have them in the same order, and their statements are the same once
+# the words for what C hands in and sees are put into the engine's. The last line is 'N passed, M failed'.
 set -eu
 . "$(dirname "$0")/words.sh"
 no_words "$@"
@@ -100,6 +101,81 @@ in_order() {
 in_order traces driven
 in_order traces rolled
 in_order driven rolled
+
+# of a call for C its words, and what stands for it in the engine's call
+cat >"$work/driven.sed" <<'END'
+s/Seen/Result/g
+s/left r/r .memory/g
+s/r \.words/r .memory .words/g
+s/r \.bytes/r .memory .bytes/g
+s/\.reply/.answer/g
+s/Allowed (r \.memory \.words) (r \.memory \.bytes)/Allowed (r .memory)/g
+s/(l g e : List ℕ)/(l : List ℕ) (pts seconds micros : ℕ) (e : List ℕ)/g
+s/aCue l g e/aCue l pts seconds micros e/g
+s/(ptsOf g) (getD g 2 0) (getD g 3 0)/pts seconds micros/g
+END
+
+# of the rolling card: the engine's memory is one part of its own, a known call is the door's, another one grants nothing and changes
+# nothing that is kept
+cat >"$work/rolled.sed" <<'END'
+s/aKnown (\([^()]*\))/\1/g
+s/RollSeen/Seen/g
+s/RollInput/Input/g
+s/RollTyped/Typed/g
+s/rollCallOf/callOf/g
+s/rollBufferOf/bufferOf/g
+s/rollChecks/checks/g
+s/LentAt m/Lent (m .words) (m .bytes)/g
+s/AllowedAt (left r)/Allowed (r .words) (r .bytes)/g
+s/shown m \.splicer/shown m/g
+s/shown (left r) \.splicer/shown (left r)/g
+s/m \.core/m/g
+s/othersBy i/othersOf (callOf i)/g
+s/grants i/grantedBy (callOf i)/g
+s/changes d i/changed d (callOf i)/g
+s/engine\.calls (within h)/calls h/g
+s/places\.next/next/g
+END
+: >"$work/traces.sed"
+cat "$work/driven.sed" >>"$work/rolled.sed"
+
+# statements LIST: each theorem's name and its statement in one line, with what is given in the modules around it
+statements() {
+    awk -v list="$1" '
+    function put(at, words) { deep++; indent[deep] = at; given[deep] = words }
+    /^ *--/ { next }
+    { here = match($0, /[^ ]/) - 1; line = $0; gsub(/^ +| +$/, "", line) }
+    name != "" && (index(line " ", name " ") == 1 || line ~ /^unfolding /) {
+        printf "%s\t%s\t", list, name
+        for (i = 1; i <= deep; i++) printf "%s ", given[i]
+        print ": " text
+        name = ""
+        next
+    }
+    name != "" { text = text " " line; next }
+    open != "" { open = open " " line }
+    open == "" && here >= 0 { while (deep && here <= indent[deep]) deep-- }
+    open == "" && line ~ /^(module _|abbrev) / { open = line; from = line ~ /^module/ ? here : here - 1 }
+    open ~ /^module .* where$/ || (open != "" && here < 0) { put(from, open); open = "" }
+    open == "" && line ~ /^pub [^ ]+ :/ { split(line, part, " "); name = part[2]; text = substr(line, length(name) + 8) }
+    ' "crates/$1/proofs/Demands.antt" | sed -f "$work/$1.sed"
+}
+
+# each name that several lists of calls have is the same statement
+for list in traces driven rolled; do statements "$list"; done >"$work/said"
+awk -F '\t' -v work="$work" '
+{
+    if (!($2 in first)) { first[$2] = $3; by[$2] = $1; next }
+    if ($3 == first[$2]) { passed++; next }
+    failed++
+    print "theorems: " $2 " says another thing in " $1 " than in " by[$2] ": FAILED"
+    print "  " by[$2] ": " first[$2]
+    print "  " $1 ": " $3
+}
+END { print passed + 0, failed + 0 >(work "/count") }' "$work/said"
+read -r same other <"$work/count"
+passed=$((passed + same))
+failed=$((failed + other))
 for list in $lists; do echo "theorems: $(($(wc -l <"$work/$list"))) of $list"; done
 echo "$passed passed, $failed failed"
 [ "$failed" -eq 0 ]
