@@ -1,4 +1,6 @@
 pub mod Runs
 pub mod Input
 pub mod Round
+pub mod Given
+pub mod Cited
 pub mod Whole

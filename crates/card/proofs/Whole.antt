@@ -6,13 +6,14 @@ use mathlib.Core.List.{List, [], _∷_, _++_, append-assoc, append-nil}
 use Prim.Native.Nat.{ℕ, zero, suc, _+_, _≤_, _<_}
 use native.Mathlib.Omega.{arith}
 use lib.Dec.{ltb}
-use lib.ListN.{length, take, drop, length-append, length-drop}
+use lib.ListN.{length, take, drop, replicate, length-append, length-drop, length-replicate}
 use borrow.Author.Tests.{ltb-true, ltb-false}
 use Rattle.rules.specs.Lists.{All}
-use Rattle.rules.specs.Bytes.{padded}
+use Rattle.rules.specs.Bytes.{Byte, padded}
 use Rattle.rules.specs.State.{Splicer}
 use Rattle.rules.specs.Calls.{fresh}
-use Rattle.rules.specs.Card.{cardName, card}
+use Rattle.rules.specs.Card.{cardName, cardRoom, card}
+use Rattle.rules.proofs.All.{all-append, all-drop}
 use Rattle.rules.proofs.Tests.{or-none, and-both}
 use Rattle.memory.specs.Memory.{shown}
 use Rattle.engine.specs.Lent.{Lent}
@@ -22,6 +23,7 @@ use Rattle.feed.specs.Play.{goesOn}
 use Rattle.feed.proofs.Runs.{rest-cut, card-rest}
 use Rattle.card.specs.declared.Left.{Left}
 use Rattle.card.specs.Ran.{Ran, Turned, again, first, later, joined, Fed, over, goes}
+use Rattle.card.proofs.Given.{Given, given}
 
 -- a piece has at least one byte
 abbrev pub Piece : List ℕ → Type 0
@@ -111,16 +113,9 @@ module _ {s : Splicer} {kept : List ℕ} {r : Left} {m b input o : List ℕ} (t 
 
 -- ## They end
 
--- what a `run` gives of every memory and all bytes at hand
-pub record Given (m b l : List ℕ) : Type 0 where
-  pub played : Played
-  pub words : List ℕ
-  pub bytes : List ℕ
-  pub out : List ℕ
-  pub ran : Ran (shown m b) l played words bytes out
-
+-- whatever `run` gives of every memory that is lent and all bytes, as its contract says (proofs/Cited)
 abbrev pub Runner : Type 0
-Runner = (m b l : List ℕ) → Lent m b → Given m b l
+Runner = (m b l e : List ℕ) → Lent m b → All Byte l → cardRoom ≤ length e → Given m b l e
 
 -- what is written in all
 pub record Ends (s : Splicer) (kept : List ℕ) (ps : List (List ℕ)) : Type 0 where
@@ -142,20 +137,39 @@ moves : (used read : ℕ) → (ltb 0 read || ltb 0 used) ≡ true → read ≡ 0
 moves used read e z =
     ltb-true 0 used (subst (λ n. (ltb 0 n || ltb 0 used) ≡ true) z e)
 
-ends : (n : ℕ) (f : Runner) (m b kept : List ℕ) (ps : List (List ℕ)) → Lent m b → size kept ps < n → Ends (shown m b) kept ps
-ends zero f m b kept ps l h = absurd (omega arith)
-ends (suc n) f m b kept ps l h =
-    let g = f m b (kept ++ first ps) l in
-    go g (again true (g .played .more) (length (first ps)) (g .played .used)) refl
-    (λ e. ends n f (g .words) (g .bytes) (drop (g .played .used) (kept ++ first ps)) (later ps) (g .ran .runs .lent)
-    (omega (arith, shrinks kept ps (g .played .used) (g .ran .runs .within) (moves _ _ (and-both (g .played .more) _ e .1)))))
-  where
-    go : (g : Given m b (kept ++ first ps)) (t : Bool) → again true (g .played .more) (length (first ps)) (g .played .used) ≡ t
-        → (t ≡ true → Ends (shown (g .words) (g .bytes)) (drop (g .played .used) (kept ++ first ps)) (later ps))
-        → Ends (shown m b) kept ps
-    go g false e more = record { written = _; fed = over (g .ran) e }
-    go g true e more = record { written = _; fed = goes (g .ran) e (more refl .fed) }
+-- pieces of bytes
+abbrev pub Bytes : List (List ℕ) → Type 0
+Bytes ps = All (λ p. All Byte p) ps
 
--- over any pieces the program ends
-pub pieces-end : (f : Runner) (m b kept : List ℕ) (ps : List (List ℕ)) → Lent m b → Ends (shown m b) kept ps
-pieces-end f m b kept ps l = ends (suc (size kept ps)) f m b kept ps l (omega arith)
+first-bytes : (ps : List (List ℕ)) → Bytes ps → All Byte (first ps)
+first-bytes [] a = tt
+first-bytes (p ∷ ps) a = a .0
+
+later-bytes : (ps : List (List ℕ)) → Bytes ps → Bytes (later ps)
+later-bytes [] a = a
+later-bytes (p ∷ ps) a = a .1
+
+module _ (f : Runner) where
+  ends : (n : ℕ) (m b e kept : List ℕ) (ps : List (List ℕ)) → Lent m b → cardRoom ≤ length e → All Byte kept → Bytes ps
+      → size kept ps < n → Ends (shown m b) kept ps
+  ends zero m b e kept ps l w k a h = absurd (omega arith)
+  ends (suc n) m b e kept ps l w k a h =
+      let here = all-append Byte kept (first ps) k (first-bytes ps a) in
+      let g = f m b (kept ++ first ps) e l here w in
+      let used = g .played .used in
+      go g (again true (g .played .more) (length (first ps)) used) refl
+      (λ t. ends n (g .words) (g .bytes) (g .out) (drop used (kept ++ first ps)) (later ps) (g .ran .runs .lent)
+      (omega (arith, g .long)) (all-drop Byte used (kept ++ first ps) here) (later-bytes ps a)
+      (omega (arith, shrinks kept ps used (g .ran .runs .within) (moves _ _ (and-both (g .played .more) _ t .1)))))
+    where
+      go : (g : Given m b (kept ++ first ps) e) (t : Bool) → again true (g .played .more) (length (first ps)) (g .played .used) ≡ t
+          → (t ≡ true → Ends (shown (g .words) (g .bytes)) (drop (g .played .used) (kept ++ first ps)) (later ps))
+          → Ends (shown m b) kept ps
+      go g false t more = record { written = _; fed = over (g .ran) t }
+      go g true t more = record { written = _; fed = goes (g .ran) t (more refl .fed) }
+
+-- over any pieces of bytes the program ends; that `run` has a result each time is shown (proofs/Given)
+pub pieces-end : (m b kept : List ℕ) (ps : List (List ℕ)) → Lent m b → All Byte kept → Bytes ps → Ends (shown m b) kept ps
+pieces-end m b kept ps l k a =
+    let wide = length-replicate {A = ℕ} cardRoom 0 in
+    ends given (suc (size kept ps)) m b (replicate cardRoom 0) kept ps l (omega arith) k a (omega arith)
