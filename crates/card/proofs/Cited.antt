@@ -1,5 +1,6 @@
--- The contract of `run` in src/main.rt, as the toolchain reads it, is what proofs/Given shows to be met: by computing, so that whoever
--- edits one side alone is refused here. a: what it is handed, z: what the lent memory is at its end, r: what it returns.
+-- The contracts in src/main.rt, as the toolchain reads them: that of `run` is what proofs/Given shows to be met, that of `play` what
+-- proofs/Whole says of the whole program. By computing, so that whoever edits one side alone is refused here. a: what a function is handed,
+-- z: what the lent memory is at its end, r: what it returns.
 use mathlib.Core.Path.{_≡_, refl}
 use Prim.Native.Nat.{_≤_}
 use lib.ListN.{length}
@@ -17,18 +18,21 @@ use denote.Ref.{now}
 use denote.Signature.{typeAt}
 use denote.Triple.Clauses.{AtExit}
 use denote.Triple.Entry.{Args, Res}
-use Rattle.rules.specs.Card.{cardRoom}
+use Rattle.rules.specs.Bytes.{padded}
+use Rattle.rules.specs.Calls.{fresh}
+use Rattle.rules.specs.Card.{cardName, cardRoom}
 use Rattle.memory.specs.Memory.{shown}
 use Rattle.engine.specs.Lent.{Lent}
 use Rattle.engine.proofs.Held.{kind}
-use Rattle.card.specs.Ran.{Ran}
+use Rattle.card.specs.Ran.{Ran, Stopped}
 use Rattle.card.proofs.run as running
+use Rattle.card.proofs.play as playing
 
 module _ {M : Type 1} (𝓤 : URA M) (H : Heap 𝓤) (A : Atoms 𝓤) (mem : store.Memory → SProp 𝓤) (run : Routine → Fun 𝓤) where
   abbrev 𝓛 : Connectives 𝓤
   𝓛 = connectives 𝓤
 
-  open Connectives 𝓛 using (⌜_⌝, _∗_)
+  open Connectives 𝓛 using (⌜_⌝, _∗_, ⊤ₛ)
 
   -- run(m, b, l, out)
   module _ (κs : Lfts 4) (a : Args running.signature κs) (r : Res running.signature κs) (z : AtExit running.ended κs) where
@@ -39,6 +43,14 @@ module _ {M : Type 1} (𝓤 : URA M) (H : Heap 𝓤) (A : Atoms 𝓤) (mem : sto
     pub run-ensures : running.clauses 𝓤 H A mem run κs a .ensures tt r z
         ≡ ⌜ Ran (shown (now (a .0)) (now (a .1 .0))) (now (a .1 .1 .0)) r (now (z .0)) (now (z .1 .0)) (now (z .1 .1 .1 .0)) ⌝
     run-ensures = refl
+
+  -- play()
+  module _ (κs : Lfts 0) (a : Args playing.signature κs) (r : Res playing.signature κs) (z : AtExit playing.ended κs) where
+    pub play-requires : playing.clauses 𝓤 H A mem run κs a .requires tt ≡ ⊤ₛ
+    play-requires = refl
+
+    pub play-ensures : playing.clauses 𝓤 H A mem run κs a .ensures tt r z ≡ ⌜ Stopped (fresh (padded cardName) .splicer) r ⌝
+    play-ensures = refl
 
 -- l is a &[u8]
 pub bytes-typed : (κs : Lfts 4) → kind running.signature κs 2 ≡ typeAt {n = 4} (SliceRef 2 tt u8 tt) κs

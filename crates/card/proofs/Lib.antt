@@ -3,4 +3,5 @@ pub mod Input
 pub mod Round
 pub mod Given
 pub mod Cited
+pub mod Turning
 pub mod Whole

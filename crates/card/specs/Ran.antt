@@ -1,9 +1,9 @@
--- What the card program's own functions promise: whatever input follows, what they write is what document 01 says. That the program's
--- turns together write `Card.card` of the whole input, however it is cut into pieces, is the law `pieces-card` of proofs/Whole.
+-- What the card program's own functions promise: whatever input follows, what they write is what document 01 says. That what the whole
+-- program promises (`Stopped`) is `Card.card` of the whole input, however it is cut into pieces, is the law `program-card` of proofs/Whole.
 use mathlib.Core.Path.{_≡_}
 use mathlib.Core.Bool.{Bool, true, false, _&&_, _||_}
 use mathlib.Core.List.{List, [], _∷_, _++_}
-use Prim.Native.Nat.{ℕ, _-_, _≤_, _<_}
+use Prim.Native.Nat.{ℕ, suc, _-_, _≤_, _<_}
 use lib.Dec.{ltb}
 use lib.ListN.{length, take, drop}
 use lib.Seq.{slice}
@@ -15,6 +15,9 @@ use Rattle.feed.specs.declared.Record.the-variants.{Cut}
 use Rattle.feed.specs.Feed.{recordIn, rest}
 use Rattle.feed.specs.Play.{Step, goesOn}
 use Rattle.card.specs.declared.Left.{Left}
+use Rattle.card.specs.declared.Stop.{Stop}
+use Rattle.card.specs.declared.Stop.the-variants.{Over, Unwritten, Counted}
+use Rattle.card.specs.declared.stdio.Written.{Written}
 
 -- the step that some records of the bytes at hand make together; m, b and o: the memory and the output buffer after them. Whether one of
 -- them accepted a request is not asked (`goesOn`).
@@ -37,21 +40,20 @@ pub record Ran (s : Splicer) (l : List ℕ) (r : Played) (m b o : List ℕ) : Ty
 abbrev pub moved : (used end : ℕ) → List ℕ → List ℕ
 moved used end e = slice used end e ++ drop (end - used) e
 
--- whether there is one more turn: at the end of the input nothing is read, and then nothing is played
-abbrev pub again : (isWritten more : Bool) (read used : ℕ) → Bool
-again isWritten more read used = isWritten && more && (ltb 0 read || ltb 0 used)
+-- whether there may be more to play: at the end of the input nothing is read, and then nothing is played
+abbrev pub again : (more : Bool) (read used : ℕ) → Bool
+again more read used = more && (ltb 0 read || ltb 0 used)
 
 -- s: the splicer before, kept: the bytes that were still to be played; m, b, input and o: the memory and the buffers after the turn.
--- The next read has room, so that it gives nothing only at the end.
+-- The next read has room, so that it gives nothing only at the end. Whether more is played is the input's answer, not the write's.
 pub record Turned (s : Splicer) (kept : List ℕ) (r : Left) (m b input o : List ℕ) : Type 0 where
   pub piece : List ℕ
   pub played : Played
-  pub isWritten : Bool
   pub ran : Ran s (kept ++ piece) played m b o
   pub within : r .have ≤ length input
   pub free : r .more ≡ true → r .have < length input
   pub left : take (r .have) input ≡ drop (played .used) (kept ++ piece)
-  pub more : r .more ≡ again isWritten (played .more) (length piece) (played .used)
+  pub more : r .more ≡ again (played .more) (length piece) (played .used)
 
 -- ## All turns
 
@@ -68,11 +70,27 @@ abbrev pub joined : List (List ℕ) → List ℕ
 joined [] = []
 joined (p ∷ ps) = p ++ joined ps
 
--- turn by turn, from the splicer s and the bytes kept on, over the pieces ps that are read: w is written in all. The program's own turns
--- are of this form (Turned), if each write succeeds.
-pub data Fed : Splicer → List ℕ → List (List ℕ) → List ℕ → Type 0 where
-  over : {s : Splicer} {kept : List ℕ} {ps : List (List ℕ)} {r : Played} {m b o : List ℕ} → Ran s (kept ++ first ps) r m b o
-      → again true (r .more) (length (first ps)) (r .used) ≡ false → Fed s kept ps (take (r .len) o)
-  goes : {s : Splicer} {kept : List ℕ} {ps : List (List ℕ)} {r : Played} {m b o w : List ℕ} → Ran s (kept ++ first ps) r m b o
-      → again true (r .more) (length (first ps)) (r .used) ≡ true
-      → Fed (shown m b) (drop (r .used) (kept ++ first ps)) (later ps) w → Fed s kept ps (take (r .len) o ++ w)
+-- turn by turn, from the splicer s and the bytes kept on, n turns at most, over the pieces ps that are read: what is handed to be written
+-- in all. It stops when there is nothing more to play, when a write says that it failed, or when the turns are used up, and then alone.
+pub data Fed : (n : ℕ) → Stop → Splicer → List ℕ → List (List ℕ) → List ℕ → Type 0 where
+  over : {n : ℕ} {s : Splicer} {kept : List ℕ} {ps : List (List ℕ)} {r : Played} {m b o : List ℕ} → Ran s (kept ++ first ps) r m b o
+      → again (r .more) (length (first ps)) (r .used) ≡ false → Fed (suc n) Over s kept ps (take (r .len) o)
+  failed : {n : ℕ} {w : Written} {s : Splicer} {kept : List ℕ} {ps : List (List ℕ)} {r : Played} {m b o : List ℕ}
+      → Ran s (kept ++ first ps) r m b o → w .whole ≡ false → Fed (suc n) (Unwritten w) s kept ps (take (r .len) o)
+  counted : {s : Splicer} {kept : List ℕ} {ps : List (List ℕ)} → Fed 0 Counted s kept ps []
+  goes : {n : ℕ} {h : Stop} {s : Splicer} {kept : List ℕ} {ps : List (List ℕ)} {r : Played} {m b o w : List ℕ}
+      → Ran s (kept ++ first ps) r m b o → again (r .more) (length (first ps)) (r .used) ≡ true
+      → Fed n h (shown m b) (drop (r .used) (kept ++ first ps)) (later ps) w → Fed (suc n) h s kept ps (take (r .len) o ++ w)
+
+-- the program's turns, n at most: what each read gave, and what was handed to be written; whatever input was left unread
+pub record Turns (n : ℕ) (h : Stop) (s : Splicer) (kept : List ℕ) : Type 0 where
+  pub reads : List (List ℕ)
+  pub output : List ℕ
+  pub fed : (unread : List (List ℕ)) → Fed n h s kept (reads ++ unread) output
+
+-- more turns than any run makes (`counted-long` of proofs/Whole)
+abbrev pub most : ℕ
+most = 18446744073709551615
+
+abbrev pub Stopped : Splicer → Stop → Type 0
+Stopped s h = Turns most h s []

@@ -40,16 +40,16 @@ slice-aggregate-run c =
 run-requires : tie.Need-run-requires
 run-requires c κs = search needs
 
-slice-reshare-prefix-write-all : tie.Need-slice-reshare-prefix-write-all
-slice-reshare-prefix-write-all c = search needs
+slice-reshare-prefix-write : tie.Need-slice-reshare-prefix-write
+slice-reshare-prefix-write c = search needs
 
-slice-aggregate-write-all : tie.Need-slice-aggregate-write-all
-slice-aggregate-write-all c =
+slice-aggregate-write : tie.Need-slice-aggregate-write
+slice-aggregate-write c =
     let run = c .before .before .before .before .before .run in
     sym (length-take-le (run .result .len) (run .last .1 .1 .1 .0) (run .ensures .runs .room))
 
-write-all-requires : tie.Need-write-all-requires
-write-all-requires c κs = search needs
+write-requires : tie.Need-write-requires
+write-requires c κs = search needs
 
 keep-requires : tie.Need-keep-requires
 keep-requires c κs =
@@ -77,7 +77,7 @@ returns c =
     let refill = filled run .refill in
     let s = entry (filled run) in
     let keep = c .before .before .before .keep in
-    let written = c .before .before .before .before .before .write-all .result in
+    let written = c .before .before .before .before .before .write .result in
     turned _ _ (s .args .input .now) (refill .last .0) written (refill .ensures .0) (refill .ensures .1) (run .run .ensures)
     (keep .ensures) (keep .kept .0) (c .goes-on .ensures) (omega (arith, s .pre .1 .0, refill .kept .0))
 
@@ -90,9 +90,9 @@ turn-spec =
     slice-reshare-prefix-run
     slice-aggregate-run
     run-requires
-    slice-reshare-prefix-write-all
-    slice-aggregate-write-all
-    write-all-requires
+    slice-reshare-prefix-write
+    slice-aggregate-write
+    write-requires
     keep-requires
     sub-t26
     goes-on-requires

@@ -6,8 +6,8 @@ use lib.ListN.{length}
 use borrow.Rule.Slice.PartMut.{putMid, same-len-mid}
 use Rattle.card.proofs.Input.{front-stays, part-within}
 use borrow.Author.Needs.{needs}
-use Rattle.card.proofs.refill.Statement.{statement}
-use Rattle.card.proofs.refill.Tie as tie
+use Rattle.card.proofs.stdio.refill.Statement.{statement}
+use Rattle.card.proofs.stdio.refill.Tie as tie
 
 sub-read : tie.Need-sub-read
 sub-read c = search needs
