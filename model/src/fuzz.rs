@@ -55,6 +55,9 @@ pub fn fuzz(plan: &Fuzz) -> Result<bool, String> {
             }
         }
     }
+    if let Some(command) = &plan.card {
+        differ += u64::from(!fills(command)?);
+    }
     let missing = if plan.floors {
         counts.missing()
     } else {
@@ -69,6 +72,19 @@ pub fn fuzz(plan: &Fuzz) -> Result<bool, String> {
     println!("fuzz: {}", counts.totals());
     println!("fuzz: {} streams, {calls} calls, {differ} differ", plan.n);
     Ok(differ == 0 && broken == 0 && missing.is_empty())
+}
+
+/// Whether the card program writes all that the filling stream asks for.
+fn fills(command: &str) -> Result<bool, String> {
+    let input = gen::filling();
+    let output = compare::run_command(command, &input)?;
+    let same = output.trouble.is_none() && output.bytes == card::run(&input, None).output();
+    let (bytes, word) = (output.bytes.len(), ["differs", "agrees"][usize::from(same)]);
+    println!(
+        "fuzz: the filling stream, {} bytes in, {bytes} out: {word}",
+        input.len()
+    );
+    Ok(same)
 }
 
 /// The difference to the card program on this stream, if there is one.

@@ -1,8 +1,11 @@
 //! The seeded generator of card input. The same seed gives the same streams on every machine.
 
+use crate::card::{self, Call};
+use crate::config::MOST_HARDWARE;
 use crate::damage;
 use crate::draw::{Gen, Rng};
 use crate::episodes;
+use crate::scenario::message;
 
 /// One stream of card input.
 pub fn stream(seed: u64, index: u64) -> Vec<u8> {
@@ -26,10 +29,33 @@ pub fn stream(seed: u64, index: u64) -> Vec<u8> {
     gen.bytes
 }
 
+/// A stream that asks for far more output than the card program's buffer holds before its input has ended: an Init
+/// with the longest Hardware_Config (02, CR 6), and 4,000 requests that are each answered with all of it.
+pub fn filling() -> Vec<u8> {
+    let mut init = vec![0; 66];
+    init[1] = 2;
+    init[2..5].copy_from_slice(b"CH1");
+    init[34..41].copy_from_slice(b"SPLICER");
+    let length = MOST_HARDWARE - 2;
+    init.extend((length as u16).to_be_bytes());
+    init.extend((0..length).map(|at| at as u8));
+    let mut bytes = card::input_bytes(&Call::Open(0));
+    bytes.extend(card::input_bytes(&Call::Message(0, message(0x0001, init))));
+    let ask = card::input_bytes(&Call::Message(0, message(0x000A, Vec::new())));
+    bytes.extend(ask.repeat(4_000));
+    bytes
+}
+
 #[cfg(test)]
 mod tests {
     use super::*;
-    use crate::card;
+
+    #[test]
+    fn the_filling_stream_fills_the_output() {
+        let input = filling();
+        assert_eq!(input.len(), 40_334);
+        assert_eq!(card::run(&input, None).output().len(), 1_192_044);
+    }
 
     #[test]
     fn the_same_seed_gives_the_same_stream() {

@@ -15,22 +15,35 @@ fn cut(input: &[u8], (first, others): (usize, usize)) -> Vec<&[u8]> {
         .collect()
 }
 
-/// Runs the card program on N streams in every cut; a line for each cut, and how many passed.
+/// N streams, and the one that fills the output buffer.
+fn streams(seed: u64, n: u64) -> Vec<(String, Vec<u8>)> {
+    let drawn = |index| {
+        (
+            format!("seed {seed} stream {index}"),
+            gen::stream(seed, index),
+        )
+    };
+    let filling = ("the filling stream".to_string(), gen::filling());
+    (0..n).map(drawn).chain([filling]).collect()
+}
+
+/// Runs the card program on them in every cut; a line for each cut, and how many passed.
 pub fn pieces(seed: u64, n: u64, card: &str) -> Result<bool, String> {
+    let streams = streams(seed, n);
     let mut failed = 0;
     for sizes in CUTS {
         let mut differ = 0;
-        for index in 0..n {
-            let input = gen::stream(seed, index);
-            let output = compare::run_in_pieces(card, &cut(&input, sizes))?;
-            let same = output.bytes == card::run(&input, None).output();
+        for (name, input) in &streams {
+            let output = compare::run_in_pieces(card, &cut(input, sizes))?;
+            let same = output.bytes == card::run(input, None).output();
             if !same || output.trouble.is_some() {
-                println!("seed {seed} stream {index}, pieces of {sizes:?}: differs");
+                println!("{name}, pieces of {sizes:?}: differs");
                 differ += 1;
             }
         }
         let (first, others) = sizes;
-        println!("pieces: first {first}, then {others} bytes: {n} streams, {differ} differ");
+        let all = streams.len();
+        println!("pieces: first {first}, then {others} bytes: {all} streams, {differ} differ");
         failed += u64::from(differ > 0);
     }
     println!("{} passed, {failed} failed", CUTS.len() as u64 - failed);
