@@ -1,10 +1,10 @@
 #!/bin/sh
 # archive-for.sh TARGET OUT.a [CRATE]: the proved archive of CRATE (door, rolldoor or bench; door if it is not given) for another 64-bit
 # little-endian processor, as aarch64-unknown-linux-gnu or riscv64-unknown-linux-gnu. `rt staticlib` proves and writes the x86-64 archive
-# as ever; the LLVM module that the kit hands to its compiler is kept (target/staticlib/CRATE.bc, of these sources or made anew) and compiled
-# for TARGET, by the kit's clang too. The functions take pointers and numbers only and return nothing or a number of 64 bits, so no rule
-# of x86-64 about structs stands in the module. On a machine that is not x86-64 the gate compares it with the second program (beside.sh).
-# For any other, run examples/driver.c over it first.
+# as ever; the LLVM module that the kit hands to its compiler is kept (target/staticlib/CRATE.bc, of these sources or made anew) and
+# compiled for TARGET, by the kit's clang too. The functions take pointers and numbers only and return nothing or a number of 64 bits, so
+# no rule of x86-64 about structs stands in the module. On a machine that is not x86-64 the gate compares it with the second program
+# (beside.sh). For any other, run examples/driver.c over it first.
 set -eu
 . "$(dirname "$0")/words.sh"
 cd "$(dirname "$0")/.."

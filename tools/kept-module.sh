@@ -1,6 +1,6 @@
 #!/bin/sh
-# kept-module.sh FOLDER WORD..: runs `rt WORD..` in the present folder, by a copy of the kit made of links (FOLDER/kit) whose clang keeps the
-# first LLVM module that it is handed: FOLDER/module.bc.
+# kept-module.sh FOLDER WORD..: runs `rt WORD..` in the present folder, by a copy of the kit made of links (FOLDER/kit) whose clang keeps
+# the first LLVM module that it is handed: FOLDER/module.bc.
 set -eu
 . "$(dirname "$0")/words.sh"
 [ $# -ge 2 ] || refuse 'usage: kept-module.sh FOLDER WORD..'

@@ -2,8 +2,8 @@
 passed=0
 failed=0
 
-# ran NAME COMMAND..: says that it begins, runs it, shows what it prints as it comes and adds every count 'N passed, M failed' or 'N passed; M failed' in it; a failure
-# that it does not count is one more. Its status is the command's
+# ran NAME COMMAND..: says that it begins, runs it, shows what it prints as it comes and adds every count 'N passed, M failed' or
+# 'N passed; M failed' in it; a failure that it does not count is one more. Its status is the command's
 ran() {
     name=$1
     shift

@@ -54,8 +54,8 @@ reached() {
     }' crates.txt
 }
 
-# watched LOG ALL PATTERN COMMAND..: runs it; each line that fits the pattern is shown as it comes, with how many of ALL are left. LOG gets all
-# that the command says. Its status is the command's.
+# watched LOG ALL PATTERN COMMAND..: runs it; each line that fits the pattern is shown as it comes, with how many of ALL are left. LOG gets
+# all that the command says. Its status is the command's.
 watched() {
     log=$1 all=$(($2)) pattern=$3
     shift 3
@@ -111,8 +111,8 @@ is_made() {
     [ -f "target/staticlib/$1.made" ] && [ "$(cat "target/staticlib/$1.made")" = "$(made_of "$1")" ]
 }
 
-# archive LOG NAME: target/staticlib/libNAME.a of the proved crate, for x86-64; one that an earlier step made of the same sources is taken as
-# it is. On another machine its module is kept too
+# archive LOG NAME: target/staticlib/libNAME.a of the proved crate, for x86-64; one that an earlier step made of the same sources is taken
+# as it is. On another machine its module is kept too
 archive() {
     if [ "$(uname -m)" != x86_64 ]; then
         module "$@"
@@ -132,6 +132,6 @@ module() {
         return
     fi
     rm -f "$kept.bc" "$kept.made"
-    proving_by "$1" "$2" sh tools/kept-module.sh "$kept.kept" staticlib "$2" && mv "$kept.kept/module.bc" "$kept.bc" && rm -rf "$kept.kept" &&
-        made_of "$2" >"$kept.made"
+    proving_by "$1" "$2" sh tools/kept-module.sh "$kept.kept" staticlib "$2" || return 1
+    mv "$kept.kept/module.bc" "$kept.bc" && rm -rf "$kept.kept" && made_of "$2" >"$kept.made"
 }
