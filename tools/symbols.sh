@@ -61,13 +61,16 @@ linked() {
 # same A B: the lists $work/A and $work/B are one; a line for each name that is not, or not as often, in the other
 same() {
     LC_ALL=C comm -3 "$work/$1" "$work/$2" >"$work/differ"
-    if [ -s "$work/$1" ] && [ ! -s "$work/differ" ]; then
+    if [ ! -s "$work/$1" ]; then
+        echo "symbols: nothing is in $1"
+        failed=$((failed + 1))
+    elif [ ! -s "$work/differ" ]; then
         passed=$((passed + 1))
     else
         awk -F '\t' -v a="$1" -v b="$2" '
             $1 != "" { print "symbols: " $1 " is in " a " and not in " b }
             $1 == "" { print "symbols: " $2 " is in " b " and not in " a }' "$work/differ"
-        failed=$((failed + $(wc -l <"$work/differ") + ($(wc -l <"$work/$1") == 0)))
+        failed=$((failed + $(wc -l <"$work/differ")))
     fi
 }
 
