@@ -13,18 +13,15 @@ use ghost.Atoms.{Atoms}
 use contract.Lifetimes.{Lfts}
 use contract.Monad.{Fun}
 use contract.Notation.{Connectives, connectives}
-use denote.Builtin.{u8, Ref, SliceRef, Array}
-use denote.Ref.{now}
-use denote.Signature.{typeAt}
+use denote.Ref.{RefT, now}
 use denote.Triple.Clauses.{AtExit}
 use denote.Triple.Entry.{Args, Res}
-use Rattle.rules.specs.Lists.{All}
 use Rattle.rules.specs.Calls as rules
 use Rattle.rules.specs.Calls.{call}
 use Rattle.memory.specs.Memory.{see}
 use Rattle.engine.specs.declared.Answer.{Answer}
 use Rattle.engine.specs.Lent.{Answers, Counts, Primary, ReadsMux, ReadsFeed}
-use Rattle.engine.proofs.Held.{kind, Holds, Same, both, number-held, bytes-held}
+use Rattle.engine.proofs.Held.{kind, Holds, Same, both, number-held, name-held, InRoom, bytes-held}
 use Rattle.engine.proofs.fresh as fresh
 use Rattle.engine.proofs.«open» as opening
 use Rattle.engine.proofs.close as close
@@ -36,8 +33,10 @@ use Rattle.engine.proofs.waiting as waiting
 use Rattle.engine.proofs.primary as primary
 use Rattle.engine.proofs.mux as mux
 use Rattle.engine.proofs.on_air as airing
-use Rattle.traces.specs.Trace.{Memory, shown, Input, anOpen, aClose, aMessage, aTick, aMove, aCue, Typed, callOf, bufferOf, Result, Allowed}
+use Rattle.traces.specs.Trace.{Memory, shown, Input, anOpen, aClose, aMessage, aTick, aMove, aCue, Typed, callOf, bufferOf, Allowed}
+use Rattle.traces.specs.Trace.{Result, Run}
 use Rattle.traces.proofs.Course.{LentAt}
+use Rattle.traces.proofs.Answerable.{runs}
 
 -- the memory that a call is handed
 abbrev at : (m b : List ℕ) → Memory
@@ -183,10 +182,13 @@ called m (aMove until e) r = refl
 called m (aCue l pts seconds micros e) r = refl
 
 -- ## Typed is what the parameters' types say, and no more; of bring_to it is what it requires (move-requires)
+-- A slice's type says beside it that it has room in memory, which Typed does not ask; a buffer may be any.
 
--- a name is a &[u8; 32]
-pub name-typed : (κs : Lfts 3) → kind fresh.signature κs 0 ≡ typeAt {n = 3} (Ref 0 tt (Array u8 tt 32) tt) κs
-name-typed κs = refl
+-- a trace asks of a name what its type says: 32 bytes
+pub name-typed : (κs : Lfts 3) (name : RefT (List ℕ)) → Same (Holds (kind fresh.signature κs 0) name) (Run (now name) [])
+name-typed κs name =
+    let n = name-held name in
+    ((λ h. runs (now name) (n .0 h .0) (n .0 h .1) [] tt), λ t. n .1 (t .trace .whole, t .trace .bytes))
 
 pub open-typed : (κs : Lfts 2) (conn : ℕ) → Same (Holds (kind opening.signature κs 2) conn) (Typed (anOpen conn))
 open-typed κs conn = number-held conn
@@ -199,27 +201,26 @@ module _ (κs : Lfts 3) (e : List ℕ) where
       → Same (Holds (kind tick.signature κs 2) seconds × Holds (kind tick.signature κs 3) micros) (Typed (aTick seconds micros e))
   tick-typed seconds micros = both (number-held seconds) (number-held micros)
 
-module _ (κs : Lfts 5) where
-  -- l and the sections are each a &[u8], the sections of one lifetime
-  pub bytes-typed : kind message.signature κs 3 ≡ typeAt {n = 5} (SliceRef 2 tt u8 tt) κs
-  bytes-typed = refl
+pub message-typed : (κs : Lfts 5) (conn : ℕ) (l pm im : RefT (List ℕ)) (e : List ℕ)
+    → Same (Holds (kind message.signature κs 2) conn × Holds (kind message.signature κs 3) l
+    × Holds (kind message.signature κs 4) pm × Holds (kind message.signature κs 5) im)
+    (Typed (aMessage conn (now l) (now pm) (now im) e) × InRoom (now l) × InRoom (now pm) × InRoom (now im))
+message-typed κs conn l pm im e =
+    let n = number-held conn in
+    let b = bytes-held l in
+    let p = bytes-held pm in
+    let i = bytes-held im in (
+      (λ h. ((n .0 (h .0), b .0 (h .1) .0, p .0 (h .2) .0, i .0 (h .3) .0), b .0 (h .1) .1, p .0 (h .2) .1, i .0 (h .3) .1)),
+      (λ t. (n .1 (t .0 .0), b .1 (t .0 .1, t .1), p .1 (t .0 .2, t .2), i .1 (t .0 .3, t .3))),
+    )
 
-  pub section-typed : kind message.signature κs 4 ≡ typeAt {n = 5} (SliceRef 3 tt u8 tt) κs
-  section-typed = refl
-
-  pub second-typed : kind message.signature κs 5 ≡ typeAt {n = 5} (SliceRef 3 tt u8 tt) κs
-  second-typed = refl
-
-  pub message-typed : (conn : ℕ) (l pm im e : List ℕ)
-      → Same (Holds (kind message.signature κs 2) conn × All (Holds u8) l × All (Holds u8) pm × All (Holds u8) im) (Typed (aMessage conn l pm im e))
-  message-typed conn l pm im e =
-      let n = number-held conn in
-      let b = bytes-held l in
-      let p = bytes-held pm in
-      let i = bytes-held im in
-      ((λ h. (n .0 (h .0), b .0 (h .1), p .0 (h .2), i .0 (h .3))), λ t. (n .1 (t .0), b .1 (t .1), p .1 (t .2), i .1 (t .3)))
-
-module _ (κs : Lfts 4) where
-  -- the section is a &[u8]
-  pub cue-section-typed : kind cue.signature κs 2 ≡ typeAt {n = 4} (SliceRef 2 tt u8 tt) κs
-  cue-section-typed = refl
+-- 02, CR 7: what is given with a section is a struct of a u64 and two u32
+pub cue-typed : (κs : Lfts 4) (section : RefT (List ℕ)) (pts seconds micros : ℕ) (e : List ℕ)
+    → Same (Holds (kind cue.signature κs 2) section
+    × Holds (kind cue.signature κs 3) (record { pts = pts; seconds = seconds; micros = micros }))
+    (Typed (aCue (now section) pts seconds micros e) × InRoom (now section))
+cue-typed κs section pts seconds micros e =
+    let b = bytes-held section in (
+      (λ h. let g = h .1 .1 .1 .1 in ((b .0 (h .0) .0, g .0 .1, g .1 .0 .1, g .1 .1 .0 .1), b .0 (h .0) .1)),
+      (λ t. (b .1 (t .0 .0, t .1), (_, (_, (refl, ((refl, t .0 .1), ((refl, t .0 .2), ((refl, t .0 .3), tt)))))))),
+    )
