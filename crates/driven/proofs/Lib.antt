@@ -1,3 +1,4 @@
 pub mod Inside
 pub mod Course
 pub mod Demands
+pub mod Any

@@ -2,3 +2,4 @@ pub mod Inside
 pub mod Course
 pub mod Next
 pub mod Demands
+pub mod Any

@@ -1,1 +1,2 @@
 pub mod Rolled
+pub mod Handed

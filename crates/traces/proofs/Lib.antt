@@ -7,3 +7,4 @@ pub mod Answerable
 pub mod Moved
 pub mod Cued
 pub mod Kept
+pub mod Any
