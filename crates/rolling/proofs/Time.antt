@@ -1,4 +1,4 @@
--- True time: the clock is the instant and the ticks since, however often the counter has rolled over; what is in time, and a course that is.
+-- True time: the clock is the instant and the ticks since, however often the counter has rolled over; what is in time, and a course so.
 -- By induction on what is done; rests on proofs/Ruled's timeless-clock.
 use mathlib.Core.Path.{_≡_, refl, sym, ap, subst, _∙_}
 use mathlib.Core.Bool.{Bool, true, false}
