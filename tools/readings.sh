@@ -1,5 +1,5 @@
 #!/bin/sh
-# readings.sh [--all | LABEL..]: tries wrong readings of document 01, edits of the definitions in crates/rules and of demands' History and Airing: those of
+# readings.sh [--all | LABEL..]: tries wrong readings of documents 01 and 02, edits of the definitions in crates/rules and crates/demands: those of
 # crates/cases/readings, as the gate does; with --all those of crates/cases/more-readings too; or the named ones.
 # Each edit names a table of the crate cases, and that table alone must refuse it: definitions and table are put into one crate of a scratch
 # repository under target/, with no law and no other table beside them. The last line is 'N passed, M failed'.
@@ -8,6 +8,8 @@ set -eu
 cd "$(dirname "$0")/.."
 needs rt
 work=target/readings
+# demands' modules beside History and Airing
+said='Told|Lately|Kept|Moments|Alike'
 case ${1:-} in
 '') set -- crates/cases/readings/*.edit ;;
 --all) set -- crates/cases/readings/*.edit crates/cases/more-readings/*.edit ;;
@@ -30,16 +32,21 @@ moved() {
         s/Rattle·(rules|demands)\.specs\./Rattle·$(crate_of "$1")·specs.specs./g" "$2"
 }
 
+# speaks TABLE MODULES: the table imports one of these modules of rules or demands, separated by |
+speaks() { grep -qE "^use Rattle·(rules|demands)\.specs\.($2)(\.|\$)" "crates/cases/specs/$1.antt"; }
+
 # build TABLE: its crate
 build() {
     crate=$work/crates/$(crate_of "$1")
     mkdir -p "$crate/specs" "$crate/must-fail"
     cp -R crates/rules/src "$crate/src"
-    for file in crates/rules/specs/*.antt crates/demands/specs/History.antt crates/demands/specs/Airing.antt; do
+    for file in crates/rules/specs/*.antt crates/demands/specs/*.antt; do
         case $file in
         */Lib.antt | */Asked.antt) continue ;;
-        # of what follows from the rules, and of the card with a rolling counter, only for the table that speaks of it
-        */Sound.antt | */Rolling.antt) grep -q 'Rattle\.rules\.specs\.Rolling' "crates/cases/specs/$1.antt" || continue ;;
+        # only for the table that speaks of it: the card with a rolling counter; what the demands' statements say, and what follows from the rules
+        */Rolling.antt) speaks "$1" Rolling || continue ;;
+        */Told.antt | */Lately.antt | */Kept.antt | */Moments.antt | */Alike.antt) speaks "$1" "$said" || continue ;;
+        */Sound.antt) speaks "$1" "Rolling|$said" || continue ;;
         esac
         moved "$1" "$file" >"$crate/specs/$(basename "$file")"
     done

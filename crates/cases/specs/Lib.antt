@@ -14,6 +14,8 @@ pub mod Sections
 pub mod Cued
 pub mod Extended
 pub mod Config
+pub mod Heard
+pub mod LatelyCases
 pub mod Case-01-card-cut-header
 pub mod Case-01-card-cut-mark
 pub mod Case-01-card-cut-message

@@ -1,0 +1,56 @@
+-- Histories written down by hand: calls with the bytes of requests and answers, as 01 and 02 lay them out; and that a statement does not
+-- hold. Assumes nothing.
+use mathlib.Core.Path.{_≡_, subst}
+use mathlib.Core.Bool.{Bool, true, false, not}
+use mathlib.Core.List.{List, [], _++_}
+use Prim.Native.Nat.{ℕ, _≤_}
+use Prim.Native.String.{String}
+use lib.Dec.{T, T-not, eqb, eqb-refl, leb, le→leb}
+use Rattle.rules.specs.declared.Refusal.{Refusal}
+use Rattle.rules.specs.Calls.{Call, messages, moves, lending}
+use Rattle.demands.specs.History.{wrote, refusal, Event}
+use Rattle.cases.specs.Scenario.{hex}
+
+-- ## Calls and answers
+
+-- a call, and the bytes that it wrote
+unfoldable pub heard : Call → String → Event
+heard k b = record { call = k; reply = wrote (hex b) }
+
+-- a call that wrote nothing
+unfoldable pub silent : Call → Event
+silent k = record { call = k; reply = wrote [] }
+
+-- a call that was refused
+unfoldable pub denied : Call → Refusal → Event
+denied k n = record { call = k; reply = refusal n }
+
+-- the clock brought to an instant in ninths
+unfoldable pub till : ℕ → Call
+till t = moves t 4096
+
+-- a message of connection c
+unfoldable pub says : ℕ → String → Call
+says c b = messages c (hex b) (lending 4096)
+
+-- a Splice_Request of connection c, 33 bytes with ServiceID 1, PostBlack 0 and ReturnToPriorChannel 1: SessionID, PriorSession and time; Duration
+-- and SpliceEventID; AccessType and OverridePlaying
+unfoldable pub splice : ℕ → (asked lasting ranks : String) → Call
+splice c a d r =
+    messages c (hex "0007 0021 FFFF FFFF" ++ (hex a ++ (hex "0001" ++ (hex d ++ (hex "00000000" ++ (hex r ++ hex "01")))))) (lending 4096)
+
+-- ## What does not hold
+
+pub unlike : (m n : ℕ) → T (not (eqb m n)) → m ≡ n → ⊥
+unlike m n h e = T-not (eqb m n) h (subst (λ k. T (eqb m k)) e (eqb-refl m))
+
+pub unordered : (m n : ℕ) → T (not (leb m n)) → m ≤ n → ⊥
+unordered m n h e = T-not (leb m n) h (le→leb m n e)
+
+pub not-true : (b : Bool) → T (not b) → b ≡ true → ⊥
+not-true true h e = h
+not-true false h e = subst (λ b. T (not b)) e tt
+
+pub not-false : (b : Bool) → T b → b ≡ false → ⊥
+not-false true h e = subst T e tt
+not-false false h e = h
