@@ -35,7 +35,8 @@ mark r n = record { told = r; wants = n }
 
 marks : List Mark
 marks =
-    -- "A session's end is its SpliceComplete with flag 1, or its SpliceComplete with flag 0 and 109, or a Splice_Response 109 .. or 116"; CR 4: 125
+    -- "A session's end is its SpliceComplete with flag 1, or its SpliceComplete with flag 0 and 109, or a Splice_Response 109 .. or 116";
+    -- CR 4: or 125
     mark (SpliceComplete 1 100 7 1 5) 1
     ∷ mark (SpliceComplete 1 116 7 1 5) 1
     ∷ mark (SpliceComplete 1 125 7 1 5) 1
@@ -63,7 +64,7 @@ marked : map (λ m. bit (isAnEnd (m .told))) marks ≡ map (λ m. m .wants) mark
 unfolding mark marks telling
 marked = refl
 
--- ## A day in ninths, call by call: a microsecond is 9, a tick 100. No card accepts starts as near as these; what the answers tell is the same
+-- ## A day in ninths, call by call: a microsecond is 9, a tick 100. Starts as near as these no card accepts; they are told alike
 
 ended : (conn id event result played : ℕ) → Told
 ended c x e r p = record { conn = c; id = x; event = e; result = r; played = p }
@@ -91,7 +92,8 @@ day =
     -- 0's 1 starts
     ∷ step (heard (till 150) "5200 0009 000D 0064 FFFF 00000001 00 00000000 00000000") []
     -- 1's 1 starts over it, and ends: a tick
-    ∷ step (heard (till 350) "5201 0009 000D 0064 FFFF 00000001 00 00000000 00000000 5201 0009 000D 0064 FFFF 00000001 01 00000000 00000001")
+    ∷ step (heard (till 350)
+    "5201 0009 000D 0064 FFFF 00000001 00 00000000 00000000 5201 0009 000D 0064 FFFF 00000001 01 00000000 00000001")
     (ended 1 1 0x22 100 1 ∷ [])
     -- 1's 5, 0x77, over it from 40 µs: 360
     ∷ step (heard (splice 1 "00000005 FFFFFFFF 00000000 00000028" "00000005 00000077" "04 01") "5201 0008 0004 0064 FFFF 00000005") []
@@ -99,8 +101,8 @@ day =
     -- refused calls tell nothing
     ∷ step (denied (till 399) ClockBack) []
     ∷ step (denied (closes 1 4095) NoRoom) []
-    -- 0's 1, covered, is aborted: Abort_Response, then Splice_Response 116, which shows no duration. It was on air from 90 to 180 and from 280 to
-    -- 360, 170 ninths: a tick. Its SpliceEventID is that of the request that was accepted
+    -- 0's 1, covered, is aborted: Abort_Response, then Splice_Response 116, which shows no duration. It was on air from 90 to 180 and from
+    -- 280 to 360, 170 ninths: a tick. Its SpliceEventID is that of the request that was accepted
     ∷ step (heard (says 0 "000E 0004 FFFF FFFF 00000001") "5200 000F 0004 0064 FFFF 00000001 5200 0008 0004 0074 FFFF 00000001")
     (ended 0 1 0x11 116 1 ∷ [])
     -- connection 2's 7 evicts 2 and then its follower 3; its own 100 is no end. Neither was ever on air
@@ -111,14 +113,17 @@ day =
     ∷ step (heard (closes 1 4096) "5201 0009 000D 0074 FFFF 00000005 01 00000000 00000000") (ended 1 5 0x77 116 0 ∷ [])
     -- 0's 1 again, 0x99, a tick from 50 µs: 450 to 550
     ∷ step (heard (splice 0 "00000001 FFFFFFFF 00000000 00000032" "00000001 00000099" "01 00") "5200 0008 0004 0064 FFFF 00000001") []
-    ∷ step (heard (till 600) "5200 0009 000D 0064 FFFF 00000001 00 00000000 00000000 5200 0009 000D 0064 FFFF 00000001 01 00000000 00000001")
+    ∷ step (heard (till 600)
+    "5200 0009 000D 0064 FFFF 00000001 00 00000000 00000000 5200 0009 000D 0064 FFFF 00000001 01 00000000 00000001")
     (ended 0 1 0x99 100 1 ∷ [])
     -- 2's 8 starts against 7, and fails: 7 is on air from 810, 8 from 95 µs, 855
     ∷ step (heard (splice 2 "00000008 FFFFFFFF 00000000 0000005F" "00000001 000000AA" "04 01") "5202 0008 0004 0064 FFFF 00000008") []
-    ∷ step (heard (till 860) "5202 0009 000D 0064 FFFF 00000007 00 00000000 00000000 5202 0009 000D 006D FFFF 00000008 00 00000000 00000000")
+    ∷ step (heard (till 860)
+    "5202 0009 000D 0064 FFFF 00000007 00 00000000 00000000 5202 0009 000D 006D FFFF 00000008 00 00000000 00000000")
     (ended 2 8 0xAA 109 0 ∷ [])
     -- what is asked for and told of them is no end; nor is an open
-    ∷ step (heard (says 0 "0003 0008 FFFF FFFF 00000001 FFFFFFFF") "5200 0004 0014 0064 FFFF 00000001 01 0E 43415244 00000099 0064 00000001") []
+    ∷ step (heard (says 0 "0003 0008 FFFF FFFF 00000001 FFFFFFFF")
+    "5200 0004 0014 0064 FFFF 00000001 01 0E 43415244 00000099 0064 00000001") []
     ∷ step (silent (opens 1)) []
     ∷ []
 
@@ -162,8 +167,8 @@ not-once : endedOnce 0 1 (book twice []) ≡ 0
 unfolding twice telling
 not-once = refl
 
--- what a call tells is told of the book and of the time before it; no card shows the difference. 1 is on air from 90 to 200, more than a tick. Then
--- its number is accepted again, behind its end; or an end comes without a duration, and the clock goes on to 400
+-- what a call tells is told of the book and of the time before it; no card shows the difference. 1 is on air from 90 to 200, more than a
+-- tick. Then its number is accepted again, behind its end; or an end comes without a duration, and the clock goes on to 400
 onAir : List Event
 onAir =
     heard (splice 0 "00000001 FFFFFFFF 00000000 0000000A" "00000009 00000011" "01 00") "5200 0008 0004 0064 FFFF 00000001"
@@ -171,7 +176,8 @@ onAir =
 
 again : Event
 again =
-    heard (splice 0 "00000001 FFFFFFFF 00000000 00000028" "00000001 00000022" "01 00") "5200 0008 0004 0074 FFFF 00000001 5200 0008 0004 0064 FFFF 00000001"
+    heard (splice 0 "00000001 FFFFFFFF 00000000 00000028" "00000001 00000022" "01 00")
+    "5200 0008 0004 0074 FFFF 00000001 5200 0008 0004 0064 FFFF 00000001"
 
 onward : Event
 onward = heard (till 400) "5200 0008 0004 0074 FFFF 00000001"
@@ -204,7 +210,8 @@ replies =
     ∷ reply 1 9 "5201 0004 0004 0079 FFFF 00000009"
     ∷ []
 
-answered : map (λ r. answerTold (r .conn) (r .id) (take mostKept (endsTold all)) ∷ []) replies ≡ map (λ r. recordsIn (hex (r .wants))) replies
+answered : map (λ r. answerTold (r .conn) (r .id) (take mostKept (endsTold all)) ∷ []) replies
+    ≡ map (λ r. recordsIn (hex (r .wants))) replies
 unfolding ended step day all reply replies telling
 answered = refl
 
@@ -217,7 +224,9 @@ asking x = hex "0007 0021 FFFF FFFF" ++ (bytes 4 x ++ hex "FFFFFFFF 00000000 000
 -- the numbers from n - 1 down are accepted
 accepts : ℕ → List Event
 accepts zero = []
-accepts (suc n) = record { call = messages 0 (asking n) (lending 4096); reply = wrote (hex "5200 0008 0004 0064 FFFF" ++ bytes 4 n) } ∷ accepts n
+accepts (suc n) =
+    record { call = messages 0 (asking n) (lending 4096); reply = wrote (hex "5200 0008 0004 0064 FFFF" ++ bytes 4 n) }
+    ∷ accepts n
 
 -- and end by one close, from n - 1 down
 closing : ℕ → List ℕ

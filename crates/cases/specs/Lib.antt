@@ -16,6 +16,9 @@ pub mod Extended
 pub mod Config
 pub mod Heard
 pub mod LatelyCases
+pub mod KeptCases
+pub mod MomentsCases
+pub mod ToldCases
 pub mod Case-01-card-cut-header
 pub mod Case-01-card-cut-mark
 pub mod Case-01-card-cut-message
