@@ -11,7 +11,7 @@ esac
 needs cargo
 cd "$(dirname "$0")/.."
 specs=crates/cases/specs
-hand='Layouts Rooms Rehearsed Histories Worked Moved Counted Days Mux Lately Sections Cued Extended Config Heard LatelyCases KeptCases MomentsCases ToldCases'
+hand='Layouts Rooms Rehearsed Histories Worked Moved Counted Days Mux Lately Sections Cued Extended Config Heard LatelyCases KeptCases MomentsCases ToldCases ToldNumbers ToldRequests AlikeCases'
 made=target/cases
 rm -rf "$made"
 mkdir -p "$made"

@@ -19,6 +19,9 @@ pub mod LatelyCases
 pub mod KeptCases
 pub mod MomentsCases
 pub mod ToldCases
+pub mod ToldNumbers
+pub mod ToldRequests
+pub mod AlikeCases
 pub mod Case-01-card-cut-header
 pub mod Case-01-card-cut-mark
 pub mod Case-01-card-cut-message
