@@ -106,7 +106,7 @@ day =
     ∷ step (heard (says 0 "000E 0004 FFFF FFFF 00000001") "5200 000F 0004 0064 FFFF 00000001 5200 0008 0004 0074 FFFF 00000001")
     (ended 0 1 0x11 116 1 ∷ [])
     -- connection 2's 7 evicts 2 and then its follower 3; its own 100 is no end. Neither was ever on air
-    ∷ step (heard (splice 2 "00000007 FFFFFFFF 00000000 0000005A" "00000001 00000088" "05 00")
+    ∷ step (heard (splice 2 "00000007 FFFFFFFF 00000000 0000005A" "00000005 00000088" "05 00")
     "5200 0008 0004 006D FFFF 00000002 5200 0008 0004 006D FFFF 00000003 5202 0008 0004 0064 FFFF 00000007")
     (ended 0 3 0x44 109 0 ∷ ended 0 2 0x33 109 0 ∷ [])
     -- connection 1 closes with 5 on air for 40 ninths
@@ -121,6 +121,10 @@ day =
     ∷ step (heard (till 860)
     "5202 0009 000D 0064 FFFF 00000007 00 00000000 00000000 5202 0009 000D 006D FFFF 00000008 00 00000000 00000000")
     (ended 2 8 0xAA 109 0 ∷ [])
+    -- 3's 6 starts over 7 at 120 µs, 1,080; connection 2 closes with 7 covered, which was on air for 270 ninths: two ticks
+    ∷ step (heard (splice 3 "00000006 FFFFFFFF 00000000 00000078" "00000009 000000BB" "06 01") "5203 0008 0004 0064 FFFF 00000006") []
+    ∷ step (heard (till 1100) "5203 0009 000D 0064 FFFF 00000006 00 00000000 00000000") []
+    ∷ step (heard (closes 2 4096) "5202 0008 0004 0074 FFFF 00000007") (ended 2 7 0x88 116 2 ∷ [])
     -- what is asked for and told of them is no end; nor is an open
     ∷ step (heard (says 0 "0003 0008 FFFF FFFF 00000001 FFFFFFFF")
     "5200 0004 0014 0064 FFFF 00000001 01 0E 43415244 00000099 0064 00000001") []
@@ -143,11 +147,11 @@ ends-told : map endsTold (points [] day) ≡ sums [] day
 unfolding ended step day points sums telling
 ends-told = refl
 
--- under each number as many are told as its accepted sessions have ended: two of 0's 1; 2's 7 is on air, and 9 was never accepted
+-- under each number as many are told as its accepted sessions have ended: two of 0's 1; 3's 6 is on air, and 9 was never accepted
 numbers : List (List ℕ)
 numbers =
     (0 ∷ 1 ∷ 2 ∷ []) ∷ (0 ∷ 2 ∷ 1 ∷ []) ∷ (1 ∷ 1 ∷ 1 ∷ []) ∷ (1 ∷ 5 ∷ 1 ∷ []) ∷ (2 ∷ 8 ∷ 1 ∷ [])
-    ∷ (2 ∷ 7 ∷ 0 ∷ []) ∷ (1 ∷ 9 ∷ 0 ∷ []) ∷ (0 ∷ 5 ∷ 0 ∷ []) ∷ []
+    ∷ (2 ∷ 7 ∷ 1 ∷ []) ∷ (3 ∷ 6 ∷ 0 ∷ []) ∷ (1 ∷ 9 ∷ 0 ∷ []) ∷ (0 ∷ 5 ∷ 0 ∷ []) ∷ []
 
 ended-once : map (λ n. getD n 0 0 ∷ getD n 1 0 ∷ endedOnce (getD n 0 0) (getD n 1 0) (book all []) ∷ []) numbers ≡ numbers
 unfolding ended step day all numbers telling
@@ -204,8 +208,9 @@ replies =
     ∷ reply 1 1 "5201 0004 0014 0064 FFFF 00000001 01 0E 43415244 00000022 0064 00000001"
     ∷ reply 0 3 "5200 0004 0014 0064 FFFF 00000003 01 0E 43415244 00000044 006D 00000000"
     ∷ reply 1 5 "5201 0004 0014 0064 FFFF 00000005 01 0E 43415244 00000077 0074 00000000"
+    ∷ reply 2 7 "5202 0004 0014 0064 FFFF 00000007 01 0E 43415244 00000088 0074 00000002"
     -- on air; another connection's; never accepted
-    ∷ reply 2 7 "5202 0004 0004 0079 FFFF 00000007"
+    ∷ reply 3 6 "5203 0004 0004 0079 FFFF 00000006"
     ∷ reply 0 5 "5200 0004 0004 0079 FFFF 00000005"
     ∷ reply 1 9 "5201 0004 0004 0079 FFFF 00000009"
     ∷ []
