@@ -104,6 +104,7 @@ pub mod Case-7-8-abort-reused-number
 pub mod Case-8-2-hardware-config
 pub mod Case-8-3-separate-pids-edges
 pub mod Case-8-3-separate-pids
+pub mod Case-8-5-2-mux-priority-edges
 pub mod Case-8-5-2-mux-priority
 pub mod Case-8-5-descriptors-ill-formed
 pub mod Case-8-5-descriptors-unread-content

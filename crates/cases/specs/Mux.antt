@@ -58,6 +58,9 @@ rows =
     ∷ row (with 0 1 1010 1 90000 (0x02 ∷ 6 ∷ 0x53 ∷ 0x41 ∷ 0x50 ∷ 0x49 ∷ 7 ∷ 7 ∷ [])) (General 0 123 ∷ []) 5
     ∷ row (with 0 1 1010 1 90000 (mux 11 ++ mux 7)) (General 0 123 ∷ []) 5
     ∷ row (with 0 1 1010 1 90000 (mux 7 ++ mux 0)) (General 0 123 ∷ []) 5
+    -- the value's highest bit is read; a longer one is bad too: length 13
+    ∷ row (with 0 1 1010 1 90000 (mux 0x85)) (General 0 123 ∷ []) 5
+    ∷ row (with 0 1 1010 1 90000 (0x02 ∷ 13 ∷ 0x53 ∷ 0x41 ∷ 0x50 ∷ 0x49 ∷ replicate 9 7)) (General 0 123 ∷ []) 5
     -- it is read before the checks: no number of a session, and too late
     ∷ row (with 0 0xFFFFFFFF 1001 1 90000 (mux 11)) (General 0 123 ∷ []) 5
     -- and so of one that is linked, and behind separate PIDs: a bad one before a good one, behind one, and one that is cut in its value
@@ -85,6 +88,14 @@ rows =
     ∷ row (to 1040 0) (SpliceComplete 3 100 5 0 0 ∷ []) 4
     ∷ row (to 1041 0) (SpliceComplete 3 100 5 1 90000 ∷ SpliceComplete 3 100 6 0 0 ∷ []) 8
     ∷ row (to 1042 0) (SpliceComplete 3 100 6 1 90000 ∷ []) 5
+    -- 5 is a value: 9 and then 5; 10 and then 6, the last and not the highest; 7, and then tag 0x82 with 3
+    ∷ row (with 3 7 1050 1 90000 (mux 9 ++ mux 5)) (accepts 3 7 ∷ []) 5
+    ∷ row (with 3 8 1051 1 90000 (mux 10 ++ mux 6)) (accepts 3 8 ∷ []) 5
+    ∷ row (with 3 9 1052 1 90000 (mux 7 ++ (0x82 ∷ 5 ∷ 0x53 ∷ 0x41 ∷ 0x50 ∷ 0x49 ∷ 3 ∷ []))) (accepts 3 9 ∷ []) 5
+    ∷ row (to 1050 0) (SpliceComplete 3 100 7 0 0 ∷ []) 5
+    ∷ row (to 1051 0) (SpliceComplete 3 100 7 1 90000 ∷ SpliceComplete 3 100 8 0 0 ∷ []) 6
+    ∷ row (to 1052 0) (SpliceComplete 3 100 8 1 90000 ∷ SpliceComplete 3 100 9 0 0 ∷ []) 7
+    ∷ row (to 1053 0) (SpliceComplete 3 100 9 1 90000 ∷ []) 5
     ∷ []
 
 -- what comes of each call
