@@ -70,6 +70,9 @@ rows =
     row (opens 0) (takes 0 [])
     -- not initialised: 103; also where data is present
     ∷ row (messages 0 config both) (takes 8 (general "0067"))
+    ∷ row (messages 0 (hex "000A 0001 FFFF FFFF 00") both) (takes 9 (general "0067"))
+    -- 10 comes before 103
+    ∷ row (messages 0 config (lendingMaps long [] 4096)) (number 10)
     -- 66 and 67 bytes: the Length field is past the message's end, 123
     ∷ row (messages 0 (init "0042" []) both) (takes 74 (general "007B"))
     ∷ row (messages 0 (init "0043" (hex "00")) both) (takes 75 (general "007B"))
@@ -96,6 +99,8 @@ rows =
     -- a shorter one leaves nothing of it
     ∷ row (messages 0 (init "0045" (hex "0001 AA")) both) (takes 77 (named "5200" "0064"))
     ∷ row (messages 0 config (lending 4096)) (takes 8 (gives "5200" "0023" (hex "0001 AA")))
+    -- 256 = 0x100 bytes of data: 123, all of MessageSize counts
+    ∷ row (messages 0 (hex "000A 0100 FFFF FFFF" ++ replicate 256 0) both) (takes 264 (general "007B"))
     -- data present: 123; 0x000B that comes in: 120
     ∷ row (messages 0 (hex "000A 0001 FFFF FFFF 00") both) (takes 9 (general "007B"))
     ∷ row (messages 0 (hex "000B 0000 FFFF FFFF") both) (takes 8 (general "0078"))
@@ -103,6 +108,9 @@ rows =
     ∷ row (messages 0 config (lendingMaps most [] 4096)) (takes 8 (gives "5200" "0423" (hex "0001 AA" ++ most)))
     ∷ row (messages 0 config (lendingMaps long [] 4096)) (number 10)
     ∷ row (messages 0 config (lendingMaps [] long 4096)) (number 10)
+    -- of 1,024 bytes each is good, the insertion's and both at once
+    ∷ row (messages 0 config (lendingMaps [] most 4096)) (takes 8 (gives "5200" "0023" (hex "0001 AA")))
+    ∷ row (messages 0 config (lendingMaps most most 4096)) (takes 8 (gives "5200" "0423" (hex "0001 AA" ++ most)))
     -- behind 1, 2 and 7, before 5 (header), 4 and 5 (body), and for every MessageID
     ∷ row (messages 4 config (lendingMaps long long 4095)) (number 1)
     ∷ row (messages 0 config (lendingMaps long long 4095)) (number 2)
@@ -121,6 +129,10 @@ rows =
     ∷ row (ticks 1003 0 4096) (takes 0 (hex "5201 0009 000D 0064 FFFF 00000007 00 00000000 00000000"))
     ∷ row (messages 0 config both) (takes 8 (gives "5200" "0025" (hex "0001 AA 02B1")))
     ∷ row (messages 1 config both) (takes 8 (gives "5201" "0024" (hex "0000 02B1")))
+    -- the insertion's on air: of 1,024 bytes, and one more; a primary's section that is too long is refused all the same
+    ∷ row (messages 0 config (lendingMaps [] most 4096)) (takes 8 (gives "5200" "0423" (hex "0001 AA" ++ most)))
+    ∷ row (messages 0 config (lendingMaps [] long 4096)) (number 10)
+    ∷ row (messages 0 config (lendingMaps long [] 4096)) (number 10)
     -- close forgets; a refused close does not
     ∷ row (closes 0 4095) (number 2)
     ∷ row (messages 0 config both) (takes 8 (gives "5200" "0025" (hex "0001 AA 02B1")))
