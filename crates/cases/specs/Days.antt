@@ -31,6 +31,10 @@ s n = n * 9000000
 shown : (id start to said : ℕ) → Line
 shown x a b d = record { id = x; start = s a; begun = true; over = true; to = s b; listed = true; said = d }
 
+-- the same with its times in ninths
+exact : (id start to said : ℕ) → Line
+exact x a b d = record { id = x; start = a; begun = true; over = true; to = b; listed = true; said = d }
+
 -- one that was on air, and ended covered: its end told none
 hidden : (id start to : ℕ) → Line
 hidden x a b = record { id = x; start = s a; begun = true; over = true; to = s b; listed = false; said = 0 }
@@ -105,6 +109,13 @@ again : List Call
 again =
     timed 0 1 1003 0 3 0 900000 ∷ to 1003 0 ∷ aborts 0 1 ∷ timed 0 1 1007 0 3 0 900000 ∷ timed 0 2 1100 0 3 0 900000 ∷ moves 9108000000 4096 ∷ []
 
+-- times that are no whole microseconds: 1 from 1,003 s for one tick, 100 ninths; 2 from 12 µs = 108 ninths behind it for 7 ticks; the clock
+-- 5 ninths past 1,004 s; 3 from 1,010 s, aborted 1,001 ninths later; the clock 4 ninths past 1,011 s
+ninthsOnly : List Call
+ninthsOnly =
+    timed 0 1 1003 0 3 0 1 ∷ timed 0 2 1003 12 3 0 7 ∷ moves 9036000005 4096 ∷ timed 0 3 1010 0 3 0 900000 ∷ moves 9090001001 4096 ∷ aborts 0 3
+    ∷ moves 9099000004 4096 ∷ []
+
 days : List Day
 days =
     -- 1,003 s before and 17 s behind are the primary channel's; with 16, 4 and 10 s on air 1,050 s
@@ -115,12 +126,14 @@ days =
     ∷ day equal (shown 7 1010 1020 900000 ∷ off 6 1027 ∷ off 5 1026 ∷ shown 4 1006 1010 360000 ∷ shown 2 1003 1033 1440000 ∷ []) (s 1010)
     -- 1,003 s and 1,025 s to 1,030 s; with 2 s of 1, which no end told, and 20 s of 2 1,030 s
     ∷ day covered (shown 2 1005 1025 1800000 ∷ hidden 1 1003 1010 ∷ []) (s 1008)
+    -- with 100, 700 and 1,001 ninths on air 9,099,000,004
+    ∷ day ninthsOnly (exact 3 9090000000 9090001001 10 ∷ exact 2 9027000108 9027000808 7 ∷ exact 1 9027000000 9027000100 1 ∷ []) 9098998203
     -- 1,007 s; with 0 and 5 s on air 1,012 s
     ∷ day again (waiting 2 1100 ∷ going 1 1007 ∷ shown 1 1003 1003 0 ∷ []) (s 1007)
     ∷ []
 
 counted : map (λ d. d .told) days ≡ map (λ d. d .wants) days
-unfolding sent from initOf asks timed linked aborts to card up ready s shown hidden going off waiting line day slot many equal covered again days computing
+unfolding sent from initOf asks timed linked aborts to card up ready s shown exact ninthsOnly hidden going off waiting line day slot many equal covered again days computing
 counted = refl
 
 -- ## Ninth by ninth
