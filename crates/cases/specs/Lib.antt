@@ -60,6 +60,7 @@ pub mod Case-02-ended-kinds
 pub mod Case-02-ended-played
 pub mod Case-02-ended-sixteen
 pub mod Case-02-ended-widths
+pub mod Case-02-equal-edges
 pub mod Case-02-equal-on-air-followers
 pub mod Case-02-equal-over-covered
 pub mod Case-02-equal-three-in-a-row

@@ -59,6 +59,10 @@ says ks rs = record { seen = said (played ks); wants = said rs }
 counting : List ℕ → List ℕ → Case
 counting l m = record { seen = counted l; wants = counted m }
 
+-- the records that the last of them writes
+lastSays : List Call → List Record → Case
+lastSays ks rs = record { seen = said (recordsIn (Calls.writtenBy (plays (ready ++ ks) card .answer))); wants = said rs }
+
 -- ## The cases
 
 -- "Three linked sessions, the first aborted: all three end."
@@ -103,6 +107,18 @@ fullBefore : List Call
 fullBefore = queued 20 0 0 0 ++ (timed 0 99 2005 0 2 0 90000 ∷ [])
 
 -- ## 02, CR 4
+
+-- e, "Counted before f", of equals: with 20 waiting, one that would evict this connection's own; with the sum 64, one that would evict
+-- connection 1's. Those of `queued` have AccessType 1
+equalFull : List Call
+equalFull = queued 20 0 0 0 ++ (timed 0 99 2005 0 1 1 90000 ∷ [])
+
+equalSum : List Call
+equalSum = queued 10 20 20 14 ++ (timed 0 99 2105 0 1 1 90000 ∷ [])
+
+-- one of connection 0 with 9 waiting has its reserved place: it evicts connection 1's
+equalReserved : List Call
+equalReserved = queued 9 20 20 14 ++ (timed 0 99 2105 0 1 1 90000 ∷ [])
 
 -- "f evicts the waiting equal as it does a lower one": another connection's, with its followers
 evictEqual : List Call
@@ -171,6 +187,9 @@ cases =
     ∷ says slot (accepts 0 3 ∷ accepts 1 5 ∷ begins 0 3 ∷ begins 1 5 ∷ stops 1 116 5 360000 ∷ accepts 2 6 ∷ begins 2 6 ∷ stops 2 100 6 900000 ∷ stops 0 100 3 1440000 ∷ [])
     ∷ counting (ended slot) (1 ∷ 1 ∷ 1 ∷ [])
     ∷ counting (ended fullBefore) (replicate 20 0)
+    ∷ lastSays equalFull (SpliceResponse 0 114 99 ∷ [])
+    ∷ lastSays equalSum (SpliceResponse 0 114 99 ∷ [])
+    ∷ lastSays equalReserved (SpliceResponse 1 109 5 ∷ accepts 0 99 ∷ [])
     ∷ says evictEqual (accepts 1 1 ∷ accepts 1 2 ∷ accepts 1 3 ∷ SpliceResponse 1 109 1 ∷ SpliceResponse 1 109 2 ∷ SpliceResponse 1 109 3 ∷ accepts 0 9 ∷ [])
     ∷ says waitingFlag (accepts 1 1 ∷ SpliceResponse 0 109 9 ∷ [])
     ∷ says overCovered (accepts 0 2 ∷ accepts 1 4 ∷ accepts 1 5 ∷ accepts 1 6 ∷ accepts 2 7 ∷ begins 0 2 ∷ begins 1 4 ∷ stops 1 125 4 360000 ∷ SpliceResponse 1 125 5 ∷ SpliceResponse 1 125 6 ∷ begins 2 7 ∷ stops 2 100 7 900000 ∷ stops 0 100 2 1440000 ∷ [])
@@ -185,5 +204,5 @@ cases =
     ∷ []
 
 worked : map (λ c. c .seen) cases ≡ map (λ c. c .wants) cases
-unfolding fullBefore evictEqual waitingFlag overCovered inARow atItsEnd coveredBefore resumedAndEnded noFlag climb ten started sent from initOf asks timed aborts to card plays up ready load queued linked known joined played says counting accepts begins stops lastWrites cases events ended three through incident behindZero oneTick onlyDirect handOver slot computing
+unfolding lastSays equalFull equalSum equalReserved fullBefore evictEqual waitingFlag overCovered inARow atItsEnd coveredBefore resumedAndEnded noFlag climb ten started sent from initOf asks timed aborts to card plays up ready load queued linked known joined played says counting accepts begins stops lastWrites cases events ended three through incident behindZero oneTick onlyDirect handOver slot computing
 worked = refl
