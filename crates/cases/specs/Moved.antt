@@ -1,13 +1,13 @@
 -- 02, CR 11: "how many places an acceptance shifts", from the bytes of requests to the number that the call reports. Worked by hand from the
 -- starts of those that wait. Assumes nothing.
 use mathlib.Core.Path.{_≡_, refl}
-use mathlib.Core.List.{List, [], _∷_, map}
+use mathlib.Core.List.{List, [], _∷_, _++_, map}
 use Prim.Native.Nat.{ℕ}
 use Rattle.rules.specs.State.{Splicer}
-use Rattle.rules.specs.Records.{Record, AliveResponse, SpliceResponse, SpliceComplete, AbortResponse, recordsIn}
+use Rattle.rules.specs.Records.{Record, General, AliveResponse, SpliceResponse, SpliceComplete, AbortResponse, recordsIn}
 use Rattle.rules.specs.Calls.{Call, Called, opens, closes, call, writtenBy}
 use Rattle.cases.specs.Computing.{computing}
-use Rattle.cases.specs.Rehearsed.{sent, from, initOf, asks, timed, linked, aborts, to, card, plays, up, ready}
+use Rattle.cases.specs.Rehearsed.{sent, from, initOf, asks, timed, linked, aborts, to, card, plays, up, ready, load, queued}
 
 -- a call, the records in its answer, and the number that it reports
 record Row : Type 0 where
@@ -38,6 +38,8 @@ rows =
     ∷ row (timed 3 7 1020 0 1 0 90000) (SpliceResponse 3 109 7 ∷ []) 0
     ∷ row (timed 3 7 1002 0 1 0 90000) (SpliceResponse 3 112 7 ∷ []) 0
     ∷ row (linked 2 7 1 90000) (SpliceResponse 2 121 7 ∷ []) 0
+    -- 123, Duration 0
+    ∷ row (timed 3 7 1006 0 1 0 0) (General 3 123 ∷ []) 0
     -- "after any eviction": 1 goes, which starts just then, and its follower 6, which starts later. 1005 1010 1020 1030 1040
     ∷ row (timed 3 8 1010 0 2 0 90000) (SpliceResponse 0 109 1 ∷ SpliceResponse 0 109 6 ∷ accepts 3 8 ∷ []) 3
     -- an eviction of the last: nobody is left behind it. 1005 1010 1020 1030 1040
@@ -67,3 +69,25 @@ answered = refl
 shifted : map (λ c. c .moved) results ≡ map (λ r. r .shifts) rows
 unfolding sent from initOf asks timed linked aborts to card plays up ready row accepts rows each results computing
 shifted = refl
+
+-- ## "is at most 63": 20, 20, 13 and 10 wait, a second apart, from 2,000 s, 2,100 s, 2,200 s and 2,300 s on
+
+crowd : Splicer
+crowd = plays (ready ++ queued 20 20 13 10) card .splicer
+
+-- connection 3 asks: before all; behind the first twenty; before the last ten, and before the last nine; behind all; and at 2,000 s with a
+-- higher AccessType, so that the one there is evicted. Connection 0, which is full, gets 114
+asked : List Call
+asked =
+    timed 3 99 1003 0 1 0 90000
+    ∷ timed 3 99 2050 0 1 0 90000
+    ∷ timed 3 99 2299 0 1 0 90000
+    ∷ timed 3 99 2300 500000 1 0 90000
+    ∷ timed 3 99 2310 0 1 0 90000
+    ∷ timed 3 99 2000 0 2 0 90000
+    ∷ timed 0 99 1003 0 1 0 90000
+    ∷ []
+
+most : map (λ k. call k crowd .moved) asked ≡ 63 ∷ 43 ∷ 10 ∷ 9 ∷ 0 ∷ 62 ∷ 0 ∷ []
+unfolding sent from initOf asks timed to card plays up ready load queued crowd asked computing
+most = refl
