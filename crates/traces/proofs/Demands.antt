@@ -1,6 +1,7 @@
--- The customer's demands as theorems about the calls of `engine`, each under its sentence; driven/proofs/Demands has them of the calls for
--- C. The only hypothesis is a trace (specs/Trace): fresh, then any calls with any inputs, each result one that the call's contract allows;
--- proofs/Cited holds it to the contracts in engine/src/lib.rt. No axiom, no hole.
+-- The customer's demands as theorems about the calls of `engine`, each under its sentence; proofs/Demands of driven has them of the calls
+-- for C, that of rolled of the rolling card's, in the same words (tools/theorems.sh). The only hypothesis is a trace (specs/Trace): fresh,
+-- then any calls with any inputs, each result one that the call's contract allows; proofs/Cited holds it to the contracts in
+-- engine/src/lib.rt. No axiom, no hole.
 use mathlib.Core.Path.{_≡_, refl, sym, ap, subst, _∙_}
 use mathlib.Core.Bool.{true, false, cond}
 use mathlib.Core.List.{List, [], _∷_, _++_, map}
