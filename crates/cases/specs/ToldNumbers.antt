@@ -118,8 +118,8 @@ rows =
     ∷ row (says 0 "0005 0008 FFFF FFFF 00000000 00000000" (lending 4096)) 0
     ∷ row (says 1 "0000 0000 FFFF FFFF" (lending 4096)) 0
     -- tick 2, 8, 3, and in ninths 2, 3
-    ∷ row (ticks 999 1000000 4095) 2
-    ∷ row (ticks 999 1000000 4096) 8
+    ∷ row (ticks 998 1000000 4095) 2
+    ∷ row (ticks 998 1000000 4096) 8
     ∷ row (ticks 999 999999 4096) 3
     ∷ row (ticks 1000 0 4096) 0
     ∷ row (ticks 1001 1000000 4096) 8
