@@ -181,7 +181,7 @@ module _ (c : ℕ) (l : List ℕ) (loans : Loans) (s : Splicer) where
   unfolding call messageCall handled answer answerRead read readConfig
   config-call a r = rw (a .low, a .roomy, ready-open (linkOf c s) r, a .sections, a .framed, r)
 
-  denied-call : AsksConfig c l loans s → linkOf c s ≡ Opened → call (messages c l loans) s ≡ replies 8 (says (General c 103 ∷ []) s)
+  pub denied-call : AsksConfig c l loans s → linkOf c s ≡ Opened → call (messages c l loans) s ≡ replies 8 (says (General c 103 ∷ []) s)
   unfolding call messageCall handled answer
   denied-call a r = rw (a .low, a .roomy, r, a .sections, a .framed, r)
 

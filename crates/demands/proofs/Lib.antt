@@ -7,6 +7,7 @@ pub mod Waiting
 pub mod Room
 pub mod Recalled
 pub mod Moved
+pub mod Asked
 pub mod Witness
 pub mod Book
 pub mod Once

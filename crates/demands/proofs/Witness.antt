@@ -1,71 +1,101 @@
--- One request that Asks and Passes, one that Asks and is stopped earlier, and one each that Inquires, AsksConfig and AsksAlive, all from a fresh
--- splicer by calls: the demands and CR 6's and CR 8's theorems speak of something. Rests on computing alone.
+-- The premises of docs/DEMANDS.md, "Premises", that a splicer, a request or a call meets, each met from a fresh splicer by calls with concrete
+-- bytes: the theorems speak of something. Rests on computing alone.
 use mathlib.Core.Path.{_≡_, refl}
 use mathlib.Core.Bool.{Bool, true, false, _&&_}
 use mathlib.Core.List.{List, [], _∷_, _++_}
-use Prim.Native.Nat.{ℕ}
+use Prim.Native.Nat.{ℕ, _<_}
 use lib.Dec.{T, ltb, ltb→lt}
-use lib.ListN.{replicate}
+use lib.ListN.{length, replicate}
 use Rattle.rules.specs.declared.Request.{Request}
-use Rattle.rules.specs.Lists.{All}
+use Rattle.rules.specs.declared.Refusal.the-variants.{AlreadyOpen}
+use Rattle.rules.specs.Lists
+use Rattle.rules.specs.Lists.{All, some}
 use Rattle.rules.specs.Bytes
-use Rattle.rules.specs.Bytes.{Byte, bytes, padded}
+use Rattle.rules.specs.Bytes.{Byte, bytes, padded, hasZero}
 use Rattle.rules.specs.Reading
 use Rattle.rules.specs.Reading.{nobody, tailOf, wholeRequest, dataIn, aliveRequest, extendedRequest, configRequest, defaultType}
-use Rattle.rules.specs.State.{Splicer}
+use Rattle.rules.specs.State
+use Rattle.rules.specs.State.{Splicer, startsAt}
+use Rattle.rules.specs.Records
+use Rattle.rules.specs.Records.{recordsIn}
+use Rattle.rules.specs.Ends
+use Rattle.rules.specs.Instants
+use Rattle.rules.specs.Crc
+use Rattle.rules.specs.Cues
 use Rattle.rules.specs.Answers
+use Rattle.rules.specs.Answers.{requested}
 use Rattle.rules.specs.Calls
-use Rattle.rules.specs.Calls.{fresh, Loans, lending, Call, opens, messages, call, after}
+use Rattle.rules.specs.Calls.{refused, writtenBy, fresh, Loans, lending, Call, opens, closes, messages, ticks, cues, call, after}
 use Rattle.rules.specs.Card
 use Rattle.rules.specs.Card.{cardName}
-use Rattle.demands.specs.History.{Event, history}
-use Rattle.demands.specs.Told.{FromFresh, Asks, Passes, Inquires, firstNumber, earlierCode, numberOf}
-use Rattle.demands.specs.Kept.{AsksConfig, AsksAlive, Ready}
+use Rattle.demands.specs.History
+use Rattle.demands.specs.History.{Event, replyOf, history, ownAnswer, waitingCount}
+use Rattle.demands.specs.Told.{FromFresh, answers, Asks, Passes, Inquires, firstNumber, earlierCode, numberOf, grantedBy}
+use Rattle.demands.specs.Kept.{isInitialising, initialises, changes, changed, AsksConfig, AsksAlive, Ready}
 
 -- ## The calls
 
-unfoldable name : List ℕ
+unfoldable pub name : List ℕ
 name = padded cardName
 
 -- a MessageID, a MessageSize, both Result fields, and the data
-unfoldable message : (id size : ℕ) (d : List ℕ) → List ℕ
+unfoldable pub message : (id size : ℕ) (d : List ℕ) → List ℕ
 message id size d = bytes 2 id ++ (bytes 2 size ++ (bytes 4 0xFFFFFFFF ++ d))
 
 -- Revision_Num 2, the ChannelName, an empty SplicerName, a Hardware_Config of Length 0
-unfoldable initialise : List ℕ
+unfoldable pub initialise : List ℕ
 initialise = message 1 68 (bytes 2 2 ++ (name ++ replicate 34 0))
 
 -- number 1, timed, at some second; ServiceID 1, a second long, AccessType 1
-unfoldable asking : ℕ → List ℕ
+unfoldable pub asking : ℕ → List ℕ
 asking second =
     message 7 33 (bytes 4 1 ++ (bytes 4 nobody ++ (bytes 4 second ++ (bytes 4 0 ++ (bytes 2 1 ++ (bytes 4 90000 ++ (bytes 4 nobody ++ (bytes 4 0 ++ (1 ∷ 0 ∷ 1 ∷ [])))))))))
 
 -- 02, CR 8: of number 1
-unfoldable inquiring : List ℕ
+unfoldable pub inquiring : List ℕ
 inquiring = message extendedRequest 8 (bytes 4 1 ++ bytes 4 defaultType)
 
 -- 02, CR 6: without data
-unfoldable configuring : List ℕ
+unfoldable pub configuring : List ℕ
 configuring = message configRequest 0 []
 
 -- at time 0
-unfoldable alive : List ℕ
+unfoldable pub alive : List ℕ
 alive = message aliveRequest 8 (replicate 8 0)
 
-unfoldable room : Loans
+unfoldable pub room : Loans
 room = lending 4096
 
-unfoldable calls : List Call
+unfoldable pub calls : List Call
 calls = opens 0 ∷ messages 0 initialise room ∷ []
 
-unfoldable heard : List Event
+unfoldable pub heard : List Event
 heard = history calls (fresh name .splicer)
 
 -- clock 0, connection 0 initialised
-unfoldable now : Splicer
+unfoldable pub now : Splicer
 now = after calls (fresh name .splicer)
 
-unfoldable request : ℕ → Request
+-- the answer's records to a call
+unfoldable pub told : Call → Splicer → List Records.Record
+told k s = recordsIn (writtenBy (call k s .answer))
+
+-- and then the request for the tenth second has come
+unfoldable pub asked : Call
+asked = messages 0 (asking 10) room
+
+unfoldable pub waiting : Splicer
+waiting = call asked now .splicer
+
+-- and then that second
+unfoldable pub airing : Splicer
+airing = call (ticks 10 0 4096) waiting .splicer
+
+-- 02, CR 7: splice_null, 20 bytes
+unfoldable pub section : List ℕ
+section = 0xFC ∷ 0x30 ∷ 0x11 ∷ replicate 7 0 ++ (0xFF ∷ 0xF0 ∷ 0 ∷ 0 ∷ 0 ∷ 0 ∷ 0x7A ∷ 0x4F ∷ 0xBF ∷ 0xFF ∷ [])
+
+unfoldable pub request : ℕ → Request
 request second = wholeRequest (dataIn (asking second)) (tailOf (dataIn (asking second)))
 
 -- ## Bytes are bytes
@@ -87,55 +117,115 @@ small (b ∷ l) h = let p = split (ltb b 256) (each l) h in (ltb→lt b 256 (p .
 
 -- what they are computed with
 unfoldable computing : ℕ
-unfolding name message initialise asking inquiring configuring alive room calls heard now request each cardName bytes Bytes.value Bytes.valueFrom Reading.readInit Reading.tailOf Reading.readWhole Reading.readSplice Reading.muxFrom Reading.readStart Reading.readExtended Reading.read Answers.initResult Answers.answerInit Answers.startOf Answers.sessionAt Answers.requested Answers.unknownPrior Answers.tooLate Answers.collides Answers.answerRead Answers.answer Calls.named Calls.fresh Calls.openCall Calls.framing Calls.handled Calls.messageCall Calls.call Calls.after firstNumber earlierCode
+unfolding name message initialise asking inquiring configuring alive room calls heard now told asked waiting airing section request each cardName Lists.place Lists.insertAt Lists.removeAt Bytes.bytes Bytes.value Bytes.valueFrom Reading.readInit Reading.readAlive Reading.tailOf Reading.readWhole Reading.readSplice Reading.muxFrom Reading.readStart Reading.readExtended Reading.read State.empty State.due Records.framed Records.recordBytes Records.output Records.recordIn Records.recordsUpTo Records.recordsIn Ends.andThen Ends.endings Ends.evicted Ends.evictedAt Ends.closedBy Instants.mayStart Instants.meetsEqual Instants.ousted Instants.launched Instants.startAt Instants.endAt Instants.instant Instants.onAir Instants.elapse Instants.run Instants.runAll Instants.silent Instants.silentAll Answers.initResult Answers.answerInit Answers.airState Answers.airID Answers.aliveResponse Answers.startOf Answers.sessionAt Answers.requested Answers.unknownPrior Answers.tooLate Answers.collides Answers.full Answers.spliceResult Answers.inserted Answers.accepted Answers.later Answers.answerSplice Answers.answerRead Answers.answer Calls.writtenBy Calls.named Calls.fresh Calls.openCall Calls.closeCall Calls.framing Calls.handled Calls.messageCall Calls.ticked Calls.moveCall Calls.tickCall Calls.cueCall Calls.call Calls.after History.isYes History.history History.last History.waitAnswered History.waitAfter History.waitReplied History.waitingTold History.waitingCount answers firstNumber earlierCode numberOf grantedBy isInitialising initialises changes changed
 computing = 0
 
-reached : FromFresh heard now
+pub reached : FromFresh heard now
 unfolding computing
 reached =
     record { name = name; whole = refl; bytes = small name tt; calls = calls; wired = (tt, ((small initialise tt, tt, tt), tt)); heard = refl; same = refl }
 
 -- 10 s on
-asks : Asks 0 (asking 10) room (request 10) now
+pub asks : Asks 0 (asking 10) room (request 10) now
 unfolding computing
 asks = record { bytes = (small (asking 10) tt, tt, tt); low = refl; roomy = refl; sections = refl; ready = refl; framed = refl; readable = refl }
 
-passes : Passes 0 (request 10) now
+pub passes : Passes 0 (request 10) now
 unfolding computing
 passes = record { b = refl; c′ = refl; d = refl }
 
 -- a second on: 112
-late-asks : Asks 0 (asking 1) room (request 1) now
+pub late-asks : Asks 0 (asking 1) room (request 1) now
 unfolding computing
 late-asks = record { bytes = (small (asking 1) tt, tt, tt); low = refl; roomy = refl; sections = refl; ready = refl; framed = refl; readable = refl }
 
-late : earlierCode 0 (request 1) now ≡ 112
+pub late : earlierCode 0 (request 1) now ≡ 112
 unfolding computing
 late = refl
 
 -- 02, CR 8
-inquires : Inquires 0 inquiring room 1 now
+pub inquires : Inquires 0 inquiring room 1 now
 unfolding computing
 inquires = record { wired = (small inquiring tt, tt, tt); low = refl; roomy = refl; short = refl; ready = refl; framed = refl; readable = refl }
 
 -- 02, CR 6: of a connection that is ready
-ready : Ready 0 now
+pub is-ready : Ready 0 now
 unfolding computing
-ready = refl
+is-ready = refl
 
-asks-config : AsksConfig 0 configuring room now
+pub asks-config : AsksConfig 0 configuring room now
 unfolding computing
 asks-config = record { bytes = (small configuring tt, tt, tt); low = refl; roomy = refl; sections = refl; framed = refl }
 
-asks-alive : AsksAlive 0 alive room now
+pub asks-alive : AsksAlive 0 alive room now
 unfolding computing
 asks-alive = record { bytes = (small alive tt, tt, tt); low = refl; roomy = refl; sections = refl; framed = refl }
 
 -- and of one that has just opened
-opened : numberOf (call (opens 1) now .answer) ≡ 0
-unfolding computing numberOf
+pub opened : numberOf (call (opens 1) now .answer) ≡ 0
+unfolding computing
 opened = refl
 
-opened-asks : AsksConfig 1 configuring room (call (opens 1) now .splicer)
+pub opened-asks : AsksConfig 1 configuring room (call (opens 1) now .splicer)
 unfolding computing
 opened-asks = record { bytes = (small configuring tt, tt, tt); low = refl; roomy = refl; sections = refl; framed = refl }
+
+-- ## Of the same request for the tenth second
+
+-- its connection has fewer than 10 waiting, the answer is 100, and nobody that waits starts with it
+pub few : waitingCount 0 heard < 10
+unfolding computing
+few = ltb→lt (waitingCount 0 heard) 10 tt
+
+pub granted : ownAnswer (answers 100 0 1) (told asked now) ≡ true
+unfolding computing
+granted = refl
+
+pub free : some (startsAt (requested 0 (request 10) (now .queue) .start .0)) (now .queue .waiting) ≡ false
+unfolding computing
+free = refl
+
+-- and of the late one: it is not granted
+pub not-granted : grantedBy (messages 0 (asking 1) room) (told (messages 0 (asking 1) room) now) ≡ false
+unfolding computing
+not-granted = refl
+
+-- ## What waits, what is on air
+
+-- 02, CR 10: one waits, and none is started
+pub waits : 0 < length (waiting .queue .waiting)
+unfolding computing
+waits = ltb→lt 0 (length (waiting .queue .waiting)) tt
+
+pub none-started : waiting .queue .started ≡ []
+unfolding computing
+none-started = refl
+
+-- "An ad server dropped its connection with its spot on air.": one is on air, and the close is good
+pub on-air : length (airing .queue .started) ≡ 1
+unfolding computing
+on-air = refl
+
+pub closed : numberOf (call (closes 0 4096) airing .answer) ≡ 0
+unfolding computing
+closed = refl
+
+-- ## Calls and names
+
+-- a bad call, and a name without a zero byte
+pub refuses : call (opens 0) now .answer ≡ refused AlreadyOpen
+unfolding computing
+refuses = refl
+
+pub bad-name : hasZero (replicate 32 1) ≡ false
+bad-name = refl
+
+-- 02, CR 6: a call that changes nothing of what is kept
+pub unchanged : changed 0 (messages 0 alive room) (replyOf (call (messages 0 alive room) now .answer)) ≡ false
+unfolding computing
+unchanged = refl
+
+-- 02, CR 7: a good cue call
+pub cued : numberOf (call (cues section 0 0 0 4096) now .answer) ≡ 0
+unfolding computing
+cued = refl
