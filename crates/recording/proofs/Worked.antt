@@ -1,6 +1,7 @@
 -- 02, CR 14, byte by byte: small recordings, each worked out by hand from its sentence; the prover computes what is found in them.
 -- Rests on the definitions alone.
 use mathlib.Core.Path.{_≡_, refl}
+use mathlib.Core.Bool.{Bool, true, false}
 use mathlib.Core.List.{List, [], _∷_, map}
 use Prim.Native.Nat.{ℕ}
 use Prim.Native.String.{String, _++_}
@@ -12,6 +13,7 @@ use Rattle.recording.specs.declared.Finding.{Finding}
 use Rattle.recording.specs.declared.Finding.the-variants.{Longer, Unknown, Differs, None}
 use Rattle.recording.specs.Recording.{span, entryIn, entriesBy, entriesRun, entries, start, called, calledBy, taken, begins, isNothing, judged}
 use Rattle.recording.specs.Recording.{unknownFrom, firstUnknown, before, houseNumber, checked}
+use Rattle.recording.specs.Recorded.{endsCut, isLast, hasOversize}
 use Rattle.recording.proofs.Recordings.{fifteen-exactly}
 
 -- a recording, and what is found in it
@@ -175,6 +177,37 @@ oversizes =
 finds-oversizes : found oversizes ≡ wanted oversizes
 unfolding finding entry oversizes
 finds-oversizes = refl
+
+-- ## What `none-is-ours` asks of a recording that gets none: it is not cut, and no call of it is oversize
+
+record Asked : Type 0 where
+  bytes : String
+  wants : Bool × Bool
+
+asked : String → Bool → Bool → Asked
+asked l c o = record { bytes = l; wants = (c, o) }
+
+whole : List Asked
+whole =
+    -- 01's whole case; every kind of call; no call at all
+    asked (open0 ++ alive0 ++ general ++ close0 ++ close0 ++ closed) false false
+    ∷ asked (session ++ tick ++ starts ++ ends ++ close0) false false
+    ∷ asked "" false false
+    -- cut; oversize; both
+    ∷ asked (open0 ++ alive0 ++ "52") true false
+    ∷ asked (open0 ++ "4D00 0005 0FF9 FFFF FFFF" ++ "4504" ++ close0) false true
+    ∷ asked (open0 ++ "4D00 0005 0FF9 FFFF FFFF" ++ "45") true true
+    ∷ []
+
+asks-of-whole : map (λ a. (endsCut (entries (hex (a .bytes))), hasOversize (entries (hex (a .bytes))))) whole
+    ≡ map (λ a. a .wants) whole
+unfolding finding entry name session tick starts ends asked whole endsCut isLast hasOversize
+asks-of-whole = refl
+
+-- and each of them gets none
+finds-whole : map (λ a. checked (hex (a .bytes))) whole ≡ map (λ a. None) whole
+unfolding finding entry name session tick starts ends asked whole
+finds-whole = refl
 
 -- ## "14 for an unknown mark anywhere, with its place; both before any finding"
 
