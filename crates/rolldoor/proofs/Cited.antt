@@ -20,9 +20,11 @@ use Rattle.rules.specs.Lists.{All}
 use Rattle.rules.specs.Bytes.{Byte}
 use Rattle.rules.specs.Rolling.{rollingFresh, Timeless, roll}
 use Rattle.engine.proofs.Held.{kind, Holds, Same, both, number-held, words-held, name-held}
-use Rattle.rolling.specs.LentRolling.{LentRolling}
-use Rattle.door.specs.Door.{Input, anOpen, aClose, aMessage, aTick, aCue, Typed, callOf, Allowed}
-use Rattle.rolldoor.specs.RollDoor.{RollReplies, aKnown, anInstant, aReading, RollTyped, RollSeen, RollAllowed}
+use Rattle.memory.specs.Memory.{see}
+use Rattle.rolling.specs.LentRolling.{rolling, LentRolling}
+use Rattle.door.specs.Door.{Replies, Input, anOpen, aClose, aMessage, aTick, aCue, Typed, callOf, Allowed}
+use Rattle.rolldoor.specs.RollDoor.{RollReplies, RollInput, aKnown, anInstant, aReading, RollTyped, RollSeen, RollAllowed}
+use Rattle.rolldoor.specs.RollDoor.{rollCallOf, rollBufferOf}
 use Rattle.rolldoor.proofs.«splicer_7_rolling_fresh» as fresh
 use Rattle.rolldoor.proofs.«splicer_7_instant» as instant
 use Rattle.rolldoor.proofs.«splicer_7_reading» as reading
@@ -102,3 +104,23 @@ known-typed i = both ((λ t. t), λ t. t) ((λ t seconds micros e q. subst (λ (
 pub known-allowed : (m b k : List ℕ) (i : Input) (r n c j o : List ℕ)
     → RollAllowed m b k (aKnown i) (ended r n c j o) ≡ (Allowed m b i (record { reply = r; words = n; bytes = c; buffer = o }) × (j ≡ k))
 known-allowed m b k i r n c j o = refl
+
+-- ## What RollAllowed says is of the call `rollCallOf`, with the buffer `rollBufferOf`
+
+module _ (m b k : List ℕ) (r : RollSeen) where
+  abbrev Gives : RollInput → Type 0
+  Gives i =
+      RollReplies (roll (rollCallOf i) (rolling m b k)) (see m .ringEnd) (rollBufferOf i)
+      (r .reply) (r .words) (r .bytes) (r .counter) (r .buffer)
+
+  pub instant-called : (g e : List ℕ) → RollAllowed m b k (anInstant g e) r ≡ Gives (anInstant g e)
+  instant-called g e = refl
+
+  pub reading-called : (x : ℕ) (e : List ℕ) → RollAllowed m b k (aReading x e) r ≡ Gives (aReading x e)
+  reading-called x e = refl
+
+  pub known-called : (i : Input) → RollAllowed m b k (aKnown i) r
+      ≡ (Replies (roll (rollCallOf (aKnown i)) (rolling m b k) .called) (see m .ringEnd) (rollBufferOf (aKnown i))
+      (r .reply) (r .words) (r .bytes) (r .buffer) × (r .counter ≡ k))
+  unfolding roll
+  known-called i = refl
