@@ -112,8 +112,16 @@ rows =
     ∷ row (cue wrong) (says "5201 0000 0000 0075 FFFF 5202 0000 0000 0075 FFFF")
     ∷ row (opens 0) (takes 0 [])
     ∷ row (cue wrong) (says "5201 0000 0000 0075 FFFF 5202 0000 0000 0075 FFFF")
+    -- connection 3 is one of them
+    ∷ row (opens 3) (takes 0 [])
+    ∷ row (messages 3 init (lending 4096)) (named "03")
+    ∷ row (cue wrong) (says "5201 0000 0000 0075 FFFF 5202 0000 0000 0075 FFFF 5203 0000 0000 0075 FFFF")
     -- the clock is where the tick brought it: 1,000 s = 0x3E8
     ∷ row (messages 1 alive (lending 4096)) (takes 16 (hex "5201 0006 0010 0064 FFFF 00000001 FFFFFFFF 000003E8 00000000"))
+    -- and the only one, once 1 and 2 are closed
+    ∷ row (closes 1 4096) (takes 0 [])
+    ∷ row (closes 2 4096) (takes 0 [])
+    ∷ row (cue null) (says "5203 000C 001C FFFF FFFF FFFFFFFF FFFFFFFF FC301100000000000000FFF000000000 7A4FBFFF")
     ∷ []
 
 same : map seen (answers (map (λ r. r .calls) rows) start) ≡ map (λ r. r .wants) rows

@@ -115,6 +115,10 @@ sizes =
     ∷ sized (hex "FC 3012 00 00 00000000 00 FF F000 00 0000 B257ECBC") true
     -- section_length is the low 12 bits: those before it are not read
     ∷ sized (hex "FC F011 00 00 00000000 00 FF F000 00 0000 E4190177") false
+    -- and all twelve are: 0x111, 0x411 and 0x811 say other lengths
+    ∷ sized (hex "FC 3111 00 00 00000000 00 FF F000 00 0000 A7405E8D") true
+    ∷ sized (hex "FC 3411 00 00 00000000 00 FF F000 00 0000 03331CEE") true
+    ∷ sized (hex "FC 3811 00 00 00000000 00 FF F000 00 0000 88B6F9DD") true
     ∷ sized (hex insert) false
     ∷ sized (hex signal) false
     ∷ sized long512 false
@@ -263,6 +267,129 @@ passed =
 passed-read : found passed ≡ wanted passed
 unfolding reading passed
 passed-read = refl
+
+-- The CRC_32 of the three lists below were computed bit by bit, by a program of its own.
+
+-- (vii) "with pts_adjustment added, modulo 2^33", and 33 bits of pts_time: in an insert as in a time_signal
+alike : List Row
+alike =
+    -- pts_adjustment 0x10; bit 32 of both, as in `signal`; bit 32 of pts_time alone, with and without break_duration; the sum is 2^33
+    row "FC 3020 00 00 00000010 00 FF F00F 05 00028CE8 7F CF FED58923BF 5566 00 00 0000 7942455D" (At 3582534607)
+    ∷ row "FC 3020 00 01 00000010 00 FF F00F 05 00028CE8 7F CF FF23456789 5566 00 00 0000 5CE306C9" (At 591751065)
+    ∷ row "FC 3020 00 00 00000000 00 FF F00F 05 00028CE8 7F CF FF00000000 5566 00 00 0000 1581975D" (At 4294967296)
+    ∷ row "FC 3020 00 01 00000000 00 FF F00F 05 00028CE8 7F CF FE00000000 5566 00 00 0000 3A277CCA" (At 4294967296)
+    ∷ row "FC 3025 00 00 00000002 00 FF F014 05 00028CE8 7F EF FF00000001 FE00A4CB80 5566 00 00 0000 2C744C42" (At 4294967299)
+    ∷ row "FC 3020 00 00 00000001 00 FF F00F 05 00028CE8 7F CF FFFFFFFFFF 5566 00 00 0000 822410B5" (At 0)
+    -- without pts_time it is not used: immediate, with none, cancelled, splice_null
+    ∷ row "FC 301B 00 01 00000010 00 FF F00A 05 00028CE8 7F DF 5566 00 00 0000 E87B24E6" Timeless
+    ∷ row "FC 301C 00 01 00000010 00 FF F00B 05 00028CE8 7F CF 7F 5566 00 00 0000 E0FCBCF8" Timeless
+    ∷ row "FC 3016 00 01 00000010 00 FF F005 05 00028CE8 FF 0000 F6B2035C" Timeless
+    ∷ row "FC 3011 00 01 00000010 00 FF F000 00 0000 D061FB32" Timeless
+    ∷ []
+
+alike-read : found alike ≡ wanted alike
+unfolding reading alike
+alike-read = refl
+
+-- (viii) one bit tells, and the reserved ones beside it are not read: splice_event_cancel_indicator
+oneBit : List Row
+oneBit =
+    -- cancelled; not cancelled
+    row "FC 3016 00 00 00000000 00 FF F005 05 00028CE8 80 0000 0CD0A8A6" Timeless
+    ∷ row "FC 3020 00 00 00000000 00 FF F00F 05 00028CE8 00 CF FED58923BF 5566 00 00 0000 D92AC65A" (At 3582534591)
+    -- the flags' byte: program mode alone; immediate; with a duration; component mode in all its forms
+    ∷ row "FC 3020 00 00 00000000 00 FF F00F 05 00028CE8 7F 40 FED58923BF 5566 00 00 0000 C3C5CCA6" (At 3582534591)
+    ∷ row "FC 301B 00 00 00000000 00 FF F00A 05 00028CE8 7F 50 5566 00 00 0000 9D0089BF" Timeless
+    ∷ row "FC 3025 00 00 00000000 00 FF F014 05 00028CE8 7F 60 FED58923BF 0000A4CB80 5566 00 00 0000 7E17EC02" (At 3582534591)
+    ∷ row "FC 301C 00 00 00000000 00 FF F00B 05 00028CE8 7F 00 00 5566 00 00 0000 F342B51A" Silent
+    ∷ row "FC 3021 00 00 00000000 00 FF F010 05 00028CE8 7F BF 00 FE00A4CB80 5566 00 00 0000 54AA9F20" Silent
+    -- time_specified_flag, in a time_signal and in an insert: with pts_time of 32 and of 33 bits, and without
+    ∷ row "FC 3016 00 00 00000000 00 FF F005 06 80D58923BF 0000 E5F5FABC" (At 3582534591)
+    ∷ row "FC 3016 00 00 00000000 00 FF F005 06 8100000000 0000 50CCE376" (At 4294967296)
+    ∷ row "FC 3012 00 00 00000000 00 FF F001 06 00 0000 6AB20941" Timeless
+    ∷ row "FC 3012 00 00 00000000 00 FF F001 06 01 0000 6B6AA5C6" Timeless
+    ∷ row "FC 3020 00 00 00000000 00 FF F00F 05 00028CE8 7F CF 80D58923BF 5566 00 00 0000 B21EF268" (At 3582534591)
+    ∷ row "FC 3020 00 00 00000000 00 FF F00F 05 00028CE8 7F CF 8100000000 5566 00 00 0000 BA1FBD68" (At 4294967296)
+    ∷ row "FC 301C 00 00 00000000 00 FF F00B 05 00028CE8 7F CF 01 5566 00 00 0000 29DDFA85" Timeless
+    -- not read: cw_index, tier, protocol_version, encryption_algorithm, splice_event_id, unique_program_id, avail_num, avails_expected
+    ∷ row "FC 3020 00 00 00000000 A5 00 000F 05 00028CE8 7F CF FED58923BF 5566 00 00 0000 B8BC2838" (At 3582534591)
+    ∷ row "FC 3016 FF 7E 00000000 FF 12 3005 06 FED58923BF 0000 CFA25E79" (At 3582534591)
+    ∷ row "FC 3016 00 7F 00000000 00 FF F005 06 FE00000000 0000 C1F159A3" (At 4294967296)
+    ∷ row "FC 3020 00 00 00000000 00 FF F00F 05 FFFFFFFF 7F CF FED58923BF FFFF FF FF 0000 35DF792C" (At 3582534591)
+    ∷ row "FC 3011 00 00 00000000 00 00 0000 00 0000 C2739699" Timeless
+    -- section_syntax_indicator, private_indicator and the reserved bits
+    ∷ row "FC 0016 00 00 00000000 00 FF F005 06 FED58923BF 0000 5C9C7C4A" (At 3582534591)
+    ∷ row "FC F016 00 00 00000000 00 FF F005 06 FED58923BF 0000 D8928574" (At 3582534591)
+    -- commands and tables that differ in one bit from those that are read
+    ∷ row "FC 3011 00 00 00000000 00 FF F000 80 0000 9619FC7F" Silent
+    ∷ row "FC 3020 00 00 00000000 00 FF F00F 85 00028CE8 7F CF FED58923BF 5566 00 00 0000 9AED92AA" Silent
+    ∷ row "FC 3016 00 00 00000000 00 FF F005 86 FED58923BF 0000 F22045B2" Silent
+    ∷ row "FC 3016 00 00 00000000 00 FF F005 46 FED58923BF 0000 35C0B4C3" Silent
+    ∷ row "FC 3011 00 00 00000000 00 FF F000 02 0000 79FEE6F1" Silent
+    ∷ row "FC 3011 00 00 00000000 00 FF F000 08 0000 748ADBC7" Silent
+    ∷ row "BC 3011 00 00 00000000 00 FF F000 00 0000 BCEBBA1E" Silent
+    ∷ row "EC 3011 00 00 00000000 00 FF F000 00 0000 88B67731" Silent
+    ∷ []
+
+oneBit-read : found oneBit ≡ wanted oneBit
+unfolding reading oneBit
+oneBit-read = refl
+
+-- (ix) "lengths of command or descriptors that don't fit", each command by itself
+eachByItself : List Row
+eachByItself =
+    -- descriptor_loop_length has 16 bits: 0x0100, 0x1000, 0x8000 and 0xF000 in a splice_null, 0x1000 in an insert, 0xF000 in a time_signal
+    row "FC 3011 00 00 00000000 00 FF F000 00 0100 A8567E23" Bad
+    ∷ row "FC 3011 00 00 00000000 00 FF F000 00 1000 6A1E24EC" Bad
+    ∷ row "FC 3011 00 00 00000000 00 FF F000 00 8000 F8C36767" Bad
+    ∷ row "FC 3011 00 00 00000000 00 FF F000 00 F000 8977A61E" Bad
+    ∷ row "FC 3020 00 00 00000000 00 FF F00F 05 00028CE8 7F CF FED58923BF 5566 00 00 1000 0DD1434E" Bad
+    ∷ row "FC 3016 00 00 00000000 00 FF F005 06 FED58923BF F000 78180960" Bad
+    -- descriptors up to CRC_32, one past it, and stuffing behind them: an insert, an immediate one, one that is cancelled
+    ∷ row "FC 3026 00 00 00000000 00 FF F00F 05 00028CE8 7F CF FED58923BF 5566 00 00 0006 00 04 43554549 4BBC15FC" (At 3582534591)
+    ∷ row "FC 3026 00 00 00000000 00 FF F00F 05 00028CE8 7F CF FED58923BF 5566 00 00 0007 00 04 43554549 04EB7DED" Bad
+    ∷ row "FC 3028 00 00 00000000 00 FF F00F 05 00028CE8 7F CF FED58923BF 5566 00 00 0006 00 04 43554549 FFFF 95EA2105" (At 3582534591)
+    ∷ row "FC 3021 00 00 00000000 00 FF F00F 05 00028CE8 7F CF FED58923BF 5566 00 00 0000 00 B433C12F" (At 3582534591)
+    ∷ row "FC 301B 00 00 00000000 00 FF F00A 05 00028CE8 7F DF 5566 00 00 0001 2F4D044B" Bad
+    ∷ row "FC 301C 00 00 00000000 00 FF F00A 05 00028CE8 7F DF 5566 00 00 0000 FF E7A15550" Timeless
+    ∷ row "FC 3016 00 00 00000000 00 FF F005 05 00028CE8 FF 0001 536BEFEC" Bad
+    ∷ row "FC 3018 00 00 00000000 00 FF F005 05 00028CE8 FF 0000 FFFF 1630DE94" Timeless
+    -- a time_signal with pts_time and without
+    ∷ row "FC 301C 00 00 00000000 00 FF F005 06 FED58923BF 0006 00 04 43554549 3ABCEE54" (At 3582534591)
+    ∷ row "FC 3016 00 00 00000000 00 FF F005 06 FED58923BF 0001 8FE10D36" Bad
+    ∷ row "FC 3018 00 00 00000000 00 FF F005 06 FED58923BF 0000 FFFF AE9BA590" (At 3582534591)
+    ∷ row "FC 3012 00 00 00000000 00 FF F001 06 7F 0001 35094E0B" Bad
+    ∷ row "FC 3016 00 00 00000000 00 FF F001 06 7F 0000 FFFFFFFF 118CB514" Timeless
+    -- a command length one less and one more: a time_signal, an immediate insert, one with a duration, one without pts_time, one cancelled
+    ∷ row "FC 3016 00 00 00000000 00 FF F004 06 FED58923BF 0000 7920BAE7" Bad
+    ∷ row "FC 3016 00 00 00000000 00 FF F006 06 FED58923BF 0000 99E0F39C" Bad
+    ∷ row "FC 3012 00 00 00000000 00 FF F000 06 7F 0000 78C53431" Bad
+    ∷ row "FC 3012 00 00 00000000 00 FF F002 06 7F 0000 EADFFB2B" Bad
+    ∷ row "FC 301B 00 00 00000000 00 FF F009 05 00028CE8 7F DF 5566 00 00 0000 E3944ABF" Bad
+    ∷ row "FC 301B 00 00 00000000 00 FF F00B 05 00028CE8 7F DF 5566 00 00 0000 6C7BD73D" Bad
+    ∷ row "FC 3025 00 00 00000000 00 FF F00F 05 00028CE8 7F EF FED58923BF FE00A4CB80 5566 00 00 0000 F3330E4D" Bad
+    ∷ row "FC 301C 00 00 00000000 00 FF F00F 05 00028CE8 7F CF 7F 5566 00 00 0000 3E74B3A9" Bad
+    ∷ row "FC 3016 00 00 00000000 00 FF F004 05 00028CE8 FF 0000 A5AA583D" Bad
+    -- it has 12 bits: 0x105 and 0x805 are not 5
+    ∷ row "FC 3016 00 00 00000000 00 FF F105 06 FED58923BF 0000 0BB0B0E6" Bad
+    ∷ row "FC 3016 00 00 00000000 00 FF F805 06 FED58923BF 0000 9CA16565" Bad
+    -- "A command length of 0xFFF counts as not given", in each of them; then the descriptors are still to fit
+    ∷ row "FC 3011 00 00 00000000 00 FF FFFF 00 0000 4F253396" Timeless
+    ∷ row "FC 3011 00 00 00000000 00 FF FFFF 00 0001 4BE42E21" Bad
+    ∷ row "FC 3016 00 00 00000000 00 FF FFFF 06 FED58923BF 0000 F760F53C" (At 3582534591)
+    ∷ row "FC 3016 00 00 00000000 00 FF FFFF 06 FED58923BF 0001 F3A1E88B" Bad
+    ∷ row "FC 3012 00 00 00000000 00 FF FFFF 06 7F 0000 D1BE5BCA" Timeless
+    ∷ row "FC 3016 00 00 00000000 00 FF FFFF 05 00028CE8 FF 0000 2BEA17E6" Timeless
+    ∷ row "FC 3016 00 00 00000000 00 FF FFFF 05 00028CE8 FF 0001 2F2B0A51" Bad
+    ∷ row "FC 301B 00 00 00000000 00 FF FFFF 05 00028CE8 7F DF 5566 00 00 0000 F01C03F6" Timeless
+    ∷ row "FC 3020 00 00 00000000 00 FF FFFF 05 00028CE8 7F CF FED58923BF 5566 00 00 0001 42F0F00D" Bad
+    -- with it an insert is whole, or bad, by its own syntax: one byte short
+    ∷ row "FC 301F 00 00 00000000 00 FF FFFF 05 00028CE8 7F CF FED58923BF 5566 00 0000 6BE37172" Bad
+    ∷ []
+
+eachByItself-read : found eachByItself ≡ wanted eachByItself
+unfolding reading eachByItself
+eachByItself-read = refl
 
 -- ## The time
 
