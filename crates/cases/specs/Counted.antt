@@ -40,15 +40,22 @@ rows : List Row
 rows =
     -- "a reading before the instant is given"; a session from 995 s for 10 s is accepted at clock 0
     refuses (reads 7) 12
+    -- "after 2", also with no instant given
+    ∷ refuses (readings 7 4095) 2
     ∷ writes (known (timed 0 1 995 0 1 0 900000)) (SpliceResponse 0 100 1 ∷ [])
     -- "on this card after 2: 8 for the given instant"
     ∷ refuses (instants 1000 1000000 5 4095) 2
     ∷ refuses (gives 1000 1000000 5) 8
+    -- a refused instant gives none
+    ∷ refuses (reads 5) 12
     -- the instant: what is due on the way is done
     ∷ writes (gives 1000 0 4294967295) (SpliceComplete 0 100 1 0 0 ∷ [])
     -- "a second instant", 8 before 12
     ∷ refuses (gives 1000 0 4294967295) 12
     ∷ refuses (gives 1000 1000000 4294967295) 8
+    ∷ refuses (instants 1000 0 4294967295 4095) 2
+    -- nor is the reading of any of these the next base
+    ∷ refuses (gives 1000 0 7) 12
     -- step 0; a tick back; 2 before 12
     ∷ writes (reads 4294967295) []
     ∷ refuses (reads 4294967294) 12
@@ -73,6 +80,21 @@ rows =
     -- "a step over 8,100,000 ticks", which is not the next base; exactly 8,100,000
     ∷ refuses (reads 9000010) 12
     ∷ writes (reads 9000009) (SpliceComplete 0 100 3 0 0 ∷ SpliceComplete 0 100 3 1 90000 ∷ [])
+    ∷ []
+
+-- the limit of a step through the rollover: from 4294967295, 8,100,000 ticks lead to 8,099,999, and are 90 s. Then a step of as many on
+-- from there, and readings of 0 and of the one before, which are far behind
+limitRows : List Row
+limitRows =
+    writes (gives 1000 0 4294967295) []
+    ∷ refuses (reads 8100000) 12
+    ∷ writes (reads 8099999) []
+    ∷ writes alive (is 1 0xFFFFFFFF 1090000000)
+    ∷ refuses (reads 16200000) 12
+    ∷ writes (reads 16199999) []
+    ∷ refuses (reads 0) 12
+    ∷ refuses (reads 8099999) 12
+    ∷ writes alive (is 1 0xFFFFFFFF 1180000000)
     ∷ []
 
 -- the time field's last second, which the instant gives: any fraction of it is good
@@ -126,3 +148,11 @@ lastNumbered = refl
 lastAnswered : records lastRows ≡ map (λ r. r .wants) lastRows
 unfolding sent from initOf asks stepOf instantCourse stepCourse readingCourse rolls instantCall readingCall rollingFresh roll refuses writes gives reads alive is lastRows each plays ready results records computing
 lastAnswered = refl
+
+limitNumbered : numbers limitRows ≡ map (λ r. r .number) limitRows
+unfolding sent from initOf asks stepOf instantCourse stepCourse readingCourse rolls instantCall readingCall rollingFresh roll refuses writes gives reads alive is limitRows each plays ready results told numbers computing
+limitNumbered = refl
+
+limitAnswered : records limitRows ≡ map (λ r. r .wants) limitRows
+unfolding sent from initOf asks stepOf instantCourse stepCourse readingCourse rolls instantCall readingCall rollingFresh roll refuses writes gives reads alive is limitRows each plays ready results records computing
+limitAnswered = refl
