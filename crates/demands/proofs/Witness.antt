@@ -2,7 +2,7 @@
 -- bytes: the theorems speak of something. Rests on computing alone.
 use mathlib.Core.Path.{_≡_, refl}
 use mathlib.Core.Bool.{Bool, true, false, _&&_}
-use mathlib.Core.List.{List, [], _∷_, _++_}
+use mathlib.Core.List.{List, [], _∷_, _++_, map}
 use Prim.Native.Nat.{ℕ, _<_}
 use lib.Dec.{T, ltb, ltb→lt}
 use lib.ListN.{length, replicate}
@@ -30,6 +30,8 @@ use Rattle.rules.specs.Card
 use Rattle.rules.specs.Card.{cardName}
 use Rattle.demands.specs.History
 use Rattle.demands.specs.History.{Event, replyOf, history, ownAnswer, waitingCount}
+use Rattle.demands.specs.Airing
+use Rattle.demands.specs.Airing.{airingsTold}
 use Rattle.demands.specs.Told.{FromFresh, answers, Asks, Passes, Inquires, firstNumber, earlierCode, numberOf, grantedBy}
 use Rattle.demands.specs.Kept.{isInitialising, initialises, changes, changed, AsksConfig, AsksAlive, Ready}
 
@@ -117,7 +119,7 @@ small (b ∷ l) h = let p = split (ltb b 256) (each l) h in (ltb→lt b 256 (p .
 
 -- what they are computed with
 unfoldable computing : ℕ
-unfolding name message initialise asking inquiring configuring alive room calls heard now told asked waiting airing section request each cardName Lists.place Lists.insertAt Lists.removeAt Bytes.bytes Bytes.value Bytes.valueFrom Reading.readInit Reading.readAlive Reading.tailOf Reading.readWhole Reading.readSplice Reading.muxFrom Reading.readStart Reading.readExtended Reading.read State.empty State.due Records.framed Records.recordBytes Records.output Records.recordIn Records.recordsUpTo Records.recordsIn Ends.andThen Ends.endings Ends.evicted Ends.evictedAt Ends.closedBy Instants.mayStart Instants.meetsEqual Instants.ousted Instants.launched Instants.startAt Instants.endAt Instants.instant Instants.onAir Instants.elapse Instants.run Instants.runAll Instants.silent Instants.silentAll Answers.initResult Answers.answerInit Answers.airState Answers.airID Answers.aliveResponse Answers.startOf Answers.sessionAt Answers.requested Answers.unknownPrior Answers.tooLate Answers.collides Answers.full Answers.spliceResult Answers.inserted Answers.accepted Answers.later Answers.answerSplice Answers.answerRead Answers.answer Calls.writtenBy Calls.named Calls.fresh Calls.openCall Calls.closeCall Calls.framing Calls.handled Calls.messageCall Calls.ticked Calls.moveCall Calls.tickCall Calls.cueCall Calls.call Calls.after History.isYes History.history History.last History.waitAnswered History.waitAfter History.waitReplied History.waitingTold History.waitingCount answers firstNumber earlierCode numberOf grantedBy isInitialising initialises changes changed
+unfolding name message initialise asking inquiring configuring alive room calls heard now told asked waiting airing section request each cardName Lists.place Lists.insertAt Lists.removeAt Bytes.bytes Bytes.value Bytes.valueFrom Reading.readInit Reading.readAlive Reading.tailOf Reading.readWhole Reading.readSplice Reading.muxFrom Reading.readStart Reading.readExtended Reading.read State.empty State.due Records.framed Records.recordBytes Records.output Records.recordIn Records.recordsUpTo Records.recordsIn Ends.andThen Ends.endings Ends.evicted Ends.evictedAt Ends.closedBy Instants.mayStart Instants.meetsEqual Instants.ousted Instants.launched Instants.startAt Instants.endAt Instants.instant Instants.onAir Instants.elapse Instants.run Instants.runAll Instants.silent Instants.silentAll Answers.initResult Answers.answerInit Answers.airState Answers.airID Answers.aliveResponse Answers.startOf Answers.sessionAt Answers.requested Answers.unknownPrior Answers.tooLate Answers.collides Answers.full Answers.spliceResult Answers.inserted Answers.accepted Answers.later Answers.answerSplice Answers.answerRead Answers.answer Calls.writtenBy Calls.named Calls.fresh Calls.openCall Calls.closeCall Calls.framing Calls.handled Calls.messageCall Calls.ticked Calls.moveCall Calls.tickCall Calls.cueCall Calls.call Calls.after History.isYes History.history History.last History.waitAnswered History.waitAfter History.waitReplied History.waitingTold History.waitingCount History.isStart History.isEnd History.front History.othersOf History.startTold History.endAsked History.lastTold Airing.newest Airing.lists Airing.saysPlayed Airing.heard Airing.byThen Airing.heardAll Airing.startAsked Airing.airingAsked Airing.airedAnswered Airing.airedAfter Airing.airedReplied Airing.airings answers firstNumber earlierCode numberOf grantedBy isInitialising initialises changes changed
 computing = 0
 
 pub reached : FromFresh heard now
@@ -209,6 +211,14 @@ on-air = refl
 pub closed : numberOf (call (closes 0 4096) airing .answer) ≡ 0
 unfolding computing
 closed = refl
+
+-- 02, CR 13: a second later its end tells a PlayedDuration
+unfoldable pub day : List Event
+day = history (opens 0 ∷ messages 0 initialise room ∷ asked ∷ ticks 10 0 4096 ∷ ticks 11 0 4096 ∷ []) (fresh name .splicer)
+
+pub listed : map (λ a. a .listed) (airingsTold day) ≡ true ∷ []
+unfolding computing day
+listed = refl
 
 -- ## Calls and names
 
