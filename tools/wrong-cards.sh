@@ -1,8 +1,8 @@
 #!/bin/sh
-# wrong-cards.sh: what no promise of the card program can say (that `main` reads, writes and loops, and `turns` hands on what `turn` left)
-# is seen by runs. Each edit of crates/card/wrong-runs makes a wrong program of it, built here WITHOUT proof; the run with input in pieces
-# (model pieces) must notice it, and must pass the program of the source as it stands, built in the same way. Needs
-# target/model/release/model (tools/compare.sh builds it). The last line is 'N passed, M failed'.
+# wrong-cards.sh: what no promise of the card program can say (which bytes its reads and writes move, src/stdio.rt) is seen by runs, and so
+# is a wrong loop, which its promise refuses. Each edit of crates/card/wrong-runs makes a wrong program of it, built here WITHOUT proof; the
+# run with input in pieces (model pieces) must notice it, and must pass the program of the source as it stands, built in the same way.
+# Needs target/model/release/model (tools/compare.sh builds it). The last line is 'N passed, M failed'.
 set -eu
 . "$(dirname "$0")/words.sh"
 no_words "$@"
@@ -41,15 +41,15 @@ changed() {
 # built [EDIT]: the program $work/card, wrong by the edit if there is one
 built() {
     rm -rf "$work"
-    mkdir -p "$work/repo/crates/card/src"
+    mkdir -p "$work/repo/crates/card"
     cp crates.txt "$work/repo/"
     for crate in "$here"/crates/*; do
         [ "$(basename "$crate")" = card ] || ln -s "$crate" "$work/repo/crates/"
     done
-    if [ $# -eq 0 ]; then
-        cp crates/card/src/main.rt "$work/repo/crates/card/src/main.rt"
-    else
-        changed "$1" crates/card/src/main.rt >"$work/repo/crates/card/src/main.rt" || return 1
+    cp -R crates/card/src "$work/repo/crates/card/"
+    if [ $# -gt 0 ]; then
+        file=$(sed -n 's/^file: //p' "$1")
+        changed "$1" "crates/card/$file" >"$work/repo/crates/card/$file" || return 1
     fi
     (cd "$work/repo" && sh "$here/tools/kept-module.sh" "$work" try card </dev/null) >"$work/log" 2>&1 || [ -f "$work/module.bc" ] || return 1
     "$own/toolchain/bin/clang" --target=$target -march=x86-64 --no-default-config -no-canonical-prefixes -x ir -c -fPIC -O3 \

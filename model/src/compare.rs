@@ -5,6 +5,9 @@ use std::os::fd::OwnedFd;
 use std::os::unix::net::UnixDatagram;
 use std::process::{Child, Command, Stdio};
 
+/// How often a program may read behind the end of its input.
+const AT_END: usize = 64;
+
 /// What a card program wrote, and what it ended with if that was no success.
 pub struct Output {
     pub bytes: Vec<u8>,
@@ -32,8 +35,8 @@ pub fn run_in_pieces(command: &str, pieces: &[&[u8]]) -> Result<Output, String> 
         let _ = given
             .iter()
             .try_for_each(|piece| ours.send(piece).map(|_| ()));
-        // once for each read behind the end
-        for _ in 0..8 {
+        // once for each read behind the end: of those that still play what was read before, too
+        for _ in 0..AT_END {
             let _ = ours.send(&[]);
         }
     })

@@ -1,15 +1,41 @@
 // 02, CR 14: reads a bench recording from standard input and writes one line: "none", "call 17", "refused 14 at 812" or "refused 15".
-use recording::Finding;
-ghost use mathlib.Core.Path.{_≡_};
-ghost use Rattle.checker.specs.Input.{foundIn};
+mod stdio;
 
-// Whether a byte stands behind those that are read. A short read is the whole input.
-fn is_longer(read: usize) -> bool {
+use recording::Finding;
+use stdio::Came;
+ghost use mathlib.Core.Path.{_≡_};
+ghost use Rattle.checker.specs.Input.{foundIn, isLonger, Asks, Judges};
+
+// What stands behind the bytes that were read. A short read is the whole input; behind a full one a byte more is tried.
+enum Behind {
+    Short,
+    Tried(Came),
+}
+
+// What was found in the bytes that came.
+struct Judged {
+    read: Came,
+    behind: Behind,
+    finding: Finding,
+}
+
+fn look_behind(read: usize) -> Behind
+    ensures { λ r. ⌜ Asks read r ⌝ }
+{
     if read < judge::LONGEST {
-        return false;
+        return Behind::Short;
     }
     let mut next = [0; 1];
-    0 < io::read_full(libc::STDIN_FILENO, &mut next)
+    Behind::Tried(stdio::read(&mut next))
+}
+
+fn is_longer(b: Behind) -> bool
+    ensures { λ r. ⌜ r ≡ isLonger b ⌝ }
+{
+    match b {
+        Behind::Short => false,
+        Behind::Tried(c) => 0 < stdio::count_of(c),
+    }
 }
 
 fn found(l: &[u8], is_longer: bool) -> Finding
@@ -40,9 +66,24 @@ fn say(f: Finding) {
     }
 }
 
-fn main() {
+// The whole program, but for the line that it writes.
+fn read_and_judge() -> Judged
+    ensures { λ r. ⌜ Judges r ⌝ }
+{
     let mut input = io::large_buffer();
-    let n = io::read_full(libc::STDIN_FILENO, &mut input);
-    let longer = is_longer(n);
-    say(found(&input[..n], longer));
+    let read = stdio::read(&mut input);
+    let n = stdio::count_of(read);
+    let behind = look_behind(n);
+    let finding = found(&input[..n], is_longer(behind));
+    Judged {
+        read: read,
+        behind: behind,
+        finding: finding,
+    }
+}
+
+fn main() {
+    let j = read_and_judge();
+    let f = j.finding;
+    say(f);
 }
