@@ -229,7 +229,7 @@ reusing =
     ("5200 0009 000D 0064 FFFF 00000001 00 00000000 00000000" ∷ "5200 0009 000D 0064 FFFF 00000001 01 00000000 00000001" ∷ [])
     ∷ heard (says 1 "000E 0004 FFFF FFFF 00000001") "5201 000F 0004 0064 FFFF 00000001 5201 0008 0004 0074 FFFF 00000001" ∷ []
 
--- the close's end written again, after number 1 was accepted again or before
+-- 1's end, written once more behind the close
 late : Event
 late = heard (till 700) "5200 0009 000D 0064 FFFF 00000001 01 00000000 00000001"
 
