@@ -39,11 +39,12 @@ Course m l (x ∷ h) =
     Typed (x .input) × Its (callOf (x .input)) × Allowed m (x .input) (x .card) × Recollects l (x .input) (x .second)
     × Course (x .card .memory) (x .second .log) h
 
--- both were fresh, and then the calls h were made; lent: the log that the second one's fresh was handed, any bytes
+-- both were fresh, and then the calls h were made
 pub record Beside (h : List Both) : Type 0 where
   pub memory : Memory
   pub answer : Answer
   pub fresh : Answers (fresh (padded cardName)) 0 [] answer (memory .words) (memory .bytes) []
+  -- the log that the second one's fresh was handed: any bytes
   pub lent : List ℕ
   pub reply : Reply
   pub log : List ℕ

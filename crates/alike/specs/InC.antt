@@ -40,6 +40,7 @@ pub record Beside (h : List Both) : Type 0 where
   pub bytes : List ℕ
   pub reply : List ℕ
   pub fresh : Replies (fresh (padded cardName)) 0 [] reply words bytes []
+  -- the log that was handed to fresh: any bytes
   pub lent : List ℕ
   pub told : List ℕ
   pub log : List ℕ
