@@ -63,7 +63,7 @@ module _ (pts seconds micros : ℕ) where
   cue-time-past p h = past (exact pts seconds micros p) h
 
   -- whether there is a pts_time and the exact instant is in the range
-  abbrev Timed : Cue → Type 0
+  abbrev pub Timed : Cue → Type 0
   Timed (At p) = exact pts seconds micros p < range
   Timed Timeless = ⊥
   Timed Silent = ⊥
