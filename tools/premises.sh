@@ -1,8 +1,8 @@
 #!/bin/sh
-# premises.sh: every premise of a theorem that docs/DEMANDS.md names is plain data, the trace, what a call's contract allows or a fact of the types,
-# or it stands in the table of that page's section "Premises" with a proved witness that it can be met. Reads the statements of the crates and the
-# page; proves nothing and needs no kit. A line for each premise that is in the table: theorem, crates, premise. The last line is
-# 'N passed, M failed'.
+# premises.sh: every premise of a theorem that docs/DEMANDS.md names is plain data, the trace, what a call's contract allows or a fact of
+# the types, or it stands in the table of that page's section "Premises" with a proved witness that it can be met. Reads the statements of the
+# crates and the page; proves nothing and needs no kit. A line for each premise that is in the table: theorem, crates, premise.
+# The last line is 'N passed, M failed'.
 set -eu
 . "$(dirname "$0")/words.sh"
 no_words "$@"
@@ -11,8 +11,8 @@ page=docs/DEMANDS.md
 work=target/premises
 mkdir -p "$work"
 
-# Where a theorem is looked for: the statements about the calls, and what was read from the source. One that is not there is a law of the crates
-# below; a law below that has a theorem's name is what that one rests on, and no statement of its own.
+# Where a theorem is looked for: the statements about the calls, and what was read from the source. One that is not there is a law of the
+# crates below; a law below that has a theorem's name is what that one rests on, and no statement of its own.
 stated='traces driven rolled alike door rolldoor'
 below='demands recording recall card cues reading rules judge streams bench rolling memory rows'
 
@@ -23,8 +23,8 @@ files() {
     done
 }
 
-# premises FILE..: for each public statement a line for each premise, and a last one for what it says: name, crate, kind, text, and the names that
-# are bound by then, by tabs. A premise of a module is one of each statement in it. Fields of records are left out.
+# premises FILE..: for each public statement a line for each premise, and a last one for what it says: name, crate, kind, text, and the
+# names that are bound by then, by tabs. A premise of a module is one of each statement in it. Fields of records are left out.
 premises() {
     awk '
     FNR == 1 { flush(); depth = 0; header = ""; short = " " }
@@ -168,16 +168,18 @@ premises() {
 left() {
     awk -F '\t' '
     BEGIN {
-        # plain data, and what a function of the toolchain is handed
-        words("ℕ List Bool Input RollInput Memory Made Result Seen RollSeen Request Refusal Call RollingCall Loans Row Event Record Act Rolling Cue " \
-            "Stream Splicer Both Recollection Reply Answer engine.Input door-calls.Input engine.Result", data)
-        words("Lfts Args Res AtExit URA Heap Atoms Type store.Memory Routine", data)
+        words("ℕ List Bool Input RollInput Memory Made Result Seen RollSeen Request Refusal Call RollingCall Loans Row Event", data)
+        words("Record Act Rolling Cue Stream Splicer Both Recollection Reply Answer engine.Input door-calls.Input engine.Result", data)
+        # what a contract speaks of, as the toolchain has it
+        words("Type Lfts Args Res AtExit URA Heap Atoms store.Memory Routine", handed)
         # the trace: fresh, then any calls, each result one that its contract allows
         words("Trace engine.Trace More Point Leads Run Beside FromFresh", trace)
         # what a contract allows: the code is proved to meet it, and Cited holds it to the source
-        words("Allowed AllowedAt Counts Primary ReadsMux ReadsFeed Pages ReadsList WritesList Tells TellsFresh Remembers Forgets Recollects", trace)
+        words("Allowed AllowedAt Counts Primary ReadsMux ReadsFeed Pages ReadsList WritesList", trace)
+        words("Tells TellsFresh Remembers Forgets Recollects", trace)
         # what may stand in one of these beside names that are bound: then it is of any calls, of that kind
-        words("anOpen aClose aMessage aTick aMove aCue aKnown anInstant aReading made ++ ∷ .words .bytes .memory .log left lateOf logAfter pairs", among)
+        words("anOpen aClose aMessage aTick aMove aCue aKnown anInstant aReading made ++ ∷", among)
+        words(".words .bytes .memory .log left lateOf logAfter pairs", among)
         # what the types say of an input: tied to them by Cited
         words("Typed engine.Typed door-calls.Typed RollTyped Byte Wired", types)
     }
@@ -193,11 +195,11 @@ left() {
         return s
     }
 
-    # every word of it is a type of data, or of a function of the toolchain
+    # every word of it is a type of data
     function plain(s,    n, t, i) {
         gsub(/[(){}]/, " ", s)
         n = split(s, t, " ")
-        if (t[1] in data && t[1] ~ /^(Lfts|Args|Res|AtExit|URA|Heap|Atoms|Type|store.Memory|Routine)$/) return 1
+        if (t[1] in handed) return 1
         for (i = 1; i <= n; i++) if (!(t[i] in data)) return 0
         return 1
     }
@@ -214,8 +216,9 @@ left() {
     function typed(s,    n, t) {
         n = split(s, t, " ")
         if (first(s) in types || first(s) == "All" && t[2] in types) return 1
-        if (n == 3 && t[2] == "<" && t[3] ~ /^4294967296$/) return 1
-        return t[1] == "length" && t[n - 1] == "≡" && t[n] ~ /^([0-9]+|rows|logLength)$/
+        if (n == 3 && t[2] == "<" && t[3] == "4294967296") return 1
+        # a name, the page, and the words and bytes of a list of streams are arrays
+        return s ~ /^length (name ≡ 32|lent ≡ rows|words ≡ 130|kept ≡ 3744)$/
     }' "$@"
 }
 
@@ -235,8 +238,7 @@ table() {
     /^## / { on = $0 == "## Premises" }
     !on || !/^\| `/ { next }
     {
-        line = $0
-        n = split(line, cell, " [|] ")
+        split($0, cell, " [|] ")
         premise = quoted(cell[1], 1)
         for (k = 1; (theorem = quoted(cell[2], k)) != ""; k++) print "row\t" theorem "\t" premise
         for (k = 1; k == 1 || quoted(cell[4], k) != ""; k += 2) print "witness\t" quoted(cell[4], k) "\t" quoted(cell[4], k + 1)
