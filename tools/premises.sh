@@ -1,7 +1,7 @@
 #!/bin/sh
 # premises.sh: every premise of a theorem that docs/DEMANDS.md names is plain data, the trace, what a call's contract allows or a fact of
-# the types, or it stands in the table of that page's section "Premises" with a proved witness that it can be met. Reads the statements of the
-# crates and the page; proves nothing and needs no kit. A line for each premise that is in the table: theorem, crates, premise.
+# the types, or it stands in the table of that page's section "Premises" with a proved witness that it can be met. Reads the statements of
+# the crates and the page; proves nothing and needs no kit. A line for each premise that is in the table: theorem, crates, premise.
 # The last line is 'N passed, M failed'.
 set -eu
 . "$(dirname "$0")/words.sh"
