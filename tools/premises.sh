@@ -169,6 +169,8 @@ left() {
     awk -F '\t' '
     BEGIN {
         words("ℕ List Bool Input RollInput Memory Made Result Seen RollSeen Request Refusal Call RollingCall Loans Row Event", data)
+        # what C can hand in, as plain records of words below 2^32 and bytes
+        words("Handed Name", data)
         words("Record Act Rolling Cue Stream Splicer Both Recollection Reply Answer engine.Input door-calls.Input engine.Result", data)
         # what a contract speaks of, as the toolchain has it
         words("Type Lfts Args Res AtExit URA Heap Atoms store.Memory Routine", handed)

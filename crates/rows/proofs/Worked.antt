@@ -5,6 +5,6 @@ use Prim.Native.Nat.{ℕ}
 use Rattle.rules.specs.Calls.{houseNumber}
 use Rattle.rows.specs.Rows.{pageNumber}
 
-numbers : map pageNumber (0 ∷ 1 ∷ 15 ∷ 16 ∷ 17 ∷ 32 ∷ []) ≡ (16 ∷ 16 ∷ 16 ∷ 0 ∷ 16 ∷ 16 ∷ [])
+pub numbers : map pageNumber (0 ∷ 1 ∷ 15 ∷ 16 ∷ 17 ∷ 32 ∷ []) ≡ (16 ∷ 16 ∷ 16 ∷ 0 ∷ 16 ∷ 16 ∷ [])
 unfolding pageNumber houseNumber
 numbers = refl
