@@ -14,7 +14,7 @@ mkdir -p "$work"
 # Where a theorem is looked for: the statements about the calls, and what was read from the source. One that is not there is a law of the
 # crates below; a law below that has a theorem's name is what that one rests on, and no statement of its own.
 stated='traces driven rolled alike door rolldoor'
-below='demands recording recall card cues reading rules judge streams bench rolling memory rows'
+below='demands recording recall card checker cues reading rules judge streams bench rolling memory rows'
 
 # files CRATE..: their statements
 files() {
@@ -170,7 +170,7 @@ left() {
     BEGIN {
         words("ℕ List Bool Input RollInput Memory Made Result Seen RollSeen Request Refusal Call RollingCall Loans Row Event", data)
         # what C can hand in, as plain records of words below 2^32 and bytes
-        words("Handed Name", data)
+        words("Handed Name Judged", data)
         words("Record Act Rolling Cue Stream Splicer Both Recollection Reply Answer engine.Input door-calls.Input engine.Result", data)
         # what a contract speaks of, as the toolchain has it
         words("Type Lfts Args Res AtExit URA Heap Atoms store.Memory Routine", handed)
@@ -178,12 +178,12 @@ left() {
         words("Trace engine.Trace More Point Leads Run Beside FromFresh", trace)
         # what a contract allows: the code is proved to meet it, and Cited holds it to the source
         words("Allowed AllowedAt Counts Primary ReadsMux ReadsFeed Pages ReadsList WritesList", trace)
-        words("Tells TellsFresh Remembers Forgets Recollects", trace)
+        words("Tells TellsFresh Remembers Forgets Recollects Judges", trace)
         # what may stand in one of these beside names that are bound: then it is of any calls, of that kind
         words("anOpen aClose aMessage aTick aMove aCue aKnown anInstant aReading made ++ ∷", among)
         words(".words .bytes .memory .log left lateOf logAfter pairs", among)
         # what the types say of an input: tied to them by Cited
-        words("Typed engine.Typed door-calls.Typed RollTyped Byte Wired", types)
+        words("Typed engine.Typed door-calls.Typed RollTyped Byte Bytes Wired", types)
     }
     $3 == "premise" && !plain($4) && !traced($4, $5) && !typed($4) { print $1 "\t" $2 "\t" $4 }
 

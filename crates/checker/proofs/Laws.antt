@@ -1,9 +1,9 @@
 -- What is found is what the definition finds in the whole input.
 -- Rests on recording's law of a longer recording.
-use mathlib.Core.Path.{_≡_, refl, sym, ap, _∙_}
+use mathlib.Core.Path.{_≡_, refl, sym, subst, ap, _∙_}
 use mathlib.Core.Bool.{Bool, true, false}
 use mathlib.Core.List.{List, [], _∷_, _++_, append-nil}
-use Prim.Native.Nat.{ℕ, _<_}
+use Prim.Native.Nat.{ℕ, _≤_, _<_}
 use native.Mathlib.Omega.{arith}
 use lib.Dec.{ltb}
 use lib.ListN.{length, length-append}
@@ -35,6 +35,17 @@ Tries (Tried c) m = (0 < c .count → m ≡ [] → ⊥) × (c .count ≡ 0 → m
 pub record Unread (r : Judged) (m : List ℕ) : Type 0 where
   pub short : r .read .count < longest → m ≡ []
   pub tries : Tries (r .behind) m
+
+-- it can be so: at the end of the input behind a short read, and behind a full one with as much behind it as one likes
+pub unread-met : (r : Judged) → r .behind ≡ Short → Unread r []
+unread-met r e = record { short = λ _. refl; tries = subst (λ (b : Behind). Tries b []) (sym e) tt }
+
+pub unread-behind : (r : Judged) (c : Came) (x : ℕ) (m : List ℕ) → r .behind ≡ Tried c → 0 < c .count → longest ≤ r .read .count → Unread r (x ∷ m)
+unread-behind r c x m e h full =
+    record {
+      short = λ s. absurd (omega (arith, s, full));
+      tries = subst (λ (b : Behind). Tries b (x ∷ m)) (sym e) ((λ _ n. absurd (omega (arith, ap length n))), λ z. absurd (omega (arith, h, z)));
+    }
 
 -- what is found is what the definition finds in the whole input
 pub program-finds : (r : Judged) (j : Judges r) (m : List ℕ) → Unread r m → r .finding ≡ checked (j .bytes ++ m)
