@@ -35,3 +35,4 @@ pub mod Size
 pub mod Bounds
 pub mod Values
 pub mod Sound
+pub mod Timeless
