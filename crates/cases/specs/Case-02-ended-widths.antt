@@ -1,7 +1,7 @@
 -- model/scenarios/02-ended-widths.txt, made by tools/cases.sh. Line numbers are that file's.
 -- Document 02, CR 8: the numbers of an ended session in all their bytes, from the request's bytes to the descriptor's.
--- Shows: SessionID, SpliceEventID and PlayedDuration with all four bytes, also of one that ended covered and behind separate PIDs; all bytes
---   of ExtendedDataType and of the size count.
+-- Shows: SessionID, SpliceEventID and PlayedDuration with all four bytes, also of one that ended covered and behind separate PIDs; all
+--   bytes of ExtendedDataType and of the size count.
 use mathlib.Core.List.{List, [], _∷_}
 use Prim.Native.String.{_++_}
 use Rattle.cases.specs.Scenario.{Row, row, Holds, holds}

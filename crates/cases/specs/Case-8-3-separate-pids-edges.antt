@@ -1,7 +1,7 @@
 -- model/scenarios/8.3-separate-pids-edges.txt, made by tools/cases.sh. Line numbers are that file's.
 -- J.280 clause 8.3, Tables 7-6 and 8-6, and 02, CR 1: separate PIDs at their edges, byte by byte.
--- Shows: the marks of an unknown rate or picture size are no PID and no StreamType, and 0xFFFF is a rate; all bits of a PID count; PcrPID is
---   checked with no structure too; a Length may go up to 255, and what it keeps is not read; every structure is checked, the last one too.
+-- Shows: the marks of an unknown rate or picture size are no PID and no StreamType, and 0xFFFF is a rate; all bits of a PID count; PcrPID
+--   is checked with no structure too; a Length may go up to 255, and what it keeps is not read; every structure is checked, the last one too.
 use mathlib.Core.List.{List, [], _∷_}
 use Prim.Native.String.{_++_}
 use Rattle.cases.specs.Scenario.{Row, row, Holds, holds}

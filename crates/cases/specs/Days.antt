@@ -113,8 +113,8 @@ again =
 -- 5 ninths past 1,004 s; 3 from 1,010 s, aborted 1,001 ninths later; the clock 4 ninths past 1,011 s
 ninthsOnly : List Call
 ninthsOnly =
-    timed 0 1 1003 0 3 0 1 ∷ timed 0 2 1003 12 3 0 7 ∷ moves 9036000005 4096 ∷ timed 0 3 1010 0 3 0 900000 ∷ moves 9090001001 4096 ∷ aborts 0 3
-    ∷ moves 9099000004 4096 ∷ []
+    timed 0 1 1003 0 3 0 1 ∷ timed 0 2 1003 12 3 0 7 ∷ moves 9036000005 4096 ∷ timed 0 3 1010 0 3 0 900000 ∷ moves 9090001001 4096
+    ∷ aborts 0 3 ∷ moves 9099000004 4096 ∷ []
 
 days : List Day
 days =

@@ -47,7 +47,8 @@ rows =
     -- 02, CR 7: both Result fields 0xFFFF; Seconds 4, MicroSeconds 4, the section: 8 + 3 = 11 = 0x0B
     ∷ row (CueRequest 3 0x01020304 0x0001E240 (hex "FC30AB")) (hex "52 03  000C 000B FFFF FFFF  01020304 0001E240 FC30AB")
     -- 02, CR 6: ChannelName 32, Hardware_Config with its Length, the section: 32 + 5 + 2 = 39 = 0x27
-    ∷ row (ConfigResponse 1 100 (hex "434831") (hex "0003AABBCC") (hex "02B1")) (hex "52 01  000B 0027 0064 FFFF" ++ (name ++ hex "0003 AABBCC 02B1"))
+    ∷ row (ConfigResponse 1 100 (hex "434831") (hex "0003AABBCC") (hex "02B1"))
+    (hex "52 01  000B 0027 0064 FFFF" ++ (name ++ hex "0003 AABBCC 02B1"))
     ∷ []
 
 joined : List Row → List ℕ
@@ -89,11 +90,13 @@ lists =
     -- every byte another
     ∷ list (hex "0102 00000001  15 1122 3344 55667788 99AABBCC DDEEFF01 0203 0405") 0x0102
     (stream 0x1122 0x3344 0x55667788 0x99AABBCC 0xDDEEFF01 0x0203 0x0405 [] ∷ [])
-    -- 4,000,000 bps on average, 6,000,000 at most, the least not known, 1920 x 1080, and 05 01 AA kept: 24 = 0x18; then sound, without a picture
-    ∷ list (hex "0031 00000002  18 0032 001B 003D0900 005B8D80 FFFFFFFF 0780 0438 0501AA  15 1FFF 0081 0005DC00 0005DC01 0000FFFF FFFF FFFF") 0x31
-    (stream 0x32 0x1B 4000000 6000000 0xFFFFFFFF 1920 1080 (0x05 ∷ 0x01 ∷ 0xAA ∷ []) ∷ stream 0x1FFF 0x81 384000 384001 65535 0xFFFF 0xFFFF [] ∷ [])
+    -- 4,000,000 bps on average, 6,000,000 at most, the least not known, 1920 x 1080, 05 01 AA kept: 24 = 0x18; then sound, no picture
+    ∷ list (hex "0031 00000002  18 0032 001B 003D0900 005B8D80 FFFFFFFF 0780 0438 0501AA" ++ hex "15 1FFF 0081 0005DC00 0005DC01 0000FFFF FFFF FFFF")
+    0x31
+    (stream 0x32 0x1B 4000000 6000000 0xFFFFFFFF 1920 1080 (0x05 ∷ 0x01 ∷ 0xAA ∷ [])
+    ∷ stream 0x1FFF 0x81 384000 384001 65535 0xFFFF 0xFFFF [] ∷ [])
     -- the longest: Length 255 keeps 234 bytes; then one with the smallest numbers
-    ∷ list (hex "0000 00000002  FF 0000 FFFE 00000000 00000000 00000000 FFFE 0000" ++ (replicate 234 0xFF ++ hex "15 0000 0000 00000000 00000000 00000000 0000 0000")) 0
+    ∷ list (hex "0000 00000002  FF 0000 FFFE 00000000 00000000 00000000 FFFE 0000" ++ (replicate 234 0xFF ++ (21 ∷ replicate 20 0))) 0
     (stream 0 0xFFFE 0 0 0 0xFFFE 0 (replicate 234 0xFF) ∷ stream 0 0 0 0 0 0 0 [] ∷ [])
     ∷ []
 
@@ -106,6 +109,7 @@ lists-read : map (λ x. separateIn (x .bytes ++ hex "000DBBA0")) lists ≡ map (
 unfolding list stream lists computing
 lists-read = refl
 
-counts : map (λ x. pcrPid (x .bytes) ∷ pidCount (x .bytes) ∷ []) lists ≡ (0x1FFF ∷ 0 ∷ []) ∷ (0x0102 ∷ 1 ∷ []) ∷ (0x31 ∷ 2 ∷ []) ∷ (0 ∷ 2 ∷ []) ∷ []
+counts : map (λ x. pcrPid (x .bytes) ∷ pidCount (x .bytes) ∷ []) lists
+    ≡ (0x1FFF ∷ 0 ∷ []) ∷ (0x0102 ∷ 1 ∷ []) ∷ (0x31 ∷ 2 ∷ []) ∷ (0 ∷ 2 ∷ []) ∷ []
 unfolding list stream lists computing
 counts = refl
