@@ -1,6 +1,6 @@
 -- The program's turns, one behind the other: whatever the turns from here on give, it is what they give from the beginning.
 -- Rests on `Turned`, what one turn promises.
-use mathlib.Core.Path.{_≡_, sym, subst, ap, _∙_}
+use mathlib.Core.Path.{_≡_, sym, subst, _∙_}
 use mathlib.Core.Bool.{true, false}
 use mathlib.Core.List.{List, [], _∷_, _++_}
 use Prim.Native.Nat.{ℕ, suc, _-_, _≤_, _<_}

@@ -22,8 +22,8 @@ use Rattle.feed.specs.Feed.{rest}
 use Rattle.feed.specs.Play.{goesOn}
 use Rattle.feed.proofs.Runs.{rest-cut, card-rest}
 use Rattle.card.specs.declared.Stop.{Stop}
-use Rattle.card.specs.declared.Stop.the-variants.{Over, Unwritten, Counted}
-use Rattle.card.specs.Ran.{Ran, again, first, later, joined, Fed, over, failed, counted, goes, most, Stopped}
+use Rattle.card.specs.declared.Stop.the-variants.{Over, Counted}
+use Rattle.card.specs.Ran.{Ran, again, first, later, joined, Fed, over, failed, counted, goes, Stopped}
 use Rattle.card.proofs.Given.{Given, given}
 
 -- once nothing is read nothing follows: what is trusted of a read

@@ -1,7 +1,6 @@
 -- The invariant: whatever the turns to come give, it is what the whole program gives.
 -- Rests on proofs/Turning, one more turn.
 use mathlib.Core.Path.{_≡_, sym, _∙_}
-use Prim.Native.Nat.{_≤_}
 use native.Mathlib.Omega.{arith}
 use lib.ListN.{length}
 use borrow.Author.Tests.{not-true, not-false}
