@@ -1,16 +1,19 @@
 // 02, CR 12: the engine that only remembers, as a program: the card program's input from standard input, this engine's output. It goes on
 // after 13.
+mod stdio;
+
 use kept::Record;
 use kept::Reply;
 use reading::LONGEST;
 use reading::numbers::number2;
+use stdio::Came;
 ghost use mathlib.Core.Path.{_≡_};
 ghost use Prim.Native.Nat.{_≤_};
 ghost use lib.ListN.{length};
 ghost use Rattle.rules.specs.Calls.{messages};
 ghost use Rattle.rules.specs.Card.{cardLoans, cardRoom};
 ghost use Rattle.recall.specs.Recall.{Remembers};
-ghost use Rattle.remember.specs.Said.{callFor, Says, Plays, headOf, endsWith, again};
+ghost use Rattle.remember.specs.Said.{callFor, Says, Plays, headOf, Reads, endsWith, again};
 
 // A mark, a connection, and the longest message: 4,088 bytes behind a header of 8.
 const RECORD: usize = 4098;
@@ -100,36 +103,48 @@ fn head_of(mark: u8) -> usize
     0
 }
 
-// Whether so many bytes come.
-fn fill(part: &mut [u8]) -> bool {
-    io::read_full(libc::STDIN_FILENO, &mut *part) == part.len()
+// A record that was read: how many bytes it has, 0 at the end, at a cut record or at another mark; and the answer of its last read.
+struct Read {
+    len: usize,
+    last: Came,
 }
 
-// One record of the input, which is read from its front on: how many bytes it has; 0 at the end, at a cut record or at another mark. Of a
-// message with MessageSize above 4,088 the header.
-fn read_record(l: &mut [u8]) -> usize
+// One record of the input, which is read from its front on. Of a message with MessageSize above 4,088 the header.
+fn read_record(l: &mut [u8]) -> Read
     requires { ⌜ length (now l) ≡ 4098 ⌝ }
-    ensures { λ n. ⌜ n ≤ 4098 ⌝ }
+    ensures { λ r. ⌜ Reads r ⌝ }
 {
-    if !fill(&mut l[..MARK_END]) {
-        return 0;
+    let mark = stdio::fill(&mut l[..MARK_END]);
+    if !stdio::is_whole(mark) {
+        return Read { len: 0, last: mark };
     }
     let head = head_of(l[0]);
     if head < HEADER_END {
-        return head;
+        return Read {
+            len: head,
+            last: mark,
+        };
     }
-    if !fill(&mut l[MARK_END..HEADER_END]) {
-        return 0;
+    let header = stdio::fill(&mut l[MARK_END..HEADER_END]);
+    if !stdio::is_whole(header) {
+        return Read {
+            len: 0,
+            last: header,
+        };
     }
     let size = number2(&*l, 4);
     if l[0] == 0x54 || LONGEST < size {
-        return HEADER_END;
+        return Read {
+            len: HEADER_END,
+            last: header,
+        };
     }
     let end = HEADER_END + size as usize;
-    if fill(&mut l[HEADER_END..end]) {
-        end
-    } else {
-        0
+    let data = stdio::fill(&mut l[HEADER_END..end]);
+    let len = if stdio::is_whole(data) { end } else { 0 };
+    Read {
+        len: len,
+        last: data,
     }
 }
 
@@ -155,7 +170,8 @@ fn turn(log: &mut [u8], l: &mut [u8], out: &mut [u8]) -> bool
     requires { ⌜ length (now l) ≡ 4098 ⌝ }
     requires { ⌜ length (now out) ≡ cardRoom ⌝ }
 {
-    let n = read_record(&mut *l);
+    let r = read_record(&mut *l);
+    let n = r.len;
     if n < MARK_END {
         return false;
     }

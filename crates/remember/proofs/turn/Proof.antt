@@ -9,11 +9,11 @@ use Rattle.remember.proofs.turn.Statement.{statement}
 use Rattle.remember.proofs.turn.Tie as tie
 
 -- the record that was read has as many bytes as it says
-whole : (c : tie.After-read-record) → length (take (c .read-record .result) (c .read-record .last .0)) ≡ c .read-record .result
+whole : (c : tie.After-read-record) → length (take (c .read-record .result .len) (c .read-record .last .0)) ≡ c .read-record .result .len
 whole c =
     let read = c .read-record in
     let s = c .before .before .before .before .before in
-    length-take-le (read .result) (read .last .0) (omega (arith, read .ensures, read .kept .0, s .pre .0))
+    length-take-le (read .result .len) (read .last .0) (omega (arith, read .ensures .within, read .kept .0, s .pre .0))
 
 read-record-requires : tie.Need-read-record-requires
 read-record-requires c κs = search needs
