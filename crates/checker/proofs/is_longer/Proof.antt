@@ -1,5 +1,5 @@
 -- A byte came where the count of the read that tried it is above 0.
-use mathlib.Core.Path.{_≡_, sym, ap, _∙_}
+use mathlib.Core.Path.{sym, ap, _∙_}
 use lib.Dec.{ltb}
 use borrow.Author.Needs.{needs}
 use Rattle.checker.specs.Input.{isLonger}

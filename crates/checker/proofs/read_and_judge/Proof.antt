@@ -1,8 +1,8 @@
 -- What is found in the bytes that came is what `found` finds; a byte more was tried, but behind a short read.
 -- Rests on the promises of the functions that it calls.
-use mathlib.Core.Path.{_≡_, sym, subst, ap, _∙_}
+use mathlib.Core.Path.{sym, subst, ap, _∙_}
 use native.Mathlib.Omega.{arith}
-use lib.ListN.{length, take}
+use lib.ListN.{take}
 use lib.Seq.{length-take-le}
 use borrow.Author.Needs.{needs}
 use Rattle.checker.specs.Input.{foundIn, Asks}
