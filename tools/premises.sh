@@ -173,7 +173,7 @@ left() {
         words("Handed Name Judged", data)
         words("Record Act Rolling Cue Stream Splicer Both Recollection Reply Answer engine.Input door-calls.Input engine.Result", data)
         # what a contract speaks of, as the toolchain has it
-        words("Type Lfts Args Res AtExit URA Heap Atoms store.Memory Routine", handed)
+        words("Type Lfts RefT Args Res AtExit URA Heap Atoms store.Memory Routine", handed)
         # the trace: fresh, then any calls, each result one that its contract allows
         words("Trace engine.Trace More Point Leads Run Beside FromFresh", trace)
         # what a contract allows: the code is proved to meet it, and Cited holds it to the source
