@@ -75,7 +75,7 @@ fn call(log: &mut [u8], l: &[u8], out: &mut [u8]) -> Reply
 }
 
 // One record played: how many bytes of out are to be written.
-fn play(log: &mut [u8], l: &[u8], out: &mut [u8]) -> usize
+fn play_record(log: &mut [u8], l: &[u8], out: &mut [u8]) -> usize
     requires { ⌜ 2 ≤ length (now l) ⌝ }
     requires { ⌜ length (now out) ≡ cardRoom ⌝ }
     ensures { λ n. ⌜ Plays (now (log .entry)) (now (l .entry)) n (now (log .exit)) (now (out .exit)) ⌝ }
@@ -175,7 +175,7 @@ fn turn(log: &mut [u8], l: &mut [u8], out: &mut [u8]) -> bool
     if n < MARK_END {
         return false;
     }
-    let len = play(&mut *log, &l[..n], &mut *out);
+    let len = play_record(&mut *log, &l[..n], &mut *out);
     let is_written = io::write_all(libc::STDOUT_FILENO, &out[..len]);
     let last = is_last(&l[..n]);
     goes_on(is_written, last)

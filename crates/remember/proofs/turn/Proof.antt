@@ -1,5 +1,5 @@
 -- The record that was read, and what is written for it, lie within their buffers.
--- Rests on what `read_record` and `play` promise of their lengths.
+-- Rests on what `read_record` and `play_record` promise of their lengths.
 use mathlib.Core.Path.{_≡_, sym}
 use native.Mathlib.Omega.{arith}
 use lib.ListN.{length, take}
@@ -24,14 +24,14 @@ same-length c = search needs
 returns : tie.Need-returns
 returns c = search needs
 
-slice-reshare-prefix-play : tie.Need-slice-reshare-prefix-play
-slice-reshare-prefix-play c = search needs
+slice-reshare-prefix-play-record : tie.Need-slice-reshare-prefix-play-record
+slice-reshare-prefix-play-record c = search needs
 
-slice-aggregate-play : tie.Need-slice-aggregate-play
-slice-aggregate-play c = sym (whole (c .before .before .before .before .before))
+slice-aggregate-play-record : tie.Need-slice-aggregate-play-record
+slice-aggregate-play-record c = sym (whole (c .before .before .before .before .before))
 
-play-requires : tie.Need-play-requires
-play-requires c κs =
+play-record-requires : tie.Need-play-record-requires
+play-record-requires c κs =
     let read = c .before .before .before .before .before .before in
     let s = read .before .before .before .before .before in
     (omega (arith, whole read, c .before .before .before .if1 .left), s .pre .1)
@@ -41,7 +41,7 @@ slice-reshare-prefix-write-all c = search needs
 
 slice-aggregate-write-all : tie.Need-slice-aggregate-write-all
 slice-aggregate-write-all c =
-    let play = c .before .before .before .before .before .play in
+    let play = c .before .before .before .before .before .play-record in
     sym (length-take-le (play .result) (play .last .1 .1 .0) (play .ensures .within))
 
 write-all-requires : tie.Need-write-all-requires
@@ -78,9 +78,9 @@ turn-spec =
     read-record-requires
     same-length
     returns
-    slice-reshare-prefix-play
-    slice-aggregate-play
-    play-requires
+    slice-reshare-prefix-play-record
+    slice-aggregate-play-record
+    play-record-requires
     slice-reshare-prefix-write-all
     slice-aggregate-write-all
     write-all-requires

@@ -5,8 +5,8 @@ use Rattle.rules.specs.Bytes.{Byte}
 use Rattle.rules.proofs.All.{all-at}
 use Rattle.remember.proofs.Plays.{plays}
 use borrow.Author.Needs.{needs}
-use Rattle.remember.proofs.play.Statement.{statement}
-use Rattle.remember.proofs.play.Tie as tie
+use Rattle.remember.proofs.play_record.Statement.{statement}
+use Rattle.remember.proofs.play_record.Tie as tie
 
 call-requires : tie.Need-call-requires
 call-requires c κs = search needs
@@ -29,8 +29,8 @@ returns c =
     plays (s .args .l .now) g (all-at Byte 0 g (λ i. omega (arith, known .slice-known .given i))) (s .pre .1) (call .call .ensures)
     (c .before .before .say .ensures)
 
-pub play-spec : {M : Type 1} → statement M
-play-spec =
+pub play-record-spec : {M : Type 1} → statement M
+play-record-spec =
     tie.close
     (tie.spec
     call-requires
