@@ -1,1 +1,5 @@
 pub mod Plays
+pub mod Records
+pub mod Turning
+pub mod Whole
+pub mod Cited

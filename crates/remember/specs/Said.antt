@@ -1,13 +1,13 @@
 -- What the program makes of a record that it has read, and what it writes for it.
 use mathlib.Core.Path.{_≡_}
-use mathlib.Core.Bool.{Bool, true, cond, not, _&&_}
+use mathlib.Core.Bool.{Bool, cond, _&&_}
 use mathlib.Core.List.{List, [], _∷_}
 use Prim.Native.Nat.{ℕ, _≤_}
 use lib.Dec.{eqb, leb, ltb}
 use lib.ListN.{length, getD, take}
 use Rattle.rules.specs.Bytes.{field, largestSize, written}
 use Rattle.rules.specs.Calls.{Call, messages, refused}
-use Rattle.rules.specs.Card.{openMark, closeMark, messageMark, tickMark, connIn, messageFrom, markEnd, headerEnd, messageEnd}
+use Rattle.rules.specs.Card.{openMark, closeMark, messageMark, tickMark, connIn, messageFrom, markEnd, headerEnd}
 use Rattle.rules.specs.Card.{cardLoans, told}
 use Rattle.kept.specs.declared.Record.{Record}
 use Rattle.kept.specs.declared.Record.the-variants.{Open, Close, Message, Tick, None}
@@ -15,7 +15,6 @@ use Rattle.kept.specs.declared.Reply.{Reply}
 use Rattle.kept.specs.declared.Reply.the-variants.{Full, Refused, Done}
 use Rattle.kept.specs.Kept.{recordIn, callOf, numberOf}
 use Rattle.recall.specs.Recall.{recallCall}
-use Rattle.remember.specs.declared.Read.{Read}
 
 -- the call of the record that l begins with; "at a message header with MessageSize above 4,088 it makes the call": what begins no record is
 -- handed on as a message
@@ -61,15 +60,6 @@ headOf mark =
     (cond (eqb mark messageMark) headerEnd
     (cond (eqb mark tickMark) headerEnd 0)))
 
--- a record that is played lies within the buffer, and is not cut: its last read gave all bytes that it asked for
-pub record Reads (r : Read) : Type 0 where
-  pub within : r .len ≤ messageEnd largestSize
-  pub whole : markEnd ≤ r .len → r .last .whole ≡ true
-
 -- "at a message header with MessageSize above 4,088 it makes the call, writes the refusal and stops"
 abbrev pub endsWith : List ℕ → Bool
 endsWith l = leb headerEnd (length l) && (eqb (getD l 0 0) messageMark && ltb largestSize (field 4 2 l))
-
--- one more turn: whatever was answered, 13 too
-abbrev pub again : (isWritten isLast : Bool) → Bool
-again isWritten isLast = isWritten && not isLast

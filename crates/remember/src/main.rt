@@ -7,13 +7,15 @@ use kept::Reply;
 use reading::LONGEST;
 use reading::numbers::number2;
 use stdio::Came;
+use stdio::Written;
 ghost use mathlib.Core.Path.{_≡_};
 ghost use Prim.Native.Nat.{_≤_};
 ghost use lib.ListN.{length};
 ghost use Rattle.rules.specs.Calls.{messages};
 ghost use Rattle.rules.specs.Card.{cardLoans, cardRoom};
 ghost use Rattle.recall.specs.Recall.{Remembers};
-ghost use Rattle.remember.specs.Said.{callFor, Says, Plays, headOf, Reads, endsWith, again};
+ghost use Rattle.remember.specs.Said.{callFor, Says, Plays, headOf, endsWith};
+ghost use Rattle.remember.specs.Remembered.{Reads, Answers, Stopped, freshLog};
 
 // A mark, a connection, and the longest message: 4,088 bytes behind a header of 8.
 const RECORD: usize = 4098;
@@ -103,29 +105,37 @@ fn head_of(mark: u8) -> usize
     0
 }
 
-// A record that was read: how many bytes it has, 0 at the end, at a cut record or at another mark; and the answer of its last read.
+// A record that was read: how many bytes it has, 0 at the end, at a cut record or at another mark; and what came of it.
 struct Read {
     len: usize,
     last: Came,
 }
 
+// Why the program ends: there is nothing more to play; its output is not taken; or it has counted its turns down.
+enum Stop {
+    Over(Came),
+    Unwritten(Written),
+    Counted,
+}
+
 // One record of the input, which is read from its front on. Of a message with MessageSize above 4,088 the header.
 fn read_record(l: &mut [u8]) -> Read
     requires { ⌜ length (now l) ≡ 4098 ⌝ }
-    ensures { λ r. ⌜ Reads r ⌝ }
+    ensures { λ r. ⌜ Reads r (now (l .exit)) ⌝ }
 {
-    let mark = stdio::fill(&mut l[..MARK_END]);
+    let mark = stdio::fill(&mut *l, stdio::none(), MARK_END);
     if !stdio::is_whole(mark) {
         return Read { len: 0, last: mark };
     }
-    let head = head_of(l[0]);
+    let kind = l[0];
+    let head = head_of(kind);
     if head < HEADER_END {
         return Read {
             len: head,
             last: mark,
         };
     }
-    let header = stdio::fill(&mut l[MARK_END..HEADER_END]);
+    let header = stdio::fill(&mut *l, mark, HEADER_END);
     if !stdio::is_whole(header) {
         return Read {
             len: 0,
@@ -133,14 +143,14 @@ fn read_record(l: &mut [u8]) -> Read
         };
     }
     let size = number2(&*l, 4);
-    if l[0] == 0x54 || LONGEST < size {
+    if kind == 0x54 || LONGEST < size {
         return Read {
             len: HEADER_END,
             last: header,
         };
     }
     let end = HEADER_END + size as usize;
-    let data = stdio::fill(&mut l[HEADER_END..end]);
+    let data = stdio::fill(&mut *l, header, end);
     let len = if stdio::is_whole(data) { end } else { 0 };
     Read {
         len: len,
@@ -158,47 +168,54 @@ fn is_last(l: &[u8]) -> bool
     l[0] == 0x4D && LONGEST < number2(l, 4)
 }
 
-// Whether there is one more turn: after 13 too.
-fn goes_on(is_written: bool, is_last: bool) -> bool
-    ensures { λ r. ⌜ r ≡ again «is_written» «is_last» ⌝ }
+// One record played, and what that gives handed to be written.
+fn answer(log: &mut [u8], l: &[u8], out: &mut [u8]) -> Written
+    requires { ⌜ 2 ≤ length (now l) ⌝ }
+    requires { ⌜ length (now out) ≡ cardRoom ⌝ }
+    ensures { λ r. ⌜ Answers (now (log .entry)) (now (l .entry)) r (now (log .exit)) ⌝ }
 {
-    is_written && !is_last
+    let len = play_record(&mut *log, l, &mut *out);
+    stdio::write(&out[..len])
 }
 
-// One turn: whether there is one more.
-fn turn(log: &mut [u8], l: &mut [u8], out: &mut [u8]) -> bool
+// It goes on after 13. A proved loop has to end, and nothing says that the input does. So it counts its turns down, from a number that no
+// run uses up.
+fn turns(log: &mut [u8], l: &mut [u8], out: &mut [u8]) -> Stop
     requires { ⌜ length (now l) ≡ 4098 ⌝ }
     requires { ⌜ length (now out) ≡ cardRoom ⌝ }
-{
-    let r = read_record(&mut *l);
-    let n = r.len;
-    if n < MARK_END {
-        return false;
-    }
-    let len = play_record(&mut *log, &l[..n], &mut *out);
-    let is_written = io::write_all(libc::STDOUT_FILENO, &out[..len]);
-    let last = is_last(&l[..n]);
-    goes_on(is_written, last)
-}
-
-// A proved loop has to end, and nothing says that the input does. So it counts its turns down, from a number that no run uses up.
-fn turns(log: &mut [u8], l: &mut [u8], out: &mut [u8])
-    requires { ⌜ length (now l) ≡ 4098 ⌝ }
-    requires { ⌜ length (now out) ≡ cardRoom ⌝ }
+    ensures { λ r. ⌜ Stopped (now (log .entry)) r ⌝ }
 {
     let mut left = u64::MAX;
     while 0 < left {
-        if !turn(&mut *log, &mut *l, &mut *out) {
-            return;
+        let r = read_record(&mut *l);
+        let came = r.last;
+        let n = r.len;
+        if n < MARK_END {
+            return Stop::Over(came);
+        }
+        let written = answer(&mut *log, &l[..n], &mut *out);
+        if !stdio::is_taken(written) {
+            return Stop::Unwritten(written);
+        }
+        if is_last(&l[..n]) {
+            return Stop::Over(came);
         }
         left -= 1;
     }
+    Stop::Counted
 }
 
-fn main() {
+// The whole program.
+fn play() -> Stop
+    ensures { λ r. ⌜ Stopped freshLog r ⌝ }
+{
     let mut log = io::large_buffer();
     recall::fresh(&mut log);
     let mut l = [0; RECORD];
     let mut out = [0; 4096];
-    turns(&mut log, &mut l, &mut out);
+    turns(&mut log, &mut l, &mut out)
+}
+
+fn main() {
+    play();
 }
