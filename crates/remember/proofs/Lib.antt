@@ -3,3 +3,4 @@ pub mod Records
 pub mod Turning
 pub mod Whole
 pub mod Cited
+pub mod Alike

@@ -1,28 +1,28 @@
 -- One record as it is read, mark, header and data: what came is a record whatever follows it, or begins none.
 -- Rests on kept's laws of the call that some bytes begin with.
-use mathlib.Core.Path.{_≡_, refl, sym, subst, ap, ap₂, _∙_}
-use mathlib.Core.Bool.{Bool, true, false, cond, _||_}
-use mathlib.Core.List.{List, [], _++_, append-nil}
+use mathlib.Core.Path.{_≡_, refl, sym, subst, ap, _∙_}
+use mathlib.Core.Bool.{Bool, true, false, cond, _&&_}
+use mathlib.Core.List.{List, _++_, append-nil}
 use Prim.Native.Nat.{ℕ, _+_, _≤_, _<_}
 use native.Mathlib.Omega.{arith}
-use lib.Dec.{eqb, leb, ltb}
+use lib.Dec.{eqb, ltb}
 use lib.ListN.{length, getD, take, drop, length-append, length-drop}
 use lib.Seq.{length-take-le, take-all, drop-drop}
-use borrow.Author.Tests.{ltb-true, ltb-false, lt-ltb, le-ltb, le-leb, lt-leb, eqb-true, eqb-false}
+use borrow.Author.Tests.{ltb-false, lt-ltb, le-ltb, le-leb, lt-leb, eqb-true, eqb-false}
 use Rattle.rules.specs.Bytes.{value, part, field, largestSize, messageSize, oversize}
 use Rattle.rules.specs.Calls.{Call, opens, closes, messages, ticks}
 use Rattle.rules.specs.Card.{openMark, closeMark, messageMark, tickMark, markIn, connIn, messageFrom, secondsIn, microsIn}
-use Rattle.rules.specs.Card.{markEnd, tickEnd, headerEnd, messageEnd, cardRoom, cardLoans, Next, calls, ends, stops, next, nextMessage, nextTick}
+use Rattle.rules.specs.Card.{markEnd, tickEnd, headerEnd, messageEnd, cardRoom, cardLoans}
+use Rattle.rules.specs.Card.{Next, calls, ends, stops, next, nextMessage, nextTick}
 use Rattle.rules.proofs.Tests.{by, clash}
 use Rattle.rules.proofs.Values.{field-one}
 use Rattle.kept.specs.declared.Record.{Record}
 use Rattle.kept.specs.declared.Record.the-variants.{Open, Close, Message, Tick, None}
 use Rattle.kept.specs.Kept.{recordOf, recordIn, callOf, spanOf}
 use Rattle.kept.proofs.Firsts.{first, part-front, part-take}
-use Rattle.remember.specs.declared.Read.{Read}
 use Rattle.remember.specs.declared.stdio.Came.{Came}
 use Rattle.remember.specs.Said.{madeOf, callFor, headOf, endsWith}
-use Rattle.remember.specs.Remembered.{Filled, nextFor, Whole, Unread, Ended, Reads}
+use Rattle.remember.specs.Remembered.{Filled, Whole, Ended, Reads}
 
 -- ## The bytes p, whatever follows
 
@@ -64,7 +64,8 @@ module _ (p : List ℕ) where
   open-whole : length p ≡ markEnd → eqb (markIn p) openMark ≡ true → Whole p
   unfolding next recordOf spanOf
   open-whole h e =
-      calls-whole {k = opens (connIn p)} {m = drop markEnd p} (rw (le-ltb (length p) markEnd (omega arith), e) refl) (sym h) (not-last (omega arith))
+      calls-whole {k = opens (connIn p)} {m = drop markEnd p} (rw (le-ltb (length p) markEnd (omega arith), e) refl) (sym h)
+      (not-last (omega arith))
 
   close-whole : length p ≡ markEnd → eqb (markIn p) openMark ≡ false → eqb (markIn p) closeMark ≡ true → Whole p
   unfolding next recordOf spanOf
@@ -198,8 +199,10 @@ pub long-mark : (m : ℕ) → 10 ≤ headOf m → Long m
 long-mark m =
     by (IfLong m) (eqb m openMark) markEnd _ (λ o h. absurd (omega arith))
     (λ c. by (IfLong m) (eqb m closeMark) markEnd _ (λ o h. absurd (omega arith))
-    (λ d. by (IfLong m) (eqb m messageMark) headerEnd _ (λ e h. record { notOpen = c; notClose = d; tick = λ z. absurd (clash (eqb m messageMark) e z) })
-    (λ e. by (IfLong m) (eqb m tickMark) headerEnd 0 (λ t h. record { notOpen = c; notClose = d; tick = λ z. t }) (λ t h. absurd (omega arith)))))
+    (λ d. by (IfLong m) (eqb m messageMark) headerEnd _
+    (λ e h. record { notOpen = c; notClose = d; tick = λ z. absurd (clash (eqb m messageMark) e z) })
+    (λ e. by (IfLong m) (eqb m tickMark) headerEnd 0 (λ t h. record { notOpen = c; notClose = d; tick = λ z. t })
+    (λ t h. absurd (omega arith)))))
 
 is-message : (m : ℕ) → Long m → (m ≡ tickMark → ⊥) → eqb m messageMark ≡ true
 is-message m a n = go (eqb m messageMark) refl
@@ -248,13 +251,15 @@ module _ {from : ℕ} {c : Came} {e l : List ℕ} (f : Filled from 2 c e l) (h :
       let at : (k : ℕ) → eqb m k ≡ false → eqb (markIn (take (c .count) l)) k ≡ false =
       λ k. is-mark l a (c .count) k (omega arith) (omega arith) in
       subst (λ x. Reads (record { len = x; last = c }) l) (sym g)
-      (by (IfShort c l) (eqb m openMark) markEnd _ (λ o z. reads-one 2 (sym n) (omega arith) (omega arith) (open-whole (take 2 l) two (is openMark true o)))
+      (by (IfShort c l) (eqb m openMark) markEnd _
+      (λ o z. reads-one 2 (sym n) (omega arith) (omega arith) (open-whole (take 2 l) two (is openMark true o)))
       (λ o. by (IfShort c l) (eqb m closeMark) markEnd _
       (λ d z. reads-one 2 (sym n) (omega arith) (omega arith) (close-whole (take 2 l) two (is openMark false o) (is closeMark true d)))
       (λ d. by (IfShort c l) (eqb m messageMark) headerEnd _ (λ i z. absurd (omega arith))
       (λ i. by (IfShort c l) (eqb m tickMark) headerEnd 0 (λ t z. absurd (omega arith))
       (λ t z. reads-none (omega arith)
-      (λ more u. other-mark (take (c .count) l) (omega (arith, all)) (at openMark o) (at closeMark d) (at messageMark i) (at tickMark t) more)))))
+      (λ more u. other-mark (take (c .count) l) (omega (arith, all)) (at openMark o) (at closeMark d)
+      (at messageMark i) (at tickMark t) more)))))
       (subst (λ x. x < 10) g s))
 
 -- the header
@@ -281,7 +286,8 @@ module _ {m from : ℕ} {c : Came} {e l : List ℕ} (f : Filled from 10 c e l) (
     pub reads-tick : m ≡ tickMark → Reads (record { len = 10; last = c }) l
     reads-tick t =
         reads-one 10 (sym (filled-all f w)) (omega arith) (omega arith)
-        (tick-whole (take 10 l) (omega (arith, ten)) (marks openMark (ap (λ x. eqb x openMark) t)) (marks closeMark (ap (λ x. eqb x closeMark) t))
+        (tick-whole (take 10 l) (omega (arith, ten)) (marks openMark (ap (λ x. eqb x openMark) t))
+        (marks closeMark (ap (λ x. eqb x closeMark) t))
         (marks messageMark (ap (λ x. eqb x messageMark) t)) (marks tickMark (ap (λ x. eqb x tickMark) t)) ten)
 
     pub reads-oversize : {size : ℕ} → Long m → (m ≡ tickMark → ⊥) → size ≡ field 4 2 l → ltb 4088 size ≡ true
@@ -293,8 +299,8 @@ module _ {m from : ℕ} {c : Came} {e l : List ℕ} (f : Filled from 10 c e l) (
         (ap (λ x. ltb 4088 x) (is-size l a 10 (omega arith) (omega arith) ∙ sym s) ∙ o) ten)
 
 -- the data
-module _ {m from size : ℕ} {c : Came} {e l : List ℕ} (f : Filled from (10 + size) c e l) (a : Marked m l) (g : Long m) (n : m ≡ tickMark → ⊥)
-    (z : from ≡ 10) (s : size ≡ field 4 2 l) (o : ltb 4088 size ≡ false) where
+module _ {m from size : ℕ} {c : Came} {e l : List ℕ} (f : Filled from (10 + size) c e l) (a : Marked m l) (g : Long m)
+    (n : m ≡ tickMark → ⊥) (z : from ≡ 10) (s : size ≡ field 4 2 l) (o : ltb 4088 size ≡ false) where
   small : size ≤ 4088
   small = ltb-false 4088 size o
 
@@ -334,3 +340,115 @@ module _ {m from size : ℕ} {c : Came} {e l : List ℕ} (f : Filled from (10 + 
       (message-whole p (omega (arith, here k i h)) (here-mark k i h openMark (g .notOpen)) (here-mark k i h closeMark (g .notClose))
       (here-mark k i h messageMark (is-message m g n)) (omega (arith, here k i h)) (here-fits k i h)
       (omega (arith, here k i h, here-size k i h)))
+
+-- ## What an input begins with
+
+-- a record; t: it is the last one
+pub record First (l : List ℕ) (t : Bool) : Type 0 where
+  pub size : ℕ
+  pub two : 2 ≤ size
+  pub there : size ≤ length l
+  pub whole : Whole (take size l)
+  pub last : endsWith (take size l) ≡ t
+
+abbrev pub Stands : List ℕ → Next → Type 0
+Stands l (calls k m) = First l false
+Stands l (ends k) = First l true
+Stands l stops = Unit {0}
+
+ends-with : (p : List ℕ) {b t : Bool} → headerEnd ≤ length p → eqb (markIn p) messageMark ≡ b → ltb largestSize (field 4 2 p) ≡ t
+    → endsWith p ≡ b && t
+ends-with p h e o = rw (le-leb headerEnd (length p) h, mark-at p (omega arith), e, o) refl
+
+module _ (l : List ℕ) where
+  kept-mark : (n : ℕ) → 1 ≤ n → n ≤ length l → (k : ℕ) (b : Bool) → eqb (markIn l) k ≡ b → eqb (markIn (take n l)) k ≡ b
+  kept-mark n i h k b e = ap (λ x. eqb x k) (ap value (part-take 0 1 n l i h)) ∙ e
+
+  kept-size : (n : ℕ) → 6 ≤ n → n ≤ length l → field 4 2 (take n l) ≡ messageSize (messageFrom l)
+  kept-size n i h = ap value (part-take 4 2 n l i h) ∙ sym (size-at l)
+
+  stands-open : markEnd ≤ length l → eqb (markIn l) openMark ≡ true → First l false
+  stands-open h o =
+      let n = length-take-le 2 l h in
+      let p = take 2 l in
+      record {
+        size = 2;
+        two = omega arith;
+        there = h;
+        whole = open-whole p n (kept-mark 2 (omega arith) h openMark true o);
+        last = not-last p (omega arith);
+      }
+
+  module _ (o : eqb (markIn l) openMark ≡ false) where
+    stands-close : markEnd ≤ length l → eqb (markIn l) closeMark ≡ true → First l false
+    stands-close h d =
+        let n = length-take-le 2 l h in
+        let p = take 2 l in
+        record {
+          size = 2;
+          two = omega arith;
+          there = h;
+          whole = close-whole p n (kept-mark 2 (omega arith) h openMark false o) (kept-mark 2 (omega arith) h closeMark true d);
+          last = not-last p (omega arith);
+        }
+
+    module _ (d : eqb (markIn l) closeMark ≡ false) where
+      stands-tick : eqb (markIn l) messageMark ≡ false → eqb (markIn l) tickMark ≡ true → tickEnd ≤ length l → First l false
+      stands-tick i t h =
+          let n = length-take-le 10 l h in
+          let p = take 10 l in
+          let at = kept-mark 10 (omega arith) h in
+          record {
+            size = 10;
+            two = omega arith;
+            there = h;
+            whole = tick-whole p (omega arith) (at openMark false o) (at closeMark false d) (at messageMark false i) (at tickMark true t) n;
+            last = ends-with p (omega arith) (at messageMark false i) refl;
+          }
+
+      stands-oversize : eqb (markIn l) messageMark ≡ true → headerEnd ≤ length l → oversize (messageFrom l) ≡ true → First l true
+      stands-oversize i h b =
+          let n = length-take-le 10 l h in
+          let p = take 10 l in
+          let at = kept-mark 10 (omega arith) h in
+          let big : ltb largestSize (field 4 2 p) ≡ true = ap (λ x. ltb largestSize x) (kept-size 10 (omega arith) h) ∙ b in
+          record {
+            size = 10;
+            two = omega arith;
+            there = h;
+            whole = oversize-whole p (omega arith) (at openMark false o) (at closeMark false d) (at messageMark true i) (omega arith) big n;
+            last = ends-with p (omega arith) (at messageMark true i) big;
+          }
+
+      stands-message : eqb (markIn l) messageMark ≡ true → oversize (messageFrom l) ≡ false
+          → messageEnd (messageSize (messageFrom l)) ≤ length l → First l false
+      stands-message i b h =
+          let k = messageEnd (messageSize (messageFrom l)) in
+          let n = length-take-le k l h in
+          let p = take k l in
+          let at = kept-mark k (omega arith) h in
+          let size = kept-size k (omega arith) h in
+          let small : ltb largestSize (field 4 2 p) ≡ false = ap (λ x. ltb largestSize x) size ∙ b in
+          record {
+            size = k;
+            two = omega arith;
+            there = h;
+            whole = message-whole p (omega arith) (at openMark false o) (at closeMark false d) (at messageMark true i) (omega arith) small
+                (n ∙ ap messageEnd (sym size));
+            last = ends-with p (omega arith) (at messageMark true i) small;
+          }
+
+  pub stands : Stands l (next l)
+  unfolding next nextMessage nextTick
+  stands =
+      by (Stands l) (ltb (length l) markEnd) _ _ (λ e. tt)
+      (λ e. let h = ltb-false (length l) markEnd e in by (Stands l) (eqb (markIn l) openMark) _ _ (stands-open h)
+      (λ o. by (Stands l) (eqb (markIn l) closeMark) _ _ (stands-close o h)
+      (λ d. by (Stands l) (eqb (markIn l) messageMark) _ _
+      (λ i. by (Stands l) (ltb (length l) headerEnd) _ _ (λ j. tt)
+      (λ j. by (Stands l) (oversize (messageFrom l)) _ _ (stands-oversize o d i (ltb-false (length l) headerEnd j))
+      (λ b. by (Stands l) (ltb (length l) (messageEnd (messageSize (messageFrom l)))) _ _ (λ q. tt)
+      (λ q. stands-message o d i b (ltb-false (length l) (messageEnd (messageSize (messageFrom l))) q)))))
+      (λ i. by (Stands l) (eqb (markIn l) tickMark) _ _
+      (λ t. by (Stands l) (ltb (length l) tickEnd) _ _ (λ j. tt) (λ j. stands-tick o d i t (ltb-false (length l) tickEnd j)))
+      (λ t. tt)))))

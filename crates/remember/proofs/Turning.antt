@@ -71,5 +71,6 @@ module _ {i : List ℕ} {left : ℕ} {g : List ℕ} (t : Turning i left g) (some
           (record {
             reads = take (r .len) l ∷ x .reads;
             output = _;
-            fed = goes (a .whole two) (omega (arith, record-long)) e (subst (λ k. Fed (left - 1) h k (x .reads) (x .output)) (b .log) (x .fed));
+            fed = goes (a .whole two) (omega (arith, record-long)) e
+                (subst (λ k. Fed (left - 1) h k (x .reads) (x .output)) (b .log) (x .fed));
           })

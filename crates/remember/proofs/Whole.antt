@@ -3,11 +3,13 @@
 use mathlib.Core.Path.{_≡_, refl, sym, ap, _∙_}
 use mathlib.Core.Bool.{Bool, true, false, cond}
 use mathlib.Core.List.{List, [], _∷_, _++_, append-assoc, append-nil}
-use Prim.Native.Nat.{ℕ, zero, suc, _+_, _*_, _≤_}
+use Prim.Native.Nat.{ℕ, zero, suc, _+_, _*_, _≤_, _<_}
 use native.Mathlib.Omega.{arith}
-use lib.ListN.{length, length-append}
+use lib.ListN.{length, take, drop, length-append, length-drop, take-append-drop}
+use lib.Seq.{length-take-le}
 use Rattle.rules.specs.Calls.{Call}
 use Rattle.rules.specs.Card.{Next, calls, ends, stops, next}
+use Rattle.rules.proofs.Tests.{clash}
 use Rattle.kept.proofs.Walks.{rest-shorter}
 use Rattle.recall.specs.Recall.{recallCall}
 use Rattle.remember.specs.declared.Stop.{Stop}
@@ -15,7 +17,8 @@ use Rattle.remember.specs.declared.Stop.the-variants.{Over, Counted}
 use Rattle.remember.specs.declared.stdio.Came.{Came}
 use Rattle.remember.specs.Said.{callFor, endsWith}
 use Rattle.remember.specs.Remembered.{saidOf, rememberStep, rememberRun, rest, freshLog, remembered, Whole, Unread}
-use Rattle.remember.specs.Remembered.{joined, Fed, over, last, failed, counted, goes, Stopped}
+use Rattle.remember.specs.Remembered.{joined, Fed, over, last, failed, counted, goes, Turns, most, Stopped}
+use Rattle.remember.proofs.Records.{Stands, stands}
 
 -- ## How many calls are allowed does not matter
 
@@ -112,7 +115,7 @@ fed-begins {g = g} unread (goes {p = p} {ps = ps} {w = w} a two e f) =
     }
 
 -- each record has two bytes or more
-counted-long : {n : ℕ} {g : List ℕ} {ps : List (List ℕ)} {w : List ℕ} → Fed n Counted g ps w → 2 * n ≤ length (joined ps)
+pub counted-long : {n : ℕ} {g : List ℕ} {ps : List (List ℕ)} {w : List ℕ} → Fed n Counted g ps w → 2 * n ≤ length (joined ps)
 counted-long counted = omega arith
 counted-long (goes {p = p} {ps = ps} a two e f) = omega (arith, counted-long f, length-append p (joined ps))
 
@@ -133,3 +136,63 @@ program-begins x unread = fed-begins unread (x .fed)
 -- and no input of less than 2^63 bytes uses up its turns
 pub program-patient : {g : List ℕ} (x : Stopped g Counted) → 9223372036854775808 ≤ length (joined (x .reads))
 program-patient x = omega (arith, counted-long (x .fed))
+
+-- ## It ends
+
+-- a run over the input l: what came, and what was left unread
+pub record Ends (n : ℕ) (g l : List ℕ) : Type 0 where
+  pub came : Came
+  pub run : Turns n (Over came) g
+  pub unread : List ℕ
+  pub all : joined (run .reads) ++ unread ≡ l
+  pub end : Unread came unread
+
+ends-on : (n : ℕ) (g l : List ℕ) → length l < n → Ends n g l
+ends-on zero g l h = absurd (omega arith)
+ends-on (suc n) g l h = go (next l) refl (stands l) (λ d r f. ends-on n d r (omega arith))
+  where
+    go : (x : Next) → next l ≡ x → Stands l x → ((d r : List ℕ) → 2 + length r ≤ length l → Ends n d r) → Ends (suc n) g l
+    go (calls k m) e s ih =
+        let p = take (s .size) l in
+        let long = length-take-le (s .size) l (s .there) in
+        let r = ih (recallCall (callFor p) g .log) (drop (s .size) l) (omega (arith, length-drop (s .size) l, s .two, s .there)) in
+        record {
+          came = r .came;
+          run = record {
+            reads = p ∷ r .run .reads;
+            output = _;
+            fed = goes {p = p} (s .whole) (omega (arith, long, s .two)) (s .last) (r .run .fed);
+          };
+          unread = r .unread;
+          all = append-assoc p (joined (r .run .reads)) (r .unread) ∙ ap (λ x. p ++ x) (r .all) ∙ take-append-drop (s .size) l;
+          end = r .end;
+        }
+    go (ends k) e s ih =
+        let p = take (s .size) l in
+        record {
+          came = record { count = length p; whole = true };
+          run = record { reads = p ∷ []; output = _; fed = last {p = p} (s .whole) (s .last) refl };
+          unread = drop (s .size) l;
+          all = ap (λ x. x ++ drop (s .size) l) (append-nil p) ∙ take-append-drop (s .size) l;
+          end = λ z. absurd (clash true refl z);
+        }
+    go stops e s ih =
+        record {
+          came = record { count = length l; whole = false };
+          run = record {
+            reads = l ∷ [];
+            output = [];
+            fed = over {p = l} (λ more u. ap (λ x. next (l ++ x)) (u refl) ∙ ap next (append-nil l) ∙ e) refl;
+          };
+          unread = [];
+          all = append-nil (joined (l ∷ [])) ∙ append-nil l;
+          end = λ z. refl;
+        }
+
+-- every input of less than 2^63 bytes has a run that ends with nothing more to play
+pub program-ends : (l : List ℕ) → length l < 9223372036854775808 → Ends most freshLog l
+program-ends l h = ends-on most freshLog l (omega arith)
+
+-- there is one
+pub short-input : length {A = ℕ} [] < 9223372036854775808
+short-input = omega arith

@@ -6,7 +6,8 @@ use native.Mathlib.Omega.{arith}
 use lib.ListN.{length, getD}
 use borrow.Author.Tests.{ltb-false, not-true, not-false}
 use Rattle.remember.proofs.Records.{Marked, marked-first, filled-all, marked-on, size-on, Long, long-mark}
-use Rattle.remember.proofs.Records.{reads-cut-mark, reads-mark, reads-cut-header, reads-tick, reads-oversize, reads-cut-data, reads-message}
+use Rattle.remember.proofs.Records.{reads-cut-mark, reads-mark, reads-cut-header, reads-tick, reads-oversize}
+use Rattle.remember.proofs.Records.{reads-cut-data, reads-message}
 use borrow.Author.Needs.{needs}
 use Rattle.remember.proofs.read_record.Statement.{statement}
 use Rattle.remember.proofs.read_record.Tie as tie
@@ -34,7 +35,9 @@ mark1 : (c : tie.After-head-of) → Marked (getD (first-fill c .fill .last .0) 0
 mark1 c = marked-first (first-fill c .fill .last .0) (long1 c)
 
 two : (c : tie.After-head-of) → first-fill c .fill .result .count ≡ 2
-two c = filled-all (first-fill c .fill .ensures) (sym (c .before .before .before .is-whole .ensures) ∙ not-false _ (c .before .before .if1 .left))
+two c =
+    filled-all (first-fill c .fill .ensures)
+    (sym (c .before .before .before .is-whole .ensures) ∙ not-false _ (c .before .before .if1 .left))
 
 -- ## The header
 
@@ -51,14 +54,17 @@ long2 : (c : tie.After-is-whole2) → Long (getD (first-fill (headed c) .fill .l
 long2 c = long-mark _ (omega (arith, headed c .head-of .ensures, c .before .before .before .before .before .if2 .left))
 
 ten : (c : tie.After-number2) → second-fill (second c) .fill2 .result .count ≡ 10
-ten c = filled-all (second-fill (second c) .fill2 .ensures) (sym (second c .is-whole2 .ensures) ∙ not-false _ (c .before .before .if3 .left))
+ten c =
+    filled-all (second-fill (second c) .fill2 .ensures)
+    (sym (second c .is-whole2 .ensures) ∙ not-false _ (c .before .before .if3 .left))
 
 -- ## The data
 
 abbrev third-fill : tie.After-is-whole3 → tie.After-fill3
 third-fill c = c .before .before .before
 
-mark3 : (c : tie.After-is-whole3) → Marked (getD (first-fill (headed (second (numbered c))) .fill .last .0) 0 0) (third-fill c .fill3 .last .0)
+mark3 : (c : tie.After-is-whole3)
+    → Marked (getD (first-fill (headed (second (numbered c))) .fill .last .0) 0 0) (third-fill c .fill3 .last .0)
 mark3 c =
     let two = second (numbered c) in
     let n = ten (numbered c) in
@@ -109,7 +115,8 @@ same-length-3 c = search needs
 returns-3 : tie.Need-returns-3
 returns-3 c =
     let w = c .before in
-    reads-cut-header (second-fill w .fill2 .ensures) (mark2 w) (long2 w) (two (headed w)) (sym (w .is-whole2 .ensures) ∙ not-true _ (c .if3 .taken))
+    reads-cut-header (second-fill w .fill2 .ensures) (mark2 w) (long2 w) (two (headed w))
+    (sym (w .is-whole2 .ensures) ∙ not-true _ (c .if3 .taken))
 
 number2-requires : tie.Need-number2-requires
 number2-requires c κs = search needs
@@ -151,7 +158,8 @@ returns-5 c =
     let n = numbered y in
     let w = second n in
     let size = n .number2 .ensures ∙ sym (size-on (third-fill y .fill3 .ensures) (mark2 w) (mark3 y) (ten n)) in
-    reads-message (third-fill y .fill3 .ensures) (mark3 y) (long2 w) (y .before .before .before .before .before .before .if4 .left) (ten n) size (y .before .before .before .before .before .if5 .left)
+    let tested = y .before .before .before .before .before in
+    reads-message (third-fill y .fill3 .ensures) (mark3 y) (long2 w) (tested .before .if4 .left) (ten n) size (tested .if5 .left)
     (sym (y .is-whole3 .ensures) ∙ c .if6 .taken)
 
 same-length-6 : tie.Need-same-length-6
@@ -163,7 +171,8 @@ returns-6 c =
     let n = numbered y in
     let w = second n in
     let size = n .number2 .ensures ∙ sym (size-on (third-fill y .fill3 .ensures) (mark2 w) (mark3 y) (ten n)) in
-    reads-cut-data (third-fill y .fill3 .ensures) (mark3 y) (long2 w) (y .before .before .before .before .before .before .if4 .left) (ten n) size (y .before .before .before .before .before .if5 .left)
+    let tested = y .before .before .before .before .before in
+    reads-cut-data (third-fill y .fill3 .ensures) (mark3 y) (long2 w) (tested .before .if4 .left) (ten n) size (tested .if5 .left)
     (sym (y .is-whole3 .ensures) ∙ c .if6 .left)
 
 pub read-record-spec : {M : Type 1} → statement M

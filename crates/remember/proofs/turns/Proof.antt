@@ -5,7 +5,8 @@ use Prim.Native.Nat.{_≤_}
 use native.Mathlib.Omega.{arith}
 use lib.ListN.{length, take}
 use borrow.Author.Tests.{not-true}
-use Rattle.remember.proofs.Turning.{Turning, turning-none, turning-counted, turning-over, record-long, turning-failed, turning-last, turning-more}
+use Rattle.remember.proofs.Turning.{Turning, turning-none, turning-counted, turning-over, record-long}
+use Rattle.remember.proofs.Turning.{turning-failed, turning-last, turning-more}
 use Rattle.remember.proofs.turns.Statement.{statement}
 use Rattle.remember.proofs.turns.Tie as tie
 
