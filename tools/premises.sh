@@ -14,7 +14,7 @@ mkdir -p "$work"
 # Where a theorem is looked for: the statements about the calls, and what was read from the source. One that is not there is a law of the
 # crates below; a law below that has a theorem's name is what that one rests on, and no statement of its own.
 stated='traces driven rolled alike door rolldoor'
-below='demands recording recall card checker cues reading rules judge streams bench rolling memory rows'
+below='demands recording recall card checker remember cues reading rules judge streams bench rolling memory rows'
 
 # files CRATE..: their statements
 files() {
@@ -171,6 +171,8 @@ left() {
         words("ℕ List Bool Input RollInput Memory Made Result Seen RollSeen Request Refusal Call RollingCall Loans Row Event", data)
         # what C can hand in, as plain records of words below 2^32 and bytes
         words("Handed Name Judged", data)
+        # what the reads of a program answered, and why it ends
+        words("Came Stop", data)
         words("Record Act Rolling Cue Stream Splicer Both Recollection Reply Answer engine.Input door-calls.Input engine.Result", data)
         # what a contract speaks of, as the toolchain has it
         words("Type Lfts RefT Args Res AtExit URA Heap Atoms store.Memory Routine", handed)
