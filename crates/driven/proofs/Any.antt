@@ -1,19 +1,22 @@
 -- "every call takes every input", of the types alone: any list of what C can hand in is a run, and each goes on from any trace. So a word
 -- of a trace that asked more than the types would be refused here, and one that asked less by name-typed. Rests on proofs/Course.
-use mathlib.Core.Path.{refl}
+use mathlib.Core.Path.{_≡_, refl}
 use mathlib.Core.List.{List, [], _∷_, map}
-use Prim.Native.Nat.{ℕ}
+use Prim.Native.Nat.{ℕ, _<_}
+use native.Mathlib.Omega.{arith}
+use lib.ListN.{length}
 use contract.Lifetimes.{Lfts}
 use denote.Ref.{RefT, now}
 use Rattle.rules.specs.Lists.{All}
+use Rattle.rules.specs.Bytes.{Byte}
 use Rattle.engine.proofs.Held.{kind, Holds, Same}
-use Rattle.door.specs.Door.{Typed, Seen}
+use Rattle.door.specs.Door.{Input, anOpen, aClose, aMessage, aTick, aCue, Typed, Seen}
 use Rattle.door.proofs.Cited as door
 use Rattle.door.proofs.«splicer_7_fresh» as fresh
 use Rattle.traces.specs.Trace.{Memory}
 use Rattle.traces.proofs.Course as core
 use Rattle.driven.specs.Driven.{Made, Trace, More, Run}
-use Rattle.driven.specs.Handed.{Name, Handed, toOpen, toClose, toMessage, toTick, toCue, inputOf}
+use Rattle.driven.specs.Handed.{Word, Slice, Name, Handed, toOpen, toClose, toMessage, toTick, toCue, inputOf}
 use Rattle.driven.proofs.Inside.{trace-inside}
 use Rattle.driven.proofs.Course.{answerable, runs}
 
@@ -43,3 +46,27 @@ pub name-typed : (κs : Lfts 4) (name : RefT (List ℕ)) → Same (Holds (kind f
 name-typed κs name =
     let n = door.name-typed κs name in
     ((λ h. runs (now name) (n .0 h .0) (n .0 h .1) [] tt), λ t. n .1 (t .trace .whole, t .trace .bytes))
+
+-- and all that the types let in can be handed in: each name and each input of the types is one
+pub name-handed : (name : List ℕ) → length name ≡ 32 → All Byte name → (n : Name) × (n .list ≡ name)
+name-handed name w b = (record { list = name; whole = w; bytes = b }, refl)
+
+abbrev pub word : (x : ℕ) → x < 4294967296 → Word
+word x low = record { value = x; low = low }
+
+abbrev pub slice : (l : List ℕ) → All Byte l → Slice
+slice l bytes = record { list = l; bytes = bytes }
+
+pub input-handed : (i : Input) → Typed i → (x : Handed) × (inputOf x ≡ i)
+input-handed (anOpen c) t = (toOpen (word c t), refl)
+input-handed (aClose c e) t = (toClose (word c t) e, refl)
+input-handed (aMessage c l pm im e) t = (toMessage (word c (t .0)) (slice l (t .1)) (slice pm (t .2)) (slice im (t .3)) e, refl)
+input-handed (aTick s u e) t = (toTick (word s (t .0)) (word u (t .1)) e, refl)
+input-handed (aCue l (a ∷ b ∷ c ∷ d ∷ []) e) t =
+    let w = t .2 in
+    (toCue (slice l (t .0)) (word a (w .0)) (word b (w .1 .0)) (word c (w .1 .1 .0)) (word d (w .1 .1 .1 .0)) e, refl)
+input-handed (aCue l [] e) t = absurd (omega (arith, t .1))
+input-handed (aCue l (a ∷ []) e) t = absurd (omega (arith, t .1))
+input-handed (aCue l (a ∷ b ∷ []) e) t = absurd (omega (arith, t .1))
+input-handed (aCue l (a ∷ b ∷ c ∷ []) e) t = absurd (omega (arith, t .1))
+input-handed (aCue l (a ∷ b ∷ c ∷ d ∷ f ∷ g) e) t = absurd (omega (arith, t .1))

@@ -14,12 +14,13 @@ use Rattle.rules.specs.Rolling.{rollingOf, rollingFresh, rolledAfter}
 use Rattle.engine.proofs.Held.{kind, Holds, Same}
 use Rattle.rolling.specs.Ruled.{ticked}
 use Rattle.rolling.proofs.Time.{Shows, course, course-shown}
-use Rattle.rolldoor.specs.RollDoor.{RollTyped, rollCallOf, RollSeen}
+use Rattle.door.specs.Door.{anOpen, aClose, aMessage, aTick, aCue}
+use Rattle.rolldoor.specs.RollDoor.{RollInput, aKnown, anInstant, aReading, RollTyped, rollCallOf, RollSeen}
 use Rattle.rolldoor.proofs.Cited as rolldoor
 use Rattle.rolldoor.proofs.«splicer_7_rolling_fresh» as fresh
 use Rattle.driven.specs.Handed.{Word, Slice, Name}
 use Rattle.driven.specs.Handed as door
-use Rattle.driven.proofs.Any.{handed-typed}
+use Rattle.driven.proofs.Any.{handed-typed, word, slice}
 use Rattle.rolled.specs.Rolled.{Memory, shown, Made, Trace, More, calls, inputs, Run}
 use Rattle.rolled.specs.Handed.{Handed, toOpen, toClose, toMessage, toCue, toInstant, toReading, inputOf}
 use Rattle.rolled.proofs.Inside.{trace-lent, trace-shown}
@@ -52,6 +53,31 @@ pub name-typed : (κs : Lfts 5) (name : RefT (List ℕ)) → Same (Holds (kind f
 name-typed κs name =
     let n = rolldoor.name-typed κs name in
     ((λ h. runs (now name) (n .0 h .0) (n .0 h .1) [] tt), λ t. n .1 (t .trace .whole, t .trace .bytes))
+
+-- and all that the types let in can be handed in: each input of the types is one, as each name is (driven's name-handed)
+pub input-handed : (i : RollInput) → RollTyped i → (x : Handed) × (inputOf x ≡ i)
+input-handed (aKnown (anOpen c)) t = (toOpen (word c (t .0)), refl)
+input-handed (aKnown (aClose c e)) t = (toClose (word c (t .0)) e, refl)
+input-handed (aKnown (aMessage c l pm im e)) t =
+    let d = t .0 in
+    (toMessage (word c (d .0)) (slice l (d .1)) (slice pm (d .2)) (slice im (d .3)) e, refl)
+input-handed (aKnown (aTick s u e)) t = absurd (t .1)
+input-handed (aKnown (aCue l (a ∷ b ∷ c ∷ d ∷ []) e)) t =
+    let w = t .0 .2 in
+    (toCue (slice l (t .0 .0)) (word a (w .0)) (word b (w .1 .0)) (word c (w .1 .1 .0)) (word d (w .1 .1 .1 .0)) e, refl)
+input-handed (aKnown (aCue l [] e)) t = absurd (omega (arith, t .0 .1))
+input-handed (aKnown (aCue l (a ∷ []) e)) t = absurd (omega (arith, t .0 .1))
+input-handed (aKnown (aCue l (a ∷ b ∷ []) e)) t = absurd (omega (arith, t .0 .1))
+input-handed (aKnown (aCue l (a ∷ b ∷ c ∷ []) e)) t = absurd (omega (arith, t .0 .1))
+input-handed (aKnown (aCue l (a ∷ b ∷ c ∷ d ∷ f ∷ g) e)) t = absurd (omega (arith, t .0 .1))
+input-handed (anInstant (a ∷ b ∷ c ∷ []) e) t =
+    let w = t .1 in
+    (toInstant (word a (w .0)) (word b (w .1 .0)) (word c (w .1 .1 .0)) e, refl)
+input-handed (anInstant [] e) t = absurd (omega (arith, t .0))
+input-handed (anInstant (a ∷ []) e) t = absurd (omega (arith, t .0))
+input-handed (anInstant (a ∷ b ∷ []) e) t = absurd (omega (arith, t .0))
+input-handed (anInstant (a ∷ b ∷ c ∷ d ∷ g) e) t = absurd (omega (arith, t .0))
+input-handed (aReading x e) t = (toReading (word x t) e, refl)
 
 -- ## A run that is in time, over the rollover
 
