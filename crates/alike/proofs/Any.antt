@@ -4,19 +4,28 @@ use mathlib.Core.Path.{_≡_, refl, ap, _∙_}
 use mathlib.Core.List.{List, [], _∷_, map}
 use Prim.Native.Nat.{ℕ}
 use native.Mathlib.Omega.{arith}
+use contract.Lifetimes.{Lfts}
+use denote.Ref.{RefT, now}
 use Rattle.rules.specs.Lists.{All}
 use Rattle.rules.specs.Bytes.{Byte, padded, written}
 use Rattle.rules.specs.Card.{cardName}
 use Rattle.rules.proofs.Bytes.{padded-byte}
 use Rattle.kept.specs.Kept.{Its}
+use Rattle.engine.proofs.Held.{kind, Holds, Same, InRoom}
 use Rattle.recall.specs.Recall.{recallCall, recallFresh}
 use Rattle.traces.specs.Trace as engine
 use Rattle.traces.specs.Trace.{Memory}
 use Rattle.traces.proofs.Demands as engine-laws
 use Rattle.driven.specs.Driven as door
 use Rattle.door.specs.Door as door-calls
+use Rattle.door.specs.Door.{anOpen, aClose, aMessage, aTick, Typed}
 use Rattle.driven.proofs.Demands as door-laws
 use Rattle.bench.specs.Bench.{replyWords}
+use Rattle.bench.proofs.Cited as bench
+use Rattle.bench.proofs.«splicer_bench_2_recall_open» as opening
+use Rattle.bench.proofs.«splicer_bench_2_recall_close» as close
+use Rattle.bench.proofs.«splicer_bench_2_recall_message» as message
+use Rattle.bench.proofs.«splicer_bench_2_recall_tick» as tick
 use Rattle.alike.specs.Beside as beside
 use Rattle.alike.specs.InC as in-c
 
@@ -136,3 +145,22 @@ any-calls-in-c l is t i =
   where
     its : (js is : List door-calls.Input) → js ≡ is → All (λ (i : door-calls.Input). Its (door-calls.callOf i)) is → All (λ (i : door-calls.Input). Its (door-calls.callOf i)) js
     its js is e a = rw e a
+
+-- ## Typed is what the types of the second engine's parameters say, and no more: libbench.a takes all that libdoor.a takes
+
+pub open-typed : (κs : Lfts 2) (conn : ℕ) → Same (Holds (kind opening.signature κs 1) conn) (Typed (anOpen conn))
+open-typed = bench.open-typed
+
+module _ (κs : Lfts 3) (e : List ℕ) where
+  pub close-typed : (conn : ℕ) → Same (Holds (kind close.signature κs 1) conn) (Typed (aClose conn e))
+  close-typed = bench.close-typed κs
+
+  pub tick-typed : (seconds micros : ℕ)
+      → Same (Holds (kind tick.signature κs 1) seconds × Holds (kind tick.signature κs 2) micros) (Typed (aTick seconds micros e))
+  tick-typed = bench.tick-typed κs
+
+pub message-typed : (κs : Lfts 5) (e : List ℕ) (conn : ℕ) (l pm im : RefT (List ℕ))
+    → Same (Holds (kind message.signature κs 1) conn × Holds (kind message.signature κs 2) l
+    × Holds (kind message.signature κs 3) pm × Holds (kind message.signature κs 4) im)
+    (Typed (aMessage conn (now l) (now pm) (now im) e) × InRoom (now l) × InRoom (now pm) × InRoom (now im))
+message-typed κs e = bench.message-typed κs
