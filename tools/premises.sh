@@ -1,8 +1,8 @@
 #!/bin/sh
-# premises.sh: every premise of a theorem that docs/DEMANDS.md names is plain data, the trace, what a call's contract allows or a fact of
-# the types, or it stands in the table of that page's section "Premises" with a proved witness that it can be met. Reads the statements of
-# the crates and the page; proves nothing and needs no kit. A line for each premise that is in the table: theorem, crates, premise.
-# The last line is 'N passed, M failed'.
+# premises.sh: every premise of a theorem that docs/DEMANDS.md names, and of every statement in a proofs/Cited, is plain data, the trace, what
+# a call's contract allows or a fact of the types, or it stands in the table of that page's section "Premises" with a proved witness that it
+# can be met. Reads the statements of the crates and the page; proves nothing and needs no kit. A line for each premise that is in the table:
+# theorem, crates, premise. The last line is 'N passed, M failed'.
 set -eu
 . "$(dirname "$0")/words.sh"
 no_words "$@"
@@ -27,7 +27,7 @@ files() {
 # names that are bound by then, by tabs. A premise of a module is one of each statement in it. Fields of records are left out.
 premises() {
     awk '
-    FNR == 1 { flush(); depth = 0; header = ""; short = " " }
+    FNR == 1 { flush(); depth = 0; header = "" }
     /^ *--/ || /^ *$/ { next }
     {
         match($0, /^ */)
@@ -48,9 +48,6 @@ premises() {
             header = text
             hat = n
             headed()
-        } else if (text ~ /^abbrev [^ ]+ :/) {
-            split(text, word, " ")
-            short = short word[2] " "
         } else if (text ~ /^pub [^ ]+ :/) {
             name = text
             sub(/^pub /, "", name)
@@ -81,7 +78,7 @@ premises() {
         if (name == "") return
         if (!(depth && kind[depth] == "record")) {
             before = ""
-            names = short
+            names = " "
             for (i = 1; i <= depth; i++) if (kind[i] == "module") before = before " " given[i]
             if (before != "" && !bound(spaced(before))) said("premise", before)
             n = split(spaced(type), t, " ")
@@ -175,54 +172,59 @@ left() {
         words("Came Stop", data)
         words("Record Act Rolling Cue Stream Splicer Both Recollection Reply Answer engine.Input door-calls.Input engine.Result", data)
         # what a contract speaks of, as the toolchain has it
-        words("Type Lfts RefT Args Res AtExit URA Heap Atoms store.Memory Routine", handed)
+        handed = "Type 1|Lfts [0-9]+|RefT [(]List ℕ[)]|URA M|(Heap|Atoms) 𝓤|store[.]Memory → SProp 𝓤|Routine → Fun 𝓤"
+        handed = "^(" handed "|(Args|Res) [a-z-]+[.]signature κs|AtExit [a-z-]+[.]ended κs)$"
         # the trace: fresh, then any calls, each result one that its contract allows
         words("Trace engine.Trace More Point Leads Run Beside FromFresh", trace)
         # what a contract allows: the code is proved to meet it, and Cited holds it to the source
         words("Allowed AllowedAt Counts Primary ReadsMux ReadsFeed Pages ReadsList WritesList", trace)
-        words("Tells TellsFresh Remembers Forgets Recollects Judges", trace)
+        words("Tells TellsFresh Remembers Forgets Recollects Judges Finds", trace)
         # what may stand in one of these beside names that are bound: then it is of any calls, of that kind
         words("anOpen aClose aMessage aTick aMove aCue aKnown anInstant aReading made ++ ∷", among)
         words(".words .bytes .memory .log left lateOf logAfter pairs", among)
         # what the types say of an input: tied to them by Cited
         words("Typed engine.Typed door-calls.Typed RollTyped Byte Bytes Wired", types)
     }
-    $3 == "premise" && !plain($4) && !traced($4, $5) && !typed($4) { print $1 "\t" $2 "\t" $4 }
+    $3 == "premise" && !plain($4) && !traced($4, $5) && !typed($4, $5) { print $1 "\t" $2 "\t" $4 }
 
     function words(s, set,    n, t, i) {
         n = split(s, t, " ")
         for (i = 1; i <= n; i++) set[t[i]] = 1
     }
 
-    function first(s) {
-        sub(/ .*/, "", s)
-        return s
-    }
-
     # every word of it is a type of data
     function plain(s,    n, t, i) {
+        if (s ~ handed) return 1
         gsub(/[(){}]/, " ", s)
         n = split(s, t, " ")
-        if (t[1] in handed) return 1
         for (i = 1; i <= n; i++) if (!(t[i] in data)) return 0
         return 1
     }
 
-    # of any calls: a number, or an empty list, would leave some out
-    function traced(s, names,    n, t, i) {
+    function is_bound(word, names) { return index(names, " " word " ") > 0 }
+
+    # of any calls: a number, or an empty list, would leave some out; what the check of recordings promises is one equation
+    function traced(s, names,    n, t) {
+        sub(/^[rs] ≡ wordsOf [(]checked l[)]$/, "Finds l", s)
         gsub(/[(){}]/, " ", s)
         n = split(s, t, " ")
-        if (!(t[1] in trace)) return 0
-        for (i = 2; i <= n; i++) if (!(t[i] in among) && !index(names, " " t[i] " ")) return 0
-        return 1
+        return t[1] in trace && rest_bound(t, 2, n, names)
     }
 
-    function typed(s,    n, t) {
+    # of any inputs
+    function typed(s, names,    n, t, i) {
+        # a name is an array, and so are the words and the bytes of a list of streams
+        if (s ~ /^length (name ≡ 32|words ≡ 130|kept ≡ 3744)$/) { split(s, t, " "); return is_bound(t[2], names) }
+        gsub(/[(){}]/, " ", s)
         n = split(s, t, " ")
-        if (first(s) in types || first(s) == "All" && t[2] in types) return 1
-        if (n == 3 && t[2] == "<" && t[3] == "4294967296") return 1
-        # a name, the page, and the words and bytes of a list of streams are arrays
-        return s ~ /^length (name ≡ 32|lent ≡ rows|words ≡ 130|kept ≡ 3744)$/
+        if (n == 3 && t[2] == "<" && t[3] == "4294967296") return is_bound(t[1], names)
+        i = t[1] == "All" ? 2 : 1
+        return t[i] in types && rest_bound(t, i + 1, n, names)
+    }
+
+    function rest_bound(t, from, n, names,    i) {
+        for (i = from; i <= n; i++) if (!(t[i] in among) && !is_bound(t[i], names)) return 0
+        return 1
     }' "$@"
 }
 
@@ -258,8 +260,9 @@ table() {
 named >"$work/names"
 premises $(files $stated) >"$work/stated"
 premises $(files $below) >"$work/below"
+premises $(files $stated $below | grep '/Cited\.antt$') >"$work/cited"
 
-# the statements of the names: those about the calls, or else the laws below
+# the statements of the names: those about the calls, or else the laws below; and all that was read from the source
 awk -F '\t' -v names="$work/names" -v stated="$work/stated" '
 BEGIN {
     while ((getline line <names) > 0) wanted[line] = 1
@@ -268,7 +271,7 @@ BEGIN {
         if (cell[1] in wanted) { found[cell[1]] = 1; print line }
     }
 }
-$1 in wanted && !($1 in found)' "$work/below" >"$work/statements"
+$1 in wanted && !($1 in found)' "$work/below" | cat - "$work/cited" >"$work/statements"
 cut -f 1 "$work/statements" | sort -u >"$work/found"
 left "$work/statements" | sort -u >"$work/left"
 cut -f 1,3 "$work/left" | sort -u >"$work/premises"
