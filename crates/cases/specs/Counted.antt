@@ -101,6 +101,8 @@ limitRows =
 lastRows : List Row
 lastRows =
     writes (gives 4294967295 0 0) []
+    -- it is given, though its reading is 0
+    ∷ refuses (gives 4294967295 0 0) 12
     ∷ refuses (reads 90000) 12
     ∷ writes (reads 89999) []
     ∷ writes alive (is 1 0xFFFFFFFF 4294967295999988)
