@@ -1,6 +1,6 @@
 -- True time: the clock is the instant and the ticks since, however often the counter has rolled over; what is in time, and a course so.
 -- By induction on what is done; rests on proofs/Ruled's timeless-clock.
-use mathlib.Core.Path.{_≡_, refl, sym, ap, subst, _∙_}
+use mathlib.Core.Path.{_≡_, refl, sym, ap, _∙_}
 use mathlib.Core.Bool.{Bool, true, false}
 use mathlib.Core.List.{List, [], _∷_}
 use Prim.Native.Nat.{ℕ, _+_, _*_, _%_, _≤_, _<_}
@@ -9,9 +9,10 @@ use lib.Dec.{ltb}
 use borrow.Author.Tests.{ltb-false, le-ltb, lt-leb}
 use Rattle.rules.specs.Lists.{All}
 use Rattle.rules.specs.Units.{timeOf, fromMicros}
-use Rattle.rules.specs.Calls.{houseNumber, ticked, lending, Call, opens, closes, messages, ticks, moves, cues}
+use Rattle.rules.specs.Calls.{houseNumber, ticked, lending, Call, opens, closes, messages, cues}
 use Rattle.rules.specs.Sound.{horizon}
 use Rattle.rules.specs.Rolling.{Last, none, at, Rolling, rollingOf, rollover, stepOf, brings, instantCourse, stepCourse, readingCourse, rolls, instantCall, readingCall, rollingFresh, Timeless, RollingCall, known, instants, readings, roll, rolledAfter}
+use Rattle.rules.proofs.Timeless.{NoTime, timeless-has-none, none-is-timeless}
 use Rattle.demands.specs.Told.{numberOf}
 use Rattle.engine.proofs.Held.{Same}
 use Rattle.rolling.specs.Ruled.{Act, asked, read, InTime, callsAt}
@@ -20,21 +21,9 @@ use Rattle.rolling.proofs.Ruled.{timeless-clock}
 
 -- ## What is in time
 
--- a call that brings the clock to no time
-abbrev NoTime : Call → Type 0
-NoTime k = ((seconds micros room : ℕ) → k ≡ ticks seconds micros room → ⊥) × ((until room : ℕ) → k ≡ moves until room → ⊥)
-
--- every such call is in time, and no other
+-- every call that brings the clock to no time is in time, and no other
 pub asked-in-time : (k : Call) → Same (InTime (asked k)) (NoTime k)
-asked-in-time k = ((λ t. ((λ s u n e. subst Timeless e t), λ u n e. subst Timeless e t)), back k)
-  where
-    back : (j : Call) → NoTime j → Timeless j
-    back (opens c) t = tt
-    back (closes c room) t = tt
-    back (messages c l loans) t = tt
-    back (cues l pts seconds micros room) t = tt
-    back (ticks seconds micros room) t = t .0 seconds micros room refl
-    back (moves until room) t = t .1 until room refl
+asked-in-time k = (timeless-has-none k, none-is-timeless k)
 
 -- readings of a counter that has ticked t and t + d times have the step d
 pub true-step : (t d : ℕ) → d < 4294967296 → stepOf (t % 4294967296) ((t + d) % 4294967296) ≡ d
