@@ -128,6 +128,9 @@ anew() {
     cp -R "$whole/$1" crates/
 }
 
+# is_misnamed: the first error is that a name is not known there, so the edit says nothing that could be refused
+is_misnamed() { grep -m 1 '^[^ ]*: error' log | grep -q 'is not in scope'; }
+
 # judged NAME: 0 where the crate of this repository is proved, 1 where the prover refuses it and nothing below it, else 2
 judged() {
     seeded "$1"
@@ -135,7 +138,7 @@ judged() {
     rt dev "$1" >log 2>&1 || status=$?
     case $status in
     0) return 0 ;;
-    1) grep -q '^logic=not-proved' log && ! grep -q '^rt: FAILED' log && return 1 ;;
+    1) grep -q '^logic=not-proved' log && ! grep -q '^rt: FAILED' log && ! is_misnamed && return 1 ;;
     esac
     return 2
 }
@@ -158,7 +161,8 @@ tried() {
         echo "edits: $label: refused, as it must be (first at ${first##*"/crates/$1/"})"
         ;;
     *)
-        echo "edits: $label: BAD EDIT: it did not reach the prover"
+        if is_misnamed; then why='a name of it is not in scope'; else why='it did not reach the prover'; fi
+        echo "edits: $label: BAD EDIT: $why"
         tail -n 3 log
         ;;
     esac
