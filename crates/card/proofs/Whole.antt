@@ -7,16 +7,18 @@ use Prim.Native.Nat.{ℕ, zero, suc, _+_, _*_, _≤_, _<_}
 use native.Mathlib.Omega.{arith}
 use lib.Dec.{ltb}
 use lib.ListN.{length, take, drop, replicate, length-append, length-drop, length-replicate}
-use borrow.Author.Tests.{ltb-true, ltb-false}
+use borrow.Author.Tests.{ltb-true, ltb-false, le-ltb}
 use Rattle.rules.specs.Lists.{All}
 use Rattle.rules.specs.Bytes.{Byte, padded}
 use Rattle.rules.specs.State.{Splicer}
 use Rattle.rules.specs.Calls.{fresh}
 use Rattle.rules.specs.Card.{cardName, cardRoom, card}
 use Rattle.rules.proofs.All.{all-append, all-drop}
+use Rattle.rules.proofs.Bytes.{padded-byte}
 use Rattle.rules.proofs.Tests.{or-none, and-both}
 use Rattle.memory.specs.Memory.{shown}
 use Rattle.engine.specs.Lent.{Lent}
+use Rattle.traces.proofs.Demands.{any-calls}
 use Rattle.feed.specs.declared.Played.{Played}
 use Rattle.feed.specs.Feed.{rest}
 use Rattle.feed.specs.Play.{goesOn}
@@ -215,3 +217,26 @@ pub pieces-end : (m b kept : List ℕ) (ps : List (List ℕ)) → Lent m b → A
 pieces-end m b kept ps l k a =
     let wide = length-replicate {A = ℕ} cardRoom 0 in
     ends given (suc (size kept ps)) m b (replicate cardRoom 0) kept ps l (omega arith) k a (omega arith)
+
+-- ## It stops: of the empty input, whose first read gives nothing, within its turns and whatever is left unread
+
+none-again : (more : Bool) (used : ℕ) → used ≤ 0 → again more 0 used ≡ false
+none-again false used h = refl
+none-again true used h = le-ltb 0 used h
+
+stops-at-once : (m b : List ℕ) → Lent m b → Stopped (shown m b) Over
+stops-at-once m b l =
+    let wide = length-replicate {A = ℕ} cardRoom 0 in
+    let g = given m b [] (replicate cardRoom 0) l tt (omega arith) in
+    record {
+      reads = [] ∷ [];
+      output = take (g .played .len) (g .out);
+      fed = λ unread. over (g .ran) (none-again (g .played .more) (g .played .used) (g .ran .runs .within));
+    }
+
+pub over-met : Stopped (fresh (padded cardName) .splicer) Over
+unfolding cardName
+over-met =
+    let named : All Byte (padded cardName) = padded-byte cardName (omega arith, (omega arith, (omega arith, tt))) in
+    let t = any-calls (padded cardName) refl named [] tt .trace in
+    subst (λ s. Stopped s Over) (t .fresh .splicer) (stops-at-once (t .begun .words) (t .begun .bytes) (t .fresh .lent))
