@@ -111,7 +111,7 @@ long() {
 
 # the programs, and from C
 checkers() {
-    rt check checker bench && archive "$work/archive" bench && archive "$work/archive" door &&
+    rt check checker door_bench && archive "$work/archive" bench && archive "$work/archive" door &&
         sh tools/build-driver.sh "$work/check" tools/bench/check.c target/staticlib/libdoor.a target/staticlib/libbench.a -Iinclude
 }
 

@@ -93,14 +93,14 @@ built() {
     if [ -n "$proved" ]; then
         mkdir -p "$source/target"
         cp -R target/rlib target/stamp target/log "$source/target/"
-        rm -f "$source/target/stamp/card" "$source/target/stamp/door" "$source/target/stamp/rolldoor"
+        rm -f "$source/target/stamp/card" "$source/target/stamp/door" "$source/target/stamp/door_rolling"
     fi
     here=$PWD
     (
         cd "$source"
-        proving "$1/archive.log" staticlib door
-        proving "$1/rolldoor.log" staticlib rolldoor
-        proving "$1/bench.log" staticlib bench
+        archive "$1/archive.log" door
+        archive "$1/rolldoor.log" rolldoor
+        archive "$1/bench.log" bench
         proving "$1/card.log" check card checker remember
         echo 'building desk'
         desk

@@ -1,6 +1,6 @@
 #!/bin/sh
 # measure-check.sh: instructions and stack of the checker (splicer_check) on recordings of 65,536 bytes, for docs/MEASURES.md. Instructions are
-# exact, counted by Debian's qemu-user with tools/measure/insns.c. ARCHIVE names another archive than that of `rt staticlib bench`.
+# exact, counted by Debian's qemu-user with tools/measure/insns.c. ARCHIVE names another archive than libbench.a of the proved crate.
 # No part of the gate.
 set -eu
 . "$(dirname "$0")/words.sh"
@@ -12,7 +12,7 @@ work=target/measure-check
 mkdir -p "$work"
 tools=$kit/on/$(uname -m)/toolchain
 archive=${ARCHIVE:-target/staticlib/libbench.a}
-[ -n "${ARCHIVE:-}" ] || rt staticlib bench >"$work/log" 2>&1 || { tail -n 3 "$work/log" >&2; exit 1; }
+[ -n "${ARCHIVE:-}" ] || archive "$work/log" bench >"$work/said" 2>&1 || { tail -n 3 "$work/said" >&2; exit 1; }
 sh tools/build-driver.sh "$work/measure" tools/bench/measure.c "$archive" -Iinclude
 gcc -O2 -shared -fPIC tools/measure/insns.c -o "$work/insns.so"
 

@@ -2,7 +2,7 @@
 # measure-recall.sh: instructions and stack of the engine that only remembers (02, CR 12) on full logs, for docs/MEASURES.md: of the 256th call,
 # which goes through 255 kept ones, and of a run of 256 calls from fresh; by kinds of calls (tools/bench/measure-recall.c). Instructions are
 # exact, counted by valgrind's callgrind as the difference of two runs, so what is around the calls is not in them. ARCHIVE names another
-# archive than that of `rt staticlib bench`, as the unproved one of `CRATE=bench sh tools/try-archive.sh target/try-bench/libbench.a`.
+# archive than libbench.a of the proved crate, as the unproved one of `CRATE=door_bench sh tools/try-archive.sh target/try-bench/libbench.a`.
 # Needs x86-64 and valgrind. No part of the gate.
 set -eu
 . "$(dirname "$0")/words.sh"
@@ -14,7 +14,7 @@ work=target/measure-recall
 mkdir -p "$work"
 tools=$kit/on/$(uname -m)/toolchain
 archive=${ARCHIVE:-target/staticlib/libbench.a}
-[ -n "${ARCHIVE:-}" ] || rt staticlib bench >"$work/log" 2>&1 || { tail -n 3 "$work/log" >&2; exit 1; }
+[ -n "${ARCHIVE:-}" ] || archive "$work/log" bench >"$work/said" 2>&1 || { tail -n 3 "$work/said" >&2; exit 1; }
 sh tools/build-driver.sh "$work/measure" tools/bench/measure-recall.c "$archive" -Iinclude
 
 # counted KIND call|run N: the instructions of the whole program

@@ -13,8 +13,8 @@ mkdir -p "$work"
 
 # Where a theorem is looked for: the statements about the calls, and what was read from the source. One that is not there is a law of the
 # crates below; a law below that has a theorem's name is what that one rests on, and no statement of its own.
-stated='traces driven rolled alike door rolldoor'
-below='demands recording recall card checker remember cues reading rules judge streams bench rolling memory rows'
+stated='demands_engine demands_door demands_rolling demands_recall door door_rolling'
+below='demands recording recall card checker remember cues reading rules judge streams door_bench rolling memory rows'
 
 # files CRATE..: their statements
 files() {

@@ -95,7 +95,7 @@ versioned() {
 for name in door rolldoor bench; do
     archive "$work/log" "$name" >"$work/said" || { cat "$work/said"; echo '0 passed, 1 failed'; exit 1; }
     list "lib$name.a" exported "$name"
-    list "Cited-of-$name" cited "$name"
+    list "Cited-of-$name" cited "$(crate_of "$name")"
     same "lib$name.a" "Cited-of-$name"
 done
 headers=$(ls include/*.h | grep -v '/splicer_bench\.h$')

@@ -1,8 +1,9 @@
 #!/bin/sh
-# theorems.sh: the customer's demands are one list of theorems. Each name that proofs/Demands of demands (of the definitions), traces (of
-# the engine's calls), driven (of the door's) or rolled (of the rolling card's) has, the three others have too, or the table below says why
-# one cannot, or in which file it has it. The three that speak of calls have them in the same order, and their statements are the same once
-# the words for what C hands in and sees are put into the engine's. The last line is 'N passed, M failed'.
+# theorems.sh: the customer's demands are one list of theorems. Each name that proofs/Demands of demands (of the definitions),
+# demands_engine (of the engine's calls), demands_door (of the door's) or demands_rolling (of the rolling card's) has, the three others
+# have too, or the table below says why one cannot, or in which file it has it. The three that speak of calls have them in the same order,
+# and their statements are the same once the words for what C hands in and sees are put into the engine's. The last line is
+# 'N passed, M failed'.
 set -eu
 . "$(dirname "$0")/words.sh"
 no_words "$@"
@@ -13,7 +14,7 @@ mkdir -p "$work"
 
 # LIST..: NAME..: why these lists cannot have these theorems, or `in FILE`, another of their proofs/ that has them by these names
 cat >"$work/lacking" <<'END'
-traces driven rolled: more-calls: trace-goes-on says it of calls
+demands_engine demands_door demands_rolling: more-calls: trace-goes-on says it of calls
 demands: trace-goes-on: more-calls says it of a history
 demands: every-point same-calls-same-results: a definition gives each history one splicer at each point
 demands: every-call-may-be-made every-call-is-answered: a definition requires nothing, and answers everything
@@ -27,14 +28,14 @@ demands: unmoved-else at-most-63 moved-is-later: in Moved
 demands: every-moment primary-kept air-kept lists-as-counted no-gap prints-alike: in Owners
 demands: played-as-counted: in Said
 demands: kept-told config-told section-told nothing-else-changes close-forgets opened-denied: in Kept
-demands traces: page-read: the page is a call of the door's alone
-demands traces: calls-of-the-engine: these are the definitions, and the engine's calls themselves
-rolled: calls-of-the-engine: rolls-as-ruled says it, and calls-as-ruled which calls they are
-demands traces driven: rolls-as-ruled calls-as-ruled state-as-ruled: how the rolling card's calls amount to those of document 01
-demands traces driven: true-step true-time true-time-shown true-time-good instant-shows: 02, CR 9, the counter's time: no other card has one
+demands demands_engine: page-read: the page is a call of the door's alone
+demands demands_engine: calls-of-the-engine: these are the definitions, and the engine's calls themselves
+demands_rolling: calls-of-the-engine: rolls-as-ruled says it, and calls-as-ruled which calls they are
+demands demands_engine demands_door: rolls-as-ruled calls-as-ruled state-as-ruled: how the rolling card's calls amount to those of document 01
+demands demands_engine demands_door: true-step true-time true-time-shown true-time-good instant-shows: 02, CR 9, the counter's time: no other card has one
 END
 
-lists='demands traces driven rolled'
+lists='demands demands_engine demands_door demands_rolling'
 for list in $lists; do
     sed -nE 's/^ *pub ([^ ]+) :.*/\1/p' "crates/$list/proofs/Demands.antt" >"$work/$list"
 done
@@ -98,12 +99,12 @@ in_order() {
         failed=$((failed + 1))
     fi
 }
-in_order traces driven
-in_order traces rolled
-in_order driven rolled
+in_order demands_engine demands_door
+in_order demands_engine demands_rolling
+in_order demands_door demands_rolling
 
 # of a call for C its words, and what stands for it in the engine's call
-cat >"$work/driven.sed" <<'END'
+cat >"$work/demands_door.sed" <<'END'
 s/Seen/Result/g
 s/left r/r .memory/g
 s/r \.words/r .memory .words/g
@@ -117,7 +118,7 @@ END
 
 # of the rolling card: the engine's memory is one part of its own, a known call is the door's, another one grants nothing and changes
 # nothing that is kept
-cat >"$work/rolled.sed" <<'END'
+cat >"$work/demands_rolling.sed" <<'END'
 s/aKnown (\([^()]*\))/\1/g
 s/RollSeen/Seen/g
 s/RollInput/Input/g
@@ -136,8 +137,8 @@ s/changes d i/changed d (callOf i)/g
 s/engine\.calls (within h)/calls h/g
 s/places\.next/next/g
 END
-: >"$work/traces.sed"
-cat "$work/driven.sed" >>"$work/rolled.sed"
+: >"$work/demands_engine.sed"
+cat "$work/demands_door.sed" >>"$work/demands_rolling.sed"
 
 # statements LIST: each theorem's name and its statement in one line, with what is given in the modules around it
 statements() {
@@ -162,7 +163,7 @@ statements() {
 }
 
 # each name that several lists of calls have is the same statement
-for list in traces driven rolled; do statements "$list"; done >"$work/said"
+for list in demands_engine demands_door demands_rolling; do statements "$list"; done >"$work/said"
 awk -F '\t' -v work="$work" '
 {
     if (!($2 in first)) { first[$2] = $3; by[$2] = $1; next }

@@ -19,7 +19,7 @@ cd "$(dirname "$0")/.."
 door=${CRATE:-door}
 if [ $# -eq 0 ]; then
     CRATE=door sh tools/try-archive.sh target/try/libdoor.a
-    CRATE=rolldoor sh tools/try-archive.sh target/try/librolldoor.a
+    CRATE=door_rolling sh tools/try-archive.sh target/try/librolldoor.a
     exit
 fi
 out=$1

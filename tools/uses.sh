@@ -62,6 +62,7 @@ held 'edits.sh, no such edit' refuses tools/edits.sh door/no_such_edit
 held 'definitions.sh, no number' refuses tools/definitions.sh 1 two
 held 'measure.sh, no such part' refuses tools/measure.sh counts weight
 held 'archive-for.sh, a 32-bit processor' refuses tools/archive-for.sh armv7-unknown-linux-gnu target/x.a
+held 'archives.sh, a crate' refuses tools/archives.sh door_rolling
 held 'archive-for.sh, a crate without an archive' refuses tools/archive-for.sh aarch64-unknown-linux-gnu target/x.a engine
 held 'archive-for.sh, one word' refuses tools/archive-for.sh aarch64-unknown-linux-gnu
 held 'beside.sh, a value is missing' refuses tools/beside.sh --seed

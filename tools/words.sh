@@ -94,13 +94,22 @@ proving_by() {
     watched "$said" "$all" 'rt: * proved*' "$@" || { cat "$said" >&2; return 1; }
 }
 
-# made_of NAME: one number of the kit, of the listed crates, of all sources that the crate NAME is made of, of its archive and of the module
-# that is kept of it
+# crate_of NAME: the crate whose archive people link as libNAME.a
+crate_of() {
+    case $1 in
+    rolldoor) echo door_rolling ;;
+    bench) echo door_bench ;;
+    *) echo "$1" ;;
+    esac
+}
+
+# made_of NAME: one number of the kit, of the listed crates, of all sources that libNAME.a is made of, of it and of the module that is kept
+# of it
 made_of() {
     {
         rt version
         cat crates.txt
-        for crate in $(reached "$1"); do find "crates/$crate" -name '*.rt' -o -name '*.antt'; done | sort | xargs sha256sum
+        for crate in $(reached "$(crate_of "$1")"); do find "crates/$crate" -name '*.rt' -o -name '*.antt'; done | sort | xargs sha256sum
         sha256sum "target/staticlib/lib$1.a"
         if [ -f "target/staticlib/$1.bc" ]; then sha256sum "target/staticlib/$1.bc"; fi
     } | sha256sum | cut -d ' ' -f 1
@@ -111,7 +120,7 @@ is_made() {
     [ -f "target/staticlib/$1.made" ] && [ "$(cat "target/staticlib/$1.made")" = "$(made_of "$1")" ]
 }
 
-# archive LOG NAME: target/staticlib/libNAME.a of the proved crate, for x86-64; one that an earlier step made of the same sources is taken
+# archive LOG NAME: target/staticlib/libNAME.a of the proved crate that it is of, for x86-64; one that an earlier step made of the same sources is taken
 # as it is. On another machine its module is kept too
 archive() {
     if [ "$(uname -m)" != x86_64 ]; then
@@ -120,8 +129,13 @@ archive() {
         echo "target/staticlib/lib$2.a is there, of these sources"
     else
         rm -f "target/staticlib/$2.bc"
-        proving "$1" staticlib "$2" && made_of "$2" >"target/staticlib/$2.made"
+        proving "$1" staticlib "$(crate_of "$2")" && named "$2" && made_of "$2" >"target/staticlib/$2.made"
     fi
+}
+
+# named NAME: the archive of the crate by the name that people link
+named() {
+    [ "$(crate_of "$1")" = "$1" ] || cp "target/staticlib/lib$(crate_of "$1").a" "target/staticlib/lib$1.a"
 }
 
 # module LOG NAME: the archive, and target/staticlib/NAME.bc, the LLVM module that the kit handed to its compiler for it
@@ -132,6 +146,7 @@ module() {
         return
     fi
     rm -f "$kept.bc" "$kept.made"
-    proving_by "$1" "$2" sh tools/kept-module.sh "$kept.kept" staticlib "$2" || return 1
-    mv "$kept.kept/module.bc" "$kept.bc" && rm -rf "$kept.kept" && made_of "$2" >"$kept.made"
+    made=$(crate_of "$2")
+    proving_by "$1" "$made" sh tools/kept-module.sh "$kept.kept" staticlib "$made" || return 1
+    mv "$kept.kept/module.bc" "$kept.bc" && rm -rf "$kept.kept" && named "$2" && made_of "$2" >"$kept.made"
 }

@@ -1,5 +1,5 @@
 -- `run` has a result that its promise allows, of every memory that is lent and all bytes: one record played is such a result.
--- Rests on traces' answerable, the same of each call of the engine, and on feed's laws of one record.
+-- Rests on demands_engine's answerable, the same of each call of the engine, and on feed's laws of one record.
 use mathlib.Core.Path.{_≡_, refl, ap, _∙_}
 use mathlib.Core.Bool.{Bool, true, false, cond}
 use mathlib.Core.List.{List, []}
@@ -21,8 +21,8 @@ use Rattle.rules.proofs.Sound.{sound-size, reached-sound}
 use Rattle.rules.proofs.Written.{length-written}
 use Rattle.memory.specs.Memory.{see, shown}
 use Rattle.engine.specs.Lent.{Lent}
-use Rattle.traces.specs.Trace.{Memory, anOpen, aClose, aMessage, aTick, Result, Answerable}
-use Rattle.traces.proofs.Answerable.{answerable}
+use Rattle.demands_engine.specs.Trace.{Memory, anOpen, aClose, aMessage, aTick, Result, Answerable}
+use Rattle.demands_engine.proofs.Answerable.{answerable}
 use Rattle.feed.specs.declared.Played.{Played}
 use Rattle.feed.specs.declared.Record.{Record}
 use Rattle.feed.specs.declared.Record.the-variants.{Open, Close, Message, Oversize, Tick, Cut, Unknown}

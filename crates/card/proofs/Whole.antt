@@ -18,7 +18,7 @@ use Rattle.rules.proofs.Bytes.{padded-byte}
 use Rattle.rules.proofs.Tests.{or-none, and-both}
 use Rattle.memory.specs.Memory.{shown}
 use Rattle.engine.specs.Lent.{Lent}
-use Rattle.traces.proofs.Demands.{any-calls}
+use Rattle.demands_engine.proofs.Demands.{any-calls}
 use Rattle.feed.specs.declared.Played.{Played}
 use Rattle.feed.specs.Feed.{rest}
 use Rattle.feed.specs.Play.{goesOn}

@@ -1,5 +1,5 @@
--- The customer's demands as theorems about the definitions of `rules`, for all sequences of calls, each under its sentence; `traces` and
--- `driven` have them of the real calls. What the statements speak of stands in specs/Told and specs/History. No axiom, no hole.
+-- The customer's demands as theorems about the definitions of `rules`, for all sequences of calls, each under its sentence; `demands_engine` and
+-- `demands_door` have them of the real calls. What the statements speak of stands in specs/Told and specs/History. No axiom, no hole.
 use mathlib.Core.Path.{_≡_, refl}
 use mathlib.Core.Bool.{true, false, cond}
 use mathlib.Core.List.{List, [], _∷_, _++_, map}

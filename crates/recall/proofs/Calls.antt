@@ -15,19 +15,19 @@ use Rattle.rules.specs.Calls as rules
 use Rattle.rules.specs.Calls.{Answer, refused, good, writtenBy, bufferAfter, Call, opens, closes, ticks}
 use Rattle.rules.proofs.Bytes.{padded-byte}
 use Rattle.rules.proofs.Written.{written-none}
-use Rattle.kept.specs.declared.Reply.{Reply}
-use Rattle.kept.specs.declared.Reply.the-variants.{Full, Done}
-use Rattle.kept.specs.declared.Space.the-variants.{From, NoSpace}
-use Rattle.kept.specs.Log.{keptCalls, taken, full, otherLength}
-use Rattle.kept.specs.Kept.{Good, keptForm, replyOf, appended, cleared, logAfter, spaceIn, Behind}
-use Rattle.kept.proofs.Logs.{place-behind, any-log}
-use Rattle.kept.proofs.Reply.{the-type}
-use Rattle.verdicts.specs.Calls.{Pass, Called, openCall, closeCall, tickCall, call, begun, passed}
-use Rattle.verdicts.proofs.Calls.{SameCalled}
-use Rattle.verdicts.proofs.Twice.{answers-like-the-rules}
-use Rattle.replies.specs.declared.Carried.{Carried}
-use Rattle.passes.specs.declared.Played.{Played}
-use Rattle.passes.specs.Passes.{passIn, Plays, Passed}
+use Rattle.recall_log.specs.declared.Reply.{Reply}
+use Rattle.recall_log.specs.declared.Reply.the-variants.{Full, Done}
+use Rattle.recall_log.specs.declared.Space.the-variants.{From, NoSpace}
+use Rattle.recall_log.specs.Log.{keptCalls, taken, full, otherLength}
+use Rattle.recall_log.specs.Kept.{Good, keptForm, replyOf, appended, cleared, logAfter, spaceIn, Behind}
+use Rattle.recall_log.proofs.Logs.{place-behind, any-log}
+use Rattle.recall_log.proofs.Reply.{the-type}
+use Rattle.recall_rules.specs.Calls.{Pass, Called, openCall, closeCall, tickCall, call, begun, passed}
+use Rattle.recall_rules.proofs.Calls.{SameCalled}
+use Rattle.recall_rules.proofs.Twice.{answers-like-the-rules}
+use Rattle.recall_answers.specs.declared.Carried.{Carried}
+use Rattle.recall_pass.specs.declared.Played.{Played}
+use Rattle.recall_pass.specs.Passes.{passIn, Plays, Passed}
 use Rattle.recall.specs.Recall as recall
 use Rattle.recall.specs.Recall.{recallCall, recallFresh, Recalled, toldBy, Remembers, Forgets}
 use Rattle.recall.proofs.Recalls.{thirteen-leaves, fresh-leaves}

@@ -1,4 +1,4 @@
--- The present message: GetConfig's record behind the others' answers, a refusal, and the whole answer. Rests on what `passes` promises of a
+-- The present message: GetConfig's record behind the others' answers, a refusal, and the whole answer. Rests on what `recall_pass` promises of a
 -- message that is heard, and on Calls.
 use mathlib.Core.Path.{_≡_, refl, sym, subst, ap, ap₂, _∙_}
 use mathlib.Core.Bool.{Bool, true, false, cond}
@@ -22,19 +22,19 @@ use Rattle.rules.specs.Records.{Record, ConfigResponse, output}
 use Rattle.rules.specs.Calls.{Loans, lendingMaps, longestSection, longSection, framing, bufferAfter, writtenBy, Call, messages}
 use Rattle.rules.proofs.Tests.{or-none, by}
 use Rattle.rules.proofs.Written.{written-none}
-use Rattle.kept.specs.declared.Reply.the-variants.{Refused, Done}
-use Rattle.kept.specs.Log.{keptCalls, full}
-use Rattle.kept.specs.Kept.{keptForm, replyOf, appended, logAfter}
-use Rattle.verdicts.specs.Calls.{Pass, Answered, sectionOf, answer, configResponse, handled, messageCall, call, begun, passed}
-use Rattle.work.specs.Does.{Tells}
-use Rattle.replies.specs.declared.Carried.{Carried}
-use Rattle.replies.specs.declared.Effect.{Effect}
-use Rattle.replies.specs.declared.Effect.the-variants.{Nothing, Joins, Enters, Configures}
-use Rattle.replies.specs.Replies.{hardwares, spoken, Left}
-use Rattle.replies.proofs.Effect as effect-type
-use Rattle.passes.specs.declared.Heard.{Heard}
-use Rattle.passes.specs.Passes.{rowsOf, passIn, framed, FramesAny, HearsAny, Passed}
-use Rattle.passes.proofs.Messages.{message-is, framed-low, framed-size}
+use Rattle.recall_log.specs.declared.Reply.the-variants.{Refused, Done}
+use Rattle.recall_log.specs.Log.{keptCalls, full}
+use Rattle.recall_log.specs.Kept.{keptForm, replyOf, appended, logAfter}
+use Rattle.recall_rules.specs.Calls.{Pass, Answered, sectionOf, answer, configResponse, handled, messageCall, call, begun, passed}
+use Rattle.recall_ends.specs.Does.{Tells}
+use Rattle.recall_answers.specs.declared.Carried.{Carried}
+use Rattle.recall_answers.specs.declared.Effect.{Effect}
+use Rattle.recall_answers.specs.declared.Effect.the-variants.{Nothing, Joins, Enters, Configures}
+use Rattle.recall_answers.specs.Replies.{hardwares, spoken, Left}
+use Rattle.recall_answers.proofs.Effect as effect-type
+use Rattle.recall_pass.specs.declared.Heard.{Heard}
+use Rattle.recall_pass.specs.Passes.{rowsOf, passIn, framed, FramesAny, HearsAny, Passed}
+use Rattle.recall_pass.proofs.Messages.{message-is, framed-low, framed-size}
 use Rattle.recall.specs.Recall.{Remembers}
 use Rattle.recall.specs.Finish.{Finishes}
 use Rattle.recall.proofs.Calls.{remembers}

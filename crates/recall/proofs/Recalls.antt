@@ -15,11 +15,11 @@ use Rattle.rules.specs.State.{Splicer}
 use Rattle.rules.specs.Calls.{Answer, refused, good, Called, houseNumber, writtenBy, bufferAfter, Call, call, after}
 use Rattle.rules.specs.Sound.{Wired}
 use Rattle.rules.proofs.Tests.{by}
-use Rattle.kept.specs.declared.Reply.the-variants.{Refused, Done}
-use Rattle.kept.specs.Log.{keptCalls, taken, logLength, otherLength, full}
-use Rattle.kept.specs.Kept.{Its, keptForm, recorded, isGood, Neat, numberOf, replyOf, cleared, logAfter}
-use Rattle.kept.proofs.Appends.{cleared-calls}
-use Rattle.kept.proofs.Logs.{same-length, taken-recorded}
+use Rattle.recall_log.specs.declared.Reply.the-variants.{Refused, Done}
+use Rattle.recall_log.specs.Log.{keptCalls, taken, logLength, otherLength, full}
+use Rattle.recall_log.specs.Kept.{Its, keptForm, recorded, isGood, Neat, numberOf, replyOf, cleared, logAfter}
+use Rattle.recall_log.proofs.Appends.{cleared-calls}
+use Rattle.recall_log.proofs.Logs.{same-length, taken-recorded}
 use Rattle.recall.specs.Recall.{begun, toldBy, thirteen, recallCall, recallFresh, recalls, logLeft, before13, None13, cardTells, goods, spent, LikeTheCard}
 use Rattle.recall.proofs.Steps.{Leads, leads-cleared, told-same, leads-on, calls-on}
 

@@ -1,5 +1,5 @@
 -- One call: with a log whose calls lead to the card's splicer, both tell the same, and the log after it leads to the card's splicer after it.
--- Rests on kept's laws of an appended log, and on: a good call and what is kept of it are one call.
+-- Rests on recall_log's laws of an appended log, and on: a good call and what is kept of it are one call.
 use mathlib.Core.Path.{_≡_, refl, sym, subst, ap, _∙_}
 use mathlib.Core.Bool.{false}
 use mathlib.Core.List.{List, [], _++_, append-nil}
@@ -11,11 +11,11 @@ use Rattle.rules.specs.Calls.{Answer, refused, good, Call, call, after}
 use Rattle.rules.specs.Sound.{Wired}
 use Rattle.rules.proofs.Refused.{unchanged}
 use Rattle.rules.proofs.Sound.{after-last}
-use Rattle.kept.specs.Log.{keptCalls, logLength, full}
-use Rattle.kept.specs.Kept.{Its, keptForm, isGood, Good, Neat, appended, cleared, logAfter}
-use Rattle.kept.proofs.Appends.{Keepable, appended-calls, cleared-calls, cleared-length}
-use Rattle.kept.proofs.Keeps.{kept-stands, keepable}
-use Rattle.kept.proofs.Logs.{not-full, record-fits, kept-long, neat-cleared, neat-appended}
+use Rattle.recall_log.specs.Log.{keptCalls, logLength, full}
+use Rattle.recall_log.specs.Kept.{Its, keptForm, isGood, Good, Neat, appended, cleared, logAfter}
+use Rattle.recall_log.proofs.Appends.{Keepable, appended-calls, cleared-calls, cleared-length}
+use Rattle.recall_log.proofs.Keeps.{kept-stands, keepable}
+use Rattle.recall_log.proofs.Logs.{not-full, record-fits, kept-long, neat-cleared, neat-appended}
 use Rattle.recall.specs.Recall.{begun, toldBy, recallCall}
 
 -- the log l, as this engine leaves it, leads to the splicer s

@@ -7,10 +7,10 @@ use Prim.Native.Nat.{ℕ}
 use lib.ListN.{length, replicate, length-replicate}
 use Rattle.rules.specs.declared.Refusal.the-variants.{NoConnection}
 use Rattle.rules.specs.Calls.{Call, opens, openCall, call}
-use Rattle.kept.specs.declared.Reply.the-variants.{Refused}
-use Rattle.kept.specs.Log.{logLength, otherLength, full}
-use Rattle.kept.specs.Kept.{replyOf, cleared}
-use Rattle.kept.proofs.Appends.{cleared-calls}
+use Rattle.recall_log.specs.declared.Reply.the-variants.{Refused}
+use Rattle.recall_log.specs.Log.{logLength, otherLength, full}
+use Rattle.recall_log.specs.Kept.{replyOf, cleared}
+use Rattle.recall_log.proofs.Appends.{cleared-calls}
 use Rattle.recall.specs.Recall.{toldBy, recallCall, spent}
 use Rattle.recall.proofs.Recalls.{full-spent}
 

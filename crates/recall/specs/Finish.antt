@@ -3,11 +3,11 @@ use mathlib.Core.Path.{_≡_}
 use mathlib.Core.List.{List}
 use Prim.Native.Nat.{ℕ}
 use Rattle.rules.specs.Card.{cardName}
-use Rattle.verdicts.specs.Calls.{Pass, Answered}
-use Rattle.work.specs.Does.{Tells}
-use Rattle.replies.specs.declared.Carried.{Carried}
-use Rattle.replies.specs.Replies.{hardwares, spoken, Left}
-use Rattle.passes.specs.declared.Heard.{Heard}
+use Rattle.recall_rules.specs.Calls.{Pass, Answered}
+use Rattle.recall_ends.specs.Does.{Tells}
+use Rattle.recall_answers.specs.declared.Carried.{Carried}
+use Rattle.recall_answers.specs.Replies.{hardwares, spoken, Left}
+use Rattle.recall_pass.specs.declared.Heard.{Heard}
 
 -- of any answer a that was heard, but for that record, in a pass s over the log l, with the data d and a buffer that held e: all of its
 -- records stand in the buffer o now, which held i

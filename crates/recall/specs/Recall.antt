@@ -10,10 +10,10 @@ use Rattle.rules.specs.Bytes.{padded, written}
 use Rattle.rules.specs.State.{Splicer}
 use Rattle.rules.specs.Calls.{Called, writtenBy, fresh, Call, call, after}
 use Rattle.rules.specs.Card.{cardName}
-use Rattle.kept.specs.declared.Reply.{Reply}
-use Rattle.kept.specs.declared.Reply.the-variants.{Full, Done}
-use Rattle.kept.specs.Log.{keptCalls, logLength, mostCalls, longestRecord, otherLength, full}
-use Rattle.kept.specs.Kept.{keptForm, recorded, isGood, replyOf, cleared, logAfter}
+use Rattle.recall_log.specs.declared.Reply.{Reply}
+use Rattle.recall_log.specs.declared.Reply.the-variants.{Full, Done}
+use Rattle.recall_log.specs.Log.{keptCalls, logLength, mostCalls, longestRecord, otherLength, full}
+use Rattle.recall_log.specs.Kept.{keptForm, recorded, isGood, replyOf, cleared, logAfter}
 
 -- the splicer of a fresh card
 unfoldable pub begun : Splicer

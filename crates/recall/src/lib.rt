@@ -1,11 +1,11 @@
 // 02, CR 12: the engine that only remembers: its five calls over a lent log, any bytes. specs/ says what each answers; proofs/ shows that
 // it answers like the card.
-use kept::Reply;
-use kept::Space;
-use passes::Heard;
-use passes::WORDS;
-use replies::Carried;
-use replies::Effect;
+use recall_answers::Carried;
+use recall_answers::Effect;
+use recall_log::Reply;
+use recall_log::Space;
+use recall_pass::Heard;
+use recall_pass::WORDS;
 use rules::Framing;
 use rules::Refusal;
 ghost use mathlib.Core.Path.{_≡_};
@@ -17,7 +17,7 @@ ghost use lib.ListN.{length};
 ghost use Rattle.rules.specs.Lists.{All};
 ghost use Rattle.rules.specs.Calls.{houseNumber, lendingMaps, longestSection, longSection, opens, closes, messages, ticks};
 ghost use Rattle.rules.specs.Card.{cardRoom};
-ghost use Rattle.replies.specs.Replies.{Placed};
+ghost use Rattle.recall_answers.specs.Replies.{Placed};
 ghost use Rattle.recall.specs.Recall.{Remembers, Forgets};
 ghost use Rattle.recall.specs.Finish.{Finishes};
 
@@ -49,10 +49,10 @@ pub fn house_number(n: Refusal) -> u8
 pub fn fresh(log: &mut [u8]) -> Reply
     ensures { λ r. ⌜ Forgets (now (log .entry)) r (now (log .exit)) ⌝ }
 {
-    if log.len() != kept::LOG {
+    if log.len() != recall_log::LOG {
         return Reply::Full;
     }
-    kept::clear(&mut *log);
+    recall_log::clear(&mut *log);
     Reply::Done(0, 0, 0)
 }
 
@@ -60,18 +60,18 @@ pub fn fresh(log: &mut [u8]) -> Reply
 pub fn open(log: &mut [u8], conn: u32) -> Reply
     ensures { λ r. ⌜ Remembers (opens conn) (now (log .entry)) [] r (now (log .exit)) [] ⌝ }
 {
-    let space = kept::next_place(&*log);
+    let space = recall_log::next_place(&*log);
     let Space::From(at) = space else {
         return Reply::Full;
     };
     let mut m = [0; WORDS];
-    let h = passes::pass(&*log, &mut m);
-    let p = passes::open(h, conn);
+    let h = recall_pass::pass(&*log, &mut m);
+    let p = recall_pass::open(h, conn);
     let reply = p.reply;
     let Reply::Done(_, _, _) = reply else {
         return reply;
     };
-    kept::keep_open(&mut *log, at, conn as u8);
+    recall_log::keep_open(&mut *log, at, conn as u8);
     reply
 }
 
@@ -81,18 +81,18 @@ pub fn close(log: &mut [u8], conn: u32, out: &mut [u8]) -> Reply
         ⌜ Remembers (closes conn (length (now (out .entry)))) (now (log .entry)) (now (out .entry)) r
         (now (log .exit)) (now (out .exit)) ⌝ }
 {
-    let space = kept::next_place(&*log);
+    let space = recall_log::next_place(&*log);
     let Space::From(at) = space else {
         return Reply::Full;
     };
     let mut m = [0; WORDS];
-    let h = passes::pass(&*log, &mut m);
-    let p = passes::close(&mut m, h, conn, &mut *out);
+    let h = recall_pass::pass(&*log, &mut m);
+    let p = recall_pass::close(&mut m, h, conn, &mut *out);
     let reply = p.reply;
     let Reply::Done(_, _, _) = reply else {
         return reply;
     };
-    kept::keep_close(&mut *log, at, conn as u8);
+    recall_log::keep_close(&mut *log, at, conn as u8);
     reply
 }
 
@@ -102,18 +102,18 @@ pub fn tick(log: &mut [u8], seconds: u32, micros: u32, out: &mut [u8]) -> Reply
         ⌜ Remembers (ticks seconds micros (length (now (out .entry)))) (now (log .entry)) (now (out .entry)) r
         (now (log .exit)) (now (out .exit)) ⌝ }
 {
-    let space = kept::next_place(&*log);
+    let space = recall_log::next_place(&*log);
     let Space::From(at) = space else {
         return Reply::Full;
     };
     let mut m = [0; WORDS];
-    let h = passes::pass(&*log, &mut m);
-    let p = passes::tick(&mut m, h, seconds, micros, &mut *out);
+    let h = recall_pass::pass(&*log, &mut m);
+    let p = recall_pass::tick(&mut m, h, seconds, micros, &mut *out);
     let reply = p.reply;
     let Reply::Done(_, _, _) = reply else {
         return reply;
     };
-    kept::keep_tick(&mut *log, at, seconds, micros);
+    recall_log::keep_tick(&mut *log, at, seconds, micros);
     reply
 }
 
@@ -146,7 +146,7 @@ fn finish(log: &[u8], h: Carried, conn: u32, section: &[u8], g: Heard, out: &mut
     let Effect::Configures = effect else {
         return g.len;
     };
-    replies::answer_config(log, h, conn, section, &mut *out)
+    recall_answers::answer_config(log, h, conn, section, &mut *out)
 }
 
 // Message: 13, 1, 2, 7, 10, then 5 (header), 4, 5 (body); then the answer. l: the bytes read so far; primary, insertion: the lent sections.
@@ -163,20 +163,20 @@ pub fn message<'a>(
         (messages conn (now (l .entry)) (lendingMaps (now (primary .entry)) (now (insertion .entry)) (length (now (out .entry)))))
         (now (log .entry)) (now (out .entry)) r (now (log .exit)) (now (out .exit)) ⌝ }
 {
-    let space = kept::next_place(&*log);
+    let space = recall_log::next_place(&*log);
     let Space::From(at) = space else {
         return Reply::Full;
     };
     let mut m = [0; WORDS];
-    let h = passes::pass(&*log, &mut m);
-    match passes::framed(h, conn, l, out.len(), is_long(primary, insertion)) {
+    let h = recall_pass::pass(&*log, &mut m);
+    match recall_pass::framed(h, conn, l, out.len(), is_long(primary, insertion)) {
         Framing::Unframed(n) => Reply::Refused(n),
         Framing::Framed(id, size) => {
-            let section = map_on_air(primary, insertion, passes::feed(&m, h));
+            let section = map_on_air(primary, insertion, recall_pass::feed(&m, h));
             let d = reading::data_of(l, size as usize);
-            let g = passes::hear(&mut m, h, conn, id, d, &mut *out);
+            let g = recall_pass::hear(&mut m, h, conn, id, d, &mut *out);
             let len = finish(&*log, h, conn, section, g, &mut *out);
-            kept::keep_message(&mut *log, at, conn as u8, l, size);
+            recall_log::keep_message(&mut *log, at, conn as u8, l, size);
             Reply::Done(8 + size as usize, len, g.moved)
         }
     }

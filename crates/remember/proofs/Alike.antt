@@ -16,11 +16,11 @@ use Rattle.rules.specs.Sound.{Wired}
 use Rattle.rules.proofs.All.{all-drop}
 use Rattle.rules.proofs.Bytes.{part-byte}
 use Rattle.rules.proofs.Tests.{by}
-use Rattle.kept.specs.Log.{logLength, full}
-use Rattle.kept.specs.Kept.{Its, replyOf, cleared}
-use Rattle.kept.proofs.Firsts.{first}
-use Rattle.kept.proofs.Walks.{calls-more}
-use Rattle.kept.proofs.Logs.{any-log}
+use Rattle.recall_log.specs.Log.{logLength, full}
+use Rattle.recall_log.specs.Kept.{Its, replyOf, cleared}
+use Rattle.recall_log.proofs.Firsts.{first}
+use Rattle.recall_log.proofs.Walks.{calls-more}
+use Rattle.recall_log.proofs.Logs.{any-log}
 use Rattle.recall.specs.Recall.{begun, toldBy, recallCall, before13, None13}
 use Rattle.recall.proofs.Witness.{not-full}
 use Rattle.recall.proofs.Steps.{Leads, leads-cleared, told-same, leads-on}

@@ -17,14 +17,14 @@ use Rattle.rules.proofs.Sound.{sound-always, sound-size}
 use Rattle.rules.proofs.Tests.{by}
 use Rattle.rules.proofs.Values.{field-one}
 use Rattle.rules.proofs.Written.{written-none, length-written}
-use Rattle.kept.specs.declared.Record.{Record}
-use Rattle.kept.specs.declared.Record.the-variants.{Open, Close, Message, Tick, None}
-use Rattle.kept.specs.declared.Reply.{Reply}
-use Rattle.kept.specs.declared.Reply.the-variants.{Full, Refused, Done}
-use Rattle.kept.specs.Log.{keptCalls, full}
-use Rattle.kept.specs.Kept.{recordOf, recordIn, callOf, spanOf, numberOf, replyOf}
-use Rattle.kept.proofs.Firsts.{first}
-use Rattle.kept.proofs.Logs.{any-log}
+use Rattle.recall_log.specs.declared.Record.{Record}
+use Rattle.recall_log.specs.declared.Record.the-variants.{Open, Close, Message, Tick, None}
+use Rattle.recall_log.specs.declared.Reply.{Reply}
+use Rattle.recall_log.specs.declared.Reply.the-variants.{Full, Refused, Done}
+use Rattle.recall_log.specs.Log.{keptCalls, full}
+use Rattle.recall_log.specs.Kept.{recordOf, recordIn, callOf, spanOf, numberOf, replyOf}
+use Rattle.recall_log.proofs.Firsts.{first}
+use Rattle.recall_log.proofs.Logs.{any-log}
 use Rattle.recall.specs.Recall.{begun, Told, Recalled, toldBy, recallCall, Remembers}
 use Rattle.remember.specs.Said.{madeOf, callFor, said, saidLength, Says, Plays}
 

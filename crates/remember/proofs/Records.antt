@@ -1,5 +1,5 @@
 -- One record as it is read, mark, header and data: what came is a record whatever follows it, or begins none.
--- Rests on kept's laws of the call that some bytes begin with.
+-- Rests on recall_log's laws of the call that some bytes begin with.
 use mathlib.Core.Path.{_≡_, refl, sym, subst, ap, _∙_}
 use mathlib.Core.Bool.{Bool, true, false, cond, _&&_}
 use mathlib.Core.List.{List, _++_, append-nil}
@@ -16,10 +16,10 @@ use Rattle.rules.specs.Card.{markEnd, tickEnd, headerEnd, messageEnd, cardRoom,
 use Rattle.rules.specs.Card.{Next, calls, ends, stops, next, nextMessage, nextTick}
 use Rattle.rules.proofs.Tests.{by, clash}
 use Rattle.rules.proofs.Values.{field-one}
-use Rattle.kept.specs.declared.Record.{Record}
-use Rattle.kept.specs.declared.Record.the-variants.{Open, Close, Message, Tick, None}
-use Rattle.kept.specs.Kept.{recordOf, recordIn, callOf, spanOf}
-use Rattle.kept.proofs.Firsts.{first, part-front, part-take}
+use Rattle.recall_log.specs.declared.Record.{Record}
+use Rattle.recall_log.specs.declared.Record.the-variants.{Open, Close, Message, Tick, None}
+use Rattle.recall_log.specs.Kept.{recordOf, recordIn, callOf, spanOf}
+use Rattle.recall_log.proofs.Firsts.{first, part-front, part-take}
 use Rattle.remember.specs.declared.stdio.Came.{Came}
 use Rattle.remember.specs.Said.{madeOf, callFor, headOf, endsWith}
 use Rattle.remember.specs.Remembered.{Filled, Whole, Ended, Reads}

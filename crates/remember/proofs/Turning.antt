@@ -7,8 +7,8 @@ use Prim.Native.Nat.{ℕ, suc, _-_, _≤_, _<_}
 use native.Mathlib.Omega.{arith}
 use lib.ListN.{length, take, replicate}
 use lib.Seq.{length-take-le}
-use Rattle.kept.specs.Log.{logLength}
-use Rattle.kept.specs.Kept.{cleared}
+use Rattle.recall_log.specs.Log.{logLength}
+use Rattle.recall_log.specs.Kept.{cleared}
 use Rattle.recall.specs.Recall.{recallFresh}
 use Rattle.recall.proofs.Recalls.{fresh-log}
 use Rattle.remember.specs.declared.Read.{Read}

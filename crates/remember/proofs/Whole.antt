@@ -10,7 +10,7 @@ use lib.Seq.{length-take-le}
 use Rattle.rules.specs.Calls.{Call}
 use Rattle.rules.specs.Card.{Next, calls, ends, stops, next}
 use Rattle.rules.proofs.Tests.{clash}
-use Rattle.kept.proofs.Walks.{rest-shorter}
+use Rattle.recall_log.proofs.Walks.{rest-shorter}
 use Rattle.recall.specs.Recall.{recallCall}
 use Rattle.remember.specs.declared.Stop.{Stop}
 use Rattle.remember.specs.declared.Stop.the-variants.{Over, Counted}

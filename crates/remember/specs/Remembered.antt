@@ -9,7 +9,7 @@ use lib.ListN.{length, take, replicate}
 use Rattle.rules.specs.Bytes.{largestSize}
 use Rattle.rules.specs.Calls.{Call}
 use Rattle.rules.specs.Card.{markEnd, messageEnd, Next, calls, ends, stops, next}
-use Rattle.kept.specs.Log.{logLength}
+use Rattle.recall_log.specs.Log.{logLength}
 use Rattle.recall.specs.Recall.{recallCall}
 use Rattle.remember.specs.declared.Read.{Read}
 use Rattle.remember.specs.declared.Stop.{Stop}

@@ -9,11 +9,11 @@ use Rattle.rules.specs.Bytes.{field, largestSize, written}
 use Rattle.rules.specs.Calls.{Call, messages, refused}
 use Rattle.rules.specs.Card.{openMark, closeMark, messageMark, tickMark, connIn, messageFrom, markEnd, headerEnd}
 use Rattle.rules.specs.Card.{cardLoans, told}
-use Rattle.kept.specs.declared.Record.{Record}
-use Rattle.kept.specs.declared.Record.the-variants.{Open, Close, Message, Tick, None}
-use Rattle.kept.specs.declared.Reply.{Reply}
-use Rattle.kept.specs.declared.Reply.the-variants.{Full, Refused, Done}
-use Rattle.kept.specs.Kept.{recordIn, callOf, numberOf}
+use Rattle.recall_log.specs.declared.Record.{Record}
+use Rattle.recall_log.specs.declared.Record.the-variants.{Open, Close, Message, Tick, None}
+use Rattle.recall_log.specs.declared.Reply.{Reply}
+use Rattle.recall_log.specs.declared.Reply.the-variants.{Full, Refused, Done}
+use Rattle.recall_log.specs.Kept.{recordIn, callOf, numberOf}
 use Rattle.recall.specs.Recall.{recallCall}
 
 -- the call of the record that l begins with; "at a message header with MessageSize above 4,088 it makes the call": what begins no record is

@@ -2,10 +2,10 @@
 // after 13.
 mod stdio;
 
-use kept::Record;
-use kept::Reply;
 use reading::LONGEST;
 use reading::numbers::number2;
+use recall_log::Record;
+use recall_log::Reply;
 use stdio::Came;
 use stdio::Written;
 ghost use mathlib.Core.Path.{_≡_};
@@ -64,7 +64,7 @@ fn call(log: &mut [u8], l: &[u8], out: &mut [u8]) -> Reply
     ensures { λ r.
         ⌜ Remembers (callFor (now (l .entry))) (now (log .entry)) (now (out .entry)) r (now (log .exit)) (now (out .exit)) ⌝ }
 {
-    match kept::record_at(l) {
+    match recall_log::record_at(l) {
         Record::Open(c) => recall::open(&mut *log, c as u32),
         Record::Close(c) => recall::close(&mut *log, c as u32, &mut *out),
         Record::Message(c, size) => {

@@ -1,5 +1,5 @@
 -- The length alone decides (`forgets-full`, `forgets-all`).
-use Rattle.kept.proofs.Logs as logs
+use Rattle.recall_log.proofs.Logs as logs
 use Rattle.recall.proofs.Calls.{forgets-full, forgets-all}
 use borrow.Author.Needs.{needs}
 use native.Mathlib.Omega.{arith}

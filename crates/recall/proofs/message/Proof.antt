@@ -1,7 +1,7 @@
--- 13, a refusal, or the answer, GetConfig's record behind it, and the message kept. Rests on what `passes` promises, and on Messages.
+-- 13, a refusal, or the answer, GetConfig's record behind it, and the message kept. Rests on what `recall_pass` promises, and on Messages.
 use Prim.Native.Nat.{ℕ, _≤_}
-use Rattle.kept.proofs.Logs.{not-full}
-use Rattle.passes.proofs.Laws.{passed-ready}
+use Rattle.recall_log.proofs.Logs.{not-full}
+use Rattle.recall_pass.proofs.Laws.{passed-ready}
 use Rattle.recall.proofs.Calls.{remembers-full, space-none, space-from}
 use Rattle.recall.proofs.Messages.{both-short, framed-here, chosen, brief, message-refused, message-low, message-within, message-whole}
 use Rattle.rules.proofs.All.{all-at}

@@ -1,7 +1,7 @@
--- 13, or the pass and the call behind it; a good one is kept. Rests on what `passes` promises, and on Calls.
-use Rattle.kept.proofs.Keeps.{open-low}
-use Rattle.kept.proofs.Logs.{not-full}
-use Rattle.kept.specs.Kept.{keptForm}
+-- 13, or the pass and the call behind it; a good one is kept. Rests on what `recall_pass` promises, and on Calls.
+use Rattle.recall_log.proofs.Keeps.{open-low}
+use Rattle.recall_log.proofs.Logs.{not-full}
+use Rattle.recall_log.specs.Kept.{keptForm}
 use Rattle.recall.proofs.Calls.{remembers-full, space-none, space-from, played-not, played-done, played-good, open-is}
 use Rattle.rules.proofs.All.{all-at}
 use Rattle.rules.specs.Bytes.{Byte}

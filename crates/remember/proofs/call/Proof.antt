@@ -2,7 +2,7 @@
 -- Rests on what `recall` promises of each call.
 use native.Mathlib.Omega.{arith}
 use lib.ListN.{length}
-use Rattle.kept.specs.Kept.{spanOf}
+use Rattle.recall_log.specs.Kept.{spanOf}
 use Rattle.remember.proofs.Plays.{quiet, record-within, remembers-as, open-is, close-is, tick-is, message-is, rest-is}
 use borrow.Author.Needs.{needs}
 use Rattle.remember.proofs.call.Statement.{statement}
