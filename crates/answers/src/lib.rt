@@ -1,4 +1,4 @@
-// Answering a message, first that applies: 01's five steps, Init and Alive, and what requests answer.
+// Answering a message: 01's five steps, Init, Alive, GetConfig, ExtendedData, and what requests answer.
 use memory::WORDS;
 use memory::Which;
 use requests::Given;

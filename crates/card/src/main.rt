@@ -1,4 +1,4 @@
-// The card program of document 01: it reads calls from standard input and writes what they give to standard output.
+// The card program: it reads calls from standard input and writes what they give to standard output.
 mod stdio;
 
 use feed::Played;

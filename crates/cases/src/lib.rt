@@ -1,1 +1,1 @@
-// No code: worked cases of the definitions, in specs/.
+// No code: worked cases of the definitions as tables that the prover computes.

@@ -1,4 +1,5 @@
-// 02, CR 14: reads a bench recording from standard input and writes one line: "none", "call 17", "refused 14 at 812" or "refused 15".
+// The checker as a program: a recording from standard input, one line to standard output (02, CR 14).
+// The line is "none", "call 17", "refused 14 at 812" or "refused 15".
 mod stdio;
 
 use recording::Finding;

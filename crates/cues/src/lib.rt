@@ -1,4 +1,4 @@
-// Sections of cues (02, CR 7): what is read of a section, what comes of it, and the time of its cue.
+// Sections of cues: what is read of one, its CRC_32, what comes of it, the time of its cue (02, CR 7).
 // One function for each definition of rules' specs/Cues.
 ghost use mathlib.Core.Path.{_≡_};
 ghost use Prim.Native.Nat.{_+_, _≤_, _<_};

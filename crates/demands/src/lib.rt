@@ -1,1 +1,1 @@
-// The customer's demands as theorems about the definitions of `rules`: read proofs/Demands.antt. There is no code here.
+// No code: the customer's demands as theorems about the definitions; read proofs/Demands.antt.

@@ -1,2 +1,2 @@
-// The customer's demands as theorems about the calls of `door`, from the words that C sees: read proofs/Demands.antt.
-// There is no code here.
+// No code: the demands about every sequence of `door`'s calls, from what C sees; read this one first.
+// proofs/Demands.antt has each demand under its sentence.

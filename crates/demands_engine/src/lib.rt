@@ -1,1 +1,1 @@
-// The customer's demands as theorems about the real calls of `engine`: read proofs/Demands.antt. There is no code here.
+// No code: the demands as theorems about every sequence of `engine`'s calls; read proofs/Demands.antt.

@@ -1,2 +1,2 @@
-// 02, CR 9: the customer's demands as theorems about the calls for C of the card with a rolling counter: read proofs/Demands.antt. There is
-// no code here.
+// No code: the demands about every sequence of the rolling card's calls for C (02, CR 9).
+// Read proofs/Demands.antt.

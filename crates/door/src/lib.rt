@@ -1,6 +1,6 @@
-// The calls of document 01 for C, what a card reads, and lists of streams: lent words, bytes and numbers only. A reply is
-// lent words too.
-// include/splicer.h declares them. The names carry the header's version, so that a header of another version does not link.
+// The calls of document 01 for C, what a card reads, and lists of streams: libdoor.a.
+// Lent words, bytes and numbers only; a reply is lent words too. include/splicer.h declares them. The names carry the header's
+// version, so that a header of another version does not link.
 use engine::Answer;
 use memory::BYTES;
 use memory::WORDS;

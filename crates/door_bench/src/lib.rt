@@ -1,5 +1,5 @@
-// 02, CR 14 and CR 12, for C: the checker of bench recordings, and the engine that only remembers. include/splicer_bench.h declares them; the
-// names carry that header's version, and a finding or a reply goes into lent words.
+// The checker of recordings and the engine that only remembers, for C: libbench.a (02, CR 14, CR 12).
+// include/splicer_bench.h declares them; the names carry that header's version, and a finding or a reply goes into lent words.
 use recall_log::Reply;
 use recording::Finding;
 ghost use mathlib.Core.Path.{_≡_};

@@ -1,5 +1,6 @@
-// 02, CR 9: the calls of the card with a rolling counter for C, beside those of `door`: lent words, bytes and numbers only; the reply goes into
-// lent words. include/splicer.h declares them. An archive of its own, so that the tick of the other cards is compiled as it was.
+// The rolling card's own calls for C, beside those of `door`: librolldoor.a (02, CR 9).
+// Lent words, bytes and numbers only; the reply goes into lent words. include/splicer.h declares them. An archive of its own, so that
+// the tick of the other cards is compiled as it was.
 use engine::Answer;
 use memory::BYTES;
 use memory::WORDS;

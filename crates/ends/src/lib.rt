@@ -1,4 +1,4 @@
-// How sessions end: one record behind the other, and their list closed up.
+// How sessions end: each end written by one function, followers link by link, the list closed up.
 use memory::WORDS;
 use memory::Which;
 use places::Key;

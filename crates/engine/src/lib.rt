@@ -1,4 +1,5 @@
-// The calls of document 01, over memory that the caller lends: the splicer's words in one piece and its bytes in a second.
+// The calls of document 01 and the reads, over memory that the caller lends.
+// The splicer's words are in one piece and its bytes in a second.
 use memory::BYTES;
 use memory::WORDS;
 use memory::Which;

@@ -1,4 +1,4 @@
-// Instants: starts, ends, being covered and on air again, and a tick's run over them.
+// Starts, ends, being covered and on air again, and a tick's run from instant to instant.
 use memory::WORDS;
 use memory::Which;
 use rules::Ninths;

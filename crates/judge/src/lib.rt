@@ -1,5 +1,5 @@
-// 02, CR 14: the checker of bench recordings. The recording is only read; the splicer that the calls are made on, and what is due of the
-// last one, live in its frame.
+// The checker of bench recordings, over a lent recording (02, CR 14).
+// The recording is only read; the splicer that the calls are made on, and what is due of the last one, live in its frame.
 mod marks;
 mod turns;
 

@@ -1,7 +1,8 @@
-// A splicer in two pieces that the caller lends. Its words: the clock, how many wait, how many have started, where the ring of those that
-// wait ends, the primary sum, how many of those that wait are each connection's, a word for each connection, the places of those that wait
-// and of those that have started, what ended lately. Its bytes: the ChannelName with zeros behind its end, and of each connection the
-// Hardware_Config that it keeps, with zeros behind its end. Only this crate knows where what stands.
+// Where what stands in the lent words and bytes of a splicer: this crate alone knows.
+// Its words: the clock, how many wait, how many have started, where the ring of those that wait ends, the primary sum, how many of
+// those that wait are each connection's, a word for each connection, the places of those that wait and of those that have started,
+// what ended lately. Its bytes: the ChannelName with zeros behind its end, and of each connection the Hardware_Config that it keeps,
+// with zeros behind its end.
 use places::Key;
 use places::WIDTH;
 use rules::Link;

@@ -1,7 +1,7 @@
-// Sessions in a ring of places that the caller lends, WIDTH words to a place: the used ones last before the place `ring_end`, and from
-// there on to the first of them each place all zeros. Those that wait stand in 64 places, in order of start: one that is accepted takes
-// the place `ring_end`, those that start later move one on, and the ring's end with them. The started ones stand in 10 that never
-// come round.
+// Sessions in a ring of places in lent words: loaded, inserted, removed, looked for.
+// WIDTH words to a place: the used ones last before the place `ring_end`, and from there on to the first of them each place all
+// zeros. Those that wait stand in 64 places, in order of start: one that is accepted takes the place `ring_end`, those that start
+// later move one on, and the ring's end with them. The started ones stand in 10 that never come round.
 use rules::Ninths;
 use rules::Session;
 ghost use mathlib.Core.Path.{_≡_};

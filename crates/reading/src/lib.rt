@@ -1,4 +1,5 @@
-// Reading what a connection sent (01, Bytes and "Not readable"): one function for each definition of rules' specs/Reading.
+// Reading what a connection sent: framing, messages, names, descriptors, where streams end.
+// 01, Bytes and "Not readable": one function for each definition of rules' specs/Reading.
 ghost use mathlib.Core.Path.{_≡_};
 ghost use Prim.Native.Nat.{_+_, _≤_};
 ghost use lib.ListN.{length};

@@ -1,5 +1,5 @@
-// 02, CR 12: the engine that only remembers: its five calls over a lent log, any bytes. specs/ says what each answers; proofs/ shows that
-// it answers like the card.
+// The engine that only remembers: its five calls over a lent log, any bytes (02, CR 12).
+// specs/ says what each answers; proofs/ shows that it answers like the card.
 use recall_answers::Carried;
 use recall_answers::Effect;
 use recall_log::Reply;

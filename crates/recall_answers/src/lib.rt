@@ -1,5 +1,4 @@
-// Answering a message over verdicts in lent words: 01's five steps, Init, Alive, ExtendedData, and what a Splice_Request and an
-// Abort_Request get. GetConfig is answered from the log, by whoever has it.
+// 01's five steps of answering over verdicts, Init, Alive, ExtendedData, and GetConfig from the log.
 use reading::numbers::number2;
 use recall_rows::Stand;
 use recall_rows::Test;

@@ -1,4 +1,5 @@
-// 01's work on verdicts in lent words: every row of the words is one. Records go behind the last one in the output buffer.
+// Ends on verdicts in words: followers, eviction, abort, close, those whose end has come.
+// Every row of the words is a verdict. Records go behind the last one in the output buffer.
 use recall_rows::Order;
 use recall_rows::Stand;
 use recall_rows::Test;

@@ -1,4 +1,5 @@
-// Instants over verdicts in lent words: who is on air, the time on air, starts, ends, and a tick's run over them. Each is found by a scan.
+// The tick on verdicts in words: who is on air, the next instant, starts, ends.
+// Each is found by a scan.
 use recall_rows::Order;
 use recall_rows::Stand;
 use recall_rows::Test;

@@ -1,4 +1,4 @@
-// 02, CR 12: the lent log of the engine that only remembers: its records, whether it is full, and a call put behind its last.
+// The lent log of the engine that only remembers: its records, when it is full, a call put behind the last.
 mod keeping;
 mod records;
 

@@ -1,5 +1,5 @@
-// 02, CR 12: at each call the kept calls are gone through once, from the first: what is carried from call to call, the four calls played onto
-// it, and the pass over a log.
+// What is carried from call to call, the four calls played onto it, and the pass over a log.
+// At each call the kept calls are gone through once, from the first.
 use reading::numbers::number2;
 use recall_answers::Carried;
 use recall_answers::Effect;

@@ -1,5 +1,6 @@
-// 01's checks b to f over verdicts in lent words, and the answers to a Splice_Request and to an Abort_Request. Every row of the words is
-// a verdict; the new session of an accepted request goes into a row behind them, which is the caller's to give.
+// Checks b to f on verdicts in words, and the answers to a Splice_Request and an Abort_Request.
+// Every row of the words is a verdict; the new session of an accepted request goes into a row behind them, which is the caller's to
+// give.
 use recall_rows::Stand;
 use recall_rows::Test;
 use rules::Ninths;

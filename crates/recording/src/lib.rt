@@ -1,5 +1,6 @@
-// 02, CR 14: the types of the definitions of bench recordings, for the checker to share. The definitions stand in specs/Recording, and what
-// holds of them in proofs/Recordings: there is no code here.
+// No code: what a bench recording is and what its checker finds (02, CR 14).
+// The types of the definitions, for the checker to share. The definitions stand in specs/Recording, and what holds of them in
+// proofs/Recordings.
 
 // The entry that some bytes begin with: a call or a record, with its length; a cut one; another mark; or none.
 pub enum Entry {

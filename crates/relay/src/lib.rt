@@ -1,5 +1,6 @@
-// 02, CR 7: a section of cues is read and passed on: to every initialised connection, from 0 upward, a Cue_Request with its time, or
-// General_Response 117 for a bad one; each record behind the last. The connections' states are read, and nothing is changed.
+// A section of cues passed on: the records, connection by connection (02, CR 7).
+// To every initialised connection, from 0 upward, a Cue_Request with its time, or General_Response 117 for a bad one; each record
+// behind the last. The connections' states are read, and nothing is changed.
 use memory::WORDS;
 use rules::Cue;
 use rules::Link;

@@ -1,5 +1,5 @@
-// 02, CR 12: the engine that only remembers, as a program: the card program's input from standard input, this engine's output. It goes on
-// after 13.
+// The engine that only remembers as a program: the card program's input, its own output (02, CR 12).
+// It goes on after 13.
 mod stdio;
 
 use reading::LONGEST;

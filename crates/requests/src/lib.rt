@@ -1,4 +1,4 @@
-// Requests: a Splice_Request's answer with eviction and acceptance, and an Abort_Request's.
+// A Splice_Request's eviction and acceptance, and an Abort_Request's answer.
 use checks::Where;
 use memory::WORDS;
 use memory::Which;

@@ -1,5 +1,6 @@
-// 02, CR 9: the card with a rolling counter. Beside the splicer's memory the caller lends two words: whether the instant was given, and the
-// last reading. Open, close and message are the engine's; an instant and readings stand in place of ticks.
+// The card with a rolling counter: an instant and readings in place of ticks (02, CR 9).
+// Beside the splicer's memory the caller lends two words: whether the instant was given, and the last reading. Open, close and
+// message are the engine's.
 use engine::Answer;
 use memory::BYTES;
 use memory::WORDS;

@@ -1,5 +1,5 @@
-// 02, CR 8: the rows of the driver's page, read from the words in which what ended is kept. The page itself is the
-// door's.
+// The rows of the driver's page, from the words in which what ended is kept (02, CR 8).
+// The page itself is the door's.
 ghost use mathlib.Core.Path.{_≡_};
 ghost use Prim.Native.Nat.{_+_, _≤_, _<_};
 ghost use lib.ListN.{length};

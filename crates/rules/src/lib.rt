@@ -1,5 +1,5 @@
-// The types that code and definitions share: units, a parsed message, a session and its end, a refusal.
-// The rules of document 01 stand in specs/; this file only declares what they speak of.
+// Documents 01 and 02 as definitions, in specs/, and the types that they share with code.
+// This file only declares what they speak of: units, a parsed message, a session and its end, a refusal.
 
 // A wire time counts microseconds.
 pub struct Micros(pub u64);

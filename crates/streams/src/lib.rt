@@ -1,5 +1,6 @@
-// 02, CR 1: a request's list of streams in lent memory: read from its bytes, and written. Both begin with PcrPID.
-// Words: how many, the PcrPID, and 16 rows of eight words. Bytes: what the structures keep, all streams' in a row.
+// A request's list of streams in lent memory: read from its bytes, and written (02, CR 1).
+// Both begin with PcrPID. Words: how many, the PcrPID, and 16 rows of eight words. Bytes: what the structures keep, all streams' in a
+// row.
 use reading::numbers::number2;
 use reading::numbers::number4;
 use reading::structures::Streams;

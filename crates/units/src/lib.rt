@@ -1,3 +1,4 @@
+// Microseconds, ticks and ninths, converted in one place.
 // 01, Bytes: "A wire time counts microseconds and a Duration counts 90 kHz ticks, and one becomes the other only here".
 ghost use mathlib.Core.Path.{_≡_};
 ghost use Prim.Native.Nat.{_*_, _^_, _<_};

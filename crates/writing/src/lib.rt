@@ -1,5 +1,6 @@
-// The record writers: "Every outgoing message goes directly behind the last one in the output buffer". Each is lent the rest of
-// that buffer from the current length on and writes its record at the start; every other byte stays as it was.
+// One writer for each kind of record.
+// "Every outgoing message goes directly behind the last one in the output buffer". Each is lent the rest of that buffer from the
+// current length on and writes its record at the start; every other byte stays as it was.
 use rules::Micros;
 use rules::Ticks;
 use rules::WireTime;
