@@ -18,6 +18,17 @@ mkdir -p "$made"
 CARGO_TARGET_DIR=target/model cargo build --quiet --release --offline --manifest-path model/Cargo.toml
 target/model/release/model scenario --tables "$made" model/scenarios/*.txt
 
+# a field of many bytes goes over several lines
+for file in "$made"/Case-*.antt; do
+    awk '
+    { while (length($0) > 140 && match($0, /^ *\+\+ "[0-9A-F]+"$/)) { print substr($0, 1, 136) "\""; $0 = "    ++ \"" substr($0, 137) } print }
+    ' "$file" >"$file.new" && mv "$file.new" "$file"
+done
+
+# what Scenario hands on, in two lines
+first='digit, hex, row, input, output, joined, eachStep, eachRun'
+second='outputs, oneMore, callsIn, size, same, fits, Written'
+
 # the modules of rules that the card program and what is read of cues are written in, those of demand 3 and of CR 13, and their definitions
 modules='Lists Bytes Reading State Records Ends Instants Answers Crc Cues Calls Card'
 names=$({
@@ -33,8 +44,10 @@ names=$({
     echo 'use Prim.Native.Nat.{ℕ}'
     for m in $modules; do echo "use Rattle.rules.specs.$m"; done
     for m in History Airing; do echo "use Rattle.demands.specs.$m"; done
-    echo 'use Rattle.cases.specs.Scenario.{digit, hex, row, input, output, joined, eachStep, eachRun, outputs, oneMore, callsIn, size, same, fits, Written}'
-    printf '\nunfoldable pub computing : ℕ\nunfolding digit hex row input output joined eachStep eachRun outputs oneMore callsIn size same fits Written %s\ncomputing = 0\n' "${names% }"
+    for words in "$first" "$second"; do echo "use Rattle.cases.specs.Scenario.{$words}"; done
+    printf '\nunfoldable pub computing : ℕ\n'
+    echo "unfolding $first $second $names" | tr -d ',' | fold -s -w 132 | sed 's/ *$//; 2,$s/^/    /'
+    echo 'computing = 0'
 } >"$made/Computing.antt"
 for file in Scenario $hand; do cp "$specs/$file.antt" "$made/"; done
 (cd "$made" && printf 'pub mod %s\n' Scenario Computing $hand && ls | sed -n 's/^\(Case-.*\)\.antt$/pub mod \1/p') >target/cases.list
