@@ -17,28 +17,22 @@ use Rattle.rules.specs.declared.Message.{Message}
 use Rattle.rules.specs.declared.Session.{Session}
 use Rattle.rules.specs.declared.Past.{Past}
 use Rattle.rules.specs.Units.{toMicros}
-use Rattle.rules.specs.Bytes.{nameIn, padded, sameName, written, value}
+use Rattle.rules.specs.Bytes.{nameIn, padded, sameName, value}
 use Rattle.rules.specs.Reading.{nobody, channelName, hardwarePlace, hardwareLength, hardwareIn, longestHardware, lengthIn, badInit, isRead, read}
 use Rattle.rules.specs.State.{Queue, Splicer, empty, noHardware, linkOf, isKept, recent}
-use Rattle.rules.specs.Records.{Record, General, InitResponse, AliveResponse, ConfigResponse, ExtendedFound, ExtendedNone, recordBytes}
+use Rattle.rules.specs.Records.{Record, General, InitResponse, AliveResponse, ConfigResponse, ExtendedFound, ExtendedNone}
 use Rattle.rules.specs.Ends.{Turn}
 use Rattle.rules.specs.Answers.{Answered, Spliced, says, turns, splices, initResult, initialised, answerInit, airState, airID, aliveResponse, configResponse, latest, extendedResponse, answerRead, answer}
 use Rattle.rules.proofs.Bytes.{nameIn-twice}
-use Rattle.rules.proofs.Records.{sizeOf, Roomy, length-record}
-use Rattle.rules.specs.Calls.{longestSection}
 use Rattle.reading.proofs.Laws.{hardware-fits}
 use Rattle.memory.specs.Memory.{Memory, see, Now, linked, nameSize, nameBytes, nameOf, keptBytes, keptOf, Stored, Holds, Whole, shown}
 use Rattle.memory.proofs.Laws.{memory-same, kept-at}
-use Rattle.memory.proofs.Names.{name-short}
 use Rattle.ends.specs.Does.{Turns}
-use Rattle.ends.proofs.Laws.{tells-none, tells-one}
+use Rattle.writing.specs.Puts.{Puts}
+use Rattle.ends.proofs.Laws.{tells-none, tells-first}
 use Rattle.requests.specs.declared.Given.{Given}
 use Rattle.requests.specs.Made.{Splices}
 use Rattle.answers.specs.Gives.{Says, Gives, unmoved, barred}
-
--- one record at the start of the buffer
-pub says-one : {e : List ℕ} {x : Record} {n : ℕ} {o : List ℕ} → Roomy x → n ≡ sizeOf x → o ≡ written e 0 (recordBytes x) → Says x e n o
-says-one {x = x} h k b = tells-one {len = 0} {r = x} (omega (arith, k, length-record x h)) b
 
 -- ## The whole, from a part
 
@@ -99,12 +93,12 @@ module _ {b x : List ℕ} (s : Stored b) (e : x ≡ nameBytes b) where
   stored-padded = e ∙ s .name ∙ ap (λ (y : List ℕ). padded (nameIn y)) (sym e)
 
 -- r: the result for the name that was asked; x, y: the stored name; o: the buffer that held e
-module _ {m b : List ℕ} (w : Whole m b) (c revision : ℕ) (d : List ℕ) {e : List ℕ} {r : ℕ} {asked x y o : List ℕ}
+module _ {m b : List ℕ} (w : Whole m b) (c revision : ℕ) (d : List ℕ) {e : List ℕ} {r len : ℕ} {asked x y o : List ℕ}
     (ra : asked ≡ channelName d) (rx : x ≡ nameBytes b) (ry : y ≡ nameBytes b) (rr : r ≡ initResult revision asked (nameIn x))
-    (ro : o ≡ written e 0 (recordBytes (InitResponse c r (nameIn y)))) where
+    (ro : Puts (InitResponse c r (nameIn y)) e len o) where
   -- n, p: the words and the bytes after the answer
   init-gives : {n p : List ℕ} → Whole n p → shown n p ≡ cond (eqb r 100) (initialised c (hardwareIn d) (shown m b)) (shown m b) →
-      see n .ringEnd ≡ see m .ringEnd → Gives (answerInit c revision d (shown m b)) (see m .ringEnd) e (unmoved 44) n p o
+      see n .ringEnd ≡ see m .ringEnd → Gives (answerInit c revision d (shown m b)) (see m .ringEnd) e (unmoved len) n p o
   unfolding answerInit
   init-gives k h g =
       let p : r ≡ initResult revision (channelName d) (nameOf b) = rr ∙ ap₂ (λ (y z : List ℕ). initResult revision y (nameIn z)) ra rx in
@@ -113,13 +107,13 @@ module _ {m b : List ℕ} (w : Whole m b) (c revision : ℕ) (d : List ℕ) {e :
         splicer = h ∙ ap (λ (k : ℕ). cond (eqb k 100) (initialised c (hardwareIn d) (shown m b)) (shown m b)) p;
         ring = g;
         moved = refl;
-        tells = says-one (omega (arith, name-short (nameBytes b), stored-length (w .bytes) refl)) refl
-            (ro ∙ ap₂ (λ (k : ℕ) (z : List ℕ). written e 0 (recordBytes (InitResponse c k (nameIn z)))) p ry);
+        tells =
+            subst (λ (z : Record). Says z e len o) (ap₂ (λ (k : ℕ) (z : List ℕ). InitResponse c k (nameIn z)) p ry) (tells-first ro);
       }
 
   -- "else 100 and initialised"; x: the Hardware_Config that is kept
   pub init-done : {n p x : List ℕ} → r ≡ 100 → Now n (linked c Initialised (see m)) → x ≡ hardwareIn d → Holds p (nameOf b) (set (keptOf b) c x) →
-      Gives (answerInit c revision d (shown m b)) (see m .ringEnd) e (unmoved 44) n p o
+      Gives (answerInit c revision d (shown m b)) (see m .ringEnd) e (unmoved len) n p o
   init-done i h q k =
       let same = k .kept ∙ ap (λ (y : List ℕ). set (keptOf b) c y) q in
       init-gives (record { words = h .form; bytes = k .stored })
@@ -127,7 +121,7 @@ module _ {m b : List ℕ} (w : Whole m b) (c revision : ℕ) (d : List ℕ) {e :
       ∙ rw (eq-eqb r 100 i)) (ap (λ (s : Memory). s .ringEnd) (h .is))
 
   -- "A failed later Init leaves the connection initialised."
-  pub init-failed : (r ≡ 100 → ⊥) → Gives (answerInit c revision d (shown m b)) (see m .ringEnd) e (unmoved 44) m b o
+  pub init-failed : (r ≡ 100 → ⊥) → Gives (answerInit c revision d (shown m b)) (see m .ringEnd) e (unmoved len) m b o
   init-failed i = init-gives w (rw (ne-eqb r 100 i)) refl
 
 -- ## Alive
@@ -143,14 +137,14 @@ air-some [] h = absurd (omega arith)
 air-some (s ∷ k) h = (refl, refl)
 
 -- x, i: the State and the SessionID; n: the clock; t: its time
-pub alive-says : (m b : List ℕ) (c : ℕ) {e o : List ℕ} {x i : ℕ} {n : Ninths} {t : Micros} →
+pub alive-says : (m b : List ℕ) (c : ℕ) {e o : List ℕ} {x i len : ℕ} {n : Ninths} {t : Micros} →
     (airState (see m .queue .started) ≡ x) × (airID (see m .queue .started) ≡ i) → n .0 ≡ see m .clock → t ≡ toMicros n →
-    o ≡ written e 0 (recordBytes (AliveResponse c 100 x i (t .0))) → Says (aliveResponse c (shown m b)) e 26 o
+    Puts (AliveResponse c 100 x i (t .0)) e len o → Says (aliveResponse c (shown m b)) e len o
 unfolding aliveResponse
-alive-says m b c {e} {o} {x} {i} a p q h =
+alive-says m b c {e} {o} {x} {i} {len} a p q h =
     let time : ℕ → ℕ = λ k. toMicros (record { 0 = k }) .0 in
-    says-one tt refl
-    (rw (a .0, a .1) (h ∙ ap (λ (y : ℕ). written e 0 (recordBytes (AliveResponse c 100 x i y))) (ap (λ (y : Micros). y .0) q ∙ ap time p)))
+    rw (a .0, a .1)
+    (subst (λ (y : ℕ). Says (AliveResponse c 100 x i y) e len o) (ap (λ (y : Micros). y .0) q ∙ ap time p) (tells-first h))
 
 -- ## 02, CR 8: what ended lately
 
@@ -159,16 +153,16 @@ module _ (c x : ℕ) (q : Queue) {y : Past} (f : y ≡ latest c x (recent (q .la
   found-kept : {t : Bool} → isKept y ≡ t → isKept (latest c x (recent (q .lately))) ≡ t
   found-kept h = ap isKept (sym f) ∙ h
 
-  pub extended-none : {e o : List ℕ} → y .result ≡ 0 → o ≡ written e 0 (recordBytes (ExtendedNone c x)) → Says (extendedResponse c x q) e 14 o
+  pub extended-none : {e o : List ℕ} {len : ℕ} → y .result ≡ 0 → Puts (ExtendedNone c x) e len o → Says (extendedResponse c x q) e len o
   unfolding extendedResponse
-  extended-none h b = rw (found-kept {t = false} (rw (eq-eqb (y .result) 0 h))) (says-one tt refl b)
+  extended-none h b = rw (found-kept {t = false} (rw (eq-eqb (y .result) 0 h))) (tells-first b)
 
-  pub extended-found : {e o : List ℕ} → (y .result ≡ 0 → ⊥) → o ≡ written e 0 (recordBytes (ExtendedFound c x (y .event) (y .result) (y .played))) →
-      Says (extendedResponse c x q) e 30 o
+  pub extended-found : {e o : List ℕ} {len : ℕ} → (y .result ≡ 0 → ⊥) → Puts (ExtendedFound c x (y .event) (y .result) (y .played)) e len o →
+      Says (extendedResponse c x q) e len o
   unfolding extendedResponse
-  extended-found {e} h b =
+  extended-found {e} {o} {len} h b =
       rw (found-kept {t = true} (rw (ne-eqb (y .result) 0 h)))
-      (says-one tt refl (b ∙ ap (λ (z : Past). written e 0 (recordBytes (ExtendedFound c x (z .event) (z .result) (z .played)))) f))
+      (subst (λ (z : Past). Says (ExtendedFound c x (z .event) (z .result) (z .played)) e len o) f (tells-first b))
 
 -- ## GetConfig
 
@@ -179,15 +173,11 @@ kept-short {b} s c low e =
     omega (arith, l, length-take (2 + lengthIn (keptBytes c b)) (keptBytes c b), s .kept c low .fits)
 
 -- x: the stored name; h: what the connection keeps; y: the section
-module _ {m b : List ℕ} (w : Whole m b) (c : ℕ) {e o x : List ℕ} (h y : List ℕ) (rx : x ≡ nameBytes b) (rh : h ≡ getD (keptOf b) c noHardware)
-    (short : length h ≤ longestHardware) (brief : length y ≤ longestSection) where
-  pub config-says : {n : ℕ} → n ≡ 42 + length h + length y → o ≡ written e 0 (recordBytes (ConfigResponse c 100 (nameIn x) h y)) →
-      Says (configResponse c y (shown m b)) e n o
-  unfolding configResponse
-  config-says k g =
-      says-one (omega (arith, name-short (nameBytes b), stored-length (w .bytes) refl), subst (λ (z : List ℕ). length z ≤ longestHardware) rh short, brief)
-      (omega (arith, k, ap length rh))
-      (g ∙ ap₂ (λ (z u : List ℕ). written e 0 (recordBytes (ConfigResponse c 100 (nameIn z) u y))) rx rh)
+pub config-says : (m b : List ℕ) (c : ℕ) {e o x : List ℕ} {len : ℕ} (h y : List ℕ) → x ≡ nameBytes b → h ≡ getD (keptOf b) c noHardware →
+    Puts (ConfigResponse c 100 (nameIn x) h y) e len o → Says (configResponse c y (shown m b)) e len o
+unfolding configResponse
+config-says m b c {e} {o} {len = len} h y rx rh g =
+    subst (λ (z : Record). Says z e len o) (ap₂ (λ (z u : List ℕ). ConfigResponse c 100 (nameIn z) u y) rx rh) (tells-first g)
 
 -- ## A message that is read
 

@@ -49,12 +49,12 @@ fn answer_init(
         (now (out .entry)) (unmoved r) (now (m .exit)) (now (b .exit)) (now (out .exit)) ⌝ }
 {
     let r = init_result(revision, reading::channel_name(d), memory::name(&*b));
-    writing::init_response(&mut *out, conn as u64, r, memory::name(&*b));
+    let len = writing::init_response(&mut *out, conn as u64, r, memory::name(&*b));
     if r == 100 {
         memory::set_link(&mut *m, conn, Link::Initialised);
         memory::keep(&mut *b, conn, reading::hardware(d));
     }
-    44
+    len
 }
 
 // Alive: State 2 and the SessionID on air, or State 1 and 0xFFFFFFFF; the present clock.
@@ -65,12 +65,10 @@ fn answer_alive(m: &[u64], b: &[u8], conn: u32, out: &mut [u8]) -> usize
 {
     let time = units::to_micros(memory::clock(m));
     if memory::count(m, Which::Started) == 0 {
-        writing::alive_response(&mut *out, conn as u64, 1, 0xFFFFFFFF, time);
-        return 26;
+        return writing::alive_response(&mut *out, conn as u64, 1, 0xFFFFFFFF, time);
     }
     let air = memory::load(m, Which::Started, 0);
-    writing::alive_response(&mut *out, conn as u64, 2, air.id, time);
-    26
+    writing::alive_response(&mut *out, conn as u64, 2, air.id, time)
 }
 
 // 02, CR 8: the latest end of the number that is kept, "121 with the SessionID alone where none is kept".
@@ -81,8 +79,7 @@ fn answer_extended(m: &[u64], conn: u32, x: u32, out: &mut [u8]) -> usize
 {
     let e = memory::recall(m, conn as u64, x as u64);
     if e.result == 0 {
-        writing::extended_none(&mut *out, conn as u64, x as u64);
-        return 14;
+        return writing::extended_none(&mut *out, conn as u64, x as u64);
     }
     writing::extended_found(
         &mut *out,
@@ -91,8 +88,7 @@ fn answer_extended(m: &[u64], conn: u32, x: u32, out: &mut [u8]) -> usize
         e.event,
         e.result,
         e.played,
-    );
-    30
+    )
 }
 
 // 02, CR 6: "the caller lends both sections .. and gets back the one on air, as part of what was lent": the very slice, by whether a
@@ -117,16 +113,14 @@ fn answer_config(m: &[u64], b: &[u8], conn: u32, section: &[u8], out: &mut [u8])
         (now (out .entry)) r (now (out .exit)) ⌝ }
 {
     let hardware = reading::structure(memory::kept(b, conn));
-    writing::config_response(&mut *out, conn as u64, memory::name(b), hardware, section);
-    42 + hardware.len() + section.len()
+    writing::config_response(&mut *out, conn as u64, memory::name(b), hardware, section)
 }
 
 fn general(conn: u32, result: u16, out: &mut [u8]) -> usize
     requires { ⌜ 10 ≤ length (now out) ⌝ }
     ensures { λ r. ⌜ Says (General conn result) (now (out .entry)) r (now (out .exit)) ⌝ }
 {
-    writing::general_response(&mut *out, conn as u64, result);
-    10
+    writing::general_response(&mut *out, conn as u64, result)
 }
 
 // A message of that list; "5. Not readable: General_Response 123." section: the map on air.

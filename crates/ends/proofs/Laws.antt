@@ -6,7 +6,7 @@ use mathlib.Core.Logic.{inl, inr}
 use mathlib.Core.List.{List, [], _∷_, _++_, map}
 use Prim.Native.Nat.{ℕ, zero, suc, _+_, _-_, _≤_, _<_}
 use native.Mathlib.Omega.{arith}
-use lib.ListN.{length, take, getD, length-append}
+use lib.ListN.{length, take, getD, length-append, length-take, length-drop}
 use borrow.Rule.Slice.PartMut.{putMid, midOf}
 use types.Run.{OneOf}
 use denote.Enum.Declared.{tagOf}
@@ -29,7 +29,6 @@ use Rattle.rules.proofs.Bounds.{longest}
 use Rattle.rules.proofs.Count.{length-split, length-removeAt}
 use Rattle.rules.proofs.Lately.{remembered-append}
 use Rattle.rules.proofs.Sound.{played-now}
-use Rattle.rules.proofs.Records.{sizeOf, Roomy, length-record}
 use Rattle.rules.proofs.Size.{weight-none, weight-ended, weight-all}
 use Rattle.rules.proofs.Written.{written-none, written-part, output-append, output-one, written-output}
 use Rattle.rules.proofs.Walk.{walk-none, walk-more}
@@ -37,6 +36,7 @@ use Rattle.memory.specs.declared.Which.{Which}
 use Rattle.memory.specs.declared.Which.the-variants.{Waiting, Started}
 use Rattle.memory.specs.Memory.{Memory, see, sessions, listOf, listed, queued, relisted, recalling, Form, Now}
 use Rattle.memory.proofs.Laws.{sessions-list, same-words}
+use Rattle.writing.specs.Puts.{Puts}
 use Rattle.ends.specs.Does.{Playable, Writable, Completing, roomFor, Tells, Turns, Does, oneEnded, chainEnded, endingAt}
 use Rattle.ends.specs.Does.{airEnded, theirsEnded}
 
@@ -56,11 +56,12 @@ module _ {e : List ℕ} {len : ℕ} where
         bytes = b ∙ ap (written e len) (sym (output-one r));
       }
 
-  -- one record, written at the start of the part behind the last
-  pub tells-part : {r : Record} {y : List ℕ} → Roomy r → len + sizeOf r ≤ length e → y ≡ written (midOf len (length e - len) e) 0 (recordBytes r) →
-      Tells e len (r ∷ []) (len + sizeOf r) (putMid len (length e - len) e y)
-  tells-part {r} {y} f h w =
-      tells-one (omega (arith, length-record r f)) (written-part len e y (recordBytes r) (omega (arith, length-record r f)) w)
+  -- one record, put at the start of the part behind the last
+  pub tells-part : {r : Record} {n : ℕ} {y : List ℕ} → len ≤ length e → Puts r (midOf len (length e - len) e) n y →
+      Tells e len (r ∷ []) (len + n) (putMid len (length e - len) e y)
+  tells-part {r} {y = y} h w =
+      tells-one (omega (arith, w .count))
+      (written-part len e y (recordBytes r) (omega (arith, w .count, simp (length-take, length-drop) at (w .fits))) (w .bytes))
 
   -- some records, and others behind them
   pub tells-then : {rs ss : List Record} {n to : ℕ} {o o′ : List ℕ} → len + length (output rs) ≤ length e →
@@ -74,17 +75,16 @@ module _ {e : List ℕ} {len : ℕ} where
         bytes = b .bytes ∙ ap (λ (l : List ℕ). written l n (output ss)) (a .bytes) ∙ written-output e len rs ss n h (a .count);
       }
 
+-- one record, put at the start of the buffer
+pub tells-first : {e : List ℕ} {r : Record} {n : ℕ} {o : List ℕ} → Puts r e n o → Tells e 0 (r ∷ []) n o
+tells-first w = tells-one (omega (arith, w .count)) (w .bytes)
+
 -- ## Work on the queue
 
 module _ {e : List ℕ} {len : ℕ} where
   -- nothing is done
   pub turns-quiet : {m : List ℕ} → Form m → Turns e len (quiet (see m .queue)) (see m) m len e
   turns-quiet f = record { shows = record { form = f; is = refl }; tells = tells-none }
-
-  -- one record is written, and the words m show q
-  pub turns-writes : {r : Record} {q : Queue} {s : Memory} {m : List ℕ} {to : ℕ} {o : List ℕ} → Now m (queued q s) →
-      to ≡ len + length (recordBytes r) → o ≡ written e len (recordBytes r) → Turns e len (writes (r ∷ []) q) s m to o
-  turns-writes n c b = record { shows = n; tells = tells-one c b }
 
   -- one piece of work, and another from where it ended
   pub turns-then : (t : Turn) (f : Queue → Turn) {s : Memory} {m m′ : List ℕ} {n to : ℕ} {o o′ : List ℕ} →
@@ -99,6 +99,11 @@ module _ {e : List ℕ} {len : ℕ} where
   pub turns-over : {t : Turn} {q : Queue} {s : Memory} {m : List ℕ} {to : ℕ} {o : List ℕ} → Turns e len t (queued q s) m to o →
       Turns e len t s m to o
   turns-over v = record { shows = v .shows; tells = v .tells }
+
+-- one record is put at the start of the buffer, and the words m show what they showed
+pub turns-first : {e : List ℕ} {r : Record} {m : List ℕ} {n : ℕ} {o : List ℕ} → Form m → Puts r e n o →
+    Turns e 0 (writes (r ∷ []) (see m .queue)) (see m) m n o
+turns-first f w = record { shows = record { form = f; is = refl }; tells = tells-first w }
 
 -- ## An end
 

@@ -37,8 +37,7 @@ fn write_complete(how: Ending, x: Session, out: &mut [u8], len: usize) -> usize
         flag = 1;
         played = units::to_ticks(x.played);
     }
-    writing::splice_complete(&mut out[len..], x.conn, result, x.id, flag, played);
-    len + 23
+    len + writing::splice_complete(&mut out[len..], x.conn, result, x.id, flag, played)
 }
 
 // The result of an end, whoever ends.
@@ -78,8 +77,7 @@ fn write_end(m: &mut [u64; WORDS], how: Ending, x: Session, out: &mut [u8], len:
     let Ending::Response(result) = how else {
         return write_complete(how, x, &mut *out, len);
     };
-    writing::splice_response(&mut out[len..], x.conn, result, x.id);
-    len + 14
+    len + writing::splice_response(&mut out[len..], x.conn, result, x.id)
 }
 
 // The start of x fails, and those that follow it end.

@@ -69,9 +69,9 @@ fn launch(m: &mut [u64; WORDS], x: Session, out: &mut [u8], len: usize) -> usize
 {
     if may_start(&*m, x) {
         let to = oust(&mut *m, x, &mut *out, len);
-        writing::splice_complete(&mut out[to..], x.conn, 100, x.id, 0, Ticks(0));
+        let end = to + writing::splice_complete(&mut out[to..], x.conn, 100, x.id, 0, Ticks(0));
         memory::push(&mut *m, x);
-        to + 23
+        end
     } else {
         ends::fail(&mut *m, x, &mut *out, len)
     }

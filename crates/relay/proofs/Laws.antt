@@ -19,12 +19,12 @@ use Rattle.rules.specs.declared.Cue.{Cue}
 use Rattle.rules.specs.declared.Cue.the-variants.{At, Timeless, Silent, Bad}
 use Rattle.rules.specs.declared.WireTime.{WireTime}
 use Rattle.rules.specs.Lists.{put, keep}
-use Rattle.rules.specs.Bytes.{written}
 use Rattle.rules.specs.State.{isInitialised}
-use Rattle.rules.specs.Records.{Record, General, recordBytes, output}
+use Rattle.rules.specs.Records.{Record, General, output}
 use Rattle.rules.specs.Cues.{initialisedOnes, passedTo, complainedTo, cueRecords}
 use Rattle.rules.proofs.Written.{length-written}
 use Rattle.rules.proofs.Cued.{cue-weight}
+use Rattle.writing.specs.Puts.{Puts}
 use Rattle.ends.specs.Does.{Tells}
 use Rattle.ends.proofs.Laws.{tells-none, tells-part, tells-then}
 use Rattle.relay.specs.Room.{cueRoom}
@@ -75,23 +75,22 @@ module _ {e : List ℕ} {len : ℕ} (t : WireTime) (l : List ℕ) (c : ℕ) wher
   unfolding cueRecords
   tells-silent f = rw f tells-none
 
-  pub tells-bad : {x : Cue} {y : List ℕ} → x ≡ Bad → len + cueRoom 1 ≤ length e
-      → y ≡ written (midOf len (length e - len) e) 0 (recordBytes (General c 117))
-      → Tells e len (cueRecords x t l (c ∷ [])) (len + 10) (putMid len (length e - len) e y)
+  pub tells-bad : {x : Cue} {n : ℕ} {y : List ℕ} → x ≡ Bad → len ≤ length e → Puts (General c 117) (midOf len (length e - len) e) n y
+      → Tells e len (cueRecords x t l (c ∷ [])) (len + n) (putMid len (length e - len) e y)
   unfolding cueRecords
-  tells-bad f h w = rw f (tells-part tt (omega arith) w)
+  tells-bad f h w = rw f (tells-part h w)
 
   -- the third way of the match in `write_cue`
-  pub tells-passed : (x : Cue) {y : List ℕ} → OneOf (0 ∷ 1 ∷ []) (tagOf cue.the-type x) → length l ≤ 512 → len + cueRoom 1 ≤ length e
-      → y ≡ written (midOf len (length e - len) e) 0 (recordBytes (passedTo t l c))
-      → Tells e len (cueRecords x t l (c ∷ [])) (len + (18 + length l)) (putMid len (length e - len) e y)
+  pub tells-passed : (x : Cue) {n : ℕ} {y : List ℕ} → OneOf (0 ∷ 1 ∷ []) (tagOf cue.the-type x) → len ≤ length e
+      → Puts (passedTo t l c) (midOf len (length e - len) e) n y
+      → Tells e len (cueRecords x t l (c ∷ [])) (len + n) (putMid len (length e - len) e y)
   unfolding cueRecords
-  tells-passed (At p) k s h w = tells-part s (omega arith) w
-  tells-passed Timeless k s h w = tells-part s (omega arith) w
-  tells-passed Silent (inl k) s h w = absurd (omega arith)
-  tells-passed Silent (inr k) s h w = absurd (omega arith)
-  tells-passed Bad (inl k) s h w = absurd (omega arith)
-  tells-passed Bad (inr k) s h w = absurd (omega arith)
+  tells-passed (At p) k h w = tells-part h w
+  tells-passed Timeless k h w = tells-part h w
+  tells-passed Silent (inl k) h w = absurd (omega arith)
+  tells-passed Silent (inr k) h w = absurd (omega arith)
+  tells-passed Bad (inl k) h w = absurd (omega arith)
+  tells-passed Bad (inr k) h w = absurd (omega arith)
 
 -- ## What is written for them
 

@@ -36,14 +36,8 @@ fn write_cue(
 {
     match cue {
         Cue::Silent => len,
-        Cue::Bad => {
-            writing::general_response(&mut out[len..], conn as u64, 117);
-            len + 10
-        }
-        _ => {
-            writing::cue_request(&mut out[len..], conn as u64, time, section);
-            len + (18 + section.len())
-        }
+        Cue::Bad => len + writing::general_response(&mut out[len..], conn as u64, 117),
+        _ => len + writing::cue_request(&mut out[len..], conn as u64, time, section),
     }
 }
 

@@ -20,8 +20,7 @@ use Rattle.rules.specs.declared.Ending.{Ending}
 use Rattle.rules.specs.declared.Ending.the-variants.{Complete, Response}
 use Rattle.rules.specs.Lists.{All, bit, put, keep, omit, some, count, place, insertAt, removeAt}
 use Rattle.rules.specs.State.{Queue, empty, is, startsAt, startsAfter, holds, Sorted, rememberedAll}
-use Rattle.rules.specs.Bytes.{written}
-use Rattle.rules.specs.Records.{Record, SpliceResponse, AbortResponse, recordBytes}
+use Rattle.rules.specs.Records.{Record, SpliceResponse, AbortResponse}
 use Rattle.rules.specs.Ends.{Turn, writes, andThen, ended, past, endings, dismissed, evictedAt, evicted, cancelled, aborted}
 use Rattle.rules.specs.Answers.{startOf, sessionAt, requested, full}
 use Rattle.rules.specs.Answers.{spliceResult, inserted, accepts, accepted, later, Spliced, grants, declines, answerSplice, answerAbort}
@@ -35,8 +34,7 @@ use Rattle.rules.proofs.Timed.{evicted-free}
 use Rattle.rules.proofs.Moves.{evicted-none, later-behind}
 use Rattle.rules.proofs.Checks.{passed-all}
 use Rattle.rules.proofs.Room.{room-more, sixty-four}
-use Rattle.rules.proofs.Records.{length-record}
-use Rattle.rules.proofs.Size.{weight-one, evicted-lean}
+use Rattle.rules.proofs.Size.{evicted-lean}
 use Rattle.rules.proofs.Bounds.{never, start-early}
 use Rattle.rules.proofs.Sound.{early}
 use Rattle.places.specs.Places.{startsFrom}
@@ -44,23 +42,19 @@ use Rattle.memory.specs.declared.Which.{Which}
 use Rattle.memory.specs.declared.Which.the-variants.{Waiting, Started}
 use Rattle.memory.specs.Memory.{Memory, Form, see, sessions, listOf, relisted, onward, Now, placesOf, OfFour, Storable}
 use Rattle.ends.specs.Does.{Turns, Does, oneEnded, chainEnded, endingAt}
-use Rattle.ends.proofs.Laws.{tells-part, tells-then, turns-quiet, turns-writes, turns-then}
+use Rattle.ends.proofs.Laws.{tells-part, tells-then, turns-quiet, turns-first, turns-then}
 use Rattle.checks.specs.declared.Where.{Where}
 use Rattle.checks.specs.declared.Where.the-variants.{In}
 use Rattle.checks.specs.Found.{startIn, whereIn}
 use Rattle.checks.proofs.Laws.{HeldAt, held-at, held-alone, start-known, taken-at, free-at, taken-within, result-none}
+use Rattle.writing.specs.Puts.{Puts}
 use Rattle.requests.specs.declared.Way.{Way}
 use Rattle.requests.specs.declared.Given.{Given}
 use Rattle.requests.specs.Made.{MadeWay, Splices}
 
--- one record of 14 bytes is all
-says-one : {x : Record} {m e o : List ℕ} → length (recordBytes x) ≡ 14 → Form m → o ≡ written e 0 (recordBytes x) →
-    Does (writes (x ∷ [])) 0 m e 14 m o
-says-one l f b = turns-writes (record { form = f; is = refl }) (omega (arith, l)) b
-
 -- one that shifted no place
-abbrev nothing-moved : Given
-nothing-moved = record { len = 14; moved = 0 }
+abbrev unmoved : ℕ → Given
+unmoved len = record { len = len; moved = 0 }
 
 -- ## Way for a new session
 
@@ -139,13 +133,13 @@ module _ {t : ℕ} {m e n o : List ℕ} {r : Way} (a : MadeWay t m e r n o) wher
       ap (λ (i : ℕ). length w - i) (a .goes) ∙ later-behind t w (still t m n (a .does) k)
 
 -- the new one waits before the first that starts later, its 100 stands behind the ends, and those that start later have moved
-pub accept-turns : (new : Session) {m e n o n′ ys : List ℕ} {r : Way} {moves : ℕ} → MadeWay (new .start .0) m e r n o → Sorted (see m .queue .waiting) →
+pub accept-turns : (new : Session) {m e n o n′ ys : List ℕ} {r : Way} {moves k : ℕ} → MadeWay (new .start .0) m e r n o → Sorted (see m .queue .waiting) →
     Now n′ (onward true (relisted Waiting (insertAt (r .at) new (sessions Waiting n)) (see n))) →
-    moves ≡ length (sessions Waiting n) - r .at → length o ≡ length e → r .len + 14 ≤ length e →
-    ys ≡ written (midOf (r .len) (length o - r .len) o) 0 (recordBytes (accepts new)) →
-    Splices (grants new (see m .queue)) m e (record { len = r .len + 14; moved = moves }) n′ (putMid (r .len) (length o - r .len) o ys)
+    moves ≡ length (sessions Waiting n) - r .at → length o ≡ length e → r .len ≤ length e →
+    Puts (accepts new) (midOf (r .len) (length o - r .len) o) k ys →
+    Splices (grants new (see m .queue)) m e (record { len = r .len + k; moved = moves }) n′ (putMid (r .len) (length o - r .len) o ys)
 unfolding accepted andThen inserted later
-accept-turns new {m} {e} {n} {o} {n′} {ys} {r} a j v c k h b =
+accept-turns new {m} {e} {n} {o} {n′} {ys} {r} a j v c l h b =
     let t = new .start .0 in
     let put : (i : ℕ) → Memory → Memory = λ i s. onward true (relisted Waiting (insertAt i new (s .queue .waiting)) s) in
     let after : Memory → Memory = λ s. put (place (startsAfter t) (s .queue .waiting)) s in
@@ -154,7 +148,7 @@ accept-turns new {m} {e} {n} {o} {n′} {ys} {r} a j v c k h b =
           record {
             shows = record { form = v .form; is = v .is ∙ ap (λ (i : ℕ). put i (see n)) (a .goes) ∙ ap after (a .does .shows .is) };
             tells =
-                tells-then (omega (arith, a .does .tells .count)) (a .does .tells) (tells-part {r = accepts new} tt (omega arith) b);
+                tells-then (omega (arith, a .does .tells .count)) (a .does .tells) (tells-part (omega arith) b);
           };
       moved = c ∙ way-later a j ∙ ap (λ (s : Memory). count (startsAfter t) (s .queue .waiting)) (a .does .shows .is);
     }
@@ -218,16 +212,15 @@ module _ (c : ℕ) (r : Request) (m : List ℕ) {new : Session} {n : ℕ} (a : n
         Splices (answerSplice (see m .clock) c r q) m e g m′ o
     splice-accepted {m′} {g} h d = subst (λ (t : Spliced). Splices t m e g m′ o) answer-is (rw (eq-eqb n 100 h) d)
 
-    pub splice-refused : (n ≡ 100 → ⊥) → Form m → o ≡ written e 0 (recordBytes (SpliceResponse c n (r .id))) →
-        Splices (answerSplice (see m .clock) c r q) m e nothing-moved m o
-    splice-refused h k b =
-        subst (λ (t : Spliced). Splices t m e nothing-moved m o) answer-is
-        (rw (ne-eqb n 100 h) (record { does = says-one (length-record (SpliceResponse c n (r .id)) tt) k b; moved = refl }))
+    pub splice-refused : {len : ℕ} → (n ≡ 100 → ⊥) → Form m → Puts (SpliceResponse c n (r .id)) e len o →
+        Splices (answerSplice (see m .clock) c r q) m e (unmoved len) m o
+    splice-refused {len} h k b =
+        subst (λ (t : Spliced). Splices t m e (unmoved len) m o) answer-is
+        (rw (ne-eqb n 100 h) (record { does = turns-first k b; moved = refl }))
 
 -- b: its start is not known
-pub splice-unknown : (c : ℕ) (r : Request) (m : List ℕ) {e o : List ℕ} → startIn c (r .start) (see m .queue) ≡ Never →
-    Form m → o ≡ written e 0 (recordBytes (SpliceResponse c 121 (r .id))) →
-    Splices (answerSplice (see m .clock) c r (see m .queue)) m e nothing-moved m o
+pub splice-unknown : (c : ℕ) (r : Request) (m : List ℕ) {e o : List ℕ} {len : ℕ} → startIn c (r .start) (see m .queue) ≡ Never →
+    Form m → Puts (SpliceResponse c 121 (r .id)) e len o → Splices (answerSplice (see m .clock) c r (see m .queue)) m e (unmoved len) m o
 splice-unknown c r m h f b =
     let new = requested c r (see m .queue) in
     splice-refused c r m refl (result-none (see m .clock) c r new (see m .queue) h) (λ i. omega (arith, i)) f b
@@ -329,33 +322,32 @@ pub found-in : (c x : ℕ) (q : Queue) {w : Where} {v u : Which} {i : ℕ} → w
 found-in c x q {i = i} f g h = held-at c x q (sym f ∙ g ∙ ap (λ (z : Which). In z i) h)
 
 module _ (c x : ℕ) {m e : List ℕ} (f : Form m) where
-  pub abort-unknown : {o : List ℕ} → holds c x (see m .queue) ≡ false → o ≡ written e 0 (recordBytes (AbortResponse c 121 x)) →
-      Does (answerAbort c x) 0 m e 14 m o
+  pub abort-unknown : {len : ℕ} {o : List ℕ} → holds c x (see m .queue) ≡ false → Puts (AbortResponse c 121 x) e len o →
+      Does (answerAbort c x) 0 m e len m o
   unfolding answerAbort
-  abort-unknown h b = rw h (says-one (length-record (AbortResponse c 121 x) tt) f b)
+  abort-unknown h b = rw h (turns-first f b)
 
   -- 100, the end of the session where the number is held, and its followers' ends
-  module _ {i to : ℕ} {n o o′ : List ℕ} (k : Holding (see m .clock) (see m .queue)) (l : 14 ≤ length e)
-      (b : o ≡ written e 0 (recordBytes (AbortResponse c 100 x))) where
+  module _ {i len to : ℕ} {n o o′ : List ℕ} (k : Holding (see m .clock) (see m .queue)) (b : Puts (AbortResponse c 100 x) e len o) where
     abort-turns : (v : Which) (how : Ending) → HeldAt c x (see m .queue) v i →
-        oneEnded v i how (see m .queue) ≡ cancelled (is c x) (see m .queue) → Does (chainEnded v i how 116) 14 m o to n o′ →
+        oneEnded v i how (see m .queue) ≡ cancelled (is c x) (see m .queue) → Does (chainEnded v i how 116) len m o to n o′ →
         Does (answerAbort c x) 0 m e to n o′
     unfolding answerAbort aborted chainEnded
     abort-turns v how h g d =
         let q = see m .queue in
-        let y = AbortResponse c 100 x in
+        let t = turns-first f b in
         let s = getD (listOf v q) i empty in
         let z = and-both (eqb c (s .conn)) (eqb x (s .id)) (h .passes) in
         let conn = eqb-true c (s .conn) (z .0) in
         let id = eqb-true x (s .id) (z .1) in
         rw (h .known)
-        (turns-then (writes (y ∷ []) q) (aborted c x) (omega (arith, weight-one y tt)) (says-one (length-record y tt) f b)
-        (subst (λ (t : Turn). Turns o 14 t (see m) n to o′) (λ j. andThen (g j) (dismissed 116 (sym conn j) (sym id j))) d))
+        (turns-then (writes (AbortResponse c 100 x ∷ []) q) (aborted c x) (omega (arith, t .tells .count, b .fits)) t
+        (subst (λ (u : Turn). Turns o len u (see m) n to o′) (λ j. andThen (g j) (dismissed 116 (sym conn j) (sym id j))) d))
 
-    pub abort-waiting : HeldAt c x (see m .queue) Waiting i → Does (chainEnded Waiting i (Response 116) 116) 14 m o to n o′ →
+    pub abort-waiting : HeldAt c x (see m .queue) Waiting i → Does (chainEnded Waiting i (Response 116) 116) len m o to n o′ →
         Does (answerAbort c x) 0 m e to n o′
     abort-waiting h = abort-turns Waiting (Response 116) h (waiting-cancelled c x (see m .queue) i (k .once) h)
 
-    pub abort-started : HeldAt c x (see m .queue) Started i → Does (chainEnded Started i (endingAt i 116) 116) 14 m o to n o′ →
+    pub abort-started : HeldAt c x (see m .queue) Started i → Does (chainEnded Started i (endingAt i 116) 116) len m o to n o′ →
         Does (answerAbort c x) 0 m e to n o′
     abort-started h = abort-turns Started (endingAt i 116) h (started-cancelled c x (see m .queue) i (k .once) h)

@@ -61,8 +61,7 @@ fn accept(m: &mut [u64; WORDS], new: Session, at: usize, out: &mut [u8]) -> Give
     let way = make_way(&mut *m, new.start, at, &mut *out);
     let len = way.len;
     let moved = memory::accept(&mut *m, way.at, new);
-    writing::splice_response(&mut out[len..], new.conn, 100, new.id);
-    let to = len + 14;
+    let to = len + writing::splice_response(&mut out[len..], new.conn, 100, new.id);
     Given {
         len: to,
         moved: moved,
@@ -84,8 +83,8 @@ pub fn answer_splice(m: &mut [u64; WORDS], conn: u64, r: Request, out: &mut [u8]
     let start = r.start;
     let when = checks::start_of(&*m, conn, start);
     let When::At(t) = when else {
-        writing::splice_response(&mut *out, conn, 121, r.id as u64);
-        return Given { len: 14, moved: 0 };
+        let len = writing::splice_response(&mut *out, conn, 121, r.id as u64);
+        return Given { len: len, moved: 0 };
     };
     let new = checks::session_at(t, conn, r);
     let at = memory::find_start(&*m, t);
@@ -93,8 +92,8 @@ pub fn answer_splice(m: &mut [u64; WORDS], conn: u64, r: Request, out: &mut [u8]
     if n == 100 {
         return accept(&mut *m, new, at, &mut *out);
     }
-    writing::splice_response(&mut *out, conn, n, r.id as u64);
-    Given { len: 14, moved: 0 }
+    let len = writing::splice_response(&mut *out, conn, n, r.id as u64);
+    Given { len: len, moved: 0 }
 }
 
 // The answer to an Abort_Request: 121, or 100, the session's end and its followers' ends. No number is held twice: one search finds it.
@@ -107,12 +106,11 @@ pub fn answer_abort(m: &mut [u64; WORDS], conn: u64, id: u64, out: &mut [u8]) ->
 {
     let held = checks::where_held(&*m, conn, id);
     let Where::In(which, at) = held else {
-        writing::abort_response(&mut *out, conn, 121, id);
-        return 14;
+        return writing::abort_response(&mut *out, conn, 121, id);
     };
-    writing::abort_response(&mut *out, conn, 100, id);
+    let len = writing::abort_response(&mut *out, conn, 100, id);
     match which {
-        Which::Waiting => ends::end_waiting(&mut *m, at, 116, &mut *out, 14),
-        Which::Started => ends::end_started(&mut *m, at, 116, &mut *out, 14),
+        Which::Waiting => ends::end_waiting(&mut *m, at, 116, &mut *out, len),
+        Which::Started => ends::end_started(&mut *m, at, 116, &mut *out, len),
     }
 }

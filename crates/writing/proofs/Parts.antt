@@ -2,15 +2,18 @@
 -- Rests on the definitions of the bytes alone: `bytes` at a given width computes.
 use mathlib.Core.Path.{_≡_, refl, sym, ap, _∙_}
 use mathlib.Core.List.{List, [], _∷_, _++_, append-assoc}
-use Prim.Native.Nat.{ℕ, _+_, _/_, _≤_, _<_}
+use Prim.Native.Nat.{ℕ, _+_, _-_, _/_, _≤_, _<_}
 use native.Mathlib.Omega.{arith}
 use native.Mathlib.Numerals.{add-one}
 use lib.ListN.{length, take, set, getD, length-append}
 use lib.Seq.{length-take-le, take-suc}
+use borrow.Rule.Slice.PartMut.{putMid, midOf}
 use Rattle.rules.specs.Bytes.{bytes, nameIn, padded, written}
 use Rattle.rules.specs.Records.{General, InitResponse, AliveResponse, SpliceComplete, ConfigResponse, ExtendedFound, CueRequest, framed, timeBytes, endDescriptor, recordBytes}
-use Rattle.rules.proofs.Written.{written-set, written-more, length-written}
+use Rattle.rules.proofs.Bytes.{length-bytes}
+use Rattle.rules.proofs.Written.{written-set, written-more, written-next, length-written}
 use Rattle.writing.specs.Header.{headerOf}
+use Rattle.writing.specs.Puts.{Wrote}
 
 pub header-parts : (c id n r : ℕ) → bytes 1 0x52 ++ bytes 1 c ++ bytes 2 id ++ bytes 2 n ++ bytes 2 r ++ bytes 2 0xFFFF ≡ headerOf c id n r
 unfolding headerOf bytes
@@ -69,6 +72,47 @@ config-parts c n name h m k l e =
     ∙ append-assoc (headerOf c 0x000B n 100) name (h ++ m)
     ∙ framed-header c 0x000B n 100 (name ++ (h ++ m)) (omega (arith, k, l, length-append name (h ++ m), length-append h m))
     ∙ ap (λ x. framed c 0x000B 100 (x ++ (h ++ m))) e
+
+-- ## A row of parts, each put directly behind the last
+
+-- l, which has n bytes, stands at the start of the buffer that held e
+pub record Row (e l : List ℕ) (n : ℕ) (xs : List ℕ) : Type 0 where
+  pub is : xs ≡ written e 0 l
+  pub long : length l ≡ n
+
+module _ {e : List ℕ} where
+  pub row-first : (w x : ℕ) {xs : List ℕ} → xs ≡ written e 0 (bytes w x) → Row e (bytes w x) w xs
+  row-first w x p = record { is = p; long = length-bytes w x }
+
+  pub row-header : (c id n r : ℕ) {xs : List ℕ} → xs ≡ written e 0 (headerOf c id n r) → Row e (headerOf c id n r) 10 xs
+  row-header c id n r p = record { is = p; long = length-header c id n r }
+
+  -- the next part m, of k bytes
+  pub row-next : (m : List ℕ) {k : ℕ} → length m ≡ k → {l xs ys : List ℕ} {n : ℕ} → Row e l n xs → ys ≡ written (midOf n (length xs - n) xs) 0 m →
+      n + k ≤ length e → Row e (l ++ m) (n + k) (putMid n (length xs - n) xs ys)
+  row-next m {k} j {l} {xs} {ys} {n} v p h =
+      record {
+        is = written-next e 0 l m xs ys n (v .is) (omega (arith, v .long)) (omega arith) p;
+        long = omega (arith, v .long, length-append l m);
+      }
+
+  -- a number
+  pub row-bytes : (w x : ℕ) {l xs ys : List ℕ} {n : ℕ} → Row e l n xs → ys ≡ written (midOf n (length xs - n) xs) 0 (bytes w x) → n + w ≤ length e →
+      Row e (l ++ bytes w x) (n + w) (putMid n (length xs - n) xs ys)
+  row-bytes w x v p h = row-next (bytes w x) (length-bytes w x) v p h
+
+  -- all of them are k
+  pub row-wrote : {k l xs : List ℕ} {n r : ℕ} → Row e l n xs → l ≡ k → r ≡ n → n ≤ length e → Wrote k e r xs
+  row-wrote {k} {l} v q c h =
+      record { count = omega (arith, v .long, c, ap length q); fits = omega (arith, c); bytes = v .is ∙ ap (written e 0) q }
+
+pub length-time : (t : ℕ) → length (timeBytes t) ≡ 8
+unfolding bytes
+length-time t = refl
+
+pub length-end : (event ended played : ℕ) → length (endDescriptor event ended played) ≡ 16
+unfolding bytes
+length-end event ended played = refl
 
 -- a turn of a copy: one byte more of l
 pub copied : (e l o : List ℕ) (i : ℕ) → i < length l → length l ≤ length e → o ≡ written e 0 (take i l) →

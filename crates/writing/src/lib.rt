@@ -1,6 +1,6 @@
 // One writer for each kind of record.
 // "Every outgoing message goes directly behind the last one in the output buffer". Each is lent the rest of that buffer from the
-// current length on and writes its record at the start; every other byte stays as it was.
+// current length on, writes its record at the start and says how many bytes it took; every other byte stays as it was.
 use rules::Micros;
 use rules::Ticks;
 use rules::WireTime;
@@ -8,9 +8,10 @@ ghost use mathlib.Core.Path.{_≡_};
 ghost use Prim.Native.Nat.{_+_, _≤_};
 ghost use lib.ListN.{length};
 ghost use Rattle.rules.specs.Bytes.{bytes, written, nameIn, padded};
-ghost use Rattle.rules.specs.Records.{framed, timeBytes, endDescriptor, recordBytes};
+ghost use Rattle.rules.specs.Records.{framed, timeBytes, endDescriptor};
 ghost use Rattle.rules.specs.Records.{General, InitResponse, AliveResponse, SpliceResponse, SpliceComplete, AbortResponse, ConfigResponse, ExtendedFound, ExtendedNone, CueRequest};
 ghost use Rattle.writing.specs.Header.{headerOf, Turned};
+ghost use Rattle.writing.specs.Puts.{Wrote, Puts};
 
 // ---- parts of a record. "All numbers are big-endian."
 
@@ -72,10 +73,11 @@ pub fn copy(out: &mut [u8], name: &[u8])
     }
 }
 
-// The mark and the header; "in answers Result_Extension is 0xFFFF".
-fn header(out: &mut [u8], conn: u64, id: u16, size: u16, result: u16)
+// The mark and the header of a record with `size` bytes of data; "in answers Result_Extension is 0xFFFF". How many bytes the record has.
+fn header(out: &mut [u8], conn: u64, id: u16, size: u16, result: u16) -> usize
     requires { ⌜ 10 ≤ length (now out) ⌝ }
     ensures { λ _. ⌜ now (out .exit) ≡ written (now (out .entry)) 0 (headerOf conn id size result) ⌝ }
+    ensures length { λ r. ⌜ r ≡ 10 + size ⌝ }
 {
     put1(&mut *out, 0x52);
     put1(&mut out[1..], conn);
@@ -83,89 +85,99 @@ fn header(out: &mut [u8], conn: u64, id: u16, size: u16, result: u16)
     put2(&mut out[4..], size);
     put2(&mut out[6..], result);
     put2(&mut out[8..], 0xFFFF);
+    10 + size as usize
 }
 
 // A record whose data is a SessionID.
-fn session_response(out: &mut [u8], conn: u64, id: u16, result: u16, session: u64)
+fn session_response(out: &mut [u8], conn: u64, id: u16, result: u16, session: u64) -> usize
     requires { ⌜ 14 ≤ length (now out) ⌝ }
-    ensures { λ _. ⌜ now (out .exit) ≡ written (now (out .entry)) 0 (framed conn id result (bytes 4 session)) ⌝ }
+    ensures { λ r. ⌜ Wrote (framed conn id result (bytes 4 session)) (now (out .entry)) r (now (out .exit)) ⌝ }
 {
-    header(&mut *out, conn, id, 4, result);
+    let len = header(&mut *out, conn, id, 4, result);
     put4(&mut out[10..], session);
+    len
 }
 
 // ---- the records
 
-pub fn general_response(out: &mut [u8], conn: u64, result: u16)
+pub fn general_response(out: &mut [u8], conn: u64, result: u16) -> usize
     requires { ⌜ 10 ≤ length (now out) ⌝ }
-    ensures { λ _. ⌜ now (out .exit) ≡ written (now (out .entry)) 0 (recordBytes (General conn result)) ⌝ }
+    ensures { λ r. ⌜ Puts (General conn result) (now (out .entry)) r (now (out .exit)) ⌝ }
 {
-    header(out, conn, 0x0000, 0, result);
+    header(out, conn, 0x0000, 0, result)
 }
 
 // The name is the splicer's own 32 bytes, "with zeros behind the end"; Revision_Num is 2 whatever was asked.
-pub fn init_response(out: &mut [u8], conn: u64, result: u16, name: &[u8])
+pub fn init_response(out: &mut [u8], conn: u64, result: u16, name: &[u8]) -> usize
     requires { ⌜ 44 ≤ length (now out) ⌝ }
     requires { ⌜ length (now name) ≡ 32 ⌝ }
     requires { ⌜ now name ≡ padded (nameIn (now name)) ⌝ }
-    ensures { λ _.
-        ⌜ now (out .exit) ≡ written (now (out .entry)) 0 (recordBytes (InitResponse conn result (nameIn (now (name .entry))))) ⌝ }
+    ensures { λ r. ⌜ Puts (InitResponse conn result (nameIn (now (name .entry)))) (now (out .entry)) r (now (out .exit)) ⌝ }
 {
-    header(&mut *out, conn, 0x0002, 34, result);
+    let len = header(&mut *out, conn, 0x0002, 34, result);
     put2(&mut out[10..], 2);
     copy(&mut out[12..], name);
+    len
 }
 
 // An Alive_Request is always answered 100.
-pub fn alive_response(out: &mut [u8], conn: u64, state: u32, id: u64, time: Micros)
+pub fn alive_response(out: &mut [u8], conn: u64, state: u32, id: u64, time: Micros) -> usize
     requires { ⌜ 26 ≤ length (now out) ⌝ }
-    ensures { λ _. ⌜ now (out .exit) ≡ written (now (out .entry)) 0 (recordBytes (AliveResponse conn 100 state id (time .0))) ⌝ }
+    ensures { λ r. ⌜ Puts (AliveResponse conn 100 state id (time .0)) (now (out .entry)) r (now (out .exit)) ⌝ }
 {
-    header(&mut *out, conn, 0x0006, 16, 100);
+    let len = header(&mut *out, conn, 0x0006, 16, 100);
     put4(&mut out[10..], state as u64);
     put4(&mut out[14..], id);
     put_time(&mut out[18..], time);
+    len
 }
 
-pub fn splice_response(out: &mut [u8], conn: u64, result: u16, id: u64)
+pub fn splice_response(out: &mut [u8], conn: u64, result: u16, id: u64) -> usize
     requires { ⌜ 14 ≤ length (now out) ⌝ }
-    ensures { λ _. ⌜ now (out .exit) ≡ written (now (out .entry)) 0 (recordBytes (SpliceResponse conn result id)) ⌝ }
+    ensures { λ r. ⌜ Puts (SpliceResponse conn result id) (now (out .entry)) r (now (out .exit)) ⌝ }
 {
-    session_response(out, conn, 0x0008, result, id);
+    session_response(out, conn, 0x0008, result, id)
 }
 
 // SpliceTypeFlag is 0 for a start and 1 for an end; Bitrate is "always 0 here".
-pub fn splice_complete(out: &mut [u8], conn: u64, result: u16, id: u64, flag: u8, played: Ticks)
+pub fn splice_complete(
+    out: &mut [u8],
+    conn: u64,
+    result: u16,
+    id: u64,
+    flag: u8,
+    played: Ticks,
+) -> usize
     requires { ⌜ 23 ≤ length (now out) ⌝ }
-    ensures { λ _.
-        ⌜ now (out .exit) ≡ written (now (out .entry)) 0 (recordBytes (SpliceComplete conn result id flag (played .0))) ⌝ }
+    ensures { λ r. ⌜ Puts (SpliceComplete conn result id flag (played .0)) (now (out .entry)) r (now (out .exit)) ⌝ }
 {
-    header(&mut *out, conn, 0x0009, 13, result);
+    let len = header(&mut *out, conn, 0x0009, 13, result);
     put4(&mut out[10..], id);
     put1(&mut out[14..], flag as u64);
     put4(&mut out[15..], 0);
     put4(&mut out[19..], played.0 as u64);
+    len
 }
 
-pub fn abort_response(out: &mut [u8], conn: u64, result: u16, id: u64)
+pub fn abort_response(out: &mut [u8], conn: u64, result: u16, id: u64) -> usize
     requires { ⌜ 14 ≤ length (now out) ⌝ }
-    ensures { λ _. ⌜ now (out .exit) ≡ written (now (out .entry)) 0 (recordBytes (AbortResponse conn result id)) ⌝ }
+    ensures { λ r. ⌜ Puts (AbortResponse conn result id) (now (out .entry)) r (now (out .exit)) ⌝ }
 {
-    session_response(out, conn, 0x000F, result, id);
+    session_response(out, conn, 0x000F, result, id)
 }
 
 // 02, CR 7: a Cue_Request is no answer, so that its Result is 0xFFFF as Result_Extension is; the time's two numbers, and the section as it came.
-pub fn cue_request(out: &mut [u8], conn: u64, time: WireTime, section: &[u8])
+pub fn cue_request(out: &mut [u8], conn: u64, time: WireTime, section: &[u8]) -> usize
     requires { ⌜ length (now section) ≤ 512 ⌝ }
     requires { ⌜ 18 + length (now section) ≤ length (now out) ⌝ }
-    ensures { λ _.
-        ⌜ now (out .exit) ≡ written (now (out .entry)) 0
-        (recordBytes (CueRequest conn (time .seconds) (time .micros) (now (section .entry)))) ⌝ }
+    ensures { λ r.
+        ⌜ Puts (CueRequest conn (time .seconds) (time .micros) (now (section .entry))) (now (out .entry)) r (now (out .exit)) ⌝ }
 {
-    header(&mut *out, conn, 0x000C, 8 + section.len() as u16, 0xFFFF);
+    let len = header(&mut *out, conn, 0x000C, 8 + section.len() as u16, 0xFFFF);
     put4(&mut out[10..], time.seconds as u64);
     put4(&mut out[14..], time.micros as u64);
     copy(&mut out[18..], section);
+    len
 }
 
 // 02, CR 8: the descriptor: tag 0x01 and length 14, the identifier, and what is kept of the end.
@@ -181,37 +193,52 @@ fn put_end(out: &mut [u8], event: u64, ended: u64, played: u64)
     put4(&mut out[12..], played);
 }
 
-pub fn extended_found(out: &mut [u8], conn: u64, id: u64, event: u64, ended: u64, played: u64)
+pub fn extended_found(
+    out: &mut [u8],
+    conn: u64,
+    id: u64,
+    event: u64,
+    ended: u64,
+    played: u64,
+) -> usize
     requires { ⌜ 30 ≤ length (now out) ⌝ }
-    ensures { λ _. ⌜ now (out .exit) ≡ written (now (out .entry)) 0 (recordBytes (ExtendedFound conn id event ended played)) ⌝ }
+    ensures { λ r. ⌜ Puts (ExtendedFound conn id event ended played) (now (out .entry)) r (now (out .exit)) ⌝ }
 {
-    header(&mut *out, conn, 0x0004, 20, 100);
+    let len = header(&mut *out, conn, 0x0004, 20, 100);
     put4(&mut out[10..], id);
     put_end(&mut out[14..], event, ended, played);
+    len
 }
 
-pub fn extended_none(out: &mut [u8], conn: u64, id: u64)
+pub fn extended_none(out: &mut [u8], conn: u64, id: u64) -> usize
     requires { ⌜ 14 ≤ length (now out) ⌝ }
-    ensures { λ _. ⌜ now (out .exit) ≡ written (now (out .entry)) 0 (recordBytes (ExtendedNone conn id)) ⌝ }
+    ensures { λ r. ⌜ Puts (ExtendedNone conn id) (now (out .entry)) r (now (out .exit)) ⌝ }
 {
-    session_response(out, conn, 0x0004, 121, id);
+    session_response(out, conn, 0x0004, 121, id)
 }
 
 // 02, CR 6: the name, the Hardware_Config with its Length and the section, each directly behind the other. A GetConfig_Request is always
 // answered 100.
-pub fn config_response(out: &mut [u8], conn: u64, name: &[u8], hardware: &[u8], section: &[u8])
+pub fn config_response(
+    out: &mut [u8],
+    conn: u64,
+    name: &[u8],
+    hardware: &[u8],
+    section: &[u8],
+) -> usize
     requires { ⌜ 42 + (length (now hardware) + length (now section)) ≤ length (now out) ⌝ }
     requires { ⌜ (length (now hardware) ≤ 256) × (length (now section) ≤ 1024) ⌝ }
     requires { ⌜ length (now name) ≡ 32 ⌝ }
     requires { ⌜ now name ≡ padded (nameIn (now name)) ⌝ }
-    ensures { λ _.
-        ⌜ now (out .exit) ≡ written (now (out .entry)) 0
-        (recordBytes (ConfigResponse conn 100 (nameIn (now (name .entry))) (now (hardware .entry)) (now (section .entry)))) ⌝ }
+    ensures { λ r.
+        ⌜ Puts (ConfigResponse conn 100 (nameIn (now (name .entry))) (now (hardware .entry)) (now (section .entry)))
+        (now (out .entry)) r (now (out .exit)) ⌝ }
 {
     let at = 42 + hardware.len();
     let size = at + section.len() - 10;
-    header(&mut *out, conn, 0x000B, size as u16, 100);
+    let len = header(&mut *out, conn, 0x000B, size as u16, 100);
     copy(&mut out[10..], name);
     copy(&mut out[42..], hardware);
     copy(&mut out[at..], section);
+    len
 }

@@ -1,5 +1,5 @@
 -- The structure that is kept, in the record (`config-says`).
-use mathlib.Core.Path.{refl, _∙_}
+use mathlib.Core.Path.{_∙_}
 use native.Mathlib.Omega.{arith}
 use Rattle.answers.proofs.Laws.{stored-length, stored-padded, config-says, kept-short}
 use borrow.Author.Needs.{needs}
@@ -25,12 +25,6 @@ config-response-requires c κs =
     let h = kept-short b (s .args .conn) (s .pre .1 .0) (structure .ensures ∙ kept .ensures .0) in
     (omega (arith, h, s .pre .1 .1 .0, s .pre .1 .1 .1), ((h, s .pre .1 .1 .0), (stored-length b (name .ensures), stored-padded b (name .ensures))))
 
-add-result : tie.Need-add-result
-add-result c = search needs
-
-add-result-2 : tie.Need-add-result-2
-add-result-2 c = search needs
-
 same-length : tie.Need-same-length
 same-length c = search needs
 
@@ -41,10 +35,8 @@ returns c =
     let structure = c .before .before .before .before .before .structure in
     let config-response = c .before .before .config-response in
     let name = c .before .before .before .name in
-    let b = s .pre .0 .bytes in
-    let h = kept-short b (s .args .conn) (s .pre .1 .0) (structure .ensures ∙ kept .ensures .0) in
-    config-says (s .pre .0) (s .args .conn) (structure .result .now) (s .args .section .now) (name .ensures) (structure .ensures ∙ kept .ensures .0)
-    h (s .pre .1 .1 .0) refl (config-response .ensures)
+    config-says (s .args .m .now) (s .args .b .now) (s .args .conn) (structure .result .now) (s .args .section .now) (name .ensures)
+    (structure .ensures ∙ kept .ensures .0) (config-response .ensures)
 
 pub answer-config-spec : {M : Type 1} → statement M
 answer-config-spec =
@@ -54,7 +46,5 @@ answer-config-spec =
     structure-requires
     name-requires
     config-response-requires
-    add-result
-    add-result-2
     same-length
     returns)

@@ -1,6 +1,5 @@
--- One record (`says-one`).
-use mathlib.Core.Path.{refl}
-use Rattle.answers.proofs.Laws.{says-one}
+-- One record (`tells-first`).
+use Rattle.ends.proofs.Laws.{tells-first}
 use borrow.Author.Needs.{needs}
 use Rattle.answers.proofs.general.Statement.{statement}
 use Rattle.answers.proofs.general.Tie as tie
@@ -12,7 +11,7 @@ same-length : tie.Need-same-length
 same-length c = search needs
 
 returns : tie.Need-returns
-returns c = says-one tt refl (c .before .before .general-response .ensures)
+returns c = tells-first (c .before .before .general-response .ensures)
 
 pub general-spec : {M : Type 1} → statement M
 general-spec = tie.close (tie.spec general-response-requires same-length returns)

@@ -49,7 +49,7 @@ returns c =
     (λ w. rw (w .4, w .5, w .6, w .3 .ensures) (sym (ap (λ (h : Ending). ended h x) (w .1 .given .1))))
     (λ w. rw (w .1, w .2, w .3) (sym (ap (λ (h : Ending). ended h x) (failing (s .args .how) (s .pre .1 .0) (w .0 .keys2)))))
     (k .came) in
-    rw (← q) (tells-part tt (s .pre .1 .1) (c .before .before .splice-complete .ensures))
+    rw (← q) (tells-part (omega (arith, s .pre .1 .1)) (c .before .before .splice-complete .ensures))
 
 pub write-complete-spec : {M : Type 1} → statement M
 write-complete-spec =

@@ -50,7 +50,7 @@ returns-2 c =
     let keep = c .before .before .before .before .before .before .before in
     let s = keep .before .before .before in
     end-done (s .args .how) (s .args .x) (s .args .m .now) (keep .keep-end .ensures)
-    (rw (how .given .1) (tells-part tt (omega arith) (c .before .before .splice-response .ensures)))
+    (rw (how .given .1) (tells-part (omega arith) (c .before .before .splice-response .ensures)))
 
 pub write-end-spec : {M : Type 1} → statement M
 write-end-spec =

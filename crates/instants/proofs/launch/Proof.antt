@@ -2,6 +2,8 @@
 -- fails (`launched-off`).
 use mathlib.Core.Path.{sym, _∙_}
 use native.Mathlib.Omega.{arith}
+use Rattle.rules.specs.Records.{SpliceComplete}
+use Rattle.rules.proofs.Records.{length-record}
 use Rattle.memory.specs.Memory.{see}
 use Rattle.ends.proofs.Laws.{tells-part}
 use Rattle.instants.proofs.Starts.{on-placed, on-room, launched-on, launched-off}
@@ -38,6 +40,15 @@ splice-complete-requires c κs =
     let s = out .before .before .before .before .before .before .before .before in
     omega (arith, on-room (s .args .x) (out .oust .ensures) (s .pre .1 .1 .1))
 
+add-end : tie.Need-add-end
+add-end c =
+    let wrote = c .before .before in
+    let out = wrote .before .before .before .before in
+    let s = out .before .before .before .before .before .before .before .before in
+    let x = s .args .x in
+    let long = length-record (SpliceComplete (x .conn) 100 (x .id) 0 0) tt in
+    omega (arith, on-room x (out .oust .ensures) (s .pre .1 .1 .1), wrote .splice-complete .ensures .count, long)
+
 push-requires : tie.Need-push-requires
 push-requires c κs =
     let out = c .before .before .before .before .before .before .before in
@@ -46,12 +57,6 @@ push-requires c κs =
     let f = sym (may .before .may-start .ensures) ∙ may .if1 .taken in
     let d = out .oust .ensures in
     (d .shows .form, (on-placed (s .args .x) d f (s .pre .1 .0 .0), s .pre .1 .0 .1))
-
-add-result : tie.Need-add-result
-add-result c =
-    let out = c .before .before .before .before .before .before .before .before in
-    let s = out .before .before .before .before .before .before .before .before in
-    omega (arith, on-room (s .args .x) (out .oust .ensures) (s .pre .1 .1 .1))
 
 fail-requires : tie.Need-fail-requires
 fail-requires c κs = let s = c .before .before .before .before .before .before .before in (s .pre .0, omega (arith, s .pre .1 .1 .1))
@@ -69,7 +74,7 @@ returns c =
     let room = s .pre .1 .1 .1 in
     let wrote = c .before .before .before .before .splice-complete in
     launched-on (s .args .x) d f room (c .push .ensures)
-    (tells-part tt (omega (arith, on-room (s .args .x) d room)) (wrote .ensures))
+    (tells-part (omega (arith, on-room (s .args .x) d room)) (wrote .ensures))
 
 same-length-2 : tie.Need-same-length-2
 same-length-2 c = search needs
@@ -90,8 +95,8 @@ launch-spec =
     part-splice-complete-start
     part-splice-complete-end
     splice-complete-requires
+    add-end
     push-requires
-    add-result
     fail-requires
     same-length
     returns

@@ -1,5 +1,6 @@
 -- `write_cue`: nothing, a General_Response or a Cue_Request behind what is written (`tells-silent`, `tells-bad`, `tells-passed`).
 use Rattle.relay.proofs.Laws.{tells-silent, tells-bad, tells-passed}
+use native.Mathlib.Omega.{arith}
 use borrow.Author.Needs.{needs}
 use Rattle.relay.proofs.write_cue.Statement.{statement}
 use Rattle.relay.proofs.write_cue.Tie as tie
@@ -40,9 +41,6 @@ cue-request-requires c κs = search needs
 add-result-2 : tie.Need-add-result-2
 add-result-2 c = search needs
 
-add-result-3 : tie.Need-add-result-3
-add-result-3 c = search needs
-
 returns : tie.Need-returns
 returns c = let a = c .before .before .before .before .args in tells-silent (a .time) (a .section .now) (a .conn) (c .enum-told .given .1)
 
@@ -53,7 +51,8 @@ returns-2 : tie.Need-returns-2
 returns-2 c =
     let told = c .before .before .before .before in
     let s = told .before .before .before .before in
-    tells-bad (s .args .time) (s .args .section .now) (s .args .conn) (told .enum-told2 .given .1) (s .pre .1) (c .before .before .general-response .ensures)
+    tells-bad (s .args .time) (s .args .section .now) (s .args .conn) (told .enum-told2 .given .1) (omega (arith, s .pre .1))
+    (c .before .before .general-response .ensures)
 
 same-length-2 : tie.Need-same-length-2
 same-length-2 c = search needs
@@ -62,7 +61,8 @@ returns-3 : tie.Need-returns-3
 returns-3 c =
     let keys = c .before .before .before .before in
     let s = keys .before .before .before in
-    tells-passed (s .args .time) (s .args .section .now) (s .args .conn) (s .args .cue) (keys .match .keys3) (s .pre .0) (s .pre .1) (c .before .before .cue-request .ensures)
+    tells-passed (s .args .time) (s .args .section .now) (s .args .conn) (s .args .cue) (keys .match .keys3) (omega (arith, s .pre .1))
+    (c .before .before .cue-request .ensures)
 
 pub write-cue-spec : {M : Type 1} → statement M
 write-cue-spec =
@@ -80,7 +80,6 @@ write-cue-spec =
     part-cue-request-end
     cue-request-requires
     add-result-2
-    add-result-3
     returns
     same-length
     returns-2

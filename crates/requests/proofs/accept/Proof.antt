@@ -1,6 +1,6 @@
 -- The new session goes where the way ends, and its 100 is written behind the ends (`accept-turns`).
 -- Rests on what `make_way` promises: it leaves room for both (`way-lean`).
-use Prim.Native.Nat.{_+_, _≤_}
+use Prim.Native.Nat.{_≤_}
 use native.Mathlib.Omega.{arith}
 use lib.ListN.{length}
 use Rattle.requests.proofs.Laws.{way-lean, way-within, accept-turns}
@@ -57,7 +57,7 @@ returns c =
     let made = put .before .before .before .before in
     let s = made .before .before .before .before in
     let w = made .make-way .ensures in
-    let room : made .make-way .result .len + 14 ≤ length (s .args .out .now) = omega (arith, way-lean w, s .pre .1 .1 .1 .1 .1) in
+    let room : made .make-way .result .len ≤ length (s .args .out .now) = omega (arith, way-lean w, s .pre .1 .1 .1 .1 .1) in
     accept-turns (s .args .new) w (s .pre .1 .0 .timed .sorted) (put .accept .ensures .0) (put .accept .ensures .1)
     (made .make-way .kept .1 .1 .1 .0) room (wrote .splice-response .ensures)
 

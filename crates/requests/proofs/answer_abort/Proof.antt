@@ -2,6 +2,8 @@
 -- Rests on where the number is held, once (`found-in`).
 use mathlib.Core.Path.{sym, _∙_}
 use native.Mathlib.Omega.{arith}
+use Rattle.rules.specs.Records.{AbortResponse}
+use Rattle.rules.proofs.Records.{length-record}
 use Rattle.rules.proofs.Sound.{few-wait}
 use Rattle.memory.specs.declared.Which.the-variants.{Started}
 use Rattle.memory.specs.Memory.{see}
@@ -53,7 +55,8 @@ end-waiting-requires c κs =
     let m = s .args .m .now in
     let e = looked .where-held .ensures in
     let h = found-in (s .args .conn) (s .args .id) (see m .queue) e (found .held .given .1) (way .enum-told2 .given .1) in
-    (s .pre .0, (omega (arith, h .within), omega (arith, few-wait (s .pre .1 .0), s .pre .1 .1 .1, wrote .abort-response2 .kept .0)))
+    let k = length-record (AbortResponse (s .args .conn) 100 (s .args .id)) tt in
+    (s .pre .0, (omega (arith, h .within), omega (arith, few-wait (s .pre .1 .0), s .pre .1 .1 .1, wrote .abort-response2 .kept .0, k, wrote .abort-response2 .ensures .count)))
 
 enum-told-3 : tie.Need-enum-told-3
 enum-told-3 c = search needs
@@ -69,7 +72,8 @@ end-started-requires c κs =
     let e = looked .where-held .ensures in
     let h = found-in (s .args .conn) (s .args .id) (see m .queue) e (found .held .given .1) (way .enum-told3 .given .1) in
     let p = playable Started m (s .pre .1 .0) in
-    (s .pre .0, (omega (arith, h .within), (p, omega (arith, few-wait (s .pre .1 .0), s .pre .1 .1 .1, wrote .abort-response2 .kept .0))))
+    let k = length-record (AbortResponse (s .args .conn) 100 (s .args .id)) tt in
+    (s .pre .0, (omega (arith, h .within), (p, omega (arith, few-wait (s .pre .1 .0), s .pre .1 .1 .1, wrote .abort-response2 .kept .0, k, wrote .abort-response2 .ensures .count))))
 
 same-length-2 : tie.Need-same-length-2
 same-length-2 c = search needs
@@ -85,7 +89,7 @@ returns-2 c =
     let m = s .args .m .now in
     let e = looked .where-held .ensures in
     let h = found-in (s .args .conn) (s .args .id) (see m .queue) e (found .held .given .1) (way .enum-told2 .given .1) in
-    abort-waiting (s .args .conn) (s .args .id) (s .pre .0) (s .pre .1 .0) (omega (arith, s .pre .1 .1 .1))
+    abort-waiting (s .args .conn) (s .args .id) (s .pre .0) (s .pre .1 .0)
     (wrote .abort-response2 .ensures) h (done .end-waiting .ensures)
 
 same-length-3 : tie.Need-same-length-3
@@ -102,7 +106,7 @@ returns-3 c =
     let m = s .args .m .now in
     let e = looked .where-held .ensures in
     let h = found-in (s .args .conn) (s .args .id) (see m .queue) e (found .held .given .1) (way .enum-told3 .given .1) in
-    abort-started (s .args .conn) (s .args .id) (s .pre .0) (s .pre .1 .0) (omega (arith, s .pre .1 .1 .1))
+    abort-started (s .args .conn) (s .args .id) (s .pre .0) (s .pre .1 .0)
     (wrote .abort-response2 .ensures) h (done .end-started .ensures)
 
 pub answer-abort-spec : {M : Type 1} → statement M

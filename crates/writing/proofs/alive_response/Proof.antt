@@ -1,15 +1,6 @@
--- `alive_response` meets its contract: the header and three parts of data (`written-next`), which are the record (`alive-parts`).
-use mathlib.Core.Path.{ap, _∙_}
-use mathlib.Core.List.{_++_}
+-- `alive_response` meets its contract: the header and three parts of data (`row-next`), which are the record (`alive-parts`).
 use native.Mathlib.Omega.{arith}
-use lib.ListN.{length, length-append}
-use Prim.Native.Nat.{_≤_}
-use Rattle.rules.specs.Bytes.{bytes, written}
-use Rattle.rules.proofs.Bytes.{length-bytes}
-use Rattle.rules.proofs.Written.{written-next}
-use Rattle.writing.specs.Header.{headerOf}
-use Rattle.rules.specs.Records.{timeBytes}
-use Rattle.writing.proofs.Parts.{length-header, alive-parts}
+use Rattle.writing.proofs.Parts.{alive-parts, length-time, row-bytes, row-header, row-next, row-wrote}
 use borrow.Author.Needs.{needs}
 use Rattle.writing.proofs.alive_response.Statement.{statement}
 use Rattle.writing.proofs.alive_response.Tie as tie
@@ -58,21 +49,16 @@ same-length c = search needs
 
 returns : tie.Need-returns
 returns c =
-    let s = c .before .before .before .before .before .before .before .before .before .before .before .before .before .before .before .before .before in
-    let e = s .args .out .now in
-    let room : 26 ≤ length e = omega (arith, s .pre) in
-    let b0 = headerOf (s .args .conn) 0x0006 16 100 in
-    let b1 = bytes 4 (s .args .state) in
-    let b2 = bytes 4 (s .args .id) in
-    let b3 = timeBytes (s .args .time .0) in
-    let c0 = c .before .before .before .before .before .before .before .before .before .before .before .before .before .before .header in
-    let c1 = c .before .before .before .before .before .before .before .before .before .before .put4 in
-    let c2 = c .before .before .before .before .before .before .put42 in
-    let c3 = c .before .before .put-time in
-    let w1 = written-next e 0 b0 b1 (c0 .last .0) (c1 .last .0) 10 (c0 .ensures) (simp length-header) (simp length-bytes (omega arith)) (c1 .ensures) in
-    let w2 = written-next e 0 (b0 ++ b1) b2 _ (c2 .last .0) 14 w1 (simp (length-append, length-header, length-bytes)) (simp length-bytes (omega arith)) (c2 .ensures) in
-    let w3 = written-next e 0 (b0 ++ b1 ++ b2) b3 _ (c3 .last .0) 18 w2 (simp (length-append, length-header, length-bytes)) (simp (length-append, length-bytes) (omega arith)) (c3 .ensures) in
-    w3 ∙ ap (written e 0) (alive-parts (s .args .conn) (s .args .state) (s .args .id) (s .args .time .0))
+    let p3 = c .before .before in
+    let p2 = p3 .before .before .before .before in
+    let p1 = p2 .before .before .before .before in
+    let p0 = p1 .before .before .before .before in
+    let s = p0 .before .before .before in
+    let w0 = row-header (s .args .conn) 0x0006 16 100 (p0 .header .ensures .0) in
+    let w1 = row-bytes 4 (s .args .state) w0 (p1 .put4 .ensures) (omega (arith, s .pre)) in
+    let w2 = row-bytes 4 (s .args .id) w1 (p2 .put42 .ensures) (omega (arith, s .pre)) in
+    let w3 = row-next _ (length-time (s .args .time .0)) w2 (p3 .put-time .ensures) (omega (arith, s .pre)) in
+    row-wrote w3 (alive-parts (s .args .conn) (s .args .state) (s .args .id) (s .args .time .0)) (p0 .header .ensures .1) (s .pre)
 
 pub alive-response-spec : {M : Type 1} → statement M
 alive-response-spec =

@@ -1,13 +1,9 @@
--- The header, the name, the structure and the section (`written-next`), which are the record (`config-parts`).
-use mathlib.Core.Path.{_≡_, ap, _∙_}
-use mathlib.Core.List.{_++_}
+-- The header, the name, the structure and the section (`row-next`), which are the record (`config-parts`).
+use mathlib.Core.Path.{_≡_, refl}
 use native.Mathlib.Omega.{arith}
-use lib.ListN.{length, length-append}
-use Prim.Native.Nat.{_+_, _-_, _≤_}
-use Rattle.rules.specs.Bytes.{written}
-use Rattle.rules.proofs.Written.{written-next}
-use Rattle.writing.specs.Header.{headerOf}
-use Rattle.writing.proofs.Parts.{length-header, config-parts}
+use Prim.Native.Nat.{_+_, _-_}
+use lib.ListN.{length}
+use Rattle.writing.proofs.Parts.{config-parts, row-header, row-next, row-wrote}
 use borrow.Author.Needs.{needs}
 use Rattle.writing.proofs.config_response.Statement.{statement}
 use Rattle.writing.proofs.config_response.Tie as tie
@@ -68,27 +64,21 @@ same-length c = search needs
 
 returns : tie.Need-returns
 returns c =
-    let s = c .before .before .before .before .before .before .before .before .before .before .before .before .before .before .before .before .before .before .before .before in
-    let header = c .before .before .before .before .before .before .before .before .before .before .before .before .before .before .header in
-    let copy = c .before .before .before .before .before .before .before .before .before .before .copy in
-    let copy2 = c .before .before .before .before .before .before .copy2 in
-    let copy3 = c .before .before .copy3 in
-    let e = s .args .out .now in
+    let p3 = c .before .before in
+    let p2 = p3 .before .before .before .before in
+    let p1 = p2 .before .before .before .before in
+    let p0 = p1 .before .before .before .before in
+    let s = p0 .before .before .before .before .before .before in
     let name = s .args .name .now in
     let h = s .args .hardware .now in
     let m = s .args .section .now in
-    let at = 42 + length h in
-    let size = at + length m - 10 in
-    let fits : 42 + (length h + length m) ≤ length e = s .pre .0 in
     let long : length name ≡ 32 = s .pre .1 .1 .0 in
-    let b0 = headerOf (s .args .conn) 0x000B size 100 in
-    let l0 = length-header (s .args .conn) 0x000B size 100 in
-    let l1 = length-append b0 name in
-    let l2 = length-append (b0 ++ name) h in
-    let w1 = written-next e 0 b0 name (header .last .0) (copy .last .0) 10 (header .ensures) (omega arith) (omega arith) (copy .ensures) in
-    let w2 = written-next e 0 (b0 ++ name) h _ (copy2 .last .0) 42 w1 (omega arith) (omega arith) (copy2 .ensures) in
-    let w3 = written-next e 0 ((b0 ++ name) ++ h) m _ (copy3 .last .0) at w2 (omega arith) (omega arith) (copy3 .ensures) in
-    w3 ∙ ap (written e 0) (config-parts (s .args .conn) size name h m (omega arith) long (s .pre .1 .1 .1))
+    let w0 = row-header (s .args .conn) 0x000B (42 + length h + length m - 10) 100 (p0 .header .ensures .0) in
+    let w1 = row-next name long w0 (p1 .copy .ensures) (omega (arith, s .pre .0)) in
+    let w2 = row-next h refl w1 (p2 .copy2 .ensures) (omega (arith, s .pre .0)) in
+    let w3 = row-next m refl w2 (p3 .copy3 .ensures) (omega (arith, s .pre .0)) in
+    let q = config-parts (s .args .conn) (42 + length h + length m - 10) name h m (omega arith) long (s .pre .1 .1 .1) in
+    row-wrote w3 q (omega (arith, p0 .header .ensures .1)) (omega (arith, s .pre .0))
 
 pub config-response-spec : {M : Type 1} → statement M
 config-response-spec =

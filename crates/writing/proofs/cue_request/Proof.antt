@@ -1,14 +1,9 @@
--- `cue_request` meets its contract: the header, the time's two numbers and the section (`written-next`), which are the record (`cue-parts`).
-use mathlib.Core.Path.{ap, _∙_}
-use mathlib.Core.List.{_++_}
+-- `cue_request` meets its contract: the header, the time's two numbers and the section (`row-next`), which are the record (`cue-parts`).
+use mathlib.Core.Path.{refl}
+use Prim.Native.Nat.{_+_}
+use lib.ListN.{length}
 use native.Mathlib.Omega.{arith}
-use lib.ListN.{length, length-append}
-use Prim.Native.Nat.{_+_, _≤_}
-use Rattle.rules.specs.Bytes.{bytes, written}
-use Rattle.rules.proofs.Bytes.{length-bytes}
-use Rattle.rules.proofs.Written.{written-next}
-use Rattle.writing.specs.Header.{headerOf}
-use Rattle.writing.proofs.Parts.{length-header, cue-parts}
+use Rattle.writing.proofs.Parts.{cue-parts, row-bytes, row-header, row-next, row-wrote}
 use borrow.Author.Needs.{needs}
 use Rattle.writing.proofs.cue_request.Statement.{statement}
 use Rattle.writing.proofs.cue_request.Tie as tie
@@ -69,21 +64,17 @@ same-length c = search needs
 
 returns : tie.Need-returns
 returns c =
-    let s = c .before .before .before .before .before .before .before .before .before .before .before .before .before .before .before .before .before .before .before .before in
-    let e = s .args .out .now in
-    let l = s .args .section .now in
-    let room : 18 + length l ≤ length e = omega (arith, s .pre .1) in
-    let b0 = headerOf (s .args .conn) 0x000C (8 + length l) 0xFFFF in
-    let b1 = bytes 4 (s .args .time .seconds) in
-    let b2 = bytes 4 (s .args .time .micros) in
-    let c0 = c .before .before .before .before .before .before .before .before .before .before .before .before .before .before .before .before .header in
-    let c1 = c .before .before .before .before .before .before .before .before .before .before .before .put4 in
-    let c2 = c .before .before .before .before .before .before .put42 in
-    let c3 = c .before .before .copy in
-    let w1 = written-next e 0 b0 b1 (c0 .last .0) (c1 .last .0) 10 (c0 .ensures) (simp length-header) (simp length-bytes (omega arith)) (c1 .ensures) in
-    let w2 = written-next e 0 (b0 ++ b1) b2 _ (c2 .last .0) 14 w1 (simp (length-append, length-header, length-bytes)) (simp length-bytes (omega arith)) (c2 .ensures) in
-    let w3 = written-next e 0 (b0 ++ b1 ++ b2) l _ (c3 .last .0) 18 w2 (simp (length-append, length-header, length-bytes)) (omega arith) (c3 .ensures) in
-    w3 ∙ ap (written e 0) (cue-parts (s .args .conn) (s .args .time .seconds) (s .args .time .micros) l)
+    let p3 = c .before .before in
+    let p2 = p3 .before .before .before .before in
+    let p1 = p2 .before .before .before .before .before in
+    let p0 = p1 .before .before .before .before .before in
+    let s = p0 .before .before .before .before in
+    let w0 = row-header (s .args .conn) 0x000C (8 + length (s .args .section .now)) 0xFFFF (p0 .header .ensures .0) in
+    let w1 = row-bytes 4 (s .args .time .seconds) w0 (p1 .put4 .ensures) (omega (arith, s .pre .1)) in
+    let w2 = row-bytes 4 (s .args .time .micros) w1 (p2 .put42 .ensures) (omega (arith, s .pre .1)) in
+    let w3 = row-next (s .args .section .now) refl w2 (p3 .copy .ensures) (s .pre .1) in
+    let q = cue-parts (s .args .conn) (s .args .time .seconds) (s .args .time .micros) (s .args .section .now) in
+    row-wrote w3 q (omega (arith, p0 .header .ensures .1)) (s .pre .1)
 
 pub cue-request-spec : {M : Type 1} → statement M
 cue-request-spec =

@@ -1,15 +1,6 @@
--- `extended_found` meets its contract: the header and two parts of data (`written-next`), which are the record (`found-parts`).
-use mathlib.Core.Path.{ap, _∙_}
-use mathlib.Core.List.{_++_}
+-- `extended_found` meets its contract: the header and two parts of data (`row-next`), which are the record (`found-parts`).
 use native.Mathlib.Omega.{arith}
-use lib.ListN.{length, length-append}
-use Prim.Native.Nat.{_≤_}
-use Rattle.rules.specs.Bytes.{bytes, written}
-use Rattle.rules.proofs.Bytes.{length-bytes}
-use Rattle.rules.proofs.Written.{written-next}
-use Rattle.rules.specs.Records.{endDescriptor}
-use Rattle.writing.specs.Header.{headerOf}
-use Rattle.writing.proofs.Parts.{length-header, found-parts}
+use Rattle.writing.proofs.Parts.{found-parts, length-end, row-bytes, row-header, row-next, row-wrote}
 use borrow.Author.Needs.{needs}
 use Rattle.writing.proofs.extended_found.Statement.{statement}
 use Rattle.writing.proofs.extended_found.Tie as tie
@@ -46,18 +37,14 @@ same-length c = search needs
 
 returns : tie.Need-returns
 returns c =
-    let s = c .before .before .before .before .before .before .before .before .before .before .before .before .before in
-    let e = s .args .out .now in
-    let room : 30 ≤ length e = omega (arith, s .pre) in
-    let b0 = headerOf (s .args .conn) 0x0004 20 100 in
-    let b1 = bytes 4 (s .args .id) in
-    let b2 = endDescriptor (s .args .event) (s .args .ended) (s .args .played) in
-    let c0 = c .before .before .before .before .before .before .before .before .before .before .header in
-    let c1 = c .before .before .before .before .before .before .put4 in
-    let c2 = c .before .before .put-end in
-    let w1 = written-next e 0 b0 b1 (c0 .last .0) (c1 .last .0) 10 (c0 .ensures) (simp length-header) (simp length-bytes (omega arith)) (c1 .ensures) in
-    let w2 = written-next e 0 (b0 ++ b1) b2 _ (c2 .last .0) 14 w1 (simp (length-append, length-header, length-bytes)) (simp (length-append, length-bytes) (omega arith)) (c2 .ensures) in
-    w2 ∙ ap (written e 0) (found-parts (s .args .conn) (s .args .id) (s .args .event) (s .args .ended) (s .args .played))
+    let p2 = c .before .before in
+    let p1 = p2 .before .before .before .before in
+    let p0 = p1 .before .before .before .before in
+    let s = p0 .before .before .before in
+    let w0 = row-header (s .args .conn) 0x0004 20 100 (p0 .header .ensures .0) in
+    let w1 = row-bytes 4 (s .args .id) w0 (p1 .put4 .ensures) (omega (arith, s .pre)) in
+    let w2 = row-next _ (length-end (s .args .event) (s .args .ended) (s .args .played)) w1 (p2 .put-end .ensures) (omega (arith, s .pre)) in
+    row-wrote w2 (found-parts (s .args .conn) (s .args .id) (s .args .event) (s .args .ended) (s .args .played)) (p0 .header .ensures .1) (s .pre)
 
 pub extended-found-spec : {M : Type 1} → statement M
 extended-found-spec =

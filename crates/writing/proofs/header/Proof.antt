@@ -1,13 +1,8 @@
--- `header` meets its contract: six parts, each directly behind the last (`written-next`).
-use mathlib.Core.Path.{ap, _∙_}
-use mathlib.Core.List.{_++_}
+-- `header` meets its contract: six parts, each directly behind the last (`row-next`).
+use mathlib.Core.Path.{refl, ap, _∙_}
+use Rattle.rules.specs.Bytes.{written}
 use native.Mathlib.Omega.{arith}
-use lib.ListN.{length, length-append}
-use Prim.Native.Nat.{_≤_}
-use Rattle.rules.specs.Bytes.{bytes, written}
-use Rattle.rules.proofs.Bytes.{length-bytes}
-use Rattle.rules.proofs.Written.{written-next}
-use Rattle.writing.proofs.Parts.{header-parts}
+use Rattle.writing.proofs.Parts.{header-parts, row-bytes, row-first}
 use borrow.Author.Needs.{needs}
 use Rattle.writing.proofs.header.Statement.{statement}
 use Rattle.writing.proofs.header.Tie as tie
@@ -75,32 +70,28 @@ part-put2-end-4 c = search needs
 put2-requires-4 : tie.Need-put2-requires-4
 put2-requires-4 c κs = search needs
 
+add-result : tie.Need-add-result
+add-result c = search needs
+
 same-length : tie.Need-same-length
 same-length c = search needs
 
 returns : tie.Need-returns
 returns c =
-    let s = c .before .before .before .before .before .before .before .before .before .before .before .before .before .before .before .before .before .before .before .before .before .before .before .before .before in
-    let e = s .args .out .now in
-    let room : 10 ≤ length e = omega (arith, s .pre) in
-    let b0 = bytes 1 0x52 in
-    let b1 = bytes 1 (s .args .conn) in
-    let b2 = bytes 2 (s .args .id) in
-    let b3 = bytes 2 (s .args .size) in
-    let b4 = bytes 2 (s .args .result) in
-    let b5 = bytes 2 0xFFFF in
-    let c0 = c .before .before .before .before .before .before .before .before .before .before .before .before .before .before .before .before .before .before .before .before .before .before .put1 in
-    let c1 = c .before .before .before .before .before .before .before .before .before .before .before .before .before .before .before .before .before .before .put12 in
-    let c2 = c .before .before .before .before .before .before .before .before .before .before .before .before .before .before .put2 in
-    let c3 = c .before .before .before .before .before .before .before .before .before .before .put22 in
-    let c4 = c .before .before .before .before .before .before .put23 in
-    let c5 = c .before .before .put24 in
-    let w1 = written-next e 0 b0 b1 (c0 .last .0) (c1 .last .0) 1 (c0 .ensures) (simp length-bytes) (simp length-bytes (omega arith)) (c1 .ensures) in
-    let w2 = written-next e 0 (b0 ++ b1) b2 _ (c2 .last .0) 2 w1 (simp (length-append, length-bytes)) (simp length-bytes (omega arith)) (c2 .ensures) in
-    let w3 = written-next e 0 (b0 ++ b1 ++ b2) b3 _ (c3 .last .0) 4 w2 (simp (length-append, length-bytes)) (simp length-bytes (omega arith)) (c3 .ensures) in
-    let w4 = written-next e 0 (b0 ++ b1 ++ b2 ++ b3) b4 _ (c4 .last .0) 6 w3 (simp (length-append, length-bytes)) (simp length-bytes (omega arith)) (c4 .ensures) in
-    let w5 = written-next e 0 (b0 ++ b1 ++ b2 ++ b3 ++ b4) b5 _ (c5 .last .0) 8 w4 (simp (length-append, length-bytes)) (simp length-bytes (omega arith)) (c5 .ensures) in
-    w5 ∙ ap (written e 0) (header-parts (s .args .conn) (s .args .id) (s .args .size) (s .args .result))
+    let p5 = c .before .before in
+    let p4 = p5 .before .before .before .before in
+    let p3 = p4 .before .before .before .before in
+    let p2 = p3 .before .before .before .before in
+    let p1 = p2 .before .before .before .before in
+    let p0 = p1 .before .before .before .before in
+    let s = p0 .before .before .before in
+    let w0 = row-first 1 0x52 (p0 .put1 .ensures) in
+    let w1 = row-bytes 1 (s .args .conn) w0 (p1 .put12 .ensures) (omega (arith, s .pre)) in
+    let w2 = row-bytes 2 (s .args .id) w1 (p2 .put2 .ensures) (omega (arith, s .pre)) in
+    let w3 = row-bytes 2 (s .args .size) w2 (p3 .put22 .ensures) (omega (arith, s .pre)) in
+    let w4 = row-bytes 2 (s .args .result) w3 (p4 .put23 .ensures) (omega (arith, s .pre)) in
+    let w5 = row-bytes 2 0xFFFF w4 (p5 .put24 .ensures) (omega (arith, s .pre)) in
+    (w5 .is ∙ ap (written (s .args .out .now) 0) (header-parts (s .args .conn) (s .args .id) (s .args .size) (s .args .result)), refl)
 
 pub header-spec : {M : Type 1} → statement M
 header-spec =
@@ -127,5 +118,6 @@ header-spec =
     part-put2-start-4
     part-put2-end-4
     put2-requires-4
+    add-result
     same-length
     returns)

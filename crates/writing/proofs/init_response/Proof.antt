@@ -1,14 +1,6 @@
--- `init_response` meets its contract: the header, Revision_Num and the name (`written-next`), which are the record (`init-parts`).
-use mathlib.Core.Path.{ap, _∙_}
-use mathlib.Core.List.{_++_}
+-- `init_response` meets its contract: the header, Revision_Num and the name (`row-next`), which are the record (`init-parts`).
 use native.Mathlib.Omega.{arith}
-use lib.ListN.{length, length-append}
-use Prim.Native.Nat.{_≤_}
-use Rattle.rules.specs.Bytes.{bytes, written}
-use Rattle.rules.proofs.Bytes.{length-bytes}
-use Rattle.rules.proofs.Written.{written-next}
-use Rattle.writing.specs.Header.{headerOf}
-use Rattle.writing.proofs.Parts.{length-header, init-parts}
+use Rattle.writing.proofs.Parts.{init-parts, row-bytes, row-header, row-next, row-wrote}
 use borrow.Author.Needs.{needs}
 use Rattle.writing.proofs.init_response.Statement.{statement}
 use Rattle.writing.proofs.init_response.Tie as tie
@@ -45,18 +37,14 @@ same-length c = search needs
 
 returns : tie.Need-returns
 returns c =
-    let s = c .before .before .before .before .before .before .before .before .before .before .before .before .before .before in
-    let e = s .args .out .now in
-    let room : 44 ≤ length e = omega (arith, s .pre .0) in
-    let b0 = headerOf (s .args .conn) 0x0002 34 (s .args .result) in
-    let b1 = bytes 2 2 in
-    let b2 = s .args .name .now in
-    let c0 = c .before .before .before .before .before .before .before .before .before .before .header in
-    let c1 = c .before .before .before .before .before .before .put2 in
-    let c2 = c .before .before .copy in
-    let w1 = written-next e 0 b0 b1 (c0 .last .0) (c1 .last .0) 10 (c0 .ensures) (simp length-header) (simp length-bytes (omega arith)) (c1 .ensures) in
-    let w2 = written-next e 0 (b0 ++ b1) b2 _ (c2 .last .0) 12 w1 (simp (length-append, length-header, length-bytes)) (omega (arith, s .pre .1 .0)) (c2 .ensures) in
-    w2 ∙ ap (written e 0) (init-parts (s .args .conn) (s .args .result) (s .args .name .now) (s .pre .1 .0) (s .pre .1 .1))
+    let p2 = c .before .before in
+    let p1 = p2 .before .before .before .before in
+    let p0 = p1 .before .before .before .before in
+    let s = p0 .before .before .before .before in
+    let w0 = row-header (s .args .conn) 0x0002 34 (s .args .result) (p0 .header .ensures .0) in
+    let w1 = row-bytes 2 2 w0 (p1 .put2 .ensures) (omega (arith, s .pre)) in
+    let w2 = row-next (s .args .name .now) (s .pre .1 .0) w1 (p2 .copy .ensures) (omega (arith, s .pre)) in
+    row-wrote w2 (init-parts (s .args .conn) (s .args .result) (s .args .name .now) (s .pre .1 .0) (s .pre .1 .1)) (p0 .header .ensures .1) (s .pre .0)
 
 pub init-response-spec : {M : Type 1} → statement M
 init-response-spec =

@@ -1,13 +1,9 @@
--- `put_end` meets its contract: six parts (`written-next`), which are the descriptor (`end-parts`).
+-- `put_end` meets its contract: six parts (`row-next`), which are the descriptor (`end-parts`).
 use mathlib.Core.Path.{ap, _∙_}
-use mathlib.Core.List.{_++_}
+use Rattle.rules.specs.Bytes.{written}
 use native.Mathlib.Omega.{arith}
-use lib.ListN.{length, length-append}
-use Prim.Native.Nat.{_/_, _≤_}
-use Rattle.rules.specs.Bytes.{bytes, written}
-use Rattle.rules.proofs.Bytes.{length-bytes}
-use Rattle.rules.proofs.Written.{written-next}
-use Rattle.writing.proofs.Parts.{end-parts}
+use Prim.Native.Nat.{_/_}
+use Rattle.writing.proofs.Parts.{end-parts, row-bytes, row-first}
 use borrow.Author.Needs.{needs}
 use Rattle.writing.proofs.put_end.Statement.{statement}
 use Rattle.writing.proofs.put_end.Tie as tie
@@ -80,27 +76,20 @@ same-length c = search needs
 
 returns : tie.Need-returns
 returns c =
-    let s = c .before .before .before .before .before .before .before .before .before .before .before .before .before .before .before .before .before .before .before .before .before .before .before .before .before in
-    let e = s .args .out .now in
-    let room : 16 ≤ length e = omega (arith, s .pre) in
-    let b0 = bytes 2 0x010E in
-    let b1 = bytes 4 0x43415244 in
-    let b2 = bytes 4 (s .args .event) in
-    let b3 = bytes 1 (s .args .ended / 256) in
-    let b4 = bytes 1 (s .args .ended) in
-    let b5 = bytes 4 (s .args .played) in
-    let c0 = c .before .before .before .before .before .before .before .before .before .before .before .before .before .before .before .before .before .before .before .before .before .before .put2 in
-    let c1 = c .before .before .before .before .before .before .before .before .before .before .before .before .before .before .before .before .before .before .put4 in
-    let c2 = c .before .before .before .before .before .before .before .before .before .before .before .before .before .before .put42 in
-    let c3 = c .before .before .before .before .before .before .before .before .before .before .put1 in
-    let c4 = c .before .before .before .before .before .before .put12 in
-    let c5 = c .before .before .put43 in
-    let w1 = written-next e 0 b0 b1 (c0 .last .0) (c1 .last .0) 2 (c0 .ensures) (simp length-bytes) (simp length-bytes (omega arith)) (c1 .ensures) in
-    let w2 = written-next e 0 (b0 ++ b1) b2 _ (c2 .last .0) 6 w1 (simp (length-append, length-bytes)) (simp length-bytes (omega arith)) (c2 .ensures) in
-    let w3 = written-next e 0 (b0 ++ b1 ++ b2) b3 _ (c3 .last .0) 10 w2 (simp (length-append, length-bytes)) (simp length-bytes (omega arith)) (c3 .ensures) in
-    let w4 = written-next e 0 (b0 ++ b1 ++ b2 ++ b3) b4 _ (c4 .last .0) 11 w3 (simp (length-append, length-bytes)) (simp length-bytes (omega arith)) (c4 .ensures) in
-    let w5 = written-next e 0 (b0 ++ b1 ++ b2 ++ b3 ++ b4) b5 _ (c5 .last .0) 12 w4 (simp (length-append, length-bytes)) (simp length-bytes (omega arith)) (c5 .ensures) in
-    w5 ∙ ap (written e 0) (end-parts (s .args .event) (s .args .ended) (s .args .played))
+    let p5 = c .before .before in
+    let p4 = p5 .before .before .before .before in
+    let p3 = p4 .before .before .before .before in
+    let p2 = p3 .before .before .before .before in
+    let p1 = p2 .before .before .before .before in
+    let p0 = p1 .before .before .before .before in
+    let s = p0 .before .before .before in
+    let w0 = row-first 2 0x010E (p0 .put2 .ensures) in
+    let w1 = row-bytes 4 0x43415244 w0 (p1 .put4 .ensures) (omega (arith, s .pre)) in
+    let w2 = row-bytes 4 (s .args .event) w1 (p2 .put42 .ensures) (omega (arith, s .pre)) in
+    let w3 = row-bytes 1 (s .args .ended / 256) w2 (p3 .put1 .ensures) (omega (arith, s .pre)) in
+    let w4 = row-bytes 1 (s .args .ended) w3 (p4 .put12 .ensures) (omega (arith, s .pre)) in
+    let w5 = row-bytes 4 (s .args .played) w4 (p5 .put43 .ensures) (omega (arith, s .pre)) in
+    w5 .is ∙ ap (written (s .args .out .now) 0) (end-parts (s .args .event) (s .args .ended) (s .args .played))
 
 pub put-end-spec : {M : Type 1} → statement M
 put-end-spec =

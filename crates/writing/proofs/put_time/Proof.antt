@@ -1,10 +1,7 @@
--- `put_time` meets its contract: Seconds, and MicroSeconds behind them (`written-next`).
+-- `put_time` meets its contract: Seconds, and MicroSeconds behind them (`row-next`).
 use native.Mathlib.Omega.{arith}
-use lib.ListN.{length}
-use Rattle.rules.specs.Bytes.{bytes}
-use Prim.Native.Nat.{_≤_, _/_, _%_}
-use Rattle.rules.proofs.Bytes.{length-bytes}
-use Rattle.rules.proofs.Written.{written-next}
+use Prim.Native.Nat.{_/_, _%_}
+use Rattle.writing.proofs.Parts.{row-bytes, row-first}
 use borrow.Author.Needs.{needs}
 use Rattle.writing.proofs.put_time.Statement.{statement}
 use Rattle.writing.proofs.put_time.Tie as tie
@@ -29,14 +26,12 @@ same-length c = search needs
 
 returns : tie.Need-returns
 returns c =
-    let s = c .before .before .before .before .before .before .before .before .before .before .before in
-    let e = s .args .out .now in
-    let room : 8 ≤ length e = omega (arith, s .pre) in
-    let b0 = bytes 4 (s .args .time .0 / 1000000) in
-    let b1 = bytes 4 (s .args .time .0 % 1000000) in
-    let c0 = c .before .before .before .before .before .before .before .put4 in
-    let c1 = c .before .before .put42 in
-    written-next e 0 b0 b1 (c0 .last .0) (c1 .last .0) 4 (c0 .ensures) (simp length-bytes) (simp length-bytes (omega arith)) (c1 .ensures)
+    let p1 = c .before .before in
+    let p0 = p1 .before .before .before .before .before in
+    let s = p0 .before .before .before .before in
+    let w0 = row-first 4 (s .args .time .0 / 1000000) (p0 .put4 .ensures) in
+    let w1 = row-bytes 4 (s .args .time .0 % 1000000) w0 (p1 .put42 .ensures) (omega (arith, s .pre)) in
+    w1 .is
 
 pub put-time-spec : {M : Type 1} → statement M
 put-time-spec =

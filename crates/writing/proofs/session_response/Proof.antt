@@ -1,13 +1,9 @@
 -- `session_response` meets its contract: the header says 4 bytes of data, and the SessionID is these.
-use mathlib.Core.Path.{ap, _∙_, sym}
-use native.Mathlib.Omega.{arith}
-use lib.ListN.{length}
-use Prim.Native.Nat.{_≤_}
-use Rattle.rules.specs.Bytes.{bytes, written}
+use mathlib.Core.Path.{sym}
+use Rattle.rules.specs.Bytes.{bytes}
 use Rattle.rules.proofs.Bytes.{length-bytes}
-use Rattle.rules.proofs.Written.{written-next}
-use Rattle.writing.specs.Header.{headerOf}
-use Rattle.writing.proofs.Parts.{length-header, framed-header}
+use native.Mathlib.Omega.{arith}
+use Rattle.writing.proofs.Parts.{framed-header, row-bytes, row-header, row-wrote}
 use borrow.Author.Needs.{needs}
 use Rattle.writing.proofs.session_response.Statement.{statement}
 use Rattle.writing.proofs.session_response.Tie as tie
@@ -32,15 +28,12 @@ same-length c = search needs
 
 returns : tie.Need-returns
 returns c =
-    let s = c .before .before .before .before .before .before .before .before .before in
-    let e = s .args .out .now in
-    let room : 14 ≤ length e = omega (arith, s .pre) in
-    let b0 = headerOf (s .args .conn) (s .args .id) 4 (s .args .result) in
-    let b1 = bytes 4 (s .args .session) in
-    let c0 = c .before .before .before .before .before .before .header in
-    let c1 = c .before .before .put4 in
-    let w1 = written-next e 0 b0 b1 (c0 .last .0) (c1 .last .0) 10 (c0 .ensures) (simp length-header) (simp length-bytes (omega arith)) (c1 .ensures) in
-    w1 ∙ ap (written e 0) (framed-header (s .args .conn) (s .args .id) 4 (s .args .result) b1 (sym (length-bytes 4 (s .args .session))))
+    let p1 = c .before .before in
+    let p0 = p1 .before .before .before .before in
+    let s = p0 .before .before .before in
+    let w0 = row-header (s .args .conn) (s .args .id) 4 (s .args .result) (p0 .header .ensures .0) in
+    let w1 = row-bytes 4 (s .args .session) w0 (p1 .put4 .ensures) (omega (arith, s .pre)) in
+    row-wrote w1 (framed-header (s .args .conn) (s .args .id) 4 (s .args .result) (bytes 4 (s .args .session)) (sym (length-bytes 4 (s .args .session)))) (p0 .header .ensures .1) (s .pre)
 
 pub session-response-spec : {M : Type 1} → statement M
 session-response-spec =

@@ -1,14 +1,6 @@
--- `splice_complete` meets its contract: the header and four parts of data (`written-next`), which are the record (`complete-parts`).
-use mathlib.Core.Path.{ap, _∙_}
-use mathlib.Core.List.{_++_}
+-- `splice_complete` meets its contract: the header and four parts of data (`row-next`), which are the record (`complete-parts`).
 use native.Mathlib.Omega.{arith}
-use lib.ListN.{length, length-append}
-use Prim.Native.Nat.{_≤_}
-use Rattle.rules.specs.Bytes.{bytes, written}
-use Rattle.rules.proofs.Bytes.{length-bytes}
-use Rattle.rules.proofs.Written.{written-next}
-use Rattle.writing.specs.Header.{headerOf}
-use Rattle.writing.proofs.Parts.{length-header, complete-parts}
+use Rattle.writing.proofs.Parts.{complete-parts, row-bytes, row-header, row-wrote}
 use borrow.Author.Needs.{needs}
 use Rattle.writing.proofs.splice_complete.Statement.{statement}
 use Rattle.writing.proofs.splice_complete.Tie as tie
@@ -72,24 +64,18 @@ same-length c = search needs
 
 returns : tie.Need-returns
 returns c =
-    let s = c .before .before .before .before .before .before .before .before .before .before .before .before .before .before .before .before .before .before .before .before .before .before in
-    let e = s .args .out .now in
-    let room : 23 ≤ length e = omega (arith, s .pre) in
-    let b0 = headerOf (s .args .conn) 0x0009 13 (s .args .result) in
-    let b1 = bytes 4 (s .args .id) in
-    let b2 = bytes 1 (s .args .flag) in
-    let b3 = bytes 4 0 in
-    let b4 = bytes 4 (s .args .played .0) in
-    let c0 = c .before .before .before .before .before .before .before .before .before .before .before .before .before .before .before .before .before .before .before .header in
-    let c1 = c .before .before .before .before .before .before .before .before .before .before .before .before .before .before .before .put4 in
-    let c2 = c .before .before .before .before .before .before .before .before .before .before .before .put1 in
-    let c3 = c .before .before .before .before .before .before .before .put42 in
-    let c4 = c .before .before .put43 in
-    let w1 = written-next e 0 b0 b1 (c0 .last .0) (c1 .last .0) 10 (c0 .ensures) (simp length-header) (simp length-bytes (omega arith)) (c1 .ensures) in
-    let w2 = written-next e 0 (b0 ++ b1) b2 _ (c2 .last .0) 14 w1 (simp (length-append, length-header, length-bytes)) (simp length-bytes (omega arith)) (c2 .ensures) in
-    let w3 = written-next e 0 (b0 ++ b1 ++ b2) b3 _ (c3 .last .0) 15 w2 (simp (length-append, length-header, length-bytes)) (simp length-bytes (omega arith)) (c3 .ensures) in
-    let w4 = written-next e 0 (b0 ++ b1 ++ b2 ++ b3) b4 _ (c4 .last .0) 19 w3 (simp (length-append, length-header, length-bytes)) (simp length-bytes (omega arith)) (c4 .ensures) in
-    w4 ∙ ap (written e 0) (complete-parts (s .args .conn) (s .args .result) (s .args .id) (s .args .flag) (s .args .played .0))
+    let p4 = c .before .before in
+    let p3 = p4 .before .before .before .before .before in
+    let p2 = p3 .before .before .before .before in
+    let p1 = p2 .before .before .before .before in
+    let p0 = p1 .before .before .before .before in
+    let s = p0 .before .before .before in
+    let w0 = row-header (s .args .conn) 0x0009 13 (s .args .result) (p0 .header .ensures .0) in
+    let w1 = row-bytes 4 (s .args .id) w0 (p1 .put4 .ensures) (omega (arith, s .pre)) in
+    let w2 = row-bytes 1 (s .args .flag) w1 (p2 .put1 .ensures) (omega (arith, s .pre)) in
+    let w3 = row-bytes 4 0 w2 (p3 .put42 .ensures) (omega (arith, s .pre)) in
+    let w4 = row-bytes 4 (s .args .played .0) w3 (p4 .put43 .ensures) (omega (arith, s .pre)) in
+    row-wrote w4 (complete-parts (s .args .conn) (s .args .result) (s .args .id) (s .args .flag) (s .args .played .0)) (p0 .header .ensures .1) (s .pre)
 
 pub splice-complete-spec : {M : Type 1} → statement M
 splice-complete-spec =
