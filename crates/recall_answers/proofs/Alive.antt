@@ -1,5 +1,5 @@
 -- Alive: the one on air decides. Rests on what is told by one record.
-use mathlib.Core.Path.{_≡_, refl, sym, ap, _∙_}
+use mathlib.Core.Path.{_≡_, refl, sym, ap, subst}
 use mathlib.Core.List.{List}
 use Prim.Native.Nat.{ℕ, _≤_, _<_}
 use native.Mathlib.Omega.{arith}
@@ -8,14 +8,14 @@ use borrow.Author.Tests.{lt-ltb, le-ltb}
 use Rattle.rules.specs.declared.Ninths.{Ninths}
 use Rattle.rules.specs.declared.Micros.{Micros}
 use Rattle.rules.specs.Units.{toMicros}
-use Rattle.rules.specs.Bytes.{written}
 use Rattle.rules.specs.Reading.{nobody}
-use Rattle.rules.specs.Records.{AliveResponse, recordBytes}
+use Rattle.rules.specs.Records.{AliveResponse}
 use Rattle.recall_rules.specs.declared.Verdict.{Verdict}
 use Rattle.recall_rules.specs.Verdicts.{sessionOf}
 use Rattle.recall_rules.specs.Work.{onAir, airState, airID}
+use Rattle.writing.specs.Puts.{Puts}
+use Rattle.recall_ends.proofs.Laws.{tells-first}
 use Rattle.recall_answers.specs.Replies.{Says}
-use Rattle.recall_answers.proofs.Laws.{says-one}
 
 -- i: the call on air, or how many there are
 module _ (l : List Verdict) (i : ℕ) (f : i ≡ onAir l) where
@@ -30,7 +30,8 @@ module _ (l : List Verdict) (i : ℕ) (f : i ≡ onAir l) where
   air-none h = let t = le-ltb (onAir l) (length l) (omega (arith, h, f)) in (rw t refl, rw t refl)
 
 -- x, i: the State and the SessionID; t: the clock's time
-pub alive-says : (l : List Verdict) (c : ℕ) (n : Ninths) {e o : List ℕ} {x i : ℕ} {t : Micros} → (airState l ≡ x) × (airID l ≡ i) → t ≡ toMicros n →
-    o ≡ written e 0 (recordBytes (AliveResponse c 100 x i (t .0))) → Says (AliveResponse c 100 (airState l) (airID l) (toMicros n .0)) e 26 o
-alive-says l c n {e} {o} {x} {i} a q h =
-    rw (a .0, a .1) (says-one tt refl (h ∙ ap (λ (y : Micros). written e 0 (recordBytes (AliveResponse c 100 x i (y .0)))) q))
+pub alive-says : (l : List Verdict) (c : ℕ) (n : Ninths) {e o : List ℕ} {x i len : ℕ} {t : Micros} → (airState l ≡ x) × (airID l ≡ i) →
+    t ≡ toMicros n → Puts (AliveResponse c 100 x i (t .0)) e len o →
+    Says (AliveResponse c 100 (airState l) (airID l) (toMicros n .0)) e len o
+alive-says l c n {e} {o} {x} {i} {len} a q h =
+    rw (a .0, a .1) (subst (λ (y : Micros). Says (AliveResponse c 100 x i (y .0)) e len o) q (tells-first h))

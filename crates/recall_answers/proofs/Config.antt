@@ -1,5 +1,5 @@
 -- GetConfig: the Hardware_Config that stands in the log, in the record.
--- Rests on reading's law of an Init_Request that can be read, and on rules' of records' lengths.
+-- Rests on reading's law of an Init_Request that can be read.
 use mathlib.Core.Path.{_≡_, refl, sym, ap, ap₂, subst, _∙_}
 use mathlib.Core.List.{List, map}
 use Prim.Native.Nat.{ℕ, _+_, _-_, _≤_}
@@ -7,16 +7,17 @@ use native.Mathlib.Omega.{arith}
 use lib.ListN.{length, take, drop, getD, length-take, length-drop, List·getD-map}
 use borrow.Author.Tests.{eq-eqb, ne-eqb}
 use Rattle.rules.specs.Lists.{All}
-use Rattle.rules.specs.Bytes.{nameIn, padded, written, messageSize, dataOf}
+use Rattle.rules.specs.Bytes.{nameIn, padded, messageSize, dataOf}
 use Rattle.rules.specs.Card.{cardName}
 use Rattle.rules.specs.Reading.{hardwarePlace, hardwareLength, hardwareIn, longestHardware, badInit}
 use Rattle.rules.specs.State.{noHardware}
-use Rattle.rules.specs.Records.{ConfigResponse, recordBytes}
-use Rattle.rules.specs.Calls.{longestSection}
+use Rattle.rules.specs.Records.{Record, ConfigResponse}
 use Rattle.rules.proofs.All.{at-all}
 use Rattle.reading.proofs.Laws.{behind, hardware-fits}
+use Rattle.writing.specs.Puts.{Puts}
+use Rattle.recall_ends.proofs.Laws.{tells-first}
 use Rattle.recall_answers.specs.Replies.{hardwareAt, Placed, Says}
-use Rattle.recall_answers.proofs.Laws.{says-one, card-short, card-name}
+use Rattle.recall_answers.proofs.Laws.{card-name}
 
 -- the connection's place, of them all
 pub place-of : (l ps : List ℕ) (c : ℕ) → All (Placed l) ps → Placed l (getD ps c 0)
@@ -62,12 +63,8 @@ hardware-none l {p} e = rw (eq-eqb p 0 e)
 
 -- x: the splicer's name; y: what the connection keeps; z: the section; o: the buffer that held e
 pub config-told : (c : ℕ) (l ps : List ℕ) {x y z e : List ℕ} {n : ℕ} {o : List ℕ} → x ≡ padded cardName → y ≡ hardwareAt l (getD ps c 0) →
-    length y ≤ longestHardware → length z ≤ longestSection → n ≡ 42 + length y + length z →
-    o ≡ written e 0 (recordBytes (ConfigResponse c 100 (nameIn x) y z)) →
-    Says (ConfigResponse c 100 cardName (getD (map (hardwareAt l) ps) c noHardware) z) e n o
+    Puts (ConfigResponse c 100 (nameIn x) y z) e n o → Says (ConfigResponse c 100 cardName (getD (map (hardwareAt l) ps) c noHardware) z) e n o
 unfolding hardwareAt
-config-told c l ps {x} {y} {z} {e} rx ry short brief k w =
+config-told c l ps {x} {y} {z} {e} {n} {o} rx ry w =
     let same : y ≡ getD (map (hardwareAt l) ps) c noHardware = ry ∙ sym (List·getD-map (hardwareAt l) ps c 0) in
-    says-one (card-short, subst (λ (u : List ℕ). length u ≤ longestHardware) same short, brief)
-    (omega (arith, k, ap length same))
-    (w ∙ ap₂ (λ (v u : List ℕ). written e 0 (recordBytes (ConfigResponse c 100 v u z))) (card-name rx) same)
+    subst (λ (u : Record). Says u e n o) (ap₂ (λ (v u : List ℕ). ConfigResponse c 100 v u z) (card-name rx) same) (tells-first w)

@@ -1,6 +1,6 @@
 -- 02, CR 8: the end of a number, the latest of a connection's number, and what is told of it.
 -- Rests on what recall_rows and recall_ends promise of the rows, and on rules' laws of records' lengths.
-use mathlib.Core.Path.{_≡_, refl, sym, ap, ap₂, _∙_}
+use mathlib.Core.Path.{_≡_, refl, sym, ap, ap₂, subst, _∙_}
 use mathlib.Core.Bool.{Bool, true, false}
 use mathlib.Core.List.{List, _∷_}
 use Prim.Native.Nat.{ℕ, zero, suc, _-_, _/_, _≤_, _<_}
@@ -10,19 +10,19 @@ use borrow.Author.Tests.{eq-eqb, ne-eqb}
 use Rattle.rules.specs.declared.Past.{Past}
 use Rattle.rules.specs.Units.{toTicks}
 use Rattle.rules.specs.Lists.{count, place}
-use Rattle.rules.specs.Bytes.{written}
 use Rattle.rules.specs.State.{empty, mostKept, unused, isKept}
-use Rattle.rules.specs.Records.{ExtendedFound, ExtendedNone, recordBytes}
+use Rattle.rules.specs.Records.{ExtendedFound, ExtendedNone}
 use Rattle.rules.specs.Answers.{isPast, latest}
 use Rattle.recall_rules.specs.declared.Verdict.{Verdict}
 use Rattle.recall_rules.specs.Verdicts.{none, hasEnded, standing, ends, isEnd, endedAs, resultIn, pastOf, nthEnd, latelyFrom, recent}
 use Rattle.recall_rules.specs.Work.{extendedResponse}
 use Rattle.recall_rows.specs.Rows.{width, verdictsIn}
 use Rattle.recall_rows.proofs.Scans.{count-all}
+use Rattle.writing.specs.Puts.{Puts}
 use Rattle.recall_ends.specs.Does.{all}
+use Rattle.recall_ends.proofs.Laws.{tells-first}
 use Rattle.recall_instants.proofs.Words.{as-all, read}
 use Rattle.recall_answers.specs.Replies.{Says}
-use Rattle.recall_answers.proofs.Laws.{says-one}
 
 -- ## The end of a number
 
@@ -106,13 +106,13 @@ module _ (c x : ℕ) (l : List Verdict) {y : Past} (f : y ≡ latest c x (recent
   found-kept : {t : Bool} → isKept y ≡ t → isKept (latest c x (recent l)) ≡ t
   found-kept h = ap isKept (sym f) ∙ h
 
-  pub extended-none : {e o : List ℕ} → y .result ≡ 0 → o ≡ written e 0 (recordBytes (ExtendedNone c x)) → Says (extendedResponse c x l) e 14 o
+  pub extended-none : {e o : List ℕ} {len : ℕ} → y .result ≡ 0 → Puts (ExtendedNone c x) e len o → Says (extendedResponse c x l) e len o
   unfolding extendedResponse
-  extended-none h b = rw (found-kept {t = false} (rw (eq-eqb (y .result) 0 h))) (says-one tt refl b)
+  extended-none h b = rw (found-kept {t = false} (rw (eq-eqb (y .result) 0 h))) (tells-first b)
 
-  pub extended-found : {e o : List ℕ} → (y .result ≡ 0 → ⊥) → o ≡ written e 0 (recordBytes (ExtendedFound c x (y .event) (y .result) (y .played))) →
-      Says (extendedResponse c x l) e 30 o
+  pub extended-found : {e o : List ℕ} {len : ℕ} → (y .result ≡ 0 → ⊥) → Puts (ExtendedFound c x (y .event) (y .result) (y .played)) e len o →
+      Says (extendedResponse c x l) e len o
   unfolding extendedResponse
-  extended-found {e} h b =
+  extended-found {e} {o} {len} h b =
       rw (found-kept {t = true} (rw (ne-eqb (y .result) 0 h)))
-      (says-one tt refl (b ∙ ap (λ (z : Past). written e 0 (recordBytes (ExtendedFound c x (z .event) (z .result) (z .played)))) f))
+      (subst (λ (z : Past). Says (ExtendedFound c x (z .event) (z .result) (z .played)) e len o) f (tells-first b))

@@ -12,19 +12,19 @@ use Rattle.rules.specs.declared.Link.{Link}
 use Rattle.rules.specs.declared.Link.the-variants.{Closed, Opened, Initialised}
 use Rattle.rules.specs.declared.Request.{Request}
 use Rattle.rules.specs.declared.Message.{Message}
-use Rattle.rules.specs.Bytes.{nameIn, padded, sameName, written}
+use Rattle.rules.specs.Bytes.{nameIn, padded, sameName}
 use Rattle.rules.specs.Card.{cardName}
 use Rattle.rules.specs.Reading.{channelName, badInit, isRead, read}
-use Rattle.rules.specs.Records.{Record, General, InitResponse, recordBytes}
+use Rattle.rules.specs.Records.{Record, General, InitResponse}
 use Rattle.rules.specs.Answers.{initResult}
 use Rattle.rules.proofs.Bytes.{nameIn-twice, nameIn-padded, length-padded}
 use Rattle.rules.proofs.Tests.{by, clash}
-use Rattle.rules.proofs.Records.{sizeOf, Roomy, length-record}
+use Rattle.writing.specs.Puts.{Puts}
 use Rattle.recall_rules.specs.declared.Verdict.{Verdict}
 use Rattle.recall_rules.specs.Work.{Turn, Spliced, requested, spliceResult, answerSplice}
 use Rattle.recall_rules.specs.Calls.{Pass, withVerdicts, says, turns, splices, answerInit, answerRead, answer}
 use Rattle.recall_ends.specs.Does.{all, Tells, Turns}
-use Rattle.recall_ends.proofs.Laws.{tells-none, tells-one}
+use Rattle.recall_ends.proofs.Laws.{tells-none, tells-first}
 use Rattle.recall_requests.specs.declared.Given as checked
 use Rattle.recall_requests.specs.Admits as admits
 use Rattle.recall_answers.specs.declared.Carried.{Carried}
@@ -32,10 +32,6 @@ use Rattle.recall_answers.specs.declared.Effect.the-variants.{Joins, Ent
 use Rattle.rules.specs.declared.Message.the-variants.{Config}
 use Rattle.recall_answers.specs.declared.Given.{Given}
 use Rattle.recall_answers.specs.Replies.{linkFor, passOf, barred, effected, spoken, Gives, Replies, Reads, Inits, Splices, Says, done}
-
--- one record at the start of the buffer
-pub says-one : {e : List ℕ} {x : Record} {n : ℕ} {o : List ℕ} → Roomy x → n ≡ sizeOf x → o ≡ written e 0 (recordBytes x) → Says x e n o
-says-one {x = x} h k b = tells-one {len = 0} {r = x} (omega (arith, k, length-record x h)) b
 
 -- ## What a connection is
 
@@ -86,9 +82,9 @@ module _ (c : ℕ) (d section : List ℕ) {s : Pass} {e : List ℕ} {g : Given} 
   told {rs} v w = turned {t = record { verdicts = s .verdicts; written = rs }} (record { holds = v; tells = w })
 
 -- a General_Response
-pub general-told : {c result : ℕ} {e o : List ℕ} {g : Given} → g ≡ done 10 → o ≡ written e 0 (recordBytes (General c result)) →
+pub general-told : {c result n : ℕ} {e o : List ℕ} {g : Given} → g ≡ done n → Puts (General c result) e n o →
     (g ≡ done (g .len)) × Says (General c result) e (g .len) o
-general-told q w = (q ∙ ap (λ (y : Given). done (y .len)) (sym q), says-one tt (ap (λ (y : Given). y .len) q) w)
+general-told q w = (q ∙ ap (λ (y : Given). done (y .len)) (sym q), rw (ap (λ (y : Given). y .len) q) (tells-first w))
 
 -- ## Init
 
@@ -104,23 +100,23 @@ module _ (revision : ℕ) (asked name : List ℕ) where
   init-name b n e f g = rw (eq-eqb revision 2 e, nameIn-twice name, ← f, g)
 
 -- r: the result for the name that was asked; x: the splicer's; o: the buffer that held e
-module _ (c revision : ℕ) (d e : List ℕ) {r : ℕ} {asked x : List ℕ} (o : List ℕ)
+module _ (c revision : ℕ) (d e : List ℕ) {r len : ℕ} {asked x : List ℕ} (o : List ℕ)
     (ra : asked ≡ channelName d) (rx : x ≡ padded cardName) (rr : r ≡ initResult revision asked (nameIn x))
-    (ro : o ≡ written e 0 (recordBytes (InitResponse c r (nameIn x)))) where
+    (ro : Puts (InitResponse c r (nameIn x)) e len o) where
   init-is : r ≡ initResult revision (channelName d) cardName
   init-is = rr ∙ ap₂ (initResult revision) ra (card-name rx)
 
-  init-says : Says (InitResponse c (initResult revision (channelName d) cardName) cardName) e 44 o
-  init-says = says-one card-short refl (ro ∙ ap₂ (λ (k : ℕ) (z : List ℕ). written e 0 (recordBytes (InitResponse c k z))) init-is (card-name rx))
+  init-says : Says (InitResponse c (initResult revision (channelName d) cardName) cardName) e len o
+  init-says = subst (λ (y : Record). Says y e len o) (ap₂ (InitResponse c) init-is (card-name rx)) (tells-first ro)
 
   -- "else 100 and initialised"
-  pub init-done : r ≡ 100 → badInit d ≡ false → Inits c revision d e (record { len = 44; moved = 0; effect = Enters }) o
+  pub init-done : r ≡ 100 → badInit d ≡ false → Inits c revision d e (record { len = len; moved = 0; effect = Enters }) o
   unfolding answerRead answerInit effected spoken
   init-done i good h m hardware section =
       record { pass = rw (← init-is, eq-eqb r 100 i); tells = init-says; left = good; moved = refl }
 
   -- "A failed later Init leaves the connection initialised."
-  pub init-failed : (r ≡ 100 → ⊥) → Inits c revision d e (done 44) o
+  pub init-failed : (r ≡ 100 → ⊥) → Inits c revision d e (done len) o
   unfolding answerRead answerInit effected spoken
   init-failed i h m hardware section =
       record { pass = rw (← init-is, ne-eqb r 100 i); tells = init-says; left = tt; moved = refl }

@@ -103,16 +103,16 @@ fn answer_init(conn: u32, revision: u16, d: &[u8], out: &mut [u8]) -> Given
 {
     let name = channel();
     let r = init_result(revision, reading::channel_name(d), &name);
-    writing::init_response(&mut *out, conn as u64, r, &name);
+    let len = writing::init_response(&mut *out, conn as u64, r, &name);
     if r == 100 {
         return Given {
-            len: 44,
+            len: len,
             moved: 0,
             effect: Effect::Enters,
         };
     }
     Given {
-        len: 44,
+        len: len,
         moved: 0,
         effect: Effect::Nothing,
     }
@@ -130,11 +130,9 @@ fn answer_alive(m: &[u64], clock: Ninths, conn: u32, out: &mut [u8]) -> usize
     let i = recall_instants::on_air(m);
     if i < n {
         let v = recall_rows::load(m, n, i);
-        writing::alive_response(&mut *out, conn as u64, 2, v.session.id, time);
-        return 26;
+        return writing::alive_response(&mut *out, conn as u64, 2, v.session.id, time);
     }
-    writing::alive_response(&mut *out, conn as u64, 1, 0xFFFFFFFF, time);
-    26
+    writing::alive_response(&mut *out, conn as u64, 1, 0xFFFFFFFF, time)
 }
 
 // The result of an end; 0 of what has not ended.
@@ -246,8 +244,7 @@ fn answer_extended(m: &[u64], conn: u32, x: u32, out: &mut [u8]) -> usize
 {
     let e = latest_end(m, conn as u64, x as u64);
     if e.result == 0 {
-        writing::extended_none(&mut *out, conn as u64, x as u64);
-        return 14;
+        return writing::extended_none(&mut *out, conn as u64, x as u64);
     }
     writing::extended_found(
         &mut *out,
@@ -256,8 +253,7 @@ fn answer_extended(m: &[u64], conn: u32, x: u32, out: &mut [u8]) -> usize
         e.event,
         e.result,
         e.played,
-    );
-    30
+    )
 }
 
 // An answer that leaves nothing to do, and shifted no place.
@@ -275,8 +271,7 @@ fn general(conn: u32, result: u16, out: &mut [u8]) -> Given
     requires { ⌜ 10 ≤ length (now out) ⌝ }
     ensures { λ g. ⌜ (g ≡ done (g .len)) × Says (General conn result) (now (out .entry)) (g .len) (now (out .exit)) ⌝ }
 {
-    writing::general_response(&mut *out, conn as u64, result);
-    said(10)
+    said(writing::general_response(&mut *out, conn as u64, result))
 }
 
 // The answer to a Splice_Request: a session that is accepted waits from now on.
@@ -383,12 +378,10 @@ pub fn answer_config(log: &[u8], h: Carried, conn: u32, section: &[u8], out: &mu
     let p = places[c];
     if p == 0 {
         let none = [0u8; 2];
-        writing::config_response(&mut *out, conn as u64, &name, &none, section);
-        return 44 + section.len();
+        return writing::config_response(&mut *out, conn as u64, &name, &none, section);
     }
     let message = &log[p..];
     let size = number2(message, 2);
     let hardware = reading::hardware(reading::data_of(message, size as usize));
-    writing::config_response(&mut *out, conn as u64, &name, hardware, section);
-    42 + hardware.len() + section.len()
+    writing::config_response(&mut *out, conn as u64, &name, hardware, section)
 }

@@ -6,7 +6,7 @@ use mathlib.Core.Logic.{inl, inr}
 use mathlib.Core.List.{List, [], _∷_, _++_}
 use Prim.Native.Nat.{ℕ, zero, suc, _+_, _-_, _*_, _/_, _%_, _≤_, _<_}
 use native.Mathlib.Omega.{arith}
-use lib.ListN.{length, getD, set, length-append}
+use lib.ListN.{length, getD, set, length-append, length-take, length-drop}
 use borrow.Author.Tests.{lt-ltb, le-ltb}
 use borrow.Rule.Slice.PartMut.{putMid, midOf}
 use types.Run.{OneOf}
@@ -19,9 +19,10 @@ use Rattle.rules.specs.Records.{Record, SpliceComplete, resultOf, framed, recor
 use Rattle.rules.specs.State.{is, follows, startsAt}
 use Rattle.rules.specs.Ends.{ended}
 use Rattle.rules.proofs.Ending.{the-type}
-use Rattle.rules.proofs.Records.{sizeOf, Roomy, length-record}
+use Rattle.rules.proofs.Records.{length-record}
 use Rattle.rules.proofs.Written.{written-none, written-part, output-append, output-one, written-output}
 use Rattle.rules.specs.Lists.{count}
+use Rattle.writing.specs.Puts.{Puts}
 use Rattle.recall_rules.specs.declared.Phase.{Phase}
 use Rattle.recall_rules.specs.declared.Phase.the-variants.{Ended}
 use Rattle.recall_rules.specs.declared.Verdict.{Verdict}
@@ -49,11 +50,12 @@ module _ {e : List ℕ} {len : ℕ} where
         bytes = b ∙ ap (written e len) (sym (output-one r));
       }
 
-  -- one record, written at the start of the part behind the last
-  pub tells-part : {r : Record} {y : List ℕ} → Roomy r → len + sizeOf r ≤ length e → y ≡ written (midOf len (length e - len) e) 0 (recordBytes r) →
-      Tells e len (r ∷ []) (len + sizeOf r) (putMid len (length e - len) e y)
-  tells-part {r} {y} f h w =
-      tells-one (omega (arith, length-record r f)) (written-part len e y (recordBytes r) (omega (arith, length-record r f)) w)
+  -- one record, put at the start of the part behind the last
+  pub tells-part : {r : Record} {n : ℕ} {y : List ℕ} → len ≤ length e → Puts r (midOf len (length e - len) e) n y →
+      Tells e len (r ∷ []) (len + n) (putMid len (length e - len) e y)
+  tells-part {r} {y = y} h w =
+      tells-one (omega (arith, w .count))
+      (written-part len e y (recordBytes r) (omega (arith, w .count, simp (length-take, length-drop) at (w .fits))) (w .bytes))
 
   -- a record is told by its bytes
   pub tells-same : {r s : Record} {to : ℕ} {o : List ℕ} → recordBytes r ≡ recordBytes s → Tells e len (r ∷ []) to o → Tells e len (s ∷ []) to o
@@ -71,6 +73,10 @@ module _ {e : List ℕ} {len : ℕ} where
             ∙ ap (λ (l : List ℕ). len + length l) (sym (output-append rs ss));
         bytes = b .bytes ∙ ap (λ (l : List ℕ). written l n (output ss)) (a .bytes) ∙ written-output e len rs ss n h (a .count);
       }
+
+-- one record, put at the start of the buffer
+pub tells-first : {e : List ℕ} {r : Record} {n : ℕ} {o : List ℕ} → Puts r e n o → Tells e 0 (r ∷ []) n o
+tells-first w = tells-one (omega (arith, w .count)) (w .bytes)
 
 -- ## Work on the verdicts
 

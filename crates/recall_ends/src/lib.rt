@@ -44,8 +44,7 @@ fn write_complete(how: Ending, x: Session, out: &mut [u8], len: usize) -> usize
         flag = 1;
         played = units::to_ticks(Ninths(x.played.0 % 429496729600));
     }
-    writing::splice_complete(&mut out[len..], x.conn, result, x.id, flag, played);
-    len + 23
+    len + writing::splice_complete(&mut out[len..], x.conn, result, x.id, flag, played)
 }
 
 // The end of x, behind the last record: the one place where an end is written.
@@ -56,8 +55,7 @@ fn write_end(how: Ending, x: Session, out: &mut [u8], len: usize) -> usize
     let Ending::Response(result) = how else {
         return write_complete(how, x, &mut *out, len);
     };
-    writing::splice_response(&mut out[len..], x.conn, result, x.id);
-    len + 14
+    len + writing::splice_response(&mut out[len..], x.conn, result, x.id)
 }
 
 // The result of an end's record.

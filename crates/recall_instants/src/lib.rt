@@ -147,8 +147,7 @@ fn begin(m: &mut [u64], i: usize, x: Session, out: &mut [u8], len: usize) -> usi
             session: x,
         },
     );
-    writing::splice_complete(&mut out[len..], x.conn, 100, x.id, 0, Ticks(0));
-    len + 23
+    len + writing::splice_complete(&mut out[len..], x.conn, 100, x.id, 0, Ticks(0))
 }
 
 // The session of row i starts: it no longer waits, an equal one on air ends, and then it goes on air.

@@ -11,29 +11,28 @@ use borrow.Author.Tests.{eq-eqb, ne-eqb}
 use borrow.Rule.Slice.PartMut.{putMid, midOf}
 use Rattle.rules.specs.declared.Session.{Session}
 use Rattle.rules.specs.declared.Request.{Request}
-use Rattle.rules.specs.Bytes.{written}
 use Rattle.rules.specs.Lists.{count}
-use Rattle.rules.specs.Records.{Record, SpliceResponse, AbortResponse, recordBytes, output}
+use Rattle.rules.specs.Records.{Record, SpliceResponse, AbortResponse, output}
 use Rattle.rules.specs.State.{startsAfter}
 use Rattle.rules.specs.Answers.{sessionAt, accepts}
-use Rattle.rules.proofs.Records.{length-record}
 use Rattle.rules.proofs.Size.{weight-one}
 use Rattle.rules.proofs.Written.{written-same}
+use Rattle.writing.specs.Puts.{Puts}
 use Rattle.recall_rules.specs.declared.Phase.the-variants.{Waits}
 use Rattle.recall_rules.specs.declared.Verdict.{Verdict}
 use Rattle.recall_rules.specs.Verdicts.{isWaiting, verdict, standing}
 use Rattle.recall_rules.specs.Work.{Turn, writes, andThen, evicted, aborted, holds, startOf, requested, spliceResult, accepted, Spliced, later, grants, declines, answerSplice, answerAbort}
 use Rattle.recall_rows.specs.Rows.{width, verdictsIn}
 use Rattle.recall_ends.specs.Does.{all, Tells, Turns, Room, Does}
-use Rattle.recall_ends.proofs.Laws.{tells-one, tells-part}
+use Rattle.recall_ends.proofs.Laws.{tells-first, tells-part}
 use Rattle.recall_instants.proofs.Words.{as-all}
 use Rattle.recall_instants.proofs.Starts.{first-room, next-room, both-done, as-room, as-done}
 use Rattle.recall_requests.specs.declared.Given.{Given}
 use Rattle.recall_requests.specs.Admits.{admitted, joined, spliced, Admits, Splices}
 
--- one record of 14 bytes, from the front
-says-one : (x : Record) {m e o : List ℕ} → length (recordBytes x) ≡ 14 → o ≡ written e 0 (recordBytes x) → Does (writes (x ∷ [])) 0 m e 14 m o
-says-one x l b = record { holds = refl; tells = tells-one (omega (arith, l)) b }
+-- one record, from the front
+says-one : {x : Record} {m e o : List ℕ} {len : ℕ} → Puts x e len o → Does (writes (x ∷ [])) 0 m e len m o
+says-one b = record { holds = refl; tells = tells-first b }
 
 -- ## f
 
@@ -56,11 +55,11 @@ module _ (s : Session) (m e : List ℕ) (room : Room (admitted s) 0 m e) where
     pub grant-room : length o ≡ length e → to + 14 ≤ length o
     grant-room z = omega (arith, next-room (evicts (all m)) (grant s) parts e 0 room d z, weight-one (accepts s) tt)
 
-    pub grant-done : {y : List ℕ} → length o ≡ length e → y ≡ written (midOf to (length o - to) o) 0 (recordBytes (accepts s))
-        → Does (admitted s) 0 m e (to + 14) k (putMid to (length o - to) o y)
+    pub grant-done : {y : List ℕ} {n : ℕ} → length o ≡ length e → Puts (accepts s) (midOf to (length o - to) o) n y
+        → Does (admitted s) 0 m e (to + n) k (putMid to (length o - to) o y)
     grant-done z w =
         both-done (evicts (all m)) (grant s) parts e 0 room d
-        (record { holds = refl; tells = tells-part {r = accepts s} tt (grant-room z) w })
+        (record { holds = refl; tells = tells-part (omega (arith, grant-room z)) w })
 
     pub later-is : (n x : ℕ) → n ≡ length k / width → x ≡ count (startsAfter (s .start .0)) (standing isWaiting (verdictsIn n k)) → x ≡ later s (all m)
     unfolding later
@@ -133,16 +132,15 @@ module _ (clock c : ℕ) (r : Request) (m : List ℕ) {t n : ℕ} {new : Session
           moved = a .moved ∙ ap (λ (b : Spliced). b .moved) back;
         }
 
-    pub splice-declined : (n ≡ 100 → ⊥) → o ≡ written e 0 (recordBytes (SpliceResponse c n (r .id)))
-        → Splices clock c r m e (record { len = 14; moved = 0; accepted = false; new = new }) m o
-    splice-declined h w =
+    pub splice-declined : {len : ℕ} → (n ≡ 100 → ⊥) → Puts (SpliceResponse c n (r .id)) e len o
+        → Splices clock c r m e (record { len = len; moved = 0; accepted = false; new = new }) m o
+    splice-declined {len} h w =
         let back = sym (declined h) in
-        let one : Does (writes (SpliceResponse c n (r .id) ∷ [])) 0 m e 14 m o = says-one (SpliceResponse c n (r .id)) (length-record (SpliceResponse c n (r .id)) tt) w in
         record {
           new = asked;
           accepted = ap (λ (b : Spliced). b .accepted) back;
           holds = ap (λ (b : Spliced). b .turn .verdicts) back;
-          tells = subst (λ (rs : List Record). Tells e 0 rs 14 o) (ap (λ (b : Spliced). b .turn .written) back) (one .tells);
+          tells = subst (λ (rs : List Record). Tells e 0 rs len o) (ap (λ (b : Spliced). b .turn .written) back) (tells-first w);
           moved = ap (λ (b : Spliced). b .moved) back;
         }
 
@@ -194,16 +192,16 @@ module _ (c x : ℕ) (m : List ℕ) {b : Bool} (f : b ≡ holds c x (all m)) whe
     pub abort-none : b ≡ false → 14 ≤ length e
     abort-none h = omega (arith, as-room (abort-off h) e 0 room, weight-one (AbortResponse c 121 x) tt)
 
-    pub abort-unknown : {o : List ℕ} → b ≡ false → o ≡ written e 0 (recordBytes (AbortResponse c 121 x)) → Does (answerAbort c x) 0 m e 14 m o
-    abort-unknown h w = as-done (abort-off h) (says-one (AbortResponse c 121 x) (length-record (AbortResponse c 121 x) tt) w)
+    pub abort-unknown : {o : List ℕ} {len : ℕ} → b ≡ false → Puts (AbortResponse c 121 x) e len o → Does (answerAbort c x) 0 m e len m o
+    abort-unknown h w = as-done (abort-off h) (says-one w)
 
     -- the 100 is written
-    module _ {o : List ℕ} (h : b ≡ true) (w : o ≡ written e 0 (recordBytes (AbortResponse c 100 x))) where
-      said : Turns e 0 (says 100 (all m)) m 14 o
-      said = says-one (AbortResponse c 100 x) (length-record (AbortResponse c 100 x) tt) w
+    module _ {o : List ℕ} {len : ℕ} (h : b ≡ true) (w : Puts (AbortResponse c 100 x) e len o) where
+      said : Turns e 0 (says 100 (all m)) m len o
+      said = says-one w
 
-      pub ends-room : length o ≡ length e → Room (aborted c x) 14 m o
+      pub ends-room : length o ≡ length e → Room (aborted c x) len m o
       ends-room z = next-room (says 100 (all m)) (aborted c x) (abort-on h) e 0 room said z
 
-      pub abort-done : {k o′ : List ℕ} {to : ℕ} → Does (aborted c x) 14 m o to k o′ → Does (answerAbort c x) 0 m e to k o′
+      pub abort-done : {k o′ : List ℕ} {to : ℕ} → Does (aborted c x) len m o to k o′ → Does (answerAbort c x) 0 m e to k o′
       abort-done g = both-done (says 100 (all m)) (aborted c x) (abort-on h) e 0 room said g

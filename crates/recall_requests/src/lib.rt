@@ -222,9 +222,9 @@ fn accept(m: &mut [u64], new: Session, out: &mut [u8]) -> Given
     let len = recall_ends::evict(&mut *m, t, &mut *out, 0);
     let n = recall_ends::rows_in(&*m);
     let moved = recall_rows::count(&*m, n, Stand::Waiting, Test::StartsAfter(t));
-    writing::splice_response(&mut out[len..], new.conn, 100, new.id);
+    let to = len + writing::splice_response(&mut out[len..], new.conn, 100, new.id);
     Given {
-        len: len + 14,
+        len: to,
         moved: moved,
         accepted: true,
         new: new,
@@ -246,9 +246,9 @@ pub fn answer_splice(m: &mut [u64], clock: Ninths, conn: u64, r: Request, out: &
     if n == 100 {
         return accept(&mut *m, new, &mut *out);
     }
-    writing::splice_response(&mut *out, conn, n, r.id as u64);
+    let len = writing::splice_response(&mut *out, conn, n, r.id as u64);
     Given {
-        len: 14,
+        len: len,
         moved: 0,
         accepted: false,
         new: new,
@@ -261,9 +261,8 @@ pub fn answer_abort(m: &mut [u64], conn: u64, id: u64, out: &mut [u8]) -> usize
     ensures { λ r. ⌜ Does (answerAbort conn id) 0 (now (m .entry)) (now (out .entry)) r (now (m .exit)) (now (out .exit)) ⌝ }
 {
     if is_held(&*m, conn, id) {
-        writing::abort_response(&mut *out, conn, 100, id);
-        return recall_ends::abort(&mut *m, conn, id, &mut *out, 14);
+        let len = writing::abort_response(&mut *out, conn, 100, id);
+        return recall_ends::abort(&mut *m, conn, id, &mut *out, len);
     }
-    writing::abort_response(&mut *out, conn, 121, id);
-    14
+    writing::abort_response(&mut *out, conn, 121, id)
 }

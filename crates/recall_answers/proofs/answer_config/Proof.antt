@@ -28,9 +28,6 @@ config-response-requires c κs =
     let channel = c .before .before .before .before .before .channel in
     (search needs, ((omega arith, s .pre .1 .1 .0), (card-length (channel .ensures), card-padded (channel .ensures))))
 
-add-result : tie.Need-add-result
-add-result c = search needs
-
 same-length : tie.Need-same-length
 same-length c = search needs
 
@@ -41,7 +38,7 @@ returns c =
     let if1 = c .before .before .before .before .before .before .if1 in
     let config-response = c .before .before .config-response in
     config-told (s .args .conn) (s .args .log .now) (s .args .h .places) (channel .ensures)
-    (hardware-none (s .args .log .now) (if1 .taken)) (omega arith) (s .pre .1 .1 .0) (omega arith) (config-response .ensures)
+    (hardware-none (s .args .log .now) (if1 .taken)) (config-response .ensures)
 
 sub-message : tie.Need-sub-message
 sub-message c =
@@ -110,12 +107,6 @@ config-response-requires-2 c κs =
       ((short, s .pre .1 .1 .0), (card-length (channel .ensures), card-padded (channel .ensures))),
     )
 
-add-result-2 : tie.Need-add-result-2
-add-result-2 c = search needs
-
-add-result-3 : tie.Need-add-result-3
-add-result-3 c = search needs
-
 same-length-2 : tie.Need-same-length-2
 same-length-2 c = search needs
 
@@ -130,9 +121,8 @@ returns-2 c =
     let config-response2 = c .before .before .config-response2 in
     let l = s .args .log .now in
     let w = place-of l (s .args .h .places) (s .args .conn) (s .pre .1 .0) in
-    let short = hardware-short l w (if1 .left) refl (number2 .ensures) (data-of .ensures) (hardware .ensures) in
     let there = hardware-there l w (if1 .left) refl (number2 .ensures) (data-of .ensures) (hardware .ensures) in
-    config-told (s .args .conn) l (s .args .h .places) (channel .ensures) there short (s .pre .1 .1 .0) refl (config-response2 .ensures)
+    config-told (s .args .conn) l (s .args .h .places) (channel .ensures) there (config-response2 .ensures)
 
 pub answer-config-spec : {M : Type 1} → statement M
 answer-config-spec =
@@ -144,7 +134,6 @@ answer-config-spec =
     slice-aggregate-config-response
     slice-aggregate-config-response-2
     config-response-requires
-    add-result
     same-length
     returns
     sub-message
@@ -156,7 +145,5 @@ answer-config-spec =
     hardware-requires
     slice-aggregate-config-response-3
     config-response-requires-2
-    add-result-2
-    add-result-3
     same-length-2
     returns-2)

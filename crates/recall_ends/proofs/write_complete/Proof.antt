@@ -47,7 +47,7 @@ returns c =
     (λ w. rw (w .5, w .6, w .7, w .4 .ensures, w .1 .given .1) (complete-bytes (x .conn) _ (x .id) 1 (x .played .0)))
     (λ w. rw (w .1, w .2, w .3, failing (s .args .how) (s .pre .0) (w .0 .keys2)) refl)
     (k .came) in
-    tells-same q (tells-part tt (omega (arith, s .pre .1, length-complete (s .args .how) x (s .pre .0))) (c .before .before .splice-complete .ensures))
+    tells-same q (tells-part (omega (arith, s .pre .1)) (c .before .before .splice-complete .ensures))
 
 pub write-complete-spec : {M : Type 1} → statement M
 write-complete-spec =

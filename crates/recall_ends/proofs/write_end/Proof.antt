@@ -50,9 +50,8 @@ same-length-2 c = search needs
 returns-2 : tie.Need-returns-2
 returns-2 c =
     let s = c .before .before .before .before .before .before .before .before in
-    let n = length-response (c .before .before .before .before .before .how .given .0 .0) (s .args .x) in
-    let h : length (output (ended (s .args .how) (s .args .x) ∷ [])) ≡ 14 = rw (c .before .before .before .before .before .how .given .1) n in
-    rw (c .before .before .before .before .before .how .given .1) (tells-part tt (omega (arith, s .pre, h)) (c .before .before .splice-response .ensures))
+    rw (c .before .before .before .before .before .how .given .1)
+    (tells-part (omega (arith, s .pre)) (c .before .before .splice-response .ensures))
 
 pub write-end-spec : {M : Type 1} → statement M
 write-end-spec =

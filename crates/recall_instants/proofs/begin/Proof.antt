@@ -45,7 +45,7 @@ returns c =
     let a = s .args in
     record {
       holds = stored (a .m .now) (n .rows-in .result) (n .rows-in .ensures) _ (a .i) _ (search needs) (on .store .ensures);
-      tells = tells-part tt (omega (arith, s .pre .1, length-began (a .x))) (w .splice-complete .ensures);
+      tells = tells-part (omega (arith, s .pre .1)) (w .splice-complete .ensures);
     }
 
 pub begin-spec : {M : Type 1} → statement M

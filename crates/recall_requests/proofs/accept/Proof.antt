@@ -38,8 +38,8 @@ splice-response-requires c κs =
     let evict = c .before .before .before .before .before .before .before .before .before .evict in
     omega (arith, grant-room (s .args .new) (s .args .m .now) (s .args .out .now) (s .pre) (evict .ensures) (evict .kept .1 .1 .0))
 
-add-t20 : tie.Need-add-t20
-add-t20 c =
+add-to : tie.Need-add-to
+add-to c =
     let s = c .before .before .before .before .before .before .before .before .before .before .before .before .before .before .before .before .before in
     let evict = c .before .before .before .before .before .before .before .before .before .before .before .before .evict in
     omega (arith, grant-room (s .args .new) (s .args .m .now) (s .args .out .now) (s .pre) (evict .ensures) (evict .kept .1 .1 .0))
@@ -73,7 +73,7 @@ accept-spec =
     part-splice-response-start
     part-splice-response-end
     splice-response-requires
-    add-t20
+    add-to
     same-length
     same-length-2
     returns)
