@@ -1,4 +1,4 @@
--- The loops of `end_theirs` and of `end_due`: some of a list are passed, and the rest decides.
+-- The loops of `end_waiting_of`, of `end_covered_of` and of `end_due`: some of a list are passed, and the rest decides.
 -- Rests on rules' laws of endings, of a record's length and of a list without one place.
 use mathlib.Core.Path.{_≡_, refl, sym, ap, subst, _∙_}
 use mathlib.Core.Bool.{Bool, true, false, not}
@@ -116,7 +116,7 @@ module _ {p : Session → Bool} {air cover : Ending} {l : List Session} {e : Lis
         let r : endings air cover p l Past past ≡ v .gone = v .pasts ∙ rw (drop-of-length-le k {i = i} b) (append-nil (v .gone)) in
         v .kept ∙ ap (λ (z : List Past). rememberedAll z was) (sym r)
 
--- ## A connection's of a list: the loop of `end_theirs`
+-- ## A connection's of a list: the loop of `end_waiting_of`
 
 -- a list as long as before is without none
 omit-none : (p : Session → Bool) (l : List Session) → length l ≤ length (omit p l) → omit p l ≡ l
@@ -236,7 +236,7 @@ module _ {c : ℕ} {e : List ℕ} {len : ℕ} where
           ∙ ap (λ (q : Queue). queued q (see m)) (listed-same w (see m .queue))) in
           theirs-done (record { form = v .form; is = same })
 
--- ## Started ones go one by one, and the others stay: the loop of `end_due`
+-- ## Started ones go one by one, and the others stay: the loops of `end_due` and of `end_covered_of`
 
 -- a list without its place i
 taken : (l : List Session) (i : ℕ) → i < length l → take i (removeAt i l) ≡ take i l
@@ -305,15 +305,29 @@ module _ {p : Session → Bool} {air cover : Ending} {e : List ℕ} {len : ℕ} 
           }
 
 -- all are passed
+module _ {p : Session → Bool} {air cover : Ending} {s : Memory} {e o m : List ℕ} {len i to : ℕ} {h : Ending}
+    (v : Leaving p air cover s e len m i h to o) (k : length (see m .queue .started) ≤ i) where
+  leaving-over : Turns e len (ending (endings air cover p (s .queue .started)) (withStarted (omit p (s .queue .started)) (s .queue))) s m to o
+  leaving-over =
+      let l = see m .queue .started in
+      let a : omit p (s .queue .started) ≡ l = v .stay ∙ rw (drop-of-length-le l {i = i} k, take-all i l k) (append-nil l) in
+      record {
+        shows = record { form = v .form; is = v .kept ∙ (λ j. queued (withLately (closing-kept l i (v .writes) k j) (withStarted (sym a j) (s .queue))) s) };
+        tells = closing-done l i (v .writes) k;
+      }
+
+-- at an instant
 pub leaving-done : (t : Ninths) {s : Memory} {e o m : List ℕ} {len i to : ℕ} {h : Ending} →
     Leaving (endsAt (t .0)) (Complete 100) (Complete 125) s e len m i h to o → length (see m .queue .started) ≤ i →
     Turns e len (endAt (t .0) (s .queue)) s m to o
 unfolding endAt
-leaving-done t {s} {m = m} {i = i} v k =
-    let l = see m .queue .started in
-    let p = endsAt (t .0) in
-    let a : omit p (s .queue .started) ≡ l = v .stay ∙ rw (drop-of-length-le l {i = i} k, take-all i l k) (append-nil l) in
-    record {
-      shows = record { form = v .form; is = v .kept ∙ (λ j. queued (withLately (closing-kept l i (v .writes) k j) (withStarted (sym a j) (s .queue))) s) };
-      tells = closing-done l i (v .writes) k;
-    }
+leaving-done t v k = leaving-over v k
+
+-- at a close
+pub leaving-theirs : (c : ℕ) {s : Memory} {e o m : List ℕ} {len i to : ℕ} {h : Ending} →
+    Leaving (of c) (Response 116) (Response 116) s e len m i h to o → length (see m .queue .started) ≤ i →
+    Turns e len (theirsEnded Started c (s .queue)) s m to o
+unfolding theirsEnded
+leaving-theirs c {s} v k =
+    let l = s .queue .started in
+    rw (← (endings-map past (Response 116) (of c) l), ← (endings-map ended (Response 116) (of c) l)) (leaving-over v k)

@@ -27,6 +27,7 @@ use Rattle.rules.proofs.Tests.{by, clash}
 use Rattle.rules.proofs.All.{all-into}
 use Rattle.rules.proofs.Bounds.{longest}
 use Rattle.rules.proofs.Count.{length-split, length-removeAt}
+use Rattle.rules.proofs.Every.{Fewer, fewer-same, fewer-removeAt, fewer-all}
 use Rattle.rules.proofs.Lately.{remembered-append}
 use Rattle.rules.proofs.Sound.{played-now}
 use Rattle.rules.proofs.Size.{weight-none, weight-ended, weight-all}
@@ -281,6 +282,12 @@ air-slim c q =
     (λ d. record { room = omega (arith, brief (Complete 116) (getD l 0 empty), length-removeAt 0 l (first-some c l d)); wait = refl })
     (λ d. record { room = omega (arith, weight-none); wait = refl })
 
+air-fewer : (c : ℕ) (q : Queue) → Fewer (q .started) (airEnded c q .queue .started)
+unfolding airEnded oneEnded
+air-fewer c q =
+    let l = q .started in
+    by (λ (t : Turn). Fewer l (t .queue .started)) (some (of c) (take 1 l)) _ _ (λ d. fewer-removeAt 0 l) (λ d. fewer-same l)
+
 theirs-slim : (c : ℕ) (q : Queue) → Slim q (theirsEnded Started c q)
 unfolding theirsEnded
 theirs-slim c q =
@@ -314,6 +321,11 @@ module _ (c : ℕ) (m : List ℕ) {n e o : List ℕ} {to : ℕ} (a : Does (airEn
   pub cover-room : to + roomFor (length (see n .queue .started)) ≤ roomFor (length (see m .queue .started))
   cover-room =
       omega (arith, a .tells .count, air-slim c (see m .queue) .room, ap (λ (s : Memory). length (s .queue .started)) (a .shows .is))
+
+  -- and their records can be written
+  pub cover-playable : All Playable (see m .queue .started) → All Playable (see n .queue .started)
+  cover-playable h =
+      subst (λ (s : Memory). All Playable (s .queue .started)) (sym (a .shows .is)) (fewer-all Playable (air-fewer c (see m .queue)) h)
 
   module _ {n′ o′ : List ℕ} {to′ : ℕ} (b : Does (theirsEnded Started c) to n o to′ n′ o′) where
     -- room for those that wait

@@ -18,7 +18,7 @@ ghost use Rattle.rules.specs.Records.{resultOf};
 ghost use Rattle.rules.specs.Ends.{ended, past, ending, oneEnd, dismissed, closedBy};
 ghost use Rattle.rules.specs.Instants.{failed, endAt};
 ghost use Rattle.memory.specs.declared.Which.the-variants.{Waiting, Started};
-ghost use Rattle.memory.specs.Memory.{Form, Now, sessions, see, recalling};
+ghost use Rattle.memory.specs.Memory.{Form, Now, see, recalling};
 ghost use Rattle.ends.specs.Does.{Writable, Playable, Completing, roomFor, Tells, Does, endingAt, oneEnded, chainEnded};
 ghost use Rattle.ends.specs.Does.{airEnded, theirsEnded};
 
@@ -197,20 +197,41 @@ fn end_on_air_of(m: &mut [u64; WORDS], conn: u64, out: &mut [u8]) -> usize
     end_one_started(&mut *m, 0, Ending::Complete(116), &mut *out, 0)
 }
 
-// The connection's sessions of a list end, none of which is on air; the others close up.
-fn end_theirs(m: &mut [u64; WORDS], which: Which, conn: u64, out: &mut [u8], len: usize) -> usize
+// The connection's started sessions end, none of which is on air; the others close up.
+fn end_covered_of(m: &mut [u64; WORDS], conn: u64, out: &mut [u8], len: usize) -> usize
+    requires { ⌜ Form (now m) ⌝ }
+    requires { ⌜ All Playable (see (now m) .queue .started) ⌝ }
+    requires { ⌜ len + roomFor (length (see (now m) .queue .started)) ≤ length (now out) ⌝ }
+    ensures { λ r.
+        ⌜ Does (theirsEnded Started conn) len (now (m .entry)) (now (out .entry)) r (now (m .exit)) (now (out .exit)) ⌝ }
+{
+    let mut to = len;
+    let mut i = 0;
+    while i < memory::count(&*m, Which::Started) {
+        let whose = memory::conn_at(&*m, Which::Started, i);
+        if conn == whose {
+            to = end_one_started(&mut *m, i, Ending::Response(116), &mut *out, to);
+        } else {
+            i += 1;
+        }
+    }
+    to
+}
+
+// The connection's waiting sessions end; the others close up.
+fn end_waiting_of(m: &mut [u64; WORDS], conn: u64, out: &mut [u8], len: usize) -> usize
     requires { ⌜ Form (now m) ⌝ }
     requires { ⌜ conn ≤ 3 ⌝ }
-    requires { ⌜ len + roomFor (length (sessions which (now m))) ≤ length (now out) ⌝ }
+    requires { ⌜ len + roomFor (length (see (now m) .queue .waiting)) ≤ length (now out) ⌝ }
     ensures { λ r.
-        ⌜ Does (theirsEnded which conn) len (now (m .entry)) (now (out .entry)) r (now (m .exit)) (now (out .exit)) ⌝ }
+        ⌜ Does (theirsEnded Waiting conn) len (now (m .entry)) (now (out .entry)) r (now (m .exit)) (now (out .exit)) ⌝ }
 {
-    let n = memory::count(&*m, which);
+    let n = memory::count(&*m, Which::Waiting);
     let mut to = len;
     let mut left = 0;
     let mut i = 0;
     while i < n {
-        let x = memory::load(&*m, which, i);
+        let x = memory::load(&*m, Which::Waiting, i);
         if conn == x.conn {
             to = write_end(&mut *m, Ending::Response(116), x, &mut *out, to);
         } else {
@@ -219,7 +240,7 @@ fn end_theirs(m: &mut [u64; WORDS], which: Which, conn: u64, out: &mut [u8], len
         i += 1;
     }
     if left < n {
-        memory::omit_of(&mut *m, which, conn, left);
+        memory::omit_of(&mut *m, Which::Waiting, conn, left);
     }
     to
 }
@@ -280,6 +301,6 @@ pub fn end_all_of(m: &mut [u64; WORDS], conn: u64, out: &mut [u8]) -> usize
         ⌜ Does (closedBy conn) 0 (now (m .entry)) (now (out .entry)) r (now (m .exit)) (now (out .exit)) ⌝ }
 {
     let aired = end_on_air_of(&mut *m, conn, &mut *out);
-    let to = end_theirs(&mut *m, Which::Started, conn, &mut *out, aired);
-    end_theirs(&mut *m, Which::Waiting, conn, &mut *out, to)
+    let to = end_covered_of(&mut *m, conn, &mut *out, aired);
+    end_waiting_of(&mut *m, conn, &mut *out, to)
 }
