@@ -1,5 +1,5 @@
-/* splicer.h: the proved splicer core for drivers in C11 or C++17. Link with libdoor.a (rt staticlib door); a driver of the card with a rolling
- * counter also with librolldoor.a (rt staticlib rolldoor).
+/* splicer.h: the proved splicer core for drivers in C99, C11 and C++11 or later. Link with libdoor.a (rt staticlib door); a driver of the
+ * card with a rolling counter also with librolldoor.a (rt staticlib rolldoor).
  *
  * One struct splicer is one output channel with its connections 0 to 3. The driver owns its memory; the core keeps none of its
  * own, allocates nothing and has no globals. Every call borrows its arguments until it returns and keeps no pointer.
@@ -24,13 +24,17 @@ typedef __SIZE_TYPE__ size_t;
 #define SPLICER_OFFSET(type, field) offsetof(type, field)
 #endif
 
-#ifdef __cplusplus
+#if defined(__cplusplus)
 extern "C" {
 #define SPLICER_ASSERT(test, why) static_assert(test, why)
 #define SPLICER_ALIGN(type) alignof(type)
-#else
+#elif __STDC_VERSION__ >= 201112L
 #define SPLICER_ASSERT(test, why) _Static_assert(test, why)
 #define SPLICER_ALIGN(type) _Alignof(type)
+#else
+/* C99 has neither: an array of -1 elements is refused, and a char before the type takes its alignment. */
+#define SPLICER_ASSERT(test, why) extern const char splicer_holds[(test) ? 1 : -1]
+#define SPLICER_ALIGN(type) (sizeof(struct { char before; type it; }) - sizeof(type))
 #endif
 
 /* The version of struct splicer and of the archive's functions. Their names carry it, and every call below refers to such a name, so

@@ -1,7 +1,7 @@
 #!/bin/sh
-# driver.sh: the C headers, each by itself, as C11 and C++17, and the example drivers over the proved archive, their output compared with
-# examples/driver.out, rolling.out, cues.out and remember.out, and the first one's recording with desk/recordings/sport.rec; a driver of
-# version 1 or 6 must not link with it. All by the kit's own compiler and linker.
+# driver.sh: the C headers, each by itself, as C99, C11 and C++11 to C++20, and the example drivers over the proved archive, their output
+# compared with examples/driver.out, rolling.out, cues.out and remember.out, and the first one's recording with desk/recordings/sport.rec; a
+# driver of version 1 or 6 must not link with it. All by the kit's own compiler and linker.
 # The last line is 'N passed, M failed'.
 set -eu
 . "$(dirname "$0")/words.sh"
@@ -34,8 +34,8 @@ tried() {
 # header LANGUAGE STANDARD: a source of nothing but a header, each by itself
 header() {
     for file in include/*.h; do
-        echo "#include \"$(basename "$file")\"" | "$clang" --target=x86_64-unknown-linux-gnu -DSPLICER_NO_STANDARD_HEADERS -x "$1" -std="$2" \
-            -Wall -Wextra -Wpedantic -Werror -Iinclude -fsyntax-only - || return 1
+        echo "#include \"$(basename "$file")\"" | "$clang" --target=x86_64-unknown-linux-gnu -DSPLICER_NO_STANDARD_HEADERS \
+            -x "$1" -std="$2" -pedantic -Wall -Wextra -Werror -Iinclude -fsyntax-only - || return 1
     done
 }
 
@@ -84,8 +84,8 @@ old() {
     grep "undefined symbol: $2\$" "$work/old.log"
 }
 
-tried 'header as C11' header c c11
-tried 'header as C++17' header c++ c++17
+for standard in c99 c11; do tried "headers as $standard" header c $standard; done
+for standard in c++11 c++14 c++17 c++20; do tried "headers as $standard" header c++ $standard; done
 tried 'build' built
 tried 'run' runs
 tried 'run with a rolling counter' rolls
