@@ -31,7 +31,7 @@ same() {
     for by in checker check; do
         program=$work/check
         [ "$by" = check ] || program=target/bin/checker
-        sh tools/run-program.sh "$program" <"$3" >"$work/line" 2>"$work/log" || :
+        sh tools/run-program.sh --plain "$program" <"$3" >"$work/line" 2>"$work/log" || :
         if [ "$(cat "$work/line")" = "$2" ] && [ "$(wc -l <"$work/line")" -eq 1 ]; then
             passed=$((passed + 1))
         else
@@ -39,6 +39,45 @@ same() {
             failed=$((failed + 1))
         fi
     done
+}
+
+# ends STATUS WANTED COMMAND..: the checker as people run it (tools/release/judged.sh): its status and its line; where it says none of its
+# own, one on standard error says why
+ends() {
+    wanted=$1 line=$2 status=0
+    shift 2
+    "$@" >"$work/line" 2>"$work/why" || status=$?
+    lines=0
+    [ -n "$line" ] || lines=1
+    if [ "$status" -eq "$wanted" ] && [ "$(cat "$work/line")" = "$line" ] && [ "$(wc -l <"$work/why")" -eq "$lines" ]; then
+        passed=$((passed + 1))
+    else
+        echo "bench: checker: wanted $wanted '$line', got $status '$(cat "$work/line" "$work/why")'"
+        failed=$((failed + 1))
+    fi
+}
+
+# checker [WORD..]: on standard input
+checker() {
+    sh tools/run-program.sh target/bin/checker "$@"
+}
+
+# closed: without a standard input
+closed() {
+    checker <&-
+}
+
+# breaking: on a recording that cannot be read to its end: its reader, by the name of head, gives 3 bytes and fails
+breaking() {
+    cat >"$work/head" <<END_OF_HEAD
+#!/bin/sh
+[ "\$*" = '-c 65536' ] || exec $(command -v head) "\$@"
+printf '\\000C\\000'
+echo "head: error reading 'standard input': Input/output error" >&2
+exit 1
+END_OF_HEAD
+    chmod +x "$work/head"
+    printf O | (PATH=$PWD/$work:$PATH && export PATH && checker)
 }
 
 # marks N: N bytes of opens of connection 0
@@ -130,6 +169,20 @@ for n in 65535 65536; do
 done
 marks 65537 >"$work/long"
 same '65,537 bytes' 'refused 15' "$work/long"
+
+# the exit status: by hand 0 for none, 1 for a call, 2 for the rest; what cannot be read is no recording
+ends 0 none checker <examples/recordings/day.rec
+ends 0 none checker <examples/recordings/cut-record.rec
+ends 1 'call 45' checker <examples/recordings/day-wrong-end.rec
+ends 2 'refused 14 at 4' checker <examples/recordings/unknown-last.rec
+ends 2 'refused 15' checker <"$work/long"
+ends 2 'refused 15' checker </dev/zero
+ends 2 '' checker <examples/recordings/empty.rec
+ends 2 '' checker <examples
+ends 2 '' closed
+ends 2 '' checker --help <examples/recordings/day.rec
+ends 2 '' checker examples/recordings/day.rec <examples/recordings/day.rec
+ends 2 '' breaking
 
 built recalls
 says 'both engines' <<END

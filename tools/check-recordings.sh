@@ -21,8 +21,8 @@ CARGO_TARGET_DIR=target/model cargo build --quiet --release --offline --manifest
 model=target/model/release/model
 for seed; do
     rm -rf "$work/out"
-    ran "checker, seed $seed" "$model" recordings --seed "$seed" --n "${STREAMS:-40}" --checker 'sh tools/run-program.sh target/bin/checker' \
-        --out "$work/out" model/scenarios/*.txt || :
+    ran "checker, seed $seed" "$model" recordings --seed "$seed" --n "${STREAMS:-40}" \
+        --checker 'sh tools/run-program.sh --plain target/bin/checker' --out "$work/out" model/scenarios/*.txt || :
     ran "splicer_check, seed $seed" "$model" recordings --seed "$seed" --n "${STREAMS:-40}" --checker 'sh tools/run-program.sh target/bench/check' || :
     if [ -n "${BINDINGS:-}" ]; then
         SPLICER_RECORDINGS=$PWD/$work/out ran "the Rust wrapper, seed $seed" cargo test --quiet --release --offline --manifest-path bindings/Cargo.toml \

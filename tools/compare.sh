@@ -30,7 +30,7 @@ fi
 
 # recordings whole, cut and damaged (02, CR 14): the second program's checker, and the checker program once it is linked
 if [ -x target/bin/checker ]; then
-    ran recordings "$model" recordings --seed 280 --n 20 --checker "sh tools/run-program.sh target/bin/checker" "$@" || :
+    ran recordings "$model" recordings --seed 280 --n 20 --checker "sh tools/run-program.sh --plain target/bin/checker" "$@" || :
 else
     ran recordings "$model" recordings --seed 280 --n 20 "$@" || :
 fi
