@@ -1,7 +1,7 @@
-//! Links the archives that `rt staticlib door` and `rt staticlib rolldoor` made, and for the feature
-//! `bench` that of `rt staticlib bench`. SPLICER_LIB names their folder; without it, the
-//! repository's own `target/staticlib` is taken, or for another processor than x86-64
-//! `target/native`, where `tools/beside.sh` has them compiled.
+//! Links the archives `libdoor.a` and `librolldoor.a`, and for the feature `bench` `libbench.a`.
+//! SPLICER_LIB names their folder. Without it they are those of the release that this crate stands
+//! in, `../lib`; in the repository, which has none, `../target/staticlib` (`rt staticlib`), or for
+//! another processor than x86-64 `../target/native`, where `tools/beside.sh` has them compiled.
 
 use std::path::{Path, PathBuf};
 
@@ -9,7 +9,7 @@ fn main() {
     println!("cargo:rerun-if-env-changed=SPLICER_LIB");
     let folder = match std::env::var_os("SPLICER_LIB") {
         Some(folder) => PathBuf::from(folder),
-        None => PathBuf::from(env!("CARGO_MANIFEST_DIR")).join(own_folder()),
+        None => own_folder(),
     };
     println!("cargo:rustc-link-search=native={}", folder.display());
     link(&folder, "door");
@@ -19,11 +19,14 @@ fn main() {
     }
 }
 
-fn own_folder() -> &'static str {
-    if is_x86() {
-        "../target/staticlib"
+fn own_folder() -> PathBuf {
+    let above = Path::new(env!("CARGO_MANIFEST_DIR")).join("..");
+    if above.join("MANIFEST").is_file() {
+        above.join("lib")
+    } else if is_x86() {
+        above.join("target/staticlib")
     } else {
-        "../target/native"
+        above.join("target/native")
     }
 }
 
@@ -39,7 +42,10 @@ fn link(folder: &Path, name: &str) {
         } else {
             "sh tools/archive-for.sh TARGET OUT.a"
         };
-        panic!("{} is missing: {by} {name}", archive.display());
+        panic!(
+            "{} is missing: SPLICER_LIB names another folder, in the repository {by} {name} makes it",
+            archive.display()
+        );
     }
     println!("cargo:rerun-if-changed={}", archive.display());
     println!("cargo:rustc-link-lib=static={name}");

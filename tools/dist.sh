@@ -1,25 +1,46 @@
 #!/bin/sh
-# dist.sh [--proved]: a release of what is committed, target/dist/splicer-VERSION.tar.gz: headers, archive, pkg-config file, card program, the desk's program with
-# its man page, the Rust crate, docs, CHANGELOG and MANIFEST (commit, versions of kit and compilers, the sum of the logic that the proofs were checked by, and of each
-# file). It is built twice, from nothing and in two folders, and compared byte by byte. With --proved both folders take over the proofs
-# of this one (target/rlib, target/stamp) for all crates but `door` and `card`, which are proved and built anew. The last line is 'N passed, M failed'.
+# dist.sh [--proved | --gate] [x86_64 | aarch64]: a release for one processor, this machine's if none is named,
+# target/dist/splicer-VERSION-PROCESSOR.tar.gz: headers, archives, pkg-config files, programs, the desk's program with its man page, the
+# Rust crate, examples, docs, README, CHANGELOG, NOTICE, splicer.spdx (what is in it, by SPDX) and MANIFEST (commit, versions of kit and
+# compilers, the sum of the logic that the proofs were checked by, and of each file). It is built twice of what is committed, from nothing
+# and in two folders, and compared byte by byte; then it is unpacked and used (tools/use-release.sh). With --proved both folders take over
+# the proofs of this one (target/rlib, target/stamp) for all crates but those of archives and programs, which are proved and built anew.
+# With --gate it is built once, of the files as they stand and of the archives and programs that the gate proved and built here, into
+# target/dist/gate; its `desk` is built without optimisation, and its MANIFEST says so. The last line is 'N passed, M failed'.
 set -eu
 . "$(dirname "$0")/words.sh"
-case $#${1:-} in
-0 | 1--proved) proved=${1:-} ;;
-*) refuse "only --proved, not '$*'" ;;
+how=
+processor=$(uname -m)
+case ${1:-} in
+--proved | --gate) how=$1 && shift ;;
 esac
-needs rt rustc git tar sha256sum
+case $#${1:-} in
+0) ;;
+1x86_64 | 1aarch64) processor=$1 ;;
+*) refuse "only --proved or --gate, then x86_64 or aarch64, not '$*'" ;;
+esac
+case $processor in
+x86_64 | aarch64) ;;
+*) refuse "no release for $processor: x86_64 or aarch64" ;;
+esac
+needs rt git tar sha256sum sha1sum
+needs_rust 1.81
 find_kit
 cd "$(dirname "$0")/.."
-work=$PWD/target/dist
+here=$PWD
+target=$processor-unknown-linux-gnu
+# the compiler that links programs for the processor
+cc=cc
+[ "$processor" = "$(uname -m)" ] || cc=$(echo "$processor" | tr _ -)-linux-gnu-gcc
+needs "$cc"
+work=$here/target/dist
+[ "$how" != --gate ] || work=$work/gate
 passed=0
 failed=0
 version=$(sed -n 's/^## \([0-9.]*\).*/\1/p' CHANGELOG.md | head -n 1)
 state=$(sed -n 's/^    SPLICER_VERSION = \([0-9]*\).*/\1/p' include/splicer.h)
 [ "${version%%.*}" = "$state" ] || refuse "CHANGELOG.md's first version $version is none of SPLICER_VERSION $state"
-[ -z "$(git status --porcelain)" ] || echo 'dist: what is not committed is left out'
-name=splicer-$version
+release=splicer-$version-$processor
 rm -rf "$work"
 mkdir -p "$work"
 
@@ -37,103 +58,150 @@ held() {
     fi
 }
 
-# pc: the pkg-config file; it finds its folder by itself
+# pc NAME LIBRARIES TEXT: a pkg-config file; it finds its folder by itself
 pc() {
     echo 'prefix=${pcfiledir}/../..'
-    echo 'Name: splicer'
-    echo 'Description: proved splicer core, one output channel and four API connections (ITU-T J.280)'
+    echo "Name: $1"
+    echo "Description: $3"
     echo "Version: $version"
     echo 'Cflags: -I${prefix}/include'
-    echo 'Libs: -L${prefix}/lib -lrolldoor -ldoor'
+    echo "Libs: -L\${prefix}/lib $2"
+}
+
+# commit: that of the sources, and whether they are as it has them
+commit() {
+    changed=
+    [ "$how" != --gate ] || [ -z "$(git -C "$here" status --porcelain)" ] || changed=', with changes that are not committed'
+    echo "$(git -C "$here" rev-parse HEAD)$changed"
+}
+
+# when: the commit's time
+when() {
+    TZ=UTC git -C "$here" log -1 --date=format-local:%Y-%m-%dT%H:%M:%SZ --format=%cd
 }
 
 # manifest: of the files in the present folder, and what they were made by
 manifest() {
-    echo "$name"
-    echo "commit $(git -C "$here" rev-parse HEAD)"
-    echo "state and functions version $state"
+    echo "$release"
+    echo "commit $(commit)"
+    echo "processor $processor"
+    echo "version of the state and of the archive's functions $state"
     echo "kit $(rt version)"
-    echo "logic $(sed -n 's/^logic .* sum=//p' ../archive.log | head -n 1)"
-    echo "proved, of the door: $(sed -n 's/^logic=proved //p' ../archive.log | head -n 1)"
-    echo "proved, of the card program: $(sed -n 's/^logic=proved //p' "$source/target/log/card.say" | head -n 1)"
-    echo "compiler of archive and card program $("$kit/on/$(uname -m)/toolchain/bin/clang" --version | head -n 1)"
-    echo "compiler of desk $(rustc --version)"
+    for crate in door door_rolling door_bench $programs; do
+        echo "proved, of $crate: $(sed -n 's/^logic=proved //p' "$source/target/log/$crate.say" | head -n 1)"
+    done
+    echo "compiler of archives and proved programs $("$kit/on/$(uname -m)/toolchain/bin/clang" --version | head -n 1)"
+    echo "compiler of desk $(rustc --version)${how:+, ${optimised}}"
     find . -type f ! -name MANIFEST | LC_ALL=C sort | xargs sha256sum
 }
 
+# the programs that the kit makes: for x86-64 alone. Elsewhere the checker is a small one in C over the same proved archive
+programs=
+[ "$processor" != x86_64 ] || programs='card checker remember'
+optimised='opt-level 3'
+[ "$how" != --gate ] || optimised='opt-level 0, for trials only'
+
 # desk: the desk's program in the present folder of sources. By rustc itself: cargo puts a hash of the folder's name into what it builds
 desk() {
-    mkdir -p target/desk/release
     of=$(sed -n 's/^version = "\(.*\)"/\1/p' desk/Cargo.toml)
-    rust="rustc --edition 2021 -C opt-level=3 -C metadata=splicer --remap-path-prefix=$PWD=."
-    $rust --crate-type rlib --crate-name model --cfg 'feature="uncounted"' -o target/desk/libmodel.rlib model/src/lib.rs
-    CARGO_PKG_VERSION=$of $rust --crate-name desk --extern model=target/desk/libmodel.rlib -o target/desk/release/desk desk/src/main.rs
+    level=${optimised#opt-level }
+    rust="rustc --edition 2021 --target $target -C linker=$cc -C opt-level=${level%%,*} -C metadata=splicer --remap-path-prefix=$PWD=."
+    $rust --crate-type rlib --crate-name model --cfg 'feature="uncounted"' -o "$parts/libmodel.rlib" model/src/lib.rs
+    CARGO_PKG_VERSION=$of $rust --crate-name desk --extern "model=$parts/libmodel.rlib" -o "$parts/desk" desk/src/main.rs
 }
 
-# gathered: the files of a release, of the sources in $source
+# proved_parts: the archives and the programs of proved crates, of the present folder of sources
+proved_parts() {
+    for name in door rolldoor bench; do
+        if [ "$processor" = x86_64 ]; then
+            archive "$parts/$name.log" "$name" && cp "target/staticlib/lib$name.a" "$parts/"
+        else
+            sh tools/archive-for.sh "$target" "$parts/lib$name.a" "$name"
+        fi || return 1
+    done
+    if [ -n "$programs" ]; then
+        # shellcheck disable=SC2086
+        proving "$parts/programs.log" check $programs
+        for program in $programs; do cp "target/bin/$program" "$parts/"; done
+    else
+        "$cc" -std=c99 -O2 -Iinclude tools/release/checker.c "$parts/libbench.a" -o "$parts/checker"
+    fi
+}
+
+# gathered: the files of a release, of the sources in $source and what was built in $parts
 gathered() {
-    mkdir -p bin include lib/pkgconfig share/man/man1 share/splicer/rust share/doc/splicer/docs
+    mkdir -p bin include lib/pkgconfig libexec/splicer share/man/man1
     cp "$source"/include/*.h include/
-    for name in door rolldoor bench; do cp "$source/target/staticlib/lib$name.a" lib/; done
-    pc >lib/pkgconfig/splicer.pc
-    cp "$source/target/bin/card" "$source/target/bin/checker" "$source/target/bin/remember" "$source/target/desk/release/desk" bin/
+    cp "$parts"/lib*.a lib/
+    pc splicer '-lrolldoor -ldoor' 'proved splicer core, one output channel, four API connections (J.280)' >lib/pkgconfig/splicer.pc
+    pc splicer-bench -lbench 'for the bench: proved checker of recordings, second engine' >lib/pkgconfig/splicer-bench.pc
+    for program in $(echo "$programs" | sed 's/checker//') desk; do cp "$parts/$program" bin/; done
+    # it gives an exit status, which the program cannot
+    cp "$parts/checker" "$source/tools/release/judged.sh" libexec/splicer/
+    cp "$source/tools/release/judge.sh" bin/checker
+    chmod +x bin/checker
     cp "$source/desk/desk.1" share/man/man1/
-    cp -R "$source/examples" "$source/wireshark" share/splicer/
-    for part in Cargo.toml Cargo.lock build.rs src; do cp -R "$source/bindings/$part" share/splicer/rust/; done
-    cp "$source/README.md" "$source/CHANGELOG.md" share/doc/splicer/
-    cp -R "$source"/docs/* share/doc/splicer/docs/
+    cp -R "$source/examples" "$source/wireshark" "$source/docs" "$source/CHANGELOG.md" .
+    mkdir rust
+    for part in Cargo.toml Cargo.lock build.rs src tests; do cp -R "$source/bindings/$part" rust/; done
+    cp "$source/tools/release/README.md" "$source/tools/release/NOTICE" .
+    sh "$source/tools/spdx.sh" "$release" "$(commit | cut -d , -f 1)" "$(when)" >../splicer.spdx
+    mv ../splicer.spdx .
     manifest >MANIFEST
 }
 
-# built FOLDER: a release in FOLDER, of what is committed
+# committed FOLDER: the sources as they are committed, and with --proved the proofs of this folder
+committed() {
+    mkdir -p "$1"
+    git archive HEAD | tar -x -C "$1"
+    [ "$how" = --proved ] || return 0
+    mkdir -p "$1/target"
+    cp -R target/rlib target/stamp target/log "$1/target/"
+    for crate in door door_rolling door_bench card checker remember; do rm -f "$1/target/stamp/$crate"; done
+}
+
+# built FOLDER: a release in FOLDER
 built() {
     source=$1/source
-    mkdir -p "$source" "$1/$name"
-    git archive HEAD | tar -x -C "$source"
-    if [ -n "$proved" ]; then
-        mkdir -p "$source/target"
-        cp -R target/rlib target/stamp target/log "$source/target/"
-        rm -f "$source/target/stamp/card" "$source/target/stamp/door" "$source/target/stamp/door_rolling"
+    parts=$1/parts
+    mkdir -p "$parts" "$1/$release"
+    if [ "$how" = --gate ]; then
+        source=$here
+    else
+        committed "$source"
     fi
-    here=$PWD
-    (
-        cd "$source"
-        archive "$1/archive.log" door
-        archive "$1/rolldoor.log" rolldoor
-        archive "$1/bench.log" bench
-        proving "$1/card.log" check card checker remember
-        echo 'building desk'
-        desk
-    )
-    (cd "$1/$name" && gathered)
-    tar -C "$1" --sort=name --owner=0 --group=0 --numeric-owner --mtime="@$(git log -1 --format=%ct)" -cf - "$name" | gzip -n >"$1.tar.gz"
+    (cd "$source" && proved_parts && echo 'building desk' && desk)
+    (cd "$1/$release" && gathered)
+    tar -C "$1" --sort=name --owner=0 --group=0 --numeric-owner --mtime="@$(git log -1 --format=%ct)" -cf - "$release" |
+        gzip -n >"$1.tar.gz"
 }
 
-# driven: a driver built by this machine's compiler with nothing but the release
-driven() {
-    PKG_CONFIG_PATH=$work/one/$name/lib/pkgconfig
-    export PKG_CONFIG_PATH
-    # shellcheck disable=SC2046
-    cc -std=c11 examples/driver.c $(pkg-config --cflags --libs splicer) -o "$work/driver" && "$work/driver" >"$work/driver.out" &&
-        diff examples/driver.out "$work/driver.out"
+# used: the release, unpacked elsewhere, by who has nothing else of ours; only where it runs
+used() {
+    sh tools/use-release.sh "$work/$release.tar.gz" >"$work/used" 2>&1 || :
+    cat "$work/used"
+    sums=$(grep -oE '[0-9]+ passed, [0-9]+ failed' "$work/used" | tail -n 1)
+    sums=${sums:-0 passed, 1 failed}
+    passed=$((passed + ${sums%% *}))
+    sums=${sums#*, }
+    failed=$((failed + ${sums%% *}))
 }
 
-# sums: each file is the manifest's
-sums() {
-    (cd "$work/one/$name" && grep -E '^[0-9a-f]{64}  ' MANIFEST | sha256sum -c --quiet)
-}
-
-for folder in one a-second-folder; do
-    echo "dist: building in $folder"
-    built "$work/$folder"
-done
-held 'both folders alike, file by file' diff -r "$work/one/$name" "$work/a-second-folder/$name"
-held 'both packages alike' cmp "$work/one.tar.gz" "$work/a-second-folder.tar.gz"
-held 'the sums of the manifest' sums
-if [ "$(uname -m)" = x86_64 ] && command -v cc >/dev/null && command -v pkg-config >/dev/null; then
-    held 'a driver by pkg-config and cc' driven
+if [ "$how" = --gate ]; then
+    built "$work/one"
+else
+    [ -z "$(git status --porcelain)" ] || echo 'dist: what is not committed is left out'
+    for folder in one a-second-folder; do
+        echo "dist: building in $folder"
+        built "$work/$folder"
+    done
+    held 'both folders alike, file by file' diff -r "$work/one/$release" "$work/a-second-folder/$release"
+    held 'both packages alike' cmp "$work/one.tar.gz" "$work/a-second-folder.tar.gz"
 fi
-mv "$work/one.tar.gz" "$work/$name.tar.gz"
-echo "dist: target/dist/$name.tar.gz, sha256 $(sha256sum <"$work/$name.tar.gz" | cut -d ' ' -f 1)"
+mv "$work/one.tar.gz" "$work/$release.tar.gz"
+if [ "$processor" = "$(uname -m)" ]; then
+    used
+fi
+echo "dist: ${work#"$here/"}/$release.tar.gz, sha256 $(sha256sum <"$work/$release.tar.gz" | cut -d ' ' -f 1)"
 echo "$passed passed, $failed failed"
 [ "$failed" -eq 0 ]

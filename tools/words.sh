@@ -33,6 +33,19 @@ needs() {
     [ -z "$lacking" ] || exit 2
 }
 
+# needs_rust VERSION: cargo and rustc of that version, major.minor, or a later one
+needs_rust() {
+    needs cargo rustc
+    for tool in cargo rustc; do
+        is=$("$tool" --version | cut -d ' ' -f 2)
+        minor=${is#*.}
+        [ "${is%%.*}" -gt "${1%.*}" ] || [ "${minor%%.*}" -ge "${1#*.}" ] || {
+            echo "$(basename "$0"): $tool $is is too old, $1 or later is needed: Debian's cargo-web and rustc-web, or rustup.rs" >&2
+            exit 2
+        }
+    done
+}
+
 # find_kit: sets kit to the kit's folder
 find_kit() {
     [ -n "${RATTLE_HOME:-}" ] || needs rt
@@ -78,18 +91,18 @@ watched() {
     return "$status"
 }
 
-# proving LOG check|staticlib NAME: `rt check NAME` or `rt staticlib NAME`, a line for each crate as it is proved; what rt said is shown if
-# it fails
+# proving LOG check|staticlib NAME..: `rt check NAME..` or `rt staticlib NAME`, a line for each crate as it is proved; what rt said is shown
+# if it fails
 proving() {
-    said=$1
-    shift
-    proving_by "$said" "$2" rt "$@"
+    said=$1 verb=$2
+    shift 2
+    proving_by "$said" "$*" rt "$verb" "$@"
 }
 
-# proving_by LOG NAME COMMAND..: the same by a command that runs rt
+# proving_by LOG NAMES COMMAND..: the same by a command that runs rt
 proving_by() {
-    said=$1 all=$(reached "$2" | wc -l)
-    echo "proving $2 and what it depends on (some minutes where nothing is proved yet)"
+    said=$1 all=$(for one in $2; do reached "$one"; done | sort -u | wc -l)
+    echo "proving $2 and what is needed for it (some minutes where nothing is proved yet)"
     shift 2
     watched "$said" "$all" 'rt: * proved*' "$@" || { cat "$said" >&2; return 1; }
 }

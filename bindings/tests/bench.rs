@@ -1,6 +1,7 @@
 //! The wrapper of the checker, on the recordings whose findings were worked out by hand; that of the
 //! engine that only remembers, with values by hand from documents 01 and 02; and their numbers and
 //! declarations beside those of the header.
+#![cfg(feature = "bench")]
 
 use splicer::bench::{check, raw, Finding, Recall, Refused, LOG, RECORDING, VERSION};
 use splicer::{message_id, name, records, Handled, Maps, Refusal, Splicer, MAP_SECTION, OUT};
