@@ -30,7 +30,8 @@ case $route in
 archive | x86 | card) ;;
 *) refuse "no route '$route': archive, x86 or card" ;;
 esac
-needs rt cargo
+needs rt
+needs_rust 1.82
 cd "$(dirname "$0")/.."
 work=target/beside
 mkdir -p "$work"

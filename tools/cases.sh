@@ -8,7 +8,7 @@ case $#${1:-} in
 0 | 1--check) ;;
 *) refuse "only --check, not '$*'" ;;
 esac
-needs cargo
+needs_rust 1.81
 cd "$(dirname "$0")/.."
 specs=crates/cases/specs
 hand='Layouts Rooms Rehearsed Histories Worked Moved Counted Days Mux Lately Sections Cued Extended Config Heard LatelyCases KeptCases MomentsCases ToldCases ToldNumbers ToldRequests AlikeCases'

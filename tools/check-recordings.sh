@@ -11,7 +11,8 @@ for seed; do
     esac
 done
 [ $# -gt 0 ] || set -- 1401 1402 1403
-needs rt cargo
+needs rt
+needs_rust 1.81
 cd "$(dirname "$0")/.."
 work=target/check-recordings
 mkdir -p "$work"

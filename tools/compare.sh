@@ -5,7 +5,8 @@
 set -eu
 . "$(dirname "$0")/words.sh"
 no_words "$@"
-needs cargo rt
+needs rt
+needs_rust 1.81
 cd "$(dirname "$0")/.."
 work=target/compare
 mkdir -p "$work"

@@ -11,7 +11,8 @@ set -eu
 for word; do
     [ -r "$word" ] || refuse "'$word' cannot be read"
 done
-needs cargo awk
+needs awk
+needs_rust 1.81
 files=
 for word; do
     files="$files $(readlink -f "$word")"

@@ -10,7 +10,8 @@ for word; do
     '' | *[!0-9]*) refuse "'$word' is no number" ;;
     esac
 done
-needs cargo rt
+needs rt
+needs_rust 1.81
 cd "$(dirname "$0")/.."
 seed=${1:-1}
 count=${2:-4}

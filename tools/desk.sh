@@ -8,7 +8,7 @@ case $#${1:-} in
 0 | 2install) ;;
 *) refuse "only 'install FOLDER', not '$*'" ;;
 esac
-needs cargo
+needs_rust 1.81
 if [ $# -eq 2 ]; then
     mkdir -p "$2"
     folder=$(cd "$2" && pwd -P)

@@ -26,7 +26,8 @@ for part; do
     *) refuse "no part '$part'" ;;
     esac
 done
-needs rt cargo
+needs rt
+needs_rust 1.81
 find_kit
 cd "$(dirname "$0")/.."
 work=target/measure

@@ -1,8 +1,8 @@
 #!/bin/sh
-# setup.sh [x86]: what the comparisons need beside the kit: cargo, rustc and a C compiler to link with. With x86, also what builds x86-64
-# programs in Rust, runs and counts them (tools/measure.sh, and tools/beside.sh with ROUTE=x86; the gate needs none of it): on x86-64 gcc,
-# objdump and Debian's emulator, which takes plugins; on Arm the library and the linker for x86-64 too. Installs Debian's where there are
-# none (as root).
+# setup.sh [x86]: what the comparisons and the release need beside the kit: cargo and rustc, 1.82 or later, a C compiler to link with, a C++
+# compiler and pkg-config. With x86, also what builds x86-64 programs in Rust, runs and counts them (tools/measure.sh, and tools/beside.sh
+# with ROUTE=x86; the gate needs none of it): on x86-64 gcc, objdump and Debian's emulator, which takes plugins; on Arm the library and the
+# linker for x86-64 too. Installs Debian's where there are none (as root), and removes nothing: an older cargo that is there is named.
 set -eu
 . "$(dirname "$0")/words.sh"
 case $#${1:-} in
@@ -32,13 +32,18 @@ lacks() {
 
 if lacks cargo; then
     update
-    # Debian 12's plain cargo is too old for the second program
+    # Debian 12's plain cargo, 1.65, is too old
     install cargo-web rustc-web || install cargo rustc
 fi
 if lacks cc; then
     update
     install gcc libc6-dev
 fi
+if lacks c++ pkg-config; then
+    update
+    install g++ pkg-config
+fi
+needs_rust 1.82
 cargo --version
 if lacks rt; then
     echo 'setup.sh: the Rattle kit (rt) is not here: nothing can be proved; the second program and the desk run without it'

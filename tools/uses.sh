@@ -43,6 +43,20 @@ nowhere() {
     )
 }
 
+# old SCRIPT [WORD..]: status 2 and one line with the version where cargo and rustc are Debian 12's plain ones
+old() {
+    mkdir -p "$work/old"
+    for tool in cargo rustc; do
+        printf '#!/bin/sh\necho "%s 1.65.0"\n' $tool >"$work/old/$tool"
+        chmod +x "$work/old/$tool"
+    done
+    (
+        PATH=$PWD/$work/old:$PATH
+        export PATH
+        refuses "$@"
+    ) && grep -q '1.65.0 is too old' "$work/wrong"
+}
+
 # alone: run-program.sh where there is no kit
 alone() {
     status=0
@@ -69,8 +83,16 @@ held 'beside.sh, a value is missing' refuses tools/beside.sh --seed
 held 'beside.sh, no number' refuses tools/beside.sh --n many
 held 'beside.sh, no such route' nowhere
 held 'setup.sh, no such word' refuses tools/setup.sh arm
+for script in setup desk compare beside cases dissector; do
+    held "$script.sh with an old cargo" old "tools/$script.sh"
+done
 held 'build-driver.sh, no source' refuses tools/build-driver.sh target/x no.c no.a
 held 'run-program.sh, no program' refuses tools/run-program.sh no-program
+held 'run-program.sh --plain, no program' refuses tools/run-program.sh --plain
+held 'dist.sh, no such processor' refuses tools/dist.sh --proved riscv64
+held 'dist.sh, two processors' refuses tools/dist.sh x86_64 aarch64
+held 'use-release.sh, no file' refuses tools/use-release.sh no.tar.gz
+held 'spdx.sh, two words' refuses tools/spdx.sh name commit
 if [ ! -x /usr/bin/rt ] && [ ! -x /bin/rt ]; then
     held 'run-program.sh without the kit' alone
 fi
