@@ -1,6 +1,6 @@
 #!/bin/sh
-# uses.sh: every script of this folder knows --help, and refuses a wrong argument with 2 and one line before it builds anything; without the
-# kit run-program.sh says so. The last line is 'N passed, M failed'.
+# uses.sh: every script of this folder knows --help, and refuses a wrong argument with 2 and one line before it builds anything, an old cargo
+# too; without the kit run-program.sh says so, and example.sh shows the day and ends well. The last line is 'N passed, M failed'.
 set -eu
 . "$(dirname "$0")/words.sh"
 no_words "$@"
@@ -64,6 +64,14 @@ alone() {
     [ "$status" -eq 2 ] && grep -q 'rt is missing' "$work/said"
 }
 
+# first_look: example.sh where there is no kit: the day, then what the kit would add, and a good end
+first_look() {
+    mkdir -p "$work/rust"
+    for tool in cargo rustc; do ln -sf "$(command -v $tool)" "$work/rust/$tool"; done
+    env -u RATTLE_HOME PATH="$PWD/$work/rust:/usr/bin:/bin" sh tools/example.sh >"$work/said" 2>&1 &&
+        grep -q 'Init_Request' "$work/said" && grep -q 'with the Rattle kit' "$work/said"
+}
+
 for script in tools/*.sh; do
     case $script in */words.sh | */ran.sh) continue ;; esac
     held "$script --help" helps "$script"
@@ -83,7 +91,7 @@ held 'beside.sh, a value is missing' refuses tools/beside.sh --seed
 held 'beside.sh, no number' refuses tools/beside.sh --n many
 held 'beside.sh, no such route' nowhere
 held 'setup.sh, no such word' refuses tools/setup.sh arm
-for script in setup desk compare beside cases dissector; do
+for script in setup desk compare beside cases example dissector; do
     held "$script.sh with an old cargo" old "tools/$script.sh"
 done
 held 'build-driver.sh, no source' refuses tools/build-driver.sh target/x no.c no.a
@@ -95,6 +103,7 @@ held 'use-release.sh, no file' refuses tools/use-release.sh no.tar.gz
 held 'spdx.sh, two words' refuses tools/spdx.sh name commit
 if [ ! -x /usr/bin/rt ] && [ ! -x /bin/rt ]; then
     held 'run-program.sh without the kit' alone
+    held 'example.sh without the kit' first_look
 fi
 echo "$passed passed, $failed failed"
 [ "$failed" -eq 0 ]
