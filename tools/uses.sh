@@ -100,6 +100,7 @@ held 'run-program.sh --plain, no program' refuses tools/run-program.sh --plain
 held 'dist.sh, no such processor' refuses tools/dist.sh --proved riscv64
 held 'dist.sh, two processors' refuses tools/dist.sh x86_64 aarch64
 held 'use-release.sh, no file' refuses tools/use-release.sh no.tar.gz
+held 'headers.sh, no such function' refuses tools/headers.sh splicer_7_fresh
 held 'spdx.sh, two words' refuses tools/spdx.sh name commit
 if [ ! -x /usr/bin/rt ] && [ ! -x /bin/rt ]; then
     held 'run-program.sh without the kit' alone
