@@ -1,16 +1,28 @@
-/* splicer.h: the proved splicer core for drivers in C99, C11 and C++11 or later. Link with libdoor.a (rt staticlib door); a driver of the
- * card with a rolling counter also with librolldoor.a (rt staticlib rolldoor).
+/* splicer.h: the proved splicer core for drivers in C99, C11 and C++11 or later. Link with libdoor.a; a driver of the card with a rolling
+ * counter also with librolldoor.a.
  *
- * One struct splicer is one output channel with its connections 0 to 3. The driver owns its memory; the core keeps none of its
- * own, allocates nothing and has no globals. Every call borrows its arguments until it returns and keeps no pointer.
+ * One struct splicer is one output channel with its connections 0 to 3. The driver owns its memory; the core keeps none of its own,
+ * allocates nothing and has no globals. Every call borrows its arguments until it returns and keeps no pointer.
  *
- * What the driver owes, and nothing checks: docs/INTEGRATION.md, "What the driver owes". In short: splicer_call_fresh first, then only the
- * calls write to the struct; one call at a time on it; what is lent does not overlap; no null pointer but for a buffer of length 0.
- * Everything else is tested by the call and answered by a house number: any connection, any bytes, any time, any length of a buffer.
+ * What the driver owes, and nothing checks: docs/INTEGRATION.md, "What the driver owes". In short: a splicer is made first, then only the
+ * calls write to the struct; what is lent does not overlap; no null pointer but for a buffer of length 0. Everything else is tested by the
+ * call and answered by a house number: any connection, any bytes, any time, any length of a buffer.
+ *
+ * In order of subject: numbers and types; making; connections; time; messages and records; reads; bench. Of each function:
+ *   Refused  the house numbers that it gives, in the order in which they are tested. A refused call wrote nothing and changed nothing.
+ *   Cost     x86-64 instructions, as measured (docs/MEASURES.md). Every loop is bounded.
+ *   Threads  "alone": no other call on this struct at the same time. "shared": calls that say so too may run on this struct at the same
+ *            time, each with buffers of its own. "free": no struct, so beside anything. Other structs are always free.
  *
  * A compiler without standard headers (the proof kit's) defines SPLICER_NO_STANDARD_HEADERS. */
 #ifndef SPLICER_H
 #define SPLICER_H
+
+/* The version of struct splicer and of the archive's functions, whose names carry it: every call below refers to such a name, so a header
+ * and an archive of two versions do not link. The second number counts what was added since. */
+#define SPLICER_VERSION 7
+#define SPLICER_VERSION_MINOR 0
+#define SPLICER_VERSION_STRING "7.0"
 
 #ifdef SPLICER_NO_STANDARD_HEADERS
 typedef __UINT8_TYPE__ uint8_t;
@@ -37,11 +49,7 @@ extern "C" {
 #define SPLICER_ALIGN(type) (sizeof(struct { char before; type it; }) - sizeof(type))
 #endif
 
-/* The version of struct splicer and of the archive's functions. Their names carry it, and every call below refers to such a name, so
- * a header and an archive of two versions do not link. */
-enum {
-    SPLICER_VERSION = 7
-};
+/* ---- Numbers ---- */
 
 /* Sizes. A message is a header of 8 bytes and at most 4,088 bytes of data. A buffer of SPLICER_OUT bytes takes the records of any
  * call; a shorter one is refused (2), a longer one is not used beyond them. */
@@ -56,7 +64,7 @@ enum {
     SPLICER_BYTES = 1056,
     SPLICER_REPLY = 4,
     SPLICER_CUE_SECTION = 512, /* the longest section of cues; the shortest has 20 bytes */
-    SPLICER_MAP_SECTION = 1024 /* the longest section that a message call may be lent (02, CR 6) */
+    SPLICER_MAP_SECTION = 1024 /* the longest section that a message call may be lent */
 };
 
 /* The page of what ended lately: its rows, and where in the words what ended is kept. */
@@ -66,46 +74,53 @@ enum {
     SPLICER_ENDED_WORDS = 81
 };
 
-/* Document 01's house numbers: why a call was refused. A refused call wrote nothing, consumed nothing and changed nothing; only a
- * refused fresh gives a splicer, that of an empty name. */
+/* Lists of streams: the most of them, the words of a row, and the bytes that all together may keep. */
+enum {
+    SPLICER_STREAMS = 16,
+    SPLICER_STREAM_WORDS = 8,
+    SPLICER_KEPT = 3744
+};
+
+/* The house numbers: why a call was refused. A refused call wrote nothing, consumed nothing and changed nothing; only a refused fresh gives
+ * a splicer, that of an empty name. */
 enum splicer_refusal {
     SPLICER_GOOD = 0,
-    SPLICER_NO_CONNECTION = 1, /* connection above 3: open, close, message */
-    SPLICER_NO_ROOM = 2,       /* output buffer below 4,096 bytes: close, message, tick, instant, reading, cue */
-    SPLICER_CLOCK_BACK = 3,    /* clock earlier than the present one: tick */
-    SPLICER_OVERSIZE = 4,      /* MessageSize above 4,088: message */
-    SPLICER_SHORT = 5,         /* not yet a whole message: message. Read on and call again with more */
-    SPLICER_ALREADY_OPEN = 6,  /* open */
-    SPLICER_NOT_OPEN = 7,      /* close, message */
-    SPLICER_BAD_MICROS = 8,    /* MicroSeconds above 999,999: tick, instant, cue */
-    SPLICER_BAD_NAME = 9,      /* name without a zero byte: fresh */
-    SPLICER_LONG_SECTION = 10, /* a lent section over 1,024 bytes: message */
-    SPLICER_BAD_SECTION = 11,  /* section not 3 + section_length bytes long, under 20 or over 512: cue */
-    SPLICER_COUNTER = 12,      /* a second instant; a reading before the instant, more than 90 s after the last good one or past the last second: instant, reading */
-    SPLICER_NOT_SIXTEEN = 16   /* other than sixteen rows: ended */
+    SPLICER_NO_CONNECTION = 1, /* connection above 3 */
+    SPLICER_NO_ROOM = 2,       /* output buffer below 4,096 bytes */
+    SPLICER_CLOCK_BACK = 3,    /* clock earlier than the present one */
+    SPLICER_OVERSIZE = 4,      /* MessageSize above 4,088: no message boundary can be found behind it; close the connection */
+    SPLICER_SHORT = 5,         /* not yet a whole message: read on and call again with more */
+    SPLICER_ALREADY_OPEN = 6,
+    SPLICER_NOT_OPEN = 7,
+    SPLICER_BAD_MICROS = 8,    /* MicroSeconds above 999,999 */
+    SPLICER_BAD_NAME = 9,      /* name without a zero byte */
+    SPLICER_LONG_SECTION = 10, /* a lent section over 1,024 bytes */
+    SPLICER_BAD_SECTION = 11,  /* section not 3 + section_length bytes long, under 20 or over 512 */
+    SPLICER_COUNTER = 12,      /* a second instant; or a reading before it, over 90 s after the last good one or past the last second */
+    SPLICER_NOT_SIXTEEN = 16   /* other than sixteen rows */
 };
 
 /* MessageIDs of the records that the core writes, and of the requests that it reads. */
 enum splicer_message_id {
-    SPLICER_GENERAL_RESPONSE = 0x0000,        /* no data */
+    SPLICER_GENERAL_RESPONSE = 0x0000,         /* no data */
     SPLICER_INIT_REQUEST = 0x0001,
-    SPLICER_INIT_RESPONSE = 0x0002,           /* Revision_Num 2, ChannelName 32 */
+    SPLICER_INIT_RESPONSE = 0x0002,            /* Revision_Num 2, ChannelName 32 */
     SPLICER_EXTENDED_DATA_REQUEST = 0x0003,
-    SPLICER_EXTENDED_DATA_RESPONSE = 0x0004,  /* SessionID 4; with 100 a descriptor of 16 */
+    SPLICER_EXTENDED_DATA_RESPONSE = 0x0004,   /* SessionID 4; with 100 a descriptor of 16 */
     SPLICER_ALIVE_REQUEST = 0x0005,
-    SPLICER_ALIVE_RESPONSE = 0x0006,          /* State 4, SessionID 4, Seconds 4, MicroSeconds 4 */
+    SPLICER_ALIVE_RESPONSE = 0x0006,           /* State 4, SessionID 4, Seconds 4, MicroSeconds 4 */
     SPLICER_SPLICE_REQUEST = 0x0007,
-    SPLICER_SPLICE_RESPONSE = 0x0008,         /* SessionID 4 */
+    SPLICER_SPLICE_RESPONSE = 0x0008,          /* SessionID 4 */
     SPLICER_SPLICE_COMPLETE_RESPONSE = 0x0009, /* SessionID 4, SpliceTypeFlag 1, Bitrate 4, PlayedDuration 4 */
-    SPLICER_CUE_REQUEST = 0x000C,             /* Seconds 4, MicroSeconds 4, the section; Result 0xFFFF, as it is no answer */
-    SPLICER_CUE_RESPONSE = 0x000D,            /* read, and not answered */
     SPLICER_GET_CONFIG_REQUEST = 0x000A,
-    SPLICER_GET_CONFIG_RESPONSE = 0x000B,     /* ChannelName 32, Hardware_Config with its Length 2, program map section */
+    SPLICER_GET_CONFIG_RESPONSE = 0x000B,      /* ChannelName 32, Hardware_Config with its Length 2, program map section */
+    SPLICER_CUE_REQUEST = 0x000C,              /* Seconds 4, MicroSeconds 4, the section; Result 0xFFFF, as it is no answer */
+    SPLICER_CUE_RESPONSE = 0x000D,             /* read, and not answered */
     SPLICER_ABORT_REQUEST = 0x000E,
-    SPLICER_ABORT_RESPONSE = 0x000F           /* SessionID 4 */
+    SPLICER_ABORT_RESPONSE = 0x000F            /* SessionID 4 */
 };
 
-/* Result codes of J.280, Appendix I, that documents 01 and 02 use. */
+/* Result codes of J.280, Appendix I, that the core gives. */
 enum splicer_result {
     SPLICER_SUCCESSFUL = 100,
     SPLICER_INVALID_VERSION = 102,
@@ -127,21 +142,24 @@ enum {
     SPLICER_MUX_AVERAGE = 5
 };
 
+/* ---- Types ---- */
+
 /* One output channel. Opaque: its content is the core's, and unused places are zero. words: 0 the clock in ninths of a microsecond, 1 how
- * many wait, 2 how many have started, 3 the place where the ring of those that wait ends, 4 the primary channel's ninths, 5 to 8 how many wait
- * of each connection, 9 to 12 the connections; then 64 places of 8 words for those that wait, then 10 for those that have started, then 16 of
- * 5 for those that ended lately, then which of the 16 is written next. Those that wait stand in order of start in a ring, the last of them
- * before the place of word 3, which goes one on with each acceptance; those that have started stand at the end of their places, the first
- * next to the free ones. bytes: the ChannelName 32, then for each connection 256, the Hardware_Config of its Init_Request with zeros behind
- * it, all zeros where none is kept. */
+ * many wait, 2 how many have started, 3 the place where the ring of those that wait ends, 4 the primary channel's ninths, 5 to 8 how many
+ * wait of each connection, 9 to 12 the connections; then 64 places of 8 words for those that wait, then 10 for those that have started,
+ * then 16 of 5 for those that ended lately, then which of the 16 is written next. Those that wait stand in order of start in a ring, the
+ * last of them before the place of word 3, which goes one on with each acceptance; those that have started stand at the end of their
+ * places, the first next to the free ones. bytes: the ChannelName 32, then for each connection 256, the Hardware_Config of its Init_Request
+ * with zeros behind it, all zeros where none is kept. */
 struct splicer {
     uint64_t words[SPLICER_WORDS];
     uint8_t bytes[SPLICER_BYTES];
 };
 
-/* One output channel of the card with a rolling counter: a splicer, and beside it whether the instant was given and the last reading. Opaque.
- * All calls but tick are made on `core` by their known names; in place of tick it has splicer_call_instant and splicer_call_reading. The core
- * is proved for these calls: splicer_call_tick on `core`, and splicer_call_fresh in place of splicer_call_rolling_fresh, are not among them. */
+/* One output channel of the card with a rolling counter: a splicer, and beside it whether the instant was given and the last reading.
+ * Opaque. All calls but tick are made on `core` by their known names; in place of tick it has splicer_call_instant and
+ * splicer_call_reading. The core is proved for these calls: splicer_call_tick on `core`, and splicer_call_fresh in place of
+ * splicer_call_rolling_fresh, are not among them. */
 struct splicer_rolling {
     struct splicer core;
     uint64_t counter[2];
@@ -157,7 +175,7 @@ struct splicer_reply {
     size_t written;
 };
 
-/* What a message call is lent beside its buffers (02, CR 6): the program map sections of the two feeds, each of any length; one over
+/* What a message call is lent beside its buffers: the program map sections of the two feeds, each of any length; one over
  * SPLICER_MAP_SECTION is refused (10). They are the driver's, are read during the call only, and may be others at the next call. A pointer
  * may be null where its length is 0. */
 struct splicer_maps {
@@ -167,28 +185,33 @@ struct splicer_maps {
     size_t insertion_length;
 };
 
-/* For each connection the sessions that wait: accepted, and neither started nor ended. */
-struct splicer_waiting {
-    uint64_t count[SPLICER_CONNECTIONS];
+/* A record in an output buffer: whom it is for, what it says, and the message as it is sent. The pointers lead into the buffer. */
+struct splicer_record {
+    uint32_t connection;
+    uint32_t message_id;
+    uint32_t result;
+    const uint8_t *data;
+    size_t size; /* of data */
+    const uint8_t *message;
+    size_t length; /* of message: 8 + size */
 };
 
-/* The streams that a Splice_Request with ServiceID 0xFFFF names itself (02, CR 1). A row: PID, StreamType, AvgBitrate, MaxBitrate,
- * MinBitrate, HResolution, VResolution, and how many bytes the structure keeps behind its first 21. kept: these bytes, all streams' in a
- * row. 0xFFFFFFFF is an unknown rate and 0xFFFF an unknown resolution. */
-enum {
-    SPLICER_STREAMS = 16,
-    SPLICER_STREAM_WORDS = 8,
-    SPLICER_KEPT = 3744
-};
-
+/* The streams that a Splice_Request with ServiceID 0xFFFF names itself. A row: PID, StreamType, AvgBitrate, MaxBitrate, MinBitrate,
+ * HResolution, VResolution, and how many bytes the structure keeps behind its first 21. kept: these bytes, all streams' in a row.
+ * 0xFFFFFFFF is an unknown rate and 0xFFFF an unknown resolution. */
 struct splicer_streams {
     uint64_t count, pcr_pid;
     uint64_t row[SPLICER_STREAMS * SPLICER_STREAM_WORDS];
     uint8_t kept[SPLICER_KEPT];
 };
 
-/* One of the last 16 sessions that ended (02, CR 8). kept is 1; in a row that is unused it is 0 and so are all the others. result: that of its
- * end, 100, 109, 116 or 125. played: its time on air in ticks of 90 kHz, rounded down, also where its record shows none. */
+/* For each connection the sessions that wait: accepted, and neither started nor ended. */
+struct splicer_waiting {
+    uint64_t count[SPLICER_CONNECTIONS];
+};
+
+/* One of the last 16 sessions that ended. kept is 1; in a row that is unused it is 0 and so are all the others. result: that of its end,
+ * 100, 109, 116 or 125. played: its time on air in ticks of 90 kHz, rounded down, also where its record shows none. */
 struct splicer_row {
     uint32_t kept;
     uint32_t connection;
@@ -223,30 +246,33 @@ SPLICER_ASSERT(SPLICER_OFFSET(struct splicer_row, result) == 16, "layout of stru
 SPLICER_ASSERT(SPLICER_OFFSET(struct splicer_row, played) == 20, "layout of struct splicer_row");
 SPLICER_ASSERT(SPLICER_ENDED + SPLICER_ENDED_WORDS == SPLICER_WORDS, "what ended stands last in the words");
 
-/* The archive's functions, over the parts of a struct splicer. Drivers use the splicer_call_ functions below. Pointers and numbers only:
- * nothing is passed or returned by value that two compilers could pass in two ways. reply, SPLICER_REPLY words, gets the house number or
- * 0, the bytes consumed, the bytes written and the places shifted. */
+/* ---- The archive's functions ----
+ * Drivers use the splicer_call_ functions below, which are inline. These take the parts of a struct splicer, pointers and numbers only:
+ * nothing is passed or returned by value that two compilers could pass in two ways. reply, SPLICER_REPLY words, gets the house number or 0,
+ * the bytes consumed, the bytes written and the places shifted. */
 void splicer_7_fresh(const uint8_t *name, uint64_t *words, uint8_t *bytes, uint64_t *reply);
+void splicer_7_rolling_fresh(const uint8_t *name, uint64_t *words, uint8_t *bytes, uint64_t *counter, uint64_t *reply);
 void splicer_7_open(uint64_t *words, uint8_t *bytes, uint32_t conn, uint64_t *reply);
 void splicer_7_close(uint64_t *words, uint8_t *bytes, uint32_t conn, uint8_t *out, size_t room, uint64_t *reply);
+void splicer_7_tick(uint64_t *words, uint8_t *bytes, uint32_t seconds, uint32_t micros, uint8_t *out, size_t room, uint64_t *reply);
+void splicer_7_instant(uint64_t *words, uint8_t *bytes, uint64_t *counter, const uint32_t *given, uint8_t *out, size_t room,
+                       uint64_t *reply);
+void splicer_7_reading(uint64_t *words, uint8_t *bytes, uint64_t *counter, uint32_t reading, uint8_t *out, size_t room, uint64_t *reply);
 void splicer_7_message(uint64_t *words, uint8_t *bytes, uint32_t conn, const uint8_t *in, size_t length, const uint8_t *primary,
                        size_t primary_length, const uint8_t *insertion, size_t insertion_length, uint8_t *out, size_t room,
                        uint64_t *reply);
-void splicer_7_tick(uint64_t *words, uint8_t *bytes, uint32_t seconds, uint32_t micros, uint8_t *out, size_t room, uint64_t *reply);
-void splicer_7_waiting(const uint64_t *words, const uint8_t *bytes, uint64_t *counts);
-uint64_t splicer_7_primary(const uint64_t *words, const uint8_t *bytes);
-void splicer_7_rolling_fresh(const uint8_t *name, uint64_t *words, uint8_t *bytes, uint64_t *counter, uint64_t *reply);
-void splicer_7_instant(uint64_t *words, uint8_t *bytes, uint64_t *counter, const uint32_t *given, uint8_t *out, size_t room, uint64_t *reply);
-void splicer_7_reading(uint64_t *words, uint8_t *bytes, uint64_t *counter, uint32_t reading, uint8_t *out, size_t room, uint64_t *reply);
-size_t splicer_7_read_streams(const uint8_t *in, size_t length, uint64_t *list, uint8_t *kept);
-size_t splicer_7_write_streams(const uint64_t *list, const uint8_t *kept, uint8_t *out, size_t room);
-uint64_t splicer_7_mux(const uint64_t *words, const uint8_t *bytes);
 void splicer_7_cue(const uint64_t *words, const uint8_t *bytes, const uint8_t *section, size_t length, const uint32_t *given, uint8_t *out,
                    size_t room, uint64_t *reply);
-uint64_t splicer_7_ended(const uint64_t *ended, size_t words, struct splicer_row *page, size_t rows);
+size_t splicer_7_read_streams(const uint8_t *in, size_t length, uint64_t *list, uint8_t *kept);
+void splicer_7_waiting(const uint64_t *words, const uint8_t *bytes, uint64_t *counts);
+uint64_t splicer_7_primary(const uint64_t *words, const uint8_t *bytes);
+uint64_t splicer_7_mux(const uint64_t *words, const uint8_t *bytes);
 uint64_t splicer_7_map(const uint64_t *words, const uint8_t *bytes);
+uint64_t splicer_7_ended(const uint64_t *ended, size_t words, struct splicer_row *page, size_t rows);
+size_t splicer_7_write_streams(const uint64_t *list, const uint8_t *kept, uint8_t *out, size_t room);
 
-/* The words of a reply as a struct. */
+/* The words of a reply as a struct.
+ * Refused: never. Cost: a few. Threads: free. */
 static inline struct splicer_reply splicer_reply_of(const uint64_t *reply) {
     struct splicer_reply r;
     r.refused = (uint32_t)reply[0];
@@ -256,74 +282,58 @@ static inline struct splicer_reply splicer_reply_of(const uint64_t *reply) {
     return r;
 }
 
-/* Makes a splicer, whatever s held: clock 0, all connections closed. name: 32 bytes, a zero among them (else 9). */
+/* ---- Making ---- */
+
+/* Makes a splicer, whatever s held: clock 0, all connections closed. name: 32 bytes, a zero among them; without one it is refused and s is
+ * the splicer of an empty name.
+ * Refused: 9. Cost: clears 6,544 bytes. Threads: alone. */
 static inline struct splicer_reply splicer_call_fresh(struct splicer *s, const uint8_t *name) {
     uint64_t reply[SPLICER_REPLY];
     splicer_7_fresh(name, s->words, s->bytes, reply);
     return splicer_reply_of(reply);
 }
 
-/* A server has connected. Refused: 1, 6. */
-static inline struct splicer_reply splicer_call_open(struct splicer *s, uint32_t conn) {
-    uint64_t reply[SPLICER_REPLY];
-    splicer_7_open(s->words, s->bytes, conn, reply);
-    return splicer_reply_of(reply);
-}
-
-/* The connection is gone. The records are not sent but logged. Refused: 1, 2, 7. */
-static inline struct splicer_reply splicer_call_close(struct splicer *s, uint32_t conn, uint8_t *out, size_t room) {
-    uint64_t reply[SPLICER_REPLY];
-    splicer_7_close(s->words, s->bytes, conn, out, room, reply);
-    return splicer_reply_of(reply);
-}
-
-/* Handles the first message of the `length` bytes read so far from conn; `consumed` says how many it was. A GetConfig_Request is answered
- * with the section of the feed that is on air. Refused: 1, 2, 7, 10, 5, 4. */
-static inline struct splicer_reply splicer_call_message_maps(struct splicer *s, uint32_t conn, const uint8_t *in, size_t length,
-                                                             const struct splicer_maps *maps, uint8_t *out, size_t room) {
-    uint64_t reply[SPLICER_REPLY];
-    splicer_7_message(s->words, s->bytes, conn, in, length, maps->primary, maps->primary_length, maps->insertion, maps->insertion_length, out,
-                      room, reply);
-    return splicer_reply_of(reply);
-}
-
-/* The same with two empty sections: a driver that has no maps, or whose servers ask for none. Refused: 1, 2, 7, 5, 4. */
-static inline struct splicer_reply splicer_call_message(struct splicer *s, uint32_t conn, const uint8_t *in, size_t length, uint8_t *out,
-                                                        size_t room) {
-    struct splicer_maps none = {in, 0, in, 0};
-    return splicer_call_message_maps(s, conn, in, length, &none, out, room);
-}
-
-/* Brings the clock to a time and does what is due until then. Refused: 2, 8, 3. */
-static inline struct splicer_reply splicer_call_tick(struct splicer *s, uint32_t seconds, uint32_t micros, uint8_t *out, size_t room) {
-    uint64_t reply[SPLICER_REPLY];
-    splicer_7_tick(s->words, s->bytes, seconds, micros, out, room, reply);
-    return splicer_reply_of(reply);
-}
-
-/* How many sessions of each connection wait. It only reads, in a few instructions however many wait, and nothing is refused. */
-static inline struct splicer_waiting splicer_call_waiting(const struct splicer *s) {
-    struct splicer_waiting w;
-    splicer_7_waiting(s->words, s->bytes, w.count);
-    return w;
-}
-
-/* The time on the primary channel, in which nothing was on air, up to the clock: in ninths of a microsecond since clock 0, so the first tick
- * adds its whole time. Of a stretch, take the difference of two reads. It only reads, and nothing is refused. */
-static inline uint64_t splicer_call_primary(const struct splicer *s) {
-    return splicer_7_primary(s->words, s->bytes);
-}
-
-/* The card with a rolling counter (document 02, CR 9): docs/INTEGRATION.md says when to give the instant and how often to read. */
-
-/* Makes a rolling splicer, whatever r held: clock 0, all connections closed, no instant given. name as for splicer_call_fresh (else 9). */
+/* Makes a rolling splicer, whatever r held: clock 0, all connections closed, no instant given. name as above.
+ * Refused: 9. Cost: clears 6,560 bytes. Threads: alone. */
 static inline struct splicer_reply splicer_call_rolling_fresh(struct splicer_rolling *r, const uint8_t *name) {
     uint64_t reply[SPLICER_REPLY];
     splicer_7_rolling_fresh(name, r->core.words, r->core.bytes, r->counter, reply);
     return splicer_reply_of(reply);
 }
 
-/* Once: the UTC time, and what the counter reads at it. Brings the clock there and does what is due until then. Refused: 2, 8, 12. */
+/* ---- Connections ---- */
+
+/* A server has connected.
+ * Refused: 1, 6. Cost: 20. Threads: alone. */
+static inline struct splicer_reply splicer_call_open(struct splicer *s, uint32_t conn) {
+    uint64_t reply[SPLICER_REPLY];
+    splicer_7_open(s->words, s->bytes, conn, reply);
+    return splicer_reply_of(reply);
+}
+
+/* The connection is gone: its sessions end. The records are not sent but logged.
+ * Refused: 1, 2, 7. Cost: 1,223 with 20 waiting and one on air. Threads: alone. */
+static inline struct splicer_reply splicer_call_close(struct splicer *s, uint32_t conn, uint8_t *out, size_t room) {
+    uint64_t reply[SPLICER_REPLY];
+    splicer_7_close(s->words, s->bytes, conn, out, room, reply);
+    return splicer_reply_of(reply);
+}
+
+/* ---- Time ---- */
+
+/* Brings the clock to a time, Seconds since 1970-01-01 00:00 UTC and MicroSeconds, and does what is due until then. A tick to the present
+ * time is good and does nothing.
+ * Refused: 2, 8, 3. Cost: 57 to 78 where nothing is due and at most one is on air, however many wait; 255 for an end and a start; 6,446 for
+ * a start that fails with 19 followers among 64 that wait. Threads: alone. */
+static inline struct splicer_reply splicer_call_tick(struct splicer *s, uint32_t seconds, uint32_t micros, uint8_t *out, size_t room) {
+    uint64_t reply[SPLICER_REPLY];
+    splicer_7_tick(s->words, s->bytes, seconds, micros, out, room, reply);
+    return splicer_reply_of(reply);
+}
+
+/* The card with a rolling counter, once: the UTC time, and what the counter reads at it. Brings the clock there and does what is due until
+ * then. docs/INTEGRATION.md says when to give it.
+ * Refused: 2, 8, 12. Cost: a tick's and some 40. Threads: alone. */
 static inline struct splicer_reply splicer_call_instant(struct splicer_rolling *r, uint32_t seconds, uint32_t micros, uint32_t reading,
                                                         uint8_t *out, size_t room) {
     uint64_t reply[SPLICER_REPLY];
@@ -333,35 +343,41 @@ static inline struct splicer_reply splicer_call_instant(struct splicer_rolling *
 }
 
 /* What the 90 kHz counter reads now: moves the clock on by the ticks since the last good reading, at most 8,100,000 (90 s), through the
- * rollover, and does what is due until then. Refused: 2, 12. A refused reading is not kept. */
+ * rollover, and does what is due until then. A refused reading is not kept.
+ * Refused: 2, 12. Cost: a tick's and some 40. Threads: alone. */
 static inline struct splicer_reply splicer_call_reading(struct splicer_rolling *r, uint32_t reading, uint8_t *out, size_t room) {
     uint64_t reply[SPLICER_REPLY];
     splicer_7_reading(r->core.words, r->core.bytes, r->counter, reading, out, room, reply);
     return splicer_reply_of(reply);
 }
 
-/* The list of a Splice_Request that names its PIDs itself. in: from PcrPID on, which is data + 18 of the request. The bytes taken, or 0 for a
- * bad one: then s stays as it was. Rows behind the last are zeroed; kept bytes behind the last stay. */
-static inline size_t splicer_call_read_streams(const uint8_t *in, size_t length, struct splicer_streams *s) {
-    return splicer_7_read_streams(in, length, (uint64_t *)(void *)s, s->kept);
+/* ---- Messages and records ---- */
+
+/* Handles the first message of the `length` bytes read so far from conn; `consumed` says how many it was. A GetConfig_Request is answered
+ * with the section of the feed that is on air.
+ * Refused: 1, 2, 7, 10, 5, 4. Cost: 136 for an Alive_Request, 299 for an Init_Request; an accepted Splice_Request 264 and some 16 for each
+ * place of `moved`; an Abort_Request 1,966 with 19 followers. Threads: alone. */
+static inline struct splicer_reply splicer_call_message_maps(struct splicer *s, uint32_t conn, const uint8_t *in, size_t length,
+                                                             const struct splicer_maps *maps, uint8_t *out, size_t room) {
+    uint64_t reply[SPLICER_REPLY];
+    splicer_7_message(s->words, s->bytes, conn, in, length, maps->primary, maps->primary_length, maps->insertion, maps->insertion_length,
+                      out, room, reply);
+    return splicer_reply_of(reply);
 }
 
-/* The same written, from PcrPID on, for a bench. The bytes written, or 0 for a list that could not be read back or an output that is too
- * short: then out stays as it was. Bytes behind those written stay. */
-static inline size_t splicer_call_write_streams(const struct splicer_streams *s, uint8_t *out, size_t room) {
-    return splicer_7_write_streams((const uint64_t *)(const void *)s, s->kept, out, room);
+/* The same with two empty sections: a driver that has no maps, or whose servers ask for none.
+ * Refused: 1, 2, 7, 5, 4. Cost: the same. Threads: alone. */
+static inline struct splicer_reply splicer_call_message(struct splicer *s, uint32_t conn, const uint8_t *in, size_t length, uint8_t *out,
+                                                        size_t room) {
+    struct splicer_maps none = {in, 0, in, 0};
+    return splicer_call_message_maps(s, conn, in, length, &none, out, room);
 }
 
-/* What the one on air asked of the multiplexer: 1 to 10; 5 if it asked nothing or nothing is on air. It only reads, and nothing is refused.
- * It changes with starts, ends, aborts and closes: a covered session that is on air again writes no record. */
-static inline uint32_t splicer_call_mux(const struct splicer *s) {
-    return (uint32_t)splicer_7_mux(s->words, s->bytes);
-}
-
-/* A section of cues (SCTE 35) from the feed, whole, and a PTS of its time base with the UTC instant that belongs to it; the PTS counts modulo
- * 2^33, and every cue still expected is at or after it. A Cue_Request to every initialised connection, with the cue's UTC time or all ones; 117
- * for a section that is bad; nothing for one that concerns no server. It only reads the splicer, and `consumed` is 0. Refused: 2, 8, 11.
- * docs/INTEGRATION.md says where sections and PTS come from. */
+/* A section of cues (SCTE 35) from the feed, whole, and a PTS of its time base with the UTC instant that belongs to it; the PTS counts
+ * modulo 2^33, and every cue still expected is at or after it. A Cue_Request to every initialised connection, with the cue's UTC time or
+ * all ones; 117 for a section that is bad; nothing for one that concerns no server. It only reads the splicer, and `consumed` is 0.
+ * docs/INTEGRATION.md says where sections and PTS come from.
+ * Refused: 2, 8, 11. Cost: some 46 for each byte of the section, 2,830 for one of 50 to four connections. Threads: shared. */
 static inline struct splicer_reply splicer_call_cue(const struct splicer *s, const uint8_t *section, size_t length, uint64_t pts,
                                                     uint32_t seconds, uint32_t micros, uint8_t *out, size_t room) {
     uint64_t reply[SPLICER_REPLY];
@@ -370,44 +386,20 @@ static inline struct splicer_reply splicer_call_cue(const struct splicer *s, con
     return splicer_reply_of(reply);
 }
 
-/* The last 16 sessions that ended, of all connections, from the newest down: rows[0] is the one whose end was written last. 0, or 16 if `count`
- * is not SPLICER_ROWS: then no row is written. It only reads. A close and an open drop nothing; fresh has none. */
-static inline uint32_t splicer_call_ended(const struct splicer *s, struct splicer_row *rows, size_t count) {
-    return (uint32_t)splicer_7_ended(s->words + SPLICER_ENDED, SPLICER_ENDED_WORDS, rows, count);
-}
-
-/* Of the lent sections the one of the feed that is on air, the pointer that was lent, and its length: the insertion's exactly when a session
- * is on air (Alive's State 2). It only reads, and nothing is refused; a section over SPLICER_MAP_SECTION is given too. */
-static inline const uint8_t *splicer_call_map(const struct splicer *s, const struct splicer_maps *maps, size_t *length) {
-    if (splicer_7_map(s->words, s->bytes) == 0) {
-        *length = maps->primary_length;
-        return maps->primary;
-    }
-    *length = maps->insertion_length;
-    return maps->insertion;
-}
-
-/* A record in an output buffer: whom it is for, what it says, and the message as it is sent. The pointers lead into the buffer. */
-struct splicer_record {
-    uint32_t connection;
-    uint32_t message_id;
-    uint32_t result;
-    const uint8_t *data;
-    size_t size; /* of data */
-    const uint8_t *message;
-    size_t length; /* of message: 8 + size */
-};
-
-/* Numbers on the wire are big-endian. */
+/* Numbers on the wire are big-endian: one of two bytes.
+ * Refused: never. Cost: a few. Threads: free. */
 static inline uint32_t splicer_u16(const uint8_t *p) {
     return (uint32_t)p[0] << 8 | (uint32_t)p[1];
 }
 
+/* One of four bytes.
+ * Refused: never. Cost: a few. Threads: free. */
 static inline uint32_t splicer_u32(const uint8_t *p) {
     return splicer_u16(p) << 16 | splicer_u16(p + 2);
 }
 
-/* The record at *at of the `written` bytes; moves *at behind it. 1, or 0 at the end. Start with *at == 0. */
+/* The record at *at of the `written` bytes; moves *at behind it. 1, or 0 at the end. Start with *at == 0.
+ * Refused: never. Cost: a few tens. Threads: free. */
 static inline int splicer_next_record(const uint8_t *out, size_t written, size_t *at, struct splicer_record *r) {
     size_t left = written - *at;
     if (left < SPLICER_MARK + SPLICER_HEADER || out[*at] != 0x52) {
@@ -426,6 +418,65 @@ static inline int splicer_next_record(const uint8_t *out, size_t written, size_t
     }
     *at += SPLICER_MARK + r->length;
     return 1;
+}
+
+/* The list of a Splice_Request that names its PIDs itself. in: from PcrPID on, which is data + 18 of the request. The bytes taken, or 0 for
+ * a bad one: then s stays as it was. Rows behind the last are zeroed; kept bytes behind the last stay.
+ * Refused: never; 0 says that it is bad. Cost: 230 for one stream, 1,090 for sixteen. Threads: free. */
+static inline size_t splicer_call_read_streams(const uint8_t *in, size_t length, struct splicer_streams *s) {
+    return splicer_7_read_streams(in, length, (uint64_t *)(void *)s, s->kept);
+}
+
+/* ---- Reads: nothing changes, and none but the last is refused ---- */
+
+/* How many sessions of each connection wait: at most 20 of one, 64 in all.
+ * Refused: never. Cost: 13, however many wait. Threads: shared. */
+static inline struct splicer_waiting splicer_call_waiting(const struct splicer *s) {
+    struct splicer_waiting w;
+    splicer_7_waiting(s->words, s->bytes, w.count);
+    return w;
+}
+
+/* The time on the primary channel, in which nothing was on air, up to the clock: in ninths of a microsecond since clock 0, so the first
+ * tick adds its whole time. Of a stretch, take the difference of two reads.
+ * Refused: never. Cost: 2. Threads: shared. */
+static inline uint64_t splicer_call_primary(const struct splicer *s) {
+    return splicer_7_primary(s->words, s->bytes);
+}
+
+/* What the one on air asked of the multiplexer: 1 to 10; 5 if it asked nothing or nothing is on air. It changes with starts, ends, aborts
+ * and closes: a covered session that is on air again writes no record.
+ * Refused: never. Cost: some 15. Threads: shared. */
+static inline uint32_t splicer_call_mux(const struct splicer *s) {
+    return (uint32_t)splicer_7_mux(s->words, s->bytes);
+}
+
+/* Of the lent sections the one of the feed that is on air, the pointer that was lent, and its length: the insertion's exactly when a
+ * session is on air (Alive's State 2). A section over SPLICER_MAP_SECTION is given too.
+ * Refused: never. Cost: some 15. Threads: shared. */
+static inline const uint8_t *splicer_call_map(const struct splicer *s, const struct splicer_maps *maps, size_t *length) {
+    if (splicer_7_map(s->words, s->bytes) == 0) {
+        *length = maps->primary_length;
+        return maps->primary;
+    }
+    *length = maps->insertion_length;
+    return maps->insertion;
+}
+
+/* The last 16 sessions that ended, of all connections, from the newest down: rows[0] is the one whose end was written last. 0, or 16 if
+ * `count` is not SPLICER_ROWS: then no row is written. A close and an open drop nothing; fresh has none.
+ * Refused: 16. Cost: some 400. Threads: shared. */
+static inline uint32_t splicer_call_ended(const struct splicer *s, struct splicer_row *rows, size_t count) {
+    return (uint32_t)splicer_7_ended(s->words + SPLICER_ENDED, SPLICER_ENDED_WORDS, rows, count);
+}
+
+/* ---- Bench: splicer_bench.h has more ---- */
+
+/* A list of streams written, from PcrPID on. The bytes written, or 0 for a list that could not be read back or an output that is too short:
+ * then out stays as it was. Bytes behind those written stay.
+ * Refused: never; 0 says so. Cost: 120 for one stream, 960 for sixteen. Threads: free. */
+static inline size_t splicer_call_write_streams(const struct splicer_streams *s, uint8_t *out, size_t room) {
+    return splicer_7_write_streams((const uint64_t *)(const void *)s, s->kept, out, room);
 }
 
 #ifdef __cplusplus

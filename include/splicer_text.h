@@ -1,5 +1,7 @@
-/* splicer_text.h: what stands in a record, by its fields, and words for its numbers; beside splicer.h. A reader gives 1 and fills its struct if the
- * record is of its kind and size, else it gives 0 and changes nothing. Pointers lead into the buffer of the record. */
+/* splicer_text.h: what stands in a record, by its fields, and words for its numbers; beside splicer.h. No archive is needed.
+ *
+ * A reader gives 1 and fills its struct if the record is of its kind and size, else it gives 0 and changes nothing. Pointers lead into the
+ * buffer of the record. Refused, Cost and Threads as splicer.h says: no call here is refused. */
 #ifndef SPLICER_TEXT_H
 #define SPLICER_TEXT_H
 
@@ -28,7 +30,8 @@ struct splicer_splice_complete {
     uint32_t played; /* PlayedDuration: time on air in ticks of 90 kHz */
 };
 
-/* Init_Response. */
+/* Init_Response.
+ * Refused: never. Cost: a few. Threads: free. */
 static inline int splicer_read_init(const struct splicer_record *r, struct splicer_init_response *to) {
     if (r->message_id != SPLICER_INIT_RESPONSE || r->size != 2 + SPLICER_NAME) {
         return 0;
@@ -38,7 +41,8 @@ static inline int splicer_read_init(const struct splicer_record *r, struct splic
     return 1;
 }
 
-/* Alive_Response. */
+/* Alive_Response.
+ * Refused: never. Cost: a few. Threads: free. */
 static inline int splicer_read_alive(const struct splicer_record *r, struct splicer_alive_response *to) {
     if (r->message_id != SPLICER_ALIVE_RESPONSE || r->size != 16) {
         return 0;
@@ -50,7 +54,8 @@ static inline int splicer_read_alive(const struct splicer_record *r, struct spli
     return 1;
 }
 
-/* SpliceComplete_Response. */
+/* SpliceComplete_Response.
+ * Refused: never. Cost: a few. Threads: free. */
 static inline int splicer_read_complete(const struct splicer_record *r, struct splicer_splice_complete *to) {
     if (r->message_id != SPLICER_SPLICE_COMPLETE_RESPONSE || r->size != 13) {
         return 0;
@@ -69,7 +74,8 @@ struct splicer_cue_request {
     size_t length;
 };
 
-/* Cue_Request. */
+/* Cue_Request.
+ * Refused: never. Cost: a few. Threads: free. */
 static inline int splicer_read_cue(const struct splicer_record *r, struct splicer_cue_request *to) {
     if (r->message_id != SPLICER_CUE_REQUEST || r->size < 8) {
         return 0;
@@ -81,7 +87,8 @@ static inline int splicer_read_cue(const struct splicer_record *r, struct splice
     return 1;
 }
 
-/* Splice_Response or Abort_Response: the SessionID. */
+/* Splice_Response or Abort_Response: the SessionID.
+ * Refused: never. Cost: a few. Threads: free. */
 static inline int splicer_read_session(const struct splicer_record *r, uint32_t *session) {
     if ((r->message_id != SPLICER_SPLICE_RESPONSE && r->message_id != SPLICER_ABORT_RESPONSE) || r->size != 4) {
         return 0;
@@ -90,7 +97,7 @@ static inline int splicer_read_session(const struct splicer_record *r, uint32_t 
     return 1;
 }
 
-/* ExtendedData_Response. found: 1, with what is kept of the session's end, or 0 (result 121), where the others are 0. */
+/* found: 1, with what is kept of the session's end, or 0 (result 121), where the others are 0. */
 struct splicer_extended_data {
     uint32_t session;
     uint32_t found;
@@ -99,6 +106,8 @@ struct splicer_extended_data {
     uint32_t played;
 };
 
+/* ExtendedData_Response.
+ * Refused: never. Cost: a few. Threads: free. */
 static inline int splicer_read_extended(const struct splicer_record *r, struct splicer_extended_data *to) {
     if (r->message_id != SPLICER_EXTENDED_DATA_RESPONSE || (r->size != 4 && r->size != 20)) {
         return 0;
@@ -111,7 +120,8 @@ static inline int splicer_read_extended(const struct splicer_record *r, struct s
     return 1;
 }
 
-/* House numbers of documents 01 and 02. */
+/* House numbers, of the bench too.
+ * Refused: never. Cost: a few. Threads: free. */
 static inline const char *splicer_refusal_text(uint32_t number) {
     static const char *const words[] = {
         "good", "connection above 3", "output buffer below 4,096 bytes", "clock earlier than the present one",
@@ -125,7 +135,8 @@ static inline const char *splicer_refusal_text(uint32_t number) {
     return number < 17 ? words[number] : "no house number";
 }
 
-/* Result codes, J.280, Appendix I. */
+/* Result codes, J.280, Appendix I.
+ * Refused: never. Cost: a few. Threads: free. */
 static inline const char *splicer_result_text(uint32_t result) {
     static const char *const words[] = {
         "Successful Response", "Unknown Failure", "Invalid Version", "Access Denied", "Invalid/Unknown ChannelName",
@@ -141,7 +152,8 @@ static inline const char *splicer_result_text(uint32_t result) {
     return result >= 100 && result < 136 ? words[result - 100] : "no result code of J.280";
 }
 
-/* MessageIDs, J.280, Table 7-2. */
+/* MessageIDs, J.280, Table 7-2.
+ * Refused: never. Cost: a few. Threads: free. */
 static inline const char *splicer_message_text(uint32_t id) {
     static const char *const words[] = {
         "General_Response", "Init_Request", "Init_Response", "ExtendedData_Request", "ExtendedData_Response", "Alive_Request",
@@ -152,7 +164,8 @@ static inline const char *splicer_message_text(uint32_t id) {
     return id < 18 ? words[id] : "no message of J.280";
 }
 
-/* The State of an Alive_Response, J.280, Table 7-11. */
+/* The State of an Alive_Response, J.280, Table 7-11.
+ * Refused: never. Cost: a few. Threads: free. */
 static inline const char *splicer_state_text(uint32_t state) {
     static const char *const words[] = {
         "no output", "primary channel", "insertion",

@@ -38,7 +38,7 @@ work=$here/target/dist
 passed=0
 failed=0
 version=$(sed -n 's/^## \([0-9.]*\).*/\1/p' CHANGELOG.md | head -n 1)
-state=$(sed -n 's/^    SPLICER_VERSION = \([0-9]*\).*/\1/p' include/splicer.h)
+state=$(sed -n 's/^#define SPLICER_VERSION \([0-9]*\)$/\1/p' include/splicer.h)
 [ "${version%%.*}" = "$state" ] || refuse "CHANGELOG.md's first version $version is none of SPLICER_VERSION $state"
 release=splicer-$version-$processor
 rm -rf "$work"

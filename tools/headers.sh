@@ -1,7 +1,8 @@
 #!/bin/sh
-# headers.sh [FUNCTION]: every inline function of include/ is held: tools/headers/held.c calls each beside the bare archives, on random input,
-# and each wrong header of tools/headers/wrong, two at least for every function, is refused by it; those of FUNCTION alone if it is named.
-# By the kit's compiler and linker. The last line is 'N passed, M failed'.
+# headers.sh [FUNCTION]: every inline function of include/ is held: tools/headers/held.c calls each beside the bare archives, on random
+# input, and each wrong header of tools/headers/wrong, two at least for every function, is refused by it; those of FUNCTION alone if it is
+# named. The comment of each says what is refused, its cost and who may call beside it. By the kit's compiler and linker. The last line is
+# 'N passed, M failed'.
 set -eu
 . "$(dirname "$0")/words.sh"
 [ $# -le 1 ] || refuse "one FUNCTION, not '$*'"
@@ -71,6 +72,16 @@ enough() {
     done
 }
 
+# described: the comment of each says what is refused, its cost and who may call beside it; no request is named by its number
+described() {
+    ! grep -nE 'CR [0-9]' include/*.h && cat include/*.h | awk '
+    /^\/\*/ { said = "" }
+    { said = said $0 }
+    /^static inline / && !(said ~ /Refused: .*Cost: .*Threads: /) { print; bad = 1 }
+    /^static inline / { said = "" }
+    END { exit bad }'
+}
+
 # edited: the header of standard input with the old text of a function as the new one; it must stand there once
 edited() {
     LC_ALL=C FUNCTION=$function OLD=$old NEW=$new awk '
@@ -102,6 +113,7 @@ held 'the archives' archives
 words >"$work/words.h"
 held 'every inline function is called' called
 held 'two wrong headers for each' enough
+held 'refusals, cost and threads of each' described
 held 'the headers as they are' right
 all=0
 while IFS= read -r title; do

@@ -1,6 +1,7 @@
 #!/bin/sh
 # symbols.sh: the functions that each archive exports are those that its header declares, with the header's version in their names, those
-# whose requires and ensures its crate's proofs/Cited goes through, and those that the Rust wrapper links. One line for each difference.
+# whose requires and ensures its crate's proofs/Cited goes through, and those that the Rust wrapper links; and the version of all that bears
+# one is CHANGELOG's. One line for each difference.
 # The last line is 'N passed, M failed'.
 set -eu
 . "$(dirname "$0")/words.sh"
@@ -83,7 +84,7 @@ list() {
 
 # versioned HEADER LIST PREFIX: each name of the list has the header's version behind the prefix
 versioned() {
-    version=$(sed -nE 's/.*[ {]SPLICER_(BENCH_)?VERSION = ([0-9]+).*/\2/p' "$1")
+    version=$(sed -nE 's/^#define SPLICER_(BENCH_)?VERSION ([0-9]+)$/\2/p' "$1")
     if grep -v "^$3${version}_" "$work/$2" >"$work/differ"; then
         sed "s|\$| of $2 is none of version $version|; s/^/symbols: /" "$work/differ"
         failed=$((failed + $(wc -l <"$work/differ")))
@@ -92,6 +93,23 @@ versioned() {
     fi
 }
 
+# one_version: CHANGELOG's first is that of the header's macros, of the Rust crate and of the desk
+one_version() {
+    first=$(sed -n 's/^## \([0-9.]*\).*/\1/p' CHANGELOG.md | head -n 1)
+    {
+        sed -n 's/^#define SPLICER_VERSION_STRING "\(.*\)"/\1.0 splicer.h/p' include/splicer.h
+        for package in bindings desk; do sed -n "s/^version = \"\(.*\)\"/\1 $package/p" $package/Cargo.toml; done
+    } | awk -v first="$first" '
+        $1 == first ".0" { good++; next }
+        { print "symbols: " $2 " is " $1 ", CHANGELOG.md " first }
+        END { exit good != 3 }'
+}
+
+if one_version; then
+    passed=$((passed + 1))
+else
+    failed=$((failed + 1))
+fi
 for name in door rolldoor bench; do
     archive "$work/log" "$name" >"$work/said" || { cat "$work/said"; echo '0 passed, 1 failed'; exit 1; }
     list "lib$name.a" exported "$name"

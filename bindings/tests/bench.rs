@@ -79,7 +79,7 @@ fn numbers_of_the_header() {
     assert!(HEADER.contains(&format!("SPLICER_LOG = {LOG},")));
     let full = Refused::Full.number();
     assert!(HEADER.contains(&format!("SPLICER_LOG_FULL = {full} ")));
-    assert!(HEADER.contains(&format!("SPLICER_BENCH_VERSION = {VERSION},")));
+    assert!(HEADER.contains(&format!("#define SPLICER_BENCH_VERSION {VERSION}\n")));
 }
 
 /// What stands in the parentheses behind a text, part by part.

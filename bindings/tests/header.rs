@@ -34,7 +34,6 @@ fn of_header() -> Vec<(String, u32)> {
 
 fn sizes() -> Vec<(&'static str, u32)> {
     let list = [
-        ("VERSION", splicer::VERSION as usize),
         ("CONNECTIONS", splicer::CONNECTIONS),
         ("NAME", splicer::NAME),
         ("HEADER", splicer::HEADER),
@@ -136,6 +135,20 @@ fn every_number_of_the_header_is_here() {
         let own = here.iter().find(|(own, _)| *own == name);
         assert_eq!(own.map(|(_, n)| *n), Some(number), "{name}");
     }
+}
+
+/// The macros, which a preprocessor can compare, and the crate's own version.
+#[test]
+fn the_versions_are_one() {
+    let version = splicer::VERSION;
+    let defined = |text: &str| assert!(HEADER_TEXT.contains(text), "{text}");
+    defined(&format!("\n#define SPLICER_VERSION {version}\n"));
+    let own = env!("CARGO_PKG_VERSION");
+    let minor = between(HEADER_TEXT, "#define SPLICER_VERSION_MINOR ", "\n");
+    assert_eq!(own, format!("{version}.{minor}.0"));
+    defined(&format!(
+        "\n#define SPLICER_VERSION_STRING \"{version}.{minor}\"\n"
+    ));
 }
 
 #[test]
