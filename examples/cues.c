@@ -4,7 +4,12 @@
 #include "splicer.h"
 #include "splicer_text.h"
 
+#ifdef SPLICER_NO_STANDARD_HEADERS
+/* the proof kit's compiler has none: what is called is declared */
 int printf(const char *format, ...);
+#else
+#include <stdio.h>
+#endif
 
 static struct splicer channel;
 static uint8_t out[SPLICER_OUT];

@@ -5,11 +5,23 @@
 #include "splicer_record.h"
 #include "splicer_text.h"
 
+#if SPLICER_VERSION != 7
+#error "written for version 7 of struct splicer"
+#endif
+
+#ifdef SPLICER_NO_STANDARD_HEADERS
+/* the proof kit's compiler has none: what is called is declared */
 int printf(const char *format, ...);
 int creat(const char *path, unsigned mode);
 long write(int file, const void *bytes, size_t n);
 void *memcpy(void *to, const void *from, size_t n);
 void *memmove(void *to, const void *from, size_t n);
+#else
+#include <fcntl.h>
+#include <stdio.h>
+#include <string.h>
+#include <unistd.h>
+#endif
 
 /* What was read from a connection and not yet handled. Room for one message is enough: the core consumes each when it is whole. */
 struct inbox {

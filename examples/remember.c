@@ -5,7 +5,12 @@
 #include "splicer_bench.h"
 #include "splicer_text.h"
 
+#ifdef SPLICER_NO_STANDARD_HEADERS
+/* the proof kit's compiler has none: what is called is declared */
 int printf(const char *format, ...);
+#else
+#include <stdio.h>
+#endif
 
 static uint8_t log[SPLICER_LOG];
 static struct splicer card;

@@ -100,7 +100,7 @@ example() {
     example=$1
     shift
     # shellcheck disable=SC2046
-    cc -std=c11 "$release/examples/$example.c" $(pkg-config --cflags --libs "$@") -o "$example" &&
+    cc -std=c99 -pedantic -Wall -Wextra -Werror "$release/examples/$example.c" $(pkg-config --cflags --libs "$@") -o "$example" &&
         prints "$release/examples/$example.out" "./$example"
 }
 
