@@ -7,6 +7,11 @@ use std::path::{Path, PathBuf};
 
 fn main() {
     println!("cargo:rerun-if-env-changed=SPLICER_LIB");
+    println!("cargo:rerun-if-env-changed=DOCS_RS");
+    // the documentation by itself links nothing
+    if std::env::var_os("DOCS_RS").is_some() {
+        return;
+    }
     let folder = match std::env::var_os("SPLICER_LIB") {
         Some(folder) => PathBuf::from(folder),
         None => own_folder(),

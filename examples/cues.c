@@ -1,6 +1,6 @@
-/* Cues from the feed (document 02, CR 7): the sections that a driver collects from the PID of stream_type 0x86, each handed to the core with a PTS
- * of the feed's time base and the UTC instant that belongs to it. Connections 0 and 2 are initialised, 1 is open only. Sockets are left out: a
- * printed line stands for what would be sent. The two sections are those of docs/SCTE35.md. */
+/* Cues from the feed: the sections that a driver collects from the PID of stream_type 0x86, each handed to the core
+ * with a PTS of the feed's time base and the UTC instant that belongs to it. Connections 0 and 2 are initialised, 1 is open only. Sockets
+ * are left out: a printed line stands for what would be sent. The two sections are those of docs/SCTE35.md. */
 #include "splicer.h"
 #include "splicer_text.h"
 

@@ -152,8 +152,8 @@ static int handled(uint32_t conn, struct inbox *box) {
     }
 }
 
-/* n bytes were read from a connection, any number: the inbox takes as many as it has room for at a time. After 5 it always has room, since no
- * message is longer than the inbox. */
+/* n bytes were read from a connection, any number: the inbox takes as many as it has room for at a time. After 5 it always has room, since
+ * no message is longer than the inbox. */
 static void heard(uint32_t conn, const uint8_t *bytes, size_t n) {
     struct inbox *box = &inboxes[conn];
     int more = 1;
@@ -191,7 +191,8 @@ static uint8_t *init(uint8_t *p, const char *name) {
     return put(put(put(p + 2 * SPLICER_NAME, 0x00080001, 4), 0x00010001, 4), 0, 2);
 }
 
-static uint8_t *splice(uint8_t *p, uint32_t session, uint32_t prior, uint32_t seconds, uint32_t duration, uint32_t access, uint32_t override) {
+static uint8_t *splice(uint8_t *p, uint32_t session, uint32_t prior, uint32_t seconds, uint32_t duration, uint32_t access,
+                       uint32_t override) {
     p = put(put(header(p, SPLICER_SPLICE_REQUEST, 33), session, 4), prior, 4);
     p = put(put(put(p, seconds, 4), 0, 4), 1, 2);
     p = put(put(put(p, duration, 4), 0xFFFFFFFF, 4), 0, 4);

@@ -1,6 +1,6 @@
-/* The engine that only remembers (document 02, CR 12), for a bench: its whole state is a log that the driver lends, the good calls one behind the
- * other in the card program's marks. So a log is a recording of calls: the card is fed with it here and answers alike, and a call is taken back
- * by a zero over its mark. A printed line stands for what would be sent. */
+/* The engine that only remembers, for a bench: its whole state is a log that the driver lends, the good calls one
+ * behind the other in the card program's marks. So a log is a recording of calls: the card is fed with it here and answers alike, and a
+ * call is taken back by a zero over its mark. A printed line stands for what would be sent. */
 #include "splicer.h"
 #include "splicer_bench.h"
 #include "splicer_text.h"

@@ -1,5 +1,5 @@
-/* A driver of the card with a rolling counter: its 90 kHz counter is near its rollover when the UTC instant is given, a spot starts before the
- * rollover and ends after it, and the readings that are refused. Sockets are left out: a printed line stands for what would be sent. */
+/* A driver of the card with a rolling counter: its 90 kHz counter is near its rollover when the UTC instant is given, a spot starts before
+ * the rollover and ends after it, and the readings that are refused. Sockets are left out: a printed line stands for what would be sent. */
 #include "splicer.h"
 #include "splicer_text.h"
 

@@ -95,9 +95,10 @@ over_archives() {
     [ -z "$runner" ] || export "CARGO_TARGET_${name}_RUNNER=$runner"
     ran archive made door || return 0
     ran rolldoor made rolldoor || return 0
-    ran bindings cargoed test bindings || :
+    ran bindings cargoed test bindings --tests || :
     ran archive-of-the-bench made bench || return 0
     ran bindings-with-bench cargoed test bindings --features bench --test bench || :
+    ran examples-of-the-documentation cargoed test bindings --features bench --doc || :
     ran compared cargoed run model/beside -- "$@" || :
 }
 

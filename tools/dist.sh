@@ -143,8 +143,8 @@ gathered() {
     cp "$source/desk/desk.1" share/man/man1/
     cp -R "$source/examples" "$source/wireshark" "$source/docs" "$source/CHANGELOG.md" .
     mkdir rust
-    for part in Cargo.toml Cargo.lock build.rs src tests; do cp -R "$source/bindings/$part" rust/; done
-    cp "$source/tools/release/README.md" "$source/tools/release/NOTICE" .
+    for part in Cargo.toml Cargo.lock README.md build.rs src tests; do cp -R "$source/bindings/$part" rust/; done
+    cp "$source/tools/release/README.md" "$source/NOTICE" .
     sh "$source/tools/spdx.sh" "$release" "$(commit | cut -d , -f 1)" "$(when)" >../splicer.spdx
     mv ../splicer.spdx .
     manifest >MANIFEST

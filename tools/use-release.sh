@@ -118,6 +118,12 @@ the_crate() {
     cd "$release/rust" && cargo build --quiet --offline --locked
 }
 
+# documented: the crate's documentation without the archives, as docs.rs builds it
+documented() {
+    mkdir -p docs && cp -R "$release/rust" "$release/NOTICE" docs/ &&
+        DOCS_RS=1 RUSTDOCFLAGS='-D warnings' cargo doc --quiet --offline --no-deps --features bench --manifest-path docs/rust/Cargo.toml
+}
+
 # ends STATUS COMMAND..: the command's status
 ends() {
     wanted=$1 status=0
@@ -167,6 +173,7 @@ ${version%-*}
 ${version%-*}
 END_OF_VERSIONS
 held 'a driver in Rust' rust
+held "the crate's documentation without the archives" documented
 held 'the crate where it stands' the_crate
 held 'checker on every recording' findings
 held 'checker, a file name as argument' ends 2 "$release/bin/checker" "$release/examples/recordings/day.rec"

@@ -1,10 +1,12 @@
-//! For the bench: `include/splicer_bench.h` as a safe interface. The checker of recordings (document
-//! 02, CR 14), [`check`], and the engine that only remembers (CR 12), [`Recall`]. With the feature
-//! `bench` only, which links a second archive.
+//! For the bench: `include/splicer_bench.h` as a safe interface. The checker of recordings,
+//! [`check`], and the engine that only remembers, [`Recall`]. With the feature `bench` only, which
+//! links an archive of its own.
 
 pub mod raw;
 mod recall;
 
+use crate::texts;
+use core::fmt;
 pub use recall::{Recall, Refused, LOG};
 
 /// The version of the archive's functions, whose names carry it.
@@ -42,6 +44,18 @@ impl Finding {
     }
 }
 
+impl fmt::Display for Finding {
+    fn fmt(&self, f: &mut fmt::Formatter<'_>) -> fmt::Result {
+        let why = texts::refusal(self.house_number());
+        match self {
+            Finding::Longer => write!(f, "refused 15: {why}"),
+            Finding::Unknown(at) => write!(f, "refused 14: {why}, at byte {at}"),
+            Finding::Differs(call) => write!(f, "call {call}"),
+            Finding::None => write!(f, "none"),
+        }
+    }
+}
+
 extern "C" {
     #[link_name = "splicer_bench_2_check"]
     fn check_recording(recording: *const u8, length: usize, reply: *mut u64);
@@ -49,6 +63,15 @@ extern "C" {
 
 /// Checks a recording of any splicer from fresh on, with the name "CH1" and buffers of 4,096 bytes.
 /// The recording is only read.
+///
+/// ```
+/// use splicer::bench::{check, Finding};
+///
+/// // open, close, and a second close with its refusal, 7; then the same without that
+/// assert_eq!(check(&[0x4F, 0, 0x43, 0, 0x43, 0, 0x45, 7]), Finding::None);
+/// assert_eq!(check(&[0x4F, 0, 0x43, 0, 0x43, 0]), Finding::Differs(3));
+/// assert_eq!(check(b"O\0?").to_string(), "refused 14: unknown mark in the recording, at byte 2");
+/// ```
 pub fn check(recording: &[u8]) -> Finding {
     let mut reply = [0; REPLY];
     // SAFETY: a slice lives through the call and is `recording.len()` bytes long; the reply has the

@@ -1,4 +1,4 @@
-//! The page of what ended lately (document 02, CR 8).
+//! The page of what ended lately.
 
 use crate::{door, Refusal, Splicer, ENDED, ROWS};
 

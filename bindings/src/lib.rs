@@ -9,16 +9,45 @@
 //! bytes, time and length of a buffer may be handed in: the call tests them and answers with a
 //! house number, a [`Refusal`].
 //!
+//! A whole small driver; `alive` came from a server's socket:
+//!
+//! ```
+//! use splicer::{records, result, Refusal, Splicer, OUT};
+//!
+//! # fn main() -> Result<(), Refusal> {
+//! let (mut channel, named) = Splicer::fresh(&splicer::name(b"CH1"));
+//! named?;
+//! let mut out = [0; OUT];
+//! channel.open(0)?;
+//! channel.tick(1000, 0, &mut out)?;
+//!
+//! let alive = [0, 5, 0, 8, 255, 255, 255, 255, 0, 0, 3, 232, 0, 0, 0, 0];
+//! // half of it was read: read on
+//! assert_eq!(channel.message(0, &alive[..10], &mut out), Err(Refusal::Short));
+//! let handled = channel.message(0, &alive, &mut out)?;
+//! assert_eq!(handled.consumed, 16);
+//! for record in records(handled.written) {
+//!     // to send: `record.message`, to `record.connection`
+//!     assert_eq!((record.connection, record.result), (0, result::ACCESS_DENIED));
+//! }
+//! let logged = channel.close(0, &mut out)?;
+//! assert!(logged.is_empty());
+//! # Ok(())
+//! # }
+//! ```
+//!
 //! What each unsafe call rests on: the parts have the lengths that the core takes (686 words and 1,056
 //! bytes, by their types), and a state came from `fresh` and was changed by the calls only, since its
 //! fields are private. The reason beside each call says the rest.
 #![no_std]
 #![warn(missing_docs)]
+#![cfg_attr(docsrs, feature(doc_cfg))]
 
 #[cfg(feature = "bench")]
 extern crate alloc;
 
 #[cfg(feature = "bench")]
+#[cfg_attr(docsrs, doc(cfg(feature = "bench")))]
 pub mod bench;
 mod door;
 mod ended;
@@ -92,8 +121,13 @@ const _: () = assert!(size_of::<Splicer>() == 6544);
 const _: () = assert!(align_of::<Splicer>() == 8);
 const _: () = assert!(core::mem::offset_of!(Splicer, bytes) == 5488);
 
-/// Document 01's house numbers: why a call was refused. A refused call wrote nothing, consumed
-/// nothing and changed nothing.
+/// The house numbers: why a call was refused. A refused call wrote nothing, consumed nothing and
+/// changed nothing. As an error it says its number, and what that means:
+///
+/// ```
+/// let refusal = splicer::Refusal::ClockBack;
+/// assert_eq!(refusal.to_string(), "refused 3: clock earlier than the present one");
+/// ```
 #[derive(Clone, Copy, Debug, PartialEq, Eq, Hash)]
 #[repr(u8)]
 pub enum Refusal {
@@ -155,13 +189,13 @@ impl Refusal {
 
 impl fmt::Display for Refusal {
     fn fmt(&self, f: &mut fmt::Formatter<'_>) -> fmt::Result {
-        write!(f, "refused {}", self.number())
+        write!(f, "refused {}: {}", self.number(), self.text())
     }
 }
 
 impl core::error::Error for Refusal {}
 
-/// The program map sections of the two feeds (document 02, CR 6), lent to [`Splicer::message_with`] and
+/// The program map sections of the two feeds, lent to [`Splicer::message_with`] and
 /// [`Splicer::map`]. They are not parsed; an empty one adds nothing to an answer.
 #[derive(Clone, Copy, Debug, Default, PartialEq, Eq)]
 pub struct Maps<'m> {
@@ -292,6 +326,11 @@ impl Splicer {
 
     /// How many sessions of each connection wait: accepted, and neither started nor ended. It only
     /// reads, in a few instructions however many wait.
+    ///
+    /// ```
+    /// let (channel, _) = splicer::Splicer::fresh(&splicer::name(b"CH1"));
+    /// assert_eq!(channel.waiting(), [0; splicer::CONNECTIONS]);
+    /// ```
     pub fn waiting(&self) -> [u64; CONNECTIONS] {
         let mut counts = [0; CONNECTIONS];
         let (words, bytes) = (self.words.as_ptr(), self.bytes.as_ptr());
@@ -303,6 +342,18 @@ impl Splicer {
     /// The time on the primary channel, in which nothing was on air, up to the clock: in ninths of a
     /// microsecond since clock 0, so the first tick adds its whole time. Of a stretch, take the
     /// difference of two reads.
+    ///
+    /// ```
+    /// # fn main() -> Result<(), splicer::Refusal> {
+    /// # let mut out = [0; splicer::OUT];
+    /// let (mut channel, _) = splicer::Splicer::fresh(&splicer::name(b"CH1"));
+    /// channel.tick(1000, 0, &mut out)?;
+    /// let before = channel.primary();
+    /// channel.tick(1001, 500_000, &mut out)?;
+    /// assert_eq!(channel.primary() - before, 1_500_000 * 9);
+    /// # Ok(())
+    /// # }
+    /// ```
     pub fn primary(&self) -> u64 {
         // SAFETY: the state came from fresh; both parts are lent for reading.
         unsafe { door::primary(self.words.as_ptr(), self.bytes.as_ptr()) }

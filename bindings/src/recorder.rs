@@ -1,11 +1,27 @@
 //! A recorder: each call goes to a sink in the card program's mark, and behind it what was written
 //! for it, as `include/splicer_record.h` does. It is the one format that the checker of other
-//! splicers reads (document 02, CR 14) and the desk's program.
+//! splicers reads and the desk's program.
 //!
 //! Left out are calls that the marks cannot hold and that changed nothing: those refused with 2 or
 //! 5, and a message to a connection that is not there or not open of which not all bytes were read.
 //! A connection above 255 is written as 255. [`Splicer::fresh`] has no mark: a recording is that of
 //! one channel from there on, and the ChannelName is kept beside it.
+//!
+//! ```
+//! # fn main() -> Result<(), splicer::Refusal> {
+//! use splicer::{recorder::Recorder, Splicer};
+//!
+//! let (mut channel, _) = Splicer::fresh(&splicer::name(b"CH1"));
+//! let mut recording = Vec::new();
+//! let mut recorder = Recorder::new(|bytes: &[u8]| recording.extend_from_slice(bytes));
+//! recorder.open(&mut channel, 0)?;
+//! assert!(recorder.open(&mut channel, 0).is_err());
+//! drop(recorder);
+//! // two opens, the second with its refusal, 6
+//! assert_eq!(recording, [0x4F, 0, 0x4F, 0, 0x45, 6]);
+//! # Ok(())
+//! # }
+//! ```
 
 use crate::{Handled, Refusal, Splicer, HEADER, MESSAGE};
 

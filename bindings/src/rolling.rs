@@ -1,4 +1,4 @@
-//! The card with a rolling counter (document 02, CR 9): an instant and readings in place of ticks.
+//! The card with a rolling counter: an instant and readings in place of ticks.
 
 use crate::{door, Handled, Maps, Refusal, Row, Splicer, BYTES, CONNECTIONS, NAME, ROWS, WORDS};
 use core::fmt;
@@ -7,6 +7,20 @@ use core::fmt;
 ///
 /// It has every call and read of [`Splicer`] but tick: the clock is brought on by one
 /// [`RollingSplicer::instant`] and the [`RollingSplicer::reading`]s after it.
+///
+/// ```
+/// # fn main() -> Result<(), splicer::Refusal> {
+/// # let mut out = [0; splicer::OUT];
+/// let (mut channel, _) = splicer::RollingSplicer::fresh(&splicer::name(b"CH1"));
+/// // 1,000 s, and the counter reads 4,294,967,290; it rolls over
+/// channel.instant(1000, 0, 4_294_967_290, &mut out)?;
+/// let before = channel.primary();
+/// channel.reading(84, &mut out)?;
+/// // 90 ticks of 90 kHz are a thousand microseconds
+/// assert_eq!(channel.primary() - before, 1000 * 9);
+/// # Ok(())
+/// # }
+/// ```
 #[derive(Clone, PartialEq, Eq)]
 #[repr(C)]
 pub struct RollingSplicer {

@@ -646,9 +646,10 @@ fn thirteen_is_no_number_of_the_card() {
         assert_eq!(Refused::of(number), Refusal::of(number).map(Refused::from));
     }
     assert_eq!(Refused::of(13), Some(Refused::Full));
-    assert_eq!(Refused::Full.to_string(), "refused 13");
-    assert_eq!(card(Refusal::Short).to_string(), "refused 5");
     let words = "log of the remembering engine full or of another size";
     assert_eq!(Refused::Full.text(), words);
+    assert_eq!(Refused::Full.to_string(), format!("refused 13: {words}"));
+    let short = card(Refusal::Short).to_string();
+    assert_eq!(short, "refused 5: not yet a whole message");
     assert_eq!(card(Refusal::Short).text(), Refusal::Short.text());
 }

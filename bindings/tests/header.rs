@@ -268,6 +268,8 @@ fn a_house_number_names_its_refusal() {
     for number in (1..=12).chain([16]) {
         let refusal = Refusal::of(number).expect("1 to 12, 16");
         assert_eq!(u32::from(refusal.number()), number);
+        let said = format!("refused {number}: {}", refusal.text());
+        assert_eq!(refusal.to_string(), said);
     }
     assert_eq!(Refusal::of(0), None);
     assert_eq!(Refusal::of(13), None);

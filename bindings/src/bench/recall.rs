@@ -51,13 +51,13 @@ impl From<Refusal> for Refused {
 
 impl fmt::Display for Refused {
     fn fmt(&self, f: &mut fmt::Formatter<'_>) -> fmt::Result {
-        write!(f, "refused {}", self.number())
+        write!(f, "refused {}: {}", self.number(), self.text())
     }
 }
 
 impl core::error::Error for Refused {}
 
-/// The engine that only remembers (document 02, CR 12): one output channel with the name "CH1", whose
+/// The engine that only remembers: one output channel with the name "CH1", whose
 /// whole state is the log of the good calls. Until it first refuses with [`Refused::Full`], it answers
 /// as a [`Splicer`](crate::Splicer) with that name does, byte for byte.
 ///
@@ -65,6 +65,17 @@ impl core::error::Error for Refused {}
 /// there is room: the card program can be fed with it. Any bytes of that length are a log, read up to
 /// the first that begins no call. The calls that only read, cues and the rolling counter are not among
 /// its calls.
+///
+/// ```
+/// # fn main() -> Result<(), splicer::bench::Refused> {
+/// let mut engine = splicer::bench::Recall::new();
+/// engine.open(0)?;
+/// assert_eq!(engine.log()[..3], [0x4F, 0, 0]);
+/// let again = engine.open(0).expect_err("it is open");
+/// assert_eq!(again.to_string(), "refused 6: already open");
+/// # Ok(())
+/// # }
+/// ```
 #[derive(Clone, PartialEq, Eq)]
 pub struct Recall {
     log: Box<[u8; LOG]>,
