@@ -271,6 +271,10 @@ uint64_t splicer_7_map(const uint64_t *words, const uint8_t *bytes);
 uint64_t splicer_7_ended(const uint64_t *ended, size_t words, struct splicer_row *page, size_t rows);
 size_t splicer_7_write_streams(const uint64_t *list, const uint8_t *kept, uint8_t *out, size_t room);
 
+/* The version of the archive that was linked: SPLICER_VERSION * 1000 + SPLICER_VERSION_MINOR of its own header.
+ * Refused: never. Cost: 1. Threads: free. */
+uint64_t splicer_7_version(void);
+
 /* The words of a reply as a struct.
  * Refused: never. Cost: a few. Threads: free. */
 static inline struct splicer_reply splicer_reply_of(const uint64_t *reply) {

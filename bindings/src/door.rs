@@ -151,4 +151,7 @@ extern "C" {
 
     #[link_name = "splicer_7_map"]
     pub fn map(words: *const u64, bytes: *const u8) -> u64;
+
+    #[link_name = "splicer_7_version"]
+    pub fn version() -> u64;
 }

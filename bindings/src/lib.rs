@@ -69,6 +69,16 @@ pub use streams::{Stream, Streams, KEPT, STREAMS, STREAM_WORDS};
 
 /// The version of the state and of the archive's functions, whose names carry it.
 pub const VERSION: u32 = 7;
+/// The version of the archive that was linked: [`VERSION`] * 1000, and what was added to it since.
+///
+/// ```
+/// assert_eq!(splicer::archive_version() / 1000, u64::from(splicer::VERSION));
+/// ```
+pub fn archive_version() -> u64 {
+    // SAFETY: it takes nothing and reads nothing.
+    unsafe { door::version() }
+}
+
 /// Connections of a channel: 0 to 3.
 pub const CONNECTIONS: usize = 4;
 /// Bytes of a ChannelName.

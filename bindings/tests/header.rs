@@ -146,6 +146,15 @@ fn the_versions_are_one() {
     let own = env!("CARGO_PKG_VERSION");
     let minor = between(HEADER_TEXT, "#define SPLICER_VERSION_MINOR ", "\n");
     assert_eq!(own, format!("{version}.{minor}.0"));
+    let number: u64 = minor.parse().expect("a number");
+    assert_eq!(
+        splicer::archive_version(),
+        1000 * u64::from(version) + number
+    );
+    assert!(HEADER_TEXT.contains(&format!("\nuint64_t splicer_{version}_version(void);\n")));
+    assert!(DOOR_TEXT.contains(&format!(
+        "\"splicer_{version}_version\"]\n    pub fn version() -> u64;"
+    )));
     defined(&format!(
         "\n#define SPLICER_VERSION_STRING \"{version}.{minor}\"\n"
     ));
@@ -219,9 +228,10 @@ fn the_functions_are_declared_as_in_the_header() {
             "{name}"
         );
     }
-    assert_eq!(DOOR_TEXT.matches("link_name").count(), all.len());
+    // and `version`, which takes nothing
+    assert_eq!(DOOR_TEXT.matches("link_name").count(), all.len() + 1);
     // and `replied` and `numbered`
-    assert_eq!(DOOR_TEXT.matches("pub fn ").count(), all.len() + 2);
+    assert_eq!(DOOR_TEXT.matches("pub fn ").count(), all.len() + 3);
 }
 
 /// Each is declared once and called once, by the inline function of its name, and nothing else of
@@ -255,7 +265,9 @@ fn the_header_refers_to_versioned_names_only() {
         let first = line.starts_with(|c: char| c.is_ascii_lowercase());
         first && line.contains('(') && !line.starts_with("static inline ")
     });
-    assert_eq!(functions.count(), CALLS.len() + ROLLING.len() + LISTS.len());
+    // and `version`
+    let calls = CALLS.len() + ROLLING.len() + LISTS.len();
+    assert_eq!(functions.count(), calls + 1);
     for name in LISTS {
         let call = format!("return splicer_{version}_{name}(");
         let body = between(HEADER_TEXT, &format!("splicer_call_{name}("), "\n}");

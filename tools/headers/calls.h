@@ -15,6 +15,7 @@ void splicer_7_instant(uint64_t *, uint8_t *, uint64_t *, const uint32_t *, uint
 void splicer_7_reading(uint64_t *, uint8_t *, uint64_t *, uint32_t, uint8_t *, size_t, uint64_t *);
 size_t splicer_7_read_streams(const uint8_t *, size_t, uint64_t *, uint8_t *);
 size_t splicer_7_write_streams(const uint64_t *, const uint8_t *, uint8_t *, size_t);
+uint64_t splicer_7_version(void);
 
 static struct splicer card;
 static struct splicer_rolling rolling;

@@ -45,7 +45,13 @@ static void some(void) {
     times(held_recall, 40);
 }
 
+/* The header's version is the archive's. */
+static void held_version(void) {
+    expect("SPLICER_VERSION", splicer_7_version() == SPLICER_VERSION * 1000 + SPLICER_VERSION_MINOR);
+}
+
 int main(void) {
+    held_version();
     held_fresh();
     held_rolling_fresh();
     times(some, 20);

@@ -24,7 +24,7 @@ use Rattle.engine.specs.Lent.{Lent, Counts, Primary, ReadsMux, ReadsFeed}
 use Rattle.streams.specs.Rows.{ReadsList, WritesList}
 use Rattle.rows.specs.Rows.{Pages}
 use Rattle.engine.proofs.Held.{kind, Holds, Same, both, number-held, words-held, name-held, InRoom, bytes-held}
-use Rattle.door.specs.Door.{Replies, anOpen, aClose, aMessage, aTick, aCue, Typed, Seen, Allowed}
+use Rattle.door.specs.Door.{Replies, anOpen, aClose, aMessage, aTick, aCue, Typed, Seen, Allowed, version}
 use Rattle.door.proofs.«splicer_7_fresh» as fresh
 use Rattle.door.proofs.«splicer_7_open» as opening
 use Rattle.door.proofs.«splicer_7_close» as close
@@ -38,6 +38,7 @@ use Rattle.door.proofs.«splicer_7_ended» as page
 use Rattle.door.proofs.«splicer_7_map» as mapping
 use Rattle.door.proofs.«splicer_7_read_streams» as reads
 use Rattle.door.proofs.«splicer_7_write_streams» as writes
+use Rattle.door.proofs.«splicer_7_version» as versioned
 
 -- what C sees
 abbrev ended : (r m b o : List ℕ) → Seen
@@ -171,6 +172,14 @@ module _ {M : Type 1} (𝓤 : URA M) (H : Heap 𝓤) (A : Atoms 𝓤) (mem : sto
     pub writes-ensures : writes.clauses 𝓤 H A mem run κs a .ensures tt r z
         ≡ ⌜ WritesList (now (a .0)) (now (a .1 .0)) (now (a .1 .1 .0)) r (now (z .1 .1 .0)) ⌝
     writes-ensures = refl
+
+  -- splicer_7_version()
+  module _ (κs : Lfts 0) (a : Args versioned.signature κs) (r : Res versioned.signature κs) (z : AtExit versioned.ended κs) where
+    pub version-requires : versioned.clauses 𝓤 H A mem run κs a .requires tt ≡ ⊤ₛ
+    version-requires = refl
+
+    pub version-ensures : versioned.clauses 𝓤 H A mem run κs a .ensures tt r z ≡ ⌜ r ≡ version ⌝
+    version-ensures = refl
 
 -- ## Typed is what the parameters' types say, and no more
 -- A slice's type says beside it that it has room in memory, which Typed does not ask; a buffer may be any.

@@ -29,6 +29,10 @@ pub record Replies (c : Called) (at : ℕ) (e r m b o : List ℕ) : Type 0 where
 abbrev pub Hears : (ℕ → Splicer → Called) → (m b e r n c o : List ℕ) → Type 0
 Hears k m b e r n c o = Replies (k (length e) (shown m b)) (see m .ringEnd) e r n c o
 
+-- the version of the calls, as one number: the first of SPLICER_VERSION and SPLICER_VERSION_MINOR in thousands, then the second
+abbrev pub version : ℕ
+version = 7 * 1000 + 0
+
 -- 02, CR 7: what is given with a section: the PTS, its high 32 bits first, Seconds and MicroSeconds
 abbrev pub ptsOf : List ℕ → ℕ
 ptsOf g = getD g 0 0 * 4294967296 + getD g 1 0

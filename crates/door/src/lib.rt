@@ -14,7 +14,7 @@ ghost use lib.ListN.{length};
 ghost use Rattle.rules.specs.Calls.{fresh, openCall, closeCall, messageCall, tickCall, lendingMaps};
 ghost use Rattle.engine.specs.Lent.{Lent, Counts, Primary, ReadsMux, ReadsFeed};
 ghost use Rattle.streams.specs.Rows.{ReadsList, WritesList};
-ghost use Rattle.door.specs.Door.{replyOf, Replies, Hears, anchorOf, cueOf};
+ghost use Rattle.door.specs.Door.{replyOf, Replies, Hears, anchorOf, cueOf, version};
 ghost use Rattle.rows.specs.Rows.{Pages};
 
 // The house number of a refusal or 0, the bytes consumed and written, and how many places an acceptance shifted.
@@ -241,4 +241,12 @@ pub extern "C" fn splicer_7_map(words: &[u64; WORDS], bytes: &[u8; BYTES]) -> u6
     ensures { λ r. ⌜ ReadsFeed (now (words .entry)) (now (bytes .entry)) r ⌝ }
 {
     engine::on_air(words, bytes)
+}
+
+// What the archive is: so that a driver that was linked can say it.
+#[no_mangle]
+pub extern "C" fn splicer_7_version() -> u64
+    ensures { λ r. ⌜ r ≡ version ⌝ }
+{
+    7000
 }
