@@ -28,6 +28,8 @@ needs_rust 1.81
 find_kit
 cd "$(dirname "$0")/.."
 here=$PWD
+# what is committed now, whatever is committed while this runs
+head=$(git rev-parse HEAD)
 target=$processor-unknown-linux-gnu
 # the compiler that links programs for the processor
 cc=cc
@@ -72,12 +74,12 @@ pc() {
 commit() {
     changed=
     [ "$how" != --gate ] || [ -z "$(git -C "$here" status --porcelain)" ] || changed=', with changes that are not committed'
-    echo "$(git -C "$here" rev-parse HEAD)$changed"
+    echo "$head$changed"
 }
 
 # when: the commit's time
 when() {
-    TZ=UTC git -C "$here" log -1 --date=format-local:%Y-%m-%dT%H:%M:%SZ --format=%cd
+    TZ=UTC git -C "$here" log -1 --date=format-local:%Y-%m-%dT%H:%M:%SZ --format=%cd "$head"
 }
 
 # manifest: of the files in the present folder, and what they were made by
@@ -91,7 +93,7 @@ manifest() {
         echo "proved, of $crate: $(sed -n 's/^logic=proved //p' "$source/target/log/$crate.say" | head -n 1)"
     done
     echo "compiler of archives and proved programs $("$kit/on/$(uname -m)/toolchain/bin/clang" --version | head -n 1)"
-    echo "compiler of desk $(rustc --version)${how:+, ${optimised}}"
+    echo "compiler of desk $(rustc --version), $optimised"
     find . -type f ! -name MANIFEST | LC_ALL=C sort | xargs sha256sum
 }
 
@@ -153,7 +155,7 @@ gathered() {
 # committed FOLDER: the sources as they are committed, and with --proved the proofs of this folder
 committed() {
     mkdir -p "$1"
-    git archive HEAD | tar -x -C "$1"
+    git archive "$head" | tar -x -C "$1"
     [ "$how" = --proved ] || return 0
     mkdir -p "$1/target"
     cp -R target/rlib target/stamp target/log "$1/target/"
@@ -172,11 +174,11 @@ built() {
     fi
     (cd "$source" && proved_parts && echo 'building desk' && desk)
     (cd "$1/$release" && gathered)
-    tar -C "$1" --sort=name --owner=0 --group=0 --numeric-owner --mtime="@$(git log -1 --format=%ct)" -cf - "$release" |
+    tar -C "$1" --sort=name --owner=0 --group=0 --numeric-owner --mtime="@$(git log -1 --format=%ct "$head")" -cf - "$release" |
         gzip -n >"$1.tar.gz"
 }
 
-# used: the release, unpacked elsewhere, by who has nothing else of ours; only where it runs
+# used: the release, unpacked elsewhere, by who has nothing else of ours; one for another processor is only looked at
 used() {
     sh tools/use-release.sh "$work/$release.tar.gz" >"$work/used" 2>&1 || :
     cat "$work/used"
@@ -199,9 +201,7 @@ else
     held 'both packages alike' cmp "$work/one.tar.gz" "$work/a-second-folder.tar.gz"
 fi
 mv "$work/one.tar.gz" "$work/$release.tar.gz"
-if [ "$processor" = "$(uname -m)" ]; then
-    used
-fi
+used
 echo "dist: ${work#"$here/"}/$release.tar.gz, sha256 $(sha256sum <"$work/$release.tar.gz" | cut -d ' ' -f 1)"
 echo "$passed passed, $failed failed"
 [ "$failed" -eq 0 ]

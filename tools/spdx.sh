@@ -7,7 +7,7 @@ set -eu
 needs sha1sum sha256sum
 name=$1 commit=$2 time=$3
 
-# document: what is said of all
+# document: what is said of all, what of others is in it, and last the release, whose the files behind it are
 document() {
     cat <<END_OF_HEAD
 SPDXVersion: SPDX-2.3
@@ -17,18 +17,6 @@ DocumentName: $name
 DocumentNamespace: urn:splicer:$name:$commit
 Creator: Tool: tools/spdx.sh
 Created: $time
-
-PackageName: $name
-SPDXID: SPDXRef-Release
-PackageVersion: $(echo "$name" | cut -d - -f 2)
-PackageDownloadLocation: NOASSERTION
-FilesAnalyzed: true
-PackageVerificationCode: $(verified)
-PackageLicenseConcluded: LicenseRef-Owner
-PackageLicenseInfoFromFiles: LicenseRef-Owner
-PackageLicenseDeclared: LicenseRef-Owner
-PackageCopyrightText: NOASSERTION
-Relationship: SPDXRef-DOCUMENT DESCRIBES SPDXRef-Release
 
 PackageName: rust-std
 SPDXID: SPDXRef-RustStd
@@ -51,6 +39,18 @@ PackageLicenseDeclared: NOASSERTION
 PackageCopyrightText: NOASSERTION
 PackageComment: <text>The proof kit's library, as far as its functions are compiled into lib/*.a and the proved programs.</text>
 Relationship: SPDXRef-Release CONTAINS SPDXRef-Kit
+
+PackageName: $name
+SPDXID: SPDXRef-Release
+PackageVersion: $(echo "$name" | cut -d - -f 2)
+PackageDownloadLocation: NOASSERTION
+FilesAnalyzed: true
+PackageVerificationCode: $(verified) (excludes: ./splicer.spdx, ./MANIFEST)
+PackageLicenseConcluded: LicenseRef-Owner
+PackageLicenseInfoFromFiles: LicenseRef-Owner
+PackageLicenseDeclared: LicenseRef-Owner
+PackageCopyrightText: NOASSERTION
+Relationship: SPDXRef-DOCUMENT DESCRIBES SPDXRef-Release
 
 END_OF_HEAD
 }

@@ -1,7 +1,8 @@
 #!/bin/sh
 # use-release.sh RELEASE.tar.gz: unpacks a release into a folder of its own, outside of the repository, and uses it as its README says, by
 # this machine's cc, c++, pkg-config and cargo and nothing else of ours: the README's drivers in C99, C11, C++11, C++20 and Rust, the
-# examples, the crate by itself, the programs, and MANIFEST and splicer.spdx against the files. The last line is 'N passed, M failed'.
+# examples, the crate by itself, the programs, and MANIFEST and splicer.spdx against the files. Of one for another processor only these two
+# and its processor are looked at. The last line is 'N passed, M failed'.
 set -eu
 . "$(dirname "$0")/words.sh"
 [ $# -eq 1 ] || refuse 'usage: use-release.sh RELEASE.tar.gz'
@@ -53,7 +54,7 @@ manifest() {
 spdx() {
     cd "$release"
     awk '/^FileName: / { file = $2 } /^FileChecksum: SHA256: / { print $3 "  " file }' splicer.spdx >"$work/spdx"
-    grep -v ' ./splicer.spdx$' "$work/sums" | diff - "$work/spdx"
+    find . -type f ! -name MANIFEST ! -name splicer.spdx | LC_ALL=C sort | xargs sha256sum | diff - "$work/spdx"
 }
 
 # machines FILE..: the processor's number in the head of each ELF file, once
@@ -153,37 +154,46 @@ whole_case() {
     printf 'R\000\000\000\000\000\000\147\377\377E\007' | cmp - case
 }
 
+# used: by drivers and people
+used() {
+    cd "$work/own"
+    block c 1 >driver.c
+    block text 1 >readme.out
+    for standard in c99 c11; do held "a driver in $standard" driver cc -std=$standard -pedantic -Wall -Wextra -Werror; done
+    for standard in c++11 c++20; do held "a driver in $standard" driver c++ -x c++ -std=$standard -pedantic -Wall -Wextra -Werror; done
+    held 'examples/driver.c' example driver splicer
+    held 'examples/cues.c' example cues splicer
+    held 'examples/rolling.c' example rolling splicer
+    held 'examples/remember.c, by two packages' example remember splicer-bench splicer
+    version=${name#splicer-}
+    held "the packages' version" prints - sh -c 'pkg-config --modversion splicer splicer-bench' <<END_OF_VERSIONS
+${version%-*}
+${version%-*}
+END_OF_VERSIONS
+    held 'a driver in Rust' rust
+    held "the crate's documentation without the archives" documented
+    held 'the crate where it stands' the_crate
+    held 'checker on every recording' findings
+    held 'checker, a file name as argument' ends 2 "$release/bin/checker" "$release/examples/recordings/day.rec"
+    for program in card remember; do
+        if [ -f "$release/bin/$program" ]; then held "$program on the whole case" whole_case $program; fi
+    done
+    held 'desk --version' prints - "$release/bin/desk" --version <<END_OF_VERSION
+desk ${version%-*}.0
+END_OF_VERSION
+    held 'desk asrun' "$release/bin/desk" asrun "$release/examples/recordings/day.rec"
+}
+
 PKG_CONFIG_PATH=$release/lib/pkgconfig
 export PKG_CONFIG_PATH
 held 'MANIFEST' manifest
 held 'splicer.spdx' spdx
 held 'one processor' one_processor
-cd own
-block c 1 >driver.c
-block text 1 >readme.out
-for standard in c99 c11; do held "a driver in $standard" driver cc -std=$standard -pedantic -Wall -Wextra -Werror; done
-for standard in c++11 c++20; do held "a driver in $standard" driver c++ -x c++ -std=$standard -pedantic -Wall -Wextra -Werror; done
-held 'examples/driver.c' example driver splicer
-held 'examples/cues.c' example cues splicer
-held 'examples/rolling.c' example rolling splicer
-held 'examples/remember.c, by two packages' example remember splicer-bench splicer
-version=${name#splicer-}
-held "the packages' version" prints - sh -c 'pkg-config --modversion splicer splicer-bench' <<END_OF_VERSIONS
-${version%-*}
-${version%-*}
-END_OF_VERSIONS
-held 'a driver in Rust' rust
-held "the crate's documentation without the archives" documented
-held 'the crate where it stands' the_crate
-held 'checker on every recording' findings
-held 'checker, a file name as argument' ends 2 "$release/bin/checker" "$release/examples/recordings/day.rec"
-for program in card remember; do
-    if [ -f "$release/bin/$program" ]; then held "$program on the whole case" whole_case $program; fi
-done
-held 'desk --version' prints - "$release/bin/desk" --version <<END_OF_VERSION
-desk ${version%-*}.0
-END_OF_VERSION
-held 'desk asrun' "$release/bin/desk" asrun "$release/examples/recordings/day.rec"
+if [ "${name##*-}" = "$(uname -m)" ]; then
+    used
+else
+    echo "use-release: it is not for $(uname -m): only looked at"
+fi
 echo "use-release: $name, $(find "$release" -type f ! -path '*/rust/target/*' | wc -l) files"
 echo "$passed passed, $failed failed"
 [ "$failed" -eq 0 ]
