@@ -89,6 +89,10 @@ cargoed() {
 over_archives() {
     RUSTC=$rustc CARGO_TARGET_DIR=$work
     export RUSTC CARGO_TARGET_DIR
+    # the documentation's examples are built by the same one
+    case $rustc in
+    */*) export "RUSTDOC=$(dirname "$rustc")/rustdoc" ;;
+    esac
     [ -z "$native" ] || export "SPLICER_LIB=$PWD/$native"
     name=$(echo "$target" | tr a-z- A-Z_)
     export "CARGO_TARGET_${name}_LINKER=$linker"

@@ -100,6 +100,8 @@ manifest() {
 # the programs that the kit makes: for x86-64 alone. Elsewhere the checker is a small one in C over the same proved archive
 programs=
 [ "$processor" != x86_64 ] || programs='card checker remember'
+# those that judge a recording: in bin/ stands what gives their exit status, which they cannot
+judges=checker
 optimised='opt-level 3'
 [ "$how" != --gate ] || optimised='opt-level 0, for trials only'
 
@@ -137,11 +139,13 @@ gathered() {
     cp "$parts"/lib*.a lib/
     pc splicer '-lrolldoor -ldoor' 'proved splicer core, one output channel, four API connections (J.280)' >lib/pkgconfig/splicer.pc
     pc splicer-bench -lbench 'for the bench: proved checker of recordings, second engine' >lib/pkgconfig/splicer-bench.pc
-    for program in $(echo "$programs" | sed 's/checker//') desk; do cp "$parts/$program" bin/; done
-    # it gives an exit status, which the program cannot
-    cp "$parts/checker" "$source/tools/release/judged.sh" libexec/splicer/
-    cp "$source/tools/release/judge.sh" bin/checker
-    chmod +x bin/checker
+    for program in $programs desk; do cp "$parts/$program" bin/; done
+    cp "$source/tools/release/judged.sh" libexec/splicer/
+    for program in $judges; do
+        cp "$parts/$program" libexec/splicer/
+        cp "$source/tools/release/judge.sh" "bin/$program"
+        chmod +x "bin/$program"
+    done
     cp "$source/desk/desk.1" share/man/man1/
     cp -R "$source/examples" "$source/wireshark" "$source/docs" "$source/CHANGELOG.md" .
     mkdir rust
