@@ -110,7 +110,7 @@ desk() {
     of=$(sed -n 's/^version = "\(.*\)"/\1/p' desk/Cargo.toml)
     level=${optimised#opt-level }
     rust="rustc --edition 2021 --target $target -C linker=$cc -C opt-level=${level%%,*} -C metadata=splicer --remap-path-prefix=$PWD=."
-    $rust --crate-type rlib --crate-name model --cfg 'feature="uncounted"' -o "$parts/libmodel.rlib" model/src/lib.rs
+    $rust --crate-type rlib --crate-name model --cfg 'feature="uncounted"' -o "$parts/libmodel.rlib" model/src/lib.rs || return 1
     CARGO_PKG_VERSION=$of $rust --crate-name desk --extern "model=$parts/libmodel.rlib" -o "$parts/desk" desk/src/main.rs
 }
 
@@ -125,8 +125,8 @@ proved_parts() {
     done
     if [ -n "$programs" ]; then
         # shellcheck disable=SC2086
-        proving "$parts/programs.log" check $programs
-        for program in $programs; do cp "target/bin/$program" "$parts/"; done
+        proving "$parts/programs.log" check $programs || return 1
+        for program in $programs; do cp "target/bin/$program" "$parts/" || return 1; done
     else
         "$cc" -std=c99 -O2 -Iinclude tools/release/checker.c "$parts/libbench.a" -o "$parts/checker"
     fi
