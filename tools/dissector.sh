@@ -1,7 +1,9 @@
 #!/bin/sh
-# dissector.sh: wireshark/j280.lua in Debian's tshark against the decoder of desk/: captures of the example day, the incident, the driver's recording and of
-# every other message (wireshark/messages.txt), in whole segments and in pieces of 7 bytes; each field of each message must be the one of `desk list`; requests are tied to
-# their responses; and the way back from a capture. Installs tshark where there is none (as root). No part of the gate. The last line is 'N passed, M failed'.
+# dissector.sh: wireshark/j280.lua in Debian's tshark against the decoder of desk/: captures of the example day, the incident, the driver's
+# recording and of every other message (wireshark/messages.txt), in whole segments and in pieces of 7 bytes; each field of each message must
+# be the one of `desk list`; requests are tied to their responses; and the way back from a capture. Then an exchange worked by hand
+# (wireshark/exchange.txt), by Debian's text2pcap: every pair of messages in one segment, cut at every byte, on another port, and what
+# expert information is for. Installs tshark where there is none (as root). The last line is 'N passed, M failed'.
 set -eu
 . "$(dirname "$0")/words.sh"
 no_words "$@"
@@ -46,10 +48,11 @@ by_tshark() {
         if (name == "MessageID") id = value
         else if (name == "Result") result = value
         else if (name == "Seconds") seconds = value
-        else if (name == "MicroSeconds") put("time", seconds == "4294967295" && value == "4294967295" ? "none" : sprintf("%s.%06d", seconds, value))
+        else if (name == "MicroSeconds") put("time", seconds value == "42949672954294967295" ? "none" : sprintf("%s.%06d", seconds, value))
         else if (name == "PID") pids = pids (pids == "" ? "" : ", ") value
         else if (name == "StreamType") kinds = kinds (kinds == "" ? "" : ", ") value
         else if (name ~ /^(MessageSize|Result_Extension|time|stream_Length|...Bitrate|.Resolution|response_in|request_in)$/) next
+        else if (name ~ /^(unreadable|oversize|unknown|refused|unasked)$/) next
         else {
             if (pids != "") { put("PID", "[" pids "]"); put("StreamType", "[" kinds "]"); pids = kinds = "" }
             if (name ~ /^(descriptors|Hardware_Config|Logical_Multiplex|TS_program|splice_info|data)/) gsub(/:/, "", value)
@@ -65,9 +68,9 @@ by_tshark() {
 by_desk() {
     { "$desk" list --json --raw "$@" 2>/dev/null || [ $? -eq 1 ]; } | awk '
     BEGIN {
-        n = split("General_Response Init_Request Init_Response ExtendedData_Request ExtendedData_Response Alive_Request Alive_Response Splice_Request " \
-            "Splice_Response SpliceComplete_Response GetConfig_Request GetConfig_Response Cue_Request Cue_Response Abort_Request Abort_Response " \
-            "TearDownFeed_Request TearDownFeed_Response", names, " ")
+        n = split("General_Response Init_Request Init_Response ExtendedData_Request ExtendedData_Response Alive_Request Alive_Response " \
+            "Splice_Request Splice_Response SpliceComplete_Response GetConfig_Request GetConfig_Response Cue_Request Cue_Response " \
+            "Abort_Request Abort_Response TearDownFeed_Request TearDownFeed_Response", names, " ")
         for (i = 1; i <= n; i++) ids[names[i]] = sprintf("0x%04x", i - 1)
     }
     function field(name,    at) {
@@ -120,13 +123,35 @@ counted() {
     [ "$(shark "$work/example-day.pcap" -2 -T fields -e "j280.$2" | grep -c '[0-9]')" -eq "$1" ]
 }
 
-if ! command -v tshark >/dev/null 2>&1; then
+# exchanged WHAT: frames of the exchange; what is shown of each must be what is due
+exchanged() {
+    echo "dissector: exchange, $1"
+    awk -v what="$1" -v due="$work/$1.due" -f wireshark/exchange.awk wireshark/exchange.txt >"$work/$1.hex"
+    text2pcap -q -l 101 "$work/$1.hex" "$work/$1.pcapng" 2>"$work/text2pcap.log"
+    shark "$work/$1.pcapng" -2 -T fields -e frame.number -e _ws.col.Info -e j280.response_in -e j280.request_in >"$work/$1.shown"
+    [ "$1" = odd ] || held "exchange, $1: shown and tied, frame by frame" diff "$work/$1.due" "$work/$1.shown"
+}
+
+# experts NAME FRAMES: the frames of the odd exchange that have this expert information
+experts() {
+    [ "$(shark "$work/odd.pcapng" -2 -Y "j280.$1" -T fields -e frame.number | xargs)" = "$2" ]
+}
+
+# ties FRAME FIELD FRAMES: of the odd exchange
+ties() {
+    [ "$(shark "$work/odd.pcapng" -2 -Y "frame.number == $1" -T fields -e "j280.$2" | xargs)" = "$3" ]
+}
+
+if ! command -v tshark >/dev/null 2>&1 && command -v apt-get >/dev/null 2>&1; then
     echo 'dissector: installing tshark'
-    apt-get install -y --no-install-recommends --no-remove tshark >"$work/setup.log" 2>&1 || :
-    needs tshark
+    {
+        apt-get update -o Acquire::http::Timeout=20 -o Acquire::Retries=1 || :
+        DEBIAN_FRONTEND=noninteractive apt-get install -y --no-install-recommends --no-remove tshark || :
+    } >"$work/setup.log" 2>&1
 fi
-sh tools/desk.sh install "$work" >/dev/null
-desk=$work/bin/desk
+needs tshark text2pcap
+CARGO_TARGET_DIR=target/desk cargo build --quiet --offline --locked --manifest-path desk/Cargo.toml
+desk=target/desk/debug/desk
 "$desk" join --text wireshark/messages.txt >"$work/messages" || [ $? -eq 1 ]
 tried messages "$work/messages"
 tried incident desk/recordings/incident.rec
@@ -136,6 +161,18 @@ held 'the way back keeps the rules' "$desk" check "$work/example-day.rec"
 requests=$(grep -cE '^0x000(1|3|5|7|a|e) ' "$work/example-day.desk")
 held 'requests tied to their responses' counted "$requests" response_in
 held 'responses tied to their requests' counted "$requests" request_in
-echo "dissector: $(cat "$work"/*.desk | wc -l) messages, $(tshark --version 2>/dev/null | head -n 1)"
+exchanged pairs
+exchanged cuts
+exchanged ports
+exchanged odd
+held 'odd: MessageSize above 4088, and what is behind it' experts oversize '1 2'
+held 'odd: an answer that nobody asked for' experts unasked 7
+held 'odd: refused, and no end among the answers' experts refused 11
+held 'odd: the first request is tied to the first answer' ties 8 response_in 9
+held 'odd: an end is no answer' ties 11 request_in ''
+held 'odd: the second request is tied to the answer behind the end' ties 10 response_in 12
+held 'odd: what is sent again is no second message' ties 3 response_in 5
+held 'unknown IDs' test "$(shark "$work/ports.pcapng" -Y j280.unknown -T fields -e j280.MessageID)" = 0x8001
+echo "dissector: $(cat "$work"/*.desk "$work"/*.due | wc -l) messages, $(tshark --version 2>/dev/null | head -n 1)"
 echo "$passed passed, $failed failed"
 [ "$failed" -eq 0 ]

@@ -1,13 +1,15 @@
--- A dissector for ITU-T J.280 (03/2013) with the layouts of document 01 and 02, on TCP port 5168. Messages of any segmentation; every field; result codes in
--- words; each request tied to its response.
+-- A dissector for ITU-T J.280 (03/2013) with the layouts of document 01 and 02, on TCP port 5168, and on others where a connection looks
+-- like it. Messages of any segmentation; every field; result codes in words; each request tied to its response, in order; what is odd as
+-- expert information.
 --   tshark -X lua_script:wireshark/j280.lua -r capture.pcap          or copy it to Wireshark's folder of personal Lua plugins
 -- `desk pcap` makes captures of recordings. tools/dissector.sh holds the fields to those of `desk list`.
 
 local j280 = Proto("j280", "ITU-T J.280 Splicing API")
 
 local messages = {
-    [0] = "General_Response", "Init_Request", "Init_Response", "ExtendedData_Request", "ExtendedData_Response", "Alive_Request", "Alive_Response",
-    "Splice_Request", "Splice_Response", "SpliceComplete_Response", "GetConfig_Request", "GetConfig_Response", "Cue_Request", "Cue_Response",
+    [0] = "General_Response", "Init_Request", "Init_Response", "ExtendedData_Request", "ExtendedData_Response", "Alive_Request",
+    "Alive_Response", "Splice_Request", "Splice_Response", "SpliceComplete_Response", "GetConfig_Request", "GetConfig_Response",
+    "Cue_Request", "Cue_Response",
     "Abort_Request", "Abort_Response", "TearDownFeed_Request", "TearDownFeed_Response",
 }
 
@@ -41,12 +43,12 @@ f.MessageID = ProtoField.uint16("j280.MessageID", "MessageID", base.HEX, message
 number("MessageSize", 2)
 number("Result", 2, results)
 f.Result_Extension = ProtoField.uint16("j280.Result_Extension", "Result_Extension", base.HEX)
-for _, name in ipairs { "SessionID", "PriorSession", "ExtendedDataType", "Duration", "SpliceEventID", "PostBlack", "PIDCount", "Bitrate", "PlayedDuration",
-    "Seconds", "MicroSeconds", "AvgBitrate", "MaxBitrate", "MinBitrate" } do
+for _, name in ipairs { "SessionID", "PriorSession", "ExtendedDataType", "Duration", "SpliceEventID", "PostBlack", "PIDCount", "Bitrate",
+    "PlayedDuration", "Seconds", "MicroSeconds", "AvgBitrate", "MaxBitrate", "MinBitrate" } do
     number(name, 4)
 end
-for _, name in ipairs { "Revision_Num", "Length", "Chassis", "Card", "Port", "Logical_Multiplex_Type", "PcrPID", "PID", "StreamType", "HResolution",
-    "VResolution" } do
+for _, name in ipairs { "Revision_Num", "Length", "Chassis", "Card", "Port", "Logical_Multiplex_Type", "PcrPID", "PID", "StreamType",
+    "HResolution", "VResolution" } do
     number(name, 2)
 end
 for _, name in ipairs { "AccessType", "OverridePlaying", "ReturnToPriorChannel" } do
@@ -68,8 +70,13 @@ f.response_in = ProtoField.framenum("j280.response_in", "Response in", base.NONE
 f.request_in = ProtoField.framenum("j280.request_in", "Request in", base.NONE, frametype.REQUEST)
 j280.fields = f
 
-local unreadable = ProtoExpert.new("j280.unreadable", "The data are not as J.280 and document 01 lay them out", expert.group.MALFORMED, expert.severity.WARN)
-j280.experts = { unreadable }
+local group, severity = expert.group, expert.severity
+local unreadable = ProtoExpert.new("j280.unreadable", "The data are not as J.280 and document 01 lay them out", group.MALFORMED, severity.WARN)
+local oversize = ProtoExpert.new("j280.oversize", "MessageSize above 4088: no message begins behind it", group.PROTOCOL, severity.ERROR)
+local unknown = ProtoExpert.new("j280.unknown", "No MessageID of J.280", group.PROTOCOL, severity.WARN)
+local refused = ProtoExpert.new("j280.refused", "A result other than 100", group.RESPONSE_CODE, severity.NOTE)
+local without = ProtoExpert.new("j280.unasked", "An answer, and no request that waits for it", group.SEQUENCE, severity.WARN)
+j280.experts = { unreadable, oversize, unknown, refused, without }
 
 -- A walk over a message's data: each step gives nil behind the end, and then nothing more is read.
 local Walk = {}
@@ -202,86 +209,204 @@ local layouts = {
     [0x000F] = function(w) w:number("SessionID", 4) end,
 }
 
--- Requests and responses of a TCP stream: pending[stream][key] is the frame of the request; tied[frame .. place] is the other's frame.
-local pending, tied, made = {}, {}, {}
-local stream_of = Field.new("tcp.stream")
+-- messages that have data; without any they are not as laid out
+local needs = {}
+for id in pairs(layouts) do needs[id] = true end
+
+-- Requests and responses of a TCP stream. A splicer answers each message of a connection in its turn, so the oldest that waits is the one
+-- that is answered. asked: the server's that wait for an answer; cued: the splicer's Cue_Requests; held: SessionIDs that were accepted and
+-- have not ended.
+local streams, tied, made, unasked = {}, {}, {}, {}
+local stream_of, again = Field.new("tcp.stream"), Field.new("tcp.analysis.retransmission")
 
 function j280.init()
-    pending, tied, made = {}, {}, {}
+    streams, tied, made, unasked = {}, {}, {}, {}
 end
 
-local answers = { [0x0001] = 0x0002, [0x0003] = 0x0004, [0x0005] = 0x0006, [0x0007] = 0x0008, [0x000A] = 0x000B, [0x000C] = 0x000D, [0x000E] = 0x000F, [0x0010] = 0x0011 }
+local PORT = 5168
+local answers = {
+    [0x0001] = 0x0002, [0x0003] = 0x0004, [0x0005] = 0x0006, [0x0007] = 0x0008, [0x000A] = 0x000B, [0x000C] = 0x000D, [0x000E] = 0x000F,
+    [0x0010] = 0x0011,
+}
+local by_session = { [0x0003] = true, [0x0004] = true, [0x0007] = true, [0x0008] = true, [0x0009] = true, [0x000E] = true, [0x000F] = true }
+-- a Splice_Response with one of these may be an end, and no answer
+local ends = { [109] = true, [116] = true, [125] = true }
+local is_answer = { [0x0000] = true }
+for _, answer in pairs(answers) do is_answer[answer] = true end
 
--- key(ANSWER, TVB): what a response must have in common with its request: kind, and the SessionID where both have it
-local function key(answer, tvb)
-    if (answer == 0x0004 or answer == 0x0008 or answer == 0x000F) and tvb:len() >= 12 then
-        return answer .. "/" .. tvb(8, 4):uint()
-    end
-    return tostring(answer)
+local function stream(pinfo)
+    local number = stream_of().value
+    local port = (pinfo.src_port == PORT or pinfo.dst_port == PORT) and PORT or nil
+    streams[number] = streams[number] or { asked = {}, cued = {}, held = {}, over = {}, port = port }
+    return streams[number]
 end
 
-local function tie(tvb, pinfo, id, place)
-    local own = pinfo.number .. "/" .. place
-    if made[own] then return end
-    made[own] = true
-    local stream = stream_of().value
-    local waits = pending[stream] or {}
-    pending[stream] = waits
-    if answers[id] then
-        table.insert(waits, { key = key(answers[id], tvb), frame = pinfo.number, own = own, from_server = pinfo.dst_port == 5168 })
-        return
+-- from_server(STATE, PINFO, ID): by the splicer's port; on a port that is not known, by the first message that only one side sends
+local function from_server(state, pinfo, id)
+    if not state.port and id ~= 0x0000 and messages[id] then
+        local asks = id == 0x000D or id ~= 0x000C and answers[id] ~= nil
+        state.port = asks and pinfo.dst_port or pinfo.src_port
     end
-    for at, request in ipairs(waits) do
-        -- a General_Response answers the oldest request of the other side; 117 tells of a cue and answers none
-        local general = id == 0x0000 and tvb(4, 2):uint() ~= 117 and request.from_server == (pinfo.src_port == 5168)
-        if general or request.key == key(id, tvb) then
-            tied[own], tied[request.own] = request.frame, pinfo.number
-            table.remove(waits, at)
-            return
+    return pinfo.dst_port == state.port
+end
+
+-- one message: its own key, frame, ID, result and SessionID
+local function told(tvb, pinfo, place)
+    local id = tvb(0, 2):uint()
+    local session = by_session[id] and tvb:len() >= 12 and tvb(2, 2):uint() >= 4 and tvb(8, 4):uint() or nil
+    local flag = id == 0x0009 and tvb:len() >= 13 and tvb(12, 1):uint() or nil
+    return { own = pinfo.number .. "/" .. place, frame = pinfo.number, id = id, result = tvb(4, 2):uint(), session = session, flag = flag,
+        over = tvb(2, 2):uint() > 4088 }
+end
+
+local function tie(request, answer)
+    tied[answer.own], tied[request.own] = request.frame, answer.frame
+end
+
+-- fits(REQUEST, ANSWER): a General_Response answers any; a Cue_Response that comes before Init is answered with 103, and never else
+local function fits(request, answer)
+    if answer.id == 0x0000 then return not request.quiet or answer.result == 103 end
+    return not request.quiet and answers[request.id] == answer.id and request.session == answer.session
+end
+
+-- taken(LIST, ANSWER, FIRST): the first that fits; what waited before it was never answered. With FIRST only the oldest may fit
+local function taken(list, answer, first)
+    for at, request in ipairs(list) do
+        if fits(request, answer) then
+            for _ = 1, at do table.remove(list, 1) end
+            return request
         end
+        if first and not request.quiet then return nil end
     end
 end
 
-local places = {}
+local function of_server(state, one)
+    if one.id == 0x0000 or one.id == 0x000D then
+        local cue = table.remove(state.cued, 1)
+        if cue then tie(cue, one) else unasked[one.own] = one.id == 0x000D end
+        if one.id == 0x0000 or state.ready then return end
+        one.quiet = true
+    end
+    if not one.over then table.insert(state.asked, one) end
+end
+
+local function of_splicer(state, one)
+    if one.id == 0x000C then return table.insert(state.cued, one) end
+    if one.id == 0x0009 and (one.flag == 1 or one.result ~= 100) then state.held[one.session or 0] = nil end
+    -- 117 tells of a cue
+    if not is_answer[one.id] or one.id == 0x0000 and one.result == 117 then return end
+    local may_end = one.id == 0x0008 and ends[one.result]
+    local request = not (may_end and state.held[one.session]) and taken(state.asked, one, may_end or one.id == 0x0000)
+    if request then tie(request, one) else unasked[one.own] = not may_end end
+    if one.id == 0x0008 and one.session and (request or may_end) then state.held[one.session] = one.result == 100 or nil end
+    if one.id == 0x0002 and one.result == 100 then state.ready = true end
+end
+
+-- once for each message, in the order of the capture; what was sent again is no second message
+local function heard(state, pinfo, one)
+    if made[one.own] then return end
+    made[one.own] = true
+    if again() then return end
+    local handled = from_server(state, pinfo, one.id) and of_server or of_splicer
+    handled(state, one)
+    if one.over then state.over[pinfo.src_port] = state.over[pinfo.src_port] or pinfo.number end
+end
+
+-- the place of a message in its frame: TCP hands over the rest of one and what is behind it apart
+local function placed(pinfo)
+    local place = (tonumber(pinfo.private.j280_place) or 0) + 1
+    pinfo.private.j280_place = tostring(place)
+    return place
+end
+
+local function said(pinfo, place, words)
+    pinfo.cols.protocol = "J.280"
+    if place == 1 then pinfo.cols.info:set(words) else pinfo.cols.info:append(", " .. words) end
+end
+
+-- experts(TREE, ONE): what a reader should look at
+local function judged(tree, one)
+    if one.over then tree:add_proto_expert_info(oversize) end
+    if not messages[one.id] then tree:add_proto_expert_info(unknown) end
+    if unasked[one.own] then tree:add_proto_expert_info(without) end
+    if answers[one.id] or one.result == 100 or not messages[one.id] then return end
+    local words = results[one.result] and one.result ~= 0xFFFF and results[one.result] or "no result code of J.280"
+    tree:add_proto_expert_info(refused, string.format("Result %d: %s", one.result, words))
+end
+
+local function in_words(one)
+    local words = messages[one.id] or string.format("message 0x%04X", one.id)
+    local meaning = results[one.result] or "no result code of J.280"
+    if one.result ~= 0xFFFF then words = words .. string.format(" %d (%s)", one.result, meaning) end
+    if one.session then words = words .. string.format(one.session == 0xFFFFFFFF and " SessionID 0x%X" or " SessionID %d", one.session) end
+    return one.over and words .. " MessageSize above 4088" or words
+end
 
 local function message(tvb, pinfo, root)
-    local id, result = tvb(0, 2):uint(), tvb(4, 2):uint()
-    -- the place of a message in its frame, for those that hold several
-    if places.frame ~= pinfo.number then places.frame, places.count = pinfo.number, 0 end
-    places.count = places.count + 1
-    tie(tvb, pinfo, id, places.count)
-    local name = messages[id] or string.format("message 0x%04X", id)
-    local words = result ~= 0xFFFF and string.format(" %d (%s)", result, results[result] or "no result code of J.280") or ""
-    local tree = root:add(j280, tvb(), "J.280 " .. name .. words)
+    local state, place = stream(pinfo), placed(pinfo)
+    local one = told(tvb, pinfo, place)
+    heard(state, pinfo, one)
+    local words = in_words(one)
+    local tree = root:add(j280, tvb(), "J.280 " .. words)
     tree:add(f.MessageID, tvb(0, 2))
     tree:add(f.MessageSize, tvb(2, 2))
     tree:add(f.Result, tvb(4, 2))
     tree:add(f.Result_Extension, tvb(6, 2))
+    said(pinfo, place, words)
     if tvb:len() > 8 then
         local walk = setmetatable({ tvb = tvb(8):tvb(), at = 0, tree = tree, cut = false, pinfo = pinfo }, Walk)
-        local layout = layouts[id] or function(w) w:left("data") end
+        local layout = not one.over and layouts[one.id] or function(w) w:left("data") end
         layout(walk)
         if walk.cut or walk.at < walk.tvb:len() then tree:add_proto_expert_info(unreadable) end
+    elseif needs[one.id] then
+        tree:add_proto_expert_info(unreadable)
     end
-    local other = tied[pinfo.number .. "/" .. places.count]
-    if other then tree:add(answers[id] and f.response_in or f.request_in, other):set_generated() end
-    pinfo.cols.protocol = "J.280"
-    pinfo.cols.info:append((places.count > 1 and ", " or "") .. name .. words)
+    local other = tied[one.own]
+    if other then tree:add(is_answer[one.id] and f.request_in or f.response_in, other):set_generated() end
+    judged(tree, one)
     return tvb:len()
 end
 
--- behind a MessageSize above 4,088 no message begins: the header alone is shown
+-- behind a MessageSize above 4,088 no message begins: its header is shown, and the rest as bytes
 local function length(tvb, pinfo, offset)
     local size = tvb(offset + 2, 2):uint()
     return size > 4088 and tvb:len() - offset or 8 + size
 end
 
 function j280.dissector(tvb, pinfo, root)
-    pinfo.cols.info:clear()
-    pinfo.cols.info:set("")
-    places.frame = nil
+    local over = stream(pinfo).over[pinfo.src_port]
+    if over and over < pinfo.number then
+        local tree = root:add(j280, tvb(), "J.280, behind a MessageSize above 4088")
+        tree:add(f.data, tvb())
+        tree:add_proto_expert_info(oversize)
+        said(pinfo, placed(pinfo), "behind a MessageSize above 4088")
+        return tvb:len()
+    end
     dissect_tcp_pdus(tvb, root, 8, length, message)
     return tvb:len()
 end
 
-DissectorTable.get("tcp.port"):add(5168, j280)
+-- Other ports: a segment that begins with a header of J.280: a known ID, the size that its layout has, and Result fields as a request or a
+-- response has them.
+local sizes = {
+    [0x0000] = { 0, 0 }, [0x0001] = { 66, 4088 }, [0x0002] = { 34, 34 }, [0x0003] = { 8, 8 }, [0x0004] = { 4, 4088 },
+    [0x0005] = { 8, 8 }, [0x0006] = { 16, 16 }, [0x0007] = { 33, 4088 }, [0x0008] = { 4, 4 }, [0x0009] = { 13, 13 },
+    [0x000A] = { 0, 0 }, [0x000B] = { 32, 4088 }, [0x000C] = { 28, 4088 }, [0x000D] = { 0, 0 }, [0x000E] = { 4, 4 },
+    [0x000F] = { 4, 4 }, [0x0010] = { 0, 4088 }, [0x0011] = { 0, 4088 },
+}
+
+local function looks(tvb, pinfo, root)
+    if tvb:len() < 8 then return false end
+    local id, size, result = tvb(0, 2):uint(), tvb(2, 2):uint(), tvb(4, 2):uint()
+    local range = sizes[id]
+    if not range or size < range[1] or size > range[2] or tvb(6, 2):uint() ~= 0xFFFF then return false end
+    local good = result >= 100 and result <= 135
+    if answers[id] then good = result == 0xFFFF end
+    if not good then return false end
+    pinfo.conversation = j280
+    j280.dissector(tvb, pinfo, root)
+    return true
+end
+
+DissectorTable.get("tcp.port"):add(PORT, j280)
+j280:register_heuristic("tcp", looks)
