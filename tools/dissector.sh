@@ -110,7 +110,7 @@ tried() {
     echo "dissector: $name"
     for pieces in 1460 7; do
         "$desk" pcap --pieces $pieces "$@" "$recording" >"$work/$name.pcap" 2>"$work/desk.log" || [ $? -eq 1 ]
-        "$desk" pcap --back "$work/$name.pcap" "$@" >"$work/$name.rec" || [ $? -eq 1 ]
+        "$desk" pcap --back "$work/$name.pcap" "$@" >"$work/$name.rec" 2>"$work/back.log" || [ $? -eq 1 ]
         by_tshark "$work/$name.pcap" >"$work/$name.tshark"
         by_desk "$work/$name.rec" "$@" >"$work/$name.desk"
         held "$name in pieces of $pieces: some messages" test -s "$work/$name.desk"

@@ -1,7 +1,7 @@
 //! `desk asrun`: every Splice_Request with its times and how it ended, and the sums.
 
 use crate::day::{Answer, Row};
-use crate::json::{Table, Value};
+use crate::json::{Form, Table, Value};
 use crate::lines;
 use crate::time::{seconds, TICK};
 use crate::view::View;
@@ -78,6 +78,34 @@ pub fn table(view: &View) -> Table {
     }
 }
 
+/// The columns of the list for other programs.
+const LIST: &[&str] = &[
+    "scheduled",
+    "started",
+    "ended",
+    "connection",
+    "session",
+    "event",
+    "length_s",
+    "on_air_s",
+    "ticks",
+    "result",
+    "outcome",
+];
+
+/// Where they stand in the whole table.
+const LISTED: [usize; 11] = [7, 11, 12, 1, 2, 3, 8, 13, 14, 15, 16];
+
+/// The list for other programs: CSV, SQL.
+pub fn list(view: &View) -> Table {
+    let all = table(view);
+    let row = |row: &Vec<Value>| LISTED.map(|at| row[at].clone()).to_vec();
+    Table {
+        columns: LIST,
+        rows: all.rows.iter().map(row).collect(),
+    }
+}
+
 /// Time on the primary channel, that of all sessions on air, and the clock's advance: between any
 /// two points the first two sum to the third (02, CR 13).
 pub struct Sums {
@@ -121,7 +149,8 @@ pub fn json(view: &View) -> String {
         ("sessions", part(sums.sessions)),
         ("clock", part(sums.clock)),
     ];
-    let mut text = format!("{{\"requests\": {}", table(view).json().trim_end());
+    let rows = table(view).text(Form::Json);
+    let mut text = format!("{{\"requests\": {}", rows.trim_end());
     text += ",\n\"sums\": ";
     Value::Fields(all.map(named).to_vec()).json(&mut text);
     text + "}\n"

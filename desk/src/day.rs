@@ -6,8 +6,9 @@
 //! and not at the tick that wrote it.
 
 use crate::message::{self, Asked};
-use crate::recording::{Call, Entry, Item};
+use crate::recording::{items, Call, Entry, Item, Recording};
 use crate::time::{ninths, TICK};
+use std::collections::BTreeMap;
 
 #[derive(Clone, Copy, Debug, PartialEq, Eq)]
 pub enum State {
@@ -72,6 +73,8 @@ pub struct Row {
     pub again: usize,
     /// Its start or its end passed, and nothing was written of it.
     pub overdue: bool,
+    /// It was accepted before the recording began: no more is known than what was written of it.
+    pub before: bool,
     state: State,
     since: u64,
 }
@@ -122,15 +125,31 @@ impl Row {
     }
 }
 
+/// So many calls lie between two of which the clock is kept.
+const MARK: usize = 256;
+
+/// The clock behind a tick that was not refused.
+pub fn behind(entry: &Entry, written: &[u8]) -> Option<u64> {
+    match entry.call() {
+        Some(Call::Tick(s, m)) if written.first() != Some(&0x45) => Some(ninths(s, m)),
+        _ => None,
+    }
+}
+
 #[derive(Default)]
 pub struct Day {
     pub rows: Vec<Row>,
     /// The first good tick's time, and the last's.
     pub first: Option<u64>,
     pub clock: u64,
-    /// For each call, the instant of each of its records; and the clock behind it.
-    pub instants: Vec<Vec<u64>>,
-    pub clocks: Vec<u64>,
+    /// For each call that wrote records, the instant of each.
+    pub instants: BTreeMap<usize, Vec<u64>>,
+    /// The clock before every so manieth call.
+    marks: Vec<u64>,
+    /// The rows that are accepted and not over.
+    active: Vec<usize>,
+    /// Sessions that nobody asked for were accepted before.
+    middle: bool,
     /// Ends and starts of sessions that nobody asked for.
     pub strays: Vec<(usize, u8, u32)>,
 }
@@ -173,11 +192,23 @@ fn refused(items: &[Item]) -> Option<u8> {
 }
 
 impl Day {
-    /// The day of these calls with these records, a list for each call.
-    pub fn of<'i>(entries: &[Entry], records: impl Iterator<Item = &'i [Item]>) -> Day {
-        let mut day = Day::default();
-        for (number, (entry, items)) in entries.iter().zip(records).enumerate() {
-            day.call(number, entry.call.as_ref(), items);
+    /// The day of these calls with these records, all of a call one behind the other. With `middle` it
+    /// may have begun before.
+    pub fn of<'i>(
+        recording: &'i Recording,
+        records: impl Fn(usize) -> &'i [u8],
+        middle: bool,
+    ) -> Day {
+        let mut day = Day {
+            middle,
+            ..Day::default()
+        };
+        for (number, entry) in recording.entries().enumerate() {
+            if number % MARK == 0 {
+                day.marks.push(day.clock);
+            }
+            let written = records(number);
+            day.call(number, entry.call(), &items(written, 0));
         }
         let clock = day.clock;
         for row in &mut day.rows {
@@ -186,16 +217,30 @@ impl Day {
         day
     }
 
-    fn call(&mut self, number: usize, call: Option<&Call>, items: &[Item]) {
+    /// The clock behind a call of this day.
+    pub fn clock_of<'i>(
+        &self,
+        number: usize,
+        recording: &'i Recording,
+        records: impl Fn(usize) -> &'i [u8],
+    ) -> u64 {
+        let mut clock = self.marks.get(number / MARK).copied().unwrap_or(0);
+        for call in number / MARK * MARK..=number {
+            clock = behind(&recording.entry(call), records(call)).unwrap_or(clock);
+        }
+        clock
+    }
+
+    fn call(&mut self, number: usize, call: Option<Call>, items: &[Item]) {
         let before = self.clock;
         let (mut own, mut closed) = (None, false);
         match call {
             Some(Call::Tick(seconds, micros)) if refused(items).is_none() => {
-                self.clock = ninths(*seconds, *micros);
+                self.clock = ninths(seconds, micros);
                 self.first.get_or_insert(self.clock);
             }
             Some(Call::Message(conn, bytes)) if bytes[..2] == [0, 7] => {
-                own = self.asked(number, *conn, &bytes[8..], items);
+                own = self.asked(number, conn, &bytes[8..], items);
             }
             Some(Call::Close(_)) => closed = true,
             _ => {}
@@ -212,11 +257,13 @@ impl Day {
         if let (Some(_), Some(row)) = (own, self.rows.last_mut()) {
             if row.accepted() {
                 row.become_state(State::Waiting, before);
+                self.active.push(self.rows.len() - 1);
             }
         }
         self.pass_over();
-        self.instants.push(instants);
-        self.clocks.push(self.clock);
+        if !instants.is_empty() {
+            self.instants.insert(number, instants);
+        }
     }
 
     /// A Splice_Request. Gives the place of its own answer: the last Splice_Response of its
@@ -255,10 +302,48 @@ impl Day {
             spans: Vec::new(),
             again: 0,
             overdue: false,
+            before: false,
             state: State::None,
             since: self.clock,
         });
         own
+    }
+
+    /// A session that was accepted before the recording began, by the first record of it. One that
+    /// ends was on air for its PlayedDuration, as far as the recording reaches.
+    fn known_by(&mut self, call: usize, said: &Said, at: u64) -> usize {
+        let played = said.played.filter(|_| said.flag == Some(1)).map(u64::from);
+        let since = played.map(|ticks| {
+            at.saturating_sub(ticks * TICK)
+                .max(self.first.unwrap_or(at))
+        });
+        let asked = Asked {
+            session: Some(said.session),
+            ..Asked::default()
+        };
+        self.rows.push(Row {
+            call,
+            conn: said.conn,
+            asked,
+            asked_at: self.first.unwrap_or(at),
+            answer: Answer::Splice(100),
+            start: None,
+            end: None,
+            began: None,
+            ended: None,
+            spans: Vec::new(),
+            again: 0,
+            overdue: false,
+            before: true,
+            state: if since.is_some() {
+                State::OnAir
+            } else {
+                State::Waiting
+            },
+            since: since.unwrap_or(at),
+        });
+        self.active.push(self.rows.len() - 1);
+        self.rows.len() - 1
     }
 
     /// "the session that its connection last accepted under that SessionID"
@@ -294,8 +379,10 @@ impl Day {
     }
 
     fn record(&mut self, call: usize, said: &Said, at: u64, closed: bool) {
-        let Some(place) = self.last(said.conn, said.session) else {
-            return self.strays.push((call, said.conn, said.session));
+        let place = match self.last(said.conn, said.session) {
+            Some(place) => place,
+            None if self.middle => self.known_by(call, said, at),
+            None => return self.strays.push((call, said.conn, said.session)),
         };
         let row = &mut self.rows[place];
         match (said.flag, said.result) {
@@ -326,7 +413,10 @@ impl Day {
     /// Sessions whose start or end has passed without a record are over by then. The rules leave
     /// none.
     fn pass_over(&mut self) {
-        for place in 0..self.rows.len() {
+        let rows = &self.rows;
+        self.active
+            .retain(|place| rows[*place].state != State::None);
+        for place in self.active.clone() {
             let row = &mut self.rows[place];
             let due = match row.state {
                 State::None => None,
@@ -344,15 +434,16 @@ impl Day {
     /// The highest AccessType of those started and unended is on air.
     fn switch(&mut self, at: u64) {
         let started = |row: &Row| matches!(row.state, State::OnAir | State::Covered);
-        let rows = self.rows.iter().enumerate().filter(|(_, row)| started(row));
-        let top = rows.max_by_key(|(_, row)| row.asked.access);
-        let top = top.map(|(place, _)| place);
-        for (place, row) in self.rows.iter_mut().enumerate() {
-            if started(row) {
-                let on_air = Some(place) == top;
-                let state = [State::Covered, State::OnAir][usize::from(on_air)];
-                row.become_state(state, at);
-            }
+        let places = self.active.clone().into_iter();
+        let places: Vec<usize> = places.filter(|place| started(&self.rows[*place])).collect();
+        let top = places
+            .iter()
+            .max_by_key(|place| self.rows[**place].asked.access);
+        let top = top.copied();
+        for place in places {
+            let on_air = Some(place) == top;
+            let state = [State::Covered, State::OnAir][usize::from(on_air)];
+            self.rows[place].become_state(state, at);
         }
     }
 

@@ -1,6 +1,7 @@
 //! Values, and tables of them as JSON and CSV.
 
-use std::fmt::Write;
+use std::fmt::Write as _;
+use std::io;
 
 #[derive(Clone, Debug, PartialEq, Eq)]
 pub enum Value {
@@ -113,26 +114,74 @@ pub struct Table {
 }
 
 impl Table {
-    /// A list of objects, one to a line.
-    pub fn json(&self) -> String {
-        let mut text = "[".to_string();
-        for (place, row) in self.rows.iter().enumerate() {
-            text.push_str(if place > 0 { ",\n " } else { "\n " });
-            let names = self.columns.iter().map(|name| (*name).to_string());
-            Value::Fields(names.zip(row.iter().cloned()).collect()).json(&mut text);
-        }
-        text.push_str("\n]\n");
-        text
+    pub fn text(&self, form: Form) -> String {
+        let mut bytes = Vec::new();
+        let _ = self.write(form, &mut bytes);
+        String::from_utf8(bytes).unwrap_or_default()
     }
 
-    /// RFC 4180, with a line of names.
-    pub fn csv(&self) -> String {
-        let mut text = self.columns.join(",") + "\r\n";
+    pub fn write(&self, form: Form, to: &mut dyn io::Write) -> io::Result<()> {
+        let mut rows = Rows::begin(self.columns, form, to)?;
         for row in &self.rows {
-            let cells: Vec<String> = row.iter().map(|v| cell(&v.plain())).collect();
-            text += &(cells.join(",") + "\r\n");
+            rows.row(row)?;
         }
-        text
+        rows.end()
+    }
+}
+
+/// How rows are written.
+#[derive(Clone, Copy, PartialEq, Eq)]
+pub enum Form {
+    /// A list of objects, one to a line.
+    Json,
+    /// RFC 4180, with a line of names.
+    Csv,
+}
+
+/// Rows that are written as they come.
+pub struct Rows<'w> {
+    columns: &'static [&'static str],
+    form: Form,
+    to: &'w mut dyn io::Write,
+    count: usize,
+}
+
+impl<'w> Rows<'w> {
+    pub fn begin(
+        columns: &'static [&'static str],
+        form: Form,
+        to: &'w mut dyn io::Write,
+    ) -> io::Result<Rows<'w>> {
+        match form {
+            Form::Json => write!(to, "[")?,
+            Form::Csv => write!(to, "{}\r\n", columns.join(","))?,
+        }
+        let count = 0;
+        Ok(Rows {
+            columns,
+            form,
+            to,
+            count,
+        })
+    }
+
+    pub fn row(&mut self, row: &[Value]) -> io::Result<()> {
+        self.count += 1;
+        if self.form == Form::Csv {
+            let cells: Vec<String> = row.iter().map(|v| cell(&v.plain())).collect();
+            return write!(self.to, "{}\r\n", cells.join(","));
+        }
+        let mut text = if self.count > 1 { ",\n " } else { "\n " }.to_string();
+        let names = self.columns.iter().map(|name| (*name).to_string());
+        Value::Fields(names.zip(row.iter().cloned()).collect()).json(&mut text);
+        self.to.write_all(text.as_bytes())
+    }
+
+    pub fn end(self) -> io::Result<()> {
+        match self.form {
+            Form::Json => self.to.write_all(b"\n]\n"),
+            Form::Csv => Ok(()),
+        }
     }
 }
 
@@ -160,7 +209,10 @@ mod tests {
         };
         let json = "[\n {\"x\": \"a \\\"b\\\", \\u003c\\u0001\", \"y\": {\"a\": 7}},\n \
                     {\"x\": [1, null], \"y\": null}\n]\n";
-        assert_eq!(table.json(), json);
-        assert_eq!(table.csv(), "x,y\r\n\"a \"\"b\"\", <\u{1}\",a=7\r\n1 ,\r\n");
+        assert_eq!(table.text(Form::Json), json);
+        assert_eq!(
+            table.text(Form::Csv),
+            "x,y\r\n\"a \"\"b\"\", <\u{1}\",a=7\r\n1 ,\r\n"
+        );
     }
 }

@@ -40,24 +40,25 @@ pub fn record(item: &Item, clock: Clock) -> Told {
     }
     let message = message::split(&item.bytes[2..]);
     let fields = message::fields(message.id, message.data, clock);
+    let result = Some(message.result).filter(|r| *r != 0xFFFF || !message::is_request(message.id));
     Told {
         connection: Some(item.bytes[1]),
         name: message::name(message.id),
-        result: Some(message.result),
-        words: texts::result(message.result),
+        result,
+        words: result.map_or("", texts::result),
         session: session(&fields),
         fields,
     }
 }
 
-pub fn call(call: Option<&Call>, clock: Clock) -> Told {
+pub fn call(call: Option<Call>, clock: Clock) -> Told {
     let mut result = None;
     let (connection, name, fields) = match call {
         None => (None, "before any call".to_string(), Vec::new()),
-        Some(Call::Open(conn)) => (Some(*conn), "open".to_string(), Vec::new()),
-        Some(Call::Close(conn)) => (Some(*conn), "close".to_string(), Vec::new()),
+        Some(Call::Open(conn)) => (Some(conn), "open".to_string(), Vec::new()),
+        Some(Call::Close(conn)) => (Some(conn), "close".to_string(), Vec::new()),
         Some(Call::Tick(s, m)) => {
-            let time = Value::Text(clock.wire(*s, *m));
+            let time = Value::Text(clock.wire(s, m));
             (None, "tick".to_string(), vec![("time".to_string(), time)])
         }
         Some(Call::Message(conn, bytes)) => {
@@ -65,7 +66,7 @@ pub fn call(call: Option<&Call>, clock: Clock) -> Told {
             let fields = message::fields(message.id, message.data, clock);
             // a request has all ones here, a server's response a result
             result = Some(message.result).filter(|r| *r != 0xFFFF);
-            (Some(*conn), message::name(message.id), fields)
+            (Some(conn), message::name(message.id), fields)
         }
     };
     Told {
@@ -117,6 +118,9 @@ pub fn outcome(row: &Row) -> String {
     if row.again > 0 {
         text += &format!("; {} further start or end", row.again);
     }
+    if row.before {
+        text += "; asked for before the recording";
+    }
     text
 }
 
@@ -127,6 +131,7 @@ fn ended(row: &Row, end: &End) -> String {
         "aborted"
     };
     let text = match (end.flag, end.result, end.was) {
+        (Some(1), _, _) if row.before && end.result == 100 => "played to its end".to_string(),
         (Some(0), 109, _) => "did not start: collision".to_string(),
         (Some(0), n, _) => format!("did not start, {n}: {}", texts::result(n)),
         (Some(_), _, State::Waiting) => "AN END WITHOUT A START".to_string(),
@@ -141,7 +146,7 @@ fn ended(row: &Row, end: &End) -> String {
         (_, n, _) => format!("ended, {n}: {}", texts::result(n)),
     };
     match end.played {
-        Some(played) if u64::from(played) != row.on_air() / TICK => {
+        Some(played) if !row.before && u64::from(played) != row.on_air() / TICK => {
             format!(
                 "{text}; PlayedDuration {played}, on air {}",
                 row.on_air() / TICK

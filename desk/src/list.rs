@@ -1,10 +1,12 @@
 //! `desk list` and `desk check`: as recorded, and each break of the rules where it stands.
 
-use crate::json::{Table, Value};
+use crate::day::{behind, Day};
+use crate::json::{Form, Rows, Value};
 use crate::lines::{self, Told};
-use crate::recording::Item;
+use crate::recording::{items, Item};
 use crate::ruled::{aside, Step};
 use crate::view::View;
+use std::io::{self, Write};
 
 #[derive(Clone, Copy, PartialEq, Eq)]
 enum Kind {
@@ -33,21 +35,25 @@ struct Line {
 }
 
 /// The lines of one call: the call, then its records as due and as found.
-fn lines_of(view: &View, call: usize) -> Vec<Line> {
-    let entry = &view.held.recording.entries[call];
-    let due = &view.held.ruled[call];
+fn lines_of(view: &View, call: usize, clock: u64) -> Vec<Line> {
+    let recording = &view.held.recording;
+    let entry = recording.entry(call);
+    let found = recording.found(call);
+    let due = items(view.held.due(call), 0);
     let told = |item: &Item| lines::record(item, view.clock);
+    let instant =
+        |day: &Day, place: usize| day.instants.get(&call).map_or(clock, |list| list[place]);
     let mut list = vec![Line {
         kind: Kind::Call,
-        at: view.found.clocks[call],
-        byte: Some(entry.at),
-        told: lines::call(entry.call.as_ref(), view.clock),
+        at: clock,
+        byte: Some(recording.place(entry.at)),
+        told: lines::call(entry.call(), view.clock),
     }];
-    for step in aside(due, &entry.found) {
+    for step in aside(&due, &found) {
         list.push(match step {
             Step::Missing { due: place } => Line {
                 kind: Kind::Missing,
-                at: view.ruled.instants[call][place],
+                at: instant(&view.ruled, place),
                 byte: None,
                 told: told(&due[place]),
             },
@@ -56,52 +62,51 @@ fn lines_of(view: &View, call: usize) -> Vec<Line> {
                     Step::Extra { .. } => Kind::Unexpected,
                     _ => Kind::Recorded,
                 },
-                at: view.found.instants[call][place],
-                byte: Some(entry.found[place].at),
-                told: told(&entry.found[place]),
+                at: instant(&view.found, place),
+                byte: Some(recording.place(found[place].at)),
+                told: told(&found[place]),
             },
         });
     }
     list
 }
 
-/// The calls to be listed; call 0 only if it has records.
-fn calls<'v>(view: &'v View, broken: bool) -> impl Iterator<Item = usize> + 'v {
-    let entries = &view.held.recording.entries;
-    (0..entries.len()).filter(move |call| {
-        let there = *call > 0 || !entries[0].found.is_empty();
-        there && (!broken || view.held.break_of(*call).is_some())
-    })
+/// The calls to be listed, each with its lines; call 0 only if it has records.
+fn calls<'v>(view: &'v View, broken: bool) -> impl Iterator<Item = (usize, Vec<Line>)> + 'v {
+    let recording = &view.held.recording;
+    let mut clock = 0;
+    let each = move |call: usize| {
+        let entry = recording.entry(call);
+        clock = behind(&entry, entry.found).unwrap_or(clock);
+        let there = call > 0 || !entry.found.is_empty();
+        let wanted = there && (!broken || view.held.is_broken(call));
+        wanted.then(|| (call, lines_of(view, call, clock)))
+    };
+    (0..recording.count()).filter_map(each)
 }
 
 /// The lists as text. With `broken`, only the calls that break the rules.
-pub fn text(view: &View, broken: bool) -> String {
-    let mut text = String::new();
-    for call in calls(view, broken) {
-        let all = lines_of(view, call);
-        let wanted: Vec<&Line> = all.iter().filter(|l| view.wants(&l.told, l.at)).collect();
-        if broken
-            && wanted
-                .iter()
-                .all(|l| matches!(l.kind, Kind::Call | Kind::Recorded))
-        {
+pub fn text(view: &View, broken: bool, to: &mut dyn Write) -> io::Result<()> {
+    let is_break = |line: &&Line| matches!(line.kind, Kind::Missing | Kind::Unexpected);
+    for (call, all) in calls(view, broken) {
+        let wanted = all.iter().filter(|l| view.wants(&l.told, l.at));
+        let wanted: Vec<&Line> = wanted.collect();
+        if broken && !wanted.iter().any(is_break) {
             continue;
         }
-        for line in wanted
-            .iter()
-            .filter(|l| !broken || l.kind != Kind::Recorded)
-        {
+        for line in wanted {
             let mark = match line.kind {
+                Kind::Recorded if broken => continue,
                 Kind::Call => ">",
                 Kind::Recorded => "<",
                 Kind::Missing => "! DUE, MISSING: ",
                 Kind::Unexpected => "! FOUND, NOT DUE:",
             };
             let time = view.clock.text(line.at);
-            text += &format!("{call:>6}  {time}  {mark} {}\n", line.told.line());
+            writeln!(to, "{call:>6}  {time}  {mark} {}", line.told.line())?;
         }
     }
-    text + &view.verdict() + "\n"
+    writeln!(to, "{}", view.verdict())
 }
 
 const COLUMNS: &[&str] = &[
@@ -117,17 +122,17 @@ const COLUMNS: &[&str] = &[
     "fields",
 ];
 
-pub fn table(view: &View, broken: bool) -> Table {
-    let mut rows = Vec::new();
-    for call in calls(view, broken) {
-        for line in lines_of(view, call) {
+pub fn rows(view: &View, broken: bool, form: Form, to: &mut dyn Write) -> io::Result<()> {
+    let mut rows = Rows::begin(COLUMNS, form, to)?;
+    for (call, lines) in calls(view, broken) {
+        for line in lines {
             let breaks = matches!(line.kind, Kind::Missing | Kind::Unexpected);
             if !view.wants(&line.told, line.at) || broken && !breaks {
                 continue;
             }
             let told = line.told;
             let words = told.result.map(|_| told.words.to_string());
-            rows.push(vec![
+            rows.row(&[
                 Value::Text(view.clock.text(line.at)),
                 Value::Number(call as u64),
                 line.byte.map(|b| b as u64).into(),
@@ -138,11 +143,8 @@ pub fn table(view: &View, broken: bool) -> Table {
                 words.into(),
                 told.session.into(),
                 Value::Fields(told.fields),
-            ]);
+            ])?;
         }
     }
-    Table {
-        columns: COLUMNS,
-        rows,
-    }
+    rows.end()
 }

@@ -28,6 +28,11 @@ pub fn name(id: u16) -> String {
     }
 }
 
+/// Whether a message asks: its Result is all ones.
+pub fn is_request(id: u16) -> bool {
+    matches!(id, 1 | 3 | 5 | 7 | 0x0A | 0x0C | 0x0E | 0x10)
+}
+
 /// Walks the data. Each step gives nothing where the data end.
 struct Walk<'m> {
     rest: &'m [u8],

@@ -20,6 +20,21 @@ const ROWS: &[&str] = &[
     "--result",
     "--from",
     "--to",
+    "--middle",
+];
+
+const AS_RUN: &[&str] = &[
+    "--name",
+    "--raw",
+    "--json",
+    "--csv",
+    "--sqlite",
+    "--connection",
+    "--session",
+    "--result",
+    "--from",
+    "--to",
+    "--middle",
 ];
 
 pub const COMMANDS: &[Command] = &[
@@ -33,13 +48,15 @@ pub const COMMANDS: &[Command] = &[
         name: "asrun",
         words: "[RECORDING | IN OUT]",
         does: "every Splice_Request: when it was scheduled, what was on air and how it ended; the sums",
-        options: ROWS,
+        options: AS_RUN,
     },
     Command {
         name: "timeline",
         words: "[RECORDING | IN OUT]",
         does: "the day as bars, in the terminal or as a page",
-        options: &["--name", "--raw", "--from", "--to", "--connection", "--session", "--result", "--width", "--html"],
+        options: &[
+            "--name", "--raw", "--from", "--to", "--connection", "--session", "--result", "--width", "--html", "--zone", "--middle",
+        ],
     },
     Command {
         name: "check",
@@ -86,11 +103,26 @@ const OPTIONS: &[(&str, &str, &str)] = &[
     ("--to", "TIME", "before this instant"),
     ("--width", "N", "columns of the bars, 20 to 400 (72)"),
     ("--html", "FILE", "writes the timeline as one page instead"),
+    (
+        "--zone",
+        "NAME",
+        "the zone of the page's local times, as Europe/Berlin; the reader's own if it is not given",
+    ),
+    (
+        "--sqlite",
+        "FILE",
+        "adds the list to the table asrun of a database, by the program sqlite3",
+    ),
+    (
+        "--middle",
+        "",
+        "the recording begins in the middle of a day: shown with what can be known",
+    ),
     ("--text", "FILE", "a scenario's text, as in model/scenarios"),
     (
         "--back",
         "FILE",
-        "a capture (pcap) that becomes a recording",
+        "a capture (pcap or pcapng) that becomes a recording",
     ),
     ("--pieces", "N", "bytes of a TCP segment, 1 to 1460"),
 ];
@@ -112,6 +144,9 @@ pub struct Options {
     pub to: Option<u64>,
     pub width: Option<usize>,
     pub html: Option<String>,
+    pub zone: Option<String>,
+    pub sqlite: Option<String>,
+    pub middle: bool,
     pub text: Option<String>,
     pub back: Option<String>,
     pub pieces: Option<usize>,
@@ -205,11 +240,21 @@ fn options(command: &Command, words: &[String]) -> Result<Options, String> {
     Ok(made)
 }
 
+/// A name of the zone database: letters, digits and what stands between them. The browser knows them.
+fn zoned(value: &str) -> Result<String, String> {
+    let good = |b: u8| b.is_ascii_alphanumeric() || b"/_+-".contains(&b);
+    match value.bytes().all(good) && !value.is_empty() {
+        true => Ok(value.to_string()),
+        false => Err(format!("--zone '{value}': no name of a zone")),
+    }
+}
+
 impl Options {
     fn flag(&mut self, name: &str) {
         match name {
             "--raw" => self.raw = true,
             "--json" => self.json = true,
+            "--middle" => self.middle = true,
             _ => self.csv = true,
         }
     }
@@ -232,6 +277,8 @@ impl Options {
                 self.width = Some(number.ok_or(format!("{name} '{value}': not 20 to 400"))?);
             }
             "--html" => self.html = Some(value.to_string()),
+            "--zone" => self.zone = Some(zoned(value)?),
+            "--sqlite" => self.sqlite = Some(value.to_string()),
             "--text" => self.text = Some(value.to_string()),
             "--back" => self.back = Some(value.to_string()),
             _ => {
@@ -257,6 +304,12 @@ impl Options {
         let alone = self.text.is_some() || self.back.is_some();
         if self.json && self.csv {
             return Err("--json and --csv at once".to_string());
+        }
+        if self.sqlite.is_some() && (self.json || self.csv) {
+            return Err("--sqlite and --json or --csv at once".to_string());
+        }
+        if self.zone.is_some() && self.html.is_none() {
+            return Err("--zone is for --html".to_string());
         }
         if self.from.zip(self.to).is_some_and(|(from, to)| from >= to) {
             return Err("--from is not before --to".to_string());

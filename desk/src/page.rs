@@ -6,6 +6,7 @@ use crate::day::{Row, Span, State};
 use crate::json::Value;
 use crate::lines;
 use crate::message;
+use crate::recording::items;
 use crate::ruled::{aside, Step};
 use crate::time::{SECOND, TICK};
 use crate::view::View;
@@ -171,18 +172,19 @@ fn lane(view: &View, place: &Place, conn: u8) -> Option<String> {
 
 /// What was due and what was found, of a call that breaks the rules.
 fn broken(view: &View, call: usize) -> String {
-    let entry = &view.held.recording.entries[call];
-    let due = &view.held.ruled[call];
+    let entry = view.held.recording.entry(call);
+    let found = view.held.recording.found(call);
+    let due = items(view.held.due(call), 0);
     let told = |item| lines::record(item, view.clock).line();
     let mut text = format!(
         "call {call}: {}",
-        lines::call(entry.call.as_ref(), view.clock).line()
+        lines::call(entry.call(), view.clock).line()
     );
-    for step in aside(due, &entry.found) {
+    for step in aside(&due, &found) {
         match step {
             Step::Same { .. } => {}
             Step::Missing { due: place } => text += &format!("\ndue: {}", told(&due[place])),
-            Step::Extra { found } => text += &format!("\nfound: {}", told(&entry.found[found])),
+            Step::Extra { found: place } => text += &format!("\nfound: {}", told(&found[place])),
         }
     }
     text
@@ -194,7 +196,7 @@ fn breaks(view: &View, place: &Place) -> String {
     }
     let mut text = String::new();
     for call in &view.held.broken {
-        let left = place.of(view.found.clocks[*call]);
+        let left = place.of(view.clock_of(*call));
         let title = escaped(&broken(view, *call));
         text += &format!("<i class=\"break\" style=\"left:{left:.4}%;top:2px\" data-call=\"{call}\" title=\"{title}\"></i>\n");
     }
@@ -209,7 +211,7 @@ fn breaks_table(view: &View) -> String {
     }
     let mut text = "<table id=\"broken\"><tr><th>time</th><th>call</th><th class=\"words\">due and found</th></tr>\n".to_string();
     for call in &view.held.broken {
-        let time = view.clock.text(view.found.clocks[*call]);
+        let time = view.clock.text(view.clock_of(*call));
         let words = escaped(&broken(view, *call)).replace('\n', "<br>");
         text += &format!("<tr class=\"bad\"><td>{time}</td><td>{call}</td><td class=\"words\">{words}</td></tr>\n");
     }

@@ -1,12 +1,15 @@
 //! `desk pcap`: a recording as a capture for Wireshark, and a capture as a recording. A connection of
 //! the splicer is a TCP connection to port 5168; a packet's time is the clock.
 
+mod calls;
+mod files;
+mod plain;
 mod segments;
 mod wire;
 
-use crate::recording::{items, Call, Entry, Item, Recording};
-use crate::ruled::ruled;
-use crate::time::{ninths, MICRO, SECOND};
+use crate::recording::{items, Call, Item, Recording};
+use crate::ruled::Held;
+use crate::time::SECOND;
 use segments::{heard, Event, What};
 use wire::{Flow, Writer};
 
@@ -15,30 +18,31 @@ use wire::{Flow, Writer};
 pub fn capture(recording: &Recording, pieces: usize) -> Vec<u8> {
     let mut to = Writer::new(pieces);
     let mut flows: [Option<Flow>; 4] = [None; 4];
-    for entry in &recording.entries {
-        let good = !entry.found.iter().any(|item| item.bytes[0] == 0x45);
-        let flow = |conn: &u8| flows.get(usize::from(*conn)).copied().flatten();
-        match &entry.call {
-            Some(Call::Tick(seconds, micros)) if good => to.clock = (*seconds, *micros),
-            Some(Call::Open(conn)) if good && *conn < 4 => {
-                flows[usize::from(*conn)] = Some(to.open(*conn));
+    for entry in recording.entries() {
+        let found = items(entry.found, 0);
+        let good = !found.iter().any(|item| item.bytes[0] == 0x45);
+        let flow = |conn: u8| flows.get(usize::from(conn)).copied().flatten();
+        match entry.call() {
+            Some(Call::Tick(seconds, micros)) if good => to.clock = (seconds, micros),
+            Some(Call::Open(conn)) if good && conn < 4 => {
+                flows[usize::from(conn)] = Some(to.open(conn));
             }
             Some(Call::Message(conn, bytes)) => {
                 if let Some(mut own) = flow(conn) {
                     to.data(&mut own, true, bytes);
-                    flows[usize::from(*conn)] = Some(own);
+                    flows[usize::from(conn)] = Some(own);
                 }
             }
             Some(Call::Close(conn)) if good => {
                 if let Some(own) = flow(conn) {
                     to.close(own);
-                    flows[usize::from(*conn)] = None;
+                    flows[usize::from(conn)] = None;
                 }
                 continue;
             }
             _ => {}
         }
-        sent(&mut to, &mut flows, &entry.found);
+        sent(&mut to, &mut flows, &found);
     }
     to.bytes
 }
@@ -54,131 +58,75 @@ fn sent(to: &mut Writer, flows: &mut [Option<Flow>; 4], records: &[Item]) {
     }
 }
 
-/// The calls that a capture shows, and the records with them.
-#[derive(Default)]
-struct Made {
-    entries: Vec<Entry>,
-    /// For each connection the call of the last request that has no answer yet.
-    asked: [Option<usize>; 4],
-    clock: u64,
+/// A capture as a recording.
+pub struct Back {
+    pub recording: Recording,
+    /// Connections were there before the capture began.
+    pub middle: bool,
+    /// What a capture cannot tell.
+    pub notes: Vec<String>,
 }
 
 /// A capture as a recording, for a channel of this name. What is not sent, the records of a close and
 /// refusals, is what the rules give.
-pub fn recorded(file: &str, bytes: &[u8], name: &[u8; 32]) -> Result<Recording, String> {
-    let mut made = Made::default();
-    made.entries.push(Entry {
-        at: 0,
-        call: None,
-        bytes: Vec::new(),
-        found: Vec::new(),
-    });
-    for event in heard(file, bytes)? {
-        made.event(&event);
-    }
-    if made.entries.len() == 1 {
+pub fn recorded(file: &str, bytes: &[u8], name: &[u8; 32]) -> Result<Back, String> {
+    let (events, lost) = heard(file, bytes)?;
+    if events.is_empty() {
         return Err(format!("{file}: no connection to TCP port 5168 in it"));
     }
-    let mut recording = Recording {
-        entries: made.entries,
-        ..Recording::default()
+    let middle = events
+        .iter()
+        .any(|event| matches!(event.what, What::Open(false)));
+    let bytes = match middle {
+        true => plain::bytes(&events),
+        false => led(&events, name),
     };
-    let ruled = ruled(&recording, name);
-    for (entry, due) in recording.entries.iter_mut().zip(ruled) {
-        let refused = due.iter().any(|item| item.bytes[0] == 0x45);
-        if refused || matches!(entry.call, Some(Call::Close(_))) {
-            entry.found = due;
-        }
-    }
-    Ok(recording)
+    let recording = Recording::read(file, bytes)?;
+    let notes = notes(&events, lost, middle);
+    Ok(Back {
+        recording,
+        middle,
+        notes,
+    })
 }
 
-impl Made {
-    fn event(&mut self, event: &Event) {
-        match &event.what {
-            What::Open => self.call(event.at, &[0x4F, event.conn]),
-            What::Closed => self.call(event.at, &[0x43, event.conn]),
-            What::Request(message) => {
-                let mark = [0x4D, event.conn];
-                self.call(event.at, &[&mark[..], message].concat());
-                self.asked[usize::from(event.conn)] = Some(self.entries.len() - 1);
-            }
-            What::Record(message) => self.record(event.at, event.conn, message),
-        }
+/// The calls that explain it, as near to the packets' times as may be.
+fn led(events: &[Event], name: &[u8; 32]) -> Vec<u8> {
+    let back = calls::Back::of(events, name);
+    let [plain, dated] = [false, true].map(|dated| calls::joined(&back.made, name, dated));
+    let broken = |bytes: &Vec<u8>| match Recording::read("it", bytes.clone()) {
+        Ok(recording) => Held::of(recording, name, false).broken.len(),
+        Err(_) => usize::MAX,
+    };
+    if broken(&dated) <= broken(&plain) {
+        return dated;
     }
-
-    /// A call; the clock is brought to its time first.
-    fn call(&mut self, at: u64, bytes: &[u8]) {
-        if at > self.clock {
-            self.tick(at);
-        }
-        self.push(bytes);
-    }
-
-    fn tick(&mut self, at: u64) {
-        self.clock = at;
-        let (seconds, micros) = ((at / SECOND) as u32, (at % SECOND / MICRO) as u32);
-        let time = [seconds.to_be_bytes(), micros.to_be_bytes()].concat();
-        self.push(&[&[0x54, 0][..], &time].concat());
-    }
-
-    fn push(&mut self, bytes: &[u8]) {
-        let read = Recording::read("it", bytes);
-        let last = read.ok().and_then(|mut read| read.entries.pop());
-        self.entries.extend(last);
-    }
-
-    /// A record belongs to the request that it answers; else to the last call, if that was at its
-    /// time, or came within a second before and the record is no work of a tick; else to a tick.
-    fn record(&mut self, at: u64, conn: u8, message: &[u8]) {
-        let place = match self.answered(conn, message) {
-            Some(place) => place,
-            None if at <= self.clock => self.entries.len() - 1,
-            None if at <= self.clock + SECOND && by_a_request(message) => self.entries.len() - 1,
-            None => {
-                self.tick(at);
-                self.entries.len() - 1
-            }
-        };
-        let record = [&[0x52, conn][..], message].concat();
-        self.entries[place].found.extend(items(&record));
-    }
-
-    /// The request of this connection that a message answers.
-    fn answered(&mut self, conn: u8, message: &[u8]) -> Option<usize> {
-        let place = self.asked[usize::from(conn)]?;
-        let Some(Call::Message(_, request)) = &self.entries[place].call else {
-            return None;
-        };
-        let id = |of: &[u8]| u16::from_be_bytes([of[0], of[1]]);
-        let (asks, answers) = (id(request), id(message));
-        let follows = asks.checked_add(1) == Some(answers);
-        let session = request.get(8..12) == message.get(8..12);
-        let fits = match answers {
-            0x0000 => true,
-            0x0002 | 0x0004 | 0x0006 | 0x000B => follows,
-            0x0008 | 0x000F => follows && session,
-            _ => false,
-        };
-        fits.then(|| self.asked[usize::from(conn)].take()).flatten()
-    }
+    plain
 }
 
-/// An end that an abort or an acceptance writes: result 116, or a Splice_Response 109.
-fn by_a_request(message: &[u8]) -> bool {
-    let result = u16::from_be_bytes([message[4], message[5]]);
-    result == 116 || message[..2] == [0, 8] && result == 109
-}
-
-/// The time of a packet in ninths.
-fn instant(seconds: u32, micros: u32) -> u64 {
-    ninths(seconds, micros)
+fn notes(events: &[Event], lost: usize, middle: bool) -> Vec<String> {
+    let mut list = vec![
+        "a capture has no ticks and no cue calls: ticks are set where the records need them, and a cue's PTS is not known".to_string(),
+    ];
+    let clocks = calls::clocks(events);
+    if let (Some(least), Some(most)) = (clocks.iter().min(), clocks.iter().max()) {
+        let seconds = |ninths: &i64| *ninths as f64 / SECOND as f64;
+        let (least, most) = (seconds(least), seconds(most));
+        list.push(format!("Alive_Responses are {least:+.6} to {most:+.6} s from their packets' times, which is not judged"));
+    }
+    if middle {
+        list.push("a connection was there before the capture: what waited and was on air is not known, and it is not held to the rules".to_string());
+    }
+    if lost > 0 {
+        list.push(format!("{lost} bytes stand behind a gap and are not read"));
+    }
+    list
 }
 
 #[cfg(test)]
 mod tests {
+    use super::wire::Writer;
     use super::*;
-    use crate::ruled::Held;
 
     const CH1: [u8; 32] = {
         let mut name = [0; 32];
@@ -188,26 +136,32 @@ mod tests {
 
     /// Calls other than ticks, and all records.
     fn shown(recording: &Recording) -> (Vec<Vec<u8>>, Vec<Vec<u8>>) {
-        let calls = recording.entries.iter().filter(|e| {
-            let refused = e.found.iter().any(|i| i.bytes[0] == 0x45);
-            !refused && !matches!(e.call, None | Some(Call::Tick(..)))
-        });
-        let records = recording.entries.iter().flat_map(|e| &e.found);
-        let records = records.filter(|i| i.bytes[0] == 0x52);
-        let calls = calls.map(|e| e.bytes.clone()).collect();
-        (calls, records.map(|i| i.bytes.clone()).collect())
+        let (mut calls, mut records) = (Vec::new(), Vec::new());
+        for entry in recording.entries() {
+            let refused = entry.found.first() == Some(&0x45);
+            if !refused && !matches!(entry.call(), None | Some(Call::Tick(..))) {
+                calls.push(entry.bytes.to_vec());
+            }
+            let found = items(entry.found, 0);
+            let own = found.iter().filter(|item| item.bytes[0] == 0x52);
+            records.extend(own.map(|item| item.bytes.to_vec()));
+        }
+        (calls, records)
+    }
+
+    fn back(bytes: &[u8]) -> Held {
+        let back = recorded("it", bytes, &CH1).unwrap();
+        Held::of(back.recording, &CH1, back.middle)
     }
 
     /// To a capture and back, in segments of any size.
     #[test]
     fn there_and_back() {
         let day = include_bytes!("../recordings/example-day.rec");
-        let recording = Recording::read("it", day).unwrap();
+        let recording = Recording::read("it", day.to_vec()).unwrap();
         for pieces in [1, 7, 100, 1_460] {
-            let capture = capture(&recording, pieces);
-            let back = recorded("it", &capture, &CH1).unwrap();
-            assert_eq!(shown(&back), shown(&recording), "{pieces}");
-            let held = Held::of(back, &CH1);
+            let held = back(&capture(&recording, pieces));
+            assert!(shown(&held.recording) == shown(&recording), "{pieces}");
             assert_eq!(held.broken, [0; 0], "{pieces}");
         }
     }
@@ -240,26 +194,25 @@ mod tests {
             false,
             &[&head(15, 4, 121)[..], &[0, 0, 0, 9]].concat(),
         );
-        let back = recorded("it", &to.bytes, &CH1).unwrap();
-        let held = Held::of(back, &CH1);
+        let held = back(&to.bytes);
         assert_eq!(held.broken, [0; 0]);
         assert_eq!(shown(&held.recording).1.len(), 2);
     }
 
     #[test]
     fn captures_that_are_none() {
-        let wrong = |bytes: &[u8]| recorded("it", bytes, &CH1).unwrap_err();
+        let wrong = |bytes: &[u8]| recorded("it", bytes, &CH1).err().unwrap();
         assert_eq!(wrong(b""), "it: empty: no capture");
         assert_eq!(
             wrong(b"garbage, and long enough"),
-            "it: byte 0: no capture (pcap)"
+            "it: byte 0: no capture (pcap or pcapng)"
         );
-        let ng = [0x0A, 0x0D, 0x0D, 0x0A, 0, 0, 0, 0];
-        assert!(wrong(&ng).contains("editcap -F pcap"));
+        let ng = [0x0A, 0x0D, 0x0D, 0x0A, 28, 0, 0, 0, 1, 2, 3, 4];
+        assert_eq!(wrong(&ng), "it: byte 8: no section of pcapng");
         let none = Writer::new(9).bytes;
         assert_eq!(wrong(&none), "it: no connection to TCP port 5168 in it");
         let day = include_bytes!("../recordings/example-day.rec");
-        let whole = capture(&Recording::read("it", day).unwrap(), 1_460);
+        let whole = capture(&Recording::read("it", day.to_vec()).unwrap(), 1_460);
         assert!(
             recorded("it", &whole[..whole.len() - 3], &CH1).is_ok(),
             "a cut last packet"

@@ -1,218 +1,303 @@
 //! Reading recordings: each call in the card program's mark, then what was written for it (02,
-//! CR 14); or the card program's input and output, a file each.
+//! CR 14); or the card program's input and output, a file each. A day of ticks is millions of calls,
+//! so the bytes are kept as they were read, and of each call only its place.
 
-use crate::ruled::{aside, Step};
-use model::recording::{entries, is_call, End};
+use crate::ruled::{aside, Rules, Step};
+use model::recording::{first, is_call, First};
 
-#[derive(Clone, Debug, PartialEq, Eq)]
-pub enum Call {
+#[derive(Clone, Copy, Debug, PartialEq, Eq)]
+pub enum Call<'r> {
     Open(u8),
     Close(u8),
     /// The connection and the message, header included.
-    Message(u8, Vec<u8>),
+    Message(u8, &'r [u8]),
     Tick(u32, u32),
 }
 
 /// A record or a refusal, with its mark, and its place in the file.
-#[derive(Clone, Debug)]
-pub struct Item {
+#[derive(Clone, Copy, Debug)]
+pub struct Item<'r> {
     pub at: usize,
-    pub bytes: Vec<u8>,
+    pub bytes: &'r [u8],
 }
 
-impl AsRef<[u8]> for Item {
+impl AsRef<[u8]> for Item<'_> {
     fn as_ref(&self) -> &[u8] {
-        &self.bytes
+        self.bytes
     }
 }
 
 /// A call and what was written behind it. The first entry has no call: "Records before any call are
 /// call 0's."
-#[derive(Clone, Debug)]
-pub struct Entry {
+#[derive(Clone, Copy, Debug)]
+pub struct Entry<'r> {
     pub at: usize,
-    pub call: Option<Call>,
-    pub bytes: Vec<u8>,
-    pub found: Vec<Item>,
+    pub bytes: &'r [u8],
+    /// All records of it, one behind the other.
+    pub found: &'r [u8],
+}
+
+impl<'r> Entry<'r> {
+    pub fn call(&self) -> Option<Call<'r>> {
+        call(self.bytes)
+    }
 }
 
 #[derive(Debug, Default)]
 pub struct Recording {
-    pub entries: Vec<Entry>,
-    /// "A cut last record is dropped": what is to be said of it.
+    bytes: Vec<u8>,
+    /// Where each call begins; the first is 0, that of no call.
+    calls: Vec<usize>,
+    /// Of two files: the place of each part here and in its own.
+    places: Option<Vec<(usize, usize)>>,
+    /// What is to be said of the end: "A cut last record is dropped"; or a byte that is no mark.
     pub cut: Option<String>,
-    /// The records of a card program's output, not yet given to the calls.
-    pub unplaced: Vec<Item>,
+    /// Whether there is more that could not be read.
+    pub unread: bool,
 }
 
-/// The records and refusals of what a call wrote.
-pub fn items(written: &[u8]) -> Vec<Item> {
-    let item = |entry: &model::recording::Entry| Item {
-        at: entry.at,
-        bytes: entry.bytes.to_vec(),
+/// The records and refusals of what a call wrote, and their places, counted from this one.
+pub fn items(written: &[u8], from: usize) -> Vec<Item<'_>> {
+    let mut parts = Parts::of(written);
+    let item = |(at, bytes)| Item {
+        at: from + at,
+        bytes,
     };
-    entries(written).0.iter().map(item).collect()
+    parts.by_ref().map(item).collect()
 }
 
-fn call(part: &[u8]) -> Option<Call> {
+/// The call of an entry's bytes.
+pub fn call(part: &[u8]) -> Option<Call<'_>> {
     let word = |at: usize| u32::from_be_bytes([part[at], part[at + 1], part[at + 2], part[at + 3]]);
-    Some(match part[0] {
+    Some(match part.first()? {
         0x4F => Call::Open(part[1]),
         0x43 => Call::Close(part[1]),
-        0x4D => Call::Message(part[1], part[2..].to_vec()),
+        0x4D => Call::Message(part[1], &part[2..]),
         0x54 => Call::Tick(word(2), word(6)),
         _ => return None,
     })
 }
 
-/// The parts of a file, each with its place, and what is to be said of a cut last one.
-type Parts<'f> = (Vec<(usize, &'f [u8])>, Option<String>);
+/// The parts of a file, each with its place, up to what ends them.
+struct Parts<'f> {
+    bytes: &'f [u8],
+    at: usize,
+}
 
-fn parts<'f>(file: &str, bytes: &'f [u8]) -> Result<Parts<'f>, String> {
-    let (list, end) = entries(bytes);
-    let list = list.iter().map(|entry| (entry.at, entry.bytes)).collect();
-    match end {
-        End::Whole => Ok((list, None)),
-        End::Cut { at, needs } => {
-            let there = bytes.len() - at;
-            let cut =
-                format!("{file}: byte {at}: the last record is cut, {there} of {needs} bytes");
-            Ok((list, Some(cut)))
-        }
-        End::Unknown { at } => {
-            let mark = bytes[at];
-            let what = "is no mark of a call or a record";
-            Err(format!("{file}: byte {at}: 0x{mark:02X} {what}"))
+impl<'f> Parts<'f> {
+    fn of(bytes: &'f [u8]) -> Parts<'f> {
+        Parts { bytes, at: 0 }
+    }
+
+    /// What is to be said of the end, if it is not that of a whole part; and whether more follows.
+    fn ended(&self, file: &str) -> (Option<String>, bool) {
+        let (at, there) = (self.at, self.bytes.len() - self.at);
+        let Some(mark) = self.bytes.get(at) else {
+            return (None, false);
+        };
+        match first(&self.bytes[at..]) {
+            First::Cut { needs } => {
+                let cut = format!("the last record is cut, {there} of {needs} bytes");
+                (Some(format!("{file}: byte {at}: {cut}")), false)
+            }
+            _ => {
+                let what = "is no mark of a call or a record";
+                (
+                    Some(format!("{file}: byte {at}: 0x{mark:02X} {what}")),
+                    true,
+                )
+            }
         }
     }
 }
 
-fn nothing_before() -> Entry {
-    Entry {
-        at: 0,
-        call: None,
-        bytes: Vec::new(),
-        found: Vec::new(),
+impl<'f> Iterator for Parts<'f> {
+    type Item = (usize, &'f [u8]);
+
+    fn next(&mut self) -> Option<(usize, &'f [u8])> {
+        let rest = self.bytes.get(self.at..).filter(|rest| !rest.is_empty())?;
+        let First::Whole(length) = first(rest) else {
+            return None;
+        };
+        let at = self.at;
+        self.at += length;
+        Some((at, &rest[..length]))
     }
 }
 
 impl Recording {
     /// A recording.
-    pub fn read(file: &str, bytes: &[u8]) -> Result<Recording, String> {
+    pub fn read(file: &str, bytes: Vec<u8>) -> Result<Recording, String> {
         if bytes.is_empty() {
             return Err(format!("{file}: empty: no call in it"));
         }
-        let (list, cut) = parts(file, bytes)?;
-        let mut entries = vec![nothing_before()];
-        for (at, part) in list {
-            let bytes = part.to_vec();
-            match (call(part), entries.last_mut()) {
-                (None, Some(last)) => last.found.push(Item { at, bytes }),
-                (call, _) => entries.push(Entry {
-                    at,
-                    call,
-                    bytes,
-                    found: Vec::new(),
-                }),
+        let mut parts = Parts::of(&bytes);
+        let mut calls = vec![0];
+        for (at, part) in parts.by_ref() {
+            if is_call(part[0]) {
+                calls.push(at);
             }
         }
-        if entries.len() == 1 {
+        let ((cut, unread), end) = (parts.ended(file), parts.at);
+        if calls.len() == 1 {
             let records = "no call in it, records only: is it a card program's output?";
             return Err(cut.unwrap_or_else(|| format!("{file}: {records}")));
         }
-        let unplaced = Vec::new();
-        Ok(Recording {
-            entries,
+        let mut made = Recording {
+            bytes,
+            calls,
+            places: None,
             cut,
-            unplaced,
-        })
+            unread,
+        };
+        made.bytes.truncate(end);
+        Ok(made)
     }
 
-    /// The card program's input and output. It stops behind a MessageSize above 4,088.
-    pub fn of_card(input: (&str, &[u8]), output: (&str, &[u8])) -> Result<Recording, String> {
+    /// The card program's input and output, for a channel of this name. It stops behind a MessageSize
+    /// above 4,088.
+    pub fn of_card(
+        input: (&str, &[u8]),
+        output: (&str, &[u8]),
+        name: &[u8; 32],
+    ) -> Result<Recording, String> {
         if input.1.is_empty() {
             return Err(format!("{}: empty: no call in it", input.0));
         }
         let swapped = |file: &str, at: usize, what: &str| {
             format!("{file}: byte {at}: a {what} here: are the two files swapped, or is one a recording?")
         };
-        let (calls, _) = parts(input.0, input.1)?;
-        let (records, cut) = parts(output.0, output.1)?;
-        let mut made = Recording {
-            entries: vec![nothing_before()],
-            cut,
-            unplaced: Vec::new(),
-        };
-        for (at, part) in calls {
-            let call = call(part).ok_or_else(|| swapped(input.0, at, "record"))?;
-            let bytes = part.to_vec();
-            let last = part.len() == 10 && part[0] == 0x4D && part[4..6] > [0x0F, 0xF8][..];
-            made.entries.push(Entry {
-                at,
-                call: Some(call),
-                bytes,
-                found: Vec::new(),
-            });
-            if last {
+        let (mut calls, mut records) = (Parts::of(input.1), Parts::of(output.1));
+        let mut made = Vec::new();
+        for (at, part) in calls.by_ref() {
+            if !is_call(part[0]) {
+                return Err(swapped(input.0, at, "record"));
+            }
+            made.push(Item { at, bytes: part });
+            if part.len() == 10 && part[0] == 0x4D && part[4..6] > [0x0F, 0xF8][..] {
                 break;
             }
         }
-        for (at, part) in records {
+        let mut found = Vec::new();
+        for (at, part) in records.by_ref() {
             if is_call(part[0]) {
                 return Err(swapped(output.0, at, "call"));
             }
-            let bytes = part.to_vec();
-            made.unplaced.push(Item { at, bytes });
+            found.push(Item { at, bytes: part });
         }
-        Ok(made)
+        if let (true, (Some(why), true)) = (made.is_empty(), calls.ended(input.0)) {
+            return Err(why);
+        }
+        let mut joined = Recording::joined(&made, &found, name);
+        (joined.cut, joined.unread) = records.ended(output.0);
+        Ok(joined)
     }
 
     /// Gives the records of a card program's output to the calls, by what each call should have
-    /// written. One that was not due goes to a call that lacks a record: between those before and
-    /// behind it that are as due, or one of these two; else to the one before.
-    pub fn place(&mut self, ruled: &[Vec<Item>]) {
-        let found = std::mem::take(&mut self.unplaced);
-        if found.is_empty() {
-            return;
-        }
-        let calls = ruled.iter().enumerate();
-        let calls = calls.flat_map(|(call, items)| items.iter().map(move |_| call));
-        let calls: Vec<usize> = calls.collect();
-        let steps = aside(&ruled.concat(), &found);
-        let mut lacks = vec![0; self.entries.len()];
-        for step in &steps {
-            if let Step::Missing { due } = step {
-                lacks[calls[*due]] += 1;
+    /// written.
+    fn joined(calls: &[Item], found: &[Item], name: &[u8; 32]) -> Recording {
+        let mut rules = Rules::of(name);
+        let due: Vec<Vec<u8>> = calls.iter().map(|call| rules.made(call.bytes)).collect();
+        let mut made = Recording {
+            calls: vec![0],
+            ..Recording::default()
+        };
+        let mut places = Vec::new();
+        let of_call = placed(&due, found);
+        let mut next = 0;
+        for (number, call) in calls.iter().enumerate() {
+            made.calls.push(made.bytes.len());
+            places.push((made.bytes.len(), call.at));
+            made.bytes.extend_from_slice(call.bytes);
+            while of_call.get(next) == Some(&number) {
+                places.push((made.bytes.len(), found[next].at));
+                made.bytes.extend_from_slice(found[next].bytes);
+                next += 1;
             }
         }
-        let mut last = 1;
-        for (place, step) in steps.iter().enumerate() {
-            let Some(f) = step.found() else {
-                continue;
-            };
-            let behind = steps[place..].iter().find_map(Step::same);
-            let behind = behind.map_or(ruled.len() - 1, |due| calls[due]);
-            match step.same() {
-                Some(due) => last = calls[due],
-                None => {
-                    let lacking = (last..=behind).find(|call| lacks[*call] > 0);
-                    last = lacking.unwrap_or(last);
-                    lacks[last] -= i32::from(lacks[last] > 0);
-                }
-            }
-            self.entries[last].found.push(found[f].clone());
+        made.places = Some(places);
+        made
+    }
+
+    /// How many calls, and one for those before any.
+    pub fn count(&self) -> usize {
+        self.calls.len()
+    }
+
+    /// A call by its number, from 1; 0 is no call.
+    pub fn entry(&self, number: usize) -> Entry<'_> {
+        let at = self.calls[number];
+        let end = self.calls.get(number + 1).copied();
+        let all = &self.bytes[at..end.unwrap_or(self.bytes.len())];
+        let first = Parts::of(all).next().filter(|_| number > 0);
+        let length = first.map_or(0, |(_, part)| part.len());
+        Entry {
+            at,
+            bytes: &all[..length],
+            found: &all[length..],
         }
     }
 
+    pub fn entries(&self) -> impl Iterator<Item = Entry<'_>> {
+        (0..self.count()).map(|number| self.entry(number))
+    }
+
+    /// The records of a call.
+    pub fn found(&self, number: usize) -> Vec<Item<'_>> {
+        let entry = self.entry(number);
+        items(entry.found, entry.at + entry.bytes.len())
+    }
+
+    /// The place of a part in the file that it came from.
+    pub fn place(&self, at: usize) -> usize {
+        let Some(places) = &self.places else {
+            return at;
+        };
+        let part = places.binary_search_by_key(&at, |(here, _)| *here);
+        part.map_or(at, |part| places[part].1)
+    }
+
     /// The bytes of a recording.
-    pub fn bytes(&self) -> Vec<u8> {
-        let mut to = Vec::new();
-        for entry in &self.entries {
-            to.extend_from_slice(&entry.bytes);
-            for item in &entry.found {
-                to.extend_from_slice(&item.bytes);
+    pub fn bytes(&self) -> &[u8] {
+        &self.bytes
+    }
+}
+
+/// For each record found, the call that it goes to. One that was not due goes to a call that lacks a
+/// record: between those before and behind it that are as due, or one of these two; else to the one
+/// before.
+fn placed(due: &[Vec<u8>], found: &[Item]) -> Vec<usize> {
+    let mut calls = Vec::new();
+    let mut all = Vec::new();
+    for (call, bytes) in due.iter().enumerate() {
+        for item in items(bytes, 0) {
+            calls.push(call);
+            all.push(item);
+        }
+    }
+    let steps = aside(&all, found);
+    let mut lacks = vec![0; due.len()];
+    for step in &steps {
+        if let Step::Missing { due } = step {
+            lacks[calls[*due]] += 1;
+        }
+    }
+    let (mut last, mut list) = (0, Vec::new());
+    for (place, step) in steps.iter().enumerate() {
+        if step.found().is_none() {
+            continue;
+        }
+        let behind = steps[place..].iter().find_map(Step::same);
+        let behind = behind.map_or(due.len() - 1, |due| calls[due]);
+        match step.same() {
+            Some(due) => last = calls[due],
+            None => {
+                let lacking = (last..=behind).find(|call| lacks[*call] > 0);
+                last = lacking.unwrap_or(last);
+                lacks[last] -= i32::from(lacks[last] > 0);
             }
         }
-        to
+        list.push(last);
     }
+    list
 }

@@ -26,7 +26,7 @@ pub fn bars(view: &View) -> String {
     if !view.good() {
         let mut lane = scale.empty(' ');
         for call in &view.held.broken {
-            let at = view.found.clocks[*call];
+            let at = view.clock_of(*call);
             scale.fill(&mut lane, at, at + 1, '!');
         }
         let lane: String = lane.iter().collect();

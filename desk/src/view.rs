@@ -17,9 +17,9 @@ pub struct View<'o> {
 
 impl<'o> View<'o> {
     pub fn of(held: Held, options: &'o Options) -> View<'o> {
-        let entries = &held.recording.entries;
-        let found = Day::of(entries, entries.iter().map(|e| &e.found[..]));
-        let ruled = Day::of(entries, held.ruled.iter().map(|items| &items[..]));
+        let recording = &held.recording;
+        let found = Day::of(recording, |n| recording.entry(n).found, options.middle);
+        let ruled = Day::of(recording, |n| held.due(n), options.middle);
         View {
             found,
             ruled,
@@ -31,6 +31,13 @@ impl<'o> View<'o> {
 
     pub fn good(&self) -> bool {
         self.held.broken.is_empty()
+    }
+
+    /// The clock behind a call, as recorded.
+    pub fn clock_of(&self, call: usize) -> u64 {
+        let recording = &self.held.recording;
+        self.found
+            .clock_of(call, recording, |n| recording.entry(n).found)
     }
 
     /// From the first tick to the last, or what was asked for of that.
@@ -76,11 +83,22 @@ impl<'o> View<'o> {
 
     /// One line: whether the rules were kept.
     pub fn verdict(&self) -> String {
-        let (broken, calls) = (&self.held.broken, self.held.recording.entries.len() - 1);
+        let (broken, calls) = (&self.held.broken, self.held.recording.count() - 1);
+        let unheld = self.held.unheld;
+        if unheld > calls {
+            return format!("{calls} calls from the middle of a day, not held to the rules: what waited and was on air before is not known");
+        }
         let Some(first) = broken.first() else {
-            return format!("{calls} calls, every record as the rules give it");
+            let all = format!("{calls} calls, every record as the rules give it");
+            return match unheld {
+                0 => all,
+                _ => format!("{all} from call {unheld} on; before that what waited and was on air is not known"),
+            };
         };
-        let at = self.held.recording.entries[*first].at;
+        let at = self
+            .held
+            .recording
+            .place(self.held.recording.entry(*first).at);
         let many = if broken.len() == 1 {
             "call breaks"
         } else {
@@ -126,7 +144,11 @@ mod tests {
     fn held(bytes: &[u8]) -> Option<Held> {
         let mut name = [0; 32];
         name[..3].copy_from_slice(b"CH1");
-        Some(Held::of(Recording::read("it", bytes).ok()?, &name))
+        Some(Held::of(
+            Recording::read("it", bytes.to_vec()).ok()?,
+            &name,
+            false,
+        ))
     }
 
     /// "Every recording .. that our own card program could have made passes", and every
@@ -163,7 +185,7 @@ mod tests {
             let held = held(&bytes[..to]).unwrap();
             let whole = held.recording.cut.is_none();
             // Cut between two records nothing is dropped, and the rest is due.
-            let last = held.recording.entries.len() - 1;
+            let last = held.recording.count() - 1;
             assert!(
                 held.broken.is_empty() || whole && held.broken == [last],
                 "{to}"
@@ -176,7 +198,7 @@ mod tests {
     fn the_first_break_is_the_finding() {
         let (mut broken, mut good) = (0, 0);
         for made in (1..4).flat_map(|index| model::recordings::of_stream(29, index)) {
-            let Some(held) = held(&made.bytes) else {
+            let Some(held) = held(&made.bytes).filter(|held| !held.recording.unread) else {
                 continue;
             };
             let found = match held.broken.first() {
@@ -205,17 +227,12 @@ mod tests {
             for index in 0..12 {
                 let (bytes, input, output) = recorded(index, Some(fault));
                 let one = held(&bytes).unwrap();
-                let two = Recording::of_card(("in", &input), ("out", &output)).unwrap();
-                let two = Held::of(two, &one_name());
+                let two = Recording::of_card(("in", &input), ("out", &output), &one_name());
+                let two = Held::of(two.unwrap(), &one_name(), false);
                 assert_eq!(two.broken.is_empty(), one.broken.is_empty());
                 assert_eq!(two.broken.first(), one.broken.first(), "{name} {index}");
-                let found = |h: &Held| {
-                    h.recording
-                        .entries
-                        .iter()
-                        .map(|e| e.found.len())
-                        .sum::<usize>()
-                };
+                let found =
+                    |h: &Held| -> usize { h.recording.entries().map(|e| e.found.len()).sum() };
                 assert_eq!(found(&two), found(&one), "every record has its call");
                 broken += one.broken.len();
             }
@@ -244,8 +261,10 @@ mod tests {
             }
             if let Some(held) = held(&bad) {
                 let view = View::of(held, &options);
+                let mut listed = Vec::new();
+                list::text(&view, false, &mut listed).unwrap();
                 let told = [
-                    list::text(&view, false),
+                    String::from_utf8(listed).unwrap(),
                     asrun::text(&view),
                     timeline::bars(&view),
                     page::page(&view),

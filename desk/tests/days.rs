@@ -62,7 +62,7 @@ fn filters() {
         let sessions = sessions
             .lines()
             .skip(1)
-            .map(|l| l.split(',').nth(2).unwrap());
+            .map(|l| l.split(',').nth(4).unwrap());
         sessions.map(str::to_string).collect::<Vec<_>>()
     };
     assert_eq!(rows(&[]).len(), 38);
@@ -104,9 +104,8 @@ fn json_and_csv() {
     assert!(list.contains(fields), "{list}");
     assert!(list.ends_with("}}\n]\n"));
     let csv = desk(&["asrun", "--csv", "--session", "202", day], b"").text();
-    let expected = "call,connection,session,event,source,access,override,scheduled,length_seconds,length_ticks,answer,began,ended,\
-                    on_air_seconds,on_air_ticks,result,outcome,by_the_rules\r\n\
-                    20,0,202,4294967295,1,3,0,1970-01-12T14:07:10.000000Z,30.000000,2700000,109,,,,,109,\"refused, 109: Splice Collision\",\r\n";
+    let expected = "scheduled,started,ended,connection,session,event,length_s,on_air_s,ticks,result,outcome\r\n\
+                    1970-01-12T14:07:10.000000Z,,,0,202,4294967295,30.000000,,,109,\"refused, 109: Splice Collision\"\r\n";
     assert_eq!(csv, expected);
     let asrun = desk(&["asrun", "--json", "--raw", "--session", "202", day], b"").text();
     assert!(

@@ -48,11 +48,28 @@ const USES: &[(&[&str], &str)] = &[
     (&["join"], "IN and OUT, or --text"),
     (&["join", "--text", "x", "y"], "a file 'y' too many"),
     (&["pcap", "--pieces", "0", DAY], "not 1 to 1460"),
-    (&["pcap", "--back", DAY], "byte 0: no capture (pcap)"),
+    (
+        &["pcap", "--back", DAY],
+        "byte 0: no capture (pcap or pcapng)",
+    ),
     (&["pcap", "--back", "no-such-file"], "no-such-file: "),
     (&["pcap", "--back", "x", DAY], "too many"),
     (&["pcap", "--json", DAY], "no option --json"),
     (&["list", "no-such-file"], "no-such-file: "),
+    (
+        &["asrun", "--sqlite", "/no/such/folder/x", DAY],
+        "/no/such/folder/x: sqlite3: ",
+    ),
+    (
+        &["asrun", "--sqlite", "x", "--csv", DAY],
+        "--sqlite and --json or --csv at once",
+    ),
+    (&["timeline", "--zone", "UTC", DAY], "--zone is for --html"),
+    (
+        &["timeline", "--html", "x", "--zone", "<b>", DAY],
+        "no name of a zone",
+    ),
+    (&["join", "--middle", DAY, DAY], "no option --middle"),
     (&["join", "--text", "no-such-file"], "no-such-file: "),
     (
         &["timeline", "--html", "/no/such/folder/x", DAY],
@@ -70,8 +87,6 @@ fn wrong_uses() {
 #[test]
 fn unreadable_files() {
     let day = std::fs::read(recording("example-day.rec")).unwrap();
-    let mut spoiled = day.clone();
-    spoiled[10] = 0x7A;
     let garbage: Vec<u8> = (0..200u32).map(|i| (i * 37 + 11) as u8).collect();
     let uses: &[(&[u8], &str)] = &[
         (b"", "standard input: empty: no call in it"),
@@ -79,7 +94,6 @@ fn unreadable_files() {
             &garbage,
             "standard input: byte 0: 0x0B is no mark of a call or a record",
         ),
-        (&spoiled, "standard input: byte 10: 0x7A is no mark"),
         (b"hello, desk", "byte 0: 0x68 is no mark"),
         (&[0x45, 7], "no call in it, records only"),
         (&[0x52], "byte 0: the last record is cut, 1 of 10 bytes"),
@@ -136,6 +150,34 @@ fn a_cut_file_is_read_up_to_its_last_record() {
         day.len() - 2
     );
     assert_eq!(ran.said, said);
+}
+
+/// One byte that is no mark, in the middle of the day: what stands before it is shown, with the place.
+#[test]
+fn a_byte_that_is_no_mark() {
+    let mut day = std::fs::read(recording("example-day.rec")).unwrap();
+    // call 45 begins here (example-day-wrong-end.rec, `check`)
+    let at = 1_893;
+    let before = desk(&["list", "--raw"], &day[..at]).text();
+    assert!(
+        before.ends_with("44 calls, every record as the rules give it\n"),
+        "{before}"
+    );
+    day[at] = 0x7A;
+    for command in ["list", "asrun", "timeline", "check"] {
+        let ran = desk(&[command, "--raw"], &day);
+        assert_eq!(ran.status, 2, "{command}");
+        let said = "desk: standard input: byte 1893: 0x7A is no mark of a call or a record: shown up to it\n";
+        assert_eq!(ran.said, said, "{command}");
+        assert!(
+            ran.text()
+                .contains("44 calls, every record as the rules give it"),
+            "{command}"
+        );
+        if command == "list" {
+            assert_eq!(ran.text(), before);
+        }
+    }
 }
 
 #[test]

@@ -1,7 +1,7 @@
-//! Reading captures: the packets of a classic pcap file, the TCP connections to port 5168, and the
-//! messages in them, in the order in which they were whole.
+//! Reading captures: the TCP connections to port 5168, and the messages in them, in the order in which
+//! they were whole.
 
-use super::instant;
+use super::files::packets;
 use super::wire::{NET, PORT, SERVERS};
 use std::collections::BTreeMap;
 
@@ -13,7 +13,8 @@ pub struct Event {
 }
 
 pub enum What {
-    Open,
+    /// Whether it was seen; else the connection was there before the capture.
+    Open(bool),
     /// A whole message of the server; of one with a MessageSize above 4,088 the header.
     Request(Vec<u8>),
     /// A whole message of the splicer.
@@ -32,66 +33,6 @@ struct Segment<'f> {
     data: &'f [u8],
 }
 
-/// Numbers in the file's own order of bytes.
-struct File<'f> {
-    bytes: &'f [u8],
-    big: bool,
-    /// Units of the second half of a time in a microsecond.
-    per_micro: u32,
-    link: u32,
-}
-
-impl<'f> File<'f> {
-    fn open(name: &str, bytes: &'f [u8]) -> Result<File<'f>, String> {
-        if bytes.is_empty() {
-            return Err(format!("{name}: empty: no capture"));
-        }
-        if bytes.starts_with(&[0x0A, 0x0D, 0x0D, 0x0A]) {
-            return Err(format!(
-                "{name}: a capture of pcapng: editcap -F pcap makes one of pcap"
-            ));
-        }
-        let (big, per_micro) = match bytes.get(..4) {
-            Some([0xA1, 0xB2, 0xC3, 0xD4]) => (true, 1),
-            Some([0xD4, 0xC3, 0xB2, 0xA1]) => (false, 1),
-            Some([0xA1, 0xB2, 0x3C, 0x4D]) => (true, 1_000),
-            Some([0x4D, 0x3C, 0xB2, 0xA1]) => (false, 1_000),
-            _ => return Err(format!("{name}: byte 0: no capture (pcap)")),
-        };
-        let mut file = File {
-            bytes,
-            big,
-            per_micro,
-            link: 0,
-        };
-        let link = file
-            .word(20)
-            .ok_or(format!("{name}: byte 4: the head is cut"))?;
-        file.link = link & 0xFFFF;
-        match file.link {
-            1 | 101 | 113 | 276 => Ok(file),
-            other => Err(format!("{name}: byte 20: link layer {other} is not read")),
-        }
-    }
-
-    fn word(&self, at: usize) -> Option<u32> {
-        let four: [u8; 4] = self.bytes.get(at..at + 4)?.try_into().ok()?;
-        Some(match self.big {
-            true => u32::from_be_bytes(four),
-            false => u32::from_le_bytes(four),
-        })
-    }
-
-    /// The packet at a place: its time, its bytes and the next place. A cut one is the end.
-    fn packet(&self, at: usize) -> Option<(u64, &'f [u8], usize)> {
-        let (seconds, part) = (self.word(at)?, self.word(at + 4)?);
-        let size = self.word(at + 8)? as usize;
-        let data = self.bytes.get(at + 16..(at + 16).checked_add(size)?)?;
-        let time = instant(seconds, part / self.per_micro);
-        Some((time, data, at + 16 + size))
-    }
-}
-
 fn half(bytes: &[u8], at: usize) -> Option<u16> {
     Some(u16::from_be_bytes([*bytes.get(at)?, *bytes.get(at + 1)?]))
 }
@@ -99,10 +40,12 @@ fn half(bytes: &[u8], at: usize) -> Option<u16> {
 /// The IP packet behind the link layer's head; VLAN tags are passed over.
 fn network(link: u32, frame: &[u8]) -> Option<&[u8]> {
     let mut at = match link {
-        101 => return Some(frame),
+        12 | 101 | 228 | 229 => return Some(frame),
+        0 | 108 => return frame.get(4..),
         1 => 12,
         113 => 14,
-        _ => return frame.get(20..),
+        276 => return frame.get(20..),
+        _ => return None,
     };
     while matches!(half(frame, at)?, 0x8100 | 0x88A8) {
         at += 4;
@@ -115,7 +58,11 @@ fn transport(ip: &[u8]) -> Option<(&[u8], &[u8], &[u8])> {
     match ip.first()? >> 4 {
         4 if *ip.get(9)? == 6 && half(ip, 6)? & 0x1FFF == 0 => {
             let (head, length) = (usize::from(ip[0] & 15) * 4, half(ip, 2)?);
-            let whole = ip.get(..usize::from(length)).unwrap_or(ip);
+            // 0 where the card cuts the segments
+            let whole = ip
+                .get(..usize::from(length))
+                .filter(|_| length > 0)
+                .unwrap_or(ip);
             Some((ip.get(12..16)?, ip.get(16..20)?, whole.get(head..)?))
         }
         6 if *ip.get(6)? == 6 => {
@@ -199,6 +146,8 @@ impl Side {
 struct Link {
     conn: u8,
     sides: [Side; 2],
+    /// When the server ended it.
+    left: Option<u64>,
 }
 
 /// The connections, by the server's address and port.
@@ -206,6 +155,8 @@ struct Link {
 struct Links {
     open: BTreeMap<(Vec<u8>, u16), Link>,
     events: Vec<Event>,
+    /// Bytes that came behind a gap that nothing filled.
+    lost: usize,
 }
 
 impl Links {
@@ -222,20 +173,28 @@ impl Links {
         self.events.push(Event { at, conn, what });
     }
 
+    fn close(&mut self, server: &(Vec<u8>, u16), at: u64) {
+        if let Some(link) = self.open.remove(server) {
+            let early = link.sides.iter().flat_map(|side| side.early.values());
+            self.lost += early.map(Vec::len).sum::<usize>();
+            self.say(at, link.conn, What::Closed);
+        }
+    }
+
     fn take(&mut self, segment: &Segment) {
         let begins = segment.flags & 2 != 0;
-        if !self.open.contains_key(&segment.server) {
-            // a fifth connection is the driver's to turn away
-            let Some(conn) = self.number(&segment.server.0) else {
-                return;
-            };
-            if !begins && segment.data.is_empty() {
-                return;
-            }
-            let sides = Default::default();
-            self.open
-                .insert(segment.server.clone(), Link { conn, sides });
-            self.say(segment.at, conn, What::Open);
+        // a server that takes its port again has left before
+        if begins
+            && segment.from_server
+            && self
+                .open
+                .get(&segment.server)
+                .is_some_and(|l| l.left.is_some())
+        {
+            self.close(&segment.server, segment.at);
+        }
+        if !self.open.contains_key(&segment.server) && !self.opened(segment, begins) {
+            return;
         }
         let Some(link) = self.open.get_mut(&segment.server) else {
             return;
@@ -244,34 +203,71 @@ impl Links {
         if begins {
             side.next = Some(segment.sequence.wrapping_add(1));
         }
-        for message in side.take(
-            segment.sequence.wrapping_add(u32::from(begins)),
-            segment.data,
-        ) {
+        let first = segment.sequence.wrapping_add(u32::from(begins));
+        for message in side.take(first, segment.data) {
             let what = match segment.from_server {
                 true => What::Request(message),
                 false => What::Record(message),
             };
             self.say(segment.at, conn, what);
         }
-        // FIN or RST, of either side
-        if segment.flags & 5 != 0 {
-            self.open.remove(&segment.server);
-            self.say(segment.at, conn, What::Closed);
+        self.ended(segment);
+    }
+
+    /// A connection begins, or is seen for the first time.
+    fn opened(&mut self, segment: &Segment, begins: bool) -> bool {
+        // a fifth connection is the driver's to turn away
+        let Some(conn) = self.number(&segment.server.0) else {
+            return false;
+        };
+        // what is left of one that is over, and an empty segment, begin nothing
+        if !begins && (segment.data.is_empty() || segment.flags & 5 != 0) {
+            return false;
+        }
+        let link = Link {
+            conn,
+            sides: Default::default(),
+            left: None,
+        };
+        self.open.insert(segment.server.clone(), link);
+        self.say(segment.at, conn, What::Open(begins));
+        true
+    }
+
+    /// RST, or FIN of the splicer, end it; a server that has said its last may still be answered.
+    fn ended(&mut self, segment: &Segment) {
+        let (fin, reset) = (segment.flags & 1 != 0, segment.flags & 4 != 0);
+        if reset || fin && !segment.from_server {
+            self.close(&segment.server, segment.at);
+        } else if let (true, Some(link)) = (fin, self.open.get_mut(&segment.server)) {
+            link.left.get_or_insert(segment.at);
         }
     }
 }
 
-/// What a capture shows of connections to port 5168.
-pub fn heard(name: &str, bytes: &[u8]) -> Result<Vec<Event>, String> {
-    let file = File::open(name, bytes)?;
+/// What a capture shows of connections to port 5168, and the bytes that could not be read for a gap.
+pub fn heard(name: &str, bytes: &[u8]) -> Result<(Vec<Event>, usize), String> {
     let mut links = Links::default();
-    let mut at = 24;
-    while let Some((time, frame, next)) = file.packet(at) {
-        if let Some(segment) = segment(file.link, time, frame) {
+    let mut packets = packets(name, bytes)?;
+    // several interfaces' packets may stand out of order
+    packets.sort_by_key(|packet| packet.at);
+    for packet in &packets {
+        if let Some(segment) = segment(packet.link, packet.at, packet.bytes) {
             links.take(&segment);
         }
-        at = next;
     }
-    Ok(links.events)
+    let left = links
+        .open
+        .iter()
+        .filter_map(|(server, link)| Some((server.clone(), link.left?)));
+    for (server, at) in left.collect::<Vec<_>>() {
+        links.close(&server, at);
+    }
+    let early = links
+        .open
+        .values()
+        .flat_map(|link| &link.sides)
+        .flat_map(|side| side.early.values());
+    let lost = links.lost + early.map(Vec::len).sum::<usize>();
+    Ok((links.events, lost))
 }
