@@ -229,5 +229,8 @@ fn captured(options: &Options, out: &mut dyn Write) -> Ran {
     }
     let held = Held::of(back.recording, &options.name, back.middle);
     out.write_all(held.recording.bytes())?;
-    Ok(Kept::of(&held))
+    match back.gaps {
+        true => Ok(Kept::Good),
+        false => Ok(Kept::of(&held)),
+    }
 }

@@ -63,6 +63,8 @@ pub struct Back {
     pub recording: Recording,
     /// Connections were there before the capture began.
     pub middle: bool,
+    /// Parts of it are missing: it cannot be held to the rules.
+    pub gaps: bool,
     /// What a capture cannot tell.
     pub notes: Vec<String>,
 }
@@ -71,23 +73,47 @@ pub struct Back {
 /// refusals, is what the rules give.
 pub fn recorded(file: &str, bytes: &[u8], name: &[u8; 32]) -> Result<Back, String> {
     let (events, lost) = heard(file, bytes)?;
-    if events.is_empty() {
+    let before = match lost {
+        0 => unknown(&events),
+        _ => events.len(),
+    };
+    let ahead = calls::clocks(&events).into_iter().min().unwrap_or(0);
+    let mut bytes = plain::bytes(&events[..before], ahead);
+    if before < events.len() {
+        bytes.extend(led(&events[before..], name));
+    }
+    if bytes.is_empty() {
         return Err(format!("{file}: no connection to TCP port 5168 in it"));
     }
-    let middle = events
-        .iter()
-        .any(|event| matches!(event.what, What::Open(false)));
-    let bytes = match middle {
-        true => plain::bytes(&events),
-        false => led(&events, name),
-    };
     let recording = Recording::read(file, bytes)?;
+    let middle = before > 0;
     let notes = notes(&events, lost, middle);
     Ok(Back {
         recording,
         middle,
+        gaps: lost > 0,
         notes,
     })
+}
+
+/// How many events lie before the first at which every connection is closed that was there before.
+fn unknown(events: &[Event]) -> usize {
+    let mut open = [false; 4];
+    let there = |event: &Event| matches!(event.what, What::Open(false));
+    let Some(last) = events.iter().rposition(there) else {
+        return 0;
+    };
+    for (place, event) in events.iter().enumerate() {
+        if place > last && open == [false; 4] {
+            return place;
+        }
+        match event.what {
+            What::Open(_) => open[usize::from(event.conn)] = true,
+            What::Closed => open[usize::from(event.conn)] = false,
+            _ => {}
+        }
+    }
+    events.len()
 }
 
 /// The calls that explain it, as near to the packets' times as may be.
@@ -114,11 +140,12 @@ fn notes(events: &[Event], lost: usize, middle: bool) -> Vec<String> {
         let (least, most) = (seconds(least), seconds(most));
         list.push(format!("Alive_Responses are {least:+.6} to {most:+.6} s from their packets' times, which is not judged"));
     }
-    if middle {
-        list.push("a connection was there before the capture: what waited and was on air is not known, and it is not held to the rules".to_string());
-    }
     if lost > 0 {
-        list.push(format!("{lost} bytes stand behind a gap and are not read"));
+        list.push(format!(
+            "{lost} bytes stand behind a gap and are not read: it is not held to the rules"
+        ));
+    } else if middle {
+        list.push("a connection was there before the capture: until all are closed what waits and is on air is not known, and nothing is held to the rules".to_string());
     }
     list
 }

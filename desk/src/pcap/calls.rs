@@ -142,7 +142,7 @@ impl Back {
         let Some(record) = self.lines[conn].shown.pop_front() else {
             return;
         };
-        if self.found(conn, &record) {
+        if self.found(conn, &record) || self.in_place(conn, &record) {
             return;
         }
         // what was due before it did not come
@@ -161,6 +161,24 @@ impl Back {
     fn found(&mut self, conn: usize, record: &[u8]) -> bool {
         let due = &mut self.lines[conn].due;
         if !due.front().is_some_and(|due| same(&due.bytes, record)) {
+            return false;
+        }
+        if let Some(due) = due.pop_front() {
+            self.made[due.entry]
+                .found
+                .push((due.place, record.to_vec()));
+        }
+        true
+    }
+
+    /// Whether the next that is due says something else of the same session: it stands in its place.
+    fn in_place(&mut self, conn: usize, record: &[u8]) -> bool {
+        let of = |bytes: &[u8]| Some((bytes.get(2..4)?.to_vec(), bytes.get(10..14)?.to_vec()));
+        let due = &mut self.lines[conn].due;
+        let near = due
+            .front()
+            .is_some_and(|due| of(&due.bytes).is_some() && of(&due.bytes) == of(record));
+        if !near {
             return false;
         }
         if let Some(due) = due.pop_front() {
@@ -390,9 +408,11 @@ impl Back {
 
     /// Whether it comes of what must be done by then, or of the next call behind that.
     fn made_up(&mut self, conn: usize, record: &[u8], at: u64) -> bool {
-        let by = at.saturating_sub(LAG);
-        while let Some(next) = self.rules.next().filter(|next| *next <= by) {
+        while let Some(next) = self.rules.next().filter(|next| *next <= at) {
             self.tick(next, at);
+            if self.in_place(conn, record) {
+                return true;
+            }
             let due = &mut self.lines[conn].due;
             if let Some(place) = due.iter().position(|due| same(&due.bytes, record)) {
                 due.drain(..place);

@@ -1,23 +1,25 @@
-//! The calls of a capture that begins in the middle of connections: what the splicer knew before is not
-//! known, so nothing leads them. The clock is brought to the time of each packet, and a record goes to
-//! the request that it answers, or to a tick.
+//! The calls of a capture that begins in the middle of connections, or has gaps: what the splicer knew
+//! is not known, so nothing leads them. The clock is brought to the time of each packet, and a record
+//! goes to the request that it answers, or to a tick.
 
 use super::segments::{Event, What};
 use crate::ruled::ticked;
 use crate::time::SECOND;
+use std::collections::VecDeque;
 
 #[derive(Default)]
 struct Made {
     calls: Vec<(Vec<u8>, Vec<u8>)>,
-    /// For each connection the call of the last request that has no answer yet.
-    asked: [Option<usize>; 4],
+    /// For each connection the calls of the requests that have no answer yet.
+    asked: [VecDeque<usize>; 4],
     clock: u64,
 }
 
-pub fn bytes(events: &[Event]) -> Vec<u8> {
+/// The splicer's clock is so far from the packets' times.
+pub fn bytes(events: &[Event], ahead: i64) -> Vec<u8> {
     let mut made = Made::default();
     for event in events {
-        made.event(event);
+        made.event(event, event.at.saturating_add_signed(ahead));
     }
     let calls = made.calls.into_iter();
     calls
@@ -26,18 +28,21 @@ pub fn bytes(events: &[Event]) -> Vec<u8> {
 }
 
 impl Made {
-    fn event(&mut self, event: &Event) {
+    fn event(&mut self, event: &Event, at: u64) {
         let conn = event.conn;
         match &event.what {
-            What::Open(true) => self.call(event.at, &[0x4F, conn]),
+            What::Open(true) => self.call(at, &[0x4F, conn]),
             // it was open, and nobody called
             What::Open(false) => {}
-            What::Closed => self.call(event.at, &[0x43, conn]),
-            What::Request(message) => {
-                self.call(event.at, &[&[0x4D, conn][..], message].concat());
-                self.asked[usize::from(conn)] = Some(self.calls.len() - 1);
+            What::Closed => {
+                self.asked[usize::from(conn)].clear();
+                self.call(at, &[0x43, conn]);
             }
-            What::Record(message) => self.record(event.at, conn, message),
+            What::Request(message) => {
+                self.call(at, &[&[0x4D, conn][..], message].concat());
+                self.asked[usize::from(conn)].push_back(self.calls.len() - 1);
+            }
+            What::Record(message) => self.record(at, conn, message),
         }
     }
 
@@ -67,21 +72,26 @@ impl Made {
         self.calls[place].1.extend_from_slice(message);
     }
 
-    /// The request of this connection that a message answers.
+    /// The oldest request of this connection that a message answers; what waited before it got none.
     fn answered(&mut self, conn: u8, message: &[u8]) -> Option<usize> {
-        let place = self.asked[usize::from(conn)]?;
-        let request = self.calls[place].0.get(2..)?;
-        let id = |of: &[u8]| u16::from_be_bytes([of[0], of[1]]);
-        let (asks, answers) = (id(request), id(message));
-        let follows = asks.checked_add(1) == Some(answers);
-        let session = request.get(8..12) == message.get(8..12);
-        let fits = match answers {
-            0x0000 => true,
-            0x0002 | 0x0004 | 0x0006 | 0x000B => follows,
-            0x0008 | 0x000F => follows && session,
-            _ => false,
-        };
-        fits.then(|| self.asked[usize::from(conn)].take()).flatten()
+        let asked = &self.asked[usize::from(conn)];
+        let fits = |place: &usize| fits(&self.calls[*place].0[2..], message);
+        let at = asked.iter().position(fits)?;
+        self.asked[usize::from(conn)].drain(..=at).next_back()
+    }
+}
+
+/// Whether a message is an answer to this request.
+fn fits(request: &[u8], message: &[u8]) -> bool {
+    let id = |of: &[u8]| u16::from_be_bytes([of[0], of[1]]);
+    let (asks, answers) = (id(request), id(message));
+    let follows = asks.checked_add(1) == Some(answers);
+    let session = request.get(8..12) == message.get(8..12);
+    match answers {
+        0x0000 => asks != 0 && asks != 0x000D && message[4..6] != [0, 117],
+        0x0002 | 0x0004 | 0x0006 | 0x000B => follows,
+        0x0008 | 0x000F => follows && session,
+        _ => false,
     }
 }
 

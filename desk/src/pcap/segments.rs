@@ -105,7 +105,13 @@ struct Side {
 impl Side {
     /// Takes a segment's data; gives the whole messages.
     fn take(&mut self, sequence: u32, data: &[u8]) -> Vec<Vec<u8>> {
-        let next = *self.next.get_or_insert(sequence);
+        let next = match self.next {
+            Some(next) => next,
+            // seen from the middle on: from the first segment that begins with a message
+            None if is_header(data) => sequence,
+            None => return Vec::new(),
+        };
+        self.next = Some(next);
         // numbers relative to the next byte, so that a rollover is no jump
         let ahead = sequence.wrapping_sub(next) as i32;
         if ahead > 0 {
@@ -141,6 +147,14 @@ impl Side {
         }
         list
     }
+}
+
+/// A known ID, a size that may be, and all ones in Result_Extension.
+fn is_header(data: &[u8]) -> bool {
+    let half = |at: usize| half(data, at);
+    half(0).is_some_and(|id| id <= 0x11)
+        && half(2).is_some_and(|size| size <= 4_088)
+        && half(6) == Some(0xFFFF)
 }
 
 struct Link {
