@@ -24,6 +24,7 @@ use options::{Asked, Command, Options};
 use recording::Recording;
 use ruled::{used_before, Held};
 use std::io::{self, BufWriter, IsTerminal, Read, Write};
+use timeline::Marks;
 use view::View;
 
 /// Good, and whether the rules were kept; or what is wrong.
@@ -180,7 +181,7 @@ fn run(command: &Command, options: &Options, out: &mut dyn Write) -> Ran {
                 written.map_err(|e| format!("{path}: {e}"))?;
                 writeln!(out, "{}", view.verdict())?;
             }
-            None => out.write_all(timeline::bars(&view).as_bytes())?,
+            None => out.write_all(timeline::bars(&view, Marks::of_locale()).as_bytes())?,
         },
     }
     Ok(Kept::of(&view.held))

@@ -266,7 +266,7 @@ mod tests {
                 let told = [
                     String::from_utf8(listed).unwrap(),
                     asrun::text(&view),
-                    timeline::bars(&view),
+                    timeline::bars(&view, &timeline::DIGITS),
                     page::page(&view),
                 ];
                 assert!(told.iter().all(|text| !text.is_empty()));

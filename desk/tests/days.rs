@@ -158,17 +158,17 @@ fn bars_in_the_terminal() {
     );
     let lines = ran.lines();
     assert!(
-        lines.contains(&"output ____########################________".to_string()),
+        lines.contains(&"output ____████████████████████████________".to_string()),
         "{}",
         ran.text()
     );
     assert!(
-        lines.contains(&"0 301 ....########------########## played to its end".to_string()),
+        lines.contains(&"0 301 ....████████------██████████ played to its end".to_string()),
         "{}",
         ran.text()
     );
     assert!(
-        lines.contains(&"1 9002 ............###### played to its end".to_string()),
+        lines.contains(&"1 9002 ............██████ played to its end".to_string()),
         "{}",
         ran.text()
     );
