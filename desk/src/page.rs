@@ -113,8 +113,9 @@ fn request(view: &View, place: &Place, row: &Row, top: usize) -> String {
     let title = title(view, row);
     let session = row.asked.session.map_or("-".to_string(), |s| s.to_string());
     let result = lines::result(row).map_or(String::new(), |r| r.to_string());
+    let own = numbers(row);
     let data = format!(
-        "data-call=\"{}\" data-session=\"{session}\" data-result=\"{result}\" title=\"{title}\"",
+        "data-call=\"{}\" {own} data-result=\"{result}\" title=\"{title}\"",
         row.call
     );
     let mut text = String::new();
@@ -137,11 +138,18 @@ fn request(view: &View, place: &Place, row: &Row, top: usize) -> String {
     let left = place.of(last(row));
     let gap = if row.accepted() { 0 } else { 7 };
     // at the right edge it stands on its bar
-    let side = match left + LABEL > 100.0 {
-        true => "right:2px;background:#fffc".to_string(),
-        false => format!("left:calc({left:.4}% + {gap}px)"),
+    let (edge, side) = match left + LABEL > 100.0 {
+        true => (" edge", "right:2px".to_string()),
+        false => ("", format!("left:calc({left:.4}% + {gap}px)")),
     };
-    text + &format!("<span class=\"label{bad}\" style=\"{side};top:{top}px\" title=\"{title}\">{session} {result}</span>\n")
+    text + &format!("<span class=\"label{edge}{bad}\" style=\"{side};top:{top}px\" {own} title=\"{title}\">{session} {result}</span>\n")
+}
+
+/// What a request is found by: SessionID and SpliceEventID.
+fn numbers(row: &Row) -> String {
+    let number = |n: Option<u32>| n.map_or(String::new(), |n| n.to_string());
+    let (session, event) = (number(row.asked.session), number(row.asked.event));
+    format!("data-session=\"{session}\" data-event=\"{event}\"")
 }
 
 /// Where a request's bars end.
@@ -209,41 +217,70 @@ fn breaks_table(view: &View) -> String {
     if view.good() {
         return String::new();
     }
-    let mut text = "<table id=\"broken\"><tr><th>time</th><th>call</th><th class=\"words\">due and found</th></tr>\n".to_string();
+    let mut text = "<table id=\"broken\"><thead><tr><th>time</th><th>call</th><th class=\"words\">due and found</th></tr></thead><tbody>\n".to_string();
     for call in &view.held.broken {
-        let time = view.clock.text(view.clock_of(*call));
+        let clock = view.clock_of(*call);
+        let time = timed(Some(clock), &Value::Text(view.clock.text(clock)));
         let words = escaped(&broken(view, *call)).replace('\n', "<br>");
-        text += &format!("<tr class=\"bad\"><td>{time}</td><td>{call}</td><td class=\"words\">{words}</td></tr>\n");
+        text += &format!(
+            "<tr class=\"bad\">{time}<td>{call}</td><td class=\"words\">{words}</td></tr>\n"
+        );
     }
-    text + "</table>\n"
+    text + "</tbody></table>\n"
+}
+
+/// An instant in seconds, for the page's script.
+fn at(instant: Option<u64>) -> String {
+    let seconds = |at: u64| format!(" data-at=\"{:.6}\"", at as f64 / SECOND as f64);
+    instant.map_or(String::new(), seconds)
 }
 
 fn asrun_table(view: &View) -> String {
     let head = asrun::SHOWN.map(|(name, _)| format!("<th>{name}</th>"));
-    let mut text = format!("<table id=\"asrun\"><tr>{}</tr>\n", head.concat());
-    for row in &asrun::table(view).rows {
-        let cell = |(_, column): (&str, usize)| match &row[column] {
-            Value::None | Value::Number(0xFFFF_FFFF) => "<td></td>".to_string(),
-            value => format!("<td>{}</td>", escaped(&value.plain())),
+    let mut text = format!(
+        "<table id=\"asrun\"><thead><tr>{}</tr></thead><tbody>\n",
+        head.concat()
+    );
+    for (values, row) in asrun::table(view).rows.iter().zip(view.rows()) {
+        let cell = |(name, column): (&str, usize)| match (&values[column], name) {
+            (Value::None | Value::Number(0xFFFF_FFFF), _) => "<td></td>".to_string(),
+            (value, "scheduled") => timed(row.start, value),
+            (value, "began") => timed(row.began, value),
+            (value, "ended") => timed(row.ended.map(|e| e.at), value),
+            (value, _) => format!("<td>{}</td>", escaped(&value.plain())),
         };
         let cells = asrun::SHOWN.map(cell).concat();
-        match &row[asrun::RULED] {
+        let own = numbers(row);
+        let first = row.began.or(row.start).unwrap_or(row.asked_at);
+        let first = at(Some(first));
+        match &values[asrun::RULED] {
             Value::Text(ruled) => {
                 let ruled = escaped(ruled);
                 let ruled = format!("<td colspan=\"12\">by the rules: {ruled}</td>");
-                text +=
-                    &format!("<tr class=\"bad\">{cells}</tr>\n<tr class=\"bad\">{ruled}</tr>\n");
+                text += &format!("<tr class=\"bad\" {own}{first}>{cells}</tr>\n<tr class=\"bad\" {own}>{ruled}</tr>\n");
             }
-            _ => text += &format!("<tr>{cells}</tr>\n"),
+            _ => text += &format!("<tr {own}{first}>{cells}</tr>\n"),
         }
     }
-    text + "</table>\n"
+    text + "</tbody></table>\n"
+}
+
+/// A time's cell; the script writes local time into it.
+fn timed(instant: Option<u64>, value: &Value) -> String {
+    format!("<td{}>{}</td>", at(instant), escaped(&value.plain()))
 }
 
 const LEGEND: &str = "<p class=\"legend\"><span><i class=\"bar waiting k0\"></i>waiting</span><span><i class=\"bar air k0\"></i>on air</span>\
 <span><i class=\"bar covered k0\"></i>covered</span><span><i class=\"bar primary\"></i>primary channel</span>\
 <span><i class=\"refused\"></i>refused</span><span><i class=\"break\"></i>rules broken</span>\
 <span><i class=\"bar ruled\" style=\"top:-7px\"></i>by the rules</span>behind each bar: SessionID and result</p>\n";
+
+const NAV: &str = "<nav><span><button id=\"in\" title=\"zoom in\">+</button><button id=\"out\" title=\"zoom out\">&minus;</button><button id=\"all\">all</button>\
+<span id=\"zoom\"></span></span>\
+<label>local time <select id=\"zone\"></select></label>\
+<label>go to <input id=\"at\" placeholder=\"14:05, with Z in UTC\"></label>\
+<label>find <input id=\"find\" placeholder=\"SessionID or event\" inputmode=\"numeric\"></label><span id=\"found\"></span>\
+<button id=\"print\">print</button><span class=\"wide\">Ctrl and wheel zoom; hover gives the record</span></nav>\n";
 
 pub fn page(view: &View) -> String {
     let (from, to) = view.reach();
@@ -265,12 +302,13 @@ pub fn page(view: &View) -> String {
     let (css, js) = (include_str!("page.css"), include_str!("page.js"));
     let tables = breaks_table(view) + &asrun_table(view);
     let date = view.clock.text(from);
+    let zone = view.options.zone.as_deref().unwrap_or("");
     format!(
-        "<!DOCTYPE html>\n<html lang=\"en\"><head><meta charset=\"utf-8\"><title>{name} {date}</title>\n<style>\n{css}</style></head><body>\n\
+        "<!DOCTYPE html>\n<html lang=\"en\"><head><meta charset=\"utf-8\"><meta name=\"viewport\" content=\"width=device-width, initial-scale=1\">\
+         <title>{name} {date}</title>\n<style>\n{css}</style></head><body>\n\
          <h1>Channel {name}, {date}</h1>\n<p class=\"verdict {class}\">{verdict}</p>\n<p class=\"sums\">{sums}</p>\n\
-         <nav><button id=\"in\">+</button><button id=\"out\">&minus;</button><button id=\"all\">all</button><span id=\"zoom\"></span>\
-         <span>Ctrl and wheel zoom; hover gives the record</span></nav>\n\
-         <div id=\"scroll\"><div id=\"day\" data-from=\"{first:.6}\" data-to=\"{last:.6}\" data-raw=\"{raw}\"><div class=\"axis\"></div>\n\
-         {output}{breaks}{lanes}</div></div>\n{LEGEND}{tables}<script>\n{js}</script></body></html>\n"
+         {NAV}<div id=\"scroll\"><div id=\"day\" data-from=\"{first:.6}\" data-to=\"{last:.6}\" data-raw=\"{raw}\" data-zone=\"{zone}\">\
+         <div class=\"axis\" id=\"utc\"></div><div class=\"axis\" id=\"local\"></div><div id=\"cursor\" hidden></div>\n\
+         {output}{breaks}{lanes}</div></div>\n{LEGEND}<div class=\"tables\">{tables}</div><script>\n{js}</script></body></html>\n"
     )
 }

@@ -4,6 +4,7 @@
 
 use crate::ruled::{aside, Rules, Step};
 use model::recording::{first, is_call, First};
+use std::collections::BTreeMap;
 
 #[derive(Clone, Copy, Debug, PartialEq, Eq)]
 pub enum Call<'r> {
@@ -47,8 +48,8 @@ impl<'r> Entry<'r> {
 pub struct Recording {
     bytes: Vec<u8>,
     /// Where each call begins; the first is 0, that of no call.
-    calls: Vec<usize>,
-    /// Of two files: the place of each part here and in its own.
+    calls: Vec<u32>,
+    /// Of two files: the place of each record here and in its own, and the end of all.
     places: Option<Vec<(usize, usize)>>,
     /// What is to be said of the end: "A cut last record is dropped"; or a byte that is no mark.
     pub cut: Option<String>,
@@ -131,11 +132,12 @@ impl Recording {
         if bytes.is_empty() {
             return Err(format!("{file}: empty: no call in it"));
         }
+        fits(file, bytes.len())?;
         let mut parts = Parts::of(&bytes);
         let mut calls = vec![0];
         for (at, part) in parts.by_ref() {
             if is_call(part[0]) {
-                calls.push(at);
+                calls.push(at as u32);
             }
         }
         let ((cut, unread), end) = (parts.ended(file), parts.at);
@@ -168,12 +170,10 @@ impl Recording {
             format!("{file}: byte {at}: a {what} here: are the two files swapped, or is one a recording?")
         };
         let (mut calls, mut records) = (Parts::of(input.1), Parts::of(output.1));
-        let mut made = Vec::new();
         for (at, part) in calls.by_ref() {
             if !is_call(part[0]) {
                 return Err(swapped(input.0, at, "record"));
             }
-            made.push(Item { at, bytes: part });
             if part.len() == 10 && part[0] == 0x4D && part[4..6] > [0x0F, 0xF8][..] {
                 break;
             }
@@ -185,36 +185,43 @@ impl Recording {
             }
             found.push(Item { at, bytes: part });
         }
-        if let (true, (Some(why), true)) = (made.is_empty(), calls.ended(input.0)) {
+        if let (0, (Some(why), true)) = (calls.at, calls.ended(input.0)) {
             return Err(why);
         }
-        let mut joined = Recording::joined(&made, &found, name);
+        let mut joined = Recording::joined(&input.1[..calls.at], &found, name);
         (joined.cut, joined.unread) = records.ended(output.0);
+        fits(input.0, joined.bytes.len())?;
         Ok(joined)
     }
 
     /// Gives the records of a card program's output to the calls, by what each call should have
     /// written.
-    fn joined(calls: &[Item], found: &[Item], name: &[u8; 32]) -> Recording {
-        let mut rules = Rules::of(name);
-        let due: Vec<Vec<u8>> = calls.iter().map(|call| rules.made(call.bytes)).collect();
+    fn joined(calls: &[u8], found: &[Item], name: &[u8; 32]) -> Recording {
+        let (mut rules, mut due) = (Rules::of(name), Vec::new());
+        for (number, (_, call)) in Parts::of(calls).enumerate() {
+            let written = rules.made(call);
+            if !written.is_empty() {
+                due.push((number, written));
+            }
+        }
+        let of_call = placed(&due, found, Parts::of(calls).count());
+        let all = calls.len() + found.iter().map(|item| item.bytes.len()).sum::<usize>();
         let mut made = Recording {
+            bytes: Vec::with_capacity(all),
             calls: vec![0],
             ..Recording::default()
         };
-        let mut places = Vec::new();
-        let of_call = placed(&due, found);
-        let mut next = 0;
-        for (number, call) in calls.iter().enumerate() {
-            made.calls.push(made.bytes.len());
-            places.push((made.bytes.len(), call.at));
-            made.bytes.extend_from_slice(call.bytes);
+        let (mut places, mut next) = (Vec::new(), 0);
+        for (number, (_, call)) in Parts::of(calls).enumerate() {
+            made.calls.push(made.bytes.len() as u32);
+            made.bytes.extend_from_slice(call);
             while of_call.get(next) == Some(&number) {
                 places.push((made.bytes.len(), found[next].at));
                 made.bytes.extend_from_slice(found[next].bytes);
                 next += 1;
             }
         }
+        places.push((usize::MAX, made.bytes.len() - calls.len()));
         made.places = Some(places);
         made
     }
@@ -226,8 +233,8 @@ impl Recording {
 
     /// A call by its number, from 1; 0 is no call.
     pub fn entry(&self, number: usize) -> Entry<'_> {
-        let at = self.calls[number];
-        let end = self.calls.get(number + 1).copied();
+        let at = self.calls[number] as usize;
+        let end = self.calls.get(number + 1).map(|end| *end as usize);
         let all = &self.bytes[at..end.unwrap_or(self.bytes.len())];
         let first = Parts::of(all).next().filter(|_| number > 0);
         let length = first.map_or(0, |(_, part)| part.len());
@@ -253,8 +260,11 @@ impl Recording {
         let Some(places) = &self.places else {
             return at;
         };
-        let part = places.binary_search_by_key(&at, |(here, _)| *here);
-        part.map_or(at, |part| places[part].1)
+        match places.binary_search_by_key(&at, |(here, _)| *here) {
+            Ok(record) => places[record].1,
+            // a call: the records before it are in the other file
+            Err(next) => places.get(next).map_or(at, |(_, before)| at - before),
+        }
     }
 
     /// The bytes of a recording.
@@ -263,23 +273,30 @@ impl Recording {
     }
 }
 
+/// Places are kept in four bytes each.
+fn fits(file: &str, length: usize) -> Result<(), String> {
+    match u32::try_from(length) {
+        Ok(_) => Ok(()),
+        Err(_) => Err(format!("{file}: {length} bytes: over 4 GiB is not read")),
+    }
+}
+
 /// For each record found, the call that it goes to. One that was not due goes to a call that lacks a
 /// record: between those before and behind it that are as due, or one of these two; else to the one
 /// before.
-fn placed(due: &[Vec<u8>], found: &[Item]) -> Vec<usize> {
-    let mut calls = Vec::new();
-    let mut all = Vec::new();
-    for (call, bytes) in due.iter().enumerate() {
+fn placed(due: &[(usize, Vec<u8>)], found: &[Item], count: usize) -> Vec<usize> {
+    let (mut calls, mut all) = (Vec::new(), Vec::new());
+    for (call, bytes) in due {
         for item in items(bytes, 0) {
-            calls.push(call);
+            calls.push(*call);
             all.push(item);
         }
     }
     let steps = aside(&all, found);
-    let mut lacks = vec![0; due.len()];
+    let mut lacks: BTreeMap<usize, usize> = BTreeMap::new();
     for step in &steps {
         if let Step::Missing { due } = step {
-            lacks[calls[*due]] += 1;
+            *lacks.entry(calls[*due]).or_default() += 1;
         }
     }
     let (mut last, mut list) = (0, Vec::new());
@@ -288,13 +305,15 @@ fn placed(due: &[Vec<u8>], found: &[Item]) -> Vec<usize> {
             continue;
         }
         let behind = steps[place..].iter().find_map(Step::same);
-        let behind = behind.map_or(due.len() - 1, |due| calls[due]);
+        let behind = behind.map_or(count.saturating_sub(1), |due| calls[due]);
         match step.same() {
             Some(due) => last = calls[due],
             None => {
-                let lacking = (last..=behind).find(|call| lacks[*call] > 0);
-                last = lacking.unwrap_or(last);
-                lacks[last] -= i32::from(lacks[last] > 0);
+                let lacking = lacks.range_mut(last..=behind.max(last));
+                if let Some((call, lack)) = lacking.filter(|(_, lack)| **lack > 0).next() {
+                    last = *call;
+                    *lack -= 1;
+                }
             }
         }
         list.push(last);

@@ -134,7 +134,7 @@ fn the_page_of_the_example_day() {
         3,
         "output and two connections"
     );
-    assert_eq!(count("<span class=\"label\""), 38, "each request");
+    assert_eq!(count("<span class=\"label"), 38, "each request");
     assert_eq!(count("<i class=\"refused\" style"), 4);
     assert_eq!(count("<div class=\"bar covered k0\""), 1, "301 under 9002");
     // in the lane of the output and in that of connection 0
@@ -145,6 +145,97 @@ fn the_page_of_the_example_day() {
     );
     assert!(page.contains("every record as the rules give it"));
     assert!(page.contains("@media print"));
+    assert!(page.contains("prefers-color-scheme: dark"));
+    assert!(
+        page.contains("<meta name=\"viewport\" content=\"width=device-width, initial-scale=1\">")
+    );
+    assert_eq!(count("<tr data-session=\"501\""), 3, "found by SessionID");
+}
+
+/// 25 ticks a second: 2.16 million calls, 500 spots of 30 s, one every 172 s. Each is asked for at its
+/// 172 s, starts 20 s later and ends 30 s after that, between two ticks.
+fn a_day() -> Vec<u8> {
+    let tick = |k: u32| {
+        let (s, us) = (1_774_656_000 + k / 25, k % 25 * 40_000);
+        [&[0x54, 0][..], &s.to_be_bytes(), &us.to_be_bytes()].concat()
+    };
+    let name = [&b"CH1"[..], &[0; 29]].concat();
+    let head = |conn: &[u8], id: u8, size: u8, result: u16| {
+        [conn, &[0, 0, id, 0, size], &result.to_be_bytes(), &[255; 2]].concat()
+    };
+    let mut bytes = [tick(0), vec![0x4F, 0]].concat();
+    let ask = head(&[0x4D], 1, 76, 65_535);
+    bytes.extend(
+        [
+            &ask[..],
+            &[0, 2],
+            &name,
+            &name,
+            &[0, 8, 0, 1, 0, 1, 0, 1, 0, 0],
+        ]
+        .concat(),
+    );
+    bytes.extend([&head(&[0x52], 2, 34, 100)[..], &[0, 2], &name].concat());
+    for k in 1..86_400 * 25 {
+        bytes.extend(tick(k));
+        let (spot, at) = ((k / (172 * 25)).to_be_bytes(), k % (172 * 25));
+        let complete = |flag: u8, played: u32| {
+            let data = [&spot[..], &[flag, 0, 0, 0, 0], &played.to_be_bytes()].concat();
+            [head(&[0x52], 9, 13, 100), data].concat()
+        };
+        match at {
+            _ if k >= 500 * 172 * 25 => {}
+            1 => {
+                let start = (1_774_656_000 + k / 25 + 20).to_be_bytes();
+                let data = [&spot[..], &[255; 4], &start, &[0, 1, 0, 0], &[0, 1]].concat();
+                let data = [
+                    &data[..],
+                    &2_700_000u32.to_be_bytes(),
+                    &spot,
+                    &[0; 4],
+                    &[3, 0, 0],
+                ]
+                .concat();
+                bytes.extend([head(&[0x4D], 7, 33, 65_535), data].concat());
+                bytes.extend([&head(&[0x52], 8, 4, 100)[..], &spot].concat());
+            }
+            // 20 s and 65,536 microseconds; 30 s later
+            502 => bytes.extend(complete(0, 0)),
+            1_252 => bytes.extend(complete(1, 2_700_000)),
+            _ => {}
+        }
+    }
+    bytes
+}
+
+/// The sums by hand: 500 times 30 s, and the rest of a day less a tick of 40 ms.
+#[test]
+fn a_day_of_25_ticks_a_second_under_64_mb() {
+    let path = scratch("day.rec", &a_day());
+    let line = format!(
+        "ulimit -v 65536 && exec {} asrun {path}",
+        env!("CARGO_BIN_EXE_desk")
+    );
+    let ran = std::process::Command::new("sh")
+        .args(["-c", &line])
+        .output()
+        .unwrap();
+    let text = String::from_utf8(ran.stdout).unwrap();
+    assert!(
+        ran.status.success(),
+        "{}",
+        String::from_utf8_lossy(&ran.stderr)
+    );
+    let lines: Vec<&str> = text.lines().collect();
+    let last = lines[lines.len() - 1];
+    assert_eq!(last, "2160502 calls, every record as the rules give it");
+    let sums = text.split_whitespace().collect::<Vec<_>>().join(" ");
+    assert!(
+        sums.contains("primary channel 71399.960000 s 6425996400 ticks"),
+        "{sums}"
+    );
+    assert!(sums.contains("sessions on air 15000.000000 s 1350000000 ticks"));
+    std::fs::remove_file(path).unwrap();
 }
 
 #[test]

@@ -113,8 +113,8 @@ fn the_page_shows_it_in_red() {
         2,
         "1 until its close, 55 as due"
     );
-    assert_eq!(count("<span class=\"label bad\""), 2);
-    assert!(page.contains("data-session=\"55\" data-result=\"100\""));
+    assert_eq!(count(" bad\" style=\""), 2);
+    assert!(page.contains("data-session=\"55\" data-event=\"4002\" data-result=\"100\""));
     assert!(page.contains("AN END WITHOUT A START"));
     assert!(
         page.contains("found: 1 SpliceComplete_Response 100 (Successful Response) SessionID=55")
