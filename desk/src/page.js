@@ -36,7 +36,8 @@ function utc(second, step) {
 
 function drawAxis(axis, label) {
   const steps = [.001, .01, .1, 1, 2, 5, 10, 15, 30, 60, 120, 300, 600, 900, 1800, 3600, 7200, 14400, 28800, 86400];
-  const step = steps.find(s => (to - from) / s <= 8 * zoom) || 86400 * Math.ceil((to - from) / 86400 / 8);
+  const many = Math.min(8, Math.max(2, Math.floor(scroll_.clientWidth / 130)));
+  const step = steps.find(s => (to - from) / s <= many * zoom) || 86400 * Math.ceil((to - from) / 86400 / many);
   axis.replaceChildren();
   for (let at = Math.ceil(from / step) * step; at < to; at += step) {
     const tick = document.createElement('span');
