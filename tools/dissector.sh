@@ -1,12 +1,20 @@
 #!/bin/sh
-# dissector.sh: wireshark/j280.lua in Debian's tshark against the decoder of desk/: captures of the example day, the incident, the driver's
+# dissector.sh [--mutated N [SEED]]: wireshark/j280.lua in Debian's tshark against the decoder of desk/: captures of the example day, the incident, the driver's
 # recording and of every other message (wireshark/messages.txt), in whole segments and in pieces of 7 bytes; each field of each message must
 # be the one of `desk list`; requests are tied to their responses; and the way back from a capture. Then an exchange worked by hand
 # (wireshark/exchange.txt), by Debian's text2pcap: every pair of messages in one segment, cut at every byte, on another port, and what
-# expert information is for. Installs tshark where there is none (as root). The last line is 'N passed, M failed'.
+# expert information is for; and a thousand connections with mutated messages, over which it must not err. With --mutated only so many of
+# these. Installs tshark where there is none (as root). The last line is 'N passed, M failed'.
 set -eu
 . "$(dirname "$0")/words.sh"
-no_words "$@"
+mutated=
+case $#${1:-} in
+0) ;;
+2--mutated | 3--mutated) mutated=$2 ;;
+*) refuse "only --mutated N [SEED], not '$*'" ;;
+esac
+case $mutated${3:-} in *[!0-9]*) refuse "--mutated '$*': no number" ;; esac
+seed=${3:-1}
 needs_rust 1.81
 cd "$(dirname "$0")/.."
 work=$PWD/target/dissector
@@ -142,6 +150,25 @@ ties() {
     [ "$(shark "$work/odd.pcapng" -2 -Y "frame.number == $1" -T fields -e "j280.$2" | xargs)" = "$3" ]
 }
 
+# unharmed FIRST N: over so many connections with mutated messages the dissector does not err, and shows some as messages
+unharmed() {
+    MUTATED_CAPTURE=$work/mutated.pcap MUTATED_FIRST=$1 MUTATED_N=$2 MUTATED_SEED=$seed CARGO_TARGET_DIR=target/desk \
+        cargo test --quiet --offline --locked --manifest-path desk/Cargo.toml --bin desk -- --ignored a_capture_for_the_dissector >"$work/mutated.log" 2>&1 || return 1
+    shark "$work/mutated.pcap" -Y '_ws.lua.error || j280' -T fields -e frame.number -e j280.MessageID -e _ws.lua.error >"$work/mutated.shown" || return 1
+    [ "$(wc -l <"$work/mutated.shown")" -gt "$2" ] && ! awk -F '\t' '$3 != ""' "$work/mutated.shown" | grep .
+}
+
+# all_unharmed N: in captures of ten thousand
+all_unharmed() {
+    first=0
+    while [ "$first" -lt "$1" ]; do
+        many=$(($1 - first < 10000 ? $1 - first : 10000))
+        held "mutated connections $first to $((first + many - 1)), seed $seed" unharmed "$first" "$many"
+        first=$((first + many))
+        [ "$1" -le 10000 ] || echo "dissector: $first of $1 mutated connections"
+    done
+}
+
 if ! command -v tshark >/dev/null 2>&1 && command -v apt-get >/dev/null 2>&1; then
     echo 'dissector: installing tshark'
     {
@@ -152,6 +179,12 @@ fi
 needs tshark text2pcap
 CARGO_TARGET_DIR=target/desk cargo build --quiet --offline --locked --manifest-path desk/Cargo.toml
 desk=target/desk/debug/desk
+if [ -n "$mutated" ]; then
+    all_unharmed "$mutated"
+    echo "$passed passed, $failed failed"
+    [ "$failed" -eq 0 ]
+    exit
+fi
 "$desk" join --text wireshark/messages.txt >"$work/messages" || [ $? -eq 1 ]
 tried messages "$work/messages"
 tried incident desk/recordings/incident.rec
@@ -173,6 +206,8 @@ held 'odd: an end is no answer' ties 11 request_in ''
 held 'odd: the second request is tied to the answer behind the end' ties 10 response_in 12
 held 'odd: what is sent again is no second message' ties 3 response_in 5
 held 'unknown IDs' test "$(shark "$work/ports.pcapng" -Y j280.unknown -T fields -e j280.MessageID)" = 0x8001
+echo 'dissector: mutated connections'
+all_unharmed 1000
 echo "dissector: $(cat "$work"/*.desk "$work"/*.due | wc -l) messages, $(tshark --version 2>/dev/null | head -n 1)"
 echo "$passed passed, $failed failed"
 [ "$failed" -eq 0 ]

@@ -60,7 +60,7 @@ number("EndResult", 2, results)
 number("SpliceTypeFlag", 1, flags)
 number("stream_Length", 1)
 for _, name in ipairs { "ChannelName", "SplicerName" } do
-    f[name] = ProtoField.stringz("j280." .. name, name)
+    f[name] = ProtoField.string("j280." .. name, name)
 end
 for _, name in ipairs { "descriptors", "Hardware_Config", "Logical_Multiplex", "TS_program_map_section", "splice_info_section", "data" } do
     f[name] = ProtoField.bytes("j280." .. name, name)
@@ -101,7 +101,8 @@ end
 
 function Walk:name(name)
     local part = not self.cut and self:take(32)
-    if part then self.tree:add(f[name], part) end
+    -- up to its first zero; a name may have none
+    if part then self.tree:add(f[name], part, part:bytes():raw():match("^[^%z]*")) end
 end
 
 function Walk:time()
@@ -342,7 +343,17 @@ local function in_words(one)
     return one.over and words .. " MessageSize above 4088" or words
 end
 
+-- less than a header, where TCP cannot wait for more
+local function cut(tvb, pinfo, root)
+    local tree = root:add(j280, tvb(), "J.280, a header that is cut")
+    tree:add(f.data, tvb())
+    tree:add_proto_expert_info(unreadable)
+    said(pinfo, placed(pinfo), "a header that is cut")
+    return tvb:len()
+end
+
 local function message(tvb, pinfo, root)
+    if tvb:len() < 8 then return cut(tvb, pinfo, root) end
     local state, place = stream(pinfo), placed(pinfo)
     local one = told(tvb, pinfo, place)
     heard(state, pinfo, one)
@@ -369,6 +380,7 @@ end
 
 -- behind a MessageSize above 4,088 no message begins: its header is shown, and the rest as bytes
 local function length(tvb, pinfo, offset)
+    if tvb:len() - offset < 8 then return 8 end
     local size = tvb(offset + 2, 2):uint()
     return size > 4088 and tvb:len() - offset or 8 + size
 end

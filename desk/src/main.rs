@@ -7,6 +7,8 @@ mod json;
 mod lines;
 mod list;
 mod message;
+#[cfg(test)]
+mod mutated;
 mod options;
 mod page;
 mod pcap;

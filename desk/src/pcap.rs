@@ -58,6 +58,39 @@ fn sent(to: &mut Writer, flows: &mut [Option<Flow>; 4], records: &[Item]) {
     }
 }
 
+/// Connections of any bytes, for the tests of the dissector.
+#[cfg(test)]
+pub struct Connections(Writer);
+
+#[cfg(test)]
+impl Default for Connections {
+    fn default() -> Connections {
+        Connections(Writer::new(1_460))
+    }
+}
+
+#[cfg(test)]
+impl Connections {
+    /// A connection in which both sides speak by turns, in pieces of so many bytes.
+    pub fn add(&mut self, asks: &[u8], says: &[u8], pieces: usize) {
+        let mut flow = self.0.open(0);
+        let (mut asks, mut says) = (asks.chunks(pieces), says.chunks(pieces));
+        loop {
+            let (ask, say) = (asks.next(), says.next());
+            if ask.or(say).is_none() {
+                return self.0.close(flow);
+            }
+            for (from_server, part) in [(true, ask), (false, say)] {
+                self.0.data(&mut flow, from_server, part.unwrap_or(&[]));
+            }
+        }
+    }
+
+    pub fn bytes(&self) -> &[u8] {
+        &self.0.bytes
+    }
+}
+
 /// A capture as a recording.
 pub struct Back {
     pub recording: Recording,

@@ -1,0 +1,237 @@
+//! Mutated inputs: whatever a recording, a capture or a cue is, it is read or refused, and nothing
+//! panics. A thousand of each; MUTATED_N and MUTATED_SEED give others (tools/mutate.sh).
+
+#[path = "../../tools/mutate/mutator.rs"]
+mod mutator;
+
+use crate::json::Form;
+use crate::options::Options;
+use crate::recording::{items, Call, Recording};
+use crate::ruled::Held;
+use crate::view::View;
+use crate::{asrun, list, page, pcap, sqlite, timeline};
+use mutator::Mutator;
+use std::panic::{catch_unwind, AssertUnwindSafe};
+
+const CH1: [u8; 32] = {
+    let mut name = [0; 32];
+    (name[0], name[1], name[2]) = (b'C', b'H', b'1');
+    name
+};
+
+fn asked(name: &str, or: u64) -> u64 {
+    let value = std::env::var(name).ok();
+    value.and_then(|value| value.parse().ok()).unwrap_or(or)
+}
+
+/// Runs it on so many inputs; says which one it does not survive. Gives how many it took as good.
+fn survives(make: impl Fn(&mut Mutator) -> Vec<u8>, run: impl Fn(&[u8]) -> bool) -> u64 {
+    let (seed, count) = (asked("MUTATED_SEED", 1), asked("MUTATED_N", 1_000));
+    let mut good = 0;
+    for number in 0..count {
+        let input = make(&mut Mutator::of(seed, number));
+        let ran = catch_unwind(AssertUnwindSafe(|| run(&input)));
+        match ran {
+            Ok(taken) => good += u64::from(taken),
+            Err(_) => panic!("seed {seed}, input {number}: {input:02X?}"),
+        }
+    }
+    println!("{count} mutated inputs, {good} of them read");
+    good
+}
+
+/// Messages of every kind, with cues (wireshark/messages.txt).
+fn messages() -> Vec<u8> {
+    let text = include_str!("../../wireshark/messages.txt");
+    model::recording::of_steps(&model::scenario::parse(text).unwrap())
+}
+
+fn recordings() -> Vec<Vec<u8>> {
+    let day = include_bytes!("../recordings/example-day.rec");
+    let incident = include_bytes!("../recordings/incident.rec").to_vec();
+    vec![day[..900].to_vec(), incident, messages()]
+}
+
+/// Every list of it.
+fn shown(held: Held) {
+    let options = Options {
+        middle: held.unheld > 0,
+        ..Options::default()
+    };
+    let view = View::of(held, &options);
+    let mut out = Vec::new();
+    for broken in [false, true] {
+        list::text(&view, broken, &mut out).unwrap();
+        list::rows(&view, broken, Form::Json, &mut out).unwrap();
+    }
+    asrun::list(&view).write(Form::Csv, &mut out).unwrap();
+    let texts = [
+        asrun::text(&view),
+        asrun::json(&view),
+        sqlite::sql(&asrun::list(&view)),
+        timeline::bars(&view, &timeline::DIGITS),
+        page::page(&view),
+    ];
+    assert!(texts.iter().all(|text| !text.is_empty()) && !out.is_empty());
+}
+
+#[test]
+fn mutated_recordings() {
+    let from = recordings();
+    let good = survives(
+        |mutator| mutator.mutated(&from),
+        |input| match Recording::read("it", input.to_vec()) {
+            Ok(recording) => {
+                let bytes = pcap::capture(&recording, 7);
+                assert!(bytes.len() >= 24);
+                shown(Held::of(recording, &CH1, input.len() % 2 == 0));
+                true
+            }
+            Err(_) => false,
+        },
+    );
+    assert!(good > 100, "{good}");
+}
+
+#[test]
+fn mutated_card_files() {
+    let from = recordings();
+    let split = |bytes: &[u8]| {
+        let Ok(recording) = Recording::read("it", bytes.to_vec()) else {
+            return (Vec::new(), Vec::new());
+        };
+        let calls = recording.entries().flat_map(|e| e.bytes.to_vec()).collect();
+        let found = recording.entries().flat_map(|e| e.found.to_vec()).collect();
+        (calls, found)
+    };
+    let (calls, found): (Vec<Vec<u8>>, Vec<Vec<u8>>) = from.iter().map(|b| split(b)).unzip();
+    let good = survives(
+        |mutator| {
+            let mut both = mutator.mutated(&calls);
+            both.extend([0xEE; 4]);
+            both.extend(mutator.mutated(&found));
+            both
+        },
+        |input| {
+            let at = input.windows(4).position(|w| w == [0xEE; 4]).unwrap_or(0);
+            let (calls, found) = (&input[..at], &input[at..][4..]);
+            match Recording::of_card(("in", calls), ("out", found), &CH1) {
+                Ok(recording) => {
+                    shown(Held::of(recording, &CH1, false));
+                    true
+                }
+                Err(_) => false,
+            }
+        },
+    );
+    assert!(good > 100, "{good}");
+}
+
+#[test]
+fn mutated_captures() {
+    let live = include_bytes!("../recordings/live.pcap");
+    let slow = include_bytes!("../recordings/live-slow.pcapng");
+    let short = |bytes: Vec<u8>| pcap::capture(&Recording::read("it", bytes).unwrap(), 1_460);
+    let [incident, messages] = [recordings()[1].clone(), messages()].map(short);
+    let from = vec![
+        live[..2_400].to_vec(),
+        slow[..2_800].to_vec(),
+        incident,
+        messages,
+    ];
+    let good = survives(
+        |mutator| mutator.mutated(&from),
+        |input| match pcap::recorded("it", input, &CH1) {
+            Ok(back) => !Held::of(back.recording, &CH1, back.middle)
+                .recording
+                .bytes()
+                .is_empty(),
+            Err(_) => false,
+        },
+    );
+    assert!(good > 100, "{good}");
+}
+
+/// The words of `model cue`: sections as digits, as base64, mutated words, and files of records and of a
+/// transport stream.
+#[test]
+fn mutated_cues() {
+    let sections: Vec<Vec<u8>> = (0..40)
+        .map(|n| model::cueing::good(n, 1).concat())
+        .collect();
+    let streams = vec![model::carriage::stream(&sections[..3]), messages()];
+    let folder = std::env::temp_dir();
+    let file = folder.join(format!("mutated-cue-{}", std::process::id()));
+    let path = file.to_str().unwrap().to_string();
+    let make = |mutator: &mut Mutator| {
+        let kind = mutator.below(16) as u8;
+        let mut input = match kind {
+            0 | 1 => mutator.mutated(&streams),
+            _ => mutator.mutated(&sections),
+        };
+        input.insert(0, kind);
+        input
+    };
+    let good = survives(make, |input| {
+        let (kind, bytes) = (input[0], &input[1..]);
+        let words: Vec<String> = match kind {
+            0 | 1 => {
+                std::fs::write(&path, bytes).unwrap();
+                vec![
+                    ["--ts", "--records"][usize::from(kind)].to_string(),
+                    path.clone(),
+                ]
+            }
+            2 => vec![String::from_utf8_lossy(bytes).to_string()],
+            3 => vec![model::cue::to_base64(bytes)],
+            4 => vec![
+                "--make".into(),
+                "insert".into(),
+                format!("event={}", String::from_utf8_lossy(bytes)),
+            ],
+            5 => vec![
+                crate::message::hex(bytes),
+                "--pts".into(),
+                format!("{}", bytes.len() * 77),
+                "--at".into(),
+                "1700000000.5".into(),
+            ],
+            _ => vec![crate::message::hex(bytes)],
+        };
+        model::cue::command(&words).is_ok()
+    });
+    let _ = std::fs::remove_file(file);
+    assert!(good > 100, "{good}");
+}
+
+/// For the dissector (tools/dissector.sh): a capture of so many connections with mutated messages, from a
+/// number on, in pieces of any size.
+#[test]
+#[ignore = "writes the file that MUTATED_CAPTURE names"]
+fn a_capture_for_the_dissector() {
+    let path = std::env::var("MUTATED_CAPTURE").expect("MUTATED_CAPTURE names a file");
+    let (first, count) = (asked("MUTATED_FIRST", 0), asked("MUTATED_N", 1_000));
+    let recording = Recording::read("it", messages()).unwrap();
+    let (mut requests, mut answers) = (Vec::new(), Vec::new());
+    for entry in recording.entries() {
+        if let Some(Call::Message(_, bytes)) = entry.call() {
+            requests.push(bytes.to_vec());
+        }
+        let found = items(entry.found, 0);
+        answers.extend(
+            found
+                .iter()
+                .filter_map(|item| Some(item.bytes.get(2..)?.to_vec())),
+        );
+    }
+    let mut to = pcap::Connections::default();
+    for number in first..first + count {
+        let mutator = &mut Mutator::of(asked("MUTATED_SEED", 1), number);
+        let [asks, says] = [&requests, &answers].map(|list| {
+            let all = (0..1 + mutator.below(3)).flat_map(|_| mutator.mutated(list));
+            all.collect::<Vec<u8>>()
+        });
+        to.add(&asks, &says, 1 + mutator.below(60));
+    }
+    std::fs::write(path, to.bytes()).unwrap();
+}
