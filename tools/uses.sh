@@ -95,6 +95,9 @@ for script in setup desk compare beside cases example dissector; do
     held "$script.sh with an old cargo" old "tools/$script.sh"
 done
 held 'build-driver.sh, no source' refuses tools/build-driver.sh target/x no.c no.a
+held 'mutate.sh, no number' refuses tools/mutate.sh --n many
+held 'mutate.sh, no such part' refuses tools/mutate.sh --n 5 pages
+held 'dissector.sh, no number' refuses tools/dissector.sh --mutated many
 held 'run-program.sh, no program' refuses tools/run-program.sh no-program
 held 'run-program.sh --plain, no program' refuses tools/run-program.sh --plain
 held 'dist.sh, no such processor' refuses tools/dist.sh --proved riscv64
