@@ -1,10 +1,10 @@
 #!/bin/sh
-# dissector.sh [--mutated N [SEED]]: wireshark/j280.lua in Debian's tshark against the decoder of desk/: captures of the example day, the incident, the driver's
-# recording and of every other message (wireshark/messages.txt), in whole segments and in pieces of 7 bytes; each field of each message must
-# be the one of `desk list`; requests are tied to their responses; and the way back from a capture. Then an exchange worked by hand
-# (wireshark/exchange.txt), by Debian's text2pcap: every pair of messages in one segment, cut at every byte, on another port, and what
-# expert information is for; and a thousand connections with mutated messages, over which it must not err. With --mutated only so many of
-# these. Installs tshark where there is none (as root). The last line is 'N passed, M failed'.
+# dissector.sh [--mutated N [SEED]]: wireshark/j280.lua in Debian's tshark against the decoder of desk/: captures of the example day, the
+# incident, the driver's recording and of every other message (wireshark/messages.txt), in whole segments and in pieces of 7 bytes; each
+# field of each message must be the one of `desk list`; requests are tied to their responses; and the way back from a capture. Then an
+# exchange worked by hand (wireshark/exchange.txt), by Debian's text2pcap: every pair of messages in one segment, cut at every byte, on
+# another port, and what expert information is for; and a thousand connections with mutated messages, over which it must not err. With
+# --mutated only so many of these. Installs tshark where there is none (as root). The last line is 'N passed, M failed'.
 set -eu
 . "$(dirname "$0")/words.sh"
 mutated=
@@ -153,8 +153,10 @@ ties() {
 # unharmed FIRST N: over so many connections with mutated messages the dissector does not err, and shows some as messages
 unharmed() {
     MUTATED_CAPTURE=$work/mutated.pcap MUTATED_FIRST=$1 MUTATED_N=$2 MUTATED_SEED=$seed CARGO_TARGET_DIR=target/desk \
-        cargo test --quiet --offline --locked --manifest-path desk/Cargo.toml --bin desk -- --ignored a_capture_for_the_dissector >"$work/mutated.log" 2>&1 || return 1
-    shark "$work/mutated.pcap" -Y '_ws.lua.error || j280' -T fields -e frame.number -e j280.MessageID -e _ws.lua.error >"$work/mutated.shown" || return 1
+        cargo test --quiet --offline --locked --manifest-path desk/Cargo.toml --bin desk -- --ignored a_capture_for_the_dissector \
+        >"$work/mutated.log" 2>&1 || return 1
+    shark "$work/mutated.pcap" -Y '_ws.lua.error || j280' -T fields -e frame.number -e j280.MessageID -e _ws.lua.error \
+        >"$work/mutated.shown" || return 1
     [ "$(wc -l <"$work/mutated.shown")" -gt "$2" ] && ! awk -F '\t' '$3 != ""' "$work/mutated.shown" | grep .
 }
 

@@ -33,8 +33,8 @@ mkdir -p "$work"
 tests() {
     (
         ulimit -v 4194304
-        CARGO_TARGET_DIR=target/desk MUTATED_N=$n MUTATED_SEED=$seed cargo test --release --quiet --offline --locked --manifest-path desk/Cargo.toml \
-            --bin desk -- --nocapture "$@"
+        CARGO_TARGET_DIR=target/desk MUTATED_N=$n MUTATED_SEED=$seed \
+            cargo test --release --quiet --offline --locked --manifest-path desk/Cargo.toml --bin desk -- --nocapture "$@"
     )
 }
 

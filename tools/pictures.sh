@@ -1,9 +1,9 @@
 #!/bin/sh
 # pictures.sh: the pages of the example day and of the incident in a real browser, headless Chromium as Debian has it
-# (chromium-headless-shell or chromium): their pictures go to docs/pictures/, and what the browser made of each page is read: its lanes, bars,
-# breaks, the axes that its script drew, a zoomed page, local times on both days on which a zone changes its clock, a time gone to, what was
-# found, the page in the dark and on a phone. Installs Debian's where there is none (as root). No part of the gate. The last line is
-# 'N passed, M failed'.
+# (chromium-headless-shell or chromium): their pictures go to docs/pictures/, and what the browser made of each page is read: its lanes,
+# bars, breaks, the axes that its script drew, a zoomed page, local times on both days on which a zone changes its clock, a time gone to,
+# what was found, the page in the dark and on a phone. Installs Debian's where there is none (as root). No part of the gate. The last line
+# is 'N passed, M failed'.
 set -eu
 . "$(dirname "$0")/words.sh"
 no_words "$@"
@@ -27,7 +27,8 @@ shown() {
     page=$1
     shift
     [ "$(id -u)" -ne 0 ] || set -- --no-sandbox "$@"
-    timeout 120 "$browser" --headless --disable-gpu --hide-scrollbars --window-size="$width,$height" "$@" "file://$page" 2>"$work/browser.log"
+    timeout 120 "$browser" --headless --disable-gpu --hide-scrollbars --window-size="$width,$height" "$@" "file://$page" \
+        2>"$work/browser.log"
 }
 
 # has NAME COUNT PATTERN: how often the page that the browser made has it

@@ -71,7 +71,7 @@ f.request_in = ProtoField.framenum("j280.request_in", "Request in", base.NONE, f
 j280.fields = f
 
 local group, severity = expert.group, expert.severity
-local unreadable = ProtoExpert.new("j280.unreadable", "The data are not as J.280 and document 01 lay them out", group.MALFORMED, severity.WARN)
+local unreadable = ProtoExpert.new("j280.unreadable", "The data are not as J.280 and 01 lay them out", group.MALFORMED, severity.WARN)
 local oversize = ProtoExpert.new("j280.oversize", "MessageSize above 4088: no message begins behind it", group.PROTOCOL, severity.ERROR)
 local unknown = ProtoExpert.new("j280.unknown", "No MessageID of J.280", group.PROTOCOL, severity.WARN)
 local refused = ProtoExpert.new("j280.refused", "A result other than 100", group.RESPONSE_CODE, severity.NOTE)

@@ -7,7 +7,8 @@ let zoom = 1, zone = 'UTC';
 // A zone's wall clock, by the browser's own zone database: its parts at an instant.
 const clocks = {};
 function parts(second) {
-  const how = { timeZone: zone, hourCycle: 'h23', year: 'numeric', month: '2-digit', day: '2-digit', hour: '2-digit', minute: '2-digit', second: '2-digit', timeZoneName: 'shortOffset' };
+  const two = '2-digit', date = { year: 'numeric', month: two, day: two }, time = { hour: two, minute: two, second: two };
+  const how = { timeZone: zone, hourCycle: 'h23', ...date, ...time, timeZoneName: 'shortOffset' };
   const clock = clocks[zone] = clocks[zone] || new Intl.DateTimeFormat('en-GB', how);
   return Object.fromEntries(clock.formatToParts(second * 1000).map(p => [p.type, p.value]));
 }
@@ -18,7 +19,8 @@ function ahead(second) {
   return Date.UTC(p.year, p.month - 1, p.day, p.hour, p.minute, p.second) / 1000 - Math.floor(second);
 }
 
-// The instant of a wall clock, which counts as UTC here: the zone's offset is taken at the instant itself, so that a day of 23 or 25 hours is right.
+// The instant of a wall clock, which counts as UTC here: the zone's offset is taken at the instant itself, so that a day of 23 or 25 hours
+// is right.
 function instant(wall) {
   const first = wall - ahead(wall);
   return wall - ahead(first);

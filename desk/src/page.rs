@@ -60,7 +60,8 @@ fn title(view: &View, row: &Row) -> String {
     let event = event.map_or("-".to_string(), |e| e.to_string());
     let length = row.asked.duration.map_or(0, |d| u64::from(d) * TICK);
     let mut text = format!(
-        "connection {}, SessionID {session}, event {event}, service {}, AccessType {}\nasked {} (call {})\nscheduled {}, {} s\non air {}\n{}",
+        "connection {}, SessionID {session}, event {event}, service {}, AccessType {}\n\
+         asked {} (call {})\nscheduled {}, {} s\non air {}\n{}",
         row.conn,
         lines::source(row),
         row.asked.access,
@@ -217,7 +218,9 @@ fn breaks_table(view: &View) -> String {
     if view.good() {
         return String::new();
     }
-    let mut text = "<table id=\"broken\"><thead><tr><th>time</th><th>call</th><th class=\"words\">due and found</th></tr></thead><tbody>\n".to_string();
+    let mut text = "<table id=\"broken\"><thead><tr><th>time</th><th>call</th>\
+                    <th class=\"words\">due and found</th></tr></thead><tbody>\n"
+        .to_string();
     for call in &view.held.broken {
         let clock = view.clock_of(*call);
         let time = timed(Some(clock), &Value::Text(view.clock.text(clock)));
@@ -270,12 +273,14 @@ fn timed(instant: Option<u64>, value: &Value) -> String {
     format!("<td{}>{}</td>", at(instant), escaped(&value.plain()))
 }
 
-const LEGEND: &str = "<p class=\"legend\"><span><i class=\"bar waiting k0\"></i>waiting</span><span><i class=\"bar air k0\"></i>on air</span>\
+const LEGEND: &str = "<p class=\"legend\"><span><i class=\"bar waiting k0\"></i>waiting</span>\
+<span><i class=\"bar air k0\"></i>on air</span>\
 <span><i class=\"bar covered k0\"></i>covered</span><span><i class=\"bar primary\"></i>primary channel</span>\
 <span><i class=\"refused\"></i>refused</span><span><i class=\"break\"></i>rules broken</span>\
 <span><i class=\"bar ruled\" style=\"top:-7px\"></i>by the rules</span>behind each bar: SessionID and result</p>\n";
 
-const NAV: &str = "<nav><span><button id=\"in\" title=\"zoom in\">+</button><button id=\"out\" title=\"zoom out\">&minus;</button><button id=\"all\">all</button>\
+const NAV: &str = "<nav><span><button id=\"in\" title=\"zoom in\">+</button>\
+<button id=\"out\" title=\"zoom out\">&minus;</button><button id=\"all\">all</button>\
 <span id=\"zoom\"></span></span>\
 <label>local time <select id=\"zone\"></select></label>\
 <label>go to <input id=\"at\" placeholder=\"14:05, with Z in UTC\"></label>\
@@ -304,7 +309,8 @@ pub fn page(view: &View) -> String {
     let date = view.clock.text(from);
     let zone = view.options.zone.as_deref().unwrap_or("");
     format!(
-        "<!DOCTYPE html>\n<html lang=\"en\"><head><meta charset=\"utf-8\"><meta name=\"viewport\" content=\"width=device-width, initial-scale=1\">\
+        "<!DOCTYPE html>\n<html lang=\"en\"><head><meta charset=\"utf-8\">\
+         <meta name=\"viewport\" content=\"width=device-width, initial-scale=1\">\
          <title>{name} {date}</title>\n<style>\n{css}</style></head><body>\n\
          <h1>Channel {name}, {date}</h1>\n<p class=\"verdict {class}\">{verdict}</p>\n<p class=\"sums\">{sums}</p>\n\
          {NAV}<div id=\"scroll\"><div id=\"day\" data-from=\"{first:.6}\" data-to=\"{last:.6}\" data-raw=\"{raw}\" data-zone=\"{zone}\">\

@@ -178,7 +178,10 @@ fn notes(events: &[Event], lost: usize, middle: bool) -> Vec<String> {
             "{lost} bytes stand behind a gap and are not read: it is not held to the rules"
         ));
     } else if middle {
-        list.push("a connection was there before the capture: until all are closed what waits and is on air is not known, and nothing is held to the rules".to_string());
+        let unknown = "until all are closed what waits and is on air is not known, and nothing is held to the rules";
+        list.push(format!(
+            "a connection was there before the capture: {unknown}"
+        ));
     }
     list
 }
