@@ -17,7 +17,7 @@ case $mutated${3:-} in *[!0-9]*) refuse "--mutated '$*': no number" ;; esac
 seed=${3:-1}
 needs_rust 1.81
 cd "$(dirname "$0")/.."
-work=$PWD/target/dissector
+work=$PWD/target/dissector${mutated:+-mutated}
 rm -rf "$work"
 mkdir -p "$work"
 passed=0
