@@ -57,10 +57,6 @@ const USES: &[(&[&str], &str)] = &[
     (&["pcap", "--json", DAY], "no option --json"),
     (&["list", "no-such-file"], "no-such-file: "),
     (
-        &["asrun", "--sqlite", "/no/such/folder/x", DAY],
-        "/no/such/folder/x: sqlite3: ",
-    ),
-    (
         &["asrun", "--sqlite", "x", "--csv", DAY],
         "--sqlite and --json or --csv at once",
     ),
