@@ -152,16 +152,31 @@ fn mutated_captures() {
     assert!(good > 100, "{good}");
 }
 
-/// The words of `model cue`: sections as digits, as base64, mutated words, and files of records and of a
-/// transport stream.
+/// The words of `model cue` for an input whose first byte says how it is given: in a file of a transport
+/// stream or of records, as it is, as base64, within words that make a section, with a time, as digits.
+fn cue_words(input: &[u8], path: &str) -> Vec<String> {
+    let (kind, bytes) = (input[0], &input[1..]);
+    let text = String::from_utf8_lossy(bytes).to_string();
+    let hex = crate::message::hex(bytes);
+    let pts = (bytes.len() * 77).to_string();
+    let words = match kind {
+        0 => vec!["--ts", path],
+        1 => vec!["--records", path],
+        2 => vec![&text[..]],
+        3 => return vec![model::cue::to_base64(bytes)],
+        4 => return vec!["--make".into(), "insert".into(), format!("event={text}")],
+        5 => vec![&hex[..], "--pts", &pts, "--at", "1700000000.5"],
+        _ => vec![&hex[..]],
+    };
+    words.into_iter().map(str::to_string).collect()
+}
+
 #[test]
 fn mutated_cues() {
-    let sections: Vec<Vec<u8>> = (0..40)
-        .map(|n| model::cueing::good(n, 1).concat())
-        .collect();
+    let sections = (0..40).map(|n| model::cueing::good(n, 1).concat());
+    let sections: Vec<Vec<u8>> = sections.collect();
     let streams = vec![model::carriage::stream(&sections[..3]), messages()];
-    let folder = std::env::temp_dir();
-    let file = folder.join(format!("mutated-cue-{}", std::process::id()));
+    let file = std::env::temp_dir().join(format!("mutated-cue-{}", std::process::id()));
     let path = file.to_str().unwrap().to_string();
     let make = |mutator: &mut Mutator| {
         let kind = mutator.below(16) as u8;
@@ -173,32 +188,10 @@ fn mutated_cues() {
         input
     };
     let good = survives(make, |input| {
-        let (kind, bytes) = (input[0], &input[1..]);
-        let words: Vec<String> = match kind {
-            0 | 1 => {
-                std::fs::write(&path, bytes).unwrap();
-                vec![
-                    ["--ts", "--records"][usize::from(kind)].to_string(),
-                    path.clone(),
-                ]
-            }
-            2 => vec![String::from_utf8_lossy(bytes).to_string()],
-            3 => vec![model::cue::to_base64(bytes)],
-            4 => vec![
-                "--make".into(),
-                "insert".into(),
-                format!("event={}", String::from_utf8_lossy(bytes)),
-            ],
-            5 => vec![
-                crate::message::hex(bytes),
-                "--pts".into(),
-                format!("{}", bytes.len() * 77),
-                "--at".into(),
-                "1700000000.5".into(),
-            ],
-            _ => vec![crate::message::hex(bytes)],
-        };
-        model::cue::command(&words).is_ok()
+        if input[0] < 2 {
+            std::fs::write(&path, &input[1..]).unwrap();
+        }
+        model::cue::command(&cue_words(input, &path)).is_ok()
     });
     let _ = std::fs::remove_file(file);
     assert!(good > 100, "{good}");

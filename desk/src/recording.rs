@@ -309,8 +309,8 @@ fn placed(due: &[(usize, Vec<u8>)], found: &[Item], count: usize) -> Vec<usize> 
         match step.same() {
             Some(due) => last = calls[due],
             None => {
-                let lacking = lacks.range_mut(last..=behind.max(last));
-                if let Some((call, lack)) = lacking.filter(|(_, lack)| **lack > 0).next() {
+                let mut lacking = lacks.range_mut(last..=behind.max(last));
+                if let Some((call, lack)) = lacking.find(|(_, lack)| **lack > 0) {
                     last = *call;
                     *lack -= 1;
                 }
