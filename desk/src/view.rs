@@ -33,6 +33,11 @@ impl<'o> View<'o> {
         self.held.broken.is_empty()
     }
 
+    /// Whether an instant is known: before the first tick of a recording from the middle none is.
+    pub fn knows(&self, at: u64) -> bool {
+        !self.options.middle || Some(at) >= self.found.first
+    }
+
     /// The clock behind a call, as recorded.
     pub fn clock_of(&self, call: usize) -> u64 {
         let recording = &self.held.recording;

@@ -238,6 +238,36 @@ fn a_day_of_25_ticks_a_second_under_64_mb() {
     std::fs::remove_file(path).unwrap();
 }
 
+/// From the close at 1,002,720 s on (call 45): the session on air then was accepted before. What the file
+/// says of it is known, the time of its end is not: no tick stands before it.
+#[test]
+fn a_day_from_its_middle() {
+    let day = std::fs::read(recording("example-day.rec")).unwrap();
+    let ran = desk(&["asrun", "--raw", "--middle"], &day[1_893..]);
+    assert_eq!((ran.status, &ran.said[..]), (0, ""));
+    let lines = ran.lines();
+    let expected = [
+        "0 501 - - - - - - - 1800000 its connection was lost while on air; asked for before the recording",
+        "1 9003 - 1 1002725.000000 10.000000 1002725.000000 1002735.000000 10.000000 900000 played to its end",
+        "43 calls from the middle of a day, not held to the rules: what waited and was on air before is not known",
+    ];
+    for line in expected {
+        assert!(lines.contains(&line.to_string()), "{line}\n{}", ran.text());
+    }
+    let fresh = desk(&["check"], &day[1_893..]);
+    assert_eq!(fresh.status, 1);
+    assert!(fresh
+        .said
+        .contains("connection 0 was in use before it was opened"));
+    // whole, it is held to the rules with --middle too
+    let whole = desk(&["check", "--middle"], &day);
+    assert_eq!((whole.status, &whole.said[..]), (0, ""));
+    assert_eq!(
+        whole.text(),
+        "87 calls, every record as the rules give it\n"
+    );
+}
+
 #[test]
 fn bars_in_the_terminal() {
     let words = [

@@ -134,7 +134,8 @@ fn interface(block: &Numbers) -> Option<Interface> {
         match (code, block.part(at + 4, length)) {
             (9, Some([power])) => {
                 let base: u64 = if power & 0x80 != 0 { 2 } else { 10 };
-                made.units = base.checked_pow(u32::from(power & 0x7F))?;
+                let units = base.checked_pow(u32::from(power & 0x7F));
+                made.units = units.unwrap_or(u64::MAX);
             }
             (14, Some(eight)) if length == 8 => {
                 let (first, second) = (block.word(at + 4)?, block.word(at + 8)?);
