@@ -49,7 +49,11 @@ fn messages() -> Vec<u8> {
 fn recordings() -> Vec<Vec<u8>> {
     let day = include_bytes!("../recordings/example-day.rec");
     let incident = include_bytes!("../recordings/incident.rec").to_vec();
-    vec![day[..900].to_vec(), incident, messages()]
+    vec![
+        day[..600].to_vec(),
+        incident[..330].to_vec(),
+        messages()[..500].to_vec(),
+    ]
 }
 
 /// Every list of it.
@@ -132,7 +136,8 @@ fn mutated_captures() {
     let live = include_bytes!("../recordings/live.pcap");
     let slow = include_bytes!("../recordings/live-slow.pcapng");
     let short = |bytes: Vec<u8>| pcap::capture(&Recording::read("it", bytes).unwrap(), 1_460);
-    let [incident, messages] = [recordings()[1].clone(), messages()].map(short);
+    let incident = include_bytes!("../recordings/incident.rec").to_vec();
+    let [incident, messages] = [incident, messages()].map(short);
     let from = vec![
         live[..2_400].to_vec(),
         slow[..2_800].to_vec(),
@@ -224,7 +229,8 @@ fn a_capture_for_the_dissector() {
             let all = (0..1 + mutator.below(3)).flat_map(|_| mutator.mutated(list));
             all.collect::<Vec<u8>>()
         });
-        to.add(&asks, &says, 1 + mutator.below(60));
+        let most = [8, 60, 400, 1_400][mutator.below(4)];
+        to.add(&asks, &says, 1 + mutator.below(most));
     }
     std::fs::write(path, to.bytes()).unwrap();
 }
