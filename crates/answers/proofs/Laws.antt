@@ -1,5 +1,6 @@
 -- What each part of an answer says of its own paths, and what the parts' promises make of the whole.
--- Rests on ends' laws of what is told, on what memory shows, which determines every word, and on rules' laws of names and of records' lengths.
+-- Rests on ends' laws of what is told, on what memory shows, which determines every word, and on rules' laws of names and of records'
+-- lengths.
 use mathlib.Core.Path.{_≡_, refl, sym, ap, ap₂, subst, _∙_}
 use mathlib.Core.Bool.{Bool, true, false, cond, not}
 use mathlib.Core.List.{List, [], _∷_}
@@ -18,11 +19,13 @@ use Rattle.rules.specs.declared.Session.{Session}
 use Rattle.rules.specs.declared.Past.{Past}
 use Rattle.rules.specs.Units.{toMicros}
 use Rattle.rules.specs.Bytes.{nameIn, padded, sameName, value}
-use Rattle.rules.specs.Reading.{nobody, channelName, hardwarePlace, hardwareLength, hardwareIn, longestHardware, lengthIn, badInit, isRead, read}
+use Rattle.rules.specs.Reading.{nobody, channelName, hardwarePlace, hardwareLength, hardwareIn, longestHardware, lengthIn, badInit, isRead}
+use Rattle.rules.specs.Reading.{read}
 use Rattle.rules.specs.State.{Queue, Splicer, empty, noHardware, linkOf, isKept, recent}
 use Rattle.rules.specs.Records.{Record, General, InitResponse, AliveResponse, ConfigResponse, ExtendedFound, ExtendedNone}
 use Rattle.rules.specs.Ends.{Turn}
-use Rattle.rules.specs.Answers.{Answered, Spliced, says, turns, splices, initResult, initialised, answerInit, airState, airID, aliveResponse, configResponse, latest, extendedResponse, answerRead, answer}
+use Rattle.rules.specs.Answers.{Answered, Spliced, says, turns, splices, initResult, initialised, answerInit, airState, airID}
+use Rattle.rules.specs.Answers.{aliveResponse, configResponse, latest, extendedResponse, answerRead, answer}
 use Rattle.rules.proofs.Bytes.{nameIn-twice}
 use Rattle.reading.proofs.Laws.{hardware-fits}
 use Rattle.memory.specs.Memory.{Memory, see, Now, linked, nameSize, nameBytes, nameOf, keptBytes, keptOf, Stored, Holds, Whole, shown}
@@ -50,7 +53,8 @@ module _ {m b : List ℕ} (w : Whole m b) {e : List ℕ} where
   said t = record { whole = w; splicer = refl; ring = refl; tells = t; moved = refl }
 
   -- what a request did to the sessions
-  pub spliced : {a : Spliced} {n : List ℕ} {r : Given} {o : List ℕ} → Splices a m e r n o → Gives (splices a (shown m b)) (see m .ringEnd) e r n b o
+  pub spliced : {a : Spliced} {n : List ℕ} {r : Given} {o : List ℕ} → Splices a m e r n o
+      → Gives (splices a (shown m b)) (see m .ringEnd) e r n b o
   spliced g =
       record {
         whole = record { words = g .does .shows .form; bytes = w .bytes };
@@ -60,7 +64,8 @@ module _ {m b : List ℕ} (w : Whole m b) {e : List ℕ} where
         moved = g .moved;
       }
 
-  pub turned : {t : Turn} {n : List ℕ} {to : ℕ} {o : List ℕ} → Turns e 0 t (see m) n to o → Gives (turns t (shown m b)) (see m .ringEnd) e (unmoved to) n b o
+  pub turned : {t : Turn} {n : List ℕ} {to : ℕ} {o : List ℕ} → Turns e 0 t (see m) n to o
+      → Gives (turns t (shown m b)) (see m .ringEnd) e (unmoved to) n b o
   turned {t} g = spliced {a = record { turn = t; accepted = false; moved = 0 }} (record { does = g; moved = refl })
 
 -- ## Init
@@ -77,11 +82,13 @@ module _ (revision : ℕ) (asked name : List ℕ) where
   init-name b n e f g = rw (eq-eqb revision 2 e, nameIn-twice name, ← f, g)
 
 -- the Hardware_Config of a good Init_Request is as `memory` asks
-pub hardware-whole : (d : List ℕ) → badInit d ≡ false → (length (hardwareIn d) ≡ 2 + lengthIn (hardwareIn d)) × (length (hardwareIn d) ≤ longestHardware)
+pub hardware-whole : (d : List ℕ) → badInit d ≡ false → (length (hardwareIn d) ≡ 2 + lengthIn (hardwareIn d)) ×
+    (length (hardwareIn d) ≤ longestHardware)
 hardware-whole d e =
     let n = hardwareLength d in
     let f = hardware-fits d e in
-    let long : length (hardwareIn d) ≡ 2 + n = length-take-le (2 + n) (drop hardwarePlace d) (omega (arith, f .1, length-drop hardwarePlace d)) in
+    let long : length (hardwareIn d) ≡ 2 + n = length-take-le (2 + n) (drop hardwarePlace d)
+    (omega (arith, f .1, length-drop hardwarePlace d)) in
     (long ∙ ap (λ x. 2 + value x) (sym (take-take 2 (2 + n) (drop hardwarePlace d) (omega arith))), omega (arith, long, f .0))
 
 -- x: the stored name
@@ -112,12 +119,20 @@ module _ {m b : List ℕ} (w : Whole m b) (c revision : ℕ) (d : List ℕ) {e :
       }
 
   -- "else 100 and initialised"; x: the Hardware_Config that is kept
-  pub init-done : {n p x : List ℕ} → r ≡ 100 → Now n (linked c Initialised (see m)) → x ≡ hardwareIn d → Holds p (nameOf b) (set (keptOf b) c x) →
+  pub init-done : {n p x : List ℕ} → r ≡ 100 → Now n (linked c Initialised (see m)) → x ≡ hardwareIn d
+      → Holds p (nameOf b) (set (keptOf b) c x) →
       Gives (answerInit c revision d (shown m b)) (see m .ringEnd) e (unmoved len) n p o
   init-done i h q k =
       let same = k .kept ∙ ap (λ (y : List ℕ). set (keptOf b) c y) q in
       init-gives (record { words = h .form; bytes = k .stored })
-      ((λ j. record { name = k .name j; clock = h .is j .clock; primary = h .is j .primary; links = h .is j .links; hardware = same j; queue = h .is j .queue })
+      ((λ j. record {
+        name = k .name j;
+        clock = h .is j .clock;
+        primary = h .is j .primary;
+        links = h .is j .links;
+        hardware = same j;
+        queue = h .is j .queue;
+      })
       ∙ rw (eq-eqb r 100 i)) (ap (λ (s : Memory). s .ringEnd) (h .is))
 
   -- "A failed later Init leaves the connection initialised."
@@ -157,7 +172,8 @@ module _ (c x : ℕ) (q : Queue) {y : Past} (f : y ≡ latest c x (recent (q .la
   unfolding extendedResponse
   extended-none h b = rw (found-kept {t = false} (rw (eq-eqb (y .result) 0 h))) (tells-first b)
 
-  pub extended-found : {e o : List ℕ} {len : ℕ} → (y .result ≡ 0 → ⊥) → Puts (ExtendedFound c x (y .event) (y .result) (y .played)) e len o →
+  pub extended-found : {e o : List ℕ} {len : ℕ} → (y .result ≡ 0 → ⊥)
+      → Puts (ExtendedFound c x (y .event) (y .result) (y .played)) e len o →
       Says (extendedResponse c x q) e len o
   unfolding extendedResponse
   extended-found {e} {o} {len} h b =
@@ -182,9 +198,11 @@ config-says m b c {e} {o} {len = len} h y rx rh g =
 -- ## A message that is read
 
 -- y: the message that was read; x: what it is
-pub reads : (s : Splicer) (c id : ℕ) (d section : List ℕ) {at : ℕ} {e : List ℕ} {r : Given} {n b o : List ℕ} {y x : Message} → y ≡ read id d → y ≡ x →
+pub reads : (s : Splicer) (c id : ℕ) (d section : List ℕ) {at : ℕ} {e : List ℕ} {r : Given} {n b o : List ℕ} {y x : Message} → y ≡ read id d
+    → y ≡ x →
     Gives (answerRead c x d section s) at e r n b o → Gives (answerRead c (read id d) d section s) at e r n b o
-reads s c id d section {at} {e} {r} {n} {b} {o} p q g = subst (λ (z : Message). Gives (answerRead c z d section s) at e r n b o) (sym q ∙ p) g
+reads s c id d section {at} {e} {r} {n} {b} {o} p q g = subst (λ (z : Message). Gives (answerRead c z d section s) at e r n b o) (sym q ∙ p)
+    g
 
 -- ## "first that applies"
 
@@ -208,7 +226,8 @@ module _ {m b : List ℕ} (w : Whole m b) (c id : ℕ) (d section : List ℕ) {e
   -- l: what the connection is; t: whether that bars the message
   module _ (h : id ≡ 0x0000 → ⊥) {l : Link} {t : Bool} (p : l ≡ linkOf c (shown m b)) (q : t ≡ barred l id) where
     -- "2. Not initialised and not Init_Request: General_Response 103."
-    pub second : t ≡ true → {to : ℕ} {o : List ℕ} → Says (General c 103) e to o → GivesOf m e (answer c id d section (shown m b)) (unmoved to) m b o
+    pub second : t ≡ true → {to : ℕ} {o : List ℕ} → Says (General c 103) e to o
+        → GivesOf m e (answer c id d section (shown m b)) (unmoved to) m b o
     unfolding answer
     second i g = by-answer (says (General c 103 ∷ []) (shown m b)) (rw (ne-eqb id 0x0000 h, bars (shown m b) c id p q i)) (said w g)
 
@@ -221,7 +240,8 @@ module _ {m b : List ℕ} (w : Whole m b) (c id : ℕ) (d section : List ℕ) {e
       -- v: whether it is in the list
       module _ (j : id ≡ 0x000D → ⊥) {v : Bool} (r : v ≡ isRead id) {o : List ℕ} where
         -- "4. ID not in the list of four: General_Response 120."
-        pub fourth : {to : ℕ} → not v ≡ true → Says (General c 120) e to o → GivesOf m e (answer c id d section (shown m b)) (unmoved to) m b o
+        pub fourth : {to : ℕ} → not v ≡ true → Says (General c 120) e to o
+            → GivesOf m e (answer c id d section (shown m b)) (unmoved to) m b o
         unfolding answer
         fourth k g =
             by-answer (says (General c 120 ∷ []) (shown m b))

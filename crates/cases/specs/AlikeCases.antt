@@ -20,7 +20,9 @@ use Rattle.cases.specs.Heard.{heard, spoken, silent, denied, till, splic
 
 -- what the histories are computed with
 unfoldable telling : ℕ
-unfolding Told.startedReplied Told.startedTold Lately.isAnEnd Lately.toldIn Lately.newer Lately.endedReplied Lately.endedTold Kept.isInitialising Kept.initialises Kept.changes Kept.left Kept.changed Kept.keptBehind Kept.keptTold heard spoken silent denied till splice computing
+unfolding Told.startedReplied Told.startedTold Lately.isAnEnd Lately.toldIn Lately.newer Lately.endedReplied Lately.endedTold
+    Kept.isInitialising Kept.initialises Kept.changes Kept.left Kept.changed Kept.keptBehind Kept.keptTold heard spoken silent denied till
+    splice computing
 telling = 0
 
 -- 0's 1, a tick from 10 µs, is accepted, with AccessType 1 or 2

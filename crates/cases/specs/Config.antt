@@ -1,11 +1,13 @@
--- 02, CR 6: Hardware_Config in Init_Requests, GetConfig_Requests and the two lent sections, from bytes to bytes, worked by hand. Assumes nothing.
+-- 02, CR 6: Hardware_Config in Init_Requests, GetConfig_Requests and the two lent sections, from bytes to bytes, worked by hand. Assumes
+-- nothing.
 use mathlib.Core.Path.{_≡_, refl}
 use mathlib.Core.List.{List, [], _∷_, _++_, map}
 use Prim.Native.Nat.{ℕ}
 use Prim.Native.String.{String}
 use lib.ListN.{replicate}
 use Rattle.rules.specs.State.{Splicer}
-use Rattle.rules.specs.Calls.{Answer, refused, good, Loans, lending, lendingMaps, Call, opens, closes, messages, ticks, answers, fresh, houseNumber, writtenBy}
+use Rattle.rules.specs.Calls.{Answer, refused, good, Loans, lending, lendingMaps, Call, opens, closes, messages, ticks, answers, fresh}
+use Rattle.rules.specs.Calls.{houseNumber, writtenBy}
 use Rattle.cases.specs.Scenario.{hex}
 use Rattle.cases.specs.Computing.{computing}
 

@@ -1,4 +1,5 @@
--- 02, CR 9: the card with a rolling counter, from instants, readings and the bytes of requests to numbers and records. Worked by hand: the clock
+-- 02, CR 9: the card with a rolling counter, from instants, readings and the bytes of requests to numbers and records. Worked by hand: the
+-- clock
 -- is 1,000 s where the counter reads 4294967295, a tick is 100 ninths. Assumes nothing.
 use mathlib.Core.Path.{_≡_, refl}
 use mathlib.Core.List.{List, [], _∷_, map}
@@ -7,7 +8,8 @@ use Rattle.rules.specs.Bytes.{padded}
 use Rattle.rules.specs.Records.{Record, AliveResponse, SpliceResponse, SpliceComplete, AbortResponse, recordsIn}
 use Rattle.rules.specs.Calls.{Answer, refused, good, houseNumber, Call, opens, writtenBy}
 use Rattle.rules.specs.Card
-use Rattle.rules.specs.Rolling.{Rolling, Rolled, rollingOf, stepOf, instantCourse, stepCourse, readingCourse, rolls, instantCall, readingCall, rollingFresh, RollingCall, known, instants, readings, roll}
+use Rattle.rules.specs.Rolling.{Rolling, Rolled, rollingOf, stepOf, instantCourse, stepCourse, readingCourse, rolls, instantCall}
+use Rattle.rules.specs.Rolling.{readingCall, rollingFresh, RollingCall, known, instants, readings, roll}
 use Rattle.cases.specs.Computing.{computing}
 use Rattle.cases.specs.Rehearsed.{sent, from, initOf, asks, timed, aborts}
 
@@ -136,25 +138,31 @@ records : List Row → List (List Record)
 records l = map (λ c. recordsIn (writtenBy (c .called .answer))) (results l)
 
 numbered : numbers rows ≡ map (λ r. r .number) rows
-unfolding sent from initOf asks timed aborts stepOf instantCourse stepCourse readingCourse rolls instantCall readingCall rollingFresh roll refuses writes gives reads alive is rows each plays ready results told numbers computing
+unfolding sent from initOf asks timed aborts stepOf instantCourse stepCourse readingCourse rolls instantCall readingCall rollingFresh roll
+    refuses writes gives reads alive is rows each plays ready results told numbers computing
 numbered = refl
 
 answered : records rows ≡ map (λ r. r .wants) rows
-unfolding sent from initOf asks timed aborts stepOf instantCourse stepCourse readingCourse rolls instantCall readingCall rollingFresh roll refuses writes gives reads alive is rows each plays ready results records computing
+unfolding sent from initOf asks timed aborts stepOf instantCourse stepCourse readingCourse rolls instantCall readingCall rollingFresh roll
+    refuses writes gives reads alive is rows each plays ready results records computing
 answered = refl
 
 lastNumbered : numbers lastRows ≡ map (λ r. r .number) lastRows
-unfolding sent from initOf asks stepOf instantCourse stepCourse readingCourse rolls instantCall readingCall rollingFresh roll refuses writes gives reads alive is lastRows each plays ready results told numbers computing
+unfolding sent from initOf asks stepOf instantCourse stepCourse readingCourse rolls instantCall readingCall rollingFresh roll refuses writes
+    gives reads alive is lastRows each plays ready results told numbers computing
 lastNumbered = refl
 
 lastAnswered : records lastRows ≡ map (λ r. r .wants) lastRows
-unfolding sent from initOf asks stepOf instantCourse stepCourse readingCourse rolls instantCall readingCall rollingFresh roll refuses writes gives reads alive is lastRows each plays ready results records computing
+unfolding sent from initOf asks stepOf instantCourse stepCourse readingCourse rolls instantCall readingCall rollingFresh roll refuses writes
+    gives reads alive is lastRows each plays ready results records computing
 lastAnswered = refl
 
 limitNumbered : numbers limitRows ≡ map (λ r. r .number) limitRows
-unfolding sent from initOf asks stepOf instantCourse stepCourse readingCourse rolls instantCall readingCall rollingFresh roll refuses writes gives reads alive is limitRows each plays ready results told numbers computing
+unfolding sent from initOf asks stepOf instantCourse stepCourse readingCourse rolls instantCall readingCall rollingFresh roll refuses writes
+    gives reads alive is limitRows each plays ready results told numbers computing
 limitNumbered = refl
 
 limitAnswered : records limitRows ≡ map (λ r. r .wants) limitRows
-unfolding sent from initOf asks stepOf instantCourse stepCourse readingCourse rolls instantCall readingCall rollingFresh roll refuses writes gives reads alive is limitRows each plays ready results records computing
+unfolding sent from initOf asks stepOf instantCourse stepCourse readingCourse rolls instantCall readingCall rollingFresh roll refuses writes
+    gives reads alive is limitRows each plays ready results records computing
 limitAnswered = refl

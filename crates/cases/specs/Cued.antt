@@ -6,7 +6,8 @@ use Prim.Native.Nat.{ℕ}
 use Prim.Native.String.{String}
 use lib.ListN.{replicate}
 use Rattle.rules.specs.State.{Splicer}
-use Rattle.rules.specs.Calls.{Answer, refused, good, Call, opens, closes, messages, ticks, cues, call, lending, answers, after, fresh, houseNumber, writtenBy, bufferAfter}
+use Rattle.rules.specs.Calls.{Answer, refused, good, Call, opens, closes, messages, ticks, cues, call, lending, answers, after, fresh}
+use Rattle.rules.specs.Calls.{houseNumber, writtenBy, bufferAfter}
 use Rattle.cases.specs.Scenario.{hex}
 use Rattle.cases.specs.Computing.{computing}
 
@@ -21,6 +22,10 @@ seen (good consumed rs) = takes consumed (writtenBy (good consumed rs))
 
 abbrev says : String → Seen
 says l = takes 0 (hex l)
+
+-- of two connections
+abbrev saysBoth : String → String → Seen
+saysBoth l k = takes 0 (hex l ++ hex k)
 
 record Row : Type 0 where
   calls : Call
@@ -87,22 +92,27 @@ rows =
     ∷ row (cues [] 0 1000 0 4096) (number 11)
     -- MessageSize 8 + 25 = 0x21, Result and Result_Extension 0xFFFF, 1,001 s = 0x3E9, 111,122 = 0x1B212, the section
     ∷ row (cue signal)
-    (says "5200 000C 0021 FFFF FFFF 000003E9 0001B212 FC301600010000001000FFF00506FF234567890000713B22BD 5202 000C 0021 FFFF FFFF 000003E9 0001B212 FC301600010000001000FFF00506FF234567890000713B22BD")
+    (saysBoth "5200 000C 0021 FFFF FFFF 000003E9 0001B212 FC301600010000001000FFF00506FF234567890000713B22BD"
+    "5202 000C 0021 FFFF FFFF 000003E9 0001B212 FC301600010000001000FFF00506FF234567890000713B22BD")
     -- 117 = 0x75 to the same; nothing for a command that is not read
     ∷ row (cue wrong) (says "5200 0000 0000 0075 FFFF 5202 0000 0000 0075 FFFF")
     ∷ row (cue reserved) (takes 0 [])
     -- without a pts_time all ones; MessageSize 8 + 20 = 0x1C
     ∷ row (cue null)
-    (says "5200 000C 001C FFFF FFFF FFFFFFFF FFFFFFFF FC301100000000000000FFF000000000 7A4FBFFF 5202 000C 001C FFFF FFFF FFFFFFFF FFFFFFFF FC301100000000000000FFF000000000 7A4FBFFF")
+    (saysBoth "5200 000C 001C FFFF FFFF FFFFFFFF FFFFFFFF FC301100000000000000FFF000000000 7A4FBFFF"
+    "5202 000C 001C FFFF FFFF FFFFFFFF FFFFFFFF FC301100000000000000FFF000000000 7A4FBFFF")
     -- "the clock plays no part": at 1,000 s a cue of 10 s; its own PTS is the given instant, and PTS count modulo 2^33
     ∷ row (ticks 1000 0 4096) (takes 0 [])
     ∷ row (cues (hex signal) 9181685657 10 7 4096)
-    (says "5200 000C 0021 FFFF FFFF 0000000A 00000007 FC301600010000001000FFF00506FF234567890000713B22BD 5202 000C 0021 FFFF FFFF 0000000A 00000007 FC301600010000001000FFF00506FF234567890000713B22BD")
+    (saysBoth "5200 000C 0021 FFFF FFFF 0000000A 00000007 FC301600010000001000FFF00506FF234567890000713B22BD"
+    "5202 000C 0021 FFFF FFFF 0000000A 00000007 FC301600010000001000FFF00506FF234567890000713B22BD")
     -- past the time field's range, by a microsecond: 100,001 ticks are 1.111122 s
     ∷ row (cues (hex signal) 591651064 4294967294 888878 4096)
-    (says "5200 000C 0021 FFFF FFFF FFFFFFFF FFFFFFFF FC301600010000001000FFF00506FF234567890000713B22BD 5202 000C 0021 FFFF FFFF FFFFFFFF FFFFFFFF FC301600010000001000FFF00506FF234567890000713B22BD")
+    (saysBoth "5200 000C 0021 FFFF FFFF FFFFFFFF FFFFFFFF FC301600010000001000FFF00506FF234567890000713B22BD"
+    "5202 000C 0021 FFFF FFFF FFFFFFFF FFFFFFFF FC301600010000001000FFF00506FF234567890000713B22BD")
     ∷ row (cues (hex signal) 591651064 4294967294 888877 4096)
-    (says "5200 000C 0021 FFFF FFFF FFFFFFFF 000F423F FC301600010000001000FFF00506FF234567890000713B22BD 5202 000C 0021 FFFF FFFF FFFFFFFF 000F423F FC301600010000001000FFF00506FF234567890000713B22BD")
+    (saysBoth "5200 000C 0021 FFFF FFFF FFFFFFFF 000F423F FC301600010000001000FFF00506FF234567890000713B22BD"
+    "5202 000C 0021 FFFF FFFF FFFFFFFF 000F423F FC301600010000001000FFF00506FF234567890000713B22BD")
     -- "from 0 upward", though 1 is the last that was initialised; Cue_Response is not answered
     ∷ row (messages 1 init (lending 4096)) (named "01")
     ∷ row (messages 1 (hex "000D 0000 0064 FFFF") (lending 4096)) (takes 8 [])
@@ -137,11 +147,13 @@ unchanged : after (cue signal ∷ cue wrong ∷ cue null ∷ cue cut ∷ []) ini
 unfolding signal wrong null cut cue start init initialised computing
 unchanged = refl
 
--- "bytes beyond those written stay unchanged": a buffer of 4,096 bytes 0xAA, by one that is passed on to one connection and by a refused one
+-- "bytes beyond those written stay unchanged": a buffer of 4,096 bytes 0xAA, by one that is passed on to one connection and by a refused
+-- one
 buffer : Call → List ℕ
 buffer k = bufferAfter (call k initialised .answer) (replicate 4096 0xAA)
 
-written : buffer (cue null) ≡ hex "5200 000C 001C FFFF FFFF FFFFFFFF FFFFFFFF FC301100000000000000FFF000000000 7A4FBFFF" ++ replicate 4058 0xAA
+written : buffer (cue null) ≡ hex "5200 000C 001C FFFF FFFF FFFFFFFF FFFFFFFF FC301100000000000000FFF000000000 7A4FBFFF"
+    ++ replicate 4058 0xAA
 unfolding null cue start init initialised buffer computing
 written = refl
 

@@ -1,4 +1,5 @@
--- 02, CR 13: days from the bytes of requests to who owned the time, and the times of small lists, ninth by ninth. All worked by hand. Assumes nothing.
+-- 02, CR 13: days from the bytes of requests to who owned the time, and the times of small lists, ninth by ninth. All worked by hand.
+-- Assumes nothing.
 use mathlib.Core.Path.{_≡_, refl}
 use mathlib.Core.Bool.{Bool, true, false, cond}
 use mathlib.Core.List.{List, [], _∷_, _++_, map}
@@ -87,7 +88,8 @@ slot : List Call
 slot =
     timed 0 3 1003 0 3 0 2700000 ∷ timed 1 5 1006 0 5 1 900000 ∷ to 1010 0 ∷ closes 1 4096 ∷ timed 2 6 1015 0 5 1 900000 ∷ to 1050 0 ∷ []
 
--- several instants in one tick: 1 from 1,003 s to 1,013 s, 2 over it from 1,005 s to 1,013 s, 4 linked behind 2, from 1,013 s to 1,014 s; 3 fails at
+-- several instants in one tick: 1 from 1,003 s to 1,013 s, 2 over it from 1,005 s to 1,013 s, 4 linked behind 2, from 1,013 s to 1,014 s; 3
+-- fails at
 -- 1,006 s. Then an abort between two ticks, at 1,020 s, of 5, on air from 1,018 s
 many : List Call
 many =
@@ -97,17 +99,20 @@ many =
 -- 4 covers a 2 and has two followers; 7, equal to it, ends it at once at 1,010 s
 equal : List Call
 equal =
-    timed 0 2 1003 0 2 0 2700000 ∷ timed 1 4 1006 0 4 1 1800000 ∷ linked 1 5 4 90000 ∷ linked 1 6 5 90000 ∷ timed 2 7 1010 0 4 1 900000 ∷ to 1040 0 ∷ []
+    timed 0 2 1003 0 2 0 2700000 ∷ timed 1 4 1006 0 4 1 1800000 ∷ linked 1 5 4 90000 ∷ linked 1 6 5 90000 ∷ timed 2 7 1010 0 4 1 900000
+    ∷ to 1040 0 ∷ []
 
 -- an abort of the covered 1, at 1,010 s; calls that are refused, and a tick to the present time
 covered : List Call
 covered =
-    timed 0 1 1003 0 3 0 5400000 ∷ timed 1 2 1005 0 5 1 1800000 ∷ to 1010 0 ∷ aborts 0 1 ∷ to 1009 0 ∷ to 1030 0 ∷ to 1030 0 ∷ closes 1 4095 ∷ []
+    timed 0 1 1003 0 3 0 5400000 ∷ timed 1 2 1005 0 5 1 1800000 ∷ to 1010 0 ∷ aborts 0 1 ∷ to 1009 0 ∷ to 1030 0 ∷ to 1030 0 ∷ closes 1 4095
+    ∷ []
 
 -- what starts and is aborted at one clock has no time. Its number comes again; the clock stands at 1,012 s, and 2 waits
 again : List Call
 again =
-    timed 0 1 1003 0 3 0 900000 ∷ to 1003 0 ∷ aborts 0 1 ∷ timed 0 1 1007 0 3 0 900000 ∷ timed 0 2 1100 0 3 0 900000 ∷ moves 9108000000 4096 ∷ []
+    timed 0 1 1003 0 3 0 900000 ∷ to 1003 0 ∷ aborts 0 1 ∷ timed 0 1 1007 0 3 0 900000 ∷ timed 0 2 1100 0 3 0 900000 ∷ moves 9108000000 4096
+    ∷ []
 
 -- times that are no whole microseconds: 1 from 1,003 s for one tick, 100 ninths; 2 from 12 µs = 108 ninths behind it for 7 ticks; the clock
 -- 5 ninths past 1,004 s; 3 from 1,010 s, aborted 1,001 ninths later; the clock 4 ninths past 1,011 s
@@ -121,7 +126,8 @@ days =
     -- 1,003 s before and 17 s behind are the primary channel's; with 16, 4 and 10 s on air 1,050 s
     day slot (shown 6 1015 1025 900000 ∷ shown 5 1006 1010 360000 ∷ shown 3 1003 1033 1440000 ∷ []) (s 1020)
     -- 1,003 s, 1,014 s to 1,018 s and 1,020 s to 1,030 s; with 2, 8, 1 and 2 s on air 1,030 s
-    ∷ day many (shown 5 1018 1020 180000 ∷ shown 4 1013 1014 90000 ∷ off 3 1006 ∷ shown 2 1005 1013 720000 ∷ shown 1 1003 1013 180000 ∷ []) (s 1017)
+    ∷ day many (shown 5 1018 1020 180000 ∷ shown 4 1013 1014 90000 ∷ off 3 1006 ∷ shown 2 1005 1013 720000 ∷ shown 1 1003 1013 180000 ∷ [])
+    (s 1017)
     -- 1,003 s and 1,033 s to 1,040 s; with 3 + 13, 4 and 10 s on air 1,040 s
     ∷ day equal (shown 7 1010 1020 900000 ∷ off 6 1027 ∷ off 5 1026 ∷ shown 4 1006 1010 360000 ∷ shown 2 1003 1033 1440000 ∷ []) (s 1010)
     -- 1,003 s and 1,025 s to 1,030 s; with 2 s of 1, which no end told, and 20 s of 2 1,030 s
@@ -133,7 +139,8 @@ days =
     ∷ []
 
 counted : map (λ d. d .told) days ≡ map (λ d. d .wants) days
-unfolding sent from initOf asks timed linked aborts to card up ready s shown exact ninthsOnly hidden going off waiting line day slot many equal covered again days computing
+unfolding sent from initOf asks timed linked aborts to card up ready s shown exact ninthsOnly hidden going off waiting line day slot many
+    equal covered again days computing
 counted = refl
 
 -- ## Ninth by ninth

@@ -1,4 +1,5 @@
--- 02, CR 8: ExtendedData_Request and the driver's list, from the bytes of requests. Worked by hand from 02 and 000, Tables 7-12, 7-13 and 8-8.
+-- 02, CR 8: ExtendedData_Request and the driver's list, from the bytes of requests. Worked by hand from 02 and 000, Tables 7-12, 7-13 and
+-- 8-8.
 -- Assumes nothing.
 use mathlib.Core.Path.{_≡_, refl}
 use mathlib.Core.List.{List, [], _∷_, _++_, map}
@@ -9,13 +10,15 @@ use Rattle.rules.specs.Lists.{keep}
 use Rattle.rules.specs.Bytes.{bytes}
 use Rattle.rules.specs.State.{Splicer, isKept, recent}
 use Rattle.rules.specs.Reading
-use Rattle.rules.specs.Records.{Record, General, InitResponse, SpliceResponse, SpliceComplete, AbortResponse, ExtendedFound, ExtendedNone, recordsIn}
+use Rattle.rules.specs.Records.{Record, General, InitResponse, SpliceResponse, SpliceComplete, AbortResponse, ExtendedFound, ExtendedNone}
+use Rattle.rules.specs.Records.{recordsIn}
 use Rattle.rules.specs.Calls.{Call, Called, opens, closes, call, writtenBy}
 use Rattle.rules.specs.Card
 use Rattle.cases.specs.Computing.{computing}
 use Rattle.cases.specs.Rehearsed.{sent, from, initOf, asks, timed, linked, aborts, to, card, plays, up, ready}
 
--- a call, the records in its answer, and what it ends, in the order of the records: connection, SessionID, SpliceEventID, result, PlayedDuration
+-- a call, the records in its answer, and what it ends, in the order of the records: connection, SessionID, SpliceEventID, result,
+-- PlayedDuration
 record Row : Type 0 where
   calls : Call
   wants : List Record
@@ -144,9 +147,11 @@ list l [] = []
 list l (r ∷ rs) = told l (r .ends) ∷ list (told l (r .ends)) rs
 
 answered : map (λ c. recordsIn (writtenBy (c .answer))) results ≡ map (λ r. r .wants) rows
-unfolding sent from initOf asks timed linked aborts to card plays up ready row ended extended with timedAs linkedAs accepts rows each results computing
+unfolding sent from initOf asks timed linked aborts to card plays up ready row ended extended with timedAs linkedAs accepts rows each
+    results computing
 answered = refl
 
 kept : map (λ c. map numbers (keep isKept (recent (c .splicer .queue .lately)))) results ≡ list [] rows
-unfolding sent from initOf asks timed linked aborts to card plays up ready row ended extended with timedAs linkedAs accepts rows each results numbers told list computing
+unfolding sent from initOf asks timed linked aborts to card plays up ready row ended extended with timedAs linkedAs accepts rows each
+    results numbers told list computing
 kept = refl

@@ -6,7 +6,8 @@ use mathlib.Core.List.{List, [], _∷_, _++_, map}
 use Prim.Native.Nat.{ℕ, _*_}
 use lib.ListN.{length}
 use Rattle.rules.specs.Lists.{bit}
-use Rattle.rules.specs.Records.{Record, General, InitResponse, AliveResponse, SpliceResponse, SpliceComplete, AbortResponse, ExtendedFound, ExtendedNone}
+use Rattle.rules.specs.Records.{Record, General, InitResponse, AliveResponse, SpliceResponse, SpliceComplete, AbortResponse, ExtendedFound}
+use Rattle.rules.specs.Records.{ExtendedNone}
 use Rattle.rules.specs.Calls.{Call, opens, closes, moves}
 use Rattle.demands.specs.History.{isStart, isEnd, isYes, ownAnswer, othersOf, wrote, Event, Entry, history, waitingCount, book, clockAfter}
 use Rattle.cases.specs.Scenario.{hex}
@@ -50,7 +51,8 @@ marks =
     ∷ mark (General 1 103) 0 0 0
     ∷ []
 
-marked : map (λ m. bit (isStart 1 7 (m .told)) ∷ bit (isEnd 1 7 (m .told)) ∷ bit (isYes 1 7 (m .told)) ∷ []) marks ≡ map (λ m. m .wants) marks
+marked : map (λ m. bit (isStart 1 7 (m .told)) ∷ bit (isEnd 1 7 (m .told)) ∷ bit (isYes 1 7 (m .told)) ∷ []) marks
+    ≡ map (λ m. m .wants) marks
 unfolding mark marks computing
 marked = refl
 
@@ -64,7 +66,8 @@ own : ownAnswer (isYes 1 3) (SpliceResponse 0 109 1 ∷ SpliceResponse 1 100 3 �
 unfolding computing
 own = refl
 
-others : map (λ k. length (left k)) (timed 1 3 1003 0 1 0 90000 ∷ aborts 0 1 ∷ opens 0 ∷ closes 0 4096 ∷ to 1003 0 ∷ moves 9027000000 4096 ∷ []) ≡ 2 ∷ 3 ∷ 3 ∷ 3 ∷ 3 ∷ 3 ∷ []
+others : map (λ k. length (left k)) (timed 1 3 1003 0 1 0 90000 ∷ aborts 0 1 ∷ opens 0 ∷ closes 0 4096 ∷ to 1003 0 ∷ moves 9027000000 4096
+    ∷ []) ≡ 2 ∷ 3 ∷ 3 ∷ 3 ∷ 3 ∷ 3 ∷ []
 unfolding left sent from asks timed aborts to computing
 others = refl
 
@@ -186,8 +189,10 @@ rows =
     ∷ row aborting (four 0 1 0 0) (line 0 2 (s 1023) 1 0 ∷ line 1 1 (s 1110) 0 0 ∷ line 0 1 (s 1013) 1 0 ∷ []) (s 1000)
     ∷ row closing (four 0 1 0 0) (line 1 7 (s 1070) 0 0 ∷ line 0 8 (s 1060) 1 1 ∷ line 0 7 (s 1033) 1 1 ∷ []) (s 1010)
     -- "It counts for the session that its connection last accepted under that SessionID"
-    ∷ row reopening (four 1 1 0 0) (line 0 7 (s 1030) 0 0 ∷ line 1 7 (s 1070) 0 0 ∷ line 0 8 (s 1060) 1 1 ∷ line 0 7 (s 1033) 1 1 ∷ []) (s 1010)
-    ∷ row (reopening ++ (to 1040 0 ∷ [])) (four 0 1 0 0) (line 0 7 (s 1030) 1 0 ∷ line 1 7 (s 1070) 0 0 ∷ line 0 8 (s 1060) 1 1 ∷ line 0 7 (s 1033) 1 1 ∷ []) (s 1040)
+    ∷ row reopening (four 1 1 0 0) (line 0 7 (s 1030) 0 0 ∷ line 1 7 (s 1070) 0 0 ∷ line 0 8 (s 1060) 1 1 ∷ line 0 7 (s 1033) 1 1 ∷ [])
+    (s 1010)
+    ∷ row (reopening ++ (to 1040 0 ∷ [])) (four 0 1 0 0) (line 0 7 (s 1030) 1 0 ∷ line 1 7 (s 1070) 0 0 ∷ line 0 8 (s 1060) 1 1
+    ∷ line 0 7 (s 1033) 1 1 ∷ []) (s 1040)
     ∷ row refusing (four 1 0 0 0) (line 0 1 (s 1004) 0 0 ∷ []) (s 1000)
     ∷ row declining (four 1 0 0 0) (line 0 1 (s 1004) 0 0 ∷ []) (s 1000)
     ∷ row reusing (four 2 0 0 0) (line 0 2 (s 1016) 0 0 ∷ line 0 1 (s 1015) 0 0 ∷ line 0 1 (s 1004) 1 0 ∷ []) (s 1004)
@@ -201,5 +206,6 @@ rows =
     ∷ []
 
 told : map (λ r. tells (r .events)) rows ≡ map (λ r. r .wants) rows
-unfolding sent from initOf asks timed linked aborts to card up ready line s tells row four two again evicting failing ousting aborting closing reopening refusing declining reusing ninth granted writing twice given rows computing
+unfolding sent from initOf asks timed linked aborts to card up ready line s tells row four two again evicting failing ousting aborting
+    closing reopening refusing declining reusing ninth granted writing twice given rows computing
 told = refl

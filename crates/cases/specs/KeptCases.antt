@@ -22,7 +22,8 @@ use Rattle.cases.specs.Heard.{heard, silent, denied, till, says, each, s
 
 -- what the definitions of demands' Kept are computed with
 unfoldable telling : ℕ
-unfolding Kept.isInitialising Kept.initialises Kept.changes Kept.left Kept.changed Kept.keptBehind Kept.keptTold Kept.stateIn heard silent denied till says computing
+unfolding Kept.isInitialising Kept.initialises Kept.changes Kept.left Kept.changed Kept.keptBehind Kept.keptTold Kept.stateIn heard silent
+    denied till says computing
 telling = 0
 
 -- ## Init_Requests and their answers

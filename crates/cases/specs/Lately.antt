@@ -85,17 +85,21 @@ rows =
     ∷ row (to 1030 0) (SpliceComplete 3 100 6 0 0 ∷ []) (kept 2 5 0x55 109 0 ∷ [])
     ∷ row (with 1 9 0x99 1034 5 1 180000) (accepts 1 9 ∷ []) []
     ∷ row (with 1 10 0xAA 1050 1 0 90000) (accepts 1 10 ∷ []) []
-    ∷ row (to 1032 0) (SpliceComplete 0 109 7 0 0 ∷ SpliceResponse 0 109 8 ∷ []) (kept 0 8 0x88 109 0 ∷ kept 0 7 0x77 109 0 ∷ kept 2 5 0x55 109 0 ∷ [])
+    ∷ row (to 1032 0) (SpliceComplete 0 109 7 0 0 ∷ SpliceResponse 0 109 8 ∷ [])
+    (kept 0 8 0x88 109 0 ∷ kept 0 7 0x77 109 0 ∷ kept 2 5 0x55 109 0 ∷ [])
     -- an equal one's start ends the one on air
-    ∷ row (to 1034 0) (SpliceComplete 3 125 6 1 360000 ∷ SpliceComplete 1 100 9 0 0 ∷ []) (kept 3 6 0x66 125 360000 ∷ kept 0 8 0x88 109 0 ∷ [])
+    ∷ row (to 1034 0) (SpliceComplete 3 125 6 1 360000 ∷ SpliceComplete 1 100 9 0 0 ∷ [])
+    (kept 3 6 0x66 125 360000 ∷ kept 0 8 0x88 109 0 ∷ [])
     -- its connection closes: the one on air, then the one that waits; opened again, what it had is still there
     ∷ row (to 1035 0) [] []
-    ∷ row (closes 1 4096) (SpliceComplete 1 116 9 1 90000 ∷ SpliceResponse 1 116 10 ∷ []) (kept 1 10 0xAA 116 0 ∷ kept 1 9 0x99 116 90000 ∷ kept 3 6 0x66 125 360000 ∷ [])
+    ∷ row (closes 1 4096) (SpliceComplete 1 116 9 1 90000 ∷ SpliceResponse 1 116 10 ∷ [])
+    (kept 1 10 0xAA 116 0 ∷ kept 1 9 0x99 116 90000 ∷ kept 3 6 0x66 125 360000 ∷ [])
     ∷ row (opens 1) [] (kept 1 10 0xAA 116 0 ∷ kept 1 9 0x99 116 90000 ∷ [])
     -- two ends at one instant, the highest first; the other had been covered
     ∷ row (with 2 11 0xBB 1060 1 1 180000) (accepts 2 11 ∷ []) []
     ∷ row (with 3 12 0xCC 1061 2 1 90000) (accepts 3 12 ∷ []) []
-    ∷ row (to 1062 0) (SpliceComplete 2 100 11 0 0 ∷ SpliceComplete 3 100 12 0 0 ∷ SpliceComplete 3 100 12 1 90000 ∷ SpliceComplete 2 125 11 1 90000 ∷ [])
+    ∷ row (to 1062 0) (SpliceComplete 2 100 11 0 0 ∷ SpliceComplete 3 100 12 0 0 ∷ SpliceComplete 3 100 12 1 90000
+    ∷ SpliceComplete 2 125 11 1 90000 ∷ [])
     (kept 2 11 0xBB 125 90000 ∷ kept 3 12 0xCC 100 90000 ∷ kept 1 10 0xAA 116 0 ∷ [])
     -- five that wait, at a close, by start: seventeen in all
     ∷ row (with 2 21 0xE1 1100 1 0 90000) (accepts 2 21 ∷ []) []
@@ -104,7 +108,8 @@ rows =
     ∷ row (with 2 24 0xE4 1103 1 0 90000) (accepts 2 24 ∷ []) []
     ∷ row (with 2 25 0xFFFFFFFF 1104 1 0 90000) (accepts 2 25 ∷ []) []
     ∷ row (closes 2 4096)
-    (SpliceResponse 2 116 21 ∷ SpliceResponse 2 116 22 ∷ SpliceResponse 2 116 23 ∷ SpliceResponse 2 116 24 ∷ SpliceResponse 2 116 25 ∷ []) sixteen
+    (SpliceResponse 2 116 21 ∷ SpliceResponse 2 116 22 ∷ SpliceResponse 2 116 23 ∷ SpliceResponse 2 116 24 ∷ SpliceResponse 2 116 25 ∷ [])
+    sixteen
     ∷ []
 
 -- what comes of each call
@@ -121,9 +126,11 @@ first (r ∷ rs) [] = []
 first (r ∷ rs) (c ∷ cs) = take (length (r .keeps)) (recent (c .splicer .queue .lately)) ∷ first rs cs
 
 answered : map (λ c. recordsIn (writtenBy (c .answer))) results ≡ map (λ r. r .wants) rows
-unfolding sent from initOf asks timed linked aborts to card plays up ready row kept noted with behind accepts sixteen rows each results computing
+unfolding sent from initOf asks timed linked aborts to card plays up ready row kept noted with behind accepts sixteen rows each results
+    computing
 answered = refl
 
 remembers : first rows results ≡ map (λ r. r .keeps) rows
-unfolding sent from initOf asks timed linked aborts to card plays up ready row kept noted with behind accepts sixteen rows each results first computing
+unfolding sent from initOf asks timed linked aborts to card plays up ready row kept noted with behind accepts sixteen rows each results
+    first computing
 remembers = refl

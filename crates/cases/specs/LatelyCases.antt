@@ -10,7 +10,8 @@ use Rattle.rules.specs.declared.Refusal.the-variants.{ClockBack, NoRoom}
 use Rattle.rules.specs.Lists.{bit, count}
 use Rattle.rules.specs.Bytes.{bytes}
 use Rattle.rules.specs.State.{unused, mostKept}
-use Rattle.rules.specs.Records.{Record, General, InitResponse, AliveResponse, SpliceResponse, SpliceComplete, AbortResponse, ConfigResponse, ExtendedFound, ExtendedNone, CueRequest, recordsIn}
+use Rattle.rules.specs.Records.{Record, General, InitResponse, AliveResponse, SpliceResponse, SpliceComplete, AbortResponse, ConfigResponse}
+use Rattle.rules.specs.Records.{ExtendedFound, ExtendedNone, CueRequest, recordsIn}
 use Rattle.rules.specs.Calls.{opens, closes, messages, lending}
 use Rattle.demands.specs.History.{Event, wrote, book}
 use Rattle.demands.specs.Lately
@@ -21,7 +22,8 @@ use Rattle.cases.specs.Heard.{heard, silent, denied, till, says, splice,
 
 -- what the definitions of demands' Lately are computed with
 unfoldable telling : ℕ
-unfolding Lately.isAnEnd Lately.toldIn Lately.newer Lately.endedReplied Lately.endedTold Lately.answerTold heard silent denied till says splice computing
+unfolding Lately.isAnEnd Lately.toldIn Lately.newer Lately.endedReplied Lately.endedTold Lately.answerTold heard silent denied till says
+    splice computing
 telling = 0
 
 -- ## Which record is an end

@@ -7,7 +7,8 @@ use Prim.Native.Nat.{ℕ}
 use Prim.Native.String.{String}
 use lib.ListN.{replicate}
 use Rattle.rules.specs.Reading.{Stream, Listed, listed, unlisted, pcrPid, pidCount, separateIn, separateBytes}
-use Rattle.rules.specs.Records.{Record, General, InitResponse, AliveResponse, SpliceResponse, SpliceComplete, AbortResponse, CueRequest, ExtendedFound, ExtendedNone, ConfigResponse, recordBytes, output, recordsIn}
+use Rattle.rules.specs.Records.{Record, General, InitResponse, AliveResponse, SpliceResponse, SpliceComplete, AbortResponse, CueRequest}
+use Rattle.rules.specs.Records.{ExtendedFound, ExtendedNone, ConfigResponse, recordBytes, output, recordsIn}
 use Rattle.cases.specs.Scenario.{hex}
 use Rattle.cases.specs.Computing.{computing}
 
@@ -42,7 +43,8 @@ rows =
     -- SessionID 4
     ∷ row (AbortResponse 3 121 9) (hex "52 03  000F 0004 0079 FFFF  00000009")
     -- 02, CR 8: SessionID 4, tag 0x01, length 14 = 0x0E, "CARD", SpliceEventID 4, result 2, PlayedDuration 4: 20 = 0x14; 116 = 0x74
-    ∷ row (ExtendedFound 2 0x01020304 0xA1B2C3D4 116 2700000) (hex "52 02  0004 0014 0064 FFFF  01020304  01 0E 43415244 A1B2C3D4 0074 002932E0")
+    ∷ row (ExtendedFound 2 0x01020304 0xA1B2C3D4 116 2700000)
+    (hex "52 02  0004 0014 0064 FFFF  01020304  01 0E 43415244 A1B2C3D4 0074 002932E0")
     ∷ row (ExtendedNone 1 7) (hex "52 01  0004 0004 0079 FFFF  00000007")
     -- 02, CR 7: both Result fields 0xFFFF; Seconds 4, MicroSeconds 4, the section: 8 + 3 = 11 = 0x0B
     ∷ row (CueRequest 3 0x01020304 0x0001E240 (hex "FC30AB")) (hex "52 03  000C 000B FFFF FFFF  01020304 0001E240 FC30AB")

@@ -1,4 +1,5 @@
--- 02, CR 11: "how many places an acceptance shifts", from the bytes of requests to the number that the call reports. Worked by hand from the
+-- 02, CR 11: "how many places an acceptance shifts", from the bytes of requests to the number that the call reports. Worked by hand from
+-- the
 -- starts of those that wait. Assumes nothing.
 use mathlib.Core.Path.{_≡_, refl}
 use mathlib.Core.List.{List, [], _∷_, _++_, map}

@@ -43,7 +43,8 @@ naming : (conn id seconds access duration : ℕ) → List ℕ → Call
 naming c x s a d l =
     from c 0x0007
     (take 16 (asks x Reading.nobody s 0 a 1 d)
-    ++ (bytes 2 0xFFFF ++ (bytes 2 0x31 ++ (bytes 4 1 ++ (21 ∷ bytes 2 0x32 ++ (bytes 2 0x1B ++ (replicate 16 0xFF ++ (drop 18 (asks x Reading.nobody s 0 a 1 d) ++ l))))))))
+    ++ (bytes 2 0xFFFF ++ (bytes 2 0x31 ++ (bytes 4 1 ++ (21 ∷ bytes 2 0x32
+    ++ (bytes 2 0x1B ++ (replicate 16 0xFF ++ (drop 18 (asks x Reading.nobody s 0 a 1 d) ++ l))))))))
 
 accepts : (conn id : ℕ) → Record
 accepts c x = SpliceResponse c 100 x
@@ -107,9 +108,11 @@ results : List Called
 results = each (map (λ r. r .calls) rows) (plays ready card .splicer)
 
 answered : map (λ c. recordsIn (writtenBy (c .answer))) results ≡ map (λ r. r .wants) rows
-unfolding sent from initOf asks timed linked aborts to card plays up ready row mux foreign with behind naming accepts rows each results computing
+unfolding sent from initOf asks timed linked aborts to card plays up ready row mux foreign with behind naming accepts rows each results
+    computing
 answered = refl
 
 read : map (λ c. airMux (c .splicer .queue .started)) results ≡ map (λ r. r .reads) rows
-unfolding sent from initOf asks timed linked aborts to card plays up ready row mux foreign with behind naming accepts rows each results computing
+unfolding sent from initOf asks timed linked aborts to card plays up ready row mux foreign with behind naming accepts rows each results
+    computing
 read = refl

@@ -1,5 +1,6 @@
 -- 01, "Rehearsed situations", P12 as in 02, CR 4: P1 to P14 in one table under one statement, worked through the calls, from the bytes of a
--- request to the records in the answer's bytes. A row also says how many sessions of each connection wait before its last call. Assumes nothing.
+-- request to the records in the answer's bytes. A row also says how many sessions of each connection wait before its last call. Assumes
+-- nothing.
 use mathlib.Core.Path.{_≡_, refl}
 use mathlib.Core.List.{List, [], _∷_, _++_, map}
 use Prim.Native.Nat.{ℕ, zero, suc, _+_, _*_}
@@ -32,7 +33,8 @@ initOf c = from c 0x0001 (bytes 2 2 ++ (padded Card.cardName ++ (replicate 32 0 
 -- a Splice_Request's data: number, PriorSession, time, AccessType, OverridePlaying, Duration; ServiceID 1
 unfoldable pub asks : (id prior seconds micros access over duration : ℕ) → List ℕ
 asks x p s u a o d =
-    bytes 4 x ++ (bytes 4 p ++ (bytes 4 s ++ (bytes 4 u ++ (bytes 2 1 ++ (bytes 4 d ++ (bytes 4 0xFFFFFFFF ++ (bytes 4 0 ++ (a ∷ o ∷ 1 ∷ []))))))))
+    bytes 4 x ++ (bytes 4 p ++ (bytes 4 s ++ (bytes 4 u ++ (bytes 2 1
+    ++ (bytes 4 d ++ (bytes 4 0xFFFFFFFF ++ (bytes 4 0 ++ (a ∷ o ∷ 1 ∷ []))))))))
 
 unfoldable pub timed : (conn id seconds micros access over duration : ℕ) → Call
 timed c x s u a o d = from c 0x0007 (asks x Reading.nobody s u a o d)
@@ -139,7 +141,8 @@ table =
     ∷ row 4 (queued 10 20 20 14) (four 10 20 20 14) new said (wrote (responds 114 99 ∷ []))
     ∷ row 5 (queued 19 0 0 0) (four 19 0 0 0) new said (wrote (responds 100 99 ∷ []))
     ∷ row 6 (queued 20 0 0 0) (four 20 0 0 0) new said (wrote (responds 114 99 ∷ []))
-    ∷ row 7 (timed 0 3 1003 0 3 0 90000 ∷ []) (four 1 0 0 0) (timed 0 5 1003 0 5 0 90000) said (wrote (responds 109 3 ∷ responds 100 5 ∷ []))
+    ∷ row 7 (timed 0 3 1003 0 3 0 90000 ∷ []) (four 1 0 0 0) (timed 0 5 1003 0 5 0 90000) said
+    (wrote (responds 109 3 ∷ responds 100 5 ∷ []))
     ∷ row 8 (timed 0 3 1003 0 3 0 90000 ∷ []) (four 1 0 0 0) (timed 0 5 1003 0 3 0 90000) said (wrote (responds 109 5 ∷ []))
     ∷ row 9 [] (four 0 0 0 0) (timed 0 3 1003 0 3 0 2700000) ends (holds (9297000000 ∷ []))
     ∷ row 10 (shown 1013 0) (four 0 0 0 0) (aborts 0 3) said (stopped 900000)
@@ -160,5 +163,6 @@ shows r =
     (waitingFour b, r .sees (call (r .last) (b .splicer)))
 
 rehearsed : map shows table ≡ map (λ r. (r .waiting, r .wants)) table
-unfolding sent from initOf asks timed aborts to card plays said ends air waitingFour row up ready load queued new four shown against responds completes stopped table shows computing
+unfolding sent from initOf asks timed aborts to card plays said ends air waitingFour row up ready load queued new four shown against
+    responds completes stopped table shows computing
 rehearsed = refl

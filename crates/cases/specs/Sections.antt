@@ -1,4 +1,5 @@
--- 02, CR 7: the two sections of docs/SCTE35.md and others, each put together by hand from its fields; every CRC_32 was made by another program, from
+-- 02, CR 7: the two sections of docs/SCTE35.md and others, each put together by hand from its fields; every CRC_32 was made by another
+-- program, from
 -- a table of 256. The prover computes what is read of each, what comes of it, and the times. Assumes nothing.
 use mathlib.Core.Path.{_≡_, refl}
 use mathlib.Core.Bool.{Bool, true, false}
@@ -12,7 +13,8 @@ use Rattle.rules.specs.declared.Cue.the-variants.{At, Timeless, Silent, Bad}
 use Rattle.rules.specs.declared.WireTime.{WireTime}
 use Rattle.rules.specs.Crc.{crc}
 use Rattle.rules.specs.Cues.{sectionLength, badSection, tableID, isEncrypted, ptsAt, ptsAdjustment, commandLength, commandType, commandAt}
-use Rattle.rules.specs.Cues.{isCancelled, isProgram, hasDuration, isImmediate, insertTimeAt, programSize, loopLength, readCue, allOnes, cueTime}
+use Rattle.rules.specs.Cues.{isCancelled, isProgram, hasDuration, isImmediate, insertTimeAt, programSize, loopLength, readCue, allOnes}
+use Rattle.rules.specs.Cues.{cueTime}
 use Rattle.cases.specs.Scenario.{hex}
 use Rattle.cases.specs.Computing.{computing}
 

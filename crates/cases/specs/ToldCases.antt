@@ -15,18 +15,21 @@ use Rattle.rules.specs.declared.Refusal.the-variants.{NoRoom}
 use Rattle.rules.specs.Lists.{bit, All}
 use Rattle.rules.specs.Bytes.{bytes}
 use Rattle.rules.specs.State.{Splicer, noneHeld}
-use Rattle.rules.specs.Records.{Record, General, InitResponse, AliveResponse, SpliceResponse, SpliceComplete, AbortResponse, ConfigResponse, ExtendedFound, ExtendedNone, CueRequest, recordsIn}
+use Rattle.rules.specs.Records.{Record, General, InitResponse, AliveResponse, SpliceResponse, SpliceComplete, AbortResponse, ConfigResponse}
+use Rattle.rules.specs.Records.{ExtendedFound, ExtendedNone, CueRequest, recordsIn}
 use Rattle.rules.specs.Calls.{Call, opens, closes, messages, ticks, cues, lending}
 use Rattle.demands.specs.History.{Event, wrote, Entry, book, clockAfter}
 use Rattle.demands.specs.Told
-use Rattle.demands.specs.Told.{answers, fullTold, isOut, outsOf, startedTold, unended, Ended, entriesOf, Stands, countsTold, airMuxTold, MuxInRange, connOf, concerned, Carries, grantedBy}
+use Rattle.demands.specs.Told.{answers, fullTold, isOut, outsOf, startedTold, unended, Ended, entriesOf, Stands, countsTold, airMuxTold}
+use Rattle.demands.specs.Told.{MuxInRange, connOf, concerned, Carries, grantedBy}
 use Rattle.cases.specs.Scenario.{hex}
 use Rattle.cases.specs.Computing.{computing}
 use Rattle.cases.specs.Heard.{heard, spoken, silent, denied, till, says, splice, unlike, unordered, not-true}
 
 -- what the definitions of demands' Told are computed with
 unfoldable telling : ℕ
-unfolding Told.answers Told.fullTold Told.isOut Told.startedReplied Told.startedTold Told.airMuxTold Told.concerned Told.Carries Told.grantedBy heard spoken silent denied till says splice computing
+unfolding Told.answers Told.fullTold Told.isOut Told.startedReplied Told.startedTold Told.airMuxTold Told.concerned Told.Carries
+    Told.grantedBy heard spoken silent denied till says splice computing
 telling = 0
 
 -- ## Records

@@ -1,4 +1,5 @@
--- Worked cases of 01, of 02's CR 4 and of the demands beside P1 to P14, from the bytes of requests to the records in the answers' bytes. Assumes nothing.
+-- Worked cases of 01, of 02's CR 4 and of the demands beside P1 to P14, from the bytes of requests to the records in the answers' bytes.
+-- Assumes nothing.
 use mathlib.Core.Path.{_≡_, refl}
 use mathlib.Core.List.{List, [], _∷_, _++_, map}
 use Prim.Native.Nat.{ℕ, zero, suc, _+_}
@@ -131,7 +132,8 @@ waitingFlag = timed 1 1 1003 0 3 1 90000 ∷ timed 0 9 1003 0 3 0 90000 ∷ []
 -- "at a start the equal one on air ends at once": 4 covers a 2 and has followers; 7 ends it; the end of 7 resumes the 2 and not 4
 overCovered : List Call
 overCovered =
-    timed 0 2 1003 0 2 0 2700000 ∷ timed 1 4 1006 0 4 1 1800000 ∷ linked 1 5 4 90000 ∷ linked 1 6 5 90000 ∷ timed 2 7 1010 0 4 1 900000 ∷ to 1040 0 ∷ []
+    timed 0 2 1003 0 2 0 2700000 ∷ timed 1 4 1006 0 4 1 1800000 ∷ linked 1 5 4 90000 ∷ linked 1 6 5 90000 ∷ timed 2 7 1010 0 4 1 900000
+    ∷ to 1040 0 ∷ []
 
 -- three equal ones by one tick, each ending the one before
 inARow : List Call
@@ -143,7 +145,8 @@ atItsEnd = timed 0 1 1003 0 4 0 270000 ∷ timed 1 2 1006 0 4 1 90000 ∷ to 100
 
 -- an equal one that was covered for a while, with a follower: its time on air is both stretches
 coveredBefore : List Call
-coveredBefore = timed 1 1 1010 0 3 0 8100000 ∷ linked 1 2 1 90000 ∷ timed 0 5 1020 0 5 1 900000 ∷ timed 2 9 1040 0 3 1 900000 ∷ to 1040 0 ∷ []
+coveredBefore = timed 1 1 1010 0 3 0 8100000 ∷ linked 1 2 1 90000 ∷ timed 0 5 1020 0 5 1 900000 ∷ timed 2 9 1040 0 3 1 900000 ∷ to 1040 0
+    ∷ []
 
 -- resumed by a higher one's end, and ended by an equal one's start at the same instant
 resumedAndEnded : List Call
@@ -174,35 +177,47 @@ stops c r x d = SpliceComplete c r x 1 d
 
 cases : List Case
 cases =
-    says three (accepts 0 1 ∷ accepts 0 2 ∷ accepts 0 3 ∷ AbortResponse 0 100 1 ∷ SpliceResponse 0 116 1 ∷ SpliceResponse 0 116 2 ∷ SpliceResponse 0 116 3 ∷ [])
+    says three (accepts 0 1 ∷ accepts 0 2 ∷ accepts 0 3 ∷ AbortResponse 0 100 1 ∷ SpliceResponse 0 116 1 ∷ SpliceResponse 0 116 2
+    ∷ SpliceResponse 0 116 3 ∷ [])
     ∷ counting (lastWrites through) (128 ∷ [])
     ∷ counting (ended through) (replicate 64 1)
-    ∷ says incident (accepts 0 7 ∷ begins 0 7 ∷ stops 0 116 7 630000 ∷ InitResponse 0 100 Card.cardName ∷ accepts 0 7 ∷ begins 0 7 ∷ stops 0 100 7 900000 ∷ [])
+    ∷ says incident (accepts 0 7 ∷ begins 0 7 ∷ stops 0 116 7 630000 ∷ InitResponse 0 100 Card.cardName ∷ accepts 0 7 ∷ begins 0 7
+    ∷ stops 0 100 7 900000 ∷ [])
     ∷ counting (ended incident) (1 ∷ 1 ∷ [])
     ∷ says behindZero (InitResponse 0 100 Card.cardName ∷ [])
     ∷ says oneTick (accepts 0 1 ∷ begins 0 1 ∷ [])
     ∷ says (oneTick ++ (to 1003 13 ∷ [])) (accepts 0 1 ∷ begins 0 1 ∷ stops 0 100 1 1 ∷ [])
-    ∷ says onlyDirect (accepts 0 1 ∷ accepts 0 2 ∷ accepts 0 3 ∷ begins 0 1 ∷ AbortResponse 0 100 1 ∷ stops 0 116 1 90000 ∷ SpliceResponse 0 116 2 ∷ SpliceResponse 0 116 3 ∷ [])
+    ∷ says onlyDirect (accepts 0 1 ∷ accepts 0 2 ∷ accepts 0 3 ∷ begins 0 1 ∷ AbortResponse 0 100 1 ∷ stops 0 116 1 90000
+    ∷ SpliceResponse 0 116 2 ∷ SpliceResponse 0 116 3 ∷ [])
     ∷ says handOver (accepts 0 1 ∷ accepts 0 2 ∷ begins 0 1 ∷ stops 0 100 1 90000 ∷ begins 0 2 ∷ [])
-    ∷ says slot (accepts 0 3 ∷ accepts 1 5 ∷ begins 0 3 ∷ begins 1 5 ∷ stops 1 116 5 360000 ∷ accepts 2 6 ∷ begins 2 6 ∷ stops 2 100 6 900000 ∷ stops 0 100 3 1440000 ∷ [])
+    ∷ says slot (accepts 0 3 ∷ accepts 1 5 ∷ begins 0 3 ∷ begins 1 5 ∷ stops 1 116 5 360000 ∷ accepts 2 6 ∷ begins 2 6
+    ∷ stops 2 100 6 900000 ∷ stops 0 100 3 1440000 ∷ [])
     ∷ counting (ended slot) (1 ∷ 1 ∷ 1 ∷ [])
     ∷ counting (ended fullBefore) (replicate 20 0)
     ∷ lastSays equalFull (SpliceResponse 0 114 99 ∷ [])
     ∷ lastSays equalSum (SpliceResponse 0 114 99 ∷ [])
     ∷ lastSays equalReserved (SpliceResponse 1 109 5 ∷ accepts 0 99 ∷ [])
-    ∷ says evictEqual (accepts 1 1 ∷ accepts 1 2 ∷ accepts 1 3 ∷ SpliceResponse 1 109 1 ∷ SpliceResponse 1 109 2 ∷ SpliceResponse 1 109 3 ∷ accepts 0 9 ∷ [])
+    ∷ says evictEqual (accepts 1 1 ∷ accepts 1 2 ∷ accepts 1 3 ∷ SpliceResponse 1 109 1 ∷ SpliceResponse 1 109 2 ∷ SpliceResponse 1 109 3
+    ∷ accepts 0 9 ∷ [])
     ∷ says waitingFlag (accepts 1 1 ∷ SpliceResponse 0 109 9 ∷ [])
-    ∷ says overCovered (accepts 0 2 ∷ accepts 1 4 ∷ accepts 1 5 ∷ accepts 1 6 ∷ accepts 2 7 ∷ begins 0 2 ∷ begins 1 4 ∷ stops 1 125 4 360000 ∷ SpliceResponse 1 125 5 ∷ SpliceResponse 1 125 6 ∷ begins 2 7 ∷ stops 2 100 7 900000 ∷ stops 0 100 2 1440000 ∷ [])
+    ∷ says overCovered (accepts 0 2 ∷ accepts 1 4 ∷ accepts 1 5 ∷ accepts 1 6 ∷ accepts 2 7 ∷ begins 0 2 ∷ begins 1 4 ∷ stops 1 125 4 360000
+    ∷ SpliceResponse 1 125 5 ∷ SpliceResponse 1 125 6 ∷ begins 2 7 ∷ stops 2 100 7 900000 ∷ stops 0 100 2 1440000 ∷ [])
     ∷ counting (ended overCovered) (replicate 5 1)
-    ∷ says inARow (accepts 0 1 ∷ accepts 0 2 ∷ accepts 1 3 ∷ begins 0 1 ∷ stops 0 125 1 90000 ∷ begins 0 2 ∷ stops 0 125 2 90000 ∷ begins 1 3 ∷ stops 1 100 3 900000 ∷ [])
+    ∷ says inARow (accepts 0 1 ∷ accepts 0 2 ∷ accepts 1 3 ∷ begins 0 1 ∷ stops 0 125 1 90000 ∷ begins 0 2 ∷ stops 0 125 2 90000
+    ∷ begins 1 3 ∷ stops 1 100 3 900000 ∷ [])
     ∷ says atItsEnd (accepts 0 1 ∷ accepts 1 2 ∷ begins 0 1 ∷ stops 0 100 1 270000 ∷ begins 1 2 ∷ [])
-    ∷ says resumedAndEnded (accepts 0 1 ∷ accepts 1 2 ∷ accepts 2 3 ∷ begins 0 1 ∷ begins 1 2 ∷ stops 1 100 2 180000 ∷ stops 0 125 1 90000 ∷ begins 2 3 ∷ [])
-    ∷ says coveredBefore (accepts 1 1 ∷ accepts 1 2 ∷ accepts 0 5 ∷ accepts 2 9 ∷ begins 1 1 ∷ begins 0 5 ∷ stops 0 100 5 900000 ∷ stops 1 125 1 1800000 ∷ SpliceResponse 1 125 2 ∷ begins 2 9 ∷ [])
+    ∷ says resumedAndEnded (accepts 0 1 ∷ accepts 1 2 ∷ accepts 2 3 ∷ begins 0 1 ∷ begins 1 2 ∷ stops 1 100 2 180000 ∷ stops 0 125 1 90000
+    ∷ begins 2 3 ∷ [])
+    ∷ says coveredBefore (accepts 1 1 ∷ accepts 1 2 ∷ accepts 0 5 ∷ accepts 2 9 ∷ begins 1 1 ∷ begins 0 5 ∷ stops 0 100 5 900000
+    ∷ stops 1 125 1 1800000 ∷ SpliceResponse 1 125 2 ∷ begins 2 9 ∷ [])
     ∷ says noFlag (accepts 0 1 ∷ accepts 1 2 ∷ begins 0 1 ∷ SpliceComplete 1 109 2 0 0 ∷ [])
     ∷ counting (started ten) (99 ∷ 8 ∷ 7 ∷ 6 ∷ 5 ∷ 4 ∷ 3 ∷ 2 ∷ 1 ∷ 0 ∷ [])
     ∷ counting (lastWrites ten) (2 ∷ [])
     ∷ []
 
 worked : map (λ c. c .seen) cases ≡ map (λ c. c .wants) cases
-unfolding lastSays equalFull equalSum equalReserved fullBefore evictEqual waitingFlag overCovered inARow atItsEnd coveredBefore resumedAndEnded noFlag climb ten started sent from initOf asks timed aborts to card plays up ready load queued linked known joined played says counting accepts begins stops lastWrites cases events ended three through incident behindZero oneTick onlyDirect handOver slot computing
+unfolding lastSays equalFull equalSum equalReserved fullBefore evictEqual waitingFlag overCovered inARow atItsEnd coveredBefore
+    resumedAndEnded noFlag climb ten started sent from initOf asks timed aborts to card plays up ready load queued linked known joined
+    played says counting accepts begins stops lastWrites cases events ended three through incident behindZero oneTick onlyDirect handOver
+    slot computing
 worked = refl

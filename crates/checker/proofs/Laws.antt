@@ -40,11 +40,15 @@ pub record Unread (r : Judged) (m : List ℕ) : Type 0 where
 pub unread-met : (r : Judged) → r .behind ≡ Short → Unread r []
 unread-met r e = record { short = λ _. refl; tries = subst (λ (b : Behind). Tries b []) (sym e) tt }
 
-pub unread-behind : (r : Judged) (c : Came) (x : ℕ) (m : List ℕ) → r .behind ≡ Tried c → 0 < c .count → longest ≤ r .read .count → Unread r (x ∷ m)
+pub unread-behind : (r : Judged) (c : Came) (x : ℕ) (m : List ℕ) → r .behind ≡ Tried c → 0 < c .count → longest ≤ r .read .count
+    → Unread r (x ∷ m)
 unread-behind r c x m e h full =
     record {
       short = λ s. absurd (omega (arith, s, full));
-      tries = subst (λ (b : Behind). Tries b (x ∷ m)) (sym e) ((λ _ n. absurd (omega (arith, ap length n))), λ z. absurd (omega (arith, h, z)));
+      tries = subst (λ (b : Behind). Tries b (x ∷ m)) (sym e) (
+        (λ _ n. absurd (omega (arith, ap length n))),
+        λ z. absurd (omega (arith, h, z)),
+      );
     }
 
 -- what is found is what the definition finds in the whole input

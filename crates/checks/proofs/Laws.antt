@@ -21,7 +21,8 @@ use Rattle.rules.specs.Reading.{nobody}
 use Rattle.rules.specs.Lists.{All, bit, some, place, removeAt}
 use Rattle.rules.specs.State.{Queue, empty, of, is, startsAt, startsAfter, held, holds, Sorted}
 use Rattle.rules.specs.Instants.{outranks}
-use Rattle.rules.specs.Answers.{endOf, startOf, unknownPrior, wrongNumber, collides, waits, raisedSum, full, spliceResult, sessionAt, priorOf, tooLate, sumOf}
+use Rattle.rules.specs.Answers.{endOf, startOf, unknownPrior, wrongNumber, collides, waits, raisedSum, full, spliceResult, sessionAt}
+use Rattle.rules.specs.Answers.{priorOf, tooLate, sumOf}
 use Rattle.rules.specs.Sound.{heldCount, Once}
 use Rattle.rules.proofs.Tests.{clash, by}
 use Rattle.rules.proofs.All.{all-into}

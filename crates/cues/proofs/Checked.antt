@@ -98,7 +98,8 @@ own-byte c b e = same-shifts 8 c b (same8 c b e) ∙ shifted8 c
 
 own-bytes : (c : ℕ) → Register c → crcFrom c (bytes 4 c) ≡ 0
 unfolding crcFrom bytes
-own-bytes c h = rw (own-byte c _ (one c h)) (rw (own-byte _ _ (two c h)) (rw (own-byte _ _ (three c h)) (own-byte _ _ (four c h) ∙ nothing c h)))
+own-bytes c h = rw (own-byte c _ (one c h)) (rw (own-byte _ _ (two c h))
+    (rw (own-byte _ _ (three c h)) (own-byte _ _ (four c h) ∙ nothing c h)))
   where
     one : (c : ℕ) → Register c → c / 16777216 ≡ c / 256 / 256 / 256 % 256
     one c h = omega arith
@@ -120,7 +121,8 @@ pub crc-closes : (l : List ℕ) → rightCrc (l ++ bytes 4 (crc l)) ≡ true
 unfolding crc
 crc-closes l =
     eq-eqb _ 0
-    (from-append 0xFFFFFFFF l (bytes 4 (crcFrom 0xFFFFFFFF l)) ∙ own-bytes (crcFrom 0xFFFFFFFF l) (from-register 0xFFFFFFFF l (omega arith)))
+    (from-append 0xFFFFFFFF l (bytes 4 (crcFrom 0xFFFFFFFF l))
+    ∙ own-bytes (crcFrom 0xFFFFFFFF l) (from-register 0xFFFFFFFF l (omega arith)))
 
 -- ## Every step can be taken back
 
@@ -135,14 +137,16 @@ xor-back =
     (λ a back x y e.
     parts (bitXor (a / 2) (x / 2)) (bitXor (a / 2) (y / 2)) (differ (a % 2) (x % 2)) (differ (a % 2) (y % 2)) x y
     (digit-below (a % 2) (x % 2) (omega arith) (omega arith)) (digit-below (a % 2) (y % 2) (omega arith) (omega arith))
-    (sym (xor-step a x) ∙ e ∙ xor-step a y) (back (x / 2) (y / 2)) (digit-back (a % 2) (x % 2) (y % 2) (omega arith) (omega arith) (omega arith)))
+    (sym (xor-step a x) ∙ e ∙ xor-step a y) (back (x / 2) (y / 2)) (digit-back (a % 2) (x % 2) (y % 2) (omega arith) (omega arith)
+    (omega arith)))
   where
     parts : (p q d f x y : ℕ) → d < 2 → f < 2 → p * 2 + d ≡ q * 2 + f → (p ≡ q → x / 2 ≡ y / 2) → (d ≡ f → x % 2 ≡ y % 2) → x ≡ y
     parts p q d f x y h k e u v = let i = u (omega arith) in let j = v (omega arith) in omega arith
 
 -- an even register is odd behind the XOR
 xor-odd : (d : ℕ) → d % 2 ≡ 0 → bitXor 0x04C11DB7 d % 2 ≡ 1
-xor-odd d e = ap (λ x. x % 2) (xor-step 0x04C11DB7 d ∙ ap (λ y. bitXor (0x04C11DB7 / 2) (d / 2) * 2 + differ 1 y) e) ∙ odd (bitXor (0x04C11DB7 / 2) (d / 2))
+xor-odd d e = ap (λ x. x % 2) (xor-step 0x04C11DB7 d ∙ ap (λ y. bitXor (0x04C11DB7 / 2) (d / 2) * 2 + differ 1 y) e)
+    ∙ odd (bitXor (0x04C11DB7 / 2) (d / 2))
   where
     odd : (n : ℕ) → (n * 2 + 1) % 2 ≡ 1
     odd n = omega arith
@@ -172,14 +176,16 @@ module _ (c d : ℕ) (h : Register c) (k : Register d) where
   bit-back x l e = go (eqb (c / 2147483648) x) (eqb (d / 2147483648) x) refl refl e
     where
       go : (a b : Bool) → eqb (c / 2147483648) x ≡ a → eqb (d / 2147483648) x ≡ b
-          → cond a (c * 2 % 4294967296) (bitXor 0x04C11DB7 (c * 2 % 4294967296)) ≡ cond b (d * 2 % 4294967296) (bitXor 0x04C11DB7 (d * 2 % 4294967296))
+          → cond a (c * 2 % 4294967296) (bitXor 0x04C11DB7 (c * 2 % 4294967296))
+          ≡ cond b (d * 2 % 4294967296) (bitXor 0x04C11DB7 (d * 2 % 4294967296))
           → c ≡ d
       go true true u v e = whole-register (eqb-true (c / 2147483648) x u ∙ sym (eqb-true (d / 2147483648) x v)) e
       go true false u v e = absurd (xor-never c d e)
       go false true u v e = absurd (xor-never d c (sym e))
       go false false u v e =
           whole-register
-          (two-others (c / 2147483648) (d / 2147483648) x (omega arith) (omega arith) l (eqb-false (c / 2147483648) x u) (eqb-false (d / 2147483648) x v))
+          (two-others (c / 2147483648) (d / 2147483648) x (omega arith) (omega arith) l (eqb-false (c / 2147483648) x u)
+          (eqb-false (d / 2147483648) x v))
           (xor-back 0x04C11DB7 (c * 2 % 4294967296) (d * 2 % 4294967296) e)
 
 bit-apart : (c x y : ℕ) → Register c → x < 2 → y < 2 → crcBit c x ≡ crcBit c y → x ≡ y
@@ -187,7 +193,8 @@ unfolding crcBit
 bit-apart c x y h k l e = go (eqb (c / 2147483648) x) (eqb (c / 2147483648) y) refl refl e
   where
     go : (a b : Bool) → eqb (c / 2147483648) x ≡ a → eqb (c / 2147483648) y ≡ b
-        → cond a (c * 2 % 4294967296) (bitXor 0x04C11DB7 (c * 2 % 4294967296)) ≡ cond b (c * 2 % 4294967296) (bitXor 0x04C11DB7 (c * 2 % 4294967296))
+        → cond a (c * 2 % 4294967296) (bitXor 0x04C11DB7 (c * 2 % 4294967296))
+        ≡ cond b (c * 2 % 4294967296) (bitXor 0x04C11DB7 (c * 2 % 4294967296))
         → x ≡ y
     go true true u v e = omega (arith, eqb-true (c / 2147483648) x u, eqb-true (c / 2147483648) y v)
     go true false u v e = absurd (xor-never c c e)
@@ -199,7 +206,8 @@ unfolding crcBits
 bits-back zero c d b h k l e = e
 bits-back (suc n) c d b h k l e =
     bit-back c d h k (b / 128) (omega arith)
-    (bits-back n (crcBit c (b / 128)) (crcBit d (b / 128)) (b * 2 % 256) (bit-register c (b / 128)) (bit-register d (b / 128)) (omega arith) e)
+    (bits-back n (crcBit c (b / 128)) (crcBit d (b / 128)) (b * 2 % 256) (bit-register c (b / 128)) (bit-register d (b / 128)) (omega arith)
+    e)
 
 from-back : (c d : ℕ) (l : List ℕ) → Register c → Register d → All Byte l → crcFrom c l ≡ crcFrom d l → c ≡ d
 unfolding crcFrom
@@ -222,7 +230,8 @@ wrong128 : (n c x : ℕ) → Register c → Byte x → x / 128 % 2 ≡ 0 → crc
 unfolding crcBits
 wrong128 n c x h k z e =
     let same : (x + 128) * 2 % 256 ≡ x * 2 % 256 = omega arith in
-    let back = bits-back n (crcBit c (x / 128)) (crcBit c ((x + 128) / 128)) (x * 2 % 256) (bit-register c (x / 128)) (bit-register c ((x + 128) / 128)) (omega arith)
+    let back = bits-back n (crcBit c (x / 128)) (crcBit c ((x + 128) / 128)) (x * 2 % 256) (bit-register c (x / 128))
+    (bit-register c ((x + 128) / 128)) (omega arith)
     (e ∙ ap (crcBits n (crcBit c ((x + 128) / 128))) same) in
     omega (arith, bit-apart c (x / 128) ((x + 128) / 128) h (omega arith) (omega arith) back)
 
@@ -236,27 +245,32 @@ wrong32 n c x h k z e =
     wrong64 n (crcBit c (x / 128)) (x * 2 % 256) (bit-register c (x / 128)) (omega arith) (omega arith)
     (bit-past (suc (suc n)) c x 32 (omega arith) e)
 
-wrong16 : (n c x : ℕ) → Register c → Byte x → x / 16 % 2 ≡ 0 → crcBits (suc (suc (suc (suc n)))) c x ≡ crcBits (suc (suc (suc (suc n)))) c (x + 16) → ⊥
+wrong16 : (n c x : ℕ) → Register c → Byte x → x / 16 % 2 ≡ 0 → crcBits (suc (suc (suc (suc n)))) c x
+    ≡ crcBits (suc (suc (suc (suc n)))) c (x + 16) → ⊥
 wrong16 n c x h k z e =
     wrong32 n (crcBit c (x / 128)) (x * 2 % 256) (bit-register c (x / 128)) (omega arith) (omega arith)
     (bit-past (suc (suc (suc n))) c x 16 (omega arith) e)
 
-wrong8 : (n c x : ℕ) → Register c → Byte x → x / 8 % 2 ≡ 0 → crcBits (suc (suc (suc (suc (suc n))))) c x ≡ crcBits (suc (suc (suc (suc (suc n))))) c (x + 8) → ⊥
+wrong8 : (n c x : ℕ) → Register c → Byte x → x / 8 % 2 ≡ 0 → crcBits (suc (suc (suc (suc (suc n))))) c x
+    ≡ crcBits (suc (suc (suc (suc (suc n))))) c (x + 8) → ⊥
 wrong8 n c x h k z e =
     wrong16 n (crcBit c (x / 128)) (x * 2 % 256) (bit-register c (x / 128)) (omega arith) (omega arith)
     (bit-past (suc (suc (suc (suc n)))) c x 8 (omega arith) e)
 
-wrong4 : (n c x : ℕ) → Register c → Byte x → x / 4 % 2 ≡ 0 → crcBits (suc (suc (suc (suc (suc (suc n)))))) c x ≡ crcBits (suc (suc (suc (suc (suc (suc n)))))) c (x + 4) → ⊥
+wrong4 : (n c x : ℕ) → Register c → Byte x → x / 4 % 2 ≡ 0 → crcBits (suc (suc (suc (suc (suc (suc n)))))) c x
+    ≡ crcBits (suc (suc (suc (suc (suc (suc n)))))) c (x + 4) → ⊥
 wrong4 n c x h k z e =
     wrong8 n (crcBit c (x / 128)) (x * 2 % 256) (bit-register c (x / 128)) (omega arith) (omega arith)
     (bit-past (suc (suc (suc (suc (suc n))))) c x 4 (omega arith) e)
 
-wrong2 : (n c x : ℕ) → Register c → Byte x → x / 2 % 2 ≡ 0 → crcBits (suc (suc (suc (suc (suc (suc (suc n))))))) c x ≡ crcBits (suc (suc (suc (suc (suc (suc (suc n))))))) c (x + 2) → ⊥
+wrong2 : (n c x : ℕ) → Register c → Byte x → x / 2 % 2 ≡ 0 → crcBits (suc (suc (suc (suc (suc (suc (suc n))))))) c x
+    ≡ crcBits (suc (suc (suc (suc (suc (suc (suc n))))))) c (x + 2) → ⊥
 wrong2 n c x h k z e =
     wrong4 n (crcBit c (x / 128)) (x * 2 % 256) (bit-register c (x / 128)) (omega arith) (omega arith)
     (bit-past (suc (suc (suc (suc (suc (suc n)))))) c x 2 (omega arith) e)
 
-wrong1 : (n c x : ℕ) → Register c → Byte x → x % 2 ≡ 0 → crcBits (suc (suc (suc (suc (suc (suc (suc (suc n)))))))) c x ≡ crcBits (suc (suc (suc (suc (suc (suc (suc (suc n)))))))) c (x + 1) → ⊥
+wrong1 : (n c x : ℕ) → Register c → Byte x → x % 2 ≡ 0 → crcBits (suc (suc (suc (suc (suc (suc (suc (suc n)))))))) c x
+    ≡ crcBits (suc (suc (suc (suc (suc (suc (suc (suc n)))))))) c (x + 1) → ⊥
 wrong1 n c x h k z e =
     wrong2 n (crcBit c (x / 128)) (x * 2 % 256) (bit-register c (x / 128)) (omega arith) (omega arith)
     (bit-past (suc (suc (suc (suc (suc (suc (suc n))))))) c x 1 (omega arith) e)
@@ -280,4 +294,5 @@ one-bit-wrong a r x i b k l z u v =
     let c = crcFrom 0xFFFFFFFF a in
     let h : Register c = from-register 0xFFFFFFFF a (omega arith) in
     let e = sym (from-append 0xFFFFFFFF a (x ∷ r)) ∙ eqb-true _ 0 u ∙ sym (eqb-true _ 0 v) ∙ from-append 0xFFFFFFFF a ((x + 2 ^ i) ∷ r) in
-    byte-wrong i c x l h k z (from-back (crcByte c x) (crcByte c (x + 2 ^ i)) r (bits-register 8 c x h) (bits-register 8 c (x + 2 ^ i) h) b e)
+    byte-wrong i c x l h k z (from-back (crcByte c x) (crcByte c (x + 2 ^ i)) r (bits-register 8 c x h) (bits-register 8 c (x + 2 ^ i) h) b
+    e)

@@ -13,7 +13,8 @@ use borrow.Author.Tests.{ltb-false, lt-ltb, le-ltb, eq-eqb, ne-eqb}
 use Rattle.rules.proofs.Cue.{the-type}
 use Rattle.rules.proofs.Tests.{by, or-none}
 use Rattle.rules.specs.Cues.{sectionLength, badSection, commandLength, commandRoom, givenOtherwise, loopLength, badLengths}
-use Rattle.rules.specs.Cues.{isSpecified, timeSize, isImmediate, hasDuration, insertTimeAt, programSize, ptsTurn, allOnes, ticksAfter, cueTime}
+use Rattle.rules.specs.Cues.{isSpecified, timeSize, isImmediate, hasDuration, insertTimeAt, programSize, ptsTurn, allOnes, ticksAfter}
+use Rattle.rules.specs.Cues.{cueTime}
 use Rattle.rules.specs.declared.Cue.{Cue}
 use Rattle.rules.specs.declared.Cue.the-variants.{At, Timeless, Silent, Bad}
 
@@ -62,7 +63,8 @@ module _ (c : ℕ) (l : List ℕ) where
 
   -- a command whose lengths fit lies before descriptor_loop_length
   pub command-fits : badLengths c l ≡ false → c ≤ commandRoom l
-  command-fits e = ltb-false (commandRoom l) c (or-none (ltb (commandRoom l) c) (givenOtherwise c l || ltb (commandRoom l) (c + loopLength c l)) e .0)
+  command-fits e = ltb-false (commandRoom l) c (or-none (ltb (commandRoom l) c)
+      (givenOtherwise c l || ltb (commandRoom l) (c + loopLength c l)) e .0)
 
 -- a section of so many bytes, beside a command of n
 pub room-under : (n : ℕ) (l : List ℕ) → 0 < n → length l < 20 + n → ltb (commandRoom l) n ≡ true
@@ -85,7 +87,8 @@ module _ (l : List ℕ) where
   timed-small = by (λ n. n ≤ 5) (isImmediate l) 0 (timeSize insertTimeAt l) (λ e. omega arith) (λ e. time-small insertTimeAt l)
 
   -- where a splice_time is read, the command has its bytes
-  pub timed-fits : isImmediate l ≡ false → badLengths (programSize l) l ≡ false → 20 ≤ length l → insertTimeAt + timeSize insertTimeAt l ≤ length l
+  pub timed-fits : isImmediate l ≡ false → badLengths (programSize l) l ≡ false → 20 ≤ length l
+      → insertTimeAt + timeSize insertTimeAt l ≤ length l
   timed-fits e f g = timed (programSize l) (timeSize insertTimeAt l) (command-fits (programSize l) l f) (rw e (omega arith))
     where
       timed : (n t : ℕ) → n ≤ commandRoom l → 6 + t ≤ n → insertTimeAt + t ≤ length l

@@ -121,7 +121,8 @@ module _ (c b : ℕ) (h : Register c) (k : b < 256) where
   turn-step : crcBit x 0 ≡ bitXor (crcBit c (b / 128)) e
   unfolding crcBit
   turn-step =
-      ap₂ (λ (t : Bool) y. cond t y (bitXor 0x04C11DB7 y)) (ap (λ y. eqb y 0) top ∙ same-digit (c / 2147483648) (b / 128) (omega arith) (omega arith)) shift
+      ap₂ (λ (t : Bool) y. cond t y (bitXor 0x04C11DB7 y)) (ap (λ y. eqb y 0) top
+      ∙ same-digit (c / 2147483648) (b / 128) (omega arith) (omega arith)) shift
       ∙ go (eqb (c / 2147483648) (b / 128))
     where
       go : (t : Bool) → cond t (bitXor d e) (bitXor 0x04C11DB7 (bitXor d e)) ≡ bitXor (cond t d (bitXor 0x04C11DB7 d)) e
@@ -136,7 +137,8 @@ left (suc n) b = left n (b * 2 % 256)
 turns-byte : (n c b : ℕ) → Register c → b < 256 → turns n (bitXor c (b * 16777216)) ≡ bitXor (crcBits n c b) (left n b * 16777216)
 unfolding turns crcBits left
 turns-byte zero c b h k = refl
-turns-byte (suc n) c b h k = ap (turns n) (turn-step c b h k) ∙ turns-byte n (crcBit c (b / 128)) (b * 2 % 256) (bit-register c (b / 128)) (omega arith)
+turns-byte (suc n) c b h k = ap (turns n) (turn-step c b h k) ∙ turns-byte n (crcBit c (b / 128)) (b * 2 % 256) (bit-register c (b / 128))
+    (omega arith)
 
 left-none : (b : ℕ) → b < 256 → left 8 b ≡ 0
 unfolding left

@@ -1,4 +1,5 @@
--- 02, CR 7, of a cue's time: the ticks are those to the first such PTS (`ticks-first`), the time that is written is the last microsecond not after
+-- 02, CR 7, of a cue's time: the ticks are those to the first such PTS (`ticks-first`), the time that is written is the last microsecond
+-- not after
 -- the exact one (`cue-time`), and all ones are written exactly without a pts_time or past the field (`cue-time-ones`). Assumes nothing.
 use mathlib.Core.Path.{_≡_, refl, sym, ap, _∙_}
 use mathlib.Core.Bool.{Bool, true, false, cond}

@@ -24,7 +24,8 @@ fn four_turns(c: u32) -> u32
     turn(three)
 }
 
-// A byte, its highest bit first. All eight go into the register's highest bits at once; without a loop, in which a compiler would see a table's work.
+// A byte, its highest bit first. All eight go into the register's highest bits at once; without a loop, in which a compiler would see a
+// table's work.
 fn byte_in(c: u32, b: u8) -> u32
     ensures { λ r. ⌜ r ≡ crcByte c b ⌝ }
 {

@@ -14,7 +14,8 @@ use Rattle.rules.specs.State.{Queue, Splicer, is}
 use Rattle.rules.specs.Records.{Record, recordsIn}
 use Rattle.rules.specs.Ends.{Turn, quiet, writes, andThen, evicted, closedBy}
 use Rattle.rules.specs.Answers.{requested, accepts, accepted}
-use Rattle.rules.specs.Calls.{Answer, refused, good, Called, Call, opens, closes, messages, ticks, moves, cues, ticked, call, writtenBy, after, named, fresh}
+use Rattle.rules.specs.Calls.{Answer, refused, good, Called, Call, opens, closes, messages, ticks, moves, cues, ticked, call, writtenBy}
+use Rattle.rules.specs.Calls.{after, named, fresh}
 use Rattle.demands.specs.History.{Event, Entry, entryIs, isStart, startsOf, endsOf, replyOf, history, front, othersOf, book}
 use Rattle.rules.specs.Sound.{heldCount, Once, Wired, Sound}
 use Rattle.rules.proofs.Tests.{by}
@@ -46,8 +47,10 @@ record Airs (c x : ℕ) (q u : Queue) (k : Call) (rs : List Record) : Type 0 whe
 
 module _ (c x : ℕ) where
   -- a piece of work, and an own answer that says nothing of it
-  airs-turn : (q u : Queue) (t : Turn) (k : Call) (rs : List Record) → Once q → Law c x q t → tally c x (u .started) ≡ tally c x (t .queue .started)
-      → endsOf c x (othersOf k rs) ≡ endsOf c x (t .written) → startsOf c x rs ≡ startsOf c x (t .written) → outsOf c x rs ≡ outsOf c x (t .written) → Airs c x q u k rs
+  airs-turn : (q u : Queue) (t : Turn) (k : Call) (rs : List Record) → Once q → Law c x q t
+      → tally c x (u .started) ≡ tally c x (t .queue .started)
+      → endsOf c x (othersOf k rs) ≡ endsOf c x (t .written) → startsOf c x rs ≡ startsOf c x (t .written)
+      → outsOf c x rs ≡ outsOf c x (t .written) → Airs c x q u k rs
   airs-turn q u t k rs once l same e s o =
       let z = once c x in
       record { ends = omega (arith, l .kept); started = omega (arith, l .kept, l .grown, l .begun); outs = omega (arith, l .aired) }
@@ -66,19 +69,24 @@ module _ (c x : ℕ) where
           refusing = λ k n. airs-turn q q (quiet q) k [] once (quiet-law c x q) refl (rw (own-none k)) refl refl;
           opening = λ d low e. airs-turn q q (quiet q) (opens d) [] once (quiet-law c x q) refl refl refl refl;
           closing = λ d room low e. airs-turn q _ (closedBy d q) (closes d room) _ once (closedBy-law c x d q) refl refl refl refl;
-          saying = λ d l loans n rs e p. airs-turn q q (writes rs q) (messages d l loans) rs once (plain-law c x q rs p) refl (rw e) refl refl;
-          naming = λ d l loans n r hw e p. airs-turn q q (writes (r ∷ []) q) (messages d l loans) (r ∷ []) once (plain-law c x q (r ∷ []) p) refl (rw e) refl refl;
+          saying = λ d l loans n rs e p. airs-turn q q (writes rs q) (messages d l loans) rs once (plain-law c x q rs p) refl (rw e) refl
+              refl;
+          naming = λ d l loans n r hw e p. airs-turn q q (writes (r ∷ []) q) (messages d l loans) (r ∷ []) once (plain-law c x q (r ∷ []) p)
+              refl (rw e) refl refl;
           aborting = λ d l loans n y e i. airs-turn q _ _ (messages d l loans) _ once (answered-law c x d y q) refl (rw e) refl refl;
           declining = λ d l loans n r e y o. airs-turn q q (quiet q) (messages d l loans) (r ∷ []) once (quiet-law c x q) refl (rw e)
               (omega (arith, ap bit (o .starts c x))) (omega (arith, ap bit (o .outs c x)));
           accepting = λ d l loans n r e f p. let new = requested d r q in
               let t = evicted (new .start .0) q in
               let one = accepts new ∷ [] in
-              airs-turn q _ t (messages d l loans) (t .written ++ one) once (evicted-law c x (new .start .0) q) refl (rw (e, front-last (t .written) (accepts new)))
+              airs-turn q _ t (messages d l loans) (t .written ++ one) once (evicted-law c x (new .start .0) q) refl
+              (rw (e, front-last (t .written) (accepts new)))
               (omega (arith, count-append (isStart c x) (t .written) one)) (omega (arith, count-append (isOut c x) (t .written) one));
-          ticking = λ seconds micros room le. airs-turn q _ _ (ticks seconds micros room) _ once (tick-law c x (s .clock) (fromMicros (timeOf seconds micros) .0) q) refl refl refl refl;
+          ticking = λ seconds micros room le. airs-turn q _ _ (ticks seconds micros room) _ once
+              (tick-law c x (s .clock) (fromMicros (timeOf seconds micros) .0) q) refl refl refl refl;
           moving = λ until room le. airs-turn q _ _ (moves until room) _ once (tick-law c x (s .clock) until q) refl refl refl refl;
-          cueing = λ l pts seconds micros room rs p. airs-turn q q (writes rs q) (cues l pts seconds micros room) rs once (plain-law c x q rs p) refl refl refl refl;
+          cueing = λ l pts seconds micros room rs p. airs-turn q q (writes rs q) (cues l pts seconds micros room) rs once
+              (plain-law c x q rs p) refl refl refl refl;
         })
 
   -- ## What has started, from the answers
@@ -89,7 +97,8 @@ module _ (c x : ℕ) where
   replied-started k (refused m) n e = rw (own-none k) (omega arith)
   replied-started k (good consumed rs) n e = rw e
 
-  started-after : (ks : List Call) (s : Splicer) → All Wired ks → Sound s → startedTold c x (history ks s) (tally c x (s .queue .started)) ≡ tally c x (after ks s .queue .started)
+  started-after : (ks : List Call) (s : Splicer) → All Wired ks → Sound s
+      → startedTold c x (history ks s) (tally c x (s .queue .started)) ≡ tally c x (after ks s .queue .started)
   unfolding startedTold history after
   started-after [] s a h = refl
   started-after (k ∷ ks) s a h =
@@ -99,8 +108,10 @@ module _ (c x : ℕ) where
       ∙ started-after ks (r .splicer) (a .1) (sound-call s k (a .0) h)
 
   -- after a call, from its answer
-  pub call-started : (k : Call) (s : Splicer) → Wired k → Sound s → startedReplied c x k (replyOf (call k s .answer)) (tally c x (s .queue .started)) ≡ tally c x (call k s .splicer .queue .started)
-  call-started k s w h = replied-started k (call k s .answer) (tally c x (s .queue .started)) (sound-found s k w h) ∙ call-airs s (h .holding .once) k .started
+  pub call-started : (k : Call) (s : Splicer) → Wired k → Sound s
+      → startedReplied c x k (replyOf (call k s .answer)) (tally c x (s .queue .started)) ≡ tally c x (call k s .splicer .queue .started)
+  call-started k s w h = replied-started k (call k s .answer) (tally c x (s .queue .started)) (sound-found s k w h)
+      ∙ call-airs s (h .holding .once) k .started
 
   pub fresh-started : (name : List ℕ) → tally c x (fresh name .splicer .queue .started) ≡ 0
   unfolding fresh named
@@ -108,7 +119,8 @@ module _ (c x : ℕ) where
 
   started-told : (h : List Event) (s : Splicer) → FromFresh h s → startedTold c x h 0 ≡ tally c x (s .queue .started)
   started-told h s f =
-      rw (f .heard, f .same, ← (fresh-started (f .name))) (started-after (f .calls) (fresh (f .name) .splicer) (f .wired) (sound-fresh (f .name) (f .whole) (f .bytes)))
+      rw (f .heard, f .same, ← (fresh-started (f .name))) (started-after (f .calls) (fresh (f .name) .splicer) (f .wired)
+      (sound-fresh (f .name) (f .whole) (f .bytes)))
 
   -- ## What has had no end, from the answers
 
@@ -120,7 +132,8 @@ module _ (c x : ℕ) where
       one zero h = omega arith
       one (suc m) h = omega arith
 
-      go : (b : Bool) → cond {A = Type 0} b ((e .ends + n ≡ 1) × (e .closed ≡ true → n ≡ 0) × Settled c x es) (Owed c x n es) → (Owed c x n es → n ≤ unended c x es)
+      go : (b : Bool) → cond {A = Type 0} b ((e .ends + n ≡ 1) × (e .closed ≡ true → n ≡ 0) × Settled c x es) (Owed c x n es)
+          → (Owed c x n es → n ≤ unended c x es)
           → n ≤ bit (b && eqb (e .ends) 0) + unended c x es
       go true f ih = omega (arith, one (e .ends) (f .0))
       go false f ih = omega (arith, ih f)
@@ -132,5 +145,6 @@ module _ (c x : ℕ) where
     pub ends-accepted : endsOf c x (othersOf k (recordsIn (writtenBy (call k s .answer)))) ≤ unended c x (book h [])
     ends-accepted = omega (arith, airs .ends, owed-unended (heldCount (s .queue) (is c x)) (book h []) (book-told h s f .owed c x))
 
-    pub outs-started : outsOf c x (recordsIn (writtenBy (call k s .answer))) ≤ startedTold c x h 0 + startsOf c x (recordsIn (writtenBy (call k s .answer)))
+    pub outs-started : outsOf c x (recordsIn (writtenBy (call k s .answer))) ≤ startedTold c x h 0
+        + startsOf c x (recordsIn (writtenBy (call k s .answer)))
     outs-started = omega (arith, airs .outs, started-told h s f)

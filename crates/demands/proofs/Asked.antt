@@ -1,4 +1,5 @@
--- What the theorems ask of a call is no more than it shows: a good message call that is read is such a request (`good-asks` and its kin), an
+-- What the theorems ask of a call is no more than it shows: a good message call that is read is such a request (`good-asks` and its kin),
+-- an
 -- open connection that is not `Ready` gets 103, and a call is granted exactly if the book has one entry more. Rests on Refusals and Kept.
 use mathlib.Core.Path.{_≡_, refl, sym, ap, _∙_}
 use mathlib.Core.Bool.{Bool, true, false, cond}

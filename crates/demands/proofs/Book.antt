@@ -1,4 +1,5 @@
--- The book of the accepted sessions beside the splicer: of each number, the newest entry has had its end or is held, and all older ones have
+-- The book of the accepted sessions beside the splicer: of each number, the newest entry has had its end or is held, and all older ones
+-- have
 -- had theirs. Rests on Laws (held before is held after or ended).
 use mathlib.Core.Path.{_≡_, refl, ap, sym, _∙_}
 use mathlib.Core.Bool.{Bool, true, false, cond, _&&_, _||_, and-false}
@@ -20,12 +21,15 @@ use Rattle.rules.specs.declared.Request.{Request}
 use Rattle.rules.specs.Reading.{readSplice, dataIn}
 use Rattle.rules.specs.State.{sameNumber, Queue, Splicer, empty, of, is, held, holds, noneHeld}
 use Rattle.rules.proofs.Checks.{read-id}
-use Rattle.rules.specs.Records.{Record, General, InitResponse, AliveResponse, SpliceResponse, SpliceComplete, AbortResponse, ConfigResponse, ExtendedFound, ExtendedNone, CueRequest}
+use Rattle.rules.specs.Records.{Record, General, InitResponse, AliveResponse, SpliceResponse, SpliceComplete, AbortResponse, ConfigResponse}
+use Rattle.rules.specs.Records.{ExtendedFound, ExtendedNone, CueRequest}
 use Rattle.rules.specs.Ends.{Turn, writes, andThen, evicted, cancelled, closedBy}
 use Rattle.rules.specs.Instants.{runAll}
 use Rattle.rules.specs.Answers.{endOf, startOf, sessionAt, requested, unknownPrior, accepts, accepted}
 use Rattle.rules.specs.Calls.{Called, ticked, Call, call, after, named, fresh}
-use Rattle.demands.specs.History.{endResult, isEnd, isYes, endsOf, front, last, Entry, entryIs, withEnds, credited, lastTold, endTold, muxTold, eventTold, startTold, endAsked, muxAsked, eventAsked, entryOf, bookAnswered, withClosed, shut, bookAfter}
+use Rattle.demands.specs.History.{endResult, isEnd, isYes, endsOf, front, last, Entry, entryIs, withEnds, credited, lastTold, endTold}
+use Rattle.demands.specs.History.{muxTold, eventTold, startTold, endAsked, muxAsked, eventAsked, entryOf, bookAnswered, withClosed}
+use Rattle.demands.specs.History.{shut, bookAfter}
 use Rattle.rules.specs.Sound.{Each, heldCount}
 use Rattle.rules.proofs.Tests.{clash, by, and-both, eqb-same}
 use Rattle.rules.proofs.All.{all-into}
@@ -40,7 +44,8 @@ use Rattle.demands.proofs.Waiting.{front-last, last-last}
 
 -- ## An end is of one number only
 
-other-one : (b : Bool) (c x c′ x′ d y : ℕ) → sameNumber c x c′ x′ ≡ false → (b && sameNumber c′ x′ d y) ≡ true → (b && sameNumber c x d y) ≡ false
+other-one : (b : Bool) (c x c′ x′ d y : ℕ) → sameNumber c x c′ x′ ≡ false → (b && sameNumber c′ x′ d y) ≡ true
+    → (b && sameNumber c x d y) ≡ false
 other-one b c x c′ x′ d y f e =
     let h = and-both b (sameNumber c′ x′ d y) e in
     let k = and-both (eqb c′ d) (eqb x′ y) (h .1) in
@@ -92,15 +97,21 @@ module _ (c x : ℕ) where
   owed-credited n m rs [] h f = omega arith
   owed-credited n m rs (e ∷ es) h f = go (entryIs c x e) refl f (owed-credited n m (rest e rs) es)
     where
-      go : (b : Bool) → entryIs c x e ≡ b → cond {A = Type 0} b ((e .ends + n ≡ 1) × (e .closed ≡ true → n ≡ 0) × Settled c x es) (Owed c x n es)
+      go : (b : Bool) → entryIs c x e ≡ b → cond {A = Type 0} b ((e .ends + n ≡ 1) × (e .closed ≡ true → n ≡ 0) × Settled c x es)
+          (Owed c x n es)
           → (n ≡ m + endsOf c x (rest e rs) → Owed c x n es → Owed c x m (credited (rest e rs) es))
-          → cond {A = Type 0} b ((e .ends + endsOf (e .conn) (e .id) rs + m ≡ 1) × (e .closed ≡ true → m ≡ 0) × Settled c x (credited (rest e rs) es)) (Owed c x m (credited (rest e rs) es))
+          → cond {A = Type 0} b ((e .ends + endsOf (e .conn) (e .id) rs + m ≡ 1) × (e .closed ≡ true → m ≡ 0) × Settled c x
+          (credited (rest e rs) es)) (Owed c x m (credited (rest e rs) es))
       go true k f ih =
           let i = entry-key c x e k in
           let j : endsOf (e .conn) (e .id) rs ≡ endsOf c x rs = rw (← (i .0), ← (i .1)) in
           let z : endsOf c x (rest e rs) ≡ 0 = rw (i .0, i .1) (count-omitted (isEnd (e .conn) (e .id)) rs) in
           (omega (arith, f .0), (λ l. omega (arith, f .1 l)), settled-credited (rest e rs) es z (f .2))
-      go false k f ih = ih (omega (arith, count-other (isEnd c x) (isEnd (e .conn) (e .id)) (λ r i. end-one c x (e .conn) (e .id) r k i) rs)) f
+      go false k f ih = ih (omega (
+        arith,
+        count-other (isEnd c x) (isEnd (e .conn) (e .id)) (λ r i. end-one c x (e .conn) (e .id) r k i)
+            rs,
+      )) f
 
   -- connection d closes, and holds none afterwards
   settled-shut : (d : ℕ) (es : List Entry) → Settled c x es → Settled c x (shut d es)
@@ -117,9 +128,11 @@ module _ (c x : ℕ) where
       closes k true i o l = h (entry-key c x e k .0 ∙ sym (eqb-true d (e .conn) i))
       closes k false i o l = o l
 
-      go : (b : Bool) → entryIs c x e ≡ b → cond {A = Type 0} b ((e .ends + n ≡ 1) × (e .closed ≡ true → n ≡ 0) × Settled c x es) (Owed c x n es)
+      go : (b : Bool) → entryIs c x e ≡ b → cond {A = Type 0} b ((e .ends + n ≡ 1) × (e .closed ≡ true → n ≡ 0) × Settled c x es)
+          (Owed c x n es)
           → (Owed c x n es → Owed c x n (shut d es))
-          → cond {A = Type 0} b ((e .ends + n ≡ 1) × ((eqb d (e .conn) || e .closed) ≡ true → n ≡ 0) × Settled c x (shut d es)) (Owed c x n (shut d es))
+          → cond {A = Type 0} b ((e .ends + n ≡ 1) × ((eqb d (e .conn) || e .closed) ≡ true → n ≡ 0) × Settled c x (shut d es))
+          (Owed c x n (shut d es))
       go true k f ih = (f .0, (λ l. closes k (eqb d (e .conn)) refl (f .1) l), settled-shut d es (f .2))
       go false k f ih = ih f
 
@@ -128,7 +141,8 @@ module _ (c x : ℕ) where
   owed-none [] f = tt
   owed-none (e ∷ es) f = go (entryIs c x e) refl f (owed-none es)
     where
-      go : (b : Bool) → entryIs c x e ≡ b → cond {A = Type 0} b ((e .ends + 0 ≡ 1) × (e .closed ≡ true → _≡_ {A = ℕ} 0 0) × Settled c x es) (Owed c x 0 es)
+      go : (b : Bool) → entryIs c x e ≡ b → cond {A = Type 0} b ((e .ends + 0 ≡ 1) × (e .closed ≡ true → _≡_ {A = ℕ} 0 0) × Settled c x es)
+          (Owed c x 0 es)
           → (Owed c x 0 es → Settled c x es) → Settled c x (e ∷ es)
       go true k f ih = ((λ i. omega (arith, f .0)), f .2)
       go false k f ih = ((λ i. absurd (clash (entryIs c x e) i k)), ih f)
@@ -140,7 +154,8 @@ record Lasting (f : Entry → ℕ) : Type 0 where
   credited : (rs : List Record) (e : Entry) → f (withEnds rs e) ≡ f e
   shut : (d : ℕ) (e : Entry) → f (withClosed d e) ≡ f e
 
-told-credited : (f : Entry → ℕ) → Lasting f → (c x : ℕ) (rs : List Record) (es : List Entry) → lastTold f c x (credited rs es) ≡ lastTold f c x es
+told-credited : (f : Entry → ℕ) → Lasting f → (c x : ℕ) (rs : List Record) (es : List Entry)
+    → lastTold f c x (credited rs es) ≡ lastTold f c x es
 unfolding lastTold credited
 told-credited f h c x rs [] = refl
 told-credited f h c x rs (e ∷ es) = rw (told-credited f h c x (rest e rs) es, h .credited rs e)
@@ -164,11 +179,20 @@ mux-lasts = record { credited = λ rs e. refl; shut = λ d e. refl }
 event-lasts : Lasting (λ e. e .event)
 event-lasts = record { credited = λ rs e. refl; shut = λ d e. refl }
 
-redated : (q : Queue) (es fs : List Entry) → ((f : Entry → ℕ) → Lasting f → (c x : ℕ) → lastTold f c x fs ≡ lastTold f c x es) → Each (Dated es) q → Each (Dated fs) q
+redated : (q : Queue) (es fs : List Entry) → ((f : Entry → ℕ) → Lasting f → (c x : ℕ) → lastTold f c x fs ≡ lastTold f c x es)
+    → Each (Dated es) q → Each (Dated fs) q
 redated q es fs h d =
     let same : (s : Session) → Dated es s → Dated fs s =
-    λ s k. (h (λ e. e .end) end-lasts (s .conn) (s .id) ∙ k .0, h (λ e. e .mux) mux-lasts (s .conn) (s .id) ∙ k .1, h (λ e. e .event) event-lasts (s .conn) (s .id) ∙ k .2) in
-    record { waiting = all-into (Dated es) (Dated fs) same (q .waiting) (d .waiting); started = all-into (Dated es) (Dated fs) same (q .started) (d .started) }
+    λ s k. (
+      h (λ e. e .end) end-lasts (s .conn) (s .id) ∙ k .0,
+      h (λ e. e .mux) mux-lasts (s .conn) (s .id) ∙ k .1,
+      h (λ e. e .event) event-lasts (s .conn) (s .id) ∙ k .2,
+    ) in
+    record {
+      waiting = all-into (Dated es) (Dated fs) same (q .waiting) (d .waiting);
+      started =
+          all-into (Dated es) (Dated fs) same (q .started) (d .started);
+    }
 
 -- ## The book beside the sessions held
 
@@ -177,7 +201,8 @@ pub record Booked (q : Queue) (es : List Entry) : Type 0 where
   pub dated : Each (Dated es) q
 
 -- a piece of work, and its ends credited
-turn-booked : (q : Queue) (es : List Entry) (t : Turn) → Booked q es → ((c x : ℕ) → Law c x q t) → Each (Dated es) (t .queue) → Booked (t .queue) (credited (t .written) es)
+turn-booked : (q : Queue) (es : List Entry) (t : Turn) → Booked q es → ((c x : ℕ) → Law c x q t) → Each (Dated es) (t .queue)
+    → Booked (t .queue) (credited (t .written) es)
 turn-booked q es t b law d =
     record {
       owed = λ c x. owed-credited c x _ _ (t .written) es (law c x .kept) (b .owed c x);
@@ -190,7 +215,11 @@ plain-booked q es rs p b =
 
 shut-booked : (q : Queue) (es : List Entry) (d : ℕ) → ((x : ℕ) → heldCount q (is d x) ≡ 0) → Booked q es → Booked q (shut d es)
 shut-booked q es d none b =
-    record { owed = λ c x. owed-shut c x d _ es (λ e. rw e (none x)) (b .owed c x); dated = redated q es (shut d es) (λ f h c x. told-shut f h c x d es) (b .dated) }
+    record {
+      owed = λ c x. owed-shut c x d _ es (λ e. rw e (none x)) (b .owed c x);
+      dated =
+          redated q es (shut d es) (λ f h c x. told-shut f h c x d es) (b .dated);
+    }
 
 -- the end of a number that is held
 pub told-end : (c x : ℕ) (q : Queue) (es : List Entry) → Each (Dated es) q → holds c x q ≡ true → endTold c x es ≡ endOf c x (held q)
@@ -200,9 +229,11 @@ told-end c x q es d e =
     let h : i < length l = ltb-true i (length l) (sym (some-place (is c x) l) ∙ e) in
     let s = getD l i empty in
     let k = and-both (eqb c (s .conn)) (eqb x (s .id)) (place-holds (is c x) l empty h) in
-    ap (λ n. endTold n x es) (eqb-true c (s .conn) (k .0)) ∙ ap (λ n. endTold (s .conn) n es) (eqb-true x (s .id) (k .1)) ∙ all-getD (Dated es) l i empty h (all-held (Dated es) q d) .0
+    ap (λ n. endTold n x es) (eqb-true c (s .conn) (k .0)) ∙ ap (λ n. endTold (s .conn) n es) (eqb-true x (s .id) (k .1))
+    ∙ all-getD (Dated es) l i empty h (all-held (Dated es) q d) .0
 
-told-start : (c : ℕ) (f : Start) (q : Queue) (es : List Entry) → Each (Dated es) q → unknownPrior c f q ≡ false → startTold c f es ≡ startOf c f q
+told-start : (c : ℕ) (f : Start) (q : Queue) (es : List Entry) → Each (Dated es) q → unknownPrior c f q ≡ false
+    → startTold c f es ≡ startOf c f q
 unfolding startTold startOf unknownPrior
 told-start c (Timed t) q es d e = refl
 told-start c (Linked p) q es d e = told-end c p q es d (not-false _ e)
@@ -220,13 +251,15 @@ module _ (new : Session) (q : Queue) (es : List Entry) (b : Booked q es) (none :
   later = entry new ∷ credited (t .written) es
 
   gone : Booked (t .queue) (credited (t .written) es)
-  gone = turn-booked q es t b (λ c x. evicted-law c x (new .start .0) q) (fewer-each (Dated es) q (t .queue) (evicted-fewer (new .start .0) q) (b .dated))
+  gone = turn-booked q es t b (λ c x. evicted-law c x (new .start .0) q)
+      (fewer-each (Dated es) q (t .queue) (evicted-fewer (new .start .0) q) (b .dated))
 
   owed : (c x : ℕ) → Owed c x (heldCount (accepted new q .queue) (is c x)) later
   owed c x = rw (held-accepted (is c x) new q) (go (is c x new) refl)
     where
       go : (k : Bool) → is c x new ≡ k
-          → cond {A = Type 0} (is c x new) ((0 + (bit (is c x new) + heldCount (t .queue) (is c x)) ≡ 1) × (false ≡ true → bit (is c x new) + heldCount (t .queue) (is c x) ≡ 0) × Settled c x (credited (t .written) es))
+          → cond {A = Type 0} (is c x new) ((0 + (bit (is c x new) + heldCount (t .queue) (is c x)) ≡ 1) ×
+          (false ≡ true → bit (is c x new) + heldCount (t .queue) (is c x) ≡ 0) × Settled c x (credited (t .written) es))
           (Owed c x (bit (is c x new) + heldCount (t .queue) (is c x)) (credited (t .written) es))
       go true e =
           let h = and-both (eqb c (new .conn)) (eqb x (new .id)) e in
@@ -236,16 +269,28 @@ module _ (new : Session) (q : Queue) (es : List Entry) (b : Booked q es) (none :
       go false e = rw (e, zero-add) (gone .owed c x)
 
   -- of another number the book says what it said
-  still : (f : Entry → ℕ) → Lasting f → (u : Session) → is (new .conn) (new .id) u ≡ false → lastTold f (u .conn) (u .id) later ≡ lastTold f (u .conn) (u .id) es
+  still : (f : Entry → ℕ) → Lasting f → (u : Session) → is (new .conn) (new .id) u ≡ false
+      → lastTold f (u .conn) (u .id) later ≡ lastTold f (u .conn) (u .id) es
   unfolding lastTold
   still f h u o =
-      by (λ (n : ℕ). n ≡ lastTold f (u .conn) (u .id) es) (eqb (u .conn) (new .conn) && eqb (u .id) (new .id)) (f (entry new)) (lastTold f (u .conn) (u .id) (credited (t .written) es))
+      by (λ (n : ℕ). n ≡ lastTold f (u .conn) (u .id) es) (eqb (u .conn) (new .conn) && eqb (u .id) (new .id)) (f (entry new))
+      (lastTold f (u .conn) (u .id) (credited (t .written) es))
       (λ k. let i = and-both (eqb (u .conn) (new .conn)) (eqb (u .id) (new .id)) k in
-      absurd (clash (is (new .conn) (new .id) u) (rw (← (eqb-true (u .conn) (new .conn) (i .0)), ← (eqb-true (u .id) (new .id) (i .1)), eqb-same (u .conn), eqb-same (u .id))) o))
+      absurd (clash (is (new .conn) (new .id) u) (rw (
+        ← (eqb-true (u .conn) (new .conn) (i .0)),
+        ← (eqb-true (u .id) (new .id) (i .1)),
+        eqb-same (u .conn),
+        eqb-same (u .id),
+      )) o))
       (λ k. told-credited f h (u .conn) (u .id) (t .written) es)
 
   old : (u : Session) → is (new .conn) (new .id) u ≡ false → Dated es u → Dated later u
-  old u o h = (still (λ e. e .end) end-lasts u o ∙ h .0, still (λ e. e .mux) mux-lasts u o ∙ h .1, still (λ e. e .event) event-lasts u o ∙ h .2)
+  old u o h = (
+    still (λ e. e .end) end-lasts u o ∙ h .0,
+    still (λ e. e .mux) mux-lasts u o ∙ h .1,
+    still (λ e. e .event) event-lasts u o
+        ∙ h .2,
+  )
 
   olds : (l : List Session) → count (is (new .conn) (new .id)) l ≡ 0 → All (Dated es) l → All (Dated later) l
   olds l z d =
@@ -254,15 +299,22 @@ module _ (new : Session) (q : Queue) (es : List Entry) (b : Booked q es) (none :
 
   own : Dated later new
   unfolding lastTold
-  own =
-      (rw (eqb-same (new .conn), eqb-same (new .id)), rw (eqb-same (new .conn), eqb-same (new .id)), rw (eqb-same (new .conn), eqb-same (new .id)))
+  own = (
+    rw (eqb-same (new .conn), eqb-same (new .id)),
+    rw (eqb-same (new .conn), eqb-same (new .id)),
+    rw (eqb-same (new .conn), eqb-same (new .id)),
+  )
 
   new-booked : Booked (accepted new q .queue) later
   new-booked =
       record {
         owed = owed;
         dated = each-accepted (Dated later) (λ d s h. h) new q own
-            (record { waiting = olds (q .waiting) (omega arith) (b .dated .waiting); started = olds (q .started) (omega arith) (b .dated .started) });
+            (record {
+              waiting = olds (q .waiting) (omega arith) (b .dated .waiting);
+              started =
+                  olds (q .started) (omega arith) (b .dated .started);
+            });
       }
 
 -- ## Every call
@@ -277,11 +329,16 @@ module _ (s : Splicer) (es : List Entry) (b : Booked (s .queue) es) where
   closed-booked : (d : ℕ) → Booked (closedBy d q .queue) (shut d (credited (closedBy d q .written) es))
   unfolding closedBy cancelled
   closed-booked d =
-      shut-booked (closedBy d q .queue) (credited (closedBy d q .written) es) d (λ x. omega (arith, none x (q .waiting), none x (q .started)))
+      shut-booked (closedBy d q .queue) (credited (closedBy d q .written) es) d
+      (λ x. omega (arith, none x (q .waiting), none x (q .started)))
       (turn-booked q es (closedBy d q) b (λ c x. closedBy-law c x d q) (fewer-each (Dated es) q _ (closedBy-fewer d q) (b .dated)))
     where
       none : (x : ℕ) (l : List Session) → count (is d x) (omit (of d) l) ≡ 0
-      none x l = omega (arith, count-le (is d x) (of d) (λ u. bit-and (eqb d (u .conn)) (eqb x (u .id))) (omit (of d) l), count-omitted (of d) l)
+      none x l = omega (
+        arith,
+        count-le (is d x) (of d) (λ u. bit-and (eqb d (u .conn)) (eqb x (u .id))) (omit (of d) l),
+        count-omitted (of d) l,
+      )
 
   -- the entry of a request that is accepted
   pub asked-entry : (c : ℕ) (l : List ℕ) (r : Request) → readSplice (dataIn l) ≡ Splice r → unknownPrior c (r .start) q ≡ false
@@ -290,7 +347,8 @@ module _ (s : Splicer) (es : List Entry) (b : Booked (s .queue) es) where
   asked-entry c l r e u = rw (e, ← (read-id (dataIn l) r e), told-start c (r .start) q es (b .dated) u)
 
   tick-booked : (until : ℕ) → Booked (runAll (s .clock) until q .queue) (credited (runAll (s .clock) until q .written) es)
-  tick-booked until = turn-booked q es (runAll (s .clock) until q) b (λ c x. tick-law c x (s .clock) until q) (each-tick (Dated es) (λ d u h. h) (s .clock) until q (b .dated))
+  tick-booked until = turn-booked q es (runAll (s .clock) until q) b (λ c x. tick-law c x (s .clock) until q)
+      (each-tick (Dated es) (λ d u h. h) (s .clock) until q (b .dated))
 
   pub call-booked : (k : Call) → Kept k (call k s)
   unfolding bookAfter bookAnswered front last accepted andThen isYes requested sessionAt ticked
@@ -301,11 +359,20 @@ module _ (s : Splicer) (es : List Entry) (b : Booked (s .queue) es) where
         closing = λ c room low e. closed-booked c;
         saying = λ c l loans n rs e p. rw e (plain-booked q es rs p b);
         naming = λ c l loans n r hw e p. rw e (plain-booked q es (r ∷ []) p b);
-        aborting = λ c l loans n x e i. rw e (turn-booked q es _ b (λ d y. answered-law d y c x q) (fewer-each (Dated es) q _ (aborted-fewer c x q) (b .dated)));
+        aborting = λ c l loans n x e i. rw e (turn-booked q es _ b (λ d y. answered-law d y c x q)
+            (fewer-each (Dated es) q _ (aborted-fewer c x q) (b .dated)));
         declining = λ c l loans n r e y o. rw (e, y) (plain-booked q es [] plain-none b);
         accepting = λ c l loans n r e f p. let new = requested c r q in
             let rs = evicted (new .start .0) q .written in
-            rw (e, ← (read-id (dataIn l) r f), last-last (isYes c (r .id)) rs (accepts new), front-last rs (accepts new), eqb-same c, eqb-same (r .id), asked-entry c l r f (p .prior))
+            rw (
+              e,
+              ← (read-id (dataIn l) r f),
+              last-last (isYes c (r .id)) rs (accepts new),
+              front-last rs (accepts new),
+              eqb-same c,
+              eqb-same (r .id),
+              asked-entry c l r f (p .prior),
+            )
             (new-booked new q es b (omega (arith, some-none (is c (r .id)) (held q) (p .number), count-held (is c (r .id)) q)));
         ticking = λ seconds micros room le. tick-booked (fromMicros (timeOf seconds micros) .0);
         moving = λ until room le. tick-booked until;

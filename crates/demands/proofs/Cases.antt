@@ -21,7 +21,8 @@ use Rattle.rules.specs.declared.WireTime.{WireTime}
 use Rattle.rules.specs.Lists.{count}
 use Rattle.rules.specs.Cues.{readCue, cueTime, initialisedOnes, passedTo, complainedTo, cueRecords}
 use Rattle.rules.specs.Answers.{requested, grants, splices, aliveResponse, configResponse, extendedResponse, initialised}
-use Rattle.rules.specs.Calls.{Called, refuse, does, replies, sectionOf, shut, ticked, Loans, Call, opens, closes, messages, ticks, moves, cues, call}
+use Rattle.rules.specs.Calls.{Called, refuse, does, replies, sectionOf, shut, ticked, Loans, Call, opens, closes, messages, ticks, moves}
+use Rattle.rules.specs.Calls.{cues, call}
 use Rattle.demands.specs.History.{isStart, isEnd, isYes}
 use Rattle.rules.proofs.Tests.{by}
 use Rattle.rules.proofs.Checks.{Passed}
@@ -42,12 +43,16 @@ pub record Cases (s : Splicer) (P : Call → Called → Type 0) : Type 0 where
   pub closing : (c room : ℕ) → c ≤ 3 → isOpen (linkOf c s) ≡ true
       → P (closes c room) (does 0 (closedBy c (s .queue) .written) (shut c (withQueue (closedBy c (s .queue) .queue) s)))
   -- an answer, and nothing done
-  pub saying : (c : ℕ) (l : List ℕ) (loans : Loans) (n : ℕ) (rs : List Record) → isSplice l ≡ false → Plain rs → P (messages c l loans) (does n rs s)
-  pub naming : (c : ℕ) (l : List ℕ) (loans : Loans) (n : ℕ) (r : Record) (h : List ℕ) → isSplice l ≡ false → Plain (r ∷ []) → P (messages c l loans) (does n (r ∷ []) (initialised c h s))
+  pub saying : (c : ℕ) (l : List ℕ) (loans : Loans) (n : ℕ) (rs : List Record) → isSplice l ≡ false → Plain rs
+      → P (messages c l loans) (does n rs s)
+  pub naming : (c : ℕ) (l : List ℕ) (loans : Loans) (n : ℕ) (r : Record) (h : List ℕ) → isSplice l ≡ false → Plain (r ∷ [])
+      → P (messages c l loans) (does n (r ∷ []) (initialised c h s))
   pub aborting : (c : ℕ) (l : List ℕ) (loans : Loans) (n x : ℕ) → isSplice l ≡ false → holds c x (s .queue) ≡ true
-      → P (messages c l loans) (does n (AbortResponse c 100 x ∷ aborted c x (s .queue) .written) (withQueue (aborted c x (s .queue) .queue) s))
+      → P (messages c l loans) (does n (AbortResponse c 100 x ∷ aborted c x (s .queue) .written)
+      (withQueue (aborted c x (s .queue) .queue) s))
   -- a Splice_Request that is not accepted, and one that is
-  pub declining : (c : ℕ) (l : List ℕ) (loans : Loans) (n : ℕ) (r : Record) → isSplice l ≡ true → isYes c (sessionID (dataIn l)) r ≡ false → Offair r → P (messages c l loans) (does n (r ∷ []) s)
+  pub declining : (c : ℕ) (l : List ℕ) (loans : Loans) (n : ℕ) (r : Record) → isSplice l ≡ true → isYes c (sessionID (dataIn l)) r ≡ false
+      → Offair r → P (messages c l loans) (does n (r ∷ []) s)
   pub accepting : (c : ℕ) (l : List ℕ) (loans : Loans) (n : ℕ) (r : Request) → isSplice l ≡ true → readSplice (dataIn l) ≡ Splice r
       → Passed (s .clock) c r (s .queue) → P (messages c l loans) (replies n (splices (grants (requested c r (s .queue)) (s .queue)) s))
   pub ticking : (seconds micros room : ℕ) → s .clock ≤ fromMicros (timeOf seconds micros) .0
@@ -63,10 +68,22 @@ none-passes p f h (c ∷ cs) = rw (h c, none-passes p f h cs)
 
 pub plain-cue : (x : Cue) (t : WireTime) (l cs : List ℕ) → Plain (cueRecords x t l cs)
 unfolding cueRecords isStart isEnd
-plain-cue (At p) t l cs = record { starts = λ c x. none-passes (isStart c x) (passedTo t l) (λ d. refl) cs; ends = λ c x. none-passes (isEnd c x) (passedTo t l) (λ d. refl) cs }
-plain-cue Timeless t l cs = record { starts = λ c x. none-passes (isStart c x) (passedTo t l) (λ d. refl) cs; ends = λ c x. none-passes (isEnd c x) (passedTo t l) (λ d. refl) cs }
+plain-cue (At p) t l cs = record {
+  starts = λ c x. none-passes (isStart c x) (passedTo t l) (λ d. refl) cs;
+  ends =
+      λ c x. none-passes (isEnd c x) (passedTo t l) (λ d. refl) cs;
+}
+plain-cue Timeless t l cs = record {
+  starts = λ c x. none-passes (isStart c x) (passedTo t l) (λ d. refl) cs;
+  ends =
+      λ c x. none-passes (isEnd c x) (passedTo t l) (λ d. refl) cs;
+}
 plain-cue Silent t l cs = plain-none
-plain-cue Bad t l cs = record { starts = λ c x. none-passes (isStart c x) complainedTo (λ d. refl) cs; ends = λ c x. none-passes (isEnd c x) complainedTo (λ d. refl) cs }
+plain-cue Bad t l cs = record {
+  starts = λ c x. none-passes (isStart c x) complainedTo (λ d. refl) cs;
+  ends =
+      λ c x. none-passes (isEnd c x) complainedTo (λ d. refl) cs;
+}
 
 module _ (s : Splicer) (P : Call → Called → Type 0) (k : Cases s P) where
   module _ (c : ℕ) (l : List ℕ) (loans : Loans) where
@@ -86,16 +103,22 @@ module _ (s : Splicer) (P : Call → Called → Type 0) (k : Cases s P) where
     message-case =
         record {
           silent = λ e. k .saying c l loans n [] e plain-none;
-          general = λ r b. one (General c r) refl (record { starts = λ d x. refl; outs = λ d x. refl }) (record { starts = λ d x. refl; ends = λ d x. refl });
+          general = λ r b. one (General c r) refl (record { starts = λ d x. refl; outs = λ d x. refl })
+              (record { starts = λ d x. refl; ends = λ d x. refl });
           naming = λ r b e g. let p : Plain (InitResponse c r (s .name) ∷ []) = record { starts = λ d x. refl; ends = λ d x. refl } in
               by (λ (z : Splicer). P (messages c l loans) (does n (InitResponse c r (s .name) ∷ []) z)) (eqb r 100) _ _
-              (λ i. k .naming c l loans n (InitResponse c r (s .name)) (hardwareIn (dataIn l)) e p) (λ i. k .saying c l loans n (InitResponse c r (s .name) ∷ []) e p);
+              (λ i. k .naming c l loans n (InitResponse c r (s .name)) (hardwareIn (dataIn l)) e p)
+              (λ i. k .saying c l loans n (InitResponse c r (s .name) ∷ []) e p);
           alive = λ e. k .saying c l loans n (aliveResponse c s ∷ []) e (record { starts = λ d x. refl; ends = λ d x. refl });
-          telling = λ e. k .saying c l loans n (configResponse c (sectionOf loans s) s ∷ []) e (record { starts = λ d x. refl; ends = λ d x. refl });
+          telling = λ e. k .saying c l loans n (configResponse c (sectionOf loans s) s ∷ []) e
+              (record { starts = λ d x. refl; ends = λ d x. refl });
           unknown = λ x e i. k .saying c l loans n (AbortResponse c 121 x ∷ []) e (record { starts = λ d x. refl; ends = λ d x. refl });
           aborting = λ x e i held. k .aborting c l loans n x e held;
-          recalling = λ x e i. k .saying c l loans n (extendedResponse c x (s .queue) ∷ []) e (by-recall (λ (r : Record). Plain (r ∷ [])) c x (s .queue) (λ h. record { starts = λ d y. refl; ends = λ d y. refl }) (record { starts = λ d y. refl; ends = λ d y. refl }));
-          declining = λ r v e i b m. k .declining c l loans n (SpliceResponse c v (r .id)) e (rw m) (record { starts = λ d y. refl; outs = λ d y. refl });
+          recalling = λ x e i. k .saying c l loans n (extendedResponse c x (s .queue) ∷ []) e
+              (by-recall (λ (r : Record). Plain (r ∷ [])) c x (s .queue) (λ h. record { starts = λ d y. refl; ends = λ d y. refl })
+              (record { starts = λ d y. refl; ends = λ d y. refl }));
+          declining = λ r v e i b m. k .declining c l loans n (SpliceResponse c v (r .id)) e (rw m)
+              (record { starts = λ d y. refl; outs = λ d y. refl });
           accepting = λ r. k .accepting c l loans n r;
         }
 
@@ -113,5 +136,6 @@ module _ (s : Splicer) (P : Call → Called → Type 0) (k : Cases s P) where
         answering = λ c l loans low e short. message-case c l loans;
         bringing = bring-case;
         cueing = λ l pts seconds micros room g. let x = readCue l in
-            let t = cueTime pts seconds micros x in k .cueing l pts seconds micros room (cueRecords x t l (initialisedOnes (s .links))) (plain-cue x t l (initialisedOnes (s .links)));
+            let t = cueTime pts seconds micros x in k .cueing l pts seconds micros room (cueRecords x t l (initialisedOnes (s .links)))
+            (plain-cue x t l (initialisedOnes (s .links)));
       })

@@ -10,7 +10,8 @@ use Rattle.rules.specs.Reading.{sessionID, dataIn, isSplice}
 use Rattle.rules.specs.State.{Splicer}
 use Rattle.rules.specs.Records.{Record, recordsIn}
 use Rattle.rules.specs.Calls.{Answer, refused, good, Call, opens, closes, messages, ticks, moves, cues, call, writtenBy, after, fresh}
-use Rattle.demands.specs.History.{Event, Reply, refusal, wrote, Entry, isEnd, isYes, withEnds, front, last, replyOf, history, credited, entryOf, bookAnswered, shut, bookAfter, bookReplied, book, clockAfter}
+use Rattle.demands.specs.History.{Event, Reply, refusal, wrote, Entry, isEnd, isYes, withEnds, front, last, replyOf, history}
+use Rattle.demands.specs.History.{credited, entryOf, bookAnswered, shut, bookAfter, bookReplied, book, clockAfter}
 use Rattle.rules.specs.Sound.{Wired}
 use Rattle.rules.proofs.All.{all-into, all-append}
 use Rattle.rules.proofs.Every.{all-both, all-kept}
@@ -30,7 +31,8 @@ unfolding after
 after-append [] js s = refl
 after-append (k ∷ ks) js s = after-append ks js (call k s .splicer)
 
-pub from-more : (h : List Event) (s : Splicer) → FromFresh h s → (js : List Call) → All Wired js → FromFresh (h ++ history js s) (after js s)
+pub from-more : (h : List Event) (s : Splicer) → FromFresh h s → (js : List Call) → All Wired js
+    → FromFresh (h ++ history js s) (after js s)
 from-more h s f js w =
     let first = fresh (f .name) .splicer in
     record {
@@ -79,7 +81,16 @@ aligned-credited : {es fs : List Entry} (rs : List Record) → Aligned es fs →
 unfolding credited
 aligned-credited rs none = none
 aligned-credited rs (both {e = e} {f = f} l a) =
-    let m : Later e (withEnds rs f) = record { conn = l .conn; id = l .id; end = l .end; mux = l .mux; event = l .event; ends = omega (arith, l .ends); closed = l .closed } in
+    let m : Later e (withEnds rs f) = record {
+      conn = l .conn;
+      id = l .id;
+      end = l .end;
+      mux = l .mux;
+      event = l .event;
+      ends =
+          omega (arith, l .ends);
+      closed = l .closed;
+    } in
     both m (aligned-credited (omit (isEnd (f .conn) (f .id)) rs) a)
 
 since-credited : {es fs : List Entry} (rs : List Record) → Since es fs → Since es (credited rs fs)
@@ -95,7 +106,16 @@ aligned-shut : {es fs : List Entry} (d : ℕ) → Aligned es fs → Aligned es (
 unfolding shut
 aligned-shut d none = none
 aligned-shut d (both {f = f} l a) =
-    both (record { conn = l .conn; id = l .id; end = l .end; mux = l .mux; event = l .event; ends = l .ends; closed = λ k. or-right (eqb d (f .conn)) (f .closed) (l .closed k) }) (aligned-shut d a)
+    both (record {
+      conn = l .conn;
+      id = l .id;
+      end = l .end;
+      mux = l .mux;
+      event = l .event;
+      ends = l .ends;
+      closed =
+          λ k. or-right (eqb d (f .conn)) (f .closed) (l .closed k);
+    }) (aligned-shut d a)
 
 since-shut : {es fs : List Entry} (d : ℕ) → Since es fs → Since es (shut d fs)
 unfolding shut
@@ -116,7 +136,8 @@ since-replied {es} {fs} (messages c m loans) (wrote l) h = go (isSplice m)
     rs : List Record
     rs = recordsIn l
 
-    go : (b : Bool) → Since es (put (b && last (isYes c (sessionID (dataIn m))) rs) (entryOf c (dataIn m) fs) (credited (cond b (front rs) rs) fs))
+    go : (b : Bool) → Since es (put (b && last (isYes c (sessionID (dataIn m))) rs) (entryOf c (dataIn m) fs)
+        (credited (cond b (front rs) rs) fs))
     go true = since-put (last (isYes c (sessionID (dataIn m))) rs) (entryOf c (dataIn m) fs) (since-credited (front rs) h)
     go false = since-credited rs h
 since-replied (ticks seconds micros room) (wrote l) h = since-credited (recordsIn l) h
@@ -139,14 +160,17 @@ module _ (c : ℕ) where
   same-entry e f l a b o =
       let g : f .ends ≡ e .ends = omega (arith, l .ends) in
       let k : f .closed ≡ e .closed = l .closed b ∙ sym b in
-      let i : f ≡ record { conn = f .conn; id = f .id; end = f .end; mux = f .mux; event = f .event; ends = f .ends; closed = f .closed } = refl in
-      let j : e ≡ record { conn = e .conn; id = e .id; end = e .end; mux = e .mux; event = e .event; ends = e .ends; closed = e .closed } = refl in
+      let i : f ≡ record { conn = f .conn; id = f .id; end = f .end; mux = f .mux; event = f .event; ends = f .ends; closed = f .closed } =
+      refl in
+      let j : e ≡ record { conn = e .conn; id = e .id; end = e .end; mux = e .mux; event = e .event; ends = e .ends; closed = e .closed } =
+      refl in
       i ∙ rw (l .conn, l .id, l .end, l .mux, l .event, g, k)
 
   aligned-same : {es fs : List Entry} → Aligned es fs → All (Over c) es → All (λ f. f .ends ≤ 1) fs → entriesOf c fs ≡ entriesOf c es
   aligned-same none a o = refl
   aligned-same (both {e} {f} {es} {fs} l h) a o =
-      ap (λ n. put (eqb c n) f (entriesOf c fs)) (l .conn) ∙ ap (put (eqb c (e .conn)) f) (aligned-same h (a .1) (o .1)) ∙ go (eqb c (e .conn)) refl
+      ap (λ n. put (eqb c n) f (entriesOf c fs)) (l .conn) ∙ ap (put (eqb c (e .conn)) f) (aligned-same h (a .1) (o .1))
+      ∙ go (eqb c (e .conn)) refl
     where
       go : (b : Bool) → eqb c (e .conn) ≡ b → put b f (entriesOf c es) ≡ put b e (entriesOf c es)
       go true k = let d = a .0 k in ap (_∷ entriesOf c es) (same-entry e f l (d .0) (d .1) (o .0))
@@ -163,7 +187,11 @@ module _ (c : ℕ) where
   since-stands {es} (level h) a o = record { newer = []; same = aligned-same h a o; ended = over-ended es a }
   since-stands (newer {e} {es} {fs} h) a o =
       let s = since-stands h a (o .1) in
-      record { newer = put (eqb c (e .conn)) e (s .newer); same = rw (s .same) (put-append (eqb c (e .conn)) e (s .newer) (entriesOf c es)); ended = s .ended }
+      record {
+        newer = put (eqb c (e .conn)) e (s .newer);
+        same = rw (s .same) (put-append (eqb c (e .conn)) e (s .newer) (entriesOf c es));
+        ended = s .ended;
+      }
 
   shut-closed : (es : List Entry) → All (λ e. eqb c (e .conn) ≡ true → e .closed ≡ true) (shut c es)
   unfolding shut
@@ -182,7 +210,8 @@ module _ (c : ℕ) where
 
 -- ## The incident
 
-pub close-stands : (h : List Event) (s : Splicer) → FromFresh h s → (c room : ℕ) → numberOf (call (closes c room) s .answer) ≡ 0 → (js : List Call) → All Wired js
+pub close-stands : (h : List Event) (s : Splicer) → FromFresh h s → (c room : ℕ) → numberOf (call (closes c room) s .answer) ≡ 0
+    → (js : List Call) → All Wired js
     → Stands c (book (h ++ history (closes c room ∷ []) s) []) (book (h ++ history (closes c room ∷ js) s) [])
 unfolding book history after
 close-stands h s f c room z js w = since-stands c (rw later (since-book (history js t) (level (aligned-self es)))) over once
@@ -210,11 +239,13 @@ close-stands h s f c room z js w = since-stands c (rw later (since-book (history
 
     over : All (Over c) es
     over =
-        all-into (λ e. Ended (clockAfter (h ++ at-close) 0) e × (eqb c (e .conn) ≡ true → e .closed ≡ true)) (Over c) (λ e a k. let d = a .1 k in (a .0 .byClose d, d)) es
+        all-into (λ e. Ended (clockAfter (h ++ at-close) 0) e × (eqb c (e .conn) ≡ true → e .closed ≡ true)) (Over c)
+        (λ e a k. let d = a .1 k in (a .0 .byClose d, d)) es
         (all-both (Ended (clockAfter (h ++ at-close) 0)) (λ e. eqb c (e .conn) ≡ true → e .closed ≡ true) es ended shuts)
 
     more : List Event
     more = h ++ history (closes c room ∷ js) s
 
     once : All (λ e. e .ends ≤ 1) fs
-    once = all-into (Ended (clockAfter more 0)) (λ e. e .ends ≤ 1) (λ e a. a .once) fs (all-ended more (after js t) (from-more h s f (closes c room ∷ js) (tt, w)))
+    once = all-into (Ended (clockAfter more 0)) (λ e. e .ends ≤ 1) (λ e a. a .once) fs
+        (all-ended more (after js t) (from-more h s f (closes c room ∷ js) (tt, w)))

@@ -23,7 +23,9 @@ use Rattle.rules.proofs.Every.{all-keep}
 use Rattle.rules.proofs.Fitted.{recordsOf}
 use Rattle.rules.proofs.Cued.{initialised-low, cue-all}
 use Rattle.rules.proofs.Sound.{sound-found}
-use Rattle.demands.specs.History.{Event, Entry, isStart, isEnd, startsOf, endsOf, unmarked, withEnds, credited, replyOf, history, othersOf, waitAfter, waitReplied, waitingTold, waitingCount, bookAfter, bookReplied, book, clockReplied, clockAfter}
+use Rattle.demands.specs.History.{Event, Entry, isStart, isEnd, startsOf, endsOf, unmarked, withEnds, credited, replyOf, history}
+use Rattle.demands.specs.History.{othersOf, waitAfter, waitReplied, waitingTold, waitingCount, bookAfter, bookReplied, book}
+use Rattle.demands.specs.History.{clockReplied, clockAfter}
 use Rattle.demands.specs.Airing.{Airing, heard, byThen, heardAll, airedAfter, airedReplied, airings}
 use Rattle.demands.specs.Told.{FromFresh, numberOf, startedReplied, startedTold, connOf, concerned, Carries}
 use Rattle.demands.specs.Lately.{Told, timeSoFar, newer, endedReplied, endedTold}
@@ -39,7 +41,8 @@ use Rattle.demands.proofs.Lately.{none-told}
 pub cue-same : (s : Splicer) (l : List ℕ) (pts seconds micros room : ℕ) → call (cues l pts seconds micros room) s .splicer ≡ s
 unfolding call cueCall
 cue-same s l pts seconds micros room =
-    by Same (noRoom room) _ _ (λ e. refl) (λ e. by Same (badMicros micros) _ _ (λ f. refl) (λ f. by Same (badSection l) _ _ (λ g. refl) (λ g. refl)))
+    by Same (noRoom room) _ _ (λ e. refl) (λ e. by Same (badMicros micros) _ _ (λ f. refl)
+    (λ f. by Same (badSection l) _ _ (λ g. refl) (λ g. refl)))
   where
     Same : Called → Type 0
     Same r = r .splicer ≡ s
@@ -47,7 +50,8 @@ cue-same s l pts seconds micros room =
 pub cue-unaccepted : (s : Splicer) (l : List ℕ) (pts seconds micros room : ℕ) → call (cues l pts seconds micros room) s .accepted ≡ false
 unfolding call cueCall
 cue-unaccepted s l pts seconds micros room =
-    by No (noRoom room) _ _ (λ e. refl) (λ e. by No (badMicros micros) _ _ (λ f. refl) (λ f. by No (badSection l) _ _ (λ g. refl) (λ g. refl)))
+    by No (noRoom room) _ _ (λ e. refl) (λ e. by No (badMicros micros) _ _ (λ f. refl)
+    (λ f. by No (badSection l) _ _ (λ g. refl) (λ g. refl)))
   where
     No : Called → Type 0
     No r = r .accepted ≡ false
@@ -67,7 +71,8 @@ module _ (s : Splicer) (l : List ℕ) (pts seconds micros room : ℕ) where
   quiet =
       let x = readCue l in
       by Q (noRoom room) _ _ (λ e. tt) (λ e. by Q (badMicros micros) _ _ (λ f. tt) (λ f. by Q (badSection l) _ _ (λ g. tt)
-      (λ g. cue-all Quiet (cueTime pts seconds micros x) l (λ c low d y. (refl, refl)) (λ c low d y. (refl, refl)) x (initialisedOnes (s .links)) (initialised-low (s .links)))))
+      (λ g. cue-all Quiet (cueTime pts seconds micros x) l (λ c low d y. (refl, refl)) (λ c low d y. (refl, refl)) x
+      (initialisedOnes (s .links)) (initialised-low (s .links)))))
     where
       Q : Called → Type 0
       Q r = All Quiet (recordsOf (r .answer))
@@ -89,25 +94,37 @@ unfolding credited
 quiet-credits rs a [] = refl
 quiet-credits rs a (e ∷ es) =
     let n : e .ends + endsOf (e .conn) (e .id) rs ≡ e .ends = omega (arith, none-end (e .conn) (e .id) rs a) in
-    let same : withEnds rs e ≡ e = ap (λ (y : ℕ). record { conn = e .conn; id = e .id; end = e .end; mux = e .mux; event = e .event; ends = y; closed = e .closed }) n in
+    let same : withEnds rs e ≡ e = ap (λ (y : ℕ). record {
+      conn = e .conn;
+      id = e .id;
+      end = e .end;
+      mux = e .mux;
+      event = e .event;
+      ends =
+          y;
+      closed = e .closed;
+    }) n in
     ap₂ _∷_ same (quiet-credits (omit (isEnd (e .conn) (e .id)) rs) (all-keep Quiet _ rs a) es)
 
 quiet-heard : (u : ℕ) (rs : List Record) → All Quiet rs → (es : List Airing) → heardAll u rs es ≡ es
 unfolding heardAll
 quiet-heard u [] a es = refl
-quiet-heard u (r ∷ rs) a es = ap (heardAll u rs) (heard-plain (byThen u es rs) r (λ c x. a .0 c x .0) (λ c x. a .0 c x .1) es) ∙ quiet-heard u rs (a .1) es
+quiet-heard u (r ∷ rs) a es = ap (heardAll u rs) (heard-plain (byThen u es rs) r (λ c x. a .0 c x .0) (λ c x. a .0 c x .1) es)
+    ∙ quiet-heard u rs (a .1) es
 
 -- an answer to a cue call whose records are found in its bytes
 module _ (l : List ℕ) (pts seconds micros room : ℕ) where
   abbrev j : Call
   j = cues l pts seconds micros room
 
-  wait-told : (a : Answer) → recordsIn (writtenBy a) ≡ recordsOf a → All Quiet (recordsOf a) → (c : ℕ) (w : List ℕ) → waitReplied c j (replyOf a) w ≡ w
+  wait-told : (a : Answer) → recordsIn (writtenBy a) ≡ recordsOf a → All Quiet (recordsOf a) → (c : ℕ) (w : List ℕ)
+      → waitReplied c j (replyOf a) w ≡ w
   unfolding waitReplied waitAfter
   wait-told (refused n) e q c w = refl
   wait-told (good consumed rs) e q c w = rw e (quiet-waits c rs q w)
 
-  book-told : (a : Answer) → recordsIn (writtenBy a) ≡ recordsOf a → All Quiet (recordsOf a) → (es : List Entry) → bookReplied j (replyOf a) es ≡ es
+  book-told : (a : Answer) → recordsIn (writtenBy a) ≡ recordsOf a → All Quiet (recordsOf a) → (es : List Entry)
+      → bookReplied j (replyOf a) es ≡ es
   unfolding bookReplied bookAfter
   book-told (refused n) e q es = refl
   book-told (good consumed rs) e q es = rw e (quiet-credits rs q es)
@@ -117,12 +134,14 @@ module _ (l : List ℕ) (pts seconds micros room : ℕ) where
   clock-told (refused n) now = refl
   clock-told (good consumed rs) now = refl
 
-  started-told : (a : Answer) → recordsIn (writtenBy a) ≡ recordsOf a → All Quiet (recordsOf a) → (c x n : ℕ) → startedReplied c x j (replyOf a) n ≡ n
+  started-told : (a : Answer) → recordsIn (writtenBy a) ≡ recordsOf a → All Quiet (recordsOf a) → (c x n : ℕ)
+      → startedReplied c x j (replyOf a) n ≡ n
   unfolding startedReplied othersOf
   started-told (refused m) e q c x n = refl
   started-told (good consumed rs) e q c x n = rw (e, none-start c x rs q, none-end c x rs q) (omega arith)
 
-  aired-told : (a : Answer) → recordsIn (writtenBy a) ≡ recordsOf a → All Quiet (recordsOf a) → (u : ℕ) (es : List Airing) → airedReplied u j (replyOf a) es ≡ es
+  aired-told : (a : Answer) → recordsIn (writtenBy a) ≡ recordsOf a → All Quiet (recordsOf a) → (u : ℕ) (es : List Airing)
+      → airedReplied u j (replyOf a) es ≡ es
   unfolding airedReplied airedAfter
   aired-told (refused n) e q u es = refl
   aired-told (good consumed rs) e q u es = rw e (quiet-heard u rs q es)
@@ -140,7 +159,8 @@ module _ (l : List ℕ) (pts seconds micros room : ℕ) where
 
 -- one event more
 module _ (e : Event) where
-  waits-more : (c : ℕ) (h : List Event) (w : List ℕ) → waitingTold c (h ++ (e ∷ [])) w ≡ waitReplied c (e .call) (e .reply) (waitingTold c h w)
+  waits-more : (c : ℕ) (h : List Event) (w : List ℕ) → waitingTold c (h ++ (e ∷ [])) w
+      ≡ waitReplied c (e .call) (e .reply) (waitingTold c h w)
   unfolding waitingTold
   waits-more c [] w = refl
   waits-more c (d ∷ h) w = waits-more c h (waitReplied c (d .call) (d .reply) w)
@@ -155,13 +175,15 @@ module _ (e : Event) where
   clock-more [] now = refl
   clock-more (d ∷ h) now = clock-more h (clockReplied (d .call) (d .reply) now)
 
-  started-more : (c x : ℕ) (h : List Event) (n : ℕ) → startedTold c x (h ++ (e ∷ [])) n ≡ startedReplied c x (e .call) (e .reply) (startedTold c x h n)
+  started-more : (c x : ℕ) (h : List Event) (n : ℕ) → startedTold c x (h ++ (e ∷ [])) n
+      ≡ startedReplied c x (e .call) (e .reply) (startedTold c x h n)
   unfolding startedTold
   started-more c x [] n = refl
   started-more c x (d ∷ h) n = started-more c x h (startedReplied c x (d .call) (d .reply) n)
 
   airings-more : (h : List Event) (now : ℕ) (es : List Airing)
-      → airings (h ++ (e ∷ [])) now es ≡ airedReplied (clockReplied (e .call) (e .reply) (clockAfter h now)) (e .call) (e .reply) (airings h now es)
+      → airings (h ++ (e ∷ [])) now es ≡ airedReplied (clockReplied (e .call) (e .reply) (clockAfter h now)) (e .call) (e .reply)
+      (airings h now es)
   unfolding airings clockAfter
   airings-more [] now es = refl
   airings-more (d ∷ h) now es =
@@ -174,7 +196,8 @@ module _ (e : Event) where
   ended-more [] es now ss ts = refl
   ended-more (d ∷ h) es now ss ts =
       let u = clockReplied (d .call) (d .reply) now in
-      ended-more h (bookReplied (d .call) (d .reply) es) u (airedReplied u (d .call) (d .reply) ss) (endedReplied (d .call) (d .reply) es (timeSoFar now ss) ts)
+      ended-more h (bookReplied (d .call) (d .reply) es) u (airedReplied u (d .call) (d .reply) ss)
+      (endedReplied (d .call) (d .reply) es (timeSoFar now ss) ts)
 
   kept-more : (c : ℕ) (h : List Event) (k : List ℕ)
       → keptBehind c (h ++ (e ∷ [])) k ≡ cond (changed c (e .call) (e .reply)) (left (e .call)) (keptBehind c h k)
@@ -209,7 +232,8 @@ module _ (h : List Event) (s : Splicer) (f : FromFresh h s) (l : List ℕ) (pts 
 
   -- ## To whom, and what
 
-  good-records : numberOf a ≡ 0 → recordsOf a ≡ cueRecords (readCue l) (cueTime pts seconds micros (readCue l)) l (initialisedOnes (s .links))
+  good-records : numberOf a ≡ 0 → recordsOf a ≡ cueRecords (readCue l) (cueTime pts seconds micros (readCue l)) l
+      (initialisedOnes (s .links))
   unfolding call cueCall numberOf
   good-records =
       by G (noRoom room) _ _ (λ e n. absurd (omega (arith, n, a-number NoRoom)))
@@ -217,9 +241,11 @@ module _ (h : List Event) (s : Splicer) (f : FromFresh h s) (l : List ℕ) (pts 
       (λ f. by G (badSection l) _ _ (λ g n. absurd (omega (arith, n, a-number BadSection))) (λ g n. refl)))
     where
       G : Called → Type 0
-      G r = numberOf (r .answer) ≡ 0 → recordsOf (r .answer) ≡ cueRecords (readCue l) (cueTime pts seconds micros (readCue l)) l (initialisedOnes (s .links))
+      G r = numberOf (r .answer) ≡ 0 → recordsOf (r .answer)
+          ≡ cueRecords (readCue l) (cueTime pts seconds micros (readCue l)) l (initialisedOnes (s .links))
 
-  pub told-records : numberOf a ≡ 0 → recordsIn (writtenBy a) ≡ cueRecords (readCue l) (cueTime pts seconds micros (readCue l)) l (initialisedOnes (s .links))
+  pub told-records : numberOf a ≡ 0 → recordsIn (writtenBy a)
+      ≡ cueRecords (readCue l) (cueTime pts seconds micros (readCue l)) l (initialisedOnes (s .links))
   told-records n = found ∙ good-records n
 
   pub to-whom : numberOf a ≡ 0 → map connOf (recordsIn (writtenBy a)) ≡ concerned (readCue l) s
@@ -241,7 +267,8 @@ module _ (h : List Event) (s : Splicer) (f : FromFresh h s) (l : List ℕ) (pts 
   whole-section =
       let x = readCue l in
       rw found (by C (noRoom room) _ _ (λ e. tt) (λ e. by C (badMicros micros) _ _ (λ f. tt) (λ f. by C (badSection l) _ _ (λ g. tt)
-      (λ g. cue-all (Carries l) (cueTime pts seconds micros x) l (λ c low. refl) (λ c low. tt) x (initialisedOnes (s .links)) (initialised-low (s .links))))))
+      (λ g. cue-all (Carries l) (cueTime pts seconds micros x) l (λ c low. refl) (λ c low. tt) x (initialisedOnes (s .links))
+      (initialised-low (s .links))))))
     where
       C : Called → Type 0
       C r = All (Carries l) (recordsOf (r .answer))

@@ -32,7 +32,15 @@ bookOf (k ∷ ks) s es = bookOf ks (call k s .splicer) (bookAnswer k (call k s .
 pub sound-fits : (s : Splicer) (k : Call) → Wired k → Sound s → All Fits (recordsOf (call k s .answer))
 sound-fits s k w h =
     let g = h .holding in
-    call-fits k s w (record { aired = record { timed = g .timed; played = g .played }; proper = g .proper; small = g .small; clock = h .clock; linking = h .linking; lately = h .lately })
+    call-fits k s w (record {
+      aired = record { timed = g .timed; played = g .played };
+      proper = g .proper;
+      small = g .small;
+      clock =
+          h .clock;
+      linking = h .linking;
+      lately = h .lately;
+    })
 
 wait-answer : (c : ℕ) (k : Call) (a : Answer) (w : List ℕ) → All Fits (recordsOf a) → waitReplied c k (replyOf a) w ≡ waitAnswer c k a w
 unfolding waitReplied writtenBy
@@ -44,7 +52,8 @@ unfolding bookReplied writtenBy
 book-answer k (refused n) es f = refl
 book-answer k (good consumed rs) es f = ap (λ l. bookAfter k l es) (read-back rs f)
 
-pub waiting-found : (c : ℕ) (ks : List Call) (s : Splicer) (w : List ℕ) → All Wired ks → Sound s → waitingTold c (history ks s) w ≡ waitingOf c ks s w
+pub waiting-found : (c : ℕ) (ks : List Call) (s : Splicer) (w : List ℕ) → All Wired ks → Sound s
+    → waitingTold c (history ks s) w ≡ waitingOf c ks s w
 unfolding waitingTold history waitingOf
 waiting-found c [] s w a h = refl
 waiting-found c (k ∷ ks) s w a h =

@@ -19,8 +19,10 @@ use Rattle.rules.specs.Reading.{readAlive, readConfig, read, hardwareIn, dataIn
 use Rattle.rules.specs.State.{Splicer, noHardware, hardwareOf, linkOf, isOpen, withLink}
 use Rattle.rules.specs.Records.{Record, General, AbortResponse, ConfigResponse, recordsIn}
 use Rattle.rules.specs.Ends.{andThen, aborted, evicted}
-use Rattle.rules.specs.Answers.{says, initialised, airState, airFeed, aliveResponse, configResponse, requested, accepts, accepted, answer, answerRead}
-use Rattle.rules.specs.Calls.{Answer, refused, good, Called, refuse, does, replies, writtenBy, noConnection, sectionOf, Loans, Call, opens, closes, messages, openCall, framing, handled, messageCall, ticked, call, after, named, fresh}
+use Rattle.rules.specs.Answers.{says, initialised, airState, airFeed, aliveResponse, configResponse, requested, accepts, accepted, answer}
+use Rattle.rules.specs.Answers.{answerRead}
+use Rattle.rules.specs.Calls.{Answer, refused, good, Called, refuse, does, replies, writtenBy, noConnection, sectionOf, Loans, Call, opens}
+use Rattle.rules.specs.Calls.{closes, messages, openCall, framing, handled, messageCall, ticked, call, after, named, fresh}
 use Rattle.rules.specs.Sound.{Wired, Sound}
 use Rattle.rules.proofs.Tests.{by, eqb-same}
 use Rattle.rules.proofs.All.{All}
@@ -30,7 +32,8 @@ use Rattle.rules.proofs.Recall.{by-recall}
 use Rattle.rules.proofs.Sound.{sound-call, sound-fresh, sound-found}
 use Rattle.demands.specs.History.{Event, replyOf, history}
 use Rattle.demands.specs.Told.{FromFresh, numberOf}
-use Rattle.demands.specs.Kept.{isInitialising, initialises, changes, left, changed, keptBehind, keptTold, AsksConfig, AsksAlive, Ready, stateIn}
+use Rattle.demands.specs.Kept.{isInitialising, initialises, changes, left, changed, keptBehind, keptTold, AsksConfig, AsksAlive}
+use Rattle.demands.specs.Kept.{Ready, stateIn}
 use Rattle.demands.proofs.Refusals.{a-number}
 use Rattle.demands.proofs.Room.{from-sound, ready-open}
 
@@ -85,7 +88,8 @@ module _ (c : ℕ) (s : Splicer) (keeping : length (s .hardware) ≡ 4) where
         unknown = λ x e i. refl;
         aborting = λ x e i held. rw (more-than-one (AbortResponse d 100 x) (aborted d x (s .queue) .written) refl);
         declining = λ r v e i b n. refl;
-        accepting = λ r e i p. let new = requested d r (s .queue) in rw (last-of (evicted (new .start .0) (s .queue) .written) (accepts new) refl);
+        accepting = λ r e i p. let new = requested d r (s .queue) in rw
+            (last-of (evicted (new .start .0) (s .queue) .written) (accepts new) refl);
       }
 
   brings-keeps : (k : Call) (until : ℕ) → rules.Brings k until → Keeps k (ticked until s)
@@ -107,7 +111,8 @@ module _ (c : ℕ) (s : Splicer) (keeping : length (s .hardware) ≡ 4) where
       })
 
 -- by the answer's bytes
-kept-reply : (c : ℕ) (k : Call) (a : Answer) (h : List ℕ) → recordsIn (writtenBy a) ≡ recordsOf a → cond (changed c k (replyOf a)) (left k) h ≡ keptAnswer c k a h
+kept-reply : (c : ℕ) (k : Call) (a : Answer) (h : List ℕ) → recordsIn (writtenBy a) ≡ recordsOf a
+    → cond (changed c k (replyOf a)) (left k) h ≡ keptAnswer c k a h
 unfolding changed writtenBy
 kept-reply c k (refused n) h e = refl
 kept-reply c k (good consumed rs) h e = ap (λ l. cond (changes c k l) (left k) h) e
@@ -117,7 +122,8 @@ call-kept : (c : ℕ) (s : Splicer) (k : Call) → Wired k → Sound s
 call-kept c s k w h = kept-reply c k (call k s .answer) (hardwareOf c s) (sound-found s k w h) ∙ call-keeps c s (h .linking .keeping) k
 
 -- "Nothing but a good Init and a good close changes a kept structure"
-pub nothing-else-changes : (h : List Event) (s : Splicer) → FromFresh h s → (k : Call) → Wired k → (c : ℕ) → changed c k (replyOf (call k s .answer)) ≡ false
+pub nothing-else-changes : (h : List Event) (s : Splicer) → FromFresh h s → (k : Call) → Wired k → (c : ℕ)
+    → changed c k (replyOf (call k s .answer)) ≡ false
     → hardwareOf c (call k s .splicer) ≡ hardwareOf c s
 nothing-else-changes h s f k w c e =
     sym (call-kept c s k w (from-sound h s f)) ∙ ap (λ (b : Bool). cond b (left k) (hardwareOf c s)) e
@@ -135,11 +141,13 @@ close-forgets h s f c room z =
 
 -- ## Every sequence of calls
 
-kept-after : (c : ℕ) (ks : List Call) (s : Splicer) → All Wired ks → Sound s → keptBehind c (history ks s) (hardwareOf c s) ≡ hardwareOf c (after ks s)
+kept-after : (c : ℕ) (ks : List Call) (s : Splicer) → All Wired ks → Sound s
+    → keptBehind c (history ks s) (hardwareOf c s) ≡ hardwareOf c (after ks s)
 unfolding keptBehind history after
 kept-after c [] s a h = refl
 kept-after c (k ∷ ks) s a h =
-    ap (keptBehind c (history ks (call k s .splicer))) (call-kept c s k (a .0) h) ∙ kept-after c ks (call k s .splicer) (a .1) (sound-call s k (a .0) h)
+    ap (keptBehind c (history ks (call k s .splicer))) (call-kept c s k (a .0) h)
+    ∙ kept-after c ks (call k s .splicer) (a .1) (sound-call s k (a .0) h)
 
 bare : (name : List ℕ) (c : ℕ) → noHardware ≡ hardwareOf c (fresh name .splicer)
 unfolding fresh named
@@ -177,7 +185,8 @@ framed-long l id size e =
     (λ j. by (Framing-long l) (ltb (length l) (8 + messageSize l)) _ _ (λ k. tt) (λ k. ltb-false (length l) (8 + messageSize l) k))))
 
 module _ (c : ℕ) (l : List ℕ) (loans : Loans) (s : Splicer) where
-  config-call : AsksConfig c l loans s → Ready c s → call (messages c l loans) s ≡ replies 8 (says (configResponse c (sectionOf loans s) s ∷ []) s)
+  config-call : AsksConfig c l loans s → Ready c s → call (messages c l loans) s
+      ≡ replies 8 (says (configResponse c (sectionOf loans s) s ∷ []) s)
   unfolding call messageCall handled answer answerRead read readConfig
   config-call a r = rw (a .low, a .roomy, ready-open (linkOf c s) r, a .sections, a .framed, r)
 
@@ -189,7 +198,8 @@ module _ (c : ℕ) (l : List ℕ) (loans : Loans) (s : Splicer) where
   unfolding call messageCall handled answer answerRead read readAlive
   alive-call a r =
       let n : eqb (length (dataOf 8 l)) 8 ≡ true =
-      eq-eqb (length (dataOf 8 l)) 8 (length-take-le 8 (drop 8 l) (omega (arith, length-drop 8 l, framed-long l aliveRequest 8 (a .framed)))) in
+      eq-eqb (length (dataOf 8 l)) 8 (length-take-le 8 (drop 8 l)
+      (omega (arith, length-drop 8 l, framed-long l aliveRequest 8 (a .framed)))) in
       rw (a .low, a .roomy, ready-open (linkOf c s) r, a .sections, a .framed, r, n)
 
 -- the answer to a GetConfig_Request is that one record
@@ -202,15 +212,19 @@ config-told h s f c l loans a r =
     ∙ ap (λ (x : List ℕ). ConfigResponse c 100 (s .name) x (sectionOf loans s) ∷ []) (sym (kept-told h s f c))
 
 -- its section is the insertion's exactly where an Alive_Request in its place, lent whatever, is answered with State 2
-pub section-told : (h : List Event) (s : Splicer) → FromFresh h s → (c : ℕ) (l : List ℕ) (loans other : Loans) → AsksAlive c l other s → Ready c s
-    → sectionOf loans s ≡ cond (eqb (stateIn (recordsIn (writtenBy (call (messages c l other) s .answer)))) 2) (loans .insertion) (loans .primary)
+pub section-told : (h : List Event) (s : Splicer) → FromFresh h s → (c : ℕ) (l : List ℕ) (loans other : Loans) → AsksAlive c l other s
+    → Ready c s
+    → sectionOf loans s ≡ cond (eqb (stateIn (recordsIn (writtenBy (call (messages c l other) s .answer)))) 2) (loans .insertion)
+    (loans .primary)
 unfolding stateIn aliveResponse airFeed airState
 section-told h s f c l loans other a r =
     by-state (s .queue .started)
     ∙ sym (ap (λ (x : List Record). cond (eqb (stateIn x) 2) (loans .insertion) (loans .primary))
-    (sound-found s (messages c l other) (a .bytes) (from-sound h s f) ∙ ap (λ (x : Called). recordsOf (x .answer)) (alive-call c l other s a r)))
+    (sound-found s (messages c l other) (a .bytes) (from-sound h s f) ∙ ap (λ (x : Called). recordsOf (x .answer))
+    (alive-call c l other s a r)))
   where
-    by-state : (k : List Session) → cond (eqb (airFeed k) 0) (loans .primary) (loans .insertion) ≡ cond (eqb (airState k) 2) (loans .insertion) (loans .primary)
+    by-state : (k : List Session) → cond (eqb (airFeed k) 0) (loans .primary) (loans .insertion)
+        ≡ cond (eqb (airState k) 2) (loans .insertion) (loans .primary)
     by-state [] = refl
     by-state (x ∷ k) = refl
 
@@ -220,7 +234,8 @@ pub opened-denied : (h : List Event) (s : Splicer) → FromFresh h s → (c : �
     → recordsIn (writtenBy (call (messages c l loans) t .answer)) ≡ General c 103 ∷ []
 unfolding call openCall numberOf
 opened-denied h s f c z l loans a =
-    sound-found t (messages c l loans) (a .bytes) (sound-call s (opens c) tt (from-sound h s f)) ∙ ap (λ (x : Called). recordsOf (x .answer)) (denied-call c l loans t a is-open)
+    sound-found t (messages c l loans) (a .bytes) (sound-call s (opens c) tt (from-sound h s f))
+    ∙ ap (λ (x : Called). recordsOf (x .answer)) (denied-call c l loans t a is-open)
   where
     t : Splicer
     t = call (opens c) s .splicer
@@ -228,7 +243,8 @@ opened-denied h s f c z l loans a =
     is-open : linkOf c t ≡ Opened
     is-open = go (noConnection c) (isOpen (linkOf c s)) refl z
       where
-        go : (x y : Bool) → noConnection c ≡ x → numberOf (cond x (refuse NoConnection s) (cond y (refuse AlreadyOpen s) (does 0 [] (withLink c Opened s))) .answer) ≡ 0
+        go : (x y : Bool) → noConnection c ≡ x → numberOf (cond x (refuse NoConnection s)
+            (cond y (refuse AlreadyOpen s) (does 0 [] (withLink c Opened s))) .answer) ≡ 0
             → linkOf c (cond x (refuse NoConnection s) (cond y (refuse AlreadyOpen s) (does 0 [] (withLink c Opened s))) .splicer) ≡ Opened
         go true y e n = absurd (omega (arith, a-number NoConnection))
         go false true e n = absurd (omega (arith, a-number AlreadyOpen))

@@ -1,5 +1,6 @@
 -- 02, CR 8: what is kept is the first 16, newest first, of the ends that the answers tell.
--- Rests on Book (a session held is as its entry says), on Owners (its time on air is the history's) and on what is known of every splicer from fresh.
+-- Rests on Book (a session held is as its entry says), on Owners (its time on air is the history's) and on what is known of every splicer
+-- from fresh.
 use mathlib.Core.Path.{_≡_, refl, sym, ap, subst, _∙_}
 use mathlib.Core.Bool.{Bool, true, false, cond, not, _&&_, _||_}
 use mathlib.Core.List.{List, [], _∷_, _++_, map}
@@ -15,9 +16,12 @@ use Rattle.rules.specs.declared.Ending.the-variants.{Complete, Failed, Response
 use Rattle.rules.specs.Units.{timeOf, fromMicros, toTicks}
 use Rattle.rules.specs.Lists.{All, bit, put, keep, omit, count, place, removeAt}
 use Rattle.rules.specs.Bytes.{hasZero}
-use Rattle.rules.specs.State.{sameNumber, Lately, Queue, Splicer, empty, of, is, startsAt, endsAt, due, notAfter, withWaiting, withStarted, mostKept, unused, isKept, noneEnded, remembered, rememberedAll, recentAt, recentFrom, recent}
-use Rattle.rules.specs.Records.{Record, General, InitResponse, AliveResponse, SpliceResponse, SpliceComplete, AbortResponse, CueRequest, ConfigResponse, ExtendedFound, ExtendedNone}
-use Rattle.rules.specs.Ends.{Turn, andThen, writes, ended, past, ending, oneEnd, endings, followers, dismissed, evictedAt, evicted, cancelled, aborted, closedBy}
+use Rattle.rules.specs.State.{sameNumber, Lately, Queue, Splicer, empty, of, is, startsAt, endsAt, due, notAfter, withWaiting, withStarted}
+use Rattle.rules.specs.State.{mostKept, unused, isKept, noneEnded, remembered, rememberedAll, recentAt, recentFrom, recent}
+use Rattle.rules.specs.Records.{Record, General, InitResponse, AliveResponse, SpliceResponse, SpliceComplete, AbortResponse, CueRequest}
+use Rattle.rules.specs.Records.{ConfigResponse, ExtendedFound, ExtendedNone}
+use Rattle.rules.specs.Ends.{Turn, andThen, writes, ended, past, ending, oneEnd, endings, followers, dismissed, evictedAt, evicted}
+use Rattle.rules.specs.Ends.{cancelled, aborted, closedBy}
 use Rattle.rules.specs.Instants.{mayStart, began, meetsEqual, ousted, launched, startAt, endAt, instant, elapse, run, runAll}
 use Rattle.rules.specs.Reading.{dataIn}
 use Rattle.rules.specs.Answers.{sessionAt, requested, accepts, accepted}
@@ -36,10 +40,12 @@ use Rattle.rules.proofs.Fitted.{recordsOf}
 use Rattle.rules.proofs.Always.{Wired}
 use Rattle.rules.proofs.Records.{Fits, read-back}
 use Rattle.rules.proofs.Sound.{Sound, sound-call, sound-fresh, sound-found, holding-next}
-use Rattle.demands.specs.History.{isEnd, isYes, endsOf, endResult, front, last, Event, replyOf, history, othersOf, Entry, entryIs, eventTold, credited, shut, bookAnswered, bookAfter, bookReplied, book}
+use Rattle.demands.specs.History.{isEnd, isYes, endsOf, endResult, front, last, Event, replyOf, history, othersOf, Entry, entryIs}
+use Rattle.demands.specs.History.{eventTold, credited, shut, bookAnswered, bookAfter, bookReplied, book}
 use Rattle.demands.specs.Airing.{Airing, airedReplied, airTime}
 use Rattle.demands.specs.Told.{FromFresh}
-use Rattle.demands.specs.Lately.{Told, isAnEnd, toldIn, endsIn, timeSoFar, unshown, newer, endedReplied, endedTold, endsTold, ofNumber, endedOnce, As, KeptAs}
+use Rattle.demands.specs.Lately.{Told, isAnEnd, toldIn, endsIn, timeSoFar, unshown, newer, endedReplied, endedTold, endsTold}
+use Rattle.demands.specs.Lately.{ofNumber, endedOnce, As, KeptAs}
 use Rattle.demands.proofs.Laws.{evicted-law, closedBy-law, answered-law, tick-law}
 use Rattle.demands.proofs.Cases.{cases}
 use Rattle.demands.proofs.Waiting.{front-last, last-last}
@@ -90,10 +96,12 @@ fit-next : (e : Past) (l : Lately) → Fit l → Fit (remembered e l)
 unfolding remembered
 fit-next e l f = (length-set (l .places) (l .next) e ∙ f .0, omega arith)
 
-kept-next : (e : Past) (t : Told) (l : Lately) (ts : List Told) → Fit l → As e t × (isKept e ≡ true) → KeptWhole (recent l) ts → KeptWhole (recent (remembered e l)) (t ∷ ts)
+kept-next : (e : Past) (t : Told) (l : Lately) (ts : List Told) → Fit l → As e t × (isKept e ≡ true) → KeptWhole (recent l) ts
+    → KeptWhole (recent (remembered e l)) (t ∷ ts)
 kept-next e t l ts f a h = rw (recent-next e l (f .0) (f .1)) (kept-take mostKept (e ∷ recent l) (t ∷ ts) (a, h))
 
-kept-all : (es : List Past) (os : List Told) (l : Lately) (ts : List Told) → Fit l → Matches es os → KeptWhole (recent l) ts → KeptWhole (recent (rememberedAll es l)) (newer os ts)
+kept-all : (es : List Past) (os : List Told) (l : Lately) (ts : List Told) → Fit l → Matches es os → KeptWhole (recent l) ts
+    → KeptWhole (recent (rememberedAll es l)) (newer os ts)
 unfolding rememberedAll newer
 kept-all [] [] l ts f m h = h
 kept-all [] (o ∷ os) l ts f m h = absurd m
@@ -131,28 +139,50 @@ module _ (es : List Entry) (on : ℕ → ℕ → ℕ) where
 
   says : (how : Ending) (s : Session) → Fine on how s → Knows es on s → Says how s
   unfolding isAnEnd isEnd toldIn
-  says (Complete r) s h k = (rw (eqb-same (s .conn), eqb-same (s .id)), (record { conn = refl; id = refl; event = sym (k .0); result = refl; played = refl }, ap not h))
-  says Failed s h k = (rw (eqb-same (s .conn), eqb-same (s .id)), (record { conn = refl; id = refl; event = sym (k .0); result = refl; played = omega (arith, h) }, refl))
-  says (Response r) s h k =
-      (rw (h .0, eqb-same (s .conn), eqb-same (s .id)), (record { conn = refl; id = refl; event = sym (k .0); result = refl; played = h .1 }, ap not (end-some r (h .0))))
+  says (Complete r) s h k = (
+    rw (eqb-same (s .conn), eqb-same (s .id)),
+    (record { conn = refl; id = refl; event = sym (k .0); result = refl; played = refl }, ap not h),
+  )
+  says Failed s h k = (
+    rw (eqb-same (s .conn), eqb-same (s .id)),
+    (record { conn = refl; id = refl; event = sym (k .0); result = refl; played = omega (arith, h) }, refl),
+  )
+  says (Response r) s h k = (
+    rw (h .0, eqb-same (s .conn), eqb-same (s .id)),
+    (
+      record {
+        conn = refl;
+        id = refl;
+        event = sym (k .0);
+        result = refl;
+        played =
+            h .1;
+      },
+      ap not (end-some r (h .0)),
+    ),
+  )
 
   one-end : (how : Ending) (s : Session) → Says how s → Matches (past how s ∷ []) (endsIn es on (ended how s ∷ []))
   one-end how s h = rw (h .0) (h .1, tt)
 
-  all-end : (how : Ending) (l : List Session) → All (λ s. Knows es on s × Fine on how s) l → Matches (map (past how) l) (endsIn es on (map (ended how) l))
+  all-end : (how : Ending) (l : List Session) → All (λ s. Knows es on s × Fine on how s) l
+      → Matches (map (past how) l) (endsIn es on (map (ended how) l))
   all-end how [] a = tt
   all-end how (s ∷ l) a = let k = says how s (a .0 .1) (a .0 .0) in rw (k .0) (k .1, all-end how l (a .1))
 
-  endings-end : (air cover : Ending) (p : Session → Bool) (k : List Session) → All (λ s. (Knows es on s × Fine on cover s) × Fine on air s) k
+  endings-end : (air cover : Ending) (p : Session → Bool) (k : List Session)
+      → All (λ s. (Knows es on s × Fine on cover s) × Fine on air s) k
       → Matches (endings air cover p k Past past) (endsIn es on (endings air cover p k Record ended))
   unfolding endings
   endings-end air cover p [] a = tt
   endings-end air cover p (s ∷ k) a = go (p s)
     where
       rest : Matches (map (past cover) (keep p k)) (endsIn es on (map (ended cover) (keep p k)))
-      rest = all-end cover (keep p k) (all-keep (λ u. Knows es on u × Fine on cover u) p k (all-into (λ u. (Knows es on u × Fine on cover u) × Fine on air u) (λ u. Knows es on u × Fine on cover u) (λ u h. h .0) k (a .1)))
+      rest = all-end cover (keep p k) (all-keep (λ u. Knows es on u × Fine on cover u) p k
+          (all-into (λ u. (Knows es on u × Fine on cover u) × Fine on air u) (λ u. Knows es on u × Fine on cover u) (λ u h. h .0) k (a .1)))
 
-      go : (b : Bool) → Matches (put b (past air s) (map (past cover) (keep p k))) (endsIn es on (put b (ended air s) (map (ended cover) (keep p k))))
+      go : (b : Bool) → Matches (put b (past air s) (map (past cover) (keep p k)))
+          (endsIn es on (put b (ended air s) (map (ended cover) (keep p k))))
       go true = let k = says air s (a .0 .1) (a .0 .0 .0) in rw (k .0) (k .1, rest)
       go false = rest
 
@@ -171,7 +201,8 @@ module _ (es : List Entry) (on : ℕ → ℕ → ℕ) where
     lately : t .queue .lately ≡ rememberedAll gone l
     told : Matches gone (endsIn es on (t .written))
 
-  keeps-join : (l : Lately) (t u : Turn) → Keeps l t → Keeps (t .queue .lately) u → Keeps l (record { queue = u .queue; written = t .written ++ u .written })
+  keeps-join : (l : Lately) (t u : Turn) → Keeps l t → Keeps (t .queue .lately) u
+      → Keeps l (record { queue = u .queue; written = t .written ++ u .written })
   keeps-join l t u a b =
       record {
         gone = a .gone ++ b .gone;
@@ -195,13 +226,19 @@ module _ (es : List Entry) (on : ℕ → ℕ → ℕ) where
   Waits s = Knows es on s × (s .played .0 ≡ 0)
 
   waits-fine : (r : ℕ) → endResult r ≡ true → (l : List Session) → All Waits l → All (λ s. Knows es on s × Fine on (Response r) s) l
-  waits-fine r h l a = all-into Waits (λ s. Knows es on s × Fine on (Response r) s) (λ s k. (k .0, (h, airs-silent es on s (k .0) (k .1)))) l a
+  waits-fine r h l a = all-into Waits (λ s. Knows es on s × Fine on (Response r) s) (λ s k. (k .0, (h, airs-silent es on s (k .0) (k .1))))
+      l a
 
   dismissed-keeps : (r c x : ℕ) (q : Queue) → endResult r ≡ true → All Waits (q .waiting) → Keeps (q .lately) (dismissed r c x q)
   unfolding dismissed
   dismissed-keeps r c x q h a =
       let g = followers c x (q .waiting) .gone in
-      record { gone = map (past (Response r)) g; lately = refl; told = all-end (Response r) g (waits-fine r h g (followers-gone c x (q .waiting) Waits a)) }
+      record {
+        gone = map (past (Response r)) g;
+        lately = refl;
+        told =
+            all-end (Response r) g (waits-fine r h g (followers-gone c x (q .waiting) Waits a));
+      }
 
   one-keeps : (how : Ending) (s : Session) (q : Queue) → Says how s → Keeps (q .lately) (ending (oneEnd how s) q)
   one-keeps how s q h = record { gone = past how s ∷ []; lately = refl; told = one-end how s h }
@@ -215,12 +252,14 @@ module _ (es : List Entry) (on : ℕ → ℕ → ℕ) where
       by (Keeps (q .lately)) (ltb i (length (q .waiting))) _ _
       (λ e. let k = all-getD Waits (q .waiting) i empty (ltb-true i (length (q .waiting)) e) a in
       keeps-join (q .lately) u (dismissed 109 (s .conn) (s .id) (u .queue))
-      (one-keeps (Response 109) s (withWaiting (removeAt i (q .waiting)) q) (says (Response 109) s (refl, airs-silent es on s (k .0) (k .1)) (k .0)))
+      (one-keeps (Response 109) s (withWaiting (removeAt i (q .waiting)) q)
+      (says (Response 109) s (refl, airs-silent es on s (k .0) (k .1)) (k .0)))
       (dismissed-keeps 109 (s .conn) (s .id) (u .queue) refl (fewer-all Waits (fewer-removeAt i (q .waiting)) a)))
       (λ e. keeps-none q [] refl)
 
   -- the time on air of those that have started is told
-  cancelled-keeps : (p : Session → Bool) (q : Queue) → All Waits (q .waiting) → All (λ s. Knows es on s × Airs on s) (q .started) → Keeps (q .lately) (cancelled p q)
+  cancelled-keeps : (p : Session → Bool) (q : Queue) → All Waits (q .waiting) → All (λ s. Knows es on s × Airs on s) (q .started)
+      → Keeps (q .lately) (cancelled p q)
   unfolding cancelled
   cancelled-keeps p q a k =
       let g = endings (Complete 116) (Response 116) p (q .started) in
@@ -231,11 +270,13 @@ module _ (es : List Entry) (on : ℕ → ℕ → ℕ) where
         told = rw (ends-append (g Record ended) (map (ended (Response 116)) w))
             (matches-append (g Past past) (map (past (Response 116)) w) _ _
             (endings-end (Complete 116) (Response 116) p (q .started)
-            (all-into (λ s. Knows es on s × Airs on s) (λ s. (Knows es on s × Fine on (Response 116) s) × Fine on (Complete 116) s) (λ s h. ((h .0, (refl, h .1)), refl)) (q .started) k))
+            (all-into (λ s. Knows es on s × Airs on s) (λ s. (Knows es on s × Fine on (Response 116) s) × Fine on (Complete 116) s)
+            (λ s h. ((h .0, (refl, h .1)), refl)) (q .started) k))
             (all-end (Response 116) w (waits-fine 116 refl w (all-keep Waits p (q .waiting) a))));
       }
 
-  aborted-keeps : (c x : ℕ) (q : Queue) → All Waits (q .waiting) → All (λ s. Knows es on s × Airs on s) (q .started) → Keeps (q .lately) (aborted c x q)
+  aborted-keeps : (c x : ℕ) (q : Queue) → All Waits (q .waiting) → All (λ s. Knows es on s × Airs on s) (q .started)
+      → Keeps (q .lately) (aborted c x q)
   unfolding aborted andThen
   aborted-keeps c x q a k =
       let t = cancelled (is c x) q in
@@ -250,7 +291,9 @@ module _ (es : List Entry) (on : ℕ → ℕ → ℕ) where
       record {
         gone = endings (Complete 100) (Complete 125) (endsAt t) (q .started) Past past;
         lately = refl;
-        told = endings-end (Complete 100) (Complete 125) (endsAt t) (q .started) (all-into (Knows es on) (λ s. (Knows es on s × Fine on (Complete 125) s) × Fine on (Complete 100) s) (λ s k. ((k, refl), refl)) (q .started) a);
+        told = endings-end (Complete 100) (Complete 125) (endsAt t) (q .started)
+            (all-into (Knows es on) (λ s. (Knows es on s × Fine on (Complete 125) s) × Fine on (Complete 100) s) (λ s k. ((k, refl), refl))
+            (q .started) a);
       }
 
   ousted-keeps : (s : Session) (q : Queue) → All Waits (q .waiting) → All (Knows es on) (q .started) → Keeps (q .lately) (ousted s q)
@@ -260,25 +303,30 @@ module _ (es : List Entry) (on : ℕ → ℕ → ℕ) where
       let u = ending (oneEnd (Complete 125) air) (withStarted (removeAt 0 (q .started)) q) in
       by (Keeps (q .lately)) (meetsEqual s (q .started)) _ _
       (λ e. let k = all-getD (Knows es on) (q .started) 0 empty (meets-some s (q .started) e) b in
-      keeps-join (q .lately) u (dismissed 125 (air .conn) (air .id) (u .queue)) (one-keeps (Complete 125) air (withStarted (removeAt 0 (q .started)) q) (says (Complete 125) air refl k))
+      keeps-join (q .lately) u (dismissed 125 (air .conn) (air .id) (u .queue))
+      (one-keeps (Complete 125) air (withStarted (removeAt 0 (q .started)) q) (says (Complete 125) air refl k))
       (dismissed-keeps 125 (air .conn) (air .id) (u .queue) refl a))
       (λ e. keeps-none q [] refl)
 
-  launched-keeps : (s : Session) (q : Queue) → Waits s → All Waits (q .waiting) → All (Knows es on) (q .started) → Keeps (q .lately) (launched s q)
+  launched-keeps : (s : Session) (q : Queue) → Waits s → All Waits (q .waiting) → All (Knows es on) (q .started)
+      → Keeps (q .lately) (launched s q)
   unfolding launched andThen
   launched-keeps s q z a b =
       let f = ending (oneEnd Failed s) q in
       let o = ousted s q in
       by (Keeps (q .lately)) (mayStart s (q .started)) _ _
-      (λ e. keeps-join (q .lately) o (writes (began s ∷ []) (withStarted (s ∷ o .queue .started) (o .queue))) (ousted-keeps s q a b) (keeps-none (withStarted (s ∷ o .queue .started) (o .queue)) (began s ∷ []) (began-none s)))
-      (λ e. keeps-join (q .lately) f (dismissed 109 (s .conn) (s .id) (f .queue)) (one-keeps Failed s q (says Failed s (z .1) (z .0))) (dismissed-keeps 109 (s .conn) (s .id) (f .queue) refl a))
+      (λ e. keeps-join (q .lately) o (writes (began s ∷ []) (withStarted (s ∷ o .queue .started) (o .queue))) (ousted-keeps s q a b)
+      (keeps-none (withStarted (s ∷ o .queue .started) (o .queue)) (began s ∷ []) (began-none s)))
+      (λ e. keeps-join (q .lately) f (dismissed 109 (s .conn) (s .id) (f .queue)) (one-keeps Failed s q (says Failed s (z .1) (z .0)))
+      (dismissed-keeps 109 (s .conn) (s .id) (f .queue) refl a))
 
   startAt-keeps : (t : ℕ) (q : Queue) → All Waits (q .waiting) → All (Knows es on) (q .started) → Keeps (q .lately) (startAt t q)
   unfolding startAt
   startAt-keeps t q a b =
       let i = place (startsAt t) (q .waiting) in
       by (Keeps (q .lately)) (ltb i (length (q .waiting))) _ _
-      (λ e. launched-keeps (getD (q .waiting) i empty) (withWaiting (removeAt i (q .waiting)) q) (all-getD Waits (q .waiting) i empty (ltb-true i (length (q .waiting)) e) a)
+      (λ e. launched-keeps (getD (q .waiting) i empty) (withWaiting (removeAt i (q .waiting)) q)
+      (all-getD Waits (q .waiting) i empty (ltb-true i (length (q .waiting)) e) a)
       (fewer-all Waits (fewer-removeAt i (q .waiting)) a) b)
       (λ e. keeps-none q [] refl)
 
@@ -286,7 +334,8 @@ module _ (es : List Entry) (on : ℕ → ℕ → ℕ) where
   unfolding instant andThen endAt
   instant-keeps t q a b =
       let u = endAt t q in
-      keeps-join (q .lately) u (startAt t (u .queue)) (endAt-keeps t q b) (startAt-keeps t (u .queue) a (fewer-all (Knows es on) (endAt-fewer q t .started) b))
+      keeps-join (q .lately) u (startAt t (u .queue)) (endAt-keeps t q b)
+      (startAt-keeps t (u .queue) a (fewer-all (Knows es on) (endAt-fewer q t .started) b))
 
   waits-now : (now : ℕ) (q : Queue) → Holding now q → Each (Knows es on) q → All Waits (q .waiting)
   waits-now now q h a = all-both (Knows es on) (λ s. s .played .0 ≡ 0) (q .waiting) (a .waiting) (h .played .silent)
@@ -300,7 +349,8 @@ module _ (es : List Entry) (on : ℕ → ℕ → ℕ) where
       let b = each-elapse (Knows es on) (λ d s k. (k .0, λ z. k .1 (omega (arith, z)))) (t .0 - now) q a in
       let i = moved now (t .0) q in
       keeps-join (q .lately) i (run n (t .0) until (i .queue)) (instant-keeps (t .0) u (waits-now now q h a) (b .started))
-      (run-keeps n (t .0) until (i .queue) (holding-next now until t q e h) (each-instant (Knows es on) (λ d s k. (k .0, λ z. k .1 (omega (arith, z)))) (t .0) u b)))
+      (run-keeps n (t .0) until (i .queue) (holding-next now until t q e h)
+      (each-instant (Knows es on) (λ d s k. (k .0, λ z. k .1 (omega (arith, z)))) (t .0) u b)))
       (λ e. keeps-none (elapse (until - now) q) [] refl)
 
   -- records that tell of no end
@@ -361,7 +411,8 @@ module _ (s : Splicer) (es : List Entry) (ss : List Airing) (b : Booked (s .queu
   knows =
       record {
         waiting = waiting-knows;
-        started = all-into (λ u. Dated es u × Owned.Plays (s .clock) ss u) (Knows es on) (λ u d. (d .0 .2, λ z. timed u (d .1) ∙ z)) (q .started) dated-plays;
+        started = all-into (λ u. Dated es u × Owned.Plays (s .clock) ss u) (Knows es on) (λ u d. (d .0 .2, λ z. timed u (d .1) ∙ z))
+            (q .started) dated-plays;
       }
 
   waiting : All (Waits es on) (q .waiting)
@@ -390,7 +441,8 @@ module _ (s : Splicer) (es : List Entry) (ss : List Airing) (b : Booked (s .queu
         declining = λ c l loans n r e y o. rw e (keeps-none es on q [] refl);
         accepting = λ c l loans n r e f p. let new = requested c r q in
             let k = evicted-keeps es on (new .start .0) q waiting in
-            rw (e, front-last (evicted (new .start .0) q .written) (accepts new)) (record { gone = k .gone; lately = k .lately; told = k .told });
+            rw (e, front-last (evicted (new .start .0) q .written) (accepts new))
+            (record { gone = k .gone; lately = k .lately; told = k .told });
         ticking = λ seconds micros room le. tick-keeps (fromMicros (timeOf seconds micros) .0);
         moving = λ until room le. tick-keeps until;
         cueing = λ l pts seconds micros room rs p. keeps-none es on q rs (none-told es on rs (p .ends));
@@ -411,26 +463,34 @@ airedBy k s ss = airedAnswer (call k s .splicer .clock) k (call k s .answer) ss
 -- a call further, with what its bytes tell
 told-next : (k : Call) (s : Splicer) (h : List Event) (es : List Entry) (ss : List Airing) (os : List Told) → Wired k → Sound s
     → endedTold (record { call = k; reply = replyOf (call k s .answer) } ∷ h) es (s .clock) ss os
-    ≡ endedTold h (bookAnswer k (call k s .answer) es) (call k s .splicer .clock) (airedBy k s ss) (newer (endsIn es (timeSoFar (s .clock) ss) (othersBy k (call k s .answer))) os)
+    ≡ endedTold h (bookAnswer k (call k s .answer) es) (call k s .splicer .clock) (airedBy k s ss)
+    (newer (endsIn es (timeSoFar (s .clock) ss) (othersBy k (call k s .answer))) os)
 unfolding endedTold
 told-next k s h es ss os w z =
     let a = call k s .answer in
     let f = sound-fits s k w z in
-    ap (λ (u : ℕ). endedTold h (bookReplied k (replyOf a) es) u (airedReplied u k (replyOf a) ss) (endedReplied k (replyOf a) es (timeSoFar (s .clock) ss) os)) (call-clock s k)
-    ∙ (λ i. endedTold h (book-answer k a es f i) (call k s .splicer .clock) (aired-answer (call k s .splicer .clock) k a ss (sound-found s k w z) i)
+    ap (λ (u : ℕ). endedTold h (bookReplied k (replyOf a) es) u (airedReplied u k (replyOf a) ss)
+    (endedReplied k (replyOf a) es (timeSoFar (s .clock) ss) os)) (call-clock s k)
+    ∙ (λ i. endedTold h (book-answer k a es f i) (call k s .splicer .clock)
+    (aired-answer (call k s .splicer .clock) k a ss (sound-found s k w z) i)
     (ended-answer k a es (timeSoFar (s .clock) ss) os f i))
 
-kept-always : (ks : List Call) (s : Splicer) (es : List Entry) (ss : List Airing) (os : List Told) → All Wired ks → Sound s → Booked (s .queue) es
-    → Kept start s ss → KeptWhole (recent (s .queue .lately)) os → KeptWhole (recent (after ks s .queue .lately)) (endedTold (history ks s) es (s .clock) ss os)
+kept-always : (ks : List Call) (s : Splicer) (es : List Entry) (ss : List Airing) (os : List Told) → All Wired ks → Sound s
+    → Booked (s .queue) es
+    → Kept start s ss → KeptWhole (recent (s .queue .lately)) os → KeptWhole (recent (after ks s .queue .lately))
+    (endedTold (history ks s) es (s .clock) ss os)
 unfolding after history endedTold
 kept-always [] s es ss os w h b o k = k
 kept-always (j ∷ ks) s es ss os w h b o k =
     let n = call j s in
     let d = call-keeps s es ss b h o j in
     let more = newer (endsIn es (timeSoFar (s .clock) ss) (othersBy j (n .answer))) os in
-    let m = kept-all (d .gone) (endsIn es (timeSoFar (s .clock) ss) (othersBy j (n .answer))) (s .queue .lately) os (h .lately .sixteen, h .lately .next) (d .told) k in
-    subst (λ (z : List Told). KeptWhole (recent (after ks (n .splicer) .queue .lately)) z) (sym (told-next j s (history ks (n .splicer)) es ss os (w .0) h))
-    (kept-always ks (n .splicer) (bookAnswer j (n .answer) es) (airedBy j s ss) more (w .1) (sound-call s j (w .0) h) (call-booked s es b j) (call-owned start s ss h o j)
+    let m = kept-all (d .gone) (endsIn es (timeSoFar (s .clock) ss) (othersBy j (n .answer))) (s .queue .lately) os
+    (h .lately .sixteen, h .lately .next) (d .told) k in
+    subst (λ (z : List Told). KeptWhole (recent (after ks (n .splicer) .queue .lately)) z)
+    (sym (told-next j s (history ks (n .splicer)) es ss os (w .0) h))
+    (kept-always ks (n .splicer) (bookAnswer j (n .answer) es) (airedBy j s ss) more (w .1) (sound-call s j (w .0) h) (call-booked s es b j)
+    (call-owned start s ss h o j)
     (subst (λ (l : Lately). KeptWhole (recent l) more) (sym (d .lately)) m))
 
 -- a fresh splicer has none
@@ -446,13 +506,16 @@ none-from i (suc n) = (empty-at mostKept ((0 + (mostKept - 1 - i)) % mostKept), 
 
 none-kept : (name : List ℕ) → KeptWhole (recent (fresh name .splicer .queue .lately)) []
 unfolding fresh named recent
-none-kept name = by (λ (r : Called). KeptWhole (recent (r .splicer .queue .lately)) []) (hasZero name) _ _ (λ e. none-from 0 mostKept) (λ e. none-from 0 mostKept)
+none-kept name = by (λ (r : Called). KeptWhole (recent (r .splicer .queue .lately)) []) (hasZero name) _ _ (λ e. none-from 0 mostKept)
+    (λ e. none-from 0 mostKept)
 
 pub lately-whole : (h : List Event) (s : Splicer) → FromFresh h s → KeptWhole (recent (s .queue .lately)) (endsTold h)
 lately-whole h s f =
     rw (f .heard, f .same)
-    (subst (λ (n : ℕ). KeptWhole (recent (after (f .calls) (fresh (f .name) .splicer) .queue .lately)) (endedTold (history (f .calls) (fresh (f .name) .splicer)) [] n [] [])) (fresh-clock (f .name))
-    (kept-always (f .calls) (fresh (f .name) .splicer) [] [] [] (f .wired) (sound-fresh (f .name) (f .whole) (f .bytes)) (booked-fresh (f .name)) (owned-fresh (f .name)) (none-kept (f .name))))
+    (subst (λ (n : ℕ). KeptWhole (recent (after (f .calls) (fresh (f .name) .splicer) .queue .lately))
+    (endedTold (history (f .calls) (fresh (f .name) .splicer)) [] n [] [])) (fresh-clock (f .name))
+    (kept-always (f .calls) (fresh (f .name) .splicer) [] [] [] (f .wired) (sound-fresh (f .name) (f .whole) (f .bytes))
+    (booked-fresh (f .name)) (owned-fresh (f .name)) (none-kept (f .name))))
 
 pub lately-told : (h : List Event) (s : Splicer) → FromFresh h s → KeptAs (recent (s .queue .lately)) (endsTold h)
 lately-told h s f = whole-kept (recent (s .queue .lately)) (endsTold h) (lately-whole h s f)
@@ -460,7 +523,8 @@ lately-told h s f = whole-kept (recent (s .queue .lately)) (endsTold h) (lately-
 -- ## One for each session that has ended
 
 module _ (c x : ℕ) where
-  told-one : (es : List Entry) (on : ℕ → ℕ → ℕ) (r : Record) (l : List Told) (n : ℕ) → count (ofNumber c x) l ≡ n → count (ofNumber c x) (put (isAnEnd r) (toldIn es on r) l) ≡ bit (isEnd c x r) + n
+  told-one : (es : List Entry) (on : ℕ → ℕ → ℕ) (r : Record) (l : List Told) (n : ℕ) → count (ofNumber c x) l ≡ n
+      → count (ofNumber c x) (put (isAnEnd r) (toldIn es on r) l) ≡ bit (isEnd c x r) + n
   unfolding isAnEnd isEnd toldIn
   told-one es on (General d m) l n h = omega (arith, h)
   told-one es on (InitResponse d m name) l n h = omega (arith, h)
@@ -472,7 +536,8 @@ module _ (c x : ℕ) where
       go false = omega (arith, h)
   told-one es on (SpliceComplete d m y f p) l n h = rw (eqb-same d, eqb-same y) (go (eqb f 1 || (eqb f 0 && eqb m 109)))
     where
-      go : (b : Bool) → count (ofNumber c x) (put (b && true) (toldIn es on (SpliceComplete d m y f p)) l) ≡ bit (b && sameNumber c x d y) + n
+      go : (b : Bool) → count (ofNumber c x) (put (b && true) (toldIn es on (SpliceComplete d m y f p)) l) ≡ bit (b && sameNumber c x d y)
+          + n
       go true = omega (arith, h)
       go false = omega (arith, h)
   told-one es on (AbortResponse d m y) l n h = omega (arith, h)
@@ -481,13 +546,15 @@ module _ (c x : ℕ) where
   told-one es on (ExtendedFound d y event ended played) l n h = omega (arith, h)
   told-one es on (ExtendedNone d y) l n h = omega (arith, h)
 
-  map-put : (es : List Entry) (on : ℕ → ℕ → ℕ) (b : Bool) (r : Record) (rs : List Record) → map (toldIn es on) (put b r rs) ≡ put b (toldIn es on r) (map (toldIn es on) rs)
+  map-put : (es : List Entry) (on : ℕ → ℕ → ℕ) (b : Bool) (r : Record) (rs : List Record)
+      → map (toldIn es on) (put b r rs) ≡ put b (toldIn es on r) (map (toldIn es on) rs)
   map-put es on true r rs = refl
   map-put es on false r rs = refl
 
   told-count : (es : List Entry) (on : ℕ → ℕ → ℕ) (rs : List Record) → count (ofNumber c x) (endsIn es on rs) ≡ endsOf c x rs
   told-count es on [] = refl
-  told-count es on (r ∷ rs) = rw (map-put es on (isAnEnd r) r (keep isAnEnd rs)) (told-one es on r (endsIn es on rs) (endsOf c x rs) (told-count es on rs))
+  told-count es on (r ∷ rs) = rw (map-put es on (isAnEnd r) r (keep isAnEnd rs))
+      (told-one es on r (endsIn es on rs) (endsOf c x rs) (told-count es on rs))
 
   newer-count : (ts os : List Told) → count (ofNumber c x) (newer ts os) ≡ count (ofNumber c x) ts + count (ofNumber c x) os
   unfolding newer
@@ -513,8 +580,13 @@ module _ (c x : ℕ) where
 
     tick-counts : (until : ℕ) →
         count (entryIs c x) (credited (runAll (s .clock) until (s .queue) .written) es) + heldCount (s .queue) (is c x)
-        ≡ count (entryIs c x) es + endsOf c x (runAll (s .clock) until (s .queue) .written) + heldCount (runAll (s .clock) until (s .queue) .queue) (is c x)
-    tick-counts until = omega (arith, entries-credited (runAll (s .clock) until (s .queue) .written) es, tick-law c x (s .clock) until (s .queue) .kept)
+        ≡ count (entryIs c x) es + endsOf c x (runAll (s .clock) until (s .queue) .written)
+        + heldCount (runAll (s .clock) until (s .queue) .queue) (is c x)
+    tick-counts until = omega (
+      arith,
+      entries-credited (runAll (s .clock) until (s .queue) .written) es,
+      tick-law c x (s .clock) until (s .queue) .kept,
+    )
 
     call-counts : (k : Call) → Counts k (call k s)
     unfolding othersOf bookAfter bookAnswered front last isYes accepted andThen ticked requested sessionAt
@@ -523,23 +595,47 @@ module _ (c x : ℕ) where
           refusing = λ k n. omega arith;
           opening = λ d low e. omega (arith, entries-credited [] es);
           closing = λ d room low e. let t = closedBy d (s .queue) in
-              omega (arith, entries-shut d (credited (t .written) es), entries-credited (t .written) es, closedBy-law c x d (s .queue) .kept);
+              omega (
+                arith,
+                entries-shut d (credited (t .written) es),
+                entries-credited (t .written) es,
+                closedBy-law c x d (s .queue) .kept,
+              );
           saying = λ d l loans n rs e p. rw e (omega (arith, entries-credited rs es, p .ends c x));
           naming = λ d l loans n r hw e p. rw e (omega (arith, entries-credited (r ∷ []) es, p .ends c x));
-          aborting = λ d l loans n y e i. rw e (omega (arith, entries-credited (AbortResponse d 100 y ∷ aborted d y (s .queue) .written) es, answered-law c x d y (s .queue) .kept));
+          aborting = λ d l loans n y e i. rw e (omega (
+            arith,
+            entries-credited (AbortResponse d 100 y ∷ aborted d y (s .queue) .written) es,
+            answered-law c x d y (s .queue) .kept,
+          ));
           declining = λ d l loans n r e y o. rw (e, y) (omega (arith, entries-credited [] es));
           accepting = λ d l loans n r e f p. let new = requested d r (s .queue) in
               let rs = evicted (new .start .0) (s .queue) .written in
-              rw (e, ← (read-id (dataIn l) r f), last-last (isYes d (r .id)) rs (accepts new), front-last rs (accepts new), eqb-same d, eqb-same (r .id), asked-entry s es b d l r f (p .prior))
-              (omega (arith, entries-credited rs es, evicted-law c x (new .start .0) (s .queue) .kept, held-accepted (is c x) new (s .queue)));
+              rw (
+                e,
+                ← (read-id (dataIn l) r f),
+                last-last (isYes d (r .id)) rs (accepts new),
+                front-last rs (accepts new),
+                eqb-same d,
+                eqb-same (r .id),
+                asked-entry s es b d l r f (p .prior),
+              )
+              (omega (
+                arith,
+                entries-credited rs es,
+                evicted-law c x (new .start .0) (s .queue) .kept,
+                held-accepted (is c x) new (s .queue),
+              ));
           ticking = λ seconds micros room le. tick-counts (fromMicros (timeOf seconds micros) .0);
           moving = λ until room le. tick-counts until;
           cueing = λ l pts seconds micros room rs p. omega (arith, entries-credited rs es, p .ends c x);
         })
 
-  counted-always : (ks : List Call) (s : Splicer) (es : List Entry) (ss : List Airing) (os : List Told) → All Wired ks → Sound s → Booked (s .queue) es
+  counted-always : (ks : List Call) (s : Splicer) (es : List Entry) (ss : List Airing) (os : List Told) → All Wired ks → Sound s
+      → Booked (s .queue) es
       → count (ofNumber c x) os + heldCount (s .queue) (is c x) ≡ count (entryIs c x) es
-      → count (ofNumber c x) (endedTold (history ks s) es (s .clock) ss os) + heldCount (after ks s .queue) (is c x) ≡ count (entryIs c x) (book (history ks s) es)
+      → count (ofNumber c x) (endedTold (history ks s) es (s .clock) ss os) + heldCount (after ks s .queue) (is c x)
+      ≡ count (entryIs c x) (book (history ks s) es)
   unfolding after history endedTold book
   counted-always [] s es ss os w h b k = k
   counted-always (j ∷ ks) s es ss os w h b k =
@@ -547,10 +643,13 @@ module _ (c x : ℕ) where
       let f = sound-fits s j (w .0) h in
       let rs = othersBy j (n .answer) in
       let on = timeSoFar (s .clock) ss in
-      let g : count (ofNumber c x) (newer (endsIn es on rs) os) + heldCount (n .splicer .queue) (is c x) ≡ count (entryIs c x) (bookAnswer j (n .answer) es) =
+      let g : count (ofNumber c x) (newer (endsIn es on rs) os) + heldCount (n .splicer .queue) (is c x)
+      ≡ count (entryIs c x) (bookAnswer j (n .answer) es) =
       omega (arith, newer-count (endsIn es on rs) os, told-count es on rs, call-counts s es b j, k) in
-      let ih = counted-always ks (n .splicer) (bookAnswer j (n .answer) es) (airedBy j s ss) (newer (endsIn es on rs) os) (w .1) (sound-call s j (w .0) h) (call-booked s es b j) g in
-      ap (λ (z : List Told). count (ofNumber c x) z + heldCount (after ks (n .splicer) .queue) (is c x)) (told-next j s (history ks (n .splicer)) es ss os (w .0) h)
+      let ih = counted-always ks (n .splicer) (bookAnswer j (n .answer) es) (airedBy j s ss) (newer (endsIn es on rs) os) (w .1)
+      (sound-call s j (w .0) h) (call-booked s es b j) g in
+      ap (λ (z : List Told). count (ofNumber c x) z + heldCount (after ks (n .splicer) .queue) (is c x))
+      (told-next j s (history ks (n .splicer)) es ss os (w .0) h)
       ∙ ih
       ∙ ap (λ (z : List Entry). count (entryIs c x) (book (history ks (n .splicer)) z)) (sym (book-answer j (n .answer) es f))
 
@@ -572,7 +671,8 @@ module _ (c x : ℕ) where
       all [] s = refl
       all (d ∷ es) s = each (entryIs c x d) (s .0) (all es (s .1))
         where
-          each : (b : Bool) → (b ≡ true → d .ends ≡ 1) → endedOnce c x es ≡ count (entryIs c x) es → bit (b && eqb (d .ends) 1) + endedOnce c x es ≡ bit b + count (entryIs c x) es
+          each : (b : Bool) → (b ≡ true → d .ends ≡ 1) → endedOnce c x es ≡ count (entryIs c x) es
+              → bit (b && eqb (d .ends) 1) + endedOnce c x es ≡ bit b + count (entryIs c x) es
           each true g ih = rw (eq-eqb (d .ends) 1 (g refl)) (omega (arith, ih))
           each false g ih = omega (arith, ih)
 
@@ -583,8 +683,11 @@ module _ (c x : ℕ) where
       go false f ih = omega (arith, ih f)
 
 -- as many ends are kept in turn under a number as accepted sessions of that number have ended
-pub one-kept-each : (h : List Event) (s : Splicer) → FromFresh h s → (c x : ℕ) → count (ofNumber c x) (endsTold h) ≡ endedOnce c x (book h [])
+pub one-kept-each : (h : List Event) (s : Splicer) → FromFresh h s → (c x : ℕ)
+    → count (ofNumber c x) (endsTold h) ≡ endedOnce c x (book h [])
 one-kept-each h s f c x =
-    let a = counted-always c x (f .calls) (fresh (f .name) .splicer) [] [] [] (f .wired) (sound-fresh (f .name) (f .whole) (f .bytes)) (booked-fresh (f .name)) (omega (arith, fresh-held c x (f .name))) in
-    let b : count (ofNumber c x) (endsTold h) + heldCount (s .queue) (is c x) ≡ count (entryIs c x) (book h []) = rw (f .heard, f .same, ← (fresh-clock (f .name))) a in
+    let a = counted-always c x (f .calls) (fresh (f .name) .splicer) [] [] [] (f .wired) (sound-fresh (f .name) (f .whole) (f .bytes))
+    (booked-fresh (f .name)) (omega (arith, fresh-held c x (f .name))) in
+    let b : count (ofNumber c x) (endsTold h) + heldCount (s .queue) (is c x) ≡ count (entryIs c x) (book h []) =
+    rw (f .heard, f .same, ← (fresh-clock (f .name))) a in
     omega (arith, b, owed-ended c x (heldCount (s .queue) (is c x)) (book h []) (book-told h s f .owed c x))

@@ -12,8 +12,10 @@ use Rattle.rules.specs.declared.Ending.{Ending}
 use Rattle.rules.specs.declared.Ending.the-variants.{Complete, Failed, Response}
 use Rattle.rules.specs.Lists.{bit, keep, count, place, removeAt}
 use Rattle.rules.specs.State.{sameNumber, Queue, empty, of, is, startsAt, endsAt, toCome, withWaiting, withStarted}
-use Rattle.rules.specs.Records.{Record, General, InitResponse, AliveResponse, SpliceResponse, SpliceComplete, AbortResponse, ConfigResponse, ExtendedFound, ExtendedNone, CueRequest}
-use Rattle.rules.specs.Ends.{Turn, quiet, writes, andThen, ended, ending, oneEnd, endings, followers, dismissed, evictedAt, evicted, cancelled, aborted, closedBy}
+use Rattle.rules.specs.Records.{Record, General, InitResponse, AliveResponse, SpliceResponse, SpliceComplete, AbortResponse, ConfigResponse}
+use Rattle.rules.specs.Records.{ExtendedFound, ExtendedNone, CueRequest}
+use Rattle.rules.specs.Ends.{Turn, quiet, writes, andThen, ended, ending, oneEnd, endings, followers, dismissed, evictedAt, evicted}
+use Rattle.rules.specs.Ends.{cancelled, aborted, closedBy}
 use Rattle.rules.specs.Instants.{mayStart, began, meetsEqual, ousted, launched, startAt, endAt, instant, elapse, runAll}
 use Rattle.demands.specs.History.{isStart, isEnd, startsOf, endsOf}
 use Rattle.rules.proofs.Tests.{by}
@@ -29,7 +31,8 @@ tally c x l = count (is c x) l
 
 -- held before is held after or ended; the started grow only by starts; what started is started or ended; only what started ends as aired
 pub record Law (c x : ℕ) (q : Queue) (t : Turn) : Type 0 where
-  pub kept : tally c x (q .waiting) + tally c x (q .started) ≡ tally c x (t .queue .waiting) + tally c x (t .queue .started) + endsOf c x (t .written)
+  pub kept : tally c x (q .waiting) + tally c x (q .started) ≡ tally c x (t .queue .waiting) + tally c x (t .queue .started)
+      + endsOf c x (t .written)
   pub grown : tally c x (t .queue .started) ≤ tally c x (q .started) + startsOf c x (t .written)
   pub begun : tally c x (q .started) + startsOf c x (t .written) ≤ tally c x (t .queue .started) + endsOf c x (t .written)
   pub aired : tally c x (t .queue .started) + outsOf c x (t .written) ≤ tally c x (q .started) + startsOf c x (t .written)
@@ -75,7 +78,8 @@ module _ (c x : ℕ) where
 
   starts-endings : (air cover : Ending) (p : Session → Bool) (k : List Session) → startsOf c x (endings air cover p k Record ended) ≡ 0
   starts-endings air cover p k =
-      count-endings (isStart c x) (λ s. false) air cover (not-start air) (not-start cover) p k ∙ count-none (λ s. false) (λ s. refl) (keep p k)
+      count-endings (isStart c x) (λ s. false) air cover (not-start air) (not-start cover) p k
+      ∙ count-none (λ s. false) (λ s. refl) (keep p k)
 
   -- only ends are ends of what was on air
   pub outs-ends : (rs : List Record) → outsOf c x rs ≤ endsOf c x rs
@@ -114,17 +118,24 @@ module _ (c x : ℕ) where
       let o = outs-ends rs in
       record { kept = omega arith; grown = omega arith; begun = omega arith; aired = omega arith }
 
-  pub join-law : (q : Queue) (t u : Turn) → Law c x q t → Law c x (t .queue) u → Law c x q (record { queue = u .queue; written = t .written ++ u .written })
+  pub join-law : (q : Queue) (t u : Turn) → Law c x q t → Law c x (t .queue) u
+      → Law c x q (record { queue = u .queue; written = t .written ++ u .written })
   join-law q t u l m =
       let e = count-append (isEnd c x) (t .written) (u .written) in
       let s = count-append (isStart c x) (t .written) (u .written) in
       let o = count-append (isOut c x) (t .written) (u .written) in
-      record { kept = omega (arith, l .kept, m .kept); grown = omega (arith, l .grown, m .grown); begun = omega (arith, l .begun, m .begun); aired = omega (arith, l .aired, m .aired) }
+      record {
+        kept = omega (arith, l .kept, m .kept);
+        grown = omega (arith, l .grown, m .grown);
+        begun = omega (arith, l .begun, m .begun);
+        aired = omega (arith, l .aired, m .aired);
+      }
 
   -- ## Followers, eviction, abort, close
 
   -- the followers' ends are of a result r that is an end's
-  dismissed-law : (r d y : ℕ) (q : Queue) → ((l : List Session) → endsOf c x (map (ended (Response r)) l) ≡ tally c x l) → Law c x q (dismissed r d y q)
+  dismissed-law : (r d y : ℕ) (q : Queue) → ((l : List Session) → endsOf c x (map (ended (Response r)) l) ≡ tally c x l)
+      → Law c x q (dismissed r d y q)
   unfolding dismissed
   dismissed-law r d y q h =
       let f = followers d y (q .waiting) in
@@ -141,7 +152,13 @@ module _ (c x : ℕ) where
       let v = ending (oneEnd (Response 109) s) (withWaiting (removeAt i (q .waiting)) q) in
       let u = v .queue in
       let w = count-removeAt (is c x) i (q .waiting) empty h in
-      join-law q v (dismissed 109 (s .conn) (s .id) u) (record { kept = omega arith; grown = omega arith; begun = omega arith; aired = omega arith })
+      join-law q v (dismissed 109 (s .conn) (s .id) u) (record {
+        kept = omega arith;
+        grown = omega arith;
+        begun = omega arith;
+        aired =
+            omega arith;
+      })
       (dismissed-law 109 (s .conn) (s .id) u ends-109)
 
   pub evicted-law : (t : ℕ) (q : Queue) → Law c x q (evicted t q)
@@ -179,7 +196,11 @@ module _ (c x : ℕ) where
       join-law q t (dismissed 116 d y (t .queue)) (cancelled-law (is d y) q) (dismissed-law 116 d y (t .queue) ends-116)
 
   -- with its Abort_Response
-  pub answered-law : (d y : ℕ) (q : Queue) → Law c x q (record { queue = aborted d y q .queue; written = AbortResponse d 100 y ∷ aborted d y q .written })
+  pub answered-law : (d y : ℕ) (q : Queue) → Law c x q (record {
+    queue = aborted d y q .queue;
+    written =
+        AbortResponse d 100 y ∷ aborted d y q .written;
+  })
   unfolding isEnd isStart
   answered-law d y q =
       let p : Plain (AbortResponse d 100 y ∷ []) = record { starts = λ e z. refl; ends = λ e z. refl } in
@@ -197,11 +218,13 @@ module _ (c x : ℕ) where
       by (Law c x q) (meetsEqual s (q .started)) _ _
       (λ e. let k = count-removeAt (is c x) 0 (q .started) empty (meets-some s (q .started) e) in
       join-law q v (dismissed 125 (air .conn) (air .id) u)
-      (record { kept = omega arith; grown = omega arith; begun = omega arith; aired = omega arith }) (dismissed-law 125 (air .conn) (air .id) u ends-125))
+      (record { kept = omega arith; grown = omega arith; begun = omega arith; aired = omega arith })
+      (dismissed-law 125 (air .conn) (air .id) u ends-125))
       (λ e. quiet-law q)
 
   -- s, which no longer waits
-  launched-law : (s : Session) (w : List Session) (q : Queue) → tally c x w ≡ tally c x (s ∷ q .waiting) → Law c x (withWaiting w q) (launched s q)
+  launched-law : (s : Session) (w : List Session) (q : Queue) → tally c x w ≡ tally c x (s ∷ q .waiting)
+      → Law c x (withWaiting w q) (launched s q)
   unfolding launched andThen isEnd isStart isOut
   launched-law s w q h =
       by (Law c x (withWaiting w q)) (mayStart s (q .started)) _ _
@@ -209,10 +232,17 @@ module _ (c x : ℕ) where
       let ends = count-append (isEnd c x) (ousted s q .written) (began s ∷ []) in
       let starts = count-append (isStart c x) (ousted s q .written) (began s ∷ []) in
       let outs = count-append (isOut c x) (ousted s q .written) (began s ∷ []) in
-      record { kept = omega (arith, l .kept); grown = omega (arith, l .grown); begun = omega (arith, l .begun); aired = omega (arith, l .aired) })
+      record {
+        kept = omega (arith, l .kept);
+        grown = omega (arith, l .grown);
+        begun = omega (arith, l .begun);
+        aired =
+            omega (arith, l .aired);
+      })
       (λ e. let v = ending (oneEnd Failed s) q in
       join-law (withWaiting w q) v (dismissed 109 (s .conn) (s .id) (v .queue))
-      (record { kept = omega arith; grown = omega arith; begun = omega arith; aired = omega arith }) (dismissed-law 109 (s .conn) (s .id) (v .queue) ends-109))
+      (record { kept = omega arith; grown = omega arith; begun = omega arith; aired = omega arith })
+      (dismissed-law 109 (s .conn) (s .id) (v .queue) ends-109))
 
   startAt-law : (t : ℕ) (q : Queue) → Law c x q (startAt t q)
   unfolding startAt

@@ -8,7 +8,8 @@ use lib.Dec.{eqb}
 use borrow.Author.Tests.{eqb-true}
 use Rattle.rules.specs.Lists.{All, bit, some, count}
 use Rattle.rules.specs.State.{sameNumber}
-use Rattle.rules.specs.Records.{Record, General, InitResponse, AliveResponse, SpliceResponse, SpliceComplete, AbortResponse, ConfigResponse, ExtendedFound, ExtendedNone, CueRequest}
+use Rattle.rules.specs.Records.{Record, General, InitResponse, AliveResponse, SpliceResponse, SpliceComplete, AbortResponse, ConfigResponse}
+use Rattle.rules.specs.Records.{ExtendedFound, ExtendedNone, CueRequest}
 use Rattle.demands.specs.History.{isStart, isEnd}
 use Rattle.rules.proofs.Tests.{clash, and-both, eqb-same}
 use Rattle.demands.specs.Airing.{Airing, airingIs, newest, begins, ends, marked, concerns, heard, byThen, heardAll, liveAt, peakAt}
@@ -51,7 +52,8 @@ heard-start c x t r h (a ∷ l) = go (airingIs c x a) refl (heard-start c x t r 
     go false e ih = rw (h .starts (a .conn) (a .id), h .ends (a .conn) (a .id), e, ih)
 
 -- what is neither tells nothing
-pub heard-plain : (t : ℕ) (r : Record) → ((d y : ℕ) → isStart d y r ≡ false) → ((d y : ℕ) → isEnd d y r ≡ false) → (l : List Airing) → heard t r l ≡ l
+pub heard-plain : (t : ℕ) (r : Record) → ((d y : ℕ) → isStart d y r ≡ false) → ((d y : ℕ) → isEnd d y r ≡ false) → (l : List Airing)
+    → heard t r l ≡ l
 unfolding heard
 heard-plain t r s e [] = refl
 heard-plain t r s e (a ∷ l) = rw (s (a .conn) (a .id), e (a .conn) (a .id), heard-plain t r s e l)
@@ -83,7 +85,8 @@ module _ (c x : ℕ) (f : Airing → Airing) where
     where
       go : (b : Bool) → cond b a (newest c x l) .over ≡ false
           → (newest c x l .over ≡ false → count g (upon c x f l) + bit (g (newest c x l)) ≡ count g l + bit (g (f (newest c x l))))
-          → count g (cond b (f a ∷ l) (a ∷ upon c x f l)) + bit (g (cond b a (newest c x l))) ≡ bit (g a) + count g l + bit (g (f (cond b a (newest c x l))))
+          → count g (cond b (f a ∷ l) (a ∷ upon c x f l)) + bit (g (cond b a (newest c x l))) ≡ bit (g a) + count g l
+          + bit (g (f (cond b a (newest c x l))))
       go true e ih = omega arith
       go false e ih = omega (arith, ih e)
 
@@ -92,7 +95,8 @@ module _ (c x : ℕ) (f : Airing → Airing) where
   all-upon P [] h k = tt
   all-upon P (a ∷ l) h k = go (airingIs c x a) k (all-upon P l (h .1))
     where
-      go : (b : Bool) → P (f (cond b a (newest c x l))) → (P (f (newest c x l)) → All P (upon c x f l)) → All P (cond b (f a ∷ l) (a ∷ upon c x f l))
+      go : (b : Bool) → P (f (cond b a (newest c x l))) → (P (f (newest c x l)) → All P (upon c x f l))
+          → All P (cond b (f a ∷ l) (a ∷ upon c x f l))
       go true k ih = (k, h .1)
       go false k ih = (h .0, ih k)
 
@@ -103,7 +107,8 @@ module _ (c x : ℕ) (f : Airing → Airing) where
     newest-same [] e = absurd (clash true refl e)
     newest-same (a ∷ l) e = go (airingIs c x a) refl e (newest-same l)
       where
-        go : (b : Bool) → airingIs c x a ≡ b → cond b a (newest c x l) .over ≡ false → (newest c x l .over ≡ false → newest c x (upon c x f l) ≡ f (newest c x l))
+        go : (b : Bool) → airingIs c x a ≡ b → cond b a (newest c x l) .over ≡ false
+            → (newest c x l .over ≡ false → newest c x (upon c x f l) ≡ f (newest c x l))
             → newest c x (cond b (f a ∷ l) (a ∷ upon c x f l)) ≡ f (cond b a (newest c x l))
         go true k e ih = rw (conn a, id a, k)
         go false k e ih = rw (k, ih e)
@@ -148,7 +153,8 @@ module _ (c x : ℕ) (f : Airing → Airing) where
 
 -- ## The start time of a number is as it was
 
-newest-marked : (t : ℕ) (r : Record) (d y : ℕ) (a : Airing) (l : List Airing) → newest d y (marked t r a ∷ l) .start ≡ newest d y (a ∷ l) .start
+newest-marked : (t : ℕ) (r : Record) (d y : ℕ) (a : Airing) (l : List Airing)
+    → newest d y (marked t r a ∷ l) .start ≡ newest d y (a ∷ l) .start
 unfolding newest
 newest-marked t r d y a l = go (isStart (a .conn) (a .id) r) (isEnd (a .conn) (a .id) r)
   where
@@ -171,7 +177,8 @@ start-heard t r (a ∷ l) d y = go (concerns r a) (start-heard t r l d y)
     go true ih = newest-marked t r d y a l
     go false ih = rest (airingIs d y a) ih
       where
-        rest : (b : Bool) → newest d y (heard t r l) .start ≡ newest d y l .start → cond b a (newest d y (heard t r l)) .start ≡ cond b a (newest d y l) .start
+        rest : (b : Bool) → newest d y (heard t r l) .start ≡ newest d y l .start
+            → cond b a (newest d y (heard t r l)) .start ≡ cond b a (newest d y l) .start
         rest true ih = refl
         rest false ih = ih
 
@@ -182,7 +189,8 @@ start-heardAll u (r ∷ rs) l d y = start-heardAll u rs (heard (byThen u l rs) r
 
 -- ## Looking ahead
 
-pub byThen-same : (u : ℕ) (l m : List Airing) → ((d y : ℕ) → newest d y m .start ≡ newest d y l .start) → (rs : List Record) → byThen u m rs ≡ byThen u l rs
+pub byThen-same : (u : ℕ) (l m : List Airing) → ((d y : ℕ) → newest d y m .start ≡ newest d y l .start) → (rs : List Record)
+    → byThen u m rs ≡ byThen u l rs
 unfolding byThen
 byThen-same u l m h [] = refl
 byThen-same u l m h (General c r ∷ rs) = byThen-same u l m h rs
@@ -211,12 +219,15 @@ byThen-append u l (ExtendedNone c y ∷ rs) ss = byThen-append u l rs ss
 byThen-append u l (ConfigResponse c r n k p ∷ rs) ss = byThen-append u l rs ss
 
 -- some records and then more: what comes first is over by what comes next
-pub heardAll-append : (u : ℕ) (rs ss : List Record) (l : List Airing) → heardAll u (rs ++ ss) l ≡ heardAll u ss (heardAll (byThen u l ss) rs l)
+pub heardAll-append : (u : ℕ) (rs ss : List Record) (l : List Airing) → heardAll u (rs ++ ss) l
+    ≡ heardAll u ss (heardAll (byThen u l ss) rs l)
 unfolding heardAll
 heardAll-append u [] ss l = refl
 heardAll-append u (r ∷ rs) ss l =
     let m = heard (byThen (byThen u l ss) l rs) r l in
-    ap (λ t. heardAll u (rs ++ ss) (heard t r l)) (byThen-append u l rs ss) ∙ (heardAll-append u rs ss m ∙ ap (λ t. heardAll u ss (heardAll t rs m)) (byThen-same u l m (λ d y. start-heard (byThen (byThen u l ss) l rs) r l d y) ss))
+    ap (λ t. heardAll u (rs ++ ss) (heard t r l)) (byThen-append u l rs ss)
+    ∙ (heardAll-append u rs ss m ∙ ap (λ t. heardAll u ss (heardAll t rs m))
+    (byThen-same u l m (λ d y. start-heard (byThen (byThen u l ss) l rs) r l d y) ss))
 
 -- no flag 0 among them is of a session that starts before t
 unfoldable pub Late : ℕ → List Airing → Record → Type 0
@@ -288,7 +299,8 @@ onward-then n m le (newer q h) (stays s k) = newer (λ i l. s .quiet i (omega ar
 onward-then n m le (stays {a = a} {b = b} s h) (stays {b = c} t k) = stays (stays-then n m le a b c s t) (onward-then n m le h k)
 
 module _ (now c x : ℕ) (f : Airing → Airing) (conn : (a : Airing) → f a .conn ≡ a .conn) (id : (a : Airing) → f a .id ≡ a .id) where
-  pub onward-upon : (l : List Airing) → newest c x l .over ≡ false → ((n : ℕ) → n < now → Quiet c x f n (newest c x l)) → f (newest c x l) .access ≡ newest c x l .access
+  pub onward-upon : (l : List Airing) → newest c x l .over ≡ false → ((n : ℕ) → n < now → Quiet c x f n (newest c x l))
+      → f (newest c x l) .access ≡ newest c x l .access
       → Onward now l (upon c x f l)
   unfolding upon newest
   onward-upon [] e q g = absurd (clash true refl e)
@@ -296,10 +308,12 @@ module _ (now c x : ℕ) (f : Airing → Airing) (conn : (a : Airing) → f a .c
     where
       go : (b : Bool) → cond b a (newest c x l) .over ≡ false → ((n : ℕ) → n < now → Quiet c x f n (cond b a (newest c x l)))
           → f (cond b a (newest c x l)) .access ≡ cond b a (newest c x l) .access
-          → (newest c x l .over ≡ false → ((n : ℕ) → n < now → Quiet c x f n (newest c x l)) → f (newest c x l) .access ≡ newest c x l .access → Onward now l (upon c x f l))
+          → (newest c x l .over ≡ false → ((n : ℕ) → n < now → Quiet c x f n (newest c x l))
+          → f (newest c x l) .access ≡ newest c x l .access → Onward now l (upon c x f l))
           → Onward now (a ∷ l) (cond b (f a ∷ l) (a ∷ upon c x f l))
       go true e q g ih =
-          stays (record { conn = conn a; id = id a; access = g; fixed = λ o. absurd (clash (a .over) o e); quiet = λ n h. q n h .0 }) (onward-same now l)
+          stays (record { conn = conn a; id = id a; access = g; fixed = λ o. absurd (clash (a .over) o e); quiet = λ n h. q n h .0 })
+          (onward-same now l)
       go false e q g ih = stays (stays-same now a) (ih e q g)
 
 -- the past is as it was

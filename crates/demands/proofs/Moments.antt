@@ -17,8 +17,10 @@ use Rattle.rules.specs.declared.Ending.the-variants.{Complete, Failed, Response
 use Rattle.rules.specs.Lists.{All, put, keep, omit, place, removeAt}
 use Rattle.rules.specs.State.{Queue, empty, of, is, startsAt, endsAt, due, notAfter, toCome, withWaiting, withStarted}
 use Rattle.rules.specs.Records.{Record, AbortResponse}
-use Rattle.rules.specs.Ends.{Turn, quiet, andThen, writes, ended, ending, oneEnd, endings, followers, dismissed, evictedAt, evicted, cancelled, aborted, closedBy}
-use Rattle.rules.specs.Instants.{mayStart, began, meetsEqual, ousted, launched, startAt, endAt, instant, elapse, run, runAll, silence, silent, silentAll}
+use Rattle.rules.specs.Ends.{Turn, quiet, andThen, writes, ended, ending, oneEnd, endings, followers, dismissed, evictedAt, evicted}
+use Rattle.rules.specs.Ends.{cancelled, aborted, closedBy}
+use Rattle.rules.specs.Instants.{mayStart, began, meetsEqual, ousted, launched, startAt, endAt, instant, elapse, run, runAll, silence}
+use Rattle.rules.specs.Instants.{silent, silentAll}
 use Rattle.demands.specs.History.{isStart, isEnd}
 use Rattle.rules.specs.Sound.{Falling, OnTime}
 use Rattle.rules.proofs.Tests.{by, clash}
@@ -27,7 +29,8 @@ use Rattle.rules.proofs.Count.{count-append, count-split, count-removeAt, place
 use Rattle.rules.proofs.Every.{all-any, all-both, all-put, all-keep, all-kept, all-getD, fewer-removeAt, fewer-all}
 use Rattle.rules.proofs.Walk.{followed, followers-gone}
 use Rattle.rules.proofs.Ranked.{falling-onAir, falling-instant}
-use Rattle.rules.proofs.Tick.{Due, meets, none-due, due-none, due-first, due-last, due-time, due-meets, moved, moved-less, elapse-due, run-stop, run-more, run-law}
+use Rattle.rules.proofs.Tick.{Due, meets, none-due, due-none, due-first, due-last, due-time, due-meets, moved, moved-less, elapse-due}
+use Rattle.rules.proofs.Tick.{run-stop, run-more, run-law}
 use Rattle.rules.proofs.Timed.{instant-timed, elapse-timed, wait-timed, meets-after}
 use Rattle.rules.proofs.Silence.{silent-stop, silent-more}
 use Rattle.rules.proofs.Sessions.{waiting-instant}
@@ -116,7 +119,8 @@ heardAll-abort u c x rs l = ap (heardAll u rs) (heard-abort (byThen u l rs) c x 
 -- ## Many ends
 
 module _ (β : Base) (now pr u : ℕ) where
-  pub ends-waiting : (g w k : List Session) (rs : List Record) (l : List Airing) → EndsOf g rs → Owned β now pr (g ++ w) k l → Owned β now pr w k (heardAll u rs l)
+  pub ends-waiting : (g w k : List Session) (rs : List Record) (l : List Airing) → EndsOf g rs → Owned β now pr (g ++ w) k l
+      → Owned β now pr w k (heardAll u rs l)
   unfolding heardAll
   ends-waiting [] w k [] l e h = h
   ends-waiting [] w k (r ∷ rs) l e h = absurd e
@@ -128,14 +132,16 @@ module _ (β : Base) (now pr u : ℕ) where
   abbrev Stops : Session → Type 0
   Stops s = (now ≤ s .end .0) × (min (s .end .0) u ≤ now)
 
-  ends-started : (g w k : List Session) (rs : List Record) (l : List Airing) → now ≤ u → EndsOf g rs → All Stops g → Owned β now pr w (g ++ k) l → Owned β now pr w k (heardAll u rs l)
+  ends-started : (g w k : List Session) (rs : List Record) (l : List Airing) → now ≤ u → EndsOf g rs → All Stops g
+      → Owned β now pr w (g ++ k) l → Owned β now pr w k (heardAll u rs l)
   unfolding heardAll
   ends-started [] w k [] l le e a h = h
   ends-started [] w k (r ∷ rs) l le e a h = absurd e
   ends-started (s ∷ g) w k [] l le e a h = absurd e
   ends-started (s ∷ g) w k (r ∷ rs) l le e a h =
       rw (byThen-ends u l g rs (e .1))
-      (ends-started g w k rs (heard u r l) le (e .1) (a .1) (end-started β now pr u r s (e .0 .0) (e .0 .2) w (g ++ k) l le (a .0 .0) (a .0 .1) h))
+      (ends-started g w k rs (heard u r l) le (e .1) (a .1) (end-started β now pr u r s (e .0 .0) (e .0 .2) w (g ++ k) l le (a .0 .0)
+      (a .0 .1) h))
 
   -- ## Followers, eviction
 
@@ -143,34 +149,43 @@ module _ (β : Base) (now pr u : ℕ) where
     abbrev pub Now : Turn → Type 0
     Now t = Owned β now pr (t .queue .waiting) (t .queue .started) (heardAll u (t .written) l)
 
-    dismissed-owned : (r c x : ℕ) → ((s : Session) → Ends s (ended (Response r) s)) → Owned β now pr (q .waiting) (q .started) l → Now (dismissed r c x q)
+    dismissed-owned : (r c x : ℕ) → ((s : Session) → Ends s (ended (Response r) s)) → Owned β now pr (q .waiting) (q .started) l
+        → Now (dismissed r c x q)
     unfolding dismissed
     dismissed-owned r c x e h =
         let f = followers c x (q .waiting) in
         let k = followed c x (q .waiting) in
         ends-waiting (f .gone) (f .left) (q .started) (map (ended (Response r)) (f .gone)) l (ends-map (ended (Response r)) e (f .gone))
-        (reorder β now pr (q .waiting) (q .started) (f .gone ++ f .left) (q .started) l (λ p. omega (arith, count-append p (f .gone) (f .left), k .counts p)) (λ p. refl)
-        (λ a. all-append (Waits l) (f .gone) (f .left) (followers-gone c x (q .waiting) (Waits l) a) (fewer-all (Waits l) (k .fewer) a)) (λ a. a) h)
+        (reorder β now pr (q .waiting) (q .started) (f .gone ++ f .left) (q .started) l
+        (λ p. omega (arith, count-append p (f .gone) (f .left), k .counts p)) (λ p. refl)
+        (λ a. all-append (Waits l) (f .gone) (f .left) (followers-gone c x (q .waiting) (Waits l) a) (fewer-all (Waits l) (k .fewer) a))
+        (λ a. a) h)
 
     -- and beside one that has left the queue and whose fate is told later
-    dismissed-beside : (s : Session) (r c x : ℕ) → ((s : Session) → Ends s (ended (Response r) s)) → Owned β now pr (s ∷ q .waiting) (q .started) l
-        → Owned β now pr (s ∷ dismissed r c x q .queue .waiting) (dismissed r c x q .queue .started) (heardAll u (dismissed r c x q .written) l)
+    dismissed-beside : (s : Session) (r c x : ℕ) → ((s : Session) → Ends s (ended (Response r) s))
+        → Owned β now pr (s ∷ q .waiting) (q .started) l
+        → Owned β now pr (s ∷ dismissed r c x q .queue .waiting) (dismissed r c x q .queue .started)
+        (heardAll u (dismissed r c x q .written) l)
     unfolding dismissed
     dismissed-beside s r c x e h =
         let f = followers c x (q .waiting) in
         let k = followed c x (q .waiting) in
         ends-waiting (f .gone) (s ∷ f .left) (q .started) (map (ended (Response r)) (f .gone)) l (ends-map (ended (Response r)) e (f .gone))
-        (reorder β now pr (s ∷ q .waiting) (q .started) (f .gone ++ (s ∷ f .left)) (q .started) l (λ p. omega (arith, count-append p (f .gone) (s ∷ f .left), k .counts p)) (λ p. refl)
-        (λ a. all-append (Waits l) (f .gone) (s ∷ f .left) (followers-gone c x (q .waiting) (Waits l) (a .1)) (a .0, fewer-all (Waits l) (k .fewer) (a .1))) (λ a. a) h)
+        (reorder β now pr (s ∷ q .waiting) (q .started) (f .gone ++ (s ∷ f .left)) (q .started) l
+        (λ p. omega (arith, count-append p (f .gone) (s ∷ f .left), k .counts p)) (λ p. refl)
+        (λ a. all-append (Waits l) (f .gone) (s ∷ f .left) (followers-gone c x (q .waiting) (Waits l) (a .1))
+        (a .0, fewer-all (Waits l) (k .fewer) (a .1))) (λ a. a) h)
 
   -- the waiting one at a place, brought to the front
   fetched : (i : ℕ) (q : Queue) (l : List Airing) → i < length (q .waiting) → Owned β now pr (q .waiting) (q .started) l
       → Owned β now pr (getD (q .waiting) i empty ∷ removeAt i (q .waiting)) (q .started) l
   fetched i q l h o =
-      reorder β now pr (q .waiting) (q .started) (getD (q .waiting) i empty ∷ removeAt i (q .waiting)) (q .started) l (λ p. sym (count-removeAt p i (q .waiting) empty h)) (λ p. refl)
+      reorder β now pr (q .waiting) (q .started) (getD (q .waiting) i empty ∷ removeAt i (q .waiting)) (q .started) l
+      (λ p. sym (count-removeAt p i (q .waiting) empty h)) (λ p. refl)
       (λ a. (all-getD (Waits l) (q .waiting) i empty h a, fewer-all (Waits l) (fewer-removeAt i (q .waiting)) a)) (λ a. a) o
 
-  evictedAt-owned : (i : ℕ) (q : Queue) (l : List Airing) → i < length (q .waiting) → Owned β now pr (q .waiting) (q .started) l → Now q l (evictedAt i q)
+  evictedAt-owned : (i : ℕ) (q : Queue) (l : List Airing) → i < length (q .waiting) → Owned β now pr (q .waiting) (q .started) l
+      → Now q l (evictedAt i q)
   unfolding evictedAt andThen heardAll
   evictedAt-owned i q l h o =
       let s = getD (q .waiting) i empty in
@@ -178,7 +193,8 @@ module _ (β : Base) (now pr u : ℕ) where
       let d = dismissed 109 (s .conn) (s .id) v .written in
       let m = heard (byThen u l d) (ended (Response 109) s) l in
       dismissed-owned v m 109 (s .conn) (s .id) (λ x. end-109 x)
-      (end-waiting β now pr (byThen u l d) (ended (Response 109) s) s (end-109 s .0) (end-109 s .2) (removeAt i (q .waiting)) (q .started) l (fetched i q l h o))
+      (end-waiting β now pr (byThen u l d) (ended (Response 109) s) s (end-109 s .0) (end-109 s .2) (removeAt i (q .waiting)) (q .started) l
+      (fetched i q l h o))
 
   pub evicted-owned : (t : ℕ) (q : Queue) (l : List Airing) → Owned β now pr (q .waiting) (q .started) l → Now q l (evicted t q)
   unfolding evicted heardAll
@@ -193,13 +209,16 @@ module _ (β : Base) (now pr u : ℕ) where
       reorder β now pr (q .waiting) (q .started) (keep p (q .waiting) ++ omit p (q .waiting)) (keep p (q .started) ++ omit p (q .started)) l
       (λ f. omega (arith, count-append f (keep p (q .waiting)) (omit p (q .waiting)), count-split f p (q .waiting)))
       (λ f. omega (arith, count-append f (keep p (q .started)) (omit p (q .started)), count-split f p (q .started)))
-      (λ a. all-append (Waits l) (keep p (q .waiting)) (omit p (q .waiting)) (all-keep (Waits l) p (q .waiting) a) (all-keep (Waits l) (λ s. not (p s)) (q .waiting) a))
-      (λ a. all-append (Plays now l) (keep p (q .started)) (omit p (q .started)) (all-keep (Plays now l) p (q .started) a) (all-keep (Plays now l) (λ s. not (p s)) (q .started) a))
+      (λ a. all-append (Waits l) (keep p (q .waiting)) (omit p (q .waiting)) (all-keep (Waits l) p (q .waiting) a)
+      (all-keep (Waits l) (λ s. not (p s)) (q .waiting) a))
+      (λ a. all-append (Plays now l) (keep p (q .started)) (omit p (q .started)) (all-keep (Plays now l) p (q .started) a)
+      (all-keep (Plays now l) (λ s. not (p s)) (q .started) a))
       o
 
   -- ## Abort and close: what ends ends at now
 
-  cancelled-owned : now ≤ u → (p : Session → Bool) (q : Queue) (l : List Airing) → All Stops (q .started) → Owned β now pr (q .waiting) (q .started) l → Now q l (cancelled p q)
+  cancelled-owned : now ≤ u → (p : Session → Bool) (q : Queue) (l : List Airing) → All Stops (q .started)
+      → Owned β now pr (q .waiting) (q .started) l → Now q l (cancelled p q)
   unfolding cancelled
   cancelled-owned le p q l a o =
       let outs = endings (Complete 116) (Response 116) p (q .started) Record ended in
@@ -210,18 +229,25 @@ module _ (β : Base) (now pr u : ℕ) where
       (ends-started (keep p (q .started)) (keep p (q .waiting) ++ omit p (q .waiting)) (omit p (q .started)) outs l le
       (ends-endings 116 (Response 116) (λ s. end-116 s) p (q .started)) (all-keep Stops p (q .started) a) (parted p q l o)))
 
-  pub closedBy-owned : now ≤ u → (c : ℕ) (q : Queue) (l : List Airing) → All Stops (q .started) → Owned β now pr (q .waiting) (q .started) l → Now q l (closedBy c q)
+  pub closedBy-owned : now ≤ u → (c : ℕ) (q : Queue) (l : List Airing) → All Stops (q .started) → Owned β now pr (q .waiting) (q .started) l
+      → Now q l (closedBy c q)
   unfolding closedBy
   closedBy-owned le c q l a o = cancelled-owned le (of c) q l a o
 
   -- with its Abort_Response
-  pub aborted-owned : now ≤ u → (c x : ℕ) (q : Queue) (l : List Airing) → All Stops (q .started) → Owned β now pr (q .waiting) (q .started) l
-      → Owned β now pr (aborted c x q .queue .waiting) (aborted c x q .queue .started) (heardAll u (AbortResponse c 100 x ∷ aborted c x q .written) l)
+  pub aborted-owned : now ≤ u → (c x : ℕ) (q : Queue) (l : List Airing) → All Stops (q .started)
+      → Owned β now pr (q .waiting) (q .started) l
+      → Owned β now pr (aborted c x q .queue .waiting) (aborted c x q .queue .started)
+      (heardAll u (AbortResponse c 100 x ∷ aborted c x q .written) l)
   unfolding aborted andThen
   aborted-owned le c x q l a o =
       let t = cancelled (is c x) q in
       let d = dismissed 116 c x (t .queue) in
-      rw (heardAll-abort u c x (t .written ++ d .written) l, heardAll-append u (t .written) (d .written) l, byThen-dismissed u l 116 c x (λ s. end-116 s) (t .queue))
+      rw (
+        heardAll-abort u c x (t .written ++ d .written) l,
+        heardAll-append u (t .written) (d .written) l,
+        byThen-dismissed u l 116 c x (λ s. end-116 s) (t .queue),
+      )
       (dismissed-owned (t .queue) (heardAll u (t .written) l) 116 c x (λ s. end-116 s) (cancelled-owned le (is c x) q l a o))
 
   -- ## Instants
@@ -229,19 +255,28 @@ module _ (β : Base) (now pr u : ℕ) where
   endAt-owned : now ≤ u → (q : Queue) (l : List Airing) → Owned β now pr (q .waiting) (q .started) l → Now q l (endAt now q)
   unfolding endAt
   endAt-owned le q l o =
-      ends-started (keep (endsAt now) (q .started)) (q .waiting) (omit (endsAt now) (q .started)) (endings (Complete 100) (Complete 125) (endsAt now) (q .started) Record ended) l le
+      ends-started (keep (endsAt now) (q .started)) (q .waiting) (omit (endsAt now) (q .started))
+      (endings (Complete 100) (Complete 125) (endsAt now) (q .started) Record ended) l le
       (ends-endings 100 (Complete 125) (λ s. end-out s 125) (endsAt now) (q .started))
-      (all-kept (λ s. Unit {0}) Stops (endsAt now) (λ s h e. let i = eqb-true now (s .end .0) e in (omega arith, omega arith)) (q .started) (all-any (λ s. Unit {0}) (λ s. tt) (q .started)))
-      (reorder β now pr (q .waiting) (q .started) (q .waiting) (keep (endsAt now) (q .started) ++ omit (endsAt now) (q .started)) l (λ p. refl)
-      (λ f. omega (arith, count-append f (keep (endsAt now) (q .started)) (omit (endsAt now) (q .started)), count-split f (endsAt now) (q .started)))
+      (all-kept (λ s. Unit {0}) Stops (endsAt now) (λ s h e. let i = eqb-true now (s .end .0) e in (omega arith, omega arith)) (q .started)
+      (all-any (λ s. Unit {0}) (λ s. tt) (q .started)))
+      (reorder β now pr (q .waiting) (q .started) (q .waiting) (keep (endsAt now) (q .started) ++ omit (endsAt now) (q .started)) l
+      (λ p. refl)
+      (λ f. omega (
+        arith,
+        count-append f (keep (endsAt now) (q .started)) (omit (endsAt now) (q .started)),
+        count-split f (endsAt now) (q .started),
+      ))
       (λ a. a)
-      (λ a. all-append (Plays now l) (keep (endsAt now) (q .started)) (omit (endsAt now) (q .started)) (all-keep (Plays now l) (endsAt now) (q .started) a) (all-keep (Plays now l) (λ s. not (endsAt now s)) (q .started) a))
+      (λ a. all-append (Plays now l) (keep (endsAt now) (q .started)) (omit (endsAt now) (q .started))
+      (all-keep (Plays now l) (endsAt now) (q .started) a) (all-keep (Plays now l) (λ s. not (endsAt now s)) (q .started) a))
       o)
 
 -- ## A start: an equal one on air ends at once, told before the start, which is at now
 
 -- s, which no longer waits, starts next
-ousted-owned : (β : Base) (now pr : ℕ) (s : Session) (q : Queue) (l : List Airing) → All (λ x. now ≤ x .end .0) (q .started) → Owned β now pr (s ∷ q .waiting) (q .started) l
+ousted-owned : (β : Base) (now pr : ℕ) (s : Session) (q : Queue) (l : List Airing) → All (λ x. now ≤ x .end .0) (q .started)
+    → Owned β now pr (s ∷ q .waiting) (q .started) l
     → Owned β now pr (s ∷ ousted s q .queue .waiting) (ousted s q .queue .started) (heardAll now (ousted s q .written) l)
 unfolding ousted meetsEqual andThen heardAll removeAt
 ousted-owned β now pr s q l a o = go (q .waiting) (q .started) a o
@@ -249,7 +284,8 @@ ousted-owned β now pr s q l a o = go (q .waiting) (q .started) a o
     Done : List Session → List Session → Turn → Type 0
     Done w k t = Owned β now pr (s ∷ t .queue .waiting) (t .queue .started) (heardAll now (t .written) l)
 
-    go : (w k : List Session) → All (λ x. now ≤ x .end .0) k → Owned β now pr (s ∷ w) k l → Done w k (ousted s (record { waiting = w; started = k; lately = q .lately }))
+    go : (w k : List Session) → All (λ x. now ≤ x .end .0) k → Owned β now pr (s ∷ w) k l
+        → Done w k (ousted s (record { waiting = w; started = k; lately = q .lately }))
     go w [] a o = o
     go w (air ∷ k) a o =
         by (Done w (air ∷ k)) (eqb (air .access) (s .access)) _ _
@@ -264,7 +300,8 @@ ousted-owned β now pr s q l a o = go (q .waiting) (q .started) a o
 
 module _ (β : Base) (now pr u : ℕ) where
   -- the start tells when what stands before it was over
-  ahead : (s : Session) (w k : List Session) (l : List Airing) → s .start .0 ≡ now → Owned β now pr (s ∷ w) k l → byThen u l (began s ∷ []) ≡ now
+  ahead : (s : Session) (w k : List Session) (l : List Airing) → s .start .0 ≡ now → Owned β now pr (s ∷ w) k l
+      → byThen u l (began s ∷ []) ≡ now
   unfolding byThen
   ahead s w k l at-now o = ap (λ (a : Airing). a .start) (o .waits .0 .told) ∙ at-now
 
@@ -277,18 +314,21 @@ module _ (β : Base) (now pr u : ℕ) where
       let v = ousted s q in
       by (Now β now pr u q l) (mayStart s (q .started)) _ _
       (λ e. rw (heardAll-append u (v .written) (began s ∷ []) l, ahead s (q .waiting) (q .started) l at-now o)
-      (start-waiting β now pr u (began s) s (start-in s) (v .queue .waiting) (v .queue .started) (heardAll now (v .written) l) at-now (ousted-owned β now pr s q l a o)))
+      (start-waiting β now pr u (began s) s (start-in s) (v .queue .waiting) (v .queue .started) (heardAll now (v .written) l) at-now
+      (ousted-owned β now pr s q l a o)))
       (λ e. dismissed-owned β now pr u f (heard (byThen u l d) (ended Failed s) l) 109 (s .conn) (s .id) (λ x. end-109 x)
       (end-waiting β now pr (byThen u l d) (ended Failed s) s (end-failed s .0) (end-failed s .1) (q .waiting) (q .started) l o))
 
-  startAt-owned : (q : Queue) (l : List Airing) → All (λ x. now ≤ x .end .0) (q .started) → Owned β now pr (q .waiting) (q .started) l → Now β now pr u q l (startAt now q)
+  startAt-owned : (q : Queue) (l : List Airing) → All (λ x. now ≤ x .end .0) (q .started) → Owned β now pr (q .waiting) (q .started) l
+      → Now β now pr u q l (startAt now q)
   unfolding startAt heardAll
   startAt-owned q l a o =
       let i = place (startsAt now) (q .waiting) in
       by (Now β now pr u q l) (ltb i (length (q .waiting))) _ _
       (λ e. let h = ltb-true i (length (q .waiting)) e in
       launched-owned (getD (q .waiting) i empty) (withWaiting (removeAt i (q .waiting)) q) l
-      (sym (eqb-true now (getD (q .waiting) i empty .start .0) (place-holds (startsAt now) (q .waiting) empty h))) a (fetched β now pr u i q l h o))
+      (sym (eqb-true now (getD (q .waiting) i empty .start .0) (place-holds (startsAt now) (q .waiting) empty h))) a
+      (fetched β now pr u i q l h o))
       (λ e. o)
 
 -- ## Records of a later time
@@ -325,13 +365,15 @@ module _ (t : ℕ) (l : List Airing) where
   late-endings : (n m : ℕ) (p : Session → Bool) (k : List Session) → All (Late t l) (endings (Complete n) (Complete m) p k Record ended)
   unfolding endings
   late-endings n m p [] = tt
-  late-endings n m p (s ∷ k) = all-put (Late t l) (p s) (ended (Complete n) s) (map (ended (Complete m)) (keep p k)) (λ e. late-out n s) (late-outs m (keep p k))
+  late-endings n m p (s ∷ k) = all-put (Late t l) (p s) (ended (Complete n) s) (map (ended (Complete m)) (keep p k)) (λ e. late-out n s)
+      (late-outs m (keep p k))
 
   late-dismissed : (n c x : ℕ) (q : Queue) → Lates q (dismissed n c x q)
   unfolding dismissed
   late-dismissed n c x q a = (late-responses n (followers c x (q .waiting) .gone), fewer-all Starts (followed c x (q .waiting) .fewer) a)
 
-  late-join : (q : Queue) (r s : Turn) → Lates q r → Lates (r .queue) s → Lates q (record { queue = s .queue; written = r .written ++ s .written })
+  late-join : (q : Queue) (r s : Turn) → Lates q r → Lates (r .queue) s
+      → Lates q (record { queue = s .queue; written = r .written ++ s .written })
   late-join q r s f g a = let b = f a in let c = g (b .1) in (all-append (Late t l) (r .written) (s .written) (b .0) (c .0), c .1)
 
   late-ousted : (s : Session) (q : Queue) → Lates q (ousted s q)
@@ -339,7 +381,8 @@ module _ (t : ℕ) (l : List Airing) where
   late-ousted s q a =
       let air = getD (q .started) 0 empty in
       by (λ (r : Turn). All (Late t l) (r .written) × All Starts (r .queue .waiting)) (meetsEqual s (q .started)) _ _
-      (λ e. let d = late-dismissed 125 (air .conn) (air .id) (ending (oneEnd (Complete 125) air) (withStarted (removeAt 0 (q .started)) q) .queue) a in ((late-out 125 air, d .0), d .1))
+      (λ e. let d = late-dismissed 125 (air .conn) (air .id) (ending (oneEnd (Complete 125) air)
+      (withStarted (removeAt 0 (q .started)) q) .queue) a in ((late-out 125 air, d .0), d .1))
       (λ e. (tt, a))
 
   late-launched : (s : Session) (q : Queue) → Starts s → Lates q (launched s q)
@@ -360,7 +403,8 @@ module _ (t : ℕ) (l : List Airing) where
 
   late-instant : (n : ℕ) (q : Queue) → Lates q (instant n q)
   unfolding instant andThen endAt
-  late-instant n q a = late-join q (endAt n q) (startAt n (endAt n q .queue)) (λ b. (late-endings 100 125 (endsAt n) (q .started), b)) (late-startAt n (endAt n q .queue)) a
+  late-instant n q a = late-join q (endAt n q) (startAt n (endAt n q .queue)) (λ b. (late-endings 100 125 (endsAt n) (q .started), b))
+      (late-startAt n (endAt n q .queue)) a
 
   late-run : (n now until : ℕ) (q : Queue) → Lates q (run n now until q)
   unfolding elapse
@@ -369,12 +413,14 @@ module _ (t : ℕ) (l : List Airing) where
 -- of what waits the history tells the start
 told-starts : (t : ℕ) (l : List Airing) (w : List Session) → All (Waits l) w → All (λ s. t ≤ s .start .0) w → All (Starts t l) w
 told-starts t l w a b =
-    all-into (λ s. Waits l s × (t ≤ s .start .0)) (Starts t l) (λ s h. let e : newest (s .conn) (s .id) l .start ≡ s .start .0 = ap (λ (x : Airing). x .start) (h .0 .told) in omega (arith, h .1)) w
+    all-into (λ s. Waits l s × (t ≤ s .start .0)) (Starts t l) (λ s h. let e : newest (s .conn) (s .id) l .start ≡ s .start .0 =
+    ap (λ (x : Airing). x .start) (h .0 .told) in omega (arith, h .1)) w
     (all-both (Waits l) (λ s. t ≤ s .start .0) w a b)
 
 -- ## An instant: what is told later in the answer is told of no earlier time
 
-waits-end : (β : Base) (now pr : ℕ) (q : Queue) (l : List Airing) → All (λ s. now ≤ s .start .0) (q .waiting) → Owned β now pr (q .waiting) (q .started) l → All (Starts now l) (endAt now q .queue .waiting)
+waits-end : (β : Base) (now pr : ℕ) (q : Queue) (l : List Airing) → All (λ s. now ≤ s .start .0) (q .waiting)
+    → Owned β now pr (q .waiting) (q .started) l → All (Starts now l) (endAt now q .queue .waiting)
 unfolding endAt
 waits-end β now pr q l a o = told-starts now l (q .waiting) (o .waits) a
 
@@ -391,7 +437,8 @@ instant-owned β now pr u le q l d o =
     let rs = startAt now v .written in
     rw (heardAll-append u (endAt now q .written) rs l)
     (startAt-owned β now pr u v (heardAll (byThen u l rs) (endAt now q .written) l) (ends-left now q (d .ends))
-    (endAt-owned β now pr (byThen u l rs) (byThen-late now u l rs le (late-startAt now l now v (waits-end β now pr q l (d .starts) o) .0)) q l o))
+    (endAt-owned β now pr (byThen u l rs) (byThen-late now u l rs le (late-startAt now l now v (waits-end β now pr q l (d .starts) o) .0)) q
+    l o))
 
 -- ## A tick
 
@@ -400,7 +447,8 @@ pub record Clocked (β : Base) (now pr : ℕ) (q : Queue) (l : List Airing) : Ty
   pub falling : Falling (q .started)
   pub owned : Owned β now pr (q .waiting) (q .started) l
 
-elapse-clocked : (β : Base) (now pr t : ℕ) → now ≤ t → (q : Queue) (l : List Airing) → Falling (q .started) → Owned β now pr (q .waiting) (q .started) l
+elapse-clocked : (β : Base) (now pr t : ℕ) → now ≤ t → (q : Queue) (l : List Airing) → Falling (q .started)
+    → Owned β now pr (q .waiting) (q .started) l
     → Owned β t (pr + silence (t - now) (q .started)) (elapse (t - now) q .waiting) (elapse (t - now) q .started) l
 unfolding elapse
 elapse-clocked β now pr t le q l f o = time-passes β now pr t le (q .waiting) l (q .started) f o
@@ -420,7 +468,8 @@ rest-clocked β now pr until q l le d h =
 
 -- to the next instant t and through it, if what follows in the answer is told by the time v
 moved-clocked : (β : Base) (now pr t v : ℕ) (q : Queue) (l : List Airing) → Due t q → 0 < meets t q → t ≤ v → Clocked β now pr q l
-    → Clocked β t (pr + silence (t - now) (q .started)) (instant t (elapse (t - now) q) .queue) (heardAll v (instant t (elapse (t - now) q) .written) l)
+    → Clocked β t (pr + silence (t - now) (q .started)) (instant t (elapse (t - now) q) .queue)
+    (heardAll v (instant t (elapse (t - now) q) .written) l)
 moved-clocked β now pr t v q l d m le h =
     let lt = meets-after now t q (h .timed) m in
     let u = elapse (t - now) q in
@@ -428,13 +477,16 @@ moved-clocked β now pr t v q l d m le h =
     record {
       timed = instant-timed t now u (elapse-timed now (t - now) q (h .timed)) e;
       falling = falling-instant t u (elapse-falling (t - now) q (h .falling));
-      owned = instant-owned β t (pr + silence (t - now) (q .started)) v le u l e (elapse-clocked β now pr t (omega arith) q l (h .falling) (h .owned));
+      owned = instant-owned β t (pr + silence (t - now) (q .started)) v le u l e
+          (elapse-clocked β now pr t (omega arith) q l (h .falling) (h .owned));
     }
 
 -- no flag 0 of a later instant is of a session that starts before t
-later-starts : (β : Base) (now pr t : ℕ) (q : Queue) (l : List Airing) → Due t q → Clocked β now pr q l → All (Starts t l) (instant t (elapse (t - now) q) .queue .waiting)
+later-starts : (β : Base) (now pr t : ℕ) (q : Queue) (l : List Airing) → Due t q → Clocked β now pr q l
+    → All (Starts t l) (instant t (elapse (t - now) q) .queue .waiting)
 unfolding elapse
-later-starts β now pr t q l d h = fewer-all (Starts t l) (waiting-instant t (elapse (t - now) q)) (told-starts t l (q .waiting) (h .owned .waits) (d .starts))
+later-starts β now pr t q l d h = fewer-all (Starts t l) (waiting-instant t (elapse (t - now) q))
+    (told-starts t l (q .waiting) (h .owned .waits) (d .starts))
 
 pub run-clocked : (n : ℕ) (β : Base) (now pr until : ℕ) (q : Queue) (l : List Airing) → toCome q ≤ n → now ≤ until → Clocked β now pr q l
     → Clocked β until (pr + silent n now until q) (run n now until q .queue) (heardAll until (run n now until q .written) l)
@@ -445,7 +497,8 @@ run-clocked zero β now pr until q l f le h =
 run-clocked (suc n) β now pr until q l f le h = go (notAfter until (due q)) refl (run-clocked n β)
   where
     Runs : ℕ → ℕ → ℕ → Queue → List Airing → Type 0
-    Runs n now pr q l = Clocked β until (pr + silent n now until q) (run n now until q .queue) (heardAll until (run n now until q .written) l)
+    Runs n now pr q l = Clocked β until (pr + silent n now until q) (run n now until q .queue)
+        (heardAll until (run n now until q .written) l)
 
     go : (a : When) → notAfter until (due q) ≡ a
         → ((t pr₁ until₁ : ℕ) (q₁ : Queue) (l₁ : List Airing) → toCome q₁ ≤ n → t ≤ until₁ → Clocked β t pr₁ q₁ l₁
@@ -463,7 +516,8 @@ run-clocked (suc n) β now pr until q l f le h = go (notAfter until (due q)) ref
         rw (run-more n now until t q e, silent-more n now until t q e, same, heardAll-append until (moved now (t .0) q .written) rs l)
         (ih (t .0) (pr + a) until u (heardAll (byThen until l rs) (moved now (t .0) q .written) l) (omega arith) i
         (moved-clocked β now pr (t .0) (byThen until l rs) q l d (due-meets until t q e) v h))
-    go Never e ih = rw (run-stop (suc n) now until q e, silent-stop (suc n) now until q e) (rest-clocked β now pr until q l le (due-last until q e) h)
+    go Never e ih = rw (run-stop (suc n) now until q e, silent-stop (suc n) now until q e)
+        (rest-clocked β now pr until q l le (due-last until q e) h)
 
 pub tick-clocked : (β : Base) (now pr until : ℕ) (q : Queue) (l : List Airing) → now ≤ until → Clocked β now pr q l
     → Clocked β until (pr + silentAll now until q) (runAll now until q .queue) (heardAll until (runAll now until q .written) l)

@@ -59,7 +59,8 @@ clock-told h s f = rw (f .heard, f .same, ← (fresh-clock (f .name))) (clock-af
 pub book-told : (h : List Event) (s : Splicer) → FromFresh h s → Booked (s .queue) (book h [])
 book-told h s f =
     let first = fresh (f .name) .splicer in
-    rw (f .heard, f .same, book-found (f .calls) first [] (f .wired) (sound-fresh (f .name) (f .whole) (f .bytes))) (booked-always (f .calls) first [] (booked-fresh (f .name)))
+    rw (f .heard, f .same, book-found (f .calls) first [] (f .wired) (sound-fresh (f .name) (f .whole) (f .bytes)))
+    (booked-always (f .calls) first [] (booked-fresh (f .name)))
 
 -- n sessions of the number are held
 module _ (now c x n : ℕ) where
@@ -91,7 +92,8 @@ each-own P (e ∷ es) h = (h (e .conn) (e .id) .0 (rw (eqb-same (e .conn), eqb-s
 pub all-ended : (h : List Event) (s : Splicer) → FromFresh h s → All (Ended (clockAfter h 0)) (book h [])
 all-ended h s f =
     rw (clock-told h s f)
-    (each-own (Ended (s .clock)) (book h []) (λ c x. fates (s .clock) c x (heldCount (s .queue) (is c x)) (book h []) (held-late c x) (b .owed c x)))
+    (each-own (Ended (s .clock)) (book h []) (λ c x. fates (s .clock) c x (heldCount (s .queue) (is c x)) (book h []) (held-late c x)
+    (b .owed c x)))
   where
     b : Booked (s .queue) (book h [])
     b = book-told h s f

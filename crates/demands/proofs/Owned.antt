@@ -18,15 +18,28 @@ use Rattle.rules.proofs.Tests.{clash, and-both, eqb-same}
 use Rattle.rules.proofs.All.{all-into}
 use Rattle.rules.proofs.Every.{all-both, all-none, none-all, none-some}
 use Rattle.rules.proofs.Tick.{count-onAir}
-use Rattle.demands.specs.Airing.{Airing, newest, begins, lists, saysPlayed, ends, heard, during, liveAt, peakAt, topAt, primaryTime, airTime}
+use Rattle.demands.specs.Airing.{Airing, newest, begins, lists, saysPlayed, ends, heard, during, liveAt, peakAt, topAt, primaryTime}
+use Rattle.demands.specs.Airing.{airTime}
 use Rattle.demands.proofs.Ninths.{Distinct, during-suc, during-same, during-never, during-on, peak-is}
-use Rattle.demands.proofs.Marks.{EndOf, StartOf, upon, heard-end, heard-start, other, count-upon, all-upon, newest-same, newest-other, Quiet, some-upon, peak-upon, Onward, newer, onward-then, onward-upon}
+use Rattle.demands.proofs.Marks.{EndOf, StartOf, upon, heard-end, heard-start, other, count-upon, all-upon, newest-same}
+use Rattle.demands.proofs.Marks.{newest-other, Quiet, some-upon, peak-upon, Onward, newer, onward-then, onward-upon}
 
 -- ## The invariant
 
 -- what the history tells of a session that is held
 abbrev pub airing : Bool → Session → Airing
-airing b s = record { conn = s .conn; id = s .id; access = s .access; start = s .start .0; end = s .end .0; begun = b; over = false; to = 0; listed = false; said = 0 }
+airing b s = record {
+  conn = s .conn;
+  id = s .id;
+  access = s .access;
+  start = s .start .0;
+  end = s .end .0;
+  begun = b;
+  over = false;
+  to = 0;
+  listed = false;
+  said = 0;
+}
 
 -- started and unended, so far
 abbrev pub airs : Airing → Bool
@@ -76,7 +89,8 @@ pub record Owned (β : Base) (now pr : ℕ) (w k : List Session) (l : List Airin
   pub distinct : (n : ℕ) → n < now → Distinct n l
 
 -- what is live when another is, with its AccessType, has its time
-time-same : (now : ℕ) (l : List Airing) (a b : Airing) → ((n : ℕ) → n < now → liveAt n a ≡ liveAt n b) → a .access ≡ b .access → airTime now l a ≡ airTime now l b
+time-same : (now : ℕ) (l : List Airing) (a b : Airing) → ((n : ℕ) → n < now → liveAt n a ≡ liveAt n b) → a .access ≡ b .access
+    → airTime now l a ≡ airTime now l b
 unfolding airTime
 time-same now l a b h e = during-same now (λ n. topAt n l a) (λ n. topAt n l b) (λ n i. rw (h n i, e))
 
@@ -87,7 +101,8 @@ time-unbegun now l a e = during-never now (λ n. topAt n l a) (λ n i. rw e)
 
 -- ## A mark on the newest of a number that changes nothing before now
 
-module _ (now c x : ℕ) (f : Airing → Airing) (conn : (a : Airing) → f a .conn ≡ a .conn) (id : (a : Airing) → f a .id ≡ a .id) (l : List Airing)
+module _ (now c x : ℕ) (f : Airing → Airing) (conn : (a : Airing) → f a .conn ≡ a .conn) (id : (a : Airing) → f a .id ≡ a .id)
+    (l : List Airing)
     (quiet : (n : ℕ) → n < now → Quiet c x f n (newest c x l)) where
   abbrev m : List Airing
   m = upon c x f l
@@ -105,7 +120,8 @@ module _ (now c x : ℕ) (f : Airing → Airing) (conn : (a : Airing) → f a .c
 
   waits-upon : (w : List Session) → count (is c x) w ≡ 0 → All (Waits l) w → All (Waits m) w
   waits-upon w z a =
-      all-into (λ u. (is c x u ≡ false) × Waits l u) (Waits m) (λ u h. record { told = apart u (h .0) ∙ h .1 .told; silent = h .1 .silent }) w
+      all-into (λ u. (is c x u ≡ false) × Waits l u) (Waits m) (λ u h. record { told = apart u (h .0) ∙ h .1 .told; silent = h .1 .silent })
+      w
       (all-both (λ u. is c x u ≡ false) (Waits l) w (all-none (is c x) w z) a)
 
   plays-upon : (k : List Session) → count (is c x) k ≡ 0 → All (Plays now l) k → All (Plays now m) k
@@ -118,15 +134,21 @@ module _ (now c x : ℕ) (f : Airing → Airing) (conn : (a : Airing) → f a .c
   listed-upon : newest c x l .over ≡ false → Listed now m (f (newest c x l)) → All (Listed now l) l → All (Listed now m) m
   listed-upon e h a =
       all-upon c x f (Listed now m) l
-      (all-into (Listed now l) (Listed now m) (λ x i. record { over = i .over; said = λ o. i .said o ∙ ap (λ (n : ℕ). n / 100) (sym (time-upon x)) }) l a) h
+      (all-into (Listed now l) (Listed now m) (λ x i. record {
+        over = i .over;
+        said =
+            λ o. i .said o ∙ ap (λ (n : ℕ). n / 100) (sym (time-upon x));
+      }) l a) h
 
-  since-upon : (β : Base) → β .time ≤ now → newest c x l .over ≡ false → f (newest c x l) .access ≡ newest c x l .access → Onward (β .time) (β .told) l → Onward (β .time) (β .told) m
+  since-upon : (β : Base) → β .time ≤ now → newest c x l .over ≡ false → f (newest c x l) .access ≡ newest c x l .access
+      → Onward (β .time) (β .told) l → Onward (β .time) (β .told) m
   since-upon β le e g o = onward-then (β .time) now le o (onward-upon now c x f conn id l e quiet g)
 
   distinct-upon : newest c x l .over ≡ false → ((n : ℕ) → n < now → Distinct n l) → (n : ℕ) → n < now → Distinct n m
   distinct-upon e d n h v =
       let q = quiet n h in
-      let s : bit (liveAt n (f (newest c x l)) && eqb v (suc (f (newest c x l) .access))) ≡ bit (liveAt n (newest c x l) && eqb v (suc (newest c x l .access))) = rw (q .0, q .1) in
+      let s : bit (liveAt n (f (newest c x l)) && eqb v (suc (f (newest c x l) .access)))
+      ≡ bit (liveAt n (newest c x l) && eqb v (suc (newest c x l .access))) = rw (q .0, q .1) in
       omega (arith, d n h v, count-upon c x f (λ a. liveAt n a && eqb v (suc (a .access))) l e)
 
 -- the number of one that is held is no other's
@@ -136,7 +158,8 @@ module _ (s : Session) where
 
 -- ## One end
 
-module _ (β : Base) (now pr t : ℕ) (r : Record) (s : Session) (e : EndOf (s .conn) (s .id) r) (tells : Tells s r) (w k : List Session) (l : List Airing) where
+module _ (β : Base) (now pr t : ℕ) (r : Record) (s : Session) (e : EndOf (s .conn) (s .id) r) (tells : Tells s r) (w k : List Session)
+    (l : List Airing) where
   abbrev c : ℕ
   c = s .conn
 
@@ -161,7 +184,8 @@ module _ (β : Base) (now pr t : ℕ) (r : Record) (s : Session) (e : EndOf (s .
 
       kept : airTime now (upon c x (ends t r) l) (ends t r (airing true s)) ≡ s .played .0
       kept =
-          time-same now (upon c x (ends t r) l) (ends t r (airing true s)) (airing true s) (λ n i. rw (lt-ltb n (min (s .end .0) t) (omega arith))) refl
+          time-same now (upon c x (ends t r) l) (ends t r (airing true s)) (airing true s)
+          (λ n i. rw (lt-ltb n (min (s .end .0) t) (omega arith))) refl
           ∙ time-upon now c x (ends t r) (λ a. refl) (λ a. refl) l quiet (airing true s) ∙ h .plays .0 .played
 
       done : Owned β now pr w k (upon c x (ends t r) l)
@@ -169,12 +193,14 @@ module _ (β : Base) (now pr t : ℕ) (r : Record) (s : Session) (e : EndOf (s .
           record {
             from = h .from;
             since = since-upon now c x (ends t r) (λ a. refl) (λ a. refl) l quiet β (h .from) found refl (h .since);
-            listed = listed-upon now c x (ends t r) (λ a. refl) (λ a. refl) l quiet found (rw told (record { over = λ i. refl; said = λ i. tells i ∙ ap (λ (n : ℕ). n / 100) (sym kept) })) (h .listed);
+            listed = listed-upon now c x (ends t r) (λ a. refl) (λ a. refl) l quiet found
+                (rw told (record { over = λ i. refl; said = λ i. tells i ∙ ap (λ (n : ℕ). n / 100) (sym kept) })) (h .listed);
             primary = primary-upon now c x (ends t r) (λ a. refl) (λ a. refl) l quiet ∙ h .primary;
             waits = waits-upon now c x (ends t r) (λ a. refl) (λ a. refl) l quiet w (omega (arith, z)) (h .waits);
             plays = plays-upon now c x (ends t r) (λ a. refl) (λ a. refl) l quiet k (omega (arith, z)) (h .plays .1);
             once = λ d y. omega (arith, h .once d y);
-            live = λ p. let i = rw told at (count-upon c x (ends t r) (λ a. airs a && p (a .access)) l found) in omega (arith, i, h .live p);
+            live = λ p. let i = rw told at (count-upon c x (ends t r) (λ a. airs a && p (a .access)) l found) in
+                omega (arith, i, h .live p);
             past = all-upon c x (ends t r) (Past now) l (h .past) (rw told (record { begun = λ i. h .plays .0 .begun; over = λ i j. hm }));
             distinct = distinct-upon now c x (ends t r) (λ a. refl) (λ a. refl) l quiet found (h .distinct);
           }
@@ -203,13 +229,16 @@ module _ (β : Base) (now pr t : ℕ) (r : Record) (s : Session) (e : EndOf (s .
           record {
             from = h .from;
             since = since-upon now c x (ends t r) (λ a. refl) (λ a. refl) l quiet β (h .from) found refl (h .since);
-            listed = listed-upon now c x (ends t r) (λ a. refl) (λ a. refl) l quiet found (rw told (record { over = λ i. refl; said = λ i. tells i ∙ ap (λ (n : ℕ). n / 100) (sym kept) })) (h .listed);
+            listed = listed-upon now c x (ends t r) (λ a. refl) (λ a. refl) l quiet found
+                (rw told (record { over = λ i. refl; said = λ i. tells i ∙ ap (λ (n : ℕ). n / 100) (sym kept) })) (h .listed);
             primary = primary-upon now c x (ends t r) (λ a. refl) (λ a. refl) l quiet ∙ h .primary;
             waits = waits-upon now c x (ends t r) (λ a. refl) (λ a. refl) l quiet w (omega (arith, z)) (h .waits .1);
             plays = plays-upon now c x (ends t r) (λ a. refl) (λ a. refl) l quiet k (omega (arith, z)) (h .plays);
             once = λ d y. omega (arith, h .once d y);
-            live = λ p. let i = rw told at (count-upon c x (ends t r) (λ a. airs a && p (a .access)) l found) in omega (arith, i, h .live p);
-            past = all-upon c x (ends t r) (Past now) l (h .past) (rw told (record { begun = λ i. absurd (clash false i refl); over = λ i j. absurd (clash false i refl) }));
+            live = λ p. let i = rw told at (count-upon c x (ends t r) (λ a. airs a && p (a .access)) l found) in
+                omega (arith, i, h .live p);
+            past = all-upon c x (ends t r) (Past now) l (h .past) (rw told
+                (record { begun = λ i. absurd (clash false i refl); over = λ i j. absurd (clash false i refl) }));
             distinct = distinct-upon now c x (ends t r) (λ a. refl) (λ a. refl) l quiet found (h .distinct);
           }
 
@@ -243,7 +272,8 @@ module _ (β : Base) (now pr t : ℕ) (r : Record) (s : Session) (e : StartOf (s
           record {
             from = h .from;
             since = since-upon now (s .conn) (s .id) begins (λ a. refl) (λ a. refl) l quiet β (h .from) found refl (h .since);
-            listed = listed-upon now (s .conn) (s .id) begins (λ a. refl) (λ a. refl) l quiet found (rw told (record { over = λ i. absurd (clash false i refl); said = λ i. absurd (clash false i refl) })) (h .listed);
+            listed = listed-upon now (s .conn) (s .id) begins (λ a. refl) (λ a. refl) l quiet found
+                (rw told (record { over = λ i. absurd (clash false i refl); said = λ i. absurd (clash false i refl) })) (h .listed);
             primary = primary-upon now (s .conn) (s .id) begins (λ a. refl) (λ a. refl) l quiet ∙ h .primary;
             waits = waits-upon now (s .conn) (s .id) begins (λ a. refl) (λ a. refl) l quiet w (omega (arith, z)) (h .waits .1);
             plays = (
@@ -255,14 +285,17 @@ module _ (β : Base) (now pr t : ℕ) (r : Record) (s : Session) (e : StartOf (s
               plays-upon now (s .conn) (s .id) begins (λ a. refl) (λ a. refl) l quiet k (omega (arith, z)) (h .plays),
             );
             once = λ d y. omega (arith, h .once d y);
-            live = λ p. let i = rw told at (count-upon (s .conn) (s .id) begins (λ a. airs a && p (a .access)) l found) in omega (arith, i, h .live p);
-            past = all-upon (s .conn) (s .id) begins (Past now) l (h .past) (rw told (record { begun = λ i. omega arith; over = λ i o. absurd (clash false o refl) }));
+            live = λ p. let i = rw told at (count-upon (s .conn) (s .id) begins (λ a. airs a && p (a .access)) l found) in
+                omega (arith, i, h .live p);
+            past = all-upon (s .conn) (s .id) begins (Past now) l (h .past)
+                (rw told (record { begun = λ i. omega arith; over = λ i o. absurd (clash false o refl) }));
             distinct = distinct-upon now (s .conn) (s .id) begins (λ a. refl) (λ a. refl) l quiet found (h .distinct);
           }
 
 -- ## One that is accepted
 
-module _ (β : Base) (now pr : ℕ) (s : Session) (w k : List Session) (l : List Airing) (none : count (is (s .conn) (s .id)) w + count (is (s .conn) (s .id)) k ≡ 0) where
+module _ (β : Base) (now pr : ℕ) (s : Session) (w k : List Session) (l : List Airing)
+    (none : count (is (s .conn) (s .id)) w + count (is (s .conn) (s .id)) k ≡ 0) where
   abbrev j : List Airing
   j = airing false s ∷ l
 
@@ -292,16 +325,26 @@ module _ (β : Base) (now pr : ℕ) (s : Session) (w k : List Session) (l : List
         since = newer (λ n i. refl) (h .since);
         listed = (
           record { over = λ i. absurd (clash false i refl); said = λ i. absurd (clash false i refl) },
-          all-into (Listed now l) (Listed now j) (λ a i. record { over = i .over; said = λ o. i .said o ∙ ap (λ (n : ℕ). n / 100) (sym (time-more a)) }) l (h .listed),
+          all-into (Listed now l) (Listed now j) (λ a i. record {
+            over = i .over;
+            said =
+                λ o. i .said o ∙ ap (λ (n : ℕ). n / 100) (sym (time-more a));
+          }) l (h .listed),
         );
         primary = primary-more ∙ h .primary;
         waits = (
           record { told = newest-new; silent = silent },
-          all-into (λ u. (is (s .conn) (s .id) u ≡ false) × Waits l u) (Waits j) (λ u i. record { told = newest-more u (i .0) ∙ i .1 .told; silent = i .1 .silent }) w
+          all-into (λ u. (is (s .conn) (s .id) u ≡ false) × Waits l u) (Waits j)
+              (λ u i. record { told = newest-more u (i .0) ∙ i .1 .told; silent = i .1 .silent }) w
               (all-both (λ u. is (s .conn) (s .id) u ≡ false) (Waits l) w (all-none (is (s .conn) (s .id)) w (omega arith)) (h .waits)),
         );
         plays = all-into (λ u. (is (s .conn) (s .id) u ≡ false) × Plays now l u) (Plays now j)
-            (λ u i. record { told = newest-more u (i .0) ∙ i .1 .told; begun = i .1 .begun; played = time-more (airing true u) ∙ i .1 .played }) k
+            (λ u i. record {
+              told = newest-more u (i .0) ∙ i .1 .told;
+              begun = i .1 .begun;
+              played =
+                  time-more (airing true u) ∙ i .1 .played;
+            }) k
             (all-both (λ u. is (s .conn) (s .id) u ≡ false) (Plays now l) k (all-none (is (s .conn) (s .id)) k (omega arith)) (h .plays));
         once = λ d y. one d y (is d y s) refl;
         live = λ p. omega (arith, h .live p);
@@ -338,19 +381,22 @@ falling-one : (v : ℕ) (k : List Session) → Falling k → count (λ s. eqb v 
 falling-one v [] f = omega arith
 falling-one v (s ∷ k) f = go (eqb v (suc (s .access))) refl (falling-one v k (f .1))
   where
-    go : (b : Bool) → eqb v (suc (s .access)) ≡ b → count (λ s. eqb v (suc (s .access))) k ≤ 1 → bit b + count (λ s. eqb v (suc (s .access))) k ≤ 1
+    go : (b : Bool) → eqb v (suc (s .access)) ≡ b → count (λ s. eqb v (suc (s .access))) k ≤ 1
+        → bit b + count (λ s. eqb v (suc (s .access))) k ≤ 1
     go false e ih = omega arith
     go true e ih =
         let i = eqb-true v (suc (s .access)) e in
         omega (
           arith,
           none-all (λ (u : Session). eqb v (suc (u .access))) k
-              (all-into (λ u. u .access < s .access) (λ u. eqb v (suc (u .access)) ≡ false) (λ u g. ne-eqb v (suc (u .access)) (λ o. omega arith)) k (f .0)),
+              (all-into (λ u. u .access < s .access) (λ u. eqb v (suc (u .access)) ≡ false)
+              (λ u g. ne-eqb v (suc (u .access)) (λ o. omega arith)) k (f .0)),
         )
 
 none-live : (n : ℕ) (l : List Airing) → count (λ a. liveAt n a && true) l ≡ 0 → some (liveAt n) l ≡ false
 none-live n l e =
-    none-some (liveAt n) l (all-into (λ a. (liveAt n a && true) ≡ false) (λ a. liveAt n a ≡ false) (λ a h. off (liveAt n a) h) l (all-none (λ a. liveAt n a && true) l e))
+    none-some (liveAt n) l (all-into (λ a. (liveAt n a && true) ≡ false) (λ a. liveAt n a ≡ false) (λ a h. off (liveAt n a) h) l
+    (all-none (λ a. liveAt n a && true) l e))
   where
     off : (b : Bool) → (b && true) ≡ false → b ≡ false
     off true h = h
@@ -360,7 +406,8 @@ one-live : (n : ℕ) (l : List Airing) → 0 < count (λ a. liveAt n a && true) 
 one-live n [] e = absurd (omega arith)
 one-live n (a ∷ l) e = go (liveAt n a) e (one-live n l)
   where
-    go : (b : Bool) → 0 < bit (b && true) + count (λ a. liveAt n a && true) l → (0 < count (λ a. liveAt n a && true) l → some (liveAt n) l ≡ true) → (b || some (liveAt n) l) ≡ true
+    go : (b : Bool) → 0 < bit (b && true) + count (λ a. liveAt n a && true) l
+        → (0 < count (λ a. liveAt n a && true) l → some (liveAt n) l ≡ true) → (b || some (liveAt n) l) ≡ true
     go true e ih = refl
     go false e ih = ih (omega arith)
 
@@ -396,9 +443,17 @@ module _ (now t : ℕ) (le : now ≤ t) where
 module _ (β : Base) (now pr t : ℕ) (le : now ≤ t) (w : List Session) (l : List Airing) where
   pub primary-on : (k : List Session) → Owned β now pr w k l → primaryTime t l ≡ primaryTime now l + silence (t - now) k
   unfolding primaryTime
-  primary-on [] h = omega (arith, grows now t le (λ n. not (some (liveAt n) l)) true (λ n i j. rw (none-live n l (live-count β now pr t le w [] l h n i (λ y. true)))))
+  primary-on [] h = omega (
+    arith,
+    grows now t le (λ n. not (some (liveAt n) l)) true
+        (λ n i j. rw (none-live n l (live-count β now pr t le w [] l h n i (λ y. true)))),
+  )
   primary-on (s ∷ k) h =
-      omega (arith, grows now t le (λ n. not (some (liveAt n) l)) false (λ n i j. rw (one-live n l (omega (arith, live-count β now pr t le w (s ∷ k) l h n i (λ y. true))))))
+      omega (
+        arith,
+        grows now t le (λ n. not (some (liveAt n) l)) false
+            (λ n i j. rw (one-live n l (omega (arith, live-count β now pr t le w (s ∷ k) l h n i (λ y. true))))),
+      )
 
   -- the one on air has the highest AccessType, and the covered ones have not
   module _ (s : Session) (k : List Session) (fall : Falling (s ∷ k)) (h : Owned β now pr w (s ∷ k) l) where
@@ -406,30 +461,50 @@ module _ (β : Base) (now pr t : ℕ) (le : now ≤ t) (w : List Session) (l : L
     peak-on n i =
         let v = suc (s .access) in
         peak-is n v l (omega (arith, live-count β now pr t le w (s ∷ k) l h n i (λ y. eqb v (suc y)), ap bit (eqb-same v)))
-        (live-count β now pr t le w (s ∷ k) l h n i (λ y. ltb v (suc y)) ∙ none-all (λ (u : Session). ltb v (suc (u .access))) (s ∷ k)
-        (le-ltb v v (omega arith), all-into (λ u. u .access < s .access) (λ u. ltb v (suc (u .access)) ≡ false) (λ u g. le-ltb v (suc (u .access)) (omega arith)) k (fall .0)))
+        (live-count β now pr t le w (s ∷ k) l h n i (λ y. ltb v (suc y)) ∙ none-all (λ (u : Session). ltb v (suc (u .access))) (s ∷ k) (
+          le-ltb v v (omega arith),
+          all-into (λ u. u .access < s .access) (λ u. ltb v (suc (u .access)) ≡ false)
+              (λ u g. le-ltb v (suc (u .access)) (omega arith)) k (fall .0),
+        ))
 
     top-on : airTime t l (airing true s) ≡ airTime now l (airing true s) + (t - now)
     unfolding airTime
     top-on =
         let g = h .plays .0 .begun in
-        omega (arith, grows now t le (λ n. topAt n l (airing true s)) true (λ n i j. rw (peak-on n i, le-leb (s .start .0) n (omega arith), eqb-same (suc (s .access)))))
+        omega (
+          arith,
+          grows now t le (λ n. topAt n l (airing true s)) true
+              (λ n i j. rw (peak-on n i, le-leb (s .start .0) n (omega arith), eqb-same (suc (s .access)))),
+        )
 
     covered-on : (u : Session) → u .access < s .access → airTime t l (airing true u) ≡ airTime now l (airing true u)
     unfolding airTime
     covered-on u g =
-        omega (arith, grows now t le (λ n. topAt n l (airing true u)) false (λ n i j. rw (peak-on n i, ne-eqb (suc (s .access)) (suc (u .access)) (λ e. omega arith), and-false)))
+        omega (
+          arith,
+          grows now t le (λ n. topAt n l (airing true u)) false
+              (λ n i j. rw (peak-on n i, ne-eqb (suc (s .access)) (suc (u .access)) (λ e. omega arith), and-false)),
+        )
 
   listed-on : (m : List Airing) → All (Past now) m → All (Listed now l) m → All (Listed t l) m
   listed-on m a b =
       all-into (λ x. Past now x × Listed now l x) (Listed t l)
-      (λ x i. record { over = i .1 .over; said = λ o. i .1 .said o ∙ ap (λ (n : ℕ). n / 100) (sym (over-on now t le l x (i .0) (i .1 .over o))) }) m (all-both (Past now) (Listed now l) m a b)
+      (λ x i. record {
+        over = i .1 .over;
+        said = λ o. i .1 .said o ∙ ap (λ (n : ℕ). n / 100)
+            (sym (over-on now t le l x (i .0) (i .1 .over o)));
+      }) m (all-both (Past now) (Listed now l) m a b)
 
   plays-on : (k : List Session) → Falling k → Owned β now pr w k l → All (Plays t l) (onAir (t - now) k)
   unfolding onAir
   plays-on [] f h = tt
   plays-on (s ∷ k) f h = (
-    record { told = h .plays .0 .told; begun = omega (arith, h .plays .0 .begun); played = omega (arith, top-on s k f h, h .plays .0 .played) },
+    record {
+      told = h .plays .0 .told;
+      begun = omega (arith, h .plays .0 .begun);
+      played =
+          omega (arith, top-on s k f h, h .plays .0 .played);
+    },
     all-into (λ u. (u .access < s .access) × Plays now l u) (Plays t l)
         (λ u i. record { told = i .1 .told; begun = omega (arith, i .1 .begun); played = covered-on s k f h u (i .0) ∙ i .1 .played }) k
         (all-both (λ u. u .access < s .access) (Plays now l) k (f .0) (h .plays .1)),
@@ -446,7 +521,11 @@ module _ (β : Base) (now pr t : ℕ) (le : now ≤ t) (w : List Session) (l : L
         plays = plays-on k f h;
         once = λ c x. omega (arith, h .once c x, count-onAir (is c x) (λ e s. refl) (t - now) k);
         live = λ p. h .live p ∙ sym (count-onAir (λ s. p (s .access)) (λ e s. refl) (t - now) k);
-        past = all-into (Past now) (Past t) (λ a g. record { begun = λ i. omega (arith, g .begun i); over = λ i j. omega (arith, g .over i j) }) l (h .past);
+        past = all-into (Past now) (Past t) (λ a g. record {
+          begun = λ i. omega (arith, g .begun i);
+          over =
+              λ i j. omega (arith, g .over i j);
+        }) l (h .past);
         distinct = λ n i v. one n v (ltb n now) refl;
       }
     where
@@ -456,7 +535,8 @@ module _ (β : Base) (now pr t : ℕ) (le : now ≤ t) (w : List Session) (l : L
 
 -- ## The same sessions in another order
 
-pub reorder : (β : Base) (now pr : ℕ) (w k w′ k′ : List Session) (l : List Airing) → ((p : Session → Bool) → count p w′ ≡ count p w) → ((p : Session → Bool) → count p k′ ≡ count p k)
+pub reorder : (β : Base) (now pr : ℕ) (w k w′ k′ : List Session) (l : List Airing) → ((p : Session → Bool) → count p w′ ≡ count p w)
+    → ((p : Session → Bool) → count p k′ ≡ count p k)
     → (All (Waits l) w → All (Waits l) w′) → (All (Plays now l) k → All (Plays now l) k′) → Owned β now pr w k l → Owned β now pr w′ k′ l
 reorder β now pr w k w′ k′ l cw ck aw ak h =
     record {

@@ -35,7 +35,8 @@ use Rattle.rules.proofs.Fitted.{recordsOf}
 use Rattle.rules.proofs.Silence.{silentAll-most}
 use Rattle.rules.proofs.Sound.{sound-call, sound-fresh, sound-found}
 use Rattle.demands.specs.Told.{FromFresh}
-use Rattle.demands.specs.Airing.{Airing, newest, heard, byThen, heardAll, startAsked, airingAsked, airedAnswered, airedAfter, airedReplied, airings, during, peakAt, topAt, primaryTime, airTime, sumBy}
+use Rattle.demands.specs.Airing.{Airing, newest, heard, byThen, heardAll, startAsked, airingAsked, airedAnswered, airedAfter}
+use Rattle.demands.specs.Airing.{airedReplied, airings, during, peakAt, topAt, primaryTime, airTime, sumBy}
 use Rattle.demands.specs.Airing.{airingsTold, clockTold, primaryTold, timeTold, airTold, numberTold}
 use Rattle.demands.specs.Moments.{Gapless, Printed, Within, oldest, newer, stands}
 use Rattle.demands.proofs.Laws.{Plain}
@@ -48,7 +49,8 @@ use Rattle.demands.proofs.Ninths
 use Rattle.demands.proofs.Ninths.{during-same}
 use Rattle.demands.proofs.Marks
 use Rattle.demands.proofs.Marks.{heard-plain, Stays, Onward, nothing, stays, onward-same, peak-onward}
-use Rattle.demands.proofs.Owned.{airing, Waits, Plays, Listed, Past, Base, Owned, time-waiting, time-grows, over-on, accept-new, reorder}
+use Rattle.demands.proofs.Owned.{airing, Waits, Plays, Listed, Past, Base, Owned, time-waiting, time-grows, over-on, accept-new}
+use Rattle.demands.proofs.Owned.{reorder}
 use Rattle.demands.proofs.Moments.{evicted-owned, closedBy-owned, aborted-owned, tick-clocked}
 
 -- ## Records that tell nothing
@@ -65,8 +67,13 @@ unfolding heardAll
 heardAll-plain u [] l p = refl
 heardAll-plain u (r ∷ rs) l p =
     ap (heardAll u rs)
-    (heard-plain (byThen u l rs) r (λ d y. count-zero (isStart d y) r rs (p .starts d y) .0) (λ d y. count-zero (isEnd d y) r rs (p .ends d y) .0) l)
-    ∙ heardAll-plain u rs l (record { starts = λ d y. count-zero (isStart d y) r rs (p .starts d y) .1; ends = λ d y. count-zero (isEnd d y) r rs (p .ends d y) .1 })
+    (heard-plain (byThen u l rs) r (λ d y. count-zero (isStart d y) r rs (p .starts d y) .0)
+    (λ d y. count-zero (isEnd d y) r rs (p .ends d y) .0) l)
+    ∙ heardAll-plain u rs l (record {
+      starts = λ d y. count-zero (isStart d y) r rs (p .starts d y) .1;
+      ends =
+          λ d y. count-zero (isEnd d y) r rs (p .ends d y) .1;
+    })
 
 -- ## A session that is accepted
 
@@ -76,7 +83,8 @@ module _ (β : Base) (now pr : ℕ) (q : Queue) (l : List Airing) (o : Owned β 
 
   ends-told : All Ends (held q)
   ends-told =
-      all-append Ends (q .waiting) (q .started) (all-into (Waits l) Ends (λ s h. ap (λ (x : Airing). x .end) (h .told)) (q .waiting) (o .waits))
+      all-append Ends (q .waiting) (q .started) (all-into (Waits l) Ends (λ s h. ap (λ (x : Airing). x .end) (h .told)) (q .waiting)
+      (o .waits))
       (all-into (Plays now l) Ends (λ s h. ap (λ (x : Airing). x .end) (h .told)) (q .started) (o .plays))
 
   told-start : (c : ℕ) (f : Start) → unknownPrior c f q ≡ false → startAsked c f l ≡ startOf c f q
@@ -87,7 +95,8 @@ module _ (β : Base) (now pr : ℕ) (q : Queue) (l : List Airing) (o : Owned β 
       let h : i < length (held q) = ltb-true i (length (held q)) (sym (some-place (is c p) (held q)) ∙ not-false _ e) in
       let s = getD (held q) i empty in
       let k = and-both (eqb c (s .conn)) (eqb p (s .id)) (place-holds (is c p) (held q) empty h) in
-      ap (λ n. newest n p l .end) (eqb-true c (s .conn) (k .0)) ∙ ap (λ n. newest (s .conn) n l .end) (eqb-true p (s .id) (k .1)) ∙ all-getD Ends (held q) i empty h ends-told
+      ap (λ n. newest n p l .end) (eqb-true c (s .conn) (k .0)) ∙ ap (λ n. newest (s .conn) n l .end) (eqb-true p (s .id) (k .1))
+      ∙ all-getD Ends (held q) i empty h ends-told
 
   asked-airing : (c : ℕ) (d : List ℕ) (r : Request) → readSplice d ≡ Splice r → unknownPrior c (r .start) q ≡ false
       → airingAsked c (sessionID d) (readSplice d) l ≡ airing false (requested c r q)
@@ -95,15 +104,18 @@ module _ (β : Base) (now pr : ℕ) (q : Queue) (l : List Airing) (o : Owned β 
   asked-airing c d r e u = rw (e, ← (read-id d r e), told-start c (r .start) u)
 
   accepted-owned : (u : ℕ) (new : Session) → new .played .0 ≡ 0 → heldCount q (is (new .conn) (new .id)) ≡ 0
-      → Owned β now pr (accepted new q .queue .waiting) (accepted new q .queue .started) (airing false new ∷ heardAll u (evicted (new .start .0) q .written) l)
+      → Owned β now pr (accepted new q .queue .waiting) (accepted new q .queue .started)
+      (airing false new ∷ heardAll u (evicted (new .start .0) q .written) l)
   unfolding accepted andThen inserted
   accepted-owned u new z none =
       let v = evicted (new .start .0) q .queue in
       let m = heardAll u (evicted (new .start .0) q .written) l in
       let j = airing false new ∷ m in
-      reorder β now pr (new ∷ v .waiting) (v .started) (inserted new (v .waiting)) (v .started) j (λ p. count-insertAt p (place (startsAfter (new .start .0)) (v .waiting)) new (v .waiting)) (λ p. refl)
+      reorder β now pr (new ∷ v .waiting) (v .started) (inserted new (v .waiting)) (v .started) j
+      (λ p. count-insertAt p (place (startsAfter (new .start .0)) (v .waiting)) new (v .waiting)) (λ p. refl)
       (λ a. all-inserted (Waits j) new (v .waiting) (a .0) (a .1)) (λ a. a)
-      (accept-new β now pr new (v .waiting) (v .started) m (omega (arith, fewer-held (is (new .conn) (new .id)) q v (evicted-fewer (new .start .0) q))) z
+      (accept-new β now pr new (v .waiting) (v .started) m (omega
+      (arith, fewer-held (is (new .conn) (new .id)) q v (evicted-fewer (new .start .0) q))) z
       (evicted-owned β now pr u (new .start .0) q l o))
 
 -- ## Every call
@@ -124,14 +136,16 @@ module _ (β : Base) (s : Splicer) (l : List Airing) (h : Sound s) (o : Kept β 
   Then k r = Kept β (r .splicer) (airedAnswer (r .splicer .clock) k (r .answer) l)
 
   ending : All (λ u. (s .clock ≤ u .end .0) × (min (u .end .0) (s .clock) ≤ s .clock)) (q .started)
-  ending = all-into (λ u. s .clock < u .end .0) (λ u. (s .clock ≤ u .end .0) × (min (u .end .0) (s .clock) ≤ s .clock)) (λ u i. (omega arith, omega arith)) (q .started) (h .holding .timed .ends)
+  ending = all-into (λ u. s .clock < u .end .0) (λ u. (s .clock ≤ u .end .0) × (min (u .end .0) (s .clock) ≤ s .clock))
+      (λ u i. (omega arith, omega arith)) (q .started) (h .holding .timed .ends)
 
   plain-owned : (rs : List Record) → Plain rs → Kept β s (heardAll (s .clock) rs l)
   plain-owned rs p = rw (heardAll-plain (s .clock) rs l p) o
 
   tick-owned : (until : ℕ) → s .clock ≤ until → Kept β (ticked until s .splicer) (heardAll until (recordsOf (ticked until s .answer)) l)
   unfolding ticked
-  tick-owned until le = tick-clocked β (s .clock) (s .primary) until q l le (record { timed = h .holding .timed; falling = h .holding .falling; owned = o }) .owned
+  tick-owned until le = tick-clocked β (s .clock) (s .primary) until q l le
+      (record { timed = h .holding .timed; falling = h .holding .falling; owned = o }) .owned
 
   pub call-owned : (k : Call) → Then k (call k s)
   unfolding airedAfter airedAnswered heardAll front last isYes accepted andThen requested sessionAt ticked
@@ -146,8 +160,17 @@ module _ (β : Base) (s : Splicer) (l : List Airing) (h : Sound s) (o : Kept β 
         declining = λ c b loans n r e y f. rw (e, y) o;
         accepting = λ c b loans n r e f p. let new = requested c r q in
             let rs = evicted (new .start .0) q .written in
-            rw (e, asked-airing β (s .clock) (s .primary) q l o c (dataIn b) r f (p .prior), ← (read-id (dataIn b) r f), last-last (isYes c (r .id)) rs (accepts new), front-last rs (accepts new), eqb-same c, eqb-same (r .id))
-            (accepted-owned β (s .clock) (s .primary) q l o (s .clock) new refl (omega (arith, some-none (is c (r .id)) (held q) (p .number), count-held (is c (r .id)) q)));
+            rw (
+              e,
+              asked-airing β (s .clock) (s .primary) q l o c (dataIn b) r f (p .prior),
+              ← (read-id (dataIn b) r f),
+              last-last (isYes c (r .id)) rs (accepts new),
+              front-last rs (accepts new),
+              eqb-same c,
+              eqb-same (r .id),
+            )
+            (accepted-owned β (s .clock) (s .primary) q l o (s .clock) new refl
+            (omega (arith, some-none (is c (r .id)) (held q) (p .number), count-held (is c (r .id)) q)));
         ticking = λ seconds micros room le. tick-owned (fromMicros (timeOf seconds micros) .0) le;
         moving = λ until room le. tick-owned until le;
         cueing = λ m pts seconds micros room rs p. plain-owned rs p;
@@ -159,25 +182,30 @@ unfoldable pub airingsOf : List Call → Splicer → List Airing → List Airing
 airingsOf [] s l = l
 airingsOf (k ∷ ks) s l = airingsOf ks (call k s .splicer) (airedAnswer (call k s .splicer .clock) k (call k s .answer) l)
 
-pub owned-always : (β : Base) (ks : List Call) (s : Splicer) (l : List Airing) → All Wired ks → Sound s → Kept β s l → Kept β (after ks s) (airingsOf ks s l)
+pub owned-always : (β : Base) (ks : List Call) (s : Splicer) (l : List Airing) → All Wired ks → Sound s → Kept β s l
+    → Kept β (after ks s) (airingsOf ks s l)
 unfolding after airingsOf
 owned-always β [] s l a h o = o
 owned-always β (k ∷ ks) s l a h o =
-    owned-always β ks (call k s .splicer) (airedAnswer (call k s .splicer .clock) k (call k s .answer) l) (a .1) (sound-call s k (a .0) h) (call-owned β s l h o k)
+    owned-always β ks (call k s .splicer) (airedAnswer (call k s .splicer .clock) k (call k s .answer) l) (a .1) (sound-call s k (a .0) h)
+    (call-owned β s l h o k)
 
 -- the bytes give back the records
-pub aired-answer : (u : ℕ) (k : Call) (a : Answer) (l : List Airing) → recordsIn (writtenBy a) ≡ recordsOf a → airedReplied u k (replyOf a) l ≡ airedAnswer u k a l
+pub aired-answer : (u : ℕ) (k : Call) (a : Answer) (l : List Airing) → recordsIn (writtenBy a) ≡ recordsOf a
+    → airedReplied u k (replyOf a) l ≡ airedAnswer u k a l
 unfolding airedReplied
 aired-answer u k (refused n) l e = refl
 aired-answer u k (good consumed rs) l e = ap (λ (r : List Record). airedAfter u k r l) e
 
-airings-found : (ks : List Call) (s : Splicer) (l : List Airing) → All Wired ks → Sound s → airings (history ks s) (s .clock) l ≡ airingsOf ks s l
+airings-found : (ks : List Call) (s : Splicer) (l : List Airing) → All Wired ks → Sound s
+    → airings (history ks s) (s .clock) l ≡ airingsOf ks s l
 unfolding airings history airingsOf
 airings-found [] s l a h = refl
 airings-found (k ∷ ks) s l a h =
     let r = call k s in
     ap (λ (u : ℕ). airings (history ks (r .splicer)) u (airedReplied u k (replyOf (r .answer)) l)) (call-clock s k)
-    ∙ ap (airings (history ks (r .splicer)) (r .splicer .clock)) (aired-answer (r .splicer .clock) k (r .answer) l (sound-found s k (a .0) h))
+    ∙ ap (airings (history ks (r .splicer)) (r .splicer .clock)) (aired-answer (r .splicer .clock) k (r .answer) l
+    (sound-found s k (a .0) h))
     ∙ airings-found ks (r .splicer) (airedAnswer (r .splicer .clock) k (r .answer) l) (a .1) (sound-call s k (a .0) h)
 
 -- nothing yet
@@ -188,7 +216,19 @@ pub owned-fresh : (name : List ℕ) → Kept start (fresh name .splicer) []
 unfolding fresh named primaryTime during
 owned-fresh name =
     let none : Owned start 0 0 [] [] [] =
-    record { from = omega arith; since = nothing; listed = tt; primary = refl; waits = tt; plays = tt; once = λ c x. omega arith; live = λ p. refl; past = tt; distinct = λ n h v. absurd (omega arith) }
+    record {
+      from = omega arith;
+      since = nothing;
+      listed = tt;
+      primary = refl;
+      waits = tt;
+      plays = tt;
+      once = λ c x. omega arith;
+      live =
+          λ p. refl;
+      past = tt;
+      distinct = λ n h v. absurd (omega arith);
+    }
     in
     by (λ (r : Called). Kept start (r .splicer) []) (hasZero name) _ _ (λ e. none) (λ e. none)
 
@@ -197,7 +237,8 @@ owned-told h s f =
     let first = fresh (f .name) .splicer in
     let z = sound-fresh (f .name) (f .whole) (f .bytes) in
     let e : airingsTold h ≡ airingsOf (f .calls) first [] =
-    ap (λ (g : List Event). airingsTold g) (f .heard) ∙ ap (λ (n : ℕ). airings (history (f .calls) first) n []) (sym (fresh-clock (f .name))) ∙ airings-found (f .calls) first [] (f .wired) z
+    ap (λ (g : List Event). airingsTold g) (f .heard) ∙ ap (λ (n : ℕ). airings (history (f .calls) first) n [])
+    (sym (fresh-clock (f .name))) ∙ airings-found (f .calls) first [] (f .wired) z
     in
     rw (e, f .same) (owned-always start (f .calls) first [] (f .wired) z (owned-fresh (f .name)))
 
@@ -206,7 +247,8 @@ owned-told h s f =
 pub every-moment : (h : List Event) (s : Splicer) → FromFresh h s → primaryTold h + airTold h ≡ clockTold h
 every-moment h s f =
     let l = airingsTold h in
-    subst (λ (c : ℕ). primaryTime c l + sumBy (airTime c l) l ≡ c) (sym (clock-told h s f)) (Ninths.every-moment (s .clock) l (owned-told h s f .distinct))
+    subst (λ (c : ℕ). primaryTime c l + sumBy (airTime c l) l ≡ c) (sym (clock-told h s f))
+    (Ninths.every-moment (s .clock) l (owned-told h s f .distinct))
 
 -- "a primary sum it keeps from now on"
 pub primary-kept : (h : List Event) (s : Splicer) → FromFresh h s → s .primary ≡ primaryTold h
@@ -219,8 +261,10 @@ air-kept h s f =
     let l = airingsTold h in
     rw (clock-told h s f)
     (record {
-      waiting = all-into (Waits l) (λ u. u .played .0 ≡ airTime (s .clock) l (newest (u .conn) (u .id) l)) (λ u i. rw (i .told) (i .silent ∙ sym (time-waiting (s .clock) l u))) (s .queue .waiting) (o .waits);
-      started = all-into (Plays (s .clock) l) (λ u. u .played .0 ≡ airTime (s .clock) l (newest (u .conn) (u .id) l)) (λ u i. rw (i .told) (sym (i .played))) (s .queue .started) (o .plays);
+      waiting = all-into (Waits l) (λ u. u .played .0 ≡ airTime (s .clock) l (newest (u .conn) (u .id) l))
+          (λ u i. rw (i .told) (i .silent ∙ sym (time-waiting (s .clock) l u))) (s .queue .waiting) (o .waits);
+      started = all-into (Plays (s .clock) l) (λ u. u .played .0 ≡ airTime (s .clock) l (newest (u .conn) (u .id) l))
+          (λ u i. rw (i .told) (sym (i .played))) (s .queue .started) (o .plays);
     })
 
 -- ## Between any two points
@@ -252,7 +296,12 @@ call-adds s h =
     })
   where
     brings : (until : ℕ) → s .clock ≤ until → Adds s (ticked until s .splicer)
-    brings until le = record { clock = le; least = omega arith; most = omega (arith, silentAll-most (s .clock) until (s .queue) le (h .holding .timed)) }
+    brings until le = record {
+      clock = le;
+      least = omega arith;
+      most =
+          omega (arith, silentAll-most (s .clock) until (s .queue) le (h .holding .timed));
+    }
 
 -- and more calls
 calls-add : (ks : List Call) (s : Splicer) → All Wired ks → Sound s → Adds s (after ks s)
@@ -278,7 +327,8 @@ airings-append (e ∷ h) g now l =
 module _ (h : List Event) (s : Splicer) (f : FromFresh h s) (js : List Call) (w : All Wired js) where
   pub airings-more : airingsTold (h ++ history js s) ≡ airingsOf js s (airingsTold h)
   airings-more =
-      airings-append h (history js s) 0 [] ∙ ap (λ (n : ℕ). airings (history js s) n (airingsTold h)) (clock-told h s f) ∙ airings-found js s (airingsTold h) w (from-sound h s f)
+      airings-append h (history js s) 0 [] ∙ ap (λ (n : ℕ). airings (history js s) n (airingsTold h)) (clock-told h s f)
+      ∙ airings-found js s (airingsTold h) w (from-sound h s f)
 
   abbrev pub here : Base
   here = record { time = s .clock; told = airingsTold h }
@@ -323,10 +373,12 @@ no-gap h s f js w =
 
 -- ## "The sums .. from which PlayedDuration is rounded": what was told of a session is its time, now and in every later list
 
-pub lists-as-counted : (h : List Event) (s : Splicer) → FromFresh h s → All (λ a. a .listed ≡ true → a .said ≡ timeTold h a / 100) (airingsTold h)
+pub lists-as-counted : (h : List Event) (s : Splicer) → FromFresh h s
+    → All (λ a. a .listed ≡ true → a .said ≡ timeTold h a / 100) (airingsTold h)
 lists-as-counted h s f =
     let l = airingsTold h in
-    rw (clock-told h s f) (all-into (Listed (s .clock) l) (λ a. a .listed ≡ true → a .said ≡ airTime (s .clock) l a / 100) (λ a i. i .said) l (owned-told h s f .listed))
+    rw (clock-told h s f) (all-into (Listed (s .clock) l) (λ a. a .listed ≡ true → a .said ≡ airTime (s .clock) l a / 100) (λ a i. i .said)
+    l (owned-told h s f .listed))
 
 module _ (now t : ℕ) (le : now ≤ t) (l m : List Airing) (peaks : (n : ℕ) → n < now → peakAt n m ≡ peakAt n l) where
   abbrev Times : Airing → Airing → Type 0
@@ -337,7 +389,11 @@ module _ (now t : ℕ) (le : now ≤ t) (l m : List Airing) (peaks : (n : ℕ) �
   before a b h = during-same now (λ n. topAt n m b) (λ n. topAt n l a) (λ n i. rw (h .quiet n i, h .access, peaks n i))
 
   times : (a b : Airing) → Past now a → Stays now a b → Times a b
-  times a b p h = (omega (arith, before a b h, time-grows now t le m b), λ o. let e = h .fixed o in (e, rw e (over-on now t le m a p o) ∙ before a b h))
+  times a b p h = (
+    omega (arith, before a b h, time-grows now t le m b),
+    λ o. let e = h .fixed o in
+        (e, rw e (over-on now t le m a p o) ∙ before a b h),
+  )
 
   abbrev Keeps : Airing → Airing → Type 0
   Keeps a b = (b .conn ≡ a .conn) × (b .id ≡ a .id) × (b .access ≡ a .access) × Times a b
@@ -372,4 +428,11 @@ prints-alike h s f js w =
         × ((airTime now (airingsTold h) a ≤ airTime t (airingsTold g) b)
         × (a .over ≡ true → (b ≡ a) × (airTime t (airingsTold g) b ≡ airTime now (airingsTold h) a)))
         → Printed h g a b
-    rw-printed h g now t e f a b k = record { conn = k .0; id = k .1; access = k .2; grows = rw (e, f) (k .3 .0); fixed = rw (e, f) (k .3 .1) }
+    rw-printed h g now t e f a b k = record {
+      conn = k .0;
+      id = k .1;
+      access = k .2;
+      grows = rw (e, f) (k .3 .0);
+      fixed =
+          rw (e, f) (k .3 .1);
+    }

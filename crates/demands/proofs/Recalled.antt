@@ -1,4 +1,5 @@
--- 02, CR 8: the answer to an ExtendedData_Request, from the answer's bytes: the first of what ended lately with the connection and the number,
+-- 02, CR 8: the answer to an ExtendedData_Request, from the answer's bytes: the first of what ended lately with the connection and the
+-- number,
 -- and so of the ends that the answers told. Rests on rules' Recall, on Lately and on the bytes giving back their records.
 use mathlib.Core.Path.{_≡_, refl, sym, ap, _∙_}
 use mathlib.Core.Bool.{Bool, true, false}
@@ -28,11 +29,13 @@ module _ (c : ℕ) (l : List ℕ) (loans : Loans) (x : ℕ) (s : Splicer) (a : I
   unfolding call messageCall handled answer answerRead read
   extended-call = rw (a .low, a .roomy, ready-open (linkOf c s) (a .ready), a .short, a .framed, a .ready, a .readable)
 
-  extended-record : (h : List Event) → FromFresh h s → recordsIn (writtenBy (call (messages c l loans) s .answer)) ≡ extendedResponse c x (s .queue) ∷ []
+  extended-record : (h : List Event) → FromFresh h s → recordsIn (writtenBy (call (messages c l loans) s .answer))
+      ≡ extendedResponse c x (s .queue) ∷ []
   extended-record h f = rw (sound-found s (messages c l loans) (a .wired) (from-sound h s f), extended-call) refl
 
   -- the first that passes is at a place before which none does
-  first-place : (p : Past → Bool) (l : List Past) (i : ℕ) → i < length l → p (getD l i unused) ≡ true → ((j : ℕ) → j < i → p (getD l j unused) ≡ false)
+  first-place : (p : Past → Bool) (l : List Past) (i : ℕ) → i < length l → p (getD l i unused) ≡ true
+      → ((j : ℕ) → j < i → p (getD l j unused) ≡ false)
       → (some p l ≡ true) × (place p l ≡ i)
   unfolding place
   first-place p [] i h e n = absurd (omega arith)
@@ -46,7 +49,8 @@ module _ (c : ℕ) (l : List ℕ) (loans : Loans) (x : ℕ) (s : Splicer) (a : I
   two-lengths y e = let z : _≡_ {A = ℕ} 0 1 = cc in omega arith
 
   -- it is what the list of what ended lately says
-  pub extended-recalled : (h : List Event) → FromFresh h s → Finds c x (recent (s .queue .lately)) (writtenBy (call (messages c l loans) s .answer))
+  pub extended-recalled : (h : List Event) → FromFresh h s → Finds c x (recent (s .queue .lately))
+      (writtenBy (call (messages c l loans) s .answer))
   unfolding latest
   extended-recalled h f =
       let L = recent (s .queue .lately) in
@@ -64,7 +68,8 @@ module _ (c : ℕ) (l : List ℕ) (loans : Loans) (x : ℕ) (s : Splicer) (a : I
           → recordsIn (writtenBy (call (messages c l loans) s .answer)) ≡ extendedResponse c x (s .queue) ∷ [] → b ≡ false
       go false g e t = refl
       go true g e t =
-          absurd (two-lengths (latest c x (recent (s .queue .lately))) (sym (ap (λ (y : Record). y ∷ []) (answers-latest c x (s .queue) g)) ∙ sym t ∙ e))
+          absurd (two-lengths (latest c x (recent (s .queue .lately)))
+          (sym (ap (λ (y : Record). y ∷ []) (answers-latest c x (s .queue) g)) ∙ sym t ∙ e))
 
 -- ## Of the ends that the answers told
 
@@ -101,4 +106,5 @@ module _ (c x : ℕ) where
   extended-of-told h s f l loans a =
       let L = recent (s .queue .lately) in
       extended-record c l loans x s a h f
-      ∙ ap (λ (y : Record). y ∷ []) (first-told L (endsTold h) (lately-whole h s f) ∙ ap (λ (n : ℕ). answerTold c x (take n (endsTold h))) (recent-long 0 mostKept (s .queue .lately)))
+      ∙ ap (λ (y : Record). y ∷ []) (first-told L (endsTold h) (lately-whole h s f)
+      ∙ ap (λ (n : ℕ). answerTold c x (take n (endsTold h))) (recent-long 0 mostKept (s .queue .lately)))

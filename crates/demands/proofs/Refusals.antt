@@ -8,14 +8,17 @@ use lib.Dec.{ltb}
 use lib.ListN.{length}
 use Rattle.rules.specs.declared.Refusal.{Refusal}
 use Rattle.rules.specs.declared.Link.the-variants.{Closed, Opened}
-use Rattle.rules.specs.declared.Refusal.the-variants.{NoConnection, NoRoom, ClockBack, Oversize, Short, AlreadyOpen, NotOpen, BadMicros, BadName, Counter, LongSection, BadSection, NotSixteen}
+use Rattle.rules.specs.declared.Refusal.the-variants.{NoConnection, NoRoom, ClockBack, Oversize, Short, AlreadyOpen, NotOpen, BadMicros}
+use Rattle.rules.specs.declared.Refusal.the-variants.{BadName, Counter, LongSection, BadSection, NotSixteen}
 use Rattle.rules.specs.declared.Framing.the-variants.{Framed, Unframed}
 use Rattle.rules.specs.Units.{timeOf, badMicros, fromMicros}
 use Rattle.rules.specs.Bytes.{messageID, messageSize, oversize, hasZero, nameIn}
 use Rattle.rules.specs.State.{Splicer, linkOf, isOpen, withLink, withQueue}
 use Rattle.rules.specs.Ends.{closedBy}
 use Rattle.rules.specs.Cues.{badSection, readCue, cueTime, initialisedOnes, cueRecords}
-use Rattle.rules.specs.Calls.{houseNumber, refused, refuse, does, writtenBy, consumedBy, bufferAfter, noConnection, noRoom, notOpen, longSection, shut, named, fresh, openCall, closeCall, framing, handled, messageCall, ticked, moveCall, tickCall, Call, opens, closes, messages, ticks, moves, cueCall, cues, call}
+use Rattle.rules.specs.Calls.{houseNumber, refused, refuse, does, writtenBy, consumedBy, bufferAfter, noConnection, noRoom, notOpen}
+use Rattle.rules.specs.Calls.{longSection, shut, named, fresh, openCall, closeCall, framing, handled, messageCall, ticked, moveCall}
+use Rattle.rules.specs.Calls.{tickCall, Call, opens, closes, messages, ticks, moves, cueCall, cues, call}
 use Rattle.rules.proofs.Refused as rules
 use Rattle.rules.proofs.Written.{written-none}
 use Rattle.demands.specs.Told.{firstNumber, checks, numberOf, Unchanged}
@@ -30,7 +33,8 @@ module _ (s : Splicer) where
   unfolding call openCall closeCall messageCall framing handled moveCall tickCall cueCall ticked numberOf houseNumber firstNumber checks
   first-number (opens c) = go (noConnection c) (isOpen (linkOf c s))
     where
-      go : (a b : Bool) → numberOf (cond a (refuse NoConnection s) (cond b (refuse AlreadyOpen s) (does 0 [] (withLink c Opened s))) .answer) ≡ cond a 1 (cond b 6 0)
+      go : (a b : Bool) → numberOf (cond a (refuse NoConnection s)
+          (cond b (refuse AlreadyOpen s) (does 0 [] (withLink c Opened s))) .answer) ≡ cond a 1 (cond b 6 0)
       go true b = refl
       go false true = refl
       go false false = refl
@@ -44,11 +48,13 @@ module _ (s : Splicer) where
       go false true d = refl
       go false false true = refl
       go false false false = refl
-  first-number (messages c l loans) = go (noConnection c) (noRoom (loans .room)) (notOpen c s) (longSection loans) (ltb (length l) 8) (oversize l) (ltb (length l) (8 + messageSize l))
+  first-number (messages c l loans) = go (noConnection c) (noRoom (loans .room)) (notOpen c s) (longSection loans) (ltb (length l) 8)
+      (oversize l) (ltb (length l) (8 + messageSize l))
     where
       go : (a b d h e f g : Bool)
           → numberOf (cond a (refuse NoConnection s) (cond b (refuse NoRoom s) (cond d (refuse NotOpen s) (cond h (refuse LongSection s)
-          (handled c (cond e (Unframed Short) (cond f (Unframed Oversize) (cond g (Unframed Short) (Framed (messageID l) (messageSize l))))) l loans s)))) .answer)
+          (handled c (cond e (Unframed Short) (cond f (Unframed Oversize) (cond g (Unframed Short) (Framed (messageID l) (messageSize l)))))
+          l loans s)))) .answer)
           ≡ cond a 1 (cond b 2 (cond d 7 (cond h 10 (cond e 5 (cond f 4 (cond g 5 0))))))
       go true b d h e f g = refl
       go false true d h e f g = refl

@@ -15,7 +15,8 @@ use Rattle.rules.specs.declared.Link.the-variants.{Closed, Opened, Initialised}
 use Rattle.rules.specs.State.{Splicer, linkOf, isOpen, isInitialised}
 use Rattle.rules.specs.Records.{recordsIn}
 use Rattle.rules.specs.Ends.{andThen, evicted}
-use Rattle.rules.specs.Answers.{sessionAt, requested, wrongNumber, tooLate, collides, full, spliceResult, accepts, accepted, Spliced, splices, answerSplice, answerRead, answer}
+use Rattle.rules.specs.Answers.{sessionAt, requested, wrongNumber, tooLate, collides, full, spliceResult, accepts, accepted, Spliced}
+use Rattle.rules.specs.Answers.{splices, answerSplice, answerRead, answer}
 use Rattle.rules.specs.Calls.{replies, handled, messageCall, Loans, messages, call, writtenBy}
 use Rattle.demands.specs.History.{Event, last, ownAnswer, waitingCount}
 use Rattle.rules.specs.Sound.{Sound}
@@ -25,7 +26,15 @@ use Rattle.demands.specs.Told.{FromFresh, answers, Asks, Passes, earlier
 use Rattle.demands.proofs.Waiting.{last-last, waiting-counted}
 
 pub from-sound : (h : List Event) (s : Splicer) → FromFresh h s → Sound s
-from-sound h s f = reached-sound s (record { name = f .name; whole = f .whole; bytes = f .bytes; calls = f .calls; wired = f .wired; same = f .same })
+from-sound h s f = reached-sound s (record {
+  name = f .name;
+  whole = f .whole;
+  bytes = f .bytes;
+  calls = f .calls;
+  wired = f .wired;
+  same =
+      f .same;
+})
 
 -- "That count never passes 20."
 pub count-room : (h : List Event) (s : Splicer) → FromFresh h s → (c : ℕ) → waitingCount c h ≤ 20
@@ -42,18 +51,21 @@ module _ (c : ℕ) (l : List ℕ) (loans : Loans) (r : Request) (s : Splicer) (a
   unfolding call messageCall handled answer answerRead read
   splice-call = rw (a .low, a .roomy, ready-open (linkOf c s) (a .ready), a .sections, a .framed, a .ready, a .readable)
 
-  own : last (answers (spliceResult (s .clock) c r (requested c r (s .queue)) (s .queue)) c (r .id)) (answerSplice (s .clock) c r (s .queue) .turn .written) ≡ true
+  own : last (answers (spliceResult (s .clock) c r (requested c r (s .queue)) (s .queue)) c (r .id))
+      (answerSplice (s .clock) c r (s .queue) .turn .written) ≡ true
   unfolding answerSplice accepted andThen last answers requested sessionAt
   own =
       let n = spliceResult (s .clock) c r (requested c r (s .queue)) (s .queue) in
       let new = requested c r (s .queue) in
       by (λ (a : Spliced). last (answers n c (r .id)) (a .turn .written) ≡ true) (eqb n 100) _ _
-      (λ e. last-last (answers n c (r .id)) (evicted (new .start .0) (s .queue) .written) (accepts new) ∙ rw (e, eqb-same c, eqb-same (r .id)))
+      (λ e. last-last (answers n c (r .id)) (evicted (new .start .0) (s .queue) .written) (accepts new)
+      ∙ rw (e, eqb-same c, eqb-same (r .id)))
       (λ e. rw (eqb-same n, eqb-same c, eqb-same (r .id)))
 
   -- "a refused one carries the first result code that applies"
   pub own-answer : (h : List Event) → FromFresh h s
-      → ownAnswer (answers (spliceResult (s .clock) c r (requested c r (s .queue)) (s .queue)) c (r .id)) (recordsIn (writtenBy (call (messages c l loans) s .answer))) ≡ true
+      → ownAnswer (answers (spliceResult (s .clock) c r (requested c r (s .queue)) (s .queue)) c (r .id))
+      (recordsIn (writtenBy (call (messages c l loans) s .answer))) ≡ true
   own-answer h f = rw (sound-found s (messages c l loans) (a .bytes) (from-sound h s f), splice-call) own
 
   -- "passes every earlier check in 01's order", or the first of them that applies gives the code
@@ -62,7 +74,8 @@ module _ (c : ℕ) (l : List ℕ) (loans : Loans) (r : Request) (s : Splicer) (a
       × (ownAnswer (answers (earlierCode c r s) c (r .id)) (recordsIn (writtenBy (call (messages c l loans) s .answer))) ≡ true))
   unfolding spliceResult earlierCode
   passes-or-earlier h f =
-      go (wrongNumber c r (s .queue)) (tooLate (s .clock) (r .start)) (collides (requested c r (s .queue)) (s .queue .waiting)) refl refl refl
+      go (wrongNumber c r (s .queue)) (tooLate (s .clock) (r .start)) (collides (requested c r (s .queue)) (s .queue .waiting)) refl refl
+      refl
     where
       given : ℕ → Type 0
       given n = ownAnswer (answers n c (r .id)) (recordsIn (writtenBy (call (messages c l loans) s .answer))) ≡ true
@@ -71,7 +84,8 @@ module _ (c : ℕ) (l : List ℕ) (loans : Loans) (r : Request) (s : Splicer) (a
       told = own-answer h f
 
       go : (y z w : Bool) → wrongNumber c r (s .queue) ≡ y → tooLate (s .clock) (r .start) ≡ z
-          → collides (requested c r (s .queue)) (s .queue .waiting) ≡ w → Passes c r s ⊎ ((earlierCode c r s ≡ 100 → ⊥) × given (earlierCode c r s))
+          → collides (requested c r (s .queue)) (s .queue .waiting) ≡ w
+          → Passes c r s ⊎ ((earlierCode c r s ≡ 100 → ⊥) × given (earlierCode c r s))
       go false false false eb ec ed = inl (record { b = eb; c′ = ec; d = ed })
       go true z w eb ec ed = inr (rw eb (λ z. omega (arith, z)), rw eb (rw eb at told))
       go false true w eb ec ed = inr (rw (eb, ec) (λ z. omega (arith, z)), rw (eb, ec) (rw (eb, ec) at told))
@@ -87,6 +101,7 @@ passed-code : (h : List Event) (s : Splicer) → FromFresh h s → (c : ℕ) (r 
 unfolding spliceResult
 passed-code h s f c r p = rw (p .b, p .c′, p .d, full-counted h s f c)
 
-pub full-answer : (h : List Event) (s : Splicer) → FromFresh h s → (c : ℕ) (l : List ℕ) (loans : Loans) (r : Request) → Asks c l loans r s → Passes c r s
+pub full-answer : (h : List Event) (s : Splicer) → FromFresh h s → (c : ℕ) (l : List ℕ) (loans : Loans) (r : Request) → Asks c l loans r s
+    → Passes c r s
     → ownAnswer (answers (cond (fullTold c h) 114 100) c (r .id)) (recordsIn (writtenBy (call (messages c l loans) s .answer))) ≡ true
 full-answer h s f c l loans r a p = rw (← (passed-code h s f c r p)) (own-answer c l loans r s a h f)

@@ -13,7 +13,8 @@ use Rattle.rules.specs.Units.{timeOf, fromMicros}
 use Rattle.rules.specs.Lists.{All, bit, some, count, place, removeAt}
 use Rattle.rules.specs.declared.Ending.the-variants.{Response}
 use Rattle.rules.specs.State.{sameNumber, Queue, Splicer, empty, is, held, startsAt}
-use Rattle.rules.specs.Records.{Record, General, InitResponse, AliveResponse, SpliceResponse, SpliceComplete, AbortResponse, ConfigResponse, ExtendedFound, ExtendedNone, CueRequest, recordsIn}
+use Rattle.rules.specs.Records.{Record, General, InitResponse, AliveResponse, SpliceResponse, SpliceComplete, AbortResponse, ConfigResponse}
+use Rattle.rules.specs.Records.{ExtendedFound, ExtendedNone, CueRequest, recordsIn}
 use Rattle.rules.specs.Ends.{Turn, andThen, ended, evicted, evictedAt, dismissed, followers, closedBy}
 use Rattle.rules.specs.Instants.{runAll}
 use Rattle.rules.specs.Answers.{requested, accepts, accepted}
@@ -28,7 +29,8 @@ use Rattle.rules.proofs.Sessions.{count-held}
 use Rattle.rules.proofs.Fitted.{recordsOf}
 use Rattle.rules.proofs.Sound.{sound-found}
 use Rattle.demands.specs.Told.{FromFresh, isOut}
-use Rattle.demands.specs.Airing.{Airing, airingIs, nobodys, newest, begins, lists, saysPlayed, ends, marked, concerns, heard, byThen, heardAll, airedAnswered, airedAfter, airTime, airingsTold, numberTold}
+use Rattle.demands.specs.Airing.{Airing, airingIs, nobodys, newest, begins, lists, saysPlayed, ends, marked, concerns, heard, byThen}
+use Rattle.demands.specs.Airing.{heardAll, airedAnswered, airedAfter, airTime, airingsTold, numberTold}
 use Rattle.demands.specs.Moments.{PlayedAs}
 use Rattle.demands.proofs.Laws.{Law, Plain, closedBy-law, answered-law, tick-law, outs-ends}
 use Rattle.demands.proofs.Cases.{cases}
@@ -56,7 +58,8 @@ module _ (c x t : ℕ) (r : Record) (no : isEnd c x r ≡ false) where
       same true = record { over = refl; listed = refl; said = refl }
       same false = record { over = refl; listed = refl; said = refl }
 
-      go : (b : Bool) → airingIs c x a ≡ b → (s e : Bool) → isEnd (a .conn) (a .id) r ≡ e → Alike (newest c x (a ∷ l)) (newest c x (cond s (begins a) (cond e (ends t r a) a) ∷ l))
+      go : (b : Bool) → airingIs c x a ≡ b → (s e : Bool) → isEnd (a .conn) (a .id) r ≡ e
+          → Alike (newest c x (a ∷ l)) (newest c x (cond s (begins a) (cond e (ends t r a) a) ∷ l))
       go b k true e f = same (airingIs c x a)
       go b k false false f = record { over = refl; listed = refl; said = refl }
       go false k false true f = rw k (record { over = refl; listed = refl; said = refl })
@@ -69,11 +72,13 @@ module _ (c x t : ℕ) (r : Record) (no : isEnd c x r ≡ false) where
   heard-mild [] = record { over = refl; listed = refl; said = refl }
   heard-mild (a ∷ l) = go (concerns r a) (heard-mild l)
     where
-      pass : (b : Bool) → Alike (newest c x l) (newest c x (heard t r l)) → Alike (cond b a (newest c x l)) (cond b a (newest c x (heard t r l)))
+      pass : (b : Bool) → Alike (newest c x l) (newest c x (heard t r l))
+          → Alike (cond b a (newest c x l)) (cond b a (newest c x (heard t r l)))
       pass true h = record { over = refl; listed = refl; said = refl }
       pass false h = h
 
-      go : (b : Bool) → Alike (newest c x l) (newest c x (heard t r l)) → Alike (cond (airingIs c x a) a (newest c x l)) (newest c x (cond b (marked t r a ∷ l) (a ∷ heard t r l)))
+      go : (b : Bool) → Alike (newest c x l) (newest c x (heard t r l))
+          → Alike (cond (airingIs c x a) a (newest c x l)) (newest c x (cond b (marked t r a ∷ l) (a ∷ heard t r l)))
       go true h = marked-mild a l
       go false h = pass (airingIs c x a) h
 
@@ -144,13 +149,16 @@ module _ (c x u : ℕ) where
           (k .listed ∙ ap (λ (a : Airing). a .listed) n ∙ e .0, k .said ∙ ap (λ (a : Airing). a .said) n)
 
       go : (b : Bool) → isEnd c x r ≡ b
-          → (newest c x (heard (byThen u l rs) r l) .over ≡ false → endsOf c x rs ≤ 1 → All (λ r′. isOut c x r′ ≡ true → Told (newest c x (heardAll u rs (heard (byThen u l rs) r l))) r′) rs)
+          → (newest c x (heard (byThen u l rs) r l) .over ≡ false → endsOf c x rs ≤ 1
+          → All (λ r′. isOut c x r′ ≡ true → Told (newest c x (heardAll u rs (heard (byThen u l rs) r l))) r′) rs)
           → (isOut c x r ≡ true → Told (newest c x (heardAll u rs (heard (byThen u l rs) r l))) r)
           × All (λ r′. isOut c x r′ ≡ true → Told (newest c x (heardAll u rs (heard (byThen u l rs) r l))) r′) rs
       go true e ih =
           let z : endsOf c x rs ≡ 0 = omega (arith, h, ap bit e) in (
             first z,
-            all-into (λ r′. isOut c x r′ ≡ false) (λ r′. isOut c x r′ ≡ true → Told (newest c x (heardAll u rs (heard (byThen u l rs) r l))) r′) (λ r′ f i. absurd (clash (isOut c x r′) i f)) rs (no-outs rs z),
+            all-into (λ r′. isOut c x r′ ≡ false) (λ r′. isOut c x r′ ≡ true
+                → Told (newest c x (heardAll u rs (heard (byThen u l rs) r l))) r′) (λ r′ f i. absurd (clash (isOut c x r′) i f)) rs
+                (no-outs rs z),
           )
       go false e ih =
           let k = heard-mild c x (byThen u l rs) r e l in
@@ -181,7 +189,8 @@ module _ (β : Base) (s : Splicer) (l : List Airing) (h : Sound s) (o : Kept β 
 
   opens-told : All Open (held q)
   opens-told =
-      all-append Open (q .waiting) (q .started) (all-into (Waits l) Open (λ u i. ap (λ (a : Airing). a .over) (i .told)) (q .waiting) (o .waits))
+      all-append Open (q .waiting) (q .started) (all-into (Waits l) Open (λ u i. ap (λ (a : Airing). a .over) (i .told)) (q .waiting)
+      (o .waits))
       (all-into (Plays (s .clock) l) Open (λ u i. ap (λ (a : Airing). a .over) (i .told)) (q .started) (o .plays))
 
   -- what is held has had no end
@@ -195,25 +204,33 @@ module _ (β : Base) (s : Splicer) (l : List Airing) (h : Sound s) (o : Kept β 
           let k : i < length (held q) = ltb-true i (length (held q)) (sym (some-place (is c x) (held q)) ∙ e) in
           let u = getD (held q) i empty in
           let n = and-both (eqb c (u .conn)) (eqb x (u .id)) (place-holds (is c x) (held q) empty k) in
-          ap (λ d. newest d x l .over) (eqb-true c (u .conn) (n .0)) ∙ ap (λ d. newest (u .conn) d l .over) (eqb-true x (u .id) (n .1)) ∙ all-getD Open (held q) i empty k opens-told
+          ap (λ d. newest d x l .over) (eqb-true c (u .conn) (n .0)) ∙ ap (λ d. newest (u .conn) d l .over) (eqb-true x (u .id) (n .1))
+          ∙ all-getD Open (held q) i empty k opens-told
 
-  nothing-out : (m : List Airing) (rs : List Record) → All (λ r. isOut c x r ≡ false) rs → All (λ r. isOut c x r ≡ true → Told c x 0 (newest c x m) r) rs
-  nothing-out m rs a = all-into (λ r. isOut c x r ≡ false) (λ r. isOut c x r ≡ true → Told c x 0 (newest c x m) r) (λ r f i. absurd (clash (isOut c x r) i f)) rs a
+  nothing-out : (m : List Airing) (rs : List Record) → All (λ r. isOut c x r ≡ false) rs
+      → All (λ r. isOut c x r ≡ true → Told c x 0 (newest c x m) r) rs
+  nothing-out m rs a = all-into (λ r. isOut c x r ≡ false) (λ r. isOut c x r ≡ true → Told c x 0 (newest c x m) r)
+      (λ r f i. absurd (clash (isOut c x r) i f)) rs a
 
-  turn-told : (u : ℕ) (t : Turn) → Law c x q t → All (λ r. isOut c x r ≡ true → Told c x 0 (newest c x (heardAll u (t .written) l)) r) (t .written)
+  turn-told : (u : ℕ) (t : Turn) → Law c x q t → All (λ r. isOut c x r ≡ true → Told c x 0 (newest c x (heardAll u (t .written) l)) r)
+      (t .written)
   turn-told u t law = go (endsOf c x (t .written)) refl
     where
-      go : (n : ℕ) → endsOf c x (t .written) ≡ n → All (λ r. isOut c x r ≡ true → Told c x 0 (newest c x (heardAll u (t .written) l)) r) (t .written)
+      go : (n : ℕ) → endsOf c x (t .written) ≡ n → All (λ r. isOut c x r ≡ true → Told c x 0 (newest c x (heardAll u (t .written) l)) r)
+          (t .written)
       go zero e = nothing-out (heardAll u (t .written) l) (t .written) (no-outs c x u (t .written) e)
-      go (suc n) e = heardAll-told c x u (t .written) l (held-open (omega (arith, law .kept))) (omega (arith, law .kept, h .holding .once c x))
+      go (suc n) e = heardAll-told c x u (t .written) l (held-open (omega (arith, law .kept)))
+          (omega (arith, law .kept, h .holding .once c x))
 
   abbrev Then : Call → Called → Type 0
-  Then k r = All (λ i. isOut c x i ≡ true → Told c x 0 (newest c x (airedAnswer (r .splicer .clock) k (r .answer) l)) i) (recordsOf (r .answer))
+  Then k r = All (λ i. isOut c x i ≡ true → Told c x 0 (newest c x (airedAnswer (r .splicer .clock) k (r .answer) l)) i)
+      (recordsOf (r .answer))
 
   plain-out : (m : List Airing) (rs : List Record) → Plain rs → All (λ r. isOut c x r ≡ true → Told c x 0 (newest c x m) r) rs
   plain-out m rs p = nothing-out m rs (no-outs c x 0 rs (p .ends c x))
 
-  tick-told : (until : ℕ) → All (λ r. isOut c x r ≡ true → Told c x 0 (newest c x (heardAll until (runAll (s .clock) until q .written) l)) r) (runAll (s .clock) until q .written)
+  tick-told : (until : ℕ) → All (λ r. isOut c x r ≡ true → Told c x 0 (newest c x (heardAll until (runAll (s .clock) until q .written) l))
+      r) (runAll (s .clock) until q .written)
   tick-told until = turn-told until (runAll (s .clock) until q) (tick-law c x (s .clock) until q)
 
   call-told : (k : Call) → Then k (call k s)
@@ -229,7 +246,8 @@ module _ (β : Base) (s : Splicer) (l : List Airing) (h : Sound s) (o : Kept β 
         declining = λ d b loans n r e y f. ((λ i. absurd (clash (isOut c x r) i (f .outs c x))), tt);
         accepting = λ d b loans n r e f p. let new = requested d r q in
             nothing-out _ (evicted (new .start .0) q .written ++ (accepts new ∷ []))
-            (all-append (λ r. isOut c x r ≡ false) (evicted (new .start .0) q .written) (accepts new ∷ []) (no-out-evicted c x (new .start .0) q) (refl, tt));
+            (all-append (λ r. isOut c x r ≡ false) (evicted (new .start .0) q .written) (accepts new ∷ [])
+            (no-out-evicted c x (new .start .0) q) (refl, tt));
         ticking = λ seconds micros room le. tick-told (fromMicros (timeOf seconds micros) .0);
         moving = λ until room le. tick-told until;
         cueing = λ m pts seconds micros room rs p. plain-out _ rs p;
@@ -253,7 +271,10 @@ played-as-counted h s f k w c x =
     let l = airingsTold g in
     let t = call k s .splicer .clock in
     let e = airings-more h s f (k ∷ []) (w, tt) in
-    let i : Listed t l (newest c x l) = newest-all (Listed t l) c x l (record { over = λ b. absurd (clash false b refl); said = λ b. absurd (clash false b refl) }) (p .listed) in
+    let i : Listed t l (newest c x l) = newest-all (Listed t l) c x l
+    (record { over = λ b. absurd (clash false b refl); said = λ b. absurd (clash false b refl) }) (p .listed) in
     rw (sound-found s k w z, clock-told g (call k s .splicer) (from-more h s f (k ∷ []) (w, tt)))
-    (all-into (λ r. isOut c x r ≡ true → Told c x 0 (newest c x (airedAnswer t k (call k s .answer) (airingsTold h))) r) (λ r. isOut c x r ≡ true → saysPlayed r ≡ airTime t l (newest c x l) / 100)
-    (λ r j b. let m = rw (← e) at (j b) in sym (m .1) ∙ i .said (m .0)) (recordsOf (call k s .answer)) (call-told start s (airingsTold h) z o c x k))
+    (all-into (λ r. isOut c x r ≡ true → Told c x 0 (newest c x (airedAnswer t k (call k s .answer) (airingsTold h))) r)
+    (λ r. isOut c x r ≡ true → saysPlayed r ≡ airTime t l (newest c x l) / 100)
+    (λ r j b. let m = rw (← e) at (j b) in sym (m .1) ∙ i .said (m .0)) (recordsOf (call k s .answer))
+    (call-told start s (airingsTold h) z o c x k))

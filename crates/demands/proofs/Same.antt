@@ -16,9 +16,12 @@ use Rattle.rules.specs.Reading.{sessionID, readSplice, dataIn}
 use Rattle.rules.specs.State.{sameNumber}
 use Rattle.rules.specs.Records.{Record, recordsIn}
 use Rattle.rules.specs.Calls.{Call, opens, closes, messages, ticks, moves, cues}
-use Rattle.demands.specs.History.{Reply, refusal, wrote, Event, Entry, entryIs, isStart, isEnd, grantedIn, othersIn, credited, lastTold, endTold, startTold, endAsked, muxAsked, eventAsked, entryOf, bookAnswered, shut, bookAfter, bookReplied, book, clockReplied}
+use Rattle.demands.specs.History.{Reply, refusal, wrote, Event, Entry, entryIs, isStart, isEnd, grantedIn, othersIn, credited}
+use Rattle.demands.specs.History.{lastTold, endTold, startTold, endAsked, muxAsked, eventAsked, entryOf, bookAnswered, shut}
+use Rattle.demands.specs.History.{bookAfter, bookReplied, book, clockReplied}
 use Rattle.rules.proofs.Tests.{by, and-both, eqb-same}
-use Rattle.demands.specs.Airing.{Airing, airingIs, newest, begins, ends, marked, concerns, heard, byThen, heardAll, startAsked, airingAsked, airedAnswered, airedAfter, airedReplied, airings}
+use Rattle.demands.specs.Airing.{Airing, airingIs, newest, begins, ends, marked, concerns, heard, byThen, heardAll, startAsked}
+use Rattle.demands.specs.Airing.{airingAsked, airedAnswered, airedAfter, airedReplied, airings}
 use Rattle.demands.proofs.Marks.{other}
 
 pub record Key : Type 0 where
@@ -44,7 +47,8 @@ key-heard t r (a ∷ l) = go (concerns r a) (key-heard t r l)
     same false true = refl
     same false false = refl
 
-    go : (b : Bool) → map ofAiring (heard t r l) ≡ map ofAiring l → map ofAiring (cond b (marked t r a ∷ l) (a ∷ heard t r l)) ≡ ofAiring a ∷ map ofAiring l
+    go : (b : Bool) → map ofAiring (heard t r l) ≡ map ofAiring l → map ofAiring (cond b (marked t r a ∷ l) (a ∷ heard t r l)) ≡ ofAiring a
+        ∷ map ofAiring l
     go true ih = ap (_∷ map ofAiring l) (same (isStart (a .conn) (a .id) r) (isEnd (a .conn) (a .id) r))
     go false ih = ap (ofAiring a ∷_) ih
 
@@ -84,10 +88,12 @@ end-told c x (a ∷ l) (e ∷ es) h =
     let t : map ofAiring l ≡ map ofEntry es = cc in
     let i : a .conn ≡ e .conn = ap (λ (y : Key). y .conn) k in
     let j : a .id ≡ e .id = ap (λ (y : Key). y .id) k in
-    let n : airingIs c x a ≡ entryIs c x e = sameNumber-turned (a .conn) (a .id) c x ∙ ap (λ (y : ℕ). sameNumber c x y (a .id)) i ∙ ap (λ (y : ℕ). sameNumber c x (e .conn) y) j in
+    let n : airingIs c x a ≡ entryIs c x e = sameNumber-turned (a .conn) (a .id) c x ∙ ap (λ (y : ℕ). sameNumber c x y (a .id)) i
+    ∙ ap (λ (y : ℕ). sameNumber c x (e .conn) y) j in
     pick (airingIs c x a) (entryIs c x e) n (ap (λ (y : Key). y .end) k) (end-told c x l es t)
   where
-    pick : (b d : Bool) → b ≡ d → a .end ≡ e .end → newest c x l .end ≡ endTold c x es → cond b a (newest c x l) .end ≡ cond d (e .end) (endTold c x es)
+    pick : (b d : Bool) → b ≡ d → a .end ≡ e .end → newest c x l .end ≡ endTold c x es
+        → cond b a (newest c x l) .end ≡ cond d (e .end) (endTold c x es)
     pick true true n f g = f
     pick false false n f g = g
     pick true false n f g = let z : _≡_ {A = ℕ} 0 1 = cc in absurd (omega arith)
@@ -120,7 +126,17 @@ module _ (l : List Airing) (es : List Entry) (h : map ofAiring l ≡ map ofEntry
       x = sessionID (dataIn b)
 
       go : (y : Bool) → map ofAiring (put y (airingAsked d x (readSplice (dataIn b)) l) (heardAll u (othersIn b rs) l))
-          ≡ map ofEntry (put y (record { conn = d; id = x; end = endAsked d (readSplice (dataIn b)) es; mux = muxAsked (readSplice (dataIn b)); event = eventAsked (readSplice (dataIn b)); ends = 0; closed = false }) (credited (othersIn b rs) es))
+          ≡ map ofEntry (put y (record {
+            conn = d;
+            id = x;
+            end = endAsked d (readSplice (dataIn b)) es;
+            mux =
+                muxAsked (readSplice (dataIn b));
+            event = eventAsked (readSplice (dataIn b));
+            ends = 0;
+            closed = false;
+          })
+          (credited (othersIn b rs) es))
       go true = rw (key-asked d x (readSplice (dataIn b)), heard-credited u (othersIn b rs))
       go false = heard-credited u (othersIn b rs)
 
@@ -134,7 +150,8 @@ module _ (l : List Airing) (es : List Entry) (h : map ofAiring l ≡ map ofEntry
   key-replied u (moves until room) (wrote b) = heard-credited u (recordsIn b)
   key-replied u (cues m pts seconds micros room) (wrote b) = heard-credited u (recordsIn b)
 
-keys : (h : List Event) (now : ℕ) (l : List Airing) (es : List Entry) → map ofAiring l ≡ map ofEntry es → map ofAiring (airings h now l) ≡ map ofEntry (book h es)
+keys : (h : List Event) (now : ℕ) (l : List Airing) (es : List Entry) → map ofAiring l ≡ map ofEntry es
+    → map ofAiring (airings h now l) ≡ map ofEntry (book h es)
 unfolding airings book
 keys [] now l es e = e
 keys (v ∷ h) now l es e =

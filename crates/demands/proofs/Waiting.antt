@@ -1,4 +1,5 @@
--- A connection's waiting sessions, counted from the answers' bytes, are as many as the splicer holds waiting, after every sequence of calls.
+-- A connection's waiting sessions, counted from the answers' bytes, are as many as the splicer holds waiting, after every sequence of
+-- calls.
 -- Rests on Laws (what each piece of work does to a number), on Sound (no number held twice) and on the bytes giving back their records.
 use mathlib.Core.Path.{_≡_, refl, ap}
 use mathlib.Core.Bool.{Bool, true, false, cond}
@@ -39,7 +40,8 @@ module _ (x : ℕ) (p : ℕ → Bool) where
   keep-in [] e = refl
   keep-in (y ∷ l) e = go (eqb x y) refl (p y) refl (keep-in l e)
     where
-      go : (b : Bool) → eqb x y ≡ b → (d : Bool) → p y ≡ d → count (eqb x) (keep p l) ≡ count (eqb x) l → count (eqb x) (put d y (keep p l)) ≡ bit b + count (eqb x) l
+      go : (b : Bool) → eqb x y ≡ b → (d : Bool) → p y ≡ d → count (eqb x) (keep p l) ≡ count (eqb x) l
+          → count (eqb x) (put d y (keep p l)) ≡ bit b + count (eqb x) l
       go b f true g ih = rw (f, ih)
       go false f false g ih = omega arith
       go true f false g ih = absurd (clash (p x) e (rw (eqb-true x y f) g))
@@ -81,7 +83,8 @@ module _ (q : Queue) (L : ℕ → List ℕ) (once : Once q) (g : Counted q L) wh
   turn-counted : (t : Turn) → ((c x : ℕ) → Law c x q t) → Counted (t .queue) (λ c. keep (unmarked c (t .written)) (L c))
   turn-counted t law = record { same = λ c x. go c x (unmarked c (t .written) x) refl }
     where
-      go : (c x : ℕ) (b : Bool) → unmarked c (t .written) x ≡ b → count (eqb x) (keep (unmarked c (t .written)) (L c)) ≡ tally c x (t .queue .waiting)
+      go : (c x : ℕ) (b : Bool) → unmarked c (t .written) x ≡ b
+          → count (eqb x) (keep (unmarked c (t .written)) (L c)) ≡ tally c x (t .queue .waiting)
       go c x true e = omega (arith, tests, keep-in x (unmarked c (t .written)) (L c) e, g .same c x, once c x, law c x)
       go c x false e = omega (arith, tests, keep-out x (unmarked c (t .written)) (L c) e, g .same c x, once c x, law c x)
 
@@ -107,7 +110,8 @@ module _ (s : Splicer) (L : ℕ → List ℕ) (h : Sound s) (g : Counted (s .que
       go c x true f = rw (eqb-true c d f) (omega (arith, none x))
       go c x false f = g .same c x
 
-  new-counted : (new : Session) → Counted (accepted new q .queue) (λ c. put (eqb c (new .conn)) (new .id) (keep (unmarked c (evicted (new .start .0) q .written)) (L c)))
+  new-counted : (new : Session) → Counted (accepted new q .queue)
+      (λ c. put (eqb c (new .conn)) (new .id) (keep (unmarked c (evicted (new .start .0) q .written)) (L c)))
   new-counted new =
       let t = evicted (new .start .0) q in
       let k = turn-counted q L once g t (λ c x. evicted-law c x (new .start .0) q) in
@@ -118,32 +122,49 @@ module _ (s : Splicer) (L : ℕ → List ℕ) (h : Sound s) (g : Counted (s .que
   call-counted =
       cases s P (record {
         refusing = λ k n. g;
-        opening = λ c low e. opened-counted c (λ x. omega (arith, count-le (is c x) (of c) (λ u. bit-and (eqb c (u .conn)) (eqb x (u .id))) (q .waiting), h .linking .shut c e));
+        opening = λ c low e. opened-counted c (λ x. omega (
+          arith,
+          count-le (is c x) (of c) (λ u. bit-and (eqb c (u .conn)) (eqb x (u .id)))
+              (q .waiting),
+          h .linking .shut c e,
+        ));
         closing = λ c room low e. turn-counted q L once g (closedBy c q) (λ d x. closedBy-law d x c q);
         saying = λ c l loans n rs e p. rw e (plain-counted q L once g rs p);
         naming = λ c l loans n r hw e p. rw e (plain-counted q L once g (r ∷ []) p);
         aborting = λ c l loans n x e i. rw e (turn-counted q L once g _ (λ d y. answered-law d y c x q));
-        declining = λ c l loans n r e y o. relist q (λ d. keep (unmarked d []) (L d)) _ (λ d. rw (e, y)) (plain-counted q L once g [] plain-none);
+        declining = λ c l loans n r e y o. relist q (λ d. keep (unmarked d []) (L d)) _ (λ d. rw (e, y))
+            (plain-counted q L once g [] plain-none);
         accepting = λ c l loans n r e f p. let new = requested c r q in
             let rs = evicted (new .start .0) q .written in
             relist _ (λ d. put (eqb d c) (r .id) (keep (unmarked d rs) (L d))) _
-            (λ d. rw (e, ← (read-id (dataIn l) r f), last-last (isYes c (r .id)) rs (accepts new), front-last rs (accepts new), eqb-same c, eqb-same (r .id))) (new-counted new);
-        ticking = λ seconds micros room le. let until = fromMicros (timeOf seconds micros) .0 in turn-counted q L once g (runAll (s .clock) until q) (λ d x. tick-law d x (s .clock) until q);
+            (λ d. rw (
+              e,
+              ← (read-id (dataIn l) r f),
+              last-last (isYes c (r .id)) rs (accepts new),
+              front-last rs (accepts new),
+              eqb-same c,
+              eqb-same (r .id),
+            )) (new-counted new);
+        ticking = λ seconds micros room le. let until = fromMicros (timeOf seconds micros) .0 in
+            turn-counted q L once g (runAll (s .clock) until q) (λ d x. tick-law d x (s .clock) until q);
         moving = λ until room le. turn-counted q L once g (runAll (s .clock) until q) (λ d x. tick-law d x (s .clock) until q);
         cueing = λ l pts seconds micros room rs p. plain-counted q L once g rs p;
       })
 
 -- ## Every sequence of calls
 
-pub counted-always : (ks : List Call) (s : Splicer) (L : ℕ → List ℕ) → All Wired ks → Sound s → Counted (s .queue) L → Counted (after ks s .queue) (λ c. waitingOf c ks s (L c))
+pub counted-always : (ks : List Call) (s : Splicer) (L : ℕ → List ℕ) → All Wired ks → Sound s → Counted (s .queue) L
+    → Counted (after ks s .queue) (λ c. waitingOf c ks s (L c))
 unfolding after waitingOf
 counted-always [] s L a h g = g
 counted-always (k ∷ ks) s L a h g =
-    counted-always ks (call k s .splicer) (λ c. waitAnswer c k (call k s .answer) (L c)) (a .1) (sound-call s k (a .0) h) (call-counted s L h g k)
+    counted-always ks (call k s .splicer) (λ c. waitAnswer c k (call k s .answer) (L c)) (a .1) (sound-call s k (a .0) h)
+    (call-counted s L h g k)
 
 counted-fresh : (name : List ℕ) → Counted (fresh name .splicer .queue) (λ c. [])
 unfolding fresh named
-counted-fresh name = by (λ (r : Called). Counted (r .splicer .queue) (λ c. [])) (hasZero name) _ _ (λ e. record { same = λ c x. refl }) (λ e. record { same = λ c x. refl })
+counted-fresh name = by (λ (r : Called). Counted (r .splicer .queue) (λ c. [])) (hasZero name) _ _ (λ e. record { same = λ c x. refl })
+    (λ e. record { same = λ c x. refl })
 
 -- ## From equal counts of each number to equal lengths
 
@@ -156,7 +177,8 @@ unfolding without
 count-without p x [] h = absurd (omega arith)
 count-without p x (y ∷ l) h = go (eqb x y) refl (count-without p x l)
   where
-    go : (b : Bool) → eqb x y ≡ b → (0 < count (eqb x) l → count p l ≡ bit (p x) + count p (without x l)) → bit (p y) + count p l ≡ bit (p x) + count p (cond b l (y ∷ without x l))
+    go : (b : Bool) → eqb x y ≡ b → (0 < count (eqb x) l → count p l ≡ bit (p x) + count p (without x l))
+        → bit (p y) + count p l ≡ bit (p x) + count p (cond b l (y ∷ without x l))
     go true e ih = rw (eqb-true x y e)
     go false e ih = omega (arith, ih (omega (arith, ap bit e)))
 
@@ -169,7 +191,8 @@ sizes c [] [] h = refl
 sizes c [] (y ∷ l) h = absurd (omega (arith, h y, ap bit (eqb-same y)))
 sizes c (s ∷ w) l h = go (eqb c (s .conn)) refl (sizes c w)
   where
-    go : (b : Bool) → eqb c (s .conn) ≡ b → ((m : List ℕ) → ((x : ℕ) → count (eqb x) m ≡ tally c x w) → length m ≡ waits c w) → length l ≡ bit b + waits c w
+    go : (b : Bool) → eqb c (s .conn) ≡ b → ((m : List ℕ) → ((x : ℕ) → count (eqb x) m ≡ tally c x w) → length m ≡ waits c w)
+        → length l ≡ bit b + waits c w
     go false e ih = omega (arith, ih l (λ x. omega (arith, rw e at (h x))))
     go true e ih =
         let y = s .id in
@@ -191,4 +214,5 @@ waiting-counted h s f c =
     let first = fresh (f .name) .splicer in
     let z = sound-fresh (f .name) (f .whole) (f .bytes) in
     rw (f .heard, f .same, waiting-found c (f .calls) first [] (f .wired) z)
-    (sizes c (after (f .calls) first .queue .waiting) (waitingOf c (f .calls) first []) (counted-always (f .calls) first (λ d. []) (f .wired) z (counted-fresh (f .name)) .same c))
+    (sizes c (after (f .calls) first .queue .waiting) (waitingOf c (f .calls) first [])
+    (counted-always (f .calls) first (λ d. []) (f .wired) z (counted-fresh (f .name)) .same c))

@@ -1,4 +1,5 @@
--- The premises of docs/DEMANDS.md, "Premises", that a splicer, a request or a call meets, each met from a fresh splicer by calls with concrete
+-- The premises of docs/DEMANDS.md, "Premises", that a splicer, a request or a call meets, each met from a fresh splicer by calls with
+-- concrete
 -- bytes: the theorems speak of something. Rests on computing alone.
 use mathlib.Core.Path.{_≡_, refl}
 use mathlib.Core.Bool.{Bool, true, false, _&&_}
@@ -51,7 +52,8 @@ initialise = message 1 68 (bytes 2 2 ++ (name ++ replicate 34 0))
 -- number 1, timed, at some second; ServiceID 1, a second long, AccessType 1
 unfoldable pub asking : ℕ → List ℕ
 asking second =
-    message 7 33 (bytes 4 1 ++ (bytes 4 nobody ++ (bytes 4 second ++ (bytes 4 0 ++ (bytes 2 1 ++ (bytes 4 90000 ++ (bytes 4 nobody ++ (bytes 4 0 ++ (1 ∷ 0 ∷ 1 ∷ [])))))))))
+    message 7 33 (bytes 4 1 ++ (bytes 4 nobody ++ (bytes 4 second ++ (bytes 4 0
+    ++ (bytes 2 1 ++ (bytes 4 90000 ++ (bytes 4 nobody ++ (bytes 4 0 ++ (1 ∷ 0 ∷ 1 ∷ [])))))))))
 
 -- 02, CR 8: of number 1
 unfoldable pub inquiring : List ℕ
@@ -119,18 +121,50 @@ small (b ∷ l) h = let p = split (ltb b 256) (each l) h in (ltb→lt b 256 (p .
 
 -- what they are computed with
 unfoldable computing : ℕ
-unfolding name message initialise asking inquiring configuring alive room calls heard now told asked waiting airing section request each cardName Lists.place Lists.insertAt Lists.removeAt Bytes.bytes Bytes.value Bytes.valueFrom Reading.readInit Reading.readAlive Reading.tailOf Reading.readWhole Reading.readSplice Reading.muxFrom Reading.readStart Reading.readExtended Reading.read State.empty State.due Records.framed Records.recordBytes Records.output Records.recordIn Records.recordsUpTo Records.recordsIn Ends.andThen Ends.endings Ends.evicted Ends.evictedAt Ends.closedBy Instants.mayStart Instants.meetsEqual Instants.ousted Instants.launched Instants.startAt Instants.endAt Instants.instant Instants.onAir Instants.elapse Instants.run Instants.runAll Instants.silent Instants.silentAll Answers.initResult Answers.answerInit Answers.airState Answers.airID Answers.aliveResponse Answers.startOf Answers.sessionAt Answers.requested Answers.unknownPrior Answers.tooLate Answers.collides Answers.full Answers.spliceResult Answers.inserted Answers.accepted Answers.later Answers.answerSplice Answers.answerRead Answers.answer Calls.writtenBy Calls.named Calls.fresh Calls.openCall Calls.closeCall Calls.framing Calls.handled Calls.messageCall Calls.ticked Calls.moveCall Calls.tickCall Calls.cueCall Calls.call Calls.after History.isYes History.history History.last History.waitAnswered History.waitAfter History.waitReplied History.waitingTold History.waitingCount History.isStart History.isEnd History.front History.othersOf History.startTold History.endAsked History.lastTold Airing.newest Airing.lists Airing.saysPlayed Airing.heard Airing.byThen Airing.heardAll Airing.startAsked Airing.airingAsked Airing.airedAnswered Airing.airedAfter Airing.airedReplied Airing.airings answers firstNumber earlierCode numberOf grantedBy isInitialising initialises changes changed
+unfolding name message initialise asking inquiring configuring alive room calls heard now told asked waiting airing section request each
+    cardName Lists.place Lists.insertAt Lists.removeAt Bytes.bytes Bytes.value Bytes.valueFrom Reading.readInit Reading.readAlive
+    Reading.tailOf Reading.readWhole Reading.readSplice Reading.muxFrom Reading.readStart Reading.readExtended Reading.read State.empty
+    State.due Records.framed Records.recordBytes Records.output Records.recordIn Records.recordsUpTo Records.recordsIn Ends.andThen
+    Ends.endings Ends.evicted Ends.evictedAt Ends.closedBy Instants.mayStart Instants.meetsEqual Instants.ousted Instants.launched
+    Instants.startAt Instants.endAt Instants.instant Instants.onAir Instants.elapse Instants.run Instants.runAll Instants.silent
+    Instants.silentAll Answers.initResult Answers.answerInit Answers.airState Answers.airID Answers.aliveResponse Answers.startOf
+    Answers.sessionAt Answers.requested Answers.unknownPrior Answers.tooLate Answers.collides Answers.full Answers.spliceResult
+    Answers.inserted Answers.accepted Answers.later Answers.answerSplice Answers.answerRead Answers.answer Calls.writtenBy Calls.named
+    Calls.fresh Calls.openCall Calls.closeCall Calls.framing Calls.handled Calls.messageCall Calls.ticked Calls.moveCall Calls.tickCall
+    Calls.cueCall Calls.call Calls.after History.isYes History.history History.last History.waitAnswered History.waitAfter
+    History.waitReplied History.waitingTold History.waitingCount History.isStart History.isEnd History.front History.othersOf
+    History.startTold History.endAsked History.lastTold Airing.newest Airing.lists Airing.saysPlayed Airing.heard Airing.byThen
+    Airing.heardAll Airing.startAsked Airing.airingAsked Airing.airedAnswered Airing.airedAfter Airing.airedReplied Airing.airings answers
+    firstNumber earlierCode numberOf grantedBy isInitialising initialises changes changed
 computing = 0
 
 pub reached : FromFresh heard now
 unfolding computing
 reached =
-    record { name = name; whole = refl; bytes = small name tt; calls = calls; wired = (tt, ((small initialise tt, tt, tt), tt)); heard = refl; same = refl }
+    record {
+      name = name;
+      whole = refl;
+      bytes = small name tt;
+      calls = calls;
+      wired = (tt, ((small initialise tt, tt, tt), tt));
+      heard =
+          refl;
+      same = refl;
+    }
 
 -- 10 s on
 pub asks : Asks 0 (asking 10) room (request 10) now
 unfolding computing
-asks = record { bytes = (small (asking 10) tt, tt, tt); low = refl; roomy = refl; sections = refl; ready = refl; framed = refl; readable = refl }
+asks = record {
+  bytes = (small (asking 10) tt, tt, tt);
+  low = refl;
+  roomy = refl;
+  sections = refl;
+  ready = refl;
+  framed = refl;
+  readable =
+      refl;
+}
 
 pub passes : Passes 0 (request 10) now
 unfolding computing
@@ -139,7 +173,15 @@ passes = record { b = refl; c′ = refl; d = refl }
 -- a second on: 112
 pub late-asks : Asks 0 (asking 1) room (request 1) now
 unfolding computing
-late-asks = record { bytes = (small (asking 1) tt, tt, tt); low = refl; roomy = refl; sections = refl; ready = refl; framed = refl; readable = refl }
+late-asks = record {
+  bytes = (small (asking 1) tt, tt, tt);
+  low = refl;
+  roomy = refl;
+  sections = refl;
+  ready = refl;
+  framed = refl;
+  readable = refl;
+}
 
 pub late : earlierCode 0 (request 1) now ≡ 112
 unfolding computing
@@ -148,7 +190,16 @@ late = refl
 -- 02, CR 8
 pub inquires : Inquires 0 inquiring room 1 now
 unfolding computing
-inquires = record { wired = (small inquiring tt, tt, tt); low = refl; roomy = refl; short = refl; ready = refl; framed = refl; readable = refl }
+inquires = record {
+  wired = (small inquiring tt, tt, tt);
+  low = refl;
+  roomy = refl;
+  short = refl;
+  ready = refl;
+  framed = refl;
+  readable =
+      refl;
+}
 
 -- 02, CR 6: of a connection that is ready
 pub is-ready : Ready 0 now

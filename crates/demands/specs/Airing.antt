@@ -11,14 +11,16 @@ use Rattle.rules.specs.Units.{fromMicros, fromTicks}
 use Rattle.rules.specs.Lists.{bit, some, put}
 use Rattle.rules.specs.Reading.{sessionID, readSplice, dataIn}
 use Rattle.rules.specs.State.{sameNumber}
-use Rattle.rules.specs.Records.{Record, General, InitResponse, AliveResponse, SpliceResponse, SpliceComplete, AbortResponse, ConfigResponse, ExtendedFound, ExtendedNone, CueRequest, recordsIn}
+use Rattle.rules.specs.Records.{Record, General, InitResponse, AliveResponse, SpliceResponse, SpliceComplete, AbortResponse, ConfigResponse}
+use Rattle.rules.specs.Records.{ExtendedFound, ExtendedNone, CueRequest, recordsIn}
 use Rattle.rules.specs.Calls.{Call, opens, closes, messages, ticks, moves, cues}
 use Rattle.demands.specs.History.{Reply, refusal, wrote, Event, isStart, isEnd, grantedIn, othersIn, clockReplied, clockAfter}
 
 -- ## Sessions as calls and answers tell them
 
 -- an accepted session: its AccessType, start and end are the request's; begun: its start was written; over: its end was written, and
--- if it had begun it was over at the time `to` (which means nothing for one that never began); listed: that end was a SpliceComplete flag 1,
+-- if it had begun it was over at the time `to` (which means nothing for one that never began); listed: that end was a SpliceComplete flag
+-- 1,
 -- and said its PlayedDuration
 pub record Airing : Type 0 where
   pub conn : ℕ
@@ -49,7 +51,18 @@ newest c x (a ∷ es) = cond (airingIs c x a) a (newest c x es)
 -- its start was written
 abbrev pub begins : Airing → Airing
 begins a =
-    record { conn = a .conn; id = a .id; access = a .access; start = a .start; end = a .end; begun = true; over = a .over; to = a .to; listed = a .listed; said = a .said }
+    record {
+      conn = a .conn;
+      id = a .id;
+      access = a .access;
+      start = a .start;
+      end = a .end;
+      begun = true;
+      over = a .over;
+      to = a .to;
+      listed = a .listed;
+      said = a .said;
+    }
 
 -- a SpliceComplete flag 1, and its PlayedDuration
 unfoldable pub lists : Record → Bool
@@ -131,7 +144,19 @@ startAsked c (Linked p) es = newest c p es .end
 
 -- accepted, with an AccessType, a start and an end
 abbrev pub granted : (conn id access start end : ℕ) → Airing
-granted c x a t e = record { conn = c; id = x; access = a; start = t; end = e; begun = false; over = false; to = 0; listed = false; said = 0 }
+granted c x a t e = record {
+  conn = c;
+  id = x;
+  access = a;
+  start = t;
+  end = e;
+  begun = false;
+  over = false;
+  to = 0;
+  listed = false;
+  said =
+      0;
+}
 
 -- the session that a Splice_Request asks for: "End is start plus Duration"
 unfoldable pub airingAsked : ℕ → ℕ → Message → List Airing → Airing

@@ -8,7 +8,8 @@ use Rattle.demands.specs.Told.{startedTold}
 use Rattle.demands.specs.Lately.{endsTold}
 use Rattle.demands.specs.Kept.{keptTold}
 
--- what the answers of g tell is what those of h tell: each connection's waiting sessions, the book, the clock, what has started, and so who owned each
+-- what the answers of g tell is what those of h tell: each connection's waiting sessions, the book, the clock, what has started, and so who
+-- owned each
 -- ninth (02, CR 13), what has ended (CR 8) and what each connection keeps (CR 6)
 pub record Alike (h g : List Event) : Type 0 where
   pub waiting : (c : ℕ) → waitingCount c g ≡ waitingCount c h

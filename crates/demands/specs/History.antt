@@ -13,7 +13,8 @@ use Rattle.rules.specs.Units.{timeOf, fromMicros, fromTicks}
 use Rattle.rules.specs.Lists.{put, keep, count}
 use Rattle.rules.specs.Reading.{sessionID, readSplice, dataIn, isSplice}
 use Rattle.rules.specs.State.{Splicer, sameNumber}
-use Rattle.rules.specs.Records.{Record, General, InitResponse, AliveResponse, SpliceResponse, SpliceComplete, AbortResponse, ConfigResponse, ExtendedFound, ExtendedNone, CueRequest, recordsIn}
+use Rattle.rules.specs.Records.{Record, General, InitResponse, AliveResponse, SpliceResponse, SpliceComplete, AbortResponse, ConfigResponse}
+use Rattle.rules.specs.Records.{ExtendedFound, ExtendedNone, CueRequest, recordsIn}
 use Rattle.rules.specs.Calls.{Answer, refused, good, Call, opens, closes, messages, ticks, moves, cues, call, writtenBy}
 
 -- ## Starts and ends among records

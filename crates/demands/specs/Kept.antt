@@ -7,7 +7,8 @@ use lib.Dec.{eqb}
 use Rattle.rules.specs.declared.Framing.the-variants.{Framed}
 use Rattle.rules.specs.Reading.{aliveRequest, configRequest, hardwareIn, dataIn}
 use Rattle.rules.specs.State.{Splicer, noHardware, linkOf, isInitialised}
-use Rattle.rules.specs.Records.{Record, General, InitResponse, AliveResponse, SpliceResponse, SpliceComplete, AbortResponse, ConfigResponse, ExtendedFound, ExtendedNone, CueRequest, recordsIn}
+use Rattle.rules.specs.Records.{Record, General, InitResponse, AliveResponse, SpliceResponse, SpliceComplete, AbortResponse, ConfigResponse}
+use Rattle.rules.specs.Records.{ExtendedFound, ExtendedNone, CueRequest, recordsIn}
 use Rattle.rules.specs.Calls.{noConnection, noRoom, longSection, framing, Loans, Call, opens, closes, messages, ticks, moves, cues}
 use Rattle.rules.specs.Sound.{Wired}
 use Rattle.demands.specs.History.{Reply, refusal, wrote, Event}

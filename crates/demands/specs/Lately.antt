@@ -8,7 +8,8 @@ use Rattle.rules.specs.declared.Past.{Past}
 use Rattle.rules.specs.Units.{toTicks}
 use Rattle.rules.specs.Lists.{keep, count}
 use Rattle.rules.specs.State.{sameNumber, unused}
-use Rattle.rules.specs.Records.{Record, General, InitResponse, AliveResponse, SpliceResponse, SpliceComplete, AbortResponse, CueRequest, ConfigResponse, ExtendedFound, ExtendedNone, recordsIn}
+use Rattle.rules.specs.Records.{Record, General, InitResponse, AliveResponse, SpliceResponse, SpliceComplete, AbortResponse, CueRequest}
+use Rattle.rules.specs.Records.{ConfigResponse, ExtendedFound, ExtendedNone, recordsIn}
 use Rattle.rules.specs.Calls.{Call}
 use Rattle.demands.specs.History.{isEnd, Reply, refusal, wrote, Event, othersOf, Entry, entryIs, eventTold, bookReplied, clockReplied}
 use Rattle.demands.specs.Airing.{Airing, newest, airedReplied, airTime}
@@ -38,7 +39,8 @@ isAnEnd (ExtendedNone c x) = false
 abbrev pub endOf : List Entry → (conn id result played : ℕ) → Told
 endOf es c x r p = record { conn = c; id = x; event = eventTold c x es; result = r; played = p }
 
--- 02, CR 13: of the session that connection c last accepted under the number x, the time on air by the clock now; ss: the sessions accepted so far
+-- 02, CR 13: of the session that connection c last accepted under the number x, the time on air by the clock now; ss: the sessions accepted
+-- so far
 abbrev pub timeSoFar : ℕ → List Airing → ℕ → ℕ → ℕ
 timeSoFar now ss c x = airTime now ss (newest c x ss)
 
@@ -78,7 +80,8 @@ unfoldable pub endedTold : List Event → List Entry → ℕ → List Airing →
 endedTold [] es now ss l = l
 endedTold (e ∷ h) es now ss l =
     let u = clockReplied (e .call) (e .reply) now in
-    endedTold h (bookReplied (e .call) (e .reply) es) u (airedReplied u (e .call) (e .reply) ss) (endedReplied (e .call) (e .reply) es (timeSoFar now ss) l)
+    endedTold h (bookReplied (e .call) (e .reply) es) u (airedReplied u (e .call) (e .reply) ss)
+    (endedReplied (e .call) (e .reply) es (timeSoFar now ss) l)
 
 -- of a history from fresh on, the newest first
 abbrev pub endsTold : List Event → List Told
@@ -88,7 +91,8 @@ endsTold h = endedTold h [] 0 [] []
 abbrev pub ofNumber : ℕ → ℕ → Told → Bool
 ofNumber c x t = sameNumber c x (t .conn) (t .id)
 
--- "answered with the asking connection's latest ended session of that number", "121 with the SessionID alone where none is kept": of the ends l,
+-- "answered with the asking connection's latest ended session of that number", "121 with the SessionID alone where none is kept": of the
+-- ends l,
 -- newest first
 unfoldable pub answerTold : ℕ → ℕ → List Told → Record
 answerTold c x [] = ExtendedNone c x

@@ -9,7 +9,8 @@ use Rattle.demands.specs.History.{Event}
 use Rattle.demands.specs.Told.{isOut}
 use Rattle.demands.specs.Airing.{Airing, saysPlayed, clockTold, primaryTold, timeTold, airTold, numberTold}
 
--- "Between any two points of any sequence of calls, the growth of the time on the primary channel plus that of all sessions' time on air, in
+-- "Between any two points of any sequence of calls, the growth of the time on the primary channel plus that of all sessions' time on air,
+-- in
 -- ninths, equals the clock's advance between them": a history h, and a later one g
 pub record Gapless (h g : List Event) : Type 0 where
   pub primary : primaryTold h ≤ primaryTold g

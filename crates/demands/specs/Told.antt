@@ -17,15 +17,19 @@ use Rattle.rules.specs.Lists.{All, keep, some, count}
 use Rattle.rules.specs.Bytes.{Byte, messageSize, oversize}
 use Rattle.rules.specs.Reading.{averageMux, spliceRequest, extendedRequest, readSplice, readExtended, dataIn}
 use Rattle.rules.specs.State.{Splicer, linkOf, isOpen, isInitialised, unused}
-use Rattle.rules.specs.Records.{Record, General, InitResponse, AliveResponse, SpliceResponse, SpliceComplete, AbortResponse, CueRequest, ExtendedFound, ExtendedNone, ConfigResponse, recordBytes, recordsIn}
+use Rattle.rules.specs.Records.{Record, General, InitResponse, AliveResponse, SpliceResponse, SpliceComplete, AbortResponse, CueRequest}
+use Rattle.rules.specs.Records.{ExtendedFound, ExtendedNone, ConfigResponse, recordBytes, recordsIn}
 use Rattle.rules.specs.Cues.{badSection}
 use Rattle.rules.specs.Answers.{fullBy, firstOf, requested, wrongNumber, tooLate, collides, isPast}
-use Rattle.rules.specs.Calls.{houseNumber, Answer, refused, good, Called, writtenBy, consumedBy, bufferAfter, noConnection, noRoom, notOpen, longSection, fresh, framing, Loans, Call, opens, closes, messages, ticks, moves, cues, after}
-use Rattle.demands.specs.History.{Reply, refusal, wrote, Event, Entry, entryIs, muxTold, startsOf, endsOf, history, grantedIn, waitingCount, tells, othersOf}
+use Rattle.rules.specs.Calls.{houseNumber, Answer, refused, good, Called, writtenBy, consumedBy, bufferAfter, noConnection, noRoom, notOpen}
+use Rattle.rules.specs.Calls.{longSection, fresh, framing, Loans, Call, opens, closes, messages, ticks, moves, cues, after}
+use Rattle.demands.specs.History.{Reply, refusal, wrote, Event, Entry, entryIs, muxTold, startsOf, endsOf, history, grantedIn}
+use Rattle.demands.specs.History.{waitingCount, tells, othersOf}
 use Rattle.rules.specs.Sound.{Wired}
 
 -- "Over all sequences of opens, closes, messages and ticks from a fresh splicer": h, the calls with their answers, and s, the splicer
--- after them. The name has 32 bytes, bytes are bytes and times stay below what four bytes of Seconds hold; nothing else is asked of the calls.
+-- after them. The name has 32 bytes, bytes are bytes and times stay below what four bytes of Seconds hold; nothing else is asked of the
+-- calls.
 pub record FromFresh (h : List Event) (s : Splicer) : Type 0 where
   pub name : List ℕ
   pub whole : length name ≡ 32
@@ -142,7 +146,8 @@ pub record Ended (now : ℕ) (e : Entry) : Type 0 where
 abbrev pub entriesOf : ℕ → List Entry → List Entry
 entriesOf c es = keep (λ e. eqb c (e .conn)) es
 
--- es, the book when connection c has closed, and fs, a later one: c's sessions of then stand in it as they stood, each with its one end, and
+-- es, the book when connection c has closed, and fs, a later one: c's sessions of then stand in it as they stood, each with its one end,
+-- and
 -- whatever was written since counts for newer ones
 pub record Stands (c : ℕ) (es fs : List Entry) : Type 0 where
   pub newer : List Entry
@@ -225,7 +230,8 @@ pub record Inquires (c : ℕ) (l : List ℕ) (loans : Loans) (x : ℕ) (s : Spli
   pub framed : framing l ≡ Framed extendedRequest (messageSize l)
   pub readable : readExtended (dataIn l) ≡ Extended x
 
--- the answer's bytes b are what the list says, newest first: "the asking connection's latest ended session of that number", or "121 with the
+-- the answer's bytes b are what the list says, newest first: "the asking connection's latest ended session of that number", or "121 with
+-- the
 -- SessionID alone" exactly "where none is kept"
 pub record Finds (c x : ℕ) (list : List Past) (b : List ℕ) : Type 0 where
   pub found : (i : ℕ) → i < length list → isPast c x (getD list i unused) ≡ true →

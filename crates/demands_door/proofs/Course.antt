@@ -36,7 +36,8 @@ led-parts (x ∷ h) g b m l = let p = led-parts h g (left (x .seen)) m (l .2) in
 
 seen-same : (m b : List ℕ) (i : Input) (r s : Seen) → Allowed m b i r → Allowed m b i s → r ≡ s
 seen-same m b i r s x y =
-    let p = replies-same _ (see m .ringEnd) (bufferOf i) (r .reply) (r .words) (r .bytes) (r .buffer) (s .reply) (s .words) (s .bytes) (s .buffer) x y in
+    let p = replies-same _ (see m .ringEnd) (bufferOf i) (r .reply) (r .words) (r .bytes) (r .buffer) (s .reply) (s .words) (s .bytes)
+    (s .buffer) x y in
     λ j. record { reply = p .0 j; words = p .1 j; bytes = p .2 j; buffer = p .3 j }
 
 made-same : (i j : Input) (r s : Seen) (h g : List Made) → i ≡ j → r ≡ s → h ≡ g → _≡_ {A = List Made} (made i r ∷ h) (made j s ∷ g)
@@ -81,7 +82,8 @@ module _ (name : List ℕ) where
   trace-same h g m n t u e =
       let b = t .begun in
       let c = u .begun in
-      let s = replies-same (fresh name) 0 [] (t .reply) (b .words) (b .bytes) [] (u .reply) (c .words) (c .bytes) [] (t .fresh) (u .fresh) in
+      let s = replies-same (fresh name) 0 [] (t .reply) (b .words) (b .bytes) [] (u .reply) (c .words) (c .bytes) [] (t .fresh) (u .fresh)
+      in
       let same : b ≡ c = memory-same b c (s .1) (s .2) in
       led-same h g b m n (t .leads) (rw same (u .leads)) e
 

@@ -1,6 +1,7 @@
 -- READ THIS FIRST: the customer's demands as theorems about the calls of `door`, from the words that C sees, each under its sentence. The
 -- only hypothesis is a trace (specs/Driven): fresh, then any calls with any inputs, each result one that the call's contract allows;
--- door/proofs/Cited holds it to the contracts in door/src/lib.rt. Rests on the theorems of the same names in demands_engine. No axiom, no hole.
+-- door/proofs/Cited holds it to the contracts in door/src/lib.rt. Rests on the theorems of the same names in demands_engine. No axiom, no
+-- hole.
 use mathlib.Core.Path.{_≡_, sym, ap, _∙_, subst}
 use mathlib.Core.Bool.{true, false, cond}
 use mathlib.Core.List.{List, [], _∷_, _++_, map}
@@ -38,9 +39,11 @@ use Rattle.demands_engine.specs.Trace as engine
 use Rattle.demands_engine.proofs.Steps.{memory-same}
 use Rattle.demands_engine.proofs.Closed.{not-full, unended-newer}
 use Rattle.demands_engine.proofs.Demands as called
-use Rattle.demands_door.specs.Driven.{left, Made, made, Trace, More, Point, numberIn, number, movedIn, moved, bytesOf, replyIn, events}
+use Rattle.demands_door.specs.Driven.{left, Made, made, Trace, More, Point, numberIn, number, movedIn, moved, bytesOf, replyIn}
+use Rattle.demands_door.specs.Driven.{events}
 use Rattle.demands_door.specs.Driven.{calls, inputs, Answerable, Run, AsRuled, inside, within}
-use Rattle.demands_door.proofs.Inside.{trace-inside, trace-events, more-inside, within-append, calls-inside, call-handed, buffer-handed}
+use Rattle.demands_door.proofs.Inside.{trace-inside, trace-events, more-inside, within-append, calls-inside, call-handed}
+use Rattle.demands_door.proofs.Inside.{buffer-handed}
 use Rattle.demands_door.proofs.Inside.{number-inside, moved-inside, bytes-inside, reply-inside, reply-ruled, allowed-inside}
 use Rattle.door.proofs.Laws.{refused-unchanged}
 use Rattle.door.proofs.Page.{page-shown}
@@ -133,7 +136,8 @@ module _ (name : List ℕ) (h : List Made) (m : Memory) where
   trace-as-ruled t =
       rw (trace-events name h m t, calls-inside h) (called.trace-as-ruled name (within h) m (trace-inside name h m t))
 
-  -- "An accepted request is accepted because the rules accept it; a refused one carries the first result code that applies.": connection d sends
+  -- "An accepted request is accepted because the rules accept it; a refused one carries the first result code that applies.": connection d
+  -- sends
   -- the bytes l, which are a Splice_Request q; the last record in the answer's bytes is the Splice_Response with the code of 01's b to f
   pub first-code-applies : (d : ℕ) (l pm im e : List ℕ) (r : Seen) → More name h m (aMessage d l pm im e) r
       → (q : Request) → Asks d l (lendingMaps pm im (length e)) q (shown m)
@@ -153,7 +157,8 @@ module _ (name : List ℕ) (h : List Made) (m : Memory) where
       rw (bytes-inside (c .allowed))
       (called.earlier-or-passes name (within h) m d l pm im e (inside r) (more-inside name h m (aMessage d l pm im e) r c) q asks)
 
-  -- 02, CR 1: "From here result 110 is no longer met": the result of every record in the answer's bytes, of every call, is one of 100, 102, 103,
+  -- 02, CR 1: "From here result 110 is no longer met": the result of every record in the answer's bytes, of every call, is one of 100, 102,
+  -- 103,
   -- 104, 109, 112, 114, 116, 117, 120, 121, 123, 125; of a Cue_Request 0xFFFF
   pub codes-given : (i : Input) (r : Seen) → More name h m i r → All Coded (recordsIn (bytesOf r))
   codes-given i r c = rw (bytes-inside (c .allowed)) (called.codes-given name (within h) m _ _ (more-inside name h m i r c))
@@ -180,13 +185,15 @@ module _ (name : List ℕ) (h : List Made) (m : Memory) where
     reserved-places-hold few = rw (not-full d (events h) few) at full-exactly-when
 
   -- "No accepted session gets a second end, and each gets exactly one end, at the latest when the clock is brought to its end time or its
-  -- connection closes." 02: "Demand 3's one end now includes these records", those of an equal one's start: flag 1 with 125, Splice_Response 125
+  -- connection closes." 02: "Demand 3's one end now includes these records", those of an equal one's start: flag 1 with 125,
+  -- Splice_Response 125
   pub one-end : Trace name h m → All (Ended (clockAfter (events h) 0)) (book (events h) [])
   one-end t = rw (trace-events name h m t) (called.one-end name (within h) m (trace-inside name h m t))
 
   -- the next call, of any connection d and any number x
   module _ (i : Input) (r : Seen) (c : More name h m i r) (d x : ℕ) where
-    -- An end in its answer's bytes, 125 by an equal one's start among them, a Splice_Request's own answer apart, is of an accepted session that
+    -- An end in its answer's bytes, 125 by an equal one's start among them, a Splice_Request's own answer apart, is of an accepted session
+    -- that
     -- had none: it is neither a second end nor the end of a number that nobody was granted
     pub ends-are-owed : endsOf d x (othersOf (callOf i) (recordsIn (bytesOf r))) ≤ unended d x (book (events h) [])
     ends-are-owed =
@@ -202,7 +209,8 @@ module _ (name : List ℕ) (h : List Made) (m : Memory) where
 
 -- ## The incident
 
--- "An ad server dropped its connection with its spot on air.": after the calls h connection d closes, by a good call, and the calls g follow
+-- "An ad server dropped its connection with its spot on air.": after the calls h connection d closes, by a good call, and the calls g
+-- follow
 module _ (name : List ℕ) (h g : List Made) (m : Memory) (d : ℕ) (e : List ℕ) (r : Seen)
     (t : Trace name (h ++ (made (aClose d e) r ∷ g)) m) (z : number r ≡ 0) where
   -- its sessions of before stand in the book as they stood at the close, each with its one end; newer are those accepted since
@@ -216,7 +224,8 @@ module _ (name : List ℕ) (h g : List Made) (m : Memory) (d : ℕ) (e : List �
       (called.closed-stays-ended name (within h) (within g) m d e (inside r)
       (subst (λ k. engine.Trace name k m) (within-append h (x ∷ g)) (trace-inside name _ m t)) (sym (number-inside (l .1)) ∙ z))
 
-  -- "the completion routine then wrote the old spot's end under the new SessionID": an end of the connection that the next call writes, 125 too,
+  -- "the completion routine then wrote the old spot's end under the new SessionID": an end of the connection that the next call writes, 125
+  -- too,
   -- is of a newer session that has had none
   pub the-incident : (i : Input) (o : Seen) → More name (h ++ (made (aClose d e) r ∷ g)) m i o → (x : ℕ)
       → endsOf d x (othersOf (callOf i) (recordsIn (bytesOf o))) ≤ unended d x (closed-stays-ended .newer)
@@ -249,7 +258,8 @@ module _ (name : List ℕ) (h : List Made) (m : Memory) where
 
   -- "the caller can read that of the one on air, 5 with none": whatever the read's contract allows is what the request asked that was last
   -- accepted under the number on air, taken from the calls and the answers' bytes. So it and Alive_Response's SessionID are of one session
-  pub air-mux-told : Trace name h m → (r : ℕ) → ReadsMux (m .words) (m .bytes) r → r ≡ airMuxTold (shown m .queue .started) (book (events h) [])
+  pub air-mux-told : Trace name h m → (r : ℕ) → ReadsMux (m .words) (m .bytes) r
+      → r ≡ airMuxTold (shown m .queue .started) (book (events h) [])
   air-mux-told t = rw (trace-events name h m t) (called.air-mux-told name (within h) m (trace-inside name h m t))
 
   -- and it is 1 to 10
@@ -259,9 +269,12 @@ module _ (name : List ℕ) (h : List Made) (m : Memory) where
 -- ## Document 02, CR 8
 
 module _ (name : List ℕ) (h : List Made) (m : Memory) where
-  -- "The state now also keeps the last 16 ended sessions .. oldest dropped first": what the words keep is, newest first, the first 16 of the ends
-  -- that the answers' bytes tell: connection, SessionID and result of each end record, the SpliceEventID of the request that its connection last had
-  -- accepted under that SessionID, and the PlayedDuration of the record, or where it shows none of the time on air, counted from the history as
+  -- "The state now also keeps the last 16 ended sessions .. oldest dropped first": what the words keep is, newest first, the first 16 of
+  -- the ends
+  -- that the answers' bytes tell: connection, SessionID and result of each end record, the SpliceEventID of the request that its connection
+  -- last had
+  -- accepted under that SessionID, and the PlayedDuration of the record, or where it shows none of the time on air, counted from the
+  -- history as
   -- CR 13 counts it: 0 where the start was never written
   pub kept-as-told : Trace name h m → KeptAs (recent (shown m .queue .lately)) (endsTold (events h))
   kept-as-told t = rw (trace-events name h m t) (called.kept-as-told name (within h) m (trace-inside name h m t))
@@ -271,13 +284,15 @@ module _ (name : List ℕ) (h : List Made) (m : Memory) where
   one-kept-for-each t = rw (trace-events name h m t) (called.one-kept-for-each name (within h) m (trace-inside name h m t))
 
 -- the next message, from whatever connection d, which asks by an ExtendedData_Request for the number x
-module _ (name : List ℕ) (h : List Made) (m : Memory) (d : ℕ) (l pm im e : List ℕ) (r : Seen) (c : More name h m (aMessage d l pm im e) r) (x : ℕ)
+module _ (name : List ℕ) (h : List Made) (m : Memory) (d : ℕ) (l pm im e : List ℕ) (r : Seen) (c : More name h m (aMessage d l pm im e) r)
+    (x : ℕ)
     (asks : Inquires d l (lendingMaps pm im (length e)) x (shown m)) where
   -- "answered with the asking connection's latest ended session of that number", "121 .. where none is kept": whatever the call's contract
   -- allows is the first of what ended lately, newest first, with that connection and number, or 121 exactly when there is none
   pub extended-answered : Finds d x (recent (shown m .queue .lately)) (bytesOf r)
   extended-answered =
-      rw (bytes-inside (c .allowed)) (called.extended-answered name (within h) m d l pm im e (inside r) (more-inside name h m (aMessage d l pm im e) r c) x asks)
+      rw (bytes-inside (c .allowed)) (called.extended-answered name (within h) m d l pm im e (inside r)
+      (more-inside name h m (aMessage d l pm im e) r c) x asks)
 
   -- and so, of the sixteen latest ends that the answers' bytes tell, the first with that connection and number, or 121
   pub extended-told : recordsIn (bytesOf r) ≡ answerTold d x (take mostKept (endsTold (events h))) ∷ []
@@ -286,20 +301,25 @@ module _ (name : List ℕ) (h : List Made) (m : Memory) (d : ℕ) (l pm im e : L
       (called.extended-told name (within h) m d l pm im e (inside r) (more-inside name h m (aMessage d l pm im e) r c) x asks)
 
 module _ (name : List ℕ) (h : List Made) (m : Memory) (t : Trace name h m) where
-  -- "For the desk's page the caller lends sixteen rows and they are filled from the newest down": whatever the page's contract allows, lent the
+  -- "For the desk's page the caller lends sixteen rows and they are filled from the newest down": whatever the page's contract allows, lent
+  -- the
   -- words in which what ended is kept. That list is the one of the answers
   pub page-read : (lent : List Row) {n : ℕ} {a : List Row} → length lent ≡ rows → Pages (lateOf (m .words)) lent n a →
       (n ≡ 0) × (a ≡ rowsOf (shown m .queue .lately))
   page-read lent k p =
-      let w = trace-lent name (within h) m (trace-inside name h m t) in
-      (page-filled (lateOf (m .words)) lent k p .0, page-shown (m .words) (w .whole .words) (reached-sound (shown m) (w .reached) .lately) lent k p)
+      let w = trace-lent name (within h) m (trace-inside name h m t) in (
+        page-filled (lateOf (m .words)) lent k p .0,
+        page-shown (m .words) (w .whole .words) (reached-sound (shown m) (w .reached) .lately)
+            lent k p,
+      )
 
 -- ## Document 02, CR 10
 
 module _ (name : List ℕ) (h : List Made) (m : Memory) where
   -- "Keep the waiting sessions ordered by start": those that the waiting words hold, first place first, rise strictly in start, and each
   -- starts after the clock
-  pub waiting-in-order : Trace name h m → Sorted (shown m .queue .waiting) × All (λ s. shown m .clock < s .start .0) (shown m .queue .waiting)
+  pub waiting-in-order : Trace name h m → Sorted (shown m .queue .waiting) × All (λ s. shown m .clock < s .start .0)
+      (shown m .queue .waiting)
   waiting-in-order t = called.waiting-in-order name (within h) m (trace-inside name h m t)
 
   -- so the first of them is the next start of all
@@ -315,7 +335,8 @@ module _ (name : List ℕ) (h : List Made) (m : Memory) where
 -- ## Document 02, CR 11
 
 module _ (name : List ℕ) (h : List Made) (m : Memory) where
-  -- "Report that number with the call. [..] A request not accepted reports 0.": and so does every call that is no Splice_Request answered with
+  -- "Report that number with the call. [..] A request not accepted reports 0.": and so does every call that is no Splice_Request answered
+  -- with
   -- 100; fresh too
   pub fresh-unmoved : (t : Trace name h m) → movedIn (t .reply) ≡ 0
   fresh-unmoved t = moved-inside (t .fresh) ∙ called.fresh-unmoved name (within h) m (trace-inside name h m t)
@@ -331,36 +352,40 @@ module _ (name : List ℕ) (h : List Made) (m : Memory) where
 
   -- connection d sends the bytes l, which are a Splice_Request q, and the last record in the answer's bytes is its 100
   module _ (d : ℕ) (l pm im e : List ℕ) (r : Seen) (c : More name h m (aMessage d l pm im e) r) (q : Request)
-      (asks : Asks d l (lendingMaps pm im (length e)) q (shown m)) (yes : ownAnswer (answers 100 d (q .id)) (recordsIn (bytesOf r)) ≡ true) where
-    abbrev start : ℕ
-    start = requested d q (shown m .queue) .start .0
+      (asks : Asks d l (lendingMaps pm im (length e)) q (shown m)) (yes : ownAnswer (answers 100 d (q .id)) (recordsIn (bytesOf r)) ≡ true)
+    where
+      abbrev start : ℕ
+      start = requested d q (shown m .queue) .start .0
 
-    granted : ownAnswer (answers 100 d (q .id)) (recordsIn (engine.bytesOf (inside r))) ≡ true
-    granted = rw (bytes-inside (c .allowed)) at yes
+      granted : ownAnswer (answers 100 d (q .id)) (recordsIn (engine.bytesOf (inside r))) ≡ true
+      granted = rw (bytes-inside (c .allowed)) at yes
 
-    -- "It equals the waiting sessions, after any eviction, whose start is later than the new one's": of those that wait after the call
-    pub moved-is-later : moved r ≡ count (startsAfter start) (shown (left r) .queue .waiting)
-    moved-is-later =
-        moved-inside (c .allowed)
-        ∙ called.moved-is-later name (within h) m d l pm im e (inside r) (more-inside name h m (aMessage d l pm im e) r c) q asks granted
+      -- "It equals the waiting sessions, after any eviction, whose start is later than the new one's": of those that wait after the call
+      pub moved-is-later : moved r ≡ count (startsAfter start) (shown (left r) .queue .waiting)
+      moved-is-later =
+          moved-inside (c .allowed)
+          ∙ called.moved-is-later name (within h) m d l pm im e (inside r) (more-inside name h m (aMessage d l pm im e) r c) q asks granted
 
-    -- "how many places an acceptance shifts": where it evicts nobody, of the lent places, from the ring's new end on, all but the last
-    -- `moved` and its own hold what they held
-    pub places-stay : some (startsAt start) (shown m .queue .waiting) ≡ false
-        → let k = next (see (m .words) .ringEnd) in
-        take (round - (moved r + 1)) (placesFrom k (r .words)) ≡ take (round - (moved r + 1)) (placesFrom k (m .words))
-    places-stay free =
-        rw (moved-inside (c .allowed))
-        (called.places-stay name (within h) m d l pm im e (inside r) (more-inside name h m (aMessage d l pm im e) r c) q asks granted free)
+      -- "how many places an acceptance shifts": where it evicts nobody, of the lent places, from the ring's new end on, all but the last
+      -- `moved` and its own hold what they held
+      pub places-stay : some (startsAt start) (shown m .queue .waiting) ≡ false
+          → let k = next (see (m .words) .ringEnd) in
+          take (round - (moved r + 1)) (placesFrom k (r .words)) ≡ take (round - (moved r + 1)) (placesFrom k (m .words))
+      places-stay free =
+          rw (moved-inside (c .allowed))
+          (called.places-stay name (within h) m d l pm im e (inside r) (more-inside name h m (aMessage d l pm im e) r c) q asks granted
+          free)
 
 -- ## Document 02, CR 13
 
 module _ (name : List ℕ) (h : List Made) (m : Memory) where
-  -- "Every moment belongs to someone.": primary time, "counted from the history, as the time in which no session was started and unended", and
+  -- "Every moment belongs to someone.": primary time, "counted from the history, as the time in which no session was started and unended",
+  -- and
   -- each session's, "the time in which it had the highest AccessType of those started and unended", in ninths, add up to the clock
   pub every-moment : Trace name h m → primaryTold (events h) + airTold (events h) ≡ clockTold (events h)
   every-moment t =
-      subst (λ (e : List Event). primaryTold e + airTold e ≡ clockTold e) (sym (trace-events name h m t)) (called.every-moment name (within h) m (trace-inside name h m t))
+      subst (λ (e : List Event). primaryTold e + airTold e ≡ clockTold e) (sym (trace-events name h m t))
+      (called.every-moment name (within h) m (trace-inside name h m t))
 
   -- "The sums that the engine itself keeps [..] and a primary sum it keeps from now on are shown equal to these": the primary word
   pub primary-kept : Trace name h m → see (m .words) .primary ≡ primaryTold (events h)
@@ -380,12 +405,14 @@ module _ (name : List ℕ) (h : List Made) (m : Memory) where
   pub waiting-played-none : Trace name h m → All (λ u. u .played .0 ≡ 0) (shown m .queue .waiting)
   waiting-played-none t = called.waiting-played-none name (within h) m (trace-inside name h m t)
 
-  -- "from which PlayedDuration is rounded", from bytes alone: each SpliceComplete flag 1 in the next answer has as PlayedDuration its session's time,
+  -- "from which PlayedDuration is rounded", from bytes alone: each SpliceComplete flag 1 in the next answer has as PlayedDuration its
+  -- session's time,
   -- counted from the history with this call, divided by 100 and rounded down
   pub played-as-counted : (i : Input) (r : Seen) → More name h m i r → PlayedAs (events (h ++ (made i r ∷ []))) (recordsIn (bytesOf r))
   played-as-counted i r c =
       let g = made i r ∷ [] in
-      subst (λ (e : List Event). PlayedAs e (recordsIn (bytesOf r))) (sym (trace-events name _ _ (trace-more name h m i r c) ∙ ap engine.events (within-append h g)))
+      subst (λ (e : List Event). PlayedAs e (recordsIn (bytesOf r)))
+      (sym (trace-events name _ _ (trace-more name h m i r c) ∙ ap engine.events (within-append h g)))
       (subst (λ (l : List ℕ). PlayedAs (engine.events (within h ++ within g)) (recordsIn l)) (sym (bytes-inside (c .allowed)))
       (called.played-as-counted name (within h) m _ _ (more-inside name h m i r c)))
 
@@ -406,7 +433,8 @@ module _ (name : List ℕ) (h g : List Made) (m : Memory) (t : Trace name (h ++ 
   both : engine.Trace name (within h ++ within g) m
   both = subst (λ k. engine.Trace name k m) (within-append h g) (trace-inside name (h ++ g) m t)
 
-  -- "the growth of the time on the primary channel plus that of all sessions' time on air, in ninths, equals the clock's advance between them"
+  -- "the growth of the time on the primary channel plus that of all sessions' time on air, in ninths, equals the clock's advance between
+  -- them"
   pub no-gap : Gapless (events h) (events (h ++ g))
   no-gap = rw (first, second) (called.no-gap name (within h) (within g) m both)
 
@@ -420,28 +448,35 @@ module _ (name : List ℕ) (h g : List Made) (m : Memory) (t : Trace name (h ++ 
 module _ (name : List ℕ) (h : List Made) (m : Memory) (l g e : List ℕ) (r : Seen) (c : More name h m (aCue l g e) r) where
   -- "It reads the connections' states and changes nothing": the lent words and bytes are after it what they were, also when it is good
   pub cue-changes-nothing : left r ≡ m
-  cue-changes-nothing = called.cue-changes-nothing name (within h) m l (ptsOf g) (getD g 2 0) (getD g 3 0) e (inside r) (more-inside name h m (aCue l g e) r c)
+  cue-changes-nothing = called.cue-changes-nothing name (within h) m l (ptsOf g) (getD g 2 0) (getD g 3 0) e (inside r)
+      (more-inside name h m (aCue l g e) r c)
 
-  -- no record of it is a start, an end or an own answer: the waiting counts, the book, the clock, what has started, who owned each ninth, what
+  -- no record of it is a start, an end or an own answer: the waiting counts, the book, the clock, what has started, who owned each ninth,
+  -- what
   -- has ended and what is kept, from the answers, are with it what they were without it
   pub cue-counts-nothing : Alike (events h) (events (h ++ (made (aCue l g e) r ∷ [])))
   cue-counts-nothing =
       let one = made (aCue l g e) r ∷ [] in
       subst (λ (x : List Event). Alike x (events (h ++ one))) (sym (trace-events name h m (c .trace)))
-      (subst (λ (x : List Event). Alike (engine.events (within h)) x) (sym (trace-events name _ _ (trace-more name h m (aCue l g e) r c) ∙ ap engine.events (within-append h one)))
-      (called.cue-counts-nothing name (within h) m l (ptsOf g) (getD g 2 0) (getD g 3 0) e (inside r) (more-inside name h m (aCue l g e) r c)))
+      (subst (λ (x : List Event). Alike (engine.events (within h)) x)
+      (sym (trace-events name _ _ (trace-more name h m (aCue l g e) r c) ∙ ap engine.events (within-append h one)))
+      (called.cue-counts-nothing name (within h) m l (ptsOf g) (getD g 2 0) (getD g 3 0) e (inside r)
+      (more-inside name h m (aCue l g e) r c)))
 
   -- of a good one: "to every initialised connection, from 0 upward", each once, and to no other
   pub cue-to-whom : number r ≡ 0 → map connOf (recordsIn (bytesOf r)) ≡ concerned (readCue l) (shown m)
   cue-to-whom n =
       rw (bytes-inside (c .allowed))
-      (called.cue-to-whom name (within h) m l (ptsOf g) (getD g 2 0) (getD g 3 0) e (inside r) (more-inside name h m (aCue l g e) r c) (sym (number-inside (c .allowed)) ∙ n))
+      (called.cue-to-whom name (within h) m l (ptsOf g) (getD g 2 0) (getD g 3 0) e (inside r) (more-inside name h m (aCue l g e) r c)
+      (sym (number-inside (c .allowed)) ∙ n))
 
   -- and which records those are: 117 for a bad section, else the Cue_Request with the cue's time
-  pub cue-records : number r ≡ 0 → recordsIn (bytesOf r) ≡ cueRecords (readCue l) (cueTime (ptsOf g) (getD g 2 0) (getD g 3 0) (readCue l)) l (initialisedOnes (shown m .links))
+  pub cue-records : number r ≡ 0 → recordsIn (bytesOf r) ≡ cueRecords (readCue l) (cueTime (ptsOf g) (getD g 2 0) (getD g 3 0) (readCue l))
+      l (initialisedOnes (shown m .links))
   cue-records n =
       rw (bytes-inside (c .allowed))
-      (called.cue-records name (within h) m l (ptsOf g) (getD g 2 0) (getD g 3 0) e (inside r) (more-inside name h m (aCue l g e) r c) (sym (number-inside (c .allowed)) ∙ n))
+      (called.cue-records name (within h) m l (ptsOf g) (getD g 2 0) (getD g 3 0) e (inside r) (more-inside name h m (aCue l g e) r c)
+      (sym (number-inside (c .allowed)) ∙ n))
 
   -- "the whole section as it came": each Cue_Request's bytes from the 19th on
   pub cue-whole : All (Carries l) (recordsIn (bytesOf r))
@@ -452,7 +487,8 @@ module _ (name : List ℕ) (h : List Made) (m : Memory) (l g e : List ℕ) (r : 
 -- ## Document 02, CR 6
 
 module _ (name : List ℕ) (h : List Made) (m : Memory) where
-  -- "Keep Hardware_Config per connection": what is kept is what the calls and the answers' bytes tell, the structure of the connection's latest
+  -- "Keep Hardware_Config per connection": what is kept is what the calls and the answers' bytes tell, the structure of the connection's
+  -- latest
   -- Init_Request whose answer was Init_Response 100, since it was opened
   pub kept-told : Trace name h m → (d : ℕ) → hardwareOf d (shown m) ≡ keptTold d (events h)
   kept-told t d = called.kept-told name (within h) m (trace-inside name h m t) d ∙ ap (keptTold d) (sym (trace-events name h m t))
@@ -461,12 +497,14 @@ module _ (name : List ℕ) (h : List Made) (m : Memory) where
   -- channel's program map section.": of an initialised connection, the answer is that one record
   pub config-told : (d : ℕ) (l pm im e : List ℕ) (r : Seen) → More name h m (aMessage d l pm im e) r
       → AsksConfig d l (lendingMaps pm im (length e)) (shown m) → Ready d (shown m)
-      → recordsIn (bytesOf r) ≡ ConfigResponse d 100 (shown m .name) (keptTold d (events h)) (sectionOf (lendingMaps pm im (length e)) (shown m)) ∷ []
+      → recordsIn (bytesOf r) ≡ ConfigResponse d 100 (shown m .name) (keptTold d (events h))
+      (sectionOf (lendingMaps pm im (length e)) (shown m)) ∷ []
   config-told d l pm im e r c asks ready =
       rw (bytes-inside (c .allowed), trace-events name h m (c .trace))
       (called.config-told name (within h) m d l pm im e (inside r) (more-inside name h m (aMessage d l pm im e) r c) asks ready)
 
-  -- "Our card passes the map of the feed that is on air": the insertion's exactly where an Alive_Request in its place is answered with State 2
+  -- "Our card passes the map of the feed that is on air": the insertion's exactly where an Alive_Request in its place is answered with
+  -- State 2
   pub section-told : (d : ℕ) (l pm im e : List ℕ) (r : Seen) → More name h m (aMessage d l pm im e) r
       → AsksAlive d l (lendingMaps pm im (length e)) (shown m) → Ready d (shown m)
       → (loans : Loans) → sectionOf loans (shown m) ≡ cond (eqb (stateIn (recordsIn (bytesOf r))) 2) (loans .insertion) (loans .primary)
@@ -475,7 +513,8 @@ module _ (name : List ℕ) (h : List Made) (m : Memory) where
       (called.section-told name (within h) m d l pm im e (inside r) (more-inside name h m (aMessage d l pm im e) r c) asks ready loans)
 
   -- what C is told of it, 0 or 1, is whose section that is
-  pub section-read : (r : ℕ) → ReadsFeed (m .words) (m .bytes) r → (loans : Loans) → sectionOf loans (shown m) ≡ cond (eqb r 0) (loans .primary) (loans .insertion)
+  pub section-read : (r : ℕ) → ReadsFeed (m .words) (m .bytes) r → (loans : Loans)
+      → sectionOf loans (shown m) ≡ cond (eqb r 0) (loans .primary) (loans .insertion)
   section-read = called.section-read name (within h) m
 
   -- "A later Init that gets 100 replaces it; close forgets it.": nothing else changes what a connection keeps
@@ -485,7 +524,8 @@ module _ (name : List ℕ) (h : List Made) (m : Memory) where
       called.nothing-else-changes name (within h) m _ _ (more-inside name h m i r c) d (rw (call-handed i, reply-inside (c .allowed)) at e)
 
   -- "close forgets it": after a good close the connection's 256 bytes are zero
-  pub close-forgets : (d : ℕ) (e : List ℕ) (r : Seen) → More name h m (aClose d e) r → number r ≡ 0 → keptBytes d (r .bytes) ≡ replicate longestHardware 0
+  pub close-forgets : (d : ℕ) (e : List ℕ) (r : Seen) → More name h m (aClose d e) r → number r ≡ 0
+      → keptBytes d (r .bytes) ≡ replicate longestHardware 0
   close-forgets d e r c z =
       called.close-forgets name (within h) m d e (inside r) (more-inside name h m (aClose d e) r c) (sym (number-inside (c .allowed)) ∙ z)
 

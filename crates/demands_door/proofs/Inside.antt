@@ -8,7 +8,8 @@ use native.Mathlib.Omega.{arith}
 use lib.Dec.{eqb}
 use lib.ListN.{take}
 use Rattle.rules.specs.declared.Refusal.{Refusal}
-use Rattle.rules.specs.declared.Refusal.the-variants.{NoConnection, NoRoom, ClockBack, Oversize, Short, AlreadyOpen, NotOpen, BadMicros, BadName, Counter, LongSection, BadSection, NotSixteen}
+use Rattle.rules.specs.declared.Refusal.the-variants.{NoConnection, NoRoom, ClockBack, Oversize, Short, AlreadyOpen, NotOpen, BadMicros}
+use Rattle.rules.specs.declared.Refusal.the-variants.{BadName, Counter, LongSection, BadSection, NotSixteen}
 use Rattle.rules.specs.Calls as rules
 use Rattle.rules.specs.Calls.{refused, good, Called, call, houseNumber, consumedBy, writtenBy}
 use Rattle.rules.proofs.All.{at-all}
@@ -20,7 +21,8 @@ use Rattle.door.specs.Door.{replyOf, Replies, Input, anOpen, aClose, aMessage, 
 use Rattle.door.proofs.Laws.{reply-is}
 use Rattle.demands_engine.specs.Trace.{Memory}
 use Rattle.demands_engine.specs.Trace as engine
-use Rattle.demands_door.specs.Driven.{left, Made, made, Leads, Trace, More, numberIn, writtenIn, movedIn, number, refusals, refusalAmong, replyIn, eventOf, events, calls, wordsOf, handed, answerIn, inside, within}
+use Rattle.demands_door.specs.Driven.{left, Made, made, Leads, Trace, More, numberIn, writtenIn, movedIn, number, refusals}
+use Rattle.demands_door.specs.Driven.{refusalAmong, replyIn, eventOf, events, calls, wordsOf, handed, answerIn, inside, within}
 
 -- ## The reply's words
 

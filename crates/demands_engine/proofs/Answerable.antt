@@ -51,16 +51,26 @@ within false at h = h
 
 answered : (c : Called) (at : ℕ) (e : List ℕ) → at < round → Reached (c .splicer)
     → let k = lent.shifted (c .accepted) at in
-    Answers c at e (answerOf (c .answer) (c .moved)) (stood (seen k (c .splicer))) (standing (c .splicer .name) (c .splicer .hardware)) (bufferAfter (c .answer) e)
+    Answers c at e (answerOf (c .answer) (c .moved)) (stood (seen k (c .splicer))) (standing (c .splicer .name) (c .splicer .hardware))
+    (bufferAfter (c .answer) e)
 answered c at e low r =
     let s = c .splicer in
     let k = lent.shifted (c .accepted) at in
     let x = reached-sound s r in
     let w = stood-now (seen k s) (x .linking .four) (few-wait (x .holding)) (few-started (x .holding))
-    (waiting-of-four (s .clock) (s .queue) (x .holding)) (within (c .accepted) at low) (all-flagged (s .clock) (s .queue) (x .holding)) (x .lately .sixteen) (x .lately .next) in
-    let b = stands (s .name) (s .hardware) (x .linking .zeros) (omega (arith, x .linking .short)) (x .linking .keeping) (x .linking .kept) in
+    (waiting-of-four (s .clock) (s .queue) (x .holding)) (within (c .accepted) at low) (all-flagged (s .clock) (s .queue) (x .holding))
+    (x .lately .sixteen) (x .lately .next) in
+    let b = stands (s .name) (s .hardware) (x .linking .zeros) (omega (arith, x .linking .short)) (x .linking .keeping) (x .linking .kept)
+    in
     let same : shown (memoryOf k s) ≡ s =
-    λ i. record { name = b .name i; clock = w .is i .clock; primary = w .is i .primary; links = w .is i .links; hardware = b .kept i; queue = w .is i .queue } in
+    λ i. record {
+      name = b .name i;
+      clock = w .is i .clock;
+      primary = w .is i .primary;
+      links = w .is i .links;
+      hardware = b .kept i;
+      queue = w .is i .queue;
+    } in
     record {
       lent = record {
         whole = record { words = w .form; bytes = b .stored };

@@ -33,7 +33,8 @@ use Rattle.engine.proofs.waiting as waiting
 use Rattle.engine.proofs.primary as primary
 use Rattle.engine.proofs.mux as mux
 use Rattle.engine.proofs.on_air as airing
-use Rattle.demands_engine.specs.Trace.{Memory, shown, Input, anOpen, aClose, aMessage, aTick, aMove, aCue, Typed, callOf, bufferOf, Allowed}
+use Rattle.demands_engine.specs.Trace.{Memory, shown, Input, anOpen, aClose, aMessage, aTick, aMove, aCue, Typed, callOf, bufferOf}
+use Rattle.demands_engine.specs.Trace.{Allowed}
 use Rattle.demands_engine.specs.Trace.{Result, Run}
 use Rattle.demands_engine.proofs.Course.{LentAt}
 use Rattle.demands_engine.proofs.Answerable.{runs}
@@ -94,7 +95,8 @@ module _ {M : Type 1} (𝓤 : URA M) (H : Heap 𝓤) (A : Atoms 𝓤) (mem : sto
     message-requires = refl
 
     pub message-ensures : message.clauses 𝓤 H A mem run κs a .ensures tt r z
-        ≡ ⌜ Allowed message-at (aMessage (a .1 .1 .0) (now (a .1 .1 .1 .0)) (now (a .1 .1 .1 .1 .0)) (now (a .1 .1 .1 .1 .1 .0)) (now (a .1 .1 .1 .1 .1 .1 .0)))
+        ≡ ⌜ Allowed message-at (aMessage (a .1 .1 .0) (now (a .1 .1 .1 .0)) (now (a .1 .1 .1 .1 .0)) (now (a .1 .1 .1 .1 .1 .0))
+        (now (a .1 .1 .1 .1 .1 .1 .0)))
         (ended r (now (z .0)) (now (z .1 .0)) (now (z .1 .1 .1 .1 .1 .1 .0))) ⌝
     message-ensures = refl
 
@@ -133,7 +135,8 @@ module _ {M : Type 1} (𝓤 : URA M) (H : Heap 𝓤) (A : Atoms 𝓤) (mem : sto
     cue-requires = refl
 
     pub cue-ensures : cue.clauses 𝓤 H A mem run κs a .ensures tt r z
-        ≡ ⌜ Allowed cue-at (aCue (now (a .1 .1 .0)) (a .1 .1 .1 .0 .pts) (a .1 .1 .1 .0 .seconds) (a .1 .1 .1 .0 .micros) (now (a .1 .1 .1 .1 .0)))
+        ≡ ⌜ Allowed cue-at (aCue (now (a .1 .1 .0)) (a .1 .1 .1 .0 .pts) (a .1 .1 .1 .0 .seconds) (a .1 .1 .1 .0 .micros)
+        (now (a .1 .1 .1 .1 .0)))
         (ended r (now (a .0)) (now (a .1 .0)) (now (z .1 .1 .1 .1 .0))) ⌝
     cue-ensures = refl
 
@@ -172,7 +175,8 @@ module _ {M : Type 1} (𝓤 : URA M) (H : Heap 𝓤) (A : Atoms 𝓤) (mem : sto
 -- ## What Allowed says is of the call `callOf`
 
 pub called : (m : Memory) (i : Input) (r : Result)
-    → Allowed m i r ≡ Answers (call (callOf i) (shown m)) (see (m .words) .ringEnd) (bufferOf i) (r .answer) (r .memory .words) (r .memory .bytes) (r .buffer)
+    → Allowed m i r ≡ Answers (call (callOf i) (shown m)) (see (m .words) .ringEnd) (bufferOf i) (r .answer) (r .memory .words)
+    (r .memory .bytes) (r .buffer)
 unfolding call
 called m (anOpen conn) r = refl
 called m (aClose conn e) r = refl

@@ -13,7 +13,8 @@ use Rattle.engine.specs.Lent.{Lent}
 use Rattle.engine.proofs.Laws.{answers-same, fresh-refused}
 use Rattle.demands.specs.Told.{FromFresh}
 use Rattle.demands.proofs.Refusals as refusals
-use Rattle.demands_engine.specs.Trace.{Memory, emptyMemory, shown, Input, Typed, callOf, Result, Allowed, Made, made, Leads, Trace, More, Point, eventOf, events, calls, inputs, numberIn}
+use Rattle.demands_engine.specs.Trace.{Memory, emptyMemory, shown, Input, Typed, callOf, Result, Allowed, Made, made, Leads, Trace}
+use Rattle.demands_engine.specs.Trace.{More, Point, eventOf, events, calls, inputs, numberIn}
 use Rattle.demands_engine.proofs.Steps.{wired, promised, replied, number-read, memory-same, step-same}
 
 event-same : (k : Call) (x y : Reply) (h g : List Event) → x ≡ y → h ≡ g

@@ -1,4 +1,5 @@
--- 02, CR 7, of one cue call: the memory stays. Rests on demands' Cued and on memory's memory-same: what two memories show and where their rings end
+-- 02, CR 7, of one cue call: the memory stays. Rests on demands' Cued and on memory's memory-same: what two memories show and where their
+-- rings end
 -- determines their words and bytes.
 use mathlib.Core.Path.{_≡_, ap, _∙_}
 use mathlib.Core.List.{List}

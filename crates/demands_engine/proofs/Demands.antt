@@ -1,5 +1,7 @@
--- The customer's demands as theorems about the calls of `engine`, each under its sentence; proofs/Demands of demands_door has them of the calls
--- for C, that of demands_rolling of the rolling card's, in the same words (tools/theorems.sh). The only hypothesis is a trace (specs/Trace): fresh,
+-- The customer's demands as theorems about the calls of `engine`, each under its sentence; proofs/Demands of demands_door has them of the
+-- calls
+-- for C, that of demands_rolling of the rolling card's, in the same words (tools/theorems.sh). The only hypothesis is a trace
+-- (specs/Trace): fresh,
 -- then any calls with any inputs, each result one that the call's contract allows; proofs/Cited holds it to the contracts in
 -- engine/src/lib.rt. No axiom, no hole.
 use mathlib.Core.Path.{_≡_, refl, sym, ap, subst, _∙_}
@@ -44,11 +46,14 @@ use Rattle.demands.proofs.Moved as shifting
 use Rattle.demands.proofs.Owners as owners
 use Rattle.demands.proofs.Said as said
 use Rattle.demands.proofs.Kept as kept
-use Rattle.demands_engine.specs.Trace.{Memory, emptyMemory, shown, Input, anOpen, aClose, aMessage, aCue, Typed, callOf, bufferOf, Result}
-use Rattle.demands_engine.specs.Trace.{Allowed, Made, made, Leads, Trace, More, Point, numberIn, number, movedIn, moved, bytesOf, replyIn}
+use Rattle.demands_engine.specs.Trace.{Memory, emptyMemory, shown, Input, anOpen, aClose, aMessage, aCue, Typed, callOf, bufferOf}
+use Rattle.demands_engine.specs.Trace.{Result}
+use Rattle.demands_engine.specs.Trace.{Allowed, Made, made, Leads, Trace, More, Point, numberIn, number, movedIn, moved, bytesOf}
+use Rattle.demands_engine.specs.Trace.{replyIn}
 use Rattle.demands_engine.specs.Trace.{events, calls, inputs, Answerable, Run, AsRuled}
 use Rattle.demands_engine.proofs.Steps.{wired, promised, as-ruled, replied, number-is, number-first, unchanged}
-use Rattle.demands_engine.proofs.Course.{events-append, led-wired, led-heard, trace-lent, trace-history, trace-told, trace-more, trace-point}
+use Rattle.demands_engine.proofs.Course.{events-append, led-wired, led-heard, trace-lent, trace-history, trace-told, trace-more}
+use Rattle.demands_engine.proofs.Course.{trace-point}
 use Rattle.demands_engine.proofs.Course.{trace-same, fresh-number, fresh-empty}
 use Rattle.demands_engine.proofs.Closed.{not-full, closed-stands, unended-newer}
 use Rattle.demands_engine.proofs.Kept.{close-low, forgotten}
@@ -128,7 +133,8 @@ module _ (name : List ℕ) (h : List Made) (m : Memory) where
       → (events h ≡ history (calls h) (fresh name .splicer)) × (shown m ≡ after (calls h) (fresh name .splicer))
   trace-as-ruled = trace-history name h m
 
-  -- "An accepted request is accepted because the rules accept it; a refused one carries the first result code that applies.": connection d sends
+  -- "An accepted request is accepted because the rules accept it; a refused one carries the first result code that applies.": connection d
+  -- sends
   -- the bytes l, which are a Splice_Request q; the last record in the answer's bytes is the Splice_Response with the code of 01's b to f
   pub first-code-applies : (d : ℕ) (l pm im e : List ℕ) (r : Result) → More name h m (aMessage d l pm im e) r
       → (q : Request) → Asks d l (lendingMaps pm im (length e)) q (shown m)
@@ -148,11 +154,13 @@ module _ (name : List ℕ) (h : List Made) (m : Memory) where
       rw (as-ruled m (aMessage d l pm im e) r (c .allowed) .bytes)
       (told.earlier-or-passes (events h) (shown m) (trace-told name h m (c .trace)) d l (lendingMaps pm im (length e)) q asks)
 
-  -- 02, CR 1: "From here result 110 is no longer met": the result of every record in the answer's bytes, of every call, is one of 100, 102, 103,
+  -- 02, CR 1: "From here result 110 is no longer met": the result of every record in the answer's bytes, of every call, is one of 100, 102,
+  -- 103,
   -- 104, 109, 112, 114, 116, 117, 120, 121, 123, 125; of a Cue_Request 0xFFFF
   pub codes-given : (i : Input) (r : Result) → More name h m i r → All Coded (recordsIn (bytesOf r))
   codes-given i r c =
-      rw (as-ruled m i r (c .allowed) .bytes) (told.codes-given (events h) (shown m) (trace-told name h m (c .trace)) (callOf i) (wired i (c .typed)))
+      rw (as-ruled m i r (c .allowed) .bytes) (told.codes-given (events h) (shown m) (trace-told name h m (c .trace)) (callOf i)
+      (wired i (c .typed)))
 
   -- ## Demand 3
 
@@ -175,13 +183,15 @@ module _ (name : List ℕ) (h : List Made) (m : Memory) where
     reserved-places-hold few = rw (not-full d (events h) few) at full-exactly-when
 
   -- "No accepted session gets a second end, and each gets exactly one end, at the latest when the clock is brought to its end time or its
-  -- connection closes." 02: "Demand 3's one end now includes these records", those of an equal one's start: flag 1 with 125, Splice_Response 125
+  -- connection closes." 02: "Demand 3's one end now includes these records", those of an equal one's start: flag 1 with 125,
+  -- Splice_Response 125
   pub one-end : Trace name h m → All (Ended (clockAfter (events h) 0)) (book (events h) [])
   one-end t = told.one-end (events h) (shown m) (trace-told name h m t)
 
   -- the next call, of any connection d and any number x
   module _ (i : Input) (r : Result) (c : More name h m i r) (d x : ℕ) where
-    -- An end in its answer's bytes, 125 by an equal one's start among them, a Splice_Request's own answer apart, is of an accepted session that
+    -- An end in its answer's bytes, 125 by an equal one's start among them, a Splice_Request's own answer apart, is of an accepted session
+    -- that
     -- had none: it is neither a second end nor the end of a number that nobody was granted
     pub ends-are-owed : endsOf d x (othersOf (callOf i) (recordsIn (bytesOf r))) ≤ unended d x (book (events h) [])
     ends-are-owed =
@@ -197,14 +207,16 @@ module _ (name : List ℕ) (h : List Made) (m : Memory) where
 
 -- ## The incident
 
--- "An ad server dropped its connection with its spot on air.": after the calls h connection d closes, by a good call, and the calls g follow
+-- "An ad server dropped its connection with its spot on air.": after the calls h connection d closes, by a good call, and the calls g
+-- follow
 module _ (name : List ℕ) (h g : List Made) (m : Memory) (d : ℕ) (e : List ℕ) (r : Result)
     (t : Trace name (h ++ (made (aClose d e) r ∷ g)) m) (z : number r ≡ 0) where
   -- its sessions of before stand in the book as they stood at the close, each with its one end; newer are those accepted since
   pub closed-stays-ended : Stands d (book (events (h ++ (made (aClose d e) r ∷ []))) []) (book (events (h ++ (made (aClose d e) r ∷ g))) [])
   closed-stays-ended = closed-stands name h g m d e r t z
 
-  -- "the completion routine then wrote the old spot's end under the new SessionID": an end of the connection that the next call writes, 125 too,
+  -- "the completion routine then wrote the old spot's end under the new SessionID": an end of the connection that the next call writes, 125
+  -- too,
   -- is of a newer session that has had none
   pub the-incident : (i : Input) (o : Result) → More name (h ++ (made (aClose d e) r ∷ g)) m i o → (x : ℕ)
       → endsOf d x (othersOf (callOf i) (recordsIn (bytesOf o))) ≤ unended d x (closed-stays-ended .newer)
@@ -240,7 +252,8 @@ module _ (name : List ℕ) (h : List Made) (m : Memory) where
 
   -- "the caller can read that of the one on air, 5 with none": whatever the read's contract allows is what the request asked that was last
   -- accepted under the number on air, taken from the calls and the answers' bytes
-  pub air-mux-told : Trace name h m → (r : ℕ) → ReadsMux (m .words) (m .bytes) r → r ≡ airMuxTold (shown m .queue .started) (book (events h) [])
+  pub air-mux-told : Trace name h m → (r : ℕ) → ReadsMux (m .words) (m .bytes) r
+      → r ≡ airMuxTold (shown m .queue .started) (book (events h) [])
   air-mux-told t r c = c ∙ told.air-mux-told (events h) (shown m) (trace-told name h m t)
 
   -- and it is 1 to 10
@@ -250,9 +263,12 @@ module _ (name : List ℕ) (h : List Made) (m : Memory) where
 -- ## Document 02, CR 8
 
 module _ (name : List ℕ) (h : List Made) (m : Memory) where
-  -- "The state now also keeps the last 16 ended sessions .. oldest dropped first": what the words keep is, newest first, the first 16 of the ends
-  -- that the answers' bytes tell: connection, SessionID and result of each end record, the SpliceEventID of the request that its connection last had
-  -- accepted under that SessionID, and the PlayedDuration of the record, or where it shows none of the time on air, counted from the history as
+  -- "The state now also keeps the last 16 ended sessions .. oldest dropped first": what the words keep is, newest first, the first 16 of
+  -- the ends
+  -- that the answers' bytes tell: connection, SessionID and result of each end record, the SpliceEventID of the request that its connection
+  -- last had
+  -- accepted under that SessionID, and the PlayedDuration of the record, or where it shows none of the time on air, counted from the
+  -- history as
   -- CR 13 counts it: 0 where the start was never written
   pub kept-as-told : Trace name h m → KeptAs (recent (shown m .queue .lately)) (endsTold (events h))
   kept-as-told t = told.kept-as-told (events h) (shown m) (trace-told name h m t)
@@ -262,7 +278,8 @@ module _ (name : List ℕ) (h : List Made) (m : Memory) where
   one-kept-for-each t = told.one-kept-for-each (events h) (shown m) (trace-told name h m t)
 
 -- the next message, from whatever connection d, which asks by an ExtendedData_Request for the number x
-module _ (name : List ℕ) (h : List Made) (m : Memory) (d : ℕ) (l pm im e : List ℕ) (r : Result) (c : More name h m (aMessage d l pm im e) r) (x : ℕ)
+module _ (name : List ℕ) (h : List Made) (m : Memory) (d : ℕ) (l pm im e : List ℕ) (r : Result) (c : More name h m (aMessage d l pm im e) r)
+    (x : ℕ)
     (asks : Inquires d l (lendingMaps pm im (length e)) x (shown m)) where
   -- "answered with the asking connection's latest ended session of that number", "121 .. where none is kept": whatever the call's contract
   -- allows is the first of what ended lately, newest first, with that connection and number, or 121 exactly when there is none
@@ -282,7 +299,8 @@ module _ (name : List ℕ) (h : List Made) (m : Memory) (d : ℕ) (l pm im e : L
 module _ (name : List ℕ) (h : List Made) (m : Memory) where
   -- "Keep the waiting sessions ordered by start": those that the waiting words hold, first place first, rise strictly in start, and each
   -- starts after the clock
-  pub waiting-in-order : Trace name h m → Sorted (shown m .queue .waiting) × All (λ s. shown m .clock < s .start .0) (shown m .queue .waiting)
+  pub waiting-in-order : Trace name h m → Sorted (shown m .queue .waiting) × All (λ s. shown m .clock < s .start .0)
+      (shown m .queue .waiting)
   waiting-in-order t =
       let k = reached-sound (shown m) (trace-lent name h m t .reached) .holding .timed in
       (k .sorted, all-into (Later (shown m .clock)) (λ s. shown m .clock < s .start .0) (λ s l. l .0) (shown m .queue .waiting) (k .later))
@@ -301,7 +319,8 @@ module _ (name : List ℕ) (h : List Made) (m : Memory) where
 -- ## Document 02, CR 11
 
 module _ (name : List ℕ) (h : List Made) (m : Memory) where
-  -- "Report that number with the call. [..] A request not accepted reports 0.": and so does every call that is no Splice_Request answered with
+  -- "Report that number with the call. [..] A request not accepted reports 0.": and so does every call that is no Splice_Request answered
+  -- with
   -- 100; fresh too
   pub fresh-unmoved : (t : Trace name h m) → movedIn (t .answer) ≡ 0
   fresh-unmoved t = ap movedIn (t .fresh .answer) ∙ fresh-none name
@@ -309,35 +328,39 @@ module _ (name : List ℕ) (h : List Made) (m : Memory) where
   pub unmoved-else : (i : Input) (r : Result) → More name h m i r → grantedBy (callOf i) (recordsIn (bytesOf r)) ≡ false → moved r ≡ 0
   unmoved-else i r c g =
       moved-is m i r (c .allowed)
-      ∙ shifting.unmoved-else (events h) (shown m) (trace-told name h m (c .trace)) (callOf i) (wired i (c .typed)) (rw (as-ruled m i r (c .allowed) .bytes) at g)
+      ∙ shifting.unmoved-else (events h) (shown m) (trace-told name h m (c .trace)) (callOf i) (wired i (c .typed))
+      (rw (as-ruled m i r (c .allowed) .bytes) at g)
 
   -- "and is at most 63", of every call
   pub at-most-63 : (i : Input) (r : Result) → More name h m i r → moved r ≤ 63
   at-most-63 i r c =
-      rw (moved-is m i r (c .allowed)) (shifting.at-most-63 (events h) (shown m) (trace-told name h m (c .trace)) (callOf i) (wired i (c .typed)))
+      rw (moved-is m i r (c .allowed)) (shifting.at-most-63 (events h) (shown m) (trace-told name h m (c .trace)) (callOf i)
+      (wired i (c .typed)))
 
   -- connection d sends the bytes l, which are a Splice_Request q, and the last record in the answer's bytes is its 100
   module _ (d : ℕ) (l pm im e : List ℕ) (r : Result) (c : More name h m (aMessage d l pm im e) r) (q : Request)
-      (asks : Asks d l (lendingMaps pm im (length e)) q (shown m)) (yes : ownAnswer (answers 100 d (q .id)) (recordsIn (bytesOf r)) ≡ true) where
-    abbrev start : ℕ
-    start = requested d q (shown m .queue) .start .0
+      (asks : Asks d l (lendingMaps pm im (length e)) q (shown m)) (yes : ownAnswer (answers 100 d (q .id)) (recordsIn (bytesOf r)) ≡ true)
+    where
+      abbrev start : ℕ
+      start = requested d q (shown m .queue) .start .0
 
-    code : spliceResult (shown m .clock) d q (requested d q (shown m .queue)) (shown m .queue) ≡ 100
-    code = last-code (recordsIn (bytesOf r)) _ _ d (q .id) (first-code-applies name h m d l pm im e r c q asks) yes
+      code : spliceResult (shown m .clock) d q (requested d q (shown m .queue)) (shown m .queue) ≡ 100
+      code = last-code (recordsIn (bytesOf r)) _ _ d (q .id) (first-code-applies name h m d l pm im e r c q asks) yes
 
-    -- "It equals the waiting sessions, after any eviction, whose start is later than the new one's": of those that wait after the call
-    pub moved-is-later : moved r ≡ count (startsAfter start) (shown (r .memory) .queue .waiting)
-    moved-is-later =
-        moved-is m (aMessage d l pm im e) r (c .allowed)
-        ∙ shifting.moved-is-later d l (lendingMaps pm im (length e)) q (shown m) asks code
-        ∙ ap (λ (s : Splicer). count (startsAfter start) (s .queue .waiting)) (sym (as-ruled m (aMessage d l pm im e) r (c .allowed) .state))
+      -- "It equals the waiting sessions, after any eviction, whose start is later than the new one's": of those that wait after the call
+      pub moved-is-later : moved r ≡ count (startsAfter start) (shown (r .memory) .queue .waiting)
+      moved-is-later =
+          moved-is m (aMessage d l pm im e) r (c .allowed)
+          ∙ shifting.moved-is-later d l (lendingMaps pm im (length e)) q (shown m) asks code
+          ∙ ap (λ (s : Splicer). count (startsAfter start) (s .queue .waiting))
+          (sym (as-ruled m (aMessage d l pm im e) r (c .allowed) .state))
 
-    -- "how many places an acceptance shifts": where it evicts nobody, of the lent places, from the ring's new end on, all but the last
-    -- `moved` and its own hold what they held
-    pub places-stay : some (startsAt start) (shown m .queue .waiting) ≡ false
-        → let k = next (see (m .words) .ringEnd) in
-        take (round - (moved r + 1)) (placesFrom k (r .memory .words)) ≡ take (round - (moved r + 1)) (placesFrom k (m .words))
-    places-stay = others-stay m (trace-lent name h m (c .trace)) d l pm im e r (c .allowed) q asks code
+      -- "how many places an acceptance shifts": where it evicts nobody, of the lent places, from the ring's new end on, all but the last
+      -- `moved` and its own hold what they held
+      pub places-stay : some (startsAt start) (shown m .queue .waiting) ≡ false
+          → let k = next (see (m .words) .ringEnd) in
+          take (round - (moved r + 1)) (placesFrom k (r .memory .words)) ≡ take (round - (moved r + 1)) (placesFrom k (m .words))
+      places-stay = others-stay m (trace-lent name h m (c .trace)) d l pm im e r (c .allowed) q asks code
 
 -- ## Document 02, CR 13
 
@@ -346,7 +369,8 @@ later-events : (h g : List Made) (m n : Memory) → Leads m g n → events (h ++
 later-events h g m n l = events-append h g ∙ ap (λ (e : List Event). events h ++ e) (led-heard g m n l)
 
 module _ (name : List ℕ) (h : List Made) (m : Memory) where
-  -- "Every moment belongs to someone.": primary time, "counted from the history, as the time in which no session was started and unended", and
+  -- "Every moment belongs to someone.": primary time, "counted from the history, as the time in which no session was started and unended",
+  -- and
   -- each session's, "the time in which it had the highest AccessType of those started and unended", in ninths, add up to the clock
   pub every-moment : Trace name h m → primaryTold (events h) + airTold (events h) ≡ clockTold (events h)
   every-moment t = owners.every-moment (events h) (shown m) (trace-told name h m t)
@@ -367,7 +391,8 @@ module _ (name : List ℕ) (h : List Made) (m : Memory) where
   pub waiting-played-none : Trace name h m → All (λ u. u .played .0 ≡ 0) (shown m .queue .waiting)
   waiting-played-none t = reached-sound (shown m) (trace-lent name h m t .reached) .holding .played .silent
 
-  -- "from which PlayedDuration is rounded", from bytes alone: each SpliceComplete flag 1 in the next answer has as PlayedDuration its session's time,
+  -- "from which PlayedDuration is rounded", from bytes alone: each SpliceComplete flag 1 in the next answer has as PlayedDuration its
+  -- session's time,
   -- counted from the history with this call, divided by 100 and rounded down
   pub played-as-counted : (i : Input) (r : Result) → More name h m i r → PlayedAs (events (h ++ (made i r ∷ []))) (recordsIn (bytesOf r))
   played-as-counted i r c =
@@ -385,7 +410,8 @@ module _ (name : List ℕ) (h g : List Made) (m : Memory) (t : Trace name (h ++ 
   point : Point name h g m
   point = trace-point name h g m t
 
-  -- "the growth of the time on the primary channel plus that of all sessions' time on air, in ninths, equals the clock's advance between them"
+  -- "the growth of the time on the primary channel plus that of all sessions' time on air, in ninths, equals the clock's advance between
+  -- them"
   pub no-gap : Gapless (events h) (events (h ++ g))
   no-gap =
       let p = point in
@@ -396,8 +422,10 @@ module _ (name : List ℕ) (h g : List Made) (m : Memory) (t : Trace name (h ++ 
   pub prints-alike : Within (Printed (events h) (events (h ++ g))) (airingsTold (events h)) (airingsTold (events (h ++ g)))
   prints-alike =
       let p = point in
-      subst (λ (e : List Event). Within (Printed (events h) e) (airingsTold (events h)) (airingsTold e)) (sym (later-events h g (p .here) m (p .behind)))
-      (owners.prints-alike (events h) (shown (p .here)) (trace-told name h (p .here) (p .before)) (calls g) (led-wired g (p .here) m (p .behind)))
+      subst (λ (e : List Event). Within (Printed (events h) e) (airingsTold (events h)) (airingsTold e))
+      (sym (later-events h g (p .here) m (p .behind)))
+      (owners.prints-alike (events h) (shown (p .here)) (trace-told name h (p .here) (p .before)) (calls g)
+      (led-wired g (p .here) m (p .behind)))
 
 -- ## Document 02, CR 7
 
@@ -408,7 +436,8 @@ module _ (name : List ℕ) (h : List Made) (m : Memory) (l : List ℕ) (pts seco
   pub cue-changes-nothing : r .memory ≡ m
   cue-changes-nothing = memory-stays m l pts seconds micros e r (trace-lent name h m (c .trace)) (c .allowed)
 
-  -- no record of it is a start, an end or an own answer: the waiting counts, the book, the clock, what has started, who owned each ninth, what
+  -- no record of it is a start, an end or an own answer: the waiting counts, the book, the clock, what has started, who owned each ninth,
+  -- what
   -- has ended and what is kept, from the answers, are with it what they were without it
   pub cue-counts-nothing : Alike (events h) (events (h ++ (made (aCue l pts seconds micros e) r ∷ [])))
   cue-counts-nothing =
@@ -424,7 +453,8 @@ module _ (name : List ℕ) (h : List Made) (m : Memory) (l : List ℕ) (pts seco
       (sym (number-is m (aCue l pts seconds micros e) r (c .allowed)) ∙ n))
 
   -- and which records those are: 117 for a bad section, else the Cue_Request with the cue's time
-  pub cue-records : number r ≡ 0 → recordsIn (bytesOf r) ≡ cueRecords (readCue l) (cueTime pts seconds micros (readCue l)) l (initialisedOnes (shown m .links))
+  pub cue-records : number r ≡ 0 → recordsIn (bytesOf r)
+      ≡ cueRecords (readCue l) (cueTime pts seconds micros (readCue l)) l (initialisedOnes (shown m .links))
   cue-records n =
       rw (as-ruled m (aCue l pts seconds micros e) r (c .allowed) .bytes)
       (told.cue-records (events h) (shown m) (trace-told name h m (c .trace)) l pts seconds micros (length e) (c .typed .0)
@@ -439,7 +469,8 @@ module _ (name : List ℕ) (h : List Made) (m : Memory) (l : List ℕ) (pts seco
 -- ## Document 02, CR 6
 
 module _ (name : List ℕ) (h : List Made) (m : Memory) where
-  -- "Keep Hardware_Config per connection": what is kept is what the calls and the answers' bytes tell, the structure of the connection's latest
+  -- "Keep Hardware_Config per connection": what is kept is what the calls and the answers' bytes tell, the structure of the connection's
+  -- latest
   -- Init_Request whose answer was Init_Response 100, since it was opened
   pub kept-told : Trace name h m → (d : ℕ) → hardwareOf d (shown m) ≡ keptTold d (events h)
   kept-told t d = sym (kept.kept-told (events h) (shown m) (trace-told name h m t) d)
@@ -448,18 +479,21 @@ module _ (name : List ℕ) (h : List Made) (m : Memory) where
   -- channel's program map section.": of an initialised connection, the answer is that one record
   pub config-told : (d : ℕ) (l pm im e : List ℕ) (r : Result) → More name h m (aMessage d l pm im e) r
       → AsksConfig d l (lendingMaps pm im (length e)) (shown m) → Ready d (shown m)
-      → recordsIn (bytesOf r) ≡ ConfigResponse d 100 (shown m .name) (keptTold d (events h)) (sectionOf (lendingMaps pm im (length e)) (shown m)) ∷ []
+      → recordsIn (bytesOf r) ≡ ConfigResponse d 100 (shown m .name) (keptTold d (events h))
+      (sectionOf (lendingMaps pm im (length e)) (shown m)) ∷ []
   config-told d l pm im e r c asks ready =
       ap recordsIn (as-ruled m (aMessage d l pm im e) r (c .allowed) .bytes)
       ∙ kept.config-told (events h) (shown m) (trace-told name h m (c .trace)) d l (lendingMaps pm im (length e)) asks ready
 
-  -- "Our card passes the map of the feed that is on air": the insertion's exactly where an Alive_Request in its place is answered with State 2
+  -- "Our card passes the map of the feed that is on air": the insertion's exactly where an Alive_Request in its place is answered with
+  -- State 2
   pub section-told : (d : ℕ) (l pm im e : List ℕ) (r : Result) → More name h m (aMessage d l pm im e) r
       → AsksAlive d l (lendingMaps pm im (length e)) (shown m) → Ready d (shown m)
       → (loans : Loans) → sectionOf loans (shown m) ≡ cond (eqb (stateIn (recordsIn (bytesOf r))) 2) (loans .insertion) (loans .primary)
   section-told d l pm im e r c asks ready loans =
       kept.section-told (events h) (shown m) (trace-told name h m (c .trace)) d l loans (lendingMaps pm im (length e)) asks ready
-      ∙ ap (λ (b : List ℕ). cond (eqb (stateIn (recordsIn b)) 2) (loans .insertion) (loans .primary)) (sym (as-ruled m (aMessage d l pm im e) r (c .allowed) .bytes))
+      ∙ ap (λ (b : List ℕ). cond (eqb (stateIn (recordsIn b)) 2) (loans .insertion) (loans .primary))
+      (sym (as-ruled m (aMessage d l pm im e) r (c .allowed) .bytes))
 
   -- what is read of it, 0 or 1, is whose section that is: every result that the read's contract allows
   pub section-read : (r : ℕ) → ReadsFeed (m .words) (m .bytes) r
@@ -467,7 +501,8 @@ module _ (name : List ℕ) (h : List Made) (m : Memory) where
   section-read r c loans = ap (λ (k : ℕ). cond (eqb k 0) (loans .primary) (loans .insertion)) (sym c)
 
   -- "A later Init that gets 100 replaces it; close forgets it.": nothing else changes what a connection keeps
-  pub nothing-else-changes : (i : Input) (r : Result) → More name h m i r → (d : ℕ) → changed d (callOf i) (replyIn (r .answer) (r .buffer)) ≡ false
+  pub nothing-else-changes : (i : Input) (r : Result) → More name h m i r → (d : ℕ)
+      → changed d (callOf i) (replyIn (r .answer) (r .buffer)) ≡ false
       → hardwareOf d (shown (r .memory)) ≡ hardwareOf d (shown m)
   nothing-else-changes i r c d e =
       ap (hardwareOf d) (as-ruled m i r (c .allowed) .state)
@@ -481,11 +516,13 @@ module _ (name : List ℕ) (h : List Made) (m : Memory) where
       forgotten d (r .memory .bytes) (close-low d (length e) (shown m) (sym (number-first m (aClose d e) r (c .allowed)) ∙ z))
       (promised m (aClose d e) r (c .allowed) .lent .whole .bytes)
       (ap (hardwareOf d) (as-ruled m (aClose d e) r (c .allowed) .state)
-      ∙ kept.close-forgets (events h) (shown m) (trace-told name h m (c .trace)) d (length e) (sym (number-is m (aClose d e) r (c .allowed)) ∙ z))
+      ∙ kept.close-forgets (events h) (shown m) (trace-told name h m (c .trace)) d (length e)
+      (sym (number-is m (aClose d e) r (c .allowed)) ∙ z))
 
   -- and after a good open, so after a later one too, a GetConfig_Request gets 103
   pub opened-denied : (d : ℕ) (r : Result) → More name h m (anOpen d) r → number r ≡ 0
-      → (l pm im e : List ℕ) (q : Result) → Allowed (r .memory) (aMessage d l pm im e) q → AsksConfig d l (lendingMaps pm im (length e)) (shown (r .memory))
+      → (l pm im e : List ℕ) (q : Result) → Allowed (r .memory) (aMessage d l pm im e) q
+      → AsksConfig d l (lendingMaps pm im (length e)) (shown (r .memory))
       → recordsIn (bytesOf q) ≡ General d 103 ∷ []
   opened-denied d r c z l pm im e q a asks =
       let loans = lendingMaps pm im (length e) in

@@ -22,5 +22,6 @@ close-low c room s = go (noConnection c) refl
     go true e z = absurd (omega arith)
     go false e z = ltb-false 3 c e
 
-pub forgotten : (c : ℕ) (b : List ℕ) → c ≤ 3 → Stored b → getD (keptOf b) c noHardware ≡ noHardware → keptBytes c b ≡ replicate longestHardware 0
+pub forgotten : (c : ℕ) (b : List ℕ) → c ≤ 3 → Stored b → getD (keptOf b) c noHardware ≡ noHardware
+    → keptBytes c b ≡ replicate longestHardware 0
 forgotten c b low s e = s .kept c low .zeros ∙ ap spread (sym (kept-at b c low) ∙ e)

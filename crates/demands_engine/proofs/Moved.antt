@@ -11,7 +11,8 @@ use Rattle.rules.specs.declared.Session.{Session}
 use Rattle.rules.specs.Lists.{some, count, place, insertAt}
 use Rattle.rules.specs.Bytes.{messageSize, hasZero}
 use Rattle.rules.specs.State.{Splicer, sameNumber, startsAt, startsAfter}
-use Rattle.rules.specs.Records.{Record, General, InitResponse, AliveResponse, SpliceResponse, SpliceComplete, AbortResponse, ConfigResponse, ExtendedFound, ExtendedNone, CueRequest}
+use Rattle.rules.specs.Records.{Record, General, InitResponse, AliveResponse, SpliceResponse, SpliceComplete, AbortResponse, ConfigResponse}
+use Rattle.rules.specs.Records.{ExtendedFound, ExtendedNone, CueRequest}
 use Rattle.rules.specs.Ends.{Turn, andThen, evicted}
 use Rattle.rules.specs.Answers.{requested, spliceResult, inserted, accepted, later, grants, splices, answerSplice}
 use Rattle.rules.specs.Calls.{Called, Call, messages, lendingMaps, call, replies, fresh, ticked}
@@ -81,7 +82,8 @@ last-code (r ∷ s ∷ l) a b c x e f = last-code (s ∷ l) a b c x e f
 
 -- ## An acceptance that evicts nobody
 
-module _ (m : Memory) (l : Lent (m .words) (m .bytes)) (d : ℕ) (i pm im e : List ℕ) (r : Result) (a : Allowed m (aMessage d i pm im e) r) (q : Request)
+module _ (m : Memory) (l : Lent (m .words) (m .bytes)) (d : ℕ) (i pm im e : List ℕ) (r : Result) (a : Allowed m (aMessage d i pm im e) r)
+    (q : Request)
     (asks : Asks d i (lendingMaps pm im (length e)) q (shown m))
     (code : spliceResult (shown m .clock) d q (requested d q (shown m .queue)) (shown m .queue) ≡ 100) where
   abbrev new : Session
@@ -91,7 +93,8 @@ module _ (m : Memory) (l : Lent (m .words) (m .bytes)) (d : ℕ) (i pm im e : Li
   w = shown m .queue .waiting
 
   -- the call is the acceptance of the new one
-  granted : call (messages d i (lendingMaps pm im (length e))) (shown m) ≡ replies (8 + messageSize i) (splices (grants new (shown m .queue)) (shown m))
+  granted : call (messages d i (lendingMaps pm im (length e))) (shown m)
+      ≡ replies (8 + messageSize i) (splices (grants new (shown m .queue)) (shown m))
   unfolding answerSplice
   granted = splice-call d i (lendingMaps pm im (length e)) q (shown m) asks ∙ rw code
 
@@ -104,7 +107,8 @@ module _ (m : Memory) (l : Lent (m .words) (m .bytes)) (d : ℕ) (i pm im e : Li
       let t = new .start .0 in
       let at = place (startsAfter t) w in
       let p = promised m (aMessage d i pm im e) r a in
-      let none : w ≡ evicted t (shown m .queue) .queue .waiting = ap (λ (u : Turn). u .queue .waiting) (evicted-none t (shown m .queue) free) in
+      let none : w ≡ evicted t (shown m .queue) .queue .waiting =
+      ap (λ (u : Turn). u .queue .waiting) (evicted-none t (shown m .queue) free) in
       let ring : see (r .memory .words) .ringEnd ≡ next (see (m .words) .ringEnd) =
       p .ring ∙ ap (λ (c : Called). shifted (c .accepted) (see (m .words) .ringEnd)) granted in
       let list : sessions Waiting (r .memory .words) ≡ insertAt at new w =
@@ -115,4 +119,5 @@ module _ (m : Memory) (l : Lent (m .words) (m .bytes)) (d : ℕ) (i pm im e : Li
       moved-is m (aMessage d i pm im e) r a ∙ ap (λ (c : Called). c .moved) granted
       ∙ ap (count (startsAfter t)) (sym none) ∙ sym (later-behind t w (holds .timed .sorted)) in
       let few = few-wait (reached-sound (shown (r .memory)) (p .lent .reached) .holding) in
-      places-stay (m .words) (r .memory .words) at (moved r) new (l .whole .words) (p .lent .whole .words) ring list (place≤ (startsAfter t) w) few shifts
+      places-stay (m .words) (r .memory .words) at (moved r) new (l .whole .words) (p .lent .whole .words) ring list
+      (place≤ (startsAfter t) w) few shifts

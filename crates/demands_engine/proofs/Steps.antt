@@ -98,6 +98,7 @@ module _ (m : Memory) where
   -- "any two results it allows are proved equal"
   pub step-same : (i : Input) (r s : Result) → Allowed m i r → Allowed m i s → r ≡ s
   step-same i r s a b =
-      let u = answers-same (says i) (see (m .words) .ringEnd) (bufferOf i) (r .answer) (s .answer) (r .memory .words) (r .memory .bytes) (r .buffer)
+      let u = answers-same (says i) (see (m .words) .ringEnd) (bufferOf i) (r .answer) (s .answer) (r .memory .words) (r .memory .bytes)
+      (r .buffer)
       (s .memory .words) (s .memory .bytes) (s .buffer) (promised i r a) (promised i s b) in
       result-same r s (u .0) (memory-same (r .memory) (s .memory) (u .1) (u .2)) (u .3)

@@ -1,4 +1,5 @@
--- The theorems of 02's CR 12 between the contracts of both engines. Rests on Sides, and on demands_engine: what the card's contracts allow is what
+-- The theorems of 02's CR 12 between the contracts of both engines. Rests on Sides, and on demands_engine: what the card's contracts allow
+-- is what
 -- document 01 says.
 use mathlib.Core.Path.{_≡_, refl, sym, subst, ap, _∙_}
 use mathlib.Core.Bool.{true, _||_}
@@ -44,7 +45,8 @@ module _ (h : List Both) (b : Beside h) where
   unfolding begun
   course = subst (λ (s : Splicer). both.Course s (b .log) (pairs h)) (b .fresh .splicer) (led h (b .memory) (b .log) (b .course))
 
-  -- any inputs, any buffers: "Until it first refuses with 13, the log unchanged between calls, it is proved to answer like the card's engine,
+  -- any inputs, any buffers: "Until it first refuses with 13, the log unchanged between calls, it is proved to answer like the card's
+  -- engine,
   -- byte for byte"
   pub recalls-like-the-card : length (b .lent) ≡ logLength → LikeTheCard (b .log) (pairs h)
   recalls-like-the-card long = like-the-card long (b .forgets) (pairs h) course
@@ -53,8 +55,10 @@ module _ (h : List Both) (b : Beside h) where
   pub fresh-alike : length (b .lent) ≡ logLength → b .reply ≡ asReply (b .answer)
   fresh-alike long = fresh-same (b .forgets) long ∙ sym (ap asReply (b .fresh .answer) ∙ as-ruled _ _)
 
-  -- "13 .. exactly when the log isn't 65,536 bytes, 256 calls are kept or under 4,098 of its bytes are free": one call more, after any others,
+  -- "13 .. exactly when the log isn't 65,536 bytes, 256 calls are kept or under 4,098 of its bytes are free": one call more, after any
+  -- others,
   -- those that got 13 among them; good are those that the card's engine calls good
   pub thirteen-exactly : (i : Input) (y : Recollection) → Recollects (logAfter (b .log) (pairs h)) i y
-      → (is13 (y .reply) ≡ (otherLength (b .lent) || spent (goodOnes (pairs h)))) × (is13 (y .reply) ≡ true → (y .log ≡ logAfter (b .log) (pairs h)) × (y .buffer ≡ bufferOf i))
+      → (is13 (y .reply) ≡ (otherLength (b .lent) || spent (goodOnes (pairs h)))) ×
+      (is13 (y .reply) ≡ true → (y .log ≡ logAfter (b .log) (pairs h)) × (y .buffer ≡ bufferOf i))
   thirteen-exactly i y w = thirteen (b .forgets) (pairs h) course (callOf i) (bufferOf i) w

@@ -1,4 +1,5 @@
--- Any inputs can be handed to both: what the theorems ask of a sequence is met by every one. Rests on demands_engine's and demands_door's `any-calls`, and on
+-- Any inputs can be handed to both: what the theorems ask of a sequence is met by every one. Rests on demands_engine's and demands_door's
+-- `any-calls`, and on
 -- that a call of the second engine always answers.
 use mathlib.Core.Path.{_≡_, refl, ap, _∙_}
 use mathlib.Core.List.{List, [], _∷_, map}
@@ -52,11 +53,17 @@ unfolding both-of
 inputs-of [] l = refl
 inputs-of (x ∷ h) l = ap (λ (is : List engine.Input). x .input ∷ is) (inputs-of h (recallCall (engine.callOf (x .input)) l .log))
 
-course-of : (h : List engine.Made) (m n : Memory) (l : List ℕ) → All (λ (i : engine.Input). Its (engine.callOf i)) (engine.inputs h) → engine.Leads m h n → beside.Course m l (both-of h l)
+course-of : (h : List engine.Made) (m n : Memory) (l : List ℕ) → All (λ (i : engine.Input). Its (engine.callOf i)) (engine.inputs h)
+    → engine.Leads m h n → beside.Course m l (both-of h l)
 unfolding both-of
 course-of [] m n l a b = tt
-course-of (x ∷ h) m n l a b =
-    (b .0, a .0, b .1, record { reply = refl; log = refl; buffer = refl }, course-of h (x .result .memory) n (recallCall (engine.callOf (x .input)) l .log) (a .1) (b .2))
+course-of (x ∷ h) m n l a b = (
+  b .0,
+  a .0,
+  b .1,
+  record { reply = refl; log = refl; buffer = refl },
+  course-of h (x .result .memory) n (recallCall (engine.callOf (x .input)) l .log) (a .1) (b .2),
+)
 
 pub record Run (is : List engine.Input) : Type 0 where
   pub course : List beside.Both
@@ -86,7 +93,8 @@ any-calls l is t i =
       same = inputs-of (r .course) n ∙ r .same;
     }
   where
-    its : (js is : List engine.Input) → js ≡ is → All (λ (i : engine.Input). Its (engine.callOf i)) is → All (λ (i : engine.Input). Its (engine.callOf i)) js
+    its : (js is : List engine.Input) → js ≡ is → All (λ (i : engine.Input). Its (engine.callOf i)) is
+        → All (λ (i : engine.Input). Its (engine.callOf i)) js
     its js is e a = rw e a
 
 -- ## In C
@@ -99,7 +107,12 @@ seen-of (x ∷ h) l =
     record {
       input = x .input;
       card = x .seen;
-      second = record { reply = replyWords (r .told .reply); log = r .log; buffer = written (door-calls.bufferOf (x .input)) 0 (r .told .shows) };
+      second = record {
+        reply = replyWords (r .told .reply);
+        log = r .log;
+        buffer =
+            written (door-calls.bufferOf (x .input)) 0 (r .told .shows);
+      };
     }
     ∷ seen-of h (r .log)
 
@@ -108,11 +121,22 @@ unfolding seen-of
 handed-of [] l = refl
 handed-of (x ∷ h) l = ap (λ (is : List door-calls.Input). x .input ∷ is) (handed-of h (recallCall (door-calls.callOf (x .input)) l .log))
 
-run-of : (h : List door.Made) (m n : Memory) (l : List ℕ) → All (λ (i : door-calls.Input). Its (door-calls.callOf i)) (door.inputs h) → door.Leads m h n → in-c.Course (m .words) (m .bytes) l (seen-of h l)
+run-of : (h : List door.Made) (m n : Memory) (l : List ℕ) → All (λ (i : door-calls.Input). Its (door-calls.callOf i)) (door.inputs h)
+    → door.Leads m h n → in-c.Course (m .words) (m .bytes) l (seen-of h l)
 unfolding seen-of
 run-of [] m n l a b = tt
-run-of (x ∷ h) m n l a b =
-    (b .0, a .0, b .1, record { reply = recallCall (door-calls.callOf (x .input)) l .told .reply; remembers = record { reply = refl; log = refl; buffer = refl }; words = refl }, run-of h (door.left (x .seen)) n (recallCall (door-calls.callOf (x .input)) l .log) (a .1) (b .2))
+run-of (x ∷ h) m n l a b = (
+  b .0,
+  a .0,
+  b .1,
+  record {
+    reply = recallCall (door-calls.callOf (x .input)) l .told .reply;
+    remembers =
+        record { reply = refl; log = refl; buffer = refl };
+    words = refl;
+  },
+  run-of h (door.left (x .seen)) n (recallCall (door-calls.callOf (x .input)) l .log) (a .1) (b .2),
+)
 
 pub record RunInC (is : List door-calls.Input) : Type 0 where
   pub course : List in-c.Both
@@ -120,7 +144,8 @@ pub record RunInC (is : List door-calls.Input) : Type 0 where
   pub same : map (λ (x : in-c.Both). x .input) course ≡ is
 
 -- l: the log that is lent
-pub any-calls-in-c : (l : List ℕ) (is : List door-calls.Input) → All door-calls.Typed is → All (λ (i : door-calls.Input). Its (door-calls.callOf i)) is → RunInC is
+pub any-calls-in-c : (l : List ℕ) (is : List door-calls.Input) → All door-calls.Typed is
+    → All (λ (i : door-calls.Input). Its (door-calls.callOf i)) is → RunInC is
 unfolding cardName
 any-calls-in-c l is t i =
     let r = door-laws.any-calls (padded cardName) refl named is t in
@@ -143,7 +168,8 @@ any-calls-in-c l is t i =
       same = handed-of (r .course) n ∙ r .same;
     }
   where
-    its : (js is : List door-calls.Input) → js ≡ is → All (λ (i : door-calls.Input). Its (door-calls.callOf i)) is → All (λ (i : door-calls.Input). Its (door-calls.callOf i)) js
+    its : (js is : List door-calls.Input) → js ≡ is → All (λ (i : door-calls.Input). Its (door-calls.callOf i)) is
+        → All (λ (i : door-calls.Input). Its (door-calls.callOf i)) js
     its js is e a = rw e a
 
 -- ## Typed is what the types of the second engine's parameters say, and no more: libbench.a takes all that libdoor.a takes

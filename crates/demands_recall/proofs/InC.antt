@@ -1,4 +1,5 @@
--- The same theorems of what C sees: every word of the replies, every byte of the buffers. Rests on Sides, and on the promises of both archives'
+-- The same theorems of what C sees: every word of the replies, every byte of the buffers. Rests on Sides, and on the promises of both
+-- archives'
 -- functions, that a reply's words are the answer.
 use mathlib.Core.Path.{_≡_, refl, sym, subst, ap, ap₂, _∙_}
 use mathlib.Core.Bool.{Bool, true, false, _||_}
@@ -7,7 +8,8 @@ use Prim.Native.Nat.{ℕ}
 use lib.Dec.{eqb}
 use lib.ListN.{length}
 use Rattle.rules.specs.declared.Refusal.{Refusal}
-use Rattle.rules.specs.declared.Refusal.the-variants.{NoConnection, NoRoom, ClockBack, Oversize, Short, AlreadyOpen, NotOpen, BadMicros, BadName, Counter, LongSection, BadSection, NotSixteen}
+use Rattle.rules.specs.declared.Refusal.the-variants.{NoConnection, NoRoom, ClockBack, Oversize, Short, AlreadyOpen, NotOpen, BadMicros}
+use Rattle.rules.specs.declared.Refusal.the-variants.{BadName, Counter, LongSection, BadSection, NotSixteen}
 use Rattle.rules.specs.Lists.{All, put}
 use Rattle.rules.specs.State.{Splicer}
 use Rattle.rules.specs.Calls.{houseNumber, Call, call}
@@ -29,9 +31,11 @@ use Rattle.door_bench.specs.Bench.{replyWords, Tells, TellsFresh}
 use Rattle.demands_recall.specs.Sides as sides
 use Rattle.demands_recall.specs.Sides.{Pair, isDone}
 use Rattle.demands_recall.specs.Beside.{asReply}
-use Rattle.demands_recall.specs.InC.{Recollection, Both, Recollects, Course, Beside, Alike, numberIn, is13, until13, None13, logAfter, goodOnes, LikeTheCard}
+use Rattle.demands_recall.specs.InC.{Recollection, Both, Recollects, Course, Beside, Alike, numberIn, is13, until13, None13, logAfter}
+use Rattle.demands_recall.specs.InC.{goodOnes, LikeTheCard}
 use Rattle.demands_recall.proofs.Sides as both
-use Rattle.demands_recall.proofs.Sides.{Step, full-13, step-same, step-leads, step-calls, put-append, begins, none-kept, thirteen, fresh-same}
+use Rattle.demands_recall.proofs.Sides.{Step, full-13, step-same, step-leads, step-calls, put-append, begins, none-kept, thirteen}
+use Rattle.demands_recall.proofs.Sides.{fresh-same}
 use Rattle.demands_recall.proofs.Alike.{as-ruled}
 
 -- ## The words of a reply
@@ -87,7 +91,8 @@ wired (aMessage c l pm im e) t = (t .1, t .2, t .3)
 wired (aTick seconds micros e) t = t .0
 wired (aCue l g e) t = t .0
 
-module _ (m b l : List ℕ) (x : Both) (t : Typed (x .input)) (i : Its (callOf (x .input))) (a : Allowed m b (x .input) (x .card)) (y : Recollects l (x .input) (x .second)) where
+module _ (m b l : List ℕ) (x : Both) (t : Typed (x .input)) (i : Its (callOf (x .input))) (a : Allowed m b (x .input) (x .card))
+    (y : Recollects l (x .input) (x .second)) where
   abbrev pair : Pair
   pair =
       record {
@@ -125,7 +130,8 @@ module _ (m b l : List ℕ) (x : Both) (t : Typed (x .input)) (i : Its (callOf (
     kept : keptCalls (x .second .log) ≡ keptCalls l ++ put (eqb (numberIn (x .card .reply)) 0) (keptForm (callOf (x .input))) []
     kept =
         step-calls step g f
-        ∙ ap (λ (z : Bool). keptCalls l ++ put z (keptForm (callOf (x .input))) []) (sym (ap (λ (w : List ℕ). eqb (numberIn w) 0) (a .reply) ∙ words-good (a .answer)))
+        ∙ ap (λ (z : Bool). keptCalls l ++ put z (keptForm (callOf (x .input))) [])
+        (sym (ap (λ (w : List ℕ). eqb (numberIn w) 0) (a .reply) ∙ words-good (a .answer)))
 
 -- ## Any calls
 
@@ -167,7 +173,8 @@ all-neat : (h : List Both) (m b l : List ℕ) → Leads l (shown m b) → Course
 all-neat [] m b l g c n = record { splicer = shown m b; leads = g }
 all-neat (x ∷ h) m b l g c n = all-neat h (x .card .words) (x .card .bytes) (x .second .log) (first-next m b l x h g c n) (c .4) (n .1)
 
-all-kept : (h : List Both) (m b l : List ℕ) → Leads l (shown m b) → Course m b l h → None13 h → keptCalls (logAfter l h) ≡ keptCalls l ++ goodOnes h
+all-kept : (h : List Both) (m b l : List ℕ) → Leads l (shown m b) → Course m b l h → None13 h
+    → keptCalls (logAfter l h) ≡ keptCalls l ++ goodOnes h
 all-kept [] m b l g c n = sym (append-nil (keptCalls l))
 all-kept (x ∷ h) m b l g c n =
     let z = eqb (numberIn (x .card .reply)) 0 in
@@ -189,7 +196,8 @@ led (x ∷ h) m b l c =
     let n = x .card .words in
     let d = x .card .bytes in (
       step m b l x (c .0) (c .1) (c .2) (c .3),
-      subst (λ (s : Splicer). both.Course s (x .second .log) (pairs h n d (x .second .log) (c .4))) (c .2 .answers .splicer) (led h n d (x .second .log) (c .4)),
+      subst (λ (s : Splicer). both.Course s (x .second .log) (pairs h n d (x .second .log) (c .4))) (c .2 .answers .splicer)
+          (led h n d (x .second .log) (c .4)),
     )
 
 log-same : (h : List Both) (m b l : List ℕ) (c : Course m b l h) → sides.logAfter l (pairs h m b l c) ≡ logAfter l h
@@ -229,7 +237,8 @@ module _ (h : List Both) (w : Beside h) where
     part = until-course h m b (w .log) (w .course)
 
     kept-firsts : keptCalls (logAfter (w .log) firsts) ≡ goodOnes firsts
-    kept-firsts = all-kept firsts m b (w .log) starts part (until-none h) ∙ ap (λ (y : List Call). y ++ goodOnes firsts) (none-kept long (w .forgets .forgets))
+    kept-firsts = all-kept firsts m b (w .log) starts part (until-none h)
+        ∙ ap (λ (y : List Call). y ++ goodOnes firsts) (none-kept long (w .forgets .forgets))
 
     -- "Until it first refuses with 13, the log unchanged between calls, it is proved to answer like the card's engine, byte for byte"
     pub recalls-like-the-card : LikeTheCard (w .log) h
@@ -246,16 +255,19 @@ module _ (h : List Both) (w : Beside h) where
     fresh-alike =
         let a = w .fresh .answers .answer in
         w .forgets .words
-        ∙ ap replyWords (fresh-same (w .forgets .forgets) long ∙ sym (ap asReply a ∙ as-ruled _ _)) ∙ same-words (w .fresh .answer) ∙ sym (w .fresh .reply)
+        ∙ ap replyWords (fresh-same (w .forgets .forgets) long ∙ sym (ap asReply a ∙ as-ruled _ _)) ∙ same-words (w .fresh .answer)
+        ∙ sym (w .fresh .reply)
 
   -- one call more, after any others, those that got 13 among them
   pub thirteen-exactly : (i : Input) (y : Recollection) → Recollects (logAfter (w .log) h) i y
-      → (is13 (y .reply) ≡ (otherLength (w .lent) || spent (goodOnes h))) × (is13 (y .reply) ≡ true → (y .log ≡ logAfter (w .log) h) × (y .buffer ≡ bufferOf i))
+      → (is13 (y .reply) ≡ (otherLength (w .lent) || spent (goodOnes h))) ×
+      (is13 (y .reply) ≡ true → (y .log ≡ logAfter (w .log) h) × (y .buffer ≡ bufferOf i))
   thirteen-exactly i y r =
       let ps = pairs h m b (w .log) (w .course) in
       let l = log-same h m b (w .log) (w .course) in
       let c = subst (λ (s : Splicer). both.Course s (w .log) ps) fresh-shown (led h m b (w .log) (w .course)) in
-      let t = thirteen (w .forgets .forgets) ps c (callOf i) (bufferOf i) (subst (λ (x : List ℕ). Remembers (callOf i) x (bufferOf i) (r .reply) (y .log) (y .buffer)) (sym l) (r .remembers)) in
+      let t = thirteen (w .forgets .forgets) ps c (callOf i) (bufferOf i)
+      (subst (λ (x : List ℕ). Remembers (callOf i) x (bufferOf i) (r .reply) (y .log) (y .buffer)) (sym l) (r .remembers)) in
       let e : is13 (y .reply) ≡ sides.is13 (r .reply) = ap is13 (r .words) ∙ words-13 (r .reply) in (
         e ∙ t .0 ∙ ap (λ (ks : List Call). otherLength (w .lent) || spent ks) (good-same h m b (w .log) (w .course)),
         λ f. let z = t .1 (sym e ∙ f) in (z .0 ∙ l, z .1),

@@ -89,7 +89,8 @@ module _ {s : Splicer} {l : List ℕ} {p : Pair} (h : Step s l p) where
     pub step-calls : keptCalls (p .log) ≡ keptCalls l ++ put (isDone (p .reply)) (keptForm k) []
     step-calls =
         ap keptCalls (h .remembers .log) ∙ calls-on k l s (h .its) (h .wired) g f
-        ∙ ap (λ (b : Bool). keptCalls l ++ put b (keptForm k) []) (sym (ap isDone (h .ruled .reply) ∙ good-done (call k s .answer) (call k s .moved)))
+        ∙ ap (λ (b : Bool). keptCalls l ++ put b (keptForm k) []) (sym
+        (ap isDone (h .ruled .reply) ∙ good-done (call k s .answer) (call k s .moved)))
 
 -- ## Any calls
 
@@ -126,7 +127,8 @@ all-leads [] s l g c n = g
 all-leads (p ∷ h) s l g c n =
     all-leads h (call (p .call) s .splicer) (p .log) (step-leads (c .0) g (sym (step-13 (c .0)) ∙ n .0)) (c .1) (n .1)
 
-all-calls : (h : List Pair) (s : Splicer) (l : List ℕ) → Leads l s → Course s l h → None13 h → keptCalls (logAfter l h) ≡ keptCalls l ++ goodOnes h
+all-calls : (h : List Pair) (s : Splicer) (l : List ℕ) → Leads l s → Course s l h → None13 h
+    → keptCalls (logAfter l h) ≡ keptCalls l ++ goodOnes h
 all-calls [] s l g c n = sym (append-nil (keptCalls l))
 all-calls (p ∷ h) s l g c n =
     let f = sym (step-13 (c .0)) ∙ n .0 in
@@ -160,7 +162,8 @@ spent-more ks js e = go (leb mostCalls (length ks)) refl e
         → (leb mostCalls (length (ks ++ js)) || ltb (logLength - length (recorded (ks ++ js))) longestRecord) ≡ true
     go true f g = rw (le-leb mostCalls (length (ks ++ js)) (omega (arith, leb-true mostCalls (length ks) f, longer))) refl
     go false f g =
-        rw (lt-ltb (logLength - length (recorded (ks ++ js))) longestRecord (omega (arith, ltb-true (logLength - length (recorded ks)) longestRecord g, more)))
+        rw (lt-ltb (logLength - length (recorded (ks ++ js))) longestRecord
+        (omega (arith, ltb-true (logLength - length (recorded ks)) longestRecord g, more)))
         (or-true (leb mostCalls (length (ks ++ js))))
 
 -- from a log that leads to the card's splicer
@@ -174,14 +177,16 @@ open-all (p ∷ h) s l g c = go (full l) refl (λ j. open-all h (call (p .call) 
     x : Call
     x = keptForm (p .call)
 
-    go : (v : Bool) → full l ≡ v → (Leads (p .log) (call (p .call) s .splicer) → full (logAfter (p .log) h) ≡ spent (keptCalls (p .log) ++ goodOnes h))
+    go : (v : Bool) → full l ≡ v → (Leads (p .log) (call (p .call) s .splicer)
+        → full (logAfter (p .log) h) ≡ spent (keptCalls (p .log) ++ goodOnes h))
         → full (logAfter (p .log) h) ≡ spent (keptCalls l ++ put b x (goodOnes h))
     go true f ih =
         ap full (stays-full (p ∷ h) s l f c) ∙ f ∙ sym (spent-more (keptCalls l) (put b x (goodOnes h)) (sym (full-spent l (g .long)) ∙ f))
     go false f ih =
         ih (step-leads (c .0) g f)
         ∙ ap (λ (y : List Call). spent (y ++ goodOnes h)) (step-calls (c .0) g f)
-        ∙ ap spent (append-assoc (keptCalls l) (put b x []) (goodOnes h) ∙ ap (λ (y : List Call). keptCalls l ++ y) (put-append b x (goodOnes h)))
+        ∙ ap spent (append-assoc (keptCalls l) (put b x []) (goodOnes h)
+        ∙ ap (λ (y : List Call). keptCalls l ++ y) (put-append b x (goodOnes h)))
 
 -- ## From fresh
 
@@ -246,5 +251,6 @@ unfolding rules.fresh cardName replyOf output
 fresh-card = refl
 
 -- both answer fresh alike, where the log has its length
-pub fresh-same : {l n : List ℕ} {r : Reply} → Forgets l r n → length l ≡ logLength → r ≡ replyOf (rules.fresh (padded cardName) .answer) (rules.fresh (padded cardName) .moved)
+pub fresh-same : {l n : List ℕ} {r : Reply} → Forgets l r n → length l ≡ logLength
+    → r ≡ replyOf (rules.fresh (padded cardName) .answer) (rules.fresh (padded cardName) .moved)
 fresh-same {l} f h = forgets-same l f (forgets-all (same-length l h) refl) .0 ∙ sym fresh-card

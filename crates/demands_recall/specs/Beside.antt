@@ -1,4 +1,5 @@
--- Both engines called side by side, each result one that the call's contract allows: the card's from fresh with "CH1", as demands_engine/specs/Trace
+-- Both engines called side by side, each result one that the call's contract allows: the card's from fresh with "CH1", as
+-- demands_engine/specs/Trace
 -- has it, and the second one from its fresh, each call handed the log that the last one left.
 use mathlib.Core.Path.{_≡_}
 use mathlib.Core.List.{List, [], _∷_, map}

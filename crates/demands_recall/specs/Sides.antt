@@ -57,7 +57,8 @@ abbrev pub goodOnes : List Pair → List Call
 goodOnes [] = []
 goodOnes (p ∷ h) = put (isDone (p .reply)) (keptForm (p .call)) (goodOnes h)
 
--- from the log l that fresh left: all replies and buffers are the same up to the first 13, and the log has the good calls, in their order, and
+-- from the log l that fresh left: all replies and buffers are the same up to the first 13, and the log has the good calls, in their order,
+-- and
 -- zeros behind them
 pub record LikeTheCard (l : List ℕ) (h : List Pair) : Type 0 where
   pub same : All Same (until13 h)

@@ -9,7 +9,8 @@ use borrow.Author.Tests.{ltb-false}
 use Rattle.rules.specs.Lists.{All}
 use Rattle.rules.specs.Bytes.{Byte}
 use Rattle.rules.specs.Calls.{Called, fresh, ticked, moveCall, Call, call}
-use Rattle.rules.specs.Rolling.{Rolling, Rolled, Course, refuses, brings, instantCourse, readingCourse, rolls, instantCall, readingCall, rollingFresh, RollingCall, roll, RollWired}
+use Rattle.rules.specs.Rolling.{Rolling, Rolled, Course, refuses, brings, instantCourse, readingCourse, rolls, instantCall, readingCall}
+use Rattle.rules.specs.Rolling.{rollingFresh, RollingCall, roll, RollWired}
 use Rattle.memory.specs.Memory.{see}
 use Rattle.engine.specs.declared.Answer.{Answer}
 use Rattle.engine.specs.declared.Answer.the-variants.{Refused}
@@ -25,7 +26,8 @@ use Rattle.demands_engine.specs.Trace as engine
 use Rattle.demands_engine.proofs.Steps.{memory-same}
 use Rattle.demands_engine.proofs.Answerable as engine-runs
 use Rattle.demands_door.proofs.Course as driven
-use Rattle.demands_rolling.specs.Rolled.{Memory, shown, LentAt, left, Made, made, AllowedAt, Leads, Trace, More, Point, inputs, Answerable, Run}
+use Rattle.demands_rolling.specs.Rolled.{Memory, shown, LentAt, left, Made, made, AllowedAt, Leads, Trace, More, Point, inputs}
+use Rattle.demands_rolling.specs.Rolled.{Answerable, Run}
 use Rattle.demands_rolling.proofs.Inside.{roll-wired, promised}
 
 -- ## The calls that led from one memory to another
@@ -53,7 +55,8 @@ rolled-same {c} {ring} {e} {r} {m} {b} {k} {o} {s} {n} {d} {j} {p} x y =
 
 seen-same : (m : Memory) (i : RollInput) (r s : RollSeen) → AllowedAt m i r → AllowedAt m i s → r ≡ s
 seen-same m (aKnown i) r s x y =
-    let p = replies-same _ (see (m .core .words) .ringEnd) (bufferOf i) (r .reply) (r .words) (r .bytes) (r .buffer) (s .reply) (s .words) (s .bytes) (s .buffer) (x .0) (y .0) in
+    let p = replies-same _ (see (m .core .words) .ringEnd) (bufferOf i) (r .reply) (r .words) (r .bytes) (r .buffer) (s .reply) (s .words)
+    (s .bytes) (s .buffer) (x .0) (y .0) in
     let q = x .1 ∙ sym (y .1) in
     λ j. record { reply = p .0 j; words = p .1 j; bytes = p .2 j; counter = q j; buffer = p .3 j }
 seen-same m (anInstant g e) r s x y =
@@ -80,7 +83,8 @@ led-same (x ∷ h) (y ∷ g) b m n l k e =
 -- ## Traces
 
 module _ (name : List ℕ) where
-  pub trace-more : (h : List Made) (m : Memory) (i : RollInput) (r : RollSeen) → More name h m i r → Trace name (h ++ (made i r ∷ [])) (left r)
+  pub trace-more : (h : List Made) (m : Memory) (i : RollInput) (r : RollSeen) → More name h m i r
+      → Trace name (h ++ (made i r ∷ [])) (left r)
   trace-more h m i r a =
       let t = a .trace in
       record {
@@ -121,7 +125,8 @@ record Found (m : Memory) (k : RollingCall) (e : List ℕ) : Type 0 where
   answer : Answer
   memory : Memory
   buffer : List ℕ
-  rolls : Rolls (roll k (shown m)) (see (m .core .words) .ringEnd) e answer (memory .core .words) (memory .core .bytes) (memory .counter) buffer
+  rolls : Rolls (roll k (shown m)) (see (m .core .words) .ringEnd) e answer (memory .core .words) (memory .core .bytes) (memory .counter)
+      buffer
 
 module _ (m : Memory) (l : LentAt m) (k : RollingCall) (w : RollWired k) (x : ℕ) (e : List ℕ) where
   found : (c : Course) → roll k (shown m) ≡ rolls c x (shown m) → Ahead c (shown m .splicer .clock) (length e) → Found m k e
@@ -158,7 +163,8 @@ answerable m l (aKnown i) t =
     }
 answerable m l (anInstant g e) t =
     let w = roll-wired (anInstant g e) t in
-    let f = found m l (rollCallOf (anInstant g e)) w (getD g 2 0) e (instantCourse (getD g 0 0) (getD g 1 0) (length e) (shown m .last)) refl
+    let f = found m l (rollCallOf (anInstant g e)) w (getD g 2 0) e (instantCourse (getD g 0 0) (getD g 1 0) (length e) (shown m .last))
+    refl
     (instant-ahead (getD g 0 0) (getD g 1 0) (length e) (shown m .splicer .clock) (shown m .last) (w .0) (lent-steady l)) in
     record { seen = seenOf f; allowed = replied (f .answer) (f .rolls) }
 answerable m l (aReading x e) t =

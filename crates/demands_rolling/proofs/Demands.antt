@@ -53,13 +53,15 @@ use Rattle.rows.proofs.Laws.{page-filled}
 use Rattle.door.proofs.Page.{page-shown}
 use Rattle.demands_door.specs.Driven.{numberIn, movedIn, replyIn, inside}
 use Rattle.demands_door.proofs.Inside.{number-inside, bytes-inside, allowed-inside}
-use Rattle.demands_rolling.specs.Rolled.{Memory, shown, emptyMemory, LentAt, left, Made, made, AllowedAt, Trace, More, Point, seenOf, number}
+use Rattle.demands_rolling.specs.Rolled.{Memory, shown, emptyMemory, LentAt, left, Made, made, AllowedAt, Trace, More, Point, seenOf}
+use Rattle.demands_rolling.specs.Rolled.{number}
 use Rattle.demands_rolling.specs.Rolled.{moved}
 use Rattle.demands_rolling.specs.Rolled.{bytesOf, calls, inputs, othersBy, grants, changes, within, events, AsRuled, Answerable, Run}
 use Rattle.demands_rolling.proofs.Inside.{trace-lent, trace-inside, trace-shown, trace-calls, within-append, fresh-told, fresh-moved}
 use Rattle.demands_rolling.proofs.Inside.{fresh-counter, known-more, calls-after}
 use Rattle.demands_rolling.proofs.Course.{answerable, runs, trace-more, trace-point, trace-same}
-use Rattle.demands_rolling.proofs.Next.{as-ruled, number-first, unchanged, Next, silent, calls-of, next, bytes-are, moved-are, reply-are}
+use Rattle.demands_rolling.proofs.Next.{as-ruled, number-first, unchanged, Next, silent, calls-of, next, bytes-are, moved-are}
+use Rattle.demands_rolling.proofs.Next.{reply-are}
 use Rattle.demands_rolling.proofs.Next.{within-more, none-ends, none-outs, none-long, none-coded, none-played}
 
 -- ## "On a splicer that came from fresh and the calls after it"
@@ -85,7 +87,8 @@ same-calls-same-results = trace-same
 -- ## Document 02, CR 9
 
 module _ (name : List ℕ) (h : List Made) (m : Memory) where
-  -- "Its answers must be those of document 01 with the clock brought to the same instants in ninths": the good calls are the engine's, with the
+  -- "Its answers must be those of document 01 with the clock brought to the same instants in ninths": the good calls are the engine's, with
+  -- the
   -- same replies, memory and buffers
   pub rolls-as-ruled : Trace name h m → engine.Trace name (within h) (m .core)
   rolls-as-ruled = trace-inside name h m
@@ -112,10 +115,12 @@ module _ (name : List ℕ) (h : List Made) (m : Memory) (tr : Trace name h m) (t
   true-time acts a e = time.acts-show acts t u (shown m) a e s
 
   -- of the calls that C made
-  pub true-time-shown : (g : List Made) (n : Memory) → Trace name (h ++ g) n → (acts : List Act) → calls g ≡ callsAt t acts → All InTime acts
+  pub true-time-shown : (g : List Made) (n : Memory) → Trace name (h ++ g) n → (acts : List Act) → calls g ≡ callsAt t acts
+      → All InTime acts
       → u + 100 * ticked acts < horizon → time.Shows (t + ticked acts) (u + 100 * ticked acts) (shown n)
   true-time-shown g n tn acts e a early =
-      let k = trace-shown name (h ++ g) n tn ∙ calls-after h g _ ∙ ap (rolledAfter (calls g)) (sym (trace-shown name h m tr)) ∙ ap (λ ks. rolledAfter ks (shown m)) e in
+      let k = trace-shown name (h ++ g) n tn ∙ calls-after h g _ ∙ ap (rolledAfter (calls g)) (sym (trace-shown name h m tr))
+      ∙ ap (λ ks. rolledAfter ks (shown m)) e in
       subst (time.Shows (t + ticked acts) (u + 100 * ticked acts)) (sym k) (true-time acts a early)
 
   -- and the next such reading is not refused for 12, nor for anything else
@@ -176,17 +181,20 @@ module _ (name : List ℕ) (h : List Made) (m : Memory) where
 
   -- and of all calls together
   pub trace-as-ruled : Trace name h m
-      → (events h ≡ history (engine.calls (within h)) (fresh name .splicer)) × (shown m .splicer ≡ after (engine.calls (within h)) (fresh name .splicer))
+      → (events h ≡ history (engine.calls (within h)) (fresh name .splicer)) ×
+      (shown m .splicer ≡ after (engine.calls (within h)) (fresh name .splicer))
   trace-as-ruled t = called.trace-as-ruled name (within h) (m .core) (trace-inside name h m t)
 
   -- "An accepted request is accepted because the rules accept it; a refused one carries the first result code that applies."
   pub first-code-applies : (d : ℕ) (l pm im e : List ℕ) (r : RollSeen) → More name h m (aKnown (aMessage d l pm im e)) r
       → (q : Request) → Asks d l (lendingMaps pm im (length e)) q (shown m .splicer)
-      → ownAnswer (answers (spliceResult (shown m .splicer .clock) d q (requested d q (shown m .splicer .queue)) (shown m .splicer .queue)) d (q .id))
+      → ownAnswer (answers (spliceResult (shown m .splicer .clock) d q (requested d q (shown m .splicer .queue)) (shown m .splicer .queue))
+      d (q .id))
       (recordsIn (bytesOf r)) ≡ true
   first-code-applies d l pm im e r c q asks =
       rw (bytes-are name h m _ r c)
-      (called.first-code-applies name (within h) (m .core) d l pm im e (inside (seenOf r)) (known-more name h m (aMessage d l pm im e) r c) q asks)
+      (called.first-code-applies name (within h) (m .core) d l pm im e (inside (seenOf r)) (known-more name h m (aMessage d l pm im e) r c)
+      q asks)
 
   -- A request that is read passes b to d (a is gone: 02, CR 1), or the last record in the answer's bytes has the first of their codes that
   -- applies
@@ -221,7 +229,8 @@ module _ (name : List ℕ) (h : List Made) (m : Memory) where
     pub full-exactly-when : ownAnswer (answers (cond (fullTold d (events h)) 114 100) d (q .id)) (recordsIn (bytesOf r)) ≡ true
     full-exactly-when =
         rw (bytes-are name h m _ r c)
-        (called.full-exactly-when name (within h) (m .core) d l pm im e (inside (seenOf r)) (known-more name h m (aMessage d l pm im e) r c) q asks passes)
+        (called.full-exactly-when name (within h) (m .core) d l pm im e (inside (seenOf r)) (known-more name h m (aMessage d l pm im e) r c)
+        q asks passes)
 
     -- "Reserved places hold against the other connections."
     pub reserved-places-hold : waitingCount d (events h) < 10 → ownAnswer (answers 100 d (q .id)) (recordsIn (bytesOf r)) ≡ true
@@ -256,7 +265,8 @@ module _ (name : List ℕ) (h : List Made) (m : Memory) where
 
 -- ## The incident
 
--- "An ad server dropped its connection with its spot on air.": after the calls h connection d closes, by a good call, and the calls g follow
+-- "An ad server dropped its connection with its spot on air.": after the calls h connection d closes, by a good call, and the calls g
+-- follow
 module _ (name : List ℕ) (h g : List Made) (m : Memory) (d : ℕ) (e : List ℕ) (r : RollSeen)
     (t : Trace name (h ++ (made (aKnown (aClose d e)) r ∷ g)) m) (z : number r ≡ 0) where
   -- its sessions of before stand in the book as they stood at the close, each with its one end; newer are those accepted since
@@ -313,9 +323,12 @@ module _ (name : List ℕ) (h : List Made) (m : Memory) where
 -- ## Document 02, CR 8
 
 module _ (name : List ℕ) (h : List Made) (m : Memory) where
-  -- "The state now also keeps the last 16 ended sessions .. oldest dropped first": what the words keep is, newest first, the first 16 of the ends
-  -- that the answers' bytes tell: connection, SessionID and result of each end record, the SpliceEventID of the request that its connection last had
-  -- accepted under that SessionID, and the PlayedDuration of the record, or where it shows none of the time on air, counted from the history as
+  -- "The state now also keeps the last 16 ended sessions .. oldest dropped first": what the words keep is, newest first, the first 16 of
+  -- the ends
+  -- that the answers' bytes tell: connection, SessionID and result of each end record, the SpliceEventID of the request that its connection
+  -- last had
+  -- accepted under that SessionID, and the PlayedDuration of the record, or where it shows none of the time on air, counted from the
+  -- history as
   -- CR 13 counts it: 0 where the start was never written
   pub kept-as-told : Trace name h m → KeptAs (recent (shown m .splicer .queue .lately)) (endsTold (events h))
   kept-as-told t = called.kept-as-told name (within h) (m .core) (trace-inside name h m t)
@@ -325,27 +338,32 @@ module _ (name : List ℕ) (h : List Made) (m : Memory) where
   one-kept-for-each t = called.one-kept-for-each name (within h) (m .core) (trace-inside name h m t)
 
 -- the next message, from whatever connection d, which asks by an ExtendedData_Request for the number x
-module _ (name : List ℕ) (h : List Made) (m : Memory) (d : ℕ) (l pm im e : List ℕ) (r : RollSeen) (c : More name h m (aKnown (aMessage d l pm im e)) r) (x : ℕ)
+module _ (name : List ℕ) (h : List Made) (m : Memory) (d : ℕ) (l pm im e : List ℕ) (r : RollSeen)
+    (c : More name h m (aKnown (aMessage d l pm im e)) r) (x : ℕ)
     (asks : Inquires d l (lendingMaps pm im (length e)) x (shown m .splicer)) where
   -- "answered with the asking connection's latest ended session of that number", "121 .. where none is kept"
   pub extended-answered : Finds d x (recent (shown m .splicer .queue .lately)) (bytesOf r)
   extended-answered =
       rw (bytes-are name h m _ r c)
-      (called.extended-answered name (within h) (m .core) d l pm im e (inside (seenOf r)) (known-more name h m (aMessage d l pm im e) r c) x asks)
+      (called.extended-answered name (within h) (m .core) d l pm im e (inside (seenOf r)) (known-more name h m (aMessage d l pm im e) r c) x
+      asks)
 
   -- and so, of the sixteen latest ends that the answers' bytes tell, the first with that connection and number, or 121
   pub extended-told : recordsIn (bytesOf r) ≡ answerTold d x (take mostKept (endsTold (events h))) ∷ []
   extended-told =
       rw (bytes-are name h m _ r c)
-      (called.extended-told name (within h) (m .core) d l pm im e (inside (seenOf r)) (known-more name h m (aMessage d l pm im e) r c) x asks)
+      (called.extended-told name (within h) (m .core) d l pm im e (inside (seenOf r)) (known-more name h m (aMessage d l pm im e) r c) x
+      asks)
 
 module _ (name : List ℕ) (h : List Made) (m : Memory) (t : Trace name h m) where
   -- "For the desk's page the caller lends sixteen rows and they are filled from the newest down"
   pub page-read : (lent : List Row) {n : ℕ} {a : List Row} → length lent ≡ rows → Pages (lateOf (m .core .words)) lent n a →
       (n ≡ 0) × (a ≡ rowsOf (shown m .splicer .queue .lately))
   page-read lent k p =
-      let w = core.trace-lent name (within h) (m .core) (trace-inside name h m t) in
-      (page-filled (lateOf (m .core .words)) lent k p .0, page-shown (m .core .words) (w .whole .words) (reached-sound _ (w .reached) .lately) lent k p)
+      let w = core.trace-lent name (within h) (m .core) (trace-inside name h m t) in (
+        page-filled (lateOf (m .core .words)) lent k p .0,
+        page-shown (m .core .words) (w .whole .words) (reached-sound _ (w .reached) .lately) lent k p,
+      )
 
 -- ## Document 02, CR 10
 
@@ -422,7 +440,8 @@ module _ (name : List ℕ) (h : List Made) (m : Memory) where
 -- ## Document 02, CR 13
 
 module _ (name : List ℕ) (h : List Made) (m : Memory) where
-  -- "Every moment belongs to someone.": primary time, "counted from the history, as the time in which no session was started and unended", and
+  -- "Every moment belongs to someone.": primary time, "counted from the history, as the time in which no session was started and unended",
+  -- and
   -- each session's, "the time in which it had the highest AccessType of those started and unended", in ninths, add up to the clock
   pub every-moment : Trace name h m → primaryTold (events h) + airTold (events h) ≡ clockTold (events h)
   every-moment t = called.every-moment name (within h) (m .core) (trace-inside name h m t)
@@ -443,16 +462,20 @@ module _ (name : List ℕ) (h : List Made) (m : Memory) where
   pub waiting-played-none : Trace name h m → All (λ u. u .played .0 ≡ 0) (shown m .splicer .queue .waiting)
   waiting-played-none t = called.waiting-played-none name (within h) (m .core) (trace-inside name h m t)
 
-  -- "from which PlayedDuration is rounded", from bytes alone: each SpliceComplete flag 1 in the next answer has as PlayedDuration its session's time,
+  -- "from which PlayedDuration is rounded", from bytes alone: each SpliceComplete flag 1 in the next answer has as PlayedDuration its
+  -- session's time,
   -- counted from the history with this call, divided by 100 and rounded down
-  pub played-as-counted : (i : RollInput) (r : RollSeen) → More name h m i r → PlayedAs (events (h ++ (made i r ∷ []))) (recordsIn (bytesOf r))
+  pub played-as-counted : (i : RollInput) (r : RollSeen) → More name h m i r
+      → PlayedAs (events (h ++ (made i r ∷ []))) (recordsIn (bytesOf r))
   played-as-counted i r c = go (next name h m i r c)
     where
       go : Next name h m i r → PlayedAs (events (h ++ (made i r ∷ []))) (recordsIn (bytesOf r))
       go (silent e) = none-played (events (h ++ (made i r ∷ []))) (bytesOf r) (e .bytes)
       go (calls-of j o f k) =
-          subst (λ (x : List engine.Made). PlayedAs (engine.events x) (recordsIn (bytesOf r))) (sym (within-more h i r ∙ ap (λ x. within h ++ x) k))
-          (subst (λ (l : List ℕ). PlayedAs (engine.events (within h ++ (engine.made j (inside (seenOf r)) ∷ []))) (recordsIn l)) (sym (bytes-are name h m i r c))
+          subst (λ (x : List engine.Made). PlayedAs (engine.events x) (recordsIn (bytesOf r)))
+          (sym (within-more h i r ∙ ap (λ x. within h ++ x) k))
+          (subst (λ (l : List ℕ). PlayedAs (engine.events (within h ++ (engine.made j (inside (seenOf r)) ∷ []))) (recordsIn l))
+          (sym (bytes-are name h m i r c))
           (called.played-as-counted name (within h) (m .core) j (inside (seenOf r)) o))
 
   -- and so has each session in every later list
@@ -464,7 +487,8 @@ module _ (name : List ℕ) (h g : List Made) (m : Memory) (t : Trace name (h ++ 
   both : engine.Trace name (within h ++ within g) (m .core)
   both = subst (λ k. engine.Trace name k (m .core)) (within-append h g) (trace-inside name (h ++ g) m t)
 
-  -- "the growth of the time on the primary channel plus that of all sessions' time on air, in ninths, equals the clock's advance between them"
+  -- "the growth of the time on the primary channel plus that of all sessions' time on air, in ninths, equals the clock's advance between
+  -- them"
   pub no-gap : Gapless (events h) (events (h ++ g))
   no-gap = rw (within-append h g) (called.no-gap name (within h) (within g) (m .core) both)
 
@@ -529,7 +553,8 @@ module _ (name : List ℕ) (h : List Made) (m : Memory) where
   pub config-told : (d : ℕ) (l pm im e : List ℕ) (r : RollSeen) → More name h m (aKnown (aMessage d l pm im e)) r
       → AsksConfig d l (lendingMaps pm im (length e)) (shown m .splicer) → Ready d (shown m .splicer)
       → recordsIn (bytesOf r)
-      ≡ ConfigResponse d 100 (shown m .splicer .name) (keptTold d (events h)) (sectionOf (lendingMaps pm im (length e)) (shown m .splicer)) ∷ []
+      ≡ ConfigResponse d 100 (shown m .splicer .name) (keptTold d (events h)) (sectionOf (lendingMaps pm im (length e)) (shown m .splicer))
+      ∷ []
   config-told d l pm im e r c asks ready =
       rw (bytes-are name h m _ r c)
       (called.config-told name (within h) (m .core) d l pm im e (inside (seenOf r))

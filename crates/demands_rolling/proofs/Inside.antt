@@ -1,4 +1,5 @@
--- A trace of this card is a trace of the engine's calls, with the same memory and buffers: a good instant or reading is the clock brought to
+-- A trace of this card is a trace of the engine's calls, with the same memory and buffers: a good instant or reading is the clock brought
+-- to
 -- an instant, a refused one changes nothing. Rests on the door's promises and on rolling's laws of courses.
 use mathlib.Core.Path.{_≡_, refl, sym, ap, ap₂, subst, _∙_}
 use mathlib.Core.Bool.{true, false, cond}
@@ -32,9 +33,11 @@ use Rattle.door_rolling.specs.RollDoor.{RollReplies, RollInput, aKnown, anInsta
 use Rattle.demands_engine.specs.Trace as engine
 use Rattle.demands_engine.proofs.Steps.{wired, memory-same}
 use Rattle.demands_door.specs.Driven.{handed, inside, answerIn, numberIn, movedIn}
-use Rattle.demands_door.proofs.Inside.{number-told, moved-told, told, number-inside, call-handed, buffer-handed, typed-handed, allowed-inside}
+use Rattle.demands_door.proofs.Inside.{number-told, moved-told, told, number-inside, call-handed, buffer-handed, typed-handed}
+use Rattle.demands_door.proofs.Inside.{allowed-inside}
 use Rattle.demands_door.proofs.Inside.{reply-back}
-use Rattle.demands_rolling.specs.Rolled.{Memory, shown, LentAt, left, Made, made, AllowedAt, Leads, Trace, More, seenOf, number, calls}
+use Rattle.demands_rolling.specs.Rolled.{Memory, shown, LentAt, left, Made, made, AllowedAt, Leads, Trace, More, seenOf, number}
+use Rattle.demands_rolling.specs.Rolled.{calls}
 use Rattle.demands_rolling.specs.Rolled.{timeMade, asMade, within}
 
 -- ## One call, as this card's rules have it
@@ -50,11 +53,13 @@ roll-wired (aReading x e) t = t
 -- the promise of every call, as one; of a known call the counter's words stay, so what it leaves is lent too
 abbrev pub Promised : Memory → RollInput → RollSeen → Type 0
 Promised m i r =
-    Rolls (roll (rollCallOf i) (shown m)) (see (m .core .words) .ringEnd) (rollBufferOf i) (answerIn (r .reply)) (r .words) (r .bytes) (r .counter) (r .buffer)
+    Rolls (roll (rollCallOf i) (shown m)) (see (m .core .words) .ringEnd) (rollBufferOf i) (answerIn (r .reply)) (r .words) (r .bytes)
+    (r .counter) (r .buffer)
 
 -- what the door promises of the reply
 rolls-told : (m : Memory) (i : RollInput) (r : RollSeen)
-    → RollReplies (roll (rollCallOf i) (shown m)) (see (m .core .words) .ringEnd) (rollBufferOf i) (r .reply) (r .words) (r .bytes) (r .counter) (r .buffer)
+    → RollReplies (roll (rollCallOf i) (shown m)) (see (m .core .words) .ringEnd) (rollBufferOf i) (r .reply) (r .words) (r .bytes)
+    (r .counter) (r .buffer)
     → Promised m i r
 rolls-told m i r x =
     let p : Replies _ _ _ _ _ _ _ = record { answer = x .answer; answers = x .rolls .answers; reply = x .reply } in
@@ -84,7 +89,8 @@ promised m (aReading x e) r l t a = rolls-told m (aReading x e) r a
 
 -- the door's promise, whatever the call
 pub replies-of : (m : Memory) (i : RollInput) (r : RollSeen) → AllowedAt m i r
-    → Replies (roll (rollCallOf i) (shown m) .called) (see (m .core .words) .ringEnd) (rollBufferOf i) (r .reply) (r .words) (r .bytes) (r .buffer)
+    → Replies (roll (rollCallOf i) (shown m) .called) (see (m .core .words) .ringEnd) (rollBufferOf i) (r .reply) (r .words) (r .bytes)
+    (r .buffer)
 unfolding roll
 replies-of m (aKnown i) r a = a .0
 replies-of m (anInstant g e) r a = record { answer = a .answer; answers = a .rolls .answers; reply = a .reply }
@@ -102,11 +108,13 @@ state-is m i r p =
 reply-read : {c : Rolled} {ring : ℕ} {e r m b k o : List ℕ} → RollReplies c ring e r m b k o → r ≡ replyOf (answerIn r)
 reply-read x = reply-back (record { answer = x .answer; answers = x .rolls .answers; reply = x .reply })
 
-pub fresh-inside : (name : List ℕ) {r m b k : List ℕ} → (x : RollReplies (rollingFresh name) 0 [] r m b k []) → Answers (fresh name) 0 [] (x .answer) m b []
+pub fresh-inside : (name : List ℕ) {r m b k : List ℕ} → (x : RollReplies (rollingFresh name) 0 [] r m b k [])
+    → Answers (fresh name) 0 [] (x .answer) m b []
 unfolding rollingFresh
 fresh-inside name x = x .rolls .answers
 
-begun-is : (name : List ℕ) {r m b k : List ℕ} → RollReplies (rollingFresh name) 0 [] r m b k [] → rolling m b k ≡ rollingOf (rollingFresh name)
+begun-is : (name : List ℕ) {r m b k : List ℕ} → RollReplies (rollingFresh name) 0 [] r m b k []
+    → rolling m b k ≡ rollingOf (rollingFresh name)
 unfolding rollingFresh
 begun-is name x =
     let d = ap lastOf (x .rolls .counter) ∙ last-read none in
@@ -144,9 +152,11 @@ module _ (m : Memory) (i : RollInput) (r : RollSeen) (l : LentAt m) (p : Promise
   unfolding rolls answerOf ticked engine.numberIn
   course-step (refuses n) x f g a =
       let y : answerIn (r .reply) ≡ Refused n = p .answers .answer ∙ ap (λ z. answerOf (z .called .answer) (z .called .moved)) g in
-      let u = refused-unchanged k n (m .core .words) (m .core .bytes) (m .counter) e (answerIn (r .reply)) (r .words) (r .bytes) (r .counter) (r .buffer) l p y in
+      let u = refused-unchanged k n (m .core .words) (m .core .bytes) (m .counter) e (answerIn (r .reply)) (r .words) (r .bytes)
+      (r .counter) (r .buffer) l p y in
       let none-made : timeMade e r ≡ [] =
-      ap (λ b. cond b (one-move (shown (left r) .splicer .clock)) []) (ap (λ z. eqb z 0) (number-is (Refused n) f y) ∙ ne-eqb (houseNumber n) 0 (λ q. omega (arith, a-number n))) in
+      ap (λ b. cond b (one-move (shown (left r) .splicer .clock)) [])
+      (ap (λ z. eqb z 0) (number-is (Refused n) f y) ∙ ne-eqb (houseNumber n) 0 (λ q. omega (arith, a-number n))) in
       subst (Stepped (refuses n)) (sym none-made) (memory-same (left r .core) (m .core) (u .0) (u .1), refl)
   course-step (brings until) x f g a =
       let s = shown m .splicer in
@@ -157,7 +167,8 @@ module _ (m : Memory) (i : RollInput) (r : RollSeen) (l : LentAt m) (p : Promise
       ap (λ z. cond (eqb z 0) (one-move (shown (left r) .splicer .clock)) []) (number-is _ f y) ∙ ap one-move t in
       let q : roll k (shown m) .called ≡ moveCall until (length e) s =
       ap (λ z. z .called) g ∙ sym (move-same until (length e) s (ltb-false (length e) 4096 (a .0)) (a .1)) in
-      let w = subst (λ (w : Called). Answers w (see (m .core .words) .ringEnd) e (answerIn (r .reply)) (r .words) (r .bytes) (r .buffer)) q (p .answers) in
+      let w = subst (λ (w : Called). Answers w (see (m .core .words) .ringEnd) e (answerIn (r .reply)) (r .words) (r .bytes) (r .buffer)) q
+      (p .answers) in
       subst (Stepped (brings until)) (sym one-made) ((a .2, w, refl), refl)
 
 pub step : (m : Memory) (i : RollInput) (r : RollSeen) → LentAt m → RollTyped i → AllowedAt m i r → Step m i r
@@ -192,7 +203,8 @@ calls-append (x ∷ h) g = ap (λ l. engine.callOf (x .input) ∷ l) (calls-appe
 pub within-append : (h g : List Made) → within (h ++ g) ≡ within h ++ within g
 unfolding within
 within-append [] g = refl
-within-append (x ∷ h) g = ap (λ l. asMade (x .input) (x .seen) ++ l) (within-append h g) ∙ sym (append-assoc (asMade (x .input) (x .seen)) (within h) (within g))
+within-append (x ∷ h) g = ap (λ l. asMade (x .input) (x .seen) ++ l) (within-append h g)
+    ∙ sym (append-assoc (asMade (x .input) (x .seen)) (within h) (within g))
 
 pub led-lent : (h : List Made) (b m : Memory) → LentAt b → Leads b h m → LentAt m
 led-lent [] b m t l = rw l t
@@ -202,7 +214,8 @@ pub led-inside : (h : List Made) (b m : Memory) → LentAt b → Leads b h m →
 unfolding within
 led-inside [] b m t l = ap (λ y. y .core) l
 led-inside (x ∷ h) b m t l =
-    led-append (asMade (x .input) (x .seen)) (within h) (b .core) (left (x .seen) .core) (m .core) (step b (x .input) (x .seen) t (l .0) (l .1) .leads)
+    led-append (asMade (x .input) (x .seen)) (within h) (b .core) (left (x .seen) .core) (m .core)
+    (step b (x .input) (x .seen) t (l .0) (l .1) .leads)
     (led-inside h (left (x .seen)) m (promised b (x .input) (x .seen) t (l .0) (l .1) .lent) (l .2))
 
 pub led-wired : (h : List Made) (b m : Memory) → Leads b h m → All RollWired (calls h)
@@ -229,7 +242,8 @@ led-calls (x ∷ h) b m t l =
     let p = promised b (x .input) (x .seen) t (l .0) (l .1) in
     let s = step b (x .input) (x .seen) t (l .0) (l .1) in
     calls-append (asMade (x .input) (x .seen)) (within h)
-    ∙ ap₂ (λ y z. y ++ z) (s .calls) (led-calls h (left (x .seen)) m (p .lent) (l .2) ∙ ap (asMoves (calls h)) (state-is b (x .input) (x .seen) p))
+    ∙ ap₂ (λ y z. y ++ z) (s .calls) (led-calls h (left (x .seen)) m (p .lent) (l .2)
+    ∙ ap (asMoves (calls h)) (state-is b (x .input) (x .seen) p))
 
 -- ## Traces
 
@@ -249,7 +263,8 @@ module _ (name : List ℕ) (h : List Made) (m : Memory) where
       }
 
   -- a known call, made next, is the engine's
-  pub known-more : (i : Input) (r : RollSeen) → More name h m (aKnown i) r → engine.More name (within h) (m .core) (handed i) (inside (seenOf r))
+  pub known-more : (i : Input) (r : RollSeen) → More name h m (aKnown i) r
+      → engine.More name (within h) (m .core) (handed i) (inside (seenOf r))
   known-more i r c =
       record {
         trace = trace-inside (c .trace);

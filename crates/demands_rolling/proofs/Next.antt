@@ -30,9 +30,11 @@ use Rattle.demands_engine.specs.Trace as engine
 use Rattle.demands_engine.proofs.Steps.{memory-same, bytes-read, number-read}
 use Rattle.demands_door.specs.Driven.{replyIn, handed, inside, answerIn}
 use Rattle.demands_door.proofs.Inside.{number-inside, moved-inside, bytes-inside, reply-inside, reply-ruled, call-handed}
-use Rattle.demands_rolling.specs.Rolled.{Memory, shown, LentAt, left, Made, made, More, seenOf, number, moved, bytesOf, othersBy, grants}
+use Rattle.demands_rolling.specs.Rolled.{Memory, shown, LentAt, left, Made, made, More, seenOf, number, moved, bytesOf, othersBy}
+use Rattle.demands_rolling.specs.Rolled.{grants}
 use Rattle.demands_rolling.specs.Rolled.{changes, timeMade, asMade, within, AsRuled}
-use Rattle.demands_rolling.proofs.Inside.{Promised, promised, state-is, Step, step, trace-lent, trace-inside, within-append, replies-of}
+use Rattle.demands_rolling.proofs.Inside.{Promised, promised, state-is, Step, step, trace-lent, trace-inside, within-append}
+use Rattle.demands_rolling.proofs.Inside.{replies-of}
 
 -- nothing is written, no place shifted, and the memory is what it was
 pub record Silent (m : Memory) (r : RollSeen) : Type 0 where
@@ -48,7 +50,8 @@ module _ (name : List ℕ) (h : List Made) (m : Memory) (i : RollInput) (r : Rol
   holds = promised m i r here (c .typed) (c .allowed)
 
   -- the door's promise, whatever the call
-  replies : Replies (roll (rollCallOf i) (shown m) .called) (see (m .core .words) .ringEnd) (rollBufferOf i) (r .reply) (r .words) (r .bytes) (r .buffer)
+  replies : Replies (roll (rollCallOf i) (shown m) .called) (see (m .core .words) .ringEnd) (rollBufferOf i) (r .reply) (r .words)
+      (r .bytes) (r .buffer)
   replies = replies-of m i r (c .allowed)
 
   pub as-ruled : AsRuled m i r
@@ -61,7 +64,8 @@ module _ (name : List ℕ) (h : List Made) (m : Memory) (i : RollInput) (r : Rol
       }
     where
       engine-bytes : engine.bytesIn (answerIn (r .reply)) (r .buffer) ≡ writtenBy (roll (rollCallOf i) (shown m) .called .answer)
-      engine-bytes = rw (holds .answers .answer, holds .answers .buffer) (bytes-read (roll (rollCallOf i) (shown m) .called .answer) (roll (rollCallOf i) (shown m) .called .moved) (rollBufferOf i))
+      engine-bytes = rw (holds .answers .answer, holds .answers .buffer)
+          (bytes-read (roll (rollCallOf i) (shown m) .called .answer) (roll (rollCallOf i) (shown m) .called .moved) (rollBufferOf i))
 
   pub number-first : number r ≡ firstNumber (rollChecks (rollCallOf i) (shown m))
   number-first =

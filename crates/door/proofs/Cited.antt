@@ -87,7 +87,8 @@ module _ {M : Type 1} (𝓤 : URA M) (H : Heap 𝓤) (A : Atoms 𝓤) (mem : sto
     message-requires = refl
 
     pub message-ensures : message.clauses 𝓤 H A mem run κs a .ensures tt r z
-        ≡ ⌜ Allowed (now (a .0)) (now (a .1 .0)) (aMessage (a .1 .1 .0) (now (a .1 .1 .1 .0)) (now (a .1 .1 .1 .1 .0)) (now (a .1 .1 .1 .1 .1 .0)) (now (a .1 .1 .1 .1 .1 .1 .0)))
+        ≡ ⌜ Allowed (now (a .0)) (now (a .1 .0)) (aMessage (a .1 .1 .0) (now (a .1 .1 .1 .0)) (now (a .1 .1 .1 .1 .0))
+        (now (a .1 .1 .1 .1 .1 .0)) (now (a .1 .1 .1 .1 .1 .1 .0)))
         (ended (now (z .1 .1 .1 .1 .1 .1 .1 .0)) (now (z .0)) (now (z .1 .0)) (now (z .1 .1 .1 .1 .1 .1 .0))) ⌝
     unfolding call
     message-ensures = refl

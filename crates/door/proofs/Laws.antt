@@ -26,7 +26,8 @@ replies-same c at e r m b o s n d p x y =
     (x .reply ∙ ap replyOf (k .0) ∙ sym (y .reply), k .1, k .2, k .3)
 
 -- "A refusal returns its number, writes nothing, consumes nothing and changes no state."
-pub refused-unchanged : (k : Call) (m b e r v c o : List ℕ) → Lent m b → Replies (call k (shown m b)) (see m .ringEnd) e r v c o → 0 < getD r 0 0
+pub refused-unchanged : (k : Call) (m b e r v c o : List ℕ) → Lent m b → Replies (call k (shown m b)) (see m .ringEnd) e r v c o
+    → 0 < getD r 0 0
     → (v ≡ m) × (c ≡ b) × (o ≡ e)
 unfolding replyOf
 refused-unchanged k m b e r v c o l x f = by (x .answer) refl

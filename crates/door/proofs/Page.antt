@@ -1,4 +1,5 @@
--- 02, CR 8: the driver's page of a lent splicer: its rows are what ended lately, newest first. Rests on rows' laws of the promise, on memory's
+-- 02, CR 8: the driver's page of a lent splicer: its rows are what ended lately, newest first. Rests on rows' laws of the promise, on
+-- memory's
 -- of the words of what ended, and on rules' sizes of what is kept.
 use mathlib.Core.Path.{_≡_, refl, sym, ap, _∙_}
 use mathlib.Core.List.{List}
@@ -35,7 +36,8 @@ module _ (m : List ℕ) (f : Form m) (r : Recalled (see m .queue .lately)) where
       let w : (g : Past → ℕ) → g (pastAt e p) ≡ g (recentAt i (see m .queue .lately)) = λ g. ap g (sym x) in
       row-place e i (omega (arith, length-late))
       ∙ ap (λ (q : ℕ). placeRow e (q * pastWidth)) k
-      ∙ narrow-row e b (recentAt i (see m .queue .lately)) (ap (λ (q : ℕ). getD e q 0) z ∙ w (λ y. y .conn)) (w (λ y. y .id)) (w (λ y. y .event)) (w (λ y. y .result))
+      ∙ narrow-row e b (recentAt i (see m .queue .lately)) (ap (λ (q : ℕ). getD e q 0) z ∙ w (λ y. y .conn)) (w (λ y. y .id))
+      (w (λ y. y .event)) (w (λ y. y .result))
       (w (λ y. y .played)) (noted-at (see m .queue .lately) r i)
 
   pub page-shown : (lent : List Row) {n : ℕ} {a : List Row} → length lent ≡ rows → Pages e lent n a → a ≡ rowsOf (see m .queue .lately)

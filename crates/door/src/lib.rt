@@ -233,7 +233,8 @@ pub extern "C" fn splicer_7_ended(ended: &[u64], page: &mut [Row]) -> u64
     rows::page_number(page.len())
 }
 
-// 02, CR 6: whose section is on air: 0 the primary's, 1 the insertion's. It only reads, and nothing is refused. C then takes its own pointer:
+// 02, CR 6: whose section is on air: 0 the primary's, 1 the insertion's. It only reads, and nothing is refused. C then takes its own
+// pointer:
 // an exported function returns no reference.
 #[no_mangle]
 pub extern "C" fn splicer_7_map(words: &[u64; WORDS], bytes: &[u8; BYTES]) -> u64

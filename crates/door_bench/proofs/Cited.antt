@@ -1,4 +1,5 @@
--- The contracts in src/lib.rt, as the toolchain reads them, are what specs/Bench says of the calls, by computing: whoever edits one side alone is
+-- The contracts in src/lib.rt, as the toolchain reads them, are what specs/Bench says of the calls, by computing: whoever edits one side
+-- alone is
 -- refused here. a: what the call is handed, z: what the lent memory is at its end.
 use mathlib.Core.Path.{_≡_, refl, sym, ap, _∙_}
 use mathlib.Core.List.{List, []}
@@ -70,7 +71,8 @@ module _ {M : Type 1} (𝓤 : URA M) (H : Heap 𝓤) (A : Atoms 𝓤) (mem : sto
     close-requires = refl
 
     pub close-ensures : close.clauses 𝓤 H A mem run κs a .ensures tt r z
-        ≡ ⌜ Tells (closes (a .1 .0) (length (now (a .1 .1 .0)))) (now (a .0)) (now (a .1 .1 .0)) (now (z .1 .1 .1 .0)) (now (z .0)) (now (z .1 .1 .0)) ⌝
+        ≡ ⌜ Tells (closes (a .1 .0) (length (now (a .1 .1 .0)))) (now (a .0)) (now (a .1 .1 .0)) (now (z .1 .1 .1 .0)) (now (z .0))
+        (now (z .1 .1 .0)) ⌝
     close-ensures = refl
 
   -- splicer_bench_2_recall_message(log, conn, l, primary, insertion, out, reply)
@@ -80,7 +82,8 @@ module _ {M : Type 1} (𝓤 : URA M) (H : Heap 𝓤) (A : Atoms 𝓤) (mem : sto
 
     pub message-ensures : message.clauses 𝓤 H A mem run κs a .ensures tt r z
         ≡ ⌜ Tells
-        (messages (a .1 .0) (now (a .1 .1 .0)) (lendingMaps (now (a .1 .1 .1 .0)) (now (a .1 .1 .1 .1 .0)) (length (now (a .1 .1 .1 .1 .1 .0)))))
+        (messages (a .1 .0) (now (a .1 .1 .0)) (lendingMaps (now (a .1 .1 .1 .0)) (now (a .1 .1 .1 .1 .0))
+        (length (now (a .1 .1 .1 .1 .1 .0)))))
         (now (a .0)) (now (a .1 .1 .1 .1 .1 .0)) (now (z .1 .1 .1 .1 .1 .1 .0)) (now (z .0)) (now (z .1 .1 .1 .1 .1 .0)) ⌝
     message-ensures = refl
 
@@ -90,7 +93,8 @@ module _ {M : Type 1} (𝓤 : URA M) (H : Heap 𝓤) (A : Atoms 𝓤) (mem : sto
     tick-requires = refl
 
     pub tick-ensures : tick.clauses 𝓤 H A mem run κs a .ensures tt r z
-        ≡ ⌜ Tells (ticks (a .1 .0) (a .1 .1 .0) (length (now (a .1 .1 .1 .0)))) (now (a .0)) (now (a .1 .1 .1 .0)) (now (z .1 .1 .1 .1 .0)) (now (z .0)) (now (z .1 .1 .1 .0)) ⌝
+        ≡ ⌜ Tells (ticks (a .1 .0) (a .1 .1 .0) (length (now (a .1 .1 .1 .0)))) (now (a .0)) (now (a .1 .1 .1 .0)) (now (z .1 .1 .1 .1 .0))
+        (now (z .0)) (now (z .1 .1 .1 .0)) ⌝
     tick-ensures = refl
 
 -- ## What the parameters' types say, and no more: what door's Typed says of the same call (demands_recall/proofs/Any)

@@ -22,7 +22,8 @@ wordsOf None = houseNumber None ∷ 0 ∷ 0 ∷ []
 
 -- ## 02, CR 12: the engine that only remembers
 
--- a reply: "house number 13" or the rules' number and zeros, or 0, the bytes consumed and written, and the places that an acceptance shifted
+-- a reply: "house number 13" or the rules' number and zeros, or 0, the bytes consumed and written, and the places that an acceptance
+-- shifted
 unfoldable pub replyWords : Reply → List ℕ
 replyWords Full = numberOf Full ∷ 0 ∷ 0 ∷ 0 ∷ []
 replyWords (Refused n) = numberOf (Refused n) ∷ 0 ∷ 0 ∷ 0 ∷ []

@@ -45,7 +45,8 @@ module _ {M : Type 1} (𝓤 : URA M) (H : Heap 𝓤) (A : Atoms 𝓤) (mem : sto
     fresh-requires = refl
 
     pub fresh-ensures : fresh.clauses 𝓤 H A mem run κs a .ensures tt r z
-        ≡ ⌜ RollReplies (rollingFresh (now (a .0))) 0 [] (now (z .1 .1 .1 .1 .0)) (now (z .1 .0)) (now (z .1 .1 .0)) (now (z .1 .1 .1 .0)) [] ⌝
+        ≡ ⌜ RollReplies (rollingFresh (now (a .0))) 0 [] (now (z .1 .1 .1 .1 .0)) (now (z .1 .0)) (now (z .1 .1 .0)) (now (z .1 .1 .1 .0))
+        [] ⌝
     fresh-ensures = refl
 
   -- splicer_7_instant(words, bytes, counter, given, out, reply)

@@ -58,11 +58,14 @@ pub record RollSeen : Type 0 where
   pub counter : List ℕ
   pub buffer : List ℕ
 
--- lent the words m, the bytes b and the counter's words k, the call's contract allows that C sees r; to a known call the counter is not lent
+-- lent the words m, the bytes b and the counter's words k, the call's contract allows that C sees r; to a known call the counter is not
+-- lent
 abbrev pub RollAllowed : (m b k : List ℕ) → RollInput → RollSeen → Type 0
 RollAllowed m b k (aKnown i) r =
     Replies (call (callOf i) (shown m b)) (see m .ringEnd) (bufferOf i) (r .reply) (r .words) (r .bytes) (r .buffer) × (r .counter ≡ k)
 RollAllowed m b k (anInstant g e) r =
-    RollReplies (roll (rollCallOf (anInstant g e)) (rolling m b k)) (see m .ringEnd) e (r .reply) (r .words) (r .bytes) (r .counter) (r .buffer)
+    RollReplies (roll (rollCallOf (anInstant g e)) (rolling m b k)) (see m .ringEnd) e (r .reply) (r .words) (r .bytes) (r .counter)
+    (r .buffer)
 RollAllowed m b k (aReading x e) r =
-    RollReplies (roll (rollCallOf (aReading x e)) (rolling m b k)) (see m .ringEnd) e (r .reply) (r .words) (r .bytes) (r .counter) (r .buffer)
+    RollReplies (roll (rollCallOf (aReading x e)) (rolling m b k)) (see m .ringEnd) e (r .reply) (r .words) (r .bytes) (r .counter)
+    (r .buffer)

@@ -69,7 +69,8 @@ module _ {p : Session → Bool} {air cover : Ending} {l : List Session} {e : Lis
   closing-none h = record { room = h; long = refl; sofar = []; tells = tells-none; ends = refl; gone = []; kept = refl; pasts = refl }
 
   -- the rest is what stands from the place i of k
-  module _ (k : List Session) (i : ℕ) {h : Ending} {to : ℕ} {o : List ℕ} {now : Lately} (v : Closing p air cover l (drop i k) e len h to o was now) where
+  module _ (k : List Session) (i : ℕ) {h : Ending} {to : ℕ} {o : List ℕ} {now : Lately}
+      (v : Closing p air cover l (drop i k) e len h to o was now) where
     -- the next end fits
     pub closing-room : i < length k → to + roomFor 1 ≤ length o
     closing-room b = omega (arith, v .room, v .long, ap length (drop-cons k i empty b))
@@ -93,13 +94,15 @@ module _ {p : Session → Bool} {air cover : Ending} {l : List Session} {e : Lis
           tells = tells-then (omega (arith, v .room, v .tells .count)) (v .tells) t;
           ends =
               v .ends
-              ∙ ap (λ (y : List Record). v .sofar ++ y) (ap (λ (s : List Session). endings h cover p s Record ended) (next k i b) ∙ endings-next ended h cover p x rest)
+              ∙ ap (λ (y : List Record). v .sofar ++ y) (ap (λ (s : List Session). endings h cover p s Record ended) (next k i b)
+              ∙ endings-next ended h cover p x rest)
               ∙ sym (append-assoc (v .sofar) one (endings cover cover p rest Record ended));
           gone = v .gone ++ gone;
           kept = y ∙ ap (rememberedAll gone) (v .kept) ∙ sym (remembered-append (v .gone) gone was);
           pasts =
               v .pasts
-              ∙ ap (λ (z : List Past). v .gone ++ z) (ap (λ (s : List Session). endings h cover p s Past past) (next k i b) ∙ endings-next past h cover p x rest)
+              ∙ ap (λ (z : List Past). v .gone ++ z) (ap (λ (s : List Session). endings h cover p s Past past) (next k i b)
+              ∙ endings-next past h cover p x rest)
               ∙ sym (append-assoc (v .gone) gone (endings cover cover p rest Past past));
         }
 
@@ -123,7 +126,8 @@ omit-none : (p : Session → Bool) (l : List Session) → length l ≤ length (o
 omit-none p [] h = refl
 omit-none p (x ∷ l) h = go (p x) h (omit-none p l)
   where
-    go : (b : Bool) → suc (length l) ≤ length (put (not b) x (omit p l)) → (length l ≤ length (omit p l) → omit p l ≡ l) → put (not b) x (omit p l) ≡ x ∷ l
+    go : (b : Bool) → suc (length l) ≤ length (put (not b) x (omit p l)) → (length l ≤ length (omit p l) → omit p l ≡ l)
+        → put (not b) x (omit p l) ≡ x ∷ l
     go true k f = absurd (omega (arith, k, length-split p l))
     go false k f = ap (λ (r : List Session). x ∷ r) (f (omega (arith, k)))
 
@@ -145,14 +149,23 @@ listed-same Started q = refl
 pub record Theirs (c : ℕ) (w : Which) (s : Memory) (e : List ℕ) (len : ℕ) (m : List ℕ) (i to left : ℕ) (o : List ℕ) : Type 0 where
   pub form : Form m
   pub is : see m ≡ queued (withLately (see m .queue .lately) (s .queue)) s
-  pub writes : Closing (of c) (Response 116) (Response 116) (listOf w (s .queue)) (drop i (listOf w (s .queue))) e len (Response 116) to o (s .queue .lately) (see m .queue .lately)
+  pub writes : Closing (of c) (Response 116) (Response 116) (listOf w (s .queue)) (drop i (listOf w (s .queue))) e len (Response 116) to o
+      (s .queue .lately) (see m .queue .lately)
   pub few : left ≤ i
   pub rest : left + length (omit (of c) (drop i (listOf w (s .queue)))) ≡ length (omit (of c) (listOf w (s .queue)))
 
 module _ {c : ℕ} {e : List ℕ} {len : ℕ} where
-  pub theirs-none : (w : Which) (m : List ℕ) → Form m → len + roomFor (length (sessions w m)) ≤ length e → Theirs c w (see m) e len m 0 len 0 e
+  pub theirs-none : (w : Which) (m : List ℕ) → Form m → len + roomFor (length (sessions w m)) ≤ length e
+      → Theirs c w (see m) e len m 0 len 0 e
   theirs-none w m f h =
-      record { form = f; is = refl; writes = closing-none (omega (arith, ap length (sessions-list w m))); few = omega arith; rest = omega arith }
+      record {
+        form = f;
+        is = refl;
+        writes = closing-none (omega (arith, ap length (sessions-list w m)));
+        few = omega arith;
+        rest =
+            omega arith;
+      }
 
   module _ (w : Which) {s : Memory} {m : List ℕ} {i to left : ℕ} {o : List ℕ} (v : Theirs c w s e len m i to left o) where
     abbrev list : List Session
@@ -166,18 +179,21 @@ module _ {c : ℕ} {e : List ℕ} {len : ℕ} where
       counted : bit (not (of c (getD list i empty))) + length (omit (of c) (drop (i + 1) list)) ≡ length (omit (of c) (drop i list))
       counted =
           let x = getD list i empty in
-          sym (ap (λ (r : List Session). length (omit (of c) r)) (next list i k) ∙ length-put (not (of c x)) x (omit (of c) (drop (i + 1) list)))
+          sym (ap (λ (r : List Session). length (omit (of c) r)) (next list i k)
+          ∙ length-put (not (of c x)) x (omit (of c) (drop (i + 1) list)))
 
       -- it is the connection's, and its end is kept and written
       pub theirs-goes : {x : Session} {to′ : ℕ} {n o′ : List ℕ} → of c (getD list i empty) ≡ true → x ≡ getD list i empty →
           Does (ending (oneEnd (Response 116) x)) to m o to′ n o′ → Theirs c w s e len n (i + 1) to′ left o′
       theirs-goes {x} {n = n} d q t =
-          let late : see n .queue .lately ≡ rememberedAll (past (Response 116) x ∷ []) (see m .queue .lately) = ap (λ (z : Memory). z .queue .lately) (t .shows .is) in
+          let late : see n .queue .lately ≡ rememberedAll (past (Response 116) x ∷ []) (see m .queue .lately) =
+          ap (λ (z : Memory). z .queue .lately) (t .shows .is) in
           record {
             form = t .shows .form;
             is =
                 t .shows .is
-                ∙ ap (λ (z : Memory). queued (withLately (rememberedAll (past (Response 116) x ∷ []) (see m .queue .lately)) (z .queue)) z) (v .is)
+                ∙ ap (λ (z : Memory). queued (withLately (rememberedAll (past (Response 116) x ∷ []) (see m .queue .lately)) (z .queue)) z)
+                (v .is)
                 ∙ ap (λ (y : Lately). queued (withLately y (s .queue)) s) (sym late);
             writes = closing-next list i (v .writes) k (rw (d, ← q) (t .tells)) (rw (d, ← q) late);
             few = omega (arith, v .few);
@@ -214,15 +230,19 @@ module _ {c : ℕ} {e : List ℕ} {len : ℕ} where
           ap (λ (u : List Session). relisted w (omit (of c) u) (see m)) theirs-list
           ∙ ap (relisted w (omit (of c) list)) (v .is)
           ∙ ap (λ (q : Queue). queued q s)
-          (listed-late w (omit (of c) list) (see m .queue .lately) (s .queue) ∙ ap (λ (y : Lately). withLately y (listed w (omit (of c) list) (s .queue))) (late-listed w theirs-kept))
+          (listed-late w (omit (of c) list) (see m .queue .lately) (s .queue)
+          ∙ ap (λ (y : Lately). withLately y (listed w (omit (of c) list) (s .queue))) (late-listed w theirs-kept))
         where
-          late-listed : (w : Which) → see m .queue .lately ≡ rememberedAll (map (past (Response 116)) (keep (of c) list)) (s .queue .lately) →
-              see m .queue .lately ≡ rememberedAll (map (past (Response 116)) (keep (of c) list)) (listed w (omit (of c) list) (s .queue) .lately)
+          late-listed : (w : Which) → see m .queue .lately ≡ rememberedAll (map (past (Response 116)) (keep (of c) list)) (s .queue .lately)
+              →
+              see m .queue .lately ≡ rememberedAll (map (past (Response 116)) (keep (of c) list))
+              (listed w (omit (of c) list) (s .queue) .lately)
           late-listed Waiting e = e
           late-listed Started e = e
 
       -- and taken out
-      pub theirs-done : {n : List ℕ} → Now n (relisted w (omit (of c) (sessions w m)) (see m)) → Turns e len (theirsEnded w c (s .queue)) s n to o
+      pub theirs-done : {n : List ℕ} → Now n (relisted w (omit (of c) (sessions w m)) (see m))
+          → Turns e len (theirsEnded w c (s .queue)) s n to o
       unfolding theirsEnded
       theirs-done z = record { shows = record { form = z .form; is = z .is ∙ theirs-shown }; tells = theirs-told }
 
@@ -255,7 +275,8 @@ pub record Leaving (p : Session → Bool) (air cover : Ending) (s : Memory) (e :
   pub kept : see m ≡ queued (withLately (see m .queue .lately) (withStarted (see m .queue .started) (s .queue))) s
   pub playable : All Playable (see m .queue .started)
   pub stay : omit p (s .queue .started) ≡ take i (see m .queue .started) ++ omit p (drop i (see m .queue .started))
-  pub writes : Closing p air cover (s .queue .started) (drop i (see m .queue .started)) e len h to o (s .queue .lately) (see m .queue .lately)
+  pub writes : Closing p air cover (s .queue .started) (drop i (see m .queue .started)) e len h to o (s .queue .lately)
+      (see m .queue .lately)
 
 module _ {p : Session → Bool} {air cover : Ending} {e : List ℕ} {len : ℕ} where
   pub leaving-none : {m : List ℕ} → Form m → All Playable (see m .queue .started) →
@@ -276,17 +297,20 @@ module _ {p : Session → Bool} {air cover : Ending} {e : List ℕ} {len : ℕ} 
           let tk : take i l ≡ take i (see n .queue .started) = sym (taken l i k) ∙ ap (take i) g in
           let dr : drop (i + 1) l ≡ drop i (see n .queue .started) = sym (dropped l i k) ∙ ap (drop i) g in
           let x = getD l i empty in
-          let late : see n .queue .lately ≡ rememberedAll (past h x ∷ []) (see m .queue .lately) = ap (λ (z : Memory). z .queue .lately) (u .shows .is) in
+          let late : see n .queue .lately ≡ rememberedAll (past h x ∷ []) (see m .queue .lately) =
+          ap (λ (z : Memory). z .queue .lately) (u .shows .is) in
           record {
             form = u .shows .form;
             kept =
                 u .shows .is
-                ∙ ap (λ (z : Memory). queued (withLately (rememberedAll (past h x ∷ []) (see m .queue .lately)) (withStarted (removeAt i l) (z .queue))) z) (v .kept)
+                ∙ ap (λ (z : Memory). queued (withLately (rememberedAll (past h x ∷ []) (see m .queue .lately))
+                (withStarted (removeAt i l) (z .queue))) z) (v .kept)
                 ∙ (λ j. queued (withLately (sym late j) (withStarted (g j) (s .queue))) s);
             playable = subst (All Playable) g (fewer-all Playable (fewer-removeAt i l) (v .playable));
             stay = v .stay ∙ rw (next l i k, d, tk, dr) refl;
             writes =
-                subst (λ (r : List Session). Closing p air cover (s .queue .started) r e len cover to′ o′ (s .queue .lately) (see n .queue .lately)) dr
+                subst (λ (r : List Session). Closing p air cover (s .queue .started) r e len cover to′ o′ (s .queue .lately)
+                (see n .queue .lately)) dr
                 (closing-next l i (v .writes) k (rw d (u .tells)) (rw d late));
           }
 
@@ -300,19 +324,25 @@ module _ {p : Session → Bool} {air cover : Ending} {e : List ℕ} {len : ℕ} 
             playable = v .playable;
             stay =
                 v .stay
-                ∙ rw (next l i k, d) (rw (add-one i, take-suc l i empty k) (sym (append-snoc (take i l) (getD l i empty) (omit p (drop (suc i) l)))));
+                ∙ rw (next l i k, d) (rw (add-one i, take-suc l i empty k)
+                (sym (append-snoc (take i l) (getD l i empty) (omit p (drop (suc i) l)))));
             writes = closing-next l i (v .writes) k (rw d tells-none) (rw d refl);
           }
 
 -- all are passed
 module _ {p : Session → Bool} {air cover : Ending} {s : Memory} {e o m : List ℕ} {len i to : ℕ} {h : Ending}
     (v : Leaving p air cover s e len m i h to o) (k : length (see m .queue .started) ≤ i) where
-  leaving-over : Turns e len (ending (endings air cover p (s .queue .started)) (withStarted (omit p (s .queue .started)) (s .queue))) s m to o
+  leaving-over : Turns e len (ending (endings air cover p (s .queue .started)) (withStarted (omit p (s .queue .started)) (s .queue))) s m to
+      o
   leaving-over =
       let l = see m .queue .started in
       let a : omit p (s .queue .started) ≡ l = v .stay ∙ rw (drop-of-length-le l {i = i} k, take-all i l k) (append-nil l) in
       record {
-        shows = record { form = v .form; is = v .kept ∙ (λ j. queued (withLately (closing-kept l i (v .writes) k j) (withStarted (sym a j) (s .queue))) s) };
+        shows = record {
+          form = v .form;
+          is = v .kept ∙ (λ j. queued
+              (withLately (closing-kept l i (v .writes) k j) (withStarted (sym a j) (s .queue))) s);
+        };
         tells = closing-done l i (v .writes) k;
       }
 

@@ -20,7 +20,8 @@ use Rattle.rules.specs.State.{Lately, Queue, empty, of, follows, withWaiting, r
 use Rattle.rules.specs.Units.{toTicks}
 use Rattle.rules.specs.Bytes.{written}
 use Rattle.rules.specs.Records.{Record, resultOf, recordBytes, output}
-use Rattle.rules.specs.Ends.{Turn, quiet, writes, andThen, ended, past, ending, oneEnd, allEnd, endings, Walk, dismissed, cancelled, closedBy}
+use Rattle.rules.specs.Ends.{Turn, quiet, writes, andThen, ended, past, ending, oneEnd, allEnd, endings, Walk, dismissed, cancelled}
+use Rattle.rules.specs.Ends.{closedBy}
 use Rattle.rules.specs.Instants.{failed}
 use Rattle.rules.proofs.Ending.{the-type}
 use Rattle.rules.proofs.Tests.{by, clash}
@@ -142,20 +143,31 @@ result-any (Response r) s = refl
 
 -- what is kept of an end, its result and time on air as they were found
 pub kept-as : (h : Ending) (x : Session) (m : List ℕ) {n : List ℕ} {r p : ℕ} → r ≡ resultOf (ended h empty) → p ≡ toTicks (x .played) .0 →
-    Now n (recalling (record { conn = x .conn; id = x .id; event = x .event; result = r; played = p }) (see m)) → Now n (recalling (past h x) (see m))
+    Now n (recalling (record { conn = x .conn; id = x .id; event = x .event; result = r; played = p }) (see m))
+    → Now n (recalling (past h x) (see m))
 kept-as h x m {n} {r} {p} e f k =
     let a : r ≡ resultOf (ended h x) = e ∙ result-any h x in
-    subst (λ (z : Past). Now n (recalling z (see m))) (λ i. record { conn = x .conn; id = x .id; event = x .event; result = a i; played = f i }) k
+    subst (λ (z : Past). Now n (recalling z (see m))) (λ i. record {
+      conn = x .conn;
+      id = x .id;
+      event = x .event;
+      result = a i;
+      played =
+          f i;
+    }) k
 
 -- an end is kept and written
-pub end-done : (h : Ending) (x : Session) (m : List ℕ) {n e o : List ℕ} {len to : ℕ} → Now n (recalling (past h x) (see m)) → Tells e len (ended h x ∷ []) to o →
+pub end-done : (h : Ending) (x : Session) (m : List ℕ) {n e o : List ℕ} {len to : ℕ} → Now n (recalling (past h x) (see m))
+    → Tells e len (ended h x ∷ []) to o →
     Does (ending (oneEnd h x)) len m e to n o
 unfolding rememberedAll
 end-done h x m s t = record { shows = s; tells = t }
 
 -- the session i of a list is taken out of it, and its end kept and written
-pub one-ended : (v : Which) (m : List ℕ) (i : ℕ) (h : Ending) {n n′ e o : List ℕ} {len to : ℕ} {x : Session} → x ≡ getD (sessions v m) i empty →
-    Now n (relisted v (removeAt i (sessions v m)) (see m)) → Does (ending (oneEnd h x)) len n e to n′ o → Does (oneEnded v i h) len m e to n′ o
+pub one-ended : (v : Which) (m : List ℕ) (i : ℕ) (h : Ending) {n n′ e o : List ℕ} {len to : ℕ} {x : Session}
+    → x ≡ getD (sessions v m) i empty →
+    Now n (relisted v (removeAt i (sessions v m)) (see m)) → Does (ending (oneEnd h x)) len n e to n′ o
+    → Does (oneEnded v i h) len m e to n′ o
 unfolding oneEnded
 one-ended v m i h {n′ = n′} {e = e} {o = o} {len = len} {to = to} {x = x} q s t =
     let u = subst (λ (z : Memory). Turns e len (ending (oneEnd h x) (z .queue)) z n′ to o) (s .is) t in
@@ -163,12 +175,14 @@ one-ended v m i h {n′ = n′} {e = e} {o = o} {len = len} {to = to} {x = x} q 
 
 -- one of those that wait is gone
 pub removed-less : (i : ℕ) (s : Memory) {m : List ℕ} → i < length (s .queue .waiting) →
-    Now m (queued (withWaiting (removeAt i (s .queue .waiting)) (s .queue)) s) → suc (length (see m .queue .waiting)) ≡ length (s .queue .waiting)
+    Now m (queued (withWaiting (removeAt i (s .queue .waiting)) (s .queue)) s)
+    → suc (length (see m .queue .waiting)) ≡ length (s .queue .waiting)
 removed-less i s h n =
     ap (λ (z : Memory). suc (length (z .queue .waiting))) (n .is) ∙ length-removeAt i (s .queue .waiting) h
 
 -- so much is written at most
-pub end-brief : (v : Which) (i : ℕ) (how : Ending) (m : List ℕ) {e n o : List ℕ} {len to : ℕ} → Does (oneEnded v i how) len m e to n o → to ≤ len + roomFor 1
+pub end-brief : (v : Which) (i : ℕ) (how : Ending) (m : List ℕ) {e n o : List ℕ} {len to : ℕ} → Does (oneEnded v i how) len m e to n o
+    → to ≤ len + roomFor 1
 unfolding oneEnded
 end-brief v i how m d = told-one how (getD (listOf v (see m .queue)) i empty) (d .tells)
 
@@ -197,7 +211,8 @@ module _ (r c x : ℕ) (i : ℕ) where
     dismissed-none g h = rw (walk-none c x (see m .queue .waiting) i f h) (turns-quiet g)
 
     pub dismissed-more : {n n′ o o′ : List ℕ} {mid to y : ℕ} → i < length (see m .queue .waiting) → len + roomFor 1 ≤ length e →
-        y ≡ getD (see m .queue .waiting) i empty .id → Does (oneEnded Waiting i (Response r)) len m e mid n o → Does (dismissed r c y) mid n o to n′ o′ →
+        y ≡ getD (see m .queue .waiting) i empty .id → Does (oneEnded Waiting i (Response r)) len m e mid n o
+        → Does (dismissed r c y) mid n o to n′ o′ →
         Does (dismissed r c x) len m e to n′ o′
     dismissed-more {y = y} h k q d w =
         rw (link (see m .queue) f h, ← q) (
@@ -206,7 +221,8 @@ module _ (r c x : ℕ) (i : ℕ) where
         )
 
 -- x fails: its own end, and then those that follow it
-pub fails : (x : Session) (m : List ℕ) {n n′ e o o′ : List ℕ} {len mid to : ℕ} → len + roomFor 1 ≤ length e → Does (ending (oneEnd Failed x)) len m e mid n o →
+pub fails : (x : Session) (m : List ℕ) {n n′ e o o′ : List ℕ} {len mid to : ℕ} → len + roomFor 1 ≤ length e
+    → Does (ending (oneEnd Failed x)) len m e mid n o →
     Does (dismissed 109 (x .conn) (x .id)) mid n o to n′ o′ → Does (failed x) len m e to n′ o′
 fails x m k t d = turns-then (ending (oneEnd Failed x) (see m .queue)) (dismissed 109 (x .conn) (x .id)) (omega (arith, brief Failed x)) t d
 
@@ -220,12 +236,14 @@ module _ (v : Which) (i : ℕ) (how : Ending) (m : List ℕ) {e n o : List ℕ} 
   chain-room h k = omega (arith, end-brief v i how m d, ap (λ (s : Memory). length (s .queue .waiting)) (d .shows .is))
 
   -- and then they end
-  pub chain-turns : (result : ℕ) {c x : ℕ} {n′ o′ : List ℕ} {to′ : ℕ} → c ≡ getD (sessions v m) i empty .conn → x ≡ getD (sessions v m) i empty .id →
+  pub chain-turns : (result : ℕ) {c x : ℕ} {n′ o′ : List ℕ} {to′ : ℕ} → c ≡ getD (sessions v m) i empty .conn
+      → x ≡ getD (sessions v m) i empty .id →
       len + roomFor 1 ≤ length e → Does (dismissed result c x) to n o to′ n′ o′ → Does (chainEnded v i how result) len m e to′ n′ o′
   unfolding chainEnded
   chain-turns result f g h k =
       let s = getD (listOf v (see m .queue)) i empty in
-      turns-then (oneEnded v i how (see m .queue)) (dismissed result (s .conn) (s .id)) (omega (arith, d .tells .count, end-brief v i how m d)) d
+      turns-then (oneEnded v i how (see m .queue)) (dismissed result (s .conn) (s .id))
+      (omega (arith, d .tells .count, end-brief v i how m d)) d
       (rw (← (sessions-list v m), ← f, ← g) k)
 
 -- how a covered session ends
@@ -264,7 +282,8 @@ module _ (c : ℕ) (m : List ℕ) {e : List ℕ} where
     unfolding airEnded
     air-other f d = rw (first-of c (see m .queue .started) h ∙ d) (turns-quiet f)
 
-    pub air-ends : {n o : List ℕ} {to : ℕ} → of c (getD (see m .queue .started) 0 empty) ≡ true → Does (oneEnded Started 0 (Complete 116)) 0 m e to n o →
+    pub air-ends : {n o : List ℕ} {to : ℕ} → of c (getD (see m .queue .started) 0 empty) ≡ true
+        → Does (oneEnded Started 0 (Complete 116)) 0 m e to n o →
         Does (airEnded c) 0 m e to n o
     unfolding airEnded
     air-ends d t = rw (first-of c (see m .queue .started) h ∙ d) t
@@ -307,12 +326,23 @@ closed-by c w (s ∷ k) l = go (of c s) refl
         closedBy c q ≡ andThen (andThen (airEnded c q) (theirsEnded Started c)) (theirsEnded Waiting c)
     go true d =
         rw d (λ i. record {
-          queue = record { waiting = omit (of c) w; started = omit (of c) k; lately = remembered-append (map (past (Response 116)) (keep (of c) k)) (map (past (Response 116)) (keep (of c) w)) (remembered (past (Complete 116) s) l) i };
+          queue = record {
+            waiting = omit (of c) w;
+            started = omit (of c) k;
+            lately =
+                remembered-append (map (past (Response 116)) (keep (of c) k)) (map (past (Response 116)) (keep (of c) w))
+                (remembered (past (Complete 116) s) l) i;
+          };
           written = ended (Complete 116) s ∷ (map (ended (Response 116)) (keep (of c) k) ++ map (ended (Response 116)) (keep (of c) w));
         })
     go false d =
         rw d (rw d (λ i. record {
-          queue = record { waiting = omit (of c) w; started = s ∷ omit (of c) k; lately = remembered-append (map (past (Response 116)) (keep (of c) k)) (map (past (Response 116)) (keep (of c) w)) l i };
+          queue = record {
+            waiting = omit (of c) w;
+            started = s ∷ omit (of c) k;
+            lately =
+                remembered-append (map (past (Response 116)) (keep (of c) k)) (map (past (Response 116)) (keep (of c) w)) l i;
+          };
           written = map (ended (Response 116)) (keep (of c) k) ++ map (ended (Response 116)) (keep (of c) w);
         }))
 
@@ -329,7 +359,8 @@ module _ (c : ℕ) (m : List ℕ) {n e o : List ℕ} {to : ℕ} (a : Does (airEn
 
   module _ {n′ o′ : List ℕ} {to′ : ℕ} (b : Does (theirsEnded Started c) to n o to′ n′ o′) where
     -- room for those that wait
-    pub wait-room : to′ + roomFor (length (see n′ .queue .waiting)) ≤ roomFor (length (see m .queue .waiting) + length (see m .queue .started))
+    pub wait-room : to′ + roomFor (length (see n′ .queue .waiting)) ≤ roomFor
+        (length (see m .queue .waiting) + length (see m .queue .started))
     wait-room =
         omega (
           arith,
@@ -343,7 +374,8 @@ module _ (c : ℕ) (m : List ℕ) {n e o : List ℕ} {to : ℕ} (a : Does (airEn
         )
 
     -- all of a connection
-    pub closed : {n″ o″ : List ℕ} {to″ : ℕ} → to′ ≤ length e → Does (theirsEnded Waiting c) to′ n′ o′ to″ n″ o″ → Does (closedBy c) 0 m e to″ n″ o″
+    pub closed : {n″ o″ : List ℕ} {to″ : ℕ} → to′ ≤ length e → Does (theirsEnded Waiting c) to′ n′ o′ to″ n″ o″
+        → Does (closedBy c) 0 m e to″ n″ o″
     closed h d =
         let q = see m .queue in
         let t = andThen (airEnded c q) (theirsEnded Started c) in
@@ -361,7 +393,8 @@ playable Started m h =
 
 -- ## "any two results it allows are proved equal"
 
-pub does-same : (work : Queue → Turn) (len : ℕ) (m e : List ℕ) {to to′ : ℕ} {n n′ o o′ : List ℕ} → Does work len m e to n o → Does work len m e to′ n′ o′ →
+pub does-same : (work : Queue → Turn) (len : ℕ) (m e : List ℕ) {to to′ : ℕ} {n n′ o o′ : List ℕ} → Does work len m e to n o
+    → Does work len m e to′ n′ o′ →
     (to ≡ to′) × (n ≡ n′) × (o ≡ o′)
 does-same work len m e {n = n} {n′ = n′} a b = (
   a .tells .count ∙ sym (b .tells .count),

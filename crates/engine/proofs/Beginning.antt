@@ -20,13 +20,22 @@ use Rattle.engine.specs.Lent.{answerOf, Answers}
 
 begun : (m b n : List ℕ) → Now m nothingShown → Named b n → shown m b ≡ named n
 unfolding named
-begun m b n x y = λ i. record { name = y .name i; clock = x .is i .clock; primary = x .is i .primary; links = x .is i .links; hardware = y .kept i; queue = x .is i .queue }
+begun m b n x y = λ i. record {
+  name = y .name i;
+  clock = x .is i .clock;
+  primary = x .is i .primary;
+  links = x .is i .links;
+  hardware =
+      y .kept i;
+  queue = x .is i .queue;
+}
 
 -- m and b: what is left in the words and the bytes
 module _ (name : List ℕ) {m b : List ℕ} (long : length name ≡ 32) (bytes : All Byte name) (none : Now m nothingShown) where
   -- n is the name that is kept
   fresh-as : (n : List ℕ) (a : Answer) → Named b n → fresh name .splicer ≡ named n → fresh name .accepted ≡ false
-      → a ≡ answerOf (fresh name .answer) (fresh name .moved) → [] ≡ bufferAfter (fresh name .answer) [] → Answers (fresh name) 0 [] a m b []
+      → a ≡ answerOf (fresh name .answer) (fresh name .moved) → [] ≡ bufferAfter (fresh name .answer) []
+      → Answers (fresh name) 0 [] a m b []
   fresh-as n a kept e g f o =
       let v = begun m b n none kept ∙ sym e in
       record {

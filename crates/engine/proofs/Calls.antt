@@ -16,7 +16,8 @@ use Rattle.rules.specs.declared.Ninths.{Ninths}
 use Rattle.rules.specs.declared.Link.{Link}
 use Rattle.rules.specs.declared.Link.the-variants.{Closed, Opened, Initialised}
 use Rattle.rules.specs.declared.Refusal.{Refusal}
-use Rattle.rules.specs.declared.Refusal.the-variants.{NoConnection, NoRoom, ClockBack, AlreadyOpen, NotOpen, BadMicros, LongSection, BadSection}
+use Rattle.rules.specs.declared.Refusal.the-variants.{NoConnection, NoRoom, ClockBack, AlreadyOpen, NotOpen, BadMicros, LongSection}
+use Rattle.rules.specs.declared.Refusal.the-variants.{BadSection}
 use Rattle.rules.specs.declared.Framing.{Framing}
 use Rattle.rules.specs.declared.Framing.the-variants.{Framed, Unframed}
 use Rattle.rules.specs.Lists.{All}
@@ -29,7 +30,9 @@ use Rattle.rules.specs.Ends.{Turn, closedBy}
 use Rattle.rules.specs.Instants.{runAll, silentAll}
 use Rattle.rules.specs.Answers.{Answered, says, airFeed, airMap, answer}
 use Rattle.rules.specs.Cues.{badSection, readCue, cueTime, initialisedOnes, cueRecords}
-use Rattle.rules.specs.Calls.{Called, Call, opens, closes, messages, moves, cues, cueCall, call, noConnection, noRoom, notOpen, openCall, closeCall, framing, handled, Loans, lendingMaps, longestSection, longSection, messageCall, moveCall, tickCall, ticked, refuse, does, replies, writtenBy, bufferAfter}
+use Rattle.rules.specs.Calls.{Called, Call, opens, closes, messages, moves, cues, cueCall, call, noConnection, noRoom, notOpen, openCall}
+use Rattle.rules.specs.Calls.{closeCall, framing, handled, Loans, lendingMaps, longestSection, longSection, messageCall, moveCall, tickCall}
+use Rattle.rules.specs.Calls.{ticked, refuse, does, replies, writtenBy, bufferAfter}
 use Rattle.rules.specs.Sound.{Holding, Reached, Wired, horizon}
 use Rattle.rules.proofs.Written.{written-none}
 use Rattle.rules.proofs.Sound.{reached-call, reached-sound, few-wait, few-started}
@@ -47,7 +50,8 @@ use Rattle.engine.specs.Lent.{Lent, answerOf, Answers, openTest}
 -- ## A refusal, and a call that is done
 
 -- "A refusal .. writes nothing .. and changes no state"
-pub refused-as : {m b e : List ℕ} (c : Called) (n : Refusal) → Lent m b → c ≡ refuse n (shown m b) → Answers c (see m .ringEnd) e (Refused n) m b e
+pub refused-as : {m b e : List ℕ} (c : Called) (n : Refusal) → Lent m b → c ≡ refuse n (shown m b)
+    → Answers c (see m .ringEnd) e (Refused n) m b e
 unfolding answerOf bufferAfter writtenBy
 refused-as {m} {b} {e} c n l f =
     record {
@@ -75,7 +79,10 @@ done-as k {m} {b} {e} consumed a {r} {v} {c} l wired f g =
     let q : shown v c ≡ call k (shown m b) .splicer = g .splicer ∙ sym (ap (λ y. y .splicer) f) in
     let n : r .len ≡ length (output (a .written)) = omega (arith, g .tells .count) in
     record {
-      lent = record { whole = g .whole; reached = subst (λ (s : Splicer). Reached s) (sym q) (reached-call (shown m b) k wired (l .reached)) };
+      lent = record {
+        whole = g .whole;
+        reached = subst (λ (s : Splicer). Reached s) (sym q) (reached-call (shown m b) k wired (l .reached));
+      };
       splicer = q;
       ring = g .ring ∙ sym (ap (λ y. shifted (y .accepted) (see m .ringEnd)) f);
       answer = ap₂ (λ (y z : ℕ). Done consumed y z) n (g .moved) ∙ sym (ap (λ y. answerOf (y .answer) (y .moved)) f);
@@ -87,7 +94,8 @@ done-as k {m} {b} {e} consumed a {r} {v} {c} l wired f g =
 turned-as : (k : Call) {m b e : List ℕ} (z : Memory) (f : Memory → Memory) (t : Turn) (h : List (List ℕ)) {n v c o : List ℕ} {len : ℕ}
     → f (queued (t .queue) z) .ringEnd ≡ see m .ringEnd → Lent m b → Wired k
     → call k (shown m b) ≡ does 0 (t .written) (told (nameOf b) h (f (queued (t .queue) z)))
-    → Turns e 0 t z n len o → Now v (f (see n)) → Holds c (nameOf b) h → Answers (call k (shown m b)) (see m .ringEnd) e (Done 0 len 0) v c o
+    → Turns e 0 t z n len o → Now v (f (see n)) → Holds c (nameOf b) h
+    → Answers (call k (shown m b)) (see m .ringEnd) e (Done 0 len 0) v c o
 turned-as k {m} {b} z f t h stays l wired g x y q =
     let is = y .is ∙ ap f (x .shows .is) in
     done-as k 0 (says (t .written) (told (nameOf b) h (f (queued (t .queue) z)))) {r = unmoved _} l wired g
@@ -149,7 +157,8 @@ module _ {m b : List ℕ} (c : ℕ) (l : Lent m b) where
         → Answers (openCall c (shown m b)) (see m .ringEnd) [] (Done 0 0 0) v b []
     unfolding call output
     open-done f n =
-        done-as (opens c) 0 (says [] (withLink c Opened (shown m b))) {r = unmoved 0} l tt (open-good c (shown m b) low (ap isOpen (sym is) ∙ f))
+        done-as (opens c) 0 (says [] (withLink c Opened (shown m b))) {r = unmoved 0} l tt
+        (open-good c (shown m b) low (ap isOpen (sym is) ∙ f))
         (record {
           whole = record { words = n .form; bytes = l .whole .bytes };
           splicer = ap (told (nameOf b) (keptOf b)) (n .is);
@@ -268,17 +277,20 @@ brief false p q h k = k
 
 module _ {m b e : List ℕ} (c : ℕ) (l : Lent m b) (good : Good ≡ openTest c (length e) (see m .links)) where
   pub close-done : {n v p o : List ℕ} {len : ℕ} → Turns e 0 (closedBy c (see m .queue)) (see m) n len o → Now v (linked c Closed (see n))
-      → Holds p (nameOf b) (set (keptOf b) c noHardware) → Answers (closeCall c (length e) (shown m b)) (see m .ringEnd) e (Done 0 len 0) v p o
+      → Holds p (nameOf b) (set (keptOf b) c noHardware) → Answers (closeCall c (length e) (shown m b)) (see m .ringEnd) e (Done 0 len 0) v
+      p o
   unfolding closeCall call
   close-done =
-      turned-as (closes c (length e)) (see m) (linked c Closed) (closedBy c (see m .queue)) (set (keptOf b) c noHardware) refl l tt (guarded-is c (length e) (shown m b) _ Good good)
+      turned-as (closes c (length e)) (see m) (linked c Closed) (closedBy c (see m .queue)) (set (keptOf b) c noHardware) refl l tt
+      (guarded-is c (length e) (shown m b) _ Good good)
 
   -- d is what was read; p, q: the sections
   module _ (d p q : List ℕ) where
     pub message-section : longSection (lendingMaps p q (length e)) ≡ true
         → Answers (messageCall c d (lendingMaps p q (length e)) (shown m b)) (see m .ringEnd) e (Refused LongSection) m b e
     message-section h =
-        refused-as (messageCall c d (lendingMaps p q (length e)) (shown m b)) LongSection l (message-long c (length e) (shown m b) d p q good h)
+        refused-as (messageCall c d (lendingMaps p q (length e)) (shown m b)) LongSection l
+        (message-long c (length e) (shown m b) d p q good h)
 
     module _ (h : length p ≤ longestSection) (k : length q ≤ longestSection) where
       pub message-unframed : (n : Refusal) {f : Framing} → f ≡ framing d → f ≡ Unframed n
@@ -289,10 +301,12 @@ module _ {m b e : List ℕ} (c : ℕ) (l : Lent m b) (good : Good ≡ openTest c
           (message-framed c (length e) (shown m b) d p q good (Unframed n) (both-short p q (length e) h k) (sym i ∙ u))
 
       -- y: the data that was handed on; x: the section that was chosen, where n have started
-      pub message-done : {v w o y x : List ℕ} (id size n : ℕ) {r : Given} {f : Framing} → All Byte d × All Byte p × All Byte q → f ≡ framing d
+      pub message-done : {v w o y x : List ℕ} (id size n : ℕ) {r : Given} {f : Framing} → All Byte d × All Byte p × All Byte q
+          → f ≡ framing d
           → f ≡ Framed id size → y ≡ dataOf size d → n ≡ length (see m .queue .started) → x ≡ cond (eqb n 0) p q
           → Gives (answer c id y x (shown m b)) (see m .ringEnd) e r v w o
-          → Answers (messageCall c d (lendingMaps p q (length e)) (shown m b)) (see m .ringEnd) e (Done (8 + size) (r .len) (r .moved)) v w o
+          → Answers (messageCall c d (lendingMaps p q (length e)) (shown m b)) (see m .ringEnd) e (Done (8 + size) (r .len) (r .moved)) v w
+          o
       unfolding handled call
       message-done {y = y} {x = x} id size n a i u z t t′ g =
           let s = shown m b in
@@ -320,7 +334,8 @@ module _ {m b e : List ℕ} (until : ℕ) (l : Lent m b) where
   pub move-small : length e < 4096 → Answers (moveCall until (length e) (shown m b)) (see m .ringEnd) e (Refused NoRoom) m b e
   move-small h = refused-as (moveCall until (length e) (shown m b)) NoRoom l (move-none until (length e) (shown m b) h)
 
-  pub move-back : 4096 ≤ length e → until < see m .clock → Answers (moveCall until (length e) (shown m b)) (see m .ringEnd) e (Refused ClockBack) m b e
+  pub move-back : 4096 ≤ length e → until < see m .clock → Answers (moveCall until (length e) (shown m b)) (see m .ringEnd) e
+      (Refused ClockBack) m b e
   move-back h i = refused-as (moveCall until (length e) (shown m b)) ClockBack l (move-before until (length e) (shown m b) h i)
 
   pub move-done : {n v o : List ℕ} {len : ℕ} → until < horizon → 4096 ≤ length e → see m .clock ≤ until
@@ -328,7 +343,8 @@ module _ {m b e : List ℕ} (until : ℕ) (l : Lent m b) where
       → Answers (moveCall until (length e) (shown m b)) (see m .ringEnd) e (Done 0 len 0) v b o
   unfolding call ticked
   move-done low h i x y =
-      turned-as (moves until (length e)) (silenced (silentAll (see m .clock) until (see m .queue)) (see m)) (timed until) (runAll (see m .clock) until (see m .queue)) (keptOf b) refl l low
+      turned-as (moves until (length e)) (silenced (silentAll (see m .clock) until (see m .queue)) (see m)) (timed until)
+      (runAll (see m .clock) until (see m .queue)) (keptOf b) refl l low
       (move-good until (length e) (shown m b) h i) x y (stay l)
 
 -- ## Tick
@@ -381,28 +397,33 @@ module _ (x : List ℕ) (pts seconds micros room : ℕ) (s : Splicer) where
   cue-unfit e f g = rw (le-ltb room 4096 e, le-ltb 999999 micros f, g)
 
   cue-good : 4096 ≤ room → micros ≤ 999999 → badSection x ≡ false
-      → cueCall x pts seconds micros room s ≡ does 0 (cueRecords (readCue x) (cueTime pts seconds micros (readCue x)) x (initialisedOnes (s .links))) s
+      → cueCall x pts seconds micros room s ≡ does 0 (cueRecords (readCue x) (cueTime pts seconds micros (readCue x)) x
+      (initialisedOnes (s .links))) s
   unfolding cueCall
   cue-good e f g = rw (le-ltb room 4096 e, le-ltb 999999 micros f, g)
 
 module _ {m b e : List ℕ} (x : List ℕ) (pts seconds micros : ℕ) (l : Lent m b) where
   pub cue-small : length e < 4096 → Answers (cueCall x pts seconds micros (length e) (shown m b)) (see m .ringEnd) e (Refused NoRoom) m b e
-  cue-small h = refused-as (cueCall x pts seconds micros (length e) (shown m b)) NoRoom l (cue-none x pts seconds micros (length e) (shown m b) h)
+  cue-small h = refused-as (cueCall x pts seconds micros (length e) (shown m b)) NoRoom l
+      (cue-none x pts seconds micros (length e) (shown m b) h)
 
   pub cue-micros : 4096 ≤ length e → 999999 < micros
       → Answers (cueCall x pts seconds micros (length e) (shown m b)) (see m .ringEnd) e (Refused BadMicros) m b e
   cue-micros h i =
-      refused-as (cueCall x pts seconds micros (length e) (shown m b)) BadMicros l (cue-over x pts seconds micros (length e) (shown m b) h i)
+      refused-as (cueCall x pts seconds micros (length e) (shown m b)) BadMicros l
+      (cue-over x pts seconds micros (length e) (shown m b) h i)
 
   pub cue-section : 4096 ≤ length e → micros ≤ 999999 → badSection x ≡ true
       → Answers (cueCall x pts seconds micros (length e) (shown m b)) (see m .ringEnd) e (Refused BadSection) m b e
   cue-section h i g =
-      refused-as (cueCall x pts seconds micros (length e) (shown m b)) BadSection l (cue-unfit x pts seconds micros (length e) (shown m b) h i g)
+      refused-as (cueCall x pts seconds micros (length e) (shown m b)) BadSection l
+      (cue-unfit x pts seconds micros (length e) (shown m b) h i g)
 
   pub cue-done : {o : List ℕ} {len : ℕ} → All Byte x → 4096 ≤ length e → micros ≤ 999999 → badSection x ≡ false
       → Tells e 0 (cueRecords (readCue x) (cueTime pts seconds micros (readCue x)) x (initialisedOnes (see m .links))) len o
       → Answers (cueCall x pts seconds micros (length e) (shown m b)) (see m .ringEnd) e (Done 0 len 0) m b o
   unfolding call
   cue-done y h i g t =
-      done-as (cues x pts seconds micros (length e)) 0 (says _ (shown m b)) {r = unmoved _} l y (cue-good x pts seconds micros (length e) (shown m b) h i g)
+      done-as (cues x pts seconds micros (length e)) 0 (says _ (shown m b)) {r = unmoved _} l y
+      (cue-good x pts seconds micros (length e) (shown m b) h i g)
       (record { whole = l .whole; splicer = refl; ring = refl; tells = t; moved = refl })

@@ -8,7 +8,8 @@ use native.Mathlib.Omega.{arith}
 use lib.Dec.{ltb}
 use lib.ListN.{length, replicate}
 use Rattle.rules.specs.declared.Refusal.{Refusal}
-use Rattle.rules.specs.declared.Refusal.the-variants.{NoConnection, NoRoom, ClockBack, AlreadyOpen, NotOpen, BadMicros, BadName, LongSection, BadSection}
+use Rattle.rules.specs.declared.Refusal.the-variants.{NoConnection, NoRoom, ClockBack, AlreadyOpen, NotOpen, BadMicros, BadName}
+use Rattle.rules.specs.declared.Refusal.the-variants.{LongSection, BadSection}
 use Rattle.rules.specs.declared.Framing.{Framing}
 use Rattle.rules.specs.declared.Framing.the-variants.{Framed, Unframed}
 use Rattle.rules.specs.Lists.{All}
@@ -17,7 +18,9 @@ use Rattle.rules.specs.Bytes.{Byte, hasZero}
 use Rattle.rules.specs.State.{Splicer, isOpen, linkOf}
 use Rattle.rules.specs.Answers.{Answered, says}
 use Rattle.rules.specs.Cues.{badSection}
-use Rattle.rules.specs.Calls.{Called, Call, opens, closes, messages, ticks, moves, cues, cueCall, call, refused, good, refuse, does, replies, bufferAfter, noConnection, noRoom, notOpen, Loans, longSection, openCall, closeCall, messageCall, framing, handled, moveCall, tickCall, ticked, fresh}
+use Rattle.rules.specs.Calls.{Called, Call, opens, closes, messages, ticks, moves, cues, cueCall, call, refused, good, refuse, does}
+use Rattle.rules.specs.Calls.{replies, bufferAfter, noConnection, noRoom, notOpen, Loans, longSection, openCall, closeCall, messageCall}
+use Rattle.rules.specs.Calls.{framing, handled, moveCall, tickCall, ticked, fresh}
 use Rattle.rules.specs.Calls as calls
 use Rattle.rules.specs.Records.{Record}
 use Rattle.rules.proofs.Tests.{by}
@@ -36,7 +39,8 @@ use Rattle.engine.proofs.Calls.{refused-as, guarded}
 pub buffer-same : (a : calls.Answer) (e o p : List ℕ) → o ≡ bufferAfter a e → p ≡ bufferAfter a e → o ≡ p
 buffer-same a e o p f g = f ∙ sym g
 
-pub answers-same : (c : Called) (at : ℕ) (e : List ℕ) (r s : Answer) (m b o n d p : List ℕ) → Answers c at e r m b o → Answers c at e s n d p
+pub answers-same : (c : Called) (at : ℕ) (e : List ℕ) (r s : Answer) (m b o n d p : List ℕ) → Answers c at e r m b o
+    → Answers c at e s n d p
     → (r ≡ s) × (m ≡ n) × (b ≡ d) × (o ≡ p)
 answers-same c at e r s m b o n d p x y =
     let k = memory-same m b n d (x .lent .whole) (y .lent .whole) (x .ring ∙ sym (y .ring)) (x .splicer ∙ sym (y .splicer)) in
@@ -80,13 +84,15 @@ module _ (s : Splicer) (n : Refusal) where
   call-refused (opens c) =
       keeps-test (noConnection c) NoConnection _ (keeps-test (isOpen (linkOf c s)) AlreadyOpen _ (keeps-does _ _ _))
   call-refused (closes c room) = keeps-guarded c room _ (keeps-does _ _ _)
-  call-refused (messages c l loans) = keeps-guarded c (loans .room) _ (keeps-test (longSection loans) LongSection _ (keeps-handled c (framing l) l loans))
+  call-refused (messages c l loans) = keeps-guarded c (loans .room) _
+      (keeps-test (longSection loans) LongSection _ (keeps-handled c (framing l) l loans))
   call-refused (ticks seconds micros room) =
       keeps-test (noRoom room) NoRoom _
       (keeps-test (badMicros micros) BadMicros _ (keeps-move (fromMicros (timeOf seconds micros) .0) room))
   call-refused (moves until room) = keeps-move until room
   call-refused (cues l pts seconds micros room) =
-      keeps-test (noRoom room) NoRoom _ (keeps-test (badMicros micros) BadMicros _ (keeps-test (badSection l) BadSection _ (keeps-does _ _ _)))
+      keeps-test (noRoom room) NoRoom _ (keeps-test (badMicros micros) BadMicros _
+      (keeps-test (badSection l) BadSection _ (keeps-does _ _ _)))
 
 pub refused-answer : (a : calls.Answer) (moved : ℕ) (n : Refusal) → Refused n ≡ answerOf a moved → a ≡ refused n
 unfolding answerOf

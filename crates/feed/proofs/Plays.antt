@@ -107,7 +107,8 @@ pub used-within : {k x : Record} (l : List ℕ) → k ≡ recordIn l → k ≡ x
 used-within l f g = subst (λ y. usedBy y ≤ length l) (sym f ∙ g) (within l)
 
 pub stopped-plays : (t : Bool) (m b e : List ℕ) → Lent m b
-    → Plays (see m .ringEnd) e (record { splicer = shown m b; accepted = false; shows = []; used = 0; more = t }) (record { used = 0; len = 0; more = t }) m b e
+    → Plays (see m .ringEnd) e (record { splicer = shown m b; accepted = false; shows = []; used = 0; more = t })
+    (record { used = 0; len = 0; more = t }) m b e
 stopped-plays t m b e l =
     record { lent = l; splicer = refl; ring = refl; used = refl; count = refl; more = refl; bytes = sym (written-none e 0) }
 

@@ -1,5 +1,6 @@
 -- The loop of `run`: what was done so far, and the rest of the tick from there.
--- Rests on rules' laws of a tick (`runAll-enough`, `silentAll-more`: no tick is cut short, so the rest of one is a tick too) and of all that is held.
+-- Rests on rules' laws of a tick (`runAll-enough`, `silentAll-more`: no tick is cut short, so the rest of one is a tick too) and of all
+-- that is held.
 use mathlib.Core.Path.{_≡_, refl, sym, ap, subst, _∙_}
 use mathlib.Core.List.{List, [], _++_, append-assoc, append-nil}
 use Prim.Native.Nat.{ℕ, suc, _+_, _-_, _≤_, _<_}
@@ -123,7 +124,8 @@ module _ {until : ℕ} {s₀ : Memory} {e m : List ℕ} {n at : ℕ} {o : List �
   turn-silent t le h = omega (arith, v .early)
 
   -- what `elapse` asks, at the time t
-  pub turn-asks : (t : ℕ) → at ≤ t → t < horizon → Form m × (Lasting (t - at) (see m .queue .started) × (see m .primary + (t - at) < 18446744073709551616))
+  pub turn-asks : (t : ℕ) → at ≤ t → t < horizon → Form m × (Lasting (t - at) (see m .queue .started) ×
+      (see m .primary + (t - at) < 18446744073709551616))
   turn-asks t le h = (v .form, (turn-lasting t le h, turn-silent t le h))
 
   -- so much more is the primary channel's
@@ -196,7 +198,14 @@ module _ {until : ℕ} {s₀ : Memory} {e m : List ℕ} {n at : ℕ} {o : List �
               kept =
                   given .shows .is ∙ ap (queued (i .queue)) (f .is) ∙ then-kept (t .0) (i .queue)
                   ∙ ap (λ (y : Queue). queued y (silenced (v .silent + more (t .0)) s₀)) (sym left);
-              early = omega (arith, v .early, turn-after, silence-most (t .0 - at) (q .started), ap (λ (z : Memory). z .primary) (given .shows .is), ap (λ (z : Memory). z .primary) (f .is));
+              early = omega (
+                arith,
+                v .early,
+                turn-after,
+                silence-most (t .0 - at) (q .started),
+                ap (λ (z : Memory). z .primary) (given .shows .is),
+                ap (λ (z : Memory). z .primary) (f .is),
+              );
               holding = subst (Holding (t .0)) (sym left) (held at until q d (v .holding));
               time = turn-time;
               room = omega (arith, v .room, given .tells .count, b, ap toCome left);

@@ -225,7 +225,8 @@ module _ (t : ℕ) {e : List ℕ} {len : ℕ} {s : Memory} {m : List ℕ} {to : 
 
   pub instant-playable : All Playable (s .queue .started) → All Playable (see m .queue .started)
   instant-playable a =
-      subst (λ (z : Memory). All Playable (z .queue .started)) (sym (d .shows .is)) (fewer-all Playable (endAt-fewer (s .queue) t .started) a)
+      subst (λ (z : Memory). All Playable (z .queue .started)) (sym (d .shows .is))
+      (fewer-all Playable (endAt-fewer (s .queue) t .started) a)
 
   pub instant-meets : Meets t (s .queue) → Meets t (see m .queue)
   instant-meets v =

@@ -31,7 +31,8 @@ Lasting d k = All (Lasts d) k
 abbrev pub passed : ℕ → Memory → Memory
 passed d s = silenced (silence d (s .queue .started)) (queued (elapse d (s .queue)) s)
 
--- a tick to until, of what the words showed, its records at the front of the buffer e: 02, CR 13, all else is as before but for the primary sum
+-- a tick to until, of what the words showed, its records at the front of the buffer e: 02, CR 13, all else is as before but for the primary
+-- sum
 abbrev pub Ticked : (until : ℕ) → (s : Memory) → (e : List ℕ) → (to : ℕ) → (n o : List ℕ) → Type 0
 Ticked until s e to n o =
     Turns e 0 (runAll (s .clock) until (s .queue)) (silenced (silentAll (s .clock) until (s .queue)) s) n to o

@@ -24,11 +24,13 @@ pub begins-short : (w d : List ℕ) → length d < length w → false ≡ begins
 begins-short w d h = sym (failed (begins w d) (λ e. omega (arith, begins-within w d e)))
 
 module _ (w d : List ℕ) (i : ℕ) where
-  step : i < length w → i < length d → begins (drop i w) (drop i d) ≡ eqb (getD w i 0) (getD d i 0) && begins (drop (suc i) w) (drop (suc i) d)
+  step : i < length w → i < length d → begins (drop i w) (drop i d) ≡ eqb (getD w i 0) (getD d i 0) && begins (drop (suc i) w)
+      (drop (suc i) d)
   unfolding begins
   step h k = ap₂ begins (drop-cons w i 0 h) (drop-cons d i 0 k)
 
-  pub begins-more : i < length w → i < length d → getD w i 0 ≡ getD d i 0 → begins (drop i w) (drop i d) ≡ begins (drop (i + 1) w) (drop (i + 1) d)
+  pub begins-more : i < length w → i < length d → getD w i 0 ≡ getD d i 0
+      → begins (drop i w) (drop i d) ≡ begins (drop (i + 1) w) (drop (i + 1) d)
   begins-more h k e = step h k ∙ rw (eq-eqb (getD w i 0) (getD d i 0) e, add-one)
 
   pub begins-not : i < length w → i < length d → (getD w i 0 ≡ getD d i 0 → ⊥) → begins (drop i w) (drop i d) ≡ false

@@ -54,7 +54,8 @@ module _ (g : Bench) (l : List ℕ) where
   record-judged n e =
       let b : Begins l (Wrote n) = begins-as l e in
       step e
-      ∙ ap (λ k. cond (begins (take n l) (g .due)) (judged (taken k g) (entries (drop n l))) (Differs (g .number))) (length-take-le n l (b .0 .there))
+      ∙ ap (λ k. cond (begins (take n l) (g .due)) (judged (taken k g) (entries (drop n l))) (Differs (g .number)))
+      (length-take-le n l (b .0 .there))
 
   end-judged : entryIn l ≡ End → judged g (entries l) ≡ cond (isNothing (g .due)) None (Differs (g .number))
   unfolding entriesBy judged
@@ -94,7 +95,12 @@ module _ (g : Still) (l m b o : List ℕ) (h : Stands g l o) where
 
 -- the card program's call of an entry, as it is played
 called-step : (l : List ℕ) (n : ℕ) (x : Next) → Calls l n x → (u : ℕ) (t : Bool) (g : Bench)
-    → calledBy x g ≡ record { splicer = stepBy u t x (g .splicer) .splicer; number = suc (g .number); due = stepBy u t x (g .splicer) .shows }
+    → calledBy x g ≡ record {
+      splicer = stepBy u t x (g .splicer) .splicer;
+      number = suc (g .number);
+      due =
+          stepBy u t x (g .splicer) .shows;
+    }
 unfolding calledBy called stepBy
 called-step l n (calls k left) c u t g = refl
 called-step l n (ends k) c u t g = refl
@@ -161,7 +167,13 @@ module _ (g : Still) (l m b o : List ℕ) (h : Stands g l o) (n : ℕ) (e : entr
 
   pub record-within : begins (take n l) (benchOf g m b o .due) ≡ true → g .from + n ≤ g .end
   record-within k =
-      omega (arith, begins-within (take n l) (benchOf g m b o .due) k, due-length g l m b o h, length-take-le n l (kind .0 .there), h .within)
+      omega (
+        arith,
+        begins-within (take n l) (benchOf g m b o .due) k,
+        due-length g l m b o h,
+        length-take-le n l (kind .0 .there),
+        h .within,
+      )
 
   pub record-on : Lent m b → begins (take n l) (benchOf g m b o .due) ≡ true
       → GoesOn (benchOf g m b o) l n (record { number = g .number; from = g .from + n; end = g .end }) m b o
@@ -177,5 +189,6 @@ module _ (g : Still) (l m b o : List ℕ) (h : Stands g l o) (n : ℕ) (e : entr
         stands = record { within = i; room = h .room; few = omega (arith, h .few) };
         finds =
             record-judged (benchOf g m b o) l n e
-            ∙ rw k (ap (λ x. judged x (entries (drop n l))) (bench-same _ _ _ _ _ _ refl refl (due-left o (g .from) (g .end) n i (h .room))));
+            ∙ rw k (ap (λ x. judged x (entries (drop n l)))
+            (bench-same _ _ _ _ _ _ refl refl (due-left o (g .from) (g .end) n i (h .room))));
       }

@@ -90,7 +90,8 @@ module _ {l m₀ b₀ m b o : List ℕ} {at : ℕ} {g : Still} (r : Running l m�
   -- a: what the turn gave
   module _ (a : After) (v c q : List ℕ) (t : Turned (benchOf g m b o) (midOf at (length l - at) l) a v c q) where
     turned : {x : After} → a ≡ x → Turned (benchOf g m b o) (drop at l) x v c q
-    turned {x} e = subst (λ y. Turned (benchOf g m b o) y x v c q) (tail l at) (subst (λ y. Turned (benchOf g m b o) (midOf at (length l - at) l) y v c q) e t)
+    turned {x} e = subst (λ y. Turned (benchOf g m b o) y x v c q) (tail l at)
+        (subst (λ y. Turned (benchOf g m b o) (midOf at (length l - at) l) y v c q) e t)
 
     pub running-over : {f : Finding} → a ≡ Over f → f ≡ judged (benchOf none m₀ b₀ []) (entries l)
     running-over e = sym (r .finds ∙ turned e)

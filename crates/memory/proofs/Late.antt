@@ -57,7 +57,8 @@ flat-pasts (suc n) q h =
     let r = drop pastWidth q in
     five q (omega arith)
     ∙ ap (λ (z : List ℕ). getD q 0 0 ∷ getD q 1 0 ∷ getD q 2 0 ∷ getD q 3 0 ∷ getD q 4 0 ∷ z)
-    (flat-pasts n r (omega (arith, length-drop pastWidth q)) ∙ ap (λ (z : List ℕ). flatPast (pasts n r) ++ z) (drop-drop (n * pastWidth) pastWidth q ∙ ap (λ (k : ℕ). drop k q) e))
+    (flat-pasts n r (omega (arith, length-drop pastWidth q)) ∙ ap (λ (z : List ℕ). flatPast (pasts n r) ++ z)
+    (drop-drop (n * pastWidth) pastWidth q ∙ ap (λ (k : ℕ). drop k q) e))
 
 late-parts : (q : List ℕ) → length q ≡ lateSize → q ≡ flatPast (pasts mostKept q) ++ (nextIn q ∷ [])
 late-parts q h =
@@ -92,9 +93,11 @@ lateWords l = flatPast (l .places) ++ (l .next ∷ [])
 
 pub late-stands : (l : Lately) → length (l .places) ≡ mostKept → latelyIn (lateWords l) ≡ l
 late-stands l h =
-    let a : pasts mostKept (lateWords l) ≡ l .places = ap (λ (n : ℕ). pasts n (lateWords l)) (sym h) ∙ pasts-flat (l .places) (l .next ∷ []) in
+    let a : pasts mostKept (lateWords l) ≡ l .places = ap (λ (n : ℕ). pasts n (lateWords l)) (sym h)
+    ∙ pasts-flat (l .places) (l .next ∷ []) in
     let k : pastWords ≡ length (flatPast (l .places)) + 0 = omega (arith, length-flatPast (l .places)) in
-    let b : nextIn (lateWords l) ≡ l .next = ap (λ (n : ℕ). getD (lateWords l) n 0) k ∙ getD-behind (flatPast (l .places)) (l .next ∷ []) 0 in
+    let b : nextIn (lateWords l) ≡ l .next = ap (λ (n : ℕ). getD (lateWords l) n 0) k
+    ∙ getD-behind (flatPast (l .places)) (l .next ∷ []) 0 in
     λ i. record { places = a i; next = b i }
 
 -- ## One more has ended
@@ -110,7 +113,8 @@ module _ (q : List ℕ) (b : ℕ) (e : Past) where
   -- a word that is none of them
   pub far5 : (j : ℕ) → ((k : ℕ) → k < pastWidth → j ≡ b + k → ⊥) → getD (written5 q b e) j 0 ≡ getD q j 0
   far5 j n =
-      getD-set-other (set (set (set (set q b (e .conn)) (b + 1) (e .id)) (b + 2) (e .event)) (b + 3) (e .result)) (b + 4) j (e .played) 0 (λ z. n 4 (omega arith) z)
+      getD-set-other (set (set (set (set q b (e .conn)) (b + 1) (e .id)) (b + 2) (e .event)) (b + 3) (e .result)) (b + 4) j (e .played) 0
+      (λ z. n 4 (omega arith) z)
       ∙ getD-set-other (set (set (set q b (e .conn)) (b + 1) (e .id)) (b + 2) (e .event)) (b + 3) j (e .result) 0 (λ z. n 3 (omega arith) z)
       ∙ getD-set-other (set (set q b (e .conn)) (b + 1) (e .id)) (b + 2) j (e .event) 0 (λ z. n 2 (omega arith) z)
       ∙ getD-set-other (set q b (e .conn)) (b + 1) j (e .id) 0 (λ z. n 1 (omega arith) z)
@@ -170,14 +174,22 @@ module _ (q : List ℕ) (b : ℕ) (e : Past) where
           ∙ getD-set-same q2 (b + 2) (e .event) 0 (omega (arith, l2))
 
       r : getD (written5 q b e) (b + 3) 0 ≡ e .result
-      r = getD-set-other q4 (b + 4) (b + 3) (e .played) 0 (λ z. omega (arith, z)) ∙ getD-set-same q3 (b + 3) (e .result) 0 (omega (arith, l3))
+      r = getD-set-other q4 (b + 4) (b + 3) (e .played) 0 (λ z. omega (arith, z))
+          ∙ getD-set-same q3 (b + 3) (e .result) 0 (omega (arith, l3))
 
       p : getD (written5 q b e) (b + 4) 0 ≡ e .played
       p = getD-set-same q4 (b + 4) (e .played) 0 (omega (arith, l4))
 
 -- the words of one that ended are all of it
 five-same : (f g : ℕ → ℕ) → ((k : ℕ) → k < pastWidth → f k ≡ g k) → pastOf f ≡ pastOf g
-five-same f g h = λ i. record { conn = h 0 (omega arith) i; id = h 1 (omega arith) i; event = h 2 (omega arith) i; result = h 3 (omega arith) i; played = h 4 (omega arith) i }
+five-same f g h = λ i. record {
+  conn = h 0 (omega arith) i;
+  id = h 1 (omega arith) i;
+  event = h 2 (omega arith) i;
+  result =
+      h 3 (omega arith) i;
+  played = h 4 (omega arith) i;
+}
 
 -- places have no word in common
 same-place : (i j k n : ℕ) → k < pastWidth → n < pastWidth → i * pastWidth + k ≡ j * pastWidth + n → i ≡ j
@@ -196,20 +208,24 @@ module _ (q : List ℕ) (e : Past) (h : length q ≡ lateSize) (k : nextIn q < m
 
   -- the words of the place i
   at-place : (i : ℕ) → i < mostKept → pastAt lateAfter i ≡ pastAt (written5 q b e) i
-  at-place i l = five-same (λ n. getD lateAfter (i * pastWidth + n) 0) (λ n. getD (written5 q b e) (i * pastWidth + n) 0) (λ n m. getD-set-other (written5 q b e) pastWords (i * pastWidth + n) ((nextIn q + 1) % mostKept) 0 (λ z. omega (arith, z)))
+  at-place i l = five-same (λ n. getD lateAfter (i * pastWidth + n) 0) (λ n. getD (written5 q b e) (i * pastWidth + n) 0)
+      (λ n m. getD-set-other (written5 q b e) pastWords (i * pastWidth + n) ((nextIn q + 1) % mostKept) 0 (λ z. omega (arith, z)))
 
   places-after : pasts mostKept lateAfter ≡ set (pasts mostKept q) (nextIn q) e
   places-after =
       ext-getD unused (pasts mostKept lateAfter) (set (pasts mostKept q) (nextIn q) e)
       (length-pasts mostKept lateAfter ∙ sym (length-set (pasts mostKept q) (nextIn q) e ∙ length-pasts mostKept q))
-      (λ i l. let m : i < mostKept = omega (arith, l, length-pasts mostKept lateAfter) in pasts-at mostKept i lateAfter m ∙ at-place i m ∙ each i m (eqb i (nextIn q)) refl)
+      (λ i l. let m : i < mostKept = omega (arith, l, length-pasts mostKept lateAfter) in
+      pasts-at mostKept i lateAfter m ∙ at-place i m ∙ each i m (eqb i (nextIn q)) refl)
     where
-      each : (i : ℕ) → i < mostKept → (t : Bool) → eqb i (nextIn q) ≡ t → pastAt (written5 q b e) i ≡ getD (set (pasts mostKept q) (nextIn q) e) i unused
+      each : (i : ℕ) → i < mostKept → (t : Bool) → eqb i (nextIn q) ≡ t
+          → pastAt (written5 q b e) i ≡ getD (set (pasts mostKept q) (nextIn q) e) i unused
       each i l true x =
           let y : i ≡ nextIn q = eqb-true i (nextIn q) x in
           ap (pastAt (written5 q b e)) y
           ∙ near5 q b e (omega arith)
-          ∙ sym (ap (λ (j : ℕ). getD (set (pasts mostKept q) (nextIn q) e) j unused) y ∙ getD-set-same (pasts mostKept q) (nextIn q) e unused (omega (arith, length-pasts mostKept q)))
+          ∙ sym (ap (λ (j : ℕ). getD (set (pasts mostKept q) (nextIn q) e) j unused) y
+          ∙ getD-set-same (pasts mostKept q) (nextIn q) e unused (omega (arith, length-pasts mostKept q)))
       each i l false x =
           let n = eqb-false i (nextIn q) x in
           five-same (λ k. getD (written5 q b e) (i * pastWidth + k) 0) (λ k. getD q (i * pastWidth + k) 0)
@@ -218,7 +234,11 @@ module _ (q : List ℕ) (e : Past) (h : length q ≡ lateSize) (k : nextIn q < m
 
   pub late-after : latelyIn lateAfter ≡ remembered e (latelyIn q)
   unfolding remembered
-  late-after = λ i. record { places = places-after i; next = getD-set-same (written5 q b e) pastWords ((nextIn q + 1) % mostKept) 0 (omega (arith, long)) i }
+  late-after = λ i. record {
+    places = places-after i;
+    next = getD-set-same (written5 q b e) pastWords ((nextIn q + 1) % mostKept) 0
+        (omega (arith, long)) i;
+  }
 
 -- all words are zeros
 pub none-late : latelyIn (zeros lateSize) ≡ noneEnded

@@ -7,7 +7,8 @@ use Prim.Native.Nat.{ℕ, zero, suc, _+_, _-_, _*_, _%_, _≤_, _<_}
 use native.Mathlib.Omega.{arith}
 use lib.Dec.{eqb}
 use lib.ListN.{length, take, drop, set, getD, replicate, length-set, length-replicate, length-drop, take-append-drop, List·getD-map}
-use lib.Seq.{length-take-le, take-all, take-at, drop-at, take-add, take-take, take-set-lt, take-set-le, drop-drop, drop-cons, getD-take, getD-drop, drop-set-lt, drop-set-add, getD-set-same, getD-set-other, set-getD, ext-getD}
+use lib.Seq.{length-take-le, take-all, take-at, drop-at, take-add, take-take, take-set-lt, take-set-le, drop-drop, drop-cons, getD-take}
+use lib.Seq.{getD-drop, drop-set-lt, drop-set-add, getD-set-same, getD-set-other, set-getD, ext-getD}
 use borrow.Rule.Slice.PartMut.{putMid, postOf, same-len-mid, mid-len, take-put, drop-put}
 use borrow.Author.Tests.{eqb-true, eqb-false, eq-eqb, ne-eqb}
 use Rattle.rules.specs.declared.Ninths.{Ninths}
@@ -19,7 +20,8 @@ use Rattle.rules.specs.declared.Link.the-variants.{Closed, Opened, Initialised}
 use Rattle.rules.specs.Lists.{All, bit, omit, insertAt, removeAt}
 use Rattle.rules.specs.Bytes.{part, padded}
 use Rattle.rules.specs.Answers.{waits}
-use Rattle.rules.specs.State.{Queue, Splicer, empty, noHardware, of, Sorted, sooner, earliest, withWaiting, withLately, Lately, mostKept, unused, remembered, recentAt}
+use Rattle.rules.specs.State.{Queue, Splicer, empty, noHardware, of, Sorted, sooner, earliest, withWaiting, withLately, Lately, mostKept}
+use Rattle.rules.specs.State.{unused, remembered, recentAt}
 use Rattle.rules.specs.Reading.{longestHardware, structureIn}
 use Rattle.rules.specs.Sound.{Each, Proper, Holding}
 use Rattle.rules.proofs.All.{all-replicate, all-into}
@@ -33,8 +35,12 @@ use Rattle.places.proofs.Ring.{ring-full}
 use Rattle.memory.specs.declared.Which.{Which}
 use Rattle.memory.proofs.Late.{pasts-at, late-same, none-late, written5, length5, far5, lateAfter, late-after}
 use Rattle.memory.specs.declared.Which.the-variants.{Waiting, Started}
-use Rattle.memory.specs.Memory.{clockWord, slotOf, ringWord, primaryWord, firstCount, firstLink, connections, placesOf, fromOf, toOf, spanOf, words, wordOf, linkIn, IsLink, linksOf, countsOf, ringOf, lotOf, sessions, OfFour, tallied, Form, Memory, see, Now, firstPast, pastWidth, pastWords, nextWord, lateSize, lateOf, nextIn, latelyIn, recalling}
-use Rattle.memory.specs.Memory.{timed, silenced, linked, listOf, relisted, onward, nothingShown, nameSize, bytes, nameBytes, nameOf, keptFrom, keptBytes, keptOf, spread, Stored, Whole, shown}
+use Rattle.memory.specs.Memory.{clockWord, slotOf, ringWord, primaryWord, firstCount, firstLink, connections, placesOf, fromOf, toOf}
+use Rattle.memory.specs.Memory.{spanOf, words, wordOf, linkIn, IsLink, linksOf, countsOf, ringOf, lotOf, sessions, OfFour, tallied}
+use Rattle.memory.specs.Memory.{Form, Memory, see, Now, firstPast, pastWidth, pastWords, nextWord, lateSize, lateOf, nextIn, latelyIn}
+use Rattle.memory.specs.Memory.{recalling}
+use Rattle.memory.specs.Memory.{timed, silenced, linked, listOf, relisted, onward, nothingShown, nameSize, bytes, nameBytes, nameOf}
+use Rattle.memory.specs.Memory.{keptFrom, keptBytes, keptOf, spread, Stored, Whole, shown}
 
 -- a list of the words is that list of the queue that they show
 pub sessions-list : (v : Which) (m : List ℕ) → sessions v m ≡ listOf v (see m .queue)
@@ -157,10 +163,12 @@ link-at m c h = ap linkIn (part-at m firstLink c connections (omega arith)) ∙ 
 pub counts-read : (m : List ℕ) → length m ≡ words →
     getD m firstCount 0 ∷ getD m (firstCount + 1) 0 ∷ getD m (firstCount + 2) 0 ∷ getD m (firstCount + 3) 0 ∷ [] ≡ countsOf m
 counts-read m w =
-    let n : length (countsOf m) ≡ connections = length-take-le connections (drop firstCount m) (omega (arith, w, length-drop firstCount m)) in
+    let n : length (countsOf m) ≡ connections = length-take-le connections (drop firstCount m) (omega (arith, w, length-drop firstCount m))
+    in
     ext-getD 0 _ (countsOf m) (sym n) (λ i h. each i h ∙ part-at m firstCount i connections h)
   where
-    each : (i : ℕ) → i < connections → getD (getD m firstCount 0 ∷ getD m (firstCount + 1) 0 ∷ getD m (firstCount + 2) 0 ∷ getD m (firstCount + 3) 0 ∷ []) i 0 ≡ getD m (firstCount + i) 0
+    each : (i : ℕ) → i < connections → getD (getD m firstCount 0 ∷ getD m (firstCount + 1) 0 ∷ getD m (firstCount + 2) 0
+        ∷ getD m (firstCount + 3) 0 ∷ []) i 0 ≡ getD m (firstCount + i) 0
     each zero h = refl
     each (suc zero) h = refl
     each (suc (suc zero)) h = refl
@@ -178,11 +186,13 @@ tallied-at l (suc (suc (suc zero))) h = refl
 tallied-at l (suc (suc (suc (suc c)))) h = absurd (omega arith)
 
 -- another count of connection c, and the others' as they were
-tallied-set : (l u : List Session) (c n : ℕ) → c ≤ 3 → n ≡ waits c u → ((d : ℕ) → (d ≡ c → ⊥) → waits d l ≡ waits d u) → set (tallied l) c n ≡ tallied u
+tallied-set : (l u : List Session) (c n : ℕ) → c ≤ 3 → n ≡ waits c u → ((d : ℕ) → (d ≡ c → ⊥) → waits d l ≡ waits d u)
+    → set (tallied l) c n ≡ tallied u
 unfolding tallied
 tallied-set l u c n h e o =
     ext-getD 0 (set (tallied l) c n) (tallied u) (length-set (tallied l) c n)
-    (λ d k. each d (omega (arith, length-set (tallied l) c n)) (eqb d c) refl ∙ sym (tallied-at u d (omega (arith, length-set (tallied l) c n))))
+    (λ d k. each d (omega (arith, length-set (tallied l) c n)) (eqb d c) refl
+    ∙ sym (tallied-at u d (omega (arith, length-set (tallied l) c n))))
   where
     each : (d : ℕ) → d ≤ 3 → (b : Bool) → eqb d c ≡ b → getD (set (tallied l) c n) d 0 ≡ waits d u
     each d k true q =
@@ -196,8 +206,10 @@ tallied-set l u c n h e o =
 pub all-flagged : (clock : ℕ) (q : Queue) → Holding clock q → Each (λ s. (s .overrides ≤ 1) × (s .mux < 128)) q
 all-flagged clock q h =
     record {
-      waiting = all-into Proper (λ s. (s .overrides ≤ 1) × (s .mux < 128)) (λ s p. (p .overrides, omega (arith, p .mux .1))) (q .waiting) (h .proper .waiting);
-      started = all-into Proper (λ s. (s .overrides ≤ 1) × (s .mux < 128)) (λ s p. (p .overrides, omega (arith, p .mux .1))) (q .started) (h .proper .started);
+      waiting = all-into Proper (λ s. (s .overrides ≤ 1) × (s .mux < 128)) (λ s p. (p .overrides, omega (arith, p .mux .1))) (q .waiting)
+          (h .proper .waiting);
+      started = all-into Proper (λ s. (s .overrides ≤ 1) × (s .mux < 128)) (λ s p. (p .overrides, omega (arith, p .mux .1))) (q .started)
+          (h .proper .started);
     }
 
 -- every connection is one of the four
@@ -207,7 +219,8 @@ waiting-of-four clock q h = all-into Proper OfFour (λ s p. p .conn) (q .waiting
 its-own : (s : Session) → bit (of (s .conn) s) ≡ 1
 its-own s = ap bit (eq-eqb (s .conn) (s .conn) refl)
 
-tallied-insert : (i : ℕ) (x : Session) (l : List Session) → OfFour x → set (tallied l) (x .conn) (waits (x .conn) l + 1) ≡ tallied (insertAt i x l)
+tallied-insert : (i : ℕ) (x : Session) (l : List Session) → OfFour x → set (tallied l) (x .conn) (waits (x .conn) l + 1)
+    ≡ tallied (insertAt i x l)
 tallied-insert i x l h =
     let c = x .conn in
     tallied-set l (insertAt i x l) c (waits c l + 1) h (omega (arith, count-insertAt (of c) i x l, its-own x))
@@ -234,7 +247,8 @@ tallied-omit c l h =
 -- ## The first start and the first end
 
 -- the first start of those in order of start
-pub first-earliest : (l : List Session) (t : Ninths) → Sorted l → 0 < length l → t ≡ getD l 0 empty .start → At t ≡ earliest (λ s. s .start) l
+pub first-earliest : (l : List Session) (t : Ninths) → Sorted l → 0 < length l → t ≡ getD l 0 empty .start
+    → At t ≡ earliest (λ s. s .start) l
 first-earliest l t o h e = ap At e ∙ sym (earliest-start l empty o h)
 
 leading-earliest : (l : List Session) (b : ℕ) → Leading l (length l) b → earliest (λ s. s .end) l ≡ At (getD l b empty .end)
@@ -275,9 +289,17 @@ pub shown-as : {m : List ℕ} {s r : Memory} → Shown m s → s ≡ r → Shown
 shown-as {m} g e = subst (λ (s : Memory). Shown m s) e g
 
 module _ (m : List ℕ) (t p : ℕ) (l : List ℕ) (r : ℕ) (w k : Lot) (y : List ℕ) where
-  pub shows : length m ≡ words → getD m clockWord 0 ≡ t → getD m primaryWord 0 ≡ p → linksOf m ≡ l → getD m ringWord 0 ≡ r → lotOf Waiting m ≡ w → lotOf Started m ≡ k → lateOf m ≡ y →
+  pub shows : length m ≡ words → getD m clockWord 0 ≡ t → getD m primaryWord 0 ≡ p → linksOf m ≡ l → getD m ringWord 0 ≡ r
+      → lotOf Waiting m ≡ w → lotOf Started m ≡ k → lateOf m ≡ y →
       All IsLink l → r < placesOf Waiting → Good w → Good k → nextIn y < mostKept →
-      Shown m (record { clock = t; primary = p; links = map linkIn l; queue = record { waiting = used w; started = used k; lately = latelyIn y }; ringEnd = r })
+      Shown m (record {
+        clock = t;
+        primary = p;
+        links = map linkIn l;
+        queue =
+            record { waiting = used w; started = used k; lately = latelyIn y };
+        ringEnd = r;
+      })
   shows whole clock primary links ring waiting started late a n g h j =
       record {
         whole = whole;
@@ -286,11 +308,19 @@ module _ (m : List ℕ) (t p : ℕ) (l : List ℕ) (r : ℕ) (w k : Lot) (y : Li
         ring = omega (arith, ring);
         links = subst (λ (x : List ℕ). All IsLink x) (sym links) a;
         late = subst (λ (x : List ℕ). nextIn x < mostKept) (sym late) j;
-        is = λ i. record { clock = clock i; primary = primary i; links = map linkIn (links i); queue = record { waiting = used (waiting i); started = used (started i); lately = latelyIn (late i) }; ringEnd = ring i };
+        is = λ i. record {
+          clock = clock i;
+          primary = primary i;
+          links = map linkIn (links i);
+          queue =
+              record { waiting = used (waiting i); started = used (started i); lately = latelyIn (late i) };
+          ringEnd = ring i;
+        };
       }
 
 -- and the counts are those of the waiting w
-pub with-counts : {m : List ℕ} {s : Memory} (w : List Session) → Shown m s → w ≡ s .queue .waiting → All OfFour w → countsOf m ≡ tallied w → Now m s
+pub with-counts : {m : List ℕ} {s : Memory} (w : List Session) → Shown m s → w ≡ s .queue .waiting → All OfFour w → countsOf m ≡ tallied w
+    → Now m s
 with-counts {m} w g y a e =
     let z : w ≡ sessions Waiting m = y ∙ sym (ap (λ (s : Memory). s .queue .waiting) (g .is)) in
     record {
@@ -326,7 +356,13 @@ within Started m f = (omega arith, omega (arith, f .whole))
 -- the places ys with n used ones, the ring's end r, in place of those that wait: all else shows as it did
 changed-waiting : (m ys : List ℕ) (n r : ℕ) → Form m → length ys ≡ spanOf Waiting → r < placesOf Waiting → Good (lot ys r n) →
     Shown (set (set (putMid (fromOf Waiting) (spanOf Waiting) m ys) (slotOf Waiting) n) ringWord r)
-    (record { clock = see m .clock; primary = see m .primary; links = see m .links; queue = withWaiting (used (lot ys r n)) (see m .queue); ringEnd = r })
+    (record {
+      clock = see m .clock;
+      primary = see m .primary;
+      links = see m .links;
+      queue = withWaiting (used (lot ys r n)) (see m .queue);
+      ringEnd = r;
+    })
 changed-waiting m ys n r f l c g =
     let a = fromOf Waiting in
     let e = toOf Waiting in
@@ -364,7 +400,8 @@ changed Waiting m ys n f l g =
     let p = putMid (fromOf Waiting) (spanOf Waiting) m ys in
     let x = set p (slotOf Waiting) n in
     let w : r ≡ getD x ringWord 0 =
-    sym (getD-set-other p (slotOf Waiting) ringWord n 0 (λ z. omega (arith, z)) ∙ put-word m ys (fromOf Waiting) (toOf Waiting) (h .0) (h .1) l ringWord (omega arith)) in
+    sym (getD-set-other p (slotOf Waiting) ringWord n 0 (λ z. omega (arith, z))
+    ∙ put-word m ys (fromOf Waiting) (toOf Waiting) (h .0) (h .1) l ringWord (omega arith)) in
     subst (λ (z : List ℕ). Shown z (relisted Waiting (used (lot ys r n)) (see m))) (ap (set x ringWord) w ∙ set-getD x ringWord 0)
     (changed-waiting m ys n r f l (f .ring) g)
 changed Started m ys n f l g =
@@ -390,7 +427,8 @@ changed Started m ys n f l g =
     (set-behind p i n firstPast lateSize (omega arith) ∙ put-behind m ys a e (h .0) (h .1) l firstPast lateSize (omega arith))
     (f .links) (f .ring) (f .waiting) g (f .late)
 
-changed-counts : (v : Which) (m ys : List ℕ) (n : ℕ) → Form m → length ys ≡ spanOf v → countsOf (set (putMid (fromOf v) (spanOf v) m ys) (slotOf v) n) ≡ countsOf m
+changed-counts : (v : Which) (m ys : List ℕ) (n : ℕ) → Form m → length ys ≡ spanOf v
+    → countsOf (set (putMid (fromOf v) (spanOf v) m ys) (slotOf v) n) ≡ countsOf m
 changed-counts v m ys n f l =
     let h = within v m f in
     let b = before v in
@@ -419,11 +457,13 @@ module _ (v : Which) {m : List ℕ} {a e r : ℕ} (p : a ≡ fromOf v) (q : e �
     span : length ys ≡ spanOf v
     span = l ∙ rw (p, q) (mid-len (fromOf v) (toOf v) m (within v m f .1))
 
-    pub changed-at : (n : ℕ) {i : ℕ} {u : List Session} → i ≡ slotOf v → Good (lot ys r n) → used (lot ys r n) ≡ u → Changed false v m (set (putMid a (e - a) m ys) i n) u
+    pub changed-at : (n : ℕ) {i : ℕ} {u : List Session} → i ≡ slotOf v → Good (lot ys r n) → used (lot ys r n) ≡ u
+        → Changed false v m (set (putMid a (e - a) m ys) i n) u
     changed-at n {i} {u} s g h =
         rw (p, q, s)
         (record {
-          shown = subst (λ (z : List Session). Shown (set (putMid (fromOf v) (spanOf v) m ys) (slotOf v) n) (relisted v z (see m))) (ap (λ (k : ℕ). used (lot ys k n)) (sym o) ∙ h)
+          shown = subst (λ (z : List Session). Shown (set (putMid (fromOf v) (spanOf v) m ys) (slotOf v) n) (relisted v z (see m)))
+              (ap (λ (k : ℕ). used (lot ys k n)) (sym o) ∙ h)
               (changed v m ys n f span (subst (λ (k : ℕ). Good (lot ys k n)) o g));
           counts = changed-counts v m ys n f span;
         })
@@ -437,7 +477,13 @@ accepted-at {m} ys {r} n {u} o f l g h =
     let x = set (putMid (fromOf Waiting) (spanOf Waiting) m ys) (slotOf Waiting) n in
     record {
       shown = shown-as (changed-waiting m ys n (next r) f y (omega arith) g)
-          (λ i. record { clock = see m .clock; primary = see m .primary; links = see m .links; queue = withWaiting (h i) (see m .queue); ringEnd = next (o i) });
+          (λ i. record {
+            clock = see m .clock;
+            primary = see m .primary;
+            links = see m .links;
+            queue = withWaiting (h i) (see m .queue);
+            ringEnd = next (o i);
+          });
       counts = set-behind x ringWord (next r) firstCount connections (omega arith) ∙ changed-counts Waiting m ys n f y;
     }
 
@@ -447,22 +493,26 @@ room-at Waiting {m} p q f = rw (p, q) (omega (arith, mid-len (fromOf Waiting) (t
 room-at Started {m} p q f = rw (p, q) (omega (arith, mid-len (fromOf Started) (toOf Started) m (within Started m f .1)))
 
 -- the places go round, or end before the place 0
-pub ring-at : (v : Which) {m : List ℕ} {a e r : ℕ} → a ≡ fromOf v → e ≡ toOf v → r ≡ ringOf v m → Form m → Ring (capacity (part a (e - a) m)) r
+pub ring-at : (v : Which) {m : List ℕ} {a e r : ℕ} → a ≡ fromOf v → e ≡ toOf v → r ≡ ringOf v m → Form m
+    → Ring (capacity (part a (e - a) m)) r
 ring-at Waiting {m} {a} {e} {r} p q o f = ring-full (capacity (part a (e - a) m)) r (room-at Waiting p q f) (omega (arith, o, f .ring))
-ring-at Started {m} {a} {e} {r} p q o f = subst (λ (k : ℕ). Ring (capacity (part a (e - a) m)) k) (sym o) (omega (arith, room-at Started p q f))
+ring-at Started {m} {a} {e} {r} p q o f = subst (λ (k : ℕ). Ring (capacity (part a (e - a) m)) k) (sym o)
+    (omega (arith, room-at Started p q f))
 
 -- ## One word of the head
 
 recounted : (m : List ℕ) (s : Memory) (c n : ℕ) → c ≤ 3 → Shown m s → Shown (set m (firstCount + c) n) s
 recounted m s c n h g =
     let i = firstCount + c in
-    shown-as (shows (set m i n) (see m .clock) (see m .primary) (linksOf m) (ringOf Waiting m) (lotOf Waiting m) (lotOf Started m) (lateOf m)
+    shown-as (shows (set m i n) (see m .clock) (see m .primary) (linksOf m) (ringOf Waiting m) (lotOf Waiting m) (lotOf Started m)
+    (lateOf m)
     (length-set m i n ∙ g .whole)
     (other clockWord (omega arith))
     (other primaryWord (omega arith))
     (set-behind m i n firstLink connections (omega arith))
     (other ringWord (omega arith))
-    (a-lot (set-behind m i n (fromOf Waiting) (spanOf Waiting) (omega arith)) (other ringWord (omega arith)) (other (slotOf Waiting) (omega arith)))
+    (a-lot (set-behind m i n (fromOf Waiting) (spanOf Waiting) (omega arith)) (other ringWord (omega arith))
+    (other (slotOf Waiting) (omega arith)))
     (a-lot (set-behind m i n (fromOf Started) (spanOf Started) (omega arith)) refl (other (slotOf Started) (omega arith)))
     (set-behind m i n firstPast lateSize (omega arith))
     (g .links) (g .ring) (g .waiting) (g .started) (g .late)) (g .is)
@@ -472,7 +522,8 @@ recounted m s c n h g =
 
 -- a word of the head that is neither a list's nor a connection's
 module _ (m : List ℕ) (i n t p : ℕ) (f : Form m) where
-  worded : i < firstCount → (i ≡ ringWord → ⊥) → (i ≡ slotOf Waiting → ⊥) → (i ≡ slotOf Started → ⊥) → getD (set m i n) clockWord 0 ≡ t → getD (set m i n) primaryWord 0 ≡ p →
+  worded : i < firstCount → (i ≡ ringWord → ⊥) → (i ≡ slotOf Waiting → ⊥) → (i ≡ slotOf Started → ⊥) → getD (set m i n) clockWord 0 ≡ t
+      → getD (set m i n) primaryWord 0 ≡ p →
       Now (set m i n) (record { clock = t; primary = p; links = see m .links; queue = see m .queue; ringEnd = see m .ringEnd })
   worded low notRing notWaiting notStarted clock primary =
       with-counts (sessions Waiting m) (shows (set m i n) t p (linksOf m) (ringOf Waiting m) (lotOf Waiting m) (lotOf Started m) (lateOf m)
@@ -481,10 +532,12 @@ module _ (m : List ℕ) (i n t p : ℕ) (f : Form m) where
       primary
       (set-behind m i n firstLink connections (omega arith))
       (other ringWord notRing)
-      (a-lot (set-behind m i n (fromOf Waiting) (spanOf Waiting) (omega arith)) (other ringWord notRing) (other (slotOf Waiting) notWaiting))
+      (a-lot (set-behind m i n (fromOf Waiting) (spanOf Waiting) (omega arith)) (other ringWord notRing)
+      (other (slotOf Waiting) notWaiting))
       (a-lot (set-behind m i n (fromOf Started) (spanOf Started) (omega arith)) refl (other (slotOf Started) notStarted))
       (set-behind m i n firstPast lateSize (omega arith))
-      (f .links) (f .ring) (f .waiting) (f .started) (f .late)) refl (f .ofFour) (set-behind m i n firstCount connections (omega arith) ∙ f .counts)
+      (f .links) (f .ring) (f .waiting) (f .started) (f .late)) refl (f .ofFour)
+      (set-behind m i n firstCount connections (omega arith) ∙ f .counts)
     where
       other : (j : ℕ) → (i ≡ j → ⊥) → getD (set m i n) j 0 ≡ getD m j 0
       other j k = getD-set-other m i j n 0 (λ z. k (sym z))
@@ -511,22 +564,27 @@ silenced-none s =
     let e : s .primary + 0 ≡ s .primary = omega arith in
     λ i. record { clock = s .clock; primary = e i; links = s .links; queue = s .queue; ringEnd = s .ringEnd }
 
-pub linked-now : (m : List ℕ) (c : ℕ) (l : Link) (n : ℕ) → c ≤ 3 → n ≡ wordOf l → Form m → Now (set m (firstLink + c) n) (linked c l (see m))
+pub linked-now : (m : List ℕ) (c : ℕ) (l : Link) (n : ℕ) → c ≤ 3 → n ≡ wordOf l → Form m
+    → Now (set m (firstLink + c) n) (linked c l (see m))
 linked-now m c l n h e f =
     let i = firstLink + c in
     let y : map linkIn (set (linksOf m) c n) ≡ set (see m .links) c l =
     link-set (linksOf m) c n ∙ ap (set (see m .links) c) (ap linkIn e ∙ link-word l) in
-    with-counts (sessions Waiting m) (subst (λ (z : List Link). Shown (set m i n) (record { clock = see m .clock; primary = see m .primary; links = z; queue = see m .queue; ringEnd = see m .ringEnd })) y
-    (shows (set m i n) (see m .clock) (see m .primary) (set (linksOf m) c n) (ringOf Waiting m) (lotOf Waiting m) (lotOf Started m) (lateOf m)
+    with-counts (sessions Waiting m) (subst (λ (z : List Link). Shown (set m i n)
+    (record { clock = see m .clock; primary = see m .primary; links = z; queue = see m .queue; ringEnd = see m .ringEnd })) y
+    (shows (set m i n) (see m .clock) (see m .primary) (set (linksOf m) c n) (ringOf Waiting m) (lotOf Waiting m) (lotOf Started m)
+    (lateOf m)
     (length-set m i n ∙ f .whole)
     (other clockWord (omega arith))
     (other primaryWord (omega arith))
     (set-within m n firstLink c connections (omega arith))
     (other ringWord (omega arith))
-    (a-lot (set-behind m i n (fromOf Waiting) (spanOf Waiting) (omega arith)) (other ringWord (omega arith)) (other (slotOf Waiting) (omega arith)))
+    (a-lot (set-behind m i n (fromOf Waiting) (spanOf Waiting) (omega arith)) (other ringWord (omega arith))
+    (other (slotOf Waiting) (omega arith)))
     (a-lot (set-behind m i n (fromOf Started) (spanOf Started) (omega arith)) refl (other (slotOf Started) (omega arith)))
     (set-behind m i n firstPast lateSize (omega arith))
-    (all-set (linksOf m) c n (subst (λ (k : ℕ). IsLink k) (sym e) (is-link l)) (f .links)) (f .ring) (f .waiting) (f .started) (f .late))) refl (f .ofFour) (set-before m i n firstCount connections (omega arith) ∙ f .counts)
+    (all-set (linksOf m) c n (subst (λ (k : ℕ). IsLink k) (sym e) (is-link l)) (f .links)) (f .ring) (f .waiting) (f .started) (f .late)))
+    refl (f .ofFour) (set-before m i n firstCount connections (omega arith) ∙ f .counts)
   where
     other : (j : ℕ) → j < firstCount → getD (set m (firstLink + c) n) j 0 ≡ getD m j 0
     other j k = getD-set-other m (firstLink + c) j n 0 (λ z. omega (arith, z))
@@ -541,17 +599,26 @@ pub next-word : (m : List ℕ) → getD m nextWord 0 ≡ nextIn (lateOf m)
 next-word m = part-at m firstPast pastWords lateSize (omega arith)
 
 -- a word of the place i
-pub past-word : (m : List ℕ) (i k : ℕ) → i < mostKept → k < pastWidth → getD m (firstPast + (i * pastWidth + k)) 0 ≡ getD (lateOf m) (i * pastWidth + k) 0
+pub past-word : (m : List ℕ) (i k : ℕ) → i < mostKept → k < pastWidth
+    → getD m (firstPast + (i * pastWidth + k)) 0 ≡ getD (lateOf m) (i * pastWidth + k) 0
 past-word m i k h l = part-at m firstPast (i * pastWidth + k) lateSize (omega arith)
 
 -- the one that ended i ends before the newest, n being the next place
 pub recent-word : (m : List ℕ) (i : ℕ) {n : ℕ} → i < mostKept → n ≡ nextIn (lateOf m) →
     let b = firstPast + (n + (mostKept - 1 - i)) % mostKept * pastWidth in
-    record { conn = getD m b 0; id = getD m (b + 1) 0; event = getD m (b + 2) 0; result = getD m (b + 3) 0; played = getD m (b + 4) 0 } ≡ recentAt i (latelyIn (lateOf m))
+    record { conn = getD m b 0; id = getD m (b + 1) 0; event = getD m (b + 2) 0; result = getD m (b + 3) 0; played = getD m (b + 4) 0 }
+    ≡ recentAt i (latelyIn (lateOf m))
 unfolding recentAt
 recent-word m i {n} h o =
     let j = (n + (mostKept - 1 - i)) % mostKept in
-    (λ k. record { conn = first k; id = word 1 (omega arith) k; event = word 2 (omega arith) k; result = word 3 (omega arith) k; played = word 4 (omega arith) k })
+    (λ k. record {
+      conn = first k;
+      id = word 1 (omega arith) k;
+      event = word 2 (omega arith) k;
+      result = word 3 (omega arith) k;
+      played =
+          word 4 (omega arith) k;
+    })
     ∙ sym (pasts-at mostKept j (lateOf m) (omega arith))
     ∙ ap (λ (k : ℕ). getD (latelyIn (lateOf m) .places) ((k + (mostKept - 1 - i)) % mostKept) unused) o
   where
@@ -581,12 +648,14 @@ module _ (m : List ℕ) (e : Past) (n b : ℕ) (o : n ≡ nextIn (lateOf m)) (p 
 
   -- what stands before stays
   word-stays : (j : ℕ) → j < firstPast → getD x j 0 ≡ getD m j 0
-  word-stays j h = getD-set-other (written5 m b e) nextWord j ((n + 1) % mostKept) 0 (λ z. omega (arith, z)) ∙ far5 m b e j (λ k l z. omega (arith, z, p))
+  word-stays j h = getD-set-other (written5 m b e) nextWord j ((n + 1) % mostKept) 0 (λ z. omega (arith, z))
+      ∙ far5 m b e j (λ k l z. omega (arith, z, p))
 
   part-stays : (c j : ℕ) → c + j ≤ firstPast → part c j x ≡ part c j m
   part-stays c j h =
       set-before (written5 m b e) nextWord ((n + 1) % mostKept) c j (omega arith)
-      ∙ set-before (set (set (set (set m b (e .conn)) (b + 1) (e .id)) (b + 2) (e .event)) (b + 3) (e .result)) (b + 4) (e .played) c j (omega (arith, p))
+      ∙ set-before (set (set (set (set m b (e .conn)) (b + 1) (e .id)) (b + 2) (e .event)) (b + 3) (e .result)) (b + 4) (e .played) c j
+      (omega (arith, p))
       ∙ set-before (set (set (set m b (e .conn)) (b + 1) (e .id)) (b + 2) (e .event)) (b + 3) (e .result) c j (omega (arith, p))
       ∙ set-before (set (set m b (e .conn)) (b + 1) (e .id)) (b + 2) (e .event) c j (omega (arith, p))
       ∙ set-before (set m b (e .conn)) (b + 1) (e .id) c j (omega (arith, p))
@@ -601,9 +670,11 @@ module _ (m : List ℕ) (e : Past) (n b : ℕ) (o : n ≡ nextIn (lateOf m)) (p 
       let d = n * pastWidth in
       late-set (written5 m b e) nextWord pastWords ((n + 1) % mostKept) refl (omega arith)
       ∙ ap (λ (z : List ℕ). set z pastWords ((n + 1) % mostKept))
-      (late-set (set (set (set (set m b (e .conn)) (b + 1) (e .id)) (b + 2) (e .event)) (b + 3) (e .result)) (b + 4) (d + 4) (e .played) (omega (arith, p)) (omega (arith, low))
+      (late-set (set (set (set (set m b (e .conn)) (b + 1) (e .id)) (b + 2) (e .event)) (b + 3) (e .result)) (b + 4) (d + 4) (e .played)
+      (omega (arith, p)) (omega (arith, low))
       ∙ ap (λ (z : List ℕ). set z (d + 4) (e .played))
-      (late-set (set (set (set m b (e .conn)) (b + 1) (e .id)) (b + 2) (e .event)) (b + 3) (d + 3) (e .result) (omega (arith, p)) (omega (arith, low))
+      (late-set (set (set (set m b (e .conn)) (b + 1) (e .id)) (b + 2) (e .event)) (b + 3) (d + 3) (e .result) (omega (arith, p))
+      (omega (arith, low))
       ∙ ap (λ (z : List ℕ). set z (d + 3) (e .result))
       (late-set (set (set m b (e .conn)) (b + 1) (e .id)) (b + 2) (d + 2) (e .event) (omega (arith, p)) (omega (arith, low))
       ∙ ap (λ (z : List ℕ). set z (d + 2) (e .event))
@@ -620,31 +691,44 @@ module _ (m : List ℕ) (e : Past) (n b : ℕ) (o : n ≡ nextIn (lateOf m)) (p 
   unfolding remembered
   remembered-now =
       let y = late-after q e (late-long m (f .whole)) (f .late) in
-      with-counts (sessions Waiting m) (shown-as (shows x (see m .clock) (see m .primary) (linksOf m) (ringOf Waiting m) (lotOf Waiting m) (lotOf Started m) (lateAfter q e (late-long m (f .whole)) (f .late))
+      with-counts (sessions Waiting m) (shown-as (shows x (see m .clock) (see m .primary) (linksOf m) (ringOf Waiting m) (lotOf Waiting m)
+      (lotOf Started m) (lateAfter q e (late-long m (f .whole)) (f .late))
       whole
       (word-stays clockWord (omega arith))
       (word-stays primaryWord (omega arith))
       (part-stays firstLink connections (omega arith))
       (word-stays ringWord (omega arith))
-      (a-lot (part-stays (fromOf Waiting) (spanOf Waiting) (omega arith)) (word-stays ringWord (omega arith)) (word-stays (slotOf Waiting) (omega arith)))
+      (a-lot (part-stays (fromOf Waiting) (spanOf Waiting) (omega arith)) (word-stays ringWord (omega arith))
+      (word-stays (slotOf Waiting) (omega arith)))
       (a-lot (part-stays (fromOf Started) (spanOf Started) (omega arith)) refl (word-stays (slotOf Started) (omega arith)))
       late-was
       (f .links) (f .ring) (f .waiting) (f .started) (next-low y))
-      (λ i. record { clock = see m .clock; primary = see m .primary; links = see m .links; queue = withLately (y i) (see m .queue); ringEnd = see m .ringEnd }))
+      (λ i. record {
+        clock = see m .clock;
+        primary = see m .primary;
+        links = see m .links;
+        queue = withLately (y i) (see m .queue);
+        ringEnd = see m .ringEnd;
+      }))
       refl (f .ofFour) (part-stays firstCount connections (omega arith) ∙ f .counts)
     where
-      next-low : latelyIn (lateAfter q e (late-long m (f .whole)) (f .late)) ≡ remembered e (latelyIn q) → nextIn (lateAfter q e (late-long m (f .whole)) (f .late)) < mostKept
+      next-low : latelyIn (lateAfter q e (late-long m (f .whole)) (f .late)) ≡ remembered e (latelyIn q)
+          → nextIn (lateAfter q e (late-long m (f .whole)) (f .late)) < mostKept
       next-low y = omega (arith, ap (λ (l : Lately). l .next) y)
 
 -- ## A list that changed, and the counts with it
 
-pub started-now : {v : Which} {m x : List ℕ} {u : List Session} → v ≡ Started → Form m → Changed false v m x u → Now x (relisted v u (see m))
+pub started-now : {v : Which} {m x : List ℕ} {u : List Session} → v ≡ Started → Form m → Changed false v m x u
+    → Now x (relisted v u (see m))
 started-now {m = m} {u = u} w f g =
-    with-counts (sessions Waiting m) (g .shown) (ap (λ (k : Which). relisted k u (see m) .queue .waiting) (sym w)) (f .ofFour) (g .counts ∙ f .counts)
+    with-counts (sessions Waiting m) (g .shown) (ap (λ (k : Which). relisted k u (see m) .queue .waiting) (sym w)) (f .ofFour)
+    (g .counts ∙ f .counts)
 
 -- the started ones are put back, as many as they were
-pub replaced-now : {m : List ℕ} (ys : List ℕ) {n : ℕ} {u : List Session} → Form m → length ys ≡ length (part (fromOf Started) (spanOf Started) m) →
-    n ≡ length (sessions Started m) → Good (lot ys 0 n) → used (lot ys 0 n) ≡ u → Now (putMid (fromOf Started) (spanOf Started) m ys) (relisted Started u (see m))
+pub replaced-now : {m : List ℕ} (ys : List ℕ) {n : ℕ} {u : List Session} → Form m
+    → length ys ≡ length (part (fromOf Started) (spanOf Started) m) →
+    n ≡ length (sessions Started m) → Good (lot ys 0 n) → used (lot ys 0 n) ≡ u
+    → Now (putMid (fromOf Started) (spanOf Started) m ys) (relisted Started u (see m))
 replaced-now {m} ys {n} {u} f l k g h =
     let i = slotOf Started in
     let x = putMid (fromOf Started) (spanOf Started) m ys in
@@ -666,31 +750,39 @@ module _ {a : Bool} {v : Which} {m x : List ℕ} {u : List Session} (w : v ≡ W
 
   -- the count of connection c, still to be changed
   pub count-word : (c : ℕ) → c ≤ 3 → getD x (firstCount + c) 0 ≡ waits c (sessions v m)
-  count-word c h = part-at x firstCount c connections (omega arith) ∙ ap (λ (l : List ℕ). getD l c 0) counts-were ∙ tallied-at (sessions v m) c h
+  count-word c h = part-at x firstCount c connections (omega arith) ∙ ap (λ (l : List ℕ). getD l c 0) counts-were
+      ∙ tallied-at (sessions v m) c h
 
-  counts-now : (c n : ℕ) → c ≤ 3 → All OfFour u → set (tallied (sessions v m)) c n ≡ tallied u → Now (set x (firstCount + c) n) (onward a (relisted v u (see m)))
+  counts-now : (c n : ℕ) → c ≤ 3 → All OfFour u → set (tallied (sessions v m)) c n ≡ tallied u
+      → Now (set x (firstCount + c) n) (onward a (relisted v u (see m)))
   counts-now c n h z e =
-      with-counts u (recounted x (onward a (relisted v u (see m))) c n h (g .shown)) (ap (λ (k : Which). relisted k u (see m) .queue .waiting) (sym w)) z
+      with-counts u (recounted x (onward a (relisted v u (see m))) c n h (g .shown))
+      (ap (λ (k : Which). relisted k u (see m) .queue .waiting) (sym w)) z
       (set-within x n firstCount c connections (omega arith) ∙ ap (λ (l : List ℕ). set l c n) counts-were ∙ e)
 
 -- the waiting with one more, accepted
 pub accepted-now : {m x : List ℕ} (i : ℕ) (s : Session) → Form m → OfFour s → Changed true Waiting m x (insertAt i s (sessions Waiting m)) →
-    Now (set x (firstCount + s .conn) (getD x (firstCount + s .conn) 0 + 1)) (onward true (relisted Waiting (insertAt i s (sessions Waiting m)) (see m)))
+    Now (set x (firstCount + s .conn) (getD x (firstCount + s .conn) 0 + 1))
+    (onward true (relisted Waiting (insertAt i s (sessions Waiting m)) (see m)))
 accepted-now {m} i s f h g =
     let l = sessions Waiting m in
     rw (count-word refl f g (s .conn) h)
     (counts-now refl f g (s .conn) (waits (s .conn) l + 1) h (all-insertAt OfFour i s l h (f .ofFour)) (tallied-insert i s l h))
 
 module _ {v : Which} {m x : List ℕ} (w : v ≡ Waiting) (f : Form m) where
-  pub removed-now : (i c : ℕ) → i < length (sessions v m) → c ≡ getD (sessions v m) i empty .conn → Changed false v m x (removeAt i (sessions v m)) →
+  pub removed-now : (i c : ℕ) → i < length (sessions v m) → c ≡ getD (sessions v m) i empty .conn
+      → Changed false v m x (removeAt i (sessions v m)) →
       Now (set x (firstCount + c) (getD x (firstCount + c) 0 - 1)) (relisted v (removeAt i (sessions v m)) (see m))
   removed-now i c h e g =
       let k = one-of-four w f i c h e in
       rw (count-word w f g c k)
-      (counts-now w f g c (waits c (sessions v m) - 1) k (fewer-all OfFour (fewer-removeAt i (sessions v m)) (all-four w f)) (tallied-remove i (sessions v m) c h e k))
+      (counts-now w f g c (waits c (sessions v m) - 1) k (fewer-all OfFour (fewer-removeAt i (sessions v m)) (all-four w f))
+      (tallied-remove i (sessions v m) c h e k))
 
-  pub omitted-now : (c : ℕ) → c ≤ 3 → Changed false v m x (omit (of c) (sessions v m)) → Now (set x (firstCount + c) 0) (relisted v (omit (of c) (sessions v m)) (see m))
-  omitted-now c h g = counts-now w f g c 0 h (all-keep OfFour (λ s. not (of c s)) (sessions v m) (all-four w f)) (tallied-omit c (sessions v m) h)
+  pub omitted-now : (c : ℕ) → c ≤ 3 → Changed false v m x (omit (of c) (sessions v m))
+      → Now (set x (firstCount + c) 0) (relisted v (omit (of c) (sessions v m)) (see m))
+  omitted-now c h g = counts-now w f g c 0 h (all-keep OfFour (λ s. not (of c s)) (sessions v m) (all-four w f))
+      (tallied-omit c (sessions v m) h)
 
 -- all words are zeros
 pub cleared-now : Now (zeros words) nothingShown
@@ -698,13 +790,22 @@ unfolding tallied
 cleared-now =
     let w = cleared (spanOf Waiting) in
     let k = cleared (spanOf Started) in
-    let s = shows (zeros words) 0 0 (zeros connections) 0 (lot (zeros (spanOf Waiting)) 0 0) (lot (zeros (spanOf Started)) 0 0) (zeros lateSize)
+    let s = shows (zeros words) 0 0 (zeros connections) 0 (lot (zeros (spanOf Waiting)) 0 0) (lot (zeros (spanOf Started)) 0 0)
+    (zeros lateSize)
     (length-replicate {A = ℕ} words 0) refl refl (part-zeros firstLink connections words (omega arith)) refl
     (a-lot (part-zeros (fromOf Waiting) (spanOf Waiting) words (omega arith)) refl refl)
     (a-lot (part-zeros (fromOf Started) (spanOf Started) words (omega arith)) refl refl)
     (part-zeros firstPast lateSize words (omega arith))
     (all-replicate {A = ℕ} IsLink connections 0 (omega arith)) (omega arith) w k (omega arith) in
-    with-counts [] (shown-as s (λ i. record { clock = 0; primary = 0; links = replicate connections Closed; queue = record { waiting = cleared-none (spanOf Waiting) i; started = cleared-none (spanOf Started) i; lately = none-late i }; ringEnd = 0 }))
+    with-counts [] (shown-as s (λ i. record {
+      clock = 0;
+      primary = 0;
+      links = replicate connections Closed;
+      queue =
+          record { waiting = cleared-none (spanOf Waiting) i; started = cleared-none (spanOf Started) i; lately = none-late i };
+      ringEnd =
+          0;
+    }))
     refl tt (part-zeros firstCount connections words (omega arith))
 
 -- ## What is shown determines every word and byte
@@ -715,19 +816,23 @@ placed v m = part (fromOf v) (spanOf v) m
 
 -- the words are their parts
 parts : (m : List ℕ) → length m ≡ words →
-    m ≡ getD m clockWord 0 ∷ getD m (slotOf Waiting) 0 ∷ getD m (slotOf Started) 0 ∷ getD m ringWord 0 ∷ getD m primaryWord 0 ∷ (countsOf m ++ (linksOf m ++ (placed Waiting m ++ (placed Started m ++ lateOf m))))
+    m ≡ getD m clockWord 0 ∷ getD m (slotOf Waiting) 0 ∷ getD m (slotOf Started) 0 ∷ getD m ringWord 0 ∷ getD m primaryWord 0
+    ∷ (countsOf m ++ (linksOf m ++ (placed Waiting m ++ (placed Started m ++ lateOf m))))
 parts m w =
     let s = fromOf Started in
     let late : drop firstPast m ≡ lateOf m = sym (take-all lateSize (drop firstPast m) (omega (arith, w, length-drop firstPast m))) in
     let tail : drop s m ≡ placed Started m ++ lateOf m =
-    sym (take-append-drop (spanOf Started) (drop s m)) ∙ ap (λ (z : List ℕ). placed Started m ++ z) (drop-drop (spanOf Started) s m ∙ late) in
+    sym (take-append-drop (spanOf Started) (drop s m)) ∙ ap (λ (z : List ℕ). placed Started m ++ z) (drop-drop (spanOf Started) s m ∙ late)
+    in
     let rest : drop (fromOf Waiting) m ≡ placed Waiting m ++ (placed Started m ++ lateOf m) =
     sym (take-append-drop (spanOf Waiting) (drop (fromOf Waiting) m))
     ∙ ap (λ (z : List ℕ). placed Waiting m ++ z) (drop-drop (spanOf Waiting) (fromOf Waiting) m ∙ tail) in
     let links : drop firstLink m ≡ linksOf m ++ (placed Waiting m ++ (placed Started m ++ lateOf m)) =
-    sym (take-append-drop connections (drop firstLink m)) ∙ ap (λ (z : List ℕ). linksOf m ++ z) (drop-drop connections firstLink m ∙ rest) in
+    sym (take-append-drop connections (drop firstLink m)) ∙ ap (λ (z : List ℕ). linksOf m ++ z) (drop-drop connections firstLink m ∙ rest)
+    in
     let counts : drop firstCount m ≡ countsOf m ++ (linksOf m ++ (placed Waiting m ++ (placed Started m ++ lateOf m))) =
-    sym (take-append-drop connections (drop firstCount m)) ∙ ap (λ (z : List ℕ). countsOf m ++ z) (drop-drop connections firstCount m ∙ links) in
+    sym (take-append-drop connections (drop firstCount m)) ∙ ap (λ (z : List ℕ). countsOf m ++ z)
+    (drop-drop connections firstCount m ∙ links) in
     drop-cons m 0 0 (omega arith)
     ∙ ap (λ (z : List ℕ). getD m 0 0 ∷ z) (drop-cons m 1 0 (omega arith))
     ∙ ap (λ (z : List ℕ). getD m 0 0 ∷ getD m 1 0 ∷ z) (drop-cons m 2 0 (omega arith))
@@ -760,16 +865,19 @@ same-words m n f g e =
     let ring : getD m ringWord 0 ≡ getD n ringWord 0 = ap (λ (s : Memory). s .ringEnd) e in
     let waiting = lot-same Waiting m n f g ring (ap (λ (s : Memory). s .queue .waiting) e) in
     let started = lot-same Started m n f g refl (ap (λ (s : Memory). s .queue .started) e) in
-    let late : lateOf m ≡ lateOf n = late-same (lateOf m) (lateOf n) (late-long m (f .whole)) (late-long n (g .whole)) (ap (λ (s : Memory). s .queue .lately) e) in
+    let late : lateOf m ≡ lateOf n = late-same (lateOf m) (lateOf n) (late-long m (f .whole)) (late-long n (g .whole))
+    (ap (λ (s : Memory). s .queue .lately) e) in
     let counts : countsOf m ≡ countsOf n = f .counts ∙ ap (λ (s : Memory). tallied (s .queue .waiting)) e ∙ sym (g .counts) in
     parts m (f .whole)
-    ∙ (λ i. clock i ∷ waiting .1 i ∷ started .1 i ∷ ring i ∷ primary i ∷ (counts i ++ (links i ++ (waiting .0 i ++ (started .0 i ++ late i)))))
+    ∙ (λ i. clock i ∷ waiting .1 i ∷ started .1 i ∷ ring i ∷ primary i
+    ∷ (counts i ++ (links i ++ (waiting .0 i ++ (started .0 i ++ late i)))))
     ∙ sym (parts n (g .whole))
 
 -- the bytes are their parts
 bytes-parts : (b : List ℕ) → length b ≡ bytes → b ≡ nameBytes b ++ (keptBytes 0 b ++ (keptBytes 1 b ++ (keptBytes 2 b ++ keptBytes 3 b)))
 bytes-parts b w =
-    sym (take-append-drop nameSize b) ∙ ap (λ (z : List ℕ). nameBytes b ++ z) (from 0 ∙ ap (behind 0) (from 1 ∙ ap (behind 1) (from 2 ∙ ap (behind 2) last)))
+    sym (take-append-drop nameSize b) ∙ ap (λ (z : List ℕ). nameBytes b ++ z)
+    (from 0 ∙ ap (behind 0) (from 1 ∙ ap (behind 1) (from 2 ∙ ap (behind 2) last)))
   where
     behind : ℕ → List ℕ → List ℕ
     behind c z = keptBytes c b ++ z
@@ -807,7 +915,13 @@ same-bytes b c f g e k =
 -- and a splicer with where the ring ends
 pub memory-same : (m b n c : List ℕ) → Whole m b → Whole n c → see m .ringEnd ≡ see n .ringEnd → shown m b ≡ shown n c → (m ≡ n) × (b ≡ c)
 memory-same m b n c f g r e = (
-  same-words m n (f .words) (g .words) (λ i. record { clock = e i .clock; primary = e i .primary; links = e i .links; queue = e i .queue; ringEnd = r i }),
+  same-words m n (f .words) (g .words) (λ i. record {
+    clock = e i .clock;
+    primary = e i .primary;
+    links = e i .links;
+    queue = e i .queue;
+    ringEnd = r i;
+  }),
   same-bytes b c (f .bytes) (g .bytes) (ap (λ (s : Splicer). s .name) e) (ap (λ (s : Splicer). s .hardware) e),
 )
 

@@ -7,7 +7,8 @@ use native.Mathlib.Omega.{arith}
 use native.Mathlib.Numerals.{add-one}
 use native.Mathlib.Nat.{zero-add}
 use lib.Dec.{eqb, ltb}
-use lib.ListN.{length, getD, take, drop, set, length-set, length-append, length-drop, length-replicate, replicate-append-replicate, drop-of-length-le}
+use lib.ListN.{length, getD, take, drop, set, length-set, length-append, length-drop, length-replicate, replicate-append-replicate}
+use lib.ListN.{drop-of-length-le}
 use lib.Seq.{length-take-le, take-all, drop-cons, drop-at, drop-drop, take-at, paste, paste-suc, ext-getD, getD-set-same, getD-set-other}
 use borrow.Rule.Slice.PartMut.{putMid}
 use borrow.Author.Tests.{eq-eqb, ne-eqb, eqb-true, eqb-false, ltb-true, ltb-false}
@@ -19,7 +20,8 @@ use Rattle.rules.specs.Sound.{Structure}
 use Rattle.rules.proofs.Tests.{by}
 use Rattle.rules.proofs.Bytes.{length-padded, nameIn-padded, nameIn-zero}
 use Rattle.places.specs.Places.{zeros}
-use Rattle.memory.specs.Memory.{connections, bytes, nameSize, nameBytes, nameOf, keptFrom, keptBytes, keptOf, spread, Spread, Stored, Holds, Named}
+use Rattle.memory.specs.Memory.{connections, bytes, nameSize, nameBytes, nameOf, keptFrom, keptBytes, keptOf, spread, Spread, Stored}
+use Rattle.memory.specs.Memory.{Holds, Named}
 use Rattle.memory.proofs.Laws.{drop-zeros, part-zeros, length-put, put-here, put-before, put-behind, kept-at}
 
 -- ## The search: i bytes are passed, none of them zero
@@ -47,13 +49,16 @@ passed-all l i h p =
 
 pub name-front : (l : List ℕ) → take (length (nameIn l)) l ≡ nameIn l
 name-front [] = refl
-name-front (b ∷ l) = by (λ (x : List ℕ). take (length x) (b ∷ l) ≡ x) (eqb 0 b) [] (b ∷ nameIn l) (λ e. refl) (λ e. ap (λ z. b ∷ z) (name-front l))
+name-front (b ∷ l) = by (λ (x : List ℕ). take (length x) (b ∷ l) ≡ x) (eqb 0 b) [] (b ∷ nameIn l) (λ e. refl)
+    (λ e. ap (λ z. b ∷ z) (name-front l))
 
 pub name-short : (l : List ℕ) → length (nameIn l) ≤ length l
 name-short [] = omega arith
-name-short (b ∷ l) = by (λ (x : List ℕ). length x ≤ length (b ∷ l)) (eqb 0 b) [] (b ∷ nameIn l) (λ e. omega arith) (λ e. omega (arith, name-short l))
+name-short (b ∷ l) = by (λ (x : List ℕ). length x ≤ length (b ∷ l)) (eqb 0 b) [] (b ∷ nameIn l) (λ e. omega arith)
+    (λ e. omega (arith, name-short l))
 
-pub copied : (e l : List ℕ) (i : ℕ) (o : List ℕ) → i < length e → i < length l → o ≡ paste e 0 l i → set o i (getD l i 0) ≡ paste e 0 l (i + 1)
+pub copied : (e l : List ℕ) (i : ℕ) (o : List ℕ) → i < length e → i < length l → o ≡ paste e 0 l i
+    → set o i (getD l i 0) ≡ paste e 0 l (i + 1)
 copied e l i o h k w =
     let z : 0 + i ≡ i = omega arith in
     rw (w, add-one) (ap (λ j. set (paste e 0 l i) j (getD l i 0)) (sym z) ∙ paste-suc e 0 l i 0 (omega arith) k)
@@ -84,7 +89,8 @@ pub kept-part : (b : List ℕ) (c : ℕ) → Stored b → c ≤ 3 → let x = pa
     (structureIn x ≡ getD (keptOf b) c noHardware) × ((2 + lengthIn x ≤ length x) × (length x ≡ longestHardware))
 kept-part b c s low =
     let e : keptFrom c + longestHardware - keptFrom c ≡ longestHardware = omega arith in
-    let l : length (keptBytes c b) ≡ longestHardware = length-take-le longestHardware (drop (keptFrom c) b) (omega (arith, s .whole, length-drop (keptFrom c) b)) in
+    let l : length (keptBytes c b) ≡ longestHardware = length-take-le longestHardware (drop (keptFrom c) b)
+    (omega (arith, s .whole, length-drop (keptFrom c) b)) in
     rw e (sym (kept-at b c low), (omega (arith, s .kept c low .fits), l))
 
 -- zeros over all of them, and a structure over zeros
@@ -113,7 +119,8 @@ kept-now b c h s low whole short =
         kept = λ d k. go d k (eqb d c) refl;
       };
       name = ap nameIn name;
-      kept = ext-getD noHardware (keptOf o) (set (keptOf b) c h) (sym (length-set (keptOf b) c h)) (λ d k. at d (omega arith) (eqb d c) refl);
+      kept = ext-getD noHardware (keptOf o) (set (keptOf b) c h) (sym (length-set (keptOf b) c h))
+          (λ d k. at d (omega arith) (eqb d c) refl);
     }
   where
     a : ℕ
@@ -163,7 +170,8 @@ kept-now b c h s low whole short =
 
 -- zeros, where nothing is kept
 pub forgotten : (b : List ℕ) (c : ℕ) → Stored b → c ≤ 3
-    → Holds (putMid (keptFrom c) (keptFrom c + longestHardware - keptFrom c) b (zeros longestHardware)) (nameOf b) (set (keptOf b) c noHardware)
+    → Holds (putMid (keptFrom c) (keptFrom c + longestHardware - keptFrom c) b (zeros longestHardware)) (nameOf b)
+    (set (keptOf b) c noHardware)
 forgotten b c s low = kept-now b c noHardware s low none-long (omega arith)
 
 -- ## What is left holds that name, and structures
@@ -195,7 +203,8 @@ named x z h =
 
     slot : (c : ℕ) → c ≤ 3 → keptBytes c (blank x) ≡ spread noHardware
     slot c low =
-        ap (take longestHardware) (sym (drop-drop (c * longestHardware) nameSize (blank x)) ∙ ap (drop (c * longestHardware)) (drop-at (padded x) (zeros (bytes - nameSize)) nameSize long))
+        ap (take longestHardware) (sym (drop-drop (c * longestHardware) nameSize (blank x))
+        ∙ ap (drop (c * longestHardware)) (drop-at (padded x) (zeros (bytes - nameSize)) nameSize long))
         ∙ part-zeros (c * longestHardware) longestHardware (bytes - nameSize) (omega arith)
 
     none : (c : ℕ) → c ≤ 3 → structureIn (keptBytes c (blank x)) ≡ noHardware
@@ -206,7 +215,8 @@ kept l n w e =
     let x = nameIn l in
     let k : bytes - length x ≡ nameSize - length x + (bytes - nameSize) = omega (arith, name-short l) in
     let p : paste (zeros bytes) 0 l n ≡ blank x =
-    rw (e, zero-add) (ap (λ y. y ++ drop (length x) (zeros bytes)) (name-front l) ∙ ap (λ y. x ++ y) (drop-zeros (length x) bytes ∙ split (nameSize - length x) (bytes - nameSize) _ k)
+    rw (e, zero-add) (ap (λ y. y ++ drop (length x) (zeros bytes)) (name-front l)
+    ∙ ap (λ y. x ++ y) (drop-zeros (length x) bytes ∙ split (nameSize - length x) (bytes - nameSize) _ k)
     ∙ sym (append-assoc x (zeros (nameSize - length x)) (zeros (bytes - nameSize)))) in
     subst (λ (b : List ℕ). Named b x) (sym p) (named x (nameIn-zero l) (omega (arith, name-short l)))
   where
@@ -215,7 +225,8 @@ kept l n w e =
 
 -- an empty name: all bytes are zeros
 pub cleared : Named (zeros bytes) []
-cleared = subst (λ (b : List ℕ). Named b []) (replicate-append-replicate {A = ℕ} nameSize (bytes - nameSize) 0) (named [] refl (omega arith))
+cleared = subst (λ (b : List ℕ). Named b []) (replicate-append-replicate {A = ℕ} nameSize (bytes - nameSize) 0)
+    (named [] refl (omega arith))
 
 -- the bytes of a name and of four structures
 abbrev with-kept : ℕ → List ℕ → List ℕ → List ℕ
@@ -223,7 +234,8 @@ with-kept c h b = putMid (keptFrom c) (keptFrom c + longestHardware - keptFrom c
 
 pub standing : List ℕ → List (List ℕ) → List ℕ
 standing x l =
-    with-kept 3 (getD l 3 noHardware) (with-kept 2 (getD l 2 noHardware) (with-kept 1 (getD l 1 noHardware) (with-kept 0 (getD l 0 noHardware) (blank x))))
+    with-kept 3 (getD l 3 noHardware) (with-kept 2 (getD l 2 noHardware)
+    (with-kept 1 (getD l 1 noHardware) (with-kept 0 (getD l 0 noHardware) (blank x))))
 
 -- one more
 more : (b x : List ℕ) (k : List (List ℕ)) (c : ℕ) (h : List ℕ) → Holds b x k → c ≤ 3 → Structure h → Holds (with-kept c h b) x (set k c h)
@@ -231,10 +243,12 @@ more b x k c h f low s =
     let n = kept-now b c h (f .stored) low (s .whole) (s .short) in
     record { stored = n .stored; name = n .name ∙ f .name; kept = n .kept ∙ ap (λ l. set l c h) (f .kept) }
 
-pub stands : (x : List ℕ) (l : List (List ℕ)) → NoZero x → length x ≤ nameSize → length l ≡ connections → All Structure l → Holds (standing x l) x l
+pub stands : (x : List ℕ) (l : List (List ℕ)) → NoZero x → length x ≤ nameSize → length l ≡ connections → All Structure l
+    → Holds (standing x l) x l
 unfolding standing
 stands x (h ∷ i ∷ j ∷ k ∷ []) z s w a =
-    more _ x _ 3 k (more _ x _ 2 j (more _ x _ 1 i (more _ x _ 0 h (named x z s) (omega arith) (a .0)) (omega arith) (a .1 .0)) (omega arith) (a .1 .1 .0)) (omega arith) (a .1 .1 .1 .0)
+    more _ x _ 3 k (more _ x _ 2 j (more _ x _ 1 i (more _ x _ 0 h (named x z s) (omega arith) (a .0)) (omega arith) (a .1 .0))
+    (omega arith) (a .1 .1 .0)) (omega arith) (a .1 .1 .1 .0)
 stands x [] z s w a = absurd (omega arith)
 stands x (h ∷ []) z s w a = absurd (omega arith)
 stands x (h ∷ i ∷ []) z s w a = absurd (omega arith)

@@ -42,7 +42,8 @@ module _ (m o : List ℕ) (at k : ℕ) (x : Session) (f : Form m) (g : Form o) (
   made : Made (here m) (here o) (next e) (n + 1) (insertAt at x (used (lot (here m) e n)))
   made =
       record {
-        good = subst (λ (z : ℕ). Good (lot (here o) z (n + 1))) ring (subst (λ (z : ℕ). Good (lot (here o) (see o .ringEnd) z)) more (g .waiting));
+        good = subst (λ (z : ℕ). Good (lot (here o) z (n + 1))) ring
+            (subst (λ (z : ℕ). Good (lot (here o) (see o .ringEnd) z)) more (g .waiting));
         list = (λ i. used (lot (here o) (sym ring i) (sym more i))) ∙ list;
         rest = spare-none round (here o) (long o g) ∙ sym (spare-none round (here m) (long m f));
       }

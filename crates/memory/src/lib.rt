@@ -26,7 +26,8 @@ ghost use Rattle.rules.specs.Instants.{onAir};
 ghost use Rattle.places.specs.Places.{Narrow, keyTest, startsFrom, round, zeros};
 ghost use Rattle.memory.specs.declared.Which.the-variants.{Waiting, Started};
 ghost use Rattle.memory.specs.Memory.{slotOf, ringOf, firstLink, fromOf, toOf, words, placesOf, wordOf, linkIn};
-ghost use Rattle.memory.specs.Memory.{sessions, see, Form, Now, timed, silenced, linked, relisted, recalling, onward, nothingShown, Storable, tallied};
+ghost use Rattle.memory.specs.Memory.{sessions, see, Form, Now, timed, silenced, linked, relisted, recalling, onward, nothingShown};
+ghost use Rattle.memory.specs.Memory.{Storable, tallied};
 ghost use Rattle.memory.specs.Memory.{nameBytes, nameOf, keptOf, spread, Stored, Holds, Named};
 
 // Where what stands in the words.

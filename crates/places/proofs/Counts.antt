@@ -20,11 +20,13 @@ unfolding insertAt
 insert-front at x u h = take-at (take at u) (x ∷ drop at u) at (length-take-le at u h)
 
 front : (k at : ℕ) (v : List Session) → take (k + at) (replicate k empty ++ v) ≡ replicate k empty ++ take at v
-front k at v = ap (λ (j : ℕ). take (j + at) (replicate k empty ++ v)) (sym (length-replicate k empty)) ∙ take-append-add (replicate k empty) v at
+front k at v = ap (λ (j : ℕ). take (j + at) (replicate k empty ++ v)) (sym (length-replicate k empty))
+    ∙ take-append-add (replicate k empty) v at
 
 -- of the words p and of the words o that an acceptance makes of them: of the places, from the ring's new end on, all but the last m + 1
 -- hold what they held, where m of the n that wait are shifted
-pub stays : (p o : List ℕ) (e n at m : ℕ) (x : Session) → capacity p ≡ round → capacity o ≡ round → e < round → n < round → at ≤ n → m ≡ n - at →
+pub stays : (p o : List ℕ) (e n at m : ℕ) (x : Session) → capacity p ≡ round → capacity o ≡ round → e < round → n < round → at ≤ n
+    → m ≡ n - at →
     Good (lot p e n) → Made p o (next e) (n + 1) (insertAt at x (used (lot p e n))) →
     take (round - (m + 1)) (turned (next e) (places o)) ≡ take (round - (m + 1)) (turned (next e) (places p))
 unfolding pad
@@ -39,7 +41,8 @@ stays p o e n at m x l r h i a f g d =
     let first = getD (turned e (places p)) 0 empty in
     let b : turned e (places p) ≡ empty ∷ (replicate k empty ++ u) = padded (lot p e n) g ∙ ap (λ (j : ℕ). replicate j empty ++ u) z in
     let before : turned (next e) (places p) ≡ replicate k empty ++ (u ++ (first ∷ [])) =
-    turned-next e (places p) empty (length-places p ∙ l) h ∙ ap (λ v. drop 1 v ++ (first ∷ [])) b ∙ append-assoc (replicate k empty) u (first ∷ []) in
+    turned-next e (places p) empty (length-places p ∙ l) h ∙ ap (λ v. drop 1 v ++ (first ∷ [])) b
+    ∙ append-assoc (replicate k empty) u (first ∷ []) in
     let after : turned (next e) (places o) ≡ replicate k empty ++ insertAt at x u =
     padded (lot o (next e) (n + 1)) (d .good)
     ∙ ap (λ v. replicate (length (turned (next e) (places o)) - length v) empty ++ v) (d .list)

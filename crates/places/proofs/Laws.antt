@@ -9,16 +9,20 @@ use native.Mathlib.Numerals.{add-one}
 use native.Mathlib.Nat.{not-suc-le-zero, le-of-suc-le-suc}
 use borrow.Author.Tests.{ltb-true, ltb-false, lt-ltb, le-ltb, le-leb, lt-leb}
 use lib.Dec.{ltb}
-use lib.ListN.{length, take, drop, set, getD, replicate, length-append, length-set, length-take, length-drop, length-replicate, take-append-drop, drop-of-length-le}
-use lib.Seq.{drop-cons, drop-drop, take-length, length-take-le, take-take, getD-take, take-append-add, drop-append-add, take-at, drop-at, getD-drop, take-set-le, drop-set-add}
+use lib.ListN.{length, take, drop, set, getD, replicate, length-append, length-set, length-take, length-drop, length-replicate}
+use lib.ListN.{take-append-drop, drop-of-length-le}
+use lib.Seq.{drop-cons, drop-drop, take-length, length-take-le, take-take, getD-take, take-append-add, drop-append-add, take-at, drop-at}
+use lib.Seq.{getD-drop, take-set-le, drop-set-add}
 use Rattle.rules.specs.declared.Session.{Session}
 use Rattle.rules.specs.Lists.{put, omit, some, place, insertAt, removeAt}
 use Rattle.rules.specs.State.{empty, Sorted}
 use Rattle.rules.specs.Instants.{playing, onAir}
 use Rattle.rules.proofs.Count.{length-insertAt, length-removeAt, length-split, place≤}
 use Rattle.rules.proofs.Every.{all-getD, each-at, none-some}
-use Rattle.places.specs.Places.{width, capacity, Row, round, turned, Ring, Lot, lot, places, spare, zeros, free, Good, Made, used, startsFrom, endsFirst, leastEnd}
-use Rattle.places.proofs.Words.{length-places, loaded, load-is, store-is, store-spare, playedWord, store-played, places-zero, places-same}
+use Rattle.places.specs.Places.{width, capacity, Row, round, turned, Ring, Lot, lot, places, spare, zeros, free, Good, Made, used}
+use Rattle.places.specs.Places.{startsFrom, endsFirst, leastEnd}
+use Rattle.places.proofs.Words.{length-places, loaded, load-is, store-is, store-spare, playedWord, store-played, places-zero}
+use Rattle.places.proofs.Words.{places-same}
 use Rattle.places.proofs.Ring.{size, turned-none, turned-same, flat-set, row-of, row-read}
 
 -- ## Lists
@@ -67,16 +71,19 @@ module _ {A : Type 0} where
   omit-parts p (suc i) [] = refl
   omit-parts p (suc i) (x ∷ l) = go (not (p x)) (omit-parts p i l)
     where
-      go : (b : Bool) → omit p l ≡ omit p (take i l) ++ omit p (drop i l) → put b x (omit p l) ≡ put b x (omit p (take i l)) ++ omit p (drop i l)
+      go : (b : Bool) → omit p l ≡ omit p (take i l) ++ omit p (drop i l)
+          → put b x (omit p l) ≡ put b x (omit p (take i l)) ++ omit p (drop i l)
       go true e = ap (λ r. x ∷ r) e
       go false e = e
 
   -- the first that passes the test
-  first-place : (p : A → Bool) (l : List A) (i : ℕ) (d : A) → i < length l → p (getD l i d) ≡ true → ((j : ℕ) → j < i → p (getD l j d) ≡ false) → i ≡ place p l
+  first-place : (p : A → Bool) (l : List A) (i : ℕ) (d : A) → i < length l → p (getD l i d) ≡ true
+      → ((j : ℕ) → j < i → p (getD l j d) ≡ false) → i ≡ place p l
   unfolding place
   first-place p [] i d h e f = absurd (omega arith)
   first-place p (x ∷ l) zero d h e f = rw e refl
-  first-place p (x ∷ l) (suc i) d h e f = rw (f 0 (omega arith)) (ap suc (first-place p l i d (omega arith) e (λ j k. f (suc j) (omega arith))))
+  first-place p (x ∷ l) (suc i) d h e f = rw (f 0 (omega arith))
+      (ap suc (first-place p l i d (omega arith) e (λ j k. f (suc j) (omega arith))))
 
   some-at : (p : A → Bool) (l : List A) (i : ℕ) (d : A) → i < length l → p (getD l i d) ≡ true → some p l ≡ true
   some-at p [] i d h e = absurd (omega arith)
@@ -136,7 +143,8 @@ same p q g h m e =
     λ i. record { items = items i; len = len i }
 
 -- and, with the spare ones and the ring's end, every word
-pub words-same : (p q : List ℕ) (e m n : ℕ) → Good (lot p e m) → Good (lot q e n) → length p ≡ length q → used (lot p e m) ≡ used (lot q e n) → spare p ≡ spare q → p ≡ q
+pub words-same : (p q : List ℕ) (e m n : ℕ) → Good (lot p e m) → Good (lot q e n) → length p ≡ length q
+    → used (lot p e m) ≡ used (lot q e n) → spare p ≡ spare q → p ≡ q
 words-same p q e m n g h l u d =
     let k : capacity p ≡ capacity q = ap (λ (i : ℕ). i / width) l in
     let s = same (lot p e m) (lot q e n) g h (size p e ∙ k ∙ sym (size q e)) u in
@@ -200,7 +208,8 @@ remove-made q r at k g a d e =
     let z : length p ≡ k = length-replicate k empty in
     let o : m - length u ≡ k = omega arith in
     let f : removeAt (k + at) (q .items) ≡ p ++ removeAt at u =
-    ap (removeAt (k + at)) (padded q g ∙ ap (λ (j : ℕ). replicate j empty ++ u) o) ∙ ap (λ (j : ℕ). removeAt (j + at) (p ++ u)) (sym z) ∙ removeAt-add p u at in
+    ap (removeAt (k + at)) (padded q g ∙ ap (λ (j : ℕ). replicate j empty ++ u) o) ∙ ap (λ (j : ℕ). removeAt (j + at) (p ++ u)) (sym z)
+    ∙ removeAt-add p u at in
     let y : suc k ≡ m - length (removeAt at u) = omega (arith, g .fits) in
     made m (removeAt at u) (record { items = r; len = q .len - 1 }) (omega (arith, g .fits))
     (e
@@ -223,7 +232,8 @@ module _ (q : List ℕ) (e n at : ℕ) (g : Good (lot q e n)) (h : at < n) where
   slot-within = omega (arith, used-fits q e n g)
 
   pub slot-read : (d : Session) → getD (turned e (places q)) (capacity q - n + at) d ≡ getD (used (lot q e n)) at d
-  slot-read d = ap (λ (m : ℕ). getD (turned e (places q)) (m - n + at) d) (sym (size q e)) ∙ sym (getD-drop (free (lot q e n)) (turned e (places q)) at d)
+  slot-read d = ap (λ (m : ℕ). getD (turned e (places q)) (m - n + at) d) (sym (size q e))
+      ∙ sym (getD-drop (free (lot q e n)) (turned e (places q)) at d)
 
   pub slot-set : (r : List Session) (x : Session) → r ≡ set (turned e (places q)) (capacity q - n + at) x →
       Good (record { items = r; len = n }) × (used (record { items = r; len = n }) ≡ set (used (lot q e n)) at x)
@@ -306,13 +316,15 @@ cleared-none m = at-end (lot (zeros m) 0 0) 0 (cleared m) (omega arith)
 pub sought-none : (p : Session → Bool) (q : Lot) → Sought p q 0
 sought-none p q = (omega arith, omega arith)
 
-pub sought-more : (p : Session → Bool) (q : Lot) (i : ℕ) (d : Session) → Good q → i < q .len → p (getD (used q) i d) ≡ false → Sought p q i → Sought p q (i + 1)
+pub sought-more : (p : Session → Bool) (q : Lot) (i : ℕ) (d : Session) → Good q → i < q .len → p (getD (used q) i d) ≡ false → Sought p q i
+    → Sought p q (i + 1)
 unfolding place
 sought-more p q i d g h e s =
     let f : place p (drop i (used q)) ≡ suc (place p (drop (i + 1) (used q))) = rw (head q i d g h, e) refl in
     (omega arith, omega (arith, s .1))
 
-pub sought-hit : (p : Session → Bool) (q : Lot) (i : ℕ) (d : Session) → Good q → i < q .len → p (getD (used q) i d) ≡ true → Sought p q i → i ≡ place p (used q)
+pub sought-hit : (p : Session → Bool) (q : Lot) (i : ℕ) (d : Session) → Good q → i < q .len → p (getD (used q) i d) ≡ true → Sought p q i
+    → i ≡ place p (used q)
 unfolding place
 sought-hit p q i d g h e s =
     let f : place p (drop i (used q)) ≡ 0 = rw (head q i d g h, e) refl in
@@ -339,13 +351,15 @@ place-before p (x ∷ l) (suc i) d e h = go (p x) (place-before p l i d e (le-of
     go true k = omega arith
     go false k = omega arith
 
-place-behind : (t : ℕ) (l : List Session) (i : ℕ) (d : Session) → Sorted l → getD l i d .start .0 < t → i < length l → i < place (startsFrom t) l
+place-behind : (t : ℕ) (l : List Session) (i : ℕ) (d : Session) → Sorted l → getD l i d .start .0 < t → i < length l
+    → i < place (startsFrom t) l
 unfolding place
 place-behind t [] i d o e h = absurd (not-suc-le-zero h)
 place-behind t (x ∷ l) zero d o e h = rw (lt-leb t (x .start .0) e) (omega arith)
 place-behind t (x ∷ l) (suc i) d o e h =
     let k = le-of-suc-le-suc h in
-    rw (lt-leb t (x .start .0) (omega (arith, all-getD (λ u. x .start .0 < u .start .0) l i d k (o .0)))) (omega (arith, place-behind t l i d (o .1) e k))
+    rw (lt-leb t (x .start .0) (omega (arith, all-getD (λ u. x .start .0 < u .start .0) l i d k (o .0))))
+    (omega (arith, place-behind t l i d (o .1) e k))
 
 pub halved-all : (t : ℕ) (q : Lot) → Good q → Halved t q 0 (q .len)
 halved-all t q g = (omega arith, omega (arith, place≤ (startsFrom t) (used q), length-used q g), omega arith)
@@ -355,8 +369,12 @@ module _ (t : ℕ) (q : Lot) (low high mid : ℕ) (g : Good q) (h : mid < high) 
   halved-low e o = (omega (arith, place-behind t (used q) mid empty o e (omega (arith, length-used q g, s .2))), s .1, s .2)
 
   pub halved-high : t ≤ getD (used q) mid empty .start .0 → Halved t q low mid
-  halved-high e =
-      (s .0, place-before (startsFrom t) (used q) mid empty (le-leb t (getD (used q) mid empty .start .0) e) (omega (arith, length-used q g, s .2)), omega (arith, s .2))
+  halved-high e = (
+    s .0,
+    place-before (startsFrom t) (used q) mid empty (le-leb t (getD (used q) mid empty .start .0) e)
+        (omega (arith, length-used q g, s .2)),
+    omega (arith, s .2),
+  )
 
 -- ## The place of the first end: best is among the first i, ends first of them, and none before it ends as early
 
@@ -442,7 +460,8 @@ module _ (p : Session → Bool) (u : List Session) (l : Lot) (i to j : ℕ) (v :
       let n : length (used l) ≡ l .len = length-used l (v .good) in
       let m = length-take-le i (used l) (omega (arith, v .ahead, v .fits)) in
       let x : getD (used l) j empty ≡ getD u j empty =
-      sym (getD-take i (used l) j empty (omega arith)) ∙ ap (λ (r : List Session). getD r j empty) (v .front) ∙ getD-take i u j empty (omega arith) in
+      sym (getD-take i (used l) j empty (omega arith)) ∙ ap (λ (r : List Session). getD r j empty) (v .front)
+      ∙ getD-take i u j empty (omega arith) in
       drop-cons u j empty (omega (arith, length-take i u, ap length (v .front)))
       ∙ ap (λ (k : ℕ). getD u j empty ∷ drop k u) (sym e)
       ∙ ap (λ (y : Session). y ∷ drop i u) (sym x)
@@ -452,9 +471,17 @@ module _ (p : Session → Bool) (u : List Session) (l : Lot) (i to j : ℕ) (v :
 
   pub omitting-goes : p (getD (used l) j empty) ≡ true → Omitting p u l j to
   omitting-goes d =
-      record { good = v .good; ahead = omega (arith, v .ahead); fits = v .fits; front = front-in; back = v .back ∙ sym (rw (next-in, d) refl) }
+      record {
+        good = v .good;
+        ahead = omega (arith, v .ahead);
+        fits = v .fits;
+        front = front-in;
+        back =
+            v .back ∙ sym (rw (next-in, d) refl);
+      }
 
-  pub omitting-stays : (m : Lot) (k : ℕ) → suc k ≡ to → p (getD (used l) j empty) ≡ false → Good m → m .len ≡ l .len → used m ≡ set (used l) k (getD (used l) j empty) → Omitting p u m j k
+  pub omitting-stays : (m : Lot) (k : ℕ) → suc k ≡ to → p (getD (used l) j empty) ≡ false → Good m → m .len ≡ l .len
+      → used m ≡ set (used l) k (getD (used l) j empty) → Omitting p u m j k
   omitting-stays m k f d g n w =
       let o : length (used l) ≡ l .len = length-used l (v .good) in
       let x = getD (used l) j empty in
@@ -463,7 +490,8 @@ module _ (p : Session → Bool) (u : List Session) (l : Lot) (i to j : ℕ) (v :
         ahead = omega (arith, v .ahead);
         fits = omega (arith, v .fits);
         front = ap (take j) w ∙ take-set-le j (used l) k x (omega (arith, v .ahead)) ∙ front-in;
-        back = ap (drop k) w ∙ drop-set-here (used l) k to x (omega (arith, v .fits)) (omega arith) ∙ ap (λ r. x ∷ r) (v .back) ∙ sym (rw (next-in, d) refl);
+        back = ap (drop k) w ∙ drop-set-here (used l) k to x (omega (arith, v .fits)) (omega arith) ∙ ap (λ r. x ∷ r) (v .back)
+            ∙ sym (rw (next-in, d) refl);
       }
 
 -- `left` of them stay in all

@@ -7,7 +7,8 @@ use Prim.Native.Nat.{ℕ, zero, suc, _+_, _-_, _*_, _/_, _%_, _≤_, _<_}
 use native.Mathlib.Omega.{arith}
 use native.Mathlib.Nat.{not-suc-le-zero, le-of-suc-le-suc, zero-add}
 use lib.ListN.{length, take, drop, set, getD, length-append, length-take, length-drop, take-append-drop, drop-of-length-le}
-use lib.Seq.{getD-append-add, set-append-left, getD-take, getD-drop, take-set-le, take-set-lt, drop-set-lt, drop-set-add, drop-cons, take-suc, take-all, take-at, drop-at}
+use lib.Seq.{getD-append-add, set-append-left, getD-take, getD-drop, take-set-le, take-set-lt, drop-set-lt, drop-set-add, drop-cons}
+use lib.Seq.{take-suc, take-all, take-at, drop-at}
 use lib.Dec.{ltb}
 use borrow.Author.Tests.{ltb-true, ltb-false}
 use Rattle.rules.specs.declared.Session.{Session}
@@ -92,7 +93,8 @@ turned-far : (e i k : ℕ) (l : List Session) (d : Session) → e ≤ length l �
 unfolding turned
 turned-far e i k l d g z h =
     let n : length (drop e l) ≡ length l - e = length-drop e l in
-    ap (λ (j : ℕ). getD (drop e l ++ take e l) j d) (z ∙ ap (λ (j : ℕ). j + k) (sym n)) ∙ getD-append-add (drop e l) (take e l) k d ∙ getD-take e l k d h
+    ap (λ (j : ℕ). getD (drop e l ++ take e l) j d) (z ∙ ap (λ (j : ℕ). j + k) (sym n)) ∙ getD-append-add (drop e l) (take e l) k d
+    ∙ getD-take e l k d h
 
 set-near : (e i : ℕ) (l : List Session) (x : Session) → e + i < length l → turned e (set l (e + i) x) ≡ set (turned e l) i x
 unfolding turned
@@ -100,12 +102,14 @@ set-near e i l x h =
     let n : length (drop e l) ≡ length l - e = length-drop e l in
     rw (drop-set-add e l i x, take-set-le e l (e + i) x (omega arith)) (sym (set-append-left (drop e l) (take e l) i x (omega arith)))
 
-set-far : (e i k : ℕ) (l : List Session) (x : Session) → e ≤ length l → i ≡ length l - e + k → k < e → turned e (set l k x) ≡ set (turned e l) i x
+set-far : (e i k : ℕ) (l : List Session) (x : Session) → e ≤ length l → i ≡ length l - e + k → k < e
+    → turned e (set l k x) ≡ set (turned e l) i x
 unfolding turned
 set-far e i k l x g z h =
     let n : length (drop e l) ≡ length l - e = length-drop e l in
     let w : i ≡ length (drop e l) + k = z ∙ ap (λ (j : ℕ). j + k) (sym n) in
-    rw (drop-set-lt e l k x h, take-set-lt e l k x h) (sym (ap (λ (j : ℕ). set (drop e l ++ take e l) j x) w ∙ set-right (drop e l) (take e l) k x))
+    rw (drop-set-lt e l k x h, take-set-lt e l k x h) (sym (ap (λ (j : ℕ). set (drop e l ++ take e l) j x) w
+    ∙ set-right (drop e l) (take e l) k x))
 
 -- ## By the remainder
 
@@ -183,7 +187,8 @@ module _ (q : List ℕ) (e i b : ℕ) (g : Ring (capacity q) e) (h : i < capacit
       ∙ turned-set e i (places q) (ring-same (capacity q) (length (places q)) e g (length-places q)) (omega (arith, length-places q)) x
 
   -- the hole i filled
-  pub fills : (o : List Session) (x : Session) → o ≡ set (places q) (b / width) x → turned e o ≡ insertAt i x (removeAt i (turned e (places q)))
+  pub fills : (o : List Session) (x : Session) → o ≡ set (places q) (b / width) x
+      → turned e o ≡ insertAt i x (removeAt i (turned e (places q)))
   fills o x c = ap (turned e) c ∙ row-set x ∙ hole-filled (turned e (places q)) i x (omega (arith, size q e))
 
 -- one turn of a loop: what stands in the place before goes into the hole k, and the hole is there
@@ -201,7 +206,8 @@ shifts q e i k a b g z h v w o y c d =
     ∙ ap (λ (j : ℕ). removeAt j t) (sym z)
 
 -- turned by one more the first goes behind the last
-pub turned-next : (e : ℕ) (l : List Session) (d : Session) → length l ≡ round → e < round → turned (next e) l ≡ drop 1 (turned e l) ++ (getD (turned e l) 0 d ∷ [])
+pub turned-next : (e : ℕ) (l : List Session) (d : Session) → length l ≡ round → e < round
+    → turned (next e) l ≡ drop 1 (turned e l) ++ (getD (turned e l) 0 d ∷ [])
 unfolding turned
 turned-next e l d m h = go (ltb (e + 1) round) refl
   where
@@ -227,7 +233,8 @@ turned-next e l d m h = go (ltb (e + 1) round) refl
         rw z (append-nil l ∙ sym w ∙ sym right)
 
 -- without that place: what an acceptance takes
-pub turned-taken : (e : ℕ) (l : List Session) → length l ≡ round → e < round → removeAt (round - 1) (turned (next e) l) ≡ drop 1 (turned e l)
+pub turned-taken : (e : ℕ) (l : List Session) → length l ≡ round → e < round
+    → removeAt (round - 1) (turned (next e) l) ≡ drop 1 (turned e l)
 turned-taken e l m h =
     let n : length (drop 1 (turned e l)) ≡ round - 1 = length-drop 1 (turned e l) ∙ omega (arith, length-turned e l) in
     ap (removeAt (round - 1)) (turned-next e l empty m h) ∙ removeAt-last (drop 1 (turned e l)) (getD (turned e l) 0 empty) (round - 1) n

@@ -30,7 +30,8 @@ wordsFrom k (suc n) f = f k ∷ wordsFrom (suc k) n f
 from-front : (k n : ℕ) (q : List ℕ) → k + n ≤ length q → wordsFrom k n (λ j. getD q j 0) ≡ take n (drop k q)
 unfolding wordsFrom
 from-front k zero q h = refl
-from-front k (suc n) q h = ap (λ r. getD q k 0 ∷ r) (from-front (suc k) n q (omega arith)) ∙ ap (take (suc n)) (sym (drop-cons q k 0 (omega arith)))
+from-front k (suc n) q h = ap (λ r. getD q k 0 ∷ r) (from-front (suc k) n q (omega arith))
+    ∙ ap (take (suc n)) (sym (drop-cons q k 0 (omega arith)))
 
 -- the words of a session are those that it was made of
 words-of : (f : ℕ → ℕ) → wordsOf (sessionOf f) ≡ wordsFrom 0 width f
@@ -176,7 +177,8 @@ store-is q b x o r =
 pub store-spare : (q : List ℕ) (b : ℕ) (x : Session) → Row b q → spare (stored q b x) ≡ spare q
 store-spare q b x r =
     let n : length (stored q b x) ≡ length q = put-length b 0 (wordsOf x) q in
-    ap (λ (k : ℕ). drop (k / width * width) (stored q b x)) n ∙ put-behind (capacity q * width) b 0 (wordsOf x) q (omega (arith, r .0, r .1))
+    ap (λ (k : ℕ). drop (k / width * width) (stored q b x)) n ∙ put-behind (capacity q * width) b 0 (wordsOf x) q
+    (omega (arith, r .0, r .1))
 
 -- where only the playing goes on, the other words stay
 pub store-played : (q : List ℕ) (b d : ℕ) → stored q b (playing d (loaded q b)) ≡ set q (b + playedWord) (getD q (b + playedWord) 0 + d)
@@ -186,7 +188,8 @@ store-played q b d =
     ap (λ (l : List ℕ). put b 0 (take playedWord l ++ more) q) (words-of (λ k. getD q (b + k) 0)) ∙ put-again b 0 playedWord more q
 
 -- the words are determined by what their places hold and the spare ones
-rows-same : (n : ℕ) (p q : List ℕ) → n * width ≤ length p → n * width ≤ length q → rows n p ≡ rows n q → drop (n * width) p ≡ drop (n * width) q → p ≡ q
+rows-same : (n : ℕ) (p q : List ℕ) → n * width ≤ length p → n * width ≤ length q → rows n p ≡ rows n q
+    → drop (n * width) p ≡ drop (n * width) q → p ≡ q
 unfolding rows
 rows-same zero p q h k e d = d
 rows-same (suc n) p q h k e d =
@@ -194,7 +197,8 @@ rows-same (suc n) p q h k e d =
     let g : (r : List ℕ) → drop (n * width) (drop width r) ≡ drop (suc n * width) r =
     λ r. drop-drop (n * width) width r ∙ ap (λ (j : ℕ). drop j r) f in
     let rest : drop width p ≡ drop width q =
-    rows-same n (drop width p) (drop width q) (simp length-drop (omega arith)) (simp length-drop (omega arith)) (ap (drop 1) e) (g p ∙ d ∙ sym (g q)) in
+    rows-same n (drop width p) (drop width q) (simp length-drop (omega arith)) (simp length-drop (omega arith)) (ap (drop 1) e)
+    (g p ∙ d ∙ sym (g q)) in
     sym (row-split p (omega arith))
     ∙ ap (λ (s : Session). wordsOf s ++ drop width p) (ap (λ l. getD l 0 empty) e)
     ∙ ap (λ r. wordsOf (row q) ++ r) rest

@@ -60,7 +60,8 @@ module _ (l : List ℕ) (at : ℕ) where
   more : (n : ℕ) → 0 < length d → foundFrom n l p ≡ due p (descriptorsIn (drop p l)) → foundFrom (suc n) l at ≡ due at (descriptorsIn d)
   unfolding foundFrom stepAt due
   more n k rest =
-      ap (λ t. let a = cond t End (cond (goodDescriptor d) (foundAs d p) Bad) in a ∷ following (foundFrom n l) a) (ne-eqb (length d) 0 (λ z. omega arith))
+      ap (λ t. let a = cond t End (cond (goodDescriptor d) (foundAs d p) Bad) in a ∷ following (foundFrom n l) a)
+      (ne-eqb (length d) 0 (λ z. omega arith))
       ∙ go (goodDescriptor d) refl
       ∙ sym (ap (due at) split)
     where
@@ -76,7 +77,8 @@ from-due : (n : ℕ) (l : List ℕ) (at : ℕ) → length l - at ≤ n → found
 from-due zero l at h = none l at zero (omega (arith, length-drop at l))
 from-due (suc n) l at h = go (eqb (length (drop at l)) 0) refl (from-due n l (p l at))
   where
-    go : (b : Bool) → eqb (length (drop at l)) 0 ≡ b → (length l - p l at ≤ n → foundFrom (suc n) l (p l at) ≡ due (p l at) (descriptorsIn (drop (p l at) l)))
+    go : (b : Bool) → eqb (length (drop at l)) 0 ≡ b → (length l - p l at ≤ n
+        → foundFrom (suc n) l (p l at) ≡ due (p l at) (descriptorsIn (drop (p l at) l)))
         → foundFrom (suc (suc n)) l at ≡ due at (descriptorsIn (drop at l))
     go true e ih = none l at (suc n) (omega (arith, eqb-true (length (drop at l)) 0 e))
     go false e ih =
@@ -90,7 +92,8 @@ end-due at [] = refl
 end-due at (d ∷ ds) = go (goodDescriptor d) (isMux d) (end-due (at + length d) ds)
   where
     go : (g m : Bool) → some isEnd (due (at + length d) ds) ≡ allGood ds
-        → some isEnd (cond g (cond m (Mux (muxValue d) (at + length d)) (Foreign (at + length d)) ∷ due (at + length d) ds) (Bad ∷ [])) ≡ (g && allGood ds)
+        → some isEnd (cond g (cond m (Mux (muxValue d) (at + length d)) (Foreign (at + length d)) ∷ due (at + length d) ds) (Bad ∷ []))
+        ≡ (g && allGood ds)
     go true true e = e
     go true false e = e
     go false m e = refl
@@ -100,7 +103,8 @@ unfolding foundFrom
 from-inside zero l at = tt
 from-inside (suc n) l at = go (stepAt l at) (step-says l at) (from-inside n l)
   where
-    go : (a : Descriptor) → Says l at a → ((p : ℕ) → All (Inside (length l)) (foundFrom n l p)) → All (Inside (length l)) (a ∷ following (foundFrom n l) a)
+    go : (a : Descriptor) → Says l at a → ((p : ℕ) → All (Inside (length l)) (foundFrom n l p))
+        → All (Inside (length l)) (a ∷ following (foundFrom n l) a)
     go (Mux v p) s ih = (s .1, ih p)
     go (Foreign p) s ih = (s .1, ih p)
     go End s ih = (tt, tt)

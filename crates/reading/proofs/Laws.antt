@@ -16,7 +16,9 @@ use Rattle.rules.specs.declared.Message.{Message}
 use Rattle.rules.specs.declared.Message.the-variants.{Init, Alive, Splice, Abort, Config, Extended, Unreadable}
 use Rattle.rules.specs.Bytes.{messageSize, oversize}
 use Rattle.rules.specs.Calls.{framing}
-use Rattle.rules.specs.Reading.{initRequest, aliveRequest, spliceRequest, abortRequest, configRequest, hardwarePlace, hardwareLength, longestHardware, badHardware, extendedRequest, badInit, badExtended, readInit, readAlive, readAbort, readConfig, readExtended, tailOf, badSplice, readWhole, readSplice, isRead, read}
+use Rattle.rules.specs.Reading.{initRequest, aliveRequest, spliceRequest, abortRequest, configRequest, hardwarePlace, hardwareLength}
+use Rattle.rules.specs.Reading.{longestHardware, badHardware, extendedRequest, badInit, badExtended, readInit, readAlive, readAbort}
+use Rattle.rules.specs.Reading.{readConfig, readExtended, tailOf, badSplice, readWhole, readSplice, isRead, read}
 use Rattle.rules.proofs.Tests.{by, or-none}
 
 -- what was said of a part, by a test that is turned round
@@ -32,7 +34,8 @@ behind a l = take-all (length l - a) (drop a l) (simp length-drop (omega arith))
 -- as code asks it
 abbrev Listed : ℕ → Type 0
 Listed id =
-    (id ≡ initRequest) ⊎ ((id ≡ extendedRequest) ⊎ ((id ≡ aliveRequest) ⊎ ((id ≡ spliceRequest) ⊎ ((id ≡ configRequest) ⊎ (id ≡ abortRequest)))))
+    (id ≡ initRequest) ⊎ ((id ≡ extendedRequest) ⊎ ((id ≡ aliveRequest) ⊎
+    ((id ≡ spliceRequest) ⊎ ((id ≡ configRequest) ⊎ (id ≡ abortRequest)))))
 
 pub read-yes : (id : ℕ) → Listed id → true ≡ isRead id
 read-yes id (inl e) = rw e

@@ -9,7 +9,8 @@ use native.Mathlib.Nat.{add-assoc, add-zero}
 use lib.Dec.{eqb}
 use lib.ListN.{length, getD, drop, length-drop}
 use lib.Seq.{drop-drop, getD-drop}
-use Rattle.rules.specs.Reading.{separateService, serviceID, tailOf, Stream, streamLength, streamAt, badStream, Listed, listed, unlisted, behind, streamsIn, pidCount, badCount, separateIn, restOf}
+use Rattle.rules.specs.Reading.{separateService, serviceID, tailOf, Stream, streamLength, streamAt, badStream, Listed, listed, unlisted}
+use Rattle.rules.specs.Reading.{behind, streamsIn, pidCount, badCount, separateIn, restOf}
 use Rattle.rules.proofs.Streams.{streams-step, streams-none, GoodStream, good-stream, length-kept, Separate, separate-step}
 use Rattle.reading.specs.declared.structures.Streams.{Streams}
 use Rattle.reading.specs.declared.structures.Streams.the-variants.{End, Bad}
@@ -29,8 +30,10 @@ unfolding endFrom streamsIn placeOf
 end-is zero at p = ap End (sym (add-zero at))
 end-is (suc n) at p = go (badStream (drop at p)) refl (end-is n (at + streamLength (drop at p)) p)
   where
-    go : (b : Bool) → badStream (drop at p) ≡ b → endFrom n (at + streamLength (drop at p)) p ≡ placeOf (at + streamLength (drop at p)) (streamsIn n (drop (at + streamLength (drop at p)) p))
-        → cond b Bad (endFrom n (at + streamLength (drop at p)) p) ≡ placeOf at (cond b unlisted (behind (streamAt (drop at p)) (streamsIn n (drop (streamLength (drop at p)) (drop at p)))))
+    go : (b : Bool) → badStream (drop at p) ≡ b → endFrom n (at + streamLength (drop at p)) p
+        ≡ placeOf (at + streamLength (drop at p)) (streamsIn n (drop (at + streamLength (drop at p)) p))
+        → cond b Bad (endFrom n (at + streamLength (drop at p)) p) ≡ placeOf at
+        (cond b unlisted (behind (streamAt (drop at p)) (streamsIn n (drop (streamLength (drop at p)) (drop at p)))))
     go true e ih = refl
     go false e ih =
         ih
@@ -64,7 +67,8 @@ end-bad n at p e = rw e
 
 -- ## What stands behind the last one
 
-pub streams-rest : (n : ℕ) (p : List ℕ) (l : List Stream) (r : List ℕ) → streamsIn n p ≡ listed l r → (r ≡ drop (sizesOf l) p) × (sizesOf l ≤ length p)
+pub streams-rest : (n : ℕ) (p : List ℕ) (l : List Stream) (r : List ℕ) → streamsIn n p ≡ listed l r
+    → (r ≡ drop (sizesOf l) p) × (sizesOf l ≤ length p)
 streams-rest zero p l r e = let k = streams-none p l r e in rw (k .0) (k .1, omega arith)
 streams-rest (suc n) p l r e =
     let k = streams-step n p l r e in
@@ -124,7 +128,8 @@ pub tail-is : (d : List ℕ) → 18 ≤ length d → Placed (tailOf d) d (tailPl
 unfolding tailPlace tailOf from restOf
 tail-is d long = go (eqb (serviceID d) separateService) (streamsEnd (drop 18 d)) refl
   where
-    go : (b : Bool) (x : Streams) → streamsEnd (drop 18 d) ≡ x → Placed (cond b (restOf (separateIn (drop 18 d))) (drop 18 d)) d (cond b (from 18 x) (End 18))
+    go : (b : Bool) (x : Streams) → streamsEnd (drop 18 d) ≡ x → Placed (cond b (restOf (separateIn (drop 18 d))) (drop 18 d)) d
+        (cond b (from 18 x) (End 18))
     go true (End n) e =
         let f = found-rest (drop 18 d) n (end-found (drop 18 d) n e) in
         (f .0 ∙ drop-drop n 18 d, omega (arith, f .1, length-drop 18 d))

@@ -67,9 +67,11 @@ module _ (a b : List ℕ) (i : ℕ) where
   name-differs e = both ∙ differ (getD a i 0) (getD b i 0) (nameIn (drop (i + 1) a)) (nameIn (drop (i + 1) b)) e
 
   pub name-ends : getD a i 0 ≡ getD b i 0 → getD a i 0 ≡ 0 → sameName (drop i a) (drop i b) ≡ true
-  name-ends e z = both ∙ ap₂ same (from-end (getD a i 0) (nameIn (drop (i + 1) a)) z) (from-end (getD b i 0) (nameIn (drop (i + 1) b)) (sym e ∙ z))
+  name-ends e z = both ∙ ap₂ same (from-end (getD a i 0) (nameIn (drop (i + 1) a)) z)
+      (from-end (getD b i 0) (nameIn (drop (i + 1) b)) (sym e ∙ z))
 
-  pub name-goes-on : getD a i 0 ≡ getD b i 0 → (getD a i 0 ≡ 0 → ⊥) → sameName (drop i a) (drop i b) ≡ sameName (drop (i + 1) a) (drop (i + 1) b)
+  pub name-goes-on : getD a i 0 ≡ getD b i 0 → (getD a i 0 ≡ 0 → ⊥) → sameName (drop i a) (drop i b)
+      ≡ sameName (drop (i + 1) a) (drop (i + 1) b)
   name-goes-on e n =
       both
       ∙ ap₂ same (from-more (getD a i 0) (nameIn (drop (i + 1) a)) n) (from-more (getD b i 0) (nameIn (drop (i + 1) b)) (λ z. n (e ∙ z)))

@@ -29,7 +29,8 @@ module _ (l : List ℕ) (at : ℕ) where
   pub mux-at : (t x : ℕ) → t ≡ getD l at 0 → x ≡ field (at + 2) 4 l → (eqb t 0x02 && eqb x 0x53415049) ≡ isMux (drop at l)
   mux-at t x e f =
       let z : at ≡ at + 0 = omega arith in
-      ap₂ (λ (a b : ℕ). eqb a 0x02 && eqb b 0x53415049) (e ∙ ap (λ (k : ℕ). getD l k 0) z ∙ sym (getD-drop at l 0 0)) (f ∙ ap (field 0 4) (sym (drop-drop 2 at l)))
+      ap₂ (λ (a b : ℕ). eqb a 0x02 && eqb b 0x53415049) (e ∙ ap (λ (k : ℕ). getD l k 0) z ∙ sym (getD-drop at l 0 0))
+      (f ∙ ap (field 0 4) (sym (drop-drop 2 at l)))
 
   -- s: the length that the descriptor there gives; v: what stands in place of a value; f: whether it fits; m: whether it is muxpriority
   module _ (s v : ℕ) (h : at < length l) (e : s ≡ getD l (at + 1) 0) (g : v ≡ getD l (at + 6) 0) where
@@ -49,7 +50,8 @@ module _ (l : List ℕ) (at : ℕ) where
     unfolding stepAt
     step-is f m a b =
         let d = drop at l in
-        ap (λ t. cond t End (cond (goodDescriptor d) (foundAs d (at + (2 + descriptorLength d))) Bad)) (ne-eqb (length d) 0 (simp length-drop (omega arith)))
+        ap (λ t. cond t End (cond (goodDescriptor d) (foundAs d (at + (2 + descriptorLength d))) Bad))
+        (ne-eqb (length d) 0 (simp length-drop (omega arith)))
         ∙ ap (λ (n : ℕ). answer n (descriptorLength d) (muxValue d) (isMux d)) (length-drop at l)
         ∙ ap (λ (k : ℕ). answer (length l - at) k (muxValue d) (isMux d)) (getD-drop at l 1 0 ∙ sym e)
         ∙ ap (λ (x : ℕ). answer (length l - at) s x (isMux d)) (getD-drop at l 6 0 ∙ sym g)
@@ -88,7 +90,8 @@ step-says l at = go (eqb (length d) 0) refl (goodDescriptor d) refl (isMux d) re
     within : goodDescriptor d ≡ true → n ≤ length l
     within g = fits-within l at (and-both (descriptorFits d) (not (isMux d && badMux d)) g .0)
 
-    rest : eqb (length d) 0 ≡ false → (g : Bool) → goodDescriptor d ≡ g → (v : ℕ) → muxRest v d ≡ cond g (muxRest (muxAfter v d) (drop n l)) priority.Bad
+    rest : eqb (length d) 0 ≡ false → (g : Bool) → goodDescriptor d ≡ g → (v : ℕ)
+        → muxRest v d ≡ cond g (muxRest (muxAfter v d) (drop n l)) priority.Bad
     rest e g q v = mux-step l at v (inside e) ∙ ap (λ t. cond t (muxRest (muxAfter v d) (drop n l)) priority.Bad) q
 
     go : (b : Bool) → eqb (length d) 0 ≡ b → (g : Bool) → goodDescriptor d ≡ g → (m : Bool) → isMux d ≡ m

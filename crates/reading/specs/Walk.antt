@@ -57,7 +57,8 @@ Inside n (Foreign p) = p ≤ n
 Inside n End = Unit {0}
 Inside n Bad = Unit {0}
 
--- 02, CR 5: "The descriptor reader must therefore say what it found". The descriptors of l are its bytes; the answers are these descriptors in
+-- 02, CR 5: "The descriptor reader must therefore say what it found". The descriptors of l are its bytes; the answers are these descriptors
+-- in
 -- their order; they come to the end exactly if all are good; and no place that is given lies outside l
 pub record FoundAll (l : List ℕ) : Type 0 where
   pub whole : bytesOf (descriptorsIn l) ≡ l

@@ -8,7 +8,8 @@ ghost use Rattle.rules.specs.Calls.{framing};
 ghost use mathlib.Core.Bool.{false};
 ghost use Rattle.rules.specs.declared.Priority.the-variants.{Is};
 ghost use Rattle.rules.specs.Reading.{readExtended, lengthIn, structureIn, hardwareLength, hardwareIn, readConfig};
-ghost use Rattle.rules.specs.Reading.{channelName, splicerName, readInit, readAlive, readAbort, readStart, badSplice, descriptorsOf, muxOf, isBad};
+ghost use Rattle.rules.specs.Reading.{channelName, splicerName, readInit, readAlive, readAbort, readStart, badSplice, descriptorsOf, muxOf};
+ghost use Rattle.rules.specs.Reading.{isBad};
 ghost use Rattle.rules.specs.Reading.{wholeRequest, readWhole, readSplice, isRead, «read»};
 ghost use Rattle.reading.specs.Structures.{tailPlace};
 

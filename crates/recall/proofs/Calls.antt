@@ -48,7 +48,8 @@ forgets-full l f =
     let g = sym (fresh-leaves l f) in
     record { reply = ap (λ (x : Recalled). x .told .reply) g; log = ap (λ (x : Recalled). x .log) g }
 
-fresh-clears : (l : List ℕ) → otherLength l ≡ false → recallFresh l ≡ record { told = record { reply = Done 0 0 0; shows = [] }; log = cleared l }
+fresh-clears : (l : List ℕ) → otherLength l ≡ false → recallFresh l
+    ≡ record { told = record { reply = Done 0 0 0; shows = [] }; log = cleared l }
 unfolding recallFresh
 fresh-clears l f = rw f
 
@@ -58,7 +59,8 @@ forgets-all {l} {n} f e =
     record { reply = ap (λ (x : Recalled). x .told .reply) g; log = e ∙ ap (λ (x : Recalled). x .log) g }
 
 -- any two results that a promise allows are equal
-pub remembers-same : (k : Call) (l e : List ℕ) {r r′ : Reply} {n n′ o o′ : List ℕ} → Remembers k l e r n o → Remembers k l e r′ n′ o′ → (r ≡ r′) × (n ≡ n′) × (o ≡ o′)
+pub remembers-same : (k : Call) (l e : List ℕ) {r r′ : Reply} {n n′ o o′ : List ℕ} → Remembers k l e r n o → Remembers k l e r′ n′ o′
+    → (r ≡ r′) × (n ≡ n′) × (o ≡ o′)
 remembers-same k l e a b = (a .reply ∙ sym (b .reply), a .log ∙ sym (b .log), a .buffer ∙ sym (b .buffer))
 
 pub forgets-same : (l : List ℕ) {r r′ : Reply} {n n′ : List ℕ} → Forgets l r n → Forgets l r′ n′ → (r ≡ r′) × (n ≡ n′)
@@ -66,7 +68,8 @@ forgets-same l a b = (a .reply ∙ sym (b .reply), a .log ∙ sym (b .log))
 
 -- ## Whether a call is kept
 
-is-kept : (k : Call) (a : Answer) (n : ℕ) (l : List ℕ) {x y z : ℕ} → replyOf a n ≡ Done x y z → Good a × (logAfter k a l ≡ appended (keptForm k) l)
+is-kept : (k : Call) (a : Answer) (n : ℕ) (l : List ℕ) {x y z : ℕ} → replyOf a n ≡ Done x y z
+    → Good a × (logAfter k a l ≡ appended (keptForm k) l)
 unfolding replyOf logAfter
 is-kept k (refused m) n l e = let z : _≡_ {A = ℕ} 0 1 = cc in absurd (omega arith)
 is-kept k (good consumed rs) n l e = (tt, refl)
@@ -89,40 +92,45 @@ module _ (k : Call) (l : List ℕ) (b : All Byte l) (f : full l ≡ false) where
 
   same : SameCalled (call k (passed (keptCalls l) (begun cardName))) (rules.call k (rules.after (keptCalls l) recall.begun))
   unfolding recall.begun cardName
-  same = answers-like-the-rules (padded cardName) refl (padded-byte cardName (omega arith, (omega arith, (omega arith, tt)))) refl (keptCalls l) (any-log l b .0) k
+  same = answers-like-the-rules (padded cardName) refl (padded-byte cardName (omega arith, (omega arith, (omega arith, tt)))) refl
+      (keptCalls l) (any-log l b .0) k
 
   is : recallCall k l ≡ record { told = record { reply = replyOf worked shifts; shows = writtenBy worked }; log = logAfter k worked l }
   unfolding recallCall toldBy
   is =
       rw f
-      (ap₂ (λ (a : Answer) (n : ℕ). record { told = record { reply = replyOf a n; shows = writtenBy a }; log = logAfter k a l }) (sym (same .answer)) (sym (same .moved)))
+      (ap₂ (λ (a : Answer) (n : ℕ). record { told = record { reply = replyOf a n; shows = writtenBy a }; log = logAfter k a l })
+      (sym (same .answer)) (sym (same .moved)))
 
   -- the call c was worked out, and the reply r says so
-  module _ {c : Called} (made : c ≡ call k (passed (keptCalls l) (begun cardName))) {r : Reply} (told : r ≡ replyOf (c .answer) (c .moved)) where
-    answer-is : c .answer ≡ worked
-    answer-is = ap (λ (x : Called). x .answer) made
+  module _ {c : Called} (made : c ≡ call k (passed (keptCalls l) (begun cardName))) {r : Reply} (told : r ≡ replyOf (c .answer) (c .moved))
+    where
+      answer-is : c .answer ≡ worked
+      answer-is = ap (λ (x : Called). x .answer) made
 
-    -- the log and the buffer are what the answer makes of them
-    pub remembers : {n e o : List ℕ} → n ≡ logAfter k (c .answer) l → o ≡ bufferAfter (c .answer) e → Remembers k l e r n o
-    unfolding bufferAfter
-    remembers {n} {e} {o} h i =
-        record {
-          reply = told ∙ ap (λ (x : Called). replyOf (x .answer) (x .moved)) made ∙ ap (λ (x : Recalled). x .told .reply) (sym is);
-          log = h ∙ ap (λ (x : Answer). logAfter k x l) answer-is ∙ ap (λ (x : Recalled). x .log) (sym is);
-          buffer = i ∙ ap (λ (x : Answer). written e 0 (writtenBy x)) answer-is ∙ ap (λ (x : Recalled). written e 0 (x .told .shows)) (sym is);
-        }
+      -- the log and the buffer are what the answer makes of them
+      pub remembers : {n e o : List ℕ} → n ≡ logAfter k (c .answer) l → o ≡ bufferAfter (c .answer) e → Remembers k l e r n o
+      unfolding bufferAfter
+      remembers {n} {e} {o} h i =
+          record {
+            reply = told ∙ ap (λ (x : Called). replyOf (x .answer) (x .moved)) made ∙ ap (λ (x : Recalled). x .told .reply) (sym is);
+            log = h ∙ ap (λ (x : Answer). logAfter k x l) answer-is ∙ ap (λ (x : Recalled). x .log) (sym is);
+            buffer = i ∙ ap (λ (x : Answer). written e 0 (writtenBy x)) answer-is
+                ∙ ap (λ (x : Recalled). written e 0 (x .told .shows)) (sym is);
+          }
 
-    -- a refused call is not kept
-    pub remembers-not : OneOf (0 ∷ 1 ∷ []) (tagOf the-type r) → {e o : List ℕ} → o ≡ bufferAfter (c .answer) e → Remembers k l e r l o
-    remembers-not t i = remembers (sym (not-kept k (c .answer) (c .moved) l (subst (λ (x : Reply). OneOf (0 ∷ 1 ∷ []) (tagOf the-type x)) told t))) i
+      -- a refused call is not kept
+      pub remembers-not : OneOf (0 ∷ 1 ∷ []) (tagOf the-type r) → {e o : List ℕ} → o ≡ bufferAfter (c .answer) e → Remembers k l e r l o
+      remembers-not t i = remembers (sym (not-kept k (c .answer) (c .moved) l
+          (subst (λ (x : Reply). OneOf (0 ∷ 1 ∷ []) (tagOf the-type x)) told t))) i
 
-    -- a good one is
-    module _ {x y z : ℕ} (d : r ≡ Done x y z) where
-      pub remembers-done : {n e o : List ℕ} → n ≡ appended (keptForm k) l → o ≡ bufferAfter (c .answer) e → Remembers k l e r n o
-      remembers-done {n} h i = remembers (h ∙ sym (is-kept k (c .answer) (c .moved) l (sym told ∙ d) .1)) i
+      -- a good one is
+      module _ {x y z : ℕ} (d : r ≡ Done x y z) where
+        pub remembers-done : {n e o : List ℕ} → n ≡ appended (keptForm k) l → o ≡ bufferAfter (c .answer) e → Remembers k l e r n o
+        remembers-done {n} h i = remembers (h ∙ sym (is-kept k (c .answer) (c .moved) l (sym told ∙ d) .1)) i
 
-      pub good-there : Good (rules.call k (rules.after (keptCalls l) recall.begun) .answer)
-      good-there = subst Good (answer-is ∙ same .answer) (is-kept k (c .answer) (c .moved) l (sym told ∙ d) .0)
+        pub good-there : Good (rules.call k (rules.after (keptCalls l) recall.begun) .answer)
+        good-there = subst Good (answer-is ∙ same .answer) (is-kept k (c .answer) (c .moved) l (sym told ∙ d) .0)
 
 -- ## The place for its record
 
@@ -144,7 +152,8 @@ space-from l {at} = go (full l) refl
 
 -- ## A call that was played behind all kept ones
 
-module _ (k : Call) (l : List ℕ) (b : All Byte l) (f : full l ≡ false) {h : Carried} {m : List ℕ} (p : Passed l h m) {g : Pass → Called} (is-call : (s : Pass) → g s ≡ call k s)
+module _ (k : Call) (l : List ℕ) (b : All Byte l) (f : full l ≡ false) {h : Carried} {m : List ℕ} (p : Passed l h m) {g : Pass → Called}
+    (is-call : (s : Pass) → g s ≡ call k s)
     {q : Played} {e j o : List ℕ} (y : Plays l h (g (passIn l h m)) e q j o) where
   played-made : g (passIn l h m) ≡ call k (passed (keptCalls l) (begun cardName))
   played-made = is-call (passIn l h m) ∙ ap (call k) (p .pass)

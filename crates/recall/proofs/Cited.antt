@@ -1,4 +1,5 @@
--- The contracts in src/lib.rt, as the toolchain reads them, are what specs/Recall says of the calls, by computing: whoever edits one side alone
+-- The contracts in src/lib.rt, as the toolchain reads them, are what specs/Recall says of the calls, by computing: whoever edits one side
+-- alone
 -- is refused here. a: what the call is handed, z: what the lent memory is at its end. None asks anything.
 use mathlib.Core.Path.{_≡_, refl}
 use mathlib.Core.List.{[]}
@@ -42,7 +43,8 @@ module _ {M : Type 1} (𝓤 : URA M) (H : Heap 𝓤) (A : Atoms 𝓤) (mem : sto
     pub open-requires : opening.clauses 𝓤 H A mem run κs a .requires tt ≡ ⊤ₛ
     open-requires = refl
 
-    pub open-ensures : opening.clauses 𝓤 H A mem run κs a .ensures tt r z ≡ ⌜ Remembers (opens (a .1 .0)) (now (a .0)) [] r (now (z .0)) [] ⌝
+    pub open-ensures : opening.clauses 𝓤 H A mem run κs a .ensures tt r z
+        ≡ ⌜ Remembers (opens (a .1 .0)) (now (a .0)) [] r (now (z .0)) [] ⌝
     open-ensures = refl
 
   -- close(log, conn, out)
@@ -61,7 +63,8 @@ module _ {M : Type 1} (𝓤 : URA M) (H : Heap 𝓤) (A : Atoms 𝓤) (mem : sto
 
     pub message-ensures : message.clauses 𝓤 H A mem run κs a .ensures tt r z
         ≡ ⌜ Remembers
-        (messages (a .1 .0) (now (a .1 .1 .0)) (lendingMaps (now (a .1 .1 .1 .0)) (now (a .1 .1 .1 .1 .0)) (length (now (a .1 .1 .1 .1 .1 .0)))))
+        (messages (a .1 .0) (now (a .1 .1 .0)) (lendingMaps (now (a .1 .1 .1 .0)) (now (a .1 .1 .1 .1 .0))
+        (length (now (a .1 .1 .1 .1 .1 .0)))))
         (now (a .0)) (now (a .1 .1 .1 .1 .1 .0)) r (now (z .0)) (now (z .1 .1 .1 .1 .1 .0)) ⌝
     message-ensures = refl
 
@@ -71,5 +74,6 @@ module _ {M : Type 1} (𝓤 : URA M) (H : Heap 𝓤) (A : Atoms 𝓤) (mem : sto
     tick-requires = refl
 
     pub tick-ensures : tick.clauses 𝓤 H A mem run κs a .ensures tt r z
-        ≡ ⌜ Remembers (ticks (a .1 .0) (a .1 .1 .0) (length (now (a .1 .1 .1 .0)))) (now (a .0)) (now (a .1 .1 .1 .0)) r (now (z .0)) (now (z .1 .1 .1 .0)) ⌝
+        ≡ ⌜ Remembers (ticks (a .1 .0) (a .1 .1 .0) (length (now (a .1 .1 .1 .0)))) (now (a .0)) (now (a .1 .1 .1 .0)) r (now (z .0))
+        (now (z .1 .1 .1 .0)) ⌝
     tick-ensures = refl

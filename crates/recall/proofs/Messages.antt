@@ -1,4 +1,5 @@
--- The present message: GetConfig's record behind the others' answers, a refusal, and the whole answer. Rests on what `recall_pass` promises of a
+-- The present message: GetConfig's record behind the others' answers, a refusal, and the whole answer. Rests on what `recall_pass` promises
+-- of a
 -- message that is heard, and on Calls.
 use mathlib.Core.Path.{_≡_, refl, sym, subst, ap, ap₂, _∙_}
 use mathlib.Core.Bool.{Bool, true, false, cond}
@@ -53,9 +54,11 @@ all-spoken Configures rs (inr (inr e)) = absurd (omega arith)
 
 pub finish-none : (l : List ℕ) (h : Carried) (c : ℕ) (section : List ℕ) (g : Heard) (i : List ℕ)
     → OneOf (0 ∷ 1 ∷ 2 ∷ []) (tagOf effect-type.the-type (g .effect)) → Finishes l h c section g i (g .len) i
-finish-none l h c section g i k d a s e n w f t = subst (λ (rs : List Record). Tells e 0 rs (g .len) i) (all-spoken (g .effect) (a .written) k) t
+finish-none l h c section g i k d a s e n w f t = subst (λ (rs : List Record). Tells e 0 rs (g .len) i)
+    (all-spoken (g .effect) (a .written) k) t
 
-pub finish-config : (l : List ℕ) (h : Carried) (c : ℕ) (section : List ℕ) (g : Heard) (i : List ℕ) {len : ℕ} {o : List ℕ} → g .effect ≡ Configures
+pub finish-config : (l : List ℕ) (h : Carried) (c : ℕ) (section : List ℕ) (g : Heard) (i : List ℕ) {len : ℕ} {o : List ℕ}
+    → g .effect ≡ Configures
     → Tells i 0 (ConfigResponse c 100 cardName (getD (hardwares l h) c noHardware) section ∷ []) len o → Finishes l h c section g i len o
 unfolding spoken configResponse output
 finish-config l h c section g i {len} {o} k y d a s e n w f t =
@@ -91,8 +94,10 @@ brief false p q h k = k
 -- ## The call
 
 -- the test's answer f, behind all calls of the log
-pub framed-here : {l : List ℕ} {h : Carried} {m : List ℕ} → Passed l h m → (c : ℕ) (read : List ℕ) (loans : Loans) {f g : Framing} {b : Bool}
-    → FramesAny c read (loans .room) b h f → b ≡ longSection loans → f ≡ g → g ≡ framed c read (loans .room) (longSection loans) (passIn l h m)
+pub framed-here : {l : List ℕ} {h : Carried} {m : List ℕ} → Passed l h m
+    → (c : ℕ) (read : List ℕ) (loans : Loans) {f g : Framing} {b : Bool}
+    → FramesAny c read (loans .room) b h f → b ≡ longSection loans → f ≡ g
+    → g ≡ framed c read (loans .room) (longSection loans) (passIn l h m)
 framed-here {l} {h} {m} p c read loans a e z =
     sym z ∙ a (hardwares l h) (rowsOf h m) ∙ ap (λ (b : Bool). framed c read (loans .room) b (passIn l h m)) e
 
@@ -106,9 +111,11 @@ unfolding framing
 whole l =
     by (Whole l) (ltb (length l) 8) _ _ (λ e. tt)
     (λ e. by (Whole l) (oversize l) _ _ (λ f. tt)
-    (λ f. by (Whole l) (ltb (length l) (8 + messageSize l)) _ _ (λ g. tt) (λ g. (ltb-false (length l) (8 + messageSize l) g, ltb-false largestSize (messageSize l) f))))
+    (λ f. by (Whole l) (ltb (length l) (8 + messageSize l)) _ _ (λ g. tt)
+    (λ g. (ltb-false (length l) (8 + messageSize l) g, ltb-false largestSize (messageSize l) f))))
 
-module _ (l : List ℕ) (b : All Byte l) (f : full l ≡ false) {h : Carried} {m : List ℕ} (p : Passed l h m) (c : ℕ) (read : List ℕ) (loans : Loans) where
+module _ (l : List ℕ) (b : All Byte l) (f : full l ≡ false) {h : Carried} {m : List ℕ} (p : Passed l h m) (c : ℕ) (read : List ℕ)
+    (loans : Loans) where
   abbrev s : Pass
   s = passIn l h m
 
@@ -116,11 +123,13 @@ module _ (l : List ℕ) (b : All Byte l) (f : full l ≡ false) {h : Carried} {m
   k = messages c read loans
 
   -- what the framing makes of it
-  made : {g : Framing} → g ≡ framed c read (loans .room) (longSection loans) s → handled c g read loans s ≡ call k (passed (keptCalls l) (begun cardName))
+  made : {g : Framing} → g ≡ framed c read (loans .room) (longSection loans) s
+      → handled c g read loans s ≡ call k (passed (keptCalls l) (begun cardName))
   unfolding call
   made {g} e = ap (λ (x : Framing). handled c x read loans s) e ∙ sym (message-is c read loans s) ∙ ap (messageCall c read loans) (p .pass)
 
-  pub message-refused : {n : Refusal} {e : List ℕ} → Unframed n ≡ framed c read (loans .room) (longSection loans) s → Remembers k l e (Refused n) l e
+  pub message-refused : {n : Refusal} {e : List ℕ} → Unframed n ≡ framed c read (loans .room) (longSection loans) s
+      → Remembers k l e (Refused n) l e
   unfolding handled replyOf logAfter bufferAfter writtenBy
   message-refused {n} {e} g = remembers k l b f (made g) refl refl (sym (written-none e 0))
 
@@ -146,8 +155,10 @@ module _ (l : List ℕ) (b : All Byte l) (f : full l ≡ false) {h : Carried} {m
     message-within = subst (Whole read) (message-low .3) (whole read)
 
     -- y: the data that was handed on; x: the section that was chosen
-    pub message-whole : {y x e i j o n : List ℕ} {w : Heard} {len : ℕ} → y ≡ dataOf size read → x ≡ sectionOf loans s → HearsAny c id y h m e w j i
-        → Finishes l h c x w i len o → n ≡ appended (messages c (part 0 (8 + size) read) cardLoans) l → Remembers k l e (Done (8 + size) len (w .moved)) n o
+    pub message-whole : {y x e i j o n : List ℕ} {w : Heard} {len : ℕ} → y ≡ dataOf size read → x ≡ sectionOf loans s
+        → HearsAny c id y h m e w j i
+        → Finishes l h c x w i len o → n ≡ appended (messages c (part 0 (8 + size) read) cardLoans) l
+        → Remembers k l e (Done (8 + size) len (w .moved)) n o
     message-whole {y} {x} {e} {i} {j} {o} {n} {w} {len} z t a v q =
         let b = a (hardwares l h) x in
         let r : answer c id y x s ≡ answer c id (dataOf size read) (sectionOf loans s) s = ap₂ (λ (u v : List ℕ). answer c id u v s) z t in

@@ -8,7 +8,8 @@ use native.Mathlib.Omega.{arith}
 use lib.Dec.{eqb}
 use lib.ListN.{length, take, replicate, take-append-drop}
 use Rattle.rules.specs.declared.Refusal.{Refusal}
-use Rattle.rules.specs.declared.Refusal.the-variants.{NoConnection, NoRoom, ClockBack, Oversize, Short, AlreadyOpen, NotOpen, BadMicros, BadName, Counter, LongSection, BadSection, NotSixteen}
+use Rattle.rules.specs.declared.Refusal.the-variants.{NoConnection, NoRoom, ClockBack, Oversize, Short, AlreadyOpen, NotOpen, BadMicros}
+use Rattle.rules.specs.declared.Refusal.the-variants.{BadName, Counter, LongSection, BadSection, NotSixteen}
 use Rattle.rules.specs.Lists.{All, put}
 use Rattle.rules.specs.Bytes.{written}
 use Rattle.rules.specs.State.{Splicer}
@@ -20,7 +21,8 @@ use Rattle.recall_log.specs.Log.{keptCalls, taken, logLength, otherLength, full
 use Rattle.recall_log.specs.Kept.{Its, keptForm, recorded, isGood, Neat, numberOf, replyOf, cleared, logAfter}
 use Rattle.recall_log.proofs.Appends.{cleared-calls}
 use Rattle.recall_log.proofs.Logs.{same-length, taken-recorded}
-use Rattle.recall.specs.Recall.{begun, toldBy, thirteen, recallCall, recallFresh, recalls, logLeft, before13, None13, cardTells, goods, spent, LikeTheCard}
+use Rattle.recall.specs.Recall.{begun, toldBy, thirteen, recallCall, recallFresh, recalls, logLeft, before13, None13, cardTells}
+use Rattle.recall.specs.Recall.{goods, spent, LikeTheCard}
 use Rattle.recall.proofs.Steps.{Leads, leads-cleared, told-same, leads-on, calls-on}
 
 -- ## From a log that leads to the splicer s
@@ -32,7 +34,8 @@ run-told (k ∷ ks) l s i w h n =
     ap₂ (λ x y. x ∷ y) (told-same k l s (i .0) (w .0) h (n .0))
     (run-told ks (recallCall k l .log) (call k s .splicer) (i .1) (w .1) (leads-on k l s (i .0) (w .0) h (n .0)) (n .1))
 
-run-leads : (ks : List Call) (l : List ℕ) (s : Splicer) → All Its ks → All Wired ks → Leads l s → None13 ks l → Leads (logLeft ks l) (after ks s)
+run-leads : (ks : List Call) (l : List ℕ) (s : Splicer) → All Its ks → All Wired ks → Leads l s → None13 ks l
+    → Leads (logLeft ks l) (after ks s)
 unfolding logLeft after
 run-leads [] l s i w h n = h
 run-leads (k ∷ ks) l s i w h n =
@@ -46,7 +49,8 @@ run-calls (k ∷ ks) l s i w h n =
     let g = goods ks (call k s .splicer) in
     let b = isGood (call k s .answer) in
     run-calls ks (recallCall k l .log) (call k s .splicer) (i .1) (w .1) (leads-on k l s (i .0) (w .0) h (n .0)) (n .1)
-    ∙ ap (λ x. x ++ g) (calls-on k l s (i .0) (w .0) h (n .0)) ∙ append-assoc (keptCalls l) (put b (keptForm k) []) g ∙ ap (λ x. keptCalls l ++ x) (put-append b (keptForm k) g)
+    ∙ ap (λ x. x ++ g) (calls-on k l s (i .0) (w .0) h (n .0)) ∙ append-assoc (keptCalls l) (put b (keptForm k) []) g
+    ∙ ap (λ x. keptCalls l ++ x) (put-append b (keptForm k) g)
   where
     put-append : (b : Bool) (x : Call) (g : List Call) → put b x [] ++ g ≡ put b x g
     put-append true x g = refl
@@ -55,7 +59,8 @@ run-calls (k ∷ ks) l s i w h n =
 -- ## From fresh
 
 -- a neat log is the records of its calls and zeros
-pub neat-is : (l : List ℕ) (ks : List Call) → Neat l → length l ≡ logLength → keptCalls l ≡ ks → l ≡ recorded ks ++ replicate (logLength - length (recorded ks)) 0
+pub neat-is : (l : List ℕ) (ks : List Call) → Neat l → length l ≡ logLength → keptCalls l ≡ ks
+    → l ≡ recorded ks ++ replicate (logLength - length (recorded ks)) 0
 neat-is l ks n h e =
     let t : taken l ≡ length (recorded ks) = taken-recorded l ∙ ap (λ x. length (recorded x)) e in
     sym (take-append-drop (taken l) l)
@@ -146,7 +151,11 @@ thirteen-of-any k l = go (full l)
   where
     go : (b : Bool)
         → eqb (numberOf (cond b (thirteen l)
-        (record { told = toldBy (call k (after (keptCalls l) begun)); log = logAfter k (call k (after (keptCalls l) begun) .answer) l }) .told .reply)) 13 ≡ b
+        (record {
+          told = toldBy (call k (after (keptCalls l) begun));
+          log =
+              logAfter k (call k (after (keptCalls l) begun) .answer) l;
+        }) .told .reply)) 13 ≡ b
     go true = refl
     go false = told-other k (after (keptCalls l) begun)
 
@@ -156,7 +165,8 @@ unfolding recallFresh numberOf
 thirteen-of-fresh l = go (otherLength l)
   where
     go : (b : Bool)
-        → eqb (numberOf (cond b (thirteen l) (record { told = record { reply = Done 0 0 0; shows = [] }; log = cleared l }) .told .reply)) 13 ≡ b
+        → eqb (numberOf (cond b (thirteen l) (record { told = record { reply = Done 0 0 0; shows = [] }; log = cleared l }) .told .reply))
+        13 ≡ b
     go true = refl
     go false = refl
 
@@ -176,9 +186,30 @@ unfolding recallCall toldBy replyOf logAfter writtenBy
 refused-leaves k l n = go (full l) (call k (after (keptCalls l) begun) .answer)
   where
     go : (b : Bool) (a : Answer)
-        → cond b (thirteen l) (record { told = record { reply = replyOf a (call k (after (keptCalls l) begun) .moved); shows = writtenBy a }; log = logAfter k a l }) .told .reply ≡ Refused n
-        → (cond b (thirteen l) (record { told = record { reply = replyOf a (call k (after (keptCalls l) begun) .moved); shows = writtenBy a }; log = logAfter k a l }) .log ≡ l)
-        × (cond b (thirteen l) (record { told = record { reply = replyOf a (call k (after (keptCalls l) begun) .moved); shows = writtenBy a }; log = logAfter k a l }) .told .shows ≡ [])
+        → cond b (thirteen l) (record {
+          told = record {
+            reply = replyOf a (call k (after (keptCalls l) begun) .moved);
+            shows =
+                writtenBy a;
+          };
+          log = logAfter k a l;
+        }) .told .reply ≡ Refused n
+        → (cond b (thirteen l) (record {
+          told = record {
+            reply = replyOf a (call k (after (keptCalls l) begun) .moved);
+            shows =
+                writtenBy a;
+          };
+          log = logAfter k a l;
+        }) .log ≡ l)
+        × (cond b (thirteen l) (record {
+          told = record {
+            reply = replyOf a (call k (after (keptCalls l) begun) .moved);
+            shows =
+                writtenBy a;
+          };
+          log = logAfter k a l;
+        }) .told .shows ≡ [])
     go true a e = (refl, refl)
     go false (refused m) e = (refl, refl)
     go false (good consumed rs) e = let z : _≡_ {A = ℕ} 0 1 = cc in absurd (omega arith)
@@ -189,7 +220,8 @@ pub fresh-log : (l : List ℕ) → length l ≡ logLength → recallFresh l .log
 unfolding recallFresh
 fresh-log l h = rw (same-length l h)
 
--- "Until it first refuses with 13, the log unchanged between calls, it is proved to answer like the card's engine, byte for byte": any calls
+-- "Until it first refuses with 13, the log unchanged between calls, it is proved to answer like the card's engine, byte for byte": any
+-- calls
 -- from its fresh, each handed the log that the last one left
 pub recalls-like-the-card : (l : List ℕ) → length l ≡ logLength → (ks : List Call) → All Its ks → All Wired ks
     → LikeTheCard (before13 ks (recallFresh l .log)) (recallFresh l .log)

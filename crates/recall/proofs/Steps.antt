@@ -1,4 +1,5 @@
--- One call: with a log whose calls lead to the card's splicer, both tell the same, and the log after it leads to the card's splicer after it.
+-- One call: with a log whose calls lead to the card's splicer, both tell the same, and the log after it leads to the card's splicer after
+-- it.
 -- Rests on recall_log's laws of an appended log, and on: a good call and what is kept of it are one call.
 use mathlib.Core.Path.{_≡_, refl, sym, subst, ap, _∙_}
 use mathlib.Core.Bool.{false}

@@ -63,7 +63,8 @@ hardware-none l {p} e = rw (eq-eqb p 0 e)
 
 -- x: the splicer's name; y: what the connection keeps; z: the section; o: the buffer that held e
 pub config-told : (c : ℕ) (l ps : List ℕ) {x y z e : List ℕ} {n : ℕ} {o : List ℕ} → x ≡ padded cardName → y ≡ hardwareAt l (getD ps c 0) →
-    Puts (ConfigResponse c 100 (nameIn x) y z) e n o → Says (ConfigResponse c 100 cardName (getD (map (hardwareAt l) ps) c noHardware) z) e n o
+    Puts (ConfigResponse c 100 (nameIn x) y z) e n o → Says (ConfigResponse c 100 cardName (getD (map (hardwareAt l) ps) c noHardware) z) e
+    n o
 unfolding hardwareAt
 config-told c l ps {x} {y} {z} {e} {n} {o} rx ry w =
     let same : y ≡ getD (map (hardwareAt l) ps) c noHardware = ry ∙ sym (List·getD-map (hardwareAt l) ps c 0) in

@@ -27,7 +27,8 @@ use Rattle.recall_answers.specs.Replies.{Says}
 -- ## The end of a number
 
 -- whether row i has it: v is that row of the n in the words m, b what was found of it
-pub end-at : (k i : ℕ) (m : List ℕ) (n : ℕ) {v : Verdict} {b : Bool} → n ≡ length m / width → v ≡ getD (verdictsIn n m) i none → b ≡ isEnd k (v .phase) →
+pub end-at : (k i : ℕ) (m : List ℕ) (n : ℕ) {v : Verdict} {b : Bool} → n ≡ length m / width → v ≡ getD (verdictsIn n m) i none
+    → b ≡ isEnd k (v .phase) →
     endedAs k (getD (all m) i none) ≡ b
 end-at k i m n {v} e f g = ap (endedAs k) (sym (read m n e i v f)) ∙ sym g
 
@@ -45,7 +46,8 @@ module _ (n i : ℕ) (l : List Verdict) (f : i ≡ place (endedAs n) l) where
   nth-none h = ap pastOf (sym (List·getD-eq-default l none h) ∙ ap (λ (j : ℕ). getD l j none) f)
 
 -- how many have ended; n: the rows of the words m
-pub ends-counted : (m : List ℕ) (n : ℕ) {k : ℕ} → n ≡ length m / width → k ≡ count (λ s. true) (standing hasEnded (verdictsIn n m)) → k ≡ ends (all m)
+pub ends-counted : (m : List ℕ) (n : ℕ) {k : ℕ} → n ≡ length m / width → k ≡ count (λ s. true) (standing hasEnded (verdictsIn n m))
+    → k ≡ ends (all m)
 ends-counted m n e f = f ∙ ap (λ (l : List Verdict). count (λ s. true) (standing hasEnded l)) (as-all m n e) ∙ count-all hasEnded (all m)
 
 -- ## The latest, from the newest down
@@ -85,7 +87,8 @@ module _ (c x : ℕ) where
     -- e: the next end
     module _ (n k : ℕ) (h : 0 < n) (g : 0 < k) (s : Seeking c x l n k) {e : Past} (q : e ≡ nthEnd (n - 1) l) where
       pub seek-more : isPast c x e ≡ false → Seeking c x l (n - 1) (k - 1)
-      seek-more p = s ∙ ap (latest c x) (next n k h g) ∙ passed-over (nthEnd (n - 1) l) (latelyFrom (k - 1) (n - 1) l) (ap (isPast c x) (sym q) ∙ p)
+      seek-more p = s ∙ ap (latest c x) (next n k h g) ∙ passed-over (nthEnd (n - 1) l) (latelyFrom (k - 1) (n - 1) l)
+          (ap (isPast c x) (sym q) ∙ p)
 
       pub seek-hit : isPast c x e ≡ true → e ≡ latest c x (recent l)
       seek-hit p =
@@ -110,7 +113,8 @@ module _ (c x : ℕ) (l : List Verdict) {y : Past} (f : y ≡ latest c x (recent
   unfolding extendedResponse
   extended-none h b = rw (found-kept {t = false} (rw (eq-eqb (y .result) 0 h))) (tells-first b)
 
-  pub extended-found : {e o : List ℕ} {len : ℕ} → (y .result ≡ 0 → ⊥) → Puts (ExtendedFound c x (y .event) (y .result) (y .played)) e len o →
+  pub extended-found : {e o : List ℕ} {len : ℕ} → (y .result ≡ 0 → ⊥)
+      → Puts (ExtendedFound c x (y .event) (y .result) (y .played)) e len o →
       Says (extendedResponse c x l) e len o
   unfolding extendedResponse
   extended-found {e} {o} {len} h b =

@@ -124,12 +124,14 @@ module _ (c revision : ℕ) (d e : List ℕ) {r len : ℕ} {asked x : List ℕ} 
 -- ## A message that is read
 
 -- y: the message that was read; x: what it is
-pub reads : (c id : ℕ) (d : List ℕ) (h : Carried) (m : List ℕ) {e : List ℕ} {g : Given} {k o : List ℕ} {y x : Message} → y ≡ read id d → y ≡ x →
+pub reads : (c id : ℕ) (d : List ℕ) (h : Carried) (m : List ℕ) {e : List ℕ} {g : Given} {k o : List ℕ} {y x : Message} → y ≡ read id d
+    → y ≡ x →
     Reads c x d h m e g k o → Reads c (read id d) d h m e g k o
 reads c id d h m {e} {g} {k} {o} p q r = subst (λ (z : Message). Reads c z d h m e g k o) (sym q ∙ p) r
 
 -- 02, CR 6: the configuration is left to who has the log
-pub configures : (c : ℕ) (d : List ℕ) (h : Carried) (m : List ℕ) {e : List ℕ} → Reads c Config d h m e (record { len = 0; moved = 0; effect = Configures }) m e
+pub configures : (c : ℕ) (d : List ℕ) (h : Carried) (m : List ℕ) {e : List ℕ}
+    → Reads c Config d h m e (record { len = 0; moved = 0; effect = Configures }) m e
 unfolding answerRead effected spoken
 configures c d h m hardware section = record { pass = refl; tells = tells-none; left = refl; moved = refl }
 
@@ -177,7 +179,8 @@ module _ (c id : ℕ) (d : List ℕ) (h : Carried) (m : List ℕ) {e : List ℕ}
 -- ## Splice
 
 -- 02, CR 11: "A request not accepted reports 0."
-refused-unmoved : (clock c : ℕ) (r : Request) (l : List Verdict) → answerSplice clock c r l .accepted ≡ false → answerSplice clock c r l .moved ≡ 0
+refused-unmoved : (clock c : ℕ) (r : Request) (l : List Verdict) → answerSplice clock c r l .accepted ≡ false
+    → answerSplice clock c r l .moved ≡ 0
 unfolding answerSplice
 refused-unmoved clock c r l =
     by (λ (a : Spliced). a .accepted ≡ false → a .moved ≡ 0) (eqb (spliceResult clock c r (requested c r l) l) 100) _ _
@@ -191,7 +194,8 @@ module _ (c : ℕ) (r : Request) (h : Carried) (m : List ℕ) {e : List ℕ} {a 
   unfolding answerRead effected spoken
   splice-joins t d hardware section =
       record {
-        pass = ap (λ (l : List Verdict). withVerdicts l (passOf hardware h m)) (sym (w .holds) ∙ ap (λ (b : Bool). admits.joined b (a .new) (all k)) t);
+        pass = ap (λ (l : List Verdict). withVerdicts l (passOf hardware h m))
+            (sym (w .holds) ∙ ap (λ (b : Bool). admits.joined b (a .new) (all k)) t);
         tells = w .tells;
         left = tt;
         moved = w .moved;
@@ -200,9 +204,11 @@ module _ (c : ℕ) (r : Request) (h : Carried) (m : List ℕ) {e : List ℕ} {a 
   pub splice-refused : {g : Given} → a .accepted ≡ false → g ≡ done (a .len) → Splices c r h m e g k o
   unfolding answerRead effected spoken
   splice-refused t q d hardware section =
-      subst (λ (y : Given). Gives c d section (splices (answerSplice (h .clock .0) c r (all m)) (passOf hardware h m)) (passOf hardware h m) e y k o) (sym q)
+      subst (λ (y : Given). Gives c d section (splices (answerSplice (h .clock .0) c r (all m)) (passOf hardware h m)) (passOf hardware h m)
+      e y k o) (sym q)
       (record {
-        pass = ap (λ (l : List Verdict). withVerdicts l (passOf hardware h m)) (sym (w .holds) ∙ ap (λ (b : Bool). admits.joined b (a .new) (all k)) t);
+        pass = ap (λ (l : List Verdict). withVerdicts l (passOf hardware h m))
+            (sym (w .holds) ∙ ap (λ (b : Bool). admits.joined b (a .new) (all k)) t);
         tells = w .tells;
         left = tt;
         moved = sym (refused-unmoved (h .clock .0) c r (all m) (sym (w .accepted) ∙ t));

@@ -64,7 +64,8 @@ module _ (c : ℕ) (d : List ℕ) (h : Carried) (m : List ℕ) (w : (section : L
     pub count : (section : List ℕ) → n ≡ 0 + length (output (spoken f (w section)))
     pub left : (section : List ℕ) → Left f c d section (passOf [] h m) (w section)
 
-  late : {n : ℕ} → Of Configures n → (section : List ℕ) → length section ≤ longestSection → length (output (w section)) ≡ 44 + length section
+  late : {n : ℕ} → Of Configures n → (section : List ℕ) → length section ≤ longestSection
+      → length (output (w section)) ≡ 44 + length section
   late b section s = ap (λ (rs : List Record). length (output rs)) (b .left section) ∙ config-size c section h m s
 
   -- the configuration is not written now
@@ -78,7 +79,8 @@ module _ (c : ℕ) (d : List ℕ) (h : Carried) (m : List ℕ) (w : (section : L
     abbrev After : Effect → List ℕ → Pass
     After f k = effected c d f (withVerdicts (all k) (passOf (others c (hardwareIn d)) h m))
 
-    agree : (f f′ : Effect) {n n′ : ℕ} → Of f n → Of f′ n′ → After f k .verdicts ≡ After f′ k′ .verdicts → After f k .hardware ≡ After f′ k′ .hardware →
+    agree : (f f′ : Effect) {n n′ : ℕ} → Of f n → Of f′ n′ → After f k .verdicts ≡ After f′ k′ .verdicts
+        → After f k .hardware ≡ After f′ k′ .hardware →
         (f ≡ f′) × (all k ≡ all k′)
     unfolding effected
     agree Nothing Nothing a b u v = (refl, u)
@@ -111,7 +113,8 @@ replies-same c id d h m e {g} {g′} {k} {k′} {o} {o′} z r r′ = (given, sa
     hw : List (List ℕ)
     hw = others c (hardwareIn d)
 
-    after : effected c d (g .effect) (withVerdicts (all k) (passOf hw h m)) ≡ effected c d (g′ .effect) (withVerdicts (all k′) (passOf hw h m))
+    after : effected c d (g .effect) (withVerdicts (all k) (passOf hw h m))
+        ≡ effected c d (g′ .effect) (withVerdicts (all k′) (passOf hw h m))
     after = sym (r hw [] .pass) ∙ r′ hw [] .pass
 
     same : (g .effect ≡ g′ .effect) × (all k ≡ all k′)
@@ -127,7 +130,8 @@ replies-same c id d h m e {g} {g′} {k} {k′} {o} {o′} z r r′ = (given, sa
 
     given : g ≡ g′
     given =
-        let len : g .len ≡ g′ .len = r [] [] .tells .count ∙ ap (λ (f : Effect). 0 + length (output (told f))) (same .0) ∙ sym (r′ [] [] .tells .count) in
+        let len : g .len ≡ g′ .len = r [] [] .tells .count ∙ ap (λ (f : Effect). 0 + length (output (told f))) (same .0)
+        ∙ sym (r′ [] [] .tells .count) in
         let moved : g .moved ≡ g′ .moved = r [] [] .moved ∙ sym (r′ [] [] .moved) in
         λ i. record { len = len i; moved = moved i; effect = same .0 i }
 

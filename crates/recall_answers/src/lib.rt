@@ -30,7 +30,8 @@ ghost use Rattle.recall_ends.specs.Does.{all};
 ghost use Rattle.recall_instants.specs.Moments.{Keeps};
 ghost use Rattle.recall_answers.specs.Replies.{linkFor, hardwares, Placed, barred, Replies, Reads, Inits, Splices, Says, done};
 
-// What a pass over the log carries beside the verdicts: the clock; of each connection what it is (0 closed, 1 open, 2 initialised) and where
+// What a pass over the log carries beside the verdicts: the clock; of each connection what it is (0 closed, 1 open, 2 initialised) and
+// where
 // in the log the message stands whose Hardware_Config is kept (0: none); and how many verdicts there are.
 pub struct Carried {
     pub clock: Ninths,
@@ -39,7 +40,8 @@ pub struct Carried {
     pub rows: usize,
 }
 
-// What is left to do of an answer: nothing; the session waits from now on; the connection is initialised; the configuration is to be written.
+// What is left to do of an answer: nothing; the session waits from now on; the connection is initialised; the configuration is to be
+// written.
 pub enum Effect {
     Nothing,
     Joins(Session),

@@ -31,9 +31,11 @@ module _ (work : List Verdict → Turn) (m e : List ℕ) (len : ℕ) where
 
   pub going-room : {k o : List ℕ} {to : ℕ} → Room work len m e → Going k o to → Room work to k o
   going-room {k} {o} {to} room g =
-      subst (λ (v : List Verdict). to + length (output (work v .written)) ≤ length o) (sym (g .so .holds)) (omega (arith, fits room g, g .long, g .so .tells .count))
+      subst (λ (v : List Verdict). to + length (output (work v .written)) ≤ length o) (sym (g .so .holds))
+      (omega (arith, fits room g, g .long, g .so .tells .count))
 
-  module _ {k o : List ℕ} {to : ℕ} (room : Room work len m e) (g : Going k o to) (one : List Verdict → Turn) (more : work (all k) ≡ andThen (one (all k)) work) where
+  module _ {k o : List ℕ} {to : ℕ} (room : Room work len m e) (g : Going k o to) (one : List Verdict → Turn)
+      (more : work (all k) ≡ andThen (one (all k)) work) where
     pub going-one : Room one to k o
     going-one = omega (arith, going-room room g, ap (λ (t : Turn). length (output (t .written))) more, length-then (one (all k)) work)
 
@@ -56,4 +58,5 @@ module _ (work : List Verdict → Turn) (m e : List ℕ) (len : ℕ) where
   pub going-end : {k o : List ℕ} {to : ℕ} → Going k o to → work (all k) ≡ quiet (all k) → Room work len m e → Does work len m e to k o
   going-end {k} {o} {to} g q room =
       subst (λ (t : Turn). Turns e len t k to o) (sym (g .rest))
-      (turns-then (g .done) work (omega (arith, fits room g)) (g .so) (subst (λ (t : Turn). Turns o to t k to o) (sym q) (record { holds = refl; tells = tells-none })))
+      (turns-then (g .done) work (omega (arith, fits room g)) (g .so)
+      (subst (λ (t : Turn). Turns o to t k to o) (sym q) (record { holds = refl; tells = tells-none })))

@@ -58,7 +58,8 @@ module _ {e : List ℕ} {len : ℕ} where
       (written-part len e y (recordBytes r) (omega (arith, w .count, simp (length-take, length-drop) at (w .fits))) (w .bytes))
 
   -- a record is told by its bytes
-  pub tells-same : {r s : Record} {to : ℕ} {o : List ℕ} → recordBytes r ≡ recordBytes s → Tells e len (r ∷ []) to o → Tells e len (s ∷ []) to o
+  pub tells-same : {r s : Record} {to : ℕ} {o : List ℕ} → recordBytes r ≡ recordBytes s → Tells e len (r ∷ []) to o
+      → Tells e len (s ∷ []) to o
   tells-same {r} {s} q t =
       tells-one (t .count ∙ ap (λ (l : List ℕ). len + length l) (output-one r ∙ q)) (t .bytes ∙ ap (written e len) (output-one r ∙ q))
 
@@ -87,7 +88,8 @@ module _ {e : List ℕ} {len : ℕ} where
 
   -- one piece of work, and another from where it ended
   pub turns-then : (t : Turn) (f : List Verdict → Turn) {m m′ : List ℕ} {n to : ℕ} {o o′ : List ℕ} →
-      len + length (output (t .written)) ≤ length e → Turns e len t m n o → Turns o n (f (all m)) m′ to o′ → Turns e len (andThen t f) m′ to o′
+      len + length (output (t .written)) ≤ length e → Turns e len t m n o → Turns o n (f (all m)) m′ to o′
+      → Turns e len (andThen t f) m′ to o′
   unfolding andThen
   turns-then t f {m} {m′} {n} {to} {o} {o′} h a b =
       let c = subst (λ (l : List Verdict). Turns o n (f l) m′ to o′) (a .holds) b in
@@ -135,7 +137,8 @@ four-bytes n =
     λ i. f3 i ∷ f2 i ∷ f1 i ∷ f0 i ∷ []
 
 -- the record of an end with flag 1
-pub complete-bytes : (c r x flag n : ℕ) → recordBytes (SpliceComplete c r x flag (n % 429496729600 / 100)) ≡ recordBytes (SpliceComplete c r x flag (n / 100))
+pub complete-bytes : (c r x flag n : ℕ) → recordBytes (SpliceComplete c r x flag (n % 429496729600 / 100))
+    ≡ recordBytes (SpliceComplete c r x flag (n / 100))
 unfolding recordBytes
 complete-bytes c r x flag n = ap (λ (l : List ℕ). framed c 0x0009 r (bytes 4 x ++ (bytes 1 flag ++ (bytes 4 0 ++ l)))) (four-bytes n)
 
@@ -150,30 +153,40 @@ length-response r s = ap length (output-one (ended (Response r) s)) ∙ length-r
 -- ## Room
 
 -- what one piece of work and another after it write
-pub length-then : (t : Turn) (f : List Verdict → Turn) → length (output (andThen t f .written)) ≡ length (output (t .written)) + length (output (f (t .verdicts) .written))
+pub length-then : (t : Turn) (f : List Verdict → Turn) → length (output (andThen t f .written)) ≡ length (output (t .written))
+    + length (output (f (t .verdicts) .written))
 unfolding andThen
-length-then t f = ap length (output-append (t .written) (f (t .verdicts) .written)) ∙ length-append (output (t .written)) (output (f (t .verdicts) .written))
+length-then t f = ap length (output-append (t .written) (f (t .verdicts) .written))
+    ∙ length-append (output (t .written)) (output (f (t .verdicts) .written))
 
 -- ## One end, and those that follow
 
 -- call i ends: its row says so, and its end is written
-pub one-over : (how : Ending) (i : ℕ) (m k : List ℕ) (x : Session) (f : Phase) {e o : List ℕ} {len to : ℕ} → x ≡ sessionOf (all m) i → f ≡ asEnded how x (all m)
-    → length k ≡ length m → (n : ℕ) → n ≡ length m / width → verdictsIn n k ≡ set (verdictsIn n m) i (record { phase = f; session = x }) → Tells e len (ended how x ∷ []) to o
+pub one-over : (how : Ending) (i : ℕ) (m k : List ℕ) (x : Session) (f : Phase) {e o : List ℕ} {len to : ℕ} → x ≡ sessionOf (all m) i
+    → f ≡ asEnded how x (all m)
+    → length k ≡ length m → (n : ℕ) → n ≡ length m / width → verdictsIn n k ≡ set (verdictsIn n m) i (record { phase = f; session = x })
+    → Tells e len (ended how x ∷ []) to o
     → Turns e len (oneOver how i (all m)) k to o
 one-over how i m k x f {e} {o} {len} {to} a b long n y s t =
     record {
-      holds = ap (λ (j : ℕ). verdictsIn (j / width) k) long ∙ ap (λ (j : ℕ). verdictsIn j k) (sym y) ∙ s ∙ ap (λ (j : ℕ). set (verdictsIn j m) i (record { phase = f; session = x })) y ∙ ap₂ (λ (g : Phase) (y : Session). set (all m) i (record { phase = g; session = y })) (b ∙ ap (λ (y : Session). asEnded how y (all m)) a) a;
+      holds = ap (λ (j : ℕ). verdictsIn (j / width) k) long ∙ ap (λ (j : ℕ). verdictsIn j k) (sym y) ∙ s
+          ∙ ap (λ (j : ℕ). set (verdictsIn j m) i (record { phase = f; session = x })) y
+          ∙ ap₂ (λ (g : Phase) (y : Session). set (all m) i (record { phase = g; session = y }))
+          (b ∙ ap (λ (y : Session). asEnded how y (all m)) a) a;
       tells = subst (λ (y : Session). Tells e len (ended how y ∷ []) to o) a t;
     }
 
 -- the session of row i of n
-pub loaded : (n i : ℕ) (m : List ℕ) (v : Verdict) → n ≡ length m / width → v ≡ getD (verdictsIn n m) i none → v .session ≡ sessionOf (all m) i
+pub loaded : (n i : ℕ) (m : List ℕ) (v : Verdict) → n ≡ length m / width → v ≡ getD (verdictsIn n m) i none
+    → v .session ≡ sessionOf (all m) i
 loaded n i m v e f = ap (λ (w : Verdict). w .session) (f ∙ ap (λ (j : ℕ). getD (verdictsIn j m) i none) e)
 
 -- the phase that is stored
-pub ended-phase : (how : Ending) (x : Session) (m : List ℕ) (nth r : ℕ) → (n : ℕ) → n ≡ length m / width → nth ≡ count (λ s. true) (standing hasEnded (verdictsIn n m)) → r ≡ resultOf (ended how x) → Ended nth r ≡ asEnded how x (all m)
+pub ended-phase : (how : Ending) (x : Session) (m : List ℕ) (nth r : ℕ) → (n : ℕ) → n ≡ length m / width
+    → nth ≡ count (λ s. true) (standing hasEnded (verdictsIn n m)) → r ≡ resultOf (ended how x) → Ended nth r ≡ asEnded how x (all m)
 ended-phase how x m nth r n e a b =
-    ap₂ (λ (j h : ℕ). Ended j h) (a ∙ ap (λ (j : ℕ). count (λ s. true) (standing hasEnded (verdictsIn j m))) e ∙ count-all hasEnded (all m)) b
+    ap₂ (λ (j h : ℕ). Ended j h) (a ∙ ap (λ (j : ℕ). count (λ s. true) (standing hasEnded (verdictsIn j m))) e ∙ count-all hasEnded (all m))
+    b
 
 -- as many verdicts as rows
 pub length-all : (m : List ℕ) → length (all m) ≡ length m / width
@@ -187,11 +200,18 @@ module _ (r c x i : ℕ) (m : List ℕ) (f : i ≡ which isWaiting (follows c x)
   pub more-is : i < length (all m) → dismissed r c x (all m) ≡ andThen (one (all m)) (dismissed r c (sessionOf (all m) i .id))
   more-is h =
       let g : which isWaiting (follows c x) (all m) < length (all m) = omega (arith, h, f) in
-      dismissed-more r c x (all m) g ∙ ap (λ (j : ℕ). andThen (oneOver (Response r) j (all m)) (dismissed r c (sessionOf (all m) j .id))) (sym f)
+      dismissed-more r c x (all m) g ∙ ap (λ (j : ℕ). andThen (oneOver (Response r) j (all m)) (dismissed r c (sessionOf (all m) j .id)))
+      (sym f)
 
   module _ (e : List ℕ) (len : ℕ) (room : Room (dismissed r c x) len m e) (h : i < length (all m)) where
-    both-room : len + (length (output (one (all m) .written)) + length (output (dismissed r c (sessionOf (all m) i .id) (one (all m) .verdicts) .written))) ≤ length e
-    both-room = omega (arith, room, ap (λ (t : Turn). length (output (t .written))) (more-is h), length-then (one (all m)) (dismissed r c (sessionOf (all m) i .id)))
+    both-room : len + (length (output (one (all m) .written))
+        + length (output (dismissed r c (sessionOf (all m) i .id) (one (all m) .verdicts) .written))) ≤ length e
+    both-room = omega (
+      arith,
+      room,
+      ap (λ (t : Turn). length (output (t .written))) (more-is h),
+      length-then (one (all m)) (dismissed r c (sessionOf (all m) i .id)),
+    )
 
     pub one-room : Room one len m e
     one-room = omega (arith, both-room)
@@ -200,41 +220,47 @@ module _ (r c x i : ℕ) (m : List ℕ) (f : i ≡ which isWaiting (follows c x)
       pub rest-room : length o ≡ length e → Room (dismissed r c next) to k o
       rest-room z =
           subst (λ (v : List Verdict). to + length (output (dismissed r c next v .written)) ≤ length o) (sym (d .holds))
-          (subst (λ (j : ℕ). to + length (output (dismissed r c j (one (all m) .verdicts) .written)) ≤ length o) (sym y) (omega (arith, both-room, z, d .tells .count)))
+          (subst (λ (j : ℕ). to + length (output (dismissed r c j (one (all m) .verdicts) .written)) ≤ length o) (sym y)
+          (omega (arith, both-room, z, d .tells .count)))
 
       -- fewer wait
       pub rest-less : waitingIn (all k) < waitingIn (all m)
       rest-less =
           let g : which isWaiting (follows c x) (all m) < length (all m) = omega (arith, h, f) in
-          let l : suc (waitingIn (over (Response r) i (all m))) ≡ waitingIn (all m) = ap (λ (j : ℕ). suc (waitingIn (over (Response r) j (all m)))) f ∙ one-less (follows c x) (all m) g (Response r) in
+          let l : suc (waitingIn (over (Response r) i (all m))) ≡ waitingIn (all m) =
+          ap (λ (j : ℕ). suc (waitingIn (over (Response r) j (all m)))) f ∙ one-less (follows c x) (all m) g (Response r) in
           omega (arith, l, ap waitingIn (d .holds))
 
       pub rest-done : {k′ o′ : List ℕ} {to′ : ℕ} → Does (dismissed r c next) to k o to′ k′ o′ → Does (dismissed r c x) len m e to′ k′ o′
       rest-done {k′} {o′} {to′} v =
           subst (λ (t : Turn). Turns e len t k′ to′ o′) (sym (more-is h))
-          (turns-then (one (all m)) (dismissed r c (sessionOf (all m) i .id)) (one-room) d (subst (λ (j : ℕ). Turns o to (dismissed r c j (all k)) k′ to′ o′) y v))
+          (turns-then (one (all m)) (dismissed r c (sessionOf (all m) i .id)) (one-room) d
+          (subst (λ (j : ℕ). Turns o to (dismissed r c j (all k)) k′ to′ o′) y v))
 
   pub none-done : {e : List ℕ} {len : ℕ} → length (all m) ≤ i → Does (dismissed r c x) len m e len m e
   none-done {e} {len} h = subst (λ (t : Turn). Turns e len t m len e) (sym (dismissed-none r c x (all m) (omega (arith, h, f)))) turns-quiet
 
 -- ## One piece of work after another, as it is called
 
-module _ (whole f g : List Verdict → Turn) (m e : List ℕ) (len : ℕ) (is : whole (all m) ≡ andThen (f (all m)) g) (room : Room whole len m e) where
-  two : len + (length (output (f (all m) .written)) + length (output (g (f (all m) .verdicts) .written))) ≤ length e
-  two = omega (arith, room, ap (λ (t : Turn). length (output (t .written))) is, length-then (f (all m)) g)
+module _ (whole f g : List Verdict → Turn) (m e : List ℕ) (len : ℕ) (is : whole (all m) ≡ andThen (f (all m)) g) (room : Room whole len m e)
+  where
+    two : len + (length (output (f (all m) .written)) + length (output (g (f (all m) .verdicts) .written))) ≤ length e
+    two = omega (arith, room, ap (λ (t : Turn). length (output (t .written))) is, length-then (f (all m)) g)
 
-  pub first-room : Room f len m e
-  first-room = omega (arith, two)
+    pub first-room : Room f len m e
+    first-room = omega (arith, two)
 
-  module _ {k o : List ℕ} {to : ℕ} (d : Does f len m e to k o) where
-    pub second-room : length o ≡ length e → Room g to k o
-    second-room z = subst (λ (v : List Verdict). to + length (output (g v .written)) ≤ length o) (sym (d .holds)) (omega (arith, two, z, d .tells .count))
+    module _ {k o : List ℕ} {to : ℕ} (d : Does f len m e to k o) where
+      pub second-room : length o ≡ length e → Room g to k o
+      second-room z = subst (λ (v : List Verdict). to + length (output (g v .written)) ≤ length o) (sym (d .holds))
+          (omega (arith, two, z, d .tells .count))
 
-    pub both-done : {k′ o′ : List ℕ} {to′ : ℕ} → Does g to k o to′ k′ o′ → Does whole len m e to′ k′ o′
-    both-done {k′} {o′} {to′} v = subst (λ (t : Turn). Turns e len t k′ to′ o′) (sym is) (turns-then (f (all m)) g first-room d v)
+      pub both-done : {k′ o′ : List ℕ} {to′ : ℕ} → Does g to k o to′ k′ o′ → Does whole len m e to′ k′ o′
+      both-done {k′} {o′} {to′} v = subst (λ (t : Turn). Turns e len t k′ to′ o′) (sym is) (turns-then (f (all m)) g first-room d v)
 
 -- how the pieces are made up
-pub cancelled-is : (p : Session → Bool) (l : List Verdict) → cancelled p l ≡ andThen (startedEnd (Complete 116) (Response 116) p l) (waitingEnd (Response 116) p)
+pub cancelled-is : (p : Session → Bool) (l : List Verdict) → cancelled p l
+    ≡ andThen (startedEnd (Complete 116) (Response 116) p l) (waitingEnd (Response 116) p)
 unfolding cancelled andThen startedEnd waitingEnd
 cancelled-is p l = refl
 
@@ -243,7 +269,8 @@ unfolding aborted
 aborted-is c x l = refl
 
 -- c and x are the connection and the number of call i
-pub chain-is : (how : Ending) (r i c x : ℕ) (l : List Verdict) → c ≡ sessionOf l i .conn → x ≡ sessionOf l i .id → chainOver how r i l ≡ andThen (oneOver how i l) (dismissed r c x)
+pub chain-is : (how : Ending) (r i c x : ℕ) (l : List Verdict) → c ≡ sessionOf l i .conn → x ≡ sessionOf l i .id
+    → chainOver how r i l ≡ andThen (oneOver how i l) (dismissed r c x)
 chain-is how r i c x l e f = ap₂ (λ (d y : ℕ). andThen (oneOver how i l) (dismissed r d y)) (sym e) (sym f)
 
 module _ (t i : ℕ) (l : List Verdict) (f : i ≡ which isWaiting (startsAt t) l) where

@@ -16,10 +16,12 @@ use Rattle.recall_rows.specs.Rows.{width, verdictsIn, Fits}
 use Rattle.recall_rules.specs.Work.{Turn, andThen, higher, earlier, waitingOnes}
 use Rattle.recall_ends.specs.Does.{all, Turns, Does, Room, oneOver, Top, byAccess, startedEnd, waitingEnd}
 use Rattle.recall_ends.proofs.Laws.{length-all}
-use Rattle.recall_ends.proofs.Stages.{many, one-fewer, next, stage, stage-none, stage-more, started-shut, waiting-shut, started-stage}
+use Rattle.recall_ends.proofs.Stages.{many, one-fewer, next, stage, stage-none, stage-more, started-shut, waiting-shut}
+use Rattle.recall_ends.proofs.Stages.{started-stage}
 use Rattle.recall_ends.proofs.Going.{Going, going-none, going-one, going-on, going-end}
 
-module _ (h : Phase → Bool) (shut : (n r : ℕ) → h (Ended n r) ≡ false) (before : Session → Session → Bool) (p : Session → Bool) (how : Session → Ending) where
+module _ (h : Phase → Bool) (shut : (n r : ℕ) → h (Ended n r) ≡ false) (before : Session → Session → Bool) (p : Session → Bool)
+    (how : Session → Ending) where
   abbrev work : List Verdict → Turn
   work = stage h shut before p how
 
@@ -64,10 +66,12 @@ module _ (h : Phase → Bool) (shut : (n r : ℕ) → h (Ended n r) ≡ false) (
             pub loop-fewer : many h shut (all k′) < many h shut (all k)
             loop-fewer =
                 let z : suc (many h shut (over r i (all k))) ≡ many h shut (all k) =
-                ap (λ (j : ℕ). suc (many h shut (over r j (all k)))) (l .at) ∙ one-fewer h shut (first h before p (all k)) (all k) below r in
+                ap (λ (j : ℕ). suc (many h shut (over r j (all k)))) (l .at)
+                ∙ one-fewer h shut (first h before p (all k)) (all k) below r in
                 omega (arith, z, ap (many h shut) (d .holds))
 
-            pub loop-next : {i′ : ℕ} → Room work len m e → length k′ ≡ length k → length o′ ≡ length o → i′ ≡ leads (verdictsIn n k′) → Loop k′ o′ to′ i′
+            pub loop-next : {i′ : ℕ} → Room work len m e → length k′ ≡ length k → length o′ ≡ length o → i′ ≡ leads (verdictsIn n k′)
+                → Loop k′ o′ to′ i′
             loop-next room a b f =
                 record {
                   going = going-on work m e len room (l .going) (oneOver r i) step d a b;
@@ -77,7 +81,8 @@ module _ (h : Phase → Bool) (shut : (n r : ℕ) → h (Ended n r) ≡ false) (
 
       pub loop-out : Room work len m e → n ≤ i → Does work len m e to k o
       loop-out room last =
-          going-end work m e len (l .going) (stage-none h shut before p how (all k) (omega (arith, last, rows-same, length-all k, l .at))) room
+          going-end work m e len (l .going) (stage-none h shut before p how (all k) (omega (arith, last, rows-same, length-all k, l .at)))
+          room
 
 -- ## The same work, as it is called
 
@@ -96,12 +101,16 @@ module _ (how : Ending) (p : Session → Bool) (m e : List ℕ) (len : ℕ) wher
   pub waiting-room : Room (waitingEnd how p) len m e → Room (stage isWaiting waiting-shut earlier p (λ s. how)) len m e
   waiting-room r = room-same m e len (waitingEnd how p) (stage isWaiting waiting-shut earlier p (λ s. how)) waiting-is r
 
-  pub waiting-does : {to : ℕ} {k o : List ℕ} → Does (stage isWaiting waiting-shut earlier p (λ s. how)) len m e to k o → Does (waitingEnd how p) len m e to k o
+  pub waiting-does : {to : ℕ} {k o : List ℕ} → Does (stage isWaiting waiting-shut earlier p (λ s. how)) len m e to k o
+      → Does (waitingEnd how p) len m e to k o
   waiting-does d = does-same m e len (waitingEnd how p) (stage isWaiting waiting-shut earlier p (λ s. how)) waiting-is d
 
 module _ (air cover : Ending) (p : Session → Bool) (m e : List ℕ) (len top : ℕ) (t : Top (all m) top) where
   pub started-room : Room (startedEnd air cover p) len m e → Room (stage hasStarted started-shut higher p (byAccess top air cover)) len m e
-  started-room r = room-same m e len (startedEnd air cover p) (stage hasStarted started-shut higher p (byAccess top air cover)) (started-stage air cover p (all m) top t) r
+  started-room r = room-same m e len (startedEnd air cover p) (stage hasStarted started-shut higher p (byAccess top air cover))
+      (started-stage air cover p (all m) top t) r
 
-  pub started-does : {to : ℕ} {k o : List ℕ} → Does (stage hasStarted started-shut higher p (byAccess top air cover)) len m e to k o → Does (startedEnd air cover p) len m e to k o
-  started-does d = does-same m e len (startedEnd air cover p) (stage hasStarted started-shut higher p (byAccess top air cover)) (started-stage air cover p (all m) top t) d
+  pub started-does : {to : ℕ} {k o : List ℕ} → Does (stage hasStarted started-shut higher p (byAccess top air cover)) len m e to k o
+      → Does (startedEnd air cover p) len m e to k o
+  started-does d = does-same m e len (startedEnd air cover p) (stage hasStarted started-shut higher p (byAccess top air cover))
+      (started-stage air cover p (all m) top t) d

@@ -18,7 +18,8 @@ use Rattle.recall_rules.specs.declared.Phase.{Phase}
 use Rattle.recall_rules.specs.declared.Phase.the-variants.{Ended}
 use Rattle.recall_rules.specs.declared.Verdict.{Verdict}
 use Rattle.recall_rules.specs.Verdicts.{isWaiting, hasStarted, none, verdict, standing, stands, which, sessionOf, asEnded, over, first}
-use Rattle.recall_rules.specs.Work.{Walk, Turn, quiet, writes, andThen, leaving, higher, earlier, startedOnes, waitingOnes, airs, onAir, asWas, endings}
+use Rattle.recall_rules.specs.Work.{Walk, Turn, quiet, writes, andThen, leaving, higher, earlier, startedOnes, waitingOnes, airs, onAir}
+use Rattle.recall_rules.specs.Work.{asWas, endings}
 use Rattle.recall_rows.specs.declared.Test.the-variants.{Any}
 use Rattle.recall_rows.specs.declared.Order.the-variants.{Highest}
 use Rattle.recall_rows.specs.Rows.{width, verdictsIn}
@@ -32,7 +33,8 @@ use Rattle.recall_ends.proofs.Laws.{loaded, length-all}
 pub then-then : (t : Turn) (f g : List Verdict → Turn) → andThen (andThen t f) g ≡ andThen t (λ l. andThen (f l) g)
 unfolding andThen
 then-then t f g =
-    ap (λ r. record { verdicts = g (f (t .verdicts) .verdicts) .verdicts; written = r }) (append-assoc (t .written) (f (t .verdicts) .written) (g (f (t .verdicts) .verdicts) .written))
+    ap (λ r. record { verdicts = g (f (t .verdicts) .verdicts) .verdicts; written = r })
+    (append-assoc (t .written) (f (t .verdicts) .written) (g (f (t .verdicts) .verdicts) .written))
 
 module _ (h : Phase → Bool) (shut : (n r : ℕ) → h (Ended n r) ≡ false) where
   -- how many stand so
@@ -80,7 +82,8 @@ module _ (h : Phase → Bool) (shut : (n r : ℕ) → h (Ended n r) ≡ false) w
         none-found false e = rw e
     leaving-enough (suc m) (suc n) l f g =
         go (ltb (next l) (length l)) refl
-        (λ k. let z = one-fewer (first h before p l) l k (how (sessionOf l (next l))) in leaving-enough m n (over (how (sessionOf l (next l))) (next l) l) (omega arith) (omega arith))
+        (λ k. let z = one-fewer (first h before p l) l k (how (sessionOf l (next l))) in
+        leaving-enough m n (over (how (sessionOf l (next l))) (next l) l) (omega arith) (omega arith))
       where
         m′ : List Verdict
         m′ = over (how (sessionOf l (next l))) (next l) l
@@ -152,7 +155,9 @@ airs-top l s k = go (leb top (s .access)) refl
         above false f = refl
         above true f =
             absurd (clash (some (λ u. higher u (sessionOf l i)) (standing hasStarted l))
-            (some-into (λ u. higher u s) (λ u. higher u (sessionOf l i)) (λ u g. lt-ltb top (u .access) (omega (arith, ltb-true (s .access) (u .access) g, leb-true top (s .access) e))) (standing hasStarted l) f)
+            (some-into (λ u. higher u s) (λ u. higher u (sessionOf l i))
+            (λ u g. lt-ltb top (u .access) (omega (arith, ltb-true (s .access) (u .access) g, leb-true top (s .access) e)))
+            (standing hasStarted l) f)
             (not-not (some (λ u. higher u (sessionOf l i)) (standing hasStarted l)) (is .1)))
     go false e = below (some (λ u. higher u s) (standing hasStarted l)) refl
       where
@@ -162,7 +167,8 @@ airs-top l s k = go (leb top (s .access)) refl
             absurd (omega (
               arith,
               some-none (λ u. higher u s) (standing hasStarted l) f,
-              counted-at hasStarted (λ u. higher u s) l i k (both-and (hasStarted (getD l i none .phase)) (higher (sessionOf l i) s) (is .0) (lt-ltb (s .access) top (leb-false top (s .access) e))),
+              counted-at hasStarted (λ u. higher u s) l i k (both-and (hasStarted (getD l i none .phase)) (higher (sessionOf l i) s) (is .0)
+                  (lt-ltb (s .access) top (leb-false top (s .access) e))),
             ))
 
 -- the best of the first i is found
@@ -183,40 +189,51 @@ led l (suc i) h = go (led l i (omega arith))
         step : (b : Bool) → isBetter Highest Any l i (r .best) ≡ b → Led l (suc i)
         step true e =
             let t = better-true Highest Any l i (r .best) e in
-            record { best = i; is = subst (λ (j : ℕ). Leading hasStarted higher (strict Highest) (λ s. true) l j i) next-is (leading-next hasStarted higher (strict Highest) (λ s. true) l i (r .best) h (t .0) (t .1) (r .is)) }
+            record {
+              best = i;
+              is = subst (λ (j : ℕ). Leading hasStarted higher (strict Highest) (λ s. true) l j i) next-is
+                  (leading-next hasStarted higher (strict Highest) (λ s. true) l i (r .best) h (t .0) (t .1) (r .is));
+            }
         step false e =
             record {
               best = r .best;
               is = subst (λ (j : ℕ). Leading hasStarted higher (strict Highest) (λ s. true) l j (r .best)) next-is
-                  (leading-stays hasStarted higher (strict Highest) (λ s. true) l i (r .best) h (better-false Highest Any l i (r .best) e) (r .is));
+                  (leading-stays hasStarted higher (strict Highest) (λ s. true) l i (r .best) h (better-false Highest Any l i (r .best) e)
+                  (r .is));
             }
 
 none-started : (l : List Verdict) → length l ≤ onAir l → (j : ℕ) → j < length l → stands hasStarted (λ s. true) (getD l j none) ≡ false
-none-started l k j y = let r = led l (length l) (omega arith) in go (r .best) (r .is) (leading-out hasStarted higher (strict Highest) (λ s. true) l (r .best) (r .is))
+none-started l k j y = let r = led l (length l) (omega arith) in go (r .best) (r .is)
+    (leading-out hasStarted higher (strict Highest) (λ s. true) l (r .best) (r .is))
   where
-    go : (b : ℕ) → Leading hasStarted higher (strict Highest) (λ s. true) l (length l) b → b ≡ onAir l → stands hasStarted (λ s. true) (getD l j none) ≡ false
+    go : (b : ℕ) → Leading hasStarted higher (strict Highest) (λ s. true) l (length l) b → b ≡ onAir l
+        → stands hasStarted (λ s. true) (getD l j none) ≡ false
     go b (inl n) e = n .1 j y
     go b (inr m) e = absurd (omega (arith, m .among, e, k))
 
 -- the started ones leave, each by what it was: by the AccessType of the one on air
-pub started-stage : (air cover : Ending) (p : Session → Bool) (l : List Verdict) (top : ℕ) → Top l top → startedEnd air cover p l ≡ stage hasStarted started-shut higher p (byAccess top air cover) l
+pub started-stage : (air cover : Ending) (p : Session → Bool) (l : List Verdict) (top : ℕ) → Top l top
+    → startedEnd air cover p l ≡ stage hasStarted started-shut higher p (byAccess top air cover) l
 unfolding startedEnd startedOnes
 started-stage air cover p l top h = go (ltb (onAir l) (length l)) refl
   where
-    go : (b : Bool) → ltb (onAir l) (length l) ≡ b → stage hasStarted started-shut higher p (asWas air cover l) l ≡ stage hasStarted started-shut higher p (byAccess top air cover) l
+    go : (b : Bool) → ltb (onAir l) (length l) ≡ b → stage hasStarted started-shut higher p (asWas air cover l) l
+        ≡ stage hasStarted started-shut higher p (byAccess top air cover) l
     go true e =
         let k = ltb-true (onAir l) (length l) e in
         ap (λ (how : Session → Ending). stage hasStarted started-shut higher p how l)
         (fun-ext (λ s. ap (λ b. cond b air cover) (airs-top l s k ∙ ap (λ (n : ℕ). leb n (s .access)) (sym (h k)))))
     go false e =
         let k : length l ≤ onAir l = ltb-false (onAir l) (length l) e in
-        stage-none hasStarted started-shut higher p (asWas air cover l) l (nobody k) ∙ sym (stage-none hasStarted started-shut higher p (byAccess top air cover) l (nobody k))
+        stage-none hasStarted started-shut higher p (asWas air cover l) l (nobody k)
+        ∙ sym (stage-none hasStarted started-shut higher p (byAccess top air cover) l (nobody k))
       where
         -- with none on air, none has started
         nobody : length l ≤ onAir l → length l ≤ next hasStarted started-shut higher p (asWas air cover l) l
         nobody k = go-none (ltb (next hasStarted started-shut higher p (asWas air cover l) l) (length l)) refl
           where
-            go-none : (b : Bool) → ltb (next hasStarted started-shut higher p (asWas air cover l) l) (length l) ≡ b → length l ≤ next hasStarted started-shut higher p (asWas air cover l) l
+            go-none : (b : Bool) → ltb (next hasStarted started-shut higher p (asWas air cover l) l) (length l) ≡ b
+                → length l ≤ next hasStarted started-shut higher p (asWas air cover l) l
             go-none false f = ltb-false _ _ f
             go-none true f =
                 let i = next hasStarted started-shut higher p (asWas air cover l) l in
@@ -229,7 +246,8 @@ module _ (n i : ℕ) (m : List ℕ) where
   at-air : n ≡ length m / width → i ≡ firstIn Highest Any (verdictsIn n m) → i ≡ onAir (all m)
   at-air e f = f ∙ ap (λ (j : ℕ). onAir (verdictsIn j m)) e
 
-  pub top-found : (v : Verdict) → n ≡ length m / width → i ≡ firstIn Highest Any (verdictsIn n m) → v ≡ getD (verdictsIn n m) i none → Top (all m) (v .session .access)
+  pub top-found : (v : Verdict) → n ≡ length m / width → i ≡ firstIn Highest Any (verdictsIn n m) → v ≡ getD (verdictsIn n m) i none
+      → Top (all m) (v .session .access)
   top-found v e f g k = ap (λ (s : Session). s .access) (loaded n i m v e g) ∙ ap (λ (j : ℕ). sessionOf (all m) j .access) (at-air e f)
 
   pub top-none : {r : ℕ} → n ≡ length m / width → i ≡ firstIn Highest Any (verdictsIn n m) → n ≤ i → Top (all m) r

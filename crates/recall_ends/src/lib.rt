@@ -20,7 +20,8 @@ ghost use Rattle.recall_rules.specs.Verdicts.{sessionOf};
 ghost use Rattle.recall_rows.specs.Rows.{width};
 ghost use Rattle.recall_rules.specs.Work.{dismissed, evicted, cancelled, aborted, closedBy, endAt};
 ghost use Rattle.recall_rows.specs.Scans.{sessionTest};
-ghost use Rattle.recall_ends.specs.Does.{Completing, Tells, Room, Does, all, oneOver, chainOver, Top, byAccess, startedEnd, waitingEnd};
+ghost use Rattle.recall_ends.specs.Does.{Completing, Tells, Room, Does, all, oneOver, chainOver, Top, byAccess, startedEnd};
+ghost use Rattle.recall_ends.specs.Does.{waitingEnd};
 
 // How many rows the words have.
 pub fn rows_in(m: &[u64]) -> usize

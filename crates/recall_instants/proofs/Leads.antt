@@ -55,16 +55,19 @@ module _ (h : Phase → Bool) (before : Session → Session → Bool) (o : Stric
         where
           among : (c : Bool) → ltb (y .call) (length l) ≡ c → (d : Bool) → before (sessionOf l i) (sessionOf l (y .call)) ≡ d → Led (suc i)
           among c f true g = to i (leading-next h before o p l i (y .call) (omega arith) e (λ k. g) (y .leads))
-          among true f false g = to (y .call) (leading-stays h before o p l i (y .call) (omega arith) (λ z. (ltb-true (y .call) (length l) f, g)) (y .leads))
+          among true f false g = to (y .call) (leading-stays h before o p l i (y .call) (omega arith)
+              (λ z. (ltb-true (y .call) (length l) f, g)) (y .leads))
           among false f false g =
-              to i (leading-next h before o p l i (y .call) (omega arith) e (λ k. absurd (omega (arith, ltb-false (y .call) (length l) f))) (y .leads))
+              to i (leading-next h before o p l i (y .call) (omega arith) e (λ k. absurd (omega (arith, ltb-false (y .call) (length l) f)))
+              (y .leads))
 
   abbrev at : ℕ
   at = which h (first h before p l) l
 
   -- none is found: none stands so and passes
   pub none-found : length l ≤ at → some p (standing h l) ≡ false
-  none-found k = sym (some-stands h p l) ∙ failed (some (stands h p) l) (λ e. out (led (length l) (omega arith)) (ltb-true (place (stands h p) l) (length l) (sym (some-place (stands h p) l) ∙ e)))
+  none-found k = sym (some-stands h p l) ∙ failed (some (stands h p) l)
+      (λ e. out (led (length l) (omega arith)) (ltb-true (place (stands h p) l) (length l) (sym (some-place (stands h p) l) ∙ e)))
     where
       out : Led (length l) → place (stands h p) l < length l → ⊥
       out y m = ends (y .leads)
@@ -78,7 +81,8 @@ module _ (h : Phase → Bool) (before : Session → Session → Bool) (o : Stric
 
   module _ (k : at < length l) where
     leader : (h (getD l at none .phase) ≡ true) × (first h before p l (sessionOf l at) ≡ true)
-    leader = and-both (h (getD l at none .phase)) (first h before p l (sessionOf l at)) (place-holds (stands h (first h before p l)) l none k)
+    leader = and-both (h (getD l at none .phase)) (first h before p l (sessionOf l at))
+        (place-holds (stands h (first h before p l)) l none k)
 
     -- it is counted
     pub is-there : (r : Session → Bool) → r (sessionOf l at) ≡ true → 0 < count r (standing h l)
@@ -117,13 +121,15 @@ module _ (f : Session → Ninths) where
       go Never g i = g
       go (At u) g i = by (From n) (leb (f s .0) (u .0)) _ _ (λ e. g) (λ e. i)
 
-  pub earliest-is : (t : Ninths) (k : List Session) → some (λ u. ltb (f u .0) (t .0)) k ≡ false → 0 < count (λ u. eqb (f u .0) (t .0)) k → earliest f k ≡ At t
+  pub earliest-is : (t : Ninths) (k : List Session) → some (λ u. ltb (f u .0) (t .0)) k ≡ false → 0 < count (λ u. eqb (f u .0) (t .0)) k
+      → earliest f k ≡ At t
   earliest-is t [] e c = absurd (omega arith)
   earliest-is t (s ∷ k) e c =
       let a = split (ltb (f s .0) (t .0)) (some (λ u. ltb (f u .0) (t .0)) k) e in
       go (eqb (f s .0) (t .0)) refl (ltb-false (f s .0) (t .0) (a .0)) (a .1) c (earliest-is t k (a .1))
     where
-      go : (b : Bool) → eqb (f s .0) (t .0) ≡ b → t .0 ≤ f s .0 → some (λ u. ltb (f u .0) (t .0)) k ≡ false → 0 < bit b + count (λ u. eqb (f u .0) (t .0)) k
+      go : (b : Bool) → eqb (f s .0) (t .0) ≡ b → t .0 ≤ f s .0 → some (λ u. ltb (f u .0) (t .0)) k ≡ false
+          → 0 < bit b + count (λ u. eqb (f u .0) (t .0)) k
           → (0 < count (λ u. eqb (f u .0) (t .0)) k → earliest f k ≡ At t) → sooner (At (f s)) (earliest f k) ≡ At t
       go true g m r c ih =
           let same : f s ≡ t = ap (λ (n : ℕ). record { 0 = n }) (eqb-true (f s .0) (t .0) g) in
@@ -143,23 +149,29 @@ module _ (l : List Verdict) (i : ℕ) (v : Verdict) (k : i < length l) (e : v �
       let j = firstIn Ending Any l in
       let m : j < length l = omega (arith, f) in
       ap (λ (w : Verdict). At (w .session .end)) (e ∙ ap (λ (n : ℕ). getD l n none) f)
-      ∙ sym (earliest-is (λ s. s .end) (sessionOf l j .end) (standing hasStarted l) (none-before hasStarted (orderTest Ending) (strict Ending) (λ s. true) l m)
-      (is-there hasStarted (orderTest Ending) (strict Ending) (λ s. true) l m (λ u. eqb (u .end .0) (sessionOf l j .end .0)) (eqb-same (sessionOf l j .end .0))))
+      ∙ sym (earliest-is (λ s. s .end) (sessionOf l j .end) (standing hasStarted l)
+      (none-before hasStarted (orderTest Ending) (strict Ending) (λ s. true) l m)
+      (is-there hasStarted (orderTest Ending) (strict Ending) (λ s. true) l m (λ u. eqb (u .end .0) (sessionOf l j .end .0))
+      (eqb-same (sessionOf l j .end .0))))
 
   pub start-found : i ≡ firstIn Earliest Any l → At (v .session .start) ≡ earliest (λ s. s .start) (standing isWaiting l)
   start-found f =
       let j = firstIn Earliest Any l in
       let m : j < length l = omega (arith, f) in
       ap (λ (w : Verdict). At (w .session .start)) (e ∙ ap (λ (n : ℕ). getD l n none) f)
-      ∙ sym (earliest-is (λ s. s .start) (sessionOf l j .start) (standing isWaiting l) (none-before isWaiting (orderTest Earliest) (strict Earliest) (λ s. true) l m)
-      (is-there isWaiting (orderTest Earliest) (strict Earliest) (λ s. true) l m (λ u. eqb (u .start .0) (sessionOf l j .start .0)) (eqb-same (sessionOf l j .start .0))))
+      ∙ sym (earliest-is (λ s. s .start) (sessionOf l j .start) (standing isWaiting l)
+      (none-before isWaiting (orderTest Earliest) (strict Earliest) (λ s. true) l m)
+      (is-there isWaiting (orderTest Earliest) (strict Earliest) (λ s. true) l m (λ u. eqb (u .start .0) (sessionOf l j .start .0))
+      (eqb-same (sessionOf l j .start .0))))
 
 module _ (l : List Verdict) (i : ℕ) (k : length l ≤ i) where
   pub end-none : i ≡ firstIn Ending Any l → Never ≡ earliest (λ s. s .end) (standing hasStarted l)
-  end-none f = sym (earliest-none (λ s. s .end) (standing hasStarted l) (none-found hasStarted (orderTest Ending) (strict Ending) (λ s. true) l (omega (arith, f))))
+  end-none f = sym (earliest-none (λ s. s .end) (standing hasStarted l)
+      (none-found hasStarted (orderTest Ending) (strict Ending) (λ s. true) l (omega (arith, f))))
 
   pub start-none : i ≡ firstIn Earliest Any l → Never ≡ earliest (λ s. s .start) (standing isWaiting l)
-  start-none f = sym (earliest-none (λ s. s .start) (standing isWaiting l) (none-found isWaiting (orderTest Earliest) (strict Earliest) (λ s. true) l (omega (arith, f))))
+  start-none f = sym (earliest-none (λ s. s .start) (standing isWaiting l)
+      (none-found isWaiting (orderTest Earliest) (strict Earliest) (λ s. true) l (omega (arith, f))))
 
 -- ## Who may start
 
@@ -167,7 +179,8 @@ some-into : (p q : Session → Bool) → ((u : Session) → p u ≡ true → q u
 some-into p q i [] e = refl
 some-into p q i (u ∷ k) e = go (p u) refl (q u) refl (some-into p q i k) e
   where
-    go : (a : Bool) → p u ≡ a → (b : Bool) → q u ≡ b → (some q k ≡ false → some p k ≡ false) → (b || some q k) ≡ false → (a || some p k) ≡ false
+    go : (a : Bool) → p u ≡ a → (b : Bool) → q u ≡ b → (some q k ≡ false → some p k ≡ false) → (b || some q k) ≡ false
+        → (a || some p k) ≡ false
     go a f true g ih e = absurd (clash true refl e)
     go true f false g ih e = absurd (clash (q u) (i u f) g)
     go false f false g ih e = ih e
@@ -192,12 +205,14 @@ module _ (s : Session) (l : List Verdict) where
   unfolding mayStart
   may-over k =
       let there = is-there hasStarted higher (strict Highest) (λ s. true) l k in
-      rw (not-none (λ u. true) all-started (there (λ u. true) refl)) (go (eqb (s .overrides) 1) refl (leb (air .access) (s .access)) refl there)
+      rw (not-none (λ u. true) all-started (there (λ u. true) refl))
+      (go (eqb (s .overrides) 1) refl (leb (air .access) (s .access)) refl there)
     where
       air : Session
       air = sessionOf l (onAir l)
 
-      go : (a : Bool) → eqb (s .overrides) 1 ≡ a → (b : Bool) → leb (air .access) (s .access) ≡ b → ((r : Session → Bool) → r air ≡ true → 0 < count r all-started)
+      go : (a : Bool) → eqb (s .overrides) 1 ≡ a → (b : Bool) → leb (air .access) (s .access) ≡ b
+          → ((r : Session → Bool) → r air ≡ true → 0 < count r all-started)
           → (a && b) ≡ (a && not (some (λ u. not (outranks s u)) all-started))
       go false e b f t = refl
       go true e true f t =
@@ -218,6 +233,8 @@ module _ (s : Session) (l : List Verdict) where
           sym (ap not (not-none (λ u. not (outranks s u)) all-started (t (λ u. not (outranks s u)) g)))
 
   -- so says the verdict of the one on air
-  pub may-by : (i : ℕ) (v : Verdict) → i ≡ onAir l → i < length l → v ≡ getD l i none → (eqb (s .overrides) 1 && leb (v .session .access) (s .access)) ≡ mayStart s l
+  pub may-by : (i : ℕ) (v : Verdict) → i ≡ onAir l → i < length l → v ≡ getD l i none
+      → (eqb (s .overrides) 1 && leb (v .session .access) (s .access)) ≡ mayStart s l
   may-by i v e k f =
-      ap (λ (w : Verdict). eqb (s .overrides) 1 && leb (w .session .access) (s .access)) (f ∙ ap (λ (j : ℕ). getD l j none) e) ∙ may-over (omega (arith, e))
+      ap (λ (w : Verdict). eqb (s .overrides) 1 && leb (w .session .access) (s .access)) (f ∙ ap (λ (j : ℕ). getD l j none) e)
+      ∙ may-over (omega (arith, e))

@@ -54,7 +54,8 @@ module _ (now until : ℕ) (l : List Verdict) where
   run-stop zero e = refl
   run-stop (suc n) e = rw e
 
-  pub run-more : (n : ℕ) (t : Ninths) → notAfter until (due l) ≡ At t → run (suc n) now until l ≡ andThen (instant (t .0) (elapse (t .0 - now) l)) (run n (t .0) until)
+  pub run-more : (n : ℕ) (t : Ninths) → notAfter until (due l) ≡ At t
+      → run (suc n) now until l ≡ andThen (instant (t .0) (elapse (t .0 - now) l)) (run n (t .0) until)
   unfolding run
   run-more n t e = rw e
 
@@ -75,13 +76,19 @@ module _ {at : ℕ} {l : List Verdict} (k : Keeps at l) where
       none =
           some-none late (k .queue .started)
           (none-some late (k .queue .started)
-          (all-into (Since at) (λ u. late u ≡ false) (λ u i. le-ltb at (u .played .0) (omega arith)) (k .queue .started) (k .holding .played .since)))
+          (all-into (Since at) (λ u. late u ≡ false) (λ u i. le-ltb at (u .played .0) (omega arith)) (k .queue .started)
+          (k .holding .played .since)))
 
       short : s .played .0 ≤ at
       short = go (late s) refl
         where
           go : (b : Bool) → late s ≡ b → s .played .0 ≤ at
-          go true e = absurd (omega (arith, none, k .shows .started late, is-there hasStarted higher (strict Highest) (λ u. true) l j late e))
+          go true e = absurd (omega (
+            arith,
+            none,
+            k .shows .started late,
+            is-there hasStarted higher (strict Highest) (λ u. true) l j late e,
+          ))
           go false e = ltb-false at (s .played .0) e
 
   -- the next instant is t
@@ -100,12 +107,14 @@ module _ {at : ℕ} {l : List Verdict} (k : Keeps at l) where
         let q = k .queue in
         let h = k .holding in
         let n = t .0 - at in
-        let a = instant-same (t .0) (elapse n l) (instants.elapse n q) (elapse-same n l q (k .shows) (h .falling)) (fit-elapse n q (fit h)) (proper-elapse n q (h .proper .started)) in
+        let a = instant-same (t .0) (elapse n l) (instants.elapse n q) (elapse-same n l q (k .shows) (h .falling)) (fit-elapse n q (fit h))
+        (proper-elapse n q (h .proper .started)) in
         record { queue = _; shows = a .shows; holding = holding-next at until t q same h }
 
 -- ## The loop
 
--- of the whole work w on the buffer e: it is `at`, o is written up to n, and what is left is a run of `left` instants at most on the words m
+-- of the whole work w on the buffer e: it is `at`, o is written up to n, and what is left is a run of `left` instants at most on the words
+-- m
 pub record Running (until : ℕ) (w : Turn) (e m : List ℕ) (at n : ℕ) (o : List ℕ) (left : ℕ) : Type 0 where
   pub keeps : Keeps at (all m)
   pub time : at ≤ until
@@ -128,11 +137,13 @@ running-first {until} {at} {n} {m} {e} k h room f =
 
 module _ {until : ℕ} {w : Turn} {e m : List ℕ} {at n : ℕ} {o : List ℕ} {left : ℕ} (v : Running until w e m at n o left) where
   -- nothing is left but the time
-  pub running-last : {k : List ℕ} → run left at until (all m) ≡ rests at until (all m) → all k ≡ elapse (until - at) (all m) → Turns e 0 w k n o
+  pub running-last : {k : List ℕ} → run left at until (all m) ≡ rests at until (all m) → all k ≡ elapse (until - at) (all m)
+      → Turns e 0 w k n o
   running-last {k} is f = v .rest (subst (λ (t : Turn). Turns o n t k n o) (sym is) (record { holds = f; tells = tells-none }))
 
   -- the next instant is t, and so much time has passed in m′
-  module _ (left′ : ℕ) (less : left ≡ suc left′) (t : Ninths) (d : notAfter until (due (all m)) ≡ At t) (m′ : List ℕ) (f : all m′ ≡ elapse (t .0 - at) (all m)) where
+  module _ (left′ : ℕ) (less : left ≡ suc left′) (t : Ninths) (d : notAfter until (due (all m)) ≡ At t) (m′ : List ℕ)
+      (f : all m′ ≡ elapse (t .0 - at) (all m)) where
     more : run left at until (all m) ≡ andThen (instant (t .0) (all m′)) (run left′ (t .0) until)
     more =
         ap (λ (j : ℕ). run j at until (all m)) less ∙ run-more at until (all m) left′ t d
@@ -141,10 +152,12 @@ module _ {until : ℕ} {w : Turn} {e m : List ℕ} {at n : ℕ} {o : List ℕ} {
     pub instant-room : Room (instant (t .0)) n m′ o
     instant-room = first-room (instant (t .0) (all m′)) (run left′ (t .0) until) more o n (v .room)
 
-    pub running-next : {m″ o′ : List ℕ} {to : ℕ} → Does (instant (t .0)) n m′ o to m″ o′ → length o′ ≡ length o → Running until w e m″ (t .0) to o′ left′
+    pub running-next : {m″ o′ : List ℕ} {to : ℕ} → Does (instant (t .0)) n m′ o to m″ o′ → length o′ ≡ length o
+        → Running until w e m″ (t .0) to o′ left′
     running-next {m″} {o′} {to} g z =
         record {
-          keeps = subst (Keeps (t .0)) (sym (g .holds ∙ ap (λ (l : List Verdict). instant (t .0) l .verdicts) f)) (keeps-next (v .keeps) until t d);
+          keeps = subst (Keeps (t .0)) (sym (g .holds ∙ ap (λ (l : List Verdict). instant (t .0) l .verdicts) f))
+              (keeps-next (v .keeps) until t d);
           time = next-time (v .keeps) until t d;
           room = next-room (instant (t .0) (all m′)) (run left′ (t .0) until) more o n (v .room) g z;
           rest = λ {k} {o′} {to} y. v .rest (both-done (instant (t .0) (all m′)) (run left′ (t .0) until) more o n (v .room) g y);
@@ -153,7 +166,8 @@ module _ {until : ℕ} {w : Turn} {e m : List ℕ} {at n : ℕ} {o : List ℕ} {
 -- ## Room
 
 -- a buffer that no call refuses has room for a tick
-pub tick-room : {at : ℕ} {l : List Verdict} (until : ℕ) (e : List ℕ) → Keeps at l → noRoom (length e) ≡ false → length (output (runAll at until l .written)) ≤ length e
+pub tick-room : {at : ℕ} {l : List Verdict} (until : ℕ) (e : List ℕ) → Keeps at l → noRoom (length e) ≡ false
+    → length (output (runAll at until l .written)) ≤ length e
 tick-room {at} {l} until e k h =
     let q = k .queue in
     omega (

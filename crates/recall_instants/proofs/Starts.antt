@@ -25,7 +25,8 @@ use Rattle.recall_instants.specs.Moments.{begins}
 
 -- ## One piece of work, and another from where it ended
 
-module _ {w : Turn} (t : Turn) (f : List Verdict → Turn) (is : w ≡ andThen t f) (e : List ℕ) (len : ℕ) (room : len + length (output (w .written)) ≤ length e) where
+module _ {w : Turn} (t : Turn) (f : List Verdict → Turn) (is : w ≡ andThen t f) (e : List ℕ) (len : ℕ)
+    (room : len + length (output (w .written)) ≤ length e) where
   total : len + (length (output (t .written)) + length (output (f (t .verdicts) .written))) ≤ length e
   total = omega (arith, room, ap (λ (u : Turn). length (output (u .written))) is, length-then t f)
 
@@ -34,7 +35,8 @@ module _ {w : Turn} (t : Turn) (f : List Verdict → Turn) (is : w ≡ andThen t
 
   module _ {k o : List ℕ} {to : ℕ} (d : Turns e len t k to o) where
     pub next-room : length o ≡ length e → Room f to k o
-    next-room z = subst (λ (v : List Verdict). to + length (output (f v .written)) ≤ length o) (sym (d .holds)) (omega (arith, total, z, d .tells .count))
+    next-room z = subst (λ (v : List Verdict). to + length (output (f v .written)) ≤ length o) (sym (d .holds))
+        (omega (arith, total, z, d .tells .count))
 
     pub both-done : {k′ o′ : List ℕ} {to′ : ℕ} → Turns o to (f (all k)) k′ to′ o′ → Turns e len w k′ to′ o′
     both-done {k′} {o′} {to′} g = subst (λ (u : Turn). Turns e len u k′ to′ o′) (sym is) (turns-then t f first-room d g)
@@ -74,7 +76,8 @@ module _ (x : Session) (l : List Verdict) (i : ℕ) (e : i ≡ onAir l) where
     pub ousted-other : (air .access ≡ x .access → ⊥) → ousted x l ≡ quiet l
     unfolding ousted
     ousted-other g =
-        rw (ne-eqb (sessionOf l (onAir l) .access) (x .access) (λ k. g (ap (λ (y : Session). y .access) here ∙ k))) (none (ltb (onAir l) (length l)) _ _)
+        rw (ne-eqb (sessionOf l (onAir l) .access) (x .access) (λ k. g (ap (λ (y : Session). y .access) here ∙ k)))
+        (none (ltb (onAir l) (length l)) _ _)
       where
         none : (b : Bool) (t u : Turn) → cond (b && false) t u ≡ u
         none true t u = refl

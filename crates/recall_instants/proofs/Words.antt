@@ -24,13 +24,20 @@ module _ (m : List ℕ) (n : ℕ) (rows : n ≡ length m / width) where
   read i v e = e ∙ ap (λ l. getD l i none) as-all
 
   -- the words k have v for the row i
-  pub stored : (k : List ℕ) (i : ℕ) (v : Verdict) → length k ≡ length m → verdictsIn n k ≡ set (verdictsIn n m) i v → all k ≡ set (all m) i v
+  pub stored : (k : List ℕ) (i : ℕ) (v : Verdict) → length k ≡ length m → verdictsIn n k ≡ set (verdictsIn n m) i v
+      → all k ≡ set (all m) i v
   stored k i v f e = ap (λ (j : ℕ). verdictsIn (j / width) k) f ∙ ap (λ (j : ℕ). verdictsIn j k) (sym rows) ∙ e ∙ ap (λ l. set l i v) as-all
 
 -- ## The time on air
 
-pub lasts : (d i : ℕ) (l : List Verdict) (v : Verdict) → Lasting d l → i ≡ onAir l → i < length l → v ≡ getD l i none → v .session .played .0 + d < 18446744073709551616
-lasts d i l v p e h f = omega (arith, p (omega (arith, e)), ap (λ (j : ℕ). sessionOf l j .played .0) e, ap (λ (w : Verdict). w .session .played .0) f)
+pub lasts : (d i : ℕ) (l : List Verdict) (v : Verdict) → Lasting d l → i ≡ onAir l → i < length l → v ≡ getD l i none
+    → v .session .played .0 + d < 18446744073709551616
+lasts d i l v p e h f = omega (
+  arith,
+  p (omega (arith, e)),
+  ap (λ (j : ℕ). sessionOf l j .played .0) e,
+  ap (λ (w : Verdict). w .session .played .0) f,
+)
 
 pub elapsed : (d i : ℕ) (l : List Verdict) (v : Verdict) (k : List Verdict) → i ≡ onAir l → i < length l → v ≡ getD l i none
     → k ≡ set l i (verdict Started (playing d (v .session))) → k ≡ elapse d l

@@ -55,7 +55,8 @@ message-next c l y e f =
       drop-at (messageMark ∷ c ∷ l) y (messageEnd (messageSize l)) (omega arith),
     )
 
-tick-next : (s u : ℕ) (y : List ℕ) → s < 256 ^ 4 → u < 256 ^ 4 → next (tickMark ∷ 0x00 ∷ ((bytes 4 s ++ bytes 4 u) ++ y)) ≡ calls (ticks s u cardRoom) y
+tick-next : (s u : ℕ) (y : List ℕ) → s < 256 ^ 4 → u < 256 ^ 4 → next (tickMark ∷ 0x00 ∷ ((bytes 4 s ++ bytes 4 u) ++ y))
+    ≡ calls (ticks s u cardRoom) y
 unfolding next nextTick
 tick-next s u y f g =
     let x = bytes 4 s ++ bytes 4 u in
@@ -63,7 +64,8 @@ tick-next s u y f g =
     let n : length x ≡ 8 = length-append (bytes 4 s) (bytes 4 u) ∙ omega (arith, length-bytes 4 s, length-bytes 4 u) in
     let a : take 4 (x ++ y) ≡ bytes 4 s = part-front 0 4 x y (omega arith) ∙ take-at (bytes 4 s) (bytes 4 u) 4 (length-bytes 4 s) in
     let b : take 4 (drop 4 (x ++ y)) ≡ bytes 4 u =
-    part-front 4 4 x y (omega arith) ∙ ap (take 4) (drop-at (bytes 4 s) (bytes 4 u) 4 (length-bytes 4 s)) ∙ take-all 4 (bytes 4 u) (omega (arith, length-bytes 4 u)) in
+    part-front 4 4 x y (omega arith) ∙ ap (take 4) (drop-at (bytes 4 s) (bytes 4 u) 4 (length-bytes 4 s))
+    ∙ take-all 4 (bytes 4 u) (omega (arith, length-bytes 4 u)) in
     rw (
       le-ltb (suc (suc (length (x ++ y)))) markEnd (omega arith),
       one tickMark,
@@ -111,13 +113,16 @@ module _ (k : Call) (h : Keepable k) (y : List ℕ) (none : NoCall (next y)) whe
   then l {j} {m} e =
       let f = first l e in
       let split : take (taken l) l ≡ take (f .size) l ++ take (taken m) m =
-      ap (λ n. take n l) (taken-more l e) ∙ take-add (f .size) (taken m) l ∙ ap (λ x. take (f .size) l ++ take (taken m) x) (sym (f .rest)) in
-      ap (λ x. next (x ++ (marked k ++ y))) split ∙ ap next (append-assoc (take (f .size) l) (take (taken m) m) (marked k ++ y)) ∙ f .again (with m)
+      ap (λ n. take n l) (taken-more l e) ∙ take-add (f .size) (taken m) l
+      ∙ ap (λ x. take (f .size) l ++ take (taken m) x) (sym (f .rest)) in
+      ap (λ x. next (x ++ (marked k ++ y))) split ∙ ap next (append-assoc (take (f .size) l) (take (taken m) m) (marked k ++ y))
+      ∙ f .again (with m)
 
   calls-with : (l : List ℕ) → keptCalls (with l) ≡ keptCalls l ++ (k ∷ [])
   calls-with =
       through (λ l. keptCalls (with l) ≡ keptCalls l ++ (k ∷ []))
-      (λ l f. calls-more (with l) (alone l (taken-none l f)) ∙ ap (λ x. k ∷ x) (calls-none y none) ∙ ap (λ x. x ++ (k ∷ [])) (sym (calls-none l f)))
+      (λ l f. calls-more (with l) (alone l (taken-none l f)) ∙ ap (λ x. k ∷ x) (calls-none y none)
+      ∙ ap (λ x. x ++ (k ∷ [])) (sym (calls-none l f)))
       (λ l j m e i. calls-more (with l) (then l e) ∙ ap (λ x. j ∷ x) i ∙ ap (λ x. x ++ (k ∷ [])) (sym (calls-more l e)))
 
   long-with : (l : List ℕ) → length (with l) ≡ taken l + length (marked k) + length y
@@ -155,7 +160,8 @@ left-none a n l = go (ltb (a + n) (length l)) refl
   where
     go : (b : Bool) → ltb (a + n) (length l) ≡ b → let z : List ℕ = put b 0 [] in NoCall (next (z ++ drop (a + n + length z) l))
     go true e = zero-none (drop (a + n + 1) l)
-    go false e = subst (λ x. NoCall (next x)) (sym (drop-of-length-le l {i = a + n + 0} (omega (arith, ltb-false (a + n) (length l) e)))) nothing-none
+    go false e = subst (λ x. NoCall (next x)) (sym (drop-of-length-le l {i = a + n + 0} (omega (arith, ltb-false (a + n) (length l) e))))
+        nothing-none
 
 pub appended-is : (k : Call) (l : List ℕ) → appended k l ≡ take (taken l) l ++ (marked k ++ left (taken l) (length (marked k)) l)
 unfolding appended written
@@ -184,13 +190,15 @@ module _ (k : Call) (h : Keepable k) (l : List ℕ) where
 -- it is as long as it was, if the record fits
 pub appended-length : (k : Call) (l : List ℕ) → taken l + length (marked k) ≤ length l → length (appended k l) ≡ length l
 unfolding appended
-appended-length k l h = length-written l (taken l) (marked k ++ zeroBehind (taken l + length (marked k)) l) (go (ltb (taken l + length (marked k)) (length l)) refl)
+appended-length k l h = length-written l (taken l) (marked k ++ zeroBehind (taken l + length (marked k)) l)
+    (go (ltb (taken l + length (marked k)) (length l)) refl)
   where
     go : (b : Bool) → ltb (taken l + length (marked k)) (length l) ≡ b → taken l + length (marked k ++ put b 0 []) ≤ length l
     go true e = omega (arith, length-append (marked k) (0 ∷ []), ltb-true (taken l + length (marked k)) (length l) e)
     go false e = omega (arith, ap length (append-nil (marked k)))
 
-pub appended-free : (k : Call) (l : List ℕ) → Keepable k → taken l + length (marked k) ≤ length l → free (appended k l) + length (marked k) ≡ free l
+pub appended-free : (k : Call) (l : List ℕ) → Keepable k → taken l + length (marked k) ≤ length l
+    → free (appended k l) + length (marked k) ≡ free l
 appended-free k l h f = omega (arith, appended-taken k h l, appended-length k l f)
 
 -- ## A cleared log

@@ -12,7 +12,8 @@ use borrow.Author.Tests.{ltb-false, le-ltb}
 use Rattle.rules.specs.Bytes.{value, bytes, part, field, messageSize, oversize}
 use Rattle.rules.specs.Calls.{Call, opens, closes, messages, ticks}
 use Rattle.rules.specs.Card.{openMark, closeMark, messageMark, tickMark, markIn, connIn, messageFrom, secondsIn, microsIn}
-use Rattle.rules.specs.Card.{markEnd, tickEnd, headerEnd, messageEnd, Next, calls, ends, stops, cardRoom, cardLoans, next, nextMessage, nextTick}
+use Rattle.rules.specs.Card.{markEnd, tickEnd, headerEnd, messageEnd, Next, calls, ends, stops, cardRoom, cardLoans, next, nextMessage}
+use Rattle.rules.specs.Card.{nextTick}
 use Rattle.rules.proofs.Tests.{by}
 use Rattle.rules.proofs.Bytes.{length-bytes}
 use Rattle.recall_log.specs.Kept.{marked, recordOf, callOf, spanOf}
@@ -46,7 +47,8 @@ module _ (n : ℕ) (l : List ℕ) (h : n ≤ length l) (y : List ℕ) where
 
   size-kept : headerEnd ≤ n → messageSize (messageFrom (take n l ++ y)) ≡ messageSize (messageFrom l)
   size-kept i =
-      ap (λ x. value (take 2 x)) (drop-drop 2 2 (take n l ++ y)) ∙ field-kept 4 2 (omega arith) ∙ ap (λ x. value (take 2 x)) (sym (drop-drop 2 2 l))
+      ap (λ x. value (take 2 x)) (drop-drop 2 2 (take n l ++ y)) ∙ field-kept 4 2 (omega arith)
+      ∙ ap (λ x. value (take 2 x)) (sym (drop-drop 2 2 l))
 
 -- ## What stands first
 
@@ -81,7 +83,13 @@ module _ (l : List ℕ) where
         marks = refl;
         span = refl;
         made = refl;
-        again = λ y. rw (enough 2 l h y 2 (omega arith), field-kept 2 l h y 0 1 (omega arith), field-kept 2 l h y 1 1 (omega arith), e, rest-kept 2 l h y);
+        again = λ y. rw (
+          enough 2 l h y 2 (omega arith),
+          field-kept 2 l h y 0 1 (omega arith),
+          field-kept 2 l h y 1 1 (omega arith),
+          e,
+          rest-kept 2 l h y,
+        );
       }
 
   begins-close : markEnd ≤ length l → eqb (markIn l) openMark ≡ false → eqb (markIn l) closeMark ≡ true
@@ -96,7 +104,14 @@ module _ (l : List ℕ) where
         marks = refl;
         span = refl;
         made = refl;
-        again = λ y. rw (enough 2 l h y 2 (omega arith), field-kept 2 l h y 0 1 (omega arith), field-kept 2 l h y 1 1 (omega arith), d, e, rest-kept 2 l h y);
+        again = λ y. rw (
+          enough 2 l h y 2 (omega arith),
+          field-kept 2 l h y 0 1 (omega arith),
+          field-kept 2 l h y 1 1 (omega arith),
+          d,
+          e,
+          rest-kept 2 l h y,
+        );
       }
 
   own-size : messageEnd (messageSize (messageFrom l)) ≤ length l
@@ -107,7 +122,8 @@ module _ (l : List ℕ) where
   module _ (c : eqb (markIn l) openMark ≡ false) (d : eqb (markIn l) closeMark ≡ false) where
     begins-message : eqb (markIn l) messageMark ≡ true → headerEnd ≤ length l → oversize (messageFrom l) ≡ false
         → messageEnd (messageSize (messageFrom l)) ≤ length l
-        → First l (messages (connIn l) (part 0 (8 + messageSize (messageFrom l)) (messageFrom l)) cardLoans) (drop (messageEnd (messageSize (messageFrom l))) l)
+        → First l (messages (connIn l) (part 0 (8 + messageSize (messageFrom l)) (messageFrom l)) cardLoans)
+        (drop (messageEnd (messageSize (messageFrom l))) l)
     unfolding next nextMessage marked recordOf spanOf callOf
     begins-message e g o h =
         let n = messageEnd (messageSize (messageFrom l)) in
@@ -148,7 +164,12 @@ module _ (l : List ℕ) where
           rest = refl;
           span = refl;
           made = refl;
-          marks = omega (arith, length-append (bytes 4 (secondsIn l)) (bytes 4 (microsIn l)), length-bytes 4 (secondsIn l), length-bytes 4 (microsIn l));
+          marks = omega (
+            arith,
+            length-append (bytes 4 (secondsIn l)) (bytes 4 (microsIn l)),
+            length-bytes 4 (secondsIn l),
+            length-bytes 4 (microsIn l),
+          );
           again =
               λ y.
               rw (
@@ -175,7 +196,8 @@ module _ (l : List ℕ) where
       (λ f. by P (ltb (length l) headerEnd) _ _ (λ i. tt)
       (λ i. by P (oversize (messageFrom l)) _ _ (λ o. tt)
       (λ o. by P (ltb (length l) (messageEnd (messageSize (messageFrom l)))) _ _ (λ j. tt)
-      (λ j. begins-message c d f (ltb-false (length l) headerEnd i) o (ltb-false (length l) (messageEnd (messageSize (messageFrom l))) j)))))
+      (λ j. begins-message c d f (ltb-false (length l) headerEnd i) o
+      (ltb-false (length l) (messageEnd (messageSize (messageFrom l))) j)))))
       (λ f. by P (eqb (markIn l) tickMark) _ _
       (λ g. by P (ltb (length l) tickEnd) _ _ (λ i. tt) (λ i. begins-tick c d f g (ltb-false (length l) tickEnd i)))
       (λ g. tt)))))

@@ -67,8 +67,10 @@ any-section c id d m n s =
     one Unreadable = refl
 
     go : (a b e f : Bool) (r : Message)
-        → cond a (says [] s) (cond b (says (General c 103 ∷ []) s) (cond e (says [] s) (cond f (says (General c 120 ∷ []) s) (answerRead c r d m s)))) .splicer
-        ≡ cond a (says [] s) (cond b (says (General c 103 ∷ []) s) (cond e (says [] s) (cond f (says (General c 120 ∷ []) s) (answerRead c r d n s)))) .splicer
+        → cond a (says [] s) (cond b (says (General c 103 ∷ []) s) (cond e (says [] s)
+        (cond f (says (General c 120 ∷ []) s) (answerRead c r d m s)))) .splicer
+        ≡ cond a (says [] s) (cond b (says (General c 103 ∷ []) s) (cond e (says [] s)
+        (cond f (says (General c 120 ∷ []) s) (answerRead c r d n s)))) .splicer
     go true b e f r = refl
     go false true e f r = refl
     go false false true f r = refl
@@ -86,7 +88,8 @@ unfolding framing handled
 framing-of c l loans s g = go (ltb (length l) 8) (oversize l) (ltb (length l) (8 + messageSize l)) refl refl refl g
   where
     go : (a b d : Bool) → ltb (length l) 8 ≡ a → oversize l ≡ b → ltb (length l) (8 + messageSize l) ≡ d
-        → Good (handled c (cond a (Unframed Short) (cond b (Unframed Oversize) (cond d (Unframed Short) (Framed (messageID l) (messageSize l))))) l loans s .answer)
+        → Good (handled c (cond a (Unframed Short) (cond b (Unframed Oversize)
+        (cond d (Unframed Short) (Framed (messageID l) (messageSize l))))) l loans s .answer)
         → Framing l
     go true b d e f h g = absurd g
     go false true d e f h g = absurd g
@@ -118,7 +121,8 @@ module _ (l : List ℕ) (f : Framing l) where
   front-framed = rw (long, same-size, same-id, f .fits, le-ltb size 8 (omega arith), le-ltb size size (omega arith))
 
   -- a kept message is gone through with empty sections
-  front-stands : (c : ℕ) (loans : Loans) (s : Splicer) → Stands (handled c (framing l) l loans s) (handled c (framing front) front cardLoans s)
+  front-stands : (c : ℕ) (loans : Loans) (s : Splicer) → Stands (handled c (framing l) l loans s)
+      (handled c (framing front) front cardLoans s)
   unfolding handled
   front-stands c loans s =
       rw (f .framed, front-framed, front-part 8 (messageSize l) (omega arith))
@@ -152,7 +156,8 @@ module _ (c : ℕ) (l : List ℕ) (loans : Loans) (s : Splicer) (g : Good (call 
   behind : Good (handled c (framing l) l loans s .answer)
   unfolding call messageCall
   behind =
-      under (longSection loans) _ s _ (under (notOpen c s) _ s _ (under (noRoom (loans .room)) _ s _ (under (noConnection c) _ s _ g .1) .1) .1) .1
+      under (longSection loans) _ s _ (under (notOpen c s) _ s _
+      (under (noRoom (loans .room)) _ s _ (under (noConnection c) _ s _ g .1) .1) .1) .1
 
   pub good-framing : Framing l
   good-framing = framing-of c l loans s behind

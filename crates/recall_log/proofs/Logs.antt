@@ -147,7 +147,8 @@ left-zeros a n l h e = go (ltb (a + n) (length l)) refl
     less : a + n < length l → suc (length l - a - (n + 1)) ≡ length l - a - n
     less f = omega arith
 
-    go : (b : Bool) → ltb (a + n) (length l) ≡ b → let z : List ℕ = put b 0 [] in z ++ drop (a + n + length z) l ≡ replicate (length l - a - n) 0
+    go : (b : Bool) → ltb (a + n) (length l) ≡ b → let z : List ℕ = put b 0 [] in
+        z ++ drop (a + n + length z) l ≡ replicate (length l - a - n) 0
     go true f =
         ap (λ i. 0 ∷ drop i l) on ∙ ap (λ x. 0 ∷ x) (from (n + 1)) ∙ ap (λ i. replicate i 0) (less (ltb-true (a + n) (length l) f))
     go false f = ap (λ i. drop i l) (add-zero (a + n)) ∙ from n
@@ -169,7 +170,8 @@ neat-appended k l h f n =
     let p = take a l in
     let z = left a (length (marked k)) l in
     let is : appended k l ≡ (p ++ marked k) ++ z = appended-is k l ∙ sym (append-assoc p (marked k) z) in
-    let long : length (p ++ marked k) ≡ taken (appended k l) = length-append p (marked k) ∙ omega (arith, length-take-le a l (within l .1)) in
+    let long : length (p ++ marked k) ≡ taken (appended k l) = length-append p (marked k)
+    ∙ omega (arith, length-take-le a l (within l .1)) in
     record {
       records =
           ap (take (taken (appended k l))) is ∙ take-at (p ++ marked k) z (taken (appended k l)) long
@@ -199,7 +201,11 @@ fits l a =
     (λ g. by Fits (eqb (markIn l) messageMark) _ _
     (λ h. by Fits (ltb (length l) headerEnd) _ _ (λ i. tt)
     (λ i. by Fits (oversize m) _ _ (λ j. tt)
-    (λ j. by Fits (ltb (length l) n) _ _ (λ k. tt) (λ k. (tt, (part-byte 0 (8 + messageSize m) m (all-drop Byte markEnd l a), tt, tt), all-drop Byte n l a)))))
+    (λ j. by Fits (ltb (length l) n) _ _ (λ k. tt) (λ k. (
+      tt,
+      (part-byte 0 (8 + messageSize m) m (all-drop Byte markEnd l a), tt, tt),
+      all-drop Byte n l a,
+    )))))
     (λ h. by Fits (eqb (markIn l) tickMark) _ _
     (λ i. by Fits (ltb (length l) tickEnd) _ _ (λ j. tt) (λ j. (tt, field-below 2 4 l a, all-drop Byte tickEnd l a)))
     (λ i. tt)))))

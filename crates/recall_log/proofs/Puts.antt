@@ -53,5 +53,6 @@ cleared-more e o i h w =
 pub cleared-all : (e : List ℕ) (i : ℕ) → i ≡ length e → written e 0 (replicate i 0) ≡ cleared e
 unfolding cleared written
 cleared-all e i h =
-    ap (λ x. replicate i 0 ++ x) (drop-of-length-le e {i = 0 + length (replicate {A = ℕ} i 0)} (omega (arith, length-replicate {A = ℕ} i 0)))
+    ap (λ x. replicate i 0 ++ x) (drop-of-length-le e {i = 0 + length (replicate {A = ℕ} i 0)}
+    (omega (arith, length-replicate {A = ℕ} i 0)))
     ∙ append-nil (replicate i 0) ∙ ap (λ x. replicate x 0) h

@@ -71,8 +71,16 @@ module _ (l : List ℕ) (size : ℕ) (h : headerEnd ≤ length l) (e : size ≡ 
   pub message-whole : size ≤ largestSize → messageEnd size ≤ length l → recordOf (nextMessage l) ≡ Message (getD l 1 0) size
   unfolding recordOf nextMessage
   message-whole f g =
-      let own : messageSize (take (8 + size) (messageFrom l)) ≡ size = ap value (part-take 2 2 (8 + size) (messageFrom l) (omega arith) (omega (arith, length-drop 2 l))) ∙ size-is in
-      rw (le-ltb (length l) headerEnd h, size-is, le-ltb largestSize size f, le-ltb (length l) (messageEnd size) g, field-one 1 l (omega arith), own)
+      let own : messageSize (take (8 + size) (messageFrom l)) ≡ size =
+      ap value (part-take 2 2 (8 + size) (messageFrom l) (omega arith) (omega (arith, length-drop 2 l))) ∙ size-is in
+      rw (
+        le-ltb (length l) headerEnd h,
+        size-is,
+        le-ltb largestSize size f,
+        le-ltb (length l) (messageEnd size) g,
+        field-one 1 l (omega arith),
+        own,
+      )
 
 -- ## From one to the next
 
@@ -94,7 +102,8 @@ span-some l h = go (next l) refl h
     go : (x : Next) → next l ≡ x → 0 < spanOf (recordOf x) → x ≡ calls (callOf (recordOf x) l) (drop (spanOf (recordOf x)) l)
     go (calls k m) f h =
         let g = first l f in
-        ap (λ x. calls k x) (g .rest ∙ ap (λ n. drop n l) (sym (g .span))) ∙ ap (λ x. calls x (drop (spanOf (recordOf (calls k m))) l)) (sym (g .made))
+        ap (λ x. calls k x) (g .rest ∙ ap (λ n. drop n l) (sym (g .span)))
+        ∙ ap (λ x. calls x (drop (spanOf (recordOf (calls k m))) l)) (sym (g .made))
     go (ends k) f h = absurd (omega arith)
     go stops f h = absurd (omega arith)
 
@@ -117,7 +126,8 @@ module _ (l : List ℕ) (at : ℕ) (h : at ≤ length l) {r : Record} (e : r ≡
   module _ (z : 0 < spanOf r) where
     there : next (drop at l) ≡ calls (callOf r (drop at l)) (drop (spanOf r) (drop at l))
     there =
-        subst (λ x. 0 < spanOf x → next (drop at l) ≡ calls (callOf x (drop at l)) (drop (spanOf x) (drop at l))) record-is (span-some (drop at l)) z
+        subst (λ x. 0 < spanOf x → next (drop at l) ≡ calls (callOf x (drop at l)) (drop (spanOf x) (drop at l))) record-is
+        (span-some (drop at l)) z
 
     size-is-span : first (drop at l) there .size ≡ spanOf r
     unfolding recordIn
@@ -148,7 +158,8 @@ pub counting-none : (l : List ℕ) → Counting l 0 0
 counting-none l = record { there = omega arith; few = omega arith; calls = omega arith; bytes = omega arith }
 
 -- k: the bytes of the record r there
-module _ {l : List ℕ} {at n : ℕ} (c : Counting l at n) {r : Record} (e : r ≡ recordIn (midOf at (length l - at) l)) {k : ℕ} (f : k ≡ spanOf r) where
+module _ {l : List ℕ} {at n : ℕ} (c : Counting l at n) {r : Record} (e : r ≡ recordIn (midOf at (length l - at) l)) {k : ℕ}
+    (f : k ≡ spanOf r) where
   pub counting-end : k ≡ 0 → Counts l (record { calls = n; taken = at })
   counting-end z =
       let w = walk-end l at (c .there) e (sym f ∙ z) in

@@ -104,7 +104,10 @@ pub within : (l : List ℕ) → (2 * length (keptCalls l) ≤ taken l) × (taken
 within =
     through (λ l. (2 * length (keptCalls l) ≤ taken l) × (taken l ≤ length l))
     (λ l f. (omega (arith, ap length (calls-none l f)), omega (arith, taken-none l f)))
-    (λ l k m e i. (omega (arith, ap length (calls-more l e), taken-more l e, first l e .two, i .0), omega (arith, taken-more l e, rest-long l e, i .1)))
+    (λ l k m e i. (
+      omega (arith, ap length (calls-more l e), taken-more l e, first l e .two, i .0),
+      omega (arith, taken-more l e, rest-long l e, i .1),
+    ))
 
 -- and behind them stands none
 pub none-behind : (l : List ℕ) → NoCall (next (drop (taken l) l))
@@ -112,4 +115,5 @@ none-behind =
     through (λ l. NoCall (next (drop (taken l) l)))
     (λ l f. subst (λ n. NoCall (next (drop n l))) (sym (taken-none l f)) f)
     (λ l k m e i. let g = first l e in
-    subst (λ x. NoCall (next x)) (ap (drop (taken m)) (g .rest) ∙ drop-drop (taken m) (g .size) l ∙ ap (λ n. drop n l) (sym (taken-more l e))) i)
+    subst (λ x. NoCall (next x)) (ap (drop (taken m)) (g .rest) ∙ drop-drop (taken m) (g .size) l
+    ∙ ap (λ n. drop n l) (sym (taken-more l e))) i)

@@ -35,7 +35,8 @@ read : List ℕ
 read = 0x00 ∷ 0x05 ∷ 0x00 ∷ 0x01 ∷ 0xFF ∷ 0xFF ∷ 0xFF ∷ 0xFF ∷ 0x07 ∷ 0xAA ∷ 0xBB ∷ []
 
 computing : ℕ
-unfolding log oversized other read stepped callsIn bytesIn keptCalls taken keptForm marked appended cleared numberOf next nextMessage nextTick bytes value valueFrom written
+unfolding log oversized other read stepped callsIn bytesIn keptCalls taken keptForm marked appended cleared numberOf next nextMessage
+    nextTick bytes value valueFrom written
 computing = 0
 
 reads-log : keptCalls log ≡ opens 2 ∷ ticks 1000 5 4096 ∷ []

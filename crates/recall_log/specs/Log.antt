@@ -1,4 +1,5 @@
--- 02, CR 12: the lent log, any bytes: "it keeps the good calls .. in the card program's marks". Nothing else is kept, no count and no length.
+-- 02, CR 12: the lent log, any bytes: "it keeps the good calls .. in the card program's marks". Nothing else is kept, no count and no
+-- length.
 use mathlib.Core.Bool.{Bool, not, _||_}
 use mathlib.Core.List.{List, [], _∷_}
 use Prim.Native.Nat.{ℕ, zero, suc, _+_, _-_}

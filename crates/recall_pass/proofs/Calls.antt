@@ -1,5 +1,6 @@
 -- What each call's proof says of its own paths: the refusals in their order, and what is carried after a call that is done.
--- Rests on what recall_ends and recall_instants promise of the verdicts, and on recall_rules' equality with the two ordered lists, from which the room comes.
+-- Rests on what recall_ends and recall_instants promise of the verdicts, and on recall_rules' equality with the two ordered lists, from
+-- which the room comes.
 use mathlib.Core.Path.{_≡_, refl, sym, ap, subst, _∙_}
 use mathlib.Core.Bool.{Bool, true, false}
 use mathlib.Core.List.{List, [], _∷_, _++_}
@@ -28,7 +29,8 @@ use Rattle.rules.proofs.Size.{Lean, cancelled-lean}
 use Rattle.rules.proofs.Sound.{few-wait, few-started}
 use Rattle.recall_rules.specs.declared.Verdict.{Verdict}
 use Rattle.recall_rules.specs.Work.{onAir, closedBy, runAll, airFeed}
-use Rattle.recall_rules.specs.Calls.{Pass, Called, linkOf, withLink, withVerdicts, withClock, shut, refuse, does, openCall, closeCall, ticked, moveCall, tickCall, begun}
+use Rattle.recall_rules.specs.Calls.{Pass, Called, linkOf, withLink, withVerdicts, withClock, shut, refuse, does, openCall, closeCall}
+use Rattle.recall_rules.specs.Calls.{ticked, moveCall, tickCall, begun}
 use Rattle.recall_rules.proofs.Ends.{fit, closedBy-same}
 use Rattle.recall_rows.specs.Rows.{width, verdictsIn, Fits}
 use Rattle.recall_rows.proofs.Rows.{length-in}
@@ -50,7 +52,13 @@ use Rattle.recall_pass.proofs.Rows.{map-set, all-set, rows-back, long-b
 pub nowhere : (l : List ℕ) → Placed l 0
 nowhere l = record { whole = λ n. absurd (n refl); good = λ n. absurd (n refl) }
 
-pub begins : (l m : List ℕ) → Begins (record { clock = record { 0 = 0 }; links = 0 ∷ 0 ∷ 0 ∷ 0 ∷ []; places = 0 ∷ 0 ∷ 0 ∷ 0 ∷ []; rows = 0 }) l m
+pub begins : (l m : List ℕ) → Begins (record {
+  clock = record { 0 = 0 };
+  links = 0 ∷ 0 ∷ 0 ∷ 0 ∷ [];
+  places = 0 ∷ 0 ∷ 0 ∷ 0 ∷ [];
+  rows =
+      0;
+}) l m
 unfolding linkFor hardwareAt begun verdictsIn
 begins l m = record { none = refl; pass = refl; placed = (nowhere l, (nowhere l, (nowhere l, (nowhere l, tt)))) }
 
@@ -67,7 +75,8 @@ module _ (l : List ℕ) (h : Carried) (m : List ℕ) (f : Fits (h .rows) m) wher
     refused-here = record { leads = stays refl; reply = refl; buffer = sym (written-none e 0) }
 
     -- "A refusal .. writes nothing .. and changes no state"
-    pub refuses : {c : Called} {p : Played} → p ≡ record { carried = h; reply = Refused n } → c ≡ refuse n (passIn l h m) → Plays l h c e p m e
+    pub refuses : {c : Called} {p : Played} → p ≡ record { carried = h; reply = Refused n } → c ≡ refuse n (passIn l h m)
+        → Plays l h c e p m e
     refuses {c} {p} g i =
         subst (λ (x : Called). Plays l h x e p m e) (sym i)
         (subst (λ (x : Played). Plays l h (refuse n (passIn l h m)) e x m e) (sym g) refused-here)
@@ -118,14 +127,16 @@ module _ (c : ℕ) (s : Pass) where
   open-good e f = rw (le-ltb 3 c e, f)
 
 module _ (c : ℕ) (h : Carried) (m e : List ℕ) (f : Fits (h .rows) m) (l : List ℕ) where
-  pub open-bad : {p : Played} → 3 < c → p ≡ record { carried = h; reply = Refused NoConnection } → Plays l h (openCall c (passIn l h m)) e p m e
+  pub open-bad : {p : Played} → 3 < c → p ≡ record { carried = h; reply = Refused NoConnection }
+      → Plays l h (openCall c (passIn l h m)) e p m e
   open-bad i g = refuses l h m f e NoConnection g (open-none c (passIn l h m) i)
 
   module _ (a : Link) (low : c ≤ 3) (is : a ≡ linkFor (getD (h .links) c 0)) where
     same : linkOf c (passIn l h m) ≡ a
     same = link-is (hardwares l h) h (rowsOf h m) c is
 
-    pub open-twice : {p : Played} → isOpen a ≡ true → p ≡ record { carried = h; reply = Refused AlreadyOpen } → Plays l h (openCall c (passIn l h m)) e p m e
+    pub open-twice : {p : Played} → isOpen a ≡ true → p ≡ record { carried = h; reply = Refused AlreadyOpen }
+        → Plays l h (openCall c (passIn l h m)) e p m e
     open-twice i g = refuses l h m f e AlreadyOpen g (open-again c (passIn l h m) low (ap isOpen same ∙ i))
 
     pub open-done : {r : Carried} → isOpen a ≡ false → r ≡ relinked c 1 h
@@ -192,7 +203,8 @@ unfolding ends.closedBy
 closed-lean c q = cancelled-lean (of c) q
 
 -- a buffer that no call refuses has room for a close
-pub close-room : {at : ℕ} {l : List Verdict} (c : ℕ) (e : List ℕ) → Keeps at l → 4096 ≤ length e → 0 + length (output (closedBy c l .written)) ≤ length e
+pub close-room : {at : ℕ} {l : List Verdict} (c : ℕ) (e : List ℕ) → Keeps at l → 4096 ≤ length e
+    → 0 + length (output (closedBy c l .written)) ≤ length e
 close-room {at} {l} c e k h =
     omega (
       arith,
@@ -203,28 +215,34 @@ close-room {at} {l} c e k h =
     )
 
 module _ (c : ℕ) (h : Carried) (m e : List ℕ) (f : Fits (h .rows) m) (l : List ℕ) where
-  pub shuts-none : {p : Played} → 3 < c → p ≡ record { carried = h; reply = Refused NoConnection } → Plays l h (closeCall c (length e) (passIn l h m)) e p m e
+  pub shuts-none : {p : Played} → 3 < c → p ≡ record { carried = h; reply = Refused NoConnection }
+      → Plays l h (closeCall c (length e) (passIn l h m)) e p m e
   shuts-none i g = refuses l h m f e NoConnection g (close-none c (length e) (passIn l h m) i)
 
   module _ (low : c ≤ 3) where
-    pub shuts-small : {p : Played} → length e < 4096 → p ≡ record { carried = h; reply = Refused NoRoom } → Plays l h (closeCall c (length e) (passIn l h m)) e p m e
+    pub shuts-small : {p : Played} → length e < 4096 → p ≡ record { carried = h; reply = Refused NoRoom }
+        → Plays l h (closeCall c (length e) (passIn l h m)) e p m e
     shuts-small i g = refuses l h m f e NoRoom g (close-small c (length e) (passIn l h m) low i)
 
     module _ (roomy : 4096 ≤ length e) (a : Link) (is : a ≡ linkFor (getD (h .links) c 0)) where
       pub shuts-shut : {p : Played} → isOpen a ≡ false → p ≡ record { carried = h; reply = Refused NotOpen }
           → Plays l h (closeCall c (length e) (passIn l h m)) e p m e
-      shuts-shut i g = refuses l h m f e NotOpen g (close-shut c (length e) (passIn l h m) low roomy (ap isOpen (link-is (hardwares l h) h (rowsOf h m) c is) ∙ i))
+      shuts-shut i g = refuses l h m f e NotOpen g (close-shut c (length e) (passIn l h m) low roomy
+          (ap isOpen (link-is (hardwares l h) h (rowsOf h m) c is) ∙ i))
 
       -- k: the words of the rows after it
-      pub shuts : {k o : List ℕ} {len : ℕ} {r : Carried} → isOpen a ≡ true → length k ≡ length (rowsOf h m) → Does (closedBy c) 0 (rowsOf h m) e len k o
+      pub shuts : {k o : List ℕ} {len : ℕ} {r : Carried} → isOpen a ≡ true → length k ≡ length (rowsOf h m)
+          → Does (closedBy c) 0 (rowsOf h m) e len k o
           → r ≡ replaced c 0 (relinked c 0 h)
-          → Plays l h (closeCall c (length e) (passIn l h m)) e (record { carried = r; reply = Done 0 len 0 }) (k ++ drop (h .rows * width) m) o
+          → Plays l h (closeCall c (length e) (passIn l h m)) e (record { carried = r; reply = Done 0 len 0 })
+          (k ++ drop (h .rows * width) m) o
       unfolding linkFor hardwareAt
       shuts {k} {o} {len} {r} i z d g =
           let t = closedBy c (all (rowsOf h m)) in
           let x = k ++ drop (h .rows * width) m in
           let v : all (take (h .rows * width) x) ≡ t .verdicts = ap all (rows-back (h .rows) m k f z) ∙ d .holds in
-          subst (λ (y : Carried). Plays l h (closeCall c (length e) (passIn l h m)) e (record { carried = y; reply = Done 0 len 0 }) x o) (sym g)
+          subst (λ (y : Carried). Plays l h (closeCall c (length e) (passIn l h m)) e (record { carried = y; reply = Done 0 len 0 }) x o)
+          (sym g)
           (plays-done (t .written) (shut c (withVerdicts (t .verdicts) (passIn l h m)))
           (close-good c (length e) (passIn l h m) low roomy (ap isOpen (link-is (hardwares l h) h (rowsOf h m) c is) ∙ i))
           (record {
@@ -260,12 +278,14 @@ module _ (seconds micros room : ℕ) (s : Pass) where
       tick-back e = tick-moves ∙ rw (le-ltb room 4096 roomy, lt-ltb until (s .clock) e)
 
       tick-good : s .clock ≤ until → tickCall seconds micros room s
-          ≡ does 0 (runAll (s .clock) until (s .verdicts) .written) (withClock until (withVerdicts (runAll (s .clock) until (s .verdicts) .verdicts) s))
+          ≡ does 0 (runAll (s .clock) until (s .verdicts) .written)
+          (withClock until (withVerdicts (runAll (s .clock) until (s .verdicts) .verdicts) s))
       unfolding moveCall ticked
       tick-good e = tick-moves ∙ rw (le-ltb room 4096 roomy, le-ltb until (s .clock) e)
 
 -- as `close-room`
-pub ticks-room : {at : ℕ} {l : List Verdict} (until : ℕ) (e : List ℕ) → Keeps at l → 4096 ≤ length e → 0 + length (output (runAll at until l .written)) ≤ length e
+pub ticks-room : {at : ℕ} {l : List Verdict} (until : ℕ) (e : List ℕ) → Keeps at l → 4096 ≤ length e
+    → 0 + length (output (runAll at until l .written)) ≤ length e
 ticks-room until e k h = omega (arith, tick-room until e k (le-ltb (length e) 4096 h))
 
 module _ (seconds micros : ℕ) (h : Carried) (m e : List ℕ) (f : Fits (h .rows) m) (l : List ℕ) where

@@ -1,4 +1,5 @@
--- What holds of a pass from fresh on, and that its answers are those of the rules. Rests on recall_rules' equality with the two ordered lists
+-- What holds of a pass from fresh on, and that its answers are those of the rules. Rests on recall_rules' equality with the two ordered
+-- lists
 -- and on what rules prove of every splicer that fresh and the calls since have given.
 use mathlib.Core.Path.{_≡_, refl, sym, subst}
 use mathlib.Core.List.{List, [], _∷_, _++_}
@@ -61,8 +62,10 @@ module _ {l : List ℕ} {h : Carried} {m : List ℕ} (p : Passed l h m) where
   passed-ready = steady-ready l h m (omega (arith, p .fits)) (p .steady)
 
   -- the present call is answered as the splicer answers it that the calls in the log lead to from fresh
-  pub passed-answers : All Byte l → (k : Call) → SameCalled (call k (passIn l h m)) (calls.call k (calls.after (keptCalls l) (calls.fresh (padded cardName) .splicer)))
+  pub passed-answers : All Byte l → (k : Call) → SameCalled (call k (passIn l h m))
+      (calls.call k (calls.after (keptCalls l) (calls.fresh (padded cardName) .splicer)))
   unfolding cardName
   passed-answers a k =
-      subst (λ (s : Pass). SameCalled (call k s) (calls.call k (calls.after (keptCalls l) (calls.fresh (padded cardName) .splicer)))) (sym (p .pass))
+      subst (λ (s : Pass). SameCalled (call k s) (calls.call k (calls.after (keptCalls l) (calls.fresh (padded cardName) .splicer))))
+      (sym (p .pass))
       (answers-like-the-rules (padded cardName) refl (padded-byte cardName name-bytes) refl (keptCalls l) (any-log l a .0) k)

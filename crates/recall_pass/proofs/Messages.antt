@@ -38,7 +38,8 @@ use Rattle.recall_answers.specs.declared.Effect.the-variants.{Nothing, Joins, E
 use Rattle.recall_answers.specs.Replies.{linkFor, passOf, hardwareAt, hardwares, Placed, effected, Left, Replies}
 use Rattle.recall_log.proofs.Firsts.{part-take}
 use Rattle.recall_pass.specs.declared.Heard.{Heard}
-use Rattle.recall_pass.specs.Passes.{rowsOf, passIn, relinked, replaced, framed, FramesAny, keptBy, Settles, SettlesAny, Hears, HearsAny, Leads}
+use Rattle.recall_pass.specs.Passes.{rowsOf, passIn, relinked, replaced, framed, FramesAny, keptBy, Settles, SettlesAny, Hears}
+use Rattle.recall_pass.specs.Passes.{HearsAny, Leads}
 use Rattle.recall_pass.proofs.Rows.{map-set, all-set, rows-back, all-more}
 use Rattle.recall_pass.proofs.Calls.{made, linked-is, stays}
 
@@ -48,12 +49,14 @@ module _ (c : ℕ) (h : Carried) (m : List ℕ) (f : Fits (h .rows + 1) m) {x : 
   pub settles-none : x ≡ Nothing → Settles c d x hardware h m h m
   unfolding keptBy effected
   settles-none e =
-      subst (λ (y : Effect). Settles c d y hardware h m h m) (sym e) (record { pass = refl; fits = omega arith; few = omega arith; places = refl })
+      subst (λ (y : Effect). Settles c d y hardware h m h m) (sym e) (record
+      { pass = refl; fits = omega arith; few = omega arith; places = refl })
 
   pub settles-configures : x ≡ Configures → Settles c d x hardware h m h m
   unfolding keptBy effected
   settles-configures e =
-      subst (λ (y : Effect). Settles c d y hardware h m h m) (sym e) (record { pass = refl; fits = omega arith; few = omega arith; places = refl })
+      subst (λ (y : Effect). Settles c d y hardware h m h m) (sym e) (record
+      { pass = refl; fits = omega arith; few = omega arith; places = refl })
 
   pub settles-enters : {r : Carried} → x ≡ Enters → r ≡ relinked c 2 h → Settles c d x hardware h m r m
   unfolding keptBy effected linkFor
@@ -71,7 +74,8 @@ module _ (c : ℕ) (h : Carried) (m : List ℕ) (f : Fits (h .rows + 1) m) {x : 
       let r : Carried = record { clock = h .clock; links = h .links; places = h .places; rows = h .rows + 1 } in
       subst (λ (y : Effect). Settles c d y hardware h m r k) (sym e)
       (record {
-        pass = ap (λ (l : List Verdict). made (h .clock .0) (passOf hardware h m .links) hardware l) (all-more (h .rows) m k (verdict Waits s) f (omega (arith, z, f)) v);
+        pass = ap (λ (l : List Verdict). made (h .clock .0) (passOf hardware h m .links) hardware l)
+            (all-more (h .rows) m k (verdict Waits s) f (omega (arith, z, f)) v);
         fits = omega (arith, z, f);
         few = omega arith;
         places = refl;
@@ -81,7 +85,8 @@ module _ (c : ℕ) (h : Carried) (m : List ℕ) (f : Fits (h .rows + 1) m) {x : 
 
 -- k: the words of the rows after the answer; r, w: what is carried and the words after the rest was done
 pub hears : (c id : ℕ) (d : List ℕ) (h : Carried) (m e : List ℕ) {g : Given} {k o w : List ℕ} {r : Carried} → Fits (h .rows) m
-    → length k ≡ length (rowsOf h m) → Replies c id d h (rowsOf h m) e g k o → SettlesAny c (g .effect) h (k ++ drop (h .rows * width) m) r w
+    → length k ≡ length (rowsOf h m) → Replies c id d h (rowsOf h m) e g k o
+    → SettlesAny c (g .effect) h (k ++ drop (h .rows * width) m) r w
     → HearsAny c id d h m e (record { carried = r; len = g .len; moved = g .moved; effect = g .effect }) w o
 hears c id d h m e {g} {k} f z p q hardware section =
     let a = p hardware section in
@@ -98,12 +103,15 @@ hears c id d h m e {g} {k} f z p q hardware section =
 
 -- ## A message's tests, and what comes of them
 
-pub message-is : (c : ℕ) (l : List ℕ) (loans : Loans) (s : Pass) → messageCall c l loans s ≡ handled c (framed c l (loans .room) (longSection loans) s) l loans s
+pub message-is : (c : ℕ) (l : List ℕ) (loans : Loans) (s : Pass)
+    → messageCall c l loans s ≡ handled c (framed c l (loans .room) (longSection loans) s) l loans s
 unfolding messageCall handled framed
 message-is c l loans s = go (noConnection c) (noRoom (loans .room)) (notOpen c s) (longSection loans)
   where
-    go : (a b x y : Bool) → cond a (refuse NoConnection s) (cond b (refuse NoRoom s) (cond x (refuse NotOpen s) (cond y (refuse LongSection s) (handled c (framing l) l loans s))))
-        ≡ handled c (cond a (Unframed NoConnection) (cond b (Unframed NoRoom) (cond x (Unframed NotOpen) (cond y (Unframed LongSection) (framing l))))) l loans s
+    go : (a b x y : Bool) → cond a (refuse NoConnection s) (cond b (refuse NoRoom s)
+        (cond x (refuse NotOpen s) (cond y (refuse LongSection s) (handled c (framing l) l loans s))))
+        ≡ handled c (cond a (Unframed NoConnection) (cond b (Unframed NoRoom)
+        (cond x (Unframed NotOpen) (cond y (Unframed LongSection) (framing l))))) l loans s
     go true b x y = refl
     go false true x y = refl
     go false false true y = refl
@@ -117,7 +125,8 @@ unfolding framed
 framed-low c l room long s {id} {n} = go (noConnection c) (noRoom room) (notOpen c s) long refl refl refl
   where
     go : (a b x y : Bool) → noConnection c ≡ a → noRoom room ≡ b → long ≡ y
-        → cond a (Unframed NoConnection) (cond b (Unframed NoRoom) (cond x (Unframed NotOpen) (cond y (Unframed LongSection) (framing l)))) ≡ Framed id n
+        → cond a (Unframed NoConnection) (cond b (Unframed NoRoom) (cond x (Unframed NotOpen) (cond y (Unframed LongSection) (framing l))))
+        ≡ Framed id n
         → (c ≤ 3) × (4096 ≤ room) × (long ≡ false) × (framing l ≡ Framed id n)
     go true b x y e f g z = let i : _≡_ {A = ℕ} 0 1 = cc in absurd (omega arith)
     go false true x y e f g z = let i : _≡_ {A = ℕ} 0 1 = cc in absurd (omega arith)
@@ -139,13 +148,15 @@ pub framed-size : (l : List ℕ) {id n : ℕ} → framing l ≡ Framed id n → 
 framed-size l e = subst (Sized l) e (sized l)
 
 -- a call that was refused
-unframed : (c : ℕ) (f : Framing) (l : List ℕ) (loans : Loans) (s : Pass) → OneOf (1 ∷ []) (tagOf framing-type.the-type f) → handled c f l loans s .pass ≡ s
+unframed : (c : ℕ) (f : Framing) (l : List ℕ) (loans : Loans) (s : Pass) → OneOf (1 ∷ []) (tagOf framing-type.the-type f)
+    → handled c f l loans s .pass ≡ s
 unfolding handled
 unframed c (Framed id n) l loans s e = absurd (omega arith)
 unframed c (Unframed r) l loans s e = refl
 
 -- every answer but that of an Init_Request with 100
-pub not-entering : (x : Effect) (c : ℕ) (d : List ℕ) (hs : List (List ℕ)) → OneOf (0 ∷ 1 ∷ 3 ∷ []) (tagOf effect-type.the-type x) → keptBy x c d hs ≡ hs
+pub not-entering : (x : Effect) (c : ℕ) (d : List ℕ) (hs : List (List ℕ)) → OneOf (0 ∷ 1 ∷ 3 ∷ []) (tagOf effect-type.the-type x)
+    → keptBy x c d hs ≡ hs
 unfolding keptBy
 not-entering Nothing c d hs k = refl
 not-entering (Joins s) c d hs k = refl
@@ -231,7 +242,8 @@ module _ (log : List ℕ) (from : ℕ) (w : from + (8 + messageSize (drop from l
 
         pub message-leads : OneOf (0 ∷ 1 ∷ 3 ∷ []) (tagOf effect-type.the-type (g .effect)) → Leads log h called (g .carried) k
         message-leads z =
-            let i : hardwares log (g .carried) ≡ keptBy (g .effect) c d (hardwares log h) = ap (map (hardwareAt log)) (heard .places) ∙ sym (not-entering (g .effect) c d (hardwares log h) z) in
+            let i : hardwares log (g .carried) ≡ keptBy (g .effect) c d (hardwares log h) =
+            ap (map (hardwareAt log)) (heard .places) ∙ sym (not-entering (g .effect) c d (hardwares log h) z) in
             record {
               pass = ap (λ (hs : List (List ℕ)). passOf hs (g .carried) (rowsOf (g .carried) k)) i ∙ heard .pass ∙ answer-is;
               fits = heard .fits;
@@ -249,7 +261,8 @@ module _ (log : List ℕ) (from : ℕ) (w : from + (8 + messageSize (drop from l
           hardware-is = rw (ne-eqb from 0 (λ q. omega (arith, z, q))) (ap hardwareIn (sym data-is))
 
           good : badInit (dataOf size (drop from log)) ≡ false
-          good = subst (λ (x : List ℕ). badInit x ≡ false) data-is (subst (λ (x : Effect). Left x c d section s (answer c id d section s .written)) i (heard .left))
+          good = subst (λ (x : List ℕ). badInit x ≡ false) data-is
+              (subst (λ (x : Effect). Left x c d section s (answer c id d section s .written)) i (heard .left))
 
           pub message-enters : {r : Carried} → r ≡ replaced c from (g .carried) → Leads log h called r k
           unfolding keptBy
@@ -263,5 +276,6 @@ module _ (log : List ℕ) (from : ℕ) (w : from + (8 + messageSize (drop from l
                 pass = ap (λ (hs : List (List ℕ)). passOf hs (g .carried) (rowsOf (g .carried) k)) v ∙ heard .pass ∙ answer-is;
                 fits = heard .fits;
                 few = heard .few;
-                placed = λ x. all-set (Placed log) (g .carried .places) c from (record { whole = λ n. w; good = λ n. good }) (subst (λ (p : List ℕ). All (Placed log) p) (sym (heard .places)) x);
+                placed = λ x. all-set (Placed log) (g .carried .places) c from (record { whole = λ n. w; good = λ n. good })
+                    (subst (λ (p : List ℕ). All (Placed log) p) (sym (heard .places)) x);
               })

@@ -83,7 +83,8 @@ in-more (suc n) m =
     ∙ ap (λ l. row m ∷ (verdictsIn n (drop width m) ++ (row l ∷ []))) (drop-drop (n * width) width m ∙ ap (λ (j : ℕ). drop j m) e)
 
 -- v is stored behind the last of n rows
-pub all-more : (n : ℕ) (m k : List ℕ) (v : Verdict) → Fits (n + 1) m → Fits (n + 1) k → verdictsIn (n + 1) k ≡ set (verdictsIn (n + 1) m) n v
+pub all-more : (n : ℕ) (m k : List ℕ) (v : Verdict) → Fits (n + 1) m → Fits (n + 1) k
+    → verdictsIn (n + 1) k ≡ set (verdictsIn (n + 1) m) n v
     → all (take ((n + 1) * width) k) ≡ all (take (n * width) m) ++ (v ∷ [])
 all-more n m k v h g e =
     all-rows (n + 1) k g ∙ e

@@ -72,7 +72,8 @@ module _ (log : List ℕ) (at : ℕ) {x : Record} (is : x ≡ recordIn (drop at 
     abbrev Led : Record → Type 0
     Led y = Leads log h (call (callOf y (drop at log)) (passIn log h m)) r k
 
-    pub led-open : {c : ℕ} → x ≡ Open c → Leads log h (openCall c (passIn log h m)) r k → Leads log h (call (callOf x (drop at log)) (passIn log h m)) r k
+    pub led-open : {c : ℕ} → x ≡ Open c → Leads log h (openCall c (passIn log h m)) r k
+        → Leads log h (call (callOf x (drop at log)) (passIn log h m)) r k
     unfolding call callOf
     led-open e g = subst Led (sym e) g
 
@@ -82,10 +83,12 @@ module _ (log : List ℕ) (at : ℕ) {x : Record} (is : x ≡ recordIn (drop at 
     unfolding call callOf
     led-close {c} e i g = subst Led (sym e) (subst (λ (j : ℕ). Leads log h (closeCall c j (passIn log h m)) r k) i g)
 
-    pub led-tick : {seconds micros room : ℕ} → x ≡ Tick seconds micros → room ≡ cardRoom → Leads log h (tickCall seconds micros room (passIn log h m)) r k
+    pub led-tick : {seconds micros room : ℕ} → x ≡ Tick seconds micros → room ≡ cardRoom
+        → Leads log h (tickCall seconds micros room (passIn log h m)) r k
         → Leads log h (call (callOf x (drop at log)) (passIn log h m)) r k
     unfolding call callOf
-    led-tick {seconds} {micros} e i g = subst Led (sym e) (subst (λ (j : ℕ). Leads log h (tickCall seconds micros j (passIn log h m)) r k) i g)
+    led-tick {seconds} {micros} e i g = subst Led (sym e) (subst (λ (j : ℕ). Leads log h (tickCall seconds micros j (passIn log h m)) r k) i
+        g)
 
     pub led-message : {c n : ℕ} → x ≡ Message c n
         → Leads log h (call (messages c (part (at + 2) (8 + messageSize (drop (at + 2) log)) log) cardLoans) (passIn log h m)) r k
@@ -128,7 +131,8 @@ walking-first log m b =
     }
 
 -- r: the record there, of k bytes
-module _ {log : List ℕ} {h : Carried} {m : List ℕ} {at : ℕ} (w : Walking log h m at) {r : Record} (e : r ≡ recordIn (midOf at (length log - at) log)) {k : ℕ} (f : k ≡ spanOf r)
+module _ {log : List ℕ} {h : Carried} {m : List ℕ} {at : ℕ} (w : Walking log h m at) {r : Record}
+    (e : r ≡ recordIn (midOf at (length log - at) log)) {k : ℕ} (f : k ≡ spanOf r)
     (most : length (keptCalls log) < mostCalls) (wide : mostCalls * width ≤ length m) where
   counted : length (keptCalls log) ≡ length (w .before) + length (keptCalls (drop at log))
   counted = ap length (w .calls) ∙ length-append (w .before) (keptCalls (drop at log))
@@ -141,7 +145,8 @@ module _ {log : List ℕ} {h : Carried} {m : List ℕ} {at : ℕ} (w : Walking l
 
   pub walking-end : k ≡ 0 → Passed log h m
   walking-end z =
-      let a : w .before ≡ keptCalls log = sym (append-nil (w .before)) ∙ ap (λ (y : List Call). w .before ++ y) (sym (walk-end log at (w .there) e (sym f ∙ z) .0)) ∙ sym (w .calls) in
+      let a : w .before ≡ keptCalls log = sym (append-nil (w .before))
+      ∙ ap (λ (y : List Call). w .before ++ y) (sym (walk-end log at (w .there) e (sym f ∙ z) .0)) ∙ sym (w .calls) in
       record {
         pass = w .pass ∙ ap (λ (y : List Call). passed y (begun cardName)) a;
         steady = w .steady;
@@ -168,7 +173,8 @@ module _ {log : List ℕ} {h : Carried} {m : List ℕ} {at : ℕ} (w : Walking l
     more : keptCalls log ≡ w .before ++ (c ∷ behind-it)
     more = w .calls ∙ ap (λ (y : List Call). w .before ++ y) (walk-calls log at (w .there) e some)
 
-    pub walking-next : All Byte log → {h′ : Carried} {m′ : List ℕ} → Leads log h (call c (passIn log h m)) h′ m′ → Walking log h′ m′ (at + k)
+    pub walking-next : All Byte log → {h′ : Carried} {m′ : List ℕ} → Leads log h (call c (passIn log h m)) h′ m′
+        → Walking log h′ m′ (at + k)
     walking-next b {h′} {m′} l =
         let wired = all-parts Wired (w .before) (c ∷ behind-it) (subst (All Wired) more (any-log log b .0)) .1 .0 in
         subst (λ (i : ℕ). Walking log h′ m′ (at + i)) (sym f)

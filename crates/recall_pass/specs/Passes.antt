@@ -105,7 +105,8 @@ keptBy Enters c d hs = set hs c (hardwareIn d)
 keptBy Configures c d hs = hs
 
 -- what was left to do is done: of the pass s with the words m, r and k
-pub record Settles (c : ℕ) (d : List ℕ) (f : Effect) (hardware : List (List ℕ)) (h : Carried) (m : List ℕ) (r : Carried) (k : List ℕ) : Type 0 where
+pub record Settles (c : ℕ) (d : List ℕ) (f : Effect) (hardware : List (List ℕ)) (h : Carried) (m : List ℕ) (r : Carried) (k : List ℕ) : Type
+    0 where
   pub pass : passOf (keptBy f c d hardware) r (rowsOf r k) ≡ effected c d f (passOf hardware h (rowsOf h m))
   pub fits : Fits (r .rows) k
   pub few : r .rows ≤ h .rows + 1

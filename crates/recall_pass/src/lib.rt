@@ -25,7 +25,8 @@ ghost use Rattle.recall_ends.specs.Does.{all};
 ghost use Rattle.recall_log.specs.Log.{keptCalls, mostCalls};
 ghost use Rattle.recall_log.specs.Kept.{recordIn, callOf, spanOf};
 ghost use Rattle.recall_log.specs.declared.Reply.the-variants.{Refused};
-ghost use Rattle.recall_pass.specs.Passes.{rowsOf, passIn, relinked, replaced, BeginsAny, Ready, Leads, PlaysAny, PlaysOver, FramesAny, SettlesAny, HearsAny, Passed};
+ghost use Rattle.recall_pass.specs.Passes.{rowsOf, passIn, relinked, replaced, BeginsAny, Ready, Leads, PlaysAny, PlaysOver};
+ghost use Rattle.recall_pass.specs.Passes.{FramesAny, SettlesAny, HearsAny, Passed};
 
 // The words of 256 rows: a call of the log has one verdict at most, and so has the present call.
 pub const WORDS: usize = 3328;

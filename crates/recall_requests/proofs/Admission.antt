@@ -21,7 +21,8 @@ use Rattle.writing.specs.Puts.{Puts}
 use Rattle.recall_rules.specs.declared.Phase.the-variants.{Waits}
 use Rattle.recall_rules.specs.declared.Verdict.{Verdict}
 use Rattle.recall_rules.specs.Verdicts.{isWaiting, verdict, standing}
-use Rattle.recall_rules.specs.Work.{Turn, writes, andThen, evicted, aborted, holds, startOf, requested, spliceResult, accepted, Spliced, later, grants, declines, answerSplice, answerAbort}
+use Rattle.recall_rules.specs.Work.{Turn, writes, andThen, evicted, aborted, holds, startOf, requested, spliceResult, accepted, Spliced}
+use Rattle.recall_rules.specs.Work.{later, grants, declines, answerSplice, answerAbort}
 use Rattle.recall_rows.specs.Rows.{width, verdictsIn}
 use Rattle.recall_ends.specs.Does.{all, Tells, Turns, Room, Does}
 use Rattle.recall_ends.proofs.Laws.{tells-first, tells-part}
@@ -61,9 +62,11 @@ module _ (s : Session) (m e : List ℕ) (room : Room (admitted s) 0 m e) where
         both-done (evicts (all m)) (grant s) parts e 0 room d
         (record { holds = refl; tells = tells-part (omega (arith, grant-room z)) w })
 
-    pub later-is : (n x : ℕ) → n ≡ length k / width → x ≡ count (startsAfter (s .start .0)) (standing isWaiting (verdictsIn n k)) → x ≡ later s (all m)
+    pub later-is : (n x : ℕ) → n ≡ length k / width → x ≡ count (startsAfter (s .start .0)) (standing isWaiting (verdictsIn n k))
+        → x ≡ later s (all m)
     unfolding later
-    later-is n x rows f = f ∙ ap (λ (l : List Verdict). count (startsAfter (s .start .0)) (standing isWaiting l)) (as-all k n rows ∙ d .holds)
+    later-is n x rows f = f ∙ ap (λ (l : List Verdict). count (startsAfter (s .start .0)) (standing isWaiting l))
+        (as-all k n rows ∙ d .holds)
 
 -- but for the new verdict
 accepted-written : (s : Session) (l : List Verdict) → admitted s l .written ≡ accepted s l .written
@@ -77,7 +80,8 @@ accepted-verdicts s l = refl
 -- ## The answer to a Splice_Request
 
 -- new: the session that r asks for; n: its result
-module _ (clock c : ℕ) (r : Request) (m : List ℕ) {t n : ℕ} {new : Session} (start : t ≡ startOf c (r .start) (all m)) (is : new ≡ sessionAt t c r)
+module _ (clock c : ℕ) (r : Request) (m : List ℕ) {t n : ℕ} {new : Session} (start : t ≡ startOf c (r .start) (all m))
+    (is : new ≡ sessionAt t c r)
     (f : n ≡ spliceResult clock (new .conn) r new (all m)) where
   asked : new ≡ requested c r (all m)
   unfolding requested
@@ -112,10 +116,16 @@ module _ (clock c : ℕ) (r : Request) (m : List ℕ) {t n : ℕ} {new : Session
 
     pub decline-room : (n ≡ 100 → ⊥) → 14 ≤ length e
     decline-room h =
-        omega (arith, room, ap (λ (a : Spliced). length (output (a .turn .written))) (declined h), weight-one (SpliceResponse c n (r .id)) tt)
+        omega (
+          arith,
+          room,
+          ap (λ (a : Spliced). length (output (a .turn .written))) (declined h),
+          weight-one (SpliceResponse c n (r .id)) tt,
+        )
 
   module _ {e o : List ℕ} where
-    pub splice-accepted : {g : Given} {k : List ℕ} → n ≡ 100 → Admits new m e g k o → g .accepted ≡ true → g .new ≡ new → Splices clock c r m e g k o
+    pub splice-accepted : {g : Given} {k : List ℕ} → n ≡ 100 → Admits new m e g k o → g .accepted ≡ true → g .new ≡ new
+        → Splices clock c r m e g k o
     splice-accepted {g} {k} h a y z =
         let back = sym (granted h) in
         record {
@@ -145,9 +155,11 @@ module _ (clock c : ℕ) (r : Request) (m : List ℕ) {t n : ℕ} {new : Session
         }
 
 -- any two results that the promise allows are equal: verdicts, buffer and what is given
-pub splices-same : {clock c : ℕ} {r : Request} {m e : List ℕ} {g g′ : Given} {k k′ o o′ : List ℕ} → Splices clock c r m e g k o → Splices clock c r m e g′ k′ o′
+pub splices-same : {clock c : ℕ} {r : Request} {m e : List ℕ} {g g′ : Given} {k k′ o o′ : List ℕ} → Splices clock c r m e g k o
+    → Splices clock c r m e g′ k′ o′
     → (g ≡ g′) × (all k ≡ all k′) × (o ≡ o′)
-splices-same {clock} {c} {r} {m} {e} {g} {g′} {k} {k′} {o} {o′} a b = (given, same (g .accepted) (g .new) (all k) (all k′) held, written-same e 0 _ (a .tells .bytes) (b .tells .bytes))
+splices-same {clock} {c} {r} {m} {e} {g} {g′} {k} {k′} {o} {o′} a b =
+    (given, same (g .accepted) (g .new) (all k) (all k′) held, written-same e 0 _ (a .tells .bytes) (b .tells .bytes))
   where
     len : g .len ≡ g′ .len
     len = a .tells .count ∙ sym (b .tells .count)

@@ -41,21 +41,22 @@ use Rattle.recall_requests.specs.Admits.{Few}
 
 -- ## What a scan finds
 
-module _ (h : Phase → Bool) (p : Session → Bool) (m : List ℕ) (n i : ℕ) (rows : n ≡ length m / width) (f : i ≡ which h p (verdictsIn n m)) where
-  at : i ≡ which h p (all m)
-  at = f ∙ ap (which h p) (as-all m n rows)
+module _ (h : Phase → Bool) (p : Session → Bool) (m : List ℕ) (n i : ℕ) (rows : n ≡ length m / width) (f : i ≡ which h p (verdictsIn n m))
+  where
+    at : i ≡ which h p (all m)
+    at = f ∙ ap (which h p) (as-all m n rows)
 
-  -- a row exactly where one stands so and passes
-  pub found-is : ltb i n ≡ some p (standing h (all m))
-  found-is = ap₂ ltb at (rows ∙ sym (length-all m)) ∙ sym (some-place (stands h p) (all m)) ∙ some-stands h p (all m)
+    -- a row exactly where one stands so and passes
+    pub found-is : ltb i n ≡ some p (standing h (all m))
+    found-is = ap₂ ltb at (rows ∙ sym (length-all m)) ∙ sym (some-place (stands h p) (all m)) ∙ some-stands h p (all m)
 
-  pub end-found : (v : Verdict) → v ≡ getD (verdictsIn n m) i none → v .session .end ≡ sessionOf (all m) (which h p (all m)) .end
-  end-found v e = ap (λ (w : Verdict). w .session .end) (read m n rows i v e) ∙ ap (λ (j : ℕ). sessionOf (all m) j .end) at
+    pub end-found : (v : Verdict) → v ≡ getD (verdictsIn n m) i none → v .session .end ≡ sessionOf (all m) (which h p (all m)) .end
+    end-found v e = ap (λ (w : Verdict). w .session .end) (read m n rows i v e) ∙ ap (λ (j : ℕ). sessionOf (all m) j .end) at
 
-  -- behind the last row stands the empty session
-  pub end-none : n ≤ i → _≡_ {A = Ninths} (record { 0 = 0 }) (sessionOf (all m) (which h p (all m)) .end)
-  unfolding empty
-  end-none k = sym (ap (λ (w : Verdict). w .session .end) (List·getD-eq-default (all m) none (omega (arith, k, at, rows, length-all m))))
+    -- behind the last row stands the empty session
+    pub end-none : n ≤ i → _≡_ {A = Ninths} (record { 0 = 0 }) (sessionOf (all m) (which h p (all m)) .end)
+    unfolding empty
+    end-none k = sym (ap (λ (w : Verdict). w .session .end) (List·getD-eq-default (all m) none (omega (arith, k, at, rows, length-all m))))
 
 -- ## b
 
@@ -77,13 +78,15 @@ module _ (c : ℕ) (r : Request) (l : List Verdict) where
 
 -- outranked is who is below the rank
 pub collides-is : (new : Session) (m : List ℕ) (n i : ℕ) → n ≡ length m / width
-    → i ≡ which isWaiting (sessionTest (Unranked (new .start .0) (new .access + new .overrides))) (verdictsIn n m) → ltb i n ≡ collides new (all m)
+    → i ≡ which isWaiting (sessionTest (Unranked (new .start .0) (new .access + new .overrides))) (verdictsIn n m)
+    → ltb i n ≡ collides new (all m)
 unfolding collides
 collides-is new m n i rows f = found-is isWaiting (sessionTest (Unranked (new .start .0) (new .access + new .overrides))) m n i rows f
 
 -- ## e
 
-pub waits-is : (c : ℕ) (m : List ℕ) (n k : ℕ) → n ≡ length m / width → k ≡ count (of c) (standing isWaiting (verdictsIn n m)) → k ≡ waits c (all m)
+pub waits-is : (c : ℕ) (m : List ℕ) (n k : ℕ) → n ≡ length m / width → k ≡ count (of c) (standing isWaiting (verdictsIn n m))
+    → k ≡ waits c (all m)
 waits-is c m n k rows f = f ∙ ap (λ (l : List Verdict). waits c l) (as-all m n rows)
 
 -- n of the connection wait
@@ -150,7 +153,8 @@ pub session-is : (t : Ninths) (c : ℕ) (r : Request) {p : ℕ} {d : Ninths} →
 unfolding sessionAt
 session-is t c r e f = rw (e, f)
 
-pub rank-fits : (t c : ℕ) (r : Request) {new : Session} → new ≡ sessionAt t c r → Asked r → new .access + new .overrides < 18446744073709551616
+pub rank-fits : (t c : ℕ) (r : Request) {new : Session} → new ≡ sessionAt t c r → Asked r
+    → new .access + new .overrides < 18446744073709551616
 unfolding sessionAt
 rank-fits t c r e a = omega (arith, ap (λ (s : Session). s .access) e, ap (λ (s : Session). s .overrides) e, a .access, a .overrides)
 

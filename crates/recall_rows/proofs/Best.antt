@@ -51,7 +51,8 @@ strict Ending = by-number (λ s. s .end .0)
 -- ## Places
 
 module _ (p : Verdict → Bool) where
-  place-first : (l : List Verdict) (b : ℕ) → b < length l → p (getD l b none) ≡ true → ((j : ℕ) → j < b → p (getD l j none) ≡ false) → place p l ≡ b
+  place-first : (l : List Verdict) (b : ℕ) → b < length l → p (getD l b none) ≡ true → ((j : ℕ) → j < b → p (getD l j none) ≡ false)
+      → place p l ≡ b
   unfolding place
   place-first [] b h e f = absurd (omega arith)
   place-first (v ∷ l) zero h e f = rw e
@@ -97,12 +98,14 @@ module _ (h : Phase → Bool) (before : Session → Session → Bool) (o : Stric
       go false e = f j (let n = eqb-false j i e in omega (arith, n))
 
   -- call i is better
-  pub leading-next : (i b : ℕ) → i < length l → one i ≡ true → (b < length l → before (sessionOf l i) (sessionOf l b) ≡ true) → Leading i b → Leading (i + 1) i
+  pub leading-next : (i b : ℕ) → i < length l → one i ≡ true → (b < length l → before (sessionOf l i) (sessionOf l b) ≡ true) → Leading i b
+      → Leading (i + 1) i
   leading-next i b k e f (inl n) =
       inr (record {
         among = omega arith;
         is = e;
-        least = below-next (λ j. one j ≡ true → before (sessionOf l j) (sessionOf l i) ≡ false) i (λ g. o .calm (sessionOf l i)) (λ j g y. absurd (clash (one j) y (n .1 j g)));
+        least = below-next (λ j. one j ≡ true → before (sessionOf l j) (sessionOf l i) ≡ false) i (λ g. o .calm (sessionOf l i))
+            (λ j g y. absurd (clash (one j) y (n .1 j g)));
         front = λ j g y. absurd (clash (one j) y (n .1 j g));
       })
   leading-next i b k e f (inr m) =
@@ -116,7 +119,8 @@ module _ (h : Phase → Bool) (before : Session → Session → Bool) (o : Stric
       })
 
   -- it is not
-  pub leading-stays : (i b : ℕ) → i < length l → (one i ≡ true → (b < length l) × (before (sessionOf l i) (sessionOf l b) ≡ false)) → Leading i b → Leading (i + 1) b
+  pub leading-stays : (i b : ℕ) → i < length l → (one i ≡ true → (b < length l) × (before (sessionOf l i) (sessionOf l b) ≡ false))
+      → Leading i b → Leading (i + 1) b
   leading-stays i b k f (inl n) =
       inl (n .0, below-next (λ j. one j ≡ false) i (failed (one i) (λ e. omega (arith, f e .0, n .0))) (n .1))
   leading-stays i b k f (inr m) =
@@ -152,7 +156,8 @@ module _ (h : Phase → Bool) (before : Session → Session → Bool) (o : Stric
       nobody : some (λ u. p u && before u s) (standing h l) ≡ false
       nobody =
           sym (some-stands h (λ u. p u && before u s) l)
-          ∙ some-nowhere (stands h (λ u. p u && before u s)) l (λ j k. apart (h (getD l j none .phase)) (p (sessionOf l j)) (before (sessionOf l j) s) (m .least j k))
+          ∙ some-nowhere (stands h (λ u. p u && before u s)) l
+          (λ j k. apart (h (getD l j none .phase)) (p (sessionOf l j)) (before (sessionOf l j) s) (m .least j k))
         where
           apart : (a c d : Bool) → ((a && c) ≡ true → d ≡ false) → (a && (c && d)) ≡ false
           apart true true d f = f refl
@@ -167,7 +172,8 @@ module _ (h : Phase → Bool) (before : Session → Session → Bool) (o : Stric
       behind j k false e = led-one (getD l j none) e
       behind j k true e = go (some (λ u. p u && before u (sessionOf l j)) (standing h l)) refl
         where
-          go : (v : Bool) → some (λ u. p u && before u (sessionOf l j)) (standing h l) ≡ v → (h (getD l j none .phase) && (p (sessionOf l j) && not v)) ≡ false
+          go : (v : Bool) → some (λ u. p u && before u (sessionOf l j)) (standing h l) ≡ v
+              → (h (getD l j none .phase) && (p (sessionOf l j) && not v)) ≡ false
           go true g = last (h (getD l j none .phase)) (p (sessionOf l j))
             where
               last : (a c : Bool) → (a && (c && false)) ≡ false
@@ -180,7 +186,8 @@ module _ (h : Phase → Bool) (before : Session → Session → Bool) (o : Stric
               absurd (omega (
                 arith,
                 some-none (λ u. p u && before u (sessionOf l j)) (standing h l) g,
-                counted-at h (λ u. p u && before u (sessionOf l j)) l b (m .among) (both-and (h (getD l b none .phase)) (p s && before s (sessionOf l j)) (w .0) y),
+                counted-at h (λ u. p u && before u (sessionOf l j)) l b (m .among)
+                    (both-and (h (getD l b none .phase)) (p s && before s (sessionOf l j)) (w .0) y),
               ))
 
 -- ## A better one
@@ -190,7 +197,8 @@ module _ (o : Order) (t : Test) (l : List Verdict) (i best : ℕ) where
     as-order : (b : Bool) → b ≡ stands h (sessionTest t) (getD l i none) → stands (orderStand o) (sessionTest t) (getD l i none) ≡ b
     as-order b e = ap (λ g. stands g (sessionTest t) (getD l i none)) (sym same) ∙ sym e
 
-    pub better-is : (b r : Bool) → b ≡ stands h (sessionTest t) (getD l i none) → b ≡ true → best < length l → r ≡ orderTest o (sessionOf l i) (sessionOf l best) → r ≡ isBetter o t l i best
+    pub better-is : (b r : Bool) → b ≡ stands h (sessionTest t) (getD l i none) → b ≡ true → best < length l
+        → r ≡ orderTest o (sessionOf l i) (sessionOf l best) → r ≡ isBetter o t l i best
     better-is b r e f k g = rw (as-order b e ∙ f, lt-ltb best (length l) k) g
 
     pub better-first : (b : Bool) → b ≡ stands h (sessionTest t) (getD l i none) → b ≡ true → length l ≤ best → true ≡ isBetter o t l i best

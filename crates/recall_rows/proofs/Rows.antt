@@ -28,7 +28,8 @@ rows-loaded (suc n) (suc i) m d h =
 -- what is read from the first word of row i on
 pub load-is : (n i : ℕ) (m : List ℕ) (d : Verdict) → i < n → verdictOf (λ k. getD m (i * width + k) 0) ≡ getD (verdictsIn n m) i d
 load-is n i m d h =
-    let at : verdictOf (λ k. getD m (i * width + k) 0) ≡ row (drop (i * width) m) = λ j. verdictOf (λ k. sym (getD-drop (i * width) m k 0) j) in
+    let at : verdictOf (λ k. getD m (i * width + k) 0) ≡ row (drop (i * width) m) =
+    λ j. verdictOf (λ k. sym (getD-drop (i * width) m k 0) j) in
     at ∙ rows-loaded n i m d h
 
 -- ## A row written
@@ -59,7 +60,8 @@ put-sets b k (v ∷ vs) m =
 abbrev with : ℕ → List ℕ → List ℕ → List ℕ
 with i m w = take (i * width) m ++ (w ++ drop (i * width + width) m)
 
-row-with : (n i : ℕ) (m : List ℕ) (v : Verdict) → i < n → n * width ≤ length m → verdictsIn n (with i m (wordsOf v)) ≡ set (verdictsIn n m) i v
+row-with : (n i : ℕ) (m : List ℕ) (v : Verdict) → i < n → n * width ≤ length m
+    → verdictsIn n (with i m (wordsOf v)) ≡ set (verdictsIn n m) i v
 unfolding verdictsIn
 row-with zero i m v h k = absurd (omega arith)
 row-with (suc n) zero m v h k = ap (λ u. u ∷ verdictsIn n (drop width m)) (words-back v (drop width m))
@@ -71,10 +73,12 @@ row-with (suc n) (suc i) m v h k =
     ap (λ (j : ℕ). take j m ++ (w ++ drop (suc i * width + width) m)) e
     ∙ ap (λ t. t ++ (w ++ drop (suc i * width + width) m)) (take-add width (i * width) m)
     ∙ append-assoc (take width m) (take (i * width) (drop width m)) (w ++ drop (suc i * width + width) m)
-    ∙ ap (λ t. take width m ++ (take (i * width) (drop width m) ++ (w ++ t))) (ap (λ (j : ℕ). drop j m) (sym f) ∙ sym (drop-drop (i * width + width) width m)) in
+    ∙ ap (λ t. take width m ++ (take (i * width) (drop width m) ++ (w ++ t)))
+    (ap (λ (j : ℕ). drop j m) (sym f) ∙ sym (drop-drop (i * width + width) width m)) in
     let long : length (take width m) ≡ width = length-take-le width m (omega arith) in
     ap (verdictsIn (suc n)) g
-    ∙ ap₂ (λ u r. u ∷ r) (first-row m (with i (drop width m) w) (omega arith)) (ap (verdictsIn n) (drop-front (take width m) (with i (drop width m) w) width long))
+    ∙ ap₂ (λ u r. u ∷ r) (first-row m (with i (drop width m) w) (omega arith))
+    (ap (verdictsIn n) (drop-front (take width m) (with i (drop width m) w) width long))
     ∙ ap (λ r. row m ∷ r) (row-with n i (drop width m) v (le-of-suc-le-suc h) (simp length-drop (omega arith)))
   where
     drop-front : (a b : List ℕ) (j : ℕ) → length a ≡ j → drop j (a ++ b) ≡ b

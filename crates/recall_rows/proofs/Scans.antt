@@ -59,9 +59,11 @@ module _ (k n r : ℕ) where
 
   pub ended-code : eqb k 3 ≡ hasEnded (phaseOf k n r)
   unfolding phaseOf
-  ended-code = go (eqb k 1) (eqb k 2) (eqb k 3) (λ e f. omega (arith, eqb-true k 1 e, eqb-true k 3 f)) (λ e f. omega (arith, eqb-true k 2 e, eqb-true k 3 f))
+  ended-code = go (eqb k 1) (eqb k 2) (eqb k 3) (λ e f. omega (arith, eqb-true k 1 e, eqb-true k 3 f))
+      (λ e f. omega (arith, eqb-true k 2 e, eqb-true k 3 f))
     where
-      go : (a b c : Bool) → (a ≡ true → c ≡ true → ⊥) → (b ≡ true → c ≡ true → ⊥) → c ≡ hasEnded (cond a Waits (cond b Started (cond c (Ended n r) Out)))
+      go : (a b c : Bool) → (a ≡ true → c ≡ true → ⊥) → (b ≡ true → c ≡ true → ⊥)
+          → c ≡ hasEnded (cond a Waits (cond b Started (cond c (Ended n r) Out)))
       go true b true h i = absurd (h refl refl)
       go true b false h i = refl
       go false true true h i = absurd (i refl refl)
@@ -87,13 +89,15 @@ head l i d h = let e : suc i ≡ i + 1 = omega arith in drop-cons l i d h ∙ ap
 pub sought-none : (p : Verdict → Bool) (l : List Verdict) → Sought p l 0
 sought-none p l = (omega arith, omega arith)
 
-pub sought-more : (p : Verdict → Bool) (l : List Verdict) (i : ℕ) (d : Verdict) → i < length l → p (getD l i d) ≡ false → Sought p l i → Sought p l (i + 1)
+pub sought-more : (p : Verdict → Bool) (l : List Verdict) (i : ℕ) (d : Verdict) → i < length l → p (getD l i d) ≡ false → Sought p l i
+    → Sought p l (i + 1)
 unfolding place
 sought-more p l i d h e s =
     let f : place p (drop i l) ≡ suc (place p (drop (i + 1) l)) = rw (head l i d h, e) refl in
     (omega arith, omega (arith, s .1))
 
-pub sought-hit : (p : Verdict → Bool) (l : List Verdict) (i : ℕ) (d : Verdict) → i < length l → p (getD l i d) ≡ true → Sought p l i → i ≡ place p l
+pub sought-hit : (p : Verdict → Bool) (l : List Verdict) (i : ℕ) (d : Verdict) → i < length l → p (getD l i d) ≡ true → Sought p l i
+    → i ≡ place p l
 unfolding place
 sought-hit p l i d h e s =
     let f : place p (drop i l) ≡ 0 = rw (head l i d h, e) refl in
@@ -114,7 +118,8 @@ module _ (h : Phase → Bool) (p : Session → Bool) (l : List Verdict) where
   pub counted-none : Counted h p l 0 0
   counted-none = (omega arith, omega arith, omega arith)
 
-  pub counted-more : (i k : ℕ) (d : Verdict) (b : Bool) → i < length l → stands h p (getD l i d) ≡ b → Counted h p l i k → Counted h p l (i + 1) (bit b + k)
+  pub counted-more : (i k : ℕ) (d : Verdict) (b : Bool) → i < length l → stands h p (getD l i d) ≡ b → Counted h p l i k
+      → Counted h p l (i + 1) (bit b + k)
   counted-more i k d b g e s =
       let v = getD l i d in
       let f : count p (standing h (drop i l)) ≡ bit (stands h p v) + count p (standing h (drop (i + 1) l)) =
@@ -135,6 +140,7 @@ pub count-all : (h : Phase → Bool) (l : List Verdict) → count (λ s. true) (
 count-all h [] = refl
 count-all h (v ∷ l) = count-put (λ s. true) (h (v .phase)) (v .session) (standing h l) ∙ go (h (v .phase)) (count-all h l)
   where
-    go : (b : Bool) → count (λ s. true) (standing h l) ≡ count (λ v. h (v .phase)) l → bit (b && true) + count (λ s. true) (standing h l) ≡ bit b + count (λ v. h (v .phase)) l
+    go : (b : Bool) → count (λ s. true) (standing h l) ≡ count (λ v. h (v .phase)) l
+        → bit (b && true) + count (λ s. true) (standing h l) ≡ bit b + count (λ v. h (v .phase)) l
     go true e = omega (arith, e)
     go false e = omega (arith, e)

@@ -60,7 +60,8 @@ abbrev pub wordsOf : Verdict → List ℕ
 wordsOf v =
     let f = v .phase in
     let s = v .session in
-    codeOf f ∷ nthOf f ∷ resultOf f ∷ s .conn ∷ s .id ∷ s .prior ∷ s .start .0 ∷ s .end .0 ∷ s .access ∷ s .overrides ∷ s .mux ∷ s .event ∷ s .played .0 ∷ []
+    codeOf f ∷ nthOf f ∷ resultOf f ∷ s .conn ∷ s .id ∷ s .prior ∷ s .start .0 ∷ s .end .0 ∷ s .access ∷ s .overrides ∷ s .mux ∷ s .event
+    ∷ s .played .0 ∷ []
 
 -- the verdict in the first words
 abbrev pub row : List ℕ → Verdict

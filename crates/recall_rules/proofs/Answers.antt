@@ -23,8 +23,11 @@ use Rattle.rules.specs.Answers as answers
 use Rattle.rules.specs.Answers.{sessionAt, fullBy, inserted, latest, recalls}
 use Rattle.rules.specs.Sound.{Once, Falling, Holding}
 use Rattle.rules.proofs.Count.{count-insertAt, count-append}
-use Rattle.recall_rules.specs.Verdicts.{Waits, isWaiting, hasStarted, isHeld, Verdict, none, verdict, standing, which, sessionOf, Same, Shows}
-use Rattle.recall_rules.specs.Work.{aborted, airs, onAir, holds, startOf, requested, unknownPrior, wrongNumber, collides, full, spliceResult, accepted, Spliced, later, answerSplice, answerAbort, airState, airID, airFeed, extendedResponse}
+use Rattle.recall_rules.specs.Verdicts.{Waits, isWaiting, hasStarted, isHeld, Verdict, none, verdict, standing, which, sessionOf}
+use Rattle.recall_rules.specs.Verdicts.{Same, Shows}
+use Rattle.recall_rules.specs.Work.{aborted, airs, onAir, holds, startOf, requested, unknownPrior, wrongNumber, collides, full}
+use Rattle.recall_rules.specs.Work.{spliceResult, accepted, Spliced, later, answerSplice, answerAbort, airState, airID, airFeed}
+use Rattle.recall_rules.specs.Work.{extendedResponse}
 use Rattle.recall_rules.proofs.Same.{same-some}
 use Rattle.recall_rules.proofs.Found.{count-appended, found, same, shows-held}
 use Rattle.recall_rules.proofs.Lately.{more-append, kept-same, recent-same}
@@ -69,11 +72,14 @@ module _ (l : List Verdict) (q : Queue) (e : Shows l q) where
       h : Same (standing isHeld l) (held q)
       h = shows-held l q e
 
-      go : (b : Bool) → ltb (which isHeld (is c p) l) (length l) ≡ b → sessionOf l (which isHeld (is c p) l) ≡ getD (held q) (place (is c p) (held q)) empty
-      go true f = sym (same isHeld (is c p) l (held q) h (omega (arith, o c p, count-append (is c p) (q .waiting) (q .started))) (ltb-true (which isHeld (is c p) l) (length l) f))
+      go : (b : Bool) → ltb (which isHeld (is c p) l) (length l) ≡ b → sessionOf l (which isHeld (is c p) l)
+          ≡ getD (held q) (place (is c p) (held q)) empty
+      go true f = sym (same isHeld (is c p) l (held q) h (omega (arith, o c p, count-append (is c p) (q .waiting) (q .started)))
+          (ltb-true (which isHeld (is c p) l) (length l) f))
       go false f =
           ap (λ (v : Verdict). v .session) (List·getD-eq-default l none (ltb-false (which isHeld (is c p) l) (length l) f))
-          ∙ sym (List·getD-eq-default (held q) empty (ltb-false (place (is c p) (held q)) (length (held q)) (sym (found isHeld (is c p) l (held q) h) ∙ f)))
+          ∙ sym (List·getD-eq-default (held q) empty (ltb-false (place (is c p) (held q)) (length (held q))
+          (sym (found isHeld (is c p) l (held q) h) ∙ f)))
 
   pub requested-same : Once q → (c : ℕ) (r : Request) → requested c r l ≡ answers.requested c r q
   unfolding requested answers.requested
@@ -81,12 +87,18 @@ module _ (l : List Verdict) (q : Queue) (e : Shows l q) where
 
 -- ## f: the new call's verdict stands behind the others
 
-appended-same : (s : Session) (l : List Verdict) (q : Queue) → Shows l q → Shows (l ++ (verdict Waits s ∷ [])) (withWaiting (inserted s (q .waiting)) q)
+appended-same : (s : Session) (l : List Verdict) (q : Queue) → Shows l q
+    → Shows (l ++ (verdict Waits s ∷ [])) (withWaiting (inserted s (q .waiting)) q)
 unfolding inserted
 appended-same s l q e =
     let a = more-append l (verdict Waits s) refl (e .numbered) in
     record {
-      waiting = λ r. omega (arith, count-appended isWaiting r l (verdict Waits s), e .waiting r, count-insertAt r (place (startsAfter (s .start .0)) (q .waiting)) s (q .waiting));
+      waiting = λ r. omega (
+        arith,
+        count-appended isWaiting r l (verdict Waits s),
+        e .waiting r,
+        count-insertAt r (place (startsAfter (s .start .0)) (q .waiting)) s (q .waiting),
+      );
       started = λ r. omega (arith, count-appended hasStarted r l (verdict Waits s), e .started r);
       lately = kept-same l _ q e a;
       numbered = a .numbered;
@@ -115,7 +127,12 @@ module _ (now : ℕ) (l : List Verdict) (q : Queue) (e : Shows l q) (h : Holding
   splice-same clock c r =
       rw (← (requested-same l q e (h .once) c r), ← (result-same l q e clock c r (requested c r l)))
       (chosen SameSpliced (eqb (spliceResult clock c r (requested c r l) l) 100) _ _ _ _
-      (λ f. record { turn = accepted-same (requested c r l) l q e (fit h); accepted = refl; moved = later-same (requested c r l) l q e (fit h) })
+      (λ f. record {
+        turn = accepted-same (requested c r l) l q e (fit h);
+        accepted = refl;
+        moved =
+            later-same (requested c r l) l q e (fit h);
+      })
       (λ f. record { turn = record { written = refl; shows = e }; accepted = refl; moved = refl }))
 
   pub abort-same : (c x : ℕ) → SameTurn (answerAbort c x l) (answers.answerAbort c x q)
@@ -123,7 +140,8 @@ module _ (now : ℕ) (l : List Verdict) (q : Queue) (e : Shows l q) (h : Holding
   abort-same c x =
       rw (holds-same l q e c x)
       (chosen SameTurn (state.holds c x q) _ _ _ _
-      (λ f. then-same _ _ (aborted c x) (ends.aborted c x) (record { written = refl; shows = e }) (aborted-same c x l q e (fit h) (h .proper) f))
+      (λ f. then-same _ _ (aborted c x) (ends.aborted c x) (record { written = refl; shows = e })
+      (aborted-same c x l q e (fit h) (h .proper) f))
       (λ f. record { written = refl; shows = e }))
 
   -- ## 02, CR 8
@@ -134,16 +152,20 @@ module _ (now : ℕ) (l : List Verdict) (q : Queue) (e : Shows l q) (h : Holding
 
   -- ## Alive, and the feed on air
 
-  pub alive-same : (airState l ≡ answers.airState (q .started)) × (airID l ≡ answers.airID (q .started)) × (airFeed l ≡ answers.airFeed (q .started))
+  pub alive-same : (airState l ≡ answers.airState (q .started)) × (airID l ≡ answers.airID (q .started)) ×
+      (airFeed l ≡ answers.airFeed (q .started))
   unfolding airState airID airFeed answers.airState answers.airID answers.airFeed
   alive-same = go (q .started) (e .started) (h .falling)
     where
       i : ℕ
       i = onAir l
 
-      go : (k : List Session) → Same (standing hasStarted l) k → Falling k → (airState l ≡ answers.airState k) × (airID l ≡ answers.airID k) × (airFeed l ≡ answers.airFeed k)
+      go : (k : List Session) → Same (standing hasStarted l) k → Falling k
+          → (airState l ≡ answers.airState k) × (airID l ≡ answers.airID k) × (airFeed l ≡ answers.airFeed k)
       go [] g o = rw (found hasStarted (airs l) l [] g, le-ltb (place (airs l) []) 0 (omega arith)) (refl, refl, refl)
       go (a ∷ k) g o =
-          let f : ltb i (length l) ≡ true = found hasStarted (airs l) l (a ∷ k) g ∙ lt-ltb (place (airs l) (a ∷ k)) (length (a ∷ k)) (omega (arith, top-place l (a ∷ k) g o)) in
-          let x = rw (top-place l (a ∷ k) g o) at (same hasStarted (airs l) l (a ∷ k) g (top-one l (a ∷ k) g o) (ltb-true i (length l) f)) in
+          let f : ltb i (length l) ≡ true = found hasStarted (airs l) l (a ∷ k) g
+          ∙ lt-ltb (place (airs l) (a ∷ k)) (length (a ∷ k)) (omega (arith, top-place l (a ∷ k) g o)) in
+          let x = rw (top-place l (a ∷ k) g o) at (same hasStarted (airs l) l (a ∷ k) g (top-one l (a ∷ k) g o) (ltb-true i (length l) f))
+          in
           rw f (refl, ap (λ (s : Session). s .id) (sym x), refl)

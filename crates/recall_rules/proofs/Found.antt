@@ -12,7 +12,8 @@ use Rattle.rules.specs.Lists.{bit, put, some, count, place, removeAt}
 use Rattle.rules.specs.State.{Queue, empty, held}
 use Rattle.rules.proofs.Tests.{and-both, both-and}
 use Rattle.rules.proofs.Count.{count-put, count-append, count-removeAt, place-holds, some-place}
-use Rattle.recall_rules.specs.Verdicts.{Phase, Out, Waits, Started, Ended, isWaiting, hasStarted, isHeld, Verdict, none, verdict, standing, stands, which, sessionOf, turned, Same, Shows}
+use Rattle.recall_rules.specs.Verdicts.{Phase, Out, Waits, Started, Ended, isWaiting, hasStarted, isHeld, Verdict, none, verdict}
+use Rattle.recall_rules.specs.Verdicts.{standing, stands, which, sessionOf, turned, Same, Shows}
 use Rattle.recall_rules.proofs.Same.{same-some, same-one}
 
 module _ (h : Phase → Bool) where
@@ -33,20 +34,36 @@ module _ (h : Phase → Bool) where
       go true ih = omega arith
       go false ih = omega arith
 
-  pub count-appended : (r : Session → Bool) (l : List Verdict) (v : Verdict) → count r (standing h (l ++ (v ∷ []))) ≡ bit (h (v .phase) && r (v .session)) + count r (standing h l)
+  pub count-appended : (r : Session → Bool) (l : List Verdict) (v : Verdict)
+      → count r (standing h (l ++ (v ∷ []))) ≡ bit (h (v .phase) && r (v .session)) + count r (standing h l)
   count-appended r [] v = count-put r (h (v .phase)) (v .session) []
-  count-appended r (u ∷ l) v = omega (arith, count-put r (h (u .phase)) (u .session) (standing h (l ++ (v ∷ []))), count-put r (h (u .phase)) (u .session) (standing h l), count-appended r l v)
+  count-appended r (u ∷ l) v = omega (
+    arith,
+    count-put r (h (u .phase)) (u .session) (standing h (l ++ (v ∷ []))),
+    count-put r (h (u .phase)) (u .session) (standing h l),
+    count-appended r l v,
+  )
 
   -- the verdict of call i becomes v
   pub count-set : (r : Session → Bool) (l : List Verdict) (i : ℕ) (v : Verdict) → i < length l
       → bit (stands h r (getD l i none)) + count r (standing h (set l i v)) ≡ bit (stands h r v) + count r (standing h l)
   count-set r [] i v k = absurd (omega arith)
-  count-set r (u ∷ l) zero v k = omega (arith, count-put r (h (u .phase)) (u .session) (standing h l), count-put r (h (v .phase)) (v .session) (standing h l))
+  count-set r (u ∷ l) zero v k = omega (
+    arith,
+    count-put r (h (u .phase)) (u .session) (standing h l),
+    count-put r (h (v .phase)) (v .session) (standing h l),
+  )
   count-set r (u ∷ l) (suc i) v k =
-      omega (arith, count-put r (h (u .phase)) (u .session) (standing h l), count-put r (h (u .phase)) (u .session) (standing h (set l i v)), count-set r l i v (omega arith))
+      omega (
+        arith,
+        count-put r (h (u .phase)) (u .session) (standing h l),
+        count-put r (h (u .phase)) (u .session) (standing h (set l i v)),
+        count-set r l i v (omega arith),
+      )
 
   -- call i is among those that stand so
-  pub counted-at : (r : Session → Bool) (l : List Verdict) (i : ℕ) → i < length l → stands h r (getD l i none) ≡ true → 0 < count r (standing h l)
+  pub counted-at : (r : Session → Bool) (l : List Verdict) (i : ℕ) → i < length l → stands h r (getD l i none) ≡ true
+      → 0 < count r (standing h l)
   counted-at r [] i k e = absurd (omega arith)
   counted-at r (v ∷ l) zero k e = omega (arith, count-put r (h (v .phase)) (v .session) (standing h l), ap bit e)
   counted-at r (v ∷ l) (suc i) k e = omega (arith, count-put r (h (v .phase)) (v .session) (standing h l), counted-at r l i (omega arith) e)
@@ -67,12 +84,21 @@ module _ (h : Phase → Bool) where
       same = same-one p (standing h l) w e one (sessionOf l (which h p l)) counted (passes .1)
         where
           counted : (r : Session → Bool) → r (sessionOf l (which h p l)) ≡ true → 0 < count r (standing h l)
-          counted r g = counted-at r l (which h p l) k (both-and (h (getD l (which h p l) none .phase)) (r (sessionOf l (which h p l))) (passes .0) g)
+          counted r g = counted-at r l (which h p l) k (both-and (h (getD l (which h p l) none .phase)) (r (sessionOf l (which h p l)))
+              (passes .0) g)
 
       -- once its verdict is another, it is not among them
       pub left : (f : Phase) → h f ≡ false → Same (standing h (turned (which h p l) f l)) (removeAt (place p w) w)
       left f z r =
-          omega (arith, e r, count-set r l (which h p l) (verdict f (sessionOf l (which h p l))) k, count-removeAt r (place p w) w empty there, ap (λ y. bit (r y)) same, was, is-not)
+          omega (
+            arith,
+            e r,
+            count-set r l (which h p l) (verdict f (sessionOf l (which h p l))) k,
+            count-removeAt r (place p w) w empty there,
+            ap (λ y. bit (r y)) same,
+            was,
+            is-not,
+          )
         where
           was : bit (stands h r (getD l (which h p l) none)) ≡ bit (r (sessionOf l (which h p l)))
           was = rw (passes .0)
@@ -81,7 +107,8 @@ module _ (h : Phase → Bool) where
           is-not = rw z
 
 -- those that stand otherwise before and after are as they were
-pub others : (h g : Phase → Bool) (p : Session → Bool) (l : List Verdict) (v : Verdict) → ((f : Phase) → h f ≡ true → g f ≡ false) → which h p l < length l
+pub others : (h g : Phase → Bool) (p : Session → Bool) (l : List Verdict) (v : Verdict) → ((f : Phase) → h f ≡ true → g f ≡ false)
+    → which h p l < length l
     → (r : Session → Bool) → count r (standing g (set l (which h p l) v)) ≡ bit (stands g r v) + count r (standing g l)
 others h g p l v apart k r = omega (arith, count-set g r l (which h p l) v k, was)
   where
@@ -100,7 +127,8 @@ shows-held l q e r = omega (arith, parts l, e .waiting r, e .started r, count-ap
     parts (v ∷ l) = go (v .phase) (parts l)
       where
         go : (f : Phase) → count r (standing isHeld l) ≡ count r (standing isWaiting l) + count r (standing hasStarted l)
-            → count r (put (isHeld f) (v .session) (standing isHeld l)) ≡ count r (put (isWaiting f) (v .session) (standing isWaiting l)) + count r (put (hasStarted f) (v .session) (standing hasStarted l))
+            → count r (put (isHeld f) (v .session) (standing isHeld l)) ≡ count r (put (isWaiting f) (v .session) (standing isWaiting l))
+            + count r (put (hasStarted f) (v .session) (standing hasStarted l))
         go Out ih = ih
         go Waits ih = omega arith
         go Started ih = omega arith

@@ -17,7 +17,8 @@ use Rattle.rules.specs.declared.Ending.the-variants.{Complete, Failed}
 use Rattle.rules.specs.Lists.{All, bit, some, count, place, removeAt}
 use Rattle.rules.specs.Reading.{nobody}
 use Rattle.rules.specs.State as state
-use Rattle.rules.specs.State.{Queue, empty, follows, startsAt, endsAt, sooner, earliest, notAfter, held, toCome, withWaiting, withStarted, rememberedAll}
+use Rattle.rules.specs.State.{Queue, empty, follows, startsAt, endsAt, sooner, earliest, notAfter, held, toCome, withWaiting, withStarted}
+use Rattle.rules.specs.State.{rememberedAll}
 use Rattle.rules.specs.Ends as ends
 use Rattle.rules.specs.Ends.{ended, past}
 use Rattle.rules.specs.Instants as instants
@@ -33,13 +34,16 @@ use Rattle.rules.proofs.Tick.{runAll-enough, all-onAir}
 use Rattle.rules.proofs.Held.{proper-plays}
 use Rattle.rules.proofs.Priors.{Orderly, orderly-fewer}
 use Rattle.rules.proofs.Sound.{holding-next}
-use Rattle.recall_rules.specs.Verdicts.{Phase, Out, Waits, Started, Ended, isWaiting, hasStarted, isHeld, Verdict, none, verdict, standing, stands, which, sessionOf, turned, asEnded, over, Same, Shows}
-use Rattle.recall_rules.specs.Work.{Walk, Turn, quiet, andThen, walk, higher, airs, onAir, asWas, dismissed, mayStart, ousted, started, failed, launched, startAt, endAt, instant, elapse, due, run, runAll}
+use Rattle.recall_rules.specs.Verdicts.{Phase, Out, Waits, Started, Ended, isWaiting, hasStarted, isHeld, Verdict, none, verdict}
+use Rattle.recall_rules.specs.Verdicts.{standing, stands, which, sessionOf, turned, asEnded, over, Same, Shows}
+use Rattle.recall_rules.specs.Work.{Walk, Turn, quiet, andThen, walk, higher, airs, onAir, asWas, dismissed, mayStart, ousted}
+use Rattle.recall_rules.specs.Work.{started, failed, launched, startAt, endAt, instant, elapse, due, run, runAll}
 use Rattle.recall_rules.proofs.Same.{same-some, same-earliest, same-length}
 use Rattle.recall_rules.proofs.Found.{length-standing, count-set, found, same, passes, there, left, others, shows-held}
 use Rattle.recall_rules.proofs.Lately.{more-set, more-over, more-started, started-unended, found-unended, kept-more, kept-same}
 use Rattle.recall_rules.proofs.Leaving.{same-not, started-apart, falling-ordered, leads, leads-first, started-same}
-use Rattle.recall_rules.proofs.Ends.{SameTurn, then-same, chosen, Fit, fit, without-out, without-end, has-number, dismissed-same, endings-same}
+use Rattle.recall_rules.proofs.Ends.{SameTurn, then-same, chosen, Fit, fit, without-out, without-end, has-number, dismissed-same}
+use Rattle.recall_rules.proofs.Ends.{endings-same}
 
 -- ## The one on air
 
@@ -65,23 +69,30 @@ module _ (l : List Verdict) (k : List Session) (e : Same (standing hasStarted l)
 -- ## Start
 
 -- one that outranks the highest outranks all
-may-start : (s : Session) (l : List Verdict) (k : List Session) → Same (standing hasStarted l) k → Falling k → mayStart s l ≡ instants.mayStart s k
+may-start : (s : Session) (l : List Verdict) (k : List Session) → Same (standing hasStarted l) k → Falling k
+    → mayStart s l ≡ instants.mayStart s k
 unfolding mayStart instants.mayStart
-may-start s l k e o = rw (same-some (λ u. true) (standing hasStarted l) k e, same-some (λ u. not (outranks s u)) (standing hasStarted l) k e) (go k o)
+may-start s l k e o = rw (
+  same-some (λ u. true) (standing hasStarted l) k e,
+  same-some (λ u. not (outranks s u)) (standing hasStarted l) k e,
+) (go k o)
   where
-    go : (k : List Session) → Falling k → (not (some (λ u. true) k) || (eqb (s .overrides) 1 && not (some (λ u. not (outranks s u)) k))) ≡ instants.mayStart s k
+    go : (k : List Session) → Falling k → (not (some (λ u. true) k) || (eqb (s .overrides) 1 && not (some (λ u. not (outranks s u)) k)))
+        ≡ instants.mayStart s k
     go [] o = refl
     go (a ∷ k) o = ap (λ b. eqb (s .overrides) 1 && b) (top (outranks s a) refl)
       where
         top : (b : Bool) → outranks s a ≡ b → not (not b || some (λ u. not (outranks s u)) k) ≡ b
         top true f =
             rw (none-some (λ u. not (outranks s u)) k (all-into (λ u. u .access < a .access) (λ u. not (outranks s u) ≡ false)
-            (λ u h. let g = ltb-true (a .access) (s .access + s .overrides) f in rw (lt-ltb (u .access) (s .access + s .overrides) (omega arith))) k (o .0)))
+            (λ u h. let g = ltb-true (a .access) (s .access + s .overrides) f in
+            rw (lt-ltb (u .access) (s .access + s .overrides) (omega arith))) k (o .0)))
         top false f = refl
 
 -- ## 02, CR 4: the equal one on air ends at once
 
-pub ousted-same : (s : Session) (l : List Verdict) (q : Queue) → Shows l q → Orderly (q .waiting) → Falling (q .started) → All Proper (q .started)
+pub ousted-same : (s : Session) (l : List Verdict) (q : Queue) → Shows l q → Orderly (q .waiting) → Falling (q .started)
+    → All Proper (q .started)
     → SameTurn (ousted s l) (instants.ousted s q)
 unfolding ousted instants.ousted instants.meetsEqual removeAt
 ousted-same s l q e w o p = go (q .started) (e .started) o p
@@ -89,19 +100,27 @@ ousted-same s l q e w o p = go (q .started) (e .started) o p
     i : ℕ
     i = onAir l
 
-    go : (k : List Session) → Same (standing hasStarted l) k → Falling k → All Proper k → SameTurn (ousted s l) (instants.ousted s (withStarted k q))
-    go [] g o p = rw (found hasStarted (airs l) l [] g, le-ltb (place (airs l) []) 0 (omega arith)) (record { written = refl; shows = record { waiting = e .waiting; started = g; lately = e .lately; numbered = e .numbered } })
+    go : (k : List Session) → Same (standing hasStarted l) k → Falling k → All Proper k
+        → SameTurn (ousted s l) (instants.ousted s (withStarted k q))
+    go [] g o p = rw (found hasStarted (airs l) l [] g, le-ltb (place (airs l) []) 0 (omega arith))
+        (record { written = refl; shows = record { waiting = e .waiting; started = g; lately = e .lately; numbered = e .numbered } })
     go (a ∷ k) g o p =
         let at = top-place l (a ∷ k) g o in
         let one = top-one l (a ∷ k) g o in
-        let f : ltb i (length l) ≡ true = found hasStarted (airs l) l (a ∷ k) g ∙ lt-ltb (place (airs l) (a ∷ k)) (length (a ∷ k)) (omega (arith, at)) in
+        let f : ltb i (length l) ≡ true = found hasStarted (airs l) l (a ∷ k) g
+        ∙ lt-ltb (place (airs l) (a ∷ k)) (length (a ∷ k)) (omega (arith, at)) in
         let m = ltb-true i (length l) f in
         let u = sessionOf l i in
         let x : a ≡ u = rw at at (same hasStarted (airs l) l (a ∷ k) g one m) in
         let b = more-over (Complete 125) l i m (found-unended hasStarted (airs l) l started-unended m) (e .numbered) in
         let y = ends.ending (ends.oneEnd (Complete 125) u) (withStarted k q) .queue in
         let v : Shows (over (Complete 125) i l) y = record {
-          waiting = λ r. omega (arith, e .waiting r, others hasStarted isWaiting (airs l) l (verdict (asEnded (Complete 125) u l) u) started-apart m r);
+          waiting = λ r. omega (
+            arith,
+            e .waiting r,
+            others hasStarted isWaiting (airs l) l (verdict (asEnded (Complete 125) u l) u)
+                started-apart m r,
+          );
           started = rw at at (left hasStarted (airs l) l (a ∷ k) g one m (asEnded (Complete 125) u l) refl);
           lately = kept-more l _ q _ e b;
           numbered = b .numbered;
@@ -111,7 +130,16 @@ ousted-same s l q e w o p = go (q .started) (e .started) o p
         (chosen SameTurn (eqb (u .access) (s .access)) _ _ _ _
         (λ h. then-same _ _ (dismissed 125 (u .conn) (u .id)) (ends.dismissed 125 (u .conn) (u .id)) (record { written = refl; shows = v })
         (dismissed-same 125 (u .conn) (u .id) (over (Complete 125) i l) y v w z))
-        (λ h. record { written = refl; shows = record { waiting = e .waiting; started = rw x at g; lately = e .lately; numbered = e .numbered } }))
+        (λ h. record {
+          written = refl;
+          shows = record {
+            waiting = e .waiting;
+            started = rw x at g;
+            lately = e .lately;
+            numbered =
+                e .numbered;
+          };
+        }))
 
 -- what is not held stays as it is
 pub record Stays (l m : List Verdict) : Type 0 where
@@ -151,7 +179,9 @@ stays-turned h p l f up k = record { long = length-set l j (verdict f (sessionOf
 stays-walk : (how : Ending) (n c x : ℕ) (l : List Verdict) → Stays l (walk how n c x l .left)
 unfolding walk
 stays-walk how zero c x l = record { long = refl; out = λ i e. refl }
-stays-walk how (suc n) c x l = by (λ (w : Walk). Stays l (w .left)) (ltb j (length l)) _ _ (λ e. stays-then l (over how j l) _ (stays-turned isWaiting (follows c x) l (asEnded how (sessionOf l j) l) waiting-held (ltb-true j (length l) e)) (stays-walk how n c (sessionOf l j .id) (over how j l))) (λ e. record { long = refl; out = λ i e. refl })
+stays-walk how (suc n) c x l = by (λ (w : Walk). Stays l (w .left)) (ltb j (length l)) _ _
+    (λ e. stays-then l (over how j l) _ (stays-turned isWaiting (follows c x) l (asEnded how (sessionOf l j) l) waiting-held
+    (ltb-true j (length l) e)) (stays-walk how n c (sessionOf l j .id) (over how j l))) (λ e. record { long = refl; out = λ i e. refl })
   where
     j : ℕ
     j = which isWaiting (follows c x) l
@@ -161,7 +191,8 @@ unfolding ousted andThen dismissed
 stays-ousted s l =
     by (λ (t : Turn). Stays l (t .verdicts)) (ltb i (length l) && eqb (sessionOf l i .access) (s .access)) _ _
     (λ e. stays-then l (over (Complete 125) i l) _
-    (stays-turned hasStarted (airs l) l (asEnded (Complete 125) (sessionOf l i) l) started-held (ltb-true i (length l) (and-both (ltb i (length l)) _ e .0))) (stays-walk _ _ _ _ (over (Complete 125) i l)))
+    (stays-turned hasStarted (airs l) l (asEnded (Complete 125) (sessionOf l i) l) started-held
+    (ltb-true i (length l) (and-both (ltb i (length l)) _ e .0))) (stays-walk _ _ _ _ (over (Complete 125) i l)))
     (λ e. record { long = refl; out = λ i e. refl })
   where
     i : ℕ
@@ -185,7 +216,8 @@ onto i s m u e k z =
     not-started : (r : Session → Bool) → bit (hasStarted (getD m i none .phase) && r (sessionOf m i)) ≡ 0
     not-started r = rw z
 
-pub startAt-same : (t : ℕ) (l : List Verdict) (q : Queue) → Shows l q → Fit q → All Proper (q .started) → SameTurn (startAt t l) (instants.startAt t q)
+pub startAt-same : (t : ℕ) (l : List Verdict) (q : Queue) → Shows l q → Fit q → All Proper (q .started)
+    → SameTurn (startAt t l) (instants.startAt t q)
 unfolding startAt launched started failed instants.startAt instants.launched
 startAt-same t l q e f p =
     rw (← (found isWaiting (startsAt t) l (q .waiting) (e .waiting)))
@@ -210,7 +242,8 @@ startAt-same t l q e f p =
     c = sorted-single t (q .waiting) (f .sorted)
 
     -- it goes on air
-    goes : i < length l → SameTurn (started i l) (ends.andThen (instants.ousted s v) (λ u. ends.writes (began s ∷ []) (withStarted (s ∷ u .started) u)))
+    goes : i < length l → SameTurn (started i l) (ends.andThen (instants.ousted s v)
+        (λ u. ends.writes (began s ∷ []) (withStarted (s ∷ u .started) u)))
     goes k =
         let n = turned i Out l in
         let a = ousted-same s n v (without-out (startsAt t) l q e c k) w (f .falling) p in
@@ -219,7 +252,8 @@ startAt-same t l q e f p =
         then-same _ _ _ _ a
         (record {
           written = refl;
-          shows = onto i s _ _ (a .shows) (omega (arith, b .long, length-set l i (verdict Out s))) (ap (λ (x : Verdict). x .phase) (b .out i (rw g) ∙ g));
+          shows = onto i s _ _ (a .shows) (omega (arith, b .long, length-set l i (verdict Out s)))
+              (ap (λ (x : Verdict). x .phase) (b .out i (rw g) ∙ g));
         })
 
     -- it fails
@@ -246,18 +280,25 @@ endAt-same t l q e o =
       shows = record {
         waiting = λ r. a .others r ∙ e .waiting r;
         started = a .left;
-        lately = ap (λ x. rememberedAll x (q .lately)) (sym (endings-same (Complete 100) (Complete 125) past (endsAt t) l (q .started) (e .started) o)) ∙ kept-more l _ q _ e b;
+        lately = ap (λ x. rememberedAll x (q .lately)) (sym (endings-same (Complete 100) (Complete 125) past (endsAt t) l (q .started)
+            (e .started) o)) ∙ kept-more l _ q _ e b;
         numbered = b .numbered;
       };
     }
 
-pub instant-same : (t : ℕ) (l : List Verdict) (q : Queue) → Shows l q → Fit q → All Proper (q .started) → SameTurn (instant t l) (instants.instant t q)
+pub instant-same : (t : ℕ) (l : List Verdict) (q : Queue) → Shows l q → Fit q → All Proper (q .started)
+    → SameTurn (instant t l) (instants.instant t q)
 unfolding instant instants.instant instants.endAt
 instant-same t l q e f p =
     let a = endAt-same t l q e (f .falling) in
     let late : Session → Bool = λ s. not (endsAt t s) in
     then-same _ _ (startAt t) (instants.startAt t) a
-    (startAt-same t _ _ (a .shows) (record { sorted = f .sorted; orderly = f .orderly; falling = fewer-falling (fewer-keep late (q .started)) (f .falling) })
+    (startAt-same t _ _ (a .shows) (record {
+      sorted = f .sorted;
+      orderly = f .orderly;
+      falling =
+          fewer-falling (fewer-keep late (q .started)) (f .falling);
+    })
     (all-keep Proper late (q .started) p))
 
 -- ## The time on air
@@ -281,8 +322,20 @@ elapse-same d l q e o = go (ltb i (length l)) refl (q .started) (e .started) o
         let x : a ≡ s = rw (top-place l (a ∷ k) g o) at (same hasStarted (airs l) l (a ∷ k) g one m) in
         let b = more-set l i (verdict Started (playing d s)) m (found-unended hasStarted (airs l) l started-unended m) (e .numbered) refl in
         record {
-          waiting = λ r. omega (arith, e .waiting r, others hasStarted isWaiting (airs l) l (verdict Started (playing d s)) started-apart m r);
-          started = λ r. omega (arith, g r, count-set hasStarted r l i (verdict Started (playing d s)) m, was one m r, ap (λ y. bit (r y)) x, ap (λ y. bit (r (playing d y))) x);
+          waiting = λ r. omega (
+            arith,
+            e .waiting r,
+            others hasStarted isWaiting (airs l) l (verdict Started (playing d s)) started-apart m
+                r,
+          );
+          started = λ r. omega (
+            arith,
+            g r,
+            count-set hasStarted r l i (verdict Started (playing d s)) m,
+            was one m r,
+            ap (λ y. bit (r y)) x,
+            ap (λ y. bit (r (playing d y))) x,
+          );
           lately = kept-same l _ q e b;
           numbered = b .numbered;
         }
@@ -290,14 +343,20 @@ elapse-same d l q e o = go (ltb i (length l)) refl (q .started) (e .started) o
         was : count (airs l) (a ∷ k) ≤ 1 → i < length l → (r : Session → Bool) → bit (stands hasStarted r (getD l i none)) ≡ bit (r s)
         was one m r = rw (passes hasStarted (airs l) l (a ∷ k) g one m .0)
     go false f [] g o = record { waiting = e .waiting; started = g; lately = e .lately; numbered = e .numbered }
-    go false f (a ∷ k) g o = absurd (omega (arith, ltb-false (place (airs l) (a ∷ k)) (length (a ∷ k)) (sym (found hasStarted (airs l) l (a ∷ k) g) ∙ f), top-place l (a ∷ k) g o))
+    go false f (a ∷ k) g o = absurd (omega (
+      arith,
+      ltb-false (place (airs l) (a ∷ k)) (length (a ∷ k))
+          (sym (found hasStarted (airs l) l (a ∷ k) g) ∙ f),
+      top-place l (a ∷ k) g o,
+    ))
 
 -- ## The next instant
 
 pub due-same : (l : List Verdict) (q : Queue) → Shows l q → due l ≡ state.due q
 unfolding due state.due
 due-same l q e =
-    ap₂ sooner (same-earliest (λ s. s .end) (standing hasStarted l) (q .started) (e .started)) (same-earliest (λ s. s .start) (standing isWaiting l) (q .waiting) (e .waiting))
+    ap₂ sooner (same-earliest (λ s. s .end) (standing hasStarted l) (q .started) (e .started))
+    (same-earliest (λ s. s .start) (standing isWaiting l) (q .waiting) (e .waiting))
 
 -- ## A tick
 
@@ -309,7 +368,8 @@ pub proper-elapse : (d : ℕ) (q : Queue) → All Proper (q .started) → All Pr
 unfolding instants.elapse
 proper-elapse d q p = all-onAir Proper proper-plays d (q .started) p
 
-run-same : (n now until : ℕ) (l : List Verdict) (q : Queue) → Shows l q → Holding now q → SameTurn (run n now until l) (instants.run n now until q)
+run-same : (n now until : ℕ) (l : List Verdict) (q : Queue) → Shows l q → Holding now q
+    → SameTurn (run n now until l) (instants.run n now until q)
 unfolding run instants.run
 run-same zero now until l q e h = record { written = refl; shows = elapse-same (until - now) l q e (h .falling) }
 run-same (suc n) now until l q e h = rw (due-same l q e) (go (notAfter until (state.due q)) refl (λ t. run-same n t until))
@@ -317,19 +377,28 @@ run-same (suc n) now until l q e h = rw (due-same l q e) (go (notAfter until (st
     Next : When → Type 0
     Next a =
         SameTurn (onwards (λ t. andThen (instant t (elapse (t - now) l)) (run n t until)) (quiet (elapse (until - now) l)) a)
-        (onwards (λ t. ends.andThen (instants.instant t (instants.elapse (t - now) q)) (instants.run n t until)) (ends.quiet (instants.elapse (until - now) q)) a)
+        (onwards (λ t. ends.andThen (instants.instant t (instants.elapse (t - now) q)) (instants.run n t until))
+        (ends.quiet (instants.elapse (until - now) q)) a)
 
     go : (a : When) → notAfter until (state.due q) ≡ a
-        → ((t : ℕ) (m : List Verdict) (v : Queue) → Shows m v → Holding t v → SameTurn (run n t until m) (instants.run n t until v)) → Next a
+        → ((t : ℕ) (m : List Verdict) (v : Queue) → Shows m v → Holding t v → SameTurn (run n t until m) (instants.run n t until v))
+        → Next a
     go Never f ih = record { written = refl; shows = elapse-same (until - now) l q e (h .falling) }
     go (At t) f ih =
         let d = t .0 - now in
-        let a = instant-same (t .0) (elapse d l) (instants.elapse d q) (elapse-same d l q e (h .falling)) (fit-elapse d q (fit h)) (proper-elapse d q (h .proper .started)) in
+        let a = instant-same (t .0) (elapse d l) (instants.elapse d q) (elapse-same d l q e (h .falling)) (fit-elapse d q (fit h))
+        (proper-elapse d q (h .proper .started)) in
         then-same _ _ (run n (t .0) until) (instants.run n (t .0) until) a (ih (t .0) _ _ (a .shows) (holding-next now until t q f h))
 
-pub runAll-same : (now until : ℕ) (l : List Verdict) (q : Queue) → Shows l q → Holding now q → SameTurn (runAll now until l) (instants.runAll now until q)
+pub runAll-same : (now until : ℕ) (l : List Verdict) (q : Queue) → Shows l q → Holding now q
+    → SameTurn (runAll now until l) (instants.runAll now until q)
 unfolding runAll
 runAll-same now until l q e h = rw (runAll-enough (2 * length l) now until q enough) (run-same (2 * length l) now until l q e h)
   where
     enough : toCome q ≤ 2 * length l
-    enough = omega (arith, same-length (standing isHeld l) (held q) (shows-held l q e), length-standing isHeld l, length-append (q .waiting) (q .started))
+    enough = omega (
+      arith,
+      same-length (standing isHeld l) (held q) (shows-held l q e),
+      length-standing isHeld l,
+      length-append (q .waiting) (q .started),
+    )

@@ -17,7 +17,9 @@ use Rattle.rules.specs.Ends.{past}
 use Rattle.rules.proofs.Tests.{clash, by, and-both}
 use Rattle.rules.proofs.Count.{place-holds}
 use Rattle.rules.proofs.Lately.{remembered-append, recent-next}
-use Rattle.recall_rules.specs.Verdicts.{Phase, Out, Waits, Started, Ended, isWaiting, hasStarted, hasEnded, Verdict, none, verdict, stands, which, sessionOf, ends, asEnded, over, first, isEnd, endedAs, pastOf, nthEnd, latelyFrom, recent, endsBelow, pasts, Numbered, Shows}
+use Rattle.recall_rules.specs.Verdicts.{Phase, Out, Waits, Started, Ended, isWaiting, hasStarted, hasEnded, Verdict, none, verdict}
+use Rattle.recall_rules.specs.Verdicts.{stands, which, sessionOf, ends, asEnded, over, first, isEnd, endedAs, pastOf, nthEnd}
+use Rattle.recall_rules.specs.Verdicts.{latelyFrom, recent, endsBelow, pasts, Numbered, Shows}
 use Rattle.recall_rules.specs.Work.{Walk, walk, leaving, earlier, higher, startedOnes, waitingOnes}
 
 -- ## A list with one element made anew, or one more
@@ -110,7 +112,14 @@ module _ (l : List Verdict) (i : ℕ) (v : Verdict) (k : i < length l) (was : ha
   more-set e =
       record {
         told = rw same-ends (below-same (ends l) (λ a h. not-it a (v .phase) e) ∙ behind-none (pasts l));
-        numbered = λ n h. omega (arith, same-ends, count-set (endedAs n) l i v k, ap bit (not-it n (getD l i none .phase) was), ap bit (not-it n (v .phase) e), o n (omega (arith, same-ends)));
+        numbered = λ n h. omega (
+          arith,
+          same-ends,
+          count-set (endedAs n) l i v k,
+          ap bit (not-it n (getD l i none .phase) was),
+          ap bit (not-it n (v .phase) e),
+          o n (omega (arith, same-ends)),
+        );
       }
     where
       same-ends : ends (set l i v) ≡ ends l
@@ -123,7 +132,14 @@ module _ (l : List Verdict) (i : ℕ) (v : Verdict) (k : i < length l) (was : ha
         told = rw one-more
             (ap₂ (λ x y. x ++ (y ∷ [])) (below-same (ends l) (λ a h. f a ∙ ne-eqb a (ends l) (λ g. omega arith)))
             (ap pastOf (seen (endedAs (ends l)) l i v k (f (ends l) ∙ eq-eqb (ends l) (ends l) refl) (o (ends l) (omega arith)))));
-        numbered = λ n h. omega (arith, one-more, count-set (endedAs n) l i v k, ap bit (not-it n (getD l i none .phase) was), ap bit (f n ∙ ne-eqb n (ends l) (λ g. omega (arith, one-more))), o n (omega (arith, one-more)));
+        numbered = λ n h. omega (
+          arith,
+          one-more,
+          count-set (endedAs n) l i v k,
+          ap bit (not-it n (getD l i none .phase) was),
+          ap bit (f n ∙ ne-eqb n (ends l) (λ g. omega (arith, one-more))),
+          o n (omega (arith, one-more)),
+        );
       }
     where
       one-more : ends (set l i v) ≡ suc (ends l)
@@ -139,7 +155,13 @@ pub more-append : (l : List Verdict) (v : Verdict) → hasEnded (v .phase) ≡ f
 more-append l v e o =
     record {
       told = rw same-ends (below (ends l) ∙ behind-none (pasts l));
-      numbered = λ n h. omega (arith, same-ends, count-more (endedAs n) l v, ap bit (not-it n (v .phase) e), o n (omega (arith, same-ends)));
+      numbered = λ n h. omega (
+        arith,
+        same-ends,
+        count-more (endedAs n) l v,
+        ap bit (not-it n (v .phase) e),
+        o n (omega (arith, same-ends)),
+      );
     }
   where
     same-ends : ends (l ++ (v ∷ [])) ≡ ends l
@@ -167,11 +189,14 @@ started-unended Started e = refl
 started-unended (Ended n r) e = sym e
 
 -- one that stands so and is found has not ended
-pub found-unended : (h : Phase → Bool) (p : Session → Bool) (l : List Verdict) → Unended h → which h p l < length l → hasEnded (getD l (which h p l) none .phase) ≡ false
+pub found-unended : (h : Phase → Bool) (p : Session → Bool) (l : List Verdict) → Unended h → which h p l < length l
+    → hasEnded (getD l (which h p l) none .phase) ≡ false
 found-unended h p l u k =
-    u (getD l (which h p l) none .phase) (and-both (h (getD l (which h p l) none .phase)) (p (sessionOf l (which h p l))) (place-holds (stands h p) l none k) .0)
+    u (getD l (which h p l) none .phase) (and-both (h (getD l (which h p l) none .phase)) (p (sessionOf l (which h p l)))
+    (place-holds (stands h p) l none k) .0)
 
-pub more-walk : (how : Ending) (n c x : ℕ) (l : List Verdict) → Numbered l → More l (map (past how) (walk how n c x l .gone)) (walk how n c x l .left)
+pub more-walk : (how : Ending) (n c x : ℕ) (l : List Verdict) → Numbered l
+    → More l (map (past how) (walk how n c x l .gone)) (walk how n c x l .left)
 unfolding walk
 more-walk how zero c x l o = more-none l o
 more-walk how (suc n) c x l o =
@@ -211,8 +236,10 @@ more-waiting p how l o = more-leaving isWaiting earlier p (λ s. how) waiting-un
 -- ## What is kept
 
 -- the ends are kept behind those before
-pub kept-more : (l m : List Verdict) (q : Queue) (es : List Past) → Shows l q → More l es m → rememberedAll es (q .lately) ≡ rememberedAll (pasts m) noneEnded
-kept-more l m q es e a = ap (rememberedAll es) (e .lately) ∙ (sym (remembered-append (pasts l) es noneEnded) ∙ ap (λ x. rememberedAll x noneEnded) (sym (a .told)))
+pub kept-more : (l m : List Verdict) (q : Queue) (es : List Past) → Shows l q → More l es m
+    → rememberedAll es (q .lately) ≡ rememberedAll (pasts m) noneEnded
+kept-more l m q es e a = ap (rememberedAll es) (e .lately) ∙ (sym (remembered-append (pasts l) es noneEnded)
+    ∙ ap (λ x. rememberedAll x noneEnded) (sym (a .told)))
 
 pub kept-same : (l m : List Verdict) (q : Queue) → Shows l q → More l [] m → q .lately ≡ rememberedAll (pasts m) noneEnded
 unfolding rememberedAll
@@ -225,7 +252,11 @@ record Ring (r : Lately) : Type 0 where
 ring-all : (es : List Past) (r : Lately) → Ring r → Ring (rememberedAll es r)
 unfolding rememberedAll remembered
 ring-all [] r h = h
-ring-all (e ∷ es) r h = ring-all es (remembered e r) (record { sixteen = length-set (r .places) (r .next) e ∙ h .sixteen; next = omega arith })
+ring-all (e ∷ es) r h = ring-all es (remembered e r) (record {
+  sixteen = length-set (r .places) (r .next) e ∙ h .sixteen;
+  next =
+      omega arith;
+})
 
 shorter : (k n : ℕ) (l : List Verdict) → take k (latelyFrom (suc k) n l) ≡ latelyFrom k n l
 unfolding latelyFrom

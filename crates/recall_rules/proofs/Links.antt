@@ -26,7 +26,8 @@ waitingIn l = count (λ s. true) (standing isWaiting l)
 module _ (p : Session → Bool) (l : List Verdict) (k : which isWaiting p l < length l) where
   waits-there : stands isWaiting (λ s. true) (getD l (which isWaiting p l) none) ≡ true
   waits-there =
-      let e = and-both (isWaiting (getD l (which isWaiting p l) none .phase)) (p (sessionOf l (which isWaiting p l))) (place-holds (stands isWaiting p) l none k) in
+      let e = and-both (isWaiting (getD l (which isWaiting p l) none .phase)) (p (sessionOf l (which isWaiting p l)))
+      (place-holds (stands isWaiting p) l none k) in
       both-and (isWaiting (getD l (which isWaiting p l) none .phase)) true (e .0) refl
 
   pub some-wait : 0 < waitingIn l
@@ -53,12 +54,14 @@ walk-enough how (suc m) zero c x l f g = none-found (ltb (which isWaiting (follo
     none-found false e = rw e
 walk-enough how (suc m) (suc n) c x l f g =
     let i = which isWaiting (follows c x) l in
-    go (ltb i (length l)) refl (λ k. let z = one-less (follows c x) l k how in walk-enough how m n c (sessionOf l i .id) (over how i l) (omega arith) (omega arith))
+    go (ltb i (length l)) refl (λ k. let z = one-less (follows c x) l k how in
+    walk-enough how m n c (sessionOf l i .id) (over how i l) (omega arith) (omega arith))
   where
     i : ℕ
     i = which isWaiting (follows c x) l
 
-    go : (b : Bool) → ltb i (length l) ≡ b → (i < length l → walk how m c (sessionOf l i .id) (over how i l) ≡ walk how n c (sessionOf l i .id) (over how i l))
+    go : (b : Bool) → ltb i (length l) ≡ b → (i < length l → walk how m c (sessionOf l i .id) (over how i l)
+        ≡ walk how n c (sessionOf l i .id) (over how i l))
         → walk how (suc m) c x l ≡ walk how (suc n) c x l
     go true e ih = rw (ih (ltb-true i (length l) e))
     go false e ih = rw e
@@ -69,13 +72,15 @@ module _ (how : Ending) (c x : ℕ) (l : List Verdict) where
   walk-none zero k = refl
   walk-none (suc n) k = rw (le-ltb (which isWaiting (follows c x) l) (length l) k)
 
-  walk-more : which isWaiting (follows c x) l < length l → let i = which isWaiting (follows c x) l in let on = walk how (length (over how i l)) c (sessionOf l i .id) (over how i l) in
+  walk-more : which isWaiting (follows c x) l < length l → let i = which isWaiting (follows c x) l in let on =
+      walk how (length (over how i l)) c (sessionOf l i .id) (over how i l) in
       walk how (length l) c x l ≡ record { gone = sessionOf l i ∷ on .gone; left = on .left }
   unfolding walk
   walk-more k =
       let i = which isWaiting (follows c x) l in
       let few : waitingIn l ≤ length l = omega (arith, count≤length (λ s. true) (standing isWaiting l), length-standing isWaiting l) in
-      walk-enough how (length l) (suc (length l)) c x l few (omega arith) ∙ rw (lt-ltb i (length l) k, length-set l i (verdict (asEnded how (sessionOf l i) l) (sessionOf l i))) refl
+      walk-enough how (length l) (suc (length l)) c x l few (omega arith)
+      ∙ rw (lt-ltb i (length l) k, length-set l i (verdict (asEnded how (sessionOf l i) l) (sessionOf l i))) refl
 
 module _ (r c x : ℕ) (l : List Verdict) where
   -- no link further
@@ -85,6 +90,7 @@ module _ (r c x : ℕ) (l : List Verdict) where
 
   -- one link, and on from there
   pub dismissed-more : which isWaiting (follows c x) l < length l → let i = which isWaiting (follows c x) l in
-      dismissed r c x l ≡ andThen (writes (ended (Response r) (sessionOf l i) ∷ []) (over (Response r) i l)) (dismissed r c (sessionOf l i .id))
+      dismissed r c x l ≡ andThen (writes (ended (Response r) (sessionOf l i) ∷ []) (over (Response r) i l))
+      (dismissed r c (sessionOf l i .id))
   unfolding dismissed andThen
   dismissed-more k = rw (walk-more (Response r) c x l k) refl

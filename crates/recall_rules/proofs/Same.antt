@@ -44,16 +44,22 @@ module _ (f : Session → Ninths) where
   earliest-counted t [] h = absurd h
   earliest-counted t (s ∷ l) h = go (until t s) refl (earliest f l) (earliest-counted t l) h
     where
-      go : (b : Bool) → until t s ≡ b → (a : When) → (By a t → 0 < count (until t) l) → By (sooner (At (f s)) a) t → 0 < bit b + count (until t) l
+      go : (b : Bool) → until t s ≡ b → (a : When) → (By a t → 0 < count (until t) l) → By (sooner (At (f s)) a) t
+          → 0 < bit b + count (until t) l
       go true e a ih h = omega arith
       go false e Never ih h = absurd (omega (arith, tests))
-      go false e (At u) ih h = omega (arith, by (λ w. By w t → 0 < count (until t) l) (leb (f s .0) (u .0)) _ _ (λ g k. absurd (omega (arith, tests))) (λ g k. ih k) h)
+      go false e (At u) ih h = omega (
+        arith,
+        by (λ w. By w t → 0 < count (until t) l) (leb (f s .0) (u .0)) _ _
+            (λ g k. absurd (omega (arith, tests))) (λ g k. ih k) h,
+      )
 
   counted-earliest : (t : ℕ) (l : List Session) → 0 < count (until t) l → By (earliest f l) t
   counted-earliest t [] h = absurd (omega arith)
   counted-earliest t (s ∷ l) h = go (until t s) refl (earliest f l) (counted-earliest t l) h
     where
-      go : (b : Bool) → until t s ≡ b → (a : When) → (0 < count (until t) l → By a t) → 0 < bit b + count (until t) l → By (sooner (At (f s)) a) t
+      go : (b : Bool) → until t s ≡ b → (a : When) → (0 < count (until t) l → By a t) → 0 < bit b + count (until t) l
+          → By (sooner (At (f s)) a) t
       go true e Never ih h = omega (arith, tests)
       go true e (At u) ih h = by (λ w. By w t) (leb (f s .0) (u .0)) _ _ (λ g. omega (arith, tests)) (λ g. omega (arith, tests))
       go false e Never ih h = absurd (ih (omega arith))
@@ -61,13 +67,15 @@ module _ (f : Session → Ninths) where
 
   pub same-earliest : (l m : List Session) → Same l m → earliest f l ≡ earliest f m
   same-earliest l m h =
-      go (earliest f l) (earliest f m) (λ t k. counted-earliest t m (omega (arith, earliest-counted t l k, h (until t)))) (λ t k. counted-earliest t l (omega (arith, earliest-counted t m k, h (until t))))
+      go (earliest f l) (earliest f m) (λ t k. counted-earliest t m (omega (arith, earliest-counted t l k, h (until t))))
+      (λ t k. counted-earliest t l (omega (arith, earliest-counted t m k, h (until t))))
     where
       go : (a b : When) → ((t : ℕ) → By a t → By b t) → ((t : ℕ) → By b t → By a t) → a ≡ b
       go Never Never i j = refl
       go Never (At u) i j = absurd (j (u .0) (omega arith))
       go (At t) Never i j = absurd (i (t .0) (omega arith))
-      go (At t) (At u) i j = let e : t .0 ≡ u .0 = omega (arith, i (t .0) (omega arith), j (u .0) (omega arith)) in ap (λ n. At (record { 0 = n })) e
+      go (At t) (At u) i j = let e : t .0 ≡ u .0 = omega (arith, i (t .0) (omega arith), j (u .0) (omega arith)) in
+          ap (λ n. At (record { 0 = n })) e
 
 -- ## The one that passes
 
@@ -88,15 +96,28 @@ only-place p (s ∷ m) (suc j) u h e = go (p s) refl (λ v. only-place p m j v (
 -- all that is said of a session
 abbrev alike : Session → Session → Bool
 alike a s =
-    eqb (a .conn) (s .conn) && (eqb (a .id) (s .id) && (eqb (a .prior) (s .prior) && (eqb (a .start .0) (s .start .0) && (eqb (a .end .0) (s .end .0)
-    && (eqb (a .access) (s .access) && (eqb (a .overrides) (s .overrides) && (eqb (a .mux) (s .mux) && (eqb (a .event) (s .event) && eqb (a .played .0) (s .played .0)))))))))
+    eqb (a .conn) (s .conn) && (eqb (a .id) (s .id) && (eqb (a .prior) (s .prior) &&
+    (eqb (a .start .0) (s .start .0) && (eqb (a .end .0) (s .end .0)
+    && (eqb (a .access) (s .access) && (eqb (a .overrides) (s .overrides) &&
+    (eqb (a .mux) (s .mux) && (eqb (a .event) (s .event) && eqb (a .played .0) (s .played .0)))))))))
 
 alike-self : (a : Session) → alike a a ≡ true
 alike-self a = simp eqb-same
 
 fields : ℕ → ℕ → ℕ → ℕ → ℕ → ℕ → ℕ → ℕ → ℕ → ℕ → Session
 fields c i p t e a o m v d =
-    record { conn = c; id = i; prior = p; start = record { 0 = t }; end = record { 0 = e }; access = a; overrides = o; mux = m; event = v; played = record { 0 = d } }
+    record {
+      conn = c;
+      id = i;
+      prior = p;
+      start = record { 0 = t };
+      end = record { 0 = e };
+      access = a;
+      overrides = o;
+      mux = m;
+      event = v;
+      played = record { 0 = d };
+    }
 
 alike-same : (a s : Session) → alike a s ≡ true → s ≡ a
 unfolding fields
@@ -110,17 +131,22 @@ alike-same a s e =
     let b7 = and-both (eqb (a .overrides) (s .overrides)) _ (b6 .1) in
     let b8 = and-both (eqb (a .mux) (s .mux)) _ (b7 .1) in
     let b9 = and-both (eqb (a .event) (s .event)) _ (b8 .1) in
-    made (eqb-true _ _ (b1 .0)) (eqb-true _ _ (b2 .0)) (eqb-true _ _ (b3 .0)) (eqb-true _ _ (b4 .0)) (eqb-true _ _ (b5 .0)) (eqb-true _ _ (b6 .0)) (eqb-true _ _ (b7 .0))
+    made (eqb-true _ _ (b1 .0)) (eqb-true _ _ (b2 .0)) (eqb-true _ _ (b3 .0)) (eqb-true _ _ (b4 .0)) (eqb-true _ _ (b5 .0))
+    (eqb-true _ _ (b6 .0)) (eqb-true _ _ (b7 .0))
     (eqb-true _ _ (b8 .0)) (eqb-true _ _ (b9 .0)) (eqb-true _ _ (b9 .1))
   where
-    made : a .conn ≡ s .conn → a .id ≡ s .id → a .prior ≡ s .prior → a .start .0 ≡ s .start .0 → a .end .0 ≡ s .end .0 → a .access ≡ s .access
+    made : a .conn ≡ s .conn → a .id ≡ s .id → a .prior ≡ s .prior → a .start .0 ≡ s .start .0 → a .end .0 ≡ s .end .0
+        → a .access ≡ s .access
         → a .overrides ≡ s .overrides → a .mux ≡ s .mux → a .event ≡ s .event → a .played .0 ≡ s .played .0 → s ≡ a
     made c1 c2 c3 c4 c5 c6 c7 c8 c9 c10 =
-        let g : _≡_ {A = Session} (fields (s .conn) (s .id) (s .prior) (s .start .0) (s .end .0) (s .access) (s .overrides) (s .mux) (s .event) (s .played .0))
-        (fields (a .conn) (a .id) (a .prior) (a .start .0) (a .end .0) (a .access) (a .overrides) (a .mux) (a .event) (a .played .0)) = rw (c1, c2, c3, c4, c5, c6, c7, c8, c9, c10) in g
+        let g : _≡_ {A = Session} (fields (s .conn) (s .id) (s .prior) (s .start .0) (s .end .0) (s .access) (s .overrides) (s .mux)
+        (s .event) (s .played .0))
+        (fields (a .conn) (a .id) (a .prior) (a .start .0) (a .end .0) (a .access) (a .overrides) (a .mux) (a .event) (a .played .0)) =
+        rw (c1, c2, c3, c4, c5, c6, c7, c8, c9, c10) in g
 
 -- where only one passes, both orders have the same one
-pub same-one : (p : Session → Bool) (l m : List Session) → Same l m → count p m ≤ 1 → (x : Session) → ((r : Session → Bool) → r x ≡ true → 0 < count r l) → p x ≡ true
+pub same-one : (p : Session → Bool) (l m : List Session) → Same l m → count p m ≤ 1 → (x : Session)
+    → ((r : Session → Bool) → r x ≡ true → 0 < count r l) → p x ≡ true
     → getD m (place p m) empty ≡ x
 same-one p l m h u x b e =
     let r : Session → Bool = λ s. p s && alike x s in

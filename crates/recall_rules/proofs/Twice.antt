@@ -21,11 +21,14 @@ use Rattle.rules.specs.Calls.{Call}
 use Rattle.rules.specs.Sound.{Holding, Wired}
 use Rattle.rules.proofs.Sound.{in-order, sound-fresh, sound-always}
 use Rattle.recall_rules.specs.Verdicts.{Verdict, Shows}
-use Rattle.recall_rules.specs.Work.{dismissed, evicted, aborted, closedBy, startAt, endAt, instant, elapse, due, runAll, requested, wrongNumber, collides, full, accepted, later, answerSplice, answerAbort, airState, airID, airFeed, extendedResponse}
+use Rattle.recall_rules.specs.Work.{dismissed, evicted, aborted, closedBy, startAt, endAt, instant, elapse, due, runAll, requested}
+use Rattle.recall_rules.specs.Work.{wrongNumber, collides, full, accepted, later, answerSplice, answerAbort, airState, airID, airFeed}
+use Rattle.recall_rules.specs.Work.{extendedResponse}
 use Rattle.recall_rules.specs.Calls.{call, begun, passed}
 use Rattle.recall_rules.proofs.Ends.{SameTurn, fit, dismissed-same, evicted-same, aborted-same, closedBy-same}
 use Rattle.recall_rules.proofs.Instants.{startAt-same, endAt-same, instant-same, elapse-same, due-same, runAll-same}
-use Rattle.recall_rules.proofs.Answers.{requested-same, number-same, collides-same, full-same, accepted-same, later-same, SameSpliced, splice-same, abort-same, alive-same, extended-same}
+use Rattle.recall_rules.proofs.Answers.{requested-same, number-same, collides-same, full-same, accepted-same, later-same}
+use Rattle.recall_rules.proofs.Answers.{SameSpliced, splice-same, abort-same, alive-same, extended-same}
 use Rattle.recall_rules.proofs.Calls.{SameState, SameCalled, call-same, pass-same, begun-same}
 
 -- where verdicts l show the sessions q, at the time now
@@ -53,7 +56,8 @@ pub record TwoWays (now : ℕ) (l : List Verdict) (q : Queue) : Type 0 where
   -- the answers
   pub splicing : (clock c : ℕ) (r : Request) → SameSpliced (answerSplice clock c r l) (answers.answerSplice clock c r q)
   pub ceasing : (c x : ℕ) → SameTurn (answerAbort c x l) (answers.answerAbort c x q)
-  pub airing : (airState l ≡ answers.airState (q .started)) × (airID l ≡ answers.airID (q .started)) × (airFeed l ≡ answers.airFeed (q .started))
+  pub airing : (airState l ≡ answers.airState (q .started)) × (airID l ≡ answers.airID (q .started)) ×
+      (airFeed l ≡ answers.airFeed (q .started))
   -- 02, CR 8
   pub recalling : (c x : ℕ) → extendedResponse c x l ≡ answers.extendedResponse c x q
 
@@ -83,12 +87,16 @@ one-rule-two-ways now l q e h =
       recalling = λ c x. extended-same now l q e h c x;
     }
 
--- ## From fresh, over any calls: the next call is answered as the splicer that they lead to answers it, and its verdicts show the splicer after it
+-- ## From fresh, over any calls: the next call is answered as the splicer that they lead to answers it, and its verdicts show the splicer
+-- after it
 
-module _ (name : List ℕ) (whole : length name ≡ 32) (bytes : All Byte name) (named : hasZero name ≡ true) (ks : List Call) (wired : All Wired ks) where
+module _ (name : List ℕ) (whole : length name ≡ 32) (bytes : All Byte name) (named : hasZero name ≡ true) (ks : List Call)
+    (wired : All Wired ks) where
   pub passed-like-the-rules : SameState (passed ks (begun (nameIn name))) (calls.after ks (calls.fresh name .splicer))
   unfolding calls.fresh
-  passed-like-the-rules = rw named (pass-same ks (begun (nameIn name)) (calls.named (nameIn name)) wired (begun-same (nameIn name)) (rw named at (sound-fresh name whole bytes)))
+  passed-like-the-rules = rw named (pass-same ks (begun (nameIn name)) (calls.named (nameIn name)) wired (begun-same (nameIn name))
+      (rw named at (sound-fresh name whole bytes)))
 
-  pub answers-like-the-rules : (k : Call) → SameCalled (call k (passed ks (begun (nameIn name)))) (calls.call k (calls.after ks (calls.fresh name .splicer)))
+  pub answers-like-the-rules : (k : Call) → SameCalled (call k (passed ks (begun (nameIn name))))
+      (calls.call k (calls.after ks (calls.fresh name .splicer)))
   answers-like-the-rules k = call-same k _ _ passed-like-the-rules (sound-always ks name whole bytes wired)

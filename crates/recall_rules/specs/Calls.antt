@@ -7,7 +7,8 @@ use lib.ListN.{getD, set}
 use Rattle.rules.specs.declared.Link.{Link}
 use Rattle.rules.specs.declared.Link.the-variants.{Closed, Opened, Initialised}
 use Rattle.rules.specs.declared.Refusal.{Refusal}
-use Rattle.rules.specs.declared.Refusal.the-variants.{NoConnection, NoRoom, ClockBack, AlreadyOpen, NotOpen, BadMicros, LongSection, BadSection}
+use Rattle.rules.specs.declared.Refusal.the-variants.{NoConnection, NoRoom, ClockBack, AlreadyOpen, NotOpen, BadMicros, LongSection}
+use Rattle.rules.specs.declared.Refusal.the-variants.{BadSection}
 use Rattle.rules.specs.declared.Framing.{Framing}
 use Rattle.rules.specs.declared.Framing.the-variants.{Framed, Unframed}
 use Rattle.rules.specs.declared.Message.{Message}
@@ -19,11 +20,14 @@ use Rattle.rules.specs.State.{noHardware, isOpen, isInitialised}
 use Rattle.rules.specs.Records.{Record, General, InitResponse, AliveResponse, ConfigResponse}
 use Rattle.rules.specs.Answers.{initResult}
 use Rattle.rules.specs.Cues.{badSection, readCue, cueTime, initialisedOnes, cueRecords}
-use Rattle.rules.specs.Calls.{Answer, refused, good, noConnection, noRoom, longSection, framing, Loans, Call, opens, closes, messages, ticks, moves, cues}
+use Rattle.rules.specs.Calls.{Answer, refused, good, noConnection, noRoom, longSection, framing, Loans, Call, opens, closes, messages}
+use Rattle.rules.specs.Calls.{ticks, moves, cues}
 use Rattle.recall_rules.specs.Verdicts.{Verdict}
-use Rattle.recall_rules.specs.Work.{Turn, Spliced, closedBy, runAll, answerSplice, answerAbort, airState, airID, airFeed, extendedResponse}
+use Rattle.recall_rules.specs.Work.{Turn, Spliced, closedBy, runAll, answerSplice, answerAbort, airState, airID, airFeed}
+use Rattle.recall_rules.specs.Work.{extendedResponse}
 
--- what a pass over calls carries; hardware: 02, CR 6, of connections 0 to 3, the Hardware_Config of the latest Init_Request that got 100, its
+-- what a pass over calls carries; hardware: 02, CR 6, of connections 0 to 3, the Hardware_Config of the latest Init_Request that got 100,
+-- its
 -- Length before it. 02's CR 13 keeps a primary sum too, which no answer of 01's calls shows
 pub record Pass : Type 0 where
   pub name : List ℕ

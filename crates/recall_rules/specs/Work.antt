@@ -20,7 +20,8 @@ use Rattle.rules.specs.Records.{Record, SpliceResponse, AbortResponse}
 use Rattle.rules.specs.Ends.{ended}
 use Rattle.rules.specs.Instants.{outranks, began, playing, onwards}
 use Rattle.rules.specs.Answers.{sessionAt, tooLate, fullBy, firstOf, accepts, latest, recalls}
-use Rattle.recall_rules.specs.Verdicts.{Phase, Out, Waits, Started, isWaiting, hasStarted, isHeld, Verdict, verdict, standing, which, sessionOf, turned, over, first, recent}
+use Rattle.recall_rules.specs.Verdicts.{Phase, Out, Waits, Started, isWaiting, hasStarted, isHeld, Verdict, verdict, standing, which}
+use Rattle.recall_rules.specs.Verdicts.{sessionOf, turned, over, first, recent}
 
 -- the verdicts after some of the work, and the records which that wrote
 pub record Turn : Type 0 where
@@ -91,7 +92,8 @@ endings how f = map (λ s. ended (how s) s) (f .gone)
 
 -- ## Followers, eviction, abort and close
 
--- "Followers' ends are Splice_Response 109, or 116 after an abort or close, in order of start." 02: 125 after an end by an equal one's start
+-- "Followers' ends are Splice_Response 109, or 116 after an abort or close, in order of start." 02: 125 after an end by an equal one's
+-- start
 unfoldable pub dismissed : (result conn id : ℕ) → List Verdict → Turn
 dismissed r c x l =
     let f = walk (Response r) (length l) c x l in
@@ -106,7 +108,8 @@ evicted t l =
     (andThen (writes (ended (Response 109) s ∷ []) (over (Response 109) i l)) (dismissed 109 (s .conn) (s .id)))
     (quiet l)
 
--- "An aborted session on air ends with SpliceComplete flag 1, result 116; a covered or waiting one with Splice_Response 116." "Close ends, as
+-- "An aborted session on air ends with SpliceComplete flag 1, result 116; a covered or waiting one with Splice_Response 116." "Close ends,
+-- as
 -- by abort, the connection's started sessions from the highest AccessType down, each by what it was before the close (on air or covered),
 -- then all its waiting ones by start": all that pass p
 unfoldable pub cancelled : (Session → Bool) → List Verdict → Turn

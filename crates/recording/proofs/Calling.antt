@@ -68,9 +68,11 @@ module _ (l : List ℕ) where
       by Like (ltb (length l) markEnd) record-is.Cut _ (λ e. like-cut (omega (arith, ltb-true (length l) markEnd e, span-two l)))
       (λ e. let h = ltb-false (length l) markEnd e in
       by Like (eqb (markIn l) openMark) _ _
-      (λ f. let d = marked openMark (eqb-true (markIn l) openMark f) in like-all (record-is.Open (connIn l)) refl (sym d) (omega (arith, d)))
+      (λ f. let d = marked openMark (eqb-true (markIn l) openMark f) in
+      like-all (record-is.Open (connIn l)) refl (sym d) (omega (arith, d)))
       (λ f. by Like (eqb (markIn l) closeMark) _ _
-      (λ g. let d = marked closeMark (eqb-true (markIn l) closeMark g) in like-all (record-is.Close (connIn l)) refl (sym d) (omega (arith, d)))
+      (λ g. let d = marked closeMark (eqb-true (markIn l) closeMark g) in
+      like-all (record-is.Close (connIn l)) refl (sym d) (omega (arith, d)))
       (λ g. by Like (eqb (markIn l) messageMark) _ _ (λ k. like-message (marked messageMark (eqb-true (markIn l) messageMark k)))
       (λ k. by Like (eqb (markIn l) tickMark) _ _
       (λ t. like-whole tickEnd (record-is.Tick (secondsIn l) (microsIn l)) (marked tickMark (eqb-true (markIn l) tickMark t)) refl refl)

@@ -7,7 +7,8 @@ use native.Mathlib.Omega.{arith}
 use lib.ListN.{length, length-append}
 use borrow.Author.Tests.{le-ltb}
 use Rattle.rules.specs.Bytes.{bytes, valueFrom, value, padded, largestSize}
-use Rattle.rules.specs.Records.{Record, General, InitResponse, AliveResponse, SpliceResponse, SpliceComplete, AbortResponse, ConfigResponse, ExtendedFound, ExtendedNone, endDescriptor, CueRequest, timeBytes, framed, recordBytes, output}
+use Rattle.rules.specs.Records.{Record, General, InitResponse, AliveResponse, SpliceResponse, SpliceComplete, AbortResponse, ConfigResponse}
+use Rattle.rules.specs.Records.{ExtendedFound, ExtendedNone, endDescriptor, CueRequest, timeBytes, framed, recordBytes, output}
 use Rattle.rules.specs.declared.Refusal.{Refusal}
 use Rattle.rules.specs.State.{Splicer}
 use Rattle.rules.specs.Sound.{Wired, Sound}

@@ -86,7 +86,8 @@ same-entry l k h g m s a b =
 pub cut-entry : (l k : List ℕ) → 0 < length k → markIn k ≡ markIn l → length k < span k → span l ≤ length l → 0 < length l
     → (entryIn l ≡ Another → ⊥) → entryIn k ≡ Cut
 unfolding entryIn
-cut-entry l k g m s a h n = some-left k g ∙ rw (m, lt-ltb (length k) (span k) s) (go (marksCall (markIn l)) (marksRecord (markIn l)) refl refl)
+cut-entry l k g m s a h n = some-left k g ∙ rw (m, lt-ltb (length k) (span k) s)
+    (go (marksCall (markIn l)) (marksRecord (markIn l)) refl refl)
   where
     go : (x y : Bool) → marksCall (markIn l) ≡ x → marksRecord (markIn l) ≡ y → cond x Cut (cond y Cut Another) ≡ Cut
     go true y e f = refl
@@ -212,7 +213,8 @@ fuel zero m [] h i = sym (entries-none m)
 fuel zero m (b ∷ l) h i = absurd (omega arith)
 fuel (suc n) zero [] h i = entries-none (suc n)
 fuel (suc n) zero (b ∷ l) h i = absurd (omega arith)
-fuel (suc n) (suc m) l h i = go (entryIn l) (takes l) (λ k f g. fuel n m (drop k l) (simp length-drop (omega arith)) (simp length-drop (omega arith)))
+fuel (suc n) (suc m) l h i = go (entryIn l) (takes l) (λ k f g. fuel n m (drop k l) (simp length-drop (omega arith))
+    (simp length-drop (omega arith)))
   where
     go : (e : Entry) → Takes l e → ((k : ℕ) → 2 ≤ k → k ≤ length l → entriesRun n (drop k l) ≡ entriesRun m (drop k l))
         → entriesBy (entriesRun n) e l ≡ entriesBy (entriesRun m) e l

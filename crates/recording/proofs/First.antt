@@ -131,7 +131,8 @@ wrote-step : (g : Bench) (w : List ℕ) (es : List Item) (i : ℕ) → begins w 
     → rightAt g (wrote w ∷ es) i ≡ rightAt (taken (length w) g) es i
 unfolding taken
 wrote-step g w es i e =
-    ap (λ d. rightBy (wrote w ∷ es) i (wroteAfter (wrote w ∷ es) i) (dueFrom d (g .splicer) (wrote w ∷ es) i)) (sym (begins-split w (g .due) e))
+    ap (λ d. rightBy (wrote w ∷ es) i (wroteAfter (wrote w ∷ es) i) (dueFrom d (g .splicer) (wrote w ∷ es) i))
+    (sym (begins-split w (g .due) e))
     ∙ right-wrote (g .splicer) w (drop (length w) (g .due)) es i
 
 pub none-right : (es : List Item) (g : Bench) (j : ℕ) → All Valid es → judged g es ≡ None → unknownFrom j es ≡ None

@@ -19,7 +19,8 @@ use Rattle.feed.specs.Feed.{behind}
 use Rattle.recording.specs.declared.Entry.the-variants.{Made}
 use Rattle.recording.specs.declared.Finding.{Finding}
 use Rattle.recording.specs.declared.Finding.the-variants.{Differs, None}
-use Rattle.recording.specs.Recording.{span, Item, made, wrote, cut, another, Bench, called, calledBy, taken, begins, isNothing, judged, unknownFrom}
+use Rattle.recording.specs.Recording.{span, Item, made, wrote, cut, another, Bench, called, calledBy, taken, begins, isNothing}
+use Rattle.recording.specs.Recording.{judged, unknownFrom}
 use Rattle.recording.specs.Recorded.{recordedBy, recordedRun, bytesOf, madeBytes, endsCut, isLast, hasOversize, callOf}
 use Rattle.recording.proofs.Entries.{Begins, begins-as, Whole, Valid, entry-behind}
 use Rattle.recording.proofs.Calling.{Calls, is-called, next-same}

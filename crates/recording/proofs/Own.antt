@@ -49,7 +49,10 @@ module _ (l : List ℕ) (a : All Byte l) where
       let m = messageFrom l in
       wired-whole headerEnd _
       (wired-choice (oversize m) _ _ (part-byte 0 8 m (rest 2), tt, tt)
-      (wired-whole (messageEnd (messageSize m)) _ ((part-byte 0 (8 + messageSize m) m (rest 2), tt, tt), rest (messageEnd (messageSize m)))))
+      (wired-whole (messageEnd (messageSize m)) _ (
+        (part-byte 0 (8 + messageSize m) m (rest 2), tt, tt),
+        rest (messageEnd (messageSize m)),
+      )))
 
   wired-tick : WiredNext (nextTick l)
   unfolding nextTick
@@ -93,7 +96,8 @@ entries-own (suc n) s l h a =
     go (next l) refl (wired-next l a) (λ k left w b. entries-own n (call k s .splicer) left (sound-call s k w h) b)
   where
     go : (x : Next) → next l ≡ x → WiredNext x
-        → ((k : Call) (left : List ℕ) → Wired k → All Byte left → entries (recordedRun n (call k s .splicer) left) ≡ ownRun n (call k s .splicer) left)
+        → ((k : Call) (left : List ℕ) → Wired k → All Byte left
+        → entries (recordedRun n (call k s .splicer) left) ≡ ownRun n (call k s .splicer) left)
         → entries (recordedBy (recordedRun n) x s l) ≡ ownBy (ownRun n) x s l
     go stops e w f = refl
     go (ends k) e w f =

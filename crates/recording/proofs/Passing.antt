@@ -20,7 +20,8 @@ use Rattle.rules.proofs.Sound.{sound-call}
 use Rattle.rules.proofs.Tests.{clash}
 use Rattle.recording.specs.declared.Entry.the-variants.{Made, Wrote, Another}
 use Rattle.recording.specs.declared.Finding.the-variants.{None}
-use Rattle.recording.specs.Recording.{span, entryIn, Item, made, wrote, cut, entriesRun, entries, Bench, calledBy, called, taken, begins, isNothing, judged, unknownFrom}
+use Rattle.recording.specs.Recording.{span, entryIn, Item, made, wrote, cut, entriesRun, entries, Bench, calledBy, called, taken}
+use Rattle.recording.specs.Recording.{begins, isNothing, judged, unknownFrom}
 use Rattle.recording.specs.Recorded.{recordedBy, recordedRun, pieces, endsCut}
 use Rattle.recording.proofs.Entries.{Within, Begins, begins-as, Whole, entries-made, entries-wrote, entries-cut, made-whole}
 use Rattle.recording.proofs.Calling.{called-front}
@@ -141,7 +142,8 @@ cut-records s n (w ∷ ws) r a p m =
     subst (λ x. CutPasses (bench s n (w ++ joined ws)) x m) (sym (append-assoc w (joined ws) r))
     (cut-wrote s n w (joined ws) (joined ws ++ r) (a .0) (cut-records s n ws r (a .1) p) m)
 
-cut-made : (s : Splicer) (n : ℕ) (c r : List ℕ) (h : Bench) → Whole Made c → calledBy (next c) (bench s n []) ≡ h → ((m : ℕ) → CutPasses h r m)
+cut-made : (s : Splicer) (n : ℕ) (c r : List ℕ) (h : Bench) → Whole Made c → calledBy (next c) (bench s n []) ≡ h
+    → ((m : ℕ) → CutPasses h r m)
     → (m : ℕ) → CutPasses (bench s n []) (c ++ r) m
 unfolding endsCut
 cut-made s n c r h e k p m = go (ltb m (length c)) refl
@@ -159,7 +161,8 @@ cut-made s n c r h e k p m = go (ltb m (length c)) refl
 cut-none : (g : Bench) (m : ℕ) → CutPasses g [] m
 cut-none g m e = absurd (not-cut (ap (λ x. endsCut (entries x)) (sym (take-nil m)) ∙ e))
 
-pub passes-cut-own : (j : ℕ) (s : Splicer) (n : ℕ) (l : List ℕ) → Sound s → All Byte l → (m : ℕ) → CutPasses (bench s n []) (recordedRun j s l) m
+pub passes-cut-own : (j : ℕ) (s : Splicer) (n : ℕ) (l : List ℕ) → Sound s → All Byte l → (m : ℕ)
+    → CutPasses (bench s n []) (recordedRun j s l) m
 unfolding recordedRun recordedBy calledBy
 passes-cut-own zero s n l h a m = cut-none (bench s n []) m
 passes-cut-own (suc j) s n l h a m =

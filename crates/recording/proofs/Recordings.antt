@@ -21,7 +21,8 @@ use Rattle.rules.proofs.Tests.{clash, failed}
 use Rattle.recording.specs.declared.Finding.{Finding}
 use Rattle.recording.specs.declared.Finding.the-variants.{Longer, Unknown, Differs, None}
 use Rattle.recording.specs.Recording.{wrote, entriesRun, entries, start, firstUnknown, longest, checked}
-use Rattle.recording.specs.Recorded.{recordedUpTo, recorded, Behind, unread, pieces, bytesOf, madeBytes, wroteBytes, endsCut, hasOversize}
+use Rattle.recording.specs.Recorded.{recordedUpTo, recorded, Behind, unread, pieces, bytesOf, madeBytes, wroteBytes, endsCut}
+use Rattle.recording.specs.Recorded.{hasOversize}
 use Rattle.recording.specs.Recorded.{callsIn, wroteAfter, dueAfter, rightBy, right, Strange}
 use Rattle.recording.proofs.Entries.{valid, bytes-all}
 use Rattle.recording.proofs.Due.{entries-told}
@@ -43,7 +44,8 @@ pub nothing-lost : (l : List ℕ) → bytesOf (entries l) ≡ l
 nothing-lost l = bytes-all l
 
 -- entries end where records end: each record that is due is one entry, so bytes are compared record by record
-pub due-in-entries : (s : Splicer) → Sound s → (k : Call) → Wired k → entries (told (call k s .answer)) ≡ map wrote (pieces (call k s .answer))
+pub due-in-entries : (s : Splicer) → Sound s → (k : Call) → Wired k
+    → entries (told (call k s .answer)) ≡ map wrote (pieces (call k s .answer))
 unfolding entries entriesRun
 due-in-entries s h k w =
     ap entries (sym (append-nil (told (call k s .answer)))) ∙ entries-told s k [] w h ∙ append-nil (map wrote (pieces (call k s .answer)))
@@ -99,7 +101,8 @@ none-is-ours l e c o =
 
 -- ## "names the first call whose records aren't those that the rules give, or says that there is none"
 
--- every call before it has exactly its due records, and it has not: not even the beginning of them, if the recording is cut and it is the last
+-- every call before it has exactly its due records, and it has not: not even the beginning of them, if the recording is cut and it is the
+-- last
 pub first-that-differs : (l : List ℕ) (n : ℕ) → checked l ≡ Differs n
     → (n ≤ length (callsIn (entries l)))
     × ((i : ℕ) → i < n → wroteAfter (entries l) i ≡ dueAfter (entries l) i)
@@ -135,7 +138,8 @@ named-exactly l n h u among before wrong = go (checked l) refl
         let d = first-that-differs l k e in
         let a = not-less k n (λ h. clash (right (entries l) k) (before k h) (d .2)) in
         let b = not-less n k
-        (λ h. clash (right (entries l) n) (ap (rightBy (entries l) n (wroteAfter (entries l) n)) (sym (d .1 n h)) ∙ right-itself (entries l) n _) wrong) in
+        (λ h. clash (right (entries l) n) (ap (rightBy (entries l) n (wroteAfter (entries l) n)) (sym (d .1 n h))
+        ∙ right-itself (entries l) n _) wrong) in
         ap Differs (omega arith)
     go None e = absurd (clash (right (entries l) n) (none-differs l e n among) wrong)
 

@@ -16,7 +16,8 @@ use Rattle.recording.specs.declared.Entry.the-variants.{Made, Wrote, Cut
 use Rattle.recording.specs.declared.Finding.{Finding}
 use Rattle.recording.specs.declared.Finding.the-variants.{Longer, Unknown, Differs, None}
 use Rattle.recording.specs.Recording.{marksCall, marksRecord, entryIn, Item, made, wrote, cut, another, entriesBy, entries}
-use Rattle.recording.specs.Recording.{Bench, start, calledBy, taken, begins, isNothing, judged, unknownFrom, firstUnknown, before, longest, checked}
+use Rattle.recording.specs.Recording.{Bench, start, calledBy, taken, begins, isNothing, judged, unknownFrom, firstUnknown, before}
+use Rattle.recording.specs.Recording.{longest, checked}
 use Rattle.recording.specs.Recorded.{Begin, first, afterCall, afterRecord, Strange}
 use Rattle.recording.proofs.Entries.{Within, Begins, begins-as, is-another, span-two, entries-step}
 
@@ -173,7 +174,8 @@ module _ (l : List ℕ) where
       shorter k w = omega (arith, length-drop at l, length-drop (at + k) l, w .there, w .asked, span-two (drop at l))
 
       go : (e : Entry) → entryIn (drop at l) ≡ e
-          → ((k : ℕ) → length (drop (at + k) l) < n → Begin l (at + k) → from (at + k) ≡ Unknown i → Begin l i × (entryIn (drop i l) ≡ Another))
+          → ((k : ℕ) → length (drop (at + k) l) < n → Begin l (at + k) → from (at + k) ≡ Unknown i
+          → Begin l i × (entryIn (drop i l) ≡ Another))
           → Begin l i × (entryIn (drop i l) ≡ Another)
       go (Made k) e r =
           let w : Begins (drop at l) (Made k) = begins-as (drop at l) e in
@@ -190,7 +192,8 @@ module _ (l : List ℕ) where
   unfolding entriesBy unknownFrom
   strange-unknown {i} s =
       let m : markIn (drop i l) ≡ getD l i 0 = field-one i l (s .inside) in
-      let e = is-another (drop i l) (omega (arith, length-drop i l, s .inside)) (ap marksCall m ∙ s .noCall) (ap marksRecord m ∙ s .noRecord) in
+      let e = is-another (drop i l) (omega (arith, length-drop i l, s .inside)) (ap marksCall m ∙ s .noCall)
+      (ap marksRecord m ∙ s .noRecord) in
       unknown-is (s .read) (begins-there (s .begin) ∙ from-step i e)
 
   pub unknown-strange : {i : ℕ} → checked l ≡ Unknown i → Strange l i

@@ -11,7 +11,8 @@ use Rattle.cases.specs.Scenario.{hex}
 use Rattle.cases.specs.Computing.{computing}
 use Rattle.recording.specs.declared.Finding.{Finding}
 use Rattle.recording.specs.declared.Finding.the-variants.{Longer, Unknown, Differs, None}
-use Rattle.recording.specs.Recording.{span, entryIn, entriesBy, entriesRun, entries, start, called, calledBy, taken, begins, isNothing, judged}
+use Rattle.recording.specs.Recording.{span, entryIn, entriesBy, entriesRun, entries, start, called, calledBy, taken, begins}
+use Rattle.recording.specs.Recording.{isNothing, judged}
 use Rattle.recording.specs.Recording.{unknownFrom, firstUnknown, before, houseNumber, checked}
 use Rattle.recording.specs.Recorded.{endsCut, isLast, hasOversize}
 use Rattle.recording.proofs.Recordings.{fifteen-exactly}
@@ -31,7 +32,8 @@ wanted : List Row → List Finding
 wanted rows = map (λ r. r .wants) rows
 
 finding : ℕ
-unfolding row found wanted computing span entryIn entriesBy entriesRun entries start called calledBy taken begins isNothing judged unknownFrom firstUnknown before checked
+unfolding row found wanted computing span entryIn entriesBy entriesRun entries start called calledBy taken begins isNothing judged
+    unknownFrom firstUnknown before checked
 finding = 0
 
 -- ## Entries of connection 0
@@ -108,7 +110,8 @@ finds-call-0 = refl
 
 -- ## "A cut last record is dropped, and the last call before it then needs only the beginning of its due records."
 
--- Init_Request of connection 0 for "CH1", with its answer; a session of number 1 from 3 s on for 90 ticks, with its answer; at 4 s its start
+-- Init_Request of connection 0 for "CH1", with its answer; a session of number 1 from 3 s on for 90 ticks, with its answer; at 4 s its
+-- start
 -- and its end
 name : String
 name = "43483100 00000000 00000000 00000000 00000000 00000000 00000000 00000000"

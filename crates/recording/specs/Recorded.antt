@@ -1,4 +1,5 @@
--- 02, CR 14: what its theorems speak of: recordings that our own card program could have made, and what belongs to which call of any recording.
+-- 02, CR 14: what its theorems speak of: recordings that our own card program could have made, and what belongs to which call of any
+-- recording.
 use mathlib.Core.Path.{_≡_}
 use mathlib.Core.Bool.{Bool, true, false, cond, _&&_, _||_}
 use mathlib.Core.List.{List, [], _∷_, _++_, map}

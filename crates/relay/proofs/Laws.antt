@@ -128,15 +128,18 @@ module _ (x : Cue) (t : WireTime) (l : List ℕ) (links : List Link) (e : List �
     pub room-more : len + cueRoom 1 ≤ length o
     room-more = omega (arith, v .short, v .long)
 
-    pub sofar-tells : {to : ℕ} {o′ : List ℕ} → isInitialised (getD links n Closed) ≡ true → Tells o len (cueRecords x t l (n ∷ [])) to o′ → Sofar (n + 1) to o′
+    pub sofar-tells : {to : ℕ} {o′ : List ℕ} → isInitialised (getD links n Closed) ≡ true → Tells o len (cueRecords x t l (n ∷ [])) to o′
+        → Sofar (n + 1) to o′
     sofar-tells {to} {o′} i w =
         let rs = cueRecords x t l (first links n) in
         let ss = cueRecords x t l (n ∷ []) in
         let k : length (output ss) ≤ 530 = omega (arith, cue-weight x t l (n ∷ []) section) in
-        let same : cueRecords x t l (first links (n + 1)) ≡ rs ++ ss = ap (cueRecords x t l) (first-more links n i) ∙ records-more t l x (first links n) (n ∷ []) in
+        let same : cueRecords x t l (first links (n + 1)) ≡ rs ++ ss =
+        ap (cueRecords x t l) (first-more links n i) ∙ records-more t l x (first links n) (n ∷ []) in
         record {
           few = omega arith;
-          tells = subst (λ (z : List Record). Tells e 0 z to o′) (sym same) (tells-then (omega (arith, v .tells .count, v .short)) (v .tells) w);
+          tells = subst (λ (z : List Record). Tells e 0 z to o′) (sym same)
+              (tells-then (omega (arith, v .tells .count, v .short)) (v .tells) w);
           short = omega (arith, w .count, v .short);
           long = ap length (w .bytes) ∙ length-written o len (output ss) (omega (arith, v .short, v .long)) ∙ v .long;
         }

@@ -66,7 +66,8 @@ fits-answer (good consumed rs) moved h = record { count = refl; whole = λ e. wr
 sound : (g : List ℕ) → All Byte g → Sound (after (keptCalls g) begun)
 unfolding begun cardName
 sound g b =
-    sound-always (keptCalls g) (padded cardName) refl (padded-byte cardName (omega arith, (omega arith, (omega arith, tt)))) (any-log g b .0)
+    sound-always (keptCalls g) (padded cardName) refl (padded-byte cardName (omega arith, (omega arith, (omega arith, tt))))
+    (any-log g b .0)
 
 fits : (k : Call) (g : List ℕ) → All Byte g → Fits (recallCall k g .told)
 unfolding recallCall toldBy

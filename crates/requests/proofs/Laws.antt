@@ -104,7 +104,8 @@ module _ (t : ℕ) (m : List ℕ) {i : ℕ} {b : Bool} (f : i ≡ place (startsF
         record { does = u; goes = p ∙ sym (free-at t (see n .queue .waiting) (gone t m n u sorted)) }
 
     -- those that wait are in order still: one more search may halve them
-    pub way-sorted : {e n o : List ℕ} {to : ℕ} → Does (chainEnded Waiting i (Response 109) 109) 0 m e to n o → Sorted (see n .queue .waiting)
+    pub way-sorted : {e n o : List ℕ} {to : ℕ} → Does (chainEnded Waiting i (Response 109) 109) 0 m e to n o
+        → Sorted (see n .queue .waiting)
     way-sorted {e} {n} {o} {to} d =
         let same = evicted-chain t i (see m .queue) (f ∙ sym (taken-at t w sorted (sym g ∙ h))) way-taken in
         still t m n (subst (λ (u : Turn). Turns e 0 u (see m) n to o) same d) sorted
@@ -133,7 +134,8 @@ module _ {t : ℕ} {m e n o : List ℕ} {r : Way} (a : MadeWay t m e r n o) wher
       ap (λ (i : ℕ). length w - i) (a .goes) ∙ later-behind t w (still t m n (a .does) k)
 
 -- the new one waits before the first that starts later, its 100 stands behind the ends, and those that start later have moved
-pub accept-turns : (new : Session) {m e n o n′ ys : List ℕ} {r : Way} {moves k : ℕ} → MadeWay (new .start .0) m e r n o → Sorted (see m .queue .waiting) →
+pub accept-turns : (new : Session) {m e n o n′ ys : List ℕ} {r : Way} {moves k : ℕ} → MadeWay (new .start .0) m e r n o
+    → Sorted (see m .queue .waiting) →
     Now n′ (onward true (relisted Waiting (insertAt (r .at) new (sessions Waiting n)) (see n))) →
     moves ≡ length (sessions Waiting n) - r .at → length o ≡ length e → r .len ≤ length e →
     Puts (accepts new) (midOf (r .len) (length o - r .len) o) k ys →
@@ -195,7 +197,15 @@ module _ (c : ℕ) (r : Request) (m : List ℕ) {new : Session} {n : ℕ} (a : n
 
   pub storable : c ≤ 3 → Asked r → Storable new
   unfolding requested sessionAt
-  storable low h = rw a (record { ofFour = low; narrow = record { overrides = h .overrides; mux = omega (arith, h .mux .1); asked = omega (arith, h .overrides, h .mux, h .event) } })
+  storable low h = rw a (record {
+    ofFour = low;
+    narrow = record {
+      overrides = h .overrides;
+      mux = omega (arith, h .mux .1);
+      asked =
+          omega (arith, h .overrides, h .mux, h .event);
+    };
+  })
 
   pub room-waiting : n ≡ 100 → c ≤ 3 → Form m → Holding (see m .clock) q → length (q .waiting) < placesOf Waiting
   unfolding requested sessionAt
@@ -315,7 +325,8 @@ module _ (c x : ℕ) (q : Queue) (i : ℕ) (once : Once q) where
       let k : count (is c x) (removeAt i (q .started)) ≡ 0 = omega (arith, z) in
       let w = parted-none (is c x) (q .waiting) (omega (arith, z)) in
       cancelled-parts (is c x) q (w .1) (parted-one (is c x) i (q .started) empty (h .within) (h .passes) k .1)
-      (cancels-one (is c x) ended i (q .started) (h .within) (h .passes) k) (cancels-one (is c x) past i (q .started) (h .within) (h .passes) k) (w .0)
+      (cancels-one (is c x) ended i (q .started) (h .within) (h .passes) k)
+      (cancels-one (is c x) past i (q .started) (h .within) (h .passes) k) (w .0)
 
 -- w: where the number is held; u: that list
 pub found-in : (c x : ℕ) (q : Queue) {w : Where} {v u : Which} {i : ℕ} → w ≡ whereIn c x q → w ≡ In v i → v ≡ u → HeldAt c x q u i

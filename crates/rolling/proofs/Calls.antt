@@ -19,7 +19,9 @@ use Rattle.rules.specs.Bytes.{Byte}
 use Rattle.rules.specs.State.{Splicer}
 use Rattle.rules.specs.Calls.{Called, fresh, moveCall}
 use Rattle.rules.specs.Sound.{horizon}
-use Rattle.rules.specs.Rolling.{Last, none, at, Rolling, Rolled, rollingOf, rollover, stepOf, overStep, movedOn, pastField, isGiven, Course, refuses, brings, instantCourse, stepCourse, readingCourse, rolls, instantCall, readingCall, rollingFresh, RollingCall, instants, readings, roll, RollWired, RollReached}
+use Rattle.rules.specs.Rolling.{Last, none, at, Rolling, Rolled, rollingOf, rollover, stepOf, overStep, movedOn, pastField, isGiven, Course}
+use Rattle.rules.specs.Rolling.{refuses, brings, instantCourse, stepCourse, readingCourse, rolls, instantCall, readingCall, rollingFresh}
+use Rattle.rules.specs.Rolling.{RollingCall, instants, readings, roll, RollWired, RollReached}
 use Rattle.rules.proofs.Sound.{reached-sound}
 use Rattle.memory.specs.Memory.{see, shown}
 use Rattle.engine.specs.declared.Answer.{Answer}
@@ -67,7 +69,8 @@ some-low {m} {b} {k} l e = rw (some-read k e) at (lent-steady l)
 -- ## A refusal, and a call that is done
 
 module _ {m b k e : List ℕ} (l : LentRolling m b k) where
-  pub refused-rolls : (c : Rolled) (n : Refusal) (x : ℕ) → c ≡ rolls (refuses n) x (rolling m b k) → Rolls c (see m .ringEnd) e (Refused n) m b k e
+  pub refused-rolls : (c : Rolled) (n : Refusal) (x : ℕ) → c ≡ rolls (refuses n) x (rolling m b k)
+      → Rolls c (see m .ringEnd) e (Refused n) m b k e
   unfolding rolls
   refused-rolls c n x f =
       record {
@@ -84,7 +87,8 @@ module _ {m b k e : List ℕ} (l : LentRolling m b k) where
   unfolding rolls
   brought-rolls j until x {r} {v} {c} {k′} {o} wired f h i a g =
       let s = rolling m b k in
-      let q : moveCall until (length e) (shown m b) ≡ roll j s .called = move-same until (length e) (shown m b) h i ∙ sym (ap (λ y. y .called) f) in
+      let q : moveCall until (length e) (shown m b) ≡ roll j s .called =
+      move-same until (length e) (shown m b) h i ∙ sym (ap (λ y. y .called) f) in
       let p : Answers (roll j s .called) (see m .ringEnd) e r v c o = subst (λ (y : Called). Answers y (see m .ringEnd) e r v c o) q a in
       let w : k′ ≡ counterOf (roll j s .last) = g ∙ kept-words x ∙ sym (ap (λ y. counterOf (y .last)) f) in
       let d : lastOf k′ ≡ roll j s .last = ap lastOf w ∙ last-read (roll j s .last) in
@@ -147,20 +151,23 @@ module _ {m b k e : List ℕ} (seconds micros reading : ℕ) (l : LentRolling m 
   pub instant-micros : 4096 ≤ length e → 999999 < micros → Turns (instantCall seconds micros reading) m b k e (Refused BadMicros) m b k e
   instant-micros h i = refused-rolls l _ BadMicros reading (instant-over seconds micros reading (length e) (rolling m b k) h i)
 
-  pub instant-second : 4096 ≤ length e → micros ≤ 999999 → (getD k 0 0 ≡ 0 → ⊥) → Turns (instantCall seconds micros reading) m b k e (Refused Counter) m b k e
+  pub instant-second : 4096 ≤ length e → micros ≤ 999999 → (getD k 0 0 ≡ 0 → ⊥)
+      → Turns (instantCall seconds micros reading) m b k e (Refused Counter) m b k e
   instant-second h i g =
       refused-rolls l _ Counter reading (instant-again seconds micros reading (length e) (rolling m b k) h i (ap isGiven (some-read k g)))
 
   -- the clock is 0 before it
   pub instant-done : (until : Ninths) {r : Answer} {v c k′ o : List ℕ} → until ≡ fromMicros (timeOf seconds micros) → seconds < 4294967296
       → reading < 4294967296 → 4096 ≤ length e → micros ≤ 999999 → getD k 0 0 ≡ 0
-      → Answers (moveCall (until .0) (length e) (shown m b)) (see m .ringEnd) e r v c o → k′ ≡ 1 ∷ reading ∷ [] → Turns (instantCall seconds micros reading) m b k e r v c k′ o
+      → Answers (moveCall (until .0) (length e) (shown m b)) (see m .ringEnd) e r v c o → k′ ≡ 1 ∷ reading ∷ []
+      → Turns (instantCall seconds micros reading) m b k e r v c k′ o
   unfolding roll
   instant-done until same w x h i g a f =
       let t = ap (λ (y : Ninths). y .0) same in
       let z : see m .clock ≡ 0 = rw (none-read k g) at (lent-steady l) in
       brought-rolls l (instants seconds micros reading (length e)) (until .0) reading (w, x)
-      (instant-good seconds micros reading (length e) (rolling m b k) h i (ap isGiven (none-read k g)) ∙ ap (λ y. rolls (brings y) reading (rolling m b k)) (sym t))
+      (instant-good seconds micros reading (length e) (rolling m b k) h i (ap isGiven (none-read k g))
+      ∙ ap (λ y. rolls (brings y) reading (rolling m b k)) (sym t))
       h (omega (arith, z)) a f
 
 -- ## A reading
@@ -248,7 +255,8 @@ module _ {m b k e : List ℕ} (reading : ℕ) (l : LentRolling m b k) where
         (reading-course reading (length e) (rolling m b k) (refuses Counter) h
         (course m k reading clock g now ∙ course-never (clock .0) reading (at (getD k 1 0)) (sym f ∙ n)))
 
-    pub reading-done : (t : Ninths) {w : When} {r : Answer} {v c k′ o : List ℕ} → w ≡ whenOf (stepCourse (clock .0) reading (at (getD k 1 0))) → w ≡ At t
+    pub reading-done : (t : Ninths) {w : When} {r : Answer} {v c k′ o : List ℕ}
+        → w ≡ whenOf (stepCourse (clock .0) reading (at (getD k 1 0))) → w ≡ At t
         → reading < 4294967296 → Answers (moveCall (t .0) (length e) (shown m b)) (see m .ringEnd) e r v c o → k′ ≡ 1 ∷ reading ∷ []
         → Turns (readingCall reading) m b k e r v c k′ o
     unfolding roll

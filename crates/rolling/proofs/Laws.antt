@@ -9,7 +9,9 @@ use Rattle.rules.specs.declared.Refusal.{Refusal}
 use Rattle.rules.specs.declared.Refusal.the-variants.{NoRoom, BadMicros, Counter}
 use Rattle.rules.specs.Units.{badMicros, timeOf, fromMicros}
 use Rattle.rules.specs.Calls.{refused, good, houseNumber, noRoom, ticked, call}
-use Rattle.rules.specs.Rolling.{Last, none, at, Rolling, Rolled, rollover, overStep, movedOn, pastField, isGiven, Course, refuses, brings, instantCourse, stepCourse, readingCourse, rolls, instantCall, readingCall, RollingCall, known, instants, readings, roll, RollWired}
+use Rattle.rules.specs.Rolling.{Last, none, at, Rolling, Rolled, rollover, overStep, movedOn, pastField, isGiven, Course, refuses, brings}
+use Rattle.rules.specs.Rolling.{instantCourse, stepCourse, readingCourse, rolls, instantCall, readingCall, RollingCall, known, instants}
+use Rattle.rules.specs.Rolling.{readings, roll, RollWired}
 use Rattle.demands.specs.Told.{firstNumber, numberOf}
 use Rattle.demands.proofs.Refusals.{first-number}
 use Rattle.memory.specs.Memory.{see, shown}
@@ -21,7 +23,8 @@ use Rattle.rolling.specs.Ruled.{lastIn, rollChecks}
 use Rattle.rolling.proofs.Calls.{refused-rolls}
 
 -- "any two results it allows are proved equal"
-pub rolls-same : (c : Rolled) (ring : ℕ) (e : List ℕ) (r s : Answer) (m b k o n d j p : List ℕ) → Rolls c ring e r m b k o → Rolls c ring e s n d j p
+pub rolls-same : (c : Rolled) (ring : ℕ) (e : List ℕ) (r s : Answer) (m b k o n d j p : List ℕ) → Rolls c ring e r m b k o
+    → Rolls c ring e s n d j p
     → (r ≡ s) × (m ≡ n) × (b ≡ d) × (k ≡ j) × (o ≡ p)
 rolls-same c ring e r s m b k o n d j p x y =
     let u = answers-same (c .called) ring e r s m b o n d p (x .answers) (y .answers) in
@@ -67,7 +70,8 @@ instant-number : (seconds micros room : ℕ) (l : Last)
 unfolding instantCourse houseNumber
 instant-number seconds micros room l = go (noRoom room) (badMicros micros) (isGiven l)
   where
-    go : (a b d : Bool) → courseNumber (cond a (refuses NoRoom) (cond b (refuses BadMicros) (cond d (refuses Counter) (brings (fromMicros (timeOf seconds micros) .0)))))
+    go : (a b d : Bool) → courseNumber (cond a (refuses NoRoom) (cond b (refuses BadMicros)
+        (cond d (refuses Counter) (brings (fromMicros (timeOf seconds micros) .0)))))
         ≡ cond a 2 (cond b 8 (cond d 12 0))
     go true b d = refl
     go false true d = refl
@@ -76,7 +80,8 @@ instant-number seconds micros room l = go (noRoom room) (badMicros micros) (isGi
 
 reading-number : (clock reading room : ℕ) (l : Last)
     → courseNumber (readingCourse clock reading room l)
-    ≡ cond (noRoom room) 2 (cond (not (isGiven l)) 12 (cond (overStep (lastIn l) reading) 12 (cond (pastField (movedOn clock (lastIn l) reading)) 12 0)))
+    ≡ cond (noRoom room) 2 (cond (not (isGiven l)) 12 (cond (overStep (lastIn l) reading) 12
+    (cond (pastField (movedOn clock (lastIn l) reading)) 12 0)))
 unfolding readingCourse stepCourse houseNumber
 reading-number clock reading room none = go (noRoom room)
   where
@@ -85,7 +90,8 @@ reading-number clock reading room none = go (noRoom room)
     go false = refl
 reading-number clock reading room (at last) = go (noRoom room) (overStep last reading) (pastField (movedOn clock last reading))
   where
-    go : (a b d : Bool) → courseNumber (cond a (refuses NoRoom) (cond b (refuses Counter) (cond d (refuses Counter) (brings (movedOn clock last reading)))))
+    go : (a b d : Bool) → courseNumber (cond a (refuses NoRoom) (cond b (refuses Counter)
+        (cond d (refuses Counter) (brings (movedOn clock last reading)))))
         ≡ cond a 2 (cond b 12 (cond d 12 0))
     go true b d = refl
     go false true d = refl
@@ -98,4 +104,5 @@ bad-call-number (known k) r = first-number (r .splicer) k
 bad-call-number (instants seconds micros reading room) r =
     rolls-number (instantCourse seconds micros room (r .last)) reading r ∙ instant-number seconds micros room (r .last)
 bad-call-number (readings reading room) r =
-    rolls-number (readingCourse (r .splicer .clock) reading room (r .last)) reading r ∙ reading-number (r .splicer .clock) reading room (r .last)
+    rolls-number (readingCourse (r .splicer .clock) reading room (r .last)) reading r
+    ∙ reading-number (r .splicer .clock) reading room (r .last)

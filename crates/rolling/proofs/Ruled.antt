@@ -13,9 +13,13 @@ use Rattle.rules.specs.Lists.{All}
 use Rattle.rules.specs.Units.{timeOf, badMicros, fromMicros}
 use Rattle.rules.specs.Bytes.{Byte}
 use Rattle.rules.specs.State.{Splicer}
-use Rattle.rules.specs.Calls.{Called, noRoom, fresh, ticked, moveCall, Call, opens, closes, messages, ticks, moves, cues, call, after, answers}
+use Rattle.rules.specs.Calls.{Called, noRoom, fresh, ticked, moveCall, Call, opens, closes, messages, ticks, moves, cues, call, after}
+use Rattle.rules.specs.Calls.{answers}
 use Rattle.rules.specs.Sound.{Wired, Reached, horizon}
-use Rattle.rules.specs.Rolling.{Last, none, at, Rolling, rollingOf, rollover, overStep, movedOn, pastField, isGiven, Course, refuses, brings, instantCourse, stepCourse, readingCourse, rolls, instantCall, readingCall, rollingFresh, Timeless, RollingCall, known, instants, readings, roll, rolledAfter, asMove, asCalls, asMoves, said, rollAnswers, RollWired, RollReached}
+use Rattle.rules.specs.Rolling.{Last, none, at, Rolling, rollingOf, rollover, overStep, movedOn, pastField, isGiven, Course, refuses}
+use Rattle.rules.specs.Rolling.{brings, instantCourse, stepCourse, readingCourse, rolls, instantCall, readingCall, rollingFresh, Timeless}
+use Rattle.rules.specs.Rolling.{RollingCall, known, instants, readings, roll, rolledAfter, asMove, asCalls, asMoves, said, rollAnswers}
+use Rattle.rules.specs.Rolling.{RollWired, RollReached}
 use Rattle.rules.proofs.All.{all-append}
 use Rattle.demands.specs.History.{Reply, refusal, wrote, replyOf, clockReplied}
 use Rattle.demands.proofs.Once.{call-clock, fresh-clock}
@@ -83,7 +87,8 @@ unfolding instantCourse
 instant-ahead seconds micros room clock l w h = go (noRoom room) (badMicros micros) (isGiven l) refl refl refl
   where
     go : (a b d : Bool) → noRoom room ≡ a → badMicros micros ≡ b → isGiven l ≡ d
-        → Ahead (cond a (refuses NoRoom) (cond b (refuses BadMicros) (cond d (refuses Counter) (brings (fromMicros (timeOf seconds micros) .0))))) clock room
+        → Ahead (cond a (refuses NoRoom) (cond b (refuses BadMicros)
+        (cond d (refuses Counter) (brings (fromMicros (timeOf seconds micros) .0))))) clock room
     go true b d x y z = tt
     go false true d x y z = tt
     go false false true x y z = tt
@@ -99,13 +104,15 @@ reading-ahead clock reading room none = go (noRoom room)
 reading-ahead clock reading room (at last) = go (noRoom room) (overStep last reading) (pastField (movedOn clock last reading)) refl refl
   where
     go : (a b d : Bool) → noRoom room ≡ a → pastField (movedOn clock last reading) ≡ d
-        → Ahead (cond a (refuses NoRoom) (cond b (refuses Counter) (cond d (refuses Counter) (brings (movedOn clock last reading))))) clock room
+        → Ahead (cond a (refuses NoRoom) (cond b (refuses Counter) (cond d (refuses Counter) (brings (movedOn clock last reading))))) clock
+        room
     go true b d x y = tt
     go false true d x y = tt
     go false false true x y = tt
     go false false false x y = (x, omega arith, leb-false horizon (movedOn clock last reading) y)
 
-pub step-ahead : (clock reading : ℕ) (l : Last) (until : ℕ) → stepCourse clock reading l ≡ brings until → (clock ≤ until) × (until < horizon)
+pub step-ahead : (clock reading : ℕ) (l : Last) (until : ℕ) → stepCourse clock reading l ≡ brings until
+    → (clock ≤ until) × (until < horizon)
 unfolding readingCourse
 step-ahead clock reading l until e = go (reading-ahead clock reading 4096 l)
   where
@@ -189,7 +196,8 @@ pub reached-fresh : (name : List ℕ) → length name ≡ 32 → All Byte name �
 unfolding rolledAfter
 reached-fresh name e a = record { name = name; whole = e; bytes = a; calls = []; wired = tt; same = refl }
 
-after-last : (ks : List RollingCall) (k : RollingCall) (r : Rolling) → rolledAfter (ks ++ (k ∷ [])) r ≡ rollingOf (roll k (rolledAfter ks r))
+after-last : (ks : List RollingCall) (k : RollingCall) (r : Rolling)
+    → rolledAfter (ks ++ (k ∷ [])) r ≡ rollingOf (roll k (rolledAfter ks r))
 unfolding rolledAfter
 after-last [] k r = refl
 after-last (j ∷ ks) k r = after-last ks k (rollingOf (roll j r))

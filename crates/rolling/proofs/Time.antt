@@ -11,7 +11,9 @@ use Rattle.rules.specs.Lists.{All}
 use Rattle.rules.specs.Units.{timeOf, fromMicros}
 use Rattle.rules.specs.Calls.{houseNumber, ticked, lending, Call, opens, closes, messages, cues}
 use Rattle.rules.specs.Sound.{horizon}
-use Rattle.rules.specs.Rolling.{Last, none, at, Rolling, rollingOf, rollover, stepOf, brings, instantCourse, stepCourse, readingCourse, rolls, instantCall, readingCall, rollingFresh, Timeless, RollingCall, known, instants, readings, roll, rolledAfter}
+use Rattle.rules.specs.Rolling.{Last, none, at, Rolling, rollingOf, rollover, stepOf, brings, instantCourse, stepCourse, readingCourse}
+use Rattle.rules.specs.Rolling.{rolls, instantCall, readingCall, rollingFresh, Timeless, RollingCall, known, instants, readings, roll}
+use Rattle.rules.specs.Rolling.{rolledAfter}
 use Rattle.rules.proofs.Timeless.{NoTime, timeless-has-none, none-is-timeless}
 use Rattle.demands.specs.Told.{numberOf}
 use Rattle.engine.proofs.Held.{Same}
@@ -52,7 +54,14 @@ module _ (t u d room : ℕ) (r : Rolling) (s : Shows t u r) (few : d ≤ 8100000
   read-is : readingCall x room r ≡ rolls (brings (u + 100 * d)) x r
   unfolding readingCall readingCourse stepCourse
   read-is =
-      rw (le-ltb room 4096 roomy, s .last, true-step t d (omega arith), le-ltb 8100000 d few, moved-true, lt-leb horizon (u + 100 * d) early)
+      rw (
+        le-ltb room 4096 roomy,
+        s .last,
+        true-step t d (omega arith),
+        le-ltb 8100000 d few,
+        moved-true,
+        lt-leb horizon (u + 100 * d) early,
+      )
 
   pub read-shows : Shows (t + d) (u + 100 * d) (rollingOf (roll (readings x room) r))
   unfolding roll rolls ticked

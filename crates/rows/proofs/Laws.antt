@@ -1,4 +1,5 @@
--- What the page's promise says: it determines all rows; of sixteen, each is that of its place, and they are the rows of a splicer whose list
+-- What the page's promise says: it determines all rows; of sixteen, each is that of its place, and they are the rows of a splicer whose
+-- list
 -- the words show; of another number, every row is as it was. Assumes nothing.
 use mathlib.Core.Path.{_≡_, refl, sym, ap, _∙_}
 use mathlib.Core.Bool.{Bool, true, false}
@@ -16,7 +17,8 @@ use Rattle.rules.specs.Calls.{houseNumber}
 use Rattle.rules.specs.Sound.{Noted}
 use Rattle.rules.proofs.Tests.{by}
 use Rattle.rows.specs.declared.Row.{Row}
-use Rattle.rows.specs.Rows.{rows, width, nextWord, words, placeOf, unusedRow, placeRow, rowAt, sixteen, pageNumber, filled, Pages, rowOf, rowsOf}
+use Rattle.rows.specs.Rows.{rows, width, nextWord, words, placeOf, unusedRow, placeRow, rowAt, sixteen, pageNumber, filled, Pages}
+use Rattle.rows.specs.Rows.{rowOf, rowsOf}
 
 -- ## The promise
 
@@ -47,7 +49,8 @@ filled-at (suc n) f l i d h k = go (eqb i n) refl (λ m. filled-at n f l i d m (
     go : (b : Bool) → eqb i n ≡ b → (i < n → getD (filled n f l) i d ≡ f i) → getD (set (filled n f l) n (f n)) i d ≡ f i
     go true e ih =
         let x : i ≡ n = eqb-true i n e in
-        ap (λ (j : ℕ). getD (set (filled n f l) n (f n)) j d) x ∙ getD-set-same (filled n f l) n (f n) d (omega (arith, length-filled n f l)) ∙ ap f (sym x)
+        ap (λ (j : ℕ). getD (set (filled n f l) n (f n)) j d) x ∙ getD-set-same (filled n f l) n (f n) d
+        (omega (arith, length-filled n f l)) ∙ ap f (sym x)
     go false e ih = let x = eqb-false i n e in getD-set-other (filled n f l) n i (f n) d x ∙ ih (omega (arith, x))
 
 -- of sixteen, all: each is that of its place
@@ -85,10 +88,12 @@ recent-row : (i n j : ℕ) (l : Lately) → j < n → getD (map rowOf (recentFro
 unfolding recentFrom
 recent-row i zero j l h = absurd (omega arith)
 recent-row i (suc n) zero l h = let e : i ≡ i + 0 = omega arith in ap (λ (k : ℕ). rowOf (recentAt k l)) e
-recent-row i (suc n) (suc j) l h = let e : suc i + j ≡ i + suc j = omega arith in recent-row (suc i) n j l (omega arith) ∙ ap (λ (k : ℕ). rowOf (recentAt k l)) e
+recent-row i (suc n) (suc j) l h = let e : suc i + j ≡ i + suc j = omega arith in
+    recent-row (suc i) n j l (omega arith) ∙ ap (λ (k : ℕ). rowOf (recentAt k l)) e
 
 -- if each row of the words is that of the list's place
-pub page-rows : (e : List ℕ) (l : Lately) (lent : List Row) {r : ℕ} {a : List Row} → ((i : ℕ) → i < rows → rowAt e i ≡ rowOf (recentAt i l)) →
+pub page-rows : (e : List ℕ) (l : Lately) (lent : List Row) {r : ℕ} {a : List Row}
+    → ((i : ℕ) → i < rows → rowAt e i ≡ rowOf (recentAt i l)) →
     length lent ≡ rows → Pages e lent r a → a ≡ rowsOf l
 unfolding recent
 page-rows e l lent {r} {a} f h p =

@@ -1,4 +1,5 @@
--- 02, CR 8, "house number 16 for other than sixteen rows": by hand, of none, one, fifteen, sixteen, seventeen and 32 rows. Rests on nothing.
+-- 02, CR 8, "house number 16 for other than sixteen rows": by hand, of none, one, fifteen, sixteen, seventeen and 32 rows. Rests on
+-- nothing.
 use mathlib.Core.Path.{_≡_, refl}
 use mathlib.Core.List.{List, [], _∷_, map}
 use Prim.Native.Nat.{ℕ}

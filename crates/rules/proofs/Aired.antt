@@ -25,7 +25,11 @@ use Rattle.rules.proofs.Timed.{OnTime, timed-fewer, instant-timed, elap
 pub use Rattle.rules.specs.Sound.{Since, Played}
 
 pub played-fewer : (now : ℕ) (q r : Queue) → FewerHeld q r → Played now q → Played now r
-played-fewer now q r f h = record { silent = fewer-all (λ s. s .played .0 ≡ 0) (f .waiting) (h .silent); since = fewer-all (Since now) (f .started) (h .since) }
+played-fewer now q r f h = record {
+  silent = fewer-all (λ s. s .played .0 ≡ 0) (f .waiting) (h .silent);
+  since =
+      fewer-all (Since now) (f .started) (h .since);
+}
 
 -- what passes until t, the time of the next instant or of the tick
 pub elapse-played : (now t : ℕ) (q : Queue) → now ≤ t → Played now q → Played t (elapse (t - now) q)
@@ -88,7 +92,11 @@ moved-aired now t q d m h =
     }
 
 pub rest-aired : (now until : ℕ) (q : Queue) → now ≤ until → Due (suc until) q → Aired now q → Aired until (elapse (until - now) q)
-rest-aired now until q le d h = record { timed = elapse-timed until (until - now) q (wait-timed now until q d (h .timed)); played = elapse-played now until q le (h .played) }
+rest-aired now until q le d h = record {
+  timed = elapse-timed until (until - now) q (wait-timed now until q d (h .timed));
+  played =
+      elapse-played now until q le (h .played);
+}
 
 pub aired-kept : {F : Call → Type 0} → KeptHeld F Aired
 unfolding requested sessionAt
@@ -96,7 +104,11 @@ aired-kept =
     record {
       closing = λ now q c h. fewer now q _ (closedBy-fewer c q) h;
       aborting = λ now q c x e h. fewer now q _ (aborted-fewer c x q) h;
-      accepting = λ s c r a h. record { timed = accept-timed s c r a (h .timed); played = accept-played (s .clock) (requested c r (s .queue)) (s .queue) refl (h .played) };
+      accepting = λ s c r a h. record {
+        timed = accept-timed s c r a (h .timed);
+        played =
+            accept-played (s .clock) (requested c r (s .queue)) (s .queue) refl (h .played);
+      };
       ticking = tick-through Aired rest-aired moved-aired;
     }
   where

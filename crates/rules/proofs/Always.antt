@@ -63,15 +63,19 @@ pub record Kept (F : Call → Type 0) (P : Splicer → Type 0) : Type 0 where
   pub opening : (s : Splicer) (c : ℕ) → c ≤ 3 → isOpen (linkOf c s) ≡ false → P s → P (withLink c Opened s)
   pub naming : (s : Splicer) (c : ℕ) (h : List ℕ) → Named F c h → isOpen (linkOf c s) ≡ true → P s → P (initialised c h s)
   pub closing : (s : Splicer) (c : ℕ) → c ≤ 3 → isOpen (linkOf c s) ≡ true → P s → P (shut c (withQueue (closedBy c (s .queue) .queue) s))
-  pub aborting : (s : Splicer) (c x : ℕ) → c ≤ 3 → isOpen (linkOf c s) ≡ true → holds c x (s .queue) ≡ true → P s → P (withQueue (aborted c x (s .queue) .queue) s)
-  pub accepting : (s : Splicer) (c : ℕ) (r : Request) → Admitted F s c r → P s → P (withQueue (accepted (requested c r (s .queue)) (s .queue) .queue) s)
-  pub ticking : (s : Splicer) (k : Call) (until : ℕ) → F k → Brings k until → s .clock ≤ until → P s → P (withClock until (silentAll (s .clock) until (s .queue)) (withQueue (runAll (s .clock) until (s .queue) .queue) s))
+  pub aborting : (s : Splicer) (c x : ℕ) → c ≤ 3 → isOpen (linkOf c s) ≡ true → holds c x (s .queue) ≡ true → P s
+      → P (withQueue (aborted c x (s .queue) .queue) s)
+  pub accepting : (s : Splicer) (c : ℕ) (r : Request) → Admitted F s c r → P s
+      → P (withQueue (accepted (requested c r (s .queue)) (s .queue) .queue) s)
+  pub ticking : (s : Splicer) (k : Call) (until : ℕ) → F k → Brings k until → s .clock ≤ until → P s
+      → P (withClock until (silentAll (s .clock) until (s .queue)) (withQueue (runAll (s .clock) until (s .queue) .queue) s))
 
 -- a fact of clock and queue: connections play no part
 pub record KeptHeld (F : Call → Type 0) (J : ℕ → Queue → Type 0) : Type 0 where
   pub closing : (now : ℕ) (q : Queue) (c : ℕ) → J now q → J now (closedBy c q .queue)
   pub aborting : (now : ℕ) (q : Queue) (c x : ℕ) → holds c x q ≡ true → J now q → J now (aborted c x q .queue)
-  pub accepting : (s : Splicer) (c : ℕ) (r : Request) → Admitted F s c r → J (s .clock) (s .queue) → J (s .clock) (accepted (requested c r (s .queue)) (s .queue) .queue)
+  pub accepting : (s : Splicer) (c : ℕ) (r : Request) → Admitted F s c r → J (s .clock) (s .queue)
+      → J (s .clock) (accepted (requested c r (s .queue)) (s .queue) .queue)
   pub ticking : (now until : ℕ) (q : Queue) → now ≤ until → J now q → J until (runAll now until q .queue)
 
 pub held-kept : {F : Call → Type 0} (J : ℕ → Queue → Type 0) → KeptHeld F J → Kept F (λ s. J (s .clock) (s .queue))
@@ -89,20 +93,32 @@ held-kept J k =
 
 module _ (F : Call → Type 0) (P : Splicer → Type 0) (k : Kept F P) where
   -- only what is done to the splicer counts
-  message-kept : (s : Splicer) → P s → (c : ℕ) (l : List ℕ) (loans : Loans) → c ≤ 3 → isOpen (linkOf c s) ≡ true → Answering c l (sectionOf loans s) s (λ a. F (messages c l loans) → P (a .splicer))
+  message-kept : (s : Splicer) → P s → (c : ℕ) (l : List ℕ) (loans : Loans) → c ≤ 3 → isOpen (linkOf c s) ≡ true
+      → Answering c l (sectionOf loans s) s (λ a. F (messages c l loans) → P (a .splicer))
   unfolding andThen
   message-kept s h c l loans low up =
       record {
         silent = λ e f. h;
         general = λ r b f. h;
-        naming = λ r b e g f. by P (eqb r 100) _ _ (λ i. k .naming s c (hardwareIn (dataIn l)) (record { low = low; bytes = l; loans = loans; given = f; good = g; same = refl }) up h) (λ i. h);
+        naming = λ r b e g f. by P (eqb r 100) _ _ (λ i. k .naming s c (hardwareIn (dataIn l))
+            (record { low = low; bytes = l; loans = loans; given = f; good = g; same = refl }) up h) (λ i. h);
         alive = λ e f. h;
         telling = λ e f. h;
         unknown = λ x e i f. h;
         aborting = λ x e i held f. k .aborting s c x low up held h;
         recalling = λ x e i f. h;
         declining = λ r v e i b n f. h;
-        accepting = λ r e i p f. k .accepting s c r (record { low = low; linked = up; passed = p; bytes = l; size = messageSize l; loans = loans; given = f; isRead = i }) h;
+        accepting = λ r e i p f. k .accepting s c r (record {
+          low = low;
+          linked = up;
+          passed = p;
+          bytes = l;
+          size = messageSize l;
+          loans =
+              loans;
+          given = f;
+          isRead = i;
+        }) h;
       }
 
   pub call-kept : (s : Splicer) (j : Call) → F j → P s → P (call j s .splicer)

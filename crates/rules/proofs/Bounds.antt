@@ -46,7 +46,8 @@ start-by v n (u ∷ l) a h = go (isPrior v u) refl (start-by v n l (a .1)) h
 prior-none : (v : Session) (w : List Session) → All (λ u. v .start .0 ≤ u .start .0) w → All Proper w → count (isPrior v) w ≡ 0
 prior-none v w a b =
     none-all (isPrior v) w (all-into (λ u. (v .start .0 ≤ u .start .0) × Proper u) (λ u. isPrior v u ≡ false)
-    (λ u h. failed (isPrior v u) (λ e. omega (arith, prior-parts v u e .2, h .0, h .1 .lasts))) w (all-both (λ u. v .start .0 ≤ u .start .0) Proper w a b))
+    (λ u h. failed (isPrior v u) (λ e. omega (arith, prior-parts v u e .2, h .0, h .1 .lasts))) w
+    (all-both (λ u. v .start .0 ≤ u .start .0) Proper w a b))
 
 -- the waiting in order of start: a are those before w
 reach : (a w k : List Session) → Sorted w → All Proper w → All Small w → All (Tied (λ p. count p a + (count p w + count p k))) w
@@ -57,19 +58,29 @@ reach a (v ∷ w) k o p m t before up =
     let h = start (eqb (v .prior) nobody) refl in
     let e : v .end .0 ≤ horizon + suc (suc (length a)) * longest = omega (arith, m .0 .duration) in
     let on = reach (v ∷ a) w k (o .1) (p .1) (m .1)
-    (tied-more (λ r. count r a + (count r (v ∷ w) + count r k)) (λ r. count r (v ∷ a) + (count r w + count r k)) (λ r. omega arith) w (t .1))
-    (e, all-into (λ u. u .end .0 ≤ horizon + suc (length a) * longest) (λ u. u .end .0 ≤ horizon + suc (suc (length a)) * longest) (λ u i. omega arith) a before) up in (
+    (tied-more (λ r. count r a + (count r (v ∷ w) + count r k)) (λ r. count r (v ∷ a) + (count r w + count r k)) (λ r. omega arith) w
+    (t .1)) (
+      e,
+      all-into (λ u. u .end .0 ≤ horizon + suc (length a) * longest) (λ u. u .end .0 ≤ horizon + suc (suc (length a)) * longest)
+          (λ u i. omega arith) a before,
+    ) up in (
       omega arith,
-      all-into (λ u. u .end .0 ≤ horizon + suc (suc (length a) + length w) * longest) (λ u. u .end .0 ≤ horizon + suc (length a + suc (length w)) * longest) (λ u i. omega arith) w on,
+      all-into (λ u. u .end .0 ≤ horizon + suc (suc (length a) + length w) * longest)
+          (λ u. u .end .0 ≤ horizon + suc (length a + suc (length w)) * longest) (λ u i. omega arith) w on,
     )
   where
     start : (b : Bool) → eqb (v .prior) nobody ≡ b → v .start .0 ≤ horizon + suc (length a) * longest
     start true e = let i = m .0 .timed (eqb-true (v .prior) nobody e) in omega arith
     start false e =
-        let z = prior-none v (v ∷ w) (omega arith, all-into (λ u. v .start .0 < u .start .0) (λ u. v .start .0 ≤ u .start .0) (λ u i. omega arith) w (o .0)) p in
+        let z = prior-none v (v ∷ w) (
+          omega arith,
+          all-into (λ u. v .start .0 < u .start .0) (λ u. v .start .0 ≤ u .start .0)
+              (λ u i. omega arith) w (o .0),
+        ) p in
         found (t .0 e) z
       where
-        found : 0 < count (isPrior v) a + (count (isPrior v) (v ∷ w) + count (isPrior v) k) → count (isPrior v) (v ∷ w) ≡ 0 → v .start .0 ≤ horizon + suc (length a) * longest
+        found : 0 < count (isPrior v) a + (count (isPrior v) (v ∷ w) + count (isPrior v) k) → count (isPrior v) (v ∷ w) ≡ 0
+            → v .start .0 ≤ horizon + suc (length a) * longest
         found d z = split (count (isPrior v) a) refl
           where
             split : (n : ℕ) → count (isPrior v) a ≡ n → v .start .0 ≤ horizon + suc (length a) * longest
@@ -77,16 +88,20 @@ reach a (v ∷ w) k o p m t before up =
             split (suc n) i = start-by v (horizon + suc (length a) * longest) a before (omega arith)
 
 -- no end
-pub ends-early : (now : ℕ) (q : Queue) → now < horizon → OnTime now q → Played now q → Each Proper q → Each Small q → All (Tied (heldCount q)) (q .waiting)
+pub ends-early : (now : ℕ) (q : Queue) → now < horizon → OnTime now q → Played now q → Each Proper q → Each Small q
+    → All (Tied (heldCount q)) (q .waiting)
     → length (q .waiting) ≤ 64 → Each (λ s. s .end .0 < never) q
 ends-early now q early timed played proper small tied few =
     let up : All (λ u. u .end .0 ≤ horizon + longest) (q .started) =
-    all-into (λ u. (u .start .0 + u .played .0 ≤ now) × Small u) (λ u. u .end .0 ≤ horizon + longest) (λ u h. omega (arith, h .0, h .1 .duration)) (q .started)
+    all-into (λ u. (u .start .0 + u .played .0 ≤ now) × Small u) (λ u. u .end .0 ≤ horizon + longest)
+    (λ u h. omega (arith, h .0, h .1 .duration)) (q .started)
     (all-both (λ u. u .start .0 + u .played .0 ≤ now) Small (q .started) (played .since) (small .started)) in
     let w = reach [] (q .waiting) (q .started) (timed .sorted) (proper .waiting) (small .waiting)
-    (tied-more (heldCount q) (λ p. count p [] + (count p (q .waiting) + count p (q .started))) (λ p. omega arith) (q .waiting) tied) tt up in
+    (tied-more (heldCount q) (λ p. count p [] + (count p (q .waiting) + count p (q .started))) (λ p. omega arith) (q .waiting) tied) tt up
+    in
     record {
-      waiting = all-into (λ u. u .end .0 ≤ horizon + suc (0 + length (q .waiting)) * longest) (λ u. u .end .0 < never) (λ u i. omega arith) (q .waiting) w;
+      waiting = all-into (λ u. u .end .0 ≤ horizon + suc (0 + length (q .waiting)) * longest) (λ u. u .end .0 < never) (λ u i. omega arith)
+          (q .waiting) w;
       started = all-into (λ u. u .end .0 ≤ horizon + longest) (λ u. u .end .0 < never) (λ u i. omega arith) (q .started) up;
     }
 

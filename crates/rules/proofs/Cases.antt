@@ -16,12 +16,18 @@ use Rattle.rules.specs.declared.Message.the-variants.{Splice}
 use Rattle.rules.specs.declared.Link.the-variants.{Opened}
 use Rattle.rules.specs.Units.{timeOf, badMicros, fromMicros}
 use Rattle.rules.specs.Bytes.{messageID, messageSize, oversize, field, sameName}
-use Rattle.rules.specs.Reading.{initRequest, aliveRequest, spliceRequest, abortRequest, configRequest, extendedRequest, channelName, hardwareIn, sessionID, badInit, badExtended, tailOf, badSplice, wholeRequest, readInit, readAlive, readAbort, readConfig, readExtended, readWhole, readSplice, isRead, read, dataIn, isSplice}
+use Rattle.rules.specs.Reading.{initRequest, aliveRequest, spliceRequest, abortRequest, configRequest, extendedRequest, channelName}
+use Rattle.rules.specs.Reading.{hardwareIn, sessionID, badInit, badExtended, tailOf, badSplice, wholeRequest, readInit, readAlive}
+use Rattle.rules.specs.Reading.{readAbort, readConfig, readExtended, readWhole, readSplice, isRead, read, dataIn, isSplice}
 use Rattle.rules.specs.State.{Splicer, holds, linkOf, isOpen, isInitialised, withQueue, withLink}
 use Rattle.rules.specs.Records.{General, InitResponse, SpliceResponse, AbortResponse}
 use Rattle.rules.specs.Ends.{Turn, andThen, writes, aborted, closedBy}
-use Rattle.rules.specs.Answers.{Answered, says, turns, requested, wrongNumber, tooLate, collides, full, firstOf, spliceResult, Spliced, grants, splices, answerSplice, answerAbort, initResult, initialised, answerInit, aliveResponse, configResponse, extendedResponse, answerRead, answer}
-use Rattle.rules.specs.Calls.{Called, refuse, does, replies, noConnection, noRoom, notOpen, longSection, sectionOf, shut, openCall, closeCall, framing, handled, messageCall, ticked, moveCall, tickCall, Loans, Call, opens, closes, messages, ticks, moves, cues, cueCall, call}
+use Rattle.rules.specs.Answers.{Answered, says, turns, requested, wrongNumber, tooLate, collides, full, firstOf, spliceResult}
+use Rattle.rules.specs.Answers.{Spliced, grants, splices, answerSplice, answerAbort, initResult, initialised, answerInit}
+use Rattle.rules.specs.Answers.{aliveResponse, configResponse, extendedResponse, answerRead, answer}
+use Rattle.rules.specs.Calls.{Called, refuse, does, replies, noConnection, noRoom, notOpen, longSection, sectionOf, shut, openCall}
+use Rattle.rules.specs.Calls.{closeCall, framing, handled, messageCall, ticked, moveCall, tickCall, Loans, Call, opens, closes}
+use Rattle.rules.specs.Calls.{messages, ticks, moves, cues, cueCall, call}
 use Rattle.rules.specs.Cues.{badSection, readCue, cueTime, initialisedOnes, cueRecords}
 use Rattle.rules.specs.Lists.{All, some}
 use Rattle.rules.specs.Sound.{codes, Given}
@@ -65,13 +71,38 @@ pub record Cases (s : Splicer) (P : Call → Called → Type 0) : Type 0 where
   pub bringing : (k : Call) (until : ℕ) → Brings k until → s .clock ≤ until → P k (ticked until s)
   -- 02, CR 7
   pub cueing : (l : List ℕ) (pts seconds micros room : ℕ) → badSection l ≡ false
-      → P (cues l pts seconds micros room) (does 0 (cueRecords (readCue l) (cueTime pts seconds micros (readCue l)) l (initialisedOnes (s .links))) s)
+      → P (cues l pts seconds micros room) (does 0 (cueRecords (readCue l) (cueTime pts seconds micros (readCue l)) l
+      (initialisedOnes (s .links))) s)
 
 -- ## Result codes
 
 -- each has two bytes
 pub given-below : (n : ℕ) → Given n → n < 65536
-given-below n g = go codes (omega arith, (omega arith, (omega arith, (omega arith, (omega arith, (omega arith, (omega arith, (omega arith, (omega arith, (omega arith, (omega arith, (omega arith, (omega arith, tt))))))))))))) g
+given-below n g = go codes (
+  omega arith,
+  (
+    omega arith,
+    (
+      omega arith,
+      (
+        omega arith,
+        (
+          omega arith,
+          (
+            omega arith,
+            (
+              omega arith,
+              (
+                omega arith,
+                (omega arith, (omega arith, (omega arith, (omega arith, (omega arith, tt))))),
+              ),
+            ),
+          ),
+        ),
+      ),
+    ),
+  ),
+) g
   where
     go : (l : List ℕ) → All (λ k. k < 65536) l → some (eqb n) l ≡ true → n < 65536
     go [] a e = absurd (clash false e refl)
@@ -104,12 +135,14 @@ module _ (c : ℕ) (l section : List ℕ) (s : Splicer) (D : Answered → Type 0
   unfolding answerAbort
   abort-case x e f = by (λ (t : Turn). D (turns t s)) (holds c x (s .queue)) _ _ (λ i. k .aborting x e f i) (λ i. k .unknown x e f)
 
-  splice-case : (r : Request) → isSplice l ≡ true → readSplice (dataIn l) ≡ Splice r → D (splices (answerSplice (s .clock) c r (s .queue)) s)
+  splice-case : (r : Request) → isSplice l ≡ true → readSplice (dataIn l) ≡ Splice r
+      → D (splices (answerSplice (s .clock) c r (s .queue)) s)
   unfolding answerSplice spliceResult
   splice-case r e f =
       let q = s .queue in
       let v = spliceResult (s .clock) c r (requested c r q) q in
-      let low : Given v = first-given (wrongNumber c r q) (tooLate (s .clock) (r .start)) (collides (requested c r q) (q .waiting)) (full c (q .waiting)) in
+      let low : Given v = first-given (wrongNumber c r q) (tooLate (s .clock) (r .start)) (collides (requested c r q) (q .waiting))
+      (full c (q .waiting)) in
       by (λ (a : Spliced). D (splices a s)) (eqb v 100) _ _
       (λ i. k .accepting r e f (passed-all (s .clock) c r q (eqb-true v 100 i))) (λ i. k .declining r v e f low i)
 
@@ -120,7 +153,8 @@ module _ (c : ℕ) (l section : List ℕ) (s : Splicer) (D : Answered → Type 0
       let M : Message → Type 0 = λ m. D (answerRead c m d section s) in
       let bad = k .general 123 refl in
       by M (eqb (messageID l) initRequest) _ _
-      (λ e. by M (badInit d) _ _ (λ f. bad) (λ f. k .naming _ (init-given (field 0 2 d) (channelName d) (s .name)) (other initRequest e refl) f))
+      (λ e. by M (badInit d) _ _ (λ f. bad) (λ f. k .naming _ (init-given (field 0 2 d) (channelName d) (s .name))
+      (other initRequest e refl) f))
       (λ e. by M (eqb (messageID l) aliveRequest) _ _
       (λ f. by M (eqb (length d) 8) _ _ (λ g. k .alive (other aliveRequest f refl)) (λ g. bad))
       (λ f. by M (eqb (messageID l) spliceRequest) _ _

@@ -13,7 +13,10 @@ use Rattle.rules.specs.declared.Request.{Request}
 use Rattle.rules.specs.declared.Message.the-variants.{Init, Alive, Splice, Abort, Config, Extended, Unreadable}
 use Rattle.rules.specs.Units.{timeOf}
 use Rattle.rules.specs.Bytes.{field}
-use Rattle.rules.specs.Reading.{nobody, sessionID, badInit, badExtended, readInit, readAlive, readAbort, readConfig, readExtended, isBad, muxOf, descriptorsOf, priorSession, seconds, microSeconds, duration, accessType, overridePlaying, returnToPriorChannel, readStart, tailOf, badTail, badSplice, wholeRequest, readWhole, readSplice, read}
+use Rattle.rules.specs.Reading.{nobody, sessionID, badInit, badExtended, readInit, readAlive, readAbort, readConfig, readExtended}
+use Rattle.rules.specs.Reading.{isBad, muxOf, descriptorsOf, priorSession, seconds, microSeconds, duration, accessType}
+use Rattle.rules.specs.Reading.{overridePlaying, returnToPriorChannel, readStart, tailOf, badTail, badSplice, wholeRequest, readWhole}
+use Rattle.rules.specs.Reading.{readSplice, read}
 use Rattle.rules.specs.State.{Queue, holds}
 use Rattle.rules.specs.Answers.{requested, unknownPrior, wrongNumber, tooLate, collides, full, firstOf, spliceResult}
 use Rattle.rules.proofs.Tests.{tests, or-none}
@@ -95,7 +98,8 @@ unfolding read
 read-splice id d r = go (eqb id 0x0001) (eqb id 0x0005) (eqb id 0x0007) (eqb id 0x000E) (eqb id 0x0003) (eqb id 0x000A)
   where
     go : (a b c e f g : Bool)
-        → cond a (readInit d) (cond b (readAlive d) (cond c (readSplice d) (cond e (readAbort d) (cond f (readExtended d) (cond g (readConfig d) Unreadable))))) ≡ Splice r
+        → cond a (readInit d) (cond b (readAlive d) (cond c (readSplice d)
+        (cond e (readAbort d) (cond f (readExtended d) (cond g (readConfig d) Unreadable))))) ≡ Splice r
         → readSplice d ≡ Splice r
     go true b c e f g h = absurd (init-other d r h)
     go false true c e f g h = absurd (alive-other d r h)
@@ -113,7 +117,8 @@ whole-read d t r h = go (badSplice d t) refl h
     taken : (a b : Request) → Splice a ≡ Splice b → b ≡ a
     taken a b e = cc
 
-    go : (b : Bool) → badSplice d t ≡ b → cond b Unreadable (Splice (wholeRequest d t)) ≡ Splice r → (r ≡ wholeRequest d t) × (badSplice d t ≡ false)
+    go : (b : Bool) → badSplice d t ≡ b → cond b Unreadable (Splice (wholeRequest d t)) ≡ Splice r
+        → (r ≡ wholeRequest d t) × (badSplice d t ≡ false)
     go true f e = let z : _≡_ {A = ℕ} 0 1 = cc in absurd (omega arith)
     go false f e = (taken (wholeRequest d t) r e, f)
 
@@ -121,7 +126,8 @@ pub read-whole : (d : List ℕ) (r : Request) → readSplice d ≡ Splice r → 
 unfolding readSplice
 read-whole d r h = go (ltb (length d) 18) h
   where
-    go : (a : Bool) → cond a Unreadable (readWhole d (tailOf d)) ≡ Splice r → (r ≡ wholeRequest d (tailOf d)) × (badSplice d (tailOf d) ≡ false)
+    go : (a : Bool) → cond a Unreadable (readWhole d (tailOf d)) ≡ Splice r
+        → (r ≡ wholeRequest d (tailOf d)) × (badSplice d (tailOf d) ≡ false)
     go true e = let z : _≡_ {A = ℕ} 0 1 = cc in absurd (omega arith)
     go false e = whole-read d (tailOf d) r e
 
@@ -179,19 +185,33 @@ module _ (d : List ℕ) (r : Request) (h : readSplice d ≡ Splice r) where
 
   pub granted : Granted r
   unfolding readStart
-  granted = rw (w .0) (record { lasts = good .lasts; ranked = good .ranked; overrides = good .overrides; mux = mux-range (descriptorsOf (tailOf d)); names = named (eqb (priorSession d) nobody) refl })
+  granted = rw (w .0) (record {
+    lasts = good .lasts;
+    ranked = good .ranked;
+    overrides = good .overrides;
+    mux =
+        mux-range (descriptorsOf (tailOf d));
+    names = named (eqb (priorSession d) nobody) refl;
+  })
     where
       good : GoodTail (tailOf d)
       good = good-tail (tailOf d) (parts .0)
 
-      named : (b : Bool) → eqb (priorSession d) nobody ≡ b → Named (cond b (Timed (timeOf (seconds d) (microSeconds d))) (Linked (priorSession d)))
+      named : (b : Bool) → eqb (priorSession d) nobody ≡ b
+          → Named (cond b (Timed (timeOf (seconds d) (microSeconds d))) (Linked (priorSession d)))
       named true e = tt
       named false e = e
 
   pub fitting : All Byte d → Fitting r
   unfolding readStart
   fitting a =
-      rw (w .0) (record { id = field-below 0 4 d a; duration = field-below 0 4 (tailOf d) (tail-byte d a); event = field-below 4 4 (tailOf d) (tail-byte d a); start = fits (eqb (priorSession d) nobody) refl (parts .1) })
+      rw (w .0) (record {
+        id = field-below 0 4 d a;
+        duration = field-below 0 4 (tailOf d) (tail-byte d a);
+        event =
+            field-below 4 4 (tailOf d) (tail-byte d a);
+        start = fits (eqb (priorSession d) nobody) refl (parts .1);
+      })
     where
       fits : (b : Bool) → eqb (priorSession d) nobody ≡ b → (b && ltb 999999 (microSeconds d)) ≡ false
           → StartFits (cond b (Timed (timeOf (seconds d) (microSeconds d))) (Linked (priorSession d)))

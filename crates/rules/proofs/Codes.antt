@@ -11,7 +11,8 @@ use Rattle.rules.specs.declared.Ending.the-variants.{Complete, Failed, R
 use Rattle.rules.specs.Lists.{put, keep, place, removeAt}
 use Rattle.rules.specs.State.{Queue, Splicer, empty, of, is, startsAt, endsAt, due, notAfter, withWaiting, withStarted}
 use Rattle.rules.specs.Records.{Record}
-use Rattle.rules.specs.Ends.{Turn, andThen, ended, ending, oneEnd, endings, followers, dismissed, evictedAt, evicted, cancelled, aborted, closedBy}
+use Rattle.rules.specs.Ends.{Turn, andThen, ended, ending, oneEnd, endings, followers, dismissed, evictedAt, evicted, cancelled}
+use Rattle.rules.specs.Ends.{aborted, closedBy}
 use Rattle.rules.specs.Instants.{mayStart, began, meetsEqual, ousted, launched, startAt, endAt, instant, elapse, run, runAll}
 use Rattle.rules.specs.Answers.{aliveResponse, configResponse, requested, accepts, accepted}
 use Rattle.rules.specs.Calls.{ticked, Call, call, sectionOf}
@@ -40,7 +41,8 @@ told-coded : (e : Ending) → Ends e → (l : List Session) → All Coded (map (
 told-coded e g [] = tt
 told-coded e g (s ∷ l) = (end-coded e g s, told-coded e g l)
 
-endings-coded : (air cover : Ending) → Ends air → Ends cover → (p : Session → Bool) (k : List Session) → All Coded (endings air cover p k Record ended)
+endings-coded : (air cover : Ending) → Ends air → Ends cover → (p : Session → Bool) (k : List Session)
+    → All Coded (endings air cover p k Record ended)
 unfolding endings
 endings-coded air cover a b p [] = tt
 endings-coded air cover a b p (s ∷ k) = go (p s)
@@ -62,7 +64,8 @@ module _ (q : Queue) where
   cancelled-coded : (p : Session → Bool) → All Coded (cancelled p q .written)
   unfolding cancelled
   cancelled-coded p =
-      all-append Coded (endings (Complete 116) (Response 116) p (q .started) Record ended) (map (ended (Response 116)) (keep p (q .waiting)))
+      all-append Coded (endings (Complete 116) (Response 116) p (q .started) Record ended)
+      (map (ended (Response 116)) (keep p (q .waiting)))
       (endings-coded (Complete 116) (Response 116) refl refl p (q .started)) (told-coded (Response 116) refl (keep p (q .waiting)))
 
 evicted-coded : (t : ℕ) (q : Queue) → All Coded (evicted t q .written)
@@ -71,13 +74,18 @@ evicted-coded t q =
     let i = place (startsAt t) (q .waiting) in
     let s = getD (q .waiting) i empty in
     by (λ (r : Turn). All Coded (r .written)) (ltb i (length (q .waiting))) _ _
-    (λ e. (refl, dismissed-coded (ending (oneEnd (Response 109) s) (withWaiting (removeAt i (q .waiting)) q) .queue) 109 (s .conn) (s .id) refl)) (λ e. tt)
+    (λ e. (
+      refl,
+      dismissed-coded (ending (oneEnd (Response 109) s) (withWaiting (removeAt i (q .waiting)) q) .queue) 109 (s .conn) (s .id)
+          refl,
+    )) (λ e. tt)
 
 aborted-coded : (c x : ℕ) (q : Queue) → All Coded (aborted c x q .written)
 unfolding aborted andThen
 aborted-coded c x q =
     let u = cancelled (is c x) q .queue in
-    all-append Coded (cancelled (is c x) q .written) (dismissed 116 c x u .written) (cancelled-coded q (is c x)) (dismissed-coded u 116 c x refl)
+    all-append Coded (cancelled (is c x) q .written) (dismissed 116 c x u .written) (cancelled-coded q (is c x))
+    (dismissed-coded u 116 c x refl)
 
 closedBy-coded : (c : ℕ) (q : Queue) → All Coded (closedBy c q .written)
 unfolding closedBy
@@ -94,13 +102,18 @@ unfolding ousted andThen
 ousted-coded s q =
     let air = getD (q .started) 0 empty in
     by (λ (r : Turn). All Coded (r .written)) (meetsEqual s (q .started)) _ _
-    (λ e. (refl, dismissed-coded (ending (oneEnd (Complete 125) air) (withStarted (removeAt 0 (q .started)) q) .queue) 125 (air .conn) (air .id) refl)) (λ e. tt)
+    (λ e. (
+      refl,
+      dismissed-coded (ending (oneEnd (Complete 125) air) (withStarted (removeAt 0 (q .started)) q) .queue) 125 (air .conn)
+          (air .id) refl,
+    )) (λ e. tt)
 
 launched-coded : (s : Session) (q : Queue) → All Coded (launched s q .written)
 unfolding launched andThen
 launched-coded s q =
     by (λ (r : Turn). All Coded (r .written)) (mayStart s (q .started)) _ _
-    (λ e. all-append Coded (ousted s q .written) (began s ∷ []) (ousted-coded s q) (refl, tt)) (λ e. (refl, dismissed-coded (ending (oneEnd Failed s) q .queue) 109 (s .conn) (s .id) refl))
+    (λ e. all-append Coded (ousted s q .written) (began s ∷ []) (ousted-coded s q) (refl, tt))
+    (λ e. (refl, dismissed-coded (ending (oneEnd Failed s) q .queue) 109 (s .conn) (s .id) refl))
 
 startAt-coded : (t : ℕ) (q : Queue) → All Coded (startAt t q .written)
 unfolding startAt
@@ -112,7 +125,8 @@ startAt-coded t q =
 instant-coded : (t : ℕ) (q : Queue) → All Coded (instant t q .written)
 unfolding instant endAt andThen
 instant-coded t q =
-    all-append Coded (endAt t q .written) (startAt t (endAt t q .queue) .written) (endings-coded (Complete 100) (Complete 125) refl refl (endsAt t) (q .started))
+    all-append Coded (endAt t q .written) (startAt t (endAt t q .queue) .written)
+    (endings-coded (Complete 100) (Complete 125) refl refl (endsAt t) (q .started))
     (startAt-coded t (endAt t q .queue))
 
 run-coded : (n now until : ℕ) (q : Queue) → All Coded (run n now until q .written)
@@ -153,5 +167,6 @@ call-coded k s =
       answering = λ c l loans low e short. message-coded s c l (sectionOf loans s);
       bringing = λ k until b le. run-coded _ (s .clock) until (s .queue);
       cueing = λ l pts seconds micros room g. let x = readCue l in
-          cue-all Coded (cueTime pts seconds micros x) l (λ c low. refl) (λ c low. refl) x (initialisedOnes (s .links)) (initialised-low (s .links));
+          cue-all Coded (cueTime pts seconds micros x) l (λ c low. refl) (λ c low. refl) x (initialisedOnes (s .links))
+          (initialised-low (s .links));
     }) k

@@ -38,7 +38,8 @@ module _ {A : Type 0} where
   count-split p q [] = omega arith
   count-split p q (x ∷ l) = omega (arith, count-split p q l, both (q x))
     where
-      both : (b : Bool) → count p (put b x (keep q l)) + count p (put (not b) x (omit q l)) ≡ bit (p x) + (count p (keep q l) + count p (omit q l))
+      both : (b : Bool) → count p (put b x (keep q l)) + count p (put (not b) x (omit q l)) ≡ bit (p x)
+          + (count p (keep q l) + count p (omit q l))
       both true = omega arith
       both false = omega arith
 
@@ -128,7 +129,8 @@ module _ {A : Type 0} where
   length-insertAt (suc i) x [] = refl
   length-insertAt (suc i) x (y ∷ l) = ap suc (length-insertAt i x l)
 
-  pub count-removeAt : (p : A → Bool) (i : ℕ) (l : List A) (d : A) → i < length l → count p l ≡ bit (p (getD l i d)) + count p (removeAt i l)
+  pub count-removeAt : (p : A → Bool) (i : ℕ) (l : List A) (d : A) → i < length l
+      → count p l ≡ bit (p (getD l i d)) + count p (removeAt i l)
   unfolding removeAt
   count-removeAt p i [] d h = absurd (omega arith)
   count-removeAt p zero (x ∷ l) d h = refl
@@ -168,7 +170,8 @@ module _ {A : Type 0} where
   place-first p [] d j h = absurd (omega arith)
   place-first p (x ∷ l) d j h = go (p x) refl j (place-first p l d) h
     where
-      go : (b : Bool) → p x ≡ b → (j : ℕ) → ((k : ℕ) → k < place p l → p (getD l k d) ≡ false) → j < cond b 0 (suc (place p l)) → p (getD (x ∷ l) j d) ≡ false
+      go : (b : Bool) → p x ≡ b → (j : ℕ) → ((k : ℕ) → k < place p l → p (getD l k d) ≡ false) → j < cond b 0 (suc (place p l))
+          → p (getD (x ∷ l) j d) ≡ false
       go true e j ih k = absurd (omega arith)
       go false e zero ih k = e
       go false e (suc j) ih k = ih j (omega arith)
@@ -198,14 +201,16 @@ count-map p g (x ∷ l) = rw (count-map p g l)
 -- ## The ends of started ones
 
 pub count-endings : (P : Record → Bool) (Q : Session → Bool) (air cover : Ending) → ((s : Session) → P (ended air s) ≡ Q s)
-    → ((s : Session) → P (ended cover s) ≡ Q s) → (p : Session → Bool) (k : List Session) → count P (endings air cover p k Record ended) ≡ count Q (keep p k)
+    → ((s : Session) → P (ended cover s) ≡ Q s) → (p : Session → Bool) (k : List Session)
+    → count P (endings air cover p k Record ended) ≡ count Q (keep p k)
 unfolding endings
 count-endings P Q air cover ha hc p [] = refl
 count-endings P Q air cover ha hc p (s ∷ k) =
     simp (count-put, count-map, ha, count-same (λ (u : Session). P (ended cover u)) Q hc)
 
 -- where both end alike
-pub endings-map : {A : Type 0} (f : Ending → Session → A) (h : Ending) (p : Session → Bool) (k : List Session) → endings h h p k A f ≡ map (f h) (keep p k)
+pub endings-map : {A : Type 0} (f : Ending → Session → A) (h : Ending) (p : Session → Bool) (k : List Session)
+    → endings h h p k A f ≡ map (f h) (keep p k)
 unfolding endings
 endings-map f h p [] = refl
 endings-map f h p (s ∷ k) = go (p s)

@@ -16,7 +16,8 @@ use Rattle.rules.specs.declared.Link.the-variants.{Closed}
 use Rattle.rules.specs.State.{isInitialised}
 use Rattle.rules.specs.Units.{second, timeOf, fromMicros, toMicros}
 use Rattle.rules.specs.Records.{Record, output}
-use Rattle.rules.specs.Cues.{sectionLength, badSection, exactTime, wireTimeOf, cueTime, initialisedOnes, passedTo, complainedTo, cueRecords}
+use Rattle.rules.specs.Cues.{sectionLength, badSection, exactTime, wireTimeOf, cueTime, initialisedOnes, passedTo, complainedTo}
+use Rattle.rules.specs.Cues.{cueRecords}
 use Rattle.rules.proofs.Tests.{by, or-none}
 use Rattle.rules.proofs.All.{All}
 use Rattle.rules.proofs.Records.{length-output}
@@ -36,7 +37,8 @@ Wide t = (t .seconds < 4294967296) × (t .micros < 4294967296)
 
 wire-wide : (t : ℕ) → Wide (wireTimeOf t)
 unfolding wireTimeOf
-wire-wide t = by Wide (ltb 0xFFFFFFFF (t / second)) _ _ (λ e. (omega arith, omega arith)) (λ e. (omega (arith, ltb-false 0xFFFFFFFF (t / second) e), omega arith))
+wire-wide t = by Wide (ltb 0xFFFFFFFF (t / second)) _ _ (λ e. (omega arith, omega arith))
+    (λ e. (omega (arith, ltb-false 0xFFFFFFFF (t / second) e), omega arith))
 
 pub cue-wide : (pts seconds micros : ℕ) (x : Cue) → Wide (cueTime pts seconds micros x)
 unfolding cueTime
@@ -56,10 +58,17 @@ module _ (p : ℕ → Bool) where
   put-length false c l = omega arith
 
   keep-low : All (λ d. d ≤ 3) (keep p (0 ∷ 1 ∷ 2 ∷ 3 ∷ []))
-  keep-low = put-low (p 0) 0 _ (omega arith) (put-low (p 1) 1 _ (omega arith) (put-low (p 2) 2 _ (omega arith) (put-low (p 3) 3 [] (omega arith) tt)))
+  keep-low = put-low (p 0) 0 _ (omega arith) (put-low (p 1) 1 _ (omega arith)
+      (put-low (p 2) 2 _ (omega arith) (put-low (p 3) 3 [] (omega arith) tt)))
 
   keep-four : length (keep p (0 ∷ 1 ∷ 2 ∷ 3 ∷ [])) ≤ 4
-  keep-four = omega (arith, put-length (p 0) 0 (keep p (1 ∷ 2 ∷ 3 ∷ [])), put-length (p 1) 1 (keep p (2 ∷ 3 ∷ [])), put-length (p 2) 2 (keep p (3 ∷ [])), put-length (p 3) 3 [])
+  keep-four = omega (
+    arith,
+    put-length (p 0) 0 (keep p (1 ∷ 2 ∷ 3 ∷ [])),
+    put-length (p 1) 1 (keep p (2 ∷ 3 ∷ [])),
+    put-length (p 2) 2 (keep p (3 ∷ [])),
+    put-length (p 3) 3 [],
+  )
 
 pub initialised-low : (links : List Link) → All (λ c. c ≤ 3) (initialisedOnes links)
 unfolding initialisedOnes
@@ -71,7 +80,8 @@ initialised-four links = keep-four (λ c. isInitialised (getD links c Closed))
 
 -- ## The records
 
-module _ (P : Record → Type 0) (t : WireTime) (l : List ℕ) (passes : (c : ℕ) → c ≤ 3 → P (passedTo t l c)) (complains : (c : ℕ) → c ≤ 3 → P (complainedTo c)) where
+module _ (P : Record → Type 0) (t : WireTime) (l : List ℕ) (passes : (c : ℕ) → c ≤ 3 → P (passedTo t l c))
+    (complains : (c : ℕ) → c ≤ 3 → P (complainedTo c)) where
   each : (f : ℕ → Record) → ((c : ℕ) → c ≤ 3 → P (f c)) → (cs : List ℕ) → All (λ c. c ≤ 3) cs → All P (map f cs)
   each f h [] a = tt
   each f h (c ∷ cs) a = (h c (a .0), each f h cs (a .1))

@@ -13,7 +13,8 @@ use Rattle.rules.specs.declared.Priority.{Priority}
 use Rattle.rules.specs.declared.Priority.the-variants.{Is, Bad}
 use Rattle.rules.specs.Lists.{put}
 use Rattle.rules.specs.Bytes.{field, value}
-use Rattle.rules.specs.Reading.{descriptorLength, descriptorFits, isMux, muxValue, badMux, goodDescriptor, averageMux, muxAfter, muxFrom, muxOf, muxIn}
+use Rattle.rules.specs.Reading.{descriptorLength, descriptorFits, isMux, muxValue, badMux, goodDescriptor, averageMux, muxAfter}
+use Rattle.rules.specs.Reading.{muxFrom, muxOf, muxIn}
 use Rattle.rules.specs.Descriptors.{cut, descriptorsIn, bytesOf, allGood, muxValues, lastOr}
 use Rattle.rules.proofs.Tests.{by, and-both}
 
@@ -49,7 +50,8 @@ mux-end l i v h =
 
 -- at a place before it
 pub mux-step : (l : List ℕ) (i v : ℕ) → i < length l
-    → muxRest v (drop i l) ≡ cond (goodDescriptor (drop i l)) (muxRest (muxAfter v (drop i l)) (drop (i + (2 + descriptorLength (drop i l))) l)) Bad
+    → muxRest v (drop i l) ≡ cond (goodDescriptor (drop i l)) (muxRest (muxAfter v (drop i l))
+    (drop (i + (2 + descriptorLength (drop i l))) l)) Bad
 unfolding muxFrom
 mux-step l i v h =
     let m = drop i l in
@@ -57,8 +59,10 @@ mux-step l i v h =
     let k : length m ≡ length l - i = length-drop i l in
     let j : length (drop n m) ≡ length m - n = length-drop n m in
     sym (mux-rest (suc (length m)) v m (omega arith))
-    ∙ ap (λ t. cond t (Is v) (cond (goodDescriptor m) (muxFrom (length m) (muxAfter v m) (drop n m)) Bad)) (ne-eqb (length m) 0 (λ z. omega arith))
-    ∙ ap (λ t. cond (goodDescriptor m) t Bad) (mux-rest (length m) (muxAfter v m) (drop n m) (omega arith) ∙ ap (muxRest (muxAfter v m)) (drop-drop n i l))
+    ∙ ap (λ t. cond t (Is v) (cond (goodDescriptor m) (muxFrom (length m) (muxAfter v m) (drop n m)) Bad))
+    (ne-eqb (length m) 0 (λ z. omega arith))
+    ∙ ap (λ t. cond (goodDescriptor m) t Bad) (mux-rest (length m) (muxAfter v m) (drop n m) (omega arith)
+    ∙ ap (muxRest (muxAfter v m)) (drop-drop n i l))
 
 -- ## The range of what they ask
 
@@ -140,8 +144,10 @@ module _ (l : List ℕ) where
         same = ap (λ (k : ℕ). eqb k 5) one-length
 
         go : (b : Bool) → eqb (descriptorLength l) 5 ≡ b
-            → not (eqb (descriptorLength l) 5 && (leb 1 (muxValue one) && leb (muxValue one) 10)) ≡ not (eqb (descriptorLength l) 5 && (leb 1 (muxValue l) && leb (muxValue l) 10))
-        go true e = let k = eqb-true (descriptorLength l) 5 e in ap (λ (v : ℕ). not (eqb (descriptorLength l) 5 && (leb 1 v && leb v 10))) (one-byte 6 (omega arith))
+            → not (eqb (descriptorLength l) 5 && (leb 1 (muxValue one) && leb (muxValue one) 10))
+            ≡ not (eqb (descriptorLength l) 5 && (leb 1 (muxValue l) && leb (muxValue l) 10))
+        go true e = let k = eqb-true (descriptorLength l) 5 e in ap (λ (v : ℕ). not (eqb (descriptorLength l) 5 && (leb 1 v && leb v 10)))
+            (one-byte 6 (omega arith))
         go false e = rw e
 
   pub one-good : goodDescriptor one ≡ goodDescriptor l
@@ -181,7 +187,8 @@ pub in-end : (l : List ℕ) → length l ≤ 0 → descriptorsIn l ≡ []
 unfolding cut
 in-end l h = cut-enough (length l) 0 l (omega arith) h
 
-pub in-step : (l : List ℕ) → 0 < length l → descriptorsIn l ≡ take (2 + descriptorLength l) l ∷ descriptorsIn (drop (2 + descriptorLength l) l)
+pub in-step : (l : List ℕ) → 0 < length l → descriptorsIn l ≡ take (2 + descriptorLength l) l
+    ∷ descriptorsIn (drop (2 + descriptorLength l) l)
 unfolding cut
 in-step l h =
     let n = 2 + descriptorLength l in

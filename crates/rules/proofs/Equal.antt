@@ -11,8 +11,10 @@ use Rattle.rules.specs.State.{Lately, rememberedAll}
 use Rattle.rules.specs.Ends.{andThen, ended, past, followers, dismissed}
 use Rattle.rules.specs.Instants.{mayStart, began, meetsEqual, ousted, launched}
 
--- "the equal one on air ends at once, SpliceComplete flag 1, result 125, and its waiting followers end with Splice_Response 125, all before the
--- new start's record": these records and no others, in this order; the covered ones stay as they were, under the new one; and what ended is kept
+-- "the equal one on air ends at once, SpliceComplete flag 1, result 125, and its waiting followers end with Splice_Response 125, all before
+-- the
+-- new start's record": these records and no others, in this order; the covered ones stay as they were, under the new one; and what ended is
+-- kept
 -- in the same order
 pub equal-start : (s air : Session) (w k : List Session) (l : Lately) → s .overrides ≡ 1 → air .access ≡ s .access
     → let f = followers (air .conn) (air .id) w in

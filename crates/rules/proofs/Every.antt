@@ -84,7 +84,8 @@ module _ {A : Type 0} where
   all-counted [] = tt
   all-counted (x ∷ l) = (
     (λ p e. omega (arith, ap bit e)),
-    all-into (λ y. (p : A → Bool) → p y ≡ true → 0 < count p l) (λ y. (p : A → Bool) → p y ≡ true → 0 < count p (x ∷ l)) (λ y h p e. omega (arith, h p e)) l (all-counted l),
+    all-into (λ y. (p : A → Bool) → p y ≡ true → 0 < count p l) (λ y. (p : A → Bool) → p y ≡ true → 0 < count p (x ∷ l))
+        (λ y h p e. omega (arith, h p e)) l (all-counted l),
   )
 
   -- ## Some fewer, in the same order
@@ -148,9 +149,13 @@ sorted-at (s ∷ w) i zero d o h k = absurd (omega arith)
 sorted-at (s ∷ w) zero (suc j) d o h k = all-getD (λ u. s .start .0 < u .start .0) w j d (omega arith) (o .0)
 sorted-at (s ∷ w) (suc i) (suc j) d o h k = sorted-at w i j d (o .1) (omega arith) (omega arith)
 
-pub at-sorted : (w : List Session) (d : Session) → ((i j : ℕ) → i < j → j < length w → getD w i d .start .0 < getD w j d .start .0) → Sorted w
+pub at-sorted : (w : List Session) (d : Session) → ((i j : ℕ) → i < j → j < length w → getD w i d .start .0 < getD w j d .start .0)
+    → Sorted w
 at-sorted [] d f = tt
-at-sorted (s ∷ w) d f = (places-all w (λ j h. f 0 (suc j) (omega arith) (omega arith)), at-sorted w d (λ i j h k. f (suc i) (suc j) (omega arith) (omega arith)))
+at-sorted (s ∷ w) d f = (
+  places-all w (λ j h. f 0 (suc j) (omega arith) (omega arith)),
+  at-sorted w d (λ i j h k. f (suc i) (suc j) (omega arith) (omega arith)),
+)
   where
     places-all : (l : List Session) → ((j : ℕ) → j < length l → s .start .0 < getD l j d .start .0) → All (λ u. s .start .0 < u .start .0) l
     places-all l g = each-at (λ u. s .start .0 < u .start .0) d l g

@@ -18,10 +18,13 @@ use Rattle.rules.specs.Bytes.{messageSize}
 use Rattle.rules.specs.Reading.{read, readSplice, dataIn, sessionID, spliceRequest}
 use Rattle.rules.specs.State.{Queue, Splicer, empty, of, is, startsAt, endsAt, due, notAfter, withWaiting, withStarted}
 use Rattle.rules.specs.Records.{Record, output, recordsIn}
-use Rattle.rules.specs.Ends.{Turn, andThen, ended, ending, oneEnd, endings, followers, dismissed, evictedAt, evicted, cancelled, aborted, closedBy}
+use Rattle.rules.specs.Ends.{Turn, andThen, ended, ending, oneEnd, endings, followers, dismissed, evictedAt, evicted, cancelled}
+use Rattle.rules.specs.Ends.{aborted, closedBy}
 use Rattle.rules.specs.Instants.{mayStart, began, meetsEqual, ousted, launched, startAt, endAt, instant, elapse, run, runAll}
-use Rattle.rules.specs.Answers.{airState, airID, aliveResponse, airFeed, configResponse, extendedResponse, sessionAt, requested, accepts, accepted, answer}
-use Rattle.rules.specs.Calls.{Answer, refused, good, longestSection, longSection, sectionOf, Loans, ticked, Call, messages, call, writtenBy}
+use Rattle.rules.specs.Answers.{airState, airID, aliveResponse, airFeed, configResponse, extendedResponse, sessionAt, requested}
+use Rattle.rules.specs.Answers.{accepts, accepted, answer}
+use Rattle.rules.specs.Calls.{Answer, refused, good, longestSection, longSection, sectionOf, Loans, ticked, Call, messages, call}
+use Rattle.rules.specs.Calls.{writtenBy}
 use Rattle.rules.proofs.Tests.{by}
 use Rattle.rules.proofs.All.{All, all-append, all-into}
 use Rattle.rules.proofs.Bytes.{Byte, part-byte, field-below}
@@ -73,11 +76,13 @@ out-fits r s h a d = ((omega (arith, a .0), h), a .1, omega arith, d)
 
 -- ## Pieces of work
 
-all-told : (Q : Session → Type 0) (f : Session → Record) → ((s : Session) → Q s → Fits (f s)) → (l : List Session) → All Q l → All Fits (map f l)
+all-told : (Q : Session → Type 0) (f : Session → Record) → ((s : Session) → Q s → Fits (f s)) → (l : List Session) → All Q l
+    → All Fits (map f l)
 all-told Q f g [] a = tt
 all-told Q f g (s ∷ l) a = (g s (a .0), all-told Q f g l (a .1))
 
-all-endings : (Q : Session → Type 0) (air cover : Ending) → ((s : Session) → Q s → Fits (ended air s)) → ((s : Session) → Q s → Fits (ended cover s))
+all-endings : (Q : Session → Type 0) (air cover : Ending) → ((s : Session) → Q s → Fits (ended air s))
+    → ((s : Session) → Q s → Fits (ended cover s))
     → (p : Session → Bool) (k : List Session) → All Q k → All Fits (endings air cover p k Record ended)
 unfolding endings
 all-endings Q air cover f g p [] a = tt
@@ -99,7 +104,8 @@ tell-fewer q r f h = record { numbered = fewer-each Numbered q r f (h .numbered)
 dismissed-fits : (r c x : ℕ) (q : Queue) → r < 65536 → Each Numbered q → All Fits (dismissed r c x q .written)
 unfolding dismissed
 dismissed-fits r c x q e h =
-    all-told Numbered (ended (Response r)) (λ s a. response-fits r s e a) (followers c x (q .waiting) .gone) (followers-gone c x (q .waiting) Numbered (h .waiting))
+    all-told Numbered (ended (Response r)) (λ s a. response-fits r s e a) (followers c x (q .waiting) .gone)
+    (followers-gone c x (q .waiting) Numbered (h .waiting))
 
 evicted-fits : (t : ℕ) (q : Queue) → Each Numbered q → All Fits (evicted t q .written)
 unfolding evicted evictedAt andThen
@@ -118,8 +124,10 @@ cancelled-fits : (p : Session → Bool) (q : Queue) → Tellable q → All Fits 
 unfolding cancelled
 cancelled-fits p q h =
     all-append Fits (endings (Complete 116) (Response 116) p (q .started) Record ended) (map (ended (Response 116)) (keep p (q .waiting)))
-    (all-endings (λ s. Numbered s × Short s) (Complete 116) (Response 116) (λ s a. out-fits 116 s (omega arith) (a .0) (a .1)) (λ s a. response-fits 116 s (omega arith) (a .0)) p (q .started) (both q h))
-    (all-told Numbered (ended (Response 116)) (λ s a. response-fits 116 s (omega arith) a) (keep p (q .waiting)) (all-keep Numbered p (q .waiting) (h .numbered .waiting)))
+    (all-endings (λ s. Numbered s × Short s) (Complete 116) (Response 116) (λ s a. out-fits 116 s (omega arith) (a .0) (a .1))
+    (λ s a. response-fits 116 s (omega arith) (a .0)) p (q .started) (both q h))
+    (all-told Numbered (ended (Response 116)) (λ s a. response-fits 116 s (omega arith) a) (keep p (q .waiting))
+    (all-keep Numbered p (q .waiting) (h .numbered .waiting)))
 
 aborted-fits : (c x : ℕ) (q : Queue) → Tellable q → All Fits (aborted c x q .written)
 unfolding aborted andThen
@@ -146,7 +154,11 @@ ousted-fits s q h =
     by (λ (r : Turn). All Fits (r .written)) (meetsEqual s (q .started)) _ _
     (λ e. let a = all-getD (λ v. Numbered v × Short v) (q .started) 0 empty (meets-some s (q .started) e) (both q h) in (
       out-fits _ air (omega arith) (a .0) (a .1),
-      dismissed-fits _ _ _ u (omega arith) (record { waiting = h .numbered .waiting; started = fewer-all Numbered (fewer-removeAt 0 (q .started)) (h .numbered .started) }),
+      dismissed-fits _ _ _ u (omega arith) (record {
+        waiting = h .numbered .waiting;
+        started =
+            fewer-all Numbered (fewer-removeAt 0 (q .started)) (h .numbered .started);
+      }),
     ))
     (λ e. tt)
 
@@ -155,21 +167,27 @@ unfolding launched andThen
 launched-fits s q a h =
     by (λ (r : Turn). All Fits (r .written)) (mayStart s (q .started)) _ _
     (λ e. all-append Fits (ousted s q .written) (began s ∷ []) (ousted-fits s q h) (began-fits s a, tt))
-    (λ e. (failed-fits s a, dismissed-fits 109 (s .conn) (s .id) (ending (oneEnd Failed s) q .queue) (omega arith) (record { waiting = h .numbered .waiting; started = h .numbered .started })))
+    (λ e. (
+      failed-fits s a,
+      dismissed-fits 109 (s .conn) (s .id) (ending (oneEnd Failed s) q .queue) (omega arith)
+          (record { waiting = h .numbered .waiting; started = h .numbered .started }),
+    ))
 
 startAt-fits : (t : ℕ) (q : Queue) → Tellable q → All Fits (startAt t q .written)
 unfolding startAt
 startAt-fits t q h =
     let i = place (startsAt t) (q .waiting) in
     by (λ (r : Turn). All Fits (r .written)) (ltb i (length (q .waiting))) _ _
-    (λ e. launched-fits (getD (q .waiting) i empty) (withWaiting (removeAt i (q .waiting)) q) (all-getD Numbered (q .waiting) i empty (ltb-true i (length (q .waiting)) e) (h .numbered .waiting))
+    (λ e. launched-fits (getD (q .waiting) i empty) (withWaiting (removeAt i (q .waiting)) q)
+    (all-getD Numbered (q .waiting) i empty (ltb-true i (length (q .waiting)) e) (h .numbered .waiting))
     (tell-fewer q _ (removed-fewer q i) h))
     (λ e. tt)
 
 endAt-fits : (t : ℕ) (q : Queue) → Tellable q → All Fits (endAt t q .written)
 unfolding endAt
 endAt-fits t q h =
-    all-endings (λ s. Numbered s × Short s) (Complete 100) (Complete 125) (λ s a. out-fits 100 s (omega arith) (a .0) (a .1)) (λ s a. out-fits 125 s (omega arith) (a .0) (a .1)) (endsAt t)
+    all-endings (λ s. Numbered s × Short s) (Complete 100) (Complete 125) (λ s a. out-fits 100 s (omega arith) (a .0) (a .1))
+    (λ s a. out-fits 125 s (omega arith) (a .0) (a .1)) (endsAt t)
     (q .started) (both q h)
 
 instant-fits : (t : ℕ) (q : Queue) → Tellable q → All Fits (instant t q .written)
@@ -190,16 +208,19 @@ tell-at : (t : ℕ) (q : Queue) → Played t q → All (λ s. t ≤ s .end .0) (
 tell-at t q p e h =
     record {
       numbered = h;
-      short = all-into (λ s. Numbered s × (s .start .0 + s .played .0 ≤ t) × (t ≤ s .end .0)) Short (λ s a. omega (arith, a .0 .2, a .1, a .2)) (q .started) (three (q .started) (h .started) (p .since) e);
+      short = all-into (λ s. Numbered s × (s .start .0 + s .played .0 ≤ t) × (t ≤ s .end .0)) Short
+          (λ s a. omega (arith, a .0 .2, a .1, a .2)) (q .started) (three (q .started) (h .started) (p .since) e);
     }
   where
-    three : (k : List Session) → All Numbered k → All (λ s. s .start .0 + s .played .0 ≤ t) k → All (λ s. t ≤ s .end .0) k → All (λ s. Numbered s × (s .start .0 + s .played .0 ≤ t) × (t ≤ s .end .0)) k
+    three : (k : List Session) → All Numbered k → All (λ s. s .start .0 + s .played .0 ≤ t) k → All (λ s. t ≤ s .end .0) k
+        → All (λ s. Numbered s × (s .start .0 + s .played .0 ≤ t) × (t ≤ s .end .0)) k
     three [] a b c = tt
     three (s ∷ k) a b c = ((a .0, b .0, c .0), three k (a .1) (b .1) (c .1))
 
 tell-now : (now : ℕ) (q : Queue) → Telling now q → Tellable q
 tell-now now q h =
-    tell-at now q (h .aired .played) (all-into (λ s. now < s .end .0) (λ s. now ≤ s .end .0) (λ s e. omega arith) (q .started) (h .aired .timed .ends)) (h .numbered)
+    tell-at now q (h .aired .played) (all-into (λ s. now < s .end .0) (λ s. now ≤ s .end .0) (λ s e. omega arith) (q .started)
+    (h .aired .timed .ends)) (h .numbered)
 
 module _ (now t : ℕ) (q : Queue) (d : Due t q) (m : 0 < meets t q) (h : Telling now q) where
   abbrev u : Queue
@@ -210,7 +231,8 @@ module _ (now t : ℕ) (q : Queue) (d : Due t q) (m : 0 < meets t q) (h : Tellin
 
   -- at the next instant, before its work
   tell-due : Tellable u
-  tell-due = let l = meets-after now t q (h .aired .timed) m in tell-at t u (elapse-played now t q (omega arith) (h .aired .played)) (elapse-due t (t - now) q d .ends) elapsed
+  tell-due = let l = meets-after now t q (h .aired .timed) m in
+      tell-at t u (elapse-played now t q (omega arith) (h .aired .played)) (elapse-due t (t - now) q d .ends) elapsed
 
   telling-moved : Telling t (instant t u .queue)
   telling-moved = record { aired = moved-aired now t q d m (h .aired); numbered = each-instant Numbered (λ e s i. i) t u elapsed }
@@ -223,7 +245,8 @@ run-fits (suc n) now until q h =
     (λ t e. let d = due-first until t q e in
     let m = due-meets until t q e in
     all-append Fits (moved now (t .0) q .written) (run n (t .0) until (moved now (t .0) q .queue) .written)
-    (instant-fits (t .0) (elapse (t .0 - now) q) (tell-due now (t .0) q d m h)) (run-fits n (t .0) until (moved now (t .0) q .queue) (telling-moved now (t .0) q d m h)))
+    (instant-fits (t .0) (elapse (t .0 - now) q) (tell-due now (t .0) q d m h))
+    (run-fits n (t .0) until (moved now (t .0) q .queue) (telling-moved now (t .0) q d m h)))
     (λ e. tt)
 
 -- ## Answers
@@ -253,7 +276,12 @@ telling-of s h =
 
 alive-fits : (c : ℕ) → c ≤ 3 → (s : Splicer) → Healthy s → Fits (aliveResponse c s)
 unfolding aliveResponse airState airID
-alive-fits c low s h = ((omega arith, omega arith), state (s .queue .started), number (s .queue .started) (telling-of s h .numbered .started), omega (arith, h .clock))
+alive-fits c low s h = (
+  (omega arith, omega arith),
+  state (s .queue .started),
+  number (s .queue .started) (telling-of s h .numbered .started),
+  omega (arith, h .clock),
+)
   where
     state : (k : List Session) → airState k < 4294967296
     state [] = omega arith
@@ -296,12 +324,20 @@ message-fits s h c l loans low short =
       general = λ r b a. ((omega arith, given-below r b), tt);
       naming = λ r b e g a. (((omega arith, given-below r b), omega (arith, h .linking .short), h .linking .zeros, h .linking .bytes), tt);
       alive = λ e a. (alive-fits c low s h, tt);
-      telling = λ e a. (config-fits c low s h (sectionOf loans s) (section-short loans s short) (by (All Byte) (eqb (airFeed (s .queue .started)) 0) _ _ (λ i. a .1) (λ i. a .2)), tt);
+      telling = λ e a. (
+        config-fits c low s h (sectionOf loans s) (section-short loans s short)
+            (by (All Byte) (eqb (airFeed (s .queue .started)) 0) _ _ (λ i. a .1) (λ i. a .2)),
+        tt,
+      );
       unknown = λ x e i a. (((omega arith, omega arith), number x i (a .0)), tt);
-      aborting = λ x e i held a. (((omega arith, omega arith), number x i (a .0)), aborted-fits c x (s .queue) (tell-now (s .clock) (s .queue) (telling-of s h)));
+      aborting = λ x e i held a. (
+        ((omega arith, omega arith), number x i (a .0)),
+        aborted-fits c x (s .queue) (tell-now (s .clock) (s .queue) (telling-of s h)),
+      );
       recalling = λ x e i a. (extended-fits c x low (number x i (a .0)) s h, tt);
       declining = λ r v e i b n a. (((omega arith, given-below v b), asked r i (a .0) .id), tt);
-      accepting = λ r e i p a. accepted-fits (requested c r (s .queue)) (s .queue) ((omega arith, omega arith), asked r i (a .0) .id) (telling-of s h .numbered);
+      accepting = λ r e i p a. accepted-fits (requested c r (s .queue)) (s .queue) ((omega arith, omega arith), asked r i (a .0) .id)
+          (telling-of s h .numbered);
     }
   where
     bytes : All Byte l → All Byte (dataIn l)
@@ -326,7 +362,8 @@ call-fits k s w h =
       cueing = λ l pts seconds micros room g w. let x = readCue l in
           let t = cueTime pts seconds micros x in
           let d = cue-wide pts seconds micros x in
-          cue-all Fits t l (λ c low. (omega arith, d .0, d .1, section-size l g .1, w)) (λ c low. (omega arith, omega arith)) x (initialisedOnes (s .links)) (initialised-low (s .links));
+          cue-all Fits t l (λ c low. (omega arith, d .0, d .1, section-size l g .1, w)) (λ c low. (omega arith, omega arith)) x
+          (initialisedOnes (s .links)) (initialised-low (s .links));
     }) k w
 
 -- what is found in the bytes that a call wrote is what it answered

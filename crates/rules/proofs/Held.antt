@@ -18,7 +18,8 @@ use Rattle.rules.specs.declared.Request.{Request}
 use Rattle.rules.specs.Lists.{bit, count}
 use Rattle.rules.specs.Bytes.{valueFrom, value, messageSize, hasZero}
 use Rattle.rules.specs.Reading.{nobody, dataIn, hardwarePlace, hardwareLength, longestHardware, hardwareIn, badHardware, badInit}
-use Rattle.rules.specs.State.{Queue, Splicer, of, is, held, holds, noHardware, linkOf, isOpen, isInitialised, hardwareOf, withLink, withHardware, withQueue}
+use Rattle.rules.specs.State.{Queue, Splicer, of, is, held, holds, noHardware, linkOf, isOpen, isInitialised, hardwareOf, withLink}
+use Rattle.rules.specs.State.{withHardware, withQueue}
 use Rattle.rules.specs.Ends.{closedBy, cancelled}
 use Rattle.rules.specs.Instants.{playing, runAll}
 use Rattle.rules.specs.Answers.{startOf, priorOf, sessionAt, requested, accepted}
@@ -37,14 +38,30 @@ pub use Rattle.rules.specs.Sound.{Proper, Small, Once, Structure, Linkin
 -- ## Each session
 
 pub proper-plays : (d : ℕ) (s : Session) → Proper s → Proper (playing d s)
-proper-plays d s h = record { conn = h .conn; somebody = h .somebody; access = h .access; overrides = h .overrides; mux = h .mux; lasts = h .lasts }
+proper-plays d s h = record {
+  conn = h .conn;
+  somebody = h .somebody;
+  access = h .access;
+  overrides = h .overrides;
+  mux = h .mux;
+  lasts =
+      h .lasts;
+}
 
 pub proper-kept : {F : Call → Type 0} → KeptHeld F (λ now q. Each Proper q)
 unfolding requested sessionAt
 proper-kept =
     each-kept Proper proper-plays
     (λ s c r a h. let g = grants a in
-    record { conn = a .low; somebody = a .passed .somebody; access = g .ranked; overrides = g .overrides; mux = g .mux; lasts = omega (arith, g .lasts) })
+    record {
+      conn = a .low;
+      somebody = a .passed .somebody;
+      access = g .ranked;
+      overrides = g .overrides;
+      mux = g .mux;
+      lasts =
+          omega (arith, g .lasts);
+    })
 
 pub small-plays : (d : ℕ) (s : Session) → Small s → Small (playing d s)
 small-plays d s h = record { id = h .id; event = h .event; prior = h .prior; duration = h .duration; timed = h .timed }
@@ -92,7 +109,14 @@ once-kept =
         let i = and-both (eqb d c) (eqb x (r .id)) e in
         let z : count (is d x) (held q) ≡ 0 = rw (eqb-true d c (i .0), eqb-true x (r .id) (i .1)) (some-none (is c (r .id)) (held q) n) in
         let s = requested c r q in
-        omega (arith, held-accepted (is d x) s q, ap bit e, fewer-held (is d x) q _ (evicted-fewer (s .start .0) q), z, count-held (is d x) q)
+        omega (
+          arith,
+          held-accepted (is d x) s q,
+          ap bit e,
+          fewer-held (is d x) q _ (evicted-fewer (s .start .0) q),
+          z,
+          count-held (is d x) q,
+        )
     new q c r n h d x false e =
         let s = requested c r q in
         omega (arith, held-accepted (is d x) s q, ap bit e, fewer-held (is d x) q _ (evicted-fewer (s .start .0) q), h d x)
@@ -150,7 +174,8 @@ linking-set s q c l x low h own others k n =
       unkept = λ d e. bare d (eqb d c) refl e;
     }
   where
-    bare : (d : ℕ) (b : Bool) → eqb d c ≡ b → isInitialised (getD (set (s .links) c l) d Closed) ≡ false → getD (set (s .hardware) c x) d noHardware ≡ noHardware
+    bare : (d : ℕ) (b : Bool) → eqb d c ≡ b → isInitialised (getD (set (s .links) c l) d Closed) ≡ false
+        → getD (set (s .hardware) c x) d noHardware ≡ noHardware
     bare d true f e =
         let i = eqb-true d c f in
         let g : isInitialised l ≡ false = rw (getD-set-same (s .links) c l Closed (omega (arith, h .four))) at (rw i at e) in
@@ -170,7 +195,8 @@ linking-set s q c l x low h own others k n =
         let g : isOpen (linkOf d s) ≡ false = rw (getD-set-other (s .links) c d l Closed n) at e in
         omega (arith, others d n, h .shut d g)
 
-linking-queue : (s : Splicer) (q : Queue) → Linking s → ((d : ℕ) → isOpen (linkOf d s) ≡ false → heldCount q (of d) ≤ heldCount (s .queue) (of d)) → Linking (withQueue q s)
+linking-queue : (s : Splicer) (q : Queue) → Linking s → ((d : ℕ) → isOpen (linkOf d s) ≡ false
+    → heldCount q (of d) ≤ heldCount (s .queue) (of d)) → Linking (withQueue q s)
 linking-queue s q h le =
     record {
       four = h .four;
@@ -210,13 +236,26 @@ unfolding requested sessionAt closedBy cancelled
 linking-kept =
     record {
       opening = linking-open;
-      naming = λ s c x n e h. linking-set s (s .queue) c Initialised x (n .low) h (λ f. absurd (clash true refl f)) (λ d m. omega arith) (named-whole n) (λ f. absurd (clash true refl f));
-      closing = λ s c low e h. linking-set s (closedBy c (s .queue) .queue) c Closed noHardware low h (λ f. gone c (s .queue)) (λ d n. fewer-held (of d) (s .queue) _ (closedBy-fewer c (s .queue)))
+      naming = λ s c x n e h. linking-set s (s .queue) c Initialised x (n .low) h (λ f. absurd (clash true refl f)) (λ d m. omega arith)
+          (named-whole n) (λ f. absurd (clash true refl f));
+      closing = λ s c low e h. linking-set s (closedBy c (s .queue) .queue) c Closed noHardware low h (λ f. gone c (s .queue))
+          (λ d n. fewer-held (of d) (s .queue) _ (closedBy-fewer c (s .queue)))
           none-whole (λ f. refl);
       aborting = λ s c x low e a h. linking-queue s _ h (λ d f. fewer-held (of d) (s .queue) _ (aborted-fewer c x (s .queue)));
       accepting = λ s c r a h. linking-queue s _ h (λ d f. new s c r (a .linked) d f);
-      ticking = λ s j until f b le h. let k = linking-queue s (runAll (s .clock) until (s .queue) .queue) h (λ d e. held-tick (of d) (λ e u. refl) (s .clock) until (s .queue)) in
-          record { four = k .four; shut = k .shut; zeros = k .zeros; short = k .short; bytes = k .bytes; keeping = k .keeping; kept = k .kept; unkept = k .unkept };
+      ticking = λ s j until f b le h. let k = linking-queue s (runAll (s .clock) until (s .queue) .queue) h
+          (λ d e. held-tick (of d) (λ e u. refl) (s .clock) until (s .queue)) in
+          record {
+            four = k .four;
+            shut = k .shut;
+            zeros = k .zeros;
+            short = k .short;
+            bytes = k .bytes;
+            keeping = k .keeping;
+            kept =
+                k .kept;
+            unkept = k .unkept;
+          };
     }
   where
     gone : (c : ℕ) (q : Queue) → heldCount (closedBy c q .queue) (of c) ≡ 0
@@ -233,8 +272,28 @@ pub linking-fresh : (name : List ℕ) → length name ≡ 32 → All Byte name �
 unfolding fresh named
 linking-fresh name e a =
     by (λ (k : Called). Linking (k .splicer)) (hasZero name) _ _
-    (λ z. record { four = refl; shut = λ c f. refl; zeros = nameIn-zero name; short = omega (arith, nameIn-shorter name z); bytes = nameIn-byte name a; keeping = refl; kept = all-none; unkept = λ c f. none-kept c })
-    (λ z. record { four = refl; shut = λ c f. refl; zeros = refl; short = omega arith; bytes = tt; keeping = refl; kept = all-none; unkept = λ c f. none-kept c })
+    (λ z. record {
+      four = refl;
+      shut = λ c f. refl;
+      zeros = nameIn-zero name;
+      short = omega (arith, nameIn-shorter name z);
+      bytes =
+          nameIn-byte name a;
+      keeping = refl;
+      kept = all-none;
+      unkept = λ c f. none-kept c;
+    })
+    (λ z. record {
+      four = refl;
+      shut = λ c f. refl;
+      zeros = refl;
+      short = omega arith;
+      bytes = tt;
+      keeping = refl;
+      kept = all-none;
+      unkept =
+          λ c f. none-kept c;
+    })
   where
     all-none : All Structure (noHardware ∷ noHardware ∷ noHardware ∷ noHardware ∷ [])
     all-none = (none-whole, (none-whole, (none-whole, (none-whole, tt))))

@@ -1,4 +1,5 @@
--- 02, CR 8: what ended lately. Newest first, an end is the first of the list and the others are one further down; the numbers of what is kept
+-- 02, CR 8: what ended lately. Newest first, an end is the first of the list and the others are one further down; the numbers of what is
+-- kept
 -- have the sizes of their fields. Rests on what holds of the sessions (Sound's Holding, of any time).
 use mathlib.Core.Path.{_≡_, refl, sym, ap, _∙_}
 use mathlib.Core.Bool.{Bool, true, false}
@@ -14,8 +15,10 @@ use Rattle.rules.specs.declared.Past.{Past}
 use Rattle.rules.specs.declared.Ending.{Ending}
 use Rattle.rules.specs.declared.Ending.the-variants.{Complete, Failed, Response}
 use Rattle.rules.specs.Lists.{put, keep, place, removeAt}
-use Rattle.rules.specs.State.{Lately, Queue, empty, of, is, startsAt, endsAt, withWaiting, withStarted, mostKept, unused, noneEnded, remembered, rememberedAll, recentAt, recentFrom, recent}
-use Rattle.rules.specs.Ends.{Turn, andThen, past, ending, oneEnd, endings, followers, dismissed, evictedAt, evicted, cancelled, aborted, closedBy}
+use Rattle.rules.specs.State.{Lately, Queue, empty, of, is, startsAt, endsAt, withWaiting, withStarted, mostKept, unused, noneEnded}
+use Rattle.rules.specs.State.{remembered, rememberedAll, recentAt, recentFrom, recent}
+use Rattle.rules.specs.Ends.{Turn, andThen, past, ending, oneEnd, endings, followers, dismissed, evictedAt, evicted, cancelled}
+use Rattle.rules.specs.Ends.{aborted, closedBy}
 use Rattle.rules.specs.Instants.{mayStart, meetsEqual, ousted, launched, startAt, endAt, instant}
 use Rattle.rules.specs.Answers.{accepted}
 use Rattle.rules.specs.Sound.{Noted, Recalled}
@@ -53,7 +56,8 @@ recent-take i zero l = refl
 recent-take i (suc m) l = ap (λ (r : List Past). recentAt i l ∷ r) (recent-take (suc i) m l)
 
 -- "the last 16 ended sessions .. oldest dropped first": after an end, the first 16 of what is kept of it and the list before
-pub recent-next : (e : Past) (l : Lately) → length (l .places) ≡ mostKept → l .next < mostKept → recent (remembered e l) ≡ take mostKept (e ∷ recent l)
+pub recent-next : (e : Past) (l : Lately) → length (l .places) ≡ mostKept → l .next < mostKept
+    → recent (remembered e l) ≡ take mostKept (e ∷ recent l)
 unfolding recent recentFrom
 recent-next e l n k =
     let b : recentFrom 1 15 (remembered e l) ≡ recentFrom 0 15 l = older-from e l n k 0 15 (omega arith) in
@@ -69,7 +73,12 @@ all-set P (x ∷ l) (suc i) e h a = (a .0, all-set P l i e h (a .1))
 pub recalled-one : (e : Past) (l : Lately) → Noted e → Recalled l → Recalled (remembered e l)
 unfolding remembered
 recalled-one e l h r =
-    record { sixteen = length-set (l .places) (l .next) e ∙ r .sixteen; next = omega arith; noted = all-set Noted (l .places) (l .next) e h (r .noted) }
+    record {
+      sixteen = length-set (l .places) (l .next) e ∙ r .sixteen;
+      next = omega arith;
+      noted =
+          all-set Noted (l .places) (l .next) e h (r .noted);
+    }
 
 pub recalled-all : (es : List Past) (l : Lately) → All Noted es → Recalled l → Recalled (rememberedAll es l)
 unfolding rememberedAll
@@ -111,7 +120,8 @@ noted-all : (how : Ending) (l : List Session) → Sized how → All Notable l �
 noted-all how [] h a = tt
 noted-all how (s ∷ l) h a = (noted-past how s h (a .0), noted-all how l h (a .1))
 
-noted-endings : (air cover : Ending) (p : Session → Bool) (k : List Session) → Sized air → Sized cover → All Notable k → All Noted (endings air cover p k Past past)
+noted-endings : (air cover : Ending) (p : Session → Bool) (k : List Session) → Sized air → Sized cover → All Notable k
+    → All Noted (endings air cover p k Past past)
 unfolding endings
 noted-endings air cover p [] g h a = tt
 noted-endings air cover p (s ∷ k) g h a = go (p s)
@@ -142,8 +152,13 @@ unfolding dismissed
 dismissed-keeps r c x q h k =
     let f = followers c x (q .waiting) in
     record {
-      held = record { waiting = fewer-each Notable q (dismissed r c x q .queue) (dismissed-fewer q r c x) (k .held) .waiting; started = k .held .started };
-      lately = recalled-all (map (past (Response r)) (f .gone)) (q .lately) (noted-all (Response r) (f .gone) h (followers-gone c x (q .waiting) Notable (k .held .waiting))) (k .lately);
+      held = record {
+        waiting = fewer-each Notable q (dismissed r c x q .queue) (dismissed-fewer q r c x) (k .held) .waiting;
+        started =
+            k .held .started;
+      };
+      lately = recalled-all (map (past (Response r)) (f .gone)) (q .lately)
+          (noted-all (Response r) (f .gone) h (followers-gone c x (q .waiting) Notable (k .held .waiting))) (k .lately);
     }
 
 -- one is taken out of its list, and ends
@@ -157,7 +172,8 @@ evicted-keeps t q k =
     let s = getD (q .waiting) i empty in
     by (λ (r : Turn). Keeping (r .queue)) (ltb i (length (q .waiting))) _ _
     (λ e. dismissed-keeps 109 (s .conn) (s .id) _ (omega arith)
-    (keeping-one (Response 109) s (withWaiting (removeAt i (q .waiting)) q) (omega arith) (all-getD Notable (q .waiting) i empty (ltb-true i (length (q .waiting)) e) (k .held .waiting)) (without i q k)))
+    (keeping-one (Response 109) s (withWaiting (removeAt i (q .waiting)) q) (omega arith)
+    (all-getD Notable (q .waiting) i empty (ltb-true i (length (q .waiting)) e) (k .held .waiting)) (without i q k)))
     (λ e. k)
 
 cancelled-keeps : (p : Session → Bool) (q : Queue) → Keeping q → Keeping (cancelled p q .queue)
@@ -167,7 +183,8 @@ cancelled-keeps p q k =
     record {
       held = record { waiting = h .waiting; started = h .started };
       lately = recalled-all _ (q .lately)
-          (all-append Noted (endings (Complete 116) (Response 116) p (q .started) Past past) (map (past (Response 116)) (keep p (q .waiting)))
+          (all-append Noted (endings (Complete 116) (Response 116) p (q .started) Past past)
+          (map (past (Response 116)) (keep p (q .waiting)))
           (noted-endings (Complete 116) (Response 116) p (q .started) (omega arith) (omega arith) (k .held .started))
           (noted-all (Response 116) (keep p (q .waiting)) (omega arith) (all-keep Notable p (q .waiting) (k .held .waiting))))
           (k .lately);
@@ -193,7 +210,8 @@ endAt-keeps t q k =
     let h = fewer-each Notable q (endAt t q .queue) (endAt-fewer q t) (k .held) in
     record {
       held = record { waiting = h .waiting; started = h .started };
-      lately = recalled-all _ (q .lately) (noted-endings (Complete 100) (Complete 125) (endsAt t) (q .started) (omega arith) (omega arith) (k .held .started)) (k .lately);
+      lately = recalled-all _ (q .lately) (noted-endings (Complete 100) (Complete 125) (endsAt t) (q .started) (omega arith) (omega arith)
+          (k .held .started)) (k .lately);
     }
 
 ousted-recalls : (s : Session) (q : Queue) → Keeping q → Recalled (ousted s q .queue .lately)
@@ -204,7 +222,10 @@ ousted-recalls s q k =
     (λ e. let u = withStarted (removeAt 0 (q .started)) q in
     dismissed-keeps 125 (air .conn) (air .id) _ (omega arith)
     (keeping-one (Complete 125) air u (omega arith) (all-getD Notable (q .started) 0 empty (meets-some s (q .started) e) (k .held .started))
-    (record { held = record { waiting = k .held .waiting; started = fewer-all Notable (fewer-removeAt 0 (q .started)) (k .held .started) }; lately = k .lately })) .lately)
+    (record {
+      held = record { waiting = k .held .waiting; started = fewer-all Notable (fewer-removeAt 0 (q .started)) (k .held .started) };
+      lately = k .lately;
+    })) .lately)
     (λ e. k .lately)
 
 launched-recalls : (s : Session) (q : Queue) → Notable s → Keeping q → Recalled (launched s q .queue .lately)
@@ -218,7 +239,8 @@ unfolding startAt
 startAt-recalls t q k =
     let i = place (startsAt t) (q .waiting) in
     by (λ (r : Turn). Recalled (r .queue .lately)) (ltb i (length (q .waiting))) _ _
-    (λ e. launched-recalls (getD (q .waiting) i empty) (withWaiting (removeAt i (q .waiting)) q) (all-getD Notable (q .waiting) i empty (ltb-true i (length (q .waiting)) e) (k .held .waiting)) (without i q k))
+    (λ e. launched-recalls (getD (q .waiting) i empty) (withWaiting (removeAt i (q .waiting)) q)
+    (all-getD Notable (q .waiting) i empty (ltb-true i (length (q .waiting)) e) (k .held .waiting)) (without i q k))
     (λ e. k .lately)
 
 pub instant-recalls : (t : ℕ) (q : Queue) → Keeping q → Recalled (instant t q .queue .lately)

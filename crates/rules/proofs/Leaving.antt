@@ -74,9 +74,11 @@ ousted-fewer s q =
 
 pub failed-fewer : (s : Session) (q : Queue) → FewerHeld q (failed s q .queue)
 unfolding andThen
-failed-fewer s q = held-then q (ending (oneEnd Failed s) q .queue) _ (ending-fewer (oneEnd Failed s) q q (held-same q)) (dismissed-fewer _ 109 (s .conn) (s .id))
+failed-fewer s q = held-then q (ending (oneEnd Failed s) q .queue) _ (ending-fewer (oneEnd Failed s) q q (held-same q))
+    (dismissed-fewer _ 109 (s .conn) (s .id))
 
 pub evicted-started : (t : ℕ) (q : Queue) → evicted t q .queue .started ≡ q .started
 unfolding evicted evictedAt andThen dismissed
 evicted-started t q =
-    by (λ (r : Turn). r .queue .started ≡ q .started) (ltb (place (startsAt t) (q .waiting)) (length (q .waiting))) _ _ (λ e. refl) (λ e. refl)
+    by (λ (r : Turn). r .queue .started ≡ q .started) (ltb (place (startsAt t) (q .waiting)) (length (q .waiting))) _ _ (λ e. refl)
+    (λ e. refl)

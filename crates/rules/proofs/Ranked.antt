@@ -52,10 +52,12 @@ unfolding onAir
 falling-onAir d [] f = f
 falling-onAir d (s ∷ k) f = f
 
-falling-ousted : (s : Session) (q : Queue) → mayStart s (q .started) ≡ true → Falling (q .started) → Falling (s ∷ ousted s q .queue .started)
+falling-ousted : (s : Session) (q : Queue) → mayStart s (q .started) ≡ true → Falling (q .started)
+    → Falling (s ∷ ousted s q .queue .started)
 unfolding ousted andThen dismissed
 falling-ousted s q m f =
-    by (λ (r : Turn). Falling (s ∷ r .queue .started)) (meetsEqual s (q .started)) _ _ (λ e. falling-equal s (q .started) e f) (λ e. falling-push s (q .started) m e f)
+    by (λ (r : Turn). Falling (s ∷ r .queue .started)) (meetsEqual s (q .started)) _ _ (λ e. falling-equal s (q .started) e f)
+    (λ e. falling-push s (q .started) m e f)
 
 falling-launched : (s : Session) (q : Queue) → Falling (q .started) → Falling (launched s q .queue .started)
 unfolding launched andThen dismissed
@@ -73,7 +75,8 @@ falling-instant t q f =
 falling-tick : (now until : ℕ) (q : Queue) → Falling (q .started) → Falling (runAll now until q .queue .started)
 unfolding runAll elapse
 falling-tick now until q f =
-    run-law (λ u t. Falling (u .started) → Falling (t .queue .started)) (λ d u g. falling-onAir d (u .started) g) (λ t u g. falling-instant t u g) (λ u a b g h i. h (g i))
+    run-law (λ u t. Falling (u .started) → Falling (t .queue .started)) (λ d u g. falling-onAir d (u .started) g)
+    (λ t u g. falling-instant t u g) (λ u a b g h i. h (g i))
     (2 * length (q .waiting) + length (q .started)) now until q f
 
 falling-accepted : (s : Session) (q : Queue) → Falling (q .started) → Falling (accepted s q .queue .started)

@@ -1,4 +1,5 @@
--- The records that are written are those that are found in the bytes, if each field fits its width: so what is said of records is said of bytes.
+-- The records that are written are those that are found in the bytes, if each field fits its width: so what is said of records is said of
+-- bytes.
 use mathlib.Core.Path.{_≡_, refl, sym, ap, ap₂, _∙_}
 use mathlib.Core.Bool.{false}
 use mathlib.Core.List.{List, [], _∷_, _++_, append-assoc}
@@ -9,7 +10,9 @@ use lib.ListN.{length, take, drop, length-append}
 use lib.Seq.{drop-at, drop-drop, take-at}
 use borrow.Author.Tests.{ne-eqb}
 use Rattle.rules.specs.Bytes.{bytes, valueFrom, value, part, field, padded, nameIn}
-use Rattle.rules.specs.Records.{Record, General, InitResponse, AliveResponse, SpliceResponse, SpliceComplete, AbortResponse, ConfigResponse, ExtendedFound, ExtendedNone, endDescriptor, CueRequest, framed, recordBytes, output, configIn, recordIn, recordsUpTo, recordsIn}
+use Rattle.rules.specs.Records.{Record, General, InitResponse, AliveResponse, SpliceResponse, SpliceComplete, AbortResponse}
+use Rattle.rules.specs.Records.{ConfigResponse, ExtendedFound, ExtendedNone, endDescriptor, CueRequest, framed, recordBytes, output}
+use Rattle.rules.specs.Records.{configIn, recordIn, recordsUpTo, recordsIn}
 use Rattle.rules.specs.Reading.{lengthIn, longestHardware}
 use Rattle.rules.specs.Calls.{longestSection}
 use Rattle.rules.specs.Sound.{Structure}
@@ -99,10 +102,12 @@ length-record (ConfigResponse c r name s m) h = omega (arith, length-config name
 three : {A B C D : Type 0} (f : A → B → C → D) {a a′ : A} {b b′ : B} {c c′ : C} → a ≡ a′ → b ≡ b′ → c ≡ c′ → f a b c ≡ f a′ b′ c′
 three f p q r = λ i. f (p i) (q i) (r i)
 
-four : {D : Type 0} (f : ℕ → ℕ → ℕ → List ℕ → D) {a a′ b b′ c c′ : ℕ} {d d′ : List ℕ} → a ≡ a′ → b ≡ b′ → c ≡ c′ → d ≡ d′ → f a b c d ≡ f a′ b′ c′ d′
+four : {D : Type 0} (f : ℕ → ℕ → ℕ → List ℕ → D) {a a′ b b′ c c′ : ℕ} {d d′ : List ℕ} → a ≡ a′ → b ≡ b′ → c ≡ c′ → d ≡ d′
+    → f a b c d ≡ f a′ b′ c′ d′
 four f p q r s = λ i. f (p i) (q i) (r i) (s i)
 
-five : {D : Type 0} (f : ℕ → ℕ → ℕ → ℕ → ℕ → D) {a a′ b b′ c c′ d d′ e e′ : ℕ} → a ≡ a′ → b ≡ b′ → c ≡ c′ → d ≡ d′ → e ≡ e′ → f a b c d e ≡ f a′ b′ c′ d′ e′
+five : {D : Type 0} (f : ℕ → ℕ → ℕ → ℕ → ℕ → D) {a a′ b b′ c c′ d d′ e e′ : ℕ} → a ≡ a′ → b ≡ b′ → c ≡ c′ → d ≡ d′ → e ≡ e′
+    → f a b c d e ≡ f a′ b′ c′ d′ e′
 five f p q r s t = λ i. f (p i) (q i) (r i) (s i) (t i)
 
 -- a GetConfig_Response: from its Hardware_Config on, whose Length says where the section begins
@@ -140,10 +145,12 @@ module _ (c r : ℕ) (name h m more : List ℕ) (l : length name ≤ 32) where
       let names : part 10 32 whole ≡ padded name =
       ap (take 32) (append-assoc (padded name) (h ++ m) more) ∙ take-at (padded name) ((h ++ m) ++ more) 32 (length-padded name l) in
       let hard : part 42 n whole ≡ h = ap (take n) from-hardware ∙ take-at h (m ++ more) n (sym e) in
-      let rest : drop (42 + n) whole ≡ m ++ more = sym (drop-drop n 42 whole) ∙ ap (drop n) from-hardware ∙ drop-at h (m ++ more) n (sym e) in
+      let rest : drop (42 + n) whole ≡ m ++ more = sym (drop-drop n 42 whole) ∙ ap (drop n) from-hardware
+      ∙ drop-at h (m ++ more) n (sym e) in
       let section : part (42 + n) (field 4 2 whole - (32 + n)) whole ≡ m =
       ap (take (field 4 2 whole - (32 + n))) rest ∙ take-at m more (field 4 2 whole - (32 + n)) (omega (arith, e, k)) in
-      λ i. ConfigResponse (value-bytes 1 c (low .0) i) (value-bytes 2 r (low .1) i) ((ap nameIn names ∙ nameIn-padded name z) i) (hard i) (section i)
+      λ i. ConfigResponse (value-bytes 1 c (low .0) i) (value-bytes 2 r (low .1) i) ((ap nameIn names ∙ nameIn-padded name z) i) (hard i)
+      (section i)
 
 -- the record that stands first is found
 pub record-back : (r : Record) → Fits r → (more : List ℕ) → recordIn (recordBytes r ++ more) ≡ r
@@ -160,7 +167,8 @@ record-back (AliveResponse c r state x t) f more =
 record-back (SpliceResponse c r x) f more =
     three SpliceResponse (value-bytes 1 c (f .0 .0)) (value-bytes 2 r (f .0 .1)) (value-bytes 4 x (f .1))
 record-back (SpliceComplete c r x flag played) f more =
-    five SpliceComplete (value-bytes 1 c (f .0 .0)) (value-bytes 2 r (f .0 .1)) (value-bytes 4 x (f .1)) (value-bytes 1 flag (f .2)) (value-bytes 4 played (f .3))
+    five SpliceComplete (value-bytes 1 c (f .0 .0)) (value-bytes 2 r (f .0 .1)) (value-bytes 4 x (f .1)) (value-bytes 1 flag (f .2))
+    (value-bytes 4 played (f .3))
 record-back (AbortResponse c r x) f more =
     three AbortResponse (value-bytes 1 c (f .0 .0)) (value-bytes 2 r (f .0 .1)) (value-bytes 4 x (f .1))
 record-back (CueRequest c a u l) f more =
@@ -168,13 +176,16 @@ record-back (CueRequest c a u l) f more =
     four CueRequest (value-bytes 1 c (f .0)) (value-bytes 4 a (f .1)) (value-bytes 4 u (f .2))
     (ap (λ k. take (k - 8) (l ++ more)) (value-bytes 2 n (omega (arith, f .3))) ∙ take-at l more (n - 8) (omega arith))
 record-back (ExtendedFound c x event ended played) f more =
-    five ExtendedFound (value-bytes 1 c (f .0)) (value-bytes 4 x (f .1)) (value-bytes 4 event (f .2)) (value-bytes 2 ended (f .3)) (value-bytes 4 played (f .4))
+    five ExtendedFound (value-bytes 1 c (f .0)) (value-bytes 4 x (f .1)) (value-bytes 4 event (f .2)) (value-bytes 2 ended (f .3))
+    (value-bytes 4 played (f .4))
 record-back (ExtendedNone c x) f more = ap₂ ExtendedNone (value-bytes 1 c (f .0)) (value-bytes 4 x (f .1))
 record-back (ConfigResponse c r name h m) f more =
-    config-at c r name h m more (f .1) _ (hardware-long c r name h m more (f .1) (f .4)) (size-back c r name h m more (f .1) (f .4 .short) (f .5)) (f .2) (f .0)
+    config-at c r name h m more (f .1) _ (hardware-long c r name h m more (f .1) (f .4))
+    (size-back c r name h m more (f .1) (f .4 .short) (f .5)) (f .2) (f .0)
 
 -- what stands behind a framed body
-frame-rest : (c id r : ℕ) (d more : List ℕ) → length d < 65536 → drop (10 + field 4 2 (framed c id r d ++ more)) (framed c id r d ++ more) ≡ more
+frame-rest : (c id r : ℕ) (d more : List ℕ) → length d < 65536 → drop (10 + field 4 2 (framed c id r d ++ more)) (framed c id r d ++ more)
+    ≡ more
 unfolding framed bytes value valueFrom
 frame-rest c id r d more h =
     ap (λ n. drop (10 + n) (framed c id r d ++ more)) (value-bytes 2 (length d) h)
@@ -262,12 +273,14 @@ record-byte (AbortResponse c r x) f = frame-byte c 0x000F r (bytes 4 x) (bytes-b
 record-byte (CueRequest c a u l) f =
     frame-byte c 0x000C 0xFFFF _ (all-append Byte (bytes 4 a) _ (bytes-byte 4 a) (all-append Byte (bytes 4 u) l (bytes-byte 4 u) (f .4)))
 record-byte (ExtendedFound c x event ended played) f =
-    let p = all-append Byte (bytes 4 event) _ (bytes-byte 4 event) (all-append Byte (bytes 2 ended) _ (bytes-byte 2 ended) (bytes-byte 4 played)) in
+    let p = all-append Byte (bytes 4 event) _ (bytes-byte 4 event)
+    (all-append Byte (bytes 2 ended) _ (bytes-byte 2 ended) (bytes-byte 4 played)) in
     let d = all-append Byte (bytes 1 14) _ (bytes-byte 1 14) (all-append Byte (bytes 4 0x43415244) _ (bytes-byte 4 0x43415244) p) in
     frame-byte c 0x0004 100 _ (all-append Byte (bytes 4 x) _ (bytes-byte 4 x) (all-append Byte (bytes 1 0x01) _ (bytes-byte 1 0x01) d))
 record-byte (ExtendedNone c x) f = frame-byte c 0x0004 121 (bytes 4 x) (bytes-byte 4 x)
 record-byte (ConfigResponse c r name h m) f =
-    frame-byte c 0x000B r (config name h m) (all-append Byte (padded name) (h ++ m) (padded-byte name (f .3)) (all-append Byte h m (f .4 .bytes) (f .6)))
+    frame-byte c 0x000B r (config name h m) (all-append Byte (padded name) (h ++ m) (padded-byte name (f .3))
+    (all-append Byte h m (f .4 .bytes) (f .6)))
 
 pub output-byte : (rs : List Record) → All Fits rs → All Byte (output rs)
 unfolding output

@@ -57,12 +57,17 @@ not-full n s e h k = go (leb 10 n) refl (or-none (eqb n 20) (leb 10 n && eqb s 6
 -- ## Every call
 
 room-less : (w v : List Session) → ((c : ℕ) → waits c v ≤ waits c w) → Room w → Room v
-room-less w v h r = record { each = λ c. omega (arith, h c, r .each c); sum = omega (arith, sum-up (λ c. waits c v) (λ c. waits c w) h, r .sum) }
+room-less w v h r = record {
+  each = λ c. omega (arith, h c, r .each c);
+  sum =
+      omega (arith, sum-up (λ c. waits c v) (λ c. waits c w) h, r .sum);
+}
 
 pub room-fewer : (w v : List Session) → Fewer w v → Room w → Room v
 room-fewer w v f r = room-less w v (λ c. fewer-count (of c) f) r
 
-pub room-more : (w v : List Session) (d : ℕ) → d ≤ 3 → full d w ≡ false → ((c : ℕ) → waits c v ≤ plus d (λ e. waits e w) c) → Room w → Room v
+pub room-more : (w v : List Session) (d : ℕ) → d ≤ 3 → full d w ≡ false → ((c : ℕ) → waits c v ≤ plus d (λ e. waits e w) c) → Room w
+    → Room v
 unfolding full
 room-more w v d low f h r =
     let n : ℕ → ℕ = λ c. waits c w in

@@ -16,7 +16,8 @@ use Rattle.rules.specs.Answers.{requested, accepted, inserted}
 use Rattle.rules.specs.Calls.{Call}
 use Rattle.rules.proofs.Tests.{by}
 use Rattle.rules.proofs.Count.{count-append, count-removeAt, count-insertAt}
-use Rattle.rules.proofs.Every.{all-getD, all-inserted, Fewer, fewer-same, fewer-then, fewer-removeAt, fewer-all, fewer-count, Each, FewerHeld, fewer-each}
+use Rattle.rules.proofs.Every.{all-getD, all-inserted, Fewer, fewer-same, fewer-then, fewer-removeAt, fewer-all, fewer-count, Each}
+use Rattle.rules.proofs.Every.{FewerHeld, fewer-each}
 use Rattle.rules.proofs.Leaving.{failed-fewer, ousted-fewer, endAt-fewer, evicted-fewer, aborted-fewer, closedBy-fewer}
 use Rattle.rules.proofs.Always.{Admitted, KeptHeld}
 use Rattle.rules.proofs.Tick.{all-onAir, count-onAir, run-law}
@@ -41,7 +42,8 @@ module _ (P : Session → Type 0) (plays : (d : ℕ) (s : Session) → P s → P
   each-startAt t q h =
       let i = place (startsAt t) (q .waiting) in
       by (λ (r : Turn). Each P (r .queue)) (ltb i (length (q .waiting))) _ _
-      (λ e. each-launched (getD (q .waiting) i empty) (withWaiting (removeAt i (q .waiting)) q) (all-getD P (q .waiting) i empty (ltb-true i (length (q .waiting)) e) (h .waiting))
+      (λ e. each-launched (getD (q .waiting) i empty) (withWaiting (removeAt i (q .waiting)) q)
+      (all-getD P (q .waiting) i empty (ltb-true i (length (q .waiting)) e) (h .waiting))
       (record { waiting = fewer-all P (fewer-removeAt i (q .waiting)) (h .waiting); started = h .started }))
       (λ e. h)
 
@@ -52,7 +54,8 @@ module _ (P : Session → Type 0) (plays : (d : ℕ) (s : Session) → P s → P
   pub each-tick : (now until : ℕ) (q : Queue) → Each P q → Each P (runAll now until q .queue)
   unfolding runAll
   each-tick now until q h =
-      run-law (λ u t. Each P u → Each P (t .queue)) (λ d u k. each-elapse d u k) (λ t u k. each-instant t u k) (λ u a b f g k. g (f k)) (2 * length (q .waiting) + length (q .started)) now until q h
+      run-law (λ u t. Each P u → Each P (t .queue)) (λ d u k. each-elapse d u k) (λ t u k. each-instant t u k) (λ u a b f g k. g (f k))
+      (2 * length (q .waiting) + length (q .started)) now until q h
 
   pub each-accepted : (s : Session) (q : Queue) → P s → Each P q → Each P (accepted s q .queue)
   unfolding accepted andThen
@@ -61,7 +64,8 @@ module _ (P : Session → Type 0) (plays : (d : ℕ) (s : Session) → P s → P
       let e = fewer-each P q u (evicted-fewer (s .start .0) q) h in
       record { waiting = all-inserted P s (u .waiting) a (e .waiting); started = e .started }
 
-  pub each-kept : {F : Call → Type 0} → ((s : Splicer) (c : ℕ) (r : Request) → Admitted F s c r → Each P (s .queue) → P (requested c r (s .queue)))
+  pub each-kept : {F : Call → Type 0} → ((s : Splicer) (c : ℕ) (r : Request) → Admitted F s c r → Each P (s .queue)
+      → P (requested c r (s .queue)))
       → KeptHeld F (λ now q. Each P q)
   each-kept new =
       record {
@@ -79,13 +83,15 @@ count-held p q = count-append p (q .waiting) (q .started)
 pub fewer-held : (p : Session → Bool) (q r : Queue) → FewerHeld q r → heldCount r p ≤ heldCount q p
 fewer-held p q r f = omega (arith, fewer-count p (f .waiting), fewer-count p (f .started))
 
-pub count-accepted : (p : Session → Bool) (s : Session) (q : Queue) → count p (accepted s q .queue .waiting) ≡ bit (p s) + count p (evicted (s .start .0) q .queue .waiting)
+pub count-accepted : (p : Session → Bool) (s : Session) (q : Queue) → count p (accepted s q .queue .waiting) ≡ bit (p s)
+    + count p (evicted (s .start .0) q .queue .waiting)
 unfolding accepted andThen inserted
 count-accepted p s q =
     let w = evicted (s .start .0) q .queue .waiting in
     count-insertAt p (place (startsAfter (s .start .0)) w) s w
 
-pub held-accepted : (p : Session → Bool) (s : Session) (q : Queue) → heldCount (accepted s q .queue) p ≡ bit (p s) + heldCount (evicted (s .start .0) q .queue) p
+pub held-accepted : (p : Session → Bool) (s : Session) (q : Queue)
+    → heldCount (accepted s q .queue) p ≡ bit (p s) + heldCount (evicted (s .start .0) q .queue) p
 unfolding accepted andThen
 held-accepted p s q = omega (arith, count-accepted p s q, started)
   where
@@ -124,7 +130,8 @@ module _ (p : Session → Bool) (plays : (d : ℕ) (s : Session) → p (playing 
   pub held-tick : (now until : ℕ) (q : Queue) → heldCount (runAll now until q .queue) p ≤ heldCount q p
   unfolding runAll
   held-tick now until q =
-      run-law (λ u t. heldCount (t .queue) p ≤ heldCount u p) (λ d u. omega (arith, held-elapse d u)) (λ t u. held-instant t u) (λ u a b f g. omega (arith, f, g))
+      run-law (λ u t. heldCount (t .queue) p ≤ heldCount u p) (λ d u. omega (arith, held-elapse d u)) (λ t u. held-instant t u)
+      (λ u a b f g. omega (arith, f, g))
       (2 * length (q .waiting) + length (q .started)) now until q
 
 -- ## A tick only takes from the waiting
@@ -132,14 +139,16 @@ module _ (p : Session → Bool) (plays : (d : ℕ) (s : Session) → p (playing 
 waiting-launched : (s : Session) (q : Queue) → Fewer (q .waiting) (launched s q .queue .waiting)
 unfolding launched andThen
 waiting-launched s q =
-    by (λ (r : Turn). Fewer (q .waiting) (r .queue .waiting)) (mayStart s (q .started)) _ _ (λ e. ousted-fewer s q .waiting) (λ e. failed-fewer s q .waiting)
+    by (λ (r : Turn). Fewer (q .waiting) (r .queue .waiting)) (mayStart s (q .started)) _ _ (λ e. ousted-fewer s q .waiting)
+    (λ e. failed-fewer s q .waiting)
 
 waiting-startAt : (t : ℕ) (q : Queue) → Fewer (q .waiting) (startAt t q .queue .waiting)
 unfolding startAt
 waiting-startAt t q =
     let i = place (startsAt t) (q .waiting) in
     by (λ (r : Turn). Fewer (q .waiting) (r .queue .waiting)) (ltb i (length (q .waiting))) _ _
-    (λ e. fewer-then (fewer-removeAt i (q .waiting)) (waiting-launched (getD (q .waiting) i empty) (withWaiting (removeAt i (q .waiting)) q)))
+    (λ e. fewer-then (fewer-removeAt i (q .waiting)) (waiting-launched (getD (q .waiting) i empty)
+    (withWaiting (removeAt i (q .waiting)) q)))
     (λ e. fewer-same (q .waiting))
 
 pub waiting-instant : (t : ℕ) (q : Queue) → Fewer (q .waiting) (instant t q .queue .waiting)

@@ -28,16 +28,20 @@ silent-more n now until t q e = rw e
 -- ## More instants change nothing
 
 silent-enough : (m n now until : ℕ) (q : Queue) → toCome q ≤ m → toCome q ≤ n → silent m now until q ≡ silent n now until q
-silent-enough zero n now until q f g = let e : notAfter until (due q) ≡ Never = rw (due-none q f) in silent-stop zero now until q e ∙ sym (silent-stop n now until q e)
-silent-enough (suc m) zero now until q f g = let e : notAfter until (due q) ≡ Never = rw (due-none q g) in silent-stop (suc m) now until q e ∙ sym (silent-stop zero now until q e)
+silent-enough zero n now until q f g = let e : notAfter until (due q) ≡ Never = rw (due-none q f) in
+    silent-stop zero now until q e ∙ sym (silent-stop n now until q e)
+silent-enough (suc m) zero now until q f g = let e : notAfter until (due q) ≡ Never = rw (due-none q g) in
+    silent-stop (suc m) now until q e ∙ sym (silent-stop zero now until q e)
 silent-enough (suc m) (suc n) now until q f g = go (notAfter until (due q)) refl (λ t. silent-enough m n t until (moved now t q .queue))
   where
     go : (a : When) → notAfter until (due q) ≡ a
-        → ((t : ℕ) → toCome (moved now t q .queue) ≤ m → toCome (moved now t q .queue) ≤ n → silent m t until (moved now t q .queue) ≡ silent n t until (moved now t q .queue))
+        → ((t : ℕ) → toCome (moved now t q .queue) ≤ m → toCome (moved now t q .queue) ≤ n
+        → silent m t until (moved now t q .queue) ≡ silent n t until (moved now t q .queue))
         → silent (suc m) now until q ≡ silent (suc n) now until q
     go (At t) e ih =
         let l = moved-less now until t q e in
-        silent-more m now until t q e ∙ ap (λ (d : ℕ). silence (t .0 - now) (q .started) + d) (ih (t .0) (omega arith) (omega arith)) ∙ sym (silent-more n now until t q e)
+        silent-more m now until t q e ∙ ap (λ (d : ℕ). silence (t .0 - now) (q .started) + d) (ih (t .0) (omega arith) (omega arith))
+        ∙ sym (silent-more n now until t q e)
     go Never e ih = silent-stop (suc m) now until q e ∙ sym (silent-stop (suc n) now until q e)
 
 -- of a tick, as code goes through it: behind the last instant, and from one instant to the next
@@ -68,7 +72,8 @@ silent-most zero now until q le h = silence-most (until - now) (q .started)
 silent-most (suc n) now until q le h =
     by-next (λ (d : ℕ). d ≤ until - now) _ _ (notAfter until (due q))
     (λ t e. let m = meets-after now (t .0) q h (due-meets until t q e) in
-    let o = instant-timed (t .0) now (elapse (t .0 - now) q) (elapse-timed now (t .0 - now) q h) (elapse-due (t .0) (t .0 - now) q (due-first until t q e)) in
+    let o = instant-timed (t .0) now (elapse (t .0 - now) q) (elapse-timed now (t .0 - now) q h)
+    (elapse-due (t .0) (t .0 - now) q (due-first until t q e)) in
     let i = due-time until t q e in
     omega (arith, silence-most (t .0 - now) (q .started), silent-most n (t .0) until (moved now (t .0) q .queue) i o))
     (λ e. silence-most (until - now) (q .started))

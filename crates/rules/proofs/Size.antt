@@ -12,8 +12,10 @@ use Rattle.rules.specs.declared.Ending.{Ending}
 use Rattle.rules.specs.declared.Ending.the-variants.{Complete, Failed, Response}
 use Rattle.rules.specs.Lists.{put, keep, place, removeAt}
 use Rattle.rules.specs.State.{Queue, Splicer, empty, of, is, startsAt, endsAt, toCome, hardwareOf, withWaiting, withStarted}
-use Rattle.rules.specs.Records.{Record, General, InitResponse, AliveResponse, SpliceResponse, AbortResponse, ConfigResponse, ExtendedFound, ExtendedNone, output}
-use Rattle.rules.specs.Ends.{Turn, quiet, andThen, ended, ending, oneEnd, endings, followers, dismissed, evictedAt, evicted, cancelled, aborted, closedBy}
+use Rattle.rules.specs.Records.{Record, General, InitResponse, AliveResponse, SpliceResponse, AbortResponse, ConfigResponse}
+use Rattle.rules.specs.Records.{ExtendedFound, ExtendedNone, output}
+use Rattle.rules.specs.Ends.{Turn, quiet, andThen, ended, ending, oneEnd, endings, followers, dismissed, evictedAt, evicted}
+use Rattle.rules.specs.Ends.{cancelled, aborted, closedBy}
 use Rattle.rules.specs.Reading.{longestHardware}
 use Rattle.rules.specs.Instants.{mayStart, began, meetsEqual, ousted, launched, startAt, endAt, instant, runAll}
 use Rattle.rules.specs.Answers.{Answered, airFeed, requested, accepts, accepted, aliveResponse, configResponse, answer}
@@ -61,7 +63,8 @@ pub weight-all : (h : Ending) (l : List Session) → weight (map (ended h) l) �
 weight-all h [] = omega (arith, weight-none)
 weight-all h (s ∷ l) = omega (arith, weight-ended h s (map (ended h) l), weight-all h l)
 
-pub weight-endings : (air cover : Ending) (p : Session → Bool) (k : List Session) → weight (endings air cover p k Record ended) ≤ 23 * length (keep p k)
+pub weight-endings : (air cover : Ending) (p : Session → Bool) (k : List Session)
+    → weight (endings air cover p k Record ended) ≤ 23 * length (keep p k)
 unfolding endings
 weight-endings air cover p [] = omega (arith, weight-none)
 weight-endings air cover p (s ∷ k) = go (p s)
@@ -73,9 +76,11 @@ weight-endings air cover p (s ∷ k) = go (p s)
 -- ## Ends by followers, eviction, abort and close: 14 bytes for a waiting one, at most 23 for a started one
 
 abbrev pub Lean : Queue → Turn → Type 0
-Lean q t = weight (t .written) + (14 * length (t .queue .waiting) + 23 * length (t .queue .started)) ≤ 14 * length (q .waiting) + 23 * length (q .started)
+Lean q t = weight (t .written) + (14 * length (t .queue .waiting) + 23 * length (t .queue .started)) ≤ 14 * length (q .waiting)
+    + 23 * length (q .started)
 
-pub lean-join : (q : Queue) (t u : Turn) → Lean q t → Lean (t .queue) u → Lean q (record { queue = u .queue; written = t .written ++ u .written })
+pub lean-join : (q : Queue) (t u : Turn) → Lean q t → Lean (t .queue) u
+    → Lean q (record { queue = u .queue; written = t .written ++ u .written })
 lean-join q t u a b = omega (arith, a, b, weight-append (t .written) (u .written))
 
 pub dismissed-lean : (r c x : ℕ) (q : Queue) → Lean q (dismissed r c x q)
@@ -114,14 +119,16 @@ cancelled-lean p q =
 
 pub aborted-lean : (c x : ℕ) (q : Queue) → Lean q (aborted c x q)
 unfolding aborted andThen
-aborted-lean c x q = lean-join q (cancelled (is c x) q) (dismissed 116 c x (cancelled (is c x) q .queue)) (cancelled-lean (is c x) q) (dismissed-lean 116 c x (cancelled (is c x) q .queue))
+aborted-lean c x q = lean-join q (cancelled (is c x) q) (dismissed 116 c x (cancelled (is c x) q .queue)) (cancelled-lean (is c x) q)
+    (dismissed-lean 116 c x (cancelled (is c x) q .queue))
 
 -- ## Instants: 23 bytes for each start and each end to come
 
 abbrev pub Brief : Queue → Turn → Type 0
 Brief q t = weight (t .written) + 23 * toCome (t .queue) ≤ 23 * toCome q
 
-pub brief-join : (q : Queue) (t u : Turn) → Brief q t → Brief (t .queue) u → Brief q (record { queue = u .queue; written = t .written ++ u .written })
+pub brief-join : (q : Queue) (t u : Turn) → Brief q t → Brief (t .queue) u
+    → Brief q (record { queue = u .queue; written = t .written ++ u .written })
 brief-join q t u a b = omega (arith, a, b, weight-append (t .written) (u .written))
 
 pub ousted-brief : (s : Session) (q : Queue) → Brief q (ousted s q)
@@ -132,7 +139,11 @@ ousted-brief s q =
     by (Brief q) (meetsEqual s (q .started)) _ _
     (λ e. brief-join q v (dismissed 125 (air .conn) (air .id) (v .queue))
     (omega (arith, weight-one (ended (Complete 125) air) tt, length-removeAt 0 (q .started) (meets-some s (q .started) e)))
-    (omega (arith, weight-responses 125 (followers (air .conn) (air .id) (q .waiting) .gone), followed (air .conn) (air .id) (q .waiting) .lengths)))
+    (omega (
+      arith,
+      weight-responses 125 (followers (air .conn) (air .id) (q .waiting) .gone),
+      followed (air .conn) (air .id) (q .waiting) .lengths,
+    )))
     (λ e. omega (arith, weight-none))
 
 pub launched-brief : (s : Session) (q : Queue) → weight (launched s q .written) + 23 * toCome (launched s q .queue) ≤ 23 * (2 + toCome q)
@@ -154,7 +165,11 @@ unfolding startAt
 startAt-brief t q =
     let i = place (startsAt t) (q .waiting) in
     by (Brief q) (ltb i (length (q .waiting))) _ _
-    (λ e. omega (arith, launched-brief (getD (q .waiting) i empty) (withWaiting (removeAt i (q .waiting)) q), length-removeAt i (q .waiting) (ltb-true i (length (q .waiting)) e)))
+    (λ e. omega (
+      arith,
+      launched-brief (getD (q .waiting) i empty) (withWaiting (removeAt i (q .waiting)) q),
+      length-removeAt i (q .waiting) (ltb-true i (length (q .waiting)) e),
+    ))
     (λ e. omega (arith, weight-none))
 
 pub endAt-brief : (t : ℕ) (q : Queue) → Brief q (endAt t q)
@@ -167,7 +182,8 @@ instant-brief t q = brief-join q (endAt t q) (startAt t (endAt t q .queue)) (end
 
 pub tick-brief : (now until : ℕ) (q : Queue) → Brief q (runAll now until q)
 unfolding runAll
-tick-brief now until q = run-law Brief (λ d u. omega (arith, weight-none, elapse-toCome 0 d u)) instant-brief brief-join (toCome q) now until q
+tick-brief now until q = run-law Brief (λ d u. omega (arith, weight-none, elapse-toCome 0 d u)) instant-brief brief-join (toCome q) now
+    until q
 
 -- ## A call
 
@@ -181,7 +197,8 @@ pub record Bounded (s : Splicer) : Type 0 where
 pub section-short : (loans : Loans) (s : Splicer) → longSection loans ≡ false → length (sectionOf loans s) ≤ longestSection
 section-short loans s e =
     let o = or-none (ltb longestSection (length (loans .primary))) _ e in
-    by (λ (m : List ℕ). length m ≤ longestSection) (eqb (airFeed (s .queue .started)) 0) _ _ (λ f. ltb-false _ _ (o .0)) (λ f. ltb-false _ _ (o .1))
+    by (λ (m : List ℕ). length m ≤ longestSection) (eqb (airFeed (s .queue .started)) 0) _ _ (λ f. ltb-false _ _ (o .0))
+    (λ f. ltb-false _ _ (o .1))
 
 module _ (s : Splicer) (h : Bounded s) where
   abbrev Fits : Answered → Type 0
@@ -215,10 +232,18 @@ module _ (s : Splicer) (h : Bounded s) where
           h .waiting,
           h .started,
         );
-        recalling = λ x e i. by-recall (λ (r : Record). weight (r ∷ []) ≤ 3174) c x q (λ k. one-fits (ExtendedFound c x _ _ _) tt (omega arith)) (one-fits (ExtendedNone c x) tt (omega arith));
+        recalling = λ x e i. by-recall (λ (r : Record). weight (r ∷ []) ≤ 3174) c x q
+            (λ k. one-fits (ExtendedFound c x _ _ _) tt (omega arith)) (one-fits (ExtendedNone c x) tt (omega arith));
         declining = λ r v e i b n. one-fits (SpliceResponse c v (r .id)) tt (omega arith);
         accepting = λ r e i p. let new = requested c r q in
-            omega (arith, weight-append (evicted (new .start .0) q .written) (accepts new ∷ []), weight-one (accepts new) tt, evicted-lean (new .start .0) q, h .waiting, h .started);
+            omega (
+              arith,
+              weight-append (evicted (new .start .0) q .written) (accepts new ∷ []),
+              weight-one (accepts new) tt,
+              evicted-lean (new .start .0) q,
+              h .waiting,
+              h .started,
+            );
       }
 
   pub call-size : (k : Call) → length (writtenBy (call k s .answer)) ≤ 3174
@@ -232,5 +257,9 @@ module _ (s : Splicer) (h : Bounded s) where
         answering = λ c l loans low e short. message-size c l (sectionOf loans s) (section-short loans s short);
         bringing = λ k until b le. omega (arith, tick-brief (s .clock) until (s .queue), h .waiting, h .started);
         cueing = λ l pts seconds micros room g. let x = readCue l in
-            omega (arith, cue-weight x (cueTime pts seconds micros x) l (initialisedOnes (s .links)) (section-size l g .1), initialised-four (s .links));
+            omega (
+              arith,
+              cue-weight x (cueTime pts seconds micros x) l (initialisedOnes (s .links)) (section-size l g .1),
+              initialised-four (s .links),
+            );
       })

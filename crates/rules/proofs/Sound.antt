@@ -27,7 +27,8 @@ use Rattle.rules.proofs.Silence.{silentAll-most}
 use Rattle.rules.proofs.Aired.{elapse-played, Aired, aired-kept, moved-aired}
 use Rattle.rules.proofs.Ranked.{Falling, falling-kept, falling-instant, falling-onAir, ten}
 use Rattle.rules.proofs.Room.{Room, room-kept, room-fewer, room-none, sixty-four}
-use Rattle.rules.proofs.Held.{Proper, Small, proper-plays, small-plays, small-kept, Linking, structure-at, linking-kept, linking-fresh}
+use Rattle.rules.proofs.Held.{Proper, Small, proper-plays, small-plays, small-kept, Linking, structure-at, linking-kept}
+use Rattle.rules.proofs.Held.{linking-fresh}
 use Rattle.rules.proofs.Priors.{Chained, Orderly, orderly}
 use Rattle.rules.proofs.Chained.{chained-kept, moved-chained}
 use Rattle.rules.proofs.Bounds.{horizon, longest, never, ends-early}
@@ -67,29 +68,37 @@ pub holding-moved : (now t : ℕ) (q : Queue) → Due t q → 0 < meets t q → 
 unfolding elapse
 holding-moved now t q d m h =
     let u = elapse (t - now) q in
-    joined (moved-chained now t q d (chained h)) (moved-aired now t q d m (aired h)) (falling-instant t u (falling-onAir (t - now) (q .started) (h .falling)))
-    (room-fewer (q .waiting) _ (waiting-instant t u) (h .room)) (each-instant Small small-plays t u (each-elapse Small small-plays (t - now) q (h .small)))
+    joined (moved-chained now t q d (chained h)) (moved-aired now t q d m (aired h))
+    (falling-instant t u (falling-onAir (t - now) (q .started) (h .falling)))
+    (room-fewer (q .waiting) _ (waiting-instant t u) (h .room)) (each-instant Small small-plays t u
+    (each-elapse Small small-plays (t - now) q (h .small)))
 
 -- the next instant not later than until is after the time now
 pub next-after : (now until : ℕ) (t : Ninths) (q : Queue) → notAfter until (due q) ≡ At t → Holding now q → now < t .0
 next-after now until t q e h = meets-after now (t .0) q (h .timed) (due-meets until t q e)
 
-pub holding-next : (now until : ℕ) (t : Ninths) (q : Queue) → notAfter until (due q) ≡ At t → Holding now q → Holding (t .0) (moved now (t .0) q .queue)
+pub holding-next : (now until : ℕ) (t : Ninths) (q : Queue) → notAfter until (due q) ≡ At t → Holding now q
+    → Holding (t .0) (moved now (t .0) q .queue)
 holding-next now until t q e h = holding-moved now (t .0) q (due-first until t q e) (due-meets until t q e) h
 
 -- no PlayedDuration is longer than the longest Duration: at the present time, and at t before its work, if nothing is due before t
 pub played-now : (now : ℕ) (q : Queue) → Holding now q → All (λ s. s .played .0 ≤ longest) (q .started)
 played-now now q h =
-    all-into (λ s. ((s .start .0 + s .played .0 ≤ now) × (now < s .end .0)) × Small s) (λ s. s .played .0 ≤ longest) (λ s a. omega (arith, a .0 .0, a .0 .1, a .1 .duration)) (q .started)
+    all-into (λ s. ((s .start .0 + s .played .0 ≤ now) × (now < s .end .0)) × Small s) (λ s. s .played .0 ≤ longest)
+    (λ s a. omega (arith, a .0 .0, a .0 .1, a .1 .duration)) (q .started)
     (all-both (λ s. (s .start .0 + s .played .0 ≤ now) × (now < s .end .0)) Small (q .started)
-    (all-both (λ s. s .start .0 + s .played .0 ≤ now) (λ s. now < s .end .0) (q .started) (h .played .since) (h .timed .ends)) (h .small .started))
+    (all-both (λ s. s .start .0 + s .played .0 ≤ now) (λ s. now < s .end .0) (q .started) (h .played .since) (h .timed .ends))
+    (h .small .started))
 
-pub played-then : (now t : ℕ) (q : Queue) → now ≤ t → Due t q → Holding now q → All (λ s. s .played .0 ≤ longest) (elapse (t - now) q .started)
+pub played-then : (now t : ℕ) (q : Queue) → now ≤ t → Due t q → Holding now q
+    → All (λ s. s .played .0 ≤ longest) (elapse (t - now) q .started)
 played-then now t q le d h =
     let u = elapse (t - now) q in
-    all-into (λ s. ((s .start .0 + s .played .0 ≤ t) × (t ≤ s .end .0)) × Small s) (λ s. s .played .0 ≤ longest) (λ s a. omega (arith, a .0 .0, a .0 .1, a .1 .duration)) (u .started)
+    all-into (λ s. ((s .start .0 + s .played .0 ≤ t) × (t ≤ s .end .0)) × Small s) (λ s. s .played .0 ≤ longest)
+    (λ s a. omega (arith, a .0 .0, a .0 .1, a .1 .duration)) (u .started)
     (all-both (λ s. (s .start .0 + s .played .0 ≤ t) × (t ≤ s .end .0)) Small (u .started)
-    (all-both (λ s. s .start .0 + s .played .0 ≤ t) (λ s. t ≤ s .end .0) (u .started) (elapse-played now t q le (h .played) .since) (elapse-due t (t - now) q d .ends))
+    (all-both (λ s. s .start .0 + s .played .0 ≤ t) (λ s. t ≤ s .end .0) (u .started) (elapse-played now t q le (h .played) .since)
+    (elapse-due t (t - now) q d .ends))
     (each-elapse Small small-plays (t - now) q (h .small) .started))
 
 pub holding-kept : KeptHeld Wired Holding
@@ -100,10 +109,14 @@ holding-kept =
     let r : KeptHeld Wired (λ now q. Room (q .waiting)) = room-kept in
     let s = small-kept in
     record {
-      closing = λ now q d h. joined (c .closing now q d (chained h)) (a .closing now q d (aired h)) (f .closing now q d (h .falling)) (r .closing now q d (h .room)) (s .closing now q d (h .small));
-      aborting = λ now q d x e h. joined (c .aborting now q d x e (chained h)) (a .aborting now q d x e (aired h)) (f .aborting now q d x e (h .falling)) (r .aborting now q d x e (h .room)) (s .aborting now q d x e (h .small));
-      accepting = λ z d x e h. joined (c .accepting z d x e (chained h)) (a .accepting z d x e (aired h)) (f .accepting z d x e (h .falling)) (r .accepting z d x e (h .room)) (s .accepting z d x e (h .small));
-      ticking = λ now until q le h. joined (c .ticking now until q le (chained h)) (a .ticking now until q le (aired h)) (f .ticking now until q le (h .falling)) (r .ticking now until q le (h .room)) (s .ticking now until q le (h .small));
+      closing = λ now q d h. joined (c .closing now q d (chained h)) (a .closing now q d (aired h)) (f .closing now q d (h .falling))
+          (r .closing now q d (h .room)) (s .closing now q d (h .small));
+      aborting = λ now q d x e h. joined (c .aborting now q d x e (chained h)) (a .aborting now q d x e (aired h))
+          (f .aborting now q d x e (h .falling)) (r .aborting now q d x e (h .room)) (s .aborting now q d x e (h .small));
+      accepting = λ z d x e h. joined (c .accepting z d x e (chained h)) (a .accepting z d x e (aired h))
+          (f .accepting z d x e (h .falling)) (r .accepting z d x e (h .room)) (s .accepting z d x e (h .small));
+      ticking = λ now until q le h. joined (c .ticking now until q le (chained h)) (a .ticking now until q le (aired h))
+          (f .ticking now until q le (h .falling)) (r .ticking now until q le (h .room)) (s .ticking now until q le (h .small));
     }
 
 -- ## 02, CR 8: what ended lately
@@ -146,7 +159,8 @@ run-recalls (suc n) now until q h r =
     by-next (λ (t : Turn). Recalled (t .queue .lately)) _ _ (notAfter until (due q))
     (λ t e. let d = due-first until t q e in
     let le = next-after now until t q e h in
-    run-recalls n (t .0) until (moved now (t .0) q .queue) (holding-next now until t q e h) (instant-recalls (t .0) (elapse (t .0 - now) q) (keeping-then now (t .0) q (omega arith) d h r)))
+    run-recalls n (t .0) until (moved now (t .0) q .queue) (holding-next now until t q e h)
+    (instant-recalls (t .0) (elapse (t .0 - now) q) (keeping-then now (t .0) q (omega arith) d h r)))
     (λ e. r)
 
 -- ## Of a splicer
@@ -164,11 +178,48 @@ sound-kept =
     let l : Kept Wired Linking = linking-kept in
     let k = held-kept Holding holding-kept in
     record {
-      opening = λ s c low e h. record { linking = l .opening s c low e (h .linking); clock = h .clock; primary = h .primary; holding = h .holding; lately = h .lately };
-      naming = λ s c x n e h. record { linking = l .naming s c x n e (h .linking); clock = h .clock; primary = h .primary; holding = h .holding; lately = h .lately };
-      closing = λ s c low e h. record { linking = l .closing s c low e (h .linking); clock = h .clock; primary = h .primary; holding = k .closing s c low e (h .holding); lately = closedBy-keeps c (s .queue) (keeping-now (s .clock) (s .queue) (h .holding) (h .lately)) .lately };
-      aborting = λ s c x low e a h. record { linking = l .aborting s c x low e a (h .linking); clock = h .clock; primary = h .primary; holding = k .aborting s c x low e a (h .holding); lately = aborted-keeps c x (s .queue) (keeping-now (s .clock) (s .queue) (h .holding) (h .lately)) .lately };
-      accepting = λ s c r a h. record { linking = l .accepting s c r a (h .linking); clock = h .clock; primary = h .primary; holding = k .accepting s c r a (h .holding); lately = accepted-recalls _ (s .queue) (keeping-now (s .clock) (s .queue) (h .holding) (h .lately)) };
+      opening = λ s c low e h. record {
+        linking = l .opening s c low e (h .linking);
+        clock = h .clock;
+        primary = h .primary;
+        holding =
+            h .holding;
+        lately = h .lately;
+      };
+      naming = λ s c x n e h. record {
+        linking = l .naming s c x n e (h .linking);
+        clock = h .clock;
+        primary = h .primary;
+        holding =
+            h .holding;
+        lately = h .lately;
+      };
+      closing = λ s c low e h. record {
+        linking = l .closing s c low e (h .linking);
+        clock = h .clock;
+        primary = h .primary;
+        holding =
+            k .closing s c low e (h .holding);
+        lately = closedBy-keeps c (s .queue)
+            (keeping-now (s .clock) (s .queue) (h .holding) (h .lately)) .lately;
+      };
+      aborting = λ s c x low e a h. record {
+        linking = l .aborting s c x low e a (h .linking);
+        clock = h .clock;
+        primary = h .primary;
+        holding = k .aborting s c x low e a (h .holding);
+        lately =
+            aborted-keeps c x (s .queue) (keeping-now (s .clock) (s .queue) (h .holding) (h .lately)) .lately;
+      };
+      accepting = λ s c r a h. record {
+        linking = l .accepting s c r a (h .linking);
+        clock = h .clock;
+        primary = h .primary;
+        holding =
+            k .accepting s c r a (h .holding);
+        lately = accepted-recalls _ (s .queue)
+            (keeping-now (s .clock) (s .queue) (h .holding) (h .lately));
+      };
       ticking = λ s j until f b le h. record {
         linking = l .ticking s j until f b le (h .linking);
         clock = brings-early j until f b;
@@ -197,21 +248,37 @@ nothing-held =
 pub sound-fresh : (name : List ℕ) → length name ≡ 32 → All Byte name → Sound (fresh name .splicer)
 unfolding fresh named
 sound-fresh name e a =
-    by (λ (k : Called). Linking (k .splicer) → Sound (k .splicer)) (hasZero name) _ _ (λ z l. record { linking = l; clock = omega arith; primary = omega arith; holding = nothing-held; lately = recalled-none })
-    (λ z l. record { linking = l; clock = omega arith; primary = omega arith; holding = nothing-held; lately = recalled-none }) (linking-fresh name e a)
+    by (λ (k : Called). Linking (k .splicer) → Sound (k .splicer)) (hasZero name) _ _
+    (λ z l. record { linking = l; clock = omega arith; primary = omega arith; holding = nothing-held; lately = recalled-none })
+    (λ z l. record { linking = l; clock = omega arith; primary = omega arith; holding = nothing-held; lately = recalled-none })
+    (linking-fresh name e a)
 
-pub sound-always : (ks : List Call) (name : List ℕ) → length name ≡ 32 → All Byte name → All Wired ks → Sound (after ks (fresh name .splicer))
+pub sound-always : (ks : List Call) (name : List ℕ) → length name ≡ 32 → All Byte name → All Wired ks
+    → Sound (after ks (fresh name .splicer))
 sound-always ks name e a f = always Wired Sound sound-kept ks (fresh name .splicer) f (sound-fresh name e a)
 
 -- no call writes more than 3,174 bytes
 pub sound-size : (s : Splicer) → Sound s → (k : Call) → length (writtenBy (call k s .answer)) ≤ 3174
 sound-size s h k =
-    call-size s (record { waiting = few-wait (h .holding); started = few-started (h .holding); name = omega (arith, h .linking .short); hardware = λ c. structure-at c (s .hardware) (h .linking .kept) .short }) k
+    call-size s (record {
+      waiting = few-wait (h .holding);
+      started = few-started (h .holding);
+      name = omega (arith, h .linking .short);
+      hardware = λ c. structure-at c (s .hardware) (h .linking .kept) .short;
+    }) k
 
 -- what is said of its records is said of its bytes
 pub sound-found : (s : Splicer) (k : Call) → Wired k → Sound s → recordsIn (writtenBy (call k s .answer)) ≡ recordsOf (call k s .answer)
 sound-found s k f h =
-    found k s f (record { aired = aired (h .holding); proper = h .holding .proper; small = h .holding .small; clock = h .clock; linking = h .linking; lately = h .lately })
+    found k s f (record {
+      aired = aired (h .holding);
+      proper = h .holding .proper;
+      small = h .holding .small;
+      clock = h .clock;
+      linking =
+          h .linking;
+      lately = h .lately;
+    })
 
 -- ## A splicer that fresh and the calls since have given
 

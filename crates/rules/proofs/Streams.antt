@@ -10,7 +10,10 @@ use lib.ListN.{length, getD, take, drop, length-append, length-take, length-drop
 use lib.Seq.{take-suc, take-at, drop-at, take-add, take-append-le, drop-append-le, length-take-le, take-all}
 use borrow.Author.Tests.{le-ltb, lt-ltb, ltb-false, eqb-false, eq-eqb, ne-eqb}
 use Rattle.rules.specs.Bytes.{bytes, valueFrom, value, part, field}
-use Rattle.rules.specs.Reading.{nobody, separateService, sessionID, priorSession, seconds, microSeconds, serviceID, readStart, Stream, streamLength, streamAt, highestPid, unknownSize, badStream, Listed, listed, unlisted, behind, streamsIn, pcrPid, pidCount, mostStreams, badCount, separateIn, restOf, Writable, streamBytes, streamsBytes, separateBytes, tailOf, badTail, badSplice, wholeRequest, readWhole, readSplice}
+use Rattle.rules.specs.Reading.{nobody, separateService, sessionID, priorSession, seconds, microSeconds, serviceID, readStart, Stream}
+use Rattle.rules.specs.Reading.{streamLength, streamAt, highestPid, unknownSize, badStream, Listed, listed, unlisted, behind}
+use Rattle.rules.specs.Reading.{streamsIn, pcrPid, pidCount, mostStreams, badCount, separateIn, restOf, Writable, streamBytes}
+use Rattle.rules.specs.Reading.{streamsBytes, separateBytes, tailOf, badTail, badSplice, wholeRequest, readWhole, readSplice}
 use Rattle.rules.proofs.Tests.{clash, or-none}
 use Rattle.rules.proofs.All.{All, all-drop, at-all}
 use Rattle.rules.proofs.Bytes.{Byte, length-bytes, value-bytes, value-append, field-below}
@@ -19,7 +22,8 @@ use Rattle.rules.proofs.Values.{field-one}
 -- ## What is behind the structures
 
 -- what is said of the rest of good structures
-behind-listed : (s : Stream) (x : Listed) (l : List Stream) (r : List ℕ) → behind s x ≡ listed l r → (m : List Stream) × (x ≡ listed m r) × (l ≡ s ∷ m)
+behind-listed : (s : Stream) (x : Listed) (l : List Stream) (r : List ℕ) → behind s x ≡ listed l r
+    → (m : List Stream) × (x ≡ listed m r) × (l ≡ s ∷ m)
 unfolding behind
 behind-listed s (listed m q) l r e =
     let i : l ≡ s ∷ m = cc in
@@ -38,7 +42,8 @@ pub streams-step : (n : ℕ) (p : List ℕ) (l : List Stream) (r : List ℕ) →
 unfolding streamsIn
 streams-step n p l r e = go (badStream p) refl e
   where
-    go : (b : Bool) → badStream p ≡ b → cond b unlisted (behind (streamAt p) (streamsIn n (drop (streamLength p) p))) ≡ listed l r → Stepped n p l r
+    go : (b : Bool) → badStream p ≡ b → cond b unlisted (behind (streamAt p) (streamsIn n (drop (streamLength p) p))) ≡ listed l r
+        → Stepped n p l r
     go true f e = let z : _≡_ {A = ℕ} 0 1 = cc in absurd (omega arith)
     go false f e =
         let k = behind-listed (streamAt p) (streamsIn n (drop (streamLength p) p)) l r e in
@@ -51,7 +56,8 @@ streams-none p l r e = (cc, cc)
 streams-byte : (n : ℕ) (p : List ℕ) → All Byte p → All Byte (restOf (streamsIn n p))
 unfolding streamsIn restOf behind
 streams-byte zero p a = a
-streams-byte (suc n) p a = go (badStream p) (streamsIn n (drop (streamLength p) p)) (streams-byte n (drop (streamLength p) p) (all-drop Byte (streamLength p) p a))
+streams-byte (suc n) p a = go (badStream p) (streamsIn n (drop (streamLength p) p))
+    (streams-byte n (drop (streamLength p) p) (all-drop Byte (streamLength p) p a))
   where
     go : (b : Bool) (x : Listed) → All Byte (restOf x) → All Byte (restOf (cond b unlisted (behind (streamAt p) x)))
     go true x h = tt
@@ -106,7 +112,13 @@ good-stream l e =
     let a = or-none (ltb (streamLength l) 21) _ e in
     let b = or-none (ltb (length l) (streamLength l)) _ (a .1) in
     let c = or-none (ltb highestPid (field 1 2 l)) _ (b .1) in
-    record { long = ltb-false (streamLength l) 21 (a .0); within = ltb-false (length l) (streamLength l) (b .0); pid = ltb-false highestPid (field 1 2 l) (c .0); typed = eqb-false (field 3 2 l) unknownSize (c .1) }
+    record {
+      long = ltb-false (streamLength l) 21 (a .0);
+      within = ltb-false (length l) (streamLength l) (b .0);
+      pid =
+          ltb-false highestPid (field 1 2 l) (c .0);
+      typed = eqb-false (field 3 2 l) unknownSize (c .1);
+    }
 
 pub length-kept : (l : List ℕ) → badStream l ≡ false → length (streamAt l .kept) ≡ streamLength l - 21
 length-kept l e = let g = good-stream l e in length-take-le (streamLength l - 21) (drop 21 l) (simp length-drop (omega arith))
@@ -136,20 +148,23 @@ stream-back l a e =
     ∙ ap (λ k. take k l) size
 
 -- "whatever `streamsIn` gives, writing it gives the bytes that were taken"
-pub streams-write-back : (n : ℕ) (p : List ℕ) (l : List Stream) (r : List ℕ) → All Byte p → streamsIn n p ≡ listed l r → streamsBytes l ++ r ≡ p
+pub streams-write-back : (n : ℕ) (p : List ℕ) (l : List Stream) (r : List ℕ) → All Byte p → streamsIn n p ≡ listed l r
+    → streamsBytes l ++ r ≡ p
 unfolding streamsBytes
 streams-write-back zero p l r a e = let k = streams-none p l r e in rw (k .0) (k .1)
 streams-write-back (suc n) p l r a e =
     let k = streams-step n p l r e in
     rw (k .is)
     (append-assoc (streamBytes (streamAt p)) (streamsBytes (k .more)) r
-    ∙ ap₂ _++_ (stream-back p a (k .good)) (streams-write-back n (drop (streamLength p) p) (k .more) r (all-drop Byte (streamLength p) p a) (k .rest))
+    ∙ ap₂ _++_ (stream-back p a (k .good)) (streams-write-back n (drop (streamLength p) p) (k .more) r (all-drop Byte (streamLength p) p a)
+    (k .rest))
     ∙ take-append-drop (streamLength p) p)
 
 -- as many as were asked for
 pub streams-count : (n : ℕ) (p : List ℕ) (l : List Stream) (r : List ℕ) → streamsIn n p ≡ listed l r → length l ≡ n
 streams-count zero p l r e = ap length (streams-none p l r e .0)
-streams-count (suc n) p l r e = let k = streams-step n p l r e in rw (k .is) (ap suc (streams-count n (drop (streamLength p) p) (k .more) r (k .rest)))
+streams-count (suc n) p l r e = let k = streams-step n p l r e in rw (k .is)
+    (ap suc (streams-count n (drop (streamLength p) p) (k .more) r (k .rest)))
 
 -- ## Read back
 
@@ -168,7 +183,8 @@ module _ (s : Stream) (w : Writable s) where
       let p : field 1 2 (streamBytes s ++ m) ≡ s .pid = value-bytes 2 (s .pid) (omega (arith, w .pid)) in
       let t : field 3 2 (streamBytes s ++ m) ≡ s .streamType = value-bytes 2 (s .streamType) (omega (arith, w .streamType)) in
       let n = stream-length m in
-      let h : length (streamBytes s ++ m) ≡ 21 + length (s .kept) + length m = length-append (streamBytes s) m ∙ ap (λ x. x + length m) length-stream in
+      let h : length (streamBytes s ++ m) ≡ 21 + length (s .kept) + length m =
+      length-append (streamBytes s) m ∙ ap (λ x. x + length m) length-stream in
       rw (
         le-ltb (streamLength (streamBytes s ++ m)) 21 (omega arith),
         le-ltb (length (streamBytes s ++ m)) (streamLength (streamBytes s ++ m)) (omega arith),
@@ -189,8 +205,18 @@ module _ (s : Stream) (w : Writable s) where
       let c = value-bytes 4 (s .minBitrate) (w .minBitrate) in
       let x = value-bytes 2 (s .hResolution) (w .hResolution) in
       let y = value-bytes 2 (s .vResolution) (w .vResolution) in
-      let z : take (((21 + length (s .kept)) % 256) - 21) (s .kept ++ m) ≡ s .kept = ap (λ i. take i (s .kept ++ m)) k ∙ take-at (s .kept) m (length (s .kept)) refl in
-      λ i. record { pid = p i; streamType = t i; avgBitrate = a i; maxBitrate = b i; minBitrate = c i; hResolution = x i; vResolution = y i; kept = z i }
+      let z : take (((21 + length (s .kept)) % 256) - 21) (s .kept ++ m) ≡ s .kept =
+      ap (λ i. take i (s .kept ++ m)) k ∙ take-at (s .kept) m (length (s .kept)) refl in
+      λ i. record {
+        pid = p i;
+        streamType = t i;
+        avgBitrate = a i;
+        maxBitrate = b i;
+        minBitrate = c i;
+        hResolution = x i;
+        vResolution = y i;
+        kept = z i;
+      }
 
   pub stream-rest : (m : List ℕ) → drop (streamLength (streamBytes s ++ m)) (streamBytes s ++ m) ≡ m
   stream-rest m = rw (stream-length m) (drop-at (streamBytes s) m (21 + length (s .kept)) length-stream)
@@ -200,8 +226,14 @@ pub streams-read-back : (l : List Stream) (r : List ℕ) → All Writable l → 
 unfolding streamsIn streamsBytes behind
 streams-read-back [] r a = refl
 streams-read-back (s ∷ l) r a =
-    ap (λ p. cond (badStream p) unlisted (behind (streamAt p) (streamsIn (length l) (drop (streamLength p) p)))) (append-assoc (streamBytes s) (streamsBytes l) r)
-    ∙ rw (stream-good s (a .0) (streamsBytes l ++ r), stream-read s (a .0) (streamsBytes l ++ r), stream-rest s (a .0) (streamsBytes l ++ r), streams-read-back l r (a .1)) refl
+    ap (λ p. cond (badStream p) unlisted (behind (streamAt p) (streamsIn (length l) (drop (streamLength p) p))))
+    (append-assoc (streamBytes s) (streamsBytes l) r)
+    ∙ rw (
+      stream-good s (a .0) (streamsBytes l ++ r),
+      stream-read s (a .0) (streamsBytes l ++ r),
+      stream-rest s (a .0) (streamsBytes l ++ r),
+      streams-read-back l r (a .1),
+    ) refl
 
 -- what is read is writable
 pub stream-writable : (l : List ℕ) → All Byte l → badStream l ≡ false → Writable (streamAt l)
@@ -223,7 +255,11 @@ pub streams-writable : (n : ℕ) (p : List ℕ) (l : List Stream) (r : List ℕ)
 streams-writable zero p l r a e = rw (streams-none p l r e .0) tt
 streams-writable (suc n) p l r a e =
     let k = streams-step n p l r e in
-    rw (k .is) (stream-writable p a (k .good), streams-writable n (drop (streamLength p) p) (k .more) r (all-drop Byte (streamLength p) p a) (k .rest))
+    rw (k .is) (
+      stream-writable p a (k .good),
+      streams-writable n (drop (streamLength p) p) (k .more) r (all-drop Byte (streamLength p) p a)
+          (k .rest),
+    )
 
 -- ## With PcrPID and PIDCount
 
@@ -242,9 +278,16 @@ separate-step p l r = go (badCount p) refl
     go false f e =
         let a = or-none (ltb (length p) 6) _ f in
         let b = or-none (ltb highestPid (pcrPid p)) _ (a .1) in
-        record { long = ltb-false (length p) 6 (a .0); pcr = ltb-false highestPid (pcrPid p) (b .0); few = ltb-false mostStreams (pidCount p) (b .1); streams = e }
+        record {
+          long = ltb-false (length p) 6 (a .0);
+          pcr = ltb-false highestPid (pcrPid p) (b .0);
+          few =
+              ltb-false mostStreams (pidCount p) (b .1);
+          streams = e;
+        }
 
-pub separate-write-back : (p : List ℕ) (l : List Stream) (r : List ℕ) → All Byte p → separateIn p ≡ listed l r → separateBytes (pcrPid p) l ++ r ≡ p
+pub separate-write-back : (p : List ℕ) (l : List Stream) (r : List ℕ) → All Byte p → separateIn p ≡ listed l r
+    → separateBytes (pcrPid p) l ++ r ≡ p
 unfolding separateBytes
 separate-write-back p l r a e =
     let k = separate-step p l r e in
@@ -261,7 +304,8 @@ separate-read-back pcr l r low few a =
     let p = separateBytes pcr l ++ r in
     let x : pcrPid p ≡ pcr = value-bytes 2 pcr (omega arith) in
     let n : pidCount p ≡ length l = value-bytes 4 (length l) (omega arith) in
-    rw (le-ltb (length p) 6 (omega arith), le-ltb highestPid (pcrPid p) (omega arith), le-ltb mostStreams (pidCount p) (omega arith), n) (streams-read-back l r a)
+    rw (le-ltb (length p) 6 (omega arith), le-ltb highestPid (pcrPid p) (omega arith), le-ltb mostStreams (pidCount p) (omega arith), n)
+    (streams-read-back l r a)
 
 pub pcr-read-back : (pcr : ℕ) (l : List Stream) (r : List ℕ) → pcr ≤ highestPid → pcrPid (separateBytes pcr l ++ r) ≡ pcr
 unfolding separateBytes bytes value valueFrom
@@ -295,12 +339,20 @@ unfolding readSplice tailOf restOf
 separate-reads-alike d l t service long is good other =
     let x = take 16 d ++ bytes 2 service in
     let e = x ++ t in
-    let n : length x ≡ 18 = rw (length-append (take 16 d) (bytes 2 service), length-bytes 2 service, length-take-le 16 d (omega arith)) refl in
+    let n : length x ≡ 18 = rw (length-append (take 16 d) (bytes 2 service), length-bytes 2 service, length-take-le 16 d (omega arith)) refl
+    in
     let m : length e ≡ 18 + length t = length-append x t ∙ ap (λ k. k + length t) n in
     let s : serviceID e ≡ service = front-field x t 16 2 (omega arith)
     ∙ ap (λ y. value (take 2 y)) (drop-at (take 16 d) (bytes 2 service) 16 (length-take-le 16 d (omega arith)))
     ∙ ap value (take-all 2 (bytes 2 service) (omega (arith, length-bytes 2 service))) ∙ value-bytes 2 service (omega arith) in
     let f : take 16 d ≡ take 16 e =
     sym (take-append-le 16 x t (omega arith) ∙ take-at (take 16 d) (bytes 2 service) 16 (length-take-le 16 d (omega arith))) in
-    rw (le-ltb (length d) 18 (omega arith), le-ltb (length e) 18 (omega arith), eq-eqb (serviceID d) separateService is, good, ne-eqb (serviceID e) separateService (omega arith), drop-at x t 18 n)
+    rw (
+      le-ltb (length d) 18 (omega arith),
+      le-ltb (length e) 18 (omega arith),
+      eq-eqb (serviceID d) separateService is,
+      good,
+      ne-eqb (serviceID e) separateService (omega arith),
+      drop-at x t 18 n,
+    )
     (whole-alike d e f (omega arith) (omega arith) t)

@@ -13,7 +13,8 @@ use Rattle.rules.specs.declared.When.{When}
 use Rattle.rules.specs.declared.When.the-variants.{At, Never}
 use Rattle.rules.specs.declared.Session.{Session}
 use Rattle.rules.specs.Lists.{bit, keep, omit, count, place, removeAt}
-use Rattle.rules.specs.State.{Queue, Sorted, empty, startsAt, endsAt, sooner, earliest, due, notAfter, toCome, withWaiting, withStarted}
+use Rattle.rules.specs.State.{Queue, Sorted, empty, startsAt, endsAt, sooner, earliest, due, notAfter, toCome, withWaiting}
+use Rattle.rules.specs.State.{withStarted}
 use Rattle.rules.specs.Ends.{Turn, quiet, andThen}
 use Rattle.rules.specs.Instants.{mayStart, launched, startAt, endAt, instant, playing, onAir, elapse, onwards, run, runAll}
 use Rattle.rules.proofs.Tests.{tests, by, eqb-same}
@@ -69,7 +70,8 @@ module _ (f : Session → Ninths) where
   earliest-all [] = tt
   earliest-all (s ∷ l) = (
     sooner-left (At (f s)) (earliest f l) (f s .0) (omega arith),
-    all-into (λ u. By (earliest f l) (f u .0)) (λ u. By (earliest f (s ∷ l)) (f u .0)) (λ u h. sooner-right (At (f s)) (earliest f l) (f u .0) h) l (earliest-all l),
+    all-into (λ u. By (earliest f l) (f u .0)) (λ u. By (earliest f (s ∷ l)) (f u .0))
+        (λ u h. sooner-right (At (f s)) (earliest f l) (f u .0) h) l (earliest-all l),
   )
 
   -- one of l has the time a, if it is one
@@ -80,7 +82,8 @@ module _ (f : Session → Ninths) where
   earliest-among : (l : List Session) → Among l (earliest f l)
   earliest-among [] = tt
   earliest-among (s ∷ l) =
-      sooner-one (Among (s ∷ l)) (At (f s)) (earliest f l) (omega (arith, ap bit (eqb-same (f s .0)))) (more (earliest f l) (earliest-among l))
+      sooner-one (Among (s ∷ l)) (At (f s)) (earliest f l) (omega (arith, ap bit (eqb-same (f s .0))))
+      (more (earliest f l) (earliest-among l))
     where
       more : (a : When) → Among l a → Among (s ∷ l) a
       more (At t) h = omega arith
@@ -90,7 +93,8 @@ module _ (f : Session → Ninths) where
 pub earliest-start : (w : List Session) (d : Session) → Sorted w → 0 < length w → earliest (λ s. s .start) w ≡ At (getD w 0 d .start)
 earliest-start [] d o h = absurd (omega arith)
 earliest-start (s ∷ w) d o h =
-    earliest-first (λ u. u .start) (s .start) w (all-into (λ u. s .start .0 < u .start .0) (λ u. s .start .0 ≤ u .start .0) (λ u i. omega arith) w (o .0))
+    earliest-first (λ u. u .start) (s .start) w (all-into (λ u. s .start .0 < u .start .0) (λ u. s .start .0 ≤ u .start .0)
+    (λ u i. omega arith) w (o .0))
 
 -- ## Not after a time
 
@@ -134,7 +138,8 @@ abbrev pub meets : ℕ → Queue → ℕ
 meets t q = count (startsAt t) (q .waiting) + count (endsAt t) (q .started)
 
 -- as code finds it
-pub due-of : (q : Queue) (a b : When) → a ≡ earliest (λ s. s .end) (q .started) → b ≡ earliest (λ s. s .start) (q .waiting) → sooner a b ≡ due q
+pub due-of : (q : Queue) (a b : When) → a ≡ earliest (λ s. s .end) (q .started) → b ≡ earliest (λ s. s .start) (q .waiting)
+    → sooner a b ≡ due q
 unfolding due
 due-of q a b e f = λ i. sooner (e i) (f i)
 
@@ -144,8 +149,10 @@ unfolding due
 due-by q =
     let e = earliest (λ (s : Session). s .end) (q .started) in
     let b = earliest (λ (s : Session). s .start) (q .waiting) in (
-      all-into (λ s. By b (s .start .0)) (λ s. By (sooner e b) (s .start .0)) (λ s h. sooner-right e b (s .start .0) h) (q .waiting) (earliest-all (λ (s : Session). s .start) (q .waiting)),
-      all-into (λ s. By e (s .end .0)) (λ s. By (sooner e b) (s .end .0)) (λ s h. sooner-left e b (s .end .0) h) (q .started) (earliest-all (λ (s : Session). s .end) (q .started)),
+      all-into (λ s. By b (s .start .0)) (λ s. By (sooner e b) (s .start .0)) (λ s h. sooner-right e b (s .start .0) h) (q .waiting)
+          (earliest-all (λ (s : Session). s .start) (q .waiting)),
+      all-into (λ s. By e (s .end .0)) (λ s. By (sooner e b) (s .end .0)) (λ s h. sooner-left e b (s .end .0) h) (q .started)
+          (earliest-all (λ (s : Session). s .end) (q .started)),
     )
 
 abbrev Met : Queue → When → Type 0
@@ -178,8 +185,10 @@ module _ (until : ℕ) (t : Ninths) (q : Queue) (e : notAfter until (due q) ≡ 
   pub due-first : Due (t .0) q
   due-first =
       record {
-        starts = all-into (λ s. By (due q) (s .start .0)) (λ s. t .0 ≤ s .start .0) (λ s h. subst (λ a. By a (s .start .0)) is-due h) (q .waiting) (due-by q .0);
-        ends = all-into (λ s. By (due q) (s .end .0)) (λ s. t .0 ≤ s .end .0) (λ s h. subst (λ a. By a (s .end .0)) is-due h) (q .started) (due-by q .1);
+        starts = all-into (λ s. By (due q) (s .start .0)) (λ s. t .0 ≤ s .start .0) (λ s h. subst (λ a. By a (s .start .0)) is-due h)
+            (q .waiting) (due-by q .0);
+        ends = all-into (λ s. By (due q) (s .end .0)) (λ s. t .0 ≤ s .end .0) (λ s h. subst (λ a. By a (s .end .0)) is-due h) (q .started)
+            (due-by q .1);
       }
 
   pub due-meets : 0 < meets (t .0) q
@@ -189,18 +198,22 @@ module _ (until : ℕ) (t : Ninths) (q : Queue) (e : notAfter until (due q) ≡ 
 pub due-last : (until : ℕ) (q : Queue) → notAfter until (due q) ≡ Never → Due (suc until) q
 due-last until q e =
     record {
-      starts = all-into (λ s. By (due q) (s .start .0)) (λ s. suc until ≤ s .start .0) (λ s h. notAfter-later until (due q) (s .start .0) e h) (q .waiting) (due-by q .0);
-      ends = all-into (λ s. By (due q) (s .end .0)) (λ s. suc until ≤ s .end .0) (λ s h. notAfter-later until (due q) (s .end .0) e h) (q .started) (due-by q .1);
+      starts = all-into (λ s. By (due q) (s .start .0)) (λ s. suc until ≤ s .start .0)
+          (λ s h. notAfter-later until (due q) (s .start .0) e h) (q .waiting) (due-by q .0);
+      ends = all-into (λ s. By (due q) (s .end .0)) (λ s. suc until ≤ s .end .0) (λ s h. notAfter-later until (due q) (s .end .0) e h)
+          (q .started) (due-by q .1);
     }
 
 -- ## Time on air changes no time and no number
 
-pub count-onAir : (p : Session → Bool) → ((d : ℕ) (s : Session) → p (playing d s) ≡ p s) → (d : ℕ) (k : List Session) → count p (onAir d k) ≡ count p k
+pub count-onAir : (p : Session → Bool) → ((d : ℕ) (s : Session) → p (playing d s) ≡ p s) → (d : ℕ) (k : List Session)
+    → count p (onAir d k) ≡ count p k
 unfolding onAir
 count-onAir p h d [] = refl
 count-onAir p h d (s ∷ k) = rw (h d s)
 
-pub all-onAir : (P : Session → Type 0) → ((d : ℕ) (s : Session) → P s → P (playing d s)) → (d : ℕ) (k : List Session) → All P k → All P (onAir d k)
+pub all-onAir : (P : Session → Type 0) → ((d : ℕ) (s : Session) → P s → P (playing d s)) → (d : ℕ) (k : List Session) → All P k
+    → All P (onAir d k)
 unfolding onAir
 all-onAir P f d [] a = tt
 all-onAir P f d (s ∷ k) a = (f d s (a .0), a .1)
@@ -232,12 +245,14 @@ launched-less s q =
     (λ e. let f = ousted-fewer s q in omega (arith, fewer-length (f .waiting), fewer-length (f .started)))
     (λ e. let f = failed-fewer s q in omega (arith, fewer-length (f .waiting), fewer-length (f .started)))
 
-startAt-less : (t : ℕ) (q : Queue) → (toCome (startAt t q .queue) ≤ toCome q) × (0 < count (startsAt t) (q .waiting) → toCome (startAt t q .queue) < toCome q)
+startAt-less : (t : ℕ) (q : Queue) → (toCome (startAt t q .queue) ≤ toCome q) ×
+    (0 < count (startsAt t) (q .waiting) → toCome (startAt t q .queue) < toCome q)
 unfolding startAt
 startAt-less t q =
     let i = place (startsAt t) (q .waiting) in
     let u = withWaiting (removeAt i (q .waiting)) q in
-    by (λ (r : Turn). (toCome (r .queue) ≤ toCome q) × (0 < count (startsAt t) (q .waiting) → toCome (r .queue) < toCome q)) (ltb i (length (q .waiting))) _ _
+    by (λ (r : Turn). (toCome (r .queue) ≤ toCome q) × (0 < count (startsAt t) (q .waiting) → toCome (r .queue) < toCome q))
+    (ltb i (length (q .waiting))) _ _
     (λ e. let l = length-removeAt i (q .waiting) (ltb-true i (length (q .waiting)) e) in
     let m = launched-less (getD (q .waiting) i empty) u in
     (omega arith, λ h. omega arith))
@@ -292,12 +307,14 @@ unfolding run
 run-stop zero now until q e = refl
 run-stop (suc n) now until q e = rw e
 
-pub run-more : (n now until : ℕ) (t : Ninths) (q : Queue) → notAfter until (due q) ≡ At t → run (suc n) now until q ≡ andThen (moved now (t .0) q) (run n (t .0) until)
+pub run-more : (n now until : ℕ) (t : Ninths) (q : Queue) → notAfter until (due q) ≡ At t
+    → run (suc n) now until q ≡ andThen (moved now (t .0) q) (run n (t .0) until)
 unfolding run
 run-more n now until t q e = rw e
 
 -- a fact of what follows, from the fact of each case
-pub by-next : {A : Type 0} (P : A → Type 0) (f : ℕ → A) (x : A) (a : When) → ((t : Ninths) → a ≡ At t → P (f (t .0))) → (a ≡ Never → P x) → P (onwards f x a)
+pub by-next : {A : Type 0} (P : A → Type 0) (f : ℕ → A) (x : A) (a : When) → ((t : Ninths) → a ≡ At t → P (f (t .0))) → (a ≡ Never → P x)
+    → P (onwards f x a)
 by-next P f x (At t) g h = g t refl
 by-next P f x Never g h = h refl
 
@@ -308,16 +325,20 @@ unfolding andThen
 then-same t f g e = rw e
 
 pub run-enough : (m n now until : ℕ) (q : Queue) → toCome q ≤ m → toCome q ≤ n → run m now until q ≡ run n now until q
-run-enough zero n now until q f g = let e : notAfter until (due q) ≡ Never = rw (due-none q f) in run-stop zero now until q e ∙ sym (run-stop n now until q e)
-run-enough (suc m) zero now until q f g = let e : notAfter until (due q) ≡ Never = rw (due-none q g) in run-stop (suc m) now until q e ∙ sym (run-stop zero now until q e)
+run-enough zero n now until q f g = let e : notAfter until (due q) ≡ Never = rw (due-none q f) in
+    run-stop zero now until q e ∙ sym (run-stop n now until q e)
+run-enough (suc m) zero now until q f g = let e : notAfter until (due q) ≡ Never = rw (due-none q g) in
+    run-stop (suc m) now until q e ∙ sym (run-stop zero now until q e)
 run-enough (suc m) (suc n) now until q f g = go (notAfter until (due q)) refl (λ t. run-enough m n t until (moved now t q .queue))
   where
     go : (a : When) → notAfter until (due q) ≡ a
-        → ((t : ℕ) → toCome (moved now t q .queue) ≤ m → toCome (moved now t q .queue) ≤ n → run m t until (moved now t q .queue) ≡ run n t until (moved now t q .queue))
+        → ((t : ℕ) → toCome (moved now t q .queue) ≤ m → toCome (moved now t q .queue) ≤ n
+        → run m t until (moved now t q .queue) ≡ run n t until (moved now t q .queue))
         → run (suc m) now until q ≡ run (suc n) now until q
     go (At t) e ih =
         let l = moved-less now until t q e in
-        run-more m now until t q e ∙ then-same (moved now (t .0) q) (run m (t .0) until) (run n (t .0) until) (ih (t .0) (omega arith) (omega arith)) ∙ sym (run-more n now until t q e)
+        run-more m now until t q e ∙ then-same (moved now (t .0) q) (run m (t .0) until) (run n (t .0) until)
+        (ih (t .0) (omega arith) (omega arith)) ∙ sym (run-more n now until t q e)
     go Never e ih = run-stop (suc m) now until q e ∙ sym (run-stop (suc n) now until q e)
 
 pub runAll-enough : (n now until : ℕ) (q : Queue) → toCome q ≤ n → runAll now until q ≡ run n now until q
@@ -336,7 +357,8 @@ module _ (J : ℕ → Queue → Type 0)
   run-through (suc n) now until q f le h =
       by-next (λ (r : Turn). J until (r .queue)) _ _ (notAfter until (due q))
       (λ t e. let l = moved-less now until t q e in
-      run-through n (t .0) until (moved now (t .0) q .queue) (omega arith) (due-time until t q e) (moves now (t .0) q (due-first until t q e) (due-meets until t q e) h))
+      run-through n (t .0) until (moved now (t .0) q .queue) (omega arith) (due-time until t q e)
+      (moves now (t .0) q (due-first until t q e) (due-meets until t q e) h))
       (λ e. waits now until q le (due-last until q e) h)
 
   pub tick-through : (now until : ℕ) (q : Queue) → now ≤ until → J now q → J until (runAll now until q .queue)
@@ -347,13 +369,14 @@ module _ (J : ℕ → Queue → Type 0)
 module _ (L : Queue → Turn → Type 0)
     (elapses : (d : ℕ) (q : Queue) → L q (quiet (elapse d q)))
     (instants : (t : ℕ) (q : Queue) → L q (instant t q))
-    (joins : (q : Queue) (t u : Turn) → L q t → L (t .queue) u → L q (record { queue = u .queue; written = t .written ++ u .written })) where
-  pub run-law : (n now until : ℕ) (q : Queue) → L q (run n now until q)
-  unfolding run andThen
-  run-law zero now until q = elapses (until - now) q
-  run-law (suc n) now until q =
-      by-next (L q) _ _ (notAfter until (due q))
-      (λ t e. joins q (moved now (t .0) q) (run n (t .0) until (moved now (t .0) q .queue))
-      (joins q (quiet (elapse (t .0 - now) q)) (moved now (t .0) q) (elapses (t .0 - now) q) (instants (t .0) (elapse (t .0 - now) q)))
-      (run-law n (t .0) until (moved now (t .0) q .queue)))
-      (λ e. elapses (until - now) q)
+    (joins : (q : Queue) (t u : Turn) → L q t → L (t .queue) u → L q (record { queue = u .queue; written = t .written ++ u .written }))
+  where
+    pub run-law : (n now until : ℕ) (q : Queue) → L q (run n now until q)
+    unfolding run andThen
+    run-law zero now until q = elapses (until - now) q
+    run-law (suc n) now until q =
+        by-next (L q) _ _ (notAfter until (due q))
+        (λ t e. joins q (moved now (t .0) q) (run n (t .0) until (moved now (t .0) q .queue))
+        (joins q (quiet (elapse (t .0 - now) q)) (moved now (t .0) q) (elapses (t .0 - now) q) (instants (t .0) (elapse (t .0 - now) q)))
+        (run-law n (t .0) until (moved now (t .0) q .queue)))
+        (λ e. elapses (until - now) q)

@@ -24,7 +24,8 @@ use Rattle.rules.specs.Calls.{Call, after, fresh}
 use Rattle.rules.proofs.Tests.{tests, by}
 use Rattle.rules.proofs.All.{All, all-into}
 use Rattle.rules.proofs.Count.{count-removeAt, place-holds, place-none, some-place}
-use Rattle.rules.proofs.Every.{all-both, all-kept, all-getD, all-none, none-all, Fewer, fewer-removeAt, fewer-all, fewer-count, Sorted, fewer-sorted, sorted-inserted, all-inserted, Each, FewerHeld, all-held}
+use Rattle.rules.proofs.Every.{all-both, all-kept, all-getD, all-none, none-all, Fewer, fewer-removeAt, fewer-all, fewer-count}
+use Rattle.rules.proofs.Every.{Sorted, fewer-sorted, sorted-inserted, all-inserted, Each, FewerHeld, all-held}
 use Rattle.rules.proofs.Leaving.{dismissed-fewer, failed-fewer, ousted-fewer, evicted-fewer, aborted-fewer, closedBy-fewer}
 use Rattle.rules.proofs.Tick.{due-time, due-meets, Due, meets, all-onAir, elapse-due, tick-through}
 use Rattle.rules.proofs.Always.{Admitted, grants, KeptHeld, held-always}
@@ -32,7 +33,12 @@ pub use Rattle.rules.specs.Sound.{Later, OnTime}
 
 pub timed-fewer : (now : ℕ) (q r : Queue) → FewerHeld q r → OnTime now q → OnTime now r
 timed-fewer now q r f h =
-    record { sorted = fewer-sorted (f .waiting) (h .sorted); later = fewer-all (Later now) (f .waiting) (h .later); ends = fewer-all (λ s. now < s .end .0) (f .started) (h .ends) }
+    record {
+      sorted = fewer-sorted (f .waiting) (h .sorted);
+      later = fewer-all (Later now) (f .waiting) (h .later);
+      ends =
+          fewer-all (λ s. now < s .end .0) (f .started) (h .ends);
+    }
 
 -- ## One start at a time
 
@@ -56,7 +62,12 @@ sorted-single t (s ∷ w) o = go (startsAt t s) refl (sorted-single t w (o .1))
 module _ (t : ℕ) (w : List Session) (o : Sorted w) where
   pub starts-removed : place (startsAt t) w < length w → count (startsAt t) (removeAt (place (startsAt t) w) w) ≡ 0
   starts-removed h =
-      omega (arith, sorted-single t w o, count-removeAt (startsAt t) (place (startsAt t) w) w empty h, ap bit (place-holds (startsAt t) w empty h))
+      omega (
+        arith,
+        sorted-single t w o,
+        count-removeAt (startsAt t) (place (startsAt t) w) w empty h,
+        ap bit (place-holds (startsAt t) w empty h),
+      )
 
 pub evicted-free : (t : ℕ) (q : Queue) → Sorted (q .waiting) → count (startsAt t) (evicted t q .queue .waiting) ≡ 0
 unfolding evicted evictedAt andThen
@@ -65,7 +76,11 @@ evicted-free t q o =
     by (λ (r : Turn). count (startsAt t) (r .queue .waiting) ≡ 0) (ltb i (length (q .waiting))) _ _
     (λ e. let s = getD (q .waiting) i empty in
     let u = ending (oneEnd (Response 109) s) (withWaiting (removeAt i (q .waiting)) q) .queue in
-    omega (arith, starts-removed t (q .waiting) o (ltb-true i (length (q .waiting)) e), fewer-count (startsAt t) (dismissed-fewer u 109 (s .conn) (s .id) .waiting)))
+    omega (
+      arith,
+      starts-removed t (q .waiting) o (ltb-true i (length (q .waiting)) e),
+      fewer-count (startsAt t) (dismissed-fewer u 109 (s .conn) (s .id) .waiting),
+    ))
     (λ e. place-none (startsAt t) (q .waiting) (ltb-false i (length (q .waiting)) e))
 
 -- ## An instant
@@ -73,7 +88,8 @@ evicted-free t q o =
 -- those that start at t or later, and none at t, start after it
 pub after-t : (t : ℕ) (w : List Session) → All (λ s. t ≤ s .start .0) w → count (startsAt t) w ≡ 0 → All (λ s. t < s .start .0) w
 after-t t w a e =
-    all-into (λ s. (t ≤ s .start .0) × (startsAt t s ≡ false)) (λ s. t < s .start .0) (λ s h. let n = eqb-false t (s .start .0) (h .1) in omega (arith, h .0)) w
+    all-into (λ s. (t ≤ s .start .0) × (startsAt t s ≡ false)) (λ s. t < s .start .0)
+    (λ s h. let n = eqb-false t (s .start .0) (h .1) in omega (arith, h .0)) w
     (all-both (λ s. t ≤ s .start .0) (λ s. startsAt t s ≡ false) w a (all-none (startsAt t) w e))
 
 later-at : (now t : ℕ) (w : List Session) → All (Later now) w → All (λ s. t < s .start .0) w → All (Later t) w
@@ -85,16 +101,23 @@ module _ (t : ℕ) where
   unfolding launched andThen
   launched-timed s q h e =
       by (λ (r : Turn). OnTime t (r .queue)) (mayStart s (q .started)) _ _
-      (λ f. let k = timed-fewer t q (ousted s q .queue) (ousted-fewer s q) h in record { sorted = k .sorted; later = k .later; ends = (e, k .ends) })
+      (λ f. let k = timed-fewer t q (ousted s q .queue) (ousted-fewer s q) h in
+      record { sorted = k .sorted; later = k .later; ends = (e, k .ends) })
       (λ f. timed-fewer t q _ (failed-fewer s q) h)
 
-  startAt-timed : (now : ℕ) (q : Queue) → Sorted (q .waiting) → All (Later now) (q .waiting) → All (λ s. t ≤ s .start .0) (q .waiting) → All (λ s. t < s .end .0) (q .started)
+  startAt-timed : (now : ℕ) (q : Queue) → Sorted (q .waiting) → All (Later now) (q .waiting) → All (λ s. t ≤ s .start .0) (q .waiting)
+      → All (λ s. t < s .end .0) (q .started)
       → OnTime t (startAt t q .queue)
   unfolding startAt
   startAt-timed now q o l d k =
       by (λ (r : Turn). OnTime t (r .queue)) (ltb i (length (q .waiting))) _ _
       (λ e. one (ltb-true i (length (q .waiting)) e))
-      (λ e. record { sorted = o; later = later-at now t (q .waiting) l (after-t t (q .waiting) d (place-none (startsAt t) (q .waiting) (ltb-false i (length (q .waiting)) e))); ends = k })
+      (λ e. record {
+        sorted = o;
+        later = later-at now t (q .waiting) l
+            (after-t t (q .waiting) d (place-none (startsAt t) (q .waiting) (ltb-false i (length (q .waiting)) e)));
+        ends = k;
+      })
     where
       i : ℕ
       i = place (startsAt t) (q .waiting)
@@ -112,7 +135,8 @@ module _ (t : ℕ) where
           launched-timed s (withWaiting (removeAt i (q .waiting)) q)
           (record {
             sorted = fewer-sorted f o;
-            later = later-at now t (removeAt i (q .waiting)) (fewer-all (Later now) f l) (after-t t (removeAt i (q .waiting)) (fewer-all (λ u. t ≤ u .start .0) f d) (starts-removed t (q .waiting) o h));
+            later = later-at now t (removeAt i (q .waiting)) (fewer-all (Later now) f l)
+                (after-t t (removeAt i (q .waiting)) (fewer-all (λ u. t ≤ u .start .0) f d) (starts-removed t (q .waiting) o h));
             ends = k;
           }) (omega (arith, a .1))
 
@@ -121,11 +145,17 @@ module _ (t : ℕ) where
   unfolding instant andThen endAt
   instant-timed now q h d =
       startAt-timed now (endAt t q .queue) (h .sorted) (h .later) (d .starts)
-      (all-kept (λ s. t ≤ s .end .0) (λ s. t < s .end .0) (λ s. not (endsAt t s)) (λ s i e. let n = eqb-false t (s .end .0) (not-true _ e) in omega arith) (q .started) (d .ends))
+      (all-kept (λ s. t ≤ s .end .0) (λ s. t < s .end .0) (λ s. not (endsAt t s))
+      (λ s i e. let n = eqb-false t (s .end .0) (not-true _ e) in omega arith) (q .started) (d .ends))
 
 pub elapse-timed : (now d : ℕ) (q : Queue) → OnTime now q → OnTime now (elapse d q)
 unfolding elapse
-elapse-timed now d q h = record { sorted = h .sorted; later = h .later; ends = all-onAir (λ s. now < s .end .0) (λ e s i. i) d (q .started) (h .ends) }
+elapse-timed now d q h = record {
+  sorted = h .sorted;
+  later = h .later;
+  ends =
+      all-onAir (λ s. now < s .end .0) (λ e s i. i) d (q .started) (h .ends);
+}
 
 pub wait-timed : (now until : ℕ) (q : Queue) → Due (suc until) q → OnTime now q → OnTime until q
 wait-timed now until q d h = record { sorted = h .sorted; later = later-at now until (q .waiting) (h .later) (d .starts); ends = d .ends }
@@ -135,24 +165,36 @@ pub meets-after : (now t : ℕ) (q : Queue) → OnTime now q → 0 < meets t q �
 meets-after now t q h m = go (ltb now t) refl
   where
     none-start : (w : List Session) → t ≤ now → All (Later now) w → count (startsAt t) w ≡ 0
-    none-start w le a = none-all (startsAt t) w (all-into (Later now) (λ s. startsAt t s ≡ false) (λ s h. ne-eqb t (s .start .0) (λ e. omega (arith, h .0))) w a)
+    none-start w le a = none-all (startsAt t) w (all-into (Later now) (λ s. startsAt t s ≡ false)
+        (λ s h. ne-eqb t (s .start .0) (λ e. omega (arith, h .0))) w a)
 
     none-end : (k : List Session) → t ≤ now → All (λ s. now < s .end .0) k → count (endsAt t) k ≡ 0
-    none-end k le a = none-all (endsAt t) k (all-into (λ s. now < s .end .0) (λ s. endsAt t s ≡ false) (λ s h. ne-eqb t (s .end .0) (λ e. omega arith)) k a)
+    none-end k le a = none-all (endsAt t) k (all-into (λ s. now < s .end .0) (λ s. endsAt t s ≡ false)
+        (λ s h. ne-eqb t (s .end .0) (λ e. omega arith)) k a)
 
     go : (b : Bool) → ltb now t ≡ b → now < t
     go true e = ltb-true now t e
-    go false e = let le = ltb-false now t e in absurd (omega (arith, m, none-start (q .waiting) le (h .later), none-end (q .started) le (h .ends)))
+    go false e = let le = ltb-false now t e in absurd (omega (
+      arith,
+      m,
+      none-start (q .waiting) le (h .later),
+      none-end (q .started) le (h .ends),
+    ))
 
 -- ## The start of a request that is accepted
 
 pub ends-held : (now : ℕ) (q : Queue) → OnTime now q → Each (λ s. now < s .end .0) q
-ends-held now q h = record { waiting = all-into (Later now) (λ s. now < s .end .0) (λ s i. omega (arith, i .0, i .1)) (q .waiting) (h .later); started = h .ends }
+ends-held now q h = record {
+  waiting = all-into (Later now) (λ s. now < s .end .0) (λ s i. omega (arith, i .0, i .1)) (q .waiting)
+      (h .later);
+  started = h .ends;
+}
 
 -- the number that a request names is held: what all held ones' ends pass, its end passes
 pub endOf-held : (P : ℕ → Type 0) (c p : ℕ) (q : Queue) → holds c p q ≡ true → Each (λ s. P (s .end .0)) q → P (endOf c p (held q))
 endOf-held P c p q e a =
-    all-getD (λ s. P (s .end .0)) (held q) (place (is c p) (held q)) empty (ltb-true _ _ (sym (some-place (is c p) (held q)) ∙ e)) (all-held (λ s. P (s .end .0)) q a)
+    all-getD (λ s. P (s .end .0)) (held q) (place (is c p) (held q)) empty (ltb-true _ _ (sym (some-place (is c p) (held q)) ∙ e))
+    (all-held (λ s. P (s .end .0)) q a)
 
 start-after : (now c : ℕ) (f : Start) (q : Queue) → OnTime now q → unknownPrior c f q ≡ false → tooLate now f ≡ false → now < startOf c f q
 unfolding unknownPrior tooLate startOf
@@ -173,8 +215,10 @@ accept-timed s c r a h =
     let p = a .passed in
     let u = evicted t q .queue .waiting in
     record {
-      sorted = sorted-inserted new u (e .sorted) (all-into (λ v. startsAt t v ≡ false) (λ v. t ≡ v .start .0 → ⊥) (λ v i. eqb-false t (v .start .0) i) u (all-none (startsAt t) u (evicted-free t q (h .sorted))));
-      later = all-inserted (Later (s .clock)) new u (start-after (s .clock) c (r .start) q h (p .prior) (p .soon), omega (arith, g .lasts)) (e .later);
+      sorted = sorted-inserted new u (e .sorted) (all-into (λ v. startsAt t v ≡ false) (λ v. t ≡ v .start .0 → ⊥)
+          (λ v i. eqb-false t (v .start .0) i) u (all-none (startsAt t) u (evicted-free t q (h .sorted))));
+      later = all-inserted (Later (s .clock)) new u (start-after (s .clock) c (r .start) q h (p .prior) (p .soon), omega (arith, g .lasts))
+          (e .later);
       ends = e .ends;
     }
 

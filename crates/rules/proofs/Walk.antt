@@ -35,7 +35,8 @@ nobody-goes c x w = record { counts = λ p. omega arith; lengths = omega arith; 
 pub walked : (n c x : ℕ) (w : List Session) → Walked c x w (walk n c x w)
 unfolding walk
 walked zero c x w = nobody-goes c x w
-walked (suc n) c x w = by (Walked c x w) (ltb i (length w)) _ _ (λ e. more (ltb-true i (length w) e) (walked n c (s .id) (removeAt i w))) (λ e. nobody-goes c x w)
+walked (suc n) c x w = by (Walked c x w) (ltb i (length w)) _ _ (λ e. more (ltb-true i (length w) e) (walked n c (s .id) (removeAt i w)))
+    (λ e. nobody-goes c x w)
   where
     i : ℕ
     i = place (follows c x) w
@@ -63,7 +64,8 @@ walk-gone P (suc n) c x w a =
     let i = place (follows c x) w in
     let s = getD w i empty in
     by (λ (r : Walk). All P (r .gone)) (ltb i (length w)) _ _
-    (λ e. (all-getD P w i empty (ltb-true i (length w) e) a, walk-gone P n c (s .id) (removeAt i w) (fewer-all P (fewer-removeAt i w) a))) (λ e. tt)
+    (λ e. (all-getD P w i empty (ltb-true i (length w) e) a, walk-gone P n c (s .id) (removeAt i w) (fewer-all P (fewer-removeAt i w) a)))
+    (λ e. tt)
 
 module _ (c x : ℕ) (w : List Session) where
   pub followed : Walked c x w (followers c x w)
@@ -91,4 +93,5 @@ module _ (c x : ℕ) (w : List Session) where
         left = followers c (getD w i empty .id) (removeAt i w) .left;
       }
   unfolding followers walk
-  walk-more i e h = rw (e, ← (length-removeAt (place (follows c x) w) w (omega arith))) (rw (lt-ltb (place (follows c x) w) (length w) (omega arith)))
+  walk-more i e h = rw (e, ← (length-removeAt (place (follows c x) w) w (omega arith)))
+      (rw (lt-ltb (place (follows c x) w) (length w) (omega arith)))

@@ -16,8 +16,10 @@ use Rattle.rules.specs.Units.{timeOf, fromMicros, fromTicks, toMicros}
 use Rattle.rules.specs.Lists.{some, count, place, insertAt}
 use Rattle.rules.specs.Bytes.{sameName}
 use Rattle.rules.specs.Reading.{nobody, averageMux, initRequest, channelName, hardwareIn, isRead, read}
-use Rattle.rules.specs.State.{Queue, Splicer, empty, of, sameNumber, is, startsAt, startsAfter, held, holds, linkOf, isInitialised, hardwareOf, withQueue, withLink, withHardware, withWaiting, unused, isKept, recent}
-use Rattle.rules.specs.Records.{Record, General, InitResponse, AliveResponse, SpliceResponse, AbortResponse, ConfigResponse, ExtendedFound, ExtendedNone}
+use Rattle.rules.specs.State.{Queue, Splicer, empty, of, sameNumber, is, startsAt, startsAfter, held, holds, linkOf, isInitialised}
+use Rattle.rules.specs.State.{hardwareOf, withQueue, withLink, withHardware, withWaiting, unused, isKept, recent}
+use Rattle.rules.specs.Records.{Record, General, InitResponse, AliveResponse, SpliceResponse, AbortResponse, ConfigResponse}
+use Rattle.rules.specs.Records.{ExtendedFound, ExtendedNone}
 use Rattle.rules.specs.Ends.{Turn, andThen, writes, evicted, aborted}
 use Rattle.rules.specs.Instants.{outranks}
 
@@ -104,7 +106,8 @@ answerAbort c x q =
 abbrev pub isPast : ℕ → ℕ → Past → Bool
 isPast c x e = isKept e && sameNumber c x (e .conn) (e .id)
 
--- "the asking connection's latest ended session of that number": the first such of l, which has the newest first, or what stands where none is
+-- "the asking connection's latest ended session of that number": the first such of l, which has the newest first, or what stands where none
+-- is
 unfoldable pub latest : ℕ → ℕ → List Past → Past
 latest c x l = getD l (place (isPast c x) l) unused
 

@@ -16,7 +16,8 @@ use Rattle.rules.specs.State.{isInitialised}
 use Rattle.rules.specs.Records.{Record, General, CueRequest}
 use Rattle.rules.specs.Crc.{rightCrc}
 
--- ## The section: table_id 0, section_length the low 12 bits at 1, encrypted_packet the highest bit of 4, pts_adjustment the low 33 bits at 4,
+-- ## The section: table_id 0, section_length the low 12 bits at 1, encrypted_packet the highest bit of 4, pts_adjustment the low 33 bits at
+-- 4,
 -- splice_command_length the low 12 bits at 11, splice_command_type 13, the command from 14 on
 
 abbrev pub sectionLength : List ℕ → ℕ

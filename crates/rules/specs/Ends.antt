@@ -86,7 +86,8 @@ walk (suc n) c x w =
 unfoldable pub followers : ℕ → ℕ → List Session → Walk
 followers c x w = walk (length w) c x w
 
--- "Followers' ends are Splice_Response 109, or 116 after an abort or close, in order of start." 02: 125 after an end by an equal one's start
+-- "Followers' ends are Splice_Response 109, or 116 after an abort or close, in order of start." 02: 125 after an end by an equal one's
+-- start
 unfoldable pub dismissed : (result conn id : ℕ) → Queue → Turn
 dismissed r c x q =
     let f = followers c x (q .waiting) in

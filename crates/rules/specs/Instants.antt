@@ -45,7 +45,8 @@ ousted s q =
     (andThen (ending (oneEnd (Complete 125) air) (withStarted (removeAt 0 (q .started)) q)) (dismissed 125 (air .conn) (air .id)))
     (quiet q)
 
--- s, which no longer waits, goes on air (an equal one on air ends, "all before the new start's record"; a lower one becomes covered), or fails
+-- s, which no longer waits, goes on air (an equal one on air ends, "all before the new start's record"; a lower one becomes covered), or
+-- fails
 unfoldable pub launched : Session → Queue → Turn
 launched s q =
     cond (mayStart s (q .started))

@@ -49,7 +49,8 @@ endDescriptor event ended played =
 -- Init_Response 0x0002: Revision_Num 2 bytes (value 2), configured ChannelName 32. Alive_Response 0x0006: State 4, SessionID 4, time 8.
 -- Splice_Response 0x0008, Abort_Response 0x000F: SessionID 4. General_Response 0x0000: no data.
 -- SpliceComplete_Response 0x0009: SessionID 4, SpliceTypeFlag 1, Bitrate 4 (always 0 here), PlayedDuration 4.
--- 02, CR 8: ExtendedData_Response 0x0004: SessionID 4 (000, Table 7-13) and the descriptor; "121 with the SessionID alone where none is kept".
+-- 02, CR 8: ExtendedData_Response 0x0004: SessionID 4 (000, Table 7-13) and the descriptor; "121 with the SessionID alone where none is
+-- kept".
 -- 02, CR 6: GetConfig_Response 0x000B (000, 7.13): "ChannelName, the Hardware_Config of their Init_Request and the output channel's program
 -- map section"
 unfoldable pub recordBytes : Record → List ℕ

@@ -11,7 +11,8 @@ use Rattle.rules.specs.Lists.{All, some, count}
 use Rattle.rules.specs.Bytes.{Byte, NoZero}
 use Rattle.rules.specs.Reading.{nobody, lengthIn, longestHardware}
 use Rattle.rules.specs.State.{Queue, Splicer, of, is, Sorted, noHardware, linkOf, isOpen, isInitialised, hardwareOf, mostKept, Lately}
-use Rattle.rules.specs.Records.{Record, General, InitResponse, AliveResponse, SpliceResponse, SpliceComplete, AbortResponse, CueRequest, ExtendedFound, ExtendedNone, ConfigResponse, resultOf}
+use Rattle.rules.specs.Records.{Record, General, InitResponse, AliveResponse, SpliceResponse, SpliceComplete, AbortResponse}
+use Rattle.rules.specs.Records.{CueRequest, ExtendedFound, ExtendedNone, ConfigResponse, resultOf}
 use Rattle.rules.specs.Answers.{waits, raisedSum}
 use Rattle.rules.specs.Calls.{fresh, Call, opens, closes, messages, ticks, moves, cues, after}
 
@@ -140,7 +141,8 @@ pub record Sound (s : Splicer) : Type 0 where
 
 -- ## "A splicer is what fresh and the calls since have given; a call may rely on that and on nothing else."
 
--- a call whose bytes, those of lent sections too, are bytes and whose Seconds are four of them, or whose time in ninths is below all that those have
+-- a call whose bytes, those of lent sections too, are bytes and whose Seconds are four of them, or whose time in ninths is below all that
+-- those have
 abbrev pub Wired : Call → Type 0
 Wired (opens c) = Unit {0}
 Wired (closes c room) = Unit {0}

@@ -12,7 +12,8 @@ use lib.Dec.{leb, ltb}
 use lib.ListN.{length, getD, take, drop, replicate, length-append, length-take, length-drop}
 use lib.Seq.{drop-drop, getD-drop, append-snoc, length-take-le}
 use Rattle.rules.specs.Bytes.{bytes, written}
-use Rattle.rules.specs.Reading.{Stream, streamLength, streamAt, badStream, highestPid, unknownSize, Listed, listed, unlisted, streamsIn, pcrPid, pidCount, mostStreams, separateIn, streamBytes, streamsBytes, separateBytes}
+use Rattle.rules.specs.Reading.{Stream, streamLength, streamAt, badStream, highestPid, unknownSize, Listed, listed, unlisted, streamsIn}
+use Rattle.rules.specs.Reading.{pcrPid, pidCount, mostStreams, separateIn, streamBytes, streamsBytes, separateBytes}
 use Rattle.rules.proofs.Tests.{or-none}
 use Rattle.rules.proofs.Written.{written-next, written-none}
 use Rattle.rules.proofs.Streams.{Stepped, streams-step, streams-none, GoodStream, good-stream, length-kept, streams-count, separate-step}
@@ -22,7 +23,9 @@ use Rattle.reading.specs.declared.structures.Streams.the-variants.{End, Bad}
 use Rattle.reading.specs.Structures.{from}
 use Rattle.reading.proofs.Laws.{behind}
 use Rattle.reading.proofs.Steps.{On, on-good, Found}
-use Rattle.streams.specs.Rows.{rowOf, rowsOf, keptOf, rowStream, listIn, badRow, badRows, rowsSize, judged, wordsOf, taken, wordsFor, wordsAfter, keptAfter, badList, bytesOf, putSize, outAfter, ReadsList, WritesList, Filled, Puttable, Writing}
+use Rattle.streams.specs.Rows.{rowOf, rowsOf, keptOf, rowStream, listIn, badRow, badRows, rowsSize, judged, wordsOf, taken, wordsFor}
+use Rattle.streams.specs.Rows.{wordsAfter, keptAfter, badList, bytesOf, putSize, outAfter, ReadsList, WritesList, Filled, Puttable}
+use Rattle.streams.specs.Rows.{Writing}
 
 -- ## Structures into rows
 
@@ -67,10 +70,25 @@ pub record Filling (n i at to : ℕ) (p words kept words′ kept′ : List ℕ) 
   pub to-is : to ≡ length (keptOf done)
   pub small : to ≤ 234 * i
 
-pub fill-begins : (n : ℕ) (p words kept : List ℕ) (l : List Stream) (r : List ℕ) → streamsIn n p ≡ listed l r → Filling n 0 0 0 p words kept words kept
+pub fill-begins : (n : ℕ) (p words kept : List ℕ) (l : List Stream) (r : List ℕ) → streamsIn n p ≡ listed l r
+    → Filling n 0 0 0 p words kept words kept
 unfolding rowsOf keptOf
 fill-begins n p words kept l r e =
-    record { done = []; more = l; rest = r; left = n; count = omega arith; filled = refl; all = e; next = e; rows = sym (written-none words 2); bytes = sym (written-none kept 0); to-is = refl; small = omega arith }
+    record {
+      done = [];
+      more = l;
+      rest = r;
+      left = n;
+      count = omega arith;
+      filled = refl;
+      all = e;
+      next = e;
+      rows =
+          sym (written-none words 2);
+      bytes = sym (written-none kept 0);
+      to-is = refl;
+      small = omega arith;
+    }
 
 module _ {n i at to : ℕ} {p words kept w k : List ℕ} (f : Filling n i at to p words kept w k) where
   -- all are in place
@@ -122,17 +140,22 @@ module _ {n i at to : ℕ} {p words kept w k : List ℕ} (f : Filling n i at to 
           left = f .left - 1;
           count = omega (arith, f .count);
           filled = length-append (f .done) (one t) ∙ omega (arith, f .filled);
-          all = f .all ∙ ap (λ x. listed x (f .rest)) (ap (λ x. f .done ++ x) (stepped .is) ∙ sym (append-snoc (f .done) t (stepped .more)));
-          next = ap (streamsIn (f .left - 1)) (ap (λ j. drop (at + j) p) (sym size) ∙ sym (drop-drop (streamLength q) at p)) ∙ stepped .rest;
+          all = f .all ∙ ap (λ x. listed x (f .rest))
+              (ap (λ x. f .done ++ x) (stepped .is) ∙ sym (append-snoc (f .done) t (stepped .more)));
+          next = ap (streamsIn (f .left - 1)) (ap (λ j. drop (at + j) p) (sym size) ∙ sym (drop-drop (streamLength q) at p))
+              ∙ stepped .rest;
           rows =
-              written-next words 2 (rowsOf (f .done)) (rowOf t) w ys (2 + i * 8) (f .rows) (omega (arith, rows, f .filled)) (omega (arith, few))
+              written-next words 2 (rowsOf (f .done)) (rowOf t) w ys (2 + i * 8) (f .rows) (omega (arith, rows, f .filled))
+              (omega (arith, few))
               (y ∙ ap (λ x. written (midOf (2 + i * 8) (length w - (2 + i * 8)) w) 0 (rowOf (streamAt x))) (behind at p))
               ∙ ap (written words 2) (rows-one (f .done) t);
           bytes =
-              written-next kept 0 (keptOf (f .done)) (t .kept) k zs to (f .bytes) (omega (arith, f .to-is)) (omega (arith, has, size, f .small, few))
+              written-next kept 0 (keptOf (f .done)) (t .kept) k zs to (f .bytes) (omega (arith, f .to-is))
+              (omega (arith, has, size, f .small, few))
               (z ∙ ap (written (midOf to (length k - to) k) 0) keeps)
               ∙ ap (written kept 0) (kept-one (f .done) t);
-          to-is = ap₂ _+_ (f .to-is) (n-kept ∙ sym has) ∙ sym (length-append (keptOf (f .done)) (t .kept)) ∙ ap length (kept-one (f .done) t);
+          to-is = ap₂ _+_ (f .to-is) (n-kept ∙ sym has) ∙ sym (length-append (keptOf (f .done)) (t .kept))
+              ∙ ap length (kept-one (f .done) t);
           small = omega (arith, f .small, on .grows);
         }
 
@@ -182,11 +205,13 @@ pub record Sizing (n i size : ℕ) (words : List ℕ) : Type 0 where
 pub sizing-begins : (n : ℕ) (words : List ℕ) → Sizing n 0 0 words
 sizing-begins n words = record { left = n; count = omega arith; small = omega arith; is = sym (from-none (judged n (drop 2 words))) }
 
-judged-good : (m a : ℕ) (words : List ℕ) → badRow (drop a words) ≡ false → judged (suc m) (drop a words) ≡ from (21 + getD words (a + 7) 0) (judged m (drop (a + 8) words))
+judged-good : (m a : ℕ) (words : List ℕ) → badRow (drop a words) ≡ false
+    → judged (suc m) (drop a words) ≡ from (21 + getD words (a + 7) 0) (judged m (drop (a + 8) words))
 unfolding judged badRows rowsSize from
 judged-good m a words e = rw (e, getD-drop a words 7 0, drop-drop 8 a words) (go (badRows m (drop (a + 8) words)))
   where
-    go : (b : Bool) → cond b Bad (End (21 + getD words (a + 7) 0 + rowsSize m (drop (a + 8) words))) ≡ from (21 + getD words (a + 7) 0) (cond b Bad (End (rowsSize m (drop (a + 8) words))))
+    go : (b : Bool) → cond b Bad (End (21 + getD words (a + 7) 0 + rowsSize m (drop (a + 8) words)))
+        ≡ from (21 + getD words (a + 7) 0) (cond b Bad (End (rowsSize m (drop (a + 8) words))))
     go true = refl
     go false = refl
 
@@ -214,7 +239,8 @@ module _ {n i size : ℕ} {words : List ℕ} (f : Sizing n i size words) where
         sym (f .is ∙ ap (λ j. from size (judged j (drop (2 + i * 8) words))) back
         ∙ ap (from size) (judged-bad m (2 + i * 8) words (ap badRow (sym (behind (2 + i * 8) words)) ∙ e)))
 
-    pub sizing-more : badRow (midOf (2 + i * 8) (length words - (2 + i * 8)) words) ≡ false → Sizing n (i + 1) (size + (21 + getD words (2 + i * 8 + 7) 0)) words
+    pub sizing-more : badRow (midOf (2 + i * 8) (length words - (2 + i * 8)) words) ≡ false
+        → Sizing n (i + 1) (size + (21 + getD words (2 + i * 8 + 7) 0)) words
     sizing-more e =
         let b = ap badRow (sym (behind (2 + i * 8) words)) ∙ e in
         let g = good-row (drop (2 + i * 8) words) b in
@@ -236,7 +262,8 @@ module _ {n i size : ℕ} {words : List ℕ} (f : Sizing n i size words) where
 streams-append : (l m : List Stream) → streamsBytes (l ++ m) ≡ streamsBytes l ++ streamsBytes m
 unfolding streamsBytes
 streams-append [] m = refl
-streams-append (s ∷ l) m = ap (λ x. streamBytes s ++ x) (streams-append l m) ∙ sym (append-assoc (streamBytes s) (streamsBytes l) (streamsBytes m))
+streams-append (s ∷ l) m = ap (λ x. streamBytes s ++ x) (streams-append l m)
+    ∙ sym (append-assoc (streamBytes s) (streamsBytes l) (streamsBytes m))
 
 streams-one : (l : List Stream) (s : Stream) → streamsBytes l ++ streamBytes s ≡ streamsBytes (l ++ one s)
 unfolding streamsBytes
@@ -260,8 +287,10 @@ row-is w k h =
     let none : getD w 7 0 - 0 ≡ getD w 7 0 = omega arith in
     let kept : midOf 0 (getD w 7 0 - 0) k ≡ take (getD w 7 0) k = ap (λ j. take j k) none in
     let long : getD w 7 0 ≡ length (take (getD w 7 0) k) = sym (length-take-le (getD w 7 0) k h) in
-    row-parts (21 + getD w 7 0) (getD w 0 0) (getD w 1 0) (getD w 2 0) (getD w 3 0) (getD w 4 0) (getD w 5 0) (getD w 6 0) (midOf 0 (getD w 7 0 - 0) k)
-    ∙ ap₂ (λ n z. bytes 1 (21 + n) ++ bytes 2 (getD w 0 0) ++ bytes 2 (getD w 1 0) ++ bytes 4 (getD w 2 0) ++ bytes 4 (getD w 3 0) ++ bytes 4 (getD w 4 0) ++ bytes 2 (getD w 5 0) ++ bytes 2 (getD w 6 0) ++ z) long kept
+    row-parts (21 + getD w 7 0) (getD w 0 0) (getD w 1 0) (getD w 2 0) (getD w 3 0) (getD w 4 0) (getD w 5 0) (getD w 6 0)
+    (midOf 0 (getD w 7 0 - 0) k)
+    ∙ ap₂ (λ n z. bytes 1 (21 + n) ++ bytes 2 (getD w 0 0) ++ bytes 2 (getD w 1 0) ++ bytes 4 (getD w 2 0) ++ bytes 4 (getD w 3 0)
+    ++ bytes 4 (getD w 4 0) ++ bytes 2 (getD w 5 0) ++ bytes 2 (getD w 6 0) ++ z) long kept
 
 pub length-structure : (s : Stream) → length (streamBytes s) ≡ 21 + length (s .kept)
 unfolding streamBytes bytes
@@ -282,7 +311,18 @@ pub record Putting (n i at to : ℕ) (words kept out out′ : List ℕ) : Type 0
 pub put-begins : (n : ℕ) (words kept out : List ℕ) → Writing n words kept out → Putting n 0 0 6 words kept out out
 unfolding streamsBytes
 put-begins n words kept out w =
-    record { done = []; left = n; count = omega arith; all = refl; good = w .good; room = w .room; is = sym (written-none out 6); to-is = refl; small = omega arith }
+    record {
+      done = [];
+      left = n;
+      count = omega arith;
+      all = refl;
+      good = w .good;
+      room = w .room;
+      is = sym (written-none out 6);
+      to-is =
+          refl;
+      small = omega arith;
+    }
 
 module _ {n i at to : ℕ} {words kept out o : List ℕ} (f : Putting n i at to words kept out o) where
   pub put-ends : n ≤ i → o ≡ written out 6 (streamsBytes (listIn n (drop 2 words) kept))
@@ -326,7 +366,8 @@ module _ {n i at to : ℕ} {words kept out o : List ℕ} (f : Putting n i at to 
     put-room = omega (arith, f .room, room-is)
 
     -- what `put_row` asks
-    pub put-able : length o ≡ length out → Puttable (midOf (2 + i * 8) (length words - (2 + i * 8)) words) (midOf at (length kept - at) kept) (midOf to (length o - to) o)
+    pub put-able : length o ≡ length out → Puttable (midOf (2 + i * 8) (length words - (2 + i * 8)) words)
+        (midOf at (length kept - at) kept) (midOf to (length o - to) o)
     put-able same =
         rw (behind (2 + i * 8) words, behind at kept, behind to o)
         (record {
@@ -337,16 +378,19 @@ module _ {n i at to : ℕ} {words kept out o : List ℕ} (f : Putting n i at to 
         })
 
     pub put-more : (ys : List ℕ)
-        → ys ≡ written (midOf to (length o - to) o) 0 (streamBytes (rowStream (midOf (2 + i * 8) (length words - (2 + i * 8)) words) (midOf at (length kept - at) kept)))
+        → ys ≡ written (midOf to (length o - to) o) 0 (streamBytes (rowStream (midOf (2 + i * 8) (length words - (2 + i * 8)) words)
+        (midOf at (length kept - at) kept)))
         → Putting n (i + 1) (at + size) (to + (21 + size)) words kept out (putMid to (length o - to) o ys)
     unfolding listIn
     put-more ys y =
         let s = rowStream row (drop at kept) in
-        let has : length (s .kept) ≡ size = ap (λ j. length (take j (drop at kept))) size-is ∙ length-take-le size (drop at kept) (simp length-drop (omega (arith, put-kept))) in
+        let has : length (s .kept) ≡ size = ap (λ j. length (take j (drop at kept))) size-is
+        ∙ length-take-le size (drop at kept) (simp length-drop (omega (arith, put-kept))) in
         let bytes-of = length-structure s in
         let place : 2 + i * 8 + 8 ≡ 2 + (i + 1) * 8 = omega arith in
         let after : drop 8 row ≡ drop (2 + (i + 1) * 8) words = drop-drop 8 (2 + i * 8) words ∙ ap (λ j. drop j words) place in
-        let beyond : drop (getD row 7 0) (drop at kept) ≡ drop (at + size) kept = ap (λ j. drop j (drop at kept)) size-is ∙ drop-drop size at kept in
+        let beyond : drop (getD row 7 0) (drop at kept) ≡ drop (at + size) kept =
+        ap (λ j. drop j (drop at kept)) size-is ∙ drop-drop size at kept in
         record {
           done = f .done ++ one s;
           left = fewer;
@@ -358,10 +402,19 @@ module _ {n i at to : ℕ} {words kept out o : List ℕ} (f : Putting n i at to 
           good = ap (badRows fewer) (sym after) ∙ tests .1;
           room = rw (← after) (omega (arith, f .room, room-is));
           is =
-              written-next out 6 (streamsBytes (f .done)) (streamBytes s) o ys to (f .is) (f .to-is) (omega (arith, put-room, bytes-of, has))
-              (y ∙ ap₂ (λ x z. written (midOf to (length o - to) o) 0 (streamBytes (rowStream x z))) (behind (2 + i * 8) words) (behind at kept))
+              written-next out 6 (streamsBytes (f .done)) (streamBytes s) o ys to (f .is) (f .to-is)
+              (omega (arith, put-room, bytes-of, has))
+              (y ∙ ap₂ (λ x z. written (midOf to (length o - to) o) 0 (streamBytes (rowStream x z))) (behind (2 + i * 8) words)
+              (behind at kept))
               ∙ ap (written out 6) (streams-one (f .done) s);
-          to-is = omega (arith, f .to-is, bytes-of, has, ap length (streams-one (f .done) s), length-append (streamsBytes (f .done)) (streamBytes s));
+          to-is = omega (
+            arith,
+            f .to-is,
+            bytes-of,
+            has,
+            ap length (streams-one (f .done) s),
+            length-append (streamsBytes (f .done)) (streamBytes s),
+          );
           small = omega (arith, f .small, put-small);
         }
 
@@ -402,7 +455,8 @@ pub judged-end : (n : ℕ) (w : List ℕ) {size : ℕ} → judged n w ≡ End si
 unfolding judged
 judged-end n w {size} = go (badRows n w) refl
   where
-    go : (b : Bool) → badRows n w ≡ b → cond b Bad (End (rowsSize n w)) ≡ End size → (badRows n w ≡ false) × (size ≡ rowsSize n w) × (size ≤ 255 * n)
+    go : (b : Bool) → badRows n w ≡ b → cond b Bad (End (rowsSize n w)) ≡ End size
+        → (badRows n w ≡ false) × (size ≡ rowsSize n w) × (size ≤ 255 * n)
     go true e f = let z : _≡_ {A = ℕ} 0 1 = cc in absurd (omega arith)
     go false e f = let k : size ≡ rowsSize n w = cc in (e, k, omega (arith, rows-small n w e))
 
@@ -430,16 +484,19 @@ list-size (suc n) w k e h =
     let i = list-size n (drop 8 w) (drop (getD w 7 0) k) (t .1) (simp length-drop (omega (arith, g .kept))) in
     length-append (streamBytes (rowStream w k)) (streamsBytes (listIn n (drop 8 w) (drop (getD w 7 0) k))) ∙ omega arith
 
-pub bytes-are : (words kept : List ℕ) → bytes 2 (getD words 1 0) ++ bytes 4 (getD words 0 0) ++ streamsBytes (listIn (getD words 0 0) (drop 2 words) kept) ≡ bytesOf words kept
+pub bytes-are : (words kept : List ℕ) → bytes 2 (getD words 1 0) ++ bytes 4 (getD words 0 0)
+    ++ streamsBytes (listIn (getD words 0 0) (drop 2 words) kept) ≡ bytesOf words kept
 unfolding bytesOf separateBytes
 bytes-are words kept =
-    ap (λ j. bytes 2 (getD words 1 0) ++ bytes 4 j ++ streamsBytes (listIn (getD words 0 0) (drop 2 words) kept)) (sym (list-count (getD words 0 0) (drop 2 words) kept))
+    ap (λ j. bytes 2 (getD words 1 0) ++ bytes 4 j ++ streamsBytes (listIn (getD words 0 0) (drop 2 words) kept))
+    (sym (list-count (getD words 0 0) (drop 2 words) kept))
 
 pub write-none : (words kept out : List ℕ) → badList words ≡ true → WritesList words kept out 0 out
 unfolding putSize outAfter
 write-none words kept out e = record { size = rw e; bytes = rw e }
 
-module _ (words kept out : List ℕ) {size : ℕ} (few : getD words 0 0 ≤ mostStreams) (long : 3744 ≤ length kept) (j : judged (getD words 0 0) (drop 2 words) ≡ End size) where
+module _ (words kept out : List ℕ) {size : ℕ} (few : getD words 0 0 ≤ mostStreams) (long : 3744 ≤ length kept)
+    (j : judged (getD words 0 0) (drop 2 words) ≡ End size) where
   size-of-bytes : length (bytesOf words kept) ≡ 6 + size
   size-of-bytes =
       let z = judged-end (getD words 0 0) (drop 2 words) j in
@@ -448,9 +505,11 @@ module _ (words kept out : List ℕ) {size : ℕ} (few : getD words 0 0 ≤ most
 
   pub write-short : length out < 6 + size → WritesList words kept out 0 out
   unfolding putSize outAfter
-  write-short h = let e = lt-ltb (length out) (length (bytesOf words kept)) (omega (arith, size-of-bytes)) in record { size = rw e (simp or-true); bytes = rw e (simp or-true) }
+  write-short h = let e = lt-ltb (length out) (length (bytesOf words kept)) (omega (arith, size-of-bytes)) in
+      record { size = rw e (simp or-true); bytes = rw e (simp or-true) }
 
-  pub write-done : getD words 1 0 ≤ highestPid → 6 + size ≤ length out → {out′ : List ℕ} → out′ ≡ written out 0 (bytesOf words kept) → WritesList words kept out (6 + size) out′
+  pub write-done : getD words 1 0 ≤ highestPid → 6 + size ≤ length out → {out′ : List ℕ} → out′ ≡ written out 0 (bytesOf words kept)
+      → WritesList words kept out (6 + size) out′
   unfolding putSize outAfter
   write-done low h w =
       let z = judged-end (getD words 0 0) (drop 2 words) j in

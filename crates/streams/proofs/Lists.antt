@@ -12,22 +12,26 @@ use lib.ListN.{length, getD, take, drop, replicate, length-append, length-take, 
 use lib.Seq.{take-add, take-at, drop-at, length-take-le}
 use Rattle.rules.specs.Lists.{All}
 use Rattle.rules.specs.Bytes.{Byte, written}
-use Rattle.rules.specs.Reading.{Stream, highestPid, unknownSize, listed, pcrPid, mostStreams, pidCount, Listed, unlisted, separateIn, Writable, streamBytes, streamsBytes, separateBytes}
+use Rattle.rules.specs.Reading.{Stream, highestPid, unknownSize, listed, pcrPid, mostStreams, pidCount, Listed, unlisted, separateIn}
+use Rattle.rules.specs.Reading.{Writable, streamBytes, streamsBytes, separateBytes}
 use Rattle.rules.proofs.Tests.{or-none}
 use Rattle.rules.proofs.All.{all-drop}
 use Rattle.rules.proofs.Bytes.{length-bytes}
 use Rattle.rules.proofs.Streams.{streams-count, streams-writable, separate-step, separate-read-back, separate-write-back, pcr-read-back}
 use Rattle.reading.specs.Structures.{sizesOf}
 use Rattle.streams.proofs.Laws.{good-row, length-structure}
-use Rattle.streams.specs.Rows.{rowOf, rowsOf, keptOf, wordsOf, taken, wordsFor, wordsAfter, keptAfter, rowStream, listIn, badRow, badRows, badList, bytesOf, putSize, outAfter, ReadsList, WritesList}
+use Rattle.streams.specs.Rows.{rowOf, rowsOf, keptOf, wordsOf, taken, wordsFor, wordsAfter, keptAfter, rowStream, listIn, badRow}
+use Rattle.streams.specs.Rows.{badRows, badList, bytesOf, putSize, outAfter, ReadsList, WritesList}
 
 -- ## Determined
 
 -- any two results that the promise allows are equal, what is lent included
-pub read-same : (p words kept : List ℕ) {r s : ℕ} {w x k l : List ℕ} → ReadsList p words kept r w k → ReadsList p words kept s x l → (r ≡ s) × (w ≡ x) × (k ≡ l)
+pub read-same : (p words kept : List ℕ) {r s : ℕ} {w x k l : List ℕ} → ReadsList p words kept r w k → ReadsList p words kept s x l
+    → (r ≡ s) × (w ≡ x) × (k ≡ l)
 read-same p words kept a b = (a .size ∙ sym (b .size), a .list ∙ sym (b .list), a .bytes ∙ sym (b .bytes))
 
-pub write-same : (words kept out : List ℕ) {r s : ℕ} {o p : List ℕ} → WritesList words kept out r o → WritesList words kept out s p → (r ≡ s) × (o ≡ p)
+pub write-same : (words kept out : List ℕ) {r s : ℕ} {o p : List ℕ} → WritesList words kept out r o → WritesList words kept out s p
+    → (r ≡ s) × (o ≡ p)
 write-same words kept out a b = (a .size ∙ sym (b .size), a .bytes ∙ sym (b .bytes))
 
 -- ## What is written is read
@@ -66,14 +70,16 @@ list-count zero w k = refl
 list-count (suc n) w k = ap suc (list-count n (drop 8 w) (drop (getD w 7 0) k))
 
 -- of a list that is good: what its bytes are read as, whatever stands behind them
-pub shown-is-read : (words kept rest : List ℕ) → badList words ≡ false → separateIn (bytesOf words kept ++ rest) ≡ listed (listIn (getD words 0 0) (drop 2 words) kept) rest
+pub shown-is-read : (words kept rest : List ℕ) → badList words ≡ false
+    → separateIn (bytesOf words kept ++ rest) ≡ listed (listIn (getD words 0 0) (drop 2 words) kept) rest
 unfolding bytesOf
 shown-is-read words kept rest e =
     let a = or-none (ltb mostStreams (getD words 0 0)) _ e in
     let b = or-none (ltb highestPid (getD words 1 0)) _ (a .1) in
     let n = ltb-false mostStreams (getD words 0 0) (a .0) in
     let l = listIn (getD words 0 0) (drop 2 words) kept in
-    separate-read-back (getD words 1 0) l rest (ltb-false highestPid (getD words 1 0) (b .0)) (omega (arith, list-count (getD words 0 0) (drop 2 words) kept)) (list-writable (getD words 0 0) (drop 2 words) kept (b .1))
+    separate-read-back (getD words 1 0) l rest (ltb-false highestPid (getD words 1 0) (b .0))
+    (omega (arith, list-count (getD words 0 0) (drop 2 words) kept)) (list-writable (getD words 0 0) (drop 2 words) kept (b .1))
 
 -- and its PcrPID
 pub shown-pcr : (words kept rest : List ℕ) → badList words ≡ false → pcrPid (bytesOf words kept ++ rest) ≡ getD words 1 0
@@ -98,7 +104,8 @@ eight (a ∷ b ∷ c ∷ d ∷ e ∷ f ∷ g ∷ k ∷ w) h = refl
 
 row-back : (w k : List ℕ) → 8 ≤ length w → getD w 7 0 ≤ length k → rowOf (rowStream w k) ≡ take 8 w
 row-back w k h n =
-    ap (λ j. getD w 0 0 ∷ getD w 1 0 ∷ getD w 2 0 ∷ getD w 3 0 ∷ getD w 4 0 ∷ getD w 5 0 ∷ getD w 6 0 ∷ j ∷ []) (length-take-le (getD w 7 0) k n) ∙ eight w h
+    ap (λ j. getD w 0 0 ∷ getD w 1 0 ∷ getD w 2 0 ∷ getD w 3 0 ∷ getD w 4 0 ∷ getD w 5 0 ∷ getD w 6 0 ∷ j ∷ [])
+    (length-take-le (getD w 7 0) k n) ∙ eight w h
 
 -- how many bytes n rows keep
 unfoldable pub keptSize : ℕ → List ℕ → ℕ
@@ -112,7 +119,8 @@ rows-back zero w k e h m = refl
 rows-back (suc n) w k e h m =
     let t = or-none (badRow w) (badRows n (drop 8 w)) e in
     let g = good-row w (t .0) in
-    let i = rows-back n (drop 8 w) (drop (getD w 7 0) k) (t .1) (simp length-drop (omega arith)) (simp length-drop (omega (arith, g .kept))) in
+    let i = rows-back n (drop 8 w) (drop (getD w 7 0) k) (t .1) (simp length-drop (omega arith)) (simp length-drop (omega (arith, g .kept)))
+    in
     let j : 8 + n * 8 ≡ suc n * 8 = omega arith in
     ap₂ _++_ (row-back w k (omega arith) (omega (arith, g .kept))) i ∙ sym (take-add 8 (n * 8) w) ∙ ap (λ x. take x w) j
 
@@ -120,7 +128,8 @@ kept-back : (n : ℕ) (w k : List ℕ) → keptOf (listIn n w k) ≡ take (keptS
 unfolding listIn keptOf keptSize
 kept-back zero w k = refl
 kept-back (suc n) w k =
-    ap (λ x. take (getD w 7 0) k ++ x) (kept-back n (drop 8 w) (drop (getD w 7 0) k)) ∙ sym (take-add (getD w 7 0) (keptSize n (drop 8 w)) k)
+    ap (λ x. take (getD w 7 0) k ++ x) (kept-back n (drop 8 w) (drop (getD w 7 0) k))
+    ∙ sym (take-add (getD w 7 0) (keptSize n (drop 8 w)) k)
 
 -- ## Both ways
 
@@ -140,7 +149,8 @@ unfolding separateBytes
 separate-size pcr l = simp (length-append, length-bytes) (omega (arith, streams-size l))
 
 -- a list that was written is read: the words come back that were shown, and the kept bytes, and the bytes taken are those written
-pub written-is-read : (words kept out w₀ k₀ : List ℕ) {n t : ℕ} {o w k : List ℕ} → badList words ≡ false → length words ≡ 130 → length kept ≡ 3744
+pub written-is-read : (words kept out w₀ k₀ : List ℕ) {n t : ℕ} {o w k : List ℕ} → badList words ≡ false → length words ≡ 130
+    → length kept ≡ 3744
     → length (bytesOf words kept) ≤ length out → WritesList words kept out n o → ReadsList o w₀ k₀ t w k
     → (w ≡ written (getD words 0 0 ∷ getD words 1 0 ∷ replicate 128 0) 2 (take (getD words 0 0 * 8) (drop 2 words)))
     × (k ≡ written k₀ 0 (take (keptSize (getD words 0 0) (drop 2 words)) kept))
@@ -156,7 +166,8 @@ written-is-read words kept out w₀ k₀ {n = put} {o = o} good wide long room a
     a .bytes ∙ rw (good, le-ltb (length out) (length (bytesOf words kept)) room) (front out (bytesOf words kept)) in
     let found : separateIn o ≡ listed l (drop (length (bytesOf words kept)) out) = ap separateIn is ∙ shown-is-read words kept _ good in
     let pcr : pcrPid o ≡ getD words 1 0 = ap pcrPid is ∙ shown-pcr words kept _ good in
-    let size : put ≡ 6 + sizesOf l = a .size ∙ rw (good, le-ltb (length out) (length (bytesOf words kept)) room) (separate-size (getD words 1 0) l) in (
+    let size : put ≡ 6 + sizesOf l = a .size ∙ rw (good, le-ltb (length out) (length (bytesOf words kept)) room)
+    (separate-size (getD words 1 0) l) in (
       b .list ∙ ap₂ (λ x y. wordsFor x y w₀) pcr found
           ∙ ap₂ (λ x y. written (x ∷ getD words 1 0 ∷ replicate 128 0) 2 y) (list-count n (drop 2 words) kept)
           (rows-back n (drop 2 words) kept rows (simp length-drop (omega arith)) (omega arith)),
@@ -168,14 +179,25 @@ written-is-read words kept out w₀ k₀ {n = put} {o = o} good wide long room a
 stream-shown : (s : Stream) (x y : List ℕ) → rowStream (rowOf s ++ x) (s .kept ++ y) ≡ s
 stream-shown s x y =
     let e : take (length (s .kept)) (s .kept ++ y) ≡ s .kept = take-at (s .kept) y (length (s .kept)) refl in
-    λ i. record { pid = s .pid; streamType = s .streamType; avgBitrate = s .avgBitrate; maxBitrate = s .maxBitrate; minBitrate = s .minBitrate; hResolution = s .hResolution; vResolution = s .vResolution; kept = e i }
+    λ i. record {
+      pid = s .pid;
+      streamType = s .streamType;
+      avgBitrate = s .avgBitrate;
+      maxBitrate = s .maxBitrate;
+      minBitrate =
+          s .minBitrate;
+      hResolution = s .hResolution;
+      vResolution = s .vResolution;
+      kept = e i;
+    }
 
 -- the list whose rows and kept bytes stand in front
 list-shown : (l : List Stream) (x y : List ℕ) → listIn (length l) (rowsOf l ++ x) (keptOf l ++ y) ≡ l
 unfolding listIn rowsOf keptOf
 list-shown [] x y = refl
 list-shown (s ∷ l) x y =
-    ap (λ z. rowStream (rowOf s ++ (rowsOf l ++ x)) z ∷ listIn (length l) (rowsOf l ++ x) (drop (length (s .kept)) z)) (append-assoc (s .kept) (keptOf l) y)
+    ap (λ z. rowStream (rowOf s ++ (rowsOf l ++ x)) z ∷ listIn (length l) (rowsOf l ++ x) (drop (length (s .kept)) z))
+    (append-assoc (s .kept) (keptOf l) y)
     ∙ ap₂ _∷_ (stream-shown s (rowsOf l ++ x) (keptOf l ++ y))
     (ap (listIn (length l) (rowsOf l ++ x)) (drop-at (s .kept) (keptOf l ++ y) (length (s .kept)) refl) ∙ list-shown l x y)
 
@@ -199,7 +221,8 @@ rows-good [] x a = refl
 rows-good (s ∷ l) x a = rw (row-good s (rowsOf l ++ x) (a .0), rows-good l x (a .1)) refl
 
 -- of bytes that are read as a list: the words and kept bytes that are then lent show it
-module _ (p w₀ k₀ : List ℕ) (l : List Stream) (r : List ℕ) {t : ℕ} {w k : List ℕ} (a : All Byte p) (e : separateIn p ≡ listed l r) (b : ReadsList p w₀ k₀ t w k) where
+module _ (p w₀ k₀ : List ℕ) (l : List Stream) (r : List ℕ) {t : ℕ} {w k : List ℕ} (a : All Byte p) (e : separateIn p ≡ listed l r)
+    (b : ReadsList p w₀ k₀ t w k) where
   abbrev behindRows : List ℕ
   behindRows = drop (2 + length (rowsOf l)) (length l ∷ pcrPid p ∷ replicate 128 0)
 
@@ -222,7 +245,12 @@ module _ (p w₀ k₀ : List ℕ) (l : List Stream) (r : List ℕ) {t : ℕ} {w 
       let s = separate-step p l r e in
       let n = streams-count (pidCount p) (drop 6 p) l r (s .streams) in
       let g = streams-writable (pidCount p) (drop 6 p) l r (all-drop Byte 6 p a) (s .streams) in
-      rw (read-words, le-ltb mostStreams (length l) (omega (arith, n, s .few)), le-ltb highestPid (pcrPid p) (s .pcr), rows-good l behindRows g) refl
+      rw (
+        read-words,
+        le-ltb mostStreams (length l) (omega (arith, n, s .few)),
+        le-ltb highestPid (pcrPid p) (s .pcr),
+        rows-good l behindRows g,
+      ) refl
 
   read-put : (out : List ℕ) {n : ℕ} {o : List ℕ} → t ≤ length out → WritesList w k out n o → (n ≡ t) × (o ≡ take t p ++ drop t out)
   unfolding putSize outAfter taken
@@ -237,7 +265,8 @@ module _ (p w₀ k₀ : List ℕ) (l : List Stream) (r : List ℕ) {t : ℕ} {w 
       )
 
 -- a list that was read is written, if the output has room for it: the bytes that were taken, and as many
-pub read-is-written : (p w₀ k₀ out : List ℕ) {t n : ℕ} {w k o : List ℕ} → All Byte p → ReadsList p w₀ k₀ t w k → 0 < t → t ≤ length out → WritesList w k out n o
+pub read-is-written : (p w₀ k₀ out : List ℕ) {t n : ℕ} {w k o : List ℕ} → All Byte p → ReadsList p w₀ k₀ t w k → 0 < t → t ≤ length out
+    → WritesList w k out n o
     → (n ≡ t) × (o ≡ take t p ++ drop t out)
 unfolding taken
 read-is-written p w₀ k₀ out {t} {n} {o = o} a b some room c = go (separateIn p) refl

@@ -9,7 +9,8 @@ use lib.ListN.{length, take, set, getD, length-append}
 use lib.Seq.{length-take-le, take-suc}
 use borrow.Rule.Slice.PartMut.{putMid, midOf}
 use Rattle.rules.specs.Bytes.{bytes, nameIn, padded, written}
-use Rattle.rules.specs.Records.{General, InitResponse, AliveResponse, SpliceComplete, ConfigResponse, ExtendedFound, CueRequest, framed, timeBytes, endDescriptor, recordBytes}
+use Rattle.rules.specs.Records.{General, InitResponse, AliveResponse, SpliceComplete, ConfigResponse, ExtendedFound, CueRequest, framed}
+use Rattle.rules.specs.Records.{timeBytes, endDescriptor, recordBytes}
 use Rattle.rules.proofs.Bytes.{length-bytes}
 use Rattle.rules.proofs.Written.{written-set, written-more, written-next, length-written}
 use Rattle.writing.specs.Header.{headerOf}
@@ -55,7 +56,8 @@ cue-parts c a u l = framed-header c 0x000C (8 + length l) 0xFFFF (bytes 4 a ++ (
 
 -- the tag and the length are one number, and so are the two bytes of the result
 pub end-parts : (event ended played : ℕ) →
-    bytes 2 0x010E ++ bytes 4 0x43415244 ++ bytes 4 event ++ bytes 1 (ended / 256) ++ bytes 1 ended ++ bytes 4 played ≡ endDescriptor event ended played
+    bytes 2 0x010E ++ bytes 4 0x43415244 ++ bytes 4 event ++ bytes 1 (ended / 256) ++ bytes 1 ended ++ bytes 4 played
+    ≡ endDescriptor event ended played
 unfolding bytes
 end-parts event ended played = refl
 
@@ -88,7 +90,8 @@ module _ {e : List ℕ} where
   row-header c id n r p = record { is = p; long = length-header c id n r }
 
   -- the next part m, of k bytes
-  pub row-next : (m : List ℕ) {k : ℕ} → length m ≡ k → {l xs ys : List ℕ} {n : ℕ} → Row e l n xs → ys ≡ written (midOf n (length xs - n) xs) 0 m →
+  pub row-next : (m : List ℕ) {k : ℕ} → length m ≡ k → {l xs ys : List ℕ} {n : ℕ} → Row e l n xs
+      → ys ≡ written (midOf n (length xs - n) xs) 0 m →
       n + k ≤ length e → Row e (l ++ m) (n + k) (putMid n (length xs - n) xs ys)
   row-next m {k} j {l} {xs} {ys} {n} v p h =
       record {
@@ -97,7 +100,8 @@ module _ {e : List ℕ} where
       }
 
   -- a number
-  pub row-bytes : (w x : ℕ) {l xs ys : List ℕ} {n : ℕ} → Row e l n xs → ys ≡ written (midOf n (length xs - n) xs) 0 (bytes w x) → n + w ≤ length e →
+  pub row-bytes : (w x : ℕ) {l xs ys : List ℕ} {n : ℕ} → Row e l n xs → ys ≡ written (midOf n (length xs - n) xs) 0 (bytes w x)
+      → n + w ≤ length e →
       Row e (l ++ bytes w x) (n + w) (putMid n (length xs - n) xs ys)
   row-bytes w x v p h = row-next (bytes w x) (length-bytes w x) v p h
 

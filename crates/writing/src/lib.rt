@@ -9,7 +9,8 @@ ghost use Prim.Native.Nat.{_+_, _≤_};
 ghost use lib.ListN.{length};
 ghost use Rattle.rules.specs.Bytes.{bytes, written, nameIn, padded};
 ghost use Rattle.rules.specs.Records.{framed, timeBytes, endDescriptor};
-ghost use Rattle.rules.specs.Records.{General, InitResponse, AliveResponse, SpliceResponse, SpliceComplete, AbortResponse, ConfigResponse, ExtendedFound, ExtendedNone, CueRequest};
+ghost use Rattle.rules.specs.Records.{General, InitResponse, AliveResponse, SpliceResponse, SpliceComplete, AbortResponse, ConfigResponse};
+ghost use Rattle.rules.specs.Records.{ExtendedFound, ExtendedNone, CueRequest};
 ghost use Rattle.writing.specs.Header.{headerOf, Turned};
 ghost use Rattle.writing.specs.Puts.{Wrote, Puts};
 
@@ -166,7 +167,8 @@ pub fn abort_response(out: &mut [u8], conn: u64, result: u16, id: u64) -> usize
     session_response(out, conn, 0x000F, result, id)
 }
 
-// 02, CR 7: a Cue_Request is no answer, so that its Result is 0xFFFF as Result_Extension is; the time's two numbers, and the section as it came.
+// 02, CR 7: a Cue_Request is no answer, so that its Result is 0xFFFF as Result_Extension is; the time's two numbers, and the section as it
+// came.
 pub fn cue_request(out: &mut [u8], conn: u64, time: WireTime, section: &[u8]) -> usize
     requires { ⌜ length (now section) ≤ 512 ⌝ }
     requires { ⌜ 18 + length (now section) ≤ length (now out) ⌝ }

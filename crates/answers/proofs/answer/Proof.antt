@@ -24,7 +24,8 @@ same-length c = search needs
 
 returns-2 : tie.Need-returns-2
 returns-2 c =
-    let s = c .before .before .before .before .before .before .before .before .before .before .before .before .before .before in
+    let c8 = c .before .before .before .before .before .before .before .before in
+    let s = c8 .before .before .before .before .before .before in
     let if1 = c .before .before .before .before .before .before .before .before .before .if1 in
     let link = c .before .before .before .before .before .before .link in
     let is-barred = c .before .before .before .before .before .is-barred in
@@ -35,7 +36,8 @@ returns-2 c =
 
 returns-3 : tie.Need-returns-3
 returns-3 c =
-    let s = c .before .before .before .before .before .before .before .before .before .before .before in
+    let c8 = c .before .before .before .before .before .before .before .before in
+    let s = c8 .before .before .before in
     let if1 = c .before .before .before .before .before .before .if1 in
     let link = c .before .before .before .link in
     let is-barred = c .before .before .is-barred in
@@ -55,8 +57,10 @@ same-length-2 c = search needs
 
 returns-4 : tie.Need-returns-4
 returns-4 c =
-    let s = c .before .before .before .before .before .before .before .before .before .before .before .before .before .before .before .before .before in
-    let if1 = c .before .before .before .before .before .before .before .before .before .before .before .before .if1 in
+    let c8 = c .before .before .before .before .before .before .before .before in
+    let c16 = c8 .before .before .before .before .before .before .before .before in
+    let s = c16 .before in
+    let if1 = c8 .before .before .before .before .if1 in
     let link = c .before .before .before .before .before .before .before .before .before .link in
     let is-barred = c .before .before .before .before .before .before .before .before .is-barred in
     let if2 = c .before .before .before .before .before .before .before .if2 in
@@ -78,12 +82,14 @@ same-length-4 c = search needs
 
 returns-5 : tie.Need-returns-5
 returns-5 c =
-    let s = c .before .before .before .before .before .before .before .before .before .before .before .before .before .before .before .before .before .before .before .before .before in
-    let if1 = c .before .before .before .before .before .before .before .before .before .before .before .before .before .before .before .before .if1 in
-    let link = c .before .before .before .before .before .before .before .before .before .before .before .before .before .link in
-    let is-barred = c .before .before .before .before .before .before .before .before .before .before .before .before .is-barred in
-    let if2 = c .before .before .before .before .before .before .before .before .before .before .before .if2 in
-    let if3 = c .before .before .before .before .before .before .before .before .before .before .if3 in
+    let c8 = c .before .before .before .before .before .before .before .before in
+    let c16 = c8 .before .before .before .before .before .before .before .before in
+    let s = c16 .before .before .before .before .before in
+    let if1 = c16 .if1 in
+    let link = c8 .before .before .before .before .before .link in
+    let is-barred = c8 .before .before .before .before .is-barred in
+    let if2 = c8 .before .before .before .if2 in
+    let if3 = c8 .before .before .if3 in
     let is-read = c .before .before .before .before .before .before .before .before .before .is-read in
     let if4 = c .before .before .before .before .before .before .before .before .if4 in
     let answer-read = c .before .before .before .before .answer-read in

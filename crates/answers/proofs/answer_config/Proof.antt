@@ -22,15 +22,21 @@ config-response-requires c κs =
     let structure = c .before .before .structure in
     let name = c .name in
     let b = s .pre .0 .bytes in
-    let h = kept-short b (s .args .conn) (s .pre .1 .0) (structure .ensures ∙ kept .ensures .0) in
-    (omega (arith, h, s .pre .1 .1 .0, s .pre .1 .1 .1), ((h, s .pre .1 .1 .0), (stored-length b (name .ensures), stored-padded b (name .ensures))))
+    let h = kept-short b (s .args .conn) (s .pre .1 .0) (structure .ensures ∙ kept .ensures .0) in (
+      omega (arith, h, s .pre .1 .1 .0, s .pre .1 .1 .1),
+      (
+        (h, s .pre .1 .1 .0),
+        (stored-length b (name .ensures), stored-padded b (name .ensures)),
+      ),
+    )
 
 same-length : tie.Need-same-length
 same-length c = search needs
 
 returns : tie.Need-returns
 returns c =
-    let s = c .before .before .before .before .before .before .before .before .before .before .before in
+    let c8 = c .before .before .before .before .before .before .before .before in
+    let s = c8 .before .before .before in
     let kept = c .before .before .before .before .before .before .kept in
     let structure = c .before .before .before .before .before .structure in
     let config-response = c .before .before .config-response in

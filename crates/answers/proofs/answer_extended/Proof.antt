@@ -17,7 +17,9 @@ same-length c = search needs
 returns : tie.Need-returns
 returns c =
     let s = c .before .before .before .before .before .before .before .before .before in
-    extended-none (s .args .conn) (s .args .x) (see (s .args .m .now) .queue) (c .before .before .before .before .before .before .recall .ensures) (c .before .before .before .before .if1 .taken) (c .before .before .extended-none .ensures)
+    extended-none (s .args .conn) (s .args .x) (see (s .args .m .now) .queue)
+    (c .before .before .before .before .before .before .recall .ensures) (c .before .before .before .before .if1 .taken)
+    (c .before .before .extended-none .ensures)
 
 extended-found-requires : tie.Need-extended-found-requires
 extended-found-requires c κs = search needs
@@ -28,7 +30,9 @@ same-length-2 c = search needs
 returns-2 : tie.Need-returns-2
 returns-2 c =
     let s = c .before .before .before .before .before .before .before .before .before in
-    extended-found (s .args .conn) (s .args .x) (see (s .args .m .now) .queue) (c .before .before .before .before .before .before .recall .ensures) (c .before .before .before .before .if1 .left) (c .before .before .extended-found .ensures)
+    extended-found (s .args .conn) (s .args .x) (see (s .args .m .now) .queue)
+    (c .before .before .before .before .before .before .recall .ensures) (c .before .before .before .before .if1 .left)
+    (c .before .before .extended-found .ensures)
 
 pub answer-extended-spec : {M : Type 1} → statement M
 answer-extended-spec =

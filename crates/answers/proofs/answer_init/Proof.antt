@@ -22,7 +22,8 @@ name-requires-2 c κs = search needs
 
 init-response-requires : tie.Need-init-response-requires
 init-response-requires c κs =
-    let s = c .before .before .before .before .before .before .before .before .before .before in
+    let c8 = c .before .before .before .before .before .before .before .before in
+    let s = c8 .before .before in
     let name2 = c .name2 in
     let b = s .pre .0 .bytes in
     (search needs, (stored-length b (name2 .ensures), stored-padded b (name2 .ensures)))
@@ -32,12 +33,16 @@ set-link-requires c κs = search needs
 
 hardware-requires : tie.Need-hardware-requires
 hardware-requires c κs =
-    let s = c .before .before .before .before .before .before .before .before .before .before .before .before .before .before .before .before .before in
+    let c8 = c .before .before .before .before .before .before .before .before in
+    let c16 = c8 .before .before .before .before .before .before .before .before in
+    let s = c16 .before in
     hardware-fits (s .args .d .now) (s .pre .1 .1 .0) .1
 
 keep-requires : tie.Need-keep-requires
 keep-requires c κs =
-    let s = c .before .before .before .before .before .before .before .before .before .before .before .before .before .before .before .before .before .before in
+    let c8 = c .before .before .before .before .before .before .before .before in
+    let c16 = c8 .before .before .before .before .before .before .before .before in
+    let s = c16 .before .before in
     let hardware = c .hardware in
     let d = s .args .d .now in
     let w = hardware-whole d (s .pre .1 .1 .0) in
@@ -51,12 +56,14 @@ same-length-2 c = search needs
 
 returns : tie.Need-returns
 returns c =
-    let s = c .before .before .before .before .before .before .before .before .before .before .before .before .before .before .before .before .before .before .before .before .before in
-    let channel-name = c .before .before .before .before .before .before .before .before .before .before .before .before .before .before .before .before .before .channel-name in
-    let name = c .before .before .before .before .before .before .before .before .before .before .before .before .before .before .before .name in
-    let init-result = c .before .before .before .before .before .before .before .before .before .before .before .before .before .before .init-result in
-    let name2 = c .before .before .before .before .before .before .before .before .before .before .before .name2 in
-    let init-response = c .before .before .before .before .before .before .before .before .before .before .init-response in
+    let c8 = c .before .before .before .before .before .before .before .before in
+    let c16 = c8 .before .before .before .before .before .before .before .before in
+    let s = c16 .before .before .before .before .before in
+    let channel-name = c16 .before .channel-name in
+    let name = c8 .before .before .before .before .before .before .before .name in
+    let init-result = c8 .before .before .before .before .before .before .init-result in
+    let name2 = c8 .before .before .before .name2 in
+    let init-response = c8 .before .before .init-response in
     let if1 = c .before .before .before .before .before .before .before .if1 in
     let set-link = c .before .before .before .before .before .set-link in
     let hardware = c .before .before .before .hardware in
@@ -73,8 +80,9 @@ same-length-4 c = search needs
 
 returns-2 : tie.Need-returns-2
 returns-2 c =
-    let s = c .before .before .before .before .before .before .before .before .before .before .before .before .before .before in
-    let channel-name = c .before .before .before .before .before .before .before .before .before .before .channel-name in
+    let c8 = c .before .before .before .before .before .before .before .before in
+    let s = c8 .before .before .before .before .before .before in
+    let channel-name = c8 .before .before .channel-name in
     let name = c .before .before .before .before .before .before .before .before .name in
     let init-result = c .before .before .before .before .before .before .before .init-result in
     let name2 = c .before .before .before .before .name2 in

@@ -20,7 +20,8 @@ enum-known-message c = search needs
 
 answer-init-requires : tie.Need-answer-init-requires
 answer-init-requires c κs =
-    let s = c .before .before .before .before .before .before .before .before .before .before .before in
+    let c8 = c .before .before .before .before .before .before .before .before in
+    let s = c8 .before .before .before in
     let read = c .before .before .before .before .before .before .read in
     let message = c .before .before .before .before .message in
     let e = sym (read .ensures) ∙ message .given .1 in
@@ -37,8 +38,9 @@ enum-known-message-2 c = search needs
 
 answer-splice-requires : tie.Need-answer-splice-requires
 answer-splice-requires c κs =
+    let c8 = c .before .before .before .before .before .before .before .before in
     let shared-slice-known = c .before .before .before .before .before .before .before .before .shared-slice-known in
-    let s = c .before .before .before .before .before .before .before .before .before .before in
+    let s = c8 .before .before in
     let read = c .before .before .before .before .before .read in
     let message2 = c .before .before .before .message2 in
     let h = s .pre .1 .0 in
@@ -83,8 +85,10 @@ same-length-2 c = search needs
 returns : tie.Need-returns
 unfolding answerRead
 returns c =
-    let s = c .before .before .before .before .before .before .before .before .before .before .before .before .before .before .before .before in
-    let read = c .before .before .before .before .before .before .before .before .before .before .before .read in
+    let c8 = c .before .before .before .before .before .before .before .before in
+    let c16 = c8 .before .before .before .before .before .before .before .before in
+    let s = c16 in
+    let read = c8 .before .before .before .read in
     let message = c .before .before .before .before .before .before .before .before .before .message in
     let answer-init = c .before .before .before .before .answer-init in
     reads (shown (s .args .m .now) (s .args .b .now)) (s .args .conn) (s .args .id) (s .args .d .now) (s .args .section .now)
@@ -100,7 +104,8 @@ same-length-4 c = search needs
 returns-2 : tie.Need-returns-2
 unfolding answerRead
 returns-2 c =
-    let s = c .before .before .before .before .before .before .before .before .before .before .before .before .before .before in
+    let c8 = c .before .before .before .before .before .before .before .before in
+    let s = c8 .before .before .before .before .before .before in
     let read = c .before .before .before .before .before .before .before .before .before .read in
     let enum-told = c .before .before .before .before .before .before .before .enum-told in
     let answer-alive = c .before .before .answer-alive in
@@ -114,7 +119,8 @@ same-length-5 c = search needs
 returns-3 : tie.Need-returns-3
 unfolding answerRead
 returns-3 c =
-    let s = c .before .before .before .before .before .before .before .before .before .before .before .before .before in
+    let c8 = c .before .before .before .before .before .before .before .before in
+    let s = c8 .before .before .before .before .before in
     let read = c .before .before .before .before .before .before .before .before .read in
     let message2 = c .before .before .before .before .before .before .message2 in
     let answer-splice = c .before .before .answer-splice in
@@ -128,7 +134,8 @@ same-length-6 c = search needs
 returns-4 : tie.Need-returns-4
 unfolding answerRead
 returns-4 c =
-    let s = c .before .before .before .before .before .before .before .before .before .before .before .before .before in
+    let c8 = c .before .before .before .before .before .before .before .before in
+    let s = c8 .before .before .before .before .before in
     let read = c .before .before .before .before .before .before .before .before .read in
     let message3 = c .before .before .before .before .before .before .message3 in
     let answer-abort = c .before .before .answer-abort in
@@ -142,7 +149,8 @@ same-length-7 c = search needs
 returns-5 : tie.Need-returns-5
 unfolding answerRead
 returns-5 c =
-    let s = c .before .before .before .before .before .before .before .before .before .before .before .before .before .before in
+    let c8 = c .before .before .before .before .before .before .before .before in
+    let s = c8 .before .before .before .before .before .before in
     let read = c .before .before .before .before .before .before .before .before .before .read in
     let message4 = c .before .before .before .before .before .before .before .message4 in
     let answer-extended = c .before .before .answer-extended in
@@ -159,7 +167,8 @@ same-length-9 c = search needs
 returns-6 : tie.Need-returns-6
 unfolding answerRead
 returns-6 c =
-    let s = c .before .before .before .before .before .before .before .before .before .before .before .before .before .before in
+    let c8 = c .before .before .before .before .before .before .before .before in
+    let s = c8 .before .before .before .before .before .before in
     let read = c .before .before .before .before .before .before .before .before .before .read in
     let enum-told2 = c .before .before .before .before .before .before .before .enum-told2 in
     let answer-config = c .before .before .answer-config in
@@ -173,7 +182,8 @@ same-length-10 c = search needs
 returns-7 : tie.Need-returns-7
 unfolding answerRead
 returns-7 c =
-    let s = c .before .before .before .before .before .before .before .before .before .before .before in
+    let c8 = c .before .before .before .before .before .before .before .before in
+    let s = c8 .before .before .before in
     let read = c .before .before .before .before .before .before .read in
     let enum-told3 = c .before .before .before .before .enum-told3 in
     let general = c .before .before .general in

@@ -34,7 +34,8 @@ turns-requires c κs = search needs
 
 returns : tie.Need-returns
 returns c =
-    let made = c .before .before .before .before .before .before .before .before .before .before in
+    let c8 = c .before .before .before .before .before .before .before .before in
+    let made = c8 .before .before in
     let name = made .before .before .before .before .channel in
     let s = made .fresh .ensures .splicer ∙ ap (λ n. fresh n .splicer) (name .ensures) in
     subst (λ (x : Splicer). Stopped x (c .before .before .before .turns .result)) s (c .before .before .before .turns .ensures)

@@ -38,7 +38,9 @@ abbrev stops : tie.Joined1 Inv-loop μ-loop → tie.After-play Inv-loop μ-loop
 stops c = c .before .before .before .before .before .before .before .before
 
 abbrev goes : tie.Else2 Inv-loop μ-loop → tie.After-play Inv-loop μ-loop
-goes c = c .before .before .before .before .before .before .before .before .before .before
+goes c =
+    let c8 = c .before .before .before .before .before .before .before .before in
+    c8 .before .before
 
 -- ## One turn
 

@@ -57,7 +57,9 @@ keep-requires c κs =
     (within run, filled run .refill .ensures .0)
 
 sub-t26 : tie.Need-sub-t26
-sub-t26 c = within (c .before .before .before .before .before .before .before .before .before .before)
+sub-t26 c =
+    let c8 = c .before .before .before .before .before .before .before .before in
+    within (c8 .before .before)
 
 goes-on-requires : tie.Need-goes-on-requires
 goes-on-requires c κs = search needs
@@ -73,7 +75,8 @@ same-length-3 c = search needs
 
 returns : tie.Need-returns
 returns c =
-    let run = c .before .before .before .before .before .before .before .before .before .before .before in
+    let c8 = c .before .before .before .before .before .before .before .before in
+    let run = c8 .before .before .before in
     let refill = filled run .refill in
     let s = entry (filled run) in
     let keep = c .before .before .before .keep in

@@ -49,7 +49,8 @@ returns-3 c =
     let size = s .args .c in
     let k = ap (λ n. n % 4096) (c .before .before .number2 .ensures) in
     ap (λ n. ltb (length l - 20) (size + n)) (c .number22 .ensures)
-    ∙ ⊎-elim (λ w. lengths-given size l (omega arith) (sym k ∙ w .1 .left)) (λ w. lengths-open size l (omega arith) (sym k ∙ w .left)) (c .before .if2 .came)
+    ∙ ⊎-elim (λ w. lengths-given size l (omega arith) (sym k ∙ w .1 .left)) (λ w. lengths-open size l (omega arith) (sym k ∙ w .left))
+    (c .before .if2 .came)
 
 pub bad-lengths-spec : {M : Type 1} → statement M
 bad-lengths-spec =

@@ -28,22 +28,27 @@ flag-at-requires-2 c κs = search needs
 add-size-2 : tie.Need-add-size-2
 add-size-2 c =
     let s = c .before .before .before .before .before .before in
-    ⊎-elim (λ w. omega (arith, w .2, w .1 .ensures, time-small insertTimeAt (s .args .l .now))) (λ w. omega (arith, w .1)) (c .before .before .before .if1 .came)
+    ⊎-elim (λ w. omega (arith, w .2, w .1 .ensures, time-small insertTimeAt (s .args .l .now))) (λ w. omega (arith, w .1))
+    (c .before .before .before .if1 .came)
 
 add-result : tie.Need-add-result
 add-result c =
     let l = c .before .before .before .before .before .before .args .l .now in
     let e : c .before .before .before .if1 .size ≡ 6 + timedSize l =
-    ⊎-elim (λ w. w .2 ∙ ap (λ n. 6 + n) (w .1 .ensures ∙ second _ _ 0 _ (c .before .before .before .before .flag-at .ensures) (not-true _ (w .0 .taken))))
-    (λ w. w .1 ∙ ap (λ n. 6 + n) (first _ _ 0 (timeSize insertTimeAt l) (c .before .before .before .before .flag-at .ensures) (not-false _ (w .0 .left)))) (c .before .before .before .if1 .came) in
+    ⊎-elim (λ w. w .2 ∙ ap (λ n. 6 + n) (w .1 .ensures ∙ second _ _ 0 _ (c .before .before .before .before .flag-at .ensures)
+    (not-true _ (w .0 .taken))))
+    (λ w. w .1 ∙ ap (λ n. 6 + n) (first _ _ 0 (timeSize insertTimeAt l) (c .before .before .before .before .flag-at .ensures)
+    (not-false _ (w .0 .left)))) (c .before .before .before .if1 .came) in
     ⊎-elim (λ w. omega (arith, w .2, e, timed-small l)) (λ w. omega (arith, w .1, e, timed-small l)) (c .before .if2 .came)
 
 returns : tie.Need-returns
 returns c =
     let l = c .before .before .before .before .before .before .args .l .now in
     let e : c .before .before .before .if1 .size ≡ 6 + timedSize l =
-    ⊎-elim (λ w. w .2 ∙ ap (λ n. 6 + n) (w .1 .ensures ∙ second _ _ 0 _ (c .before .before .before .before .flag-at .ensures) (not-true _ (w .0 .taken))))
-    (λ w. w .1 ∙ ap (λ n. 6 + n) (first _ _ 0 (timeSize insertTimeAt l) (c .before .before .before .before .flag-at .ensures) (not-false _ (w .0 .left)))) (c .before .before .before .if1 .came) in
+    ⊎-elim (λ w. w .2 ∙ ap (λ n. 6 + n) (w .1 .ensures ∙ second _ _ 0 _ (c .before .before .before .before .flag-at .ensures)
+    (not-true _ (w .0 .taken))))
+    (λ w. w .1 ∙ ap (λ n. 6 + n) (first _ _ 0 (timeSize insertTimeAt l) (c .before .before .before .before .flag-at .ensures)
+    (not-false _ (w .0 .left)))) (c .before .before .before .if1 .came) in
     let d : c .before .if2 .size ≡ 6 + timedSize l + cond (hasDuration l) 5 0 =
     ⊎-elim
     (λ w. w .2 ∙ ap₂ (λ x y. x + y) e (first _ _ 5 0 (c .before .before .flag-at2 .ensures) (w .0 .taken)))

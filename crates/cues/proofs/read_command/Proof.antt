@@ -15,7 +15,12 @@ bad-lengths-requires c κs = search needs
 
 returns : tie.Need-returns
 unfolding readCommand
-returns c = rw (← c .before .before .before .byte-at .ensures, c .before .before .match .keys1, ← c .before .bad-lengths .ensures, c .if1 .taken)
+returns c = rw (
+  ← c .before .before .before .byte-at .ensures,
+  c .before .before .match .keys1,
+  ← c .before .bad-lengths .ensures,
+  c .if1 .taken,
+)
 
 read-insert-requires : tie.Need-read-insert-requires
 read-insert-requires c κs = search needs
@@ -25,7 +30,12 @@ read-signal-requires c κs = search needs
 
 returns-2 : tie.Need-returns-2
 unfolding readCommand
-returns-2 c = rw (← c .before .before .before .byte-at .ensures, c .before .before .match .keys1, ← c .before .bad-lengths .ensures, c .if1 .left)
+returns-2 c = rw (
+  ← c .before .before .before .byte-at .ensures,
+  c .before .before .match .keys1,
+  ← c .before .bad-lengths .ensures,
+  c .if1 .left,
+)
 
 returns-3 : tie.Need-returns-3
 unfolding readCommand

@@ -23,7 +23,10 @@ returns-2 : tie.Need-returns-2
 unfolding readCue
 returns-2 c =
     let l = c .before .before .before .before .before .args .l .now in
-    rw (eq-eqb (crc l) 0 (sym (c .before .before .before .crc-of .ensures) ∙ c .before .before .if1 .left), ne-eqb (tableID l) 0xFC (c .if2 .taken))
+    rw (
+      eq-eqb (crc l) 0 (sym (c .before .before .before .crc-of .ensures) ∙ c .before .before .if1 .left),
+      ne-eqb (tableID l) 0xFC (c .if2 .taken),
+    )
 
 flag-at-requires : tie.Need-flag-at-requires
 flag-at-requires c κs = search needs
@@ -47,7 +50,8 @@ unfolding readCue
 returns-4 c =
     let l = c .before .before .before .before .before .before .before .before .args .l .now in
     rw (
-      eq-eqb (crc l) 0 (sym (c .before .before .before .before .before .before .crc-of .ensures) ∙ c .before .before .before .before .before .if1 .left),
+      eq-eqb (crc l) 0 (sym (c .before .before .before .before .before .before .crc-of .ensures)
+          ∙ c .before .before .before .before .before .if1 .left),
       eq-eqb (tableID l) 0xFC (c .before .before .before .if2 .left),
       ← c .before .before .flag-at .ensures,
       c .before .if3 .left,

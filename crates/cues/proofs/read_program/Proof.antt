@@ -31,14 +31,18 @@ returns-2 c =
     let l = c .before .before .before .before .before .before .args .l .now in
     let k = ap (λ n. badLengths n l) (c .before .before .before .before .program-size .ensures) in
     first _ _ Timeless (timeIn insertTimeAt l) (c .before .flag-at .ensures) (c .if2 .taken)
-    ∙ second _ _ Bad (cond (isImmediate l) Timeless (timeIn insertTimeAt l)) (c .before .before .before .bad-lengths .ensures ∙ k) (c .before .before .if1 .left)
+    ∙ second _ _ Bad (cond (isImmediate l) Timeless (timeIn insertTimeAt l)) (c .before .before .before .bad-lengths .ensures ∙ k)
+    (c .before .before .if1 .left)
 
 time-in-requires : tie.Need-time-in-requires
 time-in-requires c κs =
     let s = c .before .before .before .before .before .before in
     let l = s .args .l .now in
-    let k = ap (λ n. badLengths n l) (c .before .before .before .before .program-size .ensures) in
-    (s .pre, timed-fits l (sym (c .before .flag-at .ensures) ∙ c .if2 .left) (sym (c .before .before .before .bad-lengths .ensures ∙ k) ∙ c .before .before .if1 .left) (s .pre))
+    let k = ap (λ n. badLengths n l) (c .before .before .before .before .program-size .ensures) in (
+      s .pre,
+      timed-fits l (sym (c .before .flag-at .ensures) ∙ c .if2 .left)
+          (sym (c .before .before .before .bad-lengths .ensures ∙ k) ∙ c .before .before .if1 .left) (s .pre),
+    )
 
 returns-3 : tie.Need-returns-3
 unfolding readProgram
@@ -46,7 +50,8 @@ returns-3 c =
     let l = c .before .before .before .before .before .before .before .args .l .now in
     let k = ap (λ n. badLengths n l) (c .before .before .before .before .before .program-size .ensures) in
     c .time-in .ensures ∙ second _ _ Timeless (timeIn insertTimeAt l) (c .before .before .flag-at .ensures) (c .before .if2 .left)
-    ∙ second _ _ Bad (cond (isImmediate l) Timeless (timeIn insertTimeAt l)) (c .before .before .before .before .bad-lengths .ensures ∙ k) (c .before .before .before .if1 .left)
+    ∙ second _ _ Bad (cond (isImmediate l) Timeless (timeIn insertTimeAt l)) (c .before .before .before .before .bad-lengths .ensures ∙ k)
+    (c .before .before .before .if1 .left)
 
 pub read-program-spec : {M : Type 1} → statement M
 read-program-spec =

@@ -23,7 +23,8 @@ same-length c = search needs
 
 returns : tie.Need-returns
 returns c =
-    let s = c .before .before .before .before .before .before .before .before .before .before in
+    let c8 = c .before .before .before .before .before .before .before .before in
+    let s = c8 .before .before in
     let m = s .args .words .now in
     let b = s .args .bytes .now in
     let e = s .args .out .now in
@@ -32,7 +33,8 @@ returns c =
     let at = c .before .before .before .before .before .anchor-of in
     record {
       answer = cue .result;
-      answers = subst (λ (a : Anchor). Answers (cueCall l (a .pts) (a .seconds) (a .micros) (length e) (shown m b)) (see m .ringEnd) e (cue .result) m b (cue .last .1 .1 .1 .1 .0)) (at .ensures) (cue .ensures);
+      answers = subst (λ (a : Anchor). Answers (cueCall l (a .pts) (a .seconds) (a .micros) (length e) (shown m b)) (see m .ringEnd) e
+          (cue .result) m b (cue .last .1 .1 .1 .1 .0)) (at .ensures) (cue .ensures);
       reply = c .reply-of .ensures;
     }
 

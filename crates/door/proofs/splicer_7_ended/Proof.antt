@@ -1,4 +1,5 @@
--- The page meets its contract: a walk of its MIR, by hand. The borrow of the rows is opened once, before the loop, and closed once, after it;
+-- The page meets its contract: a walk of its MIR, by hand. The borrow of the rows is opened once, before the loop, and closed once, after
+-- it;
 -- each turn calls `row_at` and stores one row; the number is `page_number`'s. Assumes nothing.
 use mathlib.Core.Path.{_≡_, refl, sym, ap, subst, _∙_}
 use Prim.Native.Nat.{ℕ, zero, suc, _+_, _*_, _≤_, _<_, _^_}
@@ -22,8 +23,10 @@ use prog.Wp.{Heap, Out, Env, afterSeq, afterBlock, afterTurn, Calls, Loops, Wp, 
 use ghost.Atoms.{Atoms, sem}
 use contract.Monad.{Fun, fact}
 use contract.Running.{givenOf, tables, tablesOf}
-use types.Kit.{Given, Item, ‵, raw, some, later, _⊛_, ⋆, anyQ, atRet, _$_, _∵_, !, qed, by, move, keep, drop, use1, use2, split, join, pick, rewrite, fsplit, fjoin, fltI, feqI, suffices, frame, await, done}
-use types.Run.{look, init, store, store-raw, forget, stop, hop, fld, from, load, lit, of-opd, bin, and-then, no-more, assigns, assigns-last, stays, leaves-loop, land, returns, enter, alloc1, alloc0, params1, pass1, pass0, free1, free0, exec}
+use types.Kit.{Given, Item, ‵, raw, some, later, _⊛_, ⋆, anyQ, atRet, _$_, _∵_, !, qed, by, move, keep, drop, use1, use2, split, join, pick}
+use types.Kit.{rewrite, fsplit, fjoin, fltI, feqI, suffices, frame, await, done}
+use types.Run.{look, init, store, store-raw, forget, stop, hop, fld, from, load, lit, of-opd, bin, and-then, no-more, assigns, assigns-last}
+use types.Run.{stays, leaves-loop, land, returns, enter, alloc1, alloc0, params1, pass1, pass0, free1, free0, exec}
 use types.Part.{whole, sub, look-in}
 use sound.Loop.{loop-rule}
 use sound.WpLaws.{FmC, fmOf, WpFn-mono}
@@ -34,7 +37,8 @@ use denote.Memory.{mem as cellOf, pointee}
 use denote.Plain.{uint-makes, uint-vals, uint-tells, uint-lawful}
 use denote.Builtin.{u64, usize}
 use denote.Ref.{RefT, now}
-use denote.Slice.{sliceTy, sliceVal, MutSlice, ShrSlice, Room, heres, codedHoleys, at-slice, slice-vals, mut-slice-tells, shr-slice-tells, shr-slice-copy, shr-slice-lawful}
+use denote.Slice.{sliceTy, sliceVal, MutSlice, ShrSlice, Room, heres, codedHoleys, at-slice, slice-vals, mut-slice-tells, shr-slice-tells}
+use denote.Slice.{shr-slice-copy, shr-slice-lawful}
 use denote.Lend.{Held}
 use denote.Index.{row, place-is, elem-out, elem-put, opens-slice, closes-slice}
 use denote.Steps.{owned, peeks, heard, nothing, only}
@@ -116,7 +120,8 @@ words = sliceTy (tyRef (named 0) imm word)
 abbrev lent : Ty
 lent = sliceTy (tyRef (named 1) mut (pointee (T.the-row .written)))
 
-module _ {M : Type 1} (𝓤 : URA M) (H : Heap 𝓤) (A : Atoms 𝓤) (W : Given 𝓤 H A) (mem : Memory → SProp 𝓤) (run : Routine → Fun 𝓤) (κe κ : Lft) (qe q : Share) (s : RefT (List ℕ)) (b o : ℕ) (γ : GName) (ys : List Row) where
+module _ {M : Type 1} (𝓤 : URA M) (H : Heap 𝓤) (A : Atoms 𝓤) (W : Given 𝓤 H A) (mem : Memory → SProp 𝓤) (run : Routine → Fun 𝓤) (κe κ : Lft)
+    (qe q : Share) (s : RefT (List ℕ)) (b o : ℕ) (γ : GName) (ys : List Row) where
   abbrev N : ℕ
   N = sixteen (length ys)
 
@@ -153,13 +158,18 @@ module _ {M : Type 1} (𝓤 : URA M) (H : Heap 𝓤) (A : Atoms 𝓤) (W : Given
   abbrev Post : Val → SProp 𝓤
   Post = walkOf 𝓤 H A page.ended stayed (page.clauses 𝓤 H A mem run) .post (((κe, (κ, tt)), (qe, (q, tt)), tt, x, at), tt)
 
-  exits : Room T.the-row (length ys) → P < 2 ^ 64 → ent 𝓤 (⋆ 𝓤 H A (‵ (fobs γ (codedHoleys T.the-row .code (heres T.the-row (zs N)))) ∷ ‵ (fbor κ (Held T.the-row (length (zs N)) b o γ)) ∷ ‵ (flft κ q) ∷ ‵ (flft κe qe) ∷ ‵ OwnE ∷ []))
+  exits : Room T.the-row (length ys) → P < 2 ^ 64 → ent 𝓤 (⋆ 𝓤 H A (‵ (fobs γ (codedHoleys T.the-row .code (heres T.the-row (zs N))))
+      ∷ ‵ (fbor κ (Held T.the-row (length (zs N)) b o γ)) ∷ ‵ (flft κ q) ∷ ‵ (flft κe qe) ∷ ‵ OwnE ∷ []))
       (Post (vint w64 P))
   exits room fits =
-      qed W (‵ (fobs γ (codedHoleys T.the-row .code (heres T.the-row (zs N)))) ∷ ‵ (fbor κ (Held T.the-row (length (zs N)) b o γ)) ∷ ‵ (flft κ q) ∷ ‵ (flft κe qe) ∷ ‵ OwnE ∷ []) ∵
-      suffices ! _ (ends-at 𝓤 H A page.ended stayed (page.clauses 𝓤 H A mem run) W (((κe, (κ, tt)), (qe, (q, tt)), tt, x, at), tt) (vint w64 P) P (tt, (zs N, tt)) (tt, (length-filled N f ys, tt))) $ says ! (record { number = refl; rows = refl }) $
+      qed W (‵ (fobs γ (codedHoleys T.the-row .code (heres T.the-row (zs N)))) ∷ ‵ (fbor κ (Held T.the-row (length (zs N)) b o γ))
+      ∷ ‵ (flft κ q) ∷ ‵ (flft κe qe) ∷ ‵ OwnE ∷ []) ∵
+      suffices ! _ (ends-at 𝓤 H A page.ended stayed (page.clauses 𝓤 H A mem run) W (((κe, (κ, tt)), (qe, (q, tt)), tt, x, at), tt)
+      (vint w64 P) P (tt, (zs N, tt)) (tt, (length-filled N f ys, tt))) $ says ! (record { number = refl; rows = refl }) $
       nothing ! $ move ! (3 ∷ 0 ∷ []) $ join ! $ move ! (3 ∷ 0 ∷ []) $ join ! $ frame ! $
-      fjoin ! $ pureI ! (at-slice T.the-row y (at .1 .0)) (tt, (tt, tt)) (ap (λ (m : ℕ). sliceVal (b, o) m ∷ []) (sym (length-filled N f ys)), subst (Room T.the-row) (sym (length-filled N f ys)) room) $ fjoin ! $
+      fjoin ! $ pureI ! (at-slice T.the-row y (at .1 .0)) (tt, (tt, tt))
+      (ap (λ (m : ℕ). sliceVal (b, o) m ∷ []) (sym (length-filled N f ys)), subst (Room T.the-row) (sym (length-filled N f ys)) room) $
+      fjoin ! $
       nothing ! $ move ! (1 ∷ 0 ∷ []) $ fjoin ! $ move ! (1 ∷ 0 ∷ []) $ fjoin ! $ frame ! $
       fltI ! P (2 ^ 64) fits $ feqI ! (List Val) (vint w64 P ∷ []) (vint w64 P ∷ []) refl $ done !
 
@@ -185,14 +195,17 @@ module _ {M : Type 1} (𝓤 : URA M) (H : Heap 𝓤) (A : Atoms 𝓤) (W : Given
   asks-row : (i : ℕ) → i < 16 → ent 𝓤 (⋆ 𝓤 H A (‵ (flft κe qe) ∷ ‵ OwnE ∷ [])) (RowAt 𝓤 H A mem run .pre (to-row i))
   asks-row i small =
       qed W (‵ (flft κe qe) ∷ ‵ OwnE ∷ []) ∵ says ! small $ nothing ! $ move ! (1 ∷ 0 ∷ []) $ join ! $ frame ! $
-      nothing ! $ owned ! usize (Is usize) (uint-makes 𝓤 H A W w64) i _ (refl, omega arith) $ fjoin ! $ move ! (1 ∷ 0 ∷ []) $ fjoin ! $ done !
+      nothing ! $ owned ! usize (Is usize) (uint-makes 𝓤 H A W w64) i _ (refl, omega arith) $ fjoin ! $ move ! (1 ∷ 0 ∷ []) $ fjoin ! $ done
+      !
 
   goes-row : (i : ℕ) → i < 16 → ent 𝓤 (sep 𝓤 (A .lft κe qe) (sem 𝓤 H A OwnE)) (sep 𝓤 (RowAt 𝓤 H A mem run .pre (to-row i)) (sem 𝓤 H A OwnE))
   goes-row i small =
-      qed W (‵ (flft κe qe) ∷ ‵ OwnE ∷ []) ∵ move ! (1 ∷ []) $ use1 W (‵ OwnE ⊛ ‵ OwnE) (shr-slice-copy 𝓤 H A W (named 0) κe u64 .twice s (sv ∷ [])) $ split ! $
+      qed W (‵ (flft κe qe) ∷ ‵ OwnE ∷ []) ∵ move ! (1 ∷ []) $ use1 W (‵ OwnE ⊛ ‵ OwnE)
+      (shr-slice-copy 𝓤 H A W (named 0) κe u64 .twice s (sv ∷ [])) $ split ! $
       move ! (2 ∷ 0 ∷ []) $ use2 W (raw (RowAt 𝓤 H A mem run .pre (to-row i))) (asks-row i small) $ frame ! $ done !
 
-  row-said : (i : ℕ) (r : Row) → ent 𝓤 (ensured 𝓤 H A row-at.ended (row-at.clauses 𝓤 H A mem run) (κe, tt) (s, (i, tt)) tt r) (fact 𝓤 (r ≡ f i))
+  row-said : (i : ℕ) (r : Row) → ent 𝓤 (ensured 𝓤 H A row-at.ended (row-at.clauses 𝓤 H A mem run) (κe, tt) (s, (i, tt)) tt r)
+      (fact 𝓤 (r ≡ f i))
   row-said i r = exE 𝓤 _ (λ ws. snd∗ 𝓤 (sem 𝓤 H A (lasts row-at.ended (κe, tt) (s, (i, tt)) ws)) (fact 𝓤 (r ≡ f i)))
 
   module _ (𝓣 : Tables 𝓤 H) (known-row : Triple 𝓤 (𝓣 .C #rows·row-at) (RowAt 𝓤 H A mem run))
@@ -208,15 +221,20 @@ module _ {M : Type 1} (𝓤 : URA M) (H : Heap 𝓤) (A : Atoms 𝓤) (W : Given
     fm = fmOf 𝓤 H (W .laws) 𝓣
 
     abbrev En : Env 𝓤 H
-    En = (word, l₀) ∷ (words, l₁) ∷ (lent, l₂) ∷ (word, l₃) ∷ (word, l₄) ∷ (T′.mir, l₅) ∷ (word, l₆) ∷ (tyBool, l₇) ∷ (word, l₈) ∷ (tyPtr, l₉) ∷ []
+    En = (word, l₀) ∷ (words, l₁) ∷ (lent, l₂) ∷ (word, l₃) ∷ (word, l₄) ∷ (T′.mir, l₅) ∷ (word, l₆) ∷ (tyBool, l₇) ∷ (word, l₈)
+        ∷ (tyPtr, l₉) ∷ []
 
     -- i rows are stored
     abbrev At : ℕ → List (Item 𝓤)
     At i =
-        ‵ (row T.the-row fullShare (zs i) b o) ∷ ‵ (fat fullShare word l₄ 0 (vint w64 i)) ∷ ‵ (froom T′.mir l₅ 0) ∷ ‵ (froom tyBool l₇ 0) ∷ ‵ (froom word l₈ 0) ∷ ‵ (froom tyPtr l₉ 0)
-        ∷ ‵ (flft κe qe) ∷ ‵ OwnE ∷ ‵ (fat fullShare words l₁ 0 sv) ∷ ‵ (fat fullShare lent l₂ 0 rv) ∷ ‵ (fat fullShare word l₃ 0 (vint w64 N)) ∷ ‵ (froom word l₀ 0) ∷ ‵ (froom word l₆ 0)
-        ∷ ‵ (fobor κ q (Held T.the-row (length ys) b o γ)) ∷ ‵ (fobs γ (codedHoleys T.the-row .code (heres T.the-row ys))) ∷ ‵ (fauth γ (codedHoleys T.the-row .code (heres T.the-row ys)))
-        ∷ ‵ (fdies word l₀) ∷ ‵ (fdies words l₁) ∷ ‵ (fdies lent l₂) ∷ ‵ (fdies word l₃) ∷ ‵ (fdies word l₄) ∷ ‵ (fdies T′.mir l₅) ∷ ‵ (fdies word l₆) ∷ ‵ (fdies tyBool l₇) ∷ ‵ (fdies word l₈) ∷ ‵ (fdies tyPtr l₉) ∷ []
+        ‵ (row T.the-row fullShare (zs i) b o) ∷ ‵ (fat fullShare word l₄ 0 (vint w64 i)) ∷ ‵ (froom T′.mir l₅ 0) ∷ ‵ (froom tyBool l₇ 0)
+        ∷ ‵ (froom word l₈ 0) ∷ ‵ (froom tyPtr l₉ 0)
+        ∷ ‵ (flft κe qe) ∷ ‵ OwnE ∷ ‵ (fat fullShare words l₁ 0 sv) ∷ ‵ (fat fullShare lent l₂ 0 rv)
+        ∷ ‵ (fat fullShare word l₃ 0 (vint w64 N)) ∷ ‵ (froom word l₀ 0) ∷ ‵ (froom word l₆ 0)
+        ∷ ‵ (fobor κ q (Held T.the-row (length ys) b o γ)) ∷ ‵ (fobs γ (codedHoleys T.the-row .code (heres T.the-row ys)))
+        ∷ ‵ (fauth γ (codedHoleys T.the-row .code (heres T.the-row ys)))
+        ∷ ‵ (fdies word l₀) ∷ ‵ (fdies words l₁) ∷ ‵ (fdies lent l₂) ∷ ‵ (fdies word l₃) ∷ ‵ (fdies word l₄) ∷ ‵ (fdies T′.mir l₅)
+        ∷ ‵ (fdies word l₆) ∷ ‵ (fdies tyBool l₇) ∷ ‵ (fdies word l₈) ∷ ‵ (fdies tyPtr l₉) ∷ []
 
     abbrev Inv : ℕ → SProp 𝓤
     Inv t = ex 𝓤 (λ (i : ℕ). guard 𝓤 (t + i ≡ N) (⋆ 𝓤 H A (At i)))
@@ -227,34 +245,44 @@ module _ {M : Type 1} (𝓤 : URA M) (H : Heap 𝓤) (A : Atoms 𝓤) (W : Given
     abbrev Left : Out → SProp 𝓤
     Left = afterBlock 𝓤 H (afterSeq 𝓤 H (Wp 𝓤 H C Λ En steps.t-5 (atReturn 𝓤 H En Post)) (atReturn 𝓤 H En Post))
 
-    more : (i : ℕ) (X : SProp 𝓤) → i < N → ent 𝓤 (⋆ 𝓤 H A (At (suc i))) X → ent 𝓤 (⋆ 𝓤 H A (At i)) (Wp 𝓤 H C Λ En steps.turn-1 (afterTurn 𝓤 H X Left))
+    more : (i : ℕ) (X : SProp 𝓤) → i < N → ent 𝓤 (⋆ 𝓤 H A (At (suc i))) X
+        → ent 𝓤 (⋆ 𝓤 H A (At i)) (Wp 𝓤 H C Λ En steps.turn-1 (afterTurn 𝓤 H X Left))
     unfolding afterTurn filled
     more i X small k =
         qed W (At i) ∵ exec ! C Λ En steps.turn-1 (anyQ (afterTurn 𝓤 H X Left)) $
-        assigns ! (bin ! (load ! (from ! (stop !)) (look ! 1 refl)) (load ! (from ! (stop !)) (look ! 10 refl)) tt) (from ! (stop !)) (init ! 3 refl (tt, tt)) $
+        assigns ! (bin ! (load ! (from ! (stop !)) (look ! 1 refl)) (load ! (from ! (stop !)) (look ! 10 refl)) tt) (from ! (stop !))
+        (init ! 3 refl (tt, tt)) $
         rewrite ! 3 (λ (t : Bool). ‵ (fat fullShare tyBool l₇ 0 (vbool t))) (holds (ltb i N) (lt→ltb i N small)) refl $
         stays ! (load ! (from ! (stop !)) (look ! 3 refl)) $
         move ! (6 ∷ 7 ∷ []) $ use2 W (raw (RowAt 𝓤 H A mem run .pre (to-row i)) ⊛ ‵ OwnE) (goes-row i below-16) $ split ! $
-        calls-at ! fm (RowAt 𝓤 H A mem run) known-row (to-row i) (and-then ! (load ! (from ! (stop !)) (look ! 8 refl)) (and-then ! (load ! (from ! (stop !)) (look ! 3 refl)) (no-more !))) (λ u.
-        use1 W (later (some (λ (r : Row). ((‵ (flft κe qe) ⊛ ‵ ftrue) ⊛ ‵ (T.the-row .own r (u ∷ []))) ⊛ raw (ensured 𝓤 H A row-at.ended (row-at.clauses 𝓤 H A mem run) (κe, tt) (s, (i, tt)) tt r)))) (id⊢ 𝓤 _) $ await ! tt $ pick ! (λ r.
+        calls-at ! fm (RowAt 𝓤 H A mem run) known-row (to-row i) (and-then ! (load ! (from ! (stop !)) (look ! 8 refl))
+        (and-then ! (load ! (from ! (stop !)) (look ! 3 refl)) (no-more !))) (λ u.
+        use1 W (later (some (λ (r : Row). ((‵ (flft κe qe) ⊛ ‵ ftrue) ⊛ ‵ (T.the-row .own r (u ∷ []))) ⊛ raw
+        (ensured 𝓤 H A row-at.ended (row-at.clauses 𝓤 H A mem run) (κe, tt) (s, (i, tt)) tt r)))) (id⊢ 𝓤 _) $ await ! tt $ pick ! (λ r.
         split ! $ move ! (1 ∷ []) $ use1 W (raw (fact 𝓤 (r ≡ f i))) (row-said i r) $ heard ! (r ≡ f i) (λ e. split ! $ move ! (1 ∷ []) $
         -- [what the row owns; the token; what e owns; the rows; _4; room for _5; _7; room for _8; room for _9; _1; _2; _3; …]
         peeks ! T.the-row (Is T.the-row) (shows 𝓤 H A T.the-row) r (u ∷ []) (λ is.
         land ! (from ! (stop !)) (init ! 5 refl (LL.lawful T.the-type T′.the-laws 𝓤 H A W .typed r _ is .0)) $
-        assigns ! (bin ! (load ! (from ! (stop !)) (look ! 4 refl)) (lit ! tt) (record { fits = times })) (from ! (stop !)) (init ! 7 refl (tt, record { fits = times })) $
-        assigns ! (bin ! (load ! (from ! (fld ! refl (stop !))) (look-in ! 10 (sub ! 0 refl (whole !)))) (load ! (from ! (stop !)) (look ! 7 refl)) tt) (from ! (stop !)) (init ! 8 refl (tt, tt)) $
+        assigns ! (bin ! (load ! (from ! (stop !)) (look ! 4 refl)) (lit ! tt) (record { fits = times })) (from ! (stop !))
+        (init ! 7 refl (tt, record { fits = times })) $
+        assigns ! (bin ! (load ! (from ! (fld ! refl (stop !))) (look-in ! 10 (sub ! 0 refl (whole !))))
+        (load ! (from ! (stop !)) (look ! 7 refl)) tt) (from ! (stop !)) (init ! 8 refl (tt, tt)) $
         rewrite ! 8 (λ (p : ℕ). ‵ (fat fullShare tyPtr l₉ 0 (vptr b p))) (sym (place-is 24 o i)) refl $
-        move ! (3 ∷ []) $ elem-out ! T.the-row (Is T.the-row) (shows 𝓤 H A T.the-row) (LL.vals T.the-type T′.the-laws) (LL.tells T.the-type T′.the-laws) fullShare (zs i) i r b o within (λ _.
+        move ! (3 ∷ []) $ elem-out ! T.the-row (Is T.the-row) (shows 𝓤 H A T.the-row) (LL.vals T.the-type T′.the-laws)
+        (LL.tells T.the-type T′.the-laws) fullShare (zs i) i r b o within (λ _.
         -- [the row there; what it owns; the others; what the new row owns; the token; what e owns; _4; _5; _7; _8; _9; _1; …]
-        assigns ! (of-opd ! (load ! (from ! (stop !)) (look ! 7 refl))) (from ! (hop ! (look ! 10 refl) (stop !))) (store-raw ! 0 refl (LL.lawful T.the-type T′.the-laws 𝓤 H A W .typed r _ is .0)) $
+        assigns ! (of-opd ! (load ! (from ! (stop !)) (look ! 7 refl))) (from ! (hop ! (look ! 10 refl) (stop !)))
+        (store-raw ! 0 refl (LL.lawful T.the-type T′.the-laws 𝓤 H A W .typed r _ is .0)) $
         move ! (1 ∷ []) $ drop ! $ move ! (0 ∷ 2 ∷ 1 ∷ []) $ elem-put ! T.the-row fullShare (zs i) i r (u ∷ []) b o within $
         -- [the rows; the token; what e owns; _4; _5; _7; _8; _9; _1; _2; _3; …]
-        assigns-last ! (bin ! (load ! (from ! (stop !)) (look ! 3 refl)) (lit ! tt) (record { fits = next-fits })) (from ! (stop !)) (store ! 3 refl (tt, record { fits = next-fits })) $
+        assigns-last ! (bin ! (load ! (from ! (stop !)) (look ! 3 refl)) (lit ! tt) (record { fits = next-fits })) (from ! (stop !))
+        (store ! 3 refl (tt, record { fits = next-fits })) $
         forget ! 4 refl $ forget ! 5 refl $ forget ! 6 refl $ forget ! 7 refl $
         rewrite ! 3 (λ (j : ℕ). ‵ (fat fullShare word l₄ 0 (vint w64 j))) (one-more i) refl $
         rewrite ! 0 (λ (z : Row). ‵ (row T.the-row fullShare (set (zs i) i z) b o)) e refl $
         move ! (1 ∷ []) $ split ! $
-        keep ! (2 ∷ 4 ∷ 5 ∷ 6 ∷ 7 ∷ 8 ∷ 0 ∷ 3 ∷ 9 ∷ 10 ∷ 11 ∷ 12 ∷ 13 ∷ 14 ∷ 15 ∷ 16 ∷ 17 ∷ 18 ∷ 19 ∷ 20 ∷ 21 ∷ 22 ∷ 23 ∷ 24 ∷ 25 ∷ 26 ∷ []) $ by ! k)))))
+        keep ! (2 ∷ 4 ∷ 5 ∷ 6 ∷ 7 ∷ 8 ∷ 0 ∷ 3 ∷ 9 ∷ 10 ∷ 11 ∷ 12 ∷ 13 ∷ 14 ∷ 15 ∷ 16 ∷ 17 ∷ 18 ∷ 19 ∷ 20 ∷ 21 ∷ 22 ∷ 23 ∷ 24 ∷ 25 ∷ 26 ∷ [])
+        $ by ! k)))))
       where
         below-16 : i < 16
         below-16 = omega (arith, few (length ys) .0)
@@ -272,7 +300,8 @@ module _ {M : Type 1} (𝓤 : URA M) (H : Heap 𝓤) (A : Atoms 𝓤) (W : Given
     unfolding afterTurn
     ends X =
         qed W (At N) ∵ exec ! C Λ En steps.turn-1 (anyQ (afterTurn 𝓤 H X Left)) $
-        assigns ! (bin ! (load ! (from ! (stop !)) (look ! 1 refl)) (load ! (from ! (stop !)) (look ! 10 refl)) tt) (from ! (stop !)) (init ! 3 refl (tt, tt)) $
+        assigns ! (bin ! (load ! (from ! (stop !)) (look ! 1 refl)) (load ! (from ! (stop !)) (look ! 10 refl)) tt) (from ! (stop !))
+        (init ! 3 refl (tt, tt)) $
         rewrite ! 3 (λ (t : Bool). ‵ (fat fullShare tyBool l₇ 0 (vbool t))) (fails (ltb N N) (λ a. lt-irrefl N (ltb→lt N N a))) refl $
         leaves-loop ! (load ! (from ! (stop !)) (look ! 3 refl)) $ exec ! C Λ En steps.t-5 (atRet En Post) $
         -- the number
@@ -292,21 +321,27 @@ module _ {M : Type 1} (𝓤 : URA M) (H : Heap 𝓤) (A : Atoms 𝓤) (W : Given
         land ! (from ! (stop !)) (init ! 12 refl (uint-lawful 𝓤 H A W w64 .typed r _ is .0)) $
         rewrite ! 12 (λ (v : Val). ‵ (fat fullShare word l₀ 0 v)) (ap only (is .0) ∙ ap (vint w64) e) refl $ drop ! $
         move ! (0 ∷ 13 ∷ 14 ∷ 15 ∷ []) $ closes-slice ! tt T.the-row ys (zs N) (length-filled N f ys) b o $
-        -- [obs; the borrow; the token; _4; room for _5; _7; …; the token of e; what e owns; _1; _2; _3; _0; room for _6; and that each local dies]
+        -- [obs; the borrow; the token; _4; room for _5; _7; …; the token of e; what e owns; _1; _2; _3; _0; room for _6; and that each
+        -- local dies]
         returns ! (look ! 13 refl) $ forget ! 3 refl $ forget ! 5 refl $ forget ! 10 refl $ forget ! 11 refl $
         forget ! 12 refl $ forget ! 13 refl $ forget ! 14 refl $
-        move ! (13 ∷ 15 ∷ []) $ free1 ! $ move ! (10 ∷ 14 ∷ []) $ free1 ! $ move ! (10 ∷ 13 ∷ []) $ free1 ! $ move ! (10 ∷ 12 ∷ []) $ free1 ! $ move ! (3 ∷ 11 ∷ []) $ free1 ! $ move ! (3 ∷ 10 ∷ []) $ free1 ! $
-        move ! (8 ∷ 9 ∷ []) $ free1 ! $ move ! (3 ∷ 8 ∷ []) $ free1 ! $ move ! (3 ∷ 7 ∷ []) $ free1 ! $ move ! (3 ∷ 6 ∷ []) $ free1 ! $ free0 ! $
+        move ! (13 ∷ 15 ∷ []) $ free1 ! $ move ! (10 ∷ 14 ∷ []) $ free1 ! $ move ! (10 ∷ 13 ∷ []) $ free1 ! $ move ! (10 ∷ 12 ∷ []) $ free1
+        ! $ move ! (3 ∷ 11 ∷ []) $ free1 ! $ move ! (3 ∷ 10 ∷ []) $ free1 ! $
+        move ! (8 ∷ 9 ∷ []) $ free1 ! $ move ! (3 ∷ 8 ∷ []) $ free1 ! $ move ! (3 ∷ 7 ∷ []) $ free1 ! $ move ! (3 ∷ 6 ∷ []) $ free1 ! $
+        free0 ! $
         keep ! (0 ∷ 1 ∷ 2 ∷ 3 ∷ 4 ∷ []) $ by ! (exits room (subst (λ (k : ℕ). k < 2 ^ 64) e (is .1)))))))
 
     below : (t i : ℕ) → t + suc i ≡ N → ent 𝓤 (⋆ 𝓤 H A (At (suc i))) (Below (suc t))
     below t i e =
         via 𝓤 (Inv t)
-        (via 𝓤 (guard 𝓤 (t + suc i ≡ N) (⋆ 𝓤 H A (At (suc i)))) (guardI 𝓤 (t + suc i ≡ N) (⋆ 𝓤 H A (At (suc i))) e) (exI 𝓤 (λ (j : ℕ). guard 𝓤 (t + j ≡ N) (⋆ 𝓤 H A (At j))) (suc i)))
-        (via 𝓤 (guard 𝓤 (t < suc t) (Inv t)) (guardI 𝓤 (t < suc t) (Inv t) (omega arith)) (exI 𝓤 (λ (u : ℕ). guard 𝓤 (u < suc t) (Inv u)) t))
+        (via 𝓤 (guard 𝓤 (t + suc i ≡ N) (⋆ 𝓤 H A (At (suc i)))) (guardI 𝓤 (t + suc i ≡ N) (⋆ 𝓤 H A (At (suc i))) e)
+        (exI 𝓤 (λ (j : ℕ). guard 𝓤 (t + j ≡ N) (⋆ 𝓤 H A (At j))) (suc i)))
+        (via 𝓤 (guard 𝓤 (t < suc t) (Inv t)) (guardI 𝓤 (t < suc t) (Inv t) (omega arith))
+        (exI 𝓤 (λ (u : ℕ). guard 𝓤 (u < suc t) (Inv u)) t))
 
     turn-at : (t i : ℕ) → t + i ≡ N → ent 𝓤 (⋆ 𝓤 H A (At i)) (Wp 𝓤 H C Λ En steps.turn-1 (afterTurn 𝓤 H (Below t) Left))
-    turn-at zero i e = let g : i ≡ N = omega (arith, e) in subst (λ (k : ℕ). ent 𝓤 (⋆ 𝓤 H A (At k)) (Wp 𝓤 H C Λ En steps.turn-1 (afterTurn 𝓤 H (Below zero) Left))) (sym g) (ends (Below zero))
+    turn-at zero i e = let g : i ≡ N = omega (arith, e) in subst (λ (k : ℕ). ent 𝓤 (⋆ 𝓤 H A (At k))
+        (Wp 𝓤 H C Λ En steps.turn-1 (afterTurn 𝓤 H (Below zero) Left))) (sym g) (ends (Below zero))
     turn-at (suc t) i e = more i (Below (suc t)) (omega (arith, e)) (below t i (omega (arith, e)))
 
     turns : (t : ℕ) → ent 𝓤 (Inv t) (Wp 𝓤 H C Λ En steps.turn-1 (afterTurn 𝓤 H (Below t) Left))
@@ -315,7 +350,8 @@ module _ {M : Type 1} (𝓤 : URA M) (H : Heap 𝓤) (A : Atoms 𝓤) (W : Given
     loops : ent 𝓤 (⋆ 𝓤 H A (At 0)) (Wp 𝓤 H C Λ En (loop steps.turn-1) Left)
     loops =
         via 𝓤 (Inv N)
-        (via 𝓤 (guard 𝓤 (N + 0 ≡ N) (⋆ 𝓤 H A (At 0))) (guardI 𝓤 (N + 0 ≡ N) (⋆ 𝓤 H A (At 0)) (add-zero N)) (exI 𝓤 (λ (j : ℕ). guard 𝓤 (N + j ≡ N) (⋆ 𝓤 H A (At j))) 0))
+        (via 𝓤 (guard 𝓤 (N + 0 ≡ N) (⋆ 𝓤 H A (At 0))) (guardI 𝓤 (N + 0 ≡ N) (⋆ 𝓤 H A (At 0)) (add-zero N))
+        (exI 𝓤 (λ (j : ℕ). guard 𝓤 (N + j ≡ N) (⋆ 𝓤 H A (At j))) 0))
         (loop-rule 𝓤 H (W .laws) 𝓣 _<_ (Nat·lt-wfRel .wf) En steps.turn-1 Left Inv turns N)
 
   walk : (𝓣 : Tables 𝓤 H) → Triple 𝓤 (𝓣 .C #rows·row-at) (RowAt 𝓤 H A mem run) → Triple 𝓤 (𝓣 .C #rows·to-fill) (ToFill 𝓤 H A mem run)
@@ -324,43 +360,61 @@ module _ {M : Type 1} (𝓤 : URA M) (H : Heap 𝓤) (A : Atoms 𝓤) (W : Given
       → ent 𝓤 (onEntry 𝓤 H A page.signature (κe, (κ, tt)) (qe, (q, tt)) x at) (WpFn 𝓤 H (𝓣 .C) (𝓣 .Λ) code.function (sv ∷ rv ∷ []) Post)
   unfolding filled
   walk 𝓣 known-row known-fill known-number p room =
-      qed W ((‵ (flft κe qe) ⊛ (‵ (flft κ q) ⊛ ‵ ftrue)) ∷ ‵ (owns (ShrSlice (named 0) κe u64 ∷ MutSlice (named 1) κ T.the-row ∷ []) x at) ∷ []) ∵ enter ! (𝓣 .C) (𝓣 .Λ) code.function (sv ∷ rv ∷ []) _ $
-      alloc1 ! (λ l₀. alloc1 ! (λ l₁. alloc1 ! (λ l₂. alloc1 ! (λ l₃. alloc1 ! (λ l₄. alloc1 ! (λ l₅. alloc1 ! (λ l₆. alloc1 ! (λ l₇. alloc1 ! (λ l₈. alloc1 ! (λ l₉. alloc0 ! $ params1 ! $
-      pass1 ! (init ! 16 refl (shr-slice-lawful 𝓤 H A W (named 0) κe u64 .typed s (sv ∷ []) p .0)) $ pass1 ! (init ! 14 refl (tt, (tt, (record { fits = room .0 }, tt)))) $ pass0 ! $
-      assigns ! (of-opd ! (load ! (from ! (fld ! refl (stop !))) (look-in ! 14 (sub ! 1 refl (whole !))))) (from ! (stop !)) (init ! 6 refl (tt, record { fits = room .0 })) $
+      qed W ((‵ (flft κe qe) ⊛ (‵ (flft κ q) ⊛ ‵ ftrue)) ∷ ‵ (owns (ShrSlice (named 0) κe u64 ∷ MutSlice (named 1) κ T.the-row ∷ []) x at)
+      ∷ []) ∵ enter ! (𝓣 .C) (𝓣 .Λ) code.function (sv ∷ rv ∷ []) _ $
+      alloc1 ! (λ l₀. alloc1 ! (λ l₁. alloc1 ! (λ l₂. alloc1 ! (λ l₃. alloc1 !
+      (λ l₄. alloc1 ! (λ l₅. alloc1 ! (λ l₆. alloc1 ! (λ l₇. alloc1 ! (λ l₈. alloc1 ! (λ l₉. alloc0 ! $ params1 ! $
+      pass1 ! (init ! 16 refl (shr-slice-lawful 𝓤 H A W (named 0) κe u64 .typed s (sv ∷ []) p .0)) $ pass1 !
+      (init ! 14 refl (tt, (tt, (record { fits = room .0 }, tt)))) $ pass0 ! $
+      assigns ! (of-opd ! (load ! (from ! (fld ! refl (stop !))) (look-in ! 14 (sub ! 1 refl (whole !))))) (from ! (stop !))
+      (init ! 6 refl (tt, record { fits = room .0 })) $
       -- how many rows are filled
       nothing ! $ owned ! usize (Is usize) (uint-makes 𝓤 H A W w64) (length ys) _ (refl, room .0) $ fjoin ! $ nothing ! $
-      use2 W (raw (ToFill 𝓤 H A mem run .pre to-to-fill)) (qed W (‵ ftrue ∷ ‵ (owns (usize ∷ []) (length ys, tt) (vint w64 (length ys) ∷ [], tt)) ∷ []) ∵ join ! $ frame ! $ done !) $
-      calls-at ! (fmOf 𝓤 H (W .laws) 𝓣) (ToFill 𝓤 H A mem run) known-fill to-to-fill (and-then ! (load ! (from ! (stop !)) (look ! 7 refl)) (no-more !)) (λ u.
-      use1 W (later (some (λ (r : ℕ). (‵ ftrue ⊛ ‵ (usize .own r (u ∷ []))) ⊛ raw (ensured 𝓤 H A to-fill.ended (to-fill.clauses 𝓤 H A mem run) tt (length ys, tt) tt r)))) (id⊢ 𝓤 _) $ await ! tt $ pick ! (λ r.
+      use2 W (raw (ToFill 𝓤 H A mem run .pre to-to-fill)) (qed W (‵ ftrue
+      ∷ ‵ (owns (usize ∷ []) (length ys, tt) (vint w64 (length ys) ∷ [], tt)) ∷ []) ∵ join ! $ frame ! $ done !) $
+      calls-at ! (fmOf 𝓤 H (W .laws) 𝓣) (ToFill 𝓤 H A mem run) known-fill to-to-fill
+      (and-then ! (load ! (from ! (stop !)) (look ! 7 refl)) (no-more !)) (λ u.
+      use1 W (later (some (λ (r : ℕ). (‵ ftrue ⊛ ‵ (usize .own r (u ∷ []))) ⊛ raw
+      (ensured 𝓤 H A to-fill.ended (to-fill.clauses 𝓤 H A mem run) tt (length ys, tt) tt r)))) (id⊢ 𝓤 _) $ await ! tt $ pick ! (λ r.
       split ! $ move ! (1 ∷ []) $ use1 W (raw (fact 𝓤 (r ≡ N))) (fill-said r) $ heard ! (r ≡ N) (λ e. split ! $ drop ! $
       peeks ! usize (Is usize) (shows 𝓤 H A usize) r (u ∷ []) (λ is.
-      land ! (from ! (stop !)) (init ! 13 refl (uint-lawful 𝓤 H A W w64 .typed r _ is .0)) $ rewrite ! 13 (λ (v : Val). ‵ (fat fullShare word l₃ 0 v)) (ap only (is .0) ∙ ap (vint w64) e) refl $ drop ! $
+      land ! (from ! (stop !)) (init ! 13 refl (uint-lawful 𝓤 H A W w64 .typed r _ is .0)) $ rewrite ! 13
+      (λ (v : Val). ‵ (fat fullShare word l₃ 0 v)) (ap only (is .0) ∙ ap (vint w64) e) refl $ drop ! $
       assigns ! (of-opd ! (lit ! tt)) (from ! (stop !)) (init ! 10 refl (tt, record { fits = lit< tt })) $
       -- the borrow of the rows is opened
       move ! (21 ∷ []) $ fsplit ! $ move ! (1 ∷ []) $ fsplit ! $ fsplit ! $ move ! (1 ∷ []) $ fsplit ! $
       move ! (25 ∷ []) $ split ! $ move ! (1 ∷ []) $ split ! $ move ! (3 ∷ 4 ∷ 0 ∷ []) $
       opens-slice ! tt T.the-row ys b o $ forget ! 15 refl $
-      keep ! (0 ∷ 19 ∷ 17 ∷ 13 ∷ 11 ∷ 9 ∷ 5 ∷ 8 ∷ 25 ∷ 23 ∷ 21 ∷ 27 ∷ 15 ∷ 1 ∷ 2 ∷ 3 ∷ 28 ∷ 26 ∷ 24 ∷ 22 ∷ 20 ∷ 18 ∷ 16 ∷ 14 ∷ 12 ∷ 10 ∷ []) $
+      keep ! (0 ∷ 19 ∷ 17 ∷ 13 ∷ 11 ∷ 9 ∷ 5 ∷ 8 ∷ 25 ∷ 23 ∷ 21 ∷ 27 ∷ 15 ∷ 1 ∷ 2 ∷ 3 ∷ 28 ∷ 26 ∷ 24 ∷ 22 ∷ 20 ∷ 18 ∷ 16 ∷ 14 ∷ 12 ∷ 10 ∷ [])
+      $
       by ! (loops 𝓣 known-row known-number room l₀ l₁ l₂ l₃ l₄ l₅ l₆ l₇ l₈ l₉)))))))))))))))
 
-module _ {M : Type 1} (𝓤 : URA M) (H : Heap 𝓤) (A : Atoms 𝓤) (W : Given 𝓤 H A) (mem : Memory → SProp 𝓤) (run : Routine → Fun 𝓤) (𝓣 : Tables 𝓤 H) where
+module _ {M : Type 1} (𝓤 : URA M) (H : Heap 𝓤) (A : Atoms 𝓤) (W : Given 𝓤 H A) (mem : Memory → SProp 𝓤) (run : Routine → Fun 𝓤)
+    (𝓣 : Tables 𝓤 H) where
   page-walks : Triple 𝓤 (𝓣 .C #rows·row-at) (RowAt 𝓤 H A mem run) → Triple 𝓤 (𝓣 .C #rows·to-fill) (ToFill 𝓤 H A mem run)
       → Triple 𝓤 (𝓣 .C #rows·page-number) (Number 𝓤 H A mem run)
       → Walks 𝓤 H A page.ended stayed (WpFn 𝓤 H (𝓣 .C) (𝓣 .Λ) code.function) (page.clauses 𝓤 H A mem run)
   page-walks known-row known-fill known-number = walked 𝓤 H A page.ended stayed (page.clauses 𝓤 H A mem run)
       (WpFn 𝓤 H (𝓣 .C) (𝓣 .Λ) code.function)
-      (λ κs. (slice-vals, (slice-vals, tt))) (λ κs. (shr-slice-tells (named 0) (κs .0) u64, (mut-slice-tells (named 1) (κs .1 .0) T.the-row, tt)))
+      (λ κs. (slice-vals, (slice-vals, tt))) (λ κs. (
+        shr-slice-tells (named 0) (κs .0) u64,
+        (mut-slice-tells (named 1) (κs .1 .0) T.the-row, tt),
+      ))
       (λ κs qs bounds a g are. via 𝓤 _ (fst∗ 𝓤 _ (emp 𝓤))
-      (walk 𝓤 H A W mem run (κs .0) (κs .1 .0) (qs .0) (qs .1 .0) (a .0) (a .1 .0 .ptr .0) (a .1 .0 .ptr .1) (a .1 .0 .name) (a .1 .0 .now) 𝓣
+      (walk 𝓤 H A W mem run (κs .0) (κs .1 .0) (qs .0) (qs .1 .0) (a .0) (a .1 .0 .ptr .0) (a .1 .0 .ptr .1) (a .1 .0 .name) (a .1 .0 .now)
+      𝓣
       known-row known-fill known-number (are .0) (are .1 .0 .0 .1)))
 
-page-meets : {M : Type 1} (𝓤 : URA M) (H : Heap 𝓤) (A : Atoms 𝓤) → Given 𝓤 H A → (mem : Memory → SProp 𝓤) (run : Routine → Fun 𝓤) (𝓣 : Tables 𝓤 H)
+page-meets : {M : Type 1} (𝓤 : URA M) (H : Heap 𝓤) (A : Atoms 𝓤) → Given 𝓤 H A
+    → (mem : Memory → SProp 𝓤) (run : Routine → Fun 𝓤) (𝓣 : Tables 𝓤 H)
     → Triple 𝓤 (𝓣 .C #rows·row-at) (RowAt 𝓤 H A mem run) → Triple 𝓤 (𝓣 .C #rows·to-fill) (ToFill 𝓤 H A mem run)
     → Triple 𝓤 (𝓣 .C #rows·page-number) (Number 𝓤 H A mem run)
     → Meets 𝓤 H A page.signature (WpFn 𝓤 H (𝓣 .C) (𝓣 .Λ) code.function) (page.spec 𝓤 H A mem run)
 page-meets 𝓤 H A W mem run 𝓣 known-row known-fill known-number =
-    walk-meets 𝓤 H A page.ended stayed W (goes-none-slice 𝓤 H A W 2 (0 ∷ []) tt (plain (λ _. u64)) yes, (goes-slice 𝓤 H A W 2 1 tt (plain (λ _. T.the-row)), tt)) (page.clauses 𝓤 H A mem run)
+    walk-meets 𝓤 H A page.ended stayed W (
+      goes-none-slice 𝓤 H A W 2 (0 ∷ []) tt (plain (λ _. u64)) yes,
+      (goes-slice 𝓤 H A W 2 1 tt (plain (λ _. T.the-row)), tt),
+    ) (page.clauses 𝓤 H A mem run)
     (WpFn 𝓤 H (𝓣 .C) (𝓣 .Λ) code.function) (WpFn-mono 𝓤 H (W .laws) 𝓣 code.function)
     (page-walks 𝓤 H A W mem run 𝓣 known-row known-fill known-number)
 
@@ -370,7 +424,8 @@ splicer-7-ended-spec 𝓤 H 𝓜 𝓖 𝓡 =
     entered 𝓤 H (tripleOf 𝓤 H (𝓖 .A) page.signature (page.spec 𝓤 H (𝓖 .A) (𝓜 .mem) (𝓡 .run)))
     (tables 𝓤 H 𝓜 𝓡 code.env .C) (tables 𝓤 H 𝓜 𝓡 code.env .Λ) #door·page code.function (code.unfolded 𝓤 H 𝓜 𝓡)
     (page-meets 𝓤 H (𝓖 .A) (givenOf 𝓤 H 𝓜 𝓖) (𝓜 .mem) (𝓡 .run) (tablesOf 𝓤 H 𝓜 (tables 𝓤 H 𝓜 𝓡 code.env))
-    (cited 𝓤 H (RowAt 𝓤 H (𝓖 .A) (𝓜 .mem) (𝓡 .run)) 𝓜 𝓡 code.env #rows·row-at row-at-def.routine code.calls-rows·row-at (row-at-thm.met 𝓤 H 𝓜 𝓖 𝓡))
+    (cited 𝓤 H (RowAt 𝓤 H (𝓖 .A) (𝓜 .mem) (𝓡 .run)) 𝓜 𝓡 code.env #rows·row-at row-at-def.routine code.calls-rows·row-at
+    (row-at-thm.met 𝓤 H 𝓜 𝓖 𝓡))
     (cited 𝓤 H (ToFill 𝓤 H (𝓖 .A) (𝓜 .mem) (𝓡 .run)) 𝓜 𝓡 code.env
     #rows·to-fill to-fill-def.routine code.calls-rows·to-fill (to-fill-thm.met 𝓤 H 𝓜 𝓖 𝓡))
     (cited 𝓤 H (Number 𝓤 H (𝓖 .A) (𝓜 .mem) (𝓡 .run)) 𝓜 𝓡 code.env

@@ -52,14 +52,21 @@ count-requires t c κs = search needs
 
 id-at-requires : (t : ℕ) → lts.Need-id-at-requires (claims t) (dismiss-at t) dismiss.Post
 id-at-requires t c κs =
-    let test = c .before .before in
-    (test .before .before .before .before .before .before .before .before .pre .1 .0, omega (arith, test .if1 .taken, test .before .count .ensures))
+    let test = c .before .before in (
+      test .before .before .before .before .before .before .before .before .pre .1 .0,
+      omega (arith, test .if1 .taken, test .before .count .ensures),
+    )
 
 end-one-waiting-requires : (t : ℕ) → lts.Need-end-one-waiting-requires (claims t) (dismiss-at t) dismiss.Post
 end-one-waiting-requires t c κs =
     let test = c .before .before .before .before .before in
-    let p = test .before .before .before .before .before .before .before .before .pre .1 in
-    (p .0, (omega (arith, test .if1 .taken, test .before .count .ensures), omega (arith, p .1, test .if1 .taken, test .before .count .ensures)))
+    let p = test .before .before .before .before .before .before .before .before .pre .1 in (
+      p .0,
+      (
+        omega (arith, test .if1 .taken, test .before .count .ensures),
+        omega (arith, p .1, test .if1 .taken, test .before .count .ensures),
+      ),
+    )
 
 dismiss-requires : (t : ℕ) → lts.Need-dismiss-requires (claims t) (dismiss-at t) dismiss.Post
 dismiss-requires t c κs =
@@ -72,8 +79,13 @@ dismiss-requires t c κs =
     let how = Response (s .args .result) in
     let d = gone .end-one-waiting .ensures in
     let h : i < length (see m .queue .waiting) = omega (arith, test .if1 .taken, test .before .count .ensures) in
-    let n = one-less Waiting i how m h d in
-    (omega (arith, s .pre .0, n), (d .shows .form, omega (arith, s .pre .1 .1, n, end-brief Waiting i how m d, gone .end-one-waiting .kept .1 .1 .1 .0)))
+    let n = one-less Waiting i how m h d in (
+      omega (arith, s .pre .0, n),
+      (
+        d .shows .form,
+        omega (arith, s .pre .1 .1, n, end-brief Waiting i how m d, gone .end-one-waiting .kept .1 .1 .1 .0),
+      ),
+    )
 
 same-length : (t : ℕ) → lts.Need-same-length (claims t) (dismiss-at t) dismiss.Post
 same-length t c = search needs
@@ -86,15 +98,18 @@ returns t c =
     let test = read .before .before .before in
     let found = test .before .before .before .before in
     let s = found .before .before .before .before in
-    let h : found .find .result < length (see (s .args .m .now) .queue .waiting) = omega (arith, test .if1 .taken, test .before .count .ensures) in
-    dismissed-more (s .args .result) (s .args .conn) (s .args .id) (found .find .result) (s .args .m .now) (found .find .ensures) h (omega (arith, s .pre .1 .1))
+    let h : found .find .result < length (see (s .args .m .now) .queue .waiting) =
+    omega (arith, test .if1 .taken, test .before .count .ensures) in
+    dismissed-more (s .args .result) (s .args .conn) (s .args .id) (found .find .result) (s .args .m .now) (found .find .ensures) h
+    (omega (arith, s .pre .1 .1))
     (read .id-at .ensures) (gone .end-one-waiting .ensures) (on .dismiss .ensures)
 
 returns-2 : (t : ℕ) → lts.Need-returns-2 (claims t) (dismiss-at t) dismiss.Post
 returns-2 t c =
     let found = c .before .before .before .before in
     let s = found .before .before .before .before in
-    dismissed-none (s .args .result) (s .args .conn) (s .args .id) (found .find .result) (s .args .m .now) (found .find .ensures) (s .pre .1 .0)
+    dismissed-none (s .args .result) (s .args .conn) (s .args .id) (found .find .result) (s .args .m .now) (found .find .ensures)
+    (s .pre .1 .0)
     (omega (arith, c .if1 .left, c .before .count .ensures))
 
 pub +dismiss-spec : {M : Type 1} → statement M

@@ -15,7 +15,10 @@ end-covered-of-requires c κs =
     let s = air .before .before .before .before in
     let d = air .end-on-air-of .ensures in (
       d .shows .form,
-      (cover-playable (s .args .conn) (s .args .m .now) d (s .pre .1 .0), omega (arith, s .pre .1 .1 .1, cover-room (s .args .conn) (s .args .m .now) d)),
+      (
+        cover-playable (s .args .conn) (s .args .m .now) d (s .pre .1 .0),
+        omega (arith, s .pre .1 .1 .1, cover-room (s .args .conn) (s .args .m .now) d),
+      ),
     )
 
 end-waiting-of-requires : tie.Need-end-waiting-of-requires
@@ -36,7 +39,8 @@ returns c =
     let air = cover .before .before .before .before .before in
     let s = air .before .before .before .before in
     let h = wait-room (s .args .conn) (s .args .m .now) (air .end-on-air-of .ensures) (cover .end-covered-of .ensures) in
-    closed (s .args .conn) (s .args .m .now) (air .end-on-air-of .ensures) (cover .end-covered-of .ensures) (omega (arith, s .pre .1 .1 .1, h))
+    closed (s .args .conn) (s .args .m .now) (air .end-on-air-of .ensures) (cover .end-covered-of .ensures)
+    (omega (arith, s .pre .1 .1 .1, h))
     (wait .end-waiting-of .ensures)
 
 pub end-all-of-spec : {M : Type 1} → statement M

@@ -29,7 +29,8 @@ returns c =
     let taken = c .before .before .before .before .before in
     let read = taken .before .before in
     let s = read .before .before .before .before in
-    one-ended Started (s .args .m .now) (s .args .at) (s .args .how) (read .load .ensures .0) (taken .remove .ensures) (c .before .before .write-end .ensures)
+    one-ended Started (s .args .m .now) (s .args .at) (s .args .how) (read .load .ensures .0) (taken .remove .ensures)
+    (c .before .before .write-end .ensures)
 
 pub end-one-started-spec : {M : Type 1} → statement M
 end-one-started-spec = tie.close (tie.spec load-requires remove-requires write-end-requires same-length returns)

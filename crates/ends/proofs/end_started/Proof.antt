@@ -22,14 +22,16 @@ ending-at-requires c κs = search needs
 
 end-one-started-requires : tie.Need-end-one-started-requires
 end-one-started-requires c κs =
-    let s = c .before .before .before .before .before .before .before .before .before .before in
+    let c8 = c .before .before .before .before .before .before .before .before in
+    let s = c8 .before .before in
     let p = all-getD Playable (see (s .args .m .now) .queue .started) (s .args .at) empty (s .pre .1 .0) (s .pre .1 .1 .0) in
     (s .pre .0, (s .pre .1 .0, (writable (c .before .before .ending-at .result) _ p, omega (arith, s .pre .1 .1 .1))))
 
 dismiss-requires : tie.Need-dismiss-requires
 dismiss-requires c κs =
     let one = c .before .before .before .before in
-    let s = one .before .before .before .before .before .before .before .before .before .before .before in
+    let one8 = one .before .before .before .before .before .before .before .before in
+    let s = one8 .before .before .before in
     let a = s .args in
     let how = one .before .before .before .ending-at .result in
     let d = one .end-one-started .ensures in

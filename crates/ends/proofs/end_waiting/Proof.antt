@@ -1,4 +1,5 @@
--- The session is read, taken out, its end kept and written (`one-ended`), and behind it those of the ones that follow its number (`chain-turns`).
+-- The session is read, taken out, its end kept and written (`one-ended`), and behind it those of the ones that follow its number
+-- (`chain-turns`).
 -- Rests on what `write_end`, `dismiss` and memory promise.
 use native.Mathlib.Omega.{arith}
 use borrow.Author.Needs.{needs}

@@ -1,4 +1,5 @@
--- One turn of `Theirs`: the session at the place i is the connection's, and its end is kept and written, or is counted; then they are taken out.
+-- One turn of `Theirs`: the session at the place i is the connection's, and its end is kept and written, or is counted; then they are taken
+-- out.
 -- Rests on what `write_end` and memory promise.
 use native.Mathlib.Omega.{arith}
 use borrow.Author.Needs.{needs}
@@ -14,7 +15,8 @@ use Rattle.rules.specs.State.{empty, of}
 use Rattle.memory.specs.declared.Which.the-variants.{Waiting}
 use Rattle.memory.specs.Memory.{see, sessions, listOf}
 use Rattle.memory.proofs.Laws.{sessions-list}
-use Rattle.ends.proofs.Closing.{Theirs, theirs-none, theirs-goes, theirs-stays, theirs-list, theirs-left, theirs-done, theirs-spared, closing-room}
+use Rattle.ends.proofs.Closing.{Theirs, theirs-none, theirs-goes, theirs-stays, theirs-list, theirs-left, theirs-done, theirs-spared}
+use Rattle.ends.proofs.Closing.{closing-room}
 use Rattle.ends.proofs.end_waiting_of.Statement.{statement}
 use Rattle.ends.proofs.end_waiting_of.Tie as tie
 
@@ -95,8 +97,14 @@ omit-of-requires : tie.Need-omit-of-requires Inv-loop μ-loop
 omit-of-requires c κs =
     let end = c .before .before in
     let s = end .before .before .before .before .before .before in
-    let inv = end .before .loop .inv in
-    (inv .form, (theirs-left Waiting inv (passed end) ∙ ap (λ (u : List Session). length (omit (of (s .args .conn)) u)) (sym (theirs-list Waiting inv)), s .pre .1 .0))
+    let inv = end .before .loop .inv in (
+      inv .form,
+      (
+        theirs-left Waiting inv (passed end) ∙ ap (λ (u : List Session). length (omit (of (s .args .conn)) u))
+            (sym (theirs-list Waiting inv)),
+        s .pre .1 .0,
+      ),
+    )
 
 same-length : tie.Need-same-length Inv-loop μ-loop
 same-length c = c .before .before .before .before .loop .inv .writes .long

@@ -19,8 +19,15 @@ dismiss-requires : tie.Need-dismiss-requires
 dismiss-requires c κs =
     let wrote = c .before .before .before .before in
     let s = wrote .before .before .before .before in
-    let d = wrote .write-end .ensures in
-    (d .shows .form, omega (arith, s .pre .1, told-one Failed (s .args .x) (d .tells), ap (λ (z : Memory). length (z .queue .waiting)) (d .shows .is)))
+    let d = wrote .write-end .ensures in (
+      d .shows .form,
+      omega (
+        arith,
+        s .pre .1,
+        told-one Failed (s .args .x) (d .tells),
+        ap (λ (z : Memory). length (z .queue .waiting)) (d .shows .is),
+      ),
+    )
 
 same-length : tie.Need-same-length
 same-length c = search needs

@@ -21,7 +21,8 @@ returns : tie.Need-returns
 returns c =
     let ticks = c .before .before in
     let s = ticks .before .before in
-    kept-as (s .args .how) (s .args .x) (s .args .m .now) (ticks .before .result-of .ensures) (ticks .to-long-ticks .ensures) (c .remember .ensures)
+    kept-as (s .args .how) (s .args .x) (s .args .m .now) (ticks .before .result-of .ensures) (ticks .to-long-ticks .ensures)
+    (c .remember .ensures)
 
 pub keep-end-spec : {M : Type 1} → statement M
 keep-end-spec = tie.close (tie.spec result-of-requires cast-t6 to-long-ticks-requires remember-requires returns)

@@ -21,7 +21,8 @@ returns-2 c =
 
 run-requires : tie.Need-run-requires
 run-requires c κs =
-    let s = c .before .before .before .before .before .before .before .before .before .before .before in
+    let c8 = c .before .before .before .before .before .before .before .before in
+    let s = c8 .before .before .before in
     let if1 = c .before .before .before .before .before .before .before .before .if1 in
     let clock = c .before .before .before .before .before .clock in
     let h = holding (s .pre .0) in
@@ -35,13 +36,16 @@ same-length c = search needs
 
 returns-3 : tie.Need-returns-3
 returns-3 c =
-    let s = c .before .before .before .before .before .before .before .before .before .before .before .before .before .before .before .before in
-    let if1 = c .before .before .before .before .before .before .before .before .before .before .before .before .before .if1 in
-    let clock = c .before .before .before .before .before .before .before .before .before .before .clock in
+    let c8 = c .before .before .before .before .before .before .before .before in
+    let c16 = c8 .before .before .before .before .before .before .before .before in
+    let s = c16 in
+    let if1 = c8 .before .before .before .before .before .if1 in
+    let clock = c8 .before .before .clock in
     let if2 = c .before .before .before .before .before .before .before .if2 in
     let run = c .before .before .before .before .run in
     let set-clock = c .set-clock in
-    move-done (s .args .until .0) (s .pre .0) (s .pre .1) (if1 .left) (omega (arith, clock .ensures, if2 .left)) (run .ensures) (set-clock .ensures)
+    move-done (s .args .until .0) (s .pre .0) (s .pre .1) (if1 .left) (omega (arith, clock .ensures, if2 .left)) (run .ensures)
+    (set-clock .ensures)
 
 pub bring-to-spec : {M : Type 1} → statement M
 bring-to-spec =

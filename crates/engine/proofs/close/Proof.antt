@@ -40,7 +40,8 @@ end-all-of-requires c κs =
 
 set-link-requires : tie.Need-set-link-requires
 set-link-requires c κs =
-    let s = c .before .before .before .before .before .before .before .before .before .before .before .before .before in
+    let c8 = c .before .before .before .before .before .before .before .before in
+    let s = c8 .before .before .before .before .before in
     let test-open = c .before .before .before .before .before .before .before .before .test-open in
     let enum-told = c .before .before .before .before .before .before .enum-told in
     let end-all-of = c .before .before .before .end-all-of in
@@ -50,8 +51,9 @@ set-link-requires c κs =
 
 forget-requires : tie.Need-forget-requires
 forget-requires c κs =
-    let s = c .before .before .before .before .before .before .before .before .before .before .before .before .before .before .before in
-    let test-open = c .before .before .before .before .before .before .before .before .before .before .test-open in
+    let c8 = c .before .before .before .before .before .before .before .before in
+    let s = c8 .before .before .before .before .before .before .before in
+    let test-open = c8 .before .before .test-open in
     let enum-told = c .before .before .before .before .before .before .before .before .enum-told in
     let good = sym (enum-told .given .1) ∙ test-open .ensures in
     let past = test-past (s .args .conn) (length (s .args .out .now)) (see (s .args .m .now) .links) good in
@@ -65,9 +67,11 @@ same-length-2 c = search needs
 
 returns-2 : tie.Need-returns-2
 returns-2 c =
-    let s = c .before .before .before .before .before .before .before .before .before .before .before .before .before .before .before .before .before .before in
-    let test-open = c .before .before .before .before .before .before .before .before .before .before .before .before .before .test-open in
-    let enum-told = c .before .before .before .before .before .before .before .before .before .before .before .enum-told in
+    let c8 = c .before .before .before .before .before .before .before .before in
+    let c16 = c8 .before .before .before .before .before .before .before .before in
+    let s = c16 .before .before in
+    let test-open = c8 .before .before .before .before .before .test-open in
+    let enum-told = c8 .before .before .before .enum-told in
     let end-all-of = c .before .before .before .before .before .before .before .before .end-all-of in
     let set-link = c .before .before .before .before .set-link in
     let forget = c .before .before .forget in

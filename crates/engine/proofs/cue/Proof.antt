@@ -44,12 +44,13 @@ same-length c = search needs
 
 returns-4 : tie.Need-returns-4
 returns-4 c =
-    let s = c .before .before .before .before .before .before .before .before .before .before .before .before in
+    let c8 = c .before .before .before .before .before .before .before .before in
+    let s = c8 .before .before .before .before in
     let at = s .args .at in
     let l = s .args .section .now in
     let test = c .before .before .before .before in
     let small = test .before .before in
-    let y = all-at Byte 0 l (λ i. omega (arith, c .before .before .before .before .before .before .before .before .before .before .shared-slice-known2 .given i)) in
+    let y = all-at Byte 0 l (λ i. omega (arith, c8 .before .before .shared-slice-known2 .given i)) in
     cue-done l (at .pts) (at .seconds) (at .micros) (s .pre) y (small .before .before .if1 .left) (small .if2 .left)
     (sym (test .before .bad-section .ensures) ∙ test .if3 .left) (c .before .before .pass-on .ensures)
 

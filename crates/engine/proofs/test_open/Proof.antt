@@ -29,14 +29,16 @@ returns-3 c =
     let s = c .before .before .before .before .before .before in
     let link = c .before .before .link in
     let enum-told = c .enum-told in
-    test-shut (s .args .conn) (s .args .room) (see (s .args .m .now) .links) (link .result) (omega arith) (omega arith) (link .ensures) (ap isOpen (enum-told .given .1))
+    test-shut (s .args .conn) (s .args .room) (see (s .args .m .now) .links) (link .result) (omega arith) (omega arith) (link .ensures)
+    (ap isOpen (enum-told .given .1))
 
 returns-4 : tie.Need-returns-4
 returns-4 c =
     let s = c .before .before .before .before .before in
     let link = c .before .link in
     let match = c .match in
-    test-good (s .args .conn) (s .args .room) (see (s .args .m .now) .links) (link .result) (omega arith) (omega arith) (link .ensures) (not-closed (link .result) (match .keys2))
+    test-good (s .args .conn) (s .args .room) (see (s .args .m .now) .links) (link .result) (omega arith) (omega arith) (link .ensures)
+    (not-closed (link .result) (match .keys2))
 
 pub test-open-spec : {M : Type 1} → statement M
 test-open-spec = tie.close (tie.spec returns returns-2 link-requires enum-told returns-3 returns-4)

@@ -37,13 +37,15 @@ same-length-2 c = search needs
 
 returns-3 : tie.Need-returns-3
 returns-3 c =
-    let s = c .before .before .before .before .before .before .before .before .before .before .before .before .before .before in
-    let if1 = c .before .before .before .before .before .before .before .before .before .before .before .if1 in
-    let if2 = c .before .before .before .before .before .before .before .before .before .before .if2 in
+    let c8 = c .before .before .before .before .before .before .before .before in
+    let s = c8 .before .before .before .before .before .before in
+    let if1 = c8 .before .before .before .if1 in
+    let if2 = c8 .before .before .if2 in
     let time-of = c .before .before .before .before .before .before .before .before .before .time-of in
     let from-micros = c .before .before .before .before .before .before .before .before .from-micros in
     let bring-to = c .before .before .before .before .bring-to in
-    tick-moves (s .args .seconds) (s .args .micros) (s .pre) (from-micros .result) (from-micros .ensures ∙ ap fromMicros (time-of .ensures)) (if1 .left) (if2 .left) (bring-to .ensures)
+    tick-moves (s .args .seconds) (s .args .micros) (s .pre) (from-micros .result) (from-micros .ensures ∙ ap fromMicros (time-of .ensures))
+    (if1 .left) (if2 .left) (bring-to .ensures)
 
 pub tick-spec : {M : Type 1} → statement M
 tick-spec =

@@ -1,4 +1,5 @@
--- Only the first of the started is on air (`elapsed-some`), and it has room for more (`first-lasting`); with none it is the primary channel (`elapsed-none`).
+-- Only the first of the started is on air (`elapsed-some`), and it has room for more (`first-lasting`); with none it is the primary channel
+-- (`elapsed-none`).
 use mathlib.Core.Path.{sym, _∙_}
 use Prim.Native.Nat.{_<_}
 use native.Mathlib.Omega.{arith}

@@ -31,7 +31,8 @@ same-length c = search needs
 
 returns-2 : tie.Need-returns-2
 returns-2 c =
-    let some = c .before .before .before .before .before .before .before .before .before .before .before in
+    let c8 = c .before .before .before .before .before .before .before .before in
+    let some = c8 .before .before .before in
     let s = some .before .before .before .before .before in
     let air = c .before .before .before .before .before .before .before .before .load in
     let h : 0 < length (see (s .args .m .now) .queue .started) = omega (arith, some .if1 .left, some .before .count .ensures) in

@@ -5,7 +5,8 @@ use native.Mathlib.Omega.{arith}
 use Rattle.rules.specs.State.{toCome}
 use Rattle.memory.specs.Memory.{see}
 use Rattle.instants.proofs.Running.{Onward, first-turn, last-turn, turn-asks, turn-time, turn-after}
-use Rattle.instants.proofs.Running.{turn-meets, turn-placed, turn-playable, turn-room, arrived, arrived-on, arrived-next, arrived-less}
+use Rattle.instants.proofs.Running.{turn-meets, turn-placed, turn-playable, turn-room, arrived, arrived-on, arrived-next}
+use Rattle.instants.proofs.Running.{arrived-less}
 use borrow.Author.Needs.{needs}
 use Rattle.instants.proofs.run.Statement.{statement}
 use Rattle.instants.proofs.run.Tie as tie
@@ -102,13 +103,17 @@ enum-told-2 c = search needs
 
 sub-elapse-3 : tie.Need-sub-elapse-3 Inv-loop μ-loop
 sub-elapse-3 c =
-    let now = c .before .before .before .before .before .before .before .before .before .before in
+    let c8 = c .before .before .before .before .before .before .before .before in
+    let now = c8 .before .before in
     arrived-on (now .before .before .before .loop .inv .come) (now .at-instant .ensures) .time
 
 elapse-requires-3 : tie.Need-elapse-requires-3 Inv-loop μ-loop
 elapse-requires-3 c κs =
-    let now = c .before .before .before .before .before .before .before .before .before .before in
-    let s = now .before .before .before .before .before .before .before .before .before .before .before .before .before .before .before .before .before .before in
+    let c8 = c .before .before .before .before .before .before .before .before in
+    let now = c8 .before .before in
+    let now8 = now .before .before .before .before .before .before .before .before in
+    let now16 = now8 .before .before .before .before .before .before .before .before in
+    let s = now16 .before .before in
     let v = arrived-on (now .before .before .before .loop .inv .come) (now .at-instant .ensures) in
     turn-asks v (s .args .until .0) (v .time) (s .pre .1 .1 .0 .1)
 
@@ -142,7 +147,9 @@ elapse-requires-4 c κs =
     let some = c .before .before .before .before in
     let next = some .before .before in
     let now = next .before .before .before .before .before in
-    let s = now .before .before .before .before .before .before .before .before .before .before .before .before .before .before .before .before .before .before in
+    let now8 = now .before .before .before .before .before .before .before .before in
+    let now16 = now8 .before .before .before .before .before .before .before .before in
+    let s = now16 .before .before in
     let v = arrived-on (now .before .before .before .loop .inv .come) (now .at-instant .ensures) in
     let d = sym (next .next-due2 .ensures) ∙ some .due .given .1 in
     let t = some .due .given .0 .0 .0 in

@@ -39,21 +39,24 @@ add-at : tie.Need-add-at Inv-loop μ-loop
 add-at c =
     let entry = c .before .before .before in
     let loop = entry .before .before in
-    let w = says (loop .before .before .args .l .now) (loop .loop .at) (loop .loop .inv .0) (sym (c .before .n .given .1) ∙ entry .entry-at .ensures) in
+    let w = says (loop .before .before .args .l .now) (loop .loop .at) (loop .loop .inv .0)
+    (sym (c .before .n .given .1) ∙ entry .entry-at .ensures) in
     omega arith
 
 loop-less : tie.Need-loop-less Inv-loop μ-loop
 loop-less c =
     let entry = c .before .before .before in
     let loop = entry .before .before in
-    let w = says (loop .before .before .args .l .now) (loop .loop .at) (loop .loop .inv .0) (sym (c .before .n .given .1) ∙ entry .entry-at .ensures) in
+    let w = says (loop .before .before .args .l .now) (loop .loop .at) (loop .loop .inv .0)
+    (sym (c .before .n .given .1) ∙ entry .entry-at .ensures) in
     omega arith
 
 loop-again : tie.Need-loop-again Inv-loop μ-loop
 loop-again c =
     let entry = c .before .before .before in
     let loop = entry .before .before in
-    let w = says (loop .before .before .args .l .now) (loop .loop .at) (loop .loop .inv .0) (sym (c .before .n .given .1) ∙ entry .entry-at .ensures) in
+    let w = says (loop .before .before .args .l .now) (loop .loop .at) (loop .loop .inv .0)
+    (sym (c .before .n .given .1) ∙ entry .entry-at .ensures) in
     (omega arith, loop .loop .inv .1 ∙ w .2)
 
 enum-known-n-2 : tie.Need-enum-known-n-2 Inv-loop μ-loop
@@ -63,21 +66,24 @@ add-at-2 : tie.Need-add-at-2 Inv-loop μ-loop
 add-at-2 c =
     let entry = c .before .before .before in
     let loop = entry .before .before in
-    let w = says (loop .before .before .args .l .now) (loop .loop .at) (loop .loop .inv .0) (sym (c .before .n2 .given .1) ∙ entry .entry-at .ensures) in
+    let w = says (loop .before .before .args .l .now) (loop .loop .at) (loop .loop .inv .0)
+    (sym (c .before .n2 .given .1) ∙ entry .entry-at .ensures) in
     omega arith
 
 loop-less-2 : tie.Need-loop-less-2 Inv-loop μ-loop
 loop-less-2 c =
     let entry = c .before .before .before in
     let loop = entry .before .before in
-    let w = says (loop .before .before .args .l .now) (loop .loop .at) (loop .loop .inv .0) (sym (c .before .n2 .given .1) ∙ entry .entry-at .ensures) in
+    let w = says (loop .before .before .args .l .now) (loop .loop .at) (loop .loop .inv .0)
+    (sym (c .before .n2 .given .1) ∙ entry .entry-at .ensures) in
     omega arith
 
 loop-again-2 : tie.Need-loop-again-2 Inv-loop μ-loop
 loop-again-2 c =
     let entry = c .before .before .before in
     let loop = entry .before .before in
-    let w = says (loop .before .before .args .l .now) (loop .loop .at) (loop .loop .inv .0) (sym (c .before .n2 .given .1) ∙ entry .entry-at .ensures) in
+    let w = says (loop .before .before .args .l .now) (loop .loop .at) (loop .loop .inv .0)
+    (sym (c .before .n2 .given .1) ∙ entry .entry-at .ensures) in
     (omega arith, loop .loop .inv .1 ∙ w .2)
 
 enum-told : tie.Need-enum-told Inv-loop μ-loop
@@ -87,7 +93,8 @@ returns : tie.Need-returns Inv-loop μ-loop
 returns c =
     let entry = c .before .before in
     let loop = entry .before .before in
-    let w = says (loop .before .before .args .l .now) (loop .loop .at) (loop .loop .inv .0) (sym (c .enum-told .given .1) ∙ entry .entry-at .ensures) in
+    let w = says (loop .before .before .args .l .now) (loop .loop .at) (loop .loop .inv .0)
+    (sym (c .enum-told .given .1) ∙ entry .entry-at .ensures) in
     sym (loop .loop .inv .1 ∙ w)
 
 enum-told-2 : tie.Need-enum-told-2 Inv-loop μ-loop
@@ -97,7 +104,8 @@ returns-2 : tie.Need-returns-2 Inv-loop μ-loop
 returns-2 c =
     let entry = c .before .before in
     let loop = entry .before .before in
-    let w = says (loop .before .before .args .l .now) (loop .loop .at) (loop .loop .inv .0) (sym (c .enum-told2 .given .1) ∙ entry .entry-at .ensures) in
+    let w = says (loop .before .before .args .l .now) (loop .loop .at) (loop .loop .inv .0)
+    (sym (c .enum-told2 .given .1) ∙ entry .entry-at .ensures) in
     sym (loop .loop .inv .1 ∙ w)
 
 enum-told-3 : tie.Need-enum-told-3 Inv-loop μ-loop
@@ -107,7 +115,8 @@ returns-3 : tie.Need-returns-3 Inv-loop μ-loop
 returns-3 c =
     let entry = c .before .before in
     let loop = entry .before .before in
-    let w = says (loop .before .before .args .l .now) (loop .loop .at) (loop .loop .inv .0) (sym (c .enum-told3 .given .1) ∙ entry .entry-at .ensures) in
+    let w = says (loop .before .before .args .l .now) (loop .loop .at) (loop .loop .inv .0)
+    (sym (c .enum-told3 .given .1) ∙ entry .entry-at .ensures) in
     sym (loop .loop .inv .1 ∙ w)
 
 pub first-unknown-spec : {M : Type 1} → statement M

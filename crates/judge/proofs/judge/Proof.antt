@@ -19,7 +19,8 @@ returns : tie.Need-returns
 returns c =
     let fresh = c .before .before .before .before in
     let last = fresh .fresh .last in
-    c .run .ensures ∙ judged-start _ (last .1 .0) (last .1 .1 .0) _ (fresh .fresh .ensures .splicer) (fresh .before .before .before .before .channel .ensures)
+    c .run .ensures ∙ judged-start _ (last .1 .0) (last .1 .1 .0) _ (fresh .fresh .ensures .splicer)
+    (fresh .before .before .before .before .channel .ensures)
 
 pub judge-spec : {M : Type 1} → statement M
 judge-spec = tie.close (tie.spec channel-requires fresh-requires run-requires returns)

@@ -38,7 +38,15 @@ insert-at-requires c κs =
     let count = c .before .before .before .count in
     let ring = c .before .ring-end in (
       good-at Waiting refl refl (ring .ensures .0) (s .pre .0) (count .ensures),
-      ((room-at Waiting refl refl (s .pre .0), ring .ensures .1, omega (arith, s .pre .1 .0, count .ensures), omega (arith, s .pre .1 .0, count .ensures)), s .pre .1 .1 .narrow),
+      (
+        (
+          room-at Waiting refl refl (s .pre .0),
+          ring .ensures .1,
+          omega (arith, s .pre .1 .0, count .ensures),
+          omega (arith, s .pre .1 .0, count .ensures),
+        ),
+        s .pre .1 .1 .narrow,
+      ),
     )
 
 add-m : tie.Need-add-m
@@ -56,7 +64,8 @@ so-far : (c : tie.After-insert-at) →
     let count = c .before .before .before .before .count in
     let ring = c .before .before .ring-end in
     Changed true Waiting (s .args .m .now)
-    (set (set (putMid (fromOf Waiting) (spanOf Waiting) (s .args .m .now) (c .insert-at .last .0)) (slotOf Waiting) (count .result + 1)) ringWord (next (ring .result)))
+    (set (set (putMid (fromOf Waiting) (spanOf Waiting) (s .args .m .now) (c .insert-at .last .0)) (slotOf Waiting) (count .result + 1))
+    ringWord (next (ring .result)))
     (insertAt (s .args .at) (s .args .x) (sessions Waiting (s .args .m .now)))
 so-far c =
     let s = c .before .before .before .before .before .before .before in
@@ -82,7 +91,8 @@ slice-write-m-2 c =
     let s = inserted .before .before .before .before .before .before .before in
     let count = inserted .before .before .before .before .count in
     let ring = inserted .before .before .ring-end in
-    let x = set (putMid (fromOf Waiting) (spanOf Waiting) (s .args .m .now) (inserted .insert-at .last .0)) (slotOf Waiting) (count .result + 1) in
+    let x = set (putMid (fromOf Waiting) (spanOf Waiting) (s .args .m .now) (inserted .insert-at .last .0)) (slotOf Waiting)
+    (count .result + 1) in
     omega (arith, length-set x ringWord (next (ring .result)), so-far inserted .shown .whole)
 
 add-c : tie.Need-add-c

@@ -35,8 +35,12 @@ loop-again : tie.Need-loop-again Inv-loop μ-loop
 loop-again c =
     let s = c .before .before in
     let loop = c .before .loop in
-    let z = getD-replicate {A = ℕ} longestHardware (loop .i) 0 0 (omega arith) in
-    (omega arith, search needs, ap (set (loop .k) (loop .i)) (sym z) ∙ copied (s .args .k .now) (zeros longestHardware) (loop .i) (loop .k) (omega (arith, s .pre)) (omega arith) (loop .inv .2))
+    let z = getD-replicate {A = ℕ} longestHardware (loop .i) 0 0 (omega arith) in (
+      omega arith,
+      search needs,
+      ap (set (loop .k) (loop .i)) (sym z) ∙ copied (s .args .k .now) (zeros longestHardware) (loop .i) (loop .k)
+          (omega (arith, s .pre)) (omega arith) (loop .inv .2),
+    )
 
 same-length : tie.Need-same-length Inv-loop μ-loop
 same-length c = search needs

@@ -38,8 +38,10 @@ find-requires c κs =
     let ring = c .before .before .before .ring-end .ensures .0 in
     let from = c .before .before .from in
     let to = c .before .to in
-    let which = s .args .which in
-    (good-at which (from .ensures .0) (to .ensures .0) ring (s .pre) (count .ensures), ring-at which (from .ensures .0) (to .ensures .0) ring (s .pre))
+    let which = s .args .which in (
+      good-at which (from .ensures .0) (to .ensures .0) ring (s .pre) (count .ensures),
+      ring-at which (from .ensures .0) (to .ensures .0) ring (s .pre),
+    )
 
 returns : tie.Need-returns
 returns c =

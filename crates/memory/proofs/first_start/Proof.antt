@@ -35,8 +35,10 @@ part-start-at-end c = search needs
 start-at-requires : tie.Need-start-at-requires
 start-at-requires c κs =
     let s = c .before .before .before .before .before in
-    let ring = c .before .ring-end .ensures .0 in
-    (good-at Waiting refl refl ring (s .pre .0) (c .before .before .before .count .ensures), (ring-at Waiting refl refl ring (s .pre .0), omega arith))
+    let ring = c .before .ring-end .ensures .0 in (
+      good-at Waiting refl refl ring (s .pre .0) (c .before .before .before .count .ensures),
+      (ring-at Waiting refl refl ring (s .pre .0), omega arith),
+    )
 
 returns-2 : tie.Need-returns-2
 returns-2 c =

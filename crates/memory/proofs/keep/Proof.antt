@@ -32,7 +32,8 @@ returns : tie.Need-returns
 returns c =
     let s = c .before .before .before .before .before .before in
     let put-kept = c .before .before .put-kept in
-    rw (put-kept .ensures) (kept-now (s .args .b .now) (s .args .c) (s .args .h .now) (s .pre .0) (s .pre .1 .0) (s .pre .1 .1 .0) (s .pre .1 .1 .1))
+    rw (put-kept .ensures) (kept-now (s .args .b .now) (s .args .c) (s .args .h .now) (s .pre .0) (s .pre .1 .0) (s .pre .1 .1 .0)
+    (s .pre .1 .1 .1))
 
 pub keep-spec : {M : Type 1} → statement M
 keep-spec =

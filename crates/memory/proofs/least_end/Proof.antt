@@ -40,7 +40,12 @@ end-at-requires c κs =
     let count = c .before .before .before .count in
     let at = c .least-end .ensures ∙ ap (λ (x : Lot). leastEnd (used x)) (lot-at Started refl refl refl (s .pre) (count .ensures)) in (
       good-at Started refl refl refl (s .pre) (count .ensures),
-      omega (arith, count .ensures, least-within (sessions Started (s .args .m .now)) (c .least-end .result) (omega (arith, count .ensures)) at),
+      omega (
+        arith,
+        count .ensures,
+        least-within (sessions Started (s .args .m .now)) (c .least-end .result) (omega (arith, count .ensures))
+            at,
+      ),
     )
 
 returns-2 : tie.Need-returns-2

@@ -48,7 +48,11 @@ omit-of-requires c κs =
     let to = c .before .to in
     let l = lot-at (s .args .which) (from .ensures .0) (to .ensures .0) ring (s .pre .0) (count .ensures) in (
       good-at (s .args .which) (from .ensures .0) (to .ensures .0) ring (s .pre .0) (count .ensures),
-      (ring-at (s .args .which) (from .ensures .0) (to .ensures .0) ring (s .pre .0), s .pre .1 .0 ∙ sym (ap (λ (x : Lot). length (omit (of (s .args .conn)) (used x))) l)),
+      (
+        ring-at (s .args .which) (from .ensures .0) (to .ensures .0) ring (s .pre .0),
+        s .pre .1 .0
+            ∙ sym (ap (λ (x : Lot). length (omit (of (s .args .conn)) (used x))) l),
+      ),
     )
 
 slot-requires : tie.Need-slot-requires
@@ -62,35 +66,41 @@ slice-write-m c = search needs
 
 -- the words so far: what is left to do is the connection's count
 so-far : (c : tie.After-slot) →
-    let s = c .before .before .before .before .before .before .before .before .before .before .before .before in
+    let c8 = c .before .before .before .before .before .before .before .before in
+    let s = c8 .before .before .before .before in
     let count = c .before .before .before .before .before .before .before .before .before .count in
     let from = c .before .before .before .before .before .before .from in
     let to = c .before .before .before .before .before .to in
     let omit-of = c .before .before .before .omit-of in
-    Changed false (s .args .which) (s .args .m .now) (set (putMid (from .result) (to .result - from .result) (s .args .m .now) (omit-of .last .0)) (c .slot .result) (s .args .left))
+    Changed false (s .args .which) (s .args .m .now) (set
+    (putMid (from .result) (to .result - from .result) (s .args .m .now) (omit-of .last .0)) (c .slot .result) (s .args .left))
     (omit (of (s .args .conn)) (sessions (s .args .which) (s .args .m .now)))
 so-far c =
-    let s = c .before .before .before .before .before .before .before .before .before .before .before .before in
+    let c8 = c .before .before .before .before .before .before .before .before in
+    let s = c8 .before .before .before .before in
     let count = c .before .before .before .before .before .before .before .before .before .count in
     let ring = c .before .before .before .before .before .before .before .ring-end .ensures .0 in
     let from = c .before .before .before .before .before .before .from in
     let to = c .before .before .before .before .before .to in
     let omit-of = c .before .before .before .omit-of in
     let l = lot-at (s .args .which) (from .ensures .0) (to .ensures .0) ring (s .pre .0) (count .ensures) in
-    changed-at (s .args .which) (from .ensures .0) (to .ensures .0) ring (s .pre .0) (omit-of .last .0) (omit-of .kept .0) (s .args .left) (c .slot .ensures .0)
+    changed-at (s .args .which) (from .ensures .0) (to .ensures .0) ring (s .pre .0) (omit-of .last .0) (omit-of .kept .0) (s .args .left)
+    (c .slot .ensures .0)
     (omit-of .ensures .good) (omit-of .ensures .list ∙ ap (λ (x : Lot). omit (of (s .args .conn)) (used x)) l)
 
 -- and then the contract is kept
 returns : tie.Need-returns
 returns c =
     let slot = c .before .before in
-    let s = slot .before .before .before .before .before .before .before .before .before .before .before .before in
+    let slot8 = slot .before .before .before .before .before .before .before .before in
+    let s = slot8 .before .before .before .before in
     omitted-now (c .enum-told .given .1) (s .pre .0) (s .args .conn) (s .pre .1 .1) (so-far slot)
 
 returns-2 : tie.Need-returns-2
 returns-2 c =
     let slot = c .before .before in
-    let s = slot .before .before .before .before .before .before .before .before .before .before .before .before in
+    let slot8 = slot .before .before .before .before .before .before .before .before in
+    let s = slot8 .before .before .before .before in
     started-now (c .enum-told2 .given .1) (s .pre .0) (so-far slot)
 
 enum-told : tie.Need-enum-told
@@ -105,7 +115,8 @@ mul-m-2 c = search needs
 slice-write-m-2 : tie.Need-slice-write-m-2
 slice-write-m-2 c =
     let slot = c .before .before in
-    omega (arith, slot .before .before .before .before .before .before .before .before .before .before .before .before .pre .1 .1, so-far slot .shown .whole)
+    let slot8 = slot .before .before .before .before .before .before .before .before in
+    omega (arith, slot8 .before .before .before .before .pre .1 .1, so-far slot .shown .whole)
 
 enum-told-2 : tie.Need-enum-told-2
 enum-told-2 c = search needs

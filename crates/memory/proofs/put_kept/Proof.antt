@@ -18,10 +18,12 @@ same-length c = search needs
 
 returns : tie.Need-returns
 returns c =
-    let s = c .before .before .before .before .before .before .before .before .before .before in
+    let c8 = c .before .before .before .before .before .before .before .before in
+    let s = c8 .before .before in
     let clear-kept = c .before .before .before .before .before .before .clear-kept in
     let copy = c .before .before .copy in
-    copy .ensures ∙ ap (λ e. paste e 0 (s .args .h .now) (length (s .args .h .now))) (clear-kept .ensures) ∙ spread-over (s .args .h .now) (s .pre .1)
+    copy .ensures ∙ ap (λ e. paste e 0 (s .args .h .now) (length (s .args .h .now))) (clear-kept .ensures)
+    ∙ spread-over (s .args .h .now) (s .pre .1)
 
 pub put-kept-spec : {M : Type 1} → statement M
 put-kept-spec = tie.close (tie.spec clear-kept-requires copy-requires same-length returns)

@@ -31,8 +31,11 @@ returns c =
     let s = c .before .before .before .before .before .before in
     let l = see (s .args .m .now) .queue .lately in
     let i = c .before .before .before .before .loop in
-    let e : isPast (s .args .conn) (s .args .id) (recentAt (i .i) l) ≡ true = sym (c .before .is-past .ensures ∙ ap (isPast (s .args .conn) (s .args .id)) (c .before .before .recent-at .ensures)) ∙ c .if1 .taken in
-    c .before .before .recent-at .ensures ∙ seek-hit (s .args .conn) (s .args .id) l (i .i) (c .before .before .before .loop-test .taken) e (i .inv)
+    let e : isPast (s .args .conn) (s .args .id) (recentAt (i .i) l) ≡ true =
+    sym (c .before .is-past .ensures ∙ ap (isPast (s .args .conn) (s .args .id)) (c .before .before .recent-at .ensures))
+    ∙ c .if1 .taken in
+    c .before .before .recent-at .ensures ∙ seek-hit (s .args .conn) (s .args .id) l (i .i) (c .before .before .before .loop-test .taken) e
+    (i .inv)
 
 add-i : tie.Need-add-i Inv-loop μ-loop
 add-i c = search needs
@@ -45,7 +48,9 @@ loop-again c =
     let s = c .before .before .before .before .before .before in
     let l = see (s .args .m .now) .queue .lately in
     let i = c .before .before .before .before .loop in
-    let e : isPast (s .args .conn) (s .args .id) (recentAt (i .i) l) ≡ false = sym (c .before .is-past .ensures ∙ ap (isPast (s .args .conn) (s .args .id)) (c .before .before .recent-at .ensures)) ∙ c .if1 .left in
+    let e : isPast (s .args .conn) (s .args .id) (recentAt (i .i) l) ≡ false =
+    sym (c .before .is-past .ensures ∙ ap (isPast (s .args .conn) (s .args .id)) (c .before .before .recent-at .ensures))
+    ∙ c .if1 .left in
     seek-more (s .args .conn) (s .args .id) l (i .i) (c .before .before .before .loop-test .taken) e (i .inv)
 
 no-past-requires : tie.Need-no-past-requires Inv-loop μ-loop

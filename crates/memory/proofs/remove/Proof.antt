@@ -9,7 +9,8 @@ use borrow.Rule.Slice.PartMut.{putMid}
 use Rattle.rules.specs.Lists.{removeAt}
 use Rattle.places.specs.Places.{Lot, used}
 use Rattle.memory.specs.Memory.{sessions}
-use Rattle.memory.proofs.Laws.{lot-at, good-at, ring-at, Changed, changed-at, started-now, one-of-four, one-waits, removed-now, count-word}
+use Rattle.memory.proofs.Laws.{lot-at, good-at, ring-at, Changed, changed-at, started-now, one-of-four, one-waits, removed-now}
+use Rattle.memory.proofs.Laws.{count-word}
 use borrow.Author.Needs.{needs}
 use Rattle.memory.proofs.remove.Statement.{statement}
 use Rattle.memory.proofs.remove.Tie as tie
@@ -43,7 +44,8 @@ part-remove-at-end c = search needs
 
 remove-at-requires : tie.Need-remove-at-requires
 remove-at-requires c κs =
-    let s = c .before .before .before .before .before .before .before .before .before .before in
+    let c8 = c .before .before .before .before .before .before .before .before in
+    let s = c8 .before .before in
     let count = c .before .before .before .before .before .count in
     let ring = c .before .before .before .ring-end .ensures .0 in
     let from = c .before .before .from in
@@ -67,46 +69,56 @@ slice-write-m c = search needs
 
 -- the words so far: what is left to do is the connection's count
 so-far : (c : tie.After-slot) →
-    let s = c .before .before .before .before .before .before .before .before .before .before .before .before .before .before in
+    let c8 = c .before .before .before .before .before .before .before .before in
+    let s = c8 .before .before .before .before .before .before in
     let count = c .before .before .before .before .before .before .before .before .before .count in
     let from = c .before .before .before .before .before .before .from in
     let to = c .before .before .before .before .before .to in
     let remove-at = c .before .before .before .remove-at in
-    Changed false (s .args .which) (s .args .m .now) (set (putMid (from .result) (to .result - from .result) (s .args .m .now) (remove-at .last .0)) (c .slot .result) (count .result - 1))
+    Changed false (s .args .which) (s .args .m .now) (set
+    (putMid (from .result) (to .result - from .result) (s .args .m .now) (remove-at .last .0)) (c .slot .result) (count .result - 1))
     (removeAt (s .args .at) (sessions (s .args .which) (s .args .m .now)))
 so-far c =
-    let s = c .before .before .before .before .before .before .before .before .before .before .before .before .before .before in
+    let c8 = c .before .before .before .before .before .before .before .before in
+    let s = c8 .before .before .before .before .before .before in
     let count = c .before .before .before .before .before .before .before .before .before .count in
     let ring = c .before .before .before .before .before .before .before .ring-end .ensures .0 in
     let from = c .before .before .before .before .before .before .from in
     let to = c .before .before .before .before .before .to in
     let remove-at = c .before .before .before .remove-at in
     let l = lot-at (s .args .which) (from .ensures .0) (to .ensures .0) ring (s .pre .0) (count .ensures) in
-    changed-at (s .args .which) (from .ensures .0) (to .ensures .0) ring (s .pre .0) (remove-at .last .0) (remove-at .kept .0) (count .result - 1) (c .slot .ensures .0)
+    changed-at (s .args .which) (from .ensures .0) (to .ensures .0) ring (s .pre .0) (remove-at .last .0) (remove-at .kept .0)
+    (count .result - 1) (c .slot .ensures .0)
     (remove-at .ensures .good) (remove-at .ensures .list ∙ ap (λ (x : Lot). removeAt (s .args .at) (used x)) l)
 
 -- and then the contract is kept
 returns : tie.Need-returns
 returns c =
     let slot = c .before .before .before in
-    let s = slot .before .before .before .before .before .before .before .before .before .before .before .before .before .before in
-    let conn = slot .before .before .before .before .before .before .before .before .before .before .before .conn-at in
+    let slot8 = slot .before .before .before .before .before .before .before .before in
+    let s = slot8 .before .before .before .before .before .before in
+    let conn = slot8 .before .before .before .conn-at in
     removed-now (c .before .enum-told .given .1) (s .pre .0) (s .args .at) (conn .result) (s .pre .1) (conn .ensures) (so-far slot)
 
 returns-2 : tie.Need-returns-2
 returns-2 c =
     let slot = c .before .before in
-    let s = slot .before .before .before .before .before .before .before .before .before .before .before .before .before .before in
+    let slot8 = slot .before .before .before .before .before .before .before .before in
+    let s = slot8 .before .before .before .before .before .before in
     started-now (c .enum-told2 .given .1) (s .pre .0) (so-far slot)
 
 enum-told : tie.Need-enum-told
 enum-told c = search needs
 
-low : (c : tie.After-enum-told) → c .before .before .before .before .before .before .before .before .before .before .before .before .before .conn-at .result ≤ 3
+low : (c : tie.After-enum-told)
+    → let c8 = c .before .before .before .before .before .before .before .before in
+    c8 .before .before .before .before .before .conn-at .result ≤ 3
 low c =
     let slot = c .before .before in
-    let s = slot .before .before .before .before .before .before .before .before .before .before .before .before .before .before in
-    one-of-four (c .enum-told .given .1) (s .pre .0) (s .args .at) (slot .before .before .before .before .before .before .before .before .before .before .before .conn-at .result) (s .pre .1) (slot .before .before .before .before .before .before .before .before .before .before .before .conn-at .ensures)
+    let slot8 = slot .before .before .before .before .before .before .before .before in
+    let s = slot8 .before .before .before .before .before .before in
+    one-of-four (c .enum-told .given .1) (s .pre .0) (s .args .at) (slot8 .before .before .before .conn-at .result) (s .pre .1)
+    (slot8 .before .before .before .conn-at .ensures)
 
 add-c : tie.Need-add-c
 add-c c = omega (arith, low c)
@@ -121,8 +133,9 @@ slice-read-m c = omega (arith, low (c .before), so-far (c .before .before .befor
 sub-m-2 : tie.Need-sub-m-2
 sub-m-2 c =
     let slot = c .before .before .before in
-    let s = slot .before .before .before .before .before .before .before .before .before .before .before .before .before .before in
-    let conn = slot .before .before .before .before .before .before .before .before .before .before .before .conn-at in
+    let slot8 = slot .before .before .before .before .before .before .before .before in
+    let s = slot8 .before .before .before .before .before .before in
+    let conn = slot8 .before .before .before .conn-at in
     let word = count-word (c .before .enum-told .given .1) (s .pre .0) (so-far slot) (conn .result) (low (c .before)) in
     omega (arith, word, one-waits (s .args .at) (sessions (s .args .which) (s .args .m .now)) (conn .result) (s .pre .1) (conn .ensures))
 

@@ -41,4 +41,5 @@ returns c =
     counts-read (s .args .m .now) (s .pre .whole) ∙ s .pre .counts
 
 pub tally-spec : {M : Type 1} → statement M
-tally-spec = tie.close (tie.spec shared-slice-read-t3 add-t4 mul-t5 shared-slice-read-t7 add-t8 mul-t9 shared-slice-read-t11 add-t12 mul-t13 shared-slice-read-t15 returns)
+tally-spec = tie.close (tie.spec shared-slice-read-t3 add-t4 mul-t5 shared-slice-read-t7 add-t8 mul-t9 shared-slice-read-t11 add-t12 mul-t13
+    shared-slice-read-t15 returns)

@@ -15,7 +15,11 @@ add-b : tie.Need-add-b
 add-b c = search needs
 
 add-b-2 : tie.Need-add-b-2
-add-b-2 c = omega (arith, ring-small (capacity (c .args .q .now)) (c .args .ring-end) (c .pre .1 .0), slot-within (c .args .q .now) (c .args .ring-end) (c .args .n) (c .args .at) (c .pre .0) (c .pre .1 .1))
+add-b-2 c = omega (
+  arith,
+  ring-small (capacity (c .args .q .now)) (c .args .ring-end) (c .pre .1 .0),
+  slot-within (c .args .q .now) (c .args .ring-end) (c .args .n) (c .args .at) (c .pre .0) (c .pre .1 .1),
+)
 
 mul-b : tie.Need-mul-b
 mul-b c = search needs
@@ -27,10 +31,15 @@ mul-result : tie.Need-mul-result
 mul-result c = search needs
 
 shared-slice-read-result : tie.Need-shared-slice-read-result
-shared-slice-read-result c = let s = c .before in omega (arith, slot-row (s .args .q .now) (s .args .ring-end) (s .args .n) (s .args .at) (s .pre .0) (s .pre .1 .1) _ (s .pre .1 .0) refl)
+shared-slice-read-result c = let s = c .before in omega (
+  arith,
+  slot-row (s .args .q .now) (s .args .ring-end) (s .args .n) (s .args .at)
+      (s .pre .0) (s .pre .1 .1) _ (s .pre .1 .0) refl,
+)
 
 returns : tie.Need-returns
-returns c = let s = c .before in ap (λ x. x .conn) (slot-word (s .args .q .now) (s .args .ring-end) (s .args .n) (s .args .at) (s .pre .0) (s .pre .1 .1) _ (s .pre .1 .0) refl)
+returns c = let s = c .before in ap (λ x. x .conn) (slot-word (s .args .q .now) (s .args .ring-end) (s .args .n) (s .args .at) (s .pre .0)
+    (s .pre .1 .1) _ (s .pre .1 .0) refl)
 
 pub conn-at-spec : {M : Type 1} → statement M
 conn-at-spec =

@@ -29,8 +29,13 @@ sub-remove-at c = search needs
 remove-at-requires : tie.Need-remove-at-requires Inv-loop μ-loop
 remove-at-requires c κs =
     let s = c .before .before .before .before in
-    let l = c .before .before .loop in
-    (l .inv .2 .good, (ring-same (capacity (s .args .q .now)) (capacity (l .q)) (s .args .ring-end) (s .pre .1 .0) (omega arith), omega arith))
+    let l = c .before .before .loop in (
+      l .inv .2 .good,
+      (
+        ring-same (capacity (s .args .q .now)) (capacity (l .q)) (s .args .ring-end) (s .pre .1 .0) (omega arith),
+        omega arith,
+      ),
+    )
 
 add-i : tie.Need-add-i Inv-loop μ-loop
 add-i c = search needs
@@ -47,11 +52,12 @@ loop-again c =
     let z : s .args .n - l .i - 1 ≡ s .args .n - (l .i + 1) = omega arith in (
       omega arith,
       omega arith,
-      subst (λ (k : ℕ). Made (s .args .q .now) (c .before .before .remove-at .last .0) (s .args .ring-end) k (drop (l .i + 1) u)) z (record {
-        good = m .good;
-        list = m .list ∙ ap (removeAt 0) (l .inv .2 .list) ∙ removeAt-drop (l .i) (l .i + 1) u (omega arith);
-        rest = m .rest ∙ l .inv .2 .rest;
-      }),
+      subst (λ (k : ℕ). Made (s .args .q .now) (c .before .before .remove-at .last .0) (s .args .ring-end) k (drop (l .i + 1) u)) z
+          (record {
+            good = m .good;
+            list = m .list ∙ ap (removeAt 0) (l .inv .2 .list) ∙ removeAt-drop (l .i) (l .i + 1) u (omega arith);
+            rest = m .rest ∙ l .inv .2 .rest;
+          }),
     )
 
 same-length : tie.Need-same-length Inv-loop μ-loop
@@ -62,7 +68,8 @@ returns c =
     let s = c .before .before .before in
     let l = c .before .loop in
     let e : l .i ≡ s .args .k = omega arith in
-    subst (λ (k : ℕ). Made (s .args .q .now) (l .q) (s .args .ring-end) (s .args .n - k) (drop k (used (lot (s .args .q .now) (s .args .ring-end) (s .args .n))))) e (l .inv .2)
+    subst (λ (k : ℕ). Made (s .args .q .now) (l .q) (s .args .ring-end) (s .args .n - k)
+    (drop k (used (lot (s .args .q .now) (s .args .ring-end) (s .args .n))))) e (l .inv .2)
 
 pub drop-first-spec : {M : Type 1} → statement M
 drop-first-spec =

@@ -22,7 +22,11 @@ mul-t8 : tie.Need-mul-t8
 mul-t8 c = omega (arith, slot-within (c .args .q .now) 0 (c .args .n) (c .args .at) (c .pre .0) (c .pre .1))
 
 shared-slice-read-t10 : tie.Need-shared-slice-read-t10
-shared-slice-read-t10 c = let s = c .before in omega (arith, flat-row (s .args .q .now) (s .args .n) (s .args .at) (s .pre .0) (s .pre .1) _ refl)
+shared-slice-read-t10 c = let s = c .before in omega (
+  arith,
+  flat-row (s .args .q .now) (s .args .n) (s .args .at) (s .pre .0) (s .pre .1) _
+      refl,
+)
 
 returns : tie.Need-returns
 returns c = let s = c .before in ap (λ x. x .end) (flat-word (s .args .q .now) (s .args .n) (s .args .at) (s .pre .0) (s .pre .1) _ refl)

@@ -11,7 +11,8 @@ use Rattle.places.proofs.find.Statement.{statement}
 use Rattle.places.proofs.find.Tie as tie
 
 abbrev Inv-loop : tie.InvT-loop
-Inv-loop q ring-end n key b₀ at₀ b at = Sought (keyTest key) (lot q ring-end n) at × (b ≡ (ring-end + (capacity q - n + at)) % round * width)
+Inv-loop q ring-end n key b₀ at₀ b at = Sought (keyTest key) (lot q ring-end n) at ×
+    (b ≡ (ring-end + (capacity q - n + at)) % round * width)
 
 abbrev μ-loop : tie.MeasureT-loop
 μ-loop q ring-end n key b₀ at₀ b at = n - at
@@ -38,7 +39,8 @@ returns : tie.Need-returns Inv-loop μ-loop
 returns c =
     let s = c .before .before .before .before .before in
     let l = c .before .before .before .loop in
-    let x = slot-place (s .args .q .now) (s .args .ring-end) (s .args .n) (l .at) (s .pre .0) (omega arith) (l .b) (s .pre .1) (l .inv .1) in
+    let x = slot-place (s .args .q .now) (s .args .ring-end) (s .args .n) (l .at) (s .pre .0) (omega arith) (l .b) (s .pre .1) (l .inv .1)
+    in
     sought-hit _ (lot (s .args .q .now) (s .args .ring-end) (s .args .n)) (l .at) empty (s .pre .0) (omega arith)
     (sym (c .before .matches-row .ensures ∙ ap (keyTest (s .args .key)) x) ∙ c .if1 .taken) (l .inv .0)
 
@@ -55,7 +57,8 @@ loop-again : tie.Need-loop-again Inv-loop μ-loop
 loop-again c =
     let s = c .before .before .before .before .before in
     let l = c .before .before .before .loop in
-    let x = slot-place (s .args .q .now) (s .args .ring-end) (s .args .n) (l .at) (s .pre .0) (omega arith) (l .b) (s .pre .1) (l .inv .1) in (
+    let x = slot-place (s .args .q .now) (s .args .ring-end) (s .args .n) (l .at) (s .pre .0) (omega arith) (l .b) (s .pre .1) (l .inv .1)
+    in (
       sought-more _ (lot (s .args .q .now) (s .args .ring-end) (s .args .n)) (l .at) empty (s .pre .0) (omega arith)
           (sym (c .before .matches-row .ensures ∙ ap (keyTest (s .args .key)) x) ∙ c .if1 .left) (l .inv .0),
       omega (arith, l .inv .1),
@@ -64,7 +67,8 @@ loop-again c =
 returns-2 : tie.Need-returns-2 Inv-loop μ-loop
 returns-2 c =
     let s = c .before .before .before in
-    sought-out _ (lot (s .args .q .now) (s .args .ring-end) (s .args .n)) (c .before .loop .at) (s .pre .0) (omega arith) (c .before .loop .inv .0)
+    sought-out _ (lot (s .args .q .now) (s .args .ring-end) (s .args .n)) (c .before .loop .at) (s .pre .0) (omega arith)
+    (c .before .loop .inv .0)
 
 pub find-spec : {M : Type 1} → statement M
 find-spec =

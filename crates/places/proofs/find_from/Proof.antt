@@ -38,7 +38,8 @@ loop-again c =
     let s = c .before .before .before .before .before .before .before in
     let l = c .before .before .before .before .before .loop in
     let x = c .before .before .before .start-at .ensures in
-    halved-low (s .args .t .0) (lot (s .args .q .now) (s .args .ring-end) (s .args .n)) (l .low) (l .high) _ (s .pre .0) (omega arith) (l .inv)
+    halved-low (s .args .t .0) (lot (s .args .q .now) (s .args .ring-end) (s .args .n)) (l .low) (l .high) _ (s .pre .0) (omega arith)
+    (l .inv)
     (subst (λ (y : Ninths). y .0 < s .args .t .0) x (c .if1 .taken)) (s .pre .1 .1)
 
 loop-less-2 : tie.Need-loop-less-2 Inv-loop μ-loop
@@ -49,7 +50,8 @@ loop-again-2 c =
     let s = c .before .before .before .before .before .before .before in
     let l = c .before .before .before .before .before .loop in
     let x = c .before .before .before .start-at .ensures in
-    halved-high (s .args .t .0) (lot (s .args .q .now) (s .args .ring-end) (s .args .n)) (l .low) (l .high) _ (s .pre .0) (omega arith) (l .inv)
+    halved-high (s .args .t .0) (lot (s .args .q .now) (s .args .ring-end) (s .args .n)) (l .low) (l .high) _ (s .pre .0) (omega arith)
+    (l .inv)
     (subst (λ (y : Ninths). s .args .t .0 ≤ y .0) x (c .if1 .left))
 
 returns : tie.Need-returns Inv-loop μ-loop

@@ -14,7 +14,9 @@ use Rattle.places.proofs.insert_at.Statement.{statement}
 use Rattle.places.proofs.insert_at.Tie as tie
 
 abbrev Inv-loop : tie.InvT-loop
-Inv-loop q₀ ring-end n at x hole₀ moves₀ q hole moves = (moves ≤ n - at) × (hole ≡ (next ring-end + (round - 1 - moves)) % round * width) × (length q ≡ length q₀) × (removeAt (round - 1 - moves) (turned (next ring-end) (places q)) ≡ removeAt (round - 1) (turned (next ring-end) (places q₀))) × (spare q ≡ spare q₀)
+Inv-loop q₀ ring-end n at x hole₀ moves₀ q hole moves = (moves ≤ n - at) × (hole ≡ (next ring-end + (round - 1 - moves)) % round * width) ×
+    (length q ≡ length q₀) × (removeAt (round - 1 - moves) (turned (next ring-end) (places q))
+    ≡ removeAt (round - 1) (turned (next ring-end) (places q₀))) × (spare q ≡ spare q₀)
 
 abbrev μ-loop : tie.MeasureT-loop
 μ-loop q₀ ring-end n at x hole₀ moves₀ q hole moves = n - at - moves
@@ -45,8 +47,10 @@ write-row-requires : tie.Need-write-row-requires Inv-loop μ-loop
 write-row-requires c κs =
     let s = c .before .before .before .before .before .before in
     let l = c .before .before .before .before .loop in
-    let e = s .args .ring-end in
-    (row-of (l .q) (next e) (round - 1 - l .moves) (l .hole) (ring-next (capacity (l .q)) e (omega arith)) (omega arith) (l .inv .1), c .before .read-row .ensures .1)
+    let e = s .args .ring-end in (
+      row-of (l .q) (next e) (round - 1 - l .moves) (l .hole) (ring-next (capacity (l .q)) e (omega arith)) (omega arith) (l .inv .1),
+      c .before .read-row .ensures .1,
+    )
 
 add-moves : tie.Need-add-moves Inv-loop μ-loop
 add-moves c = search needs
@@ -61,15 +65,19 @@ loop-again c =
     let e = s .args .ring-end in
     let a = (l .hole + round * width - width) % (round * width) in
     let w = c .before .before .write-row .ensures in
-    let t = shifts (l .q) (next e) (round - 1 - (l .moves + 1)) (round - 1 - l .moves) a (l .hole) (ring-next (capacity (l .q)) e (omega arith)) (omega arith) (omega arith) (omega arith) (l .inv .1) _ _ (c .before .before .before .before .read-row .ensures .0) (w .0) in
+    let t = shifts (l .q) (next e) (round - 1 - (l .moves + 1)) (round - 1 - l .moves) a (l .hole)
+    (ring-next (capacity (l .q)) e (omega arith)) (omega arith) (omega arith) (omega arith) (l .inv .1) _ _
+    (c .before .before .before .before .read-row .ensures .0) (w .0) in
     (omega arith, omega arith, omega arith, t ∙ l .inv .3, w .1 ∙ l .inv .4)
 
 write-row-requires-2 : tie.Need-write-row-requires-2 Inv-loop μ-loop
 write-row-requires-2 c κs =
     let s = c .before .before .before .before in
     let l = c .before .before .loop in
-    let e = s .args .ring-end in
-    (row-of (l .q) (next e) (round - 1 - l .moves) (l .hole) (ring-next (capacity (l .q)) e (omega arith)) (omega arith) (l .inv .1), s .pre .1 .1)
+    let e = s .args .ring-end in (
+      row-of (l .q) (next e) (round - 1 - l .moves) (l .hole) (ring-next (capacity (l .q)) e (omega arith)) (omega arith) (l .inv .1),
+      s .pre .1 .1,
+    )
 
 same-length : tie.Need-same-length Inv-loop μ-loop
 same-length c = search needs

@@ -45,10 +45,14 @@ loop-again c =
     let u = used (lot (s .args .q .now) 0 (s .args .n)) in
     let here = ap (λ (t : Ninths). t .0) (c .before .before .before .before .end-at .ensures) in
     let best = ap (λ (t : Ninths). t .0) (c .before .before .before .end-at2 .ensures) in
-    let h : l .i < length u = omega (arith, length-used (lot (s .args .q .now) 0 (s .args .n)) g, c .before .before .before .before .before .loop-test .taken) in
+    let h : l .i < length u =
+    omega (arith, length-used (lot (s .args .q .now) 0 (s .args .n)) g, c .before .before .before .before .before .loop-test .taken)
+    in
     ⊎-elim
-    (λ w. subst (λ (b : ℕ). Leading u (l .i + 1) b) (sym (w .1)) (leading-next u (l .i) (l .best) h (l .inv) (omega (arith, w .0, here, best))))
-    (λ w. subst (λ (b : ℕ). Leading u (l .i + 1) b) (sym (w .1)) (leading-stays u (l .i) (l .best) h (l .inv) (omega (arith, w .0, here, best))))
+    (λ w. subst (λ (b : ℕ). Leading u (l .i + 1) b) (sym (w .1)) (leading-next u (l .i) (l .best) h (l .inv)
+    (omega (arith, w .0, here, best))))
+    (λ w. subst (λ (b : ℕ). Leading u (l .i + 1) b) (sym (w .1)) (leading-stays u (l .i) (l .best) h (l .inv)
+    (omega (arith, w .0, here, best))))
     (c .if1 .came)
 
 returns : tie.Need-returns Inv-loop μ-loop

@@ -13,10 +13,18 @@ add-read-at : tie.Need-add-read-at
 add-read-at c = search needs
 
 read-at-requires : tie.Need-read-at-requires
-read-at-requires c κs = let s = c .before in (s .pre .1 .0, slot-within (s .args .q .now) (s .args .ring-end) (s .args .n) (s .args .at) (s .pre .0) (s .pre .1 .1))
+read-at-requires c κs = let s = c .before in (
+  s .pre .1 .0,
+  slot-within (s .args .q .now) (s .args .ring-end) (s .args .n) (s .args .at)
+      (s .pre .0) (s .pre .1 .1),
+)
 
 returns : tie.Need-returns
-returns c = let s = c .before .before in (c .read-at .ensures .0 ∙ slot-read (s .args .q .now) (s .args .ring-end) (s .args .n) (s .args .at) (s .pre .0) (s .pre .1 .1) empty, c .read-at .ensures .1)
+returns c = let s = c .before .before in (
+  c .read-at .ensures .0
+      ∙ slot-read (s .args .q .now) (s .args .ring-end) (s .args .n) (s .args .at) (s .pre .0) (s .pre .1 .1) empty,
+  c .read-at .ensures .1,
+)
 
 pub load-spec : {M : Type 1} → statement M
 load-spec = tie.close (tie.spec sub-free add-read-at read-at-requires returns)

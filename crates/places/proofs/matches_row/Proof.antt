@@ -65,24 +65,28 @@ shared-slice-read-result-2 c = search needs
 returns : tie.Need-returns
 returns c =
     let s = c .before .before .before .before .before .before in
-    rw (c .before .before .before .before .key .given .1) (last-holds _ _ (eq-eqb _ _ (c .before .if1 .taken)) ∙ ap (is _ _) (load-is (s .args .q .now) (s .args .b) empty (s .pre)))
+    rw (c .before .before .before .before .key .given .1) (last-holds _ _ (eq-eqb _ _ (c .before .if1 .taken))
+    ∙ ap (is _ _) (load-is (s .args .q .now) (s .args .b) empty (s .pre)))
 
 returns-2 : tie.Need-returns-2
 returns-2 c =
     let s = c .before .before .before .before .before in
     let k = c .before .before .before .key .given in
-    rw (k .1) (last-fails (eqb (k .0 .0) (getD (s .args .q .now) (s .args .b + 0) 0)) _ (ne-eqb _ _ (c .if1 .left)) ∙ ap (is _ _) (load-is (s .args .q .now) (s .args .b) empty (s .pre)))
+    rw (k .1) (last-fails (eqb (k .0 .0) (getD (s .args .q .now) (s .args .b + 0) 0)) _ (ne-eqb _ _ (c .if1 .left))
+    ∙ ap (is _ _) (load-is (s .args .q .now) (s .args .b) empty (s .pre)))
 
 returns-3 : tie.Need-returns-3
 returns-3 c =
     let s = c .before .before .before .before .before .before in
-    rw (c .before .before .before .before .key2 .given .1) (last-holds _ _ (eq-eqb _ _ (c .before .if2 .taken)) ∙ ap (follows _ _) (load-is (s .args .q .now) (s .args .b) empty (s .pre)))
+    rw (c .before .before .before .before .key2 .given .1) (last-holds _ _ (eq-eqb _ _ (c .before .if2 .taken))
+    ∙ ap (follows _ _) (load-is (s .args .q .now) (s .args .b) empty (s .pre)))
 
 returns-4 : tie.Need-returns-4
 returns-4 c =
     let s = c .before .before .before .before .before in
     let k = c .before .before .before .key2 .given in
-    rw (k .1) (last-fails (eqb (k .0 .0) (getD (s .args .q .now) (s .args .b + 0) 0)) _ (ne-eqb _ _ (c .if2 .left)) ∙ ap (follows _ _) (load-is (s .args .q .now) (s .args .b) empty (s .pre)))
+    rw (k .1) (last-fails (eqb (k .0 .0) (getD (s .args .q .now) (s .args .b + 0) 0)) _ (ne-eqb _ _ (c .if2 .left))
+    ∙ ap (follows _ _) (load-is (s .args .q .now) (s .args .b) empty (s .pre)))
 
 pub matches-row-spec : {M : Type 1} → statement M
 matches-row-spec =

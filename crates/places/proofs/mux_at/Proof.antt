@@ -22,7 +22,10 @@ mul-result : tie.Need-mul-result
 mul-result c = omega (arith, slot-within (c .args .q .now) 0 (c .args .n) (c .args .at) (c .pre .0) (c .pre .1))
 
 shared-slice-read-result : tie.Need-shared-slice-read-result
-shared-slice-read-result c = let s = c .before in omega (arith, flat-row (s .args .q .now) (s .args .n) (s .args .at) (s .pre .0) (s .pre .1) _ refl)
+shared-slice-read-result c = let s = c .before in omega (
+  arith,
+  flat-row (s .args .q .now) (s .args .n) (s .args .at) (s .pre .0) (s .pre .1) _ refl,
+)
 
 returns : tie.Need-returns
 returns c = let s = c .before in ap (λ x. x .mux) (flat-word (s .args .q .now) (s .args .n) (s .args .at) (s .pre .0) (s .pre .1) _ refl)

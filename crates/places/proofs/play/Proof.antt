@@ -27,7 +27,12 @@ add-q-2 : tie.Need-add-q-2
 add-q-2 c =
     let s = c .before in
     let b = (capacity (s .args .q .now) - s .args .n) * width in
-    omega (arith, s .pre .1 .1, ap (λ x. x .played .0) (flat-word (s .args .q .now) (s .args .n) 0 (s .pre .0) (s .pre .1 .0) b (omega arith)))
+    omega (
+      arith,
+      s .pre .1 .1,
+      ap (λ x. x .played .0) (flat-word (s .args .q .now) (s .args .n) 0 (s .pre .0) (s .pre .1 .0) b
+          (omega arith)),
+    )
 
 slice-write-q : tie.Need-slice-write-q
 slice-write-q c = let s = c .before in omega (arith, used-fits (s .args .q .now) 0 (s .args .n) (s .pre .0), s .pre .1 .0)

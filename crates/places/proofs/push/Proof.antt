@@ -29,7 +29,8 @@ returns c =
     let p = s .args .q .now in
     let w = c .before .before .write-row .ensures in
     let k = capacity p - s .args .n - 1 in
-    let m = push-made (lot p 0 (s .args .n)) _ k (s .args .x) (s .pre .0) (omega (arith, size p 0)) (flat-set p _ k (s .args .x) (omega arith) _ (w .0)) in
+    let m = push-made (lot p 0 (s .args .n)) _ k (s .args .x) (s .pre .0) (omega (arith, size p 0))
+    (flat-set p _ k (s .args .x) (omega arith) _ (w .0)) in
     record { good = m .0; list = m .1; rest = w .1 }
 
 pub push-spec : {M : Type 1} → statement M

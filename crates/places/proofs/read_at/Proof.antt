@@ -18,7 +18,11 @@ read-row-requires : tie.Need-read-row-requires
 read-row-requires c κs = let s = c .before in row-of (s .args .q .now) (s .args .ring-end) (s .args .i) _ (s .pre .0) (s .pre .1) refl
 
 returns : tie.Need-returns
-returns c = let s = c .before .before in (c .read-row .ensures .0 ∙ row-read (s .args .q .now) (s .args .ring-end) (s .args .i) _ (s .pre .0) (s .pre .1) refl empty, c .read-row .ensures .1)
+returns c = let s = c .before .before in (
+  c .read-row .ensures .0
+      ∙ row-read (s .args .q .now) (s .args .ring-end) (s .args .i) _ (s .pre .0) (s .pre .1) refl empty,
+  c .read-row .ensures .1,
+)
 
 pub read-at-spec : {M : Type 1} → statement M
 read-at-spec = tie.close (tie.spec add-read-row mul-read-row read-row-requires returns)

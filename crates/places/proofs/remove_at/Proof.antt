@@ -14,7 +14,9 @@ use Rattle.places.proofs.remove_at.Statement.{statement}
 use Rattle.places.proofs.remove_at.Tie as tie
 
 abbrev Inv-loop : tie.InvT-loop
-Inv-loop q₀ ring-end n at first hole₀ left₀ q hole left = (left ≤ at) × (hole ≡ (ring-end + (first + left)) % round * width) × (length q ≡ length q₀) × (removeAt (first + left) (turned ring-end (places q)) ≡ removeAt (first + at) (turned ring-end (places q₀))) × (spare q ≡ spare q₀) × Ring (capacity q) ring-end
+Inv-loop q₀ ring-end n at first hole₀ left₀ q hole left = (left ≤ at) × (hole ≡ (ring-end + (first + left)) % round * width) ×
+    (length q ≡ length q₀) × (removeAt (first + left) (turned ring-end (places q)) ≡ removeAt (first + at) (turned ring-end (places q₀))) ×
+    (spare q ≡ spare q₀) × Ring (capacity q) ring-end
 
 abbrev μ-loop : tie.MeasureT-loop
 μ-loop q₀ ring-end n at first hole₀ left₀ q hole left = left
@@ -28,7 +30,11 @@ add-hole c = search needs
 add-hole-2 : tie.Need-add-hole-2 Inv-loop μ-loop
 add-hole-2 c =
     let s = c .before in
-    omega (arith, ring-small (capacity (s .args .q .now)) (s .args .ring-end) (s .pre .1 .0), used-fits (s .args .q .now) (s .args .ring-end) (s .args .n) (s .pre .0))
+    omega (
+      arith,
+      ring-small (capacity (s .args .q .now)) (s .args .ring-end) (s .pre .1 .0),
+      used-fits (s .args .q .now) (s .args .ring-end) (s .args .n) (s .pre .0),
+    )
 
 mul-hole : tie.Need-mul-hole Inv-loop μ-loop
 mul-hole c = search needs
@@ -47,14 +53,20 @@ read-row-requires c κs =
     let s = c .before .before .before .before in
     let l = c .before .before .loop in
     let k = capacity (s .args .q .now) - s .args .n in
-    row-of (l .q) (s .args .ring-end) (k + (l .left - 1)) _ (l .inv .5) (omega (arith, slot-within (s .args .q .now) (s .args .ring-end) (s .args .n) (s .args .at) (s .pre .0) (s .pre .1 .1))) (omega arith)
+    row-of (l .q) (s .args .ring-end) (k + (l .left - 1)) _ (l .inv .5)
+    (omega (arith, slot-within (s .args .q .now) (s .args .ring-end) (s .args .n) (s .args .at) (s .pre .0) (s .pre .1 .1)))
+    (omega arith)
 
 write-row-requires : tie.Need-write-row-requires Inv-loop μ-loop
 write-row-requires c κs =
     let s = c .before .before .before .before .before .before in
     let l = c .before .before .before .before .loop in
-    let k = capacity (s .args .q .now) - s .args .n in
-    (row-of (l .q) (s .args .ring-end) (k + l .left) (l .hole) (l .inv .5) (omega (arith, slot-within (s .args .q .now) (s .args .ring-end) (s .args .n) (s .args .at) (s .pre .0) (s .pre .1 .1))) (l .inv .1), c .before .read-row .ensures .1)
+    let k = capacity (s .args .q .now) - s .args .n in (
+      row-of (l .q) (s .args .ring-end) (k + l .left) (l .hole) (l .inv .5)
+          (omega (arith, slot-within (s .args .q .now) (s .args .ring-end) (s .args .n) (s .args .at) (s .pre .0) (s .pre .1 .1)))
+          (l .inv .1),
+      c .before .read-row .ensures .1,
+    )
 
 sub-left : tie.Need-sub-left Inv-loop μ-loop
 sub-left c = search needs
@@ -70,7 +82,9 @@ loop-again c =
     let k = capacity (s .args .q .now) - s .args .n in
     let a = (l .hole + round * width - width) % (round * width) in
     let w = c .before .before .write-row .ensures in
-    let t = shifts (l .q) e (k + (l .left - 1)) (k + l .left) a (l .hole) (l .inv .5) (omega arith) (omega (arith, slot-within (s .args .q .now) (s .args .ring-end) (s .args .n) (s .args .at) (s .pre .0) (s .pre .1 .1))) (omega arith) (l .inv .1) _ _ (c .before .before .before .before .read-row .ensures .0) (w .0) in
+    let t = shifts (l .q) e (k + (l .left - 1)) (k + l .left) a (l .hole) (l .inv .5) (omega arith)
+    (omega (arith, slot-within (s .args .q .now) (s .args .ring-end) (s .args .n) (s .args .at) (s .pre .0) (s .pre .1 .1)))
+    (omega arith) (l .inv .1) _ _ (c .before .before .before .before .read-row .ensures .0) (w .0) in
     (omega arith, omega arith, omega arith, t ∙ l .inv .3, w .1 ∙ l .inv .4, ring-same (capacity (l .q)) _ e (l .inv .5) (omega arith))
 
 nothing-requires : tie.Need-nothing-requires Inv-loop μ-loop
@@ -80,8 +94,12 @@ write-row-requires-2 : tie.Need-write-row-requires-2 Inv-loop μ-loop
 write-row-requires-2 c κs =
     let s = c .before .before .before .before .before in
     let l = c .before .before .before .loop in
-    let k = capacity (s .args .q .now) - s .args .n in
-    (row-of (l .q) (s .args .ring-end) (k + l .left) (l .hole) (l .inv .5) (omega (arith, slot-within (s .args .q .now) (s .args .ring-end) (s .args .n) (s .args .at) (s .pre .0) (s .pre .1 .1))) (l .inv .1), c .before .nothing .ensures .1)
+    let k = capacity (s .args .q .now) - s .args .n in (
+      row-of (l .q) (s .args .ring-end) (k + l .left) (l .hole) (l .inv .5)
+          (omega (arith, slot-within (s .args .q .now) (s .args .ring-end) (s .args .n) (s .args .at) (s .pre .0) (s .pre .1 .1)))
+          (l .inv .1),
+      c .before .nothing .ensures .1,
+    )
 
 same-length : tie.Need-same-length Inv-loop μ-loop
 same-length c = search needs
@@ -95,9 +113,15 @@ returns c =
     let k = capacity p - s .args .n in
     let z : k + l .left ≡ k = omega arith in
     let w = c .before .before .write-row2 .ensures in
-    let r = fills (l .q) e (k + l .left) (l .hole) (l .inv .5) (omega (arith, slot-within (s .args .q .now) (s .args .ring-end) (s .args .n) (s .args .at) (s .pre .0) (s .pre .1 .1))) (l .inv .1) _ _ (w .0) in
+    let r = fills (l .q) e (k + l .left) (l .hole) (l .inv .5) (omega (
+      arith,
+      slot-within (s .args .q .now) (s .args .ring-end) (s .args .n) (s .args .at) (s .pre .0) (s .pre .1 .1),
+    )) (l .inv .1) _ _ (w .0)
+    in
     let m = remove-made (lot p e (s .args .n)) _ (s .args .at) k (s .pre .0) (s .pre .1 .1) (omega (arith, size p e))
-    (r ∙ rw (c .before .before .before .before .nothing .ensures .0) (ap (insertAt (k + l .left) empty) (l .inv .3) ∙ ap (λ (j : ℕ). insertAt j empty (removeAt (k + s .args .at) (turned e (places p)))) z)) in
+    (r ∙ rw (c .before .before .before .before .nothing .ensures .0)
+    (ap (insertAt (k + l .left) empty) (l .inv .3) ∙ ap (λ (j : ℕ). insertAt j empty (removeAt (k + s .args .at) (turned e (places p))))
+    z)) in
     record { good = m .0; list = m .1; rest = w .1 ∙ l .inv .4 }
 
 pub remove-at-spec : {M : Type 1} → statement M

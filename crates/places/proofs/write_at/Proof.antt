@@ -14,7 +14,11 @@ mul-write-row : tie.Need-mul-write-row
 mul-write-row c = search needs
 
 write-row-requires : tie.Need-write-row-requires
-write-row-requires c κs = let s = c .before .before in (row-of (s .args .q .now) (s .args .ring-end) (s .args .i) _ (s .pre .0) (s .pre .1 .0) refl, s .pre .1 .1)
+write-row-requires c κs = let s = c .before .before in (
+  row-of (s .args .q .now) (s .args .ring-end) (s .args .i) _ (s .pre .0)
+      (s .pre .1 .0) refl,
+  s .pre .1 .1,
+)
 
 same-length : tie.Need-same-length
 same-length c = search needs
@@ -22,8 +26,11 @@ same-length c = search needs
 returns : tie.Need-returns
 returns c =
     let s = c .before .before .before .before .before in
-    let w = c .before .before .write-row .ensures in
-    (ap (turned (s .args .ring-end)) (w .0) ∙ row-set (s .args .q .now) (s .args .ring-end) (s .args .i) _ (s .pre .0) (s .pre .1 .0) refl (s .args .x), w .1)
+    let w = c .before .before .write-row .ensures in (
+      ap (turned (s .args .ring-end)) (w .0) ∙ row-set (s .args .q .now) (s .args .ring-end) (s .args .i) _ (s .pre .0) (s .pre .1 .0) refl
+          (s .args .x),
+      w .1,
+    )
 
 pub write-at-spec : {M : Type 1} → statement M
 write-at-spec =

@@ -96,8 +96,10 @@ same-length c = simp length-set
 returns : tie.Need-returns
 returns c =
     let s = c .before .before .before in
-    let a = s .args in
-    (store-is (a .q .now) (a .b) (a .x) (s .pre .1 .overrides, s .pre .1 .mux) (s .pre .0), store-spare (a .q .now) (a .b) (a .x) (s .pre .0))
+    let a = s .args in (
+      store-is (a .q .now) (a .b) (a .x) (s .pre .1 .overrides, s .pre .1 .mux) (s .pre .0),
+      store-spare (a .q .now) (a .b) (a .x) (s .pre .0),
+    )
 
 pub write-row-spec : {M : Type 1} → statement M
 write-row-spec =

@@ -39,7 +39,8 @@ returns-3 c =
 
 returns-4 : tie.Need-returns-4
 returns-4 c =
-    let s = c .before .before .before .before .before .before .before .before .before .before in
+    let c8 = c .before .before .before .before .before .before .before .before in
+    let s = c8 .before .before in
     let t = s .args .t .now in
     rw (lt-ltb 1 (overridePlaying t) (omega (arith, ap (λ x. x .overrides) (s .pre .1 .1 .0)))) (simp or-true)
 
@@ -48,13 +49,15 @@ shared-slice-read-result c = search needs
 
 returns-5 : tie.Need-returns-5
 returns-5 c =
-    let s = c .before .before .before .before .before .before .before .before .before .before .before in
+    let c8 = c .before .before .before .before .before .before .before .before in
+    let s = c8 .before .before .before in
     let d = s .args .d .now in
     let t = s .args .t .now in
     let time : (eqb (priorSession d) nobody && badMicros (microSeconds d)) ≡ false =
     ⊎-elim
     (λ w. ap (λ b. b && badMicros (microSeconds d)) (ne-eqb (priorSession d) nobody (omega (arith, tests, w .1 .ensures, w .2 .left))))
-    (λ w. ap (λ b. eqb (priorSession d) nobody && b) (le-ltb 999999 (microSeconds d) (omega (arith, w .left))) ∙ and-false (eqb (priorSession d) nobody))
+    (λ w. ap (λ b. eqb (priorSession d) nobody && b) (le-ltb 999999 (microSeconds d) (omega (arith, w .left)))
+    ∙ and-false (eqb (priorSession d) nobody))
     (c .before .before .before .before .before .before .before .if1 .came) in
     rw (
       le-ltb (length t) 15 (s .pre .1 .0),

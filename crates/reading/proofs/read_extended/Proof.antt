@@ -30,7 +30,11 @@ returns-3 : tie.Need-returns-3
 unfolding readExtended
 returns-3 c =
     let d = c .before .before .before .before .before .args .d .now in
-    rw (eq-eqb (length d) 8 (omega arith), eq-eqb (field 4 4 d) defaultType (sym (c .before .before .number4 .ensures) ∙ c .before .if2 .left))
+    rw (
+      eq-eqb (length d) 8 (omega arith),
+      eq-eqb (field 4 4 d) defaultType
+          (sym (c .before .before .number4 .ensures) ∙ c .before .if2 .left),
+    )
     (ap Extended (c .number42 .ensures))
 
 pub read-extended-spec : {M : Type 1} → statement M

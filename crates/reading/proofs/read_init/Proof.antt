@@ -35,7 +35,10 @@ returns-2 c =
     let s = c .before .before .before .before in
     let number2 = c .before .number2 in
     let d = s .args .d .now in
-    rw (le-ltb (length d) (hardwarePlace + 2) (omega arith), lt-ltb longestHardware (2 + hardwareLength d) (omega (arith, number2 .ensures)))
+    rw (
+      le-ltb (length d) (hardwarePlace + 2) (omega arith),
+      lt-ltb longestHardware (2 + hardwareLength d) (omega (arith, number2 .ensures)),
+    )
 
 add-if3 : tie.Need-add-if3
 add-if3 c = search needs
@@ -46,7 +49,11 @@ returns-3 c =
     let s = c .before .before .before .before .before in
     let number2 = c .before .before .number2 in
     let d = s .args .d .now in
-    rw (le-ltb (length d) (hardwarePlace + 2) (omega arith), le-ltb longestHardware (2 + hardwareLength d) (omega (arith, number2 .ensures)), lt-ltb (length d) (hardwarePlace + 2 + hardwareLength d) (omega (arith, number2 .ensures)))
+    rw (
+      le-ltb (length d) (hardwarePlace + 2) (omega arith),
+      le-ltb longestHardware (2 + hardwareLength d) (omega (arith, number2 .ensures)),
+      lt-ltb (length d) (hardwarePlace + 2 + hardwareLength d) (omega (arith, number2 .ensures)),
+    )
 
 channel-name-requires : tie.Need-channel-name-requires
 channel-name-requires c κs = search needs
@@ -63,7 +70,12 @@ returns-4 c =
     let has-zero = c .before .has-zero in
     let if4 = c .if4 in
     let d = s .args .d .now in
-    rw (le-ltb (length d) (hardwarePlace + 2) (omega arith), le-ltb longestHardware (2 + hardwareLength d) (omega (arith, number2 .ensures)), le-ltb (length d) (hardwarePlace + 2 + hardwareLength d) (omega (arith, number2 .ensures)), said hasZero (has-zero .ensures) (channel-name .ensures) (if4 .taken))
+    rw (
+      le-ltb (length d) (hardwarePlace + 2) (omega arith),
+      le-ltb longestHardware (2 + hardwareLength d) (omega (arith, number2 .ensures)),
+      le-ltb (length d) (hardwarePlace + 2 + hardwareLength d) (omega (arith, number2 .ensures)),
+      said hasZero (has-zero .ensures) (channel-name .ensures) (if4 .taken),
+    )
 
 splicer-name-requires : tie.Need-splicer-name-requires
 splicer-name-requires c κs = search needs
@@ -74,7 +86,8 @@ has-zero-requires-2 c κs = search needs
 returns-5 : tie.Need-returns-5
 unfolding readInit
 returns-5 c =
-    let s = c .before .before .before .before .before .before .before .before .before .before .before in
+    let c8 = c .before .before .before .before .before .before .before .before in
+    let s = c8 .before .before .before in
     let number2 = c .before .before .before .before .before .before .before .before .number2 in
     let channel-name = c .before .before .before .before .before .channel-name in
     let has-zero = c .before .before .before .before .has-zero in
@@ -83,7 +96,13 @@ returns-5 c =
     let has-zero2 = c .before .has-zero2 in
     let if5 = c .if5 in
     let d = s .args .d .now in
-    rw (le-ltb (length d) (hardwarePlace + 2) (omega arith), le-ltb longestHardware (2 + hardwareLength d) (omega (arith, number2 .ensures)), le-ltb (length d) (hardwarePlace + 2 + hardwareLength d) (omega (arith, number2 .ensures)), said hasZero (has-zero .ensures) (channel-name .ensures) (if4 .left), said hasZero (has-zero2 .ensures) (splicer-name .ensures) (if5 .taken))
+    rw (
+      le-ltb (length d) (hardwarePlace + 2) (omega arith),
+      le-ltb longestHardware (2 + hardwareLength d) (omega (arith, number2 .ensures)),
+      le-ltb (length d) (hardwarePlace + 2 + hardwareLength d) (omega (arith, number2 .ensures)),
+      said hasZero (has-zero .ensures) (channel-name .ensures) (if4 .left),
+      said hasZero (has-zero2 .ensures) (splicer-name .ensures) (if5 .taken),
+    )
 
 number2-requires-2 : tie.Need-number2-requires-2
 number2-requires-2 c κs = search needs
@@ -91,7 +110,8 @@ number2-requires-2 c κs = search needs
 returns-6 : tie.Need-returns-6
 unfolding readInit
 returns-6 c =
-    let s = c .before .before .before .before .before .before .before .before .before .before .before .before in
+    let c8 = c .before .before .before .before .before .before .before .before in
+    let s = c8 .before .before .before .before in
     let number2 = c .before .before .before .before .before .before .before .before .before .number2 in
     let channel-name = c .before .before .before .before .before .before .channel-name in
     let has-zero = c .before .before .before .before .before .has-zero in
@@ -101,7 +121,13 @@ returns-6 c =
     let if5 = c .before .if5 in
     let number22 = c .number22 in
     let d = s .args .d .now in
-    rw (le-ltb (length d) (hardwarePlace + 2) (omega arith), le-ltb longestHardware (2 + hardwareLength d) (omega (arith, number2 .ensures)), le-ltb (length d) (hardwarePlace + 2 + hardwareLength d) (omega (arith, number2 .ensures)), said hasZero (has-zero .ensures) (channel-name .ensures) (if4 .left), said hasZero (has-zero2 .ensures) (splicer-name .ensures) (if5 .left)) (ap Init (number22 .ensures))
+    rw (
+      le-ltb (length d) (hardwarePlace + 2) (omega arith),
+      le-ltb longestHardware (2 + hardwareLength d) (omega (arith, number2 .ensures)),
+      le-ltb (length d) (hardwarePlace + 2 + hardwareLength d) (omega (arith, number2 .ensures)),
+      said hasZero (has-zero .ensures) (channel-name .ensures) (if4 .left),
+      said hasZero (has-zero2 .ensures) (splicer-name .ensures) (if5 .left),
+    ) (ap Init (number22 .ensures))
 
 pub read-init-spec : {M : Type 1} → statement M
 read-init-spec =

@@ -42,7 +42,8 @@ sub-read-whole c =
     let s = c .before .before .before .before .before .before .before in
     let d = s .args .d .now in
     let n = c .before .place .given .0 .0 in
-    let t = subst (Placed (tailOf d) d) (sym (c .before .before .before .tail-place .ensures) ∙ c .before .place .given .1) (tail-is d (omega arith)) in
+    let t = subst (Placed (tailOf d) d) (sym (c .before .before .before .tail-place .ensures) ∙ c .before .place .given .1)
+    (tail-is d (omega arith)) in
     omega (arith, t .1)
 
 part-read-whole-start : tie.Need-part-read-whole-start
@@ -50,7 +51,8 @@ part-read-whole-start c =
     let s = c .before .before .before .before .before .before .before in
     let d = s .args .d .now in
     let n = c .before .place .given .0 .0 in
-    let t = subst (Placed (tailOf d) d) (sym (c .before .before .before .tail-place .ensures) ∙ c .before .place .given .1) (tail-is d (omega arith)) in
+    let t = subst (Placed (tailOf d) d) (sym (c .before .before .before .tail-place .ensures) ∙ c .before .place .given .1)
+    (tail-is d (omega arith)) in
     omega (arith, t .1)
 
 part-read-whole-end : tie.Need-part-read-whole-end
@@ -65,7 +67,8 @@ returns-3 c =
     let s = c .before .before .before .before .before .before .before .before .before in
     let d = s .args .d .now in
     let n = c .before .before .before .place .given .0 .0 in
-    let t = subst (Placed (tailOf d) d) (sym (c .before .before .before .before .before .tail-place .ensures) ∙ c .before .before .before .place .given .1) (tail-is d (omega arith)) in
+    let t = subst (Placed (tailOf d) d) (sym (c .before .before .before .before .before .tail-place .ensures)
+    ∙ c .before .before .before .place .given .1) (tail-is d (omega arith)) in
     rw (le-ltb (length d) 18 (omega arith)) (c .read-whole .ensures ∙ ap (readWhole d) (behind n d ∙ sym (t .0)))
 
 pub read-splice-spec : {M : Type 1} → statement M

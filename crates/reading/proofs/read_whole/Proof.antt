@@ -43,7 +43,13 @@ whole-request-requires : tie.Need-whole-request-requires
 whole-request-requires c κs =
     let p = c .before .before .before in
     let s = p .before .before .before .before .before in
-    let t = s .args .t .now in (s .pre .0, (omega arith, (s .pre .1, sym (p .priority .ensures ∙ ap muxOf (behind 15 t)) ∙ c .before .mux .given .1)))
+    let t = s .args .t .now in (
+      s .pre .0,
+      (
+        omega arith,
+        (s .pre .1, sym (p .priority .ensures ∙ ap muxOf (behind 15 t)) ∙ c .before .mux .given .1),
+      ),
+    )
 
 bad-splice-requires : tie.Need-bad-splice-requires
 bad-splice-requires c κs =
@@ -51,7 +57,13 @@ bad-splice-requires c κs =
     let s = p .before .before .before .before .before in
     let t = s .args .t .now in (
       s .pre .0,
-      (omega arith, (c .whole-request .ensures, ap isBad (sym (p .priority .ensures ∙ ap muxOf (behind 15 t)) ∙ c .before .before .mux .given .1))),
+      (
+        omega arith,
+        (
+          c .whole-request .ensures,
+          ap isBad (sym (p .priority .ensures ∙ ap muxOf (behind 15 t)) ∙ c .before .before .mux .given .1),
+        ),
+      ),
     )
 
 returns-3 : tie.Need-returns-3

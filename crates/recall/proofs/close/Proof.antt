@@ -31,7 +31,8 @@ returns c =
     let s = c .before .before .before .before .before .before in
     let next-place = c .before .before .next-place in
     let enum-told = c .enum-told in
-    remembers-full (closes (s .args .conn) (length (s .args .out .now))) (s .args .log .now) (s .args .out .now) (space-none (s .args .log .now) (sym (next-place .ensures) ∙ enum-told .given .1))
+    remembers-full (closes (s .args .conn) (length (s .args .out .now))) (s .args .log .now) (s .args .out .now)
+    (space-none (s .args .log .now) (sym (next-place .ensures) ∙ enum-told .given .1))
 
 slice-aggregate-pass : tie.Need-slice-aggregate-pass
 slice-aggregate-pass c = search needs
@@ -62,31 +63,47 @@ same-length-3 c = search needs
 
 returns-2 : tie.Need-returns-2
 returns-2 c =
-    let slice-known = c .before .before .before .before .before .before .before .before .before .before .before .before .before .before .before .before .before .slice-known in
-    let s = c .before .before .before .before .before .before .before .before .before .before .before .before .before .before .before .before .before .before in
-    let next-place = c .before .before .before .before .before .before .before .before .before .before .before .before .before .before .next-place in
-    let space = c .before .before .before .before .before .before .before .before .before .before .before .before .space in
+    let c8 = c .before .before .before .before .before .before .before .before in
+    let c16 = c8 .before .before .before .before .before .before .before .before in
+    let slice-known = c16 .before .slice-known in
+    let s = c16 .before .before in
+    let next-place = c8 .before .before .before .before .before .before .next-place in
+    let space = c8 .before .before .before .before .space in
     let pass = c .before .before .before .before .before .before .before .before .pass in
     let close = c .before .before .before .before .close in
     let match2 = c .match2 in
-    played-not (closes (s .args .conn) (length (s .args .out .now))) (s .args .log .now) (all-at Byte 0 (s .args .log .now) (λ i. omega (arith, slice-known .given i))) ((space-from (s .args .log .now) (sym (next-place .ensures) ∙ space .given .1)) .0) (pass .ensures) (close-is (s .args .conn) (length (s .args .out .now))) (close .ensures (s .args .log .now)) (match2 .keys2)
+    played-not (closes (s .args .conn) (length (s .args .out .now))) (s .args .log .now)
+    (all-at Byte 0 (s .args .log .now) (λ i. omega (arith, slice-known .given i)))
+    ((space-from (s .args .log .now) (sym (next-place .ensures) ∙ space .given .1)) .0) (pass .ensures)
+    (close-is (s .args .conn) (length (s .args .out .now))) (close .ensures (s .args .log .now)) (match2 .keys2)
 
 cast-keep-close : tie.Need-cast-keep-close
 cast-keep-close c =
-    let slice-known = c .before .before .before .before .before .before .before .before .before .before .before .before .before .before .before .before .before .before .before .slice-known in
-    let s = c .before .before .before .before .before .before .before .before .before .before .before .before .before .before .before .before .before .before .before .before in
-    let next-place = c .before .before .before .before .before .before .before .before .before .before .before .before .before .before .before .before .next-place in
-    let space = c .before .before .before .before .before .before .before .before .before .before .before .before .before .before .space in
-    let pass = c .before .before .before .before .before .before .before .before .before .before .pass in
+    let c8 = c .before .before .before .before .before .before .before .before in
+    let c16 = c8 .before .before .before .before .before .before .before .before in
+    let slice-known = c16 .before .before .before .slice-known in
+    let s = c16 .before .before .before .before in
+    let next-place = c16 .next-place in
+    let space = c8 .before .before .before .before .before .before .space in
+    let pass = c8 .before .before .pass in
     let close = c .before .before .before .before .before .before .close in
     let enum-told2 = c .before .enum-told2 in
-    omega (arith, close-low (s .args .conn) (length (s .args .out .now)) _ (played-good (closes (s .args .conn) (length (s .args .out .now))) (s .args .log .now) (all-at Byte 0 (s .args .log .now) (λ i. omega (arith, slice-known .given i))) ((space-from (s .args .log .now) (sym (next-place .ensures) ∙ space .given .1)) .0) (pass .ensures) (close-is (s .args .conn) (length (s .args .out .now))) (close .ensures (s .args .log .now)) (enum-told2 .given .1)))
+    omega (
+      arith,
+      close-low (s .args .conn) (length (s .args .out .now)) _
+          (played-good (closes (s .args .conn) (length (s .args .out .now))) (s .args .log .now)
+          (all-at Byte 0 (s .args .log .now) (λ i. omega (arith, slice-known .given i)))
+          ((space-from (s .args .log .now) (sym (next-place .ensures) ∙ space .given .1)) .0) (pass .ensures)
+          (close-is (s .args .conn) (length (s .args .out .now))) (close .ensures (s .args .log .now)) (enum-told2 .given .1)),
+    )
 
 keep-close-requires : tie.Need-keep-close-requires
 keep-close-requires c κs =
-    let s = c .before .before .before .before .before .before .before .before .before .before .before .before .before .before .before .before .before .before .before .before in
-    let next-place = c .before .before .before .before .before .before .before .before .before .before .before .before .before .before .before .before .next-place in
-    let space = c .before .before .before .before .before .before .before .before .before .before .before .before .before .before .space in
+    let c8 = c .before .before .before .before .before .before .before .before in
+    let c16 = c8 .before .before .before .before .before .before .before .before in
+    let s = c16 .before .before .before .before in
+    let next-place = c16 .next-place in
+    let space = c8 .before .before .before .before .before .before .space in
     (space-from (s .args .log .now) (sym (next-place .ensures) ∙ space .given .1)) .1
 
 same-length-4 : tie.Need-same-length-4
@@ -98,15 +115,21 @@ same-length-5 c = search needs
 returns-3 : tie.Need-returns-3
 unfolding keptForm
 returns-3 c =
-    let slice-known = c .before .before .before .before .before .before .before .before .before .before .before .before .before .before .before .before .before .before .before .before .before .before .slice-known in
-    let s = c .before .before .before .before .before .before .before .before .before .before .before .before .before .before .before .before .before .before .before .before .before .before .before in
-    let next-place = c .before .before .before .before .before .before .before .before .before .before .before .before .before .before .before .before .before .before .before .next-place in
-    let space = c .before .before .before .before .before .before .before .before .before .before .before .before .before .before .before .before .before .space in
-    let pass = c .before .before .before .before .before .before .before .before .before .before .before .before .before .pass in
+    let c8 = c .before .before .before .before .before .before .before .before in
+    let c16 = c8 .before .before .before .before .before .before .before .before in
+    let slice-known = c16 .before .before .before .before .before .before .slice-known in
+    let s = c16 .before .before .before .before .before .before .before in
+    let next-place = c16 .before .before .before .next-place in
+    let space = c16 .before .space in
+    let pass = c8 .before .before .before .before .before .pass in
     let close = c .before .before .before .before .before .before .before .before .before .close in
     let enum-told2 = c .before .before .before .before .enum-told2 in
     let keep-close = c .before .before .keep-close in
-    played-done (closes (s .args .conn) (length (s .args .out .now))) (s .args .log .now) (all-at Byte 0 (s .args .log .now) (λ i. omega (arith, slice-known .given i))) ((space-from (s .args .log .now) (sym (next-place .ensures) ∙ space .given .1)) .0) (pass .ensures) (close-is (s .args .conn) (length (s .args .out .now))) (close .ensures (s .args .log .now)) (enum-told2 .given .1) (keep-close .ensures)
+    played-done (closes (s .args .conn) (length (s .args .out .now))) (s .args .log .now)
+    (all-at Byte 0 (s .args .log .now) (λ i. omega (arith, slice-known .given i)))
+    ((space-from (s .args .log .now) (sym (next-place .ensures) ∙ space .given .1)) .0) (pass .ensures)
+    (close-is (s .args .conn) (length (s .args .out .now))) (close .ensures (s .args .log .now)) (enum-told2 .given .1)
+    (keep-close .ensures)
 
 pub close-spec : {M : Type 1} → statement M
 close-spec =

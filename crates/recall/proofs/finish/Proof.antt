@@ -24,7 +24,8 @@ returns-2 c =
     let s = c .before .before .before .before .before .before .before .before .before in
     let enum-told = c .before .before .before .before .enum-told in
     let answer-config = c .before .before .answer-config in
-    finish-config (s .args .log .now) (s .args .h) (s .args .conn) (s .args .section .now) (s .args .g) (s .args .out .now) (enum-told .given .1) (answer-config .ensures)
+    finish-config (s .args .log .now) (s .args .h) (s .args .conn) (s .args .section .now) (s .args .g) (s .args .out .now)
+    (enum-told .given .1) (answer-config .ensures)
 
 pub finish-spec : {M : Type 1} → statement M
 finish-spec =

@@ -3,7 +3,8 @@ use Prim.Native.Nat.{ℕ, _≤_}
 use Rattle.recall_log.proofs.Logs.{not-full}
 use Rattle.recall_pass.proofs.Laws.{passed-ready}
 use Rattle.recall.proofs.Calls.{remembers-full, space-none, space-from}
-use Rattle.recall.proofs.Messages.{both-short, framed-here, chosen, brief, message-refused, message-low, message-within, message-whole}
+use Rattle.recall.proofs.Messages.{both-short, framed-here, chosen, brief, message-refused, message-low, message-within}
+use Rattle.recall.proofs.Messages.{message-whole}
 use Rattle.rules.proofs.All.{all-at}
 use Rattle.rules.specs.Bytes.{Byte}
 use Rattle.rules.specs.Calls.{lendingMaps, longestSection, messages}
@@ -36,14 +37,17 @@ returns c =
     let s = c .before .before .before .before .before .before .before .before .before in
     let next-place = c .before .before .next-place in
     let enum-told = c .enum-told in
-    remembers-full (messages (s .args .conn) (s .args .l .now) (lendingMaps (s .args .primary .now) (s .args .insertion .now) (length (s .args .out .now)))) (s .args .log .now) (s .args .out .now) (space-none (s .args .log .now) (sym (next-place .ensures) ∙ enum-told .given .1))
+    remembers-full (messages (s .args .conn) (s .args .l .now) (lendingMaps (s .args .primary .now) (s .args .insertion .now)
+    (length (s .args .out .now)))) (s .args .log .now) (s .args .out .now)
+    (space-none (s .args .log .now) (sym (next-place .ensures) ∙ enum-told .given .1))
 
 slice-aggregate-pass : tie.Need-slice-aggregate-pass
 slice-aggregate-pass c = search needs
 
 pass-requires : tie.Need-pass-requires
 pass-requires c κs =
-    let s = c .before .before .before .before .before .before .before .before .before .before .before .before in
+    let c8 = c .before .before .before .before .before .before .before .before in
+    let s = c8 .before .before .before .before in
     let next-place = c .before .before .before .before .before .next-place in
     let space = c .before .before .before .space in
     (not-full (s .args .log .now) ((space-from (s .args .log .now) (sym (next-place .ensures) ∙ space .given .1)) .0) .few, omega arith)
@@ -76,107 +80,243 @@ cast-data-of c = search needs
 
 data-of-requires : tie.Need-data-of-requires
 data-of-requires c κs =
-    let slice-known = c .before .before .before .before .before .before .before .before .before .before .before .before .before .before .before .before .before .before .before .before .before .slice-known in
-    let s = c .before .before .before .before .before .before .before .before .before .before .before .before .before .before .before .before .before .before .before .before .before .before in
-    let next-place = c .before .before .before .before .before .before .before .before .before .before .before .before .before .before .before .next-place in
-    let space = c .before .before .before .before .before .before .before .before .before .before .before .before .before .space in
+    let c8 = c .before .before .before .before .before .before .before .before in
+    let c16 = c8 .before .before .before .before .before .before .before .before in
+    let slice-known = c16 .before .before .before .before .before .slice-known in
+    let s = c16 .before .before .before .before .before .before in
+    let next-place = c8 .before .before .before .before .before .before .before .next-place in
+    let space = c8 .before .before .before .before .before .space in
     let pass = c .before .before .before .before .before .before .before .before .before .pass in
     let is-long = c .before .before .before .before .before .before .before .is-long in
     let framed = c .before .before .before .before .before .before .framed in
     let id = c .before .before .before .before .id in
-    message-within (s .args .log .now) (all-at Byte 0 (s .args .log .now) (λ i. omega (arith, slice-known .given i))) ((space-from (s .args .log .now) (sym (next-place .ensures) ∙ space .given .1)) .0) (pass .ensures) (s .args .conn) (s .args .l .now) (lendingMaps (s .args .primary .now) (s .args .insertion .now) (length (s .args .out .now))) (framed-here (pass .ensures) (s .args .conn) (s .args .l .now) (lendingMaps (s .args .primary .now) (s .args .insertion .now) (length (s .args .out .now))) (framed .ensures) (is-long .ensures) (id .given .1)) .0
+    message-within (s .args .log .now) (all-at Byte 0 (s .args .log .now) (λ i. omega (arith, slice-known .given i)))
+    ((space-from (s .args .log .now) (sym (next-place .ensures) ∙ space .given .1)) .0) (pass .ensures) (s .args .conn)
+    (s .args .l .now) (lendingMaps (s .args .primary .now) (s .args .insertion .now) (length (s .args .out .now)))
+    (framed-here (pass .ensures) (s .args .conn) (s .args .l .now)
+    (lendingMaps (s .args .primary .now) (s .args .insertion .now) (length (s .args .out .now))) (framed .ensures) (is-long .ensures)
+    (id .given .1)) .0
 
 slice-aggregate-hear : tie.Need-slice-aggregate-hear
 slice-aggregate-hear c = search needs
 
 hear-requires : tie.Need-hear-requires
 hear-requires c κs =
-    let slice-known = c .before .before .before .before .before .before .before .before .before .before .before .before .before .before .before .before .before .before .before .before .before .before .before .before .slice-known in
-    let s = c .before .before .before .before .before .before .before .before .before .before .before .before .before .before .before .before .before .before .before .before .before .before .before .before .before in
-    let next-place = c .before .before .before .before .before .before .before .before .before .before .before .before .before .before .before .before .before .before .next-place in
-    let space = c .before .before .before .before .before .before .before .before .before .before .before .before .before .before .before .before .space in
-    let pass = c .before .before .before .before .before .before .before .before .before .before .before .before .pass in
-    let is-long = c .before .before .before .before .before .before .before .before .before .before .is-long in
+    let c8 = c .before .before .before .before .before .before .before .before in
+    let c16 = c8 .before .before .before .before .before .before .before .before in
+    let c24 = c16 .before .before .before .before .before .before .before .before in
+    let slice-known = c24 .slice-known in
+    let s = c24 .before in
+    let next-place = c16 .before .before .next-place in
+    let space = c16 .space in
+    let pass = c8 .before .before .before .before .pass in
+    let is-long = c8 .before .before .is-long in
     let framed = c .before .before .before .before .before .before .before .before .before .framed in
-    let id = c .before .before .before .before .before .before .before .id in
-    (passed-ready (pass .ensures), (pass .ensures .fits, (message-low (s .args .log .now) (all-at Byte 0 (s .args .log .now) (λ i. omega (arith, slice-known .given i))) ((space-from (s .args .log .now) (sym (next-place .ensures) ∙ space .given .1)) .0) (pass .ensures) (s .args .conn) (s .args .l .now) (lendingMaps (s .args .primary .now) (s .args .insertion .now) (length (s .args .out .now))) (framed-here (pass .ensures) (s .args .conn) (s .args .l .now) (lendingMaps (s .args .primary .now) (s .args .insertion .now) (length (s .args .out .now))) (framed .ensures) (is-long .ensures) (id .given .1)) .0, message-low (s .args .log .now) (all-at Byte 0 (s .args .log .now) (λ i. omega (arith, slice-known .given i))) ((space-from (s .args .log .now) (sym (next-place .ensures) ∙ space .given .1)) .0) (pass .ensures) (s .args .conn) (s .args .l .now) (lendingMaps (s .args .primary .now) (s .args .insertion .now) (length (s .args .out .now))) (framed-here (pass .ensures) (s .args .conn) (s .args .l .now) (lendingMaps (s .args .primary .now) (s .args .insertion .now) (length (s .args .out .now))) (framed .ensures) (is-long .ensures) (id .given .1)) .1)))
+    let id = c .before .before .before .before .before .before .before .id in (
+      passed-ready (pass .ensures),
+      (
+        pass .ensures .fits,
+        (
+          message-low (s .args .log .now)
+              (all-at Byte 0 (s .args .log .now) (λ i. omega (arith, slice-known .given i)))
+              ((space-from (s .args .log .now) (sym (next-place .ensures) ∙ space .given .1)) .0) (pass .ensures) (s .args .conn)
+              (s .args .l .now) (lendingMaps (s .args .primary .now) (s .args .insertion .now) (length (s .args .out .now)))
+              (framed-here (pass .ensures) (s .args .conn) (s .args .l .now)
+              (lendingMaps (s .args .primary .now) (s .args .insertion .now) (length (s .args .out .now))) (framed .ensures)
+              (is-long .ensures)
+              (id .given .1)) .0,
+          message-low (s .args .log .now) (all-at Byte 0 (s .args .log .now) (λ i. omega (arith, slice-known .given i)))
+              ((space-from (s .args .log .now) (sym (next-place .ensures) ∙ space .given .1)) .0) (pass .ensures) (s .args .conn)
+              (s .args .l .now) (lendingMaps (s .args .primary .now) (s .args .insertion .now) (length (s .args .out .now)))
+              (framed-here (pass .ensures) (s .args .conn) (s .args .l .now)
+              (lendingMaps (s .args .primary .now) (s .args .insertion .now) (length (s .args .out .now))) (framed .ensures)
+              (is-long .ensures)
+              (id .given .1)) .1,
+        ),
+      ),
+    )
 
 finish-requires : tie.Need-finish-requires
 finish-requires c κs =
-    let slice-known = c .before .before .before .before .before .before .before .before .before .before .before .before .before .before .before .before .before .before .before .before .before .before .before .before .before .before .before .before .before .before .slice-known in
-    let s = c .before .before .before .before .before .before .before .before .before .before .before .before .before .before .before .before .before .before .before .before .before .before .before .before .before .before .before .before .before .before .before in
-    let next-place = c .before .before .before .before .before .before .before .before .before .before .before .before .before .before .before .before .before .before .before .before .before .before .before .before .next-place in
-    let space = c .before .before .before .before .before .before .before .before .before .before .before .before .before .before .before .before .before .before .before .before .before .before .space in
-    let pass = c .before .before .before .before .before .before .before .before .before .before .before .before .before .before .before .before .before .before .pass in
-    let is-long = c .before .before .before .before .before .before .before .before .before .before .before .before .before .before .before .before .is-long in
-    let framed = c .before .before .before .before .before .before .before .before .before .before .before .before .before .before .before .framed in
-    let id = c .before .before .before .before .before .before .before .before .before .before .before .before .before .id in
-    let feed = c .before .before .before .before .before .before .before .before .before .before .feed in
-    let map-on-air = c .before .before .before .before .before .before .before .before .before .map-on-air in
-    (message-low (s .args .log .now) (all-at Byte 0 (s .args .log .now) (λ i. omega (arith, slice-known .given i))) ((space-from (s .args .log .now) (sym (next-place .ensures) ∙ space .given .1)) .0) (pass .ensures) (s .args .conn) (s .args .l .now) (lendingMaps (s .args .primary .now) (s .args .insertion .now) (length (s .args .out .now))) (framed-here (pass .ensures) (s .args .conn) (s .args .l .now) (lendingMaps (s .args .primary .now) (s .args .insertion .now) (length (s .args .out .now))) (framed .ensures) (is-long .ensures) (id .given .1)) .0, (pass .ensures .placed, (subst (λ (x : List ℕ). length x ≤ longestSection) (sym (ap (λ x. now x) (map-on-air .ensures) ∙ chosen (λ x. now x) (eqb (feed .result) 0) (s .args .primary) (s .args .insertion))) (brief (eqb (feed .result) 0) (s .args .primary .now) (s .args .insertion .now) ((both-short (s .args .primary .now) (s .args .insertion .now) (message-low (s .args .log .now) (all-at Byte 0 (s .args .log .now) (λ i. omega (arith, slice-known .given i))) ((space-from (s .args .log .now) (sym (next-place .ensures) ∙ space .given .1)) .0) (pass .ensures) (s .args .conn) (s .args .l .now) (lendingMaps (s .args .primary .now) (s .args .insertion .now) (length (s .args .out .now))) (framed-here (pass .ensures) (s .args .conn) (s .args .l .now) (lendingMaps (s .args .primary .now) (s .args .insertion .now) (length (s .args .out .now))) (framed .ensures) (is-long .ensures) (id .given .1)) .2)) .0) ((both-short (s .args .primary .now) (s .args .insertion .now) (message-low (s .args .log .now) (all-at Byte 0 (s .args .log .now) (λ i. omega (arith, slice-known .given i))) ((space-from (s .args .log .now) (sym (next-place .ensures) ∙ space .given .1)) .0) (pass .ensures) (s .args .conn) (s .args .l .now) (lendingMaps (s .args .primary .now) (s .args .insertion .now) (length (s .args .out .now))) (framed-here (pass .ensures) (s .args .conn) (s .args .l .now) (lendingMaps (s .args .primary .now) (s .args .insertion .now) (length (s .args .out .now))) (framed .ensures) (is-long .ensures) (id .given .1)) .2)) .1)), (let w : 4096 ≤ length (s .args .out .now) = message-low (s .args .log .now) (all-at Byte 0 (s .args .log .now) (λ i. omega (arith, slice-known .given i))) ((space-from (s .args .log .now) (sym (next-place .ensures) ∙ space .given .1)) .0) (pass .ensures) (s .args .conn) (s .args .l .now) (lendingMaps (s .args .primary .now) (s .args .insertion .now) (length (s .args .out .now))) (framed-here (pass .ensures) (s .args .conn) (s .args .l .now) (lendingMaps (s .args .primary .now) (s .args .insertion .now) (length (s .args .out .now))) (framed .ensures) (is-long .ensures) (id .given .1)) .1 in search needs))))
+    let c8 = c .before .before .before .before .before .before .before .before in
+    let c16 = c8 .before .before .before .before .before .before .before .before in
+    let c24 = c16 .before .before .before .before .before .before .before .before in
+    let slice-known = c24 .before .before .before .before .before .before .slice-known in
+    let s = c24 .before .before .before .before .before .before .before in
+    let next-place = c24 .next-place in
+    let space = c16 .before .before .before .before .before .before .space in
+    let pass = c16 .before .before .pass in
+    let is-long = c16 .is-long in
+    let framed = c8 .before .before .before .before .before .before .before .framed in
+    let id = c8 .before .before .before .before .before .id in
+    let feed = c8 .before .before .feed in
+    let map-on-air = c .before .before .before .before .before .before .before .before .before .map-on-air in (
+      message-low (s .args .log .now) (all-at Byte 0 (s .args .log .now) (λ i. omega (arith, slice-known .given i)))
+          ((space-from (s .args .log .now) (sym (next-place .ensures) ∙ space .given .1)) .0) (pass .ensures) (s .args .conn)
+          (s .args .l .now) (lendingMaps (s .args .primary .now) (s .args .insertion .now) (length (s .args .out .now)))
+          (framed-here (pass .ensures) (s .args .conn) (s .args .l .now)
+          (lendingMaps (s .args .primary .now) (s .args .insertion .now) (length (s .args .out .now))) (framed .ensures) (is-long .ensures)
+          (id .given .1)) .0,
+      (
+        pass .ensures .placed,
+        (
+          subst (λ (x : List ℕ). length x ≤ longestSection)
+              (sym (ap (λ x. now x) (map-on-air .ensures)
+              ∙ chosen (λ x. now x) (eqb (feed .result) 0) (s .args .primary) (s .args .insertion)))
+              (brief (eqb (feed .result) 0) (s .args .primary .now) (s .args .insertion .now)
+              ((both-short (s .args .primary .now) (s .args .insertion .now)
+              (message-low (s .args .log .now) (all-at Byte 0 (s .args .log .now) (λ i. omega (arith, slice-known .given i)))
+              ((space-from (s .args .log .now) (sym (next-place .ensures) ∙ space .given .1)) .0) (pass .ensures) (s .args .conn)
+              (s .args .l .now) (lendingMaps (s .args .primary .now) (s .args .insertion .now) (length (s .args .out .now)))
+              (framed-here (pass .ensures) (s .args .conn) (s .args .l .now)
+              (lendingMaps (s .args .primary .now) (s .args .insertion .now) (length (s .args .out .now))) (framed .ensures)
+              (is-long .ensures)
+              (id .given .1)) .2)) .0) ((both-short (s .args .primary .now) (s .args .insertion .now)
+              (message-low (s .args .log .now) (all-at Byte 0 (s .args .log .now) (λ i. omega (arith, slice-known .given i)))
+              ((space-from (s .args .log .now) (sym (next-place .ensures) ∙ space .given .1)) .0) (pass .ensures) (s .args .conn)
+              (s .args .l .now) (lendingMaps (s .args .primary .now) (s .args .insertion .now) (length (s .args .out .now)))
+              (framed-here (pass .ensures) (s .args .conn) (s .args .l .now)
+              (lendingMaps (s .args .primary .now) (s .args .insertion .now) (length (s .args .out .now))) (framed .ensures)
+              (is-long .ensures)
+              (id .given .1)) .2)) .1)),
+          (let w : 4096 ≤ length (s .args .out .now) =
+              message-low (s .args .log .now) (all-at Byte 0 (s .args .log .now) (λ i. omega (arith, slice-known .given i)))
+              ((space-from (s .args .log .now) (sym (next-place .ensures) ∙ space .given .1)) .0) (pass .ensures) (s .args .conn)
+              (s .args .l .now) (lendingMaps (s .args .primary .now) (s .args .insertion .now) (length (s .args .out .now)))
+              (framed-here (pass .ensures) (s .args .conn) (s .args .l .now)
+              (lendingMaps (s .args .primary .now) (s .args .insertion .now) (length (s .args .out .now))) (framed .ensures)
+              (is-long .ensures)
+              (id .given .1)) .1 in search needs),
+        ),
+      ),
+    )
 
 cast-keep-message : tie.Need-cast-keep-message
 cast-keep-message c =
-    let slice-known = c .before .before .before .before .before .before .before .before .before .before .before .before .before .before .before .before .before .before .before .before .before .before .before .before .before .before .before .before .before .before .before .before .before .before .slice-known in
-    let s = c .before .before .before .before .before .before .before .before .before .before .before .before .before .before .before .before .before .before .before .before .before .before .before .before .before .before .before .before .before .before .before .before .before .before .before in
-    let next-place = c .before .before .before .before .before .before .before .before .before .before .before .before .before .before .before .before .before .before .before .before .before .before .before .before .before .before .before .before .next-place in
-    let space = c .before .before .before .before .before .before .before .before .before .before .before .before .before .before .before .before .before .before .before .before .before .before .before .before .before .before .space in
-    let pass = c .before .before .before .before .before .before .before .before .before .before .before .before .before .before .before .before .before .before .before .before .before .before .pass in
-    let is-long = c .before .before .before .before .before .before .before .before .before .before .before .before .before .before .before .before .before .before .before .before .is-long in
-    let framed = c .before .before .before .before .before .before .before .before .before .before .before .before .before .before .before .before .before .before .before .framed in
-    let id = c .before .before .before .before .before .before .before .before .before .before .before .before .before .before .before .before .before .id in
-    omega (arith, message-low (s .args .log .now) (all-at Byte 0 (s .args .log .now) (λ i. omega (arith, slice-known .given i))) ((space-from (s .args .log .now) (sym (next-place .ensures) ∙ space .given .1)) .0) (pass .ensures) (s .args .conn) (s .args .l .now) (lendingMaps (s .args .primary .now) (s .args .insertion .now) (length (s .args .out .now))) (framed-here (pass .ensures) (s .args .conn) (s .args .l .now) (lendingMaps (s .args .primary .now) (s .args .insertion .now) (length (s .args .out .now))) (framed .ensures) (is-long .ensures) (id .given .1)) .0)
+    let c8 = c .before .before .before .before .before .before .before .before in
+    let c16 = c8 .before .before .before .before .before .before .before .before in
+    let c24 = c16 .before .before .before .before .before .before .before .before in
+    let c32 = c24 .before .before .before .before .before .before .before .before in
+    let slice-known = c32 .before .before .slice-known in
+    let s = c32 .before .before .before in
+    let next-place = c24 .before .before .before .before .next-place in
+    let space = c24 .before .before .space in
+    let pass = c16 .before .before .before .before .before .before .pass in
+    let is-long = c16 .before .before .before .before .is-long in
+    let framed = c16 .before .before .before .framed in
+    let id = c16 .before .id in
+    omega (
+      arith,
+      message-low (s .args .log .now) (all-at Byte 0 (s .args .log .now) (λ i. omega (arith, slice-known .given i)))
+          ((space-from (s .args .log .now) (sym (next-place .ensures) ∙ space .given .1)) .0) (pass .ensures) (s .args .conn)
+          (s .args .l .now) (lendingMaps (s .args .primary .now) (s .args .insertion .now) (length (s .args .out .now)))
+          (framed-here (pass .ensures) (s .args .conn) (s .args .l .now)
+          (lendingMaps (s .args .primary .now) (s .args .insertion .now) (length (s .args .out .now))) (framed .ensures) (is-long .ensures)
+          (id .given .1)) .0,
+    )
 
 keep-message-requires : tie.Need-keep-message-requires
 keep-message-requires c κs =
-    let slice-known = c .before .before .before .before .before .before .before .before .before .before .before .before .before .before .before .before .before .before .before .before .before .before .before .before .before .before .before .before .before .before .before .before .before .before .slice-known in
-    let s = c .before .before .before .before .before .before .before .before .before .before .before .before .before .before .before .before .before .before .before .before .before .before .before .before .before .before .before .before .before .before .before .before .before .before .before in
-    let next-place = c .before .before .before .before .before .before .before .before .before .before .before .before .before .before .before .before .before .before .before .before .before .before .before .before .before .before .before .before .next-place in
-    let space = c .before .before .before .before .before .before .before .before .before .before .before .before .before .before .before .before .before .before .before .before .before .before .before .before .before .before .space in
-    let pass = c .before .before .before .before .before .before .before .before .before .before .before .before .before .before .before .before .before .before .before .before .before .before .pass in
-    let is-long = c .before .before .before .before .before .before .before .before .before .before .before .before .before .before .before .before .before .before .before .before .is-long in
-    let framed = c .before .before .before .before .before .before .before .before .before .before .before .before .before .before .before .before .before .before .before .framed in
-    let id = c .before .before .before .before .before .before .before .before .before .before .before .before .before .before .before .before .before .id in
-    ((space-from (s .args .log .now) (sym (next-place .ensures) ∙ space .given .1)) .1, (message-within (s .args .log .now) (all-at Byte 0 (s .args .log .now) (λ i. omega (arith, slice-known .given i))) ((space-from (s .args .log .now) (sym (next-place .ensures) ∙ space .given .1)) .0) (pass .ensures) (s .args .conn) (s .args .l .now) (lendingMaps (s .args .primary .now) (s .args .insertion .now) (length (s .args .out .now))) (framed-here (pass .ensures) (s .args .conn) (s .args .l .now) (lendingMaps (s .args .primary .now) (s .args .insertion .now) (length (s .args .out .now))) (framed .ensures) (is-long .ensures) (id .given .1)) .1, message-within (s .args .log .now) (all-at Byte 0 (s .args .log .now) (λ i. omega (arith, slice-known .given i))) ((space-from (s .args .log .now) (sym (next-place .ensures) ∙ space .given .1)) .0) (pass .ensures) (s .args .conn) (s .args .l .now) (lendingMaps (s .args .primary .now) (s .args .insertion .now) (length (s .args .out .now))) (framed-here (pass .ensures) (s .args .conn) (s .args .l .now) (lendingMaps (s .args .primary .now) (s .args .insertion .now) (length (s .args .out .now))) (framed .ensures) (is-long .ensures) (id .given .1)) .0))
+    let c8 = c .before .before .before .before .before .before .before .before in
+    let c16 = c8 .before .before .before .before .before .before .before .before in
+    let c24 = c16 .before .before .before .before .before .before .before .before in
+    let c32 = c24 .before .before .before .before .before .before .before .before in
+    let slice-known = c32 .before .before .slice-known in
+    let s = c32 .before .before .before in
+    let next-place = c24 .before .before .before .before .next-place in
+    let space = c24 .before .before .space in
+    let pass = c16 .before .before .before .before .before .before .pass in
+    let is-long = c16 .before .before .before .before .is-long in
+    let framed = c16 .before .before .before .framed in
+    let id = c16 .before .id in (
+      (space-from (s .args .log .now) (sym (next-place .ensures) ∙ space .given .1)) .1,
+      (
+        message-within (s .args .log .now) (all-at Byte 0 (s .args .log .now) (λ i. omega (arith, slice-known .given i)))
+            ((space-from (s .args .log .now) (sym (next-place .ensures) ∙ space .given .1)) .0) (pass .ensures) (s .args .conn)
+            (s .args .l .now) (lendingMaps (s .args .primary .now) (s .args .insertion .now) (length (s .args .out .now)))
+            (framed-here (pass .ensures) (s .args .conn) (s .args .l .now)
+            (lendingMaps (s .args .primary .now) (s .args .insertion .now) (length (s .args .out .now))) (framed .ensures)
+            (is-long .ensures)
+            (id .given .1)) .1,
+        message-within (s .args .log .now) (all-at Byte 0 (s .args .log .now)
+            (λ i. omega (arith, slice-known .given i))) ((space-from (s .args .log .now) (sym (next-place .ensures) ∙ space .given .1)) .0)
+            (pass .ensures) (s .args .conn) (s .args .l .now) (lendingMaps (s .args .primary .now) (s .args .insertion .now)
+            (length (s .args .out .now))) (framed-here (pass .ensures) (s .args .conn) (s .args .l .now)
+            (lendingMaps (s .args .primary .now) (s .args .insertion .now) (length (s .args .out .now))) (framed .ensures)
+            (is-long .ensures)
+            (id .given .1)) .0,
+      ),
+    )
 
 cast-t28 : tie.Need-cast-t28
 cast-t28 c =
-    let slice-known = c .before .before .before .before .before .before .before .before .before .before .before .before .before .before .before .before .before .before .before .before .before .before .before .before .before .before .before .before .before .before .before .before .before .before .before .before .before .slice-known in
-    let s = c .before .before .before .before .before .before .before .before .before .before .before .before .before .before .before .before .before .before .before .before .before .before .before .before .before .before .before .before .before .before .before .before .before .before .before .before .before .before in
-    let next-place = c .before .before .before .before .before .before .before .before .before .before .before .before .before .before .before .before .before .before .before .before .before .before .before .before .before .before .before .before .before .before .before .next-place in
-    let space = c .before .before .before .before .before .before .before .before .before .before .before .before .before .before .before .before .before .before .before .before .before .before .before .before .before .before .before .before .before .space in
-    let pass = c .before .before .before .before .before .before .before .before .before .before .before .before .before .before .before .before .before .before .before .before .before .before .before .before .before .pass in
-    let is-long = c .before .before .before .before .before .before .before .before .before .before .before .before .before .before .before .before .before .before .before .before .before .before .before .is-long in
-    let framed = c .before .before .before .before .before .before .before .before .before .before .before .before .before .before .before .before .before .before .before .before .before .before .framed in
-    let id = c .before .before .before .before .before .before .before .before .before .before .before .before .before .before .before .before .before .before .before .before .id in
-    omega (arith, message-within (s .args .log .now) (all-at Byte 0 (s .args .log .now) (λ i. omega (arith, slice-known .given i))) ((space-from (s .args .log .now) (sym (next-place .ensures) ∙ space .given .1)) .0) (pass .ensures) (s .args .conn) (s .args .l .now) (lendingMaps (s .args .primary .now) (s .args .insertion .now) (length (s .args .out .now))) (framed-here (pass .ensures) (s .args .conn) (s .args .l .now) (lendingMaps (s .args .primary .now) (s .args .insertion .now) (length (s .args .out .now))) (framed .ensures) (is-long .ensures) (id .given .1)) .1)
+    let c8 = c .before .before .before .before .before .before .before .before in
+    let c16 = c8 .before .before .before .before .before .before .before .before in
+    let c24 = c16 .before .before .before .before .before .before .before .before in
+    let c32 = c24 .before .before .before .before .before .before .before .before in
+    let slice-known = c32 .before .before .before .before .before .slice-known in
+    let s = c32 .before .before .before .before .before .before in
+    let next-place = c24 .before .before .before .before .before .before .before .next-place in
+    let space = c24 .before .before .before .before .before .space in
+    let pass = c24 .before .pass in
+    let is-long = c16 .before .before .before .before .before .before .before .is-long in
+    let framed = c16 .before .before .before .before .before .before .framed in
+    let id = c16 .before .before .before .before .id in
+    omega (
+      arith,
+      message-within (s .args .log .now) (all-at Byte 0 (s .args .log .now) (λ i. omega (arith, slice-known .given i)))
+          ((space-from (s .args .log .now) (sym (next-place .ensures) ∙ space .given .1)) .0) (pass .ensures) (s .args .conn)
+          (s .args .l .now) (lendingMaps (s .args .primary .now) (s .args .insertion .now) (length (s .args .out .now)))
+          (framed-here (pass .ensures) (s .args .conn) (s .args .l .now)
+          (lendingMaps (s .args .primary .now) (s .args .insertion .now) (length (s .args .out .now))) (framed .ensures) (is-long .ensures)
+          (id .given .1)) .1,
+    )
 
 add-t43 : tie.Need-add-t43
 add-t43 c =
-    let slice-known = c .before .before .before .before .before .before .before .before .before .before .before .before .before .before .before .before .before .before .before .before .before .before .before .before .before .before .before .before .before .before .before .before .before .before .before .before .before .slice-known in
-    let s = c .before .before .before .before .before .before .before .before .before .before .before .before .before .before .before .before .before .before .before .before .before .before .before .before .before .before .before .before .before .before .before .before .before .before .before .before .before .before in
-    let next-place = c .before .before .before .before .before .before .before .before .before .before .before .before .before .before .before .before .before .before .before .before .before .before .before .before .before .before .before .before .before .before .before .next-place in
-    let space = c .before .before .before .before .before .before .before .before .before .before .before .before .before .before .before .before .before .before .before .before .before .before .before .before .before .before .before .before .before .space in
-    let pass = c .before .before .before .before .before .before .before .before .before .before .before .before .before .before .before .before .before .before .before .before .before .before .before .before .before .pass in
-    let is-long = c .before .before .before .before .before .before .before .before .before .before .before .before .before .before .before .before .before .before .before .before .before .before .before .is-long in
-    let framed = c .before .before .before .before .before .before .before .before .before .before .before .before .before .before .before .before .before .before .before .before .before .before .framed in
-    let id = c .before .before .before .before .before .before .before .before .before .before .before .before .before .before .before .before .before .before .before .before .id in
-    omega (arith, message-within (s .args .log .now) (all-at Byte 0 (s .args .log .now) (λ i. omega (arith, slice-known .given i))) ((space-from (s .args .log .now) (sym (next-place .ensures) ∙ space .given .1)) .0) (pass .ensures) (s .args .conn) (s .args .l .now) (lendingMaps (s .args .primary .now) (s .args .insertion .now) (length (s .args .out .now))) (framed-here (pass .ensures) (s .args .conn) (s .args .l .now) (lendingMaps (s .args .primary .now) (s .args .insertion .now) (length (s .args .out .now))) (framed .ensures) (is-long .ensures) (id .given .1)) .1)
+    let c8 = c .before .before .before .before .before .before .before .before in
+    let c16 = c8 .before .before .before .before .before .before .before .before in
+    let c24 = c16 .before .before .before .before .before .before .before .before in
+    let c32 = c24 .before .before .before .before .before .before .before .before in
+    let slice-known = c32 .before .before .before .before .before .slice-known in
+    let s = c32 .before .before .before .before .before .before in
+    let next-place = c24 .before .before .before .before .before .before .before .next-place in
+    let space = c24 .before .before .before .before .before .space in
+    let pass = c24 .before .pass in
+    let is-long = c16 .before .before .before .before .before .before .before .is-long in
+    let framed = c16 .before .before .before .before .before .before .framed in
+    let id = c16 .before .before .before .before .id in
+    omega (
+      arith,
+      message-within (s .args .log .now) (all-at Byte 0 (s .args .log .now) (λ i. omega (arith, slice-known .given i)))
+          ((space-from (s .args .log .now) (sym (next-place .ensures) ∙ space .given .1)) .0) (pass .ensures) (s .args .conn)
+          (s .args .l .now) (lendingMaps (s .args .primary .now) (s .args .insertion .now) (length (s .args .out .now)))
+          (framed-here (pass .ensures) (s .args .conn) (s .args .l .now)
+          (lendingMaps (s .args .primary .now) (s .args .insertion .now) (length (s .args .out .now))) (framed .ensures) (is-long .ensures)
+          (id .given .1)) .1,
+    )
 
 same-length-2 : tie.Need-same-length-2
 same-length-2 c = search needs
 
 returns-2 : tie.Need-returns-2
 returns-2 c =
-    let slice-known = c .before .before .before .before .before .before .before .before .before .before .before .before .before .before .before .before .before .before .slice-known in
-    let s = c .before .before .before .before .before .before .before .before .before .before .before .before .before .before .before .before .before .before .before in
-    let next-place = c .before .before .before .before .before .before .before .before .before .before .before .before .next-place in
-    let space = c .before .before .before .before .before .before .before .before .before .before .space in
+    let c8 = c .before .before .before .before .before .before .before .before in
+    let c16 = c8 .before .before .before .before .before .before .before .before in
+    let slice-known = c16 .before .before .slice-known in
+    let s = c16 .before .before .before in
+    let next-place = c8 .before .before .before .before .next-place in
+    let space = c8 .before .before .space in
     let pass = c .before .before .before .before .before .before .pass in
     let is-long = c .before .before .before .before .is-long in
     let framed = c .before .before .before .framed in
     let n = c .before .n in
-    message-refused (s .args .log .now) (all-at Byte 0 (s .args .log .now) (λ i. omega (arith, slice-known .given i))) ((space-from (s .args .log .now) (sym (next-place .ensures) ∙ space .given .1)) .0) (pass .ensures) (s .args .conn) (s .args .l .now) (lendingMaps (s .args .primary .now) (s .args .insertion .now) (length (s .args .out .now))) (framed-here (pass .ensures) (s .args .conn) (s .args .l .now) (lendingMaps (s .args .primary .now) (s .args .insertion .now) (length (s .args .out .now))) (framed .ensures) (is-long .ensures) (n .given .1))
+    message-refused (s .args .log .now) (all-at Byte 0 (s .args .log .now) (λ i. omega (arith, slice-known .given i)))
+    ((space-from (s .args .log .now) (sym (next-place .ensures) ∙ space .given .1)) .0) (pass .ensures) (s .args .conn)
+    (s .args .l .now) (lendingMaps (s .args .primary .now) (s .args .insertion .now) (length (s .args .out .now)))
+    (framed-here (pass .ensures) (s .args .conn) (s .args .l .now)
+    (lendingMaps (s .args .primary .now) (s .args .insertion .now) (length (s .args .out .now))) (framed .ensures) (is-long .ensures)
+    (n .given .1))
 
 same-length-3 : tie.Need-same-length-3
 same-length-3 c = search needs
@@ -186,21 +326,33 @@ same-length-4 c = search needs
 
 returns-3 : tie.Need-returns-3
 returns-3 c =
-    let slice-known = c .before .before .before .before .before .before .before .before .before .before .before .before .before .before .before .before .before .before .before .before .before .before .before .before .before .before .before .before .before .before .before .before .before .before .before .before .before .slice-known in
-    let s = c .before .before .before .before .before .before .before .before .before .before .before .before .before .before .before .before .before .before .before .before .before .before .before .before .before .before .before .before .before .before .before .before .before .before .before .before .before .before in
-    let next-place = c .before .before .before .before .before .before .before .before .before .before .before .before .before .before .before .before .before .before .before .before .before .before .before .before .before .before .before .before .before .before .before .next-place in
-    let space = c .before .before .before .before .before .before .before .before .before .before .before .before .before .before .before .before .before .before .before .before .before .before .before .before .before .before .before .before .before .space in
-    let pass = c .before .before .before .before .before .before .before .before .before .before .before .before .before .before .before .before .before .before .before .before .before .before .before .before .before .pass in
-    let is-long = c .before .before .before .before .before .before .before .before .before .before .before .before .before .before .before .before .before .before .before .before .before .before .before .is-long in
-    let framed = c .before .before .before .before .before .before .before .before .before .before .before .before .before .before .before .before .before .before .before .before .before .before .framed in
-    let id = c .before .before .before .before .before .before .before .before .before .before .before .before .before .before .before .before .before .before .before .before .id in
-    let feed = c .before .before .before .before .before .before .before .before .before .before .before .before .before .before .before .before .before .feed in
-    let map-on-air = c .before .before .before .before .before .before .before .before .before .before .before .before .before .before .before .before .map-on-air in
-    let data-of = c .before .before .before .before .before .before .before .before .before .before .before .before .before .before .before .data-of in
-    let hear = c .before .before .before .before .before .before .before .before .before .before .before .before .hear in
+    let c8 = c .before .before .before .before .before .before .before .before in
+    let c16 = c8 .before .before .before .before .before .before .before .before in
+    let c24 = c16 .before .before .before .before .before .before .before .before in
+    let c32 = c24 .before .before .before .before .before .before .before .before in
+    let slice-known = c32 .before .before .before .before .before .slice-known in
+    let s = c32 .before .before .before .before .before .before in
+    let next-place = c24 .before .before .before .before .before .before .before .next-place in
+    let space = c24 .before .before .before .before .before .space in
+    let pass = c24 .before .pass in
+    let is-long = c16 .before .before .before .before .before .before .before .is-long in
+    let framed = c16 .before .before .before .before .before .before .framed in
+    let id = c16 .before .before .before .before .id in
+    let feed = c16 .before .feed in
+    let map-on-air = c16 .map-on-air in
+    let data-of = c8 .before .before .before .before .before .before .before .data-of in
+    let hear = c8 .before .before .before .before .hear in
     let finish = c .before .before .before .before .before .before .finish in
     let keep-message = c .before .before .keep-message in
-    message-whole (s .args .log .now) (all-at Byte 0 (s .args .log .now) (λ i. omega (arith, slice-known .given i))) ((space-from (s .args .log .now) (sym (next-place .ensures) ∙ space .given .1)) .0) (pass .ensures) (s .args .conn) (s .args .l .now) (lendingMaps (s .args .primary .now) (s .args .insertion .now) (length (s .args .out .now))) (framed-here (pass .ensures) (s .args .conn) (s .args .l .now) (lendingMaps (s .args .primary .now) (s .args .insertion .now) (length (s .args .out .now))) (framed .ensures) (is-long .ensures) (id .given .1)) (data-of .ensures) ((ap (λ x. now x) (map-on-air .ensures) ∙ chosen (λ x. now x) (eqb (feed .result) 0) (s .args .primary) (s .args .insertion)) ∙ ap (λ (n : ℕ). cond (eqb n 0) (s .args .primary .now) (s .args .insertion .now)) (feed .ensures)) (hear .ensures) (finish .ensures) (keep-message .ensures)
+    message-whole (s .args .log .now) (all-at Byte 0 (s .args .log .now) (λ i. omega (arith, slice-known .given i)))
+    ((space-from (s .args .log .now) (sym (next-place .ensures) ∙ space .given .1)) .0) (pass .ensures) (s .args .conn)
+    (s .args .l .now) (lendingMaps (s .args .primary .now) (s .args .insertion .now) (length (s .args .out .now)))
+    (framed-here (pass .ensures) (s .args .conn) (s .args .l .now)
+    (lendingMaps (s .args .primary .now) (s .args .insertion .now) (length (s .args .out .now))) (framed .ensures) (is-long .ensures)
+    (id .given .1)) (data-of .ensures) ((ap (λ x. now x) (map-on-air .ensures)
+    ∙ chosen (λ x. now x) (eqb (feed .result) 0) (s .args .primary) (s .args .insertion))
+    ∙ ap (λ (n : ℕ). cond (eqb n 0) (s .args .primary .now) (s .args .insertion .now)) (feed .ensures)) (hear .ensures)
+    (finish .ensures) (keep-message .ensures)
 
 pub message-spec : {M : Type 1} → statement M
 message-spec =

@@ -30,7 +30,8 @@ returns c =
     let s = c .before .before .before .before .before in
     let next-place = c .before .before .next-place in
     let enum-told = c .enum-told in
-    remembers-full (opens (s .args .conn)) (s .args .log .now) [] (space-none (s .args .log .now) (sym (next-place .ensures) ∙ enum-told .given .1))
+    remembers-full (opens (s .args .conn)) (s .args .log .now) []
+    (space-none (s .args .log .now) (sym (next-place .ensures) ∙ enum-told .given .1))
 
 slice-aggregate-pass : tie.Need-slice-aggregate-pass
 slice-aggregate-pass c = search needs
@@ -53,30 +54,41 @@ same-length-2 c = search needs
 
 returns-2 : tie.Need-returns-2
 returns-2 c =
-    let slice-known = c .before .before .before .before .before .before .before .before .before .before .before .slice-known in
-    let s = c .before .before .before .before .before .before .before .before .before .before .before .before in
+    let c8 = c .before .before .before .before .before .before .before .before in
+    let slice-known = c8 .before .before .before .slice-known in
+    let s = c8 .before .before .before .before in
     let next-place = c .before .before .before .before .before .before .before .before .before .next-place in
     let space = c .before .before .before .before .before .before .before .space in
     let pass = c .before .before .before .pass in
     let opened = c .before .«open» in
     let match2 = c .match2 in
-    played-not (opens (s .args .conn)) (s .args .log .now) (all-at Byte 0 (s .args .log .now) (λ i. omega (arith, slice-known .given i))) ((space-from (s .args .log .now) (sym (next-place .ensures) ∙ space .given .1)) .0) (pass .ensures) (open-is (s .args .conn)) (opened .ensures _ [] (omega (arith, pass .ensures .fits)) (s .args .log .now)) (match2 .keys2)
+    played-not (opens (s .args .conn)) (s .args .log .now) (all-at Byte 0 (s .args .log .now) (λ i. omega (arith, slice-known .given i)))
+    ((space-from (s .args .log .now) (sym (next-place .ensures) ∙ space .given .1)) .0) (pass .ensures) (open-is (s .args .conn))
+    (opened .ensures _ [] (omega (arith, pass .ensures .fits)) (s .args .log .now)) (match2 .keys2)
 
 cast-keep-open : tie.Need-cast-keep-open
 cast-keep-open c =
-    let slice-known = c .before .before .before .before .before .before .before .before .before .before .before .before .before .slice-known in
-    let s = c .before .before .before .before .before .before .before .before .before .before .before .before .before .before in
-    let next-place = c .before .before .before .before .before .before .before .before .before .before .before .next-place in
+    let c8 = c .before .before .before .before .before .before .before .before in
+    let slice-known = c8 .before .before .before .before .before .slice-known in
+    let s = c8 .before .before .before .before .before .before in
+    let next-place = c8 .before .before .before .next-place in
     let space = c .before .before .before .before .before .before .before .before .before .space in
     let pass = c .before .before .before .before .before .pass in
     let opened = c .before .before .before .«open» in
     let enum-told2 = c .before .enum-told2 in
-    omega (arith, open-low (s .args .conn) _ (played-good (opens (s .args .conn)) (s .args .log .now) (all-at Byte 0 (s .args .log .now) (λ i. omega (arith, slice-known .given i))) ((space-from (s .args .log .now) (sym (next-place .ensures) ∙ space .given .1)) .0) (pass .ensures) (open-is (s .args .conn)) (opened .ensures _ [] (omega (arith, pass .ensures .fits)) (s .args .log .now)) (enum-told2 .given .1)))
+    omega (
+      arith,
+      open-low (s .args .conn) _ (played-good (opens (s .args .conn)) (s .args .log .now)
+          (all-at Byte 0 (s .args .log .now) (λ i. omega (arith, slice-known .given i)))
+          ((space-from (s .args .log .now) (sym (next-place .ensures) ∙ space .given .1)) .0) (pass .ensures) (open-is (s .args .conn))
+          (opened .ensures _ [] (omega (arith, pass .ensures .fits)) (s .args .log .now)) (enum-told2 .given .1)),
+    )
 
 keep-open-requires : tie.Need-keep-open-requires
 keep-open-requires c κs =
-    let s = c .before .before .before .before .before .before .before .before .before .before .before .before .before .before in
-    let next-place = c .before .before .before .before .before .before .before .before .before .before .before .next-place in
+    let c8 = c .before .before .before .before .before .before .before .before in
+    let s = c8 .before .before .before .before .before .before in
+    let next-place = c8 .before .before .before .next-place in
     let space = c .before .before .before .before .before .before .before .before .before .space in
     (space-from (s .args .log .now) (sym (next-place .ensures) ∙ space .given .1)) .1
 
@@ -86,15 +98,19 @@ same-length-3 c = search needs
 returns-3 : tie.Need-returns-3
 unfolding keptForm
 returns-3 c =
-    let slice-known = c .before .before .before .before .before .before .before .before .before .before .before .before .before .before .before .before .slice-known in
-    let s = c .before .before .before .before .before .before .before .before .before .before .before .before .before .before .before .before .before in
-    let next-place = c .before .before .before .before .before .before .before .before .before .before .before .before .before .before .next-place in
-    let space = c .before .before .before .before .before .before .before .before .before .before .before .before .space in
+    let c8 = c .before .before .before .before .before .before .before .before in
+    let c16 = c8 .before .before .before .before .before .before .before .before in
+    let slice-known = c16 .slice-known in
+    let s = c16 .before in
+    let next-place = c8 .before .before .before .before .before .before .next-place in
+    let space = c8 .before .before .before .before .space in
     let pass = c .before .before .before .before .before .before .before .before .pass in
     let opened = c .before .before .before .before .before .before .«open» in
     let enum-told2 = c .before .before .before .before .enum-told2 in
     let keep-open = c .before .before .keep-open in
-    played-done (opens (s .args .conn)) (s .args .log .now) (all-at Byte 0 (s .args .log .now) (λ i. omega (arith, slice-known .given i))) ((space-from (s .args .log .now) (sym (next-place .ensures) ∙ space .given .1)) .0) (pass .ensures) (open-is (s .args .conn)) (opened .ensures _ [] (omega (arith, pass .ensures .fits)) (s .args .log .now)) (enum-told2 .given .1) (keep-open .ensures)
+    played-done (opens (s .args .conn)) (s .args .log .now) (all-at Byte 0 (s .args .log .now) (λ i. omega (arith, slice-known .given i)))
+    ((space-from (s .args .log .now) (sym (next-place .ensures) ∙ space .given .1)) .0) (pass .ensures) (open-is (s .args .conn))
+    (opened .ensures _ [] (omega (arith, pass .ensures .fits)) (s .args .log .now)) (enum-told2 .given .1) (keep-open .ensures)
 
 pub open-spec : {M : Type 1} → statement M
 open-spec =

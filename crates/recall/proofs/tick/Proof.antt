@@ -30,7 +30,8 @@ returns c =
     let s = c .before .before .before .before .before .before in
     let next-place = c .before .before .next-place in
     let enum-told = c .enum-told in
-    remembers-full (ticks (s .args .seconds) (s .args .micros) (length (s .args .out .now))) (s .args .log .now) (s .args .out .now) (space-none (s .args .log .now) (sym (next-place .ensures) ∙ enum-told .given .1))
+    remembers-full (ticks (s .args .seconds) (s .args .micros) (length (s .args .out .now))) (s .args .log .now) (s .args .out .now)
+    (space-none (s .args .log .now) (sym (next-place .ensures) ∙ enum-told .given .1))
 
 slice-aggregate-pass : tie.Need-slice-aggregate-pass
 slice-aggregate-pass c = search needs
@@ -61,20 +62,27 @@ same-length-3 c = search needs
 
 returns-2 : tie.Need-returns-2
 returns-2 c =
-    let slice-known = c .before .before .before .before .before .before .before .before .before .before .before .before .before .before .before .before .before .slice-known in
-    let s = c .before .before .before .before .before .before .before .before .before .before .before .before .before .before .before .before .before .before in
-    let next-place = c .before .before .before .before .before .before .before .before .before .before .before .before .before .before .next-place in
-    let space = c .before .before .before .before .before .before .before .before .before .before .before .before .space in
+    let c8 = c .before .before .before .before .before .before .before .before in
+    let c16 = c8 .before .before .before .before .before .before .before .before in
+    let slice-known = c16 .before .slice-known in
+    let s = c16 .before .before in
+    let next-place = c8 .before .before .before .before .before .before .next-place in
+    let space = c8 .before .before .before .before .space in
     let pass = c .before .before .before .before .before .before .before .before .pass in
     let tick = c .before .before .before .before .tick in
     let match2 = c .match2 in
-    played-not (ticks (s .args .seconds) (s .args .micros) (length (s .args .out .now))) (s .args .log .now) (all-at Byte 0 (s .args .log .now) (λ i. omega (arith, slice-known .given i))) ((space-from (s .args .log .now) (sym (next-place .ensures) ∙ space .given .1)) .0) (pass .ensures) (tick-is (s .args .seconds) (s .args .micros) (length (s .args .out .now))) (tick .ensures (s .args .log .now)) (match2 .keys2)
+    played-not (ticks (s .args .seconds) (s .args .micros) (length (s .args .out .now))) (s .args .log .now)
+    (all-at Byte 0 (s .args .log .now) (λ i. omega (arith, slice-known .given i)))
+    ((space-from (s .args .log .now) (sym (next-place .ensures) ∙ space .given .1)) .0) (pass .ensures)
+    (tick-is (s .args .seconds) (s .args .micros) (length (s .args .out .now))) (tick .ensures (s .args .log .now)) (match2 .keys2)
 
 keep-tick-requires : tie.Need-keep-tick-requires
 keep-tick-requires c κs =
-    let s = c .before .before .before .before .before .before .before .before .before .before .before .before .before .before .before .before .before .before .before .before in
-    let next-place = c .before .before .before .before .before .before .before .before .before .before .before .before .before .before .before .before .next-place in
-    let space = c .before .before .before .before .before .before .before .before .before .before .before .before .before .before .space in
+    let c8 = c .before .before .before .before .before .before .before .before in
+    let c16 = c8 .before .before .before .before .before .before .before .before in
+    let s = c16 .before .before .before .before in
+    let next-place = c16 .next-place in
+    let space = c8 .before .before .before .before .before .before .space in
     (space-from (s .args .log .now) (sym (next-place .ensures) ∙ space .given .1)) .1
 
 same-length-4 : tie.Need-same-length-4
@@ -86,15 +94,21 @@ same-length-5 c = search needs
 returns-3 : tie.Need-returns-3
 unfolding keptForm
 returns-3 c =
-    let slice-known = c .before .before .before .before .before .before .before .before .before .before .before .before .before .before .before .before .before .before .before .before .before .before .slice-known in
-    let s = c .before .before .before .before .before .before .before .before .before .before .before .before .before .before .before .before .before .before .before .before .before .before .before in
-    let next-place = c .before .before .before .before .before .before .before .before .before .before .before .before .before .before .before .before .before .before .before .next-place in
-    let space = c .before .before .before .before .before .before .before .before .before .before .before .before .before .before .before .before .before .space in
-    let pass = c .before .before .before .before .before .before .before .before .before .before .before .before .before .pass in
+    let c8 = c .before .before .before .before .before .before .before .before in
+    let c16 = c8 .before .before .before .before .before .before .before .before in
+    let slice-known = c16 .before .before .before .before .before .before .slice-known in
+    let s = c16 .before .before .before .before .before .before .before in
+    let next-place = c16 .before .before .before .next-place in
+    let space = c16 .before .space in
+    let pass = c8 .before .before .before .before .before .pass in
     let tick = c .before .before .before .before .before .before .before .before .before .tick in
     let enum-told2 = c .before .before .before .before .enum-told2 in
     let keep-tick = c .before .before .keep-tick in
-    played-done (ticks (s .args .seconds) (s .args .micros) (length (s .args .out .now))) (s .args .log .now) (all-at Byte 0 (s .args .log .now) (λ i. omega (arith, slice-known .given i))) ((space-from (s .args .log .now) (sym (next-place .ensures) ∙ space .given .1)) .0) (pass .ensures) (tick-is (s .args .seconds) (s .args .micros) (length (s .args .out .now))) (tick .ensures (s .args .log .now)) (enum-told2 .given .1) (keep-tick .ensures)
+    played-done (ticks (s .args .seconds) (s .args .micros) (length (s .args .out .now))) (s .args .log .now)
+    (all-at Byte 0 (s .args .log .now) (λ i. omega (arith, slice-known .given i)))
+    ((space-from (s .args .log .now) (sym (next-place .ensures) ∙ space .given .1)) .0) (pass .ensures)
+    (tick-is (s .args .seconds) (s .args .micros) (length (s .args .out .now))) (tick .ensures (s .args .log .now))
+    (enum-told2 .given .1) (keep-tick .ensures)
 
 pub tick-spec : {M : Type 1} → statement M
 tick-spec =

@@ -33,7 +33,8 @@ same-length c = search needs
 
 returns-2 : tie.Need-returns-2
 returns-2 c =
-    let s = c .before .before .before .before .before .before .before .before .before .before .before in
+    let c8 = c .before .before .before .before .before .before .before .before in
+    let s = c8 .before .before .before in
     let if1 = c .before .before .before .before .before .before .before .if1 in
     let link-of = c .before .before .before .before .before .before .link-of in
     let is-barred = c .before .before .before .before .before .is-barred in
@@ -62,7 +63,8 @@ is-read-requires c κs = search needs
 
 general-requires-2 : tie.Need-general-requires-2
 general-requires-2 c κs =
-    let s = c .before .before .before .before .before .before .before .before .before .before .before in
+    let c8 = c .before .before .before .before .before .before .before .before in
+    let s = c8 .before .before .before in
     omega (arith, s .pre .1 .1 .1)
 
 same-length-2 : tie.Need-same-length-2
@@ -70,8 +72,9 @@ same-length-2 c = search needs
 
 returns-4 : tie.Need-returns-4
 returns-4 c =
-    let s = c .before .before .before .before .before .before .before .before .before .before .before .before .before .before in
-    let if1 = c .before .before .before .before .before .before .before .before .before .before .if1 in
+    let c8 = c .before .before .before .before .before .before .before .before in
+    let s = c8 .before .before .before .before .before .before in
+    let if1 = c8 .before .before .if1 in
     let link-of = c .before .before .before .before .before .before .before .before .before .link-of in
     let is-barred = c .before .before .before .before .before .before .before .before .is-barred in
     let if2 = c .before .before .before .before .before .before .before .if2 in
@@ -84,7 +87,8 @@ returns-4 c =
 
 answer-read-requires : tie.Need-answer-read-requires
 answer-read-requires c κs =
-    let s = c .before .before .before .before .before .before .before .before .before .before .before .before in
+    let c8 = c .before .before .before .before .before .before .before .before in
+    let s = c8 .before .before .before .before in
     (s .pre .0, (s .pre .1 .0, s .pre .1 .1 .1))
 
 same-length-3 : tie.Need-same-length-3
@@ -95,11 +99,13 @@ same-length-4 c = search needs
 
 returns-5 : tie.Need-returns-5
 returns-5 c =
-    let s = c .before .before .before .before .before .before .before .before .before .before .before .before .before .before .before .before .before in
-    let if1 = c .before .before .before .before .before .before .before .before .before .before .before .before .before .if1 in
-    let link-of = c .before .before .before .before .before .before .before .before .before .before .before .before .link-of in
-    let is-barred = c .before .before .before .before .before .before .before .before .before .before .before .is-barred in
-    let if2 = c .before .before .before .before .before .before .before .before .before .before .if2 in
+    let c8 = c .before .before .before .before .before .before .before .before in
+    let c16 = c8 .before .before .before .before .before .before .before .before in
+    let s = c16 .before in
+    let if1 = c8 .before .before .before .before .before .if1 in
+    let link-of = c8 .before .before .before .before .link-of in
+    let is-barred = c8 .before .before .before .is-barred in
+    let if2 = c8 .before .before .if2 in
     let if3 = c .before .before .before .before .before .before .before .before .before .if3 in
     let is-read = c .before .before .before .before .before .before .before .before .is-read in
     let if4 = c .before .before .before .before .before .before .before .if4 in

@@ -39,7 +39,8 @@ returns c =
     let row : k .on-air .result < length l =
     omega (arith, length-all (s .args .m .now), rows .ensures, c .before .before .before .before .before .if1 .taken) in
     let air = air-some l (k .on-air .result) (k .on-air .ensures) row in
-    let same = ap (λ (x : Session). x .id) (loaded (rows .result) (k .on-air .result) (s .args .m .now) (load .result) (rows .ensures) (load .ensures)) in
+    let same = ap (λ (x : Session). x .id) (loaded (rows .result) (k .on-air .result) (s .args .m .now) (load .result) (rows .ensures)
+    (load .ensures)) in
     alive-says l (s .args .conn) (s .args .clock) (air .0, air .1 ∙ sym same)
     (k .before .before .to-micros .ensures) (c .before .before .alive-response .ensures)
 

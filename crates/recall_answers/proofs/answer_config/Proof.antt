@@ -2,7 +2,8 @@
 use mathlib.Core.Path.{refl}
 use native.Mathlib.Omega.{arith}
 use Rattle.recall_answers.proofs.Laws.{card-length, card-padded}
-use Rattle.recall_answers.proofs.Config.{place-of, place-within, size-room, hardware-room, hardware-short, hardware-there, hardware-none, config-told}
+use Rattle.recall_answers.proofs.Config.{place-of, place-within, size-room, hardware-room, hardware-short, hardware-there}
+use Rattle.recall_answers.proofs.Config.{hardware-none, config-told}
 use borrow.Author.Needs.{needs}
 use Rattle.recall_answers.proofs.answer_config.Statement.{statement}
 use Rattle.recall_answers.proofs.answer_config.Tie as tie
@@ -33,7 +34,8 @@ same-length c = search needs
 
 returns : tie.Need-returns
 returns c =
-    let s = c .before .before .before .before .before .before .before .before .before .before .before .before in
+    let c8 = c .before .before .before .before .before .before .before .before in
+    let s = c8 .before .before .before .before in
     let channel = c .before .before .before .before .before .before .before .before .channel in
     let if1 = c .before .before .before .before .before .before .if1 in
     let config-response = c .before .before .config-response in
@@ -94,7 +96,8 @@ slice-aggregate-config-response-3 c = search needs
 
 config-response-requires-2 : tie.Need-config-response-requires-2
 config-response-requires-2 c κs =
-    let s = c .before .before .before .before .before .before .before .before .before .before .before .before in
+    let c8 = c .before .before .before .before .before .before .before .before in
+    let s = c8 .before .before .before .before in
     let channel = c .before .before .before .before .before .before .before .before .channel in
     let if1 = c .before .before .before .before .before .before .if1 in
     let number2 = c .before .before .before .before .number2 in
@@ -112,8 +115,9 @@ same-length-2 c = search needs
 
 returns-2 : tie.Need-returns-2
 returns-2 c =
-    let s = c .before .before .before .before .before .before .before .before .before .before .before .before .before .before .before in
-    let channel = c .before .before .before .before .before .before .before .before .before .before .before .channel in
+    let c8 = c .before .before .before .before .before .before .before .before in
+    let s = c8 .before .before .before .before .before .before .before in
+    let channel = c8 .before .before .before .channel in
     let if1 = c .before .before .before .before .before .before .before .before .before .if1 in
     let number2 = c .before .before .before .before .before .before .before .number2 in
     let data-of = c .before .before .before .before .before .before .data-of in

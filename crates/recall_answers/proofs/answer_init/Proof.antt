@@ -33,7 +33,8 @@ same-length c = search needs
 
 returns : tie.Need-returns
 returns c =
-    let s = c .before .before .before .before .before .before .before .before .before .before .before .before in
+    let c8 = c .before .before .before .before .before .before .before .before in
+    let s = c8 .before .before .before .before in
     let channel = c .before .before .before .before .before .before .before .before .before .channel in
     let channel-name = c .before .before .before .before .before .before .before .before .channel-name in
     let init-result = c .before .before .before .before .before .before .init-result in
@@ -46,7 +47,8 @@ same-length-2 c = search needs
 
 returns-2 : tie.Need-returns-2
 returns-2 c =
-    let s = c .before .before .before .before .before .before .before .before .before .before .before .before in
+    let c8 = c .before .before .before .before .before .before .before .before in
+    let s = c8 .before .before .before .before in
     let channel = c .before .before .before .before .before .before .before .before .before .channel in
     let channel-name = c .before .before .before .before .before .before .before .before .channel-name in
     let init-result = c .before .before .before .before .before .before .init-result in

@@ -91,7 +91,8 @@ same-length c = search needs
 
 returns : tie.Need-returns
 returns c =
-    let s = c .before .before .before .before .before .before .before .before .before .before .before in
+    let c8 = c .before .before .before .before .before .before .before .before in
+    let s = c8 .before .before .before in
     let read = c .before .before .before .before .before .before .before .read in
     let message = c .before .before .before .before .before .message in
     let answer-init = c .before .before .answer-init in
@@ -107,7 +108,8 @@ same-length-3 c = search needs
 returns-2 : tie.Need-returns-2
 unfolding aliveResponse answerRead
 returns-2 c =
-    let s = c .before .before .before .before .before .before .before .before .before .before .before .before in
+    let c8 = c .before .before .before .before .before .before .before .before in
+    let s = c8 .before .before .before .before in
     let read = c .before .before .before .before .before .before .before .before .read in
     let enum-told = c .before .before .before .before .before .before .enum-told in
     let answer-alive = c .before .before .before .answer-alive in
@@ -123,8 +125,9 @@ same-length-5 c = search needs
 
 returns-3 : tie.Need-returns-3
 returns-3 c =
-    let s = c .before .before .before .before .before .before .before .before .before .before .before .before .before .before in
-    let read = c .before .before .before .before .before .before .before .before .before .before .read in
+    let c8 = c .before .before .before .before .before .before .before .before in
+    let s = c8 .before .before .before .before .before .before in
+    let read = c8 .before .before .read in
     let message2 = c .before .before .before .before .before .before .before .before .message2 in
     let answer-splice = c .before .before .before .before .answer-splice in
     reads (s .args .conn) (s .args .id) (s .args .d .now) (s .args .h) (s .args .m .now) (read .ensures) (message2 .given .1)
@@ -139,8 +142,9 @@ same-length-7 c = search needs
 returns-4 : tie.Need-returns-4
 unfolding answerRead
 returns-4 c =
-    let s = c .before .before .before .before .before .before .before .before .before .before .before .before .before .before .before in
-    let read = c .before .before .before .before .before .before .before .before .before .before .before .read in
+    let c8 = c .before .before .before .before .before .before .before .before in
+    let s = c8 .before .before .before .before .before .before .before in
+    let read = c8 .before .before .before .read in
     let message3 = c .before .before .before .before .before .before .before .before .before .message3 in
     let answer-abort = c .before .before .before .before .before .answer-abort in
     let said2 = c .said2 in
@@ -156,7 +160,8 @@ same-length-9 c = search needs
 returns-5 : tie.Need-returns-5
 unfolding answerRead
 returns-5 c =
-    let s = c .before .before .before .before .before .before .before .before .before .before .before .before .before in
+    let c8 = c .before .before .before .before .before .before .before .before in
+    let s = c8 .before .before .before .before .before in
     let read = c .before .before .before .before .before .before .before .before .before .read in
     let message4 = c .before .before .before .before .before .before .before .message4 in
     let answer-extended = c .before .before .before .answer-extended in
@@ -178,7 +183,8 @@ same-length-10 c = search needs
 returns-7 : tie.Need-returns-7
 unfolding answerRead
 returns-7 c =
-    let s = c .before .before .before .before .before .before .before .before .before .before in
+    let c8 = c .before .before .before .before .before .before .before .before in
+    let s = c8 .before .before in
     let read = c .before .before .before .before .before .before .read in
     let enum-told3 = c .before .before .before .before .enum-told3 in
     let general = c .before .before .general in

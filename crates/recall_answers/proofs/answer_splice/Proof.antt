@@ -20,7 +20,8 @@ same-length-2 c = search needs
 
 returns : tie.Need-returns
 returns c =
-    let s = c .before .before .before .before .before .before .before .before .before .before .before .before in
+    let c8 = c .before .before .before .before .before .before .before .before in
+    let s = c8 .before .before .before .before in
     let answer-splice = c .before .before .before .before .before .before .answer-splice in
     let if1 = c .before .if1 in
     splice-joins (s .args .conn) (s .args .r) (s .args .h) (s .args .m .now) (answer-splice .ensures) (if1 .taken)
@@ -36,7 +37,8 @@ same-length-4 c = search needs
 
 returns-2 : tie.Need-returns-2
 returns-2 c =
-    let s = c .before .before .before .before .before .before .before .before .before .before .before .before in
+    let c8 = c .before .before .before .before .before .before .before .before in
+    let s = c8 .before .before .before .before in
     let answer-splice = c .before .before .before .before .before .before .answer-splice in
     let if1 = c .before .if1 in
     let said = c .said in

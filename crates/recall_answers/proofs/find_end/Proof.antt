@@ -36,7 +36,8 @@ returns c =
     let loop = c .before .before .before .before .loop in
     let rows = c .before .before .before .before .before .rows-in in
     let s = c .before .before .before .before .before .before .before in
-    let at = end-at (s .args .number) (loop .i) (s .args .m .now) (rows .result) (rows .ensures) (load .ensures) (c .before .is-end .ensures) in
+    let at = end-at (s .args .number) (loop .i) (s .args .m .now) (rows .result) (rows .ensures) (load .ensures)
+    (c .before .is-end .ensures) in
     sought-hit _ _ (loop .i) none
     (omega (arith, length-all (s .args .m .now), rows .ensures, test .taken)) (at ∙ c .if1 .taken) (loop .inv)
 
@@ -53,7 +54,8 @@ loop-again c =
     let loop = c .before .before .before .before .loop in
     let rows = c .before .before .before .before .before .rows-in in
     let s = c .before .before .before .before .before .before .before in
-    let at = end-at (s .args .number) (loop .i) (s .args .m .now) (rows .result) (rows .ensures) (load .ensures) (c .before .is-end .ensures) in
+    let at = end-at (s .args .number) (loop .i) (s .args .m .now) (rows .result) (rows .ensures) (load .ensures)
+    (c .before .is-end .ensures) in
     sought-more _ _ (loop .i) none
     (omega (arith, length-all (s .args .m .now), rows .ensures, test .taken)) (at ∙ c .if1 .left) (loop .inv)
 

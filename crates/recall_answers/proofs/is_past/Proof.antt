@@ -9,7 +9,10 @@ returns c = rw (eq-eqb _ 0 (c .if1 .taken))
 returns-2 : tie.Need-returns-2
 returns-2 c =
     let s = c .before .before .before .before .before in
-    rw (ne-eqb (s .args .e .result) 0 (c .before .before .before .if1 .left), eq-eqb (s .args .conn) (s .args .e .conn) (c .before .if2 .taken))
+    rw (
+      ne-eqb (s .args .e .result) 0 (c .before .before .before .if1 .left),
+      eq-eqb (s .args .conn) (s .args .e .conn) (c .before .if2 .taken),
+    )
 
 returns-3 : tie.Need-returns-3
 returns-3 c =

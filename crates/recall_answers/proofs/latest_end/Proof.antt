@@ -74,7 +74,8 @@ returns-3 : tie.Need-returns-3 Inv-loop μ-loop
 returns-3 c =
     let loop = c .before .loop in
     let s = c .before .before .before .before .before in
-    seek-full (s .args .conn) (s .args .id) (all (s .args .m .now)) (loop .number) (loop .left) (omega (arith, c .loop-test .left)) (loop .inv)
+    seek-full (s .args .conn) (s .args .id) (all (s .args .m .now)) (loop .number) (loop .left) (omega (arith, c .loop-test .left))
+    (loop .inv)
 
 pub latest-end-spec : {M : Type 1} → statement M
 latest-end-spec =

@@ -48,7 +48,8 @@ claims t = (
 )
 
 -- the call found, of all rows
-found : (c x i n : ℕ) (m : _) → n ≡ length m / width → i ≡ which isWaiting (follows c x) (verdictsIn n m) → i ≡ which isWaiting (follows c x) (all m)
+found : (c x i n : ℕ) (m : _) → n ≡ length m / width → i ≡ which isWaiting (follows c x) (verdictsIn n m)
+    → i ≡ which isWaiting (follows c x) (all m)
 found c x i n m e f = f ∙ ap (λ (j : ℕ). which isWaiting (follows c x) (verdictsIn j m)) e
 
 rows-in-requires : (t : ℕ) → lts.Need-rows-in-requires (claims t) (dismiss-at t) dismiss.Post
@@ -62,21 +63,45 @@ id-at-requires t c κs = omega (arith, c .before .if1 .taken, c .before .before 
 
 end-one-requires : (t : ℕ) → lts.Need-end-one-requires (claims t) (dismiss-at t) dismiss.Post
 end-one-requires t c κs =
-    let s = c .before .before .before .before .before .before .before .before .before .before .before in
+    let c8 = c .before .before .before .before .before .before .before .before in
+    let s = c8 .before .before .before in
     let m = s .args .m .now in
     let i = c .before .before .before .before .before .find .result in
-    let f = found (s .args .conn) (s .args .id) i (c .before .before .before .before .before .before .before .rows-in .result) m (c .before .before .before .before .before .before .before .rows-in .ensures) (c .before .before .before .before .before .find .ensures) in
-    let h : i < length (all m) = omega (arith, c .before .before .before .before .if1 .taken, c .before .before .before .before .before .before .before .rows-in .ensures, length-all m) in
-    (omega (arith, c .before .before .before .before .if1 .taken, c .before .before .before .before .before .before .before .rows-in .ensures), one-room (s .args .result) (s .args .conn) (s .args .id) i m f (s .args .out .now) (s .args .len) (s .pre .1) h)
+    let f = found (s .args .conn) (s .args .id) i (c .before .before .before .before .before .before .before .rows-in .result) m
+    (c .before .before .before .before .before .before .before .rows-in .ensures)
+    (c .before .before .before .before .before .find .ensures) in
+    let h : i < length (all m) =
+    omega (
+      arith,
+      c .before .before .before .before .if1 .taken,
+      c .before .before .before .before .before .before .before .rows-in .ensures,
+      length-all m,
+    ) in (
+      omega (
+        arith,
+        c .before .before .before .before .if1 .taken,
+        c .before .before .before .before .before .before .before .rows-in .ensures,
+      ),
+      one-room (s .args .result) (s .args .conn) (s .args .id) i m f (s .args .out .now) (s .args .len) (s .pre .1) h,
+    )
 
 dismiss-requires : (t : ℕ) → lts.Need-dismiss-requires (claims t) (dismiss-at t) dismiss.Post
 dismiss-requires t c κs =
-    let s = c .before .before .before .before .before .before .before .before .before .before .before .before .before .before .before .before .before .before in
+    let c8 = c .before .before .before .before .before .before .before .before in
+    let c16 = c8 .before .before .before .before .before .before .before .before in
+    let s = c16 .before .before in
     let m = s .args .m .now in
     let e = s .args .out .now in
-    let i = c .before .before .before .before .before .before .before .before .before .before .before .before .find .result in
-    let f = found (s .args .conn) (s .args .id) i (c .before .before .before .before .before .before .before .before .before .before .before .before .before .before .rows-in .result) m (c .before .before .before .before .before .before .before .before .before .before .before .before .before .before .rows-in .ensures) (c .before .before .before .before .before .before .before .before .before .before .before .before .find .ensures) in
-    let h : i < length (all m) = omega (arith, c .before .before .before .before .before .before .before .before .before .before .before .if1 .taken, c .before .before .before .before .before .before .before .before .before .before .before .before .before .before .rows-in .ensures, length-all m) in
+    let i = c8 .before .before .before .before .find .result in
+    let f = found (s .args .conn) (s .args .id) i (c8 .before .before .before .before .before .before .rows-in .result) m
+    (c8 .before .before .before .before .before .before .rows-in .ensures) (c8 .before .before .before .before .find .ensures) in
+    let h : i < length (all m) =
+    omega (
+      arith,
+      c8 .before .before .before .if1 .taken,
+      c8 .before .before .before .before .before .before .rows-in .ensures,
+      length-all m,
+    ) in
     let d = c .before .before .before .before .before .before .end-one .ensures in
     let y = c .before .before .before .before .before .before .before .before .before .id-at .ensures in (
       omega (arith, s .pre .0, rest-less (s .args .result) (s .args .conn) (s .args .id) i m f e (s .args .len) (s .pre .1) h d y),
@@ -91,13 +116,18 @@ same-length-2 t c = search needs
 
 returns : (t : ℕ) → lts.Need-returns (claims t) (dismiss-at t) dismiss.Post
 returns t c =
-    let s = c .before .before .before .before .before .before .before .before .before .before .before .before .before .before .before .before .before .before .before .before .before .before .before in
+    let c8 = c .before .before .before .before .before .before .before .before in
+    let c16 = c8 .before .before .before .before .before .before .before .before in
+    let s = c16 .before .before .before .before .before .before .before in
     let m = s .args .m .now in
     let e = s .args .out .now in
-    let i = c .before .before .before .before .before .before .before .before .before .before .before .before .before .before .before .before .before .find .result in
-    let f = found (s .args .conn) (s .args .id) i (c .before .before .before .before .before .before .before .before .before .before .before .before .before .before .before .before .before .before .before .rows-in .result) m (c .before .before .before .before .before .before .before .before .before .before .before .before .before .before .before .before .before .before .before .rows-in .ensures) (c .before .before .before .before .before .before .before .before .before .before .before .before .before .before .before .before .before .find .ensures) in
-    let h : i < length (all m) = omega (arith, c .before .before .before .before .before .before .before .before .before .before .before .before .before .before .before .before .if1 .taken, c .before .before .before .before .before .before .before .before .before .before .before .before .before .before .before .before .before .before .before .rows-in .ensures, length-all m) in
-    rest-done (s .args .result) (s .args .conn) (s .args .id) i m f e (s .args .len) (s .pre .1) h (c .before .before .before .before .before .before .before .before .before .before .before .end-one .ensures) (c .before .before .before .before .before .before .before .before .before .before .before .before .before .before .id-at .ensures) (c .before .before .before .before .dismiss .ensures)
+    let i = c16 .before .find .result in
+    let f = found (s .args .conn) (s .args .id) i (c16 .before .before .before .rows-in .result) m
+    (c16 .before .before .before .rows-in .ensures) (c16 .before .find .ensures) in
+    let h : i < length (all m) = omega (arith, c16 .if1 .taken, c16 .before .before .before .rows-in .ensures, length-all m) in
+    rest-done (s .args .result) (s .args .conn) (s .args .id) i m f e (s .args .len) (s .pre .1) h
+    (c8 .before .before .before .end-one .ensures) (c8 .before .before .before .before .before .before .id-at .ensures)
+    (c .before .before .before .before .dismiss .ensures)
 
 same-length-3 : (t : ℕ) → lts.Need-same-length-3 (claims t) (dismiss-at t) dismiss.Post
 same-length-3 t c = search needs
@@ -107,8 +137,10 @@ returns-2 t c =
     let s = c .before .before .before .before .before .before .before in
     let m = s .args .m .now in
     let i = c .before .find .result in
-    let f = found (s .args .conn) (s .args .id) i (c .before .before .before .rows-in .result) m (c .before .before .before .rows-in .ensures) (c .before .find .ensures) in
-    none-done (s .args .result) (s .args .conn) (s .args .id) i m f (omega (arith, c .if1 .left, c .before .before .before .rows-in .ensures, length-all m))
+    let f = found (s .args .conn) (s .args .id) i (c .before .before .before .rows-in .result) m
+    (c .before .before .before .rows-in .ensures) (c .before .find .ensures) in
+    none-done (s .args .result) (s .args .conn) (s .args .id) i m f
+    (omega (arith, c .if1 .left, c .before .before .before .rows-in .ensures, length-all m))
 
 pub +dismiss-spec : {M : Type 1} → statement M
 +dismiss-spec =

@@ -11,13 +11,17 @@ end-all-requires : tie.Need-end-all-requires
 end-all-requires c κs =
     let s = c .before .before .before .before in
     let a = s .args in
-    first-room (aborted (a .conn) (a .id)) (cancelled (is (a .conn) (a .id))) (dismissed 116 (a .conn) (a .id)) (a .m .now) (a .out .now) (a .len) (aborted-is (a .conn) (a .id) (all (a .m .now))) (s .pre)
+    first-room (aborted (a .conn) (a .id)) (cancelled (is (a .conn) (a .id))) (dismissed 116 (a .conn) (a .id)) (a .m .now) (a .out .now)
+    (a .len) (aborted-is (a .conn) (a .id) (all (a .m .now))) (s .pre)
 
 dismiss-requires : tie.Need-dismiss-requires
 dismiss-requires c κs =
-    let s = c .before .before .before .before .before .before .before .before .before .before .before in
+    let c8 = c .before .before .before .before .before .before .before .before in
+    let s = c8 .before .before .before in
     let a = s .args in
-    second-room (aborted (a .conn) (a .id)) (cancelled (is (a .conn) (a .id))) (dismissed 116 (a .conn) (a .id)) (a .m .now) (a .out .now) (a .len) (aborted-is (a .conn) (a .id) (all (a .m .now))) (s .pre) (c .before .before .before .before .before .before .end-all .ensures) (search needs)
+    second-room (aborted (a .conn) (a .id)) (cancelled (is (a .conn) (a .id))) (dismissed 116 (a .conn) (a .id)) (a .m .now) (a .out .now)
+    (a .len) (aborted-is (a .conn) (a .id) (all (a .m .now))) (s .pre)
+    (c .before .before .before .before .before .before .end-all .ensures) (search needs)
 
 same-length : tie.Need-same-length
 same-length c = search needs
@@ -27,9 +31,13 @@ same-length-2 c = search needs
 
 returns : tie.Need-returns
 returns c =
-    let s = c .before .before .before .before .before .before .before .before .before .before .before .before .before .before .before .before in
+    let c8 = c .before .before .before .before .before .before .before .before in
+    let c16 = c8 .before .before .before .before .before .before .before .before in
+    let s = c16 in
     let a = s .args in
-    both-done (aborted (a .conn) (a .id)) (cancelled (is (a .conn) (a .id))) (dismissed 116 (a .conn) (a .id)) (a .m .now) (a .out .now) (a .len) (aborted-is (a .conn) (a .id) (all (a .m .now))) (s .pre) (c .before .before .before .before .before .before .before .before .before .before .before .end-all .ensures) (c .before .before .before .before .dismiss .ensures)
+    both-done (aborted (a .conn) (a .id)) (cancelled (is (a .conn) (a .id))) (dismissed 116 (a .conn) (a .id)) (a .m .now) (a .out .now)
+    (a .len) (aborted-is (a .conn) (a .id) (all (a .m .now))) (s .pre) (c8 .before .before .before .end-all .ensures)
+    (c .before .before .before .before .dismiss .ensures)
 
 pub abort-spec : {M : Type 1} → statement M
 abort-spec =

@@ -15,13 +15,15 @@ load-requires c κs = search needs
 returns : tie.Need-returns
 returns c =
     let s = c .before .before .before .before .before in
-    let a = loaded (c .before .before .before .rows-in .result) (s .args .i) (s .args .m .now) (c .before .before .load .result) (c .before .before .before .rows-in .ensures) (c .before .before .load .ensures) in
+    let a = loaded (c .before .before .before .rows-in .result) (s .args .i) (s .args .m .now) (c .before .before .load .result)
+    (c .before .before .before .rows-in .ensures) (c .before .before .load .ensures) in
     rw (← a, le-leb _ _ (c .if1 .taken)) refl
 
 returns-2 : tie.Need-returns-2
 returns-2 c =
     let s = c .before .before .before .before .before in
-    let a = loaded (c .before .before .before .rows-in .result) (s .args .i) (s .args .m .now) (c .before .before .load .result) (c .before .before .before .rows-in .ensures) (c .before .before .load .ensures) in
+    let a = loaded (c .before .before .before .rows-in .result) (s .args .i) (s .args .m .now) (c .before .before .load .result)
+    (c .before .before .before .rows-in .ensures) (c .before .before .load .ensures) in
     rw (← a, lt-leb _ _ (c .if1 .left)) refl
 
 pub as-was-spec : {M : Type 1} → statement M

@@ -12,13 +12,19 @@ end-started-requires : tie.Need-end-started-requires
 end-started-requires c κs =
     let s = c .before .before .before .before in
     let a = s .args in
-    first-room (cancelled (sessionTest (a .test))) (startedEnd (Complete 116) (Response 116) (sessionTest (a .test))) (waitingEnd (Response 116) (sessionTest (a .test))) (a .m .now) (a .out .now) (a .len) (cancelled-is (sessionTest (a .test)) (all (a .m .now))) (s .pre)
+    first-room (cancelled (sessionTest (a .test))) (startedEnd (Complete 116) (Response 116) (sessionTest (a .test)))
+    (waitingEnd (Response 116) (sessionTest (a .test))) (a .m .now) (a .out .now) (a .len)
+    (cancelled-is (sessionTest (a .test)) (all (a .m .now))) (s .pre)
 
 end-waiting-requires : tie.Need-end-waiting-requires
 end-waiting-requires c κs =
-    let s = c .before .before .before .before .before .before .before .before .before .before .before in
+    let c8 = c .before .before .before .before .before .before .before .before in
+    let s = c8 .before .before .before in
     let a = s .args in
-    second-room (cancelled (sessionTest (a .test))) (startedEnd (Complete 116) (Response 116) (sessionTest (a .test))) (waitingEnd (Response 116) (sessionTest (a .test))) (a .m .now) (a .out .now) (a .len) (cancelled-is (sessionTest (a .test)) (all (a .m .now))) (s .pre) (c .before .before .before .before .before .before .end-started .ensures) (search needs)
+    second-room (cancelled (sessionTest (a .test))) (startedEnd (Complete 116) (Response 116) (sessionTest (a .test)))
+    (waitingEnd (Response 116) (sessionTest (a .test))) (a .m .now) (a .out .now) (a .len)
+    (cancelled-is (sessionTest (a .test)) (all (a .m .now))) (s .pre)
+    (c .before .before .before .before .before .before .end-started .ensures) (search needs)
 
 same-length : tie.Need-same-length
 same-length c = search needs
@@ -28,9 +34,14 @@ same-length-2 c = search needs
 
 returns : tie.Need-returns
 returns c =
-    let s = c .before .before .before .before .before .before .before .before .before .before .before .before .before .before .before .before in
+    let c8 = c .before .before .before .before .before .before .before .before in
+    let c16 = c8 .before .before .before .before .before .before .before .before in
+    let s = c16 in
     let a = s .args in
-    both-done (cancelled (sessionTest (a .test))) (startedEnd (Complete 116) (Response 116) (sessionTest (a .test))) (waitingEnd (Response 116) (sessionTest (a .test))) (a .m .now) (a .out .now) (a .len) (cancelled-is (sessionTest (a .test)) (all (a .m .now))) (s .pre) (c .before .before .before .before .before .before .before .before .before .before .before .end-started .ensures) (c .before .before .before .before .end-waiting .ensures)
+    both-done (cancelled (sessionTest (a .test))) (startedEnd (Complete 116) (Response 116) (sessionTest (a .test)))
+    (waitingEnd (Response 116) (sessionTest (a .test))) (a .m .now) (a .out .now) (a .len)
+    (cancelled-is (sessionTest (a .test)) (all (a .m .now))) (s .pre) (c8 .before .before .before .end-started .ensures)
+    (c .before .before .before .before .end-waiting .ensures)
 
 pub end-all-spec : {M : Type 1} → statement M
 end-all-spec =

@@ -18,17 +18,24 @@ end-one-requires c κs =
     let a = s .args in
     let x = c .before .before .before .before .conn-at in
     let y = c .before .before .id-at in
-    let l = all (a .m .now) in
-    (s .pre .0, first-room (chainOver (a .how) (a .result) (a .i)) (oneOver (a .how) (a .i)) (dismissed (a .result) (x .result) (y .result)) (a .m .now) (a .out .now) (a .len) (chain-is (a .how) (a .result) (a .i) (x .result) (y .result) l (x .ensures) (y .ensures)) (s .pre .1))
+    let l = all (a .m .now) in (
+      s .pre .0,
+      first-room (chainOver (a .how) (a .result) (a .i)) (oneOver (a .how) (a .i)) (dismissed (a .result) (x .result) (y .result))
+          (a .m .now) (a .out .now) (a .len) (chain-is (a .how) (a .result) (a .i) (x .result) (y .result) l (x .ensures) (y .ensures))
+          (s .pre .1),
+    )
 
 dismiss-requires : tie.Need-dismiss-requires
 dismiss-requires c κs =
-    let s = c .before .before .before .before .before .before .before .before .before .before .before .before .before .before .before in
+    let c8 = c .before .before .before .before .before .before .before .before in
+    let s = c8 .before .before .before .before .before .before .before in
     let a = s .args in
-    let x = c .before .before .before .before .before .before .before .before .before .before .before .conn-at in
+    let x = c8 .before .before .before .conn-at in
     let y = c .before .before .before .before .before .before .before .before .before .id-at in
     let l = all (a .m .now) in
-    second-room (chainOver (a .how) (a .result) (a .i)) (oneOver (a .how) (a .i)) (dismissed (a .result) (x .result) (y .result)) (a .m .now) (a .out .now) (a .len) (chain-is (a .how) (a .result) (a .i) (x .result) (y .result) l (x .ensures) (y .ensures)) (s .pre .1) (c .before .before .before .before .before .before .end-one .ensures) (search needs)
+    second-room (chainOver (a .how) (a .result) (a .i)) (oneOver (a .how) (a .i)) (dismissed (a .result) (x .result) (y .result))
+    (a .m .now) (a .out .now) (a .len) (chain-is (a .how) (a .result) (a .i) (x .result) (y .result) l (x .ensures) (y .ensures))
+    (s .pre .1) (c .before .before .before .before .before .before .end-one .ensures) (search needs)
 
 same-length : tie.Need-same-length
 same-length c = search needs
@@ -38,12 +45,16 @@ same-length-2 c = search needs
 
 returns : tie.Need-returns
 returns c =
-    let s = c .before .before .before .before .before .before .before .before .before .before .before .before .before .before .before .before .before .before .before .before in
+    let c8 = c .before .before .before .before .before .before .before .before in
+    let c16 = c8 .before .before .before .before .before .before .before .before in
+    let s = c16 .before .before .before .before in
     let a = s .args in
-    let x = c .before .before .before .before .before .before .before .before .before .before .before .before .before .before .before .before .conn-at in
-    let y = c .before .before .before .before .before .before .before .before .before .before .before .before .before .before .id-at in
+    let x = c16 .conn-at in
+    let y = c8 .before .before .before .before .before .before .id-at in
     let l = all (a .m .now) in
-    both-done (chainOver (a .how) (a .result) (a .i)) (oneOver (a .how) (a .i)) (dismissed (a .result) (x .result) (y .result)) (a .m .now) (a .out .now) (a .len) (chain-is (a .how) (a .result) (a .i) (x .result) (y .result) l (x .ensures) (y .ensures)) (s .pre .1) (c .before .before .before .before .before .before .before .before .before .before .before .end-one .ensures) (c .before .before .before .before .dismiss .ensures)
+    both-done (chainOver (a .how) (a .result) (a .i)) (oneOver (a .how) (a .i)) (dismissed (a .result) (x .result) (y .result)) (a .m .now)
+    (a .out .now) (a .len) (chain-is (a .how) (a .result) (a .i) (x .result) (y .result) l (x .ensures) (y .ensures)) (s .pre .1)
+    (c8 .before .before .before .end-one .ensures) (c .before .before .before .before .dismiss .ensures)
 
 pub end-chain-spec : {M : Type 1} → statement M
 end-chain-spec =

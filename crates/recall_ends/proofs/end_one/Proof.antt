@@ -31,9 +31,14 @@ store-requires c κs = search needs
 
 write-end-requires : tie.Need-write-end-requires
 write-end-requires c κs =
-    let s = c .before .before .before .before .before .before .before .before .before .before .before .before .before .before .before in
-    let a = loaded (c .before .before .before .before .before .before .before .before .before .before .before .rows-in .result) (s .args .i) (s .args .m .now) (c .before .before .before .before .before .before .before .before .before .load .result) (c .before .before .before .before .before .before .before .before .before .before .before .rows-in .ensures) (c .before .before .before .before .before .before .before .before .before .load .ensures) in
-    let h = subst (λ (y : Session). s .args .len + length (output (ended (s .args .how) y ∷ [])) ≤ length (s .args .out .now)) (sym a) (s .pre .1) in
+    let c8 = c .before .before .before .before .before .before .before .before in
+    let s = c8 .before .before .before .before .before .before .before in
+    let a = loaded (c8 .before .before .before .rows-in .result) (s .args .i) (s .args .m .now)
+    (c .before .before .before .before .before .before .before .before .before .load .result)
+    (c8 .before .before .before .rows-in .ensures)
+    (c .before .before .before .before .before .before .before .before .before .load .ensures) in
+    let h = subst (λ (y : Session). s .args .len + length (output (ended (s .args .how) y ∷ [])) ≤ length (s .args .out .now)) (sym a)
+    (s .pre .1) in
     search (needs, h)
 
 same-length : tie.Need-same-length
@@ -44,11 +49,25 @@ same-length-2 c = search needs
 
 returns : tie.Need-returns
 returns c =
-    let s = c .before .before .before .before .before .before .before .before .before .before .before .before .before .before .before .before .before .before in
-    let x = c .before .before .before .before .before .before .before .before .before .before .before .before .load .result .session in
-    let a = loaded (c .before .before .before .before .before .before .before .before .before .before .before .before .before .before .rows-in .result) (s .args .i) (s .args .m .now) (c .before .before .before .before .before .before .before .before .before .before .before .before .load .result) (c .before .before .before .before .before .before .before .before .before .before .before .before .before .before .rows-in .ensures) (c .before .before .before .before .before .before .before .before .before .before .before .before .load .ensures) in
-    let f = ended-phase (s .args .how) x (s .args .m .now) (c .before .before .before .before .before .before .before .before .before .count .result) (c .before .before .before .before .before .before .before .before .result-of .result) (c .before .before .before .before .before .before .before .before .before .before .before .before .before .before .rows-in .result) (c .before .before .before .before .before .before .before .before .before .before .before .before .before .before .rows-in .ensures) (c .before .before .before .before .before .before .before .before .before .count .ensures) (c .before .before .before .before .before .before .before .before .result-of .ensures) in
-    one-over (s .args .how) (s .args .i) (s .args .m .now) _ x _ a f (search needs) (c .before .before .before .before .before .before .before .before .before .before .before .before .before .before .rows-in .result) (c .before .before .before .before .before .before .before .before .before .before .before .before .before .before .rows-in .ensures) (c .before .before .before .before .before .before .store .ensures) (c .before .before .write-end .ensures)
+    let c8 = c .before .before .before .before .before .before .before .before in
+    let c16 = c8 .before .before .before .before .before .before .before .before in
+    let s = c16 .before .before in
+    let x = c8 .before .before .before .before .load .result .session in
+    let a = loaded (c8 .before .before .before .before .before .before .rows-in .result) (s .args .i) (s .args .m .now)
+    (c8 .before .before .before .before .load .result) (c8 .before .before .before .before .before .before .rows-in .ensures)
+    (c8 .before .before .before .before .load .ensures) in
+    let f =
+    ended-phase (s .args .how) x (s .args .m .now)
+    (c .before .before .before .before .before .before .before .before .before .count .result)
+    (c .before .before .before .before .before .before .before .before .result-of .result)
+    (c8 .before .before .before .before .before .before .rows-in .result)
+    (c8 .before .before .before .before .before .before .rows-in .ensures)
+    (c .before .before .before .before .before .before .before .before .before .count .ensures)
+    (c .before .before .before .before .before .before .before .before .result-of .ensures) in
+    one-over (s .args .how) (s .args .i) (s .args .m .now) _ x _ a f (search needs)
+    (c8 .before .before .before .before .before .before .rows-in .result)
+    (c8 .before .before .before .before .before .before .rows-in .ensures)
+    (c .before .before .before .before .before .before .store .ensures) (c .before .before .write-end .ensures)
 
 pub end-one-spec : {M : Type 1} → statement M
 end-one-spec =

@@ -26,9 +26,19 @@ end-chain-requires c κs =
     let a = s .args in
     let l = all (a .m .now) in
     let i = c .before .before .before .find .result in
-    let f : i ≡ which isWaiting (startsAt (a .t)) l = c .before .before .before .find .ensures ∙ ap (λ (n : ℕ). which isWaiting (startsAt (a .t)) (verdictsIn n (a .m .now))) (c .before .before .before .before .before .rows-in .ensures) in
-    let h : i < length l = omega (arith, c .before .before .if1 .taken, c .before .before .before .before .before .rows-in .ensures, length-all (a .m .now)) in
-    (omega (arith, h, length-all (a .m .now)), subst (λ (t : Turn). a .len + length (output (t .written)) ≤ length (a .out .now)) (evicted-one (a .t) i l f h) (s .pre))
+    let f : i ≡ which isWaiting (startsAt (a .t)) l = c .before .before .before .find .ensures
+    ∙ ap (λ (n : ℕ). which isWaiting (startsAt (a .t)) (verdictsIn n (a .m .now)))
+    (c .before .before .before .before .before .rows-in .ensures) in
+    let h : i < length l = omega (
+      arith,
+      c .before .before .if1 .taken,
+      c .before .before .before .before .before .rows-in .ensures,
+      length-all (a .m .now),
+    ) in (
+      omega (arith, h, length-all (a .m .now)),
+      subst (λ (t : Turn). a .len + length (output (t .written)) ≤ length (a .out .now))
+          (evicted-one (a .t) i l f h) (s .pre),
+    )
 
 same-length : tie.Need-same-length
 same-length c = search needs
@@ -38,12 +48,19 @@ same-length-2 c = search needs
 
 returns : tie.Need-returns
 returns c =
-    let s = c .before .before .before .before .before .before .before .before .before .before .before .before .before .before in
+    let c8 = c .before .before .before .before .before .before .before .before in
+    let s = c8 .before .before .before .before .before .before in
     let a = s .args in
     let l = all (a .m .now) in
     let i = c .before .before .before .before .before .before .before .before .find .result in
-    let f : i ≡ which isWaiting (startsAt (a .t)) l = c .before .before .before .before .before .before .before .before .find .ensures ∙ ap (λ (n : ℕ). which isWaiting (startsAt (a .t)) (verdictsIn n (a .m .now))) (c .before .before .before .before .before .before .before .before .before .before .rows-in .ensures) in
-    let h : i < length l = omega (arith, c .before .before .before .before .before .before .before .if1 .taken, c .before .before .before .before .before .before .before .before .before .before .rows-in .ensures, length-all (a .m .now)) in
+    let f : i ≡ which isWaiting (startsAt (a .t)) l = c .before .before .before .before .before .before .before .before .find .ensures
+    ∙ ap (λ (n : ℕ). which isWaiting (startsAt (a .t)) (verdictsIn n (a .m .now))) (c8 .before .before .rows-in .ensures) in
+    let h : i < length l = omega (
+      arith,
+      c .before .before .before .before .before .before .before .if1 .taken,
+      c8 .before .before .rows-in .ensures,
+      length-all (a .m .now),
+    ) in
     evicted-does (a .t) i (a .m .now) f h (c .before .before .before .before .end-chain .ensures)
 
 same-length-3 : tie.Need-same-length-3
@@ -55,7 +72,8 @@ returns-2 c =
     let a = s .args in
     let l = all (a .m .now) in
     let i = c .before .find .result in
-    let f : i ≡ which isWaiting (startsAt (a .t)) l = c .before .find .ensures ∙ ap (λ (n : ℕ). which isWaiting (startsAt (a .t)) (verdictsIn n (a .m .now))) (c .before .before .before .rows-in .ensures) in
+    let f : i ≡ which isWaiting (startsAt (a .t)) l = c .before .find .ensures
+    ∙ ap (λ (n : ℕ). which isWaiting (startsAt (a .t)) (verdictsIn n (a .m .now))) (c .before .before .before .rows-in .ensures) in
     let h : length l ≤ i = omega (arith, c .if1 .left, c .before .before .before .rows-in .ensures, length-all (a .m .now)) in
     subst (λ (t : Turn). Turns (a .out .now) (a .len) t (a .m .now) (a .len) (a .out .now)) (sym (evicted-none (a .t) i l f h)) turns-quiet
 

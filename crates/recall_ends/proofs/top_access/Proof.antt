@@ -17,12 +17,14 @@ load-requires c κs = search needs
 returns : tie.Need-returns
 returns c =
     let s = c .before .before .before .before .before in
-    top-found (c .before .before .before .rows-in .result) (c .before .before .first-of .result) (s .args .m .now) (c .load .result) (c .before .before .before .rows-in .ensures) (c .before .before .first-of .ensures) (c .load .ensures)
+    top-found (c .before .before .before .rows-in .result) (c .before .before .first-of .result) (s .args .m .now) (c .load .result)
+    (c .before .before .before .rows-in .ensures) (c .before .before .first-of .ensures) (c .load .ensures)
 
 returns-2 : tie.Need-returns-2
 returns-2 c =
     let s = c .before .before .before .before in
-    top-none (c .before .before .rows-in .result) (c .before .first-of .result) (s .args .m .now) (c .before .before .rows-in .ensures) (c .before .first-of .ensures) (omega (arith, c .if1 .left))
+    top-none (c .before .before .rows-in .result) (c .before .first-of .result) (s .args .m .now) (c .before .before .rows-in .ensures)
+    (c .before .first-of .ensures) (omega (arith, c .if1 .left))
 
 pub top-access-spec : {M : Type 1} → statement M
 top-access-spec =

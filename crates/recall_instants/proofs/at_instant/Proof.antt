@@ -16,11 +16,13 @@ end-due-requires c κs =
 
 start-at-requires : tie.Need-start-at-requires
 start-at-requires c κs =
-    let s = c .before .before .before .before .before .before .before .before .before .before .before in
+    let c8 = c .before .before .before .before .before .before .before .before in
+    let s = c8 .before .before .before in
     let a = s .args in
     let t = a .t .0 in
     let l = all (a .m .now) in
-    next-room (endAt t l) (startAt t) (instant-is t l) (a .out .now) (a .len) (s .pre) (c .before .before .before .before .before .before .end-due .ensures) (search needs)
+    next-room (endAt t l) (startAt t) (instant-is t l) (a .out .now) (a .len) (s .pre)
+    (c .before .before .before .before .before .before .end-due .ensures) (search needs)
 
 same-length : tie.Need-same-length
 same-length c = search needs
@@ -30,11 +32,14 @@ same-length-2 c = search needs
 
 returns : tie.Need-returns
 returns c =
-    let s = c .before .before .before .before .before .before .before .before .before .before .before .before .before .before .before .before in
+    let c8 = c .before .before .before .before .before .before .before .before in
+    let c16 = c8 .before .before .before .before .before .before .before .before in
+    let s = c16 in
     let a = s .args in
     let t = a .t .0 in
     let l = all (a .m .now) in
-    both-done (endAt t l) (startAt t) (instant-is t l) (a .out .now) (a .len) (s .pre) (c .before .before .before .before .before .before .before .before .before .before .before .end-due .ensures) (c .before .before .before .before .start-at .ensures)
+    both-done (endAt t l) (startAt t) (instant-is t l) (a .out .now) (a .len) (s .pre) (c8 .before .before .before .end-due .ensures)
+    (c .before .before .before .before .start-at .ensures)
 
 pub at-instant-spec : {M : Type 1} → statement M
 at-instant-spec =

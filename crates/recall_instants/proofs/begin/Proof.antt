@@ -38,10 +38,11 @@ same-length-2 c = search needs
 
 returns : tie.Need-returns
 returns c =
+    let c8 = c .before .before .before .before .before .before .before .before in
     let w = c .before .before in
     let on = c .before .before .before .before .before .before in
     let n = c .before .before .before .before .before .before .before .before in
-    let s = c .before .before .before .before .before .before .before .before .before .before .before .before in
+    let s = c8 .before .before .before .before in
     let a = s .args in
     record {
       holds = stored (a .m .now) (n .rows-in .result) (n .rows-in .ensures) _ (a .i) _ (search needs) (on .store .ensures);

@@ -46,7 +46,8 @@ returns c =
     let s = n .before .before .before in
     let m = s .args .m .now in
     let i = a .on-air .result in
-    elapsed (s .args .d) i (all m) (v .load .result) _ (a .on-air .ensures) (omega (arith, v .before .before .if1 .taken, length-all m, n .rows-in .ensures))
+    elapsed (s .args .d) i (all m) (v .load .result) _ (a .on-air .ensures)
+    (omega (arith, v .before .before .if1 .taken, length-all m, n .rows-in .ensures))
     (read m (n .rows-in .result) (n .rows-in .ensures) i (v .load .result) (v .load .ensures))
     (stored m (n .rows-in .result) (n .rows-in .ensures) _ i _ (search needs) (st .store .ensures))
 

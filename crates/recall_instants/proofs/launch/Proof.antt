@@ -18,7 +18,8 @@ start-requires c κs =
     let x = c .before .before .before .before .before in
     let s = c .before .before .before .before .before .before .before .before .before in
     let a = s .args in
-    let is = launched-on (a .i) (all (a .m .now)) (x .session-at .result) (x .session-at .ensures) (b .may-start .result) (b .may-start .ensures) (g .if1 .taken) in
+    let is = launched-on (a .i) (all (a .m .now)) (x .session-at .result) (x .session-at .ensures) (b .may-start .result)
+    (b .may-start .ensures) (g .if1 .taken) in
     (s .pre .0, as-room is (a .out .now) (a .len) (s .pre .1))
 
 end-chain-requires : tie.Need-end-chain-requires
@@ -28,7 +29,8 @@ end-chain-requires c κs =
     let x = c .before .before .before .before .before in
     let s = c .before .before .before .before .before .before .before .before .before in
     let a = s .args in
-    let is = launched-off (a .i) (all (a .m .now)) (x .session-at .result) (x .session-at .ensures) (b .may-start .result) (b .may-start .ensures) (g .if1 .left) in
+    let is = launched-off (a .i) (all (a .m .now)) (x .session-at .result) (x .session-at .ensures) (b .may-start .result)
+    (b .may-start .ensures) (g .if1 .left) in
     (s .pre .0, as-room is (a .out .now) (a .len) (s .pre .1))
 
 same-length : tie.Need-same-length
@@ -39,12 +41,14 @@ same-length-2 c = search needs
 
 returns : tie.Need-returns
 returns c =
+    let c8 = c .before .before .before .before .before .before .before .before in
     let g = c .before .before .before .before .before .before .before in
     let b = c .before .before .before .before .before .before .before .before in
-    let x = c .before .before .before .before .before .before .before .before .before .before in
-    let s = c .before .before .before .before .before .before .before .before .before .before .before .before .before .before in
+    let x = c8 .before .before in
+    let s = c8 .before .before .before .before .before .before in
     let a = s .args in
-    let is = launched-on (a .i) (all (a .m .now)) (x .session-at .result) (x .session-at .ensures) (b .may-start .result) (b .may-start .ensures) (g .if1 .taken) in
+    let is = launched-on (a .i) (all (a .m .now)) (x .session-at .result) (x .session-at .ensures) (b .may-start .result)
+    (b .may-start .ensures) (g .if1 .taken) in
     as-done is (c .before .before .before .before .start .ensures)
 
 same-length-3 : tie.Need-same-length-3
@@ -55,12 +59,14 @@ same-length-4 c = search needs
 
 returns-2 : tie.Need-returns-2
 returns-2 c =
+    let c8 = c .before .before .before .before .before .before .before .before in
     let g = c .before .before .before .before .before .before .before in
     let b = c .before .before .before .before .before .before .before .before in
-    let x = c .before .before .before .before .before .before .before .before .before .before in
-    let s = c .before .before .before .before .before .before .before .before .before .before .before .before .before .before in
+    let x = c8 .before .before in
+    let s = c8 .before .before .before .before .before .before in
     let a = s .args in
-    let is = launched-off (a .i) (all (a .m .now)) (x .session-at .result) (x .session-at .ensures) (b .may-start .result) (b .may-start .ensures) (g .if1 .left) in
+    let is = launched-off (a .i) (all (a .m .now)) (x .session-at .result) (x .session-at .ensures) (b .may-start .result)
+    (b .may-start .ensures) (g .if1 .left) in
     as-done is (c .before .before .before .before .end-chain .ensures)
 
 pub launch-spec : {M : Type 1} → statement M

@@ -29,8 +29,10 @@ returns c =
     let s = n .before .before in
     let m = s .args .m .now in
     let x = s .args .x in
-    ap (λ (b : Bool). b && leb (v .load .result .session .access) (x .access)) (sym (eq-eqb (x .overrides) 1 (c .before .before .if2 .taken)))
-    ∙ may-by x (all m) (a .on-air .result) (v .load .result) (a .on-air .ensures) (omega (arith, v .before .if1 .taken, length-all m, n .rows-in .ensures))
+    ap (λ (b : Bool). b && leb (v .load .result .session .access) (x .access))
+    (sym (eq-eqb (x .overrides) 1 (c .before .before .if2 .taken)))
+    ∙ may-by x (all m) (a .on-air .result) (v .load .result) (a .on-air .ensures)
+    (omega (arith, v .before .if1 .taken, length-all m, n .rows-in .ensures))
     (read m (n .rows-in .result) (n .rows-in .ensures) (a .on-air .result) (v .load .result) (v .load .ensures))
 
 returns-2 : tie.Need-returns-2
@@ -43,7 +45,8 @@ returns-2 c =
     let x = s .args .x in
     let no = ne-eqb (x .overrides) 1 (c .if2 .left) in
     no ∙ ap (λ (b : Bool). b && leb (v .load .result .session .access) (x .access)) (sym no)
-    ∙ may-by x (all m) (a .on-air .result) (v .load .result) (a .on-air .ensures) (omega (arith, v .before .if1 .taken, length-all m, n .rows-in .ensures))
+    ∙ may-by x (all m) (a .on-air .result) (v .load .result) (a .on-air .ensures)
+    (omega (arith, v .before .if1 .taken, length-all m, n .rows-in .ensures))
     (read m (n .rows-in .result) (n .rows-in .ensures) (a .on-air .result) (v .load .result) (v .load .ensures))
 
 returns-3 : tie.Need-returns-3

@@ -5,14 +5,16 @@ use native.Mathlib.Omega.{arith}
 use lib.ListN.{length}
 use Rattle.recall_rules.specs.Work.{run, runAll}
 use Rattle.recall_ends.specs.Does.{all}
-use Rattle.recall_instants.proofs.Running.{Running, running-first, running-last, running-next, instant-room, run-none, run-stop, lasting, next-time, next-later}
+use Rattle.recall_instants.proofs.Running.{Running, running-first, running-last, running-next, instant-room, run-none, run-stop}
+use Rattle.recall_instants.proofs.Running.{lasting, next-time, next-later}
 use borrow.Author.Needs.{needs}
 use Rattle.recall_instants.proofs.run.Statement.{statement}
 use Rattle.recall_instants.proofs.run.Tie as tie
 
 abbrev Inv-loop : tie.InvT-loop
 Inv-loop m₀ until out₀ n t₀ len₀ left₀ m out t len left =
-    Running (until .0) (runAll (t₀ .0) (until .0) (all m₀)) out₀ m (t .0) len out left × ((length m ≡ length m₀) × (length out ≡ length out₀))
+    Running (until .0) (runAll (t₀ .0) (until .0) (all m₀)) out₀ m (t .0) len out left ×
+    ((length m ≡ length m₀) × (length out ≡ length out₀))
 
 abbrev μ-loop : tie.MeasureT-loop
 μ-loop m₀ until out₀ n t₀ len₀ left₀ m out t len left = left
@@ -43,45 +45,53 @@ sub-elapse c = c .before .before .before .before .before .before .before .before
 
 elapse-requires : tie.Need-elapse-requires Inv-loop μ-loop
 elapse-requires c κs =
+    let c8 = c .before .before .before .before .before .before .before .before in
     let at = c .before .before .before .before .before .before .before .before in
-    let s = c .before .before .before .before .before .before .before .before .before .before .before .before .before in
+    let s = c8 .before .before .before .before .before in
     lasting (at .loop .inv .0 .keeps) (s .args .until .0) (at .loop .inv .0 .time) (s .pre .1 .0 .1)
 
 same-length : tie.Need-same-length Inv-loop μ-loop
 same-length c =
-    let g = c .before .before .before .before .before .before .before .before .before .before .before .loop .inv .1 .0 in
+    let c8 = c .before .before .before .before .before .before .before .before in
+    let g = c8 .before .before .before .loop .inv .1 .0 in
     search (needs, g)
 
 same-length-2 : tie.Need-same-length-2 Inv-loop μ-loop
 same-length-2 c =
-    let g = c .before .before .before .before .before .before .before .before .before .before .before .loop .inv .1 .1 in
+    let c8 = c .before .before .before .before .before .before .before .before in
+    let g = c8 .before .before .before .loop .inv .1 .1 in
     search (needs, g)
 
 returns : tie.Need-returns Inv-loop μ-loop
 returns c =
+    let c8 = c .before .before .before .before .before .before .before .before in
+    let c16 = c8 .before .before .before .before .before .before .before .before in
     let told = c .before .before .before .before .before .before in
     let due = c .before .before .before .before .before .before .before .before in
-    let at = c .before .before .before .before .before .before .before .before .before .before .before in
-    let s = c .before .before .before .before .before .before .before .before .before .before .before .before .before .before .before .before in
+    let at = c8 .before .before .before in
+    let s = c16 in
     let y = at .loop in
-    running-last (y .inv .0) (run-stop (y .t .0) (s .args .until .0) (all (y .m)) (y .left) (sym (due .next-due .ensures) ∙ told .enum-told .given .1)) (c .before .before .elapse .ensures)
+    running-last (y .inv .0) (run-stop (y .t .0) (s .args .until .0) (all (y .m)) (y .left)
+    (sym (due .next-due .ensures) ∙ told .enum-told .given .1)) (c .before .before .elapse .ensures)
 
 sub-elapse-2 : tie.Need-sub-elapse-2 Inv-loop μ-loop
 sub-elapse-2 c =
+    let c8 = c .before .before .before .before .before .before .before .before in
     let next = c .before .before .before .before in
     let due = c .before .before .before .before .before .before in
     let at = c .before .before .before .before .before .before .before .before .before in
-    let s = c .before .before .before .before .before .before .before .before .before .before .before .before .before .before in
+    let s = c8 .before .before .before .before .before .before in
     let v = at .loop .inv .0 in
     let d = sym (due .next-due .ensures) ∙ next .due .given .1 in
     omega (arith, next-later (v .keeps) (s .args .until .0) _ d)
 
 elapse-requires-2 : tie.Need-elapse-requires-2 Inv-loop μ-loop
 elapse-requires-2 c κs =
+    let c8 = c .before .before .before .before .before .before .before .before in
     let next = c .before .before .before .before in
     let due = c .before .before .before .before .before .before in
     let at = c .before .before .before .before .before .before .before .before .before in
-    let s = c .before .before .before .before .before .before .before .before .before .before .before .before .before .before in
+    let s = c8 .before .before .before .before .before .before in
     let v = at .loop .inv .0 in
     let d = sym (due .next-due .ensures) ∙ next .due .given .1 in
     let u = s .args .until .0 in
@@ -89,34 +99,47 @@ elapse-requires-2 c κs =
 
 at-instant-requires : tie.Need-at-instant-requires Inv-loop μ-loop
 at-instant-requires c κs =
+    let c8 = c .before .before .before .before .before .before .before .before in
+    let c16 = c8 .before .before .before .before .before .before .before .before in
     let next = c .before .before .before .before .before .before .before .before .before in
-    let due = c .before .before .before .before .before .before .before .before .before .before .before in
-    let at = c .before .before .before .before .before .before .before .before .before .before .before .before .before .before in
-    let s = c .before .before .before .before .before .before .before .before .before .before .before .before .before .before .before .before .before .before .before in
+    let due = c8 .before .before .before in
+    let at = c8 .before .before .before .before .before .before in
+    let s = c16 .before .before .before in
     let v = at .loop .inv .0 in
     let d = sym (due .next-due .ensures) ∙ next .due .given .1 in
-    let w : at .loop .left ≡ suc (at .loop .left - 1) = omega (arith, c .before .before .before .before .before .before .before .before .before .before .before .before .before .loop-test .taken) in
-    instant-room v (at .loop .left - 1) w _ d (c .before .before .before .before .elapse2 .last .0) (c .before .before .before .before .elapse2 .ensures)
+    let w : at .loop .left ≡ suc (at .loop .left - 1) = omega (arith, c8 .before .before .before .before .before .loop-test .taken) in
+    instant-room v (at .loop .left - 1) w _ d (c .before .before .before .before .elapse2 .last .0)
+    (c .before .before .before .before .elapse2 .ensures)
 
 sub-left : tie.Need-sub-left Inv-loop μ-loop
-sub-left c = omega (arith, c .before .before .before .before .before .before .before .before .before .before .before .before .before .before .before .before .before .before .loop-test .taken)
+sub-left c =
+    let c8 = c .before .before .before .before .before .before .before .before in
+    let c16 = c8 .before .before .before .before .before .before .before .before in
+    omega (arith, c16 .before .before .loop-test .taken)
 
 loop-less : tie.Need-loop-less Inv-loop μ-loop
-loop-less c = omega (arith, c .before .before .before .before .before .before .before .before .before .before .before .before .before .before .before .before .before .before .loop-test .taken)
+loop-less c =
+    let c8 = c .before .before .before .before .before .before .before .before in
+    let c16 = c8 .before .before .before .before .before .before .before .before in
+    omega (arith, c16 .before .before .loop-test .taken)
 
 loop-again : tie.Need-loop-again Inv-loop μ-loop
 loop-again c =
+    let c8 = c .before .before .before .before .before .before .before .before in
+    let c16 = c8 .before .before .before .before .before .before .before .before in
+    let c24 = c16 .before .before .before .before .before .before .before .before in
     let did = c .before .before .before .before in
     let passed = c .before .before .before .before .before .before .before .before .before in
-    let next = c .before .before .before .before .before .before .before .before .before .before .before .before .before .before in
-    let due = c .before .before .before .before .before .before .before .before .before .before .before .before .before .before .before .before in
-    let at = c .before .before .before .before .before .before .before .before .before .before .before .before .before .before .before .before .before .before .before in
-    let s = c .before .before .before .before .before .before .before .before .before .before .before .before .before .before .before .before .before .before .before .before .before .before .before .before in
+    let next = c8 .before .before .before .before .before .before in
+    let due = c16 in
+    let at = c16 .before .before .before in
+    let s = c24 in
     let v = at .loop .inv .0 in
     let d = sym (due .next-due .ensures) ∙ next .due .given .1 in
-    let w : at .loop .left ≡ suc (at .loop .left - 1) = omega (arith, c .before .before .before .before .before .before .before .before .before .before .before .before .before .before .before .before .before .before .loop-test .taken) in
+    let w : at .loop .left ≡ suc (at .loop .left - 1) = omega (arith, c16 .before .before .loop-test .taken) in
     let i = at .loop .inv .1 in (
-      running-next v (at .loop .left - 1) w _ d (passed .elapse2 .last .0) (passed .elapse2 .ensures) (did .at-instant .ensures) (omega (arith, did .at-instant .kept .1 .1 .0)),
+      running-next v (at .loop .left - 1) w _ d (passed .elapse2 .last .0) (passed .elapse2 .ensures) (did .at-instant .ensures)
+          (omega (arith, did .at-instant .kept .1 .1 .0)),
       (omega (arith, did .at-instant .kept .0, passed .elapse2 .kept .0, i .0), omega (arith, did .at-instant .kept .1 .1 .0, i .1)),
     )
 
@@ -141,11 +164,13 @@ same-length-4 c =
 
 returns-2 : tie.Need-returns-2 Inv-loop μ-loop
 returns-2 c =
+    let c8 = c .before .before .before .before .before .before .before .before in
     let at = c .before .before .before .before .before .before .before in
-    let s = c .before .before .before .before .before .before .before .before .before .before .before .before in
+    let s = c8 .before .before .before .before in
     let y = at .loop in
     let z : y .left ≡ 0 = omega (arith, c .before .before .before .before .before .before .loop-test .left) in
-    running-last (y .inv .0) (ap (λ (j : ℕ). run j (y .t .0) (s .args .until .0) (all (y .m))) z ∙ run-none (y .t .0) (s .args .until .0) (all (y .m))) (c .before .before .elapse3 .ensures)
+    running-last (y .inv .0) (ap (λ (j : ℕ). run j (y .t .0) (s .args .until .0) (all (y .m))) z
+    ∙ run-none (y .t .0) (s .args .until .0) (all (y .m))) (c .before .before .elapse3 .ensures)
 
 pub run-spec : {M : Type 1} → statement M
 run-spec =

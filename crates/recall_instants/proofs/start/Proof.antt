@@ -19,27 +19,35 @@ store-requires c κs = search needs
 
 oust-requires : tie.Need-oust-requires
 oust-requires c κs =
+    let c8 = c .before .before .before .before .before .before .before .before in
     let o = c .before .before .before .before in
     let x = c .before .before .before .before .before .before in
     let n = c .before .before .before .before .before .before .before .before in
-    let s = c .before .before .before .before .before .before .before .before .before .before .before .before in
+    let s = c8 .before .before .before .before in
     let a = s .args in
     let m = a .m .now in
     let y = x .session-at .result in
-    let is = started-is (a .i) (all m) y (x .session-at .ensures) _ (stored m (n .rows-in .result) (n .rows-in .ensures) _ (a .i) _ (search needs) (o .store .ensures)) in
+    let is = started-is (a .i) (all m) y (x .session-at .ensures) _ (stored m (n .rows-in .result) (n .rows-in .ensures) _ (a .i) _
+    (search needs) (o .store .ensures)) in
     first-room _ (begins (a .i) y) is (a .out .now) (a .len) (s .pre .1)
 
 begin-requires : tie.Need-begin-requires
 begin-requires c κs =
-    let o = c .before .before .before .before .before .before .before .before .before .before .before in
-    let x = c .before .before .before .before .before .before .before .before .before .before .before .before .before in
-    let n = c .before .before .before .before .before .before .before .before .before .before .before .before .before .before .before in
-    let s = c .before .before .before .before .before .before .before .before .before .before .before .before .before .before .before .before .before .before .before in
+    let c8 = c .before .before .before .before .before .before .before .before in
+    let c16 = c8 .before .before .before .before .before .before .before .before in
+    let o = c8 .before .before .before in
+    let x = c8 .before .before .before .before .before in
+    let n = c8 .before .before .before .before .before .before .before in
+    let s = c16 .before .before .before in
     let a = s .args in
     let m = a .m .now in
     let y = x .session-at .result in
-    let is = started-is (a .i) (all m) y (x .session-at .ensures) _ (stored m (n .rows-in .result) (n .rows-in .ensures) _ (a .i) _ (search needs) (o .store .ensures)) in
-    (omega (arith, s .pre .0, c .before .before .before .before .before .before .oust .kept .0, o .store .kept .0), next-room _ (begins (a .i) y) is (a .out .now) (a .len) (s .pre .1) (c .before .before .before .before .before .before .oust .ensures) (search needs))
+    let is = started-is (a .i) (all m) y (x .session-at .ensures) _ (stored m (n .rows-in .result) (n .rows-in .ensures) _ (a .i) _
+    (search needs) (o .store .ensures)) in (
+      omega (arith, s .pre .0, c .before .before .before .before .before .before .oust .kept .0, o .store .kept .0),
+      next-room _ (begins (a .i) y) is (a .out .now) (a .len) (s .pre .1)
+          (c .before .before .before .before .before .before .oust .ensures) (search needs),
+    )
 
 same-length : tie.Need-same-length
 same-length c = search needs
@@ -49,15 +57,20 @@ same-length-2 c = search needs
 
 returns : tie.Need-returns
 returns c =
-    let o = c .before .before .before .before .before .before .before .before .before .before .before .before .before .before .before .before in
-    let x = c .before .before .before .before .before .before .before .before .before .before .before .before .before .before .before .before .before .before in
-    let n = c .before .before .before .before .before .before .before .before .before .before .before .before .before .before .before .before .before .before .before .before in
-    let s = c .before .before .before .before .before .before .before .before .before .before .before .before .before .before .before .before .before .before .before .before .before .before .before .before in
+    let c8 = c .before .before .before .before .before .before .before .before in
+    let c16 = c8 .before .before .before .before .before .before .before .before in
+    let c24 = c16 .before .before .before .before .before .before .before .before in
+    let o = c16 in
+    let x = c16 .before .before in
+    let n = c16 .before .before .before .before in
+    let s = c24 in
     let a = s .args in
     let m = a .m .now in
     let y = x .session-at .result in
-    let is = started-is (a .i) (all m) y (x .session-at .ensures) _ (stored m (n .rows-in .result) (n .rows-in .ensures) _ (a .i) _ (search needs) (o .store .ensures)) in
-    both-done _ (begins (a .i) y) is (a .out .now) (a .len) (s .pre .1) (c .before .before .before .before .before .before .before .before .before .before .before .oust .ensures) (c .before .before .before .before .begin .ensures)
+    let is = started-is (a .i) (all m) y (x .session-at .ensures) _ (stored m (n .rows-in .result) (n .rows-in .ensures) _ (a .i) _
+    (search needs) (o .store .ensures)) in
+    both-done _ (begins (a .i) y) is (a .out .now) (a .len) (s .pre .1) (c8 .before .before .before .oust .ensures)
+    (c .before .before .before .before .begin .ensures)
 
 pub start-spec : {M : Type 1} → statement M
 start-spec =

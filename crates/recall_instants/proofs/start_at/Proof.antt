@@ -27,7 +27,8 @@ launch-requires c κs =
     let a = s .args in
     let m = a .m .now in
     let i = f .find .result in
-    let e : i ≡ which isWaiting (startsAt (a .t .0)) (all m) = f .find .ensures ∙ ap (which isWaiting (startsAt (a .t .0))) (as-all m (n .rows-in .result) (n .rows-in .ensures)) in
+    let e : i ≡ which isWaiting (startsAt (a .t .0)) (all m) = f .find .ensures
+    ∙ ap (which isWaiting (startsAt (a .t .0))) (as-all m (n .rows-in .result) (n .rows-in .ensures)) in
     let h : i < length (all m) = omega (arith, c .before .before .if1 .taken, n .rows-in .ensures, length-all m) in
     (omega (arith, h, length-all m), as-room (start-one (a .t .0) i (all m) e h) (a .out .now) (a .len) (s .pre))
 
@@ -39,14 +40,21 @@ same-length-2 c = search needs
 
 returns : tie.Need-returns
 returns c =
+    let c8 = c .before .before .before .before .before .before .before .before in
     let f = c .before .before .before .before .before .before .before .before in
-    let n = c .before .before .before .before .before .before .before .before .before .before in
-    let s = c .before .before .before .before .before .before .before .before .before .before .before .before .before .before in
+    let n = c8 .before .before in
+    let s = c8 .before .before .before .before .before .before in
     let a = s .args in
     let m = a .m .now in
     let i = f .find .result in
-    let e : i ≡ which isWaiting (startsAt (a .t .0)) (all m) = f .find .ensures ∙ ap (which isWaiting (startsAt (a .t .0))) (as-all m (n .rows-in .result) (n .rows-in .ensures)) in
-    let h : i < length (all m) = omega (arith, c .before .before .before .before .before .before .before .if1 .taken, n .rows-in .ensures, length-all m) in
+    let e : i ≡ which isWaiting (startsAt (a .t .0)) (all m) = f .find .ensures
+    ∙ ap (which isWaiting (startsAt (a .t .0))) (as-all m (n .rows-in .result) (n .rows-in .ensures)) in
+    let h : i < length (all m) = omega (
+      arith,
+      c .before .before .before .before .before .before .before .if1 .taken,
+      n .rows-in .ensures,
+      length-all m,
+    ) in
     as-done (start-one (a .t .0) i (all m) e h) (c .before .before .before .before .launch .ensures)
 
 same-length-3 : tie.Need-same-length-3
@@ -60,7 +68,8 @@ returns-2 c =
     let a = s .args in
     let m = a .m .now in
     let i = f .find .result in
-    let e : i ≡ which isWaiting (startsAt (a .t .0)) (all m) = f .find .ensures ∙ ap (which isWaiting (startsAt (a .t .0))) (as-all m (n .rows-in .result) (n .rows-in .ensures)) in
+    let e : i ≡ which isWaiting (startsAt (a .t .0)) (all m) = f .find .ensures
+    ∙ ap (which isWaiting (startsAt (a .t .0))) (as-all m (n .rows-in .result) (n .rows-in .ensures)) in
     as-done (start-none (a .t .0) i (all m) e (omega (arith, c .if1 .left, n .rows-in .ensures, length-all m))) turns-quiet
 
 pub start-at-spec : {M : Type 1} → statement M

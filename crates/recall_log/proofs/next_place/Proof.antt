@@ -41,7 +41,8 @@ returns-4 c =
     let l = c .before .before .before .before .before .before .before .args .l .now in
     let n = c .before .before .before .before .count .ensures in
     let e = c .before .before .before .before .before .if1 .left in
-    ap From (n .taken) ∙ sym (place-from l (full-space l e (omega (arith, n .calls)) ∙ le-ltb (free l) longestRecord (omega (arith, n .taken))))
+    ap From (n .taken) ∙ sym (place-from l (full-space l e (omega (arith, n .calls))
+    ∙ le-ltb (free l) longestRecord (omega (arith, n .taken))))
 
 pub next-place-spec : {M : Type 1} → statement M
 next-place-spec = tie.close (tie.spec returns count-requires returns-2 sub-if3 returns-3 returns-4)

@@ -19,7 +19,8 @@ returns c =
     let s = c .before .before .before .before in
     let if1 = c .before .if1 in
     let refused = c .refused in
-    λ l. shuts-none (s .args .conn) (s .args .h) (s .args .m .now) (s .args .out .now) (s .pre .fits) l (omega (arith, if1 .taken)) (refused .ensures)
+    λ l. shuts-none (s .args .conn) (s .args .h) (s .args .m .now) (s .args .out .now) (s .pre .fits) l (omega (arith, if1 .taken))
+    (refused .ensures)
 
 refused-requires-2 : tie.Need-refused-requires-2
 refused-requires-2 c κs = search needs
@@ -30,7 +31,8 @@ returns-2 c =
     let if1 = c .before .before .if1 in
     let if2 = c .before .if2 in
     let refused2 = c .refused2 in
-    λ l. shuts-small (s .args .conn) (s .args .h) (s .args .m .now) (s .args .out .now) (s .pre .fits) l (omega (arith, if1 .left)) (omega (arith, if2 .taken)) (refused2 .ensures)
+    λ l. shuts-small (s .args .conn) (s .args .h) (s .args .m .now) (s .args .out .now) (s .pre .fits) l (omega (arith, if1 .left))
+    (omega (arith, if2 .taken)) (refused2 .ensures)
 
 link-of-requires : tie.Need-link-of-requires
 link-of-requires c κs = search needs
@@ -49,7 +51,8 @@ returns-3 c =
     let link-of = c .before .before .before .link-of in
     let enum-told = c .before .enum-told in
     let refused3 = c .refused3 in
-    λ l. shuts-shut (s .args .conn) (s .args .h) (s .args .m .now) (s .args .out .now) (s .pre .fits) l (omega (arith, if1 .left)) (omega (arith, if2 .left)) (link-of .result) (link-of .ensures) (ap isOpen (enum-told .given .1)) (refused3 .ensures)
+    λ l. shuts-shut (s .args .conn) (s .args .h) (s .args .m .now) (s .args .out .now) (s .pre .fits) l (omega (arith, if1 .left))
+    (omega (arith, if2 .left)) (link-of .result) (link-of .ensures) (ap isOpen (enum-told .given .1)) (refused3 .ensures)
 
 mul-end : tie.Need-mul-end
 mul-end c = search needs
@@ -82,15 +85,19 @@ same-length-2 c = search needs
 
 returns-4 : tie.Need-returns-4
 returns-4 c =
-    let s = c .before .before .before .before .before .before .before .before .before .before .before .before .before .before .before .before in
-    let if1 = c .before .before .before .before .before .before .before .before .before .before .before .before .before .if1 in
-    let if2 = c .before .before .before .before .before .before .before .before .before .before .before .before .if2 in
-    let link-of = c .before .before .before .before .before .before .before .before .before .before .before .link-of in
-    let match = c .before .before .before .before .before .before .before .before .before .before .match in
+    let c8 = c .before .before .before .before .before .before .before .before in
+    let c16 = c8 .before .before .before .before .before .before .before .before in
+    let s = c16 in
+    let if1 = c8 .before .before .before .before .before .if1 in
+    let if2 = c8 .before .before .before .before .if2 in
+    let link-of = c8 .before .before .before .link-of in
+    let match = c8 .before .before .match in
     let close = c .before .before .before .before .before .before .close in
     let linked = c .before .linked in
     let placed = c .placed in
-    λ l. shuts (s .args .conn) (s .args .h) (s .args .m .now) (s .args .out .now) (s .pre .fits) l (omega (arith, if1 .left)) (omega (arith, if2 .left)) (link-of .result) (link-of .ensures) (not-closed (link-of .result) (match .keys2)) (close .kept .0) (close .ensures) (placed .ensures ∙ ap (λ x. replaced (s .args .conn) 0 x) (linked .ensures))
+    λ l. shuts (s .args .conn) (s .args .h) (s .args .m .now) (s .args .out .now) (s .pre .fits) l (omega (arith, if1 .left))
+    (omega (arith, if2 .left)) (link-of .result) (link-of .ensures) (not-closed (link-of .result) (match .keys2)) (close .kept .0)
+    (close .ensures) (placed .ensures ∙ ap (λ x. replaced (s .args .conn) 0 x) (linked .ensures))
 
 pub close-spec : {M : Type 1} → statement M
 close-spec =

@@ -28,9 +28,12 @@ answer-requires c κs =
 
 settle-requires : tie.Need-settle-requires
 settle-requires c κs =
-    let s = c .before .before .before .before .before .before .before .before .before .before .before .before in
-    let answer = c .before .before .before .before .before .answer in
-    (omega (arith, long-back (s .args .h .rows) (s .args .m .now) (answer .last .0) (s .pre .0 .fits) (answer .kept .0), s .pre .1 .0), s .pre .1 .1 .0)
+    let c8 = c .before .before .before .before .before .before .before .before in
+    let s = c8 .before .before .before .before in
+    let answer = c .before .before .before .before .before .answer in (
+      omega (arith, long-back (s .args .h .rows) (s .args .m .now) (answer .last .0) (s .pre .0 .fits) (answer .kept .0), s .pre .1 .0),
+      s .pre .1 .1 .0,
+    )
 
 same-length : tie.Need-same-length
 same-length c = search needs
@@ -40,10 +43,12 @@ same-length-2 c = search needs
 
 returns : tie.Need-returns
 returns c =
-    let s = c .before .before .before .before .before .before .before .before .before .before .before .before .before .before .before in
+    let c8 = c .before .before .before .before .before .before .before .before in
+    let s = c8 .before .before .before .before .before .before .before in
     let answer = c .before .before .before .before .before .before .before .before .answer in
     let settle = c .before .before .settle in
-    hears (s .args .conn) (s .args .id) (s .args .d .now) (s .args .h) (s .args .m .now) (s .args .out .now) (s .pre .0 .fits) (answer .kept .0) (answer .ensures) (settle .ensures)
+    hears (s .args .conn) (s .args .id) (s .args .d .now) (s .args .h) (s .args .m .now) (s .args .out .now) (s .pre .0 .fits)
+    (answer .kept .0) (answer .ensures) (settle .ensures)
 
 pub hear-spec : {M : Type 1} → statement M
 hear-spec =

@@ -33,7 +33,8 @@ returns-2 c =
     let link-of = c .before .before .link-of in
     let match = c .before .match in
     let refused2 = c .refused2 in
-    λ m e f l. open-twice (s .args .conn) (s .args .h) m e f l (link-of .result) (omega (arith, if1 .left)) (link-of .ensures) (not-closed (link-of .result) (match .keys2)) (refused2 .ensures)
+    λ m e f l. open-twice (s .args .conn) (s .args .h) m e f l (link-of .result) (omega (arith, if1 .left)) (link-of .ensures)
+    (not-closed (link-of .result) (match .keys2)) (refused2 .ensures)
 
 linked-requires : tie.Need-linked-requires
 linked-requires c κs = search needs
@@ -45,7 +46,8 @@ returns-3 c =
     let link-of = c .before .before .before .link-of in
     let enum-told = c .before .enum-told in
     let linked = c .linked in
-    λ m e f l. open-done (s .args .conn) (s .args .h) m e f l (link-of .result) (omega (arith, if1 .left)) (link-of .ensures) (ap isOpen (enum-told .given .1)) (linked .ensures)
+    λ m e f l. open-done (s .args .conn) (s .args .h) m e f l (link-of .result) (omega (arith, if1 .left)) (link-of .ensures)
+    (ap isOpen (enum-told .given .1)) (linked .ensures)
 
 pub open-spec : {M : Type 1} → statement M
 open-spec =

@@ -3,7 +3,8 @@ use mathlib.Core.Path.{refl, sym, _∙_, _≡_}
 use native.Mathlib.Omega.{arith}
 use borrow.Author.Needs.{needs}
 use lib.ListN.{length}
-use Rattle.recall_pass.proofs.Walks.{Walking, walking-first, walking-fits, walking-ready, walking-end, walking-record, walking-within, walking-next}
+use Rattle.recall_pass.proofs.Walks.{Walking, walking-first, walking-fits, walking-ready, walking-end, walking-record}
+use Rattle.recall_pass.proofs.Walks.{walking-within, walking-next}
 use Rattle.rules.specs.Bytes.{Byte}
 use Rattle.rules.proofs.All.{all-at}
 use Prim.Native.Nat.{_-_}
@@ -67,41 +68,64 @@ slice-aggregate-play c =
 
 play-requires : tie.Need-play-requires Inv-loop μ-loop
 play-requires c κs =
-    let s = c .before .before .before .before .before .before .before .before .before .before in
+    let c8 = c .before .before .before .before .before .before .before .before in
+    let s = c8 .before .before in
     let loop = c .before .before .before .before .before .before .loop in
     let record-at = c .before .before .before .before .record-at in
     let span-of = c .before .before .before .span-of in
-    let if1 = c .before .before .if1 in
-    (walking-ready (loop .inv .0) (record-at .ensures) (span-of .ensures) (s .pre .0) (omega (arith, loop .inv .1, s .pre .1)), (walking-fits (loop .inv .0) (record-at .ensures) (span-of .ensures) (s .pre .0) (omega (arith, loop .inv .1, s .pre .1)), (walking-record (loop .inv .0) (record-at .ensures) (span-of .ensures) (s .pre .0) (omega (arith, loop .inv .1, s .pre .1)) (if1 .left), loop .inv .2)))
+    let if1 = c .before .before .if1 in (
+      walking-ready (loop .inv .0) (record-at .ensures) (span-of .ensures) (s .pre .0) (omega (arith, loop .inv .1, s .pre .1)),
+      (
+        walking-fits (loop .inv .0) (record-at .ensures) (span-of .ensures) (s .pre .0) (omega (arith, loop .inv .1, s .pre .1)),
+        (
+          walking-record (loop .inv .0) (record-at .ensures) (span-of .ensures) (s .pre .0) (omega (arith, loop .inv .1, s .pre .1))
+              (if1 .left),
+          loop .inv .2,
+        ),
+      ),
+    )
 
 add-at : tie.Need-add-at Inv-loop μ-loop
 add-at c =
-    let s = c .before .before .before .before .before .before .before .before .before .before .before .before .before .before in
-    let loop = c .before .before .before .before .before .before .before .before .before .before .loop in
+    let c8 = c .before .before .before .before .before .before .before .before in
+    let s = c8 .before .before .before .before .before .before in
+    let loop = c8 .before .before .loop in
     let record-at = c .before .before .before .before .before .before .before .before .record-at in
     let span-of = c .before .before .before .before .before .before .before .span-of in
     let if1 = c .before .before .before .before .before .before .if1 in
-    omega (arith, walking-within (loop .inv .0) (record-at .ensures) (span-of .ensures) (s .pre .0) (omega (arith, loop .inv .1, s .pre .1)) (if1 .left) .1)
+    omega (
+      arith,
+      walking-within (loop .inv .0) (record-at .ensures) (span-of .ensures) (s .pre .0) (omega (arith, loop .inv .1, s .pre .1))
+          (if1 .left) .1,
+    )
 
 loop-less : tie.Need-loop-less Inv-loop μ-loop
 loop-less c =
-    let s = c .before .before .before .before .before .before .before .before .before .before .before .before .before .before in
-    let loop = c .before .before .before .before .before .before .before .before .before .before .loop in
+    let c8 = c .before .before .before .before .before .before .before .before in
+    let s = c8 .before .before .before .before .before .before in
+    let loop = c8 .before .before .loop in
     let record-at = c .before .before .before .before .before .before .before .before .record-at in
     let span-of = c .before .before .before .before .before .before .before .span-of in
     let if1 = c .before .before .before .before .before .before .if1 in
-    let y = walking-within (loop .inv .0) (record-at .ensures) (span-of .ensures) (s .pre .0) (omega (arith, loop .inv .1, s .pre .1)) (if1 .left) in omega (arith, y .0, y .1)
+    let y = walking-within (loop .inv .0) (record-at .ensures) (span-of .ensures) (s .pre .0) (omega (arith, loop .inv .1, s .pre .1))
+    (if1 .left) in omega (arith, y .0, y .1)
 
 loop-again : tie.Need-loop-again Inv-loop μ-loop
 loop-again c =
-    let shared-slice-known = c .before .before .before .before .before .before .before .before .before .before .before .before .before .shared-slice-known in
-    let s = c .before .before .before .before .before .before .before .before .before .before .before .before .before .before in
-    let loop = c .before .before .before .before .before .before .before .before .before .before .loop in
+    let c8 = c .before .before .before .before .before .before .before .before in
+    let shared-slice-known = c8 .before .before .before .before .before .shared-slice-known in
+    let s = c8 .before .before .before .before .before .before in
+    let loop = c8 .before .before .loop in
     let record-at = c .before .before .before .before .before .before .before .before .record-at in
     let span-of = c .before .before .before .before .before .before .before .span-of in
     let if1 = c .before .before .before .before .before .before .if1 in
-    let play = c .before .before .before .play in
-    (walking-next (loop .inv .0) (record-at .ensures) (span-of .ensures) (s .pre .0) (omega (arith, loop .inv .1, s .pre .1)) (if1 .left) (all-at Byte 0 (s .args .log .now) (λ i. omega (arith, shared-slice-known .given i))) (play .ensures), play .kept .1 .0 ∙ loop .inv .1, play .kept .1 .1 .1 .1 .1 .0 ∙ loop .inv .2)
+    let play = c .before .before .before .play in (
+      walking-next (loop .inv .0) (record-at .ensures) (span-of .ensures) (s .pre .0) (omega (arith, loop .inv .1, s .pre .1)) (if1 .left)
+          (all-at Byte 0 (s .args .log .now) (λ i. omega (arith, shared-slice-known .given i))) (play .ensures),
+      play .kept .1 .0
+          ∙ loop .inv .1,
+      play .kept .1 .1 .1 .1 .1 .0 ∙ loop .inv .2,
+    )
 
 pub pass-spec : {M : Type 1} → statement M
 pass-spec =

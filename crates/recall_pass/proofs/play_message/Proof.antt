@@ -1,9 +1,11 @@
--- The call is what comes of the tests (`message-is`): nothing, or what is heard, with the place of an Init_Request that got 100. Each return
+-- The call is what comes of the tests (`message-is`): nothing, or what is heard, with the place of an Init_Request that got 100. Each
+-- return
 -- is one law of proofs/Messages.
 use mathlib.Core.Path.{sym, ap, subst, _∙_}
 use native.Mathlib.Omega.{arith}
 use lib.ListN.{length}
-use Rattle.recall_pass.proofs.Messages.{framed-there, size-there, part-is, message-stays, message-low, message-long, message-leads, message-enters}
+use Rattle.recall_pass.proofs.Messages.{framed-there, size-there, part-is, message-stays, message-low, message-long, message-leads}
+use Rattle.recall_pass.proofs.Messages.{message-enters}
 use Rattle.rules.specs.Bytes.{dataOf}
 use mathlib.Core.List.{List}
 use Prim.Native.Nat.{ℕ, _+_, _≤_}
@@ -59,41 +61,61 @@ returns c =
     let number2 = c .before .before .before .before .number2 in
     let framed = c .before .before .framed in
     let match = c .before .match in
-    message-stays (s .args .log .now) (s .args .from) (s .pre .1 .1 .0 .1) (s .args .conn) (s .args .h) (s .args .m .now) (framed .result) (framed-there (s .args .log .now) (s .args .from) (s .pre .1 .1 .0 .1) (number2 .ensures) (s .args .conn) (s .args .h) (s .args .m .now) (s .pre .1 .1 .1) (framed .ensures)) (match .keys2) (s .pre .0 .fits)
+    message-stays (s .args .log .now) (s .args .from) (s .pre .1 .1 .0 .1) (s .args .conn) (s .args .h) (s .args .m .now) (framed .result)
+    (framed-there (s .args .log .now) (s .args .from) (s .pre .1 .1 .0 .1) (number2 .ensures) (s .args .conn) (s .args .h)
+    (s .args .m .now) (s .pre .1 .1 .1) (framed .ensures)) (match .keys2) (s .pre .0 .fits)
 
 cast-data-of : tie.Need-cast-data-of
 cast-data-of c = search needs
 
 data-of-requires : tie.Need-data-of-requires
 data-of-requires c κs =
-    let s = c .before .before .before .before .before .before .before .before .before .before .before in
+    let c8 = c .before .before .before .before .before .before .before .before in
+    let s = c8 .before .before .before in
     let number2 = c .before .before .before .before .before .before .number2 in
     let framed = c .before .before .before .before .framed in
     let f = c .before .before .f in
-    let is = framed-there (s .args .log .now) (s .args .from) (s .pre .1 .1 .0 .1) (number2 .ensures) (s .args .conn) (s .args .h) (s .args .m .now) (s .pre .1 .1 .1) (framed .ensures) in
+    let is = framed-there (s .args .log .now) (s .args .from) (s .pre .1 .1 .0 .1) (number2 .ensures) (s .args .conn) (s .args .h)
+    (s .args .m .now) (s .pre .1 .1 .1) (framed .ensures) in
     let at = part-is (s .args .log .now) (s .args .from) (s .pre .1 .1 .0 .1) (number2 .ensures) in
-    subst (λ (x : List ℕ). 8 + f .given .0 .1 .0 ≤ length x) (sym at) (message-long (s .args .log .now) (s .args .from) (s .pre .1 .1 .0 .1) (s .args .conn) (s .args .h) (s .args .m .now) (framed .result) is (f .given .0 .0) (f .given .0 .1 .0) (f .given .1))
+    subst (λ (x : List ℕ). 8 + f .given .0 .1 .0 ≤ length x) (sym at) (message-long (s .args .log .now) (s .args .from) (s .pre .1 .1 .0 .1)
+    (s .args .conn) (s .args .h) (s .args .m .now) (framed .result) is (f .given .0 .0) (f .given .0 .1 .0) (f .given .1))
 
 hear-requires : tie.Need-hear-requires
 hear-requires c κs =
-    let s = c .before .before .before .before .before .before .before .before .before .before .before .before .before in
+    let c8 = c .before .before .before .before .before .before .before .before in
+    let s = c8 .before .before .before .before .before in
     let number2 = c .before .before .before .before .before .before .before .before .number2 in
     let framed = c .before .before .before .before .before .before .framed in
     let f = c .before .before .before .before .f in
-    let is = framed-there (s .args .log .now) (s .args .from) (s .pre .1 .1 .0 .1) (number2 .ensures) (s .args .conn) (s .args .h) (s .args .m .now) (s .pre .1 .1 .1) (framed .ensures) in
-    (s .pre .0, (s .pre .1 .0, (message-low (s .args .log .now) (s .args .from) (s .pre .1 .1 .0 .1) (s .args .conn) (s .args .h) (s .args .m .now) (framed .result) is (f .given .0 .0) (f .given .0 .1 .0) (f .given .1), omega (arith, s .pre .1 .1 .1))))
+    let is = framed-there (s .args .log .now) (s .args .from) (s .pre .1 .1 .0 .1) (number2 .ensures) (s .args .conn) (s .args .h)
+    (s .args .m .now) (s .pre .1 .1 .1) (framed .ensures) in (
+      s .pre .0,
+      (
+        s .pre .1 .0,
+        (
+          message-low (s .args .log .now) (s .args .from) (s .pre .1 .1 .0 .1) (s .args .conn) (s .args .h)
+              (s .args .m .now) (framed .result) is (f .given .0 .0) (f .given .0 .1 .0) (f .given .1),
+          omega (arith, s .pre .1 .1 .1),
+        ),
+      ),
+    )
 
 enum-told-2 : tie.Need-enum-told-2
 enum-told-2 c = search needs
 
 placed-requires : tie.Need-placed-requires
 placed-requires c κs =
-    let s = c .before .before .before .before .before .before .before .before .before .before .before .before .before .before .before .before .before .before .before .before in
-    let number2 = c .before .before .before .before .before .before .before .before .before .before .before .before .before .before .before .number2 in
-    let framed = c .before .before .before .before .before .before .before .before .before .before .before .before .before .framed in
-    let f = c .before .before .before .before .before .before .before .before .before .before .before .f in
-    let is = framed-there (s .args .log .now) (s .args .from) (s .pre .1 .1 .0 .1) (number2 .ensures) (s .args .conn) (s .args .h) (s .args .m .now) (s .pre .1 .1 .1) (framed .ensures) in
-    message-low (s .args .log .now) (s .args .from) (s .pre .1 .1 .0 .1) (s .args .conn) (s .args .h) (s .args .m .now) (framed .result) is (f .given .0 .0) (f .given .0 .1 .0) (f .given .1)
+    let c8 = c .before .before .before .before .before .before .before .before in
+    let c16 = c8 .before .before .before .before .before .before .before .before in
+    let s = c16 .before .before .before .before in
+    let number2 = c8 .before .before .before .before .before .before .before .number2 in
+    let framed = c8 .before .before .before .before .before .framed in
+    let f = c8 .before .before .before .f in
+    let is = framed-there (s .args .log .now) (s .args .from) (s .pre .1 .1 .0 .1) (number2 .ensures) (s .args .conn) (s .args .h)
+    (s .args .m .now) (s .pre .1 .1 .1) (framed .ensures) in
+    message-low (s .args .log .now) (s .args .from) (s .pre .1 .1 .0 .1) (s .args .conn) (s .args .h) (s .args .m .now) (framed .result) is
+    (f .given .0 .0) (f .given .0 .1 .0) (f .given .1)
 
 same-length : tie.Need-same-length
 same-length c = search needs
@@ -103,17 +125,22 @@ same-length-2 c = search needs
 
 returns-2 : tie.Need-returns-2
 returns-2 c =
-    let s = c .before .before .before .before .before .before .before .before .before .before .before .before .before .before .before .before .before .before .before .before .before in
-    let number2 = c .before .before .before .before .before .before .before .before .before .before .before .before .before .before .before .before .number2 in
-    let framed = c .before .before .before .before .before .before .before .before .before .before .before .before .before .before .framed in
-    let f = c .before .before .before .before .before .before .before .before .before .before .before .before .f in
+    let c8 = c .before .before .before .before .before .before .before .before in
+    let c16 = c8 .before .before .before .before .before .before .before .before in
+    let s = c16 .before .before .before .before .before in
+    let number2 = c16 .number2 in
+    let framed = c8 .before .before .before .before .before .before .framed in
+    let f = c8 .before .before .before .before .f in
     let data-of = c .before .before .before .before .before .before .before .before .before .data-of in
     let hear = c .before .before .before .before .before .before .before .hear in
     let enum-told2 = c .before .enum-told2 in
     let placed = c .placed in
-    let is = framed-there (s .args .log .now) (s .args .from) (s .pre .1 .1 .0 .1) (number2 .ensures) (s .args .conn) (s .args .h) (s .args .m .now) (s .pre .1 .1 .1) (framed .ensures) in
+    let is = framed-there (s .args .log .now) (s .args .from) (s .pre .1 .1 .0 .1) (number2 .ensures) (s .args .conn) (s .args .h)
+    (s .args .m .now) (s .pre .1 .1 .1) (framed .ensures) in
     let at = part-is (s .args .log .now) (s .args .from) (s .pre .1 .1 .0 .1) (number2 .ensures) in
-    message-enters (s .args .log .now) (s .args .from) (s .pre .1 .1 .0 .1) (s .args .conn) (s .args .h) (s .args .m .now) (framed .result) is (f .given .0 .0) (f .given .0 .1 .0) (f .given .1) _ (data-of .ensures ∙ ap (dataOf (f .given .0 .1 .0)) at) (hear .ensures) (s .pre .1 .1 .0 .0) (enum-told2 .given .1) (placed .ensures)
+    message-enters (s .args .log .now) (s .args .from) (s .pre .1 .1 .0 .1) (s .args .conn) (s .args .h) (s .args .m .now) (framed .result)
+    is (f .given .0 .0) (f .given .0 .1 .0) (f .given .1) _ (data-of .ensures ∙ ap (dataOf (f .given .0 .1 .0)) at) (hear .ensures)
+    (s .pre .1 .1 .0 .0) (enum-told2 .given .1) (placed .ensures)
 
 same-length-3 : tie.Need-same-length-3
 same-length-3 c = search needs
@@ -123,16 +150,21 @@ same-length-4 c = search needs
 
 returns-3 : tie.Need-returns-3
 returns-3 c =
-    let s = c .before .before .before .before .before .before .before .before .before .before .before .before .before .before .before .before .before .before .before .before in
-    let number2 = c .before .before .before .before .before .before .before .before .before .before .before .before .before .before .before .number2 in
-    let framed = c .before .before .before .before .before .before .before .before .before .before .before .before .before .framed in
-    let f = c .before .before .before .before .before .before .before .before .before .before .before .f in
+    let c8 = c .before .before .before .before .before .before .before .before in
+    let c16 = c8 .before .before .before .before .before .before .before .before in
+    let s = c16 .before .before .before .before in
+    let number2 = c8 .before .before .before .before .before .before .before .number2 in
+    let framed = c8 .before .before .before .before .before .framed in
+    let f = c8 .before .before .before .f in
     let data-of = c .before .before .before .before .before .before .before .before .data-of in
     let hear = c .before .before .before .before .before .before .hear in
     let match2 = c .before .match2 in
-    let is = framed-there (s .args .log .now) (s .args .from) (s .pre .1 .1 .0 .1) (number2 .ensures) (s .args .conn) (s .args .h) (s .args .m .now) (s .pre .1 .1 .1) (framed .ensures) in
+    let is = framed-there (s .args .log .now) (s .args .from) (s .pre .1 .1 .0 .1) (number2 .ensures) (s .args .conn) (s .args .h)
+    (s .args .m .now) (s .pre .1 .1 .1) (framed .ensures) in
     let at = part-is (s .args .log .now) (s .args .from) (s .pre .1 .1 .0 .1) (number2 .ensures) in
-    message-leads (s .args .log .now) (s .args .from) (s .pre .1 .1 .0 .1) (s .args .conn) (s .args .h) (s .args .m .now) (framed .result) is (f .given .0 .0) (f .given .0 .1 .0) (f .given .1) _ (data-of .ensures ∙ ap (dataOf (f .given .0 .1 .0)) at) (hear .ensures) (match2 .keys2)
+    message-leads (s .args .log .now) (s .args .from) (s .pre .1 .1 .0 .1) (s .args .conn) (s .args .h) (s .args .m .now) (framed .result)
+    is (f .given .0 .0) (f .given .0 .1 .0) (f .given .1) _ (data-of .ensures ∙ ap (dataOf (f .given .0 .1 .0)) at) (hear .ensures)
+    (match2 .keys2)
 
 pub play-message-spec : {M : Type 1} → statement M
 play-message-spec =

@@ -36,14 +36,16 @@ returns c =
     let s = c .before .before .before .before .before .before .before .before in
     let effect = c .before .before .before .before .before .effect in
     let store = c .before .before .store in
-    λ d hardware. settles-joins (s .args .conn) (s .args .h) (s .args .m .now) (s .pre .0) d hardware (effect .given .1) (store .kept .0) (store .ensures)
+    λ d hardware. settles-joins (s .args .conn) (s .args .h) (s .args .m .now) (s .pre .0) d hardware (effect .given .1) (store .kept .0)
+    (store .ensures)
 
 returns-2 : tie.Need-returns-2
 returns-2 c =
     let s = c .before .before .before .before in
     let enum-told = c .before .enum-told in
     let linked = c .linked in
-    λ d hardware. settles-enters (s .args .conn) (s .args .h) (s .args .m .now) (s .pre .0) d hardware (enum-told .given .1) (linked .ensures)
+    λ d hardware. settles-enters (s .args .conn) (s .args .h) (s .args .m .now) (s .pre .0) d hardware (enum-told .given .1)
+    (linked .ensures)
 
 returns-3 : tie.Need-returns-3
 returns-3 c =

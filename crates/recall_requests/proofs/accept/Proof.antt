@@ -19,13 +19,15 @@ count-requires c κs = search needs
 
 sub-splice-response : tie.Need-sub-splice-response
 sub-splice-response c =
-    let s = c .before .before .before .before .before .before .before .before .before .before .before .before .before in
+    let c8 = c .before .before .before .before .before .before .before .before in
+    let s = c8 .before .before .before .before .before in
     let evict = c .before .before .before .before .before .before .before .before .evict in
     omega (arith, grant-room (s .args .new) (s .args .m .now) (s .args .out .now) (s .pre) (evict .ensures) (evict .kept .1 .1 .0))
 
 part-splice-response-start : tie.Need-part-splice-response-start
 part-splice-response-start c =
-    let s = c .before .before .before .before .before .before .before .before .before .before .before .before .before in
+    let c8 = c .before .before .before .before .before .before .before .before in
+    let s = c8 .before .before .before .before .before in
     let evict = c .before .before .before .before .before .before .before .before .evict in
     omega (arith, grant-room (s .args .new) (s .args .m .now) (s .args .out .now) (s .pre) (evict .ensures) (evict .kept .1 .1 .0))
 
@@ -34,14 +36,17 @@ part-splice-response-end c = search needs
 
 splice-response-requires : tie.Need-splice-response-requires
 splice-response-requires c κs =
-    let s = c .before .before .before .before .before .before .before .before .before .before .before .before .before .before in
+    let c8 = c .before .before .before .before .before .before .before .before in
+    let s = c8 .before .before .before .before .before .before in
     let evict = c .before .before .before .before .before .before .before .before .before .evict in
     omega (arith, grant-room (s .args .new) (s .args .m .now) (s .args .out .now) (s .pre) (evict .ensures) (evict .kept .1 .1 .0))
 
 add-to : tie.Need-add-to
 add-to c =
-    let s = c .before .before .before .before .before .before .before .before .before .before .before .before .before .before .before .before .before in
-    let evict = c .before .before .before .before .before .before .before .before .before .before .before .before .evict in
+    let c8 = c .before .before .before .before .before .before .before .before in
+    let c16 = c8 .before .before .before .before .before .before .before .before in
+    let s = c16 .before in
+    let evict = c8 .before .before .before .before .evict in
     omega (arith, grant-room (s .args .new) (s .args .m .now) (s .args .out .now) (s .pre) (evict .ensures) (evict .kept .1 .1 .0))
 
 same-length : tie.Need-same-length
@@ -52,14 +57,18 @@ same-length-2 c = search needs
 
 returns : tie.Need-returns
 returns c =
-    let s = c .before .before .before .before .before .before .before .before .before .before .before .before .before .before .before .before .before in
-    let evict = c .before .before .before .before .before .before .before .before .before .before .before .before .evict in
+    let c8 = c .before .before .before .before .before .before .before .before in
+    let c16 = c8 .before .before .before .before .before .before .before .before in
+    let s = c16 .before in
+    let evict = c8 .before .before .before .before .evict in
     let rows-in = c .before .before .before .before .before .before .rows-in in
     let count = c .before .before .before .before .count in
     let splice-response = c .before .before .splice-response in
     let d = evict .ensures in
-    let done = grant-done (s .args .new) (s .args .m .now) (s .args .out .now) (s .pre) d (evict .kept .1 .1 .0) (splice-response .ensures) in
-    let moves = later-is (s .args .new) (s .args .m .now) (s .args .out .now) (s .pre) d (rows-in .result) (count .result) (rows-in .ensures) (count .ensures) in
+    let done = grant-done (s .args .new) (s .args .m .now) (s .args .out .now) (s .pre) d (evict .kept .1 .1 .0) (splice-response .ensures)
+    in
+    let moves = later-is (s .args .new) (s .args .m .now) (s .args .out .now) (s .pre) d (rows-in .result) (count .result)
+    (rows-in .ensures) (count .ensures) in
     (record { does = done; moved = moves }, (search needs, search needs))
 
 pub accept-spec : {M : Type 1} → statement M

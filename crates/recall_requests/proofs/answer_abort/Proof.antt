@@ -16,11 +16,13 @@ abort-response-requires c κs =
 
 abort-requires : tie.Need-abort-requires
 abort-requires c κs =
-    let s = c .before .before .before .before .before .before .before .before .before .before .before in
+    let c8 = c .before .before .before .before .before .before .before .before in
+    let s = c8 .before .before .before in
     let is-held = c .before .before .before .before .before .before .before .is-held in
     let if1 = c .before .before .before .before .before .before .if1 in
     let abort-response = c .before .before .before .before .abort-response in
-    ends-room (s .args .conn) (s .args .id) (s .args .m .now) (is-held .ensures) (s .args .out .now) (s .pre) (if1 .taken) (abort-response .ensures) (abort-response .kept .0)
+    ends-room (s .args .conn) (s .args .id) (s .args .m .now) (is-held .ensures) (s .args .out .now) (s .pre) (if1 .taken)
+    (abort-response .ensures) (abort-response .kept .0)
 
 same-length : tie.Need-same-length
 same-length c = search needs
@@ -30,12 +32,15 @@ same-length-2 c = search needs
 
 returns : tie.Need-returns
 returns c =
-    let s = c .before .before .before .before .before .before .before .before .before .before .before .before .before .before .before .before in
-    let is-held = c .before .before .before .before .before .before .before .before .before .before .before .before .is-held in
-    let if1 = c .before .before .before .before .before .before .before .before .before .before .before .if1 in
+    let c8 = c .before .before .before .before .before .before .before .before in
+    let c16 = c8 .before .before .before .before .before .before .before .before in
+    let s = c16 in
+    let is-held = c8 .before .before .before .before .is-held in
+    let if1 = c8 .before .before .before .if1 in
     let abort-response = c .before .before .before .before .before .before .before .before .before .abort-response in
     let abort = c .before .before .before .before .abort in
-    abort-done (s .args .conn) (s .args .id) (s .args .m .now) (is-held .ensures) (s .args .out .now) (s .pre) (if1 .taken) (abort-response .ensures) (abort .ensures)
+    abort-done (s .args .conn) (s .args .id) (s .args .m .now) (is-held .ensures) (s .args .out .now) (s .pre) (if1 .taken)
+    (abort-response .ensures) (abort .ensures)
 
 abort-response-requires-2 : tie.Need-abort-response-requires-2
 abort-response-requires-2 c κs =
@@ -56,7 +61,8 @@ returns-2 c =
     let is-held = c .before .before .before .before .before .is-held in
     let if1 = c .before .before .before .before .if1 in
     let abort-response2 = c .before .before .abort-response2 in
-    abort-unknown (s .args .conn) (s .args .id) (s .args .m .now) (is-held .ensures) (s .args .out .now) (s .pre) (if1 .left) (abort-response2 .ensures)
+    abort-unknown (s .args .conn) (s .args .id) (s .args .m .now) (is-held .ensures) (s .args .out .now) (s .pre) (if1 .left)
+    (abort-response2 .ensures)
 
 pub answer-abort-spec : {M : Type 1} → statement M
 answer-abort-spec =

@@ -21,7 +21,8 @@ returns c =
     let rows-in = c .before .before .before .before .before .rows-in in
     let find = c .before .before .before .before .find in
     let load = c .before .before .load in
-    end-found isHeld (is (s .args .conn) (s .args .id)) (s .args .m .now) (rows-in .result) (find .result) (rows-in .ensures) (find .ensures) (load .result) (load .ensures)
+    end-found isHeld (is (s .args .conn) (s .args .id)) (s .args .m .now) (rows-in .result) (find .result) (rows-in .ensures)
+    (find .ensures) (load .result) (load .ensures)
 
 returns-2 : tie.Need-returns-2
 returns-2 c =
@@ -29,7 +30,8 @@ returns-2 c =
     let rows-in = c .before .before .rows-in in
     let find = c .before .find in
     let if1 = c .if1 in
-    end-none isHeld (is (s .args .conn) (s .args .id)) (s .args .m .now) (rows-in .result) (find .result) (rows-in .ensures) (find .ensures) (if1 .left)
+    end-none isHeld (is (s .args .conn) (s .args .id)) (s .args .m .now) (rows-in .result) (find .result) (rows-in .ensures) (find .ensures)
+    (if1 .left)
 
 pub end-of-spec : {M : Type 1} → statement M
 end-of-spec = tie.close (tie.spec rows-in-requires find-requires load-requires returns returns-2)

@@ -47,7 +47,8 @@ returns c =
     let t = s .args .clock .0 in
     let three = from-micros .ensures ∙ ap fromMicros (time-of .ensures) in
     rw (start .given .1)
-    (ap (λ m. ltb (from-micros2 .result .0) (t + m .0)) three ∙ ap (λ m. ltb (m .0) (t + fromMicros (timeOf 3 0) .0)) (from-micros2 .ensures))
+    (ap (λ m. ltb (from-micros2 .result .0) (t + m .0)) three
+    ∙ ap (λ m. ltb (m .0) (t + fromMicros (timeOf 3 0) .0)) (from-micros2 .ensures))
 
 returns-2 : tie.Need-returns-2
 unfolding tooLate

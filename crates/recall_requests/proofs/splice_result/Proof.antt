@@ -13,7 +13,8 @@ returns c =
     let is-wrong-number = c .before .is-wrong-number in
     let s = c .before .before .before in
     let if1 = c .if1 in
-    result-121 (s .args .clock .0) (s .args .new .conn) (s .args .r) (s .args .new) (all (s .args .m .now)) (is-wrong-number .ensures) (if1 .taken)
+    result-121 (s .args .clock .0) (s .args .new .conn) (s .args .r) (s .args .new) (all (s .args .m .now)) (is-wrong-number .ensures)
+    (if1 .taken)
 
 is-too-late-requires : tie.Need-is-too-late-requires
 is-too-late-requires c κs = search needs
@@ -25,7 +26,8 @@ returns-2 c =
     let if1 = c .before .before .if1 in
     let is-too-late = c .before .is-too-late in
     let if2 = c .if2 in
-    result-112 (s .args .clock .0) (s .args .new .conn) (s .args .r) (s .args .new) (all (s .args .m .now)) (is-wrong-number .ensures) (if1 .left) (is-too-late .ensures) (if2 .taken)
+    result-112 (s .args .clock .0) (s .args .new .conn) (s .args .r) (s .args .new) (all (s .args .m .now)) (is-wrong-number .ensures)
+    (if1 .left) (is-too-late .ensures) (if2 .taken)
 
 does-collide-requires : tie.Need-does-collide-requires
 does-collide-requires c κs = search needs
@@ -39,7 +41,8 @@ returns-3 c =
     let does-collide = c .before .does-collide in
     let if2 = c .before .before .if2 in
     let if3 = c .if3 in
-    result-109 (s .args .clock .0) (s .args .new .conn) (s .args .r) (s .args .new) (all (s .args .m .now)) (is-wrong-number .ensures) (if1 .left) (is-too-late .ensures) (if2 .left) (does-collide .ensures) (if3 .taken)
+    result-109 (s .args .clock .0) (s .args .new .conn) (s .args .r) (s .args .new) (all (s .args .m .now)) (is-wrong-number .ensures)
+    (if1 .left) (is-too-late .ensures) (if2 .left) (does-collide .ensures) (if3 .taken)
 
 is-full-requires : tie.Need-is-full-requires
 is-full-requires c κs =
@@ -57,7 +60,8 @@ returns-4 c =
     let if3 = c .before .before .if3 in
     let is-full = c .before .is-full in
     let if4 = c .if4 in
-    result-114 (s .args .clock .0) (s .args .new .conn) (s .args .r) (s .args .new) (all (s .args .m .now)) (is-wrong-number .ensures) (if1 .left) (is-too-late .ensures) (if2 .left) (does-collide .ensures) (if3 .left) (is-full .ensures) (if4 .taken)
+    result-114 (s .args .clock .0) (s .args .new .conn) (s .args .r) (s .args .new) (all (s .args .m .now)) (is-wrong-number .ensures)
+    (if1 .left) (is-too-late .ensures) (if2 .left) (does-collide .ensures) (if3 .left) (is-full .ensures) (if4 .taken)
 
 returns-5 : tie.Need-returns-5
 returns-5 c =
@@ -70,7 +74,8 @@ returns-5 c =
     let if3 = c .before .before .if3 in
     let is-full = c .before .is-full in
     let if4 = c .if4 in
-    result-100 (s .args .clock .0) (s .args .new .conn) (s .args .r) (s .args .new) (all (s .args .m .now)) (is-wrong-number .ensures) (if1 .left) (is-too-late .ensures) (if2 .left) (does-collide .ensures) (if3 .left) (is-full .ensures) (if4 .left)
+    result-100 (s .args .clock .0) (s .args .new .conn) (s .args .r) (s .args .new) (all (s .args .m .now)) (is-wrong-number .ensures)
+    (if1 .left) (is-too-late .ensures) (if2 .left) (does-collide .ensures) (if3 .left) (is-full .ensures) (if4 .left)
 
 pub splice-result-spec : {M : Type 1} → statement M
 splice-result-spec =

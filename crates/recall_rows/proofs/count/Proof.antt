@@ -47,14 +47,17 @@ loop-again c =
     let k : l .i < length list = omega (arith, length-in (s .args .n) (s .args .m .now), c .before .before .loop-test .taken) in
     let e = sym (c .before .is-one .ensures) in
     ⊎-elim
-    (λ w. subst (λ (f : ℕ). Counted h p list (l .i + 1) f) (omega (arith, w .1)) (counted-more h p list (l .i) (l .found) none true k (e ∙ w .0 .taken) (l .inv)))
-    (λ w. subst (λ (f : ℕ). Counted h p list (l .i + 1) f) (omega (arith, w .1)) (counted-more h p list (l .i) (l .found) none false k (e ∙ w .0 .left) (l .inv)))
+    (λ w. subst (λ (f : ℕ). Counted h p list (l .i + 1) f) (omega (arith, w .1))
+    (counted-more h p list (l .i) (l .found) none true k (e ∙ w .0 .taken) (l .inv)))
+    (λ w. subst (λ (f : ℕ). Counted h p list (l .i + 1) f) (omega (arith, w .1))
+    (counted-more h p list (l .i) (l .found) none false k (e ∙ w .0 .left) (l .inv)))
     (c .if1 .came)
 
 returns : tie.Need-returns Inv-loop μ-loop
 returns c =
     let s = c .before .before .before in
-    counted-out _ _ _ (c .before .loop .i) (c .before .loop .found) (omega (arith, length-in (s .args .n) (s .args .m .now), c .loop-test .left)) (c .before .loop .inv)
+    counted-out _ _ _ (c .before .loop .i) (c .before .loop .found)
+    (omega (arith, length-in (s .args .n) (s .args .m .now), c .loop-test .left)) (c .before .loop .inv)
 
 pub count-spec : {M : Type 1} → statement M
 count-spec =

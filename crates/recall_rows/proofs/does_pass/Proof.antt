@@ -58,7 +58,9 @@ returns-9 : tie.Need-returns-9
 returns-9 c = rw (c .before .before .test6 .given .1) refl
 
 returns-10 : tie.Need-returns-10
-returns-10 c = rw (c .before .before .before .before .test7 .given .1, eq-eqb _ _ (c .before .if3 .taken)) (not-below (c .before .before .before .before .test7 .given .0 .1 .0) (c .before .before .before .before .before .before .args .x .access))
+returns-10 c = rw (c .before .before .before .before .test7 .given .1, eq-eqb _ _ (c .before .if3 .taken))
+    (not-below (c .before .before .before .before .test7 .given .0 .1 .0)
+    (c .before .before .before .before .before .before .args .x .access))
 
 returns-11 : tie.Need-returns-11
 returns-11 c = rw (c .before .before .before .test7 .given .1, ne-eqb _ _ (c .if3 .left)) refl

@@ -36,27 +36,32 @@ enum-told-4 c = search needs
 returns : tie.Need-returns
 returns c =
     let s = c .before .before .before in
-    rw (c .enum-told .given .1) (waiting-code _ _ _ ∙ ap (λ (v : Verdict). isWaiting (v .phase)) (load-is (s .args .n) (s .args .i) (s .args .m .now) none (s .pre .1)))
+    rw (c .enum-told .given .1) (waiting-code _ _ _ ∙ ap (λ (v : Verdict). isWaiting (v .phase))
+    (load-is (s .args .n) (s .args .i) (s .args .m .now) none (s .pre .1)))
 
 returns-2 : tie.Need-returns-2
 returns-2 c =
     let s = c .before .before .before in
-    rw (c .enum-told2 .given .1) (started-code _ _ _ ∙ ap (λ (v : Verdict). hasStarted (v .phase)) (load-is (s .args .n) (s .args .i) (s .args .m .now) none (s .pre .1)))
+    rw (c .enum-told2 .given .1) (started-code _ _ _ ∙ ap (λ (v : Verdict). hasStarted (v .phase))
+    (load-is (s .args .n) (s .args .i) (s .args .m .now) none (s .pre .1)))
 
 returns-3 : tie.Need-returns-3
 returns-3 c =
     let s = c .before .before .before .before in
-    rw (c .before .enum-told3 .given .1) (held-one _ _ _ (eq-eqb _ _ (c .if1 .taken)) ∙ ap (λ (v : Verdict). isHeld (v .phase)) (load-is (s .args .n) (s .args .i) (s .args .m .now) none (s .pre .1)))
+    rw (c .before .enum-told3 .given .1) (held-one _ _ _ (eq-eqb _ _ (c .if1 .taken))
+    ∙ ap (λ (v : Verdict). isHeld (v .phase)) (load-is (s .args .n) (s .args .i) (s .args .m .now) none (s .pre .1)))
 
 returns-4 : tie.Need-returns-4
 returns-4 c =
     let s = c .before .before .before .before in
-    rw (c .before .enum-told3 .given .1) (held-two _ _ _ (ne-eqb _ _ (c .if1 .left)) ∙ ap (λ (v : Verdict). isHeld (v .phase)) (load-is (s .args .n) (s .args .i) (s .args .m .now) none (s .pre .1)))
+    rw (c .before .enum-told3 .given .1) (held-two _ _ _ (ne-eqb _ _ (c .if1 .left))
+    ∙ ap (λ (v : Verdict). isHeld (v .phase)) (load-is (s .args .n) (s .args .i) (s .args .m .now) none (s .pre .1)))
 
 returns-5 : tie.Need-returns-5
 returns-5 c =
     let s = c .before .before .before in
-    rw (c .enum-told4 .given .1) (ended-code _ _ _ ∙ ap (λ (v : Verdict). hasEnded (v .phase)) (load-is (s .args .n) (s .args .i) (s .args .m .now) none (s .pre .1)))
+    rw (c .enum-told4 .given .1) (ended-code _ _ _ ∙ ap (λ (v : Verdict). hasEnded (v .phase))
+    (load-is (s .args .n) (s .args .i) (s .args .m .now) none (s .pre .1)))
 
 pub does-stand-spec : {M : Type 1} → statement M
 does-stand-spec =

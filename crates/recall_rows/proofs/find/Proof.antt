@@ -26,7 +26,9 @@ is-one-requires c κs = (c .before .before .before .pre, c .loop-test .taken)
 returns : tie.Need-returns Inv-loop μ-loop
 returns c =
     let s = c .before .before .before .before .before in
-    sought-hit _ _ (c .before .before .before .loop .i) none (omega (arith, length-in (s .args .n) (s .args .m .now), c .before .before .loop-test .taken)) (sym (c .before .is-one .ensures) ∙ c .if1 .taken) (c .before .before .before .loop .inv)
+    sought-hit _ _ (c .before .before .before .loop .i) none
+    (omega (arith, length-in (s .args .n) (s .args .m .now), c .before .before .loop-test .taken))
+    (sym (c .before .is-one .ensures) ∙ c .if1 .taken) (c .before .before .before .loop .inv)
 
 add-i : tie.Need-add-i Inv-loop μ-loop
 add-i c = search needs
@@ -37,7 +39,9 @@ loop-less c = search needs
 loop-again : tie.Need-loop-again Inv-loop μ-loop
 loop-again c =
     let s = c .before .before .before .before .before in
-    sought-more _ _ (c .before .before .before .loop .i) none (omega (arith, length-in (s .args .n) (s .args .m .now), c .before .before .loop-test .taken)) (sym (c .before .is-one .ensures) ∙ c .if1 .left) (c .before .before .before .loop .inv)
+    sought-more _ _ (c .before .before .before .loop .i) none
+    (omega (arith, length-in (s .args .n) (s .args .m .now), c .before .before .loop-test .taken))
+    (sym (c .before .is-one .ensures) ∙ c .if1 .left) (c .before .before .before .loop .inv)
 
 returns-2 : tie.Need-returns-2 Inv-loop μ-loop
 returns-2 c =

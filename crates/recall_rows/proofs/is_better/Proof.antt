@@ -31,8 +31,12 @@ returns c =
     let a = s .args in
     let l = verdictsIn (a .n) (a .m .now) in
     let long = length-in (a .n) (a .m .now) in
-    better-is (a .order) (a .test) l (a .i) (a .best) _ (c .before .before .before .before .before .before .stand-of .ensures) (c .before .before .before .before .before .is-one .result) (c .comes-before .result) (c .before .before .before .before .before .is-one .ensures) (c .before .before .before .before .if1 .taken)
-    (omega (arith, long, c .before .before .before .if2 .taken)) (c .comes-before .ensures ∙ ap₂ (λ (v w : Verdict). orderTest (a .order) (v .session) (w .session)) (c .before .before .load .ensures) (c .before .load2 .ensures))
+    better-is (a .order) (a .test) l (a .i) (a .best) _ (c .before .before .before .before .before .before .stand-of .ensures)
+    (c .before .before .before .before .before .is-one .result) (c .comes-before .result)
+    (c .before .before .before .before .before .is-one .ensures) (c .before .before .before .before .if1 .taken)
+    (omega (arith, long, c .before .before .before .if2 .taken)) (c .comes-before .ensures
+    ∙ ap₂ (λ (v w : Verdict). orderTest (a .order) (v .session) (w .session)) (c .before .before .load .ensures)
+    (c .before .load2 .ensures))
 
 returns-2 : tie.Need-returns-2
 returns-2 c =
@@ -40,7 +44,8 @@ returns-2 c =
     let a = s .args in
     let l = verdictsIn (a .n) (a .m .now) in
     let long = length-in (a .n) (a .m .now) in
-    better-first (a .order) (a .test) l (a .i) (a .best) _ (c .before .before .before .stand-of .ensures) (c .before .before .is-one .result) (c .before .before .is-one .ensures) (c .before .if1 .taken) (omega (arith, long, c .if2 .left))
+    better-first (a .order) (a .test) l (a .i) (a .best) _ (c .before .before .before .stand-of .ensures)
+    (c .before .before .is-one .result) (c .before .before .is-one .ensures) (c .before .if1 .taken) (omega (arith, long, c .if2 .left))
 
 returns-3 : tie.Need-returns-3
 returns-3 c =
@@ -48,7 +53,8 @@ returns-3 c =
     let a = s .args in
     let l = verdictsIn (a .n) (a .m .now) in
     let long = length-in (a .n) (a .m .now) in
-    better-not (a .order) (a .test) l (a .i) (a .best) _ (c .before .before .stand-of .ensures) (c .before .is-one .result) (c .before .is-one .ensures) (c .if1 .left)
+    better-not (a .order) (a .test) l (a .i) (a .best) _ (c .before .before .stand-of .ensures) (c .before .is-one .result)
+    (c .before .is-one .ensures) (c .if1 .left)
 
 pub is-better-spec : {M : Type 1} → statement M
 is-better-spec =

@@ -17,7 +17,9 @@ does-pass-requires c κs = search needs
 
 returns : tie.Need-returns
 returns c =
-    rw (sym (c .before .before .before .does-stand .ensures) ∙ c .before .before .if1 .taken) (c .does-pass .ensures ∙ ap (λ (v : Verdict). sessionTest (c .before .before .before .before .before .args .test) (v .session)) (c .before .load .ensures))
+    rw (sym (c .before .before .before .does-stand .ensures) ∙ c .before .before .if1 .taken)
+    (c .does-pass .ensures ∙ ap (λ (v : Verdict). sessionTest (c .before .before .before .before .before .args .test) (v .session))
+    (c .before .load .ensures))
 
 returns-2 : tie.Need-returns-2
 returns-2 c = rw (sym (c .before .does-stand .ensures) ∙ c .if1 .left) refl

@@ -130,8 +130,9 @@ shared-slice-read-t51 c = search needs
 
 returns : tie.Need-returns
 returns c =
-    let s = c .before .before .before .before .before .before .before .before .before .before .before .before .before .before .before in
-    rw (c .before .before .before .before .before .before .before .before .before .before .phase-of .ensures) (load-is (s .args .n) (s .args .i) (s .args .m .now) none (s .pre .1))
+    let c8 = c .before .before .before .before .before .before .before .before in
+    let s = c8 .before .before .before .before .before .before .before in
+    rw (c8 .before .before .phase-of .ensures) (load-is (s .args .n) (s .args .i) (s .args .m .now) none (s .pre .1))
 
 pub load-spec : {M : Type 1} → statement M
 load-spec =

@@ -36,8 +36,11 @@ write-cue-requires c κs =
     let test = c .before .before .before .before .before in
     let l = test .before .loop in
     let s = test .before .before .before .before in
-    let a = s .args in
-    (s .pre .1 .0, room-more (a .cue) (a .time) (a .section .now) (see (a .m .now) .links) (a .out .now) (s .pre .1 .0) (s .pre .1 .1) (l .inv) (test .loop-test .taken))
+    let a = s .args in (
+      s .pre .1 .0,
+      room-more (a .cue) (a .time) (a .section .now) (see (a .m .now) .links) (a .out .now) (s .pre .1 .0) (s .pre .1 .1)
+          (l .inv) (test .loop-test .taken),
+    )
 
 add-conn : tie.Need-add-conn Inv-loop μ-loop
 add-conn c = search needs
@@ -54,9 +57,11 @@ loop-again c =
     let a = s .args in
     let links = see (a .m .now) .links in
     ⊎-elim
-    (λ w. rw (w .6, w .7) (sofar-tells (a .cue) (a .time) (a .section .now) links (a .out .now) (s .pre .1 .0) (s .pre .1 .1) (l .inv) (test .loop-test .taken)
+    (λ w. rw (w .6, w .7) (sofar-tells (a .cue) (a .time) (a .section .now) links (a .out .now) (s .pre .1 .0) (s .pre .1 .1) (l .inv)
+    (test .loop-test .taken)
     (ap isInitialised (sym (link .link .ensures) ∙ w .1 .given .1)) (w .3 .ensures)))
-    (λ w. rw (w .1, w .2) (sofar-skips (a .cue) (a .time) (a .section .now) links (a .out .now) (s .pre .1 .0) (s .pre .1 .1) (l .inv) (test .loop-test .taken)
+    (λ w. rw (w .1, w .2) (sofar-skips (a .cue) (a .time) (a .section .now) links (a .out .now) (s .pre .1 .0) (s .pre .1 .1) (l .inv)
+    (test .loop-test .taken)
     (ap isInitialised (sym (link .link .ensures)) ∙ not-initialised (link .link .result) (w .0 .keys2))))
     (c .match .came)
 

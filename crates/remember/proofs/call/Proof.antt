@@ -92,7 +92,8 @@ same-length c = search needs
 
 returns : tie.Need-returns
 returns c =
-    let s = c .before .before .before .before .before .before .before .before .before .before .before in
+    let c8 = c .before .before .before .before .before .before .before .before in
+    let s = c8 .before .before .before in
     let l = s .args .l .now in
     let record-at = c .before .before .before .before .before .before .before .record-at in
     let c1 = c .before .before .before .before .before .c in
@@ -107,9 +108,10 @@ same-length-3 c = search needs
 
 returns-2 : tie.Need-returns-2
 returns-2 c =
-    let s = c .before .before .before .before .before .before .before .before .before .before .before .before .before .before in
+    let c8 = c .before .before .before .before .before .before .before .before in
+    let s = c8 .before .before .before .before .before .before in
     let l = s .args .l .now in
-    let record-at = c .before .before .before .before .before .before .before .before .before .before .record-at in
+    let record-at = c8 .before .before .record-at in
     let c2 = c .before .before .before .before .before .before .before .before .c2 in
     let close = c .before .before .before .before .close in
     remembers-as l (record-at .ensures) (c2 .given .1) (close-is l _ (length (s .args .out .now)) (s .pre .1)) (close .ensures)
@@ -122,9 +124,10 @@ same-length-5 c = search needs
 
 returns-3 : tie.Need-returns-3
 returns-3 c =
-    let s = c .before .before .before .before .before .before .before .before .before .before .before .before .before .before .before in
+    let c8 = c .before .before .before .before .before .before .before .before in
+    let s = c8 .before .before .before .before .before .before .before in
     let l = s .args .l .now in
-    let record-at = c .before .before .before .before .before .before .before .before .before .before .before .record-at in
+    let record-at = c8 .before .before .before .record-at in
     let c3 = c .before .before .before .before .before .before .before .before .before .c3 in
     let message = c .before .before .before .before .message in
     remembers-as l (record-at .ensures) (c3 .given .1) (message-is l (c3 .given .0 .0) (c3 .given .0 .1 .0)) (message .ensures)
@@ -137,9 +140,10 @@ same-length-7 c = search needs
 
 returns-4 : tie.Need-returns-4
 returns-4 c =
-    let s = c .before .before .before .before .before .before .before .before .before .before .before .before .before .before in
+    let c8 = c .before .before .before .before .before .before .before .before in
+    let s = c8 .before .before .before .before .before .before in
     let l = s .args .l .now in
-    let record-at = c .before .before .before .before .before .before .before .before .before .before .record-at in
+    let record-at = c8 .before .before .record-at in
     let seconds = c .before .before .before .before .before .before .before .before .seconds in
     let tick = c .before .before .before .before .tick in
     remembers-as l (record-at .ensures) (seconds .given .1) (tick-is l _ _ (length (s .args .out .now)) (s .pre .1)) (tick .ensures)
@@ -152,9 +156,10 @@ same-length-9 c = search needs
 
 returns-5 : tie.Need-returns-5
 returns-5 c =
-    let s = c .before .before .before .before .before .before .before .before .before .before .before .before .before .before .before in
+    let c8 = c .before .before .before .before .before .before .before .before in
+    let s = c8 .before .before .before .before .before .before .before in
     let l = s .args .l .now in
-    let record-at = c .before .before .before .before .before .before .before .before .before .before .before .record-at in
+    let record-at = c8 .before .before .before .record-at in
     let enum-told = c .before .before .before .before .before .before .before .before .before .enum-told in
     let message2 = c .before .before .before .before .message2 in
     remembers-as l (record-at .ensures) (enum-told .given .1) (rest-is l (s .pre .0)) (message2 .ensures)

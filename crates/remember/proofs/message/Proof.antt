@@ -24,7 +24,8 @@ same-length-2 c = search needs
 
 returns : tie.Need-returns
 returns c =
-    let s = c .before .before .before .before .before .before .before .before .before .before .before in
+    let c8 = c .before .before .before .before .before .before .before .before in
+    let s = c8 .before .before .before in
     let message = c .before .before .before .before .message in
     renamed (ap (λ n. messages (s .args .conn) (s .args .l .now) (lending n)) (s .pre)) (message .ensures)
 

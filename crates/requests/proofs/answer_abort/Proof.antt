@@ -1,4 +1,5 @@
--- 121 (`abort-unknown`), or 100 and behind it the ends of the session where it is held and of its followers (`abort-waiting`, `abort-started`).
+-- 121 (`abort-unknown`), or 100 and behind it the ends of the session where it is held and of its followers (`abort-waiting`,
+-- `abort-started`).
 -- Rests on where the number is held, once (`found-in`).
 use mathlib.Core.Path.{sym, _∙_}
 use native.Mathlib.Omega.{arith}
@@ -55,8 +56,20 @@ end-waiting-requires c κs =
     let m = s .args .m .now in
     let e = looked .where-held .ensures in
     let h = found-in (s .args .conn) (s .args .id) (see m .queue) e (found .held .given .1) (way .enum-told2 .given .1) in
-    let k = length-record (AbortResponse (s .args .conn) 100 (s .args .id)) tt in
-    (s .pre .0, (omega (arith, h .within), omega (arith, few-wait (s .pre .1 .0), s .pre .1 .1 .1, wrote .abort-response2 .kept .0, k, wrote .abort-response2 .ensures .count)))
+    let k = length-record (AbortResponse (s .args .conn) 100 (s .args .id)) tt in (
+      s .pre .0,
+      (
+        omega (arith, h .within),
+        omega (
+          arith,
+          few-wait (s .pre .1 .0),
+          s .pre .1 .1 .1,
+          wrote .abort-response2 .kept .0,
+          k,
+          wrote .abort-response2 .ensures .count,
+        ),
+      ),
+    )
 
 enum-told-3 : tie.Need-enum-told-3
 enum-told-3 c = search needs
@@ -72,8 +85,23 @@ end-started-requires c κs =
     let e = looked .where-held .ensures in
     let h = found-in (s .args .conn) (s .args .id) (see m .queue) e (found .held .given .1) (way .enum-told3 .given .1) in
     let p = playable Started m (s .pre .1 .0) in
-    let k = length-record (AbortResponse (s .args .conn) 100 (s .args .id)) tt in
-    (s .pre .0, (omega (arith, h .within), (p, omega (arith, few-wait (s .pre .1 .0), s .pre .1 .1 .1, wrote .abort-response2 .kept .0, k, wrote .abort-response2 .ensures .count))))
+    let k = length-record (AbortResponse (s .args .conn) 100 (s .args .id)) tt in (
+      s .pre .0,
+      (
+        omega (arith, h .within),
+        (
+          p,
+          omega (
+            arith,
+            few-wait (s .pre .1 .0),
+            s .pre .1 .1 .1,
+            wrote .abort-response2 .kept .0,
+            k,
+            wrote .abort-response2 .ensures .count,
+          ),
+        ),
+      ),
+    )
 
 same-length-2 : tie.Need-same-length-2
 same-length-2 c = search needs

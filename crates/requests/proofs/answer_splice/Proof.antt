@@ -48,7 +48,8 @@ session-at-requires c κs =
 
 find-start-requires : tie.Need-find-start-requires
 find-start-requires c κs =
-    let s = c .before .before .before .before .before .before .before .before .before .before in
+    let c8 = c .before .before .before .before .before .before .before .before in
+    let s = c8 .before .before in
     (s .pre .0, s .pre .1 .0 .timed .sorted)
 
 splice-result-requires : tie.Need-splice-result-requires

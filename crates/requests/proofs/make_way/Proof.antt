@@ -27,7 +27,8 @@ find-start-requires c κs =
     let asked = test .before in
     let s = asked .before .before .before .before in
     let d = done .end-waiting .ensures in
-    let sorted = way-sorted (s .args .t .0) (s .args .m .now) (s .pre .1 .1 .0) (asked .is-taken .ensures) (test .if1 .taken) (s .pre .1 .0) d in
+    let sorted = way-sorted (s .args .t .0) (s .args .m .now) (s .pre .1 .1 .0) (asked .is-taken .ensures) (test .if1 .taken) (s .pre .1 .0)
+    d in
     (d .shows .form, sorted)
 
 same-length : tie.Need-same-length

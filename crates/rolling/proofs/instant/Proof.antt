@@ -43,12 +43,20 @@ from-micros-requires c κs =
 
 bring-to-requires : tie.Need-bring-to-requires
 bring-to-requires c κs =
-    let s = c .before .before .before .before .before .before .before .before .before .before .before .before in
+    let c8 = c .before .before .before .before .before .before .before .before in
+    let s = c8 .before .before .before .before in
     let from-micros = c .before .before .before .from-micros in
     let time-of = c .before .before .before .before .time-of in
     let if2 = c .before .before .before .before .before .before .before .if2 in
-    let struct-known = c .before .before .before .before .before .before .before .before .struct-known in
-    (lent-core (s .pre), omega (arith, ap (λ y. y .0) (from-micros .ensures ∙ ap fromMicros (time-of .ensures)), if2 .left, struct-known .given))
+    let struct-known = c .before .before .before .before .before .before .before .before .struct-known in (
+      lent-core (s .pre),
+      omega (
+        arith,
+        ap (λ y. y .0) (from-micros .ensures ∙ ap fromMicros (time-of .ensures)),
+        if2 .left,
+        struct-known .given,
+      ),
+    )
 
 cast-t14 : tie.Need-cast-t14
 cast-t14 c = search needs
@@ -61,17 +69,21 @@ same-length-2 c = search needs
 
 returns-4 : tie.Need-returns-4
 returns-4 c =
-    let s = c .before .before .before .before .before .before .before .before .before .before .before .before .before .before .before .before .before .before .before in
+    let c8 = c .before .before .before .before .before .before .before .before in
+    let c16 = c8 .before .before .before .before .before .before .before .before in
+    let s = c16 .before .before .before in
     let g = s .args .given in
-    let if1 = c .before .before .before .before .before .before .before .before .before .before .before .before .before .before .before .before .if1 in
-    let struct-known = c .before .before .before .before .before .before .before .before .before .before .before .before .before .before .before .struct-known in
-    let if2 = c .before .before .before .before .before .before .before .before .before .before .before .before .before .before .if2 in
-    let if3 = c .before .before .before .before .before .before .before .before .before .before .before .before .if3 in
-    let time-of = c .before .before .before .before .before .before .before .before .before .before .before .time-of in
-    let from-micros = c .before .before .before .before .before .before .before .before .before .before .from-micros in
+    let if1 = c16 .if1 in
+    let struct-known = c8 .before .before .before .before .before .before .before .struct-known in
+    let if2 = c8 .before .before .before .before .before .before .if2 in
+    let if3 = c8 .before .before .before .before .if3 in
+    let time-of = c8 .before .before .before .time-of in
+    let from-micros = c8 .before .before .from-micros in
     let bring-to = c .before .before .before .before .before .before .bring-to in
-    instant-done (g .seconds) (g .micros) (g .reading) (s .pre) (from-micros .result) (from-micros .ensures ∙ ap fromMicros (time-of .ensures))
-    (omega (arith, struct-known .given)) (omega (arith, struct-known .given)) (if1 .left) (if2 .left) (if3 .left) (bring-to .ensures) (search needs)
+    instant-done (g .seconds) (g .micros) (g .reading) (s .pre) (from-micros .result)
+    (from-micros .ensures ∙ ap fromMicros (time-of .ensures))
+    (omega (arith, struct-known .given)) (omega (arith, struct-known .given)) (if1 .left) (if2 .left) (if3 .left) (bring-to .ensures)
+    (search needs)
 
 pub instant-spec : {M : Type 1} → statement M
 instant-spec =

@@ -1,6 +1,7 @@
 -- Each return is one law of proofs/Calls; that the clock and the last reading are in range holds of every rolling splicer.
 use native.Mathlib.Omega.{arith}
-use Rattle.rolling.proofs.Calls.{lent-core, lent-early, some-low, reading-small, reading-before, reading-early, reading-never, reading-done}
+use Rattle.rolling.proofs.Calls.{lent-core, lent-early, some-low, reading-small, reading-before, reading-early, reading-never}
+use Rattle.rolling.proofs.Calls.{reading-done}
 use borrow.Author.Needs.{needs}
 use Rattle.rolling.proofs.reading.Statement.{statement}
 use Rattle.rolling.proofs.reading.Tie as tie
@@ -47,7 +48,8 @@ enum-told c = search needs
 
 returns-3 : tie.Need-returns-3
 returns-3 c =
-    let s = c .before .before .before .before .before .before .before .before .before .before .before .before in
+    let c8 = c .before .before .before .before .before .before .before .before in
+    let s = c8 .before .before .before .before in
     let if1 = c .before .before .before .before .before .before .before .before .before .if1 in
     let if2 = c .before .before .before .before .before .before .before .if2 in
     let clock = c .before .before .before .before .clock in
@@ -57,13 +59,16 @@ returns-3 c =
 
 bring-to-requires : tie.Need-bring-to-requires
 bring-to-requires c κs =
-    let s = c .before .before .before .before .before .before .before .before .before .before .before .before .before .before .before .before in
-    let if2 = c .before .before .before .before .before .before .before .before .before .before .before .if2 in
+    let c8 = c .before .before .before .before .before .before .before .before in
+    let c16 = c8 .before .before .before .before .before .before .before .before in
+    let s = c16 in
+    let if2 = c8 .before .before .before .if2 in
     let clock = c .before .before .before .before .before .before .before .before .clock in
     let reached = c .before .before .before .before .before .before .reached in
     let until = c .before .before .before .before .until in (
       lent-core (s .pre),
-      reading-early (s .args .m .now) (s .args .counter .now) (s .args .reading) (clock .result) (if2 .left) (clock .ensures) (until .given .0 .0)
+      reading-early (s .args .m .now) (s .args .counter .now) (s .args .reading) (clock .result) (if2 .left) (clock .ensures)
+          (until .given .0 .0)
           (reached .ensures) (until .given .1) .1,
     )
 
@@ -75,12 +80,14 @@ same-length-2 c = search needs
 
 returns-4 : tie.Need-returns-4
 returns-4 c =
-    let s = c .before .before .before .before .before .before .before .before .before .before .before .before .before .before .before .before .before .before .before .before .before .before in
-    let if1 = c .before .before .before .before .before .before .before .before .before .before .before .before .before .before .before .before .before .before .before .if1 in
-    let if2 = c .before .before .before .before .before .before .before .before .before .before .before .before .before .before .before .before .before .if2 in
-    let clock = c .before .before .before .before .before .before .before .before .before .before .before .before .before .before .clock in
-    let reached = c .before .before .before .before .before .before .before .before .before .before .before .before .reached in
-    let until = c .before .before .before .before .before .before .before .before .before .before .until in
+    let c8 = c .before .before .before .before .before .before .before .before in
+    let c16 = c8 .before .before .before .before .before .before .before .before in
+    let s = c16 .before .before .before .before .before .before in
+    let if1 = c16 .before .before .before .if1 in
+    let if2 = c16 .before .if2 in
+    let clock = c8 .before .before .before .before .before .before .clock in
+    let reached = c8 .before .before .before .before .reached in
+    let until = c8 .before .before .until in
     let bring-to = c .before .before .before .before .before .bring-to in
     reading-done (s .args .reading) (s .pre) (clock .result) (if1 .left) (if2 .left) (clock .ensures) (until .given .0 .0)
     (reached .ensures) (until .given .1) (omega (arith, s .fits .reading)) (bring-to .ensures) (search needs)

@@ -10,7 +10,8 @@ wrapping-sub-u32-requires c κs = search needs
 
 returns : tie.Need-returns
 returns c =
-    step-back (c .wrapping-sub-u32 .result) (c .before .args .last) (c .before .args .reading) (omega arith) (omega arith) (c .wrapping-sub-u32 .ensures)
+    step-back (c .wrapping-sub-u32 .result) (c .before .args .last) (c .before .args .reading) (omega arith) (omega arith)
+    (c .wrapping-sub-u32 .ensures)
 
 pub step-spec : {M : Type 1} → statement M
 step-spec = tie.close (tie.spec wrapping-sub-u32-requires returns)

@@ -9,15 +9,21 @@ use Rattle.streams.proofs.fill.Statement.{statement}
 use Rattle.streams.proofs.fill.Tie as tie
 
 abbrev Inv-loop : tie.InvT-loop
-Inv-loop p n words₀ kept₀ i₀ at₀ to₀ words kept i at to = (i ≤ n) × (length words ≡ length words₀) × (length kept ≡ length kept₀) × Filling n i at to p words₀ kept₀ words kept
+Inv-loop p n words₀ kept₀ i₀ at₀ to₀ words kept i at to = (i ≤ n) × (length words ≡ length words₀) × (length kept ≡ length kept₀) × Filling
+    n i at to p words₀ kept₀ words kept
 
 abbrev μ-loop : tie.MeasureT-loop
 μ-loop p n words₀ kept₀ i₀ at₀ to₀ words kept i at to = n - i
 
 loop-holds : tie.Need-loop-holds Inv-loop μ-loop
 loop-holds c =
-    let s = c .before .before .before in
-    (omega arith, refl, refl, fill-begins (s .args .n) (s .args .p .now) (s .args .words .now) (s .args .kept .now) (s .pre .items) (s .pre .rest) (s .pre .good))
+    let s = c .before .before .before in (
+      omega arith,
+      refl,
+      refl,
+      fill-begins (s .args .n) (s .args .p .now) (s .args .words .now) (s .args .kept .now) (s .pre .items)
+          (s .pre .rest) (s .pre .good),
+    )
 
 shared-slice-read-end : tie.Need-shared-slice-read-end Inv-loop μ-loop
 shared-slice-read-end c =
@@ -25,7 +31,18 @@ shared-slice-read-end c =
     let f = c .before .before .loop .inv .3 in
     let h = c .before .loop-test .taken in
     let on = fill-good f h in
-    omega (arith, on .inside, on .within, on .grows, s .pre .few, s .pre .wide, s .pre .long, f .small, c .before .before .loop .inv .1, c .before .before .loop .inv .2)
+    omega (
+      arith,
+      on .inside,
+      on .within,
+      on .grows,
+      s .pre .few,
+      s .pre .wide,
+      s .pre .long,
+      f .small,
+      c .before .before .loop .inv .1,
+      c .before .before .loop .inv .2,
+    )
 
 cast-end : tie.Need-cast-end Inv-loop μ-loop
 cast-end c = omega (arith, c .shared-slice-known2 .given (c .before .before .loop .at))
@@ -36,7 +53,18 @@ add-end c =
     let f = c .before .before .loop .inv .3 in
     let h = c .before .loop-test .taken in
     let on = fill-good f h in
-    omega (arith, on .inside, on .within, on .grows, s .pre .few, s .pre .wide, s .pre .long, f .small, c .before .before .loop .inv .1, c .before .before .loop .inv .2)
+    omega (
+      arith,
+      on .inside,
+      on .within,
+      on .grows,
+      s .pre .few,
+      s .pre .wide,
+      s .pre .long,
+      f .small,
+      c .before .before .loop .inv .1,
+      c .before .before .loop .inv .2,
+    )
 
 add-from : tie.Need-add-from Inv-loop μ-loop
 add-from c =
@@ -44,7 +72,18 @@ add-from c =
     let f = c .before .before .loop .inv .3 in
     let h = c .before .loop-test .taken in
     let on = fill-good f h in
-    omega (arith, on .inside, on .within, on .grows, s .pre .few, s .pre .wide, s .pre .long, f .small, c .before .before .loop .inv .1, c .before .before .loop .inv .2)
+    omega (
+      arith,
+      on .inside,
+      on .within,
+      on .grows,
+      s .pre .few,
+      s .pre .wide,
+      s .pre .long,
+      f .small,
+      c .before .before .loop .inv .1,
+      c .before .before .loop .inv .2,
+    )
 
 mul-row : tie.Need-mul-row Inv-loop μ-loop
 mul-row c =
@@ -52,7 +91,18 @@ mul-row c =
     let f = c .before .before .loop .inv .3 in
     let h = c .before .loop-test .taken in
     let on = fill-good f h in
-    omega (arith, on .inside, on .within, on .grows, s .pre .few, s .pre .wide, s .pre .long, f .small, c .before .before .loop .inv .1, c .before .before .loop .inv .2)
+    omega (
+      arith,
+      on .inside,
+      on .within,
+      on .grows,
+      s .pre .few,
+      s .pre .wide,
+      s .pre .long,
+      f .small,
+      c .before .before .loop .inv .1,
+      c .before .before .loop .inv .2,
+    )
 
 add-row : tie.Need-add-row Inv-loop μ-loop
 add-row c =
@@ -60,7 +110,18 @@ add-row c =
     let f = c .before .before .loop .inv .3 in
     let h = c .before .loop-test .taken in
     let on = fill-good f h in
-    omega (arith, on .inside, on .within, on .grows, s .pre .few, s .pre .wide, s .pre .long, f .small, c .before .before .loop .inv .1, c .before .before .loop .inv .2)
+    omega (
+      arith,
+      on .inside,
+      on .within,
+      on .grows,
+      s .pre .few,
+      s .pre .wide,
+      s .pre .long,
+      f .small,
+      c .before .before .loop .inv .1,
+      c .before .before .loop .inv .2,
+    )
 
 sub-fill-row : tie.Need-sub-fill-row Inv-loop μ-loop
 sub-fill-row c =
@@ -68,7 +129,18 @@ sub-fill-row c =
     let f = c .before .before .loop .inv .3 in
     let h = c .before .loop-test .taken in
     let on = fill-good f h in
-    omega (arith, on .inside, on .within, on .grows, s .pre .few, s .pre .wide, s .pre .long, f .small, c .before .before .loop .inv .1, c .before .before .loop .inv .2)
+    omega (
+      arith,
+      on .inside,
+      on .within,
+      on .grows,
+      s .pre .few,
+      s .pre .wide,
+      s .pre .long,
+      f .small,
+      c .before .before .loop .inv .1,
+      c .before .before .loop .inv .2,
+    )
 
 part-fill-row-start : tie.Need-part-fill-row-start Inv-loop μ-loop
 part-fill-row-start c =
@@ -76,7 +148,18 @@ part-fill-row-start c =
     let f = c .before .before .loop .inv .3 in
     let h = c .before .loop-test .taken in
     let on = fill-good f h in
-    omega (arith, on .inside, on .within, on .grows, s .pre .few, s .pre .wide, s .pre .long, f .small, c .before .before .loop .inv .1, c .before .before .loop .inv .2)
+    omega (
+      arith,
+      on .inside,
+      on .within,
+      on .grows,
+      s .pre .few,
+      s .pre .wide,
+      s .pre .long,
+      f .small,
+      c .before .before .loop .inv .1,
+      c .before .before .loop .inv .2,
+    )
 
 part-fill-row-end : tie.Need-part-fill-row-end Inv-loop μ-loop
 part-fill-row-end c = search needs
@@ -87,7 +170,18 @@ mul-fill-row c =
     let f = c .before .before .before .loop .inv .3 in
     let h = c .before .before .loop-test .taken in
     let on = fill-good f h in
-    omega (arith, on .inside, on .within, on .grows, s .pre .few, s .pre .wide, s .pre .long, f .small, c .before .before .before .loop .inv .1, c .before .before .before .loop .inv .2)
+    omega (
+      arith,
+      on .inside,
+      on .within,
+      on .grows,
+      s .pre .few,
+      s .pre .wide,
+      s .pre .long,
+      f .small,
+      c .before .before .before .loop .inv .1,
+      c .before .before .before .loop .inv .2,
+    )
 
 sub-fill-row-2 : tie.Need-sub-fill-row-2 Inv-loop μ-loop
 sub-fill-row-2 c =
@@ -95,7 +189,18 @@ sub-fill-row-2 c =
     let f = c .before .before .before .loop .inv .3 in
     let h = c .before .before .loop-test .taken in
     let on = fill-good f h in
-    omega (arith, on .inside, on .within, on .grows, s .pre .few, s .pre .wide, s .pre .long, f .small, c .before .before .before .loop .inv .1, c .before .before .before .loop .inv .2)
+    omega (
+      arith,
+      on .inside,
+      on .within,
+      on .grows,
+      s .pre .few,
+      s .pre .wide,
+      s .pre .long,
+      f .small,
+      c .before .before .before .loop .inv .1,
+      c .before .before .before .loop .inv .2,
+    )
 
 part-fill-row-start-2 : tie.Need-part-fill-row-start-2 Inv-loop μ-loop
 part-fill-row-start-2 c =
@@ -103,7 +208,18 @@ part-fill-row-start-2 c =
     let f = c .before .before .before .loop .inv .3 in
     let h = c .before .before .loop-test .taken in
     let on = fill-good f h in
-    omega (arith, on .inside, on .within, on .grows, s .pre .few, s .pre .wide, s .pre .long, f .small, c .before .before .before .loop .inv .1, c .before .before .before .loop .inv .2)
+    omega (
+      arith,
+      on .inside,
+      on .within,
+      on .grows,
+      s .pre .few,
+      s .pre .wide,
+      s .pre .long,
+      f .small,
+      c .before .before .before .loop .inv .1,
+      c .before .before .before .loop .inv .2,
+    )
 
 part-fill-row-end-2 : tie.Need-part-fill-row-end-2 Inv-loop μ-loop
 part-fill-row-end-2 c = search needs
@@ -113,77 +229,191 @@ fill-row-requires c κs =
     let s = c .before .before .before .before .before .before .before .before in
     let f = c .before .before .before .before .loop .inv .3 in
     let h = c .before .before .before .loop-test .taken in
-    let on = fill-good f h in
-    (fill-bad f h, simp (length-take, length-drop) (omega (arith, on .inside, on .within, on .grows, s .pre .few, s .pre .wide, s .pre .long, f .small, c .before .before .before .before .loop .inv .1, c .before .before .before .before .loop .inv .2)))
+    let on = fill-good f h in (
+      fill-bad f h,
+      simp (length-take, length-drop) (omega (
+        arith,
+        on .inside,
+        on .within,
+        on .grows,
+        s .pre .few,
+        s .pre .wide,
+        s .pre .long,
+        f .small,
+        c .before .before .before .before .loop .inv .1,
+        c .before .before .before .before .loop .inv .2,
+      )),
+    )
 
 sub-copy : tie.Need-sub-copy Inv-loop μ-loop
 sub-copy c =
-    let s = c .before .before .before .before .before .before .before .before .before .before .before in
+    let c8 = c .before .before .before .before .before .before .before .before in
+    let s = c8 .before .before .before in
     let f = c .before .before .before .before .before .before .before .loop .inv .3 in
     let h = c .before .before .before .before .before .before .loop-test .taken in
     let on = fill-good f h in
-    omega (arith, on .inside, on .within, on .grows, s .pre .few, s .pre .wide, s .pre .long, f .small, c .before .before .before .before .before .before .before .loop .inv .1, c .before .before .before .before .before .before .before .loop .inv .2)
+    omega (
+      arith,
+      on .inside,
+      on .within,
+      on .grows,
+      s .pre .few,
+      s .pre .wide,
+      s .pre .long,
+      f .small,
+      c .before .before .before .before .before .before .before .loop .inv .1,
+      c .before .before .before .before .before .before .before .loop .inv .2,
+    )
 
 part-copy-start : tie.Need-part-copy-start Inv-loop μ-loop
 part-copy-start c =
-    let s = c .before .before .before .before .before .before .before .before .before .before .before in
+    let c8 = c .before .before .before .before .before .before .before .before in
+    let s = c8 .before .before .before in
     let f = c .before .before .before .before .before .before .before .loop .inv .3 in
     let h = c .before .before .before .before .before .before .loop-test .taken in
     let on = fill-good f h in
-    omega (arith, on .inside, on .within, on .grows, s .pre .few, s .pre .wide, s .pre .long, f .small, c .before .before .before .before .before .before .before .loop .inv .1, c .before .before .before .before .before .before .before .loop .inv .2)
+    omega (
+      arith,
+      on .inside,
+      on .within,
+      on .grows,
+      s .pre .few,
+      s .pre .wide,
+      s .pre .long,
+      f .small,
+      c .before .before .before .before .before .before .before .loop .inv .1,
+      c .before .before .before .before .before .before .before .loop .inv .2,
+    )
 
 part-copy-end : tie.Need-part-copy-end Inv-loop μ-loop
 part-copy-end c = search needs
 
 sub-copy-2 : tie.Need-sub-copy-2 Inv-loop μ-loop
 sub-copy-2 c =
-    let s = c .before .before .before .before .before .before .before .before .before .before .before .before in
+    let c8 = c .before .before .before .before .before .before .before .before in
+    let s = c8 .before .before .before .before in
     let f = c .before .before .before .before .before .before .before .before .loop .inv .3 in
     let h = c .before .before .before .before .before .before .before .loop-test .taken in
     let on = fill-good f h in
-    omega (arith, on .inside, on .within, on .grows, s .pre .few, s .pre .wide, s .pre .long, f .small, c .before .before .before .before .before .before .before .before .loop .inv .1, c .before .before .before .before .before .before .before .before .loop .inv .2)
+    omega (
+      arith,
+      on .inside,
+      on .within,
+      on .grows,
+      s .pre .few,
+      s .pre .wide,
+      s .pre .long,
+      f .small,
+      c .before .before .before .before .before .before .before .before .loop .inv .1,
+      c .before .before .before .before .before .before .before .before .loop .inv .2,
+    )
 
 part-copy-start-2 : tie.Need-part-copy-start-2 Inv-loop μ-loop
 part-copy-start-2 c =
-    let s = c .before .before .before .before .before .before .before .before .before .before .before .before in
+    let c8 = c .before .before .before .before .before .before .before .before in
+    let s = c8 .before .before .before .before in
     let f = c .before .before .before .before .before .before .before .before .loop .inv .3 in
     let h = c .before .before .before .before .before .before .before .loop-test .taken in
     let on = fill-good f h in
-    omega (arith, on .inside, on .within, on .grows, s .pre .few, s .pre .wide, s .pre .long, f .small, c .before .before .before .before .before .before .before .before .loop .inv .1, c .before .before .before .before .before .before .before .before .loop .inv .2)
+    omega (
+      arith,
+      on .inside,
+      on .within,
+      on .grows,
+      s .pre .few,
+      s .pre .wide,
+      s .pre .long,
+      f .small,
+      c .before .before .before .before .before .before .before .before .loop .inv .1,
+      c .before .before .before .before .before .before .before .before .loop .inv .2,
+    )
 
 part-copy-end-2 : tie.Need-part-copy-end-2 Inv-loop μ-loop
 part-copy-end-2 c =
-    let s = c .before .before .before .before .before .before .before .before .before .before .before .before in
+    let c8 = c .before .before .before .before .before .before .before .before in
+    let s = c8 .before .before .before .before in
     let f = c .before .before .before .before .before .before .before .before .loop .inv .3 in
     let h = c .before .before .before .before .before .before .before .loop-test .taken in
     let on = fill-good f h in
-    omega (arith, on .inside, on .within, on .grows, s .pre .few, s .pre .wide, s .pre .long, f .small, c .before .before .before .before .before .before .before .before .loop .inv .1, c .before .before .before .before .before .before .before .before .loop .inv .2)
+    omega (
+      arith,
+      on .inside,
+      on .within,
+      on .grows,
+      s .pre .few,
+      s .pre .wide,
+      s .pre .long,
+      f .small,
+      c .before .before .before .before .before .before .before .before .loop .inv .1,
+      c .before .before .before .before .before .before .before .before .loop .inv .2,
+    )
 
 copy-requires : tie.Need-copy-requires Inv-loop μ-loop
 copy-requires c κs =
-    let s = c .before .before .before .before .before .before .before .before .before .before .before .before .before in
+    let c8 = c .before .before .before .before .before .before .before .before in
+    let s = c8 .before .before .before .before .before in
     let f = c .before .before .before .before .before .before .before .before .before .loop .inv .3 in
     let h = c .before .before .before .before .before .before .before .before .loop-test .taken in
     let on = fill-good f h in
-    let low = c .before .before .before .before .before .before .before .shared-slice-known2 .given (c .before .before .before .before .before .before .before .before .before .loop .at) in
-    simp (length-take, length-drop) (omega (arith, low, on .inside, on .within, on .grows, s .pre .few, s .pre .wide, s .pre .long, f .small, c .before .before .before .before .before .before .before .before .before .loop .inv .1, c .before .before .before .before .before .before .before .before .before .loop .inv .2))
+    let low = c .before .before .before .before .before .before .before .shared-slice-known2 .given
+    (c .before .before .before .before .before .before .before .before .before .loop .at) in
+    simp (length-take, length-drop) (omega (
+      arith,
+      low,
+      on .inside,
+      on .within,
+      on .grows,
+      s .pre .few,
+      s .pre .wide,
+      s .pre .long,
+      f .small,
+      c .before .before .before .before .before .before .before .before .before .loop .inv .1,
+      c .before .before .before .before .before .before .before .before .before .loop .inv .2,
+    ))
 
 sub-to : tie.Need-sub-to Inv-loop μ-loop
 sub-to c =
-    let s = c .before .before .before .before .before .before .before .before .before .before .before .before .before .before .before .before in
-    let f = c .before .before .before .before .before .before .before .before .before .before .before .before .loop .inv .3 in
-    let h = c .before .before .before .before .before .before .before .before .before .before .before .loop-test .taken in
+    let c8 = c .before .before .before .before .before .before .before .before in
+    let c16 = c8 .before .before .before .before .before .before .before .before in
+    let s = c16 in
+    let f = c8 .before .before .before .before .loop .inv .3 in
+    let h = c8 .before .before .before .loop-test .taken in
     let on = fill-good f h in
-    omega (arith, on .inside, on .within, on .grows, s .pre .few, s .pre .wide, s .pre .long, f .small, c .before .before .before .before .before .before .before .before .before .before .before .before .loop .inv .1, c .before .before .before .before .before .before .before .before .before .before .before .before .loop .inv .2)
+    omega (
+      arith,
+      on .inside,
+      on .within,
+      on .grows,
+      s .pre .few,
+      s .pre .wide,
+      s .pre .long,
+      f .small,
+      c8 .before .before .before .before .loop .inv .1,
+      c8 .before .before .before .before .loop .inv .2,
+    )
 
 add-to : tie.Need-add-to Inv-loop μ-loop
 add-to c =
-    let s = c .before .before .before .before .before .before .before .before .before .before .before .before .before .before .before .before in
-    let f = c .before .before .before .before .before .before .before .before .before .before .before .before .loop .inv .3 in
-    let h = c .before .before .before .before .before .before .before .before .before .before .before .loop-test .taken in
+    let c8 = c .before .before .before .before .before .before .before .before in
+    let c16 = c8 .before .before .before .before .before .before .before .before in
+    let s = c16 in
+    let f = c8 .before .before .before .before .loop .inv .3 in
+    let h = c8 .before .before .before .loop-test .taken in
     let on = fill-good f h in
-    let low = c .before .before .before .before .before .before .before .before .before .before .shared-slice-known2 .given (c .before .before .before .before .before .before .before .before .before .before .before .before .loop .at) in
-    omega (arith, low, on .inside, on .within, on .grows, s .pre .few, s .pre .wide, s .pre .long, f .small, c .before .before .before .before .before .before .before .before .before .before .before .before .loop .inv .1, c .before .before .before .before .before .before .before .before .before .before .before .before .loop .inv .2)
+    let low = c8 .before .before .shared-slice-known2 .given (c8 .before .before .before .before .loop .at) in
+    omega (
+      arith,
+      low,
+      on .inside,
+      on .within,
+      on .grows,
+      s .pre .few,
+      s .pre .wide,
+      s .pre .long,
+      f .small,
+      c8 .before .before .before .before .loop .inv .1,
+      c8 .before .before .before .before .loop .inv .2,
+    )
 
 add-i : tie.Need-add-i Inv-loop μ-loop
 add-i c = search needs
@@ -193,14 +423,19 @@ loop-less c = search needs
 
 loop-again : tie.Need-loop-again Inv-loop μ-loop
 loop-again c =
-    let s = c .before .before .before .before .before .before .before .before .before .before .before .before .before .before .before .before in
-    let f = c .before .before .before .before .before .before .before .before .before .before .before .before .loop .inv .3 in
-    let h = c .before .before .before .before .before .before .before .before .before .before .before .loop-test .taken in
-    let low : getD (s .args .p .now) (c .before .before .before .before .before .before .before .before .before .before .before .before .loop .at) 0 < 256 = omega (arith, c .before .before .before .before .before .before .before .before .before .before .shared-slice-known2 .given (c .before .before .before .before .before .before .before .before .before .before .before .before .loop .at)) in (
+    let c8 = c .before .before .before .before .before .before .before .before in
+    let c16 = c8 .before .before .before .before .before .before .before .before in
+    let s = c16 in
+    let f = c8 .before .before .before .before .loop .inv .3 in
+    let h = c8 .before .before .before .loop-test .taken in
+    let low : getD (s .args .p .now) (c8 .before .before .before .before .loop .at) 0 < 256 =
+    omega (arith, c8 .before .before .shared-slice-known2 .given (c8 .before .before .before .before .loop .at)) in (
       omega arith,
       search needs,
       search needs,
-      fill-more f h (s .pre .few) low (s .pre .wide) (s .pre .long) (c .before .before .before .before .before .before .before .fill-row .last .1 .0) (c .before .before .copy .last .0) (c .before .before .before .before .before .before .before .fill-row .ensures) (c .before .before .copy .ensures),
+      fill-more f h (s .pre .few) low (s .pre .wide) (s .pre .long)
+          (c .before .before .before .before .before .before .before .fill-row .last .1 .0) (c .before .before .copy .last .0)
+          (c .before .before .before .before .before .before .before .fill-row .ensures) (c .before .before .copy .ensures),
     )
 
 same-length : tie.Need-same-length Inv-loop μ-loop

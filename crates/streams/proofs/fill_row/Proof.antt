@@ -111,13 +111,15 @@ slice-write-row-7 c =
 
 shared-slice-read-row : tie.Need-shared-slice-read-row
 shared-slice-read-row c =
-    let s = c .before .before .before .before .before .before .before .before .before .before in
+    let c8 = c .before .before .before .before .before .before .before .before in
+    let s = c8 .before .before in
     let g = good-stream (s .args .p .now) (s .pre .0) in
     omega (arith, g .long, g .within)
 
 sub-row : tie.Need-sub-row
 sub-row c =
-    let s = c .before .before .before .before .before .before .before .before .before .before in
+    let c8 = c .before .before .before .before .before .before .before .before in
+    let s = c8 .before .before in
     let g = good-stream (s .args .p .now) (s .pre .0) in
     omega (arith, g .long, g .within)
 
@@ -126,7 +128,8 @@ cast-row-8 c = omega (arith, c .shared-slice-known2 .given 0)
 
 slice-write-row-8 : tie.Need-slice-write-row-8
 slice-write-row-8 c =
-    let s = c .before .before .before .before .before .before .before .before .before .before in
+    let c8 = c .before .before .before .before .before .before .before .before in
+    let s = c8 .before .before in
     simp length-set (omega (arith, s .pre .1))
 
 same-length : tie.Need-same-length
@@ -135,13 +138,22 @@ same-length c = simp length-set
 returns : tie.Need-returns
 unfolding written
 returns c =
-    let s = c .before .before .before .before .before .before .before .before .before .before in
+    let c8 = c .before .before .before .before .before .before .before .before in
+    let s = c8 .before .before in
     let p = s .args .p .now in
     let e = s .args .row .now in
     let last = sym (length-kept p (s .pre .0)) in
-    let vs = c .before .before .before .before .before .before .before .number2 .result ∷ c .before .before .before .before .before .before .number22 .result ∷ c .before .before .before .before .before .number4 .result ∷ c .before .before .before .before .number42 .result ∷ c .before .before .before .number43 .result ∷ c .before .before .number23 .result ∷ c .before .number24 .result ∷ (getD p 0 0 - 21) ∷ [] in
+    let vs = c .before .before .before .before .before .before .before .number2 .result
+    ∷ c .before .before .before .before .before .before .number22 .result
+    ∷ c .before .before .before .before .before .number4 .result ∷ c .before .before .before .before .number42 .result
+    ∷ c .before .before .before .number43 .result ∷ c .before .before .number23 .result ∷ c .before .number24 .result
+    ∷ (getD p 0 0 - 21) ∷ [] in
     sets-eq vs e 0 (omega (arith, s .pre .1))
-    ∙ ap (written e 0) (λ i. c .before .before .before .before .before .before .before .number2 .ensures i ∷ c .before .before .before .before .before .before .number22 .ensures i ∷ c .before .before .before .before .before .number4 .ensures i ∷ c .before .before .before .before .number42 .ensures i ∷ c .before .before .before .number43 .ensures i ∷ c .before .before .number23 .ensures i ∷ c .before .number24 .ensures i ∷ last i ∷ [])
+    ∙ ap (written e 0) (λ i. c .before .before .before .before .before .before .before .number2 .ensures i
+    ∷ c .before .before .before .before .before .before .number22 .ensures i
+    ∷ c .before .before .before .before .before .number4 .ensures i ∷ c .before .before .before .before .number42 .ensures i
+    ∷ c .before .before .before .number43 .ensures i ∷ c .before .before .number23 .ensures i ∷ c .before .number24 .ensures i ∷ last i
+    ∷ [])
 
 pub fill-row-spec : {M : Type 1} → statement M
 fill-row-spec =

@@ -49,7 +49,8 @@ shared-slice-read-if5 c = search needs
 
 returns-5 : tie.Need-returns-5
 returns-5 c =
-    let s = c .before .before .before .before .before .before .before .before .before .before in
+    let c8 = c .before .before .before .before .before .before .before .before in
+    let s = c8 .before .before in
     let w = s .args .w .now in
     rw (le-leb 4294967296 (getD w 4 0) (omega arith)) (simp or-true)
 
@@ -58,7 +59,8 @@ shared-slice-read-if6 c = search needs
 
 returns-6 : tie.Need-returns-6
 returns-6 c =
-    let s = c .before .before .before .before .before .before .before .before .before .before .before .before in
+    let c8 = c .before .before .before .before .before .before .before .before in
+    let s = c8 .before .before .before .before in
     let w = s .args .w .now in
     rw (le-leb 65536 (getD w 5 0) (omega arith)) (simp or-true)
 
@@ -67,7 +69,8 @@ shared-slice-read-if7 c = search needs
 
 returns-7 : tie.Need-returns-7
 returns-7 c =
-    let s = c .before .before .before .before .before .before .before .before .before .before .before .before .before .before in
+    let c8 = c .before .before .before .before .before .before .before .before in
+    let s = c8 .before .before .before .before .before .before in
     let w = s .args .w .now in
     rw (le-leb 65536 (getD w 6 0) (omega arith)) (simp or-true)
 
@@ -76,11 +79,12 @@ shared-slice-read-result c = search needs
 
 returns-8 : tie.Need-returns-8
 returns-8 c =
-    let s = c .before .before .before .before .before .before .before .before .before .before .before .before .before .before .before in
+    let c8 = c .before .before .before .before .before .before .before .before in
+    let s = c8 .before .before .before .before .before .before .before in
     let w = s .args .w .now in
     rw (
-      le-ltb highestPid (getD w 0 0) (omega (arith, c .before .before .before .before .before .before .before .before .before .before .before .before .before .if1 .left)),
-      lt-leb unknownSize (getD w 1 0) (omega (arith, c .before .before .before .before .before .before .before .before .before .before .before .if2 .left)),
+      le-ltb highestPid (getD w 0 0) (omega (arith, c8 .before .before .before .before .before .if1 .left)),
+      lt-leb unknownSize (getD w 1 0) (omega (arith, c8 .before .before .before .if2 .left)),
       lt-leb 4294967296 (getD w 2 0) (omega (arith, c .before .before .before .before .before .before .before .before .before .if3 .left)),
       lt-leb 4294967296 (getD w 3 0) (omega (arith, c .before .before .before .before .before .before .before .if4 .left)),
       lt-leb 4294967296 (getD w 4 0) (omega (arith, c .before .before .before .before .before .if5 .left)),

@@ -41,13 +41,17 @@ same-length c = search needs
 
 returns : tie.Need-returns
 returns c =
-    let s = c .before .before .before .before .before .before .before .before .before .before .before .before .before in
+    let c8 = c .before .before .before .before .before .before .before .before in
+    let s = c8 .before .before .before .before .before in
     let e = s .args .out .now in
     let b0 = bytes 1 (s .args .size) in
     let b1 = bytes 2 (s .args .pid) in
     let b2 = bytes 2 (s .args .kind) in
-    let w1 = written-next e 0 b0 b1 (c .before .before .before .before .before .before .before .before .before .before .put1 .last .0) (c .before .before .before .before .before .before .put2 .last .0) 1 (c .before .before .before .before .before .before .before .before .before .before .put1 .ensures) (simp length-bytes) (simp length-bytes (omega (arith, s .pre))) (c .before .before .before .before .before .before .put2 .ensures) in
-    written-next e 0 (b0 ++ b1) b2 _ (c .before .before .put22 .last .0) 3 w1 (simp (length-append, length-bytes)) (simp length-bytes (omega (arith, s .pre))) (c .before .before .put22 .ensures)
+    let w1 = written-next e 0 b0 b1 (c8 .before .before .put1 .last .0) (c .before .before .before .before .before .before .put2 .last .0) 1
+    (c8 .before .before .put1 .ensures) (simp length-bytes) (simp length-bytes (omega (arith, s .pre)))
+    (c .before .before .before .before .before .before .put2 .ensures) in
+    written-next e 0 (b0 ++ b1) b2 _ (c .before .before .put22 .last .0) 3 w1 (simp (length-append, length-bytes))
+    (simp length-bytes (omega (arith, s .pre))) (c .before .before .put22 .ensures)
 
 pub put-ids-spec : {M : Type 1} → statement M
 put-ids-spec =

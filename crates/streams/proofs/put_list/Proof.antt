@@ -54,9 +54,24 @@ put4-requires c κs = search needs
 
 put-rows-requires : tie.Need-put-rows-requires
 put-rows-requires c κs =
-    let s = c .before .before .before .before .before .before .before .before .before .before .before .before .before .before .before .before in
+    let c8 = c .before .before .before .before .before .before .before .before in
+    let c16 = c8 .before .before .before .before .before .before .before .before in
+    let s = c16 in
     let z = judged-end (getD (s .args .words .now) 0 0) (drop 2 (s .args .words .now)) (s .pre .rows) in
-    record { few = s .pre .few; rows = s .pre .wide; good = z .0; kept = s .pre .long; room = omega (arith, z .1, c .before .before .before .before .before .before .before .before .before .before .before .before .if1 .left, c .before .before .before .before .before .before .before .out .given, c .before .before .out2 .given) }
+    record {
+      few = s .pre .few;
+      rows = s .pre .wide;
+      good = z .0;
+      kept = s .pre .long;
+      room =
+          omega (
+            arith,
+            z .1,
+            c8 .before .before .before .before .if1 .left,
+            c .before .before .before .before .before .before .before .out .given,
+            c .before .before .out2 .given,
+          );
+    }
 
 add-result : tie.Need-add-result
 add-result c = search needs
@@ -66,17 +81,24 @@ same-length c = search needs
 
 returns-2 : tie.Need-returns-2
 returns-2 c =
-    let s = c .before .before .before .before .before .before .before .before .before .before .before .before .before .before .before .before .before .before .before in
+    let c8 = c .before .before .before .before .before .before .before .before in
+    let c16 = c8 .before .before .before .before .before .before .before .before in
+    let s = c16 .before .before .before in
     let w = s .args .words .now in
     let k = s .args .kept .now in
     let e = s .args .out .now in
-    let room : 6 ≤ length e = omega (arith, c .before .before .before .before .before .before .before .before .before .before .before .before .before .before .before .if1 .left) in
+    let room : 6 ≤ length e = omega (arith, c8 .before .before .before .before .before .before .before .if1 .left) in
     let b0 = bytes 2 (getD w 1 0) in
     let b1 = bytes 4 (getD w 0 0) in
-    let w1 = written-next e 0 b0 b1 (c .before .before .before .before .before .before .before .before .before .before .before .put2 .last .0) (c .before .before .before .before .before .before .put4 .last .0) 2 (c .before .before .before .before .before .before .before .before .before .before .before .put2 .ensures) (simp length-bytes) (simp length-bytes (omega arith)) (c .before .before .before .before .before .before .put4 .ensures) in
+    let w1 =
+    written-next e 0 b0 b1 (c8 .before .before .before .put2 .last .0)
+    (c .before .before .before .before .before .before .put4 .last .0) 2 (c8 .before .before .before .put2 .ensures)
+    (simp length-bytes) (simp length-bytes (omega arith)) (c .before .before .before .before .before .before .put4 .ensures) in
     let w2 = c .before .before .put-rows .ensures ∙ ap (λ x. written x 6 (streamsBytes (listIn (getD w 0 0) (drop 2 w) k))) w1
-    ∙ written-more e 0 (b0 ++ b1) (streamsBytes (listIn (getD w 0 0) (drop 2 w) k)) 6 (simp (length-append, length-bytes) room) (simp (length-append, length-bytes)) in
-    write-done w k e (s .pre .few) (s .pre .long) (s .pre .rows) (s .pre .pcr) (omega (arith, c .before .before .before .before .before .before .before .before .before .before .before .before .before .before .before .if1 .left)) (w2 ∙ ap (written e 0) (bytes-are w k))
+    ∙ written-more e 0 (b0 ++ b1) (streamsBytes (listIn (getD w 0 0) (drop 2 w) k)) 6 (simp (length-append, length-bytes) room)
+    (simp (length-append, length-bytes)) in
+    write-done w k e (s .pre .few) (s .pre .long) (s .pre .rows) (s .pre .pcr)
+    (omega (arith, c8 .before .before .before .before .before .before .before .if1 .left)) (w2 ∙ ap (written e 0) (bytes-are w k))
 
 pub put-list-spec : {M : Type 1} → statement M
 put-list-spec =

@@ -31,7 +31,9 @@ returns c =
     let e = s .args .out .now in
     let b0 = bytes 2 (s .args .width) in
     let b1 = bytes 2 (s .args .height) in
-    written-next e 0 b0 b1 (c .before .before .before .before .before .before .put2 .last .0) (c .before .before .put22 .last .0) 2 (c .before .before .before .before .before .before .put2 .ensures) (simp length-bytes) (simp length-bytes (omega (arith, s .pre))) (c .before .before .put22 .ensures)
+    written-next e 0 b0 b1 (c .before .before .before .before .before .before .put2 .last .0) (c .before .before .put22 .last .0) 2
+    (c .before .before .before .before .before .before .put2 .ensures) (simp length-bytes) (simp length-bytes (omega (arith, s .pre)))
+    (c .before .before .put22 .ensures)
 
 pub put-picture-spec : {M : Type 1} → statement M
 put-picture-spec =

@@ -41,13 +41,17 @@ same-length c = search needs
 
 returns : tie.Need-returns
 returns c =
-    let s = c .before .before .before .before .before .before .before .before .before .before .before .before .before in
+    let c8 = c .before .before .before .before .before .before .before .before in
+    let s = c8 .before .before .before .before .before in
     let e = s .args .out .now in
     let b0 = bytes 4 (s .args .avg) in
     let b1 = bytes 4 (s .args .max) in
     let b2 = bytes 4 (s .args .min) in
-    let w1 = written-next e 0 b0 b1 (c .before .before .before .before .before .before .before .before .before .before .put4 .last .0) (c .before .before .before .before .before .before .put42 .last .0) 4 (c .before .before .before .before .before .before .before .before .before .before .put4 .ensures) (simp length-bytes) (simp length-bytes (omega (arith, s .pre))) (c .before .before .before .before .before .before .put42 .ensures) in
-    written-next e 0 (b0 ++ b1) b2 _ (c .before .before .put43 .last .0) 8 w1 (simp (length-append, length-bytes)) (simp length-bytes (omega (arith, s .pre))) (c .before .before .put43 .ensures)
+    let w1 = written-next e 0 b0 b1 (c8 .before .before .put4 .last .0) (c .before .before .before .before .before .before .put42 .last .0)
+    4 (c8 .before .before .put4 .ensures) (simp length-bytes) (simp length-bytes (omega (arith, s .pre)))
+    (c .before .before .before .before .before .before .put42 .ensures) in
+    written-next e 0 (b0 ++ b1) b2 _ (c .before .before .put43 .last .0) 8 w1 (simp (length-append, length-bytes))
+    (simp length-bytes (omega (arith, s .pre))) (c .before .before .put43 .ensures)
 
 pub put-rates-spec : {M : Type 1} → statement M
 put-rates-spec =

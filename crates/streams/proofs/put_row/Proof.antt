@@ -79,7 +79,9 @@ shared-slice-read-put-picture c = search needs
 
 cast-put-picture : tie.Need-cast-put-picture
 cast-put-picture c =
-    let s = c .before .before .before .before .before .before .before .before .before .before .before .before .before .before .before .before .before .before .before .before in
+    let c8 = c .before .before .before .before .before .before .before .before in
+    let c16 = c8 .before .before .before .before .before .before .before .before in
+    let s = c16 .before .before .before .before in
     let g = good-row (s .args .w .now) (s .pre .good) in
     omega (arith, g .width)
 
@@ -88,7 +90,9 @@ shared-slice-read-put-picture-2 c = search needs
 
 cast-put-picture-2 : tie.Need-cast-put-picture-2
 cast-put-picture-2 c =
-    let s = c .before .before .before .before .before .before .before .before .before .before .before .before .before .before .before .before .before .before .before .before .before in
+    let c8 = c .before .before .before .before .before .before .before .before in
+    let c16 = c8 .before .before .before .before .before .before .before .before in
+    let s = c16 .before .before .before .before .before in
     let g = good-row (s .args .w .now) (s .pre .good) in
     omega (arith, g .height)
 
@@ -121,7 +125,10 @@ same-length c = search needs
 
 returns : tie.Need-returns
 returns c =
-    let s = c .before .before .before .before .before .before .before .before .before .before .before .before .before .before .before .before .before .before .before .before .before .before .before .before .before .before .before .before .before in
+    let c8 = c .before .before .before .before .before .before .before .before in
+    let c16 = c8 .before .before .before .before .before .before .before .before in
+    let c24 = c16 .before .before .before .before .before .before .before .before in
+    let s = c24 .before .before .before .before .before in
     let e = s .args .out .now in
     let w = s .args .w .now in
     let k = s .args .k .now in
@@ -129,9 +136,15 @@ returns c =
     let b1 = bytes 4 (getD w 2 0) ++ bytes 4 (getD w 3 0) ++ bytes 4 (getD w 4 0) in
     let b2 = bytes 2 (getD w 5 0) ++ bytes 2 (getD w 6 0) in
     let b3 = midOf 0 (getD w 7 0 - 0) k in
-    let w1 = written-next e 0 b0 b1 (c .before .before .before .before .before .before .before .before .before .before .before .before .before .before .before .before .before .before .before .before .put-ids .last .0) (c .before .before .before .before .before .before .before .before .before .before .before .before .before .put-rates .last .0) 5 (c .before .before .before .before .before .before .before .before .before .before .before .before .before .before .before .before .before .before .before .before .put-ids .ensures) (simp (length-append, length-bytes)) (simp (length-append, length-bytes) (omega (arith, s .pre .room))) (c .before .before .before .before .before .before .before .before .before .before .before .before .before .put-rates .ensures) in
-    let w2 = written-next e 0 (b0 ++ b1) b2 _ (c .before .before .before .before .before .before .before .put-picture .last .0) 17 w1 (simp (length-append, length-bytes)) (simp (length-append, length-bytes) (omega (arith, s .pre .room))) (c .before .before .before .before .before .before .before .put-picture .ensures) in
-    let w3 = written-next e 0 (b0 ++ b1 ++ b2) b3 _ (c .before .before .copy .last .0) 21 w2 (simp (length-append, length-bytes)) (simp length-take (omega (arith, s .pre .room))) (c .before .before .copy .ensures) in
+    let w1 = written-next e 0 b0 b1 (c16 .before .before .before .before .put-ids .last .0)
+    (c8 .before .before .before .before .before .put-rates .last .0) 5 (c16 .before .before .before .before .put-ids .ensures)
+    (simp (length-append, length-bytes)) (simp (length-append, length-bytes) (omega (arith, s .pre .room)))
+    (c8 .before .before .before .before .before .put-rates .ensures) in
+    let w2 = written-next e 0 (b0 ++ b1) b2 _ (c .before .before .before .before .before .before .before .put-picture .last .0) 17 w1
+    (simp (length-append, length-bytes)) (simp (length-append, length-bytes) (omega (arith, s .pre .room)))
+    (c .before .before .before .before .before .before .before .put-picture .ensures) in
+    let w3 = written-next e 0 (b0 ++ b1 ++ b2) b3 _ (c .before .before .copy .last .0) 21 w2 (simp (length-append, length-bytes))
+    (simp length-take (omega (arith, s .pre .room))) (c .before .before .copy .ensures) in
     w3 ∙ ap (written e 0) (row-is w k (s .pre .kept))
 
 pub put-row-spec : {M : Type 1} → statement M

@@ -114,7 +114,8 @@ put-row-requires c κs =
 
 add-at : tie.Need-add-at Inv-loop μ-loop
 add-at c =
-    let s = c .before .before .before .before .before .before .before .before .before .before .before .before in
+    let c8 = c .before .before .before .before .before .before .before .before in
+    let s = c8 .before .before .before .before in
     let f = c .before .before .before .before .before .before .before .before .loop .inv .2 in
     let few = s .pre .few in
     let h = c .before .before .before .before .before .before .before .loop-test .taken in
@@ -123,7 +124,8 @@ add-at c =
 
 add-to : tie.Need-add-to Inv-loop μ-loop
 add-to c =
-    let s = c .before .before .before .before .before .before .before .before .before .before .before .before in
+    let c8 = c .before .before .before .before .before .before .before .before in
+    let s = c8 .before .before .before .before in
     let f = c .before .before .before .before .before .before .before .before .loop .inv .2 in
     let few = s .pre .few in
     let h = c .before .before .before .before .before .before .before .loop-test .taken in
@@ -132,7 +134,8 @@ add-to c =
 
 add-to-2 : tie.Need-add-to-2 Inv-loop μ-loop
 add-to-2 c =
-    let s = c .before .before .before .before .before .before .before .before .before .before .before .before in
+    let c8 = c .before .before .before .before .before .before .before .before in
+    let s = c8 .before .before .before .before in
     let f = c .before .before .before .before .before .before .before .before .loop .inv .2 in
     let few = s .pre .few in
     let h = c .before .before .before .before .before .before .before .loop-test .taken in
@@ -147,11 +150,16 @@ loop-less c = search needs
 
 loop-again : tie.Need-loop-again Inv-loop μ-loop
 loop-again c =
-    let s = c .before .before .before .before .before .before .before .before .before .before .before .before in
+    let c8 = c .before .before .before .before .before .before .before .before in
+    let s = c8 .before .before .before .before in
     let f = c .before .before .before .before .before .before .before .before .loop .inv .2 in
     let few = s .pre .few in
-    let h = c .before .before .before .before .before .before .before .loop-test .taken in
-    (omega arith, search needs, put-more f h few (s .pre .rows) (s .pre .kept) (c .before .before .put-row .last .1 .1 .0) (c .before .before .put-row .ensures))
+    let h = c .before .before .before .before .before .before .before .loop-test .taken in (
+      omega arith,
+      search needs,
+      put-more f h few (s .pre .rows) (s .pre .kept) (c .before .before .put-row .last .1 .1 .0)
+          (c .before .before .put-row .ensures),
+    )
 
 same-length : tie.Need-same-length Inv-loop μ-loop
 same-length c = c .before .loop .inv .1

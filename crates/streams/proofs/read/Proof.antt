@@ -23,7 +23,8 @@ enum-told c = search needs
 returns : tie.Need-returns
 returns c =
     let s = c .before .before .before .before in
-    read-none (s .args .p .now) (s .args .words .now) (s .args .kept .now) (end-unlisted (s .args .p .now) (sym (c .before .before .end-of .ensures) ∙ c .enum-told .given .1))
+    read-none (s .args .p .now) (s .args .words .now) (s .args .kept .now)
+    (end-unlisted (s .args .p .now) (sym (c .before .before .end-of .ensures) ∙ c .enum-told .given .1))
 
 number4-requires : tie.Need-number4-requires
 number4-requires c κs =
@@ -77,26 +78,33 @@ cast-fill c = search needs
 
 fill-requires : tie.Need-fill-requires
 fill-requires c κs =
-    let s = c .before .before .before .before .before .before .before .before .before .before .before in
-    let e = sym (c .before .before .before .before .before .before .before .before .before .end-of .ensures) ∙ c .before .before .before .before .before .before .before .found .given .1 in
+    let c8 = c .before .before .before .before .before .before .before .before in
+    let s = c8 .before .before .before in
+    let e = sym (c .before .before .before .before .before .before .before .before .before .end-of .ensures)
+    ∙ c .before .before .before .before .before .before .before .found .given .1 in
     let f = end-found (s .args .p .now) _ e in
     let k = separate-step (s .args .p .now) (f .items) (f .rest) (f .is) in
     record {
       few = omega (arith, k .few, c .before .before .before .before .before .number4 .ensures);
       items = f .items;
       rest = f .rest;
-      good = ap (λ x. streamsIn (c .before .before .before .before .before .number4 .result) x) (behind 6 (s .args .p .now)) ∙ ap (λ x. streamsIn x (drop 6 (s .args .p .now))) (c .before .before .before .before .before .number4 .ensures) ∙ k .streams;
+      good = ap (λ x. streamsIn (c .before .before .before .before .before .number4 .result) x) (behind 6 (s .args .p .now))
+          ∙ ap (λ x. streamsIn x (drop 6 (s .args .p .now))) (c .before .before .before .before .before .number4 .ensures) ∙ k .streams;
       wide = search needs;
       long = search needs;
     }
 
 returns-2 : tie.Need-returns-2
 returns-2 c =
-    let s = c .before .before .before .before .before .before .before .before .before .before .before .before in
-    let e = sym (c .before .before .before .before .before .before .before .before .before .before .end-of .ensures) ∙ c .before .before .before .before .before .before .before .before .found .given .1 in
+    let c8 = c .before .before .before .before .before .before .before .before in
+    let s = c8 .before .before .before .before in
+    let e = sym (c8 .before .before .end-of .ensures) ∙ c .before .before .before .before .before .before .before .before .found .given .1
+    in
     let f = end-found (s .args .p .now) _ e in
     let k = separate-step (s .args .p .now) (f .items) (f .rest) (f .is) in
-    read-done (s .args .p .now) (s .args .words .now) (s .args .kept .now) f (c .before .before .before .before .before .before .number4 .ensures) (c .before .before .before .before .number2 .ensures) (behind 6 (s .args .p .now)) (c .fill .ensures)
+    read-done (s .args .p .now) (s .args .words .now) (s .args .kept .now) f
+    (c .before .before .before .before .before .before .number4 .ensures) (c .before .before .before .before .number2 .ensures)
+    (behind 6 (s .args .p .now)) (c .fill .ensures)
 
 pub read-spec : {M : Type 1} → statement M
 read-spec =

@@ -43,7 +43,8 @@ is-bad-requires c κs =
     simp (length-take, length-drop) (omega (arith, c .before .loop-test .taken, s .pre .0, s .pre .1))
 
 returns : tie.Need-returns Inv-loop μ-loop
-returns c = sizing-bad (c .before .before .before .before .loop .inv .1) (c .before .before .before .loop-test .taken) (sym (c .before .is-bad .ensures) ∙ c .if1 .taken)
+returns c = sizing-bad (c .before .before .before .before .loop .inv .1) (c .before .before .before .loop-test .taken)
+    (sym (c .before .is-bad .ensures) ∙ c .if1 .taken)
 
 add-size : tie.Need-add-size Inv-loop μ-loop
 add-size c = search needs
@@ -57,13 +58,15 @@ shared-slice-read-size c = search needs
 add-size-2 : tie.Need-add-size-2 Inv-loop μ-loop
 add-size-2 c =
     let s = c .before .before .before .before .before .before .before in
-    let f = sizing-more (c .before .before .before .before .before .loop .inv .1) (c .before .before .before .before .loop-test .taken) (sym (c .before .before .is-bad .ensures) ∙ c .before .if1 .left) in
+    let f = sizing-more (c .before .before .before .before .before .loop .inv .1) (c .before .before .before .before .loop-test .taken)
+    (sym (c .before .before .is-bad .ensures) ∙ c .before .if1 .left) in
     omega (arith, f .small, s .pre .0)
 
 add-size-3 : tie.Need-add-size-3 Inv-loop μ-loop
 add-size-3 c =
     let s = c .before .before .before .before .before .before .before in
-    let f = sizing-more (c .before .before .before .before .before .loop .inv .1) (c .before .before .before .before .loop-test .taken) (sym (c .before .before .is-bad .ensures) ∙ c .before .if1 .left) in
+    let f = sizing-more (c .before .before .before .before .before .loop .inv .1) (c .before .before .before .before .loop-test .taken)
+    (sym (c .before .before .is-bad .ensures) ∙ c .before .if1 .left) in
     omega (arith, f .small, s .pre .0)
 
 add-i : tie.Need-add-i Inv-loop μ-loop
@@ -73,7 +76,9 @@ loop-less : tie.Need-loop-less Inv-loop μ-loop
 loop-less c = search needs
 
 loop-again : tie.Need-loop-again Inv-loop μ-loop
-loop-again c = let f = sizing-more (c .before .before .before .before .before .loop .inv .1) (c .before .before .before .before .loop-test .taken) (sym (c .before .before .is-bad .ensures) ∙ c .before .if1 .left) in
+loop-again c = let f =
+    sizing-more (c .before .before .before .before .before .loop .inv .1) (c .before .before .before .before .loop-test .taken)
+    (sym (c .before .before .is-bad .ensures) ∙ c .before .if1 .left) in
     (omega arith, f)
 
 returns-2 : tie.Need-returns-2 Inv-loop μ-loop

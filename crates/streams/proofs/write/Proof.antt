@@ -42,13 +42,25 @@ enum-told c = search needs
 
 returns-3 : tie.Need-returns-3
 returns-3 c =
-    let s = c .before .before .before .before .before .before .before .before .before .before in
+    let c8 = c .before .before .before .before .before .before .before .before in
+    let s = c8 .before .before in
     let w = s .args .words .now in
     let j = judged-none (getD w 0 0) (drop 2 w) (sym (c .before .before .size-of .ensures) ∙ c .enum-told .given .1) in
     write-none w (s .args .kept .now) (s .args .out .now) (rw j (simp or-true))
 
 put-list-requires : tie.Need-put-list-requires
-put-list-requires c κs = record { few = omega (arith, c .before .before .before .before .before .before .before .before .before .before .before .if1 .left); pcr = omega (arith, c .before .before .before .before .before .before .before .before .before .if2 .left); wide = search needs; long = search needs; rows = sym (c .before .before .before .before .before .before .size-of .ensures) ∙ c .before .before .before .before .judged .given .1 }
+put-list-requires c κs =
+    let c8 = c .before .before .before .before .before .before .before .before in
+    record {
+      few = omega (arith, c8 .before .before .before .if1 .left);
+      pcr =
+          omega (arith, c .before .before .before .before .before .before .before .before .before .if2 .left);
+      wide = search needs;
+      long =
+          search needs;
+      rows = sym (c .before .before .before .before .before .before .size-of .ensures)
+          ∙ c .before .before .before .before .judged .given .1;
+    }
 
 same-length : tie.Need-same-length
 same-length c = search needs

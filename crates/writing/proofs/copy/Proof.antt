@@ -35,8 +35,12 @@ loop-less c = search needs
 
 loop-again : tie.Need-loop-again Inv-loop μ-loop
 loop-again c =
-    let s = c .before .before .before in
-    (search needs, search needs, copied (s .args .out .now) (s .args .name .now) _ (c .before .before .loop .i) (omega arith) (s .pre) (c .before .before .loop .inv .2))
+    let s = c .before .before .before in (
+      search needs,
+      search needs,
+      copied (s .args .out .now) (s .args .name .now) _ (c .before .before .loop .i) (omega arith) (s .pre)
+          (c .before .before .loop .inv .2),
+    )
 
 same-length : tie.Need-same-length Inv-loop μ-loop
 same-length c = search needs

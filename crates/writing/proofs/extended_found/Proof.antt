@@ -43,8 +43,10 @@ returns c =
     let s = p0 .before .before .before in
     let w0 = row-header (s .args .conn) 0x0004 20 100 (p0 .header .ensures .0) in
     let w1 = row-bytes 4 (s .args .id) w0 (p1 .put4 .ensures) (omega (arith, s .pre)) in
-    let w2 = row-next _ (length-end (s .args .event) (s .args .ended) (s .args .played)) w1 (p2 .put-end .ensures) (omega (arith, s .pre)) in
-    row-wrote w2 (found-parts (s .args .conn) (s .args .id) (s .args .event) (s .args .ended) (s .args .played)) (p0 .header .ensures .1) (s .pre)
+    let w2 = row-next _ (length-end (s .args .event) (s .args .ended) (s .args .played)) w1 (p2 .put-end .ensures) (omega (arith, s .pre))
+    in
+    row-wrote w2 (found-parts (s .args .conn) (s .args .id) (s .args .event) (s .args .ended) (s .args .played)) (p0 .header .ensures .1)
+    (s .pre)
 
 pub extended-found-spec : {M : Type 1} → statement M
 extended-found-spec =

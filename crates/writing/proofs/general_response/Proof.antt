@@ -14,7 +14,8 @@ returns : tie.Need-returns
 returns c =
     let p = c .before .before in
     let s = p .before .before .before in
-    row-wrote (row-header (s .args .conn) 0x0000 0 (s .args .result) (p .header .ensures .0)) (general-parts (s .args .conn) (s .args .result)) (p .header .ensures .1) (s .pre)
+    row-wrote (row-header (s .args .conn) 0x0000 0 (s .args .result) (p .header .ensures .0))
+    (general-parts (s .args .conn) (s .args .result)) (p .header .ensures .1) (s .pre)
 
 pub general-response-spec : {M : Type 1} → statement M
 general-response-spec = tie.close (tie.spec header-requires same-length returns)

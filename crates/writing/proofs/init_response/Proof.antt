@@ -44,7 +44,8 @@ returns c =
     let w0 = row-header (s .args .conn) 0x0002 34 (s .args .result) (p0 .header .ensures .0) in
     let w1 = row-bytes 2 2 w0 (p1 .put2 .ensures) (omega (arith, s .pre)) in
     let w2 = row-next (s .args .name .now) (s .pre .1 .0) w1 (p2 .copy .ensures) (omega (arith, s .pre)) in
-    row-wrote w2 (init-parts (s .args .conn) (s .args .result) (s .args .name .now) (s .pre .1 .0) (s .pre .1 .1)) (p0 .header .ensures .1) (s .pre .0)
+    row-wrote w2 (init-parts (s .args .conn) (s .args .result) (s .args .name .now) (s .pre .1 .0) (s .pre .1 .1)) (p0 .header .ensures .1)
+    (s .pre .0)
 
 pub init-response-spec : {M : Type 1} → statement M
 init-response-spec =

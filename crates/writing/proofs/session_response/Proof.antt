@@ -33,7 +33,8 @@ returns c =
     let s = p0 .before .before .before in
     let w0 = row-header (s .args .conn) (s .args .id) 4 (s .args .result) (p0 .header .ensures .0) in
     let w1 = row-bytes 4 (s .args .session) w0 (p1 .put4 .ensures) (omega (arith, s .pre)) in
-    row-wrote w1 (framed-header (s .args .conn) (s .args .id) 4 (s .args .result) (bytes 4 (s .args .session)) (sym (length-bytes 4 (s .args .session)))) (p0 .header .ensures .1) (s .pre)
+    row-wrote w1 (framed-header (s .args .conn) (s .args .id) 4 (s .args .result) (bytes 4 (s .args .session))
+    (sym (length-bytes 4 (s .args .session)))) (p0 .header .ensures .1) (s .pre)
 
 pub session-response-spec : {M : Type 1} → statement M
 session-response-spec =

@@ -75,7 +75,8 @@ returns c =
     let w2 = row-bytes 1 (s .args .flag) w1 (p2 .put1 .ensures) (omega (arith, s .pre)) in
     let w3 = row-bytes 4 0 w2 (p3 .put42 .ensures) (omega (arith, s .pre)) in
     let w4 = row-bytes 4 (s .args .played .0) w3 (p4 .put43 .ensures) (omega (arith, s .pre)) in
-    row-wrote w4 (complete-parts (s .args .conn) (s .args .result) (s .args .id) (s .args .flag) (s .args .played .0)) (p0 .header .ensures .1) (s .pre)
+    row-wrote w4 (complete-parts (s .args .conn) (s .args .result) (s .args .id) (s .args .flag) (s .args .played .0))
+    (p0 .header .ensures .1) (s .pre)
 
 pub splice-complete-spec : {M : Type 1} → statement M
 splice-complete-spec =

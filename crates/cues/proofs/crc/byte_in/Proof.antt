@@ -19,7 +19,8 @@ four-turns-requires-2 c κs = search needs
 returns : tie.Need-returns
 returns c =
     let s = c .before .before in
-    c .four-turns2 .ensures ∙ ap (turns 4) (c .before .four-turns .ensures) ∙ byte-turns (s .args .c) (s .args .b) (omega (arith, s .fits .c)) (omega (arith, s .fits .b))
+    c .four-turns2 .ensures ∙ ap (turns 4) (c .before .four-turns .ensures)
+    ∙ byte-turns (s .args .c) (s .args .b) (omega (arith, s .fits .c)) (omega (arith, s .fits .b))
 
 pub byte-in-spec : {M : Type 1} → statement M
 byte-in-spec = tie.close (tie.spec mul-r four-turns-requires four-turns-requires-2 returns)

@@ -33,12 +33,16 @@ loop-less c = search needs
 loop-again : tie.Need-loop-again Inv-loop μ-loop
 loop-again c =
     let l = c .before .before .before .before .before .args .l .now in
-    let i = c .before .before .before .loop .i in
-    (omega arith, ap (λ x. crcFrom x (drop (i + 1) l)) (c .byte-in .ensures) ∙ sym (from-step l i (c .before .before .before .loop .c) (omega arith)) ∙ c .before .before .before .loop .inv .1)
+    let i = c .before .before .before .loop .i in (
+      omega arith,
+      ap (λ x. crcFrom x (drop (i + 1) l)) (c .byte-in .ensures)
+          ∙ sym (from-step l i (c .before .before .before .loop .c) (omega arith)) ∙ c .before .before .before .loop .inv .1,
+    )
 
 returns : tie.Need-returns Inv-loop μ-loop
 unfolding crc
-returns c = sym (from-none (c .before .before .before .args .l .now) (c .before .loop .i) (c .before .loop .c) (omega arith)) ∙ c .before .loop .inv .1
+returns c = sym (from-none (c .before .before .before .args .l .now) (c .before .loop .i) (c .before .loop .c) (omega arith))
+    ∙ c .before .loop .inv .1
 
 pub crc-of-spec : {M : Type 1} → statement M
 crc-of-spec = tie.close (tie.spec Inv-loop μ-loop loop-holds shared-slice-read-byte-in byte-in-requires add-i loop-less loop-again returns)

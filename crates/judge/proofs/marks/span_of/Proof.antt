@@ -16,7 +16,8 @@ returns : tie.Need-returns
 returns c =
     let test = c .before .before in
     let s = test .before .before in
-    c .message-span .ensures ∙ span-message (s .args .l .now) (s .pre .0) (s .pre .1) (sym (test .marks-message .ensures) ∙ c .before .if1 .taken)
+    c .message-span .ensures ∙ span-message (s .args .l .now) (s .pre .0) (s .pre .1)
+    (sym (test .marks-message .ensures) ∙ c .before .if1 .taken)
 
 returns-2 : tie.Need-returns-2
 returns-2 c =

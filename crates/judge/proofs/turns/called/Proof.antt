@@ -37,7 +37,8 @@ returns-2 c =
     let s = test .before .before in
     let g = s .args .g in
     call-on g (s .args .l .now) (s .args .m .now) (s .args .b .now) (s .args .due .now) (s .pre .1 .0) (s .args .n) (s .pre .1 .1)
-    (play .play .ensures) (ltb-false (g .from) (g .end) (sym (test .is-unmet .ensures) ∙ play .before .before .before .before .before .if1 .left))
+    (play .play .ensures)
+    (ltb-false (g .from) (g .end) (sym (test .is-unmet .ensures) ∙ play .before .before .before .before .before .if1 .left))
 
 pub called-spec : {M : Type 1} → statement M
 called-spec =

@@ -37,21 +37,32 @@ add-at c =
     let turn = c .before .before .before in
     let loop = turn .before .before .before .before .before .loop in
     let t = turn .turn in
-    omega (arith, running-within (loop .inv .0) (t .result) (t .last .1 .1 .0) (t .last .1 .1 .1 .0) (t .last .1 .1 .1 .1 .0) (t .ensures) (c .before .n .given .1))
+    omega (
+      arith,
+      running-within (loop .inv .0) (t .result) (t .last .1 .1 .0) (t .last .1 .1 .1 .0) (t .last .1 .1 .1 .1 .0) (t .ensures)
+          (c .before .n .given .1),
+    )
 
 loop-less : tie.Need-loop-less Inv-loop μ-loop
 loop-less c =
     let turn = c .before .before .before in
     let loop = turn .before .before .before .before .before .loop in
     let t = turn .turn in
-    omega (arith, running-within (loop .inv .0) (t .result) (t .last .1 .1 .0) (t .last .1 .1 .1 .0) (t .last .1 .1 .1 .1 .0) (t .ensures) (c .before .n .given .1))
+    omega (
+      arith,
+      running-within (loop .inv .0) (t .result) (t .last .1 .1 .0) (t .last .1 .1 .1 .0) (t .last .1 .1 .1 .1 .0) (t .ensures)
+          (c .before .n .given .1),
+    )
 
 loop-again : tie.Need-loop-again Inv-loop μ-loop
 loop-again c =
     let turn = c .before .before .before in
     let loop = turn .before .before .before .before .before .loop in
-    let t = turn .turn in
-    (running-more (loop .inv .0) (t .result) (t .last .1 .1 .0) (t .last .1 .1 .1 .0) (t .last .1 .1 .1 .1 .0) (t .ensures) (c .before .n .given .1), loop .inv .1)
+    let t = turn .turn in (
+      running-more (loop .inv .0) (t .result) (t .last .1 .1 .0) (t .last .1 .1 .1 .0) (t .last .1 .1 .1 .1 .0) (t .ensures)
+          (c .before .n .given .1),
+      loop .inv .1,
+    )
 
 enum-known-f : tie.Need-enum-known-f Inv-loop μ-loop
 enum-known-f c = search needs
@@ -61,7 +72,8 @@ returns c =
     let turn = c .before .before .before in
     let loop = turn .before .before .before .before .before .loop in
     let t = turn .turn in
-    running-over (loop .inv .0) (t .result) (t .last .1 .1 .0) (t .last .1 .1 .1 .0) (t .last .1 .1 .1 .1 .0) (t .ensures) (c .before .f .given .1)
+    running-over (loop .inv .0) (t .result) (t .last .1 .1 .0) (t .last .1 .1 .1 .0) (t .last .1 .1 .1 .1 .0) (t .ensures)
+    (c .before .f .given .1)
 
 pub run-spec : {M : Type 1} → statement M
 run-spec =

@@ -29,7 +29,8 @@ returns-2 c =
     let l = b .before .before .before .args .l .now in
     let at = b .before .before .before .args .at in
     let s = b .byte-at .result in
-    sym (step-is l at s (getD l (at + 6) 0) (b .before .if1 .left) (b .byte-at .ensures) refl false (isMux (drop at l)) (rw (lt-leb 4 s (omega arith))) refl)
+    sym (step-is l at s (getD l (at + 6) 0) (b .before .if1 .left) (b .byte-at .ensures) refl false (isMux (drop at l))
+    (rw (lt-leb 4 s (omega arith))) refl)
 
 returns-3 : tie.Need-returns-3
 returns-3 c =
@@ -100,7 +101,8 @@ returns-7 c =
     let v = getD l (at + 6) 0 in
     sym (step-is l at s v (b .before .if1 .left) (b .byte-at .ensures) refl true true
     (rw (le-leb 4 s (omega arith), le-leb s 254 (omega arith), le-leb (2 + s) (length l - at) (omega arith)))
-    (sym (i .is-mux .ensures) ∙ not-false _ (c .before .before .before .if5 .left)) ∙ rw (eq-eqb s 5 (c .before .before .if6 .left), lt-leb 1 v (c .if7 .taken)))
+    (sym (i .is-mux .ensures) ∙ not-false _ (c .before .before .before .if5 .left))
+    ∙ rw (eq-eqb s 5 (c .before .before .if6 .left), lt-leb 1 v (c .if7 .taken)))
 
 returns-8 : tie.Need-returns-8
 returns-8 c =

@@ -27,7 +27,8 @@ returns : tie.Need-returns Inv-loop μ-loop
 returns c =
     let l = c .before .before .before .before .args .l .now in
     let i = c .before .before .before .loop .i in
-    sym (c .before .before .before .loop .inv .1 ∙ some-hit (eqb 0) l i (c .before .before .loop-test .taken) (eq-eqb 0 (getD l i 0) (sym (c .if1 .taken))))
+    sym (c .before .before .before .loop .inv .1 ∙ some-hit (eqb 0) l i (c .before .before .loop-test .taken)
+    (eq-eqb 0 (getD l i 0) (sym (c .if1 .taken))))
 
 add-i : tie.Need-add-i Inv-loop μ-loop
 add-i c = search needs
@@ -40,7 +41,8 @@ loop-again c =
     let l = c .before .before .before .before .args .l .now in
     let i = c .before .before .before .loop .i in (
       omega arith,
-      c .before .before .before .loop .inv .1 ∙ some-more (eqb 0) l i (c .before .before .loop-test .taken) (ne-eqb 0 (getD l i 0) (λ e. c .if1 .left (sym e))),
+      c .before .before .before .loop .inv .1 ∙ some-more (eqb 0) l i (c .before .before .loop-test .taken)
+          (ne-eqb 0 (getD l i 0) (λ e. c .if1 .left (sym e))),
     )
 
 returns-2 : tie.Need-returns-2 Inv-loop μ-loop

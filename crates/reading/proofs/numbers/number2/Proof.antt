@@ -20,13 +20,25 @@ shared-slice-read-low : tie.Need-shared-slice-read-low
 shared-slice-read-low c = search needs
 
 cast-low : tie.Need-cast-low
-cast-low c = omega (arith, c .before .shared-slice-known .given (c .before .before .args .at), c .shared-slice-known2 .given (c .before .before .args .at + 1))
+cast-low c = omega (
+  arith,
+  c .before .shared-slice-known .given (c .before .before .args .at),
+  c .shared-slice-known2 .given (c .before .before .args .at + 1),
+)
 
 mul-result : tie.Need-mul-result
-mul-result c = omega (arith, c .before .shared-slice-known .given (c .before .before .args .at), c .shared-slice-known2 .given (c .before .before .args .at + 1))
+mul-result c = omega (
+  arith,
+  c .before .shared-slice-known .given (c .before .before .args .at),
+  c .shared-slice-known2 .given (c .before .before .args .at + 1),
+)
 
 add-result : tie.Need-add-result
-add-result c = omega (arith, c .before .shared-slice-known .given (c .before .before .args .at), c .shared-slice-known2 .given (c .before .before .args .at + 1))
+add-result c = omega (
+  arith,
+  c .before .shared-slice-known .given (c .before .before .args .at),
+  c .shared-slice-known2 .given (c .before .before .args .at + 1),
+)
 
 returns : tie.Need-returns
 returns c =

@@ -75,8 +75,12 @@ loop-again c =
     let k = c .before .before .before .before .before .loop .left - 1 in
     let n : c .before .before .before .before .before .loop .left ≡ suc k = omega arith in
     let b = ap badStream (sym (behind at p)) ∙ sym (c .before .before .is-bad .ensures) ∙ c .before .if1 .left in
-    let g = on-good p at b in
-    (omega (arith, g .within), omega arith, c .before .before .before .before .before .loop .inv .2 ∙ ap (λ i. endFrom i at p) n ∙ end-step k at p b)
+    let g = on-good p at b in (
+      omega (arith, g .within),
+      omega arith,
+      c .before .before .before .before .before .loop .inv .2 ∙ ap (λ i. endFrom i at p) n
+          ∙ end-step k at p b,
+    )
 
 returns-2 : tie.Need-returns-2 Inv-loop μ-loop
 unfolding endFrom

@@ -44,7 +44,12 @@ returns-4 : tie.Need-returns-4
 returns-4 c =
     let s = c .before .before .before .before .before .before .before in
     let l = s .args .l .now in
-    rw (le-ltb (streamLength l) 21 (omega (arith, c .before .before .before .before .before .byte-at .ensures)), le-ltb (length l) (streamLength l) (omega (arith, c .before .before .before .before .before .byte-at .ensures)), le-ltb highestPid (field 1 2 l) (omega (arith, c .before .before .number2 .ensures)), c .number22 .ensures)
+    rw (
+      le-ltb (streamLength l) 21 (omega (arith, c .before .before .before .before .before .byte-at .ensures)),
+      le-ltb (length l) (streamLength l) (omega (arith, c .before .before .before .before .before .byte-at .ensures)),
+      le-ltb highestPid (field 1 2 l) (omega (arith, c .before .before .number2 .ensures)),
+      c .number22 .ensures,
+    )
 
 pub is-bad-spec : {M : Type 1} → statement M
 is-bad-spec =

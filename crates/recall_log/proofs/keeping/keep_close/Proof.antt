@@ -27,7 +27,8 @@ returns c =
     let s = c .before .before .before .before .before .before .before .before .before in
     let mark = c .before .before .before .before .before .before .put-mark in
     let zero = c .before .before .put-zero in
-    record-put (closes (s .args .conn) cardRoom) (s .args .l .now) (mark .last .0) (zero .last .0) (s .args .at) (s .args .at + 2) (s .pre) (omega arith) (omega arith) (mark .ensures) (zero .ensures)
+    record-put (closes (s .args .conn) cardRoom) (s .args .l .now) (mark .last .0) (zero .last .0) (s .args .at) (s .args .at + 2) (s .pre)
+    (omega arith) (omega arith) (mark .ensures) (zero .ensures)
 
 pub keep-close-spec : {M : Type 1} → statement M
 keep-close-spec =

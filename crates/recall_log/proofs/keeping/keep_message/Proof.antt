@@ -55,16 +55,19 @@ same-length c = search needs
 returns : tie.Need-returns
 unfolding marked
 returns c =
-    let s = c .before .before .before .before .before .before .before .before .before .before .before .before .before .before .before in
+    let c8 = c .before .before .before .before .before .before .before .before in
+    let s = c8 .before .before .before .before .before .before .before in
     let e = s .args .l .now in
     let at = s .args .at in
-    let mark = c .before .before .before .before .before .before .before .before .before .before .before .put-mark in
+    let mark = c8 .before .before .before .put-mark in
     let copy = c .before .before .before .before .before .before .copy in
     let zero = c .before .before .put-zero in
     let m = part 0 (8 + s .args .size) (s .args .read .now) in
     let n = length-take-le (8 + s .args .size) (s .args .read .now) (s .pre .1 .1) in
-    let o = written-next e at (messageMark ∷ s .args .conn ∷ []) m (mark .last .0) (copy .last .0) (at + markEnd) (mark .ensures) (omega arith) (omega (arith, s .pre .0 .room)) (copy .ensures) in
-    record-put (messages (s .args .conn) m cardLoans) e _ (zero .last .0) at (at + markEnd + (8 + s .args .size)) (s .pre .0) (omega arith) (omega arith) o (zero .ensures)
+    let o = written-next e at (messageMark ∷ s .args .conn ∷ []) m (mark .last .0) (copy .last .0) (at + markEnd) (mark .ensures)
+    (omega arith) (omega (arith, s .pre .0 .room)) (copy .ensures) in
+    record-put (messages (s .args .conn) m cardLoans) e _ (zero .last .0) at (at + markEnd + (8 + s .args .size)) (s .pre .0) (omega arith)
+    (omega arith) o (zero .ensures)
 
 pub keep-message-spec : {M : Type 1} → statement M
 keep-message-spec =

@@ -26,7 +26,8 @@ returns c =
     let s = c .before .before .before .before .before .before .before .before .before in
     let mark = c .before .before .before .before .before .before .put-mark in
     let zero = c .before .before .put-zero in
-    record-put (opens (s .args .conn)) (s .args .l .now) (mark .last .0) (zero .last .0) (s .args .at) (s .args .at + 2) (s .pre) (omega arith) (omega arith) (mark .ensures) (zero .ensures)
+    record-put (opens (s .args .conn)) (s .args .l .now) (mark .last .0) (zero .last .0) (s .args .at) (s .args .at + 2) (s .pre)
+    (omega arith) (omega arith) (mark .ensures) (zero .ensures)
 
 pub keep-open-spec : {M : Type 1} → statement M
 keep-open-spec =

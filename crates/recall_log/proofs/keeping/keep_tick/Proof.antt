@@ -59,20 +59,25 @@ same-length c = search needs
 returns : tie.Need-returns
 unfolding marked
 returns c =
-    let s = c .before .before .before .before .before .before .before .before .before .before .before .before .before .before .before .before .before in
+    let c8 = c .before .before .before .before .before .before .before .before in
+    let c16 = c8 .before .before .before .before .before .before .before .before in
+    let s = c16 .before in
     let e = s .args .l .now in
     let at = s .args .at in
-    let mark = c .before .before .before .before .before .before .before .before .before .before .before .before .before .before .put-mark in
-    let first = c .before .before .before .before .before .before .before .before .before .before .put4 in
+    let mark = c8 .before .before .before .before .before .before .put-mark in
+    let first = c8 .before .before .put4 in
     let then = c .before .before .before .before .before .before .put42 in
     let zero = c .before .before .put-zero in
     let a = bytes 4 (s .args .seconds) in
     let b = bytes 4 (s .args .micros) in
     let n = length-bytes 4 (s .args .seconds) in
     let k = length-bytes 4 (s .args .micros) in
-    let o = written-next e at (tickMark ∷ 0x00 ∷ []) a (mark .last .0) (first .last .0) (at + markEnd) (mark .ensures) (omega arith) (omega (arith, s .pre .room)) (first .ensures) in
-    let p = written-next e at ((tickMark ∷ 0x00 ∷ []) ++ a) b _ (then .last .0) (at + markEnd + 4) o (omega arith) (omega (arith, s .pre .room)) (then .ensures) in
-    record-put (ticks (s .args .seconds) (s .args .micros) cardRoom) e _ (zero .last .0) at (at + tickEnd) (s .pre) (omega (arith, length-append a b)) (omega (arith, length-append a b)) p (zero .ensures)
+    let o = written-next e at (tickMark ∷ 0x00 ∷ []) a (mark .last .0) (first .last .0) (at + markEnd) (mark .ensures) (omega arith)
+    (omega (arith, s .pre .room)) (first .ensures) in
+    let p = written-next e at ((tickMark ∷ 0x00 ∷ []) ++ a) b _ (then .last .0) (at + markEnd + 4) o (omega arith)
+    (omega (arith, s .pre .room)) (then .ensures) in
+    record-put (ticks (s .args .seconds) (s .args .micros) cardRoom) e _ (zero .last .0) at (at + tickEnd) (s .pre)
+    (omega (arith, length-append a b)) (omega (arith, length-append a b)) p (zero .ensures)
 
 pub keep-tick-spec : {M : Type 1} → statement M
 keep-tick-spec =

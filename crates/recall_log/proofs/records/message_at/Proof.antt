@@ -27,7 +27,8 @@ add-if3 c = search needs
 returns-3 : tie.Need-returns-3
 returns-3 c =
     let n = c .before .before .number2 in
-    sym (message-cut (c .before .before .before .before .before .args .l .now) (n .result) (omega arith) (n .ensures) (omega arith) (omega arith))
+    sym (message-cut (c .before .before .before .before .before .args .l .now) (n .result) (omega arith) (n .ensures) (omega arith)
+    (omega arith))
 
 shared-slice-read-t8 : tie.Need-shared-slice-read-t8
 shared-slice-read-t8 c = search needs
@@ -35,7 +36,8 @@ shared-slice-read-t8 c = search needs
 returns-4 : tie.Need-returns-4
 returns-4 c =
     let n = c .before .before .before .number2 in
-    sym (message-whole (c .before .before .before .before .before .before .args .l .now) (n .result) (omega arith) (n .ensures) (omega arith) (omega arith))
+    sym (message-whole (c .before .before .before .before .before .before .args .l .now) (n .result) (omega arith) (n .ensures)
+    (omega arith) (omega arith))
 
 pub message-at-spec : {M : Type 1} → statement M
 message-at-spec =

@@ -19,7 +19,8 @@ number4-requires-2 c κs = search needs
 
 returns-2 : tie.Need-returns-2
 returns-2 c =
-    ap₂ Tick (c .before .number4 .ensures) (c .number42 .ensures) ∙ sym (tick-whole (c .before .before .before .before .args .l .now) (omega arith))
+    ap₂ Tick (c .before .number4 .ensures) (c .number42 .ensures) ∙ sym
+    (tick-whole (c .before .before .before .before .args .l .now) (omega arith))
 
 pub tick-at-spec : {M : Type 1} → statement M
 tick-at-spec = tie.close (tie.spec returns number4-requires number4-requires-2 returns-2)
