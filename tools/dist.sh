@@ -110,8 +110,9 @@ desk() {
     of=$(sed -n 's/^version = "\(.*\)"/\1/p' desk/Cargo.toml)
     level=${optimised#opt-level }
     rust="rustc --edition 2021 --target $target -C linker=$cc -C opt-level=${level%%,*} -C metadata=splicer --remap-path-prefix=$PWD=."
-    $rust --crate-type rlib --crate-name model --cfg 'feature="uncounted"' -o "$parts/libmodel.rlib" model/src/lib.rs || return 1
-    CARGO_PKG_VERSION=$of $rust --crate-name desk --extern "model=$parts/libmodel.rlib" -o "$parts/desk" desk/src/main.rs
+    $rust --crate-type rlib --crate-name rules -o "$parts/librules.rlib" model/rules/src/lib.rs || return 1
+    $rust --crate-type rlib --crate-name model --extern "rules=$parts/librules.rlib" -o "$parts/libmodel.rlib" model/src/lib.rs || return 1
+    CARGO_PKG_VERSION=$of $rust -L "$parts" --crate-name desk --extern "model=$parts/libmodel.rlib" -o "$parts/desk" desk/src/main.rs
 }
 
 # proved_parts: the archives and the programs of proved crates, of the present folder of sources

@@ -220,11 +220,7 @@ fn large_splice(gen: &mut Gen, conn: u8, size: usize) -> Vec<u8> {
     while data.len() < size {
         // a descriptor has 6 to 256 bytes, and so many are left for the next
         let left = size - data.len();
-        let whole = if left > 256 {
-            (left - 6).min(256)
-        } else {
-            left
-        };
+        let whole = if left > 256 { (left - 6).min(256) } else { left };
         data.extend(gen.descriptor((whole - 2) as u8));
     }
     data
@@ -233,9 +229,7 @@ fn large_splice(gen: &mut Gen, conn: u8, size: usize) -> Vec<u8> {
 /// A call that is refused. It counts nothing.
 fn refused(gen: &mut Gen) {
     let above = gen.rng.pick(&[4, 5, 128, 255]);
-    let closed: Vec<u8> = (0..4)
-        .filter(|c| !gen.model.open[usize::from(*c)])
-        .collect();
+    let closed: Vec<u8> = (0..4).filter(|c| !gen.model.open[usize::from(*c)]).collect();
     match gen.rng.below(8) {
         0 => gen.call(Call::Open(above)),
         1 => gen.call(Call::Close(above)),
@@ -390,12 +384,7 @@ fn broken(gen: &mut Gen, conn: u8, head: &Ask, other: u8) {
 /// Up to ten started, one over the other.
 fn stacks(gen: &mut Gen) {
     gen.begin();
-    let list = [
-        episodes::stack,
-        episodes::stack,
-        episodes::equals,
-        episodes::covered,
-    ];
+    let list = [episodes::stack, episodes::stack, episodes::equals, episodes::covered];
     until(gen, &list, MOST as u64, LOG - LEAST_FREE + 1);
     beyond(gen);
 }
@@ -437,14 +426,7 @@ fn inits(gen: &mut Gen) {
 /// What ended lately, of connections closed and opened again too.
 fn lately(gen: &mut Gen) {
     gen.begin();
-    let list = [
-        episodes::lately,
-        episodes::many_ends,
-        episodes::close_one,
-        played,
-        episodes::request,
-        damage::extended,
-    ];
+    let list = [episodes::lately, episodes::many_ends, episodes::close_one, played, episodes::request, damage::extended];
     until(gen, &list, MOST as u64, LOG - LEAST_FREE + 1);
     beyond(gen);
 }

@@ -123,16 +123,7 @@ impl Day {
     /// The instant of the first start among these records.
     fn next_start(&mut self, items: &[Item]) -> Option<u64> {
         let started = |item: &Item| match item {
-            Item::Record(Record {
-                conn,
-                what:
-                    What::Complete {
-                        id,
-                        flag: 0,
-                        result: 100,
-                        ..
-                    },
-            }) => Some((*conn, *id)),
+            Item::Record(Record { conn, what: What::Complete { id, flag: 0, result: 100, .. } }) => Some((*conn, *id)),
             _ => None,
         };
         let (conn, id) = items.iter().find_map(started)?;
@@ -172,13 +163,7 @@ impl Day {
     fn record(&mut self, record: &Record, behind: Option<u64>) {
         let clock = self.clock;
         let (id, result, flag, played) = match record.what {
-            What::Complete {
-                id,
-                result,
-                flag,
-                played,
-                ..
-            } => (id, result, Some(flag), Some(played)),
+            What::Complete { id, result, flag, played, .. } => (id, result, Some(flag), Some(played)),
             What::Splice { id, result } => (id, result, None, None),
             _ => return,
         };
@@ -218,11 +203,7 @@ impl Day {
             match self.spans.last_mut() {
                 Some(last) if last.row == row && last.to == from => last.to = time,
                 _ if from == time => {}
-                _ => self.spans.push(Span {
-                    from,
-                    to: time,
-                    row,
-                }),
+                _ => self.spans.push(Span { from, to: time, row }),
             }
         }
         self.on_air = now.map(|row| (row, time));
@@ -231,8 +212,7 @@ impl Day {
     fn list(&self) -> String {
         let head = "connection   SessionID                start                  end      played";
         let mut run = format!("As-run list\n{head}  result\n");
-        let mut other =
-            "\nAccepted and not run\nconnection   SessionID                start".to_string();
+        let mut other = "\nAccepted and not run\nconnection   SessionID                start".to_string();
         other += "                ended  result\n";
         for row in &self.rows {
             let ended = row.ended.map_or("-".to_string(), time_text);
@@ -265,9 +245,7 @@ impl Day {
     fn timeline(&self) -> String {
         let mut text = "\nOn air\n                from                   to  session\n".to_string();
         let mut last = 0;
-        let line = |from: u64, to: u64, who: &str| {
-            format!("{:>20} {:>20}  {who}\n", time_text(from), time_text(to))
-        };
+        let line = |from: u64, to: u64, who: &str| format!("{:>20} {:>20}  {who}\n", time_text(from), time_text(to));
         for span in &self.spans {
             if span.from > last {
                 text += &line(last, span.from, "primary channel");
@@ -286,11 +264,8 @@ impl Day {
     /// 02, CR 13: the day has no gap. The primary channel's time is counted from the times in which
     /// sessions were started and unended, the sessions' from the spans on air.
     fn sums(&self) -> String {
-        let mut started: Vec<(u64, u64)> = self
-            .rows
-            .iter()
-            .filter_map(|row| Some((row.began?, row.ended.unwrap_or(self.clock))))
-            .collect();
+        let mut started: Vec<(u64, u64)> =
+            self.rows.iter().filter_map(|row| Some((row.began?, row.ended.unwrap_or(self.clock)))).collect();
         started.sort();
         let (mut primary, mut last) = (0, 0);
         for (from, to) in started {
@@ -319,7 +294,7 @@ impl Day {
 /// The fields of a readable Splice_Request.
 fn splice(bytes: &[u8]) -> Option<SpliceFields> {
     let id = u16::from_be_bytes([bytes[0], bytes[1]]);
-    match reading::read(id, &bytes[8..], None) {
+    match reading::read(id, &bytes[8..]) {
         Ok(Request::Splice(fields)) if id == 0x0007 => Some(fields),
         _ => None,
     }
@@ -342,10 +317,7 @@ mod tests {
         let output = card::run(&input, None).output();
         let (text, same) = as_run(&input, &output);
         assert!(same);
-        let lines: Vec<String> = text
-            .lines()
-            .map(|l| l.split_whitespace().collect::<Vec<_>>().join(" "))
-            .collect();
+        let lines: Vec<String> = text.lines().map(|l| l.split_whitespace().collect::<Vec<_>>().join(" ")).collect();
         let expected = [
             "0 1 1003.000000 1013.000000 720000 100 (Successful Response)",
             "0 2 1013.000000 1014.000000 90000 100 (Successful Response)",
@@ -365,10 +337,7 @@ mod tests {
         for line in expected {
             assert!(lines.contains(&line.to_string()), "{line}\n{text}");
         }
-        assert_eq!(
-            lines.iter().filter(|l| l.contains("connection ")).count(),
-            6
-        );
+        assert_eq!(lines.iter().filter(|l| l.contains("connection ")).count(), 6);
     }
 
     #[test]
@@ -391,16 +360,9 @@ mod tests {
 
     #[test]
     fn a_gap_is_told() {
-        let mut day = Day {
-            clock: 900,
-            ..Day::default()
-        };
+        let mut day = Day { clock: 900, ..Day::default() };
         assert!(!day.sums().contains("DIFFER"));
-        day.spans.push(Span {
-            from: 100,
-            to: 150,
-            row: 0,
-        });
+        day.spans.push(Span { from: 100, to: 150, row: 0 });
         assert!(day.sums().ends_with("THEY DIFFER by 50 ninths\n"));
     }
 
@@ -423,10 +385,7 @@ mod tests {
         let input = scenario::input_of(&scenario::parse(text).unwrap());
         let output = card::run(&input, None).output();
         let (text, _) = as_run(&input, &output);
-        let lines: Vec<String> = text
-            .lines()
-            .map(|l| l.split_whitespace().collect::<Vec<_>>().join(" "))
-            .collect();
+        let lines: Vec<String> = text.lines().map(|l| l.split_whitespace().collect::<Vec<_>>().join(" ")).collect();
         for line in [
             "0 1 1003.000000 1005.000000 180000 125 (Channel Override)",
             "0 3 1005.000000 1007.000000 180000 100 (Successful Response)",
@@ -444,14 +403,10 @@ mod tests {
         let text = include_str!("../scenarios/02-rolling-rollover.txt");
         let calls = scenario::rolling_calls(&scenario::parse(text).unwrap()).unwrap();
         let text = as_rolled(&calls);
-        let lines: Vec<String> = text
-            .lines()
-            .map(|l| l.split_whitespace().collect::<Vec<_>>().join(" "))
-            .collect();
-        for line in [
-            "0 7 1003.000000 1005.000000 180000 100 (Successful Response)",
-            "1003.000000 1005.000000 connection 0 session 7",
-        ] {
+        let lines: Vec<String> = text.lines().map(|l| l.split_whitespace().collect::<Vec<_>>().join(" ")).collect();
+        for line in
+            ["0 7 1003.000000 1005.000000 180000 100 (Successful Response)", "1003.000000 1005.000000 connection 0 session 7"]
+        {
             assert!(lines.contains(&line.to_string()), "{line}\n{text}");
         }
         // aborted a tick behind its start, between two microseconds
@@ -471,10 +426,7 @@ mod tests {
         let input = scenario::input_of(&scenario::parse(text).unwrap());
         let output = card::run(&input, None).output();
         let (text, _) = as_run(&input, &output);
-        let lines: Vec<String> = text
-            .lines()
-            .map(|l| l.split_whitespace().collect::<Vec<_>>().join(" "))
-            .collect();
+        let lines: Vec<String> = text.lines().map(|l| l.split_whitespace().collect::<Vec<_>>().join(" ")).collect();
         for line in [
             "0 1 1003.000000 1004.000000 90000 116 (Insertion Aborted)",
             "0 2 1013.000000 1004.000000 116 (Insertion Aborted)",

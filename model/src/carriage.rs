@@ -164,8 +164,7 @@ impl Stream {
             let counter = self.counters.entry(pid).or_insert(0);
             let begins = if place == 0 { 0x40 } else { 0 };
             let [high, low] = pid.to_be_bytes();
-            self.bytes
-                .extend([SYNC, begins | high, low, 0x10 | *counter]);
+            self.bytes.extend([SYNC, begins | high, low, 0x10 | *counter]);
             *counter = (*counter + 1) % 16;
             self.bytes.extend(piece);
             let filling = PACKET - 4 - piece.len();
@@ -180,9 +179,7 @@ fn pid_bytes(pid: u16) -> [u8; 2] {
 
 fn pat() -> Vec<u8> {
     let [high, low] = pid_bytes(PMT_PID);
-    remade(vec![
-        0x00, 0xB0, 0, 0, 1, 0xC1, 0, 0, 0, 1, high, low, 0, 0, 0, 0,
-    ])
+    remade(vec![0x00, 0xB0, 0, 0, 1, 0xC1, 0, 0, 0, 1, high, low, 0, 0, 0, 0])
 }
 
 /// "the program's registration descriptor is 05 04 43 55 45 49".
@@ -200,10 +197,7 @@ fn pmt() -> Vec<u8> {
 
 /// A stream with these sections: its tables before each 50 of them.
 pub fn stream(sections: &[Vec<u8>]) -> Vec<u8> {
-    let mut stream = Stream {
-        bytes: Vec::new(),
-        counters: BTreeMap::new(),
-    };
+    let mut stream = Stream { bytes: Vec::new(), counters: BTreeMap::new() };
     for some in sections.chunks(50) {
         stream.section(0, &pat());
         stream.section(PMT_PID, &pmt());

@@ -32,9 +32,7 @@ pub fn run_in_pieces(command: &str, pieces: &[&[u8]]) -> Result<Output, String> 
     let given: Vec<Vec<u8>> = pieces.iter().map(|piece| piece.to_vec()).collect();
     finish(command, child, move || {
         // a program that has stopped reads no more
-        let _ = given
-            .iter()
-            .try_for_each(|piece| ours.send(piece).map(|_| ()));
+        let _ = given.iter().try_for_each(|piece| ours.send(piece).map(|_| ()));
         // once for each read behind the end: of those that still play what was read before, too
         for _ in 0..AT_END {
             let _ = ours.send(&[]);
@@ -55,19 +53,10 @@ fn start(command: &str, input: Stdio) -> Result<Child, String> {
 
 /// A thread of its own feeds the program: it may write before it has read everything, and it may
 /// stop before the end of the input.
-fn finish(
-    command: &str,
-    child: Child,
-    feed: impl FnOnce() + Send + 'static,
-) -> Result<Output, String> {
+fn finish(command: &str, child: Child, feed: impl FnOnce() + Send + 'static) -> Result<Output, String> {
     let feeder = std::thread::spawn(feed);
-    let done = child
-        .wait_with_output()
-        .map_err(|e| format!("{command}: {e}"))?;
+    let done = child.wait_with_output().map_err(|e| format!("{command}: {e}"))?;
     let _ = feeder.join();
     let failed = !done.status.success();
-    Ok(Output {
-        bytes: done.stdout,
-        trouble: failed.then(|| format!("{command} ended with {}", done.status)),
-    })
+    Ok(Output { bytes: done.stdout, trouble: failed.then(|| format!("{command} ended with {}", done.status)) })
 }

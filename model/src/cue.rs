@@ -8,6 +8,8 @@ use crate::recording;
 use crate::records;
 use crate::scenario::{self, hex_bytes, wide};
 use crate::section::{Command, Insert, Section, Shown};
+use crate::watch::{in_full, misfit};
+use rules::sections::ticks;
 
 /// What `model cue` was asked for.
 struct Asked {
@@ -21,16 +23,13 @@ struct Asked {
 /// Runs the command; the text is for standard output.
 pub fn command(args: &[String]) -> Result<String, String> {
     let mut args = args.to_vec();
-    let pts = option(&mut args, "--pts")?
-        .map(|text| wide(&text))
-        .transpose()?;
+    let pts = option(&mut args, "--pts")?.map(|text| wide(&text)).transpose()?;
     let at = option(&mut args, "--at")?.map(|text| scenario::time(&text));
     let asked = Asked {
         pts,
         at: at.transpose()?,
         out: option(&mut args, "--out")?,
-        fields: option(&mut args, "--fields")?
-            .map(|names| names.split(',').map(str::to_string).collect()),
+        fields: option(&mut args, "--fields")?.map(|names| names.split(',').map(str::to_string).collect()),
         hex: taken(&mut args, "--hex"),
     };
     if asked.pts.is_some() != asked.at.is_some() {
@@ -149,8 +148,7 @@ fn of_records(bytes: &[u8]) -> Result<Vec<Vec<u8>>, String> {
     let mut list = Vec::new();
     let mut last: Option<(u8, Vec<u8>)> = None;
     for entry in entries {
-        let cue =
-            entry.bytes.len() > 18 && entry.bytes[0] == 0x52 && entry.bytes[2..4] == [0, 0x0C];
+        let cue = entry.bytes.len() > 18 && entry.bytes[0] == 0x52 && entry.bytes[2..4] == [0, 0x0C];
         if !cue {
             last = None;
             continue;
@@ -196,9 +194,7 @@ pub fn made(words: &[String]) -> Result<Vec<u8>, String> {
         let (key, value) = word.split_once('=').ok_or(format!("no '=' in {word}"))?;
         Ok::<_, String>((key.to_string(), value.to_string()))
     };
-    let mut words = Words {
-        list: rest.iter().map(pair).collect::<Result<_, _>>()?,
-    };
+    let mut words = Words { list: rest.iter().map(pair).collect::<Result<_, _>>()? };
     let mut section = Section::new(command_of(kind, &mut words)?);
     section.table = words.number("table", 0xFC)? as u8;
     section.indicators = words.number("indicators", 0b0011)? as u8 & 0x0F;
@@ -253,10 +249,7 @@ fn insert_of(words: &mut Words) -> Result<Insert, String> {
             Some((tag, pts)) => (wide(tag)?, Some(wide(pts)?)),
             None => (wide(&text)?, None),
         };
-        insert
-            .components
-            .get_or_insert_with(Vec::new)
-            .push((tag as u8, time));
+        insert.components.get_or_insert_with(Vec::new).push((tag as u8, time));
     }
     Ok(insert)
 }
@@ -291,11 +284,7 @@ fn fields_of(section: &[u8], names: &[String]) -> String {
 
 /// Every field, the CRC, and what the core does with it.
 fn lines_of(section: &[u8], asked: &Asked) -> String {
-    let mut text = format!(
-        "section of {} bytes, {}\n",
-        section.len(),
-        to_base64(section)
-    );
+    let mut text = format!("section of {} bytes, {}\n", section.len(), to_base64(section));
     for (name, value) in Shown::of(section).fields {
         let mut line = format!("  {name:<30} {}", value.line());
         if name == "CRC_32" {
@@ -316,10 +305,11 @@ fn crc_word(section: &[u8]) -> String {
 
 /// What the core would do with it, and the time if there is one to be told.
 fn core_line(section: &[u8], asked: &Asked) -> String {
-    if let Some(branch) = cues::misfit(section, None) {
-        return format!("  the core: refused 11: {}\n", &branch["cue 11 ".len()..]);
+    if let Some(why) = misfit(section) {
+        return format!("  the core: refused 11: {}\n", &why["cue 11 ".len()..]);
     }
-    let (comes, branch) = judged(section, None);
+    let (comes, name) = judged(section);
+    let branch = in_full(section, name);
     let why = branch.split_once(": ").map_or(branch, |(_, why)| why);
     let what = match comes {
         Comes::Nothing => return format!("  the core: writes nothing: {why}\n"),
@@ -332,19 +322,14 @@ fn core_line(section: &[u8], asked: &Asked) -> String {
     let (Some(pts), Some((seconds, micros))) = (asked.pts, asked.at) else {
         return text;
     };
-    let given = Given {
-        section: section.to_vec(),
-        pts,
-        seconds,
-        micros,
-    };
+    let given = Given { section: section.to_vec(), pts, seconds, micros };
     if micros > 999_999 {
         return "  the core: refused 8\n".to_string();
     }
     if let Comes::At(cue) = comes {
-        text += &format!("  ticks from the given PTS: {}\n", cues::ticks(cue, pts));
+        text += &format!("  ticks from the given PTS: {}\n", ticks(cue, pts));
     }
-    let (seconds, micros) = time_of(comes, &given, None);
+    let (seconds, micros) = time_of(comes, &given);
     let bytes = format!("{seconds:08X} {micros:08X}");
     text + &format!("  time: {} ({bytes})\n", records::cue_time(seconds, micros))
 }
@@ -377,8 +362,7 @@ mod tests {
         let first = run(FIRST);
         assert!(first.contains("section of 35 bytes"), "{first}");
         assert!(first.contains("CRC_32                         0x1D80D85D right"));
-        let same =
-            "FC 30 20 00 00 00 00 00 00 00 FF F0 0F 05 00 02 8C E8 7F CF FE D5 89 23 BF 55 66 \
+        let same = "FC 30 20 00 00 00 00 00 00 00 FF F0 0F 05 00 02 8C E8 7F CF FE D5 89 23 BF 55 66 \
                     00 00 00 00 1D 80 D8 5D";
         assert_eq!(run(same), first);
         assert_eq!(run(&same.replace(' ', "")), first);
@@ -391,14 +375,9 @@ mod tests {
         let told = run(&format!("{SECOND} --pts 591651064 --at 1000"));
         assert!(told.contains("cue's PTS 591751065"), "{told}");
         assert!(told.contains("ticks from the given PTS: 100001"), "{told}");
-        assert!(
-            told.contains("time: 1001.111122 (000003E9 0001B212)"),
-            "{told}"
-        );
+        assert!(told.contains("time: 1001.111122 (000003E9 0001B212)"), "{told}");
         let made = |text: &str| run(&format!("--make {text}"));
-        assert!(made("null length=1").contains(
-            "General_Response 117 (Invalid Cue Message): splice_command_length one more"
-        ));
+        assert!(made("null length=1").contains("General_Response 117 (Invalid Cue Message): splice_command_length one more"));
         assert!(made("null crc=0").contains("wrong: 0x"));
         assert!(made("schedule body=00").contains("writes nothing: splice_schedule"));
         assert!(made("insert component=1").contains("writes nothing: component mode"));
@@ -418,8 +397,7 @@ mod tests {
                    program=1 avail=2 avails=3 table=0xFD indicators=15 protocol=1 encrypted=1 algorithm=63 \
                    adjustment=1 cw_index=2 tier=3 length=4 loop=5 desc=0001 stuffing=FF crc=0x01020304";
         let bytes = made(&words(all)).unwrap();
-        let front =
-            "FD F0 30 01 FE 00 00 00 01 02 00 30 04 05 00 00 00 01 7F 2F 02 01 FE 00 00 00 05 \
+        let front = "FD F0 30 01 FE 00 00 00 01 02 00 30 04 05 00 00 00 01 7F 2F 02 01 FE 00 00 00 05 \
                      02 7F FE 00 00 00 09 00 01 02 03 00 05 00 01 FF 01 02 03 04";
         let front: Vec<u8> = hex_bytes(front).unwrap();
         assert_eq!(bytes[..2], front[..2]);
@@ -433,23 +411,11 @@ mod tests {
     fn records_of_one_call_are_one_section() {
         let section = base64(SECOND).unwrap();
         let record = |conn: u8, seconds: u32| {
-            let what = records::What::Cue {
-                seconds,
-                micros: 0,
-                section: section.clone(),
-            };
+            let what = records::What::Cue { seconds, micros: 0, section: section.clone() };
             records::Record { conn, what }.bytes()
         };
         let refused = vec![0x45, 11];
-        let bytes = [
-            record(0, 1),
-            record(2, 1),
-            record(3, 1),
-            record(0, 1),
-            record(1, 2),
-            refused,
-            record(2, 2),
-        ];
+        let bytes = [record(0, 1), record(2, 1), record(3, 1), record(0, 1), record(1, 2), refused, record(2, 2)];
         assert_eq!(of_records(&bytes.concat()).unwrap().len(), 4);
         assert!(of_records(&[0]).is_err());
     }

@@ -2,14 +2,18 @@
 //! `cues` and `cues --faults`.
 
 use crate::card;
-use crate::cues::{self, crc_with, judged, Comes, Given, Miscue, FLOORS, HORIZON, MISCUES, WRAP};
+use crate::cues::{self, judged, Comes, Given, Miscue, FLOORS, HORIZON, MISCUES, WRAP};
 use crate::draw::{named, Gen, Rng, TOP};
 use crate::episodes;
-use crate::records::{self, Item, What};
+use crate::records::{self, Item, Line, What};
 use crate::rules::{ninths, Splicer, MICROSECOND, NONE, ROOM, TICK};
 use crate::scenario::shown;
 use crate::section::{closed, remade, Command, Insert, Section, Time};
 use crate::table::Hits;
+use crate::watch::{Watch, Watcher, SEEN};
+use rules::right::RIGHT;
+use rules::sections;
+use rules::state::Rules;
 
 /// A call of these streams.
 #[derive(Clone, Debug, PartialEq, Eq)]
@@ -86,21 +90,10 @@ fn connection(gen: &mut Gen) {
 pub fn given(rng: &mut Rng) -> Given {
     let section = section(rng);
     let drawn = rng.below(WRAP);
-    let cue = match cues::misfit(&section, None) {
-        None => match judged(&section, None).0 {
-            Comes::At(cue) => cue,
-            _ => drawn,
-        },
-        Some(_) => drawn,
-    };
+    let cue = cue_of(&section).unwrap_or(drawn);
     let pts = pts(rng, cue);
-    let (seconds, micros) = instant(rng, cues::ticks(cue, pts));
-    Given {
-        section,
-        pts,
-        seconds,
-        micros,
-    }
+    let (seconds, micros) = instant(rng, sections::ticks(cue, pts));
+    Given { section, pts, seconds, micros }
 }
 
 /// A PTS at, around and far from the cue's, and around 2^33.
@@ -206,17 +199,7 @@ fn bytes_of(rng: &mut Rng, count: usize) -> Vec<u8> {
 
 fn pts_time(rng: &mut Rng) -> u64 {
     let drawn = rng.below(WRAP);
-    rng.pick(&[
-        0,
-        1,
-        0xFFFF_FFFF,
-        1 << 32,
-        WRAP - 1,
-        drawn,
-        drawn,
-        drawn,
-        drawn,
-    ])
+    rng.pick(&[0, 1, 0xFFFF_FFFF, 1 << 32, WRAP - 1, drawn, drawn, drawn, drawn])
 }
 
 fn time(rng: &mut Rng) -> Time {
@@ -231,19 +214,7 @@ fn adjustment(rng: &mut Rng, command: &Command) -> u64 {
     };
     let drawn = rng.below(WRAP);
     let exact = (WRAP - time) % WRAP;
-    rng.pick(&[
-        0,
-        0,
-        0,
-        0,
-        1,
-        1 << 32,
-        WRAP - 1,
-        exact,
-        (exact + 1) % WRAP,
-        drawn,
-        drawn,
-    ])
+    rng.pick(&[0, 0, 0, 0, 1, 1 << 32, WRAP - 1, exact, (exact + 1) % WRAP, drawn, drawn])
 }
 
 fn command(rng: &mut Rng) -> Command {
@@ -316,20 +287,7 @@ fn sized(rng: &mut Rng, section: &Section) -> Vec<u8> {
         section.length = rng.pick(&[None, Some(0xFFF)]);
         return section.bytes();
     }
-    let size = rng.pick(&[
-        510,
-        511,
-        511,
-        512,
-        512,
-        512,
-        513,
-        513,
-        514,
-        600,
-        1024 + 40,
-        4098,
-    ]);
+    let size = rng.pick(&[510, 511, 511, 512, 512, 512, 513, 513, 514, 600, 1024 + 40, 4098]);
     let missing = usize::saturating_sub(size, section.bytes().len());
     let more = bytes_of(rng, missing);
     if rng.chance(50) {
@@ -356,9 +314,7 @@ fn cut(rng: &mut Rng, mut bytes: Vec<u8>) -> Vec<u8> {
 fn flipped(rng: &mut Rng, mut bytes: Vec<u8>) -> Vec<u8> {
     let any = rng.below(bytes.len() as u64) as usize;
     let front = rng.below(22.min(bytes.len() as u64)) as usize;
-    let at = rng
-        .pick(&[any, front, front, 0, 4, 13, 11, 12])
-        .min(bytes.len() - 1);
+    let at = rng.pick(&[any, front, front, 0, 4, 13, 11, 12]).min(bytes.len() - 1);
     bytes[at] ^= 1 << rng.below(8);
     if rng.chance(60) {
         return closed(bytes);
@@ -385,8 +341,8 @@ fn wrong_crc(rng: &mut Rng, mut bytes: Vec<u8>) -> Vec<u8> {
         return bytes;
     };
     let front = &bytes[..end];
-    let right = crc_with(front, None);
-    let other = |miscue| crc_with(front, Some(miscue));
+    let right = cues::crc(front);
+    let other = |miscue: Miscue| miscue.rules().sections.crc(front);
     let place = rng.below(32);
     let reversed = other(Miscue::LowestBitFirst).to_be_bytes();
     let wrong = rng.pick(&[
@@ -426,17 +382,7 @@ fn loop_length(rng: &mut Rng, mut section: Section) -> Vec<u8> {
     let left = left as u16;
     let one_less = left.saturating_sub(1);
     let drawn = rng.next() as u16;
-    let other = [
-        left,
-        left,
-        left + 1,
-        left + 1,
-        left + 2,
-        left + 4,
-        one_less,
-        drawn,
-        0xFFFF,
-    ];
+    let other = [left, left, left + 1, left + 1, left + 2, left + 4, one_less, drawn, 0xFFFF];
     section.loop_length = Some(rng.pick(&other));
     section.bytes()
 }
@@ -558,32 +504,41 @@ pub fn systematic() -> Vec<Given> {
 }
 
 fn aimed(section: Vec<u8>) -> Given {
-    let pts = match cues::misfit(&section, None) {
-        Some(_) => 0,
-        None => match judged(&section, None).0 {
-            Comes::At(cue) => (cue + WRAP - 1) % WRAP,
-            _ => 0,
-        },
-    };
-    Given {
-        section,
-        pts,
-        seconds: 1_000,
-        micros: 999_989,
+    let pts = cue_of(&section).map_or(0, |cue| (cue + WRAP - 1) % WRAP);
+    Given { section, pts, seconds: 1_000, micros: 999_989 }
+}
+
+/// The cue's PTS of a section that passes.
+fn cue_of(section: &[u8]) -> Option<u64> {
+    if !sections::RIGHT.fits(section) {
+        return None;
+    }
+    match judged(section).0 {
+        Comes::At(cue) => Some(cue),
+        _ => None,
     }
 }
 
 /// What came of a stream on the second program.
 struct Played {
     outputs: Vec<Vec<u8>>,
-    splicer: Splicer,
     cues: usize,
     wrong: Option<String>,
 }
 
 fn play(stream: &[Call], miscue: Option<Miscue>) -> Played {
-    let (mut splicer, _) = Splicer::fresh(&card::channel_name());
-    splicer.cueing.miscue = miscue;
+    play_by(stream, miscue.map_or(&RIGHT, Miscue::rules))
+}
+
+/// Plays a stream by the right rules, and counts.
+fn counted(stream: &[Call]) -> (Played, Watch) {
+    let mut watcher = Watcher::new();
+    let played = watcher.during(|| play_by(stream, &SEEN));
+    (played, watcher.seen())
+}
+
+fn play_by(stream: &[Call], rules: &'static Rules) -> Played {
+    let (mut splicer, _) = rules::calls::fresh(&card::channel_name(), rules);
     let (mut outputs, mut wrong, mut cues) = (Vec::new(), None, 0);
     for (at, call) in stream.iter().enumerate() {
         let output = match call {
@@ -600,12 +555,7 @@ fn play(stream: &[Call], miscue: Option<Miscue>) -> Played {
         };
         outputs.push(output);
     }
-    Played {
-        outputs,
-        splicer,
-        cues,
-        wrong,
-    }
+    Played { outputs, cues, wrong }
 }
 
 /// All of a splicer's state: also Hardware_Config (02, CR 6) and what ended lately (02, CR 8).
@@ -647,11 +597,7 @@ fn held(given: &Given, splicer: &Splicer, before: Kept, output: &[u8]) -> Option
     let kept = list.iter().all(|item| match item {
         Item::Record(record) => match &record.what {
             What::General { result } => *result == 117,
-            What::Cue {
-                seconds,
-                micros,
-                section,
-            } => *section == given.section && timely(given, *seconds, *micros),
+            What::Cue { seconds, micros, section } => *section == given.section && timely(given, *seconds, *micros),
             _ => false,
         },
         _ => false,
@@ -684,10 +630,10 @@ pub fn cues(seed: u64, n: u64, table: bool, floors: bool) -> Result<bool, String
     let (mut calls, mut made, mut differ) = (0, 0, 0);
     for index in 0..n {
         let stream = stream(seed, index);
-        let played = play(&stream, None);
+        let (played, seen) = counted(&stream);
         calls += stream.len();
         made += played.cues;
-        hits.add(&played.splicer.cueing.hits);
+        hits.add(&seen.cues);
         if let Some(text) = played.wrong {
             println!("cue stream {index}, {text}");
             differ += 1;
@@ -752,23 +698,19 @@ pub fn lines(seed: u64, index: u64) -> String {
 pub fn rows(seed: u64, n: u64) -> String {
     let mut rng = Rng::new(seed ^ 0x7001);
     let mut text = String::new();
+    let (splicer, _) = Splicer::fresh(&card::channel_name());
     for _ in 0..n {
         let given = given(&mut rng);
         let mut digits: String = given.section.iter().map(|b| format!("{b:02X}")).collect();
         if digits.is_empty() {
             digits.push('-');
         }
-        let Given {
-            pts,
-            seconds,
-            micros,
-            ..
-        } = given;
-        let comes = match cues::refusal(&given, ROOM, None) {
-            Some((number, _)) => format!("refused {number}"),
+        let Given { pts, seconds, micros, .. } = given;
+        let comes = match splicer.cue_refused(&given, ROOM) {
+            Some(number) => format!("refused {number}"),
             None => {
-                let comes = judged(&given.section, None).0;
-                let (seconds, micros) = cues::time_of(comes, &given, None);
+                let comes = judged(&given.section).0;
+                let (seconds, micros) = cues::time_of(comes, &given);
                 match comes {
                     Comes::Bad => "bad".to_string(),
                     Comes::Nothing => "nothing".to_string(),
@@ -793,12 +735,7 @@ mod tests {
 
     #[test]
     fn what_is_written_is_held_to_the_given_instant() {
-        let given = |seconds| Given {
-            section: Vec::new(),
-            pts: 0,
-            seconds,
-            micros: 0,
-        };
+        let given = |seconds| Given { section: Vec::new(), pts: 0, seconds, micros: 0 };
         assert!(timely(&given(5), 5, 0));
         // one tick is 11 microseconds and a ninth
         assert!(timely(&given(5), 5, 11));
@@ -809,11 +746,8 @@ mod tests {
 
     #[test]
     fn the_plainest_sections_take_most_branches() {
-        let (mut splicer, _) = Splicer::fresh(&card::channel_name());
-        for given in systematic() {
-            let _ = splicer.cue(&given, ROOM);
-        }
-        let hits = &splicer.cueing.hits;
+        let calls: Vec<Call> = systematic().into_iter().map(|given| Call::Cue(given, ROOM)).collect();
+        let hits = counted(&calls).1.cues;
         for (name, _) in FLOORS {
             if name.starts_with("bad:") || name.starts_with("nothing") {
                 assert!(hits.of(name) > 0, "{name}");

@@ -228,17 +228,8 @@ fn counted(gen: &mut Gen, ask: &Ask) -> Vec<u8> {
     let (data, mut bytes, count) = parts(gen, ask);
     let count = count as u32;
     // Large numbers whose last bytes are the right count, too.
-    let others = [
-        count + 1,
-        count + 1,
-        count + 1,
-        count.saturating_sub(1),
-        count | 0x100,
-        count | 0x1_0000,
-        count | 1 << 31,
-        17,
-        NONE,
-    ];
+    let others =
+        [count + 1, count + 1, count + 1, count.saturating_sub(1), count | 0x100, count | 0x1_0000, count | 1 << 31, 17, NONE];
     let other = gen.rng.pick(&others);
     bytes[2..6].copy_from_slice(&other.to_be_bytes());
     let mut data = draw::between(data, &bytes);
@@ -261,17 +252,12 @@ fn lengths(gen: &mut Gen, ask: &Ask) -> Vec<u8> {
     if plain {
         list.list[place].kept.clear();
     }
-    let before = streams::Streams {
-        pcr_pid: 0,
-        list: list.list[..place].to_vec(),
-    };
+    let before = streams::Streams { pcr_pid: 0, list: list.list[..place].to_vec() };
     let at = streams::write(&before).map_or(6, |bytes| bytes.len());
     let mut bytes = streams::write(&list).unwrap_or_default();
     // It may swallow the tail, or all but 15 bytes of what follows.
     let rest = (bytes.len() - at + 15).min(255) as u8;
-    let swallowed = gen
-        .rng
-        .pick(&[rest, rest.saturating_sub(15), rest.saturating_add(1)]);
+    let swallowed = gen.rng.pick(&[rest, rest.saturating_sub(15), rest.saturating_add(1)]);
     let length = gen.rng.pick(&[0, 1, 20, 20, 20, 21, 22, 255, swallowed]);
     bytes[at] = length;
     if plain && gen.rng.chance(60) && length > 0 {
@@ -292,9 +278,7 @@ fn lengths(gen: &mut Gen, ask: &Ask) -> Vec<u8> {
 /// PcrPID, a PID or a StreamType at its limit or above it.
 fn limits(gen: &mut Gen, ask: &Ask) -> Vec<u8> {
     let (data, mut bytes, count) = parts(gen, ask);
-    let pid: u16 = gen
-        .rng
-        .pick(&[0x1FFF, 0x2000, 0x2000, 0x2031, 0x8000, 0xFFFF]);
+    let pid: u16 = gen.rng.pick(&[0x1FFF, 0x2000, 0x2000, 0x2031, 0x8000, 0xFFFF]);
     let kind: u16 = gen.rng.pick(&[0xFFFE, 0xFFFF, 0xFFFF]);
     if count == 0 || gen.rng.chance(30) {
         bytes[..2].copy_from_slice(&pid.to_be_bytes());
@@ -445,9 +429,8 @@ pub fn unknown(gen: &mut Gen) {
         gen.call(Call::Open(conn));
     }
     let ids = [
-        0x0000, 0x0000, 0x000D, 0x000D, 0x000D, 0x0002, 0x0003, 0x0004, 0x0006, 0x0008, 0x0009,
-        0x000A, 0x000B, 0x000C, 0x000F, 0x0010, 0x0011, 0x0012, 0x0100, 0x0700, 0x7FFF, 0x8000,
-        0xFFFF,
+        0x0000, 0x0000, 0x000D, 0x000D, 0x000D, 0x0002, 0x0003, 0x0004, 0x0006, 0x0008, 0x0009, 0x000A, 0x000B, 0x000C, 0x000F,
+        0x0010, 0x0011, 0x0012, 0x0100, 0x0700, 0x7FFF, 0x8000, 0xFFFF,
     ];
     let id = gen.rng.pick(&ids);
     let size = gen.rng.pick(&[0, 0, 4, 8, 33, 66]);

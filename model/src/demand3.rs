@@ -86,13 +86,7 @@ impl Books {
             NONE => ninths(fields.seconds, fields.micros),
             prior => self.last(conn, prior).map_or(0, |a| a.end),
         };
-        self.list.push(Accepted {
-            conn,
-            id: fields.id,
-            end: start + u64::from(fields.duration) * TICK,
-            waiting: true,
-            ends: 0,
-        });
+        self.list.push(Accepted { conn, id: fields.id, end: start + u64::from(fields.duration) * TICK, waiting: true, ends: 0 });
         if self.counts()[conn as usize] > 20 {
             self.faults.push("more than 20 waiting".to_string());
         }
@@ -108,9 +102,7 @@ impl Books {
     /// answer." 02, CR 4: "Demand 3's one end now includes these records", so 125 too.
     fn record(&mut self, record: &Record) {
         let (id, ends) = match record.what {
-            What::Complete {
-                id, flag, result, ..
-            } => (id, flag == 1 || result == 109),
+            What::Complete { id, flag, result, .. } => (id, flag == 1 || result == 109),
             What::Splice { id, result } => (id, [109, 116, 125].contains(&result)),
             _ => return,
         };
@@ -143,7 +135,7 @@ fn request(call: &Call) -> Option<(u8, SpliceFields)> {
     if bytes[..2] != [0x00, 0x07] {
         return None;
     }
-    match reading::read(0x0007, &bytes[8..], None) {
+    match reading::read(0x0007, &bytes[8..]) {
         Ok(Request::Splice(fields)) => Some((*conn, fields)),
         _ => None,
     }

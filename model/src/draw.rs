@@ -6,6 +6,11 @@ use crate::rolls;
 use crate::rules::{Session, Splicer, State, MICROSECOND, NONE, SECOND};
 use crate::scenario::message;
 use crate::streams::{self, Stream, Streams};
+use rules::calls;
+use rules::ended::{self, KEPT};
+use rules::right::RULES;
+use rules::state::{By, Rules};
+use std::cell::Cell;
 
 /// The last microsecond that a wire time can name.
 pub const TOP: u64 = 0xFFFF_FFFF * 1_000_000 + 999_999;
@@ -71,26 +76,36 @@ pub struct Gen {
     pub rolling: Option<Box<rolls::Rolls>>,
 }
 
-impl Gen {
-    pub fn new(rng: Rng) -> Gen {
-        Gen {
-            rng,
-            model: Splicer::fresh(&card::channel_name()).0,
-            bytes: Vec::new(),
-            calls: 0,
-            kept: 0,
-            kept_bytes: 0,
-            unit: 1,
-            at_the_top: false,
-            rolling: None,
+thread_local! {
+    static LAST_DROPPED: Cell<Option<(u8, u32)>> = const { Cell::new(None) };
+}
+
+/// A splicer by the right rules; whose end was dropped last from those kept (02, CR 8) is noted.
+fn noted() -> Splicer {
+    static NOTED: Rules = Rules { remember, ..RULES };
+    fn remember(s: &mut Splicer, session: &Session, by: By, result: u16, played: u32) {
+        if s.ended.len() == KEPT {
+            LAST_DROPPED.set(Some((s.ended[0].conn, s.ended[0].id)));
         }
+        ended::remember(s, session, by, result, played);
+    }
+    LAST_DROPPED.set(None);
+    calls::fresh(&card::channel_name(), &NOTED).0
+}
+
+impl Gen {
+    /// Whose end was kept and was the last to be dropped, in this stream.
+    pub fn last_dropped(&self) -> Option<(u8, u32)> {
+        LAST_DROPPED.get()
+    }
+
+    pub fn new(rng: Rng) -> Gen {
+        Gen { rng, model: noted(), bytes: Vec::new(), calls: 0, kept: 0, kept_bytes: 0, unit: 1, at_the_top: false, rolling: None }
     }
 
     /// The stream's unit, its connections and its first time.
     pub fn begin(&mut self) {
-        let units = [
-            1, 11, 12, 100, 100, 1_000, 100_000, 100_000, 1_000_000, 1_000_000, 1_000_000,
-        ];
+        let units = [1, 11, 12, 100, 100, 1_000, 100_000, 100_000, 1_000_000, 1_000_000, 1_000_000];
         self.unit = self.rng.pick(&units);
         for conn in 0..4 {
             if self.rng.chance(85) {

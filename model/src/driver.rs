@@ -31,12 +31,7 @@ pub struct Act {
 impl Act {
     /// As the card program makes it.
     pub fn plain(call: Call) -> Act {
-        Act {
-            call,
-            room: ROOM,
-            primary: Vec::new(),
-            insertion: Vec::new(),
-        }
+        Act { call, room: ROOM, primary: Vec::new(), insertion: Vec::new() }
     }
 
     pub fn asked(&self) -> Asked<'_> {
@@ -133,10 +128,7 @@ pub fn foreign_acts(rng: &mut Rng, calls: &[Kept], most: usize) -> Vec<Act> {
 /// at times bytes behind the message.
 fn lent(rng: &mut Rng, call: Call) -> Act {
     let room = rng.pick(&[ROOM, ROOM, ROOM, ROOM + 1, ROOM + 100]);
-    let mut act = Act {
-        room,
-        ..Act::plain(call)
-    };
+    let mut act = Act { room, ..Act::plain(call) };
     if let Call::Message(_, read) = &mut act.call {
         let asks = read[..2] == [0, 0x0A];
         if rng.chance(if asks { 85 } else { 10 }) {
@@ -157,10 +149,7 @@ fn foreign(rng: &mut Rng, call: &Call, acts: &mut Vec<Act>) {
     if rng.chance(12) {
         let below = rng.below(ROOM as u64) as usize;
         let room = rng.pick(&[0, 1, ROOM - 1, ROOM - 1, below]);
-        acts.push(Act {
-            room,
-            ..Act::plain(call.clone())
-        });
+        acts.push(Act { room, ..Act::plain(call.clone()) });
     }
     if rng.chance(8) {
         acts.push(elsewhere(rng, call));
@@ -192,10 +181,7 @@ fn elsewhere(rng: &mut Rng, call: &Call) -> Act {
         *conn = rng.pick(&[*conn + 256, *conn + 0x1_0000, *conn | 1 << 31, u32::MAX, 4]);
     }
     let room = rng.pick(&[ROOM, ROOM, ROOM - 1]);
-    Act {
-        room,
-        ..Act::plain(call)
-    }
+    Act { room, ..Act::plain(call) }
 }
 
 /// A section above 1,024 bytes on one side or both; at times the message is cut, or of a closed connection.
@@ -234,9 +220,7 @@ pub fn made(engine: &dyn Remembers, log: &mut [u8], act: &Act, turn: usize) -> S
 pub fn played(engine: &dyn Remembers, history: &History) -> Vec<(Seen, u64)> {
     let mut log = history.log.clone();
     let calls = history.acts.iter().enumerate();
-    calls
-        .map(|(turn, act)| (made(engine, &mut log, act, turn), sum(&log)))
-        .collect()
+    calls.map(|(turn, act)| (made(engine, &mut log, act, turn), sum(&log))).collect()
 }
 
 fn sum(log: &[u8]) -> u64 {
@@ -253,19 +237,12 @@ pub fn leaves(engine: &dyn Remembers, history: &History, seen: &[(Seen, u64)]) -
         let own = made(engine, &mut log, act, turn);
         own != seen.0 || sum(&log) != seen.1
     };
-    calls
-        .map(|call| (call.0, differs(call)))
-        .find(|c| c.1)
-        .map(|c| c.0)
+    calls.map(|call| (call.0, differs(call))).find(|c| c.1).map(|c| c.0)
 }
 
 /// The first call of a history that two engines answer in different ways: the reply, the output buffer or the whole log
 /// after it; and in which.
-pub fn differing(
-    history: &History,
-    one: &dyn Remembers,
-    other: &dyn Remembers,
-) -> Option<(usize, String)> {
+pub fn differing(history: &History, one: &dyn Remembers, other: &dyn Remembers) -> Option<(usize, String)> {
     let (mut log, mut beside) = (history.log.clone(), history.log.clone());
     for (turn, act) in history.acts.iter().enumerate() {
         let found = made(one, &mut log, act, turn);
@@ -303,10 +280,7 @@ fn by_card(log: &[u8], act: &Act) -> Option<(Vec<u8>, Vec<u8>)> {
     if output.first() != Some(&0x45) {
         let behind = used + record.len();
         after[used..behind].copy_from_slice(&record);
-        after[behind..]
-            .iter_mut()
-            .take(1)
-            .for_each(|byte| *byte = 0);
+        after[behind..].iter_mut().take(1).for_each(|byte| *byte = 0);
     }
     Some((output, after))
 }

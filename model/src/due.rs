@@ -71,12 +71,7 @@ pub struct Due {
 /// of those, counted from the calls and answers, leave fewer than 4,098 bytes".
 pub fn due(input: &[u8]) -> Due {
     let run = card::run(input, None);
-    let mut due = Due {
-        calls: Vec::new(),
-        log: Vec::new(),
-        cut: None,
-        hits: Hits::default(),
-    };
+    let mut due = Due { calls: Vec::new(), log: Vec::new(), cut: None, hits: Hits::default() };
     let mut tally = Tally::default();
     let (mut kept, mut to) = (0, 0);
     for done in run.calls {
@@ -164,9 +159,7 @@ impl Tally {
             _ => {}
         }
         match (free, largest) {
-            (4_098, true) if kept == 255 => {
-                self.hit("255 kept and 4,098 free, and the largest message")
-            }
+            (4_098, true) if kept == 255 => self.hit("255 kept and 4,098 free, and the largest message"),
             (4_098, true) => self.hit("4,098 free, and the largest message"),
             (4_098, false) if good => self.hit("4,098 free, and a short record"),
             (4_099..=4_200, true) => self.hit("4,099 to 4,200 free, and the largest message"),

@@ -14,17 +14,15 @@ pub struct Theme {
 }
 
 const fn theme(favourites: &'static [Episode]) -> Theme {
-    Theme {
-        favourites,
-        at_the_top: false,
-    }
+    Theme { favourites, at_the_top: false }
 }
 
 #[rustfmt::skip]
 pub const ALL: &[Episode] = &[
     request, request, request, request, chain, chain, collide, collide, abort_one, abort_one,
     close_one, step, step, step, step, step, stack, fill, reuse, evict, failing, covered, equals, late,
-    order, ninth, extreme, wrong_numbers, alive, lately, lately, lately, many_ends, damage::extended, damage::config, damage::init, damage::alive_and_abort,
+    order, ninth, extreme, wrong_numbers, alive, lately, lately, lately, many_ends,
+    damage::extended, damage::config, damage::init, damage::alive_and_abort,
     damage::splice, damage::separate, damage::mux, damage::unknown, damage::refused, damage::largest,
 ];
 
@@ -111,16 +109,9 @@ fn related(gen: &mut Gen, access: u8) -> u8 {
 
 /// A request with the same start as a waiting session, timed or linked, if one can be made.
 fn same_start(gen: &mut Gen, other: &Session) -> Option<(u8, Ask)> {
-    let timed = other.start.is_multiple_of(MICROSECOND)
-        && other.start / MICROSECOND >= gen.now() + 3_000_000;
+    let timed = other.start.is_multiple_of(MICROSECOND) && other.start / MICROSECOND >= gen.now() + 3_000_000;
     let ends_there = |s: &&Session| s.end == other.start;
-    let priors: Vec<Session> = gen
-        .model
-        .sessions
-        .iter()
-        .filter(ends_there)
-        .cloned()
-        .collect();
+    let priors: Vec<Session> = gen.model.sessions.iter().filter(ends_there).cloned().collect();
     if !priors.is_empty() && (!timed || gen.rng.chance(50)) {
         let prior = gen.rng.pick(&priors);
         gen.ready(prior.conn);
@@ -197,15 +188,13 @@ pub fn lately(gen: &mut Gen) {
             gen.extended(conn, id);
             continue;
         }
-        if let (Some((conn, id)), true) = (gen.model.counts.last_dropped, gen.rng.chance(15)) {
+        if let (Some((conn, id)), true) = (gen.last_dropped(), gen.rng.chance(15)) {
             gen.ready(conn);
             gen.extended(conn, id);
         }
         let oldest = kept[0];
         let drawn = gen.rng.pick(&kept);
-        let (conn, id) = gen
-            .rng
-            .pick(&[oldest, drawn, drawn, drawn, kept[kept.len() - 1]]);
+        let (conn, id) = gen.rng.pick(&[oldest, drawn, drawn, drawn, kept[kept.len() - 1]]);
         let other = gen.rng.below(4) as u8;
         let conn = gen.rng.pick(&[conn, conn, conn, conn, other]);
         gen.ready(conn);
@@ -662,17 +651,7 @@ fn late(gen: &mut Gen) {
     let conn = gen.conn();
     let now = gen.now();
     let limit = now + 3_000_000;
-    let at = gen.rng.pick(&[
-        limit,
-        limit,
-        limit - 1,
-        limit - 1,
-        limit + 1,
-        now,
-        now + 1,
-        now / 2,
-        0,
-    ]);
+    let at = gen.rng.pick(&[limit, limit, limit - 1, limit - 1, limit + 1, now, now + 1, now / 2, 0]);
     let ask = gen.timed(conn, at);
     gen.ask(conn, &ask);
 }
@@ -740,9 +719,7 @@ fn ninth(gen: &mut Gen) {
     let mut follower = gen.linked(conn, first.id);
     follower.duration = gen.rng.between(1, 30) as u32;
     gen.ask(conn, &follower);
-    let near = gen
-        .rng
-        .pick(&[session.end / MICROSECOND, session.end.div_ceil(MICROSECOND)]);
+    let near = gen.rng.pick(&[session.end / MICROSECOND, session.end.div_ceil(MICROSECOND)]);
     let other = gen.conn();
     let mut beside = gen.timed(other, near);
     beside.duration = gen.rng.between(1, 30) as u32;

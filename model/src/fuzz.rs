@@ -8,7 +8,7 @@ use crate::faults::FAULTS;
 use crate::gen;
 use crate::people::{agreement, call_line, differing, time_text};
 use crate::primary::History;
-use crate::records;
+use crate::records::{self, Line};
 use crate::rules::Splicer;
 
 /// Writes N streams as files.
@@ -36,9 +36,9 @@ pub fn fuzz(plan: &Fuzz) -> Result<bool, String> {
     let (mut calls, mut differ, mut broken) = (0, 0, 0);
     for index in 0..plan.n {
         let input = gen::stream(plan.seed, index);
-        let run = card::run(&input, None);
+        let (run, seen) = card::counted(&input);
         calls += run.calls.len();
-        counts.add(&run.splicer.counts);
+        counts.add(&seen.counts);
         for fault in demand3::broken(&run.calls) {
             println!("demand 3 broken, stream {index}, {fault}");
             broken += 1;
@@ -58,11 +58,7 @@ pub fn fuzz(plan: &Fuzz) -> Result<bool, String> {
     if let Some(command) = &plan.card {
         differ += u64::from(!fills(command)?);
     }
-    let missing = if plan.floors {
-        counts.missing()
-    } else {
-        Vec::new()
-    };
+    let missing = if plan.floors { counts.missing() } else { Vec::new() };
     if plan.table {
         print!("{}", counts.table());
     }
@@ -80,20 +76,12 @@ fn fills(command: &str) -> Result<bool, String> {
     let output = compare::run_command(command, &input)?;
     let same = output.trouble.is_none() && output.bytes == card::run(&input, None).output();
     let (bytes, word) = (output.bytes.len(), ["differs", "agrees"][usize::from(same)]);
-    println!(
-        "fuzz: the filling stream, {} bytes in, {bytes} out: {word}",
-        input.len()
-    );
+    println!("fuzz: the filling stream, {} bytes in, {bytes} out: {word}", input.len());
     Ok(same)
 }
 
 /// The difference to the card program on this stream, if there is one.
-fn against_card(
-    plan: &Fuzz,
-    index: u64,
-    input: &[u8],
-    run: &Run,
-) -> Result<Option<String>, String> {
+fn against_card(plan: &Fuzz, index: u64, input: &[u8], run: &Run) -> Result<Option<String>, String> {
     let Some(command) = &plan.card else {
         return Ok(None);
     };
@@ -103,10 +91,7 @@ fn against_card(
         return Ok(None);
     }
     let seed = plan.seed;
-    let mut text = format!(
-        "seed {seed} stream {index} (model gen --seed {seed} --n {}",
-        index + 1
-    );
+    let mut text = format!("seed {seed} stream {index} (model gen --seed {seed} --n {}", index + 1);
     text += &format!(" --out DIR writes it as stream-{seed}-{index:05}.in)\n");
     if let Some(trouble) = output.trouble {
         text += &format!("{trouble}\n");
@@ -172,18 +157,13 @@ pub fn faults(seed: u64, n: u64) -> Result<bool, String> {
             let (agreed, _, same) = agreement(&clean[index], &faulty.output());
             let read = clean[index].calls.iter().zip(&faulty.calls);
             // What is read shows in no record.
-            let other = read
-                .take(agreed)
-                .position(|(own, found)| own.read() != found.read());
+            let other = read.take(agreed).position(|(own, found)| own.read() != found.read());
             if !same || other.is_some() {
                 first = Some((index, other.unwrap_or(agreed) + 1));
                 break;
             }
             // By the records alone: the primary sum is none of the answers.
-            if !History::of(&faulty.calls)
-                .wrong(faulty.splicer.primary)
-                .is_empty()
-            {
+            if !History::of(&faulty.calls).wrong(faulty.splicer.primary).is_empty() {
                 first = Some((index, agreed));
                 break;
             }

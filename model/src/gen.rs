@@ -18,11 +18,7 @@ pub fn stream(seed: u64, index: u64) -> Vec<u8> {
     gen.begin();
     let length = gen.rng.between(200, 1000);
     while gen.calls < length {
-        let list = if gen.rng.chance(60) {
-            theme.favourites
-        } else {
-            episodes::ALL
-        };
+        let list = if gen.rng.chance(60) { theme.favourites } else { episodes::ALL };
         gen.rng.pick(list)(&mut gen);
     }
     damage::tail(&mut gen);

@@ -3,7 +3,7 @@
 
 use crate::card::{self, Call as Kept, Stop};
 use crate::config::{Maps, MOST_SECTION};
-use crate::faults::{mistakes, Fault};
+use crate::faults::{mistakes, rules_of, Fault};
 use crate::recall::{self, Asked, List, Remembers, Reply, FULL, LEAST_FREE, LOG, MOST};
 use crate::records::{self, Record, What};
 use crate::rules::{ninths, Session, Splicer, State, ROOM};
@@ -70,11 +70,7 @@ mistakes! { Lapse, LAPSES;
 }
 
 /// Those of the program alone.
-pub const OF_PROGRAM: [Lapse; 3] = [
-    Lapse::StopsAtThirteen,
-    Lapse::FreshAtThirteen,
-    Lapse::OversizeGoesOn,
-];
+pub const OF_PROGRAM: [Lapse; 3] = [Lapse::StopsAtThirteen, Lapse::FreshAtThirteen, Lapse::OversizeGoesOn];
 
 /// The engine with a mistake.
 #[derive(Clone, Copy, Debug)]
@@ -123,12 +119,7 @@ impl Lapsed {
             Some(Lapse::MovedBefore) if now == 0 => before,
             _ => now,
         };
-        Reply {
-            refused: 0,
-            consumed,
-            written,
-            moved,
-        }
+        Reply { refused: 0, consumed, written, moved }
     }
 
     fn fresh(&self, log: &mut [u8]) -> Reply {
@@ -232,7 +223,7 @@ impl Lapsed {
 
     fn after(&self, calls: &[Kept], out: &mut [u8]) -> Splicer {
         let (mut splicer, _) = Splicer::fresh(&card::channel_name());
-        splicer.fault = self.fault();
+        splicer.rules = rules_of(self.fault());
         let from = usize::from(self.is(Lapse::FirstForgotten)).min(calls.len());
         let left = usize::from(self.is(Lapse::LastForgotten)).min(calls.len());
         let mut waited = Vec::new();
@@ -274,12 +265,7 @@ impl Lapsed {
         self.is(Lapse::EndedWaits) || self.is(Lapse::ClosedHardware)
     }
 
-    fn answer(
-        &self,
-        splicer: &mut Splicer,
-        asked: &Asked,
-        room: usize,
-    ) -> Result<(Vec<Record>, usize), u8> {
+    fn answer(&self, splicer: &mut Splicer, asked: &Asked, room: usize) -> Result<(Vec<Record>, usize), u8> {
         let asked = match (*asked, self.0) {
             (Asked::Open(conn), Some(Lapse::ConnectionByte)) => Asked::Open(conn % 256),
             (Asked::Close(conn), Some(Lapse::ConnectionByte)) => Asked::Close(conn % 256),
@@ -339,9 +325,7 @@ impl Lapsed {
                 recall::after(&list.calls).clock == ninths(seconds, micros)
             }
             (Some(Lapse::SilentDropped), Asked::Message(..)) => bytes.is_empty(),
-            (Some(Lapse::AskingDropped), Asked::Message(_, read, _)) => {
-                [0x0005, 0x000A, 0x0003].contains(&id(read))
-            }
+            (Some(Lapse::AskingDropped), Asked::Message(_, read, _)) => [0x0005, 0x000A, 0x0003].contains(&id(read)),
             (Some(Lapse::GeneralDropped), Asked::Message(..)) => bytes.get(2..4) == Some(&[0, 0]),
             (Some(Lapse::NotAcceptedDropped), Asked::Message(_, read, _)) => {
                 let last = written.last().map(|record| &record.what);

@@ -10,29 +10,23 @@ pub mod carriage;
 pub mod cases;
 pub mod check;
 pub mod compare;
-pub mod config;
-pub mod counts;
 pub mod cue;
 pub mod cueing;
 pub mod cues;
 pub mod damage;
 pub mod demand3;
-pub mod descriptors;
 pub mod draw;
 pub mod driver;
 pub mod due;
-pub mod ended;
 pub mod episodes;
 pub mod faults;
 pub mod fuzz;
 pub mod gen;
-pub mod instants;
 pub mod lapses;
 pub mod logs;
 pub mod people;
 pub mod pieces;
 pub mod primary;
-pub mod reading;
 pub mod recall;
 pub mod recalls;
 pub mod recording;
@@ -40,13 +34,47 @@ pub mod recordings;
 pub mod records;
 pub mod rolling;
 pub mod rolls;
-pub mod rules;
 pub mod scenario;
 pub mod section;
-pub mod streams;
-pub mod table;
 #[cfg(test)]
 mod tests;
+pub mod watch;
+
+pub use ::rules::{descriptors, streams};
+pub use watch::{counts, table};
+
+/// 01's names, as the modules here use them.
+pub mod rules {
+    pub use ::rules::state::{Rules, Session, Splicer, State, LARGEST_SIZE, ROOM};
+    pub use ::rules::times::{ninths, MICROSECOND, NONE, SECOND, TICK};
+}
+
+/// 02, CR 6.
+pub mod config {
+    pub use ::rules::config::{nothing, MOST_SECTION};
+    pub use ::rules::reading::MOST_HARDWARE;
+    pub use ::rules::state::Maps;
+}
+
+/// 02, CR 8.
+pub mod ended {
+    pub use ::rules::ended::{KEPT, NOT_SIXTEEN};
+    pub use ::rules::state::{By, Ended, Row};
+}
+
+/// Reading by the right rules.
+pub mod reading {
+    pub use ::rules::requests::{Read, Request, SpliceFields, Tail, Why};
+    use ::rules::right::READING;
+
+    pub fn read(id: u16, data: &[u8]) -> Read {
+        READING.read(id, data)
+    }
+
+    pub fn tail_of(data: &[u8]) -> Result<Tail<'_>, Why> {
+        READING.tail(data)
+    }
+}
 
 /// Takes `--name value` out of the arguments.
 pub fn option(args: &mut Vec<String>, name: &str) -> Result<Option<String>, String> {

@@ -18,8 +18,7 @@ impl Base {
     fn of(input: &[u8]) -> Base {
         let run = card::run(input, None);
         let whole = run.calls.iter().filter(|d| !card::is_too_large(&d.call));
-        let (calls, outputs): (Vec<Kept>, Vec<&[u8]>) =
-            whole.map(|d| (d.call.clone(), &d.output[..])).unzip();
+        let (calls, outputs): (Vec<Kept>, Vec<&[u8]>) = whole.map(|d| (d.call.clone(), &d.output[..])).unzip();
         let good = outputs.iter().map(|o| o.first() != Some(&0x45)).collect();
         Base { calls, good }
     }
@@ -77,12 +76,8 @@ const KINDS: &[(&str, Kind)] = &[
     ("257 kept", |desk| counted(desk, 257)),
     ("hundreds kept", |desk| counted(desk, 700)),
     ("32,768 kept", |_| [0x4F, 0].repeat(LOG / 2)),
-    ("255 kept, refused ones among them", |desk| {
-        with_refused(desk, 255)
-    }),
-    ("256 kept, refused ones among them", |desk| {
-        with_refused(desk, 256)
-    }),
+    ("255 kept, refused ones among them", |desk| with_refused(desk, 255)),
+    ("256 kept, refused ones among them", |desk| with_refused(desk, 256)),
     ("4,096 free", |desk| with_free(desk, 4_096)),
     ("4,097 free", |desk| with_free(desk, 4_097)),
     ("4,098 free", |desk| with_free(desk, 4_098)),
@@ -111,10 +106,7 @@ pub fn histories(seed: u64, index: u64) -> Vec<History> {
         if kept.is_empty() {
             kept.push(vec![0x4F, 0]);
         }
-        let log = make(&mut Desk {
-            rng: &mut rng,
-            kept,
-        });
+        let log = make(&mut Desk { rng: &mut rng, kept });
         let mut acts = foreign_acts(&mut rng, &base.calls[at..], 8);
         if rng.chance(25) {
             let at = rng.below(acts.len() as u64) as usize;
@@ -435,9 +427,7 @@ mod tests {
     /// The number that stands before or behind this word.
     fn number(kind: &str, word: &str) -> Option<usize> {
         let words: Vec<&str> = kind.split(' ').collect();
-        let at = words
-            .iter()
-            .position(|own| own.trim_end_matches(',') == word)?;
+        let at = words.iter().position(|own| own.trim_end_matches(',') == word)?;
         let near = [words.get(at + 1), words.get(at.wrapping_sub(1))];
         let mut near = near.into_iter().flatten();
         near.find_map(|own| own.replace(',', "").parse().ok())
@@ -453,8 +443,7 @@ mod tests {
             assert_eq!(number(kind, "kept").unwrap_or(kept), kept, "{kind}");
             assert_eq!(number(kind, "free").unwrap_or(free), free, "{kind}");
         }
-        let numbers =
-            ["length", "kept", "free"].map(|word| number("255 kept and 4,098 free", word));
+        let numbers = ["length", "kept", "free"].map(|word| number("255 kept and 4,098 free", word));
         assert_eq!(numbers, [None, Some(255), Some(4_098)]);
     }
 

@@ -2,8 +2,7 @@
 
 use model::faults::Fault;
 use model::{
-    asrun, card, cases, check, cue, cueing, fuzz, option, people, pieces, recall, recalls,
-    recording, recordings, rolls, scenario,
+    asrun, card, cases, check, cue, cueing, fuzz, option, people, pieces, recall, recalls, recording, recordings, rolls, scenario,
 };
 use std::io::{Read, Write};
 
@@ -162,10 +161,7 @@ fn write_tables(dir: &str, files: &[String]) -> Result<bool, String> {
 }
 
 /// A command over the recorded input and output of a card program.
-fn run_recording(
-    args: &[String],
-    tell: fn(&[u8], &[u8]) -> (String, bool),
-) -> Result<bool, String> {
+fn run_recording(args: &[String], tell: fn(&[u8], &[u8]) -> (String, bool)) -> Result<bool, String> {
     let [input, output] = args else {
         return Err("the files IN and OUT are needed".to_string());
     };
@@ -312,9 +308,7 @@ fn run_cues(args: &[String]) -> Result<bool, String> {
 
 fn required(args: &mut Vec<String>, name: &str) -> Result<u64, String> {
     let value = option(args, name)?.ok_or(format!("{name} is missing"))?;
-    value
-        .parse()
-        .map_err(|_| format!("{name}: no number: {value}"))
+    value.parse().map_err(|_| format!("{name}: no number: {value}"))
 }
 
 fn nothing_left(args: &[String]) -> Result<(), String> {
@@ -334,10 +328,7 @@ fn run_gen(args: &[String]) -> Result<bool, String> {
 
 fn run_fuzz(args: &[String]) -> Result<bool, String> {
     let mut args = args.to_vec();
-    let table = args
-        .iter()
-        .position(|a| a == "--table")
-        .map(|at| args.remove(at));
+    let table = args.iter().position(|a| a == "--table").map(|at| args.remove(at));
     let plan = fuzz::Fuzz {
         seed: required(&mut args, "--seed")?,
         n: required(&mut args, "--n")?,

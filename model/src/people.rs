@@ -1,12 +1,11 @@
 //! Calls as lines for people, and the `decode` command.
 
 use crate::card::{self, Call, Run};
-use crate::config;
-use crate::descriptors;
 use crate::reading;
-use crate::records::{self, hex, name_text, number};
+use crate::records::{self, hex, name_text, number, Line};
 use crate::rules::{MICROSECOND, SECOND};
 use crate::streams::Streams;
+use rules::right::READING;
 
 /// A call in the words of J.280's tables.
 pub fn call_line(call: &Call) -> String {
@@ -53,7 +52,7 @@ fn wire_time(data: &[u8], at: usize) -> String {
 
 fn init_line(data: &[u8]) -> String {
     // What is no Hardware_Config counts to the rest.
-    let hardware = config::hardware_of(data, None).unwrap_or_default();
+    let hardware = READING.hardware(data).unwrap_or_default();
     let mut line = format!(
         "revision={} name={} splicer={}",
         u16::from_be_bytes([data[0], data[1]]),
@@ -68,7 +67,7 @@ fn init_line(data: &[u8]) -> String {
 
 /// A Splice_Request, if its parts stand where they should.
 fn splice_line(data: &[u8]) -> Option<String> {
-    let reading::Tail { bytes, streams } = reading::tail_of(data, None).ok()?;
+    let reading::Tail { bytes, streams } = reading::tail_of(data).ok()?;
     let start = match word(data, 4) {
         0xFFFF_FFFF => format!("at={}", wire_time(data, 8)),
         prior => format!("prior={prior}"),
@@ -86,7 +85,7 @@ fn splice_line(data: &[u8]) -> Option<String> {
         bytes[14]
     );
     if bytes.len() > 15 {
-        if let Ok(mux) = descriptors::mux_of(&bytes[15..], None) {
+        if let Ok(mux) = READING.mux_of(&bytes[15..]) {
             line += &format!(" mux={mux}");
         }
         line += &format!(" desc {}", shortened(&bytes[15..]));
@@ -174,8 +173,7 @@ pub fn decode(input: &[u8], output: &[u8]) -> (String, bool) {
     let mut text = String::new();
     let mut clock = "0.000000".to_string();
     for done in &run.calls[..agreed] {
-        if let (Call::Tick(seconds, micros), false) = (&done.call, done.output.starts_with(&[0x45]))
-        {
+        if let (Call::Tick(seconds, micros), false) = (&done.call, done.output.starts_with(&[0x45])) {
             clock = format!("{seconds}.{micros:06}");
         }
         text += &format!("{clock:>17}  > {}\n", call_line(&done.call));
@@ -185,11 +183,7 @@ pub fn decode(input: &[u8], output: &[u8]) -> (String, bool) {
     }
     if same {
         let last = run.calls.last().map_or(0, |d| d.to);
-        text += &format!(
-            "{} ({} bytes not read)\n",
-            run.stop.line(),
-            input.len() - last
-        );
+        text += &format!("{} ({} bytes not read)\n", card::stop_line(run.stop), input.len() - last);
         return (text, true);
     }
     text += &differing(&run, agreed, &output[at..]);
@@ -250,10 +244,7 @@ mod tests {
             "1000.000000  > 0 Splice_Request size=33 id=1 at=1003.000000 service=1 \
              duration=90000 event=0xFFFFFFFF postblack=0 access=0 override=0 return=1"
         );
-        assert_eq!(
-            lines[5],
-            "1000.000000  < 0 Splice_Response 100 (Successful Response) id=1"
-        );
+        assert_eq!(lines[5], "1000.000000  < 0 Splice_Response 100 (Successful Response) id=1");
         assert_eq!(
             lines[10],
             "1003.000000  < 0 SpliceComplete_Response 116 (Insertion Aborted) id=1 flag=1 \
@@ -264,8 +255,7 @@ mod tests {
 
     #[test]
     fn separate_pids_are_shown() {
-        let words =
-            "id=1 at=1003.000000 service=65535 pcr=49 stream=50:27:4000000:6000000:0xFFFFFFFF:\
+        let words = "id=1 at=1003.000000 service=65535 pcr=49 stream=50:27:4000000:6000000:0xFFFFFFFF:\
                      1920:1080:0501AA stream=49:129:1:2:3:65535:65535 duration=90000";
         let text = format!("> open 0\n> init 0\n> splice 0 {words}\n");
         let (input, output) = recording(&text);
@@ -273,8 +263,7 @@ mod tests {
         let line = format!("Splice_Request size=84 {words} event=0xFFFFFFFF");
         assert!(text.contains(&line), "{text}");
         // What is not laid out so is shown as bytes.
-        let (input, output) =
-            recording("> open 0\n> splice 0 id=1 at=5 duration=1 pcr=1 pids=17\n");
+        let (input, output) = recording("> open 0\n> splice 0 id=1 at=5 duration=1 pcr=1 pids=17\n");
         let (text, _) = decode(&input, &output);
         assert!(text.contains("size=39 data 00 00 00 01 FF"), "{text}");
     }

@@ -9,20 +9,12 @@ const CUTS: [(usize, usize); 5] = [(1, 1), (7, 7), (101, 101), (4096, 4096), (1,
 
 fn cut(input: &[u8], (first, others): (usize, usize)) -> Vec<&[u8]> {
     let (head, rest) = input.split_at(first.min(input.len()));
-    std::iter::once(head)
-        .filter(|head| !head.is_empty())
-        .chain(rest.chunks(others))
-        .collect()
+    std::iter::once(head).filter(|head| !head.is_empty()).chain(rest.chunks(others)).collect()
 }
 
 /// N streams, and the one that fills the output buffer.
 fn streams(seed: u64, n: u64) -> Vec<(String, Vec<u8>)> {
-    let drawn = |index| {
-        (
-            format!("seed {seed} stream {index}"),
-            gen::stream(seed, index),
-        )
-    };
+    let drawn = |index| (format!("seed {seed} stream {index}"), gen::stream(seed, index));
     let filling = ("the filling stream".to_string(), gen::filling());
     (0..n).map(drawn).chain([filling]).collect()
 }

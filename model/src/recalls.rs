@@ -13,7 +13,7 @@ use crate::lapses::{program, Lapse, Lapsed, LAPSES};
 use crate::logs::{histories, whole};
 use crate::people::{agreement, call_line};
 use crate::recall::{self, Recall};
-use crate::records;
+use crate::records::{self, Line};
 use crate::scenario;
 use crate::table::{Floors, Hits};
 
@@ -35,10 +35,7 @@ const RULES: &Floors = &[
     ("ExtendedData 100 of a 100", 25),
     ("ExtendedData 100 of a 109", 1),
     ("ExtendedData 100 of a 116, played 0", 30),
-    (
-        "ExtendedData 100 from before its connection was opened again",
-        20,
-    ),
+    ("ExtendedData 100 from before its connection was opened again", 20),
 ];
 
 /// How many of all branches of the rules must be taken before the first 13.
@@ -167,7 +164,7 @@ impl Sum {
         self.calls += due.calls.len() as u64;
         self.full += u64::from(due.cut.is_some());
         self.hits.add(&due.hits);
-        self.count_rules(&card::run(cut, None).splicer.counts);
+        self.count_rules(&card::counted(cut).1.counts);
         for text in wrong(plan, input, cut, &due)? {
             println!("{name}: {text}");
             self.differ += 1;
@@ -214,9 +211,7 @@ impl Sum {
         let all = crate::counts::floors().into_iter().filter(|(_, f)| *f > 0);
         if self.differ > 0 {
             let (seed, n) = (plan.seed, plan.n);
-            println!(
-                "model recalls --seed {seed} --n {n} --out DIR writes the streams and what is due"
-            );
+            println!("model recalls --seed {seed} --n {n} --out DIR writes the streams and what is due");
         }
         println!(
             "recalls: {} of {} branches of the rules before the first 13, {} branches of the log",
@@ -250,10 +245,7 @@ fn wrong(plan: &Plan, input: &[u8], cut: &[u8], due: &Due) -> Result<Vec<String>
     for (what, input, wanted) in [("until 13", cut, &before), ("the log", &due.log, &kept)] {
         let output = match &plan.card {
             Some(command) => compare::run_command(command, input)?,
-            None => compare::Output {
-                bytes: card::run(input, None).output(),
-                trouble: None,
-            },
+            None => compare::Output { bytes: card::run(input, None).output(), trouble: None },
         };
         list.extend(output.trouble);
         if output.bytes != *wanted {
@@ -274,10 +266,7 @@ fn other_output(who: &str, due: &Due, output: &[u8]) -> Option<String> {
         if !rest.starts_with(wanted) {
             let (call, wanted) = (call_line(call), lines(wanted));
             let found = lines(&rest[..rest.len().min(200)]);
-            return Some(format!(
-                "{who}: call {}: {call}\n  due: {wanted}\n  from there on: {found}",
-                at + 1
-            ));
+            return Some(format!("{who}: call {}: {call}\n  due: {wanted}\n  from there on: {found}", at + 1));
         }
         rest = &rest[wanted.len()..];
     }

@@ -107,10 +107,7 @@ fn base(seed: u64, index: u64, calls: usize, bytes: usize) -> Vec<Turn> {
     let mut turns = Vec::new();
     for done in run.calls.iter().take(calls) {
         let records = entries(&done.output).0;
-        let turn = Turn {
-            call: card::input_bytes(&done.call),
-            records: records.iter().map(|e| e.bytes.to_vec()).collect(),
-        };
+        let turn = Turn { call: card::input_bytes(&done.call), records: records.iter().map(|e| e.bytes.to_vec()).collect() };
         if length(&turn) > left {
             break;
         }
@@ -316,9 +313,7 @@ fn before_any(rng: &mut Rng, turns: &[Turn]) -> Option<(Vec<u8>, Option<Finding>
 /// A byte that is no mark.
 fn unknown(rng: &mut Rng) -> u8 {
     loop {
-        let near = rng.pick(&[
-            0x42, 0x44, 0x46, 0x4C, 0x4E, 0x50, 0x51, 0x53, 0x55, 0x00, 0xFF,
-        ]);
+        let near = rng.pick(&[0x42, 0x44, 0x46, 0x4C, 0x4E, 0x50, 0x51, 0x53, 0x55, 0x00, 0xFF]);
         let any = rng.next() as u8;
         let byte = rng.pick(&[near, any]);
         if !is_call(byte) && byte != 0x45 && byte != 0x52 {
@@ -379,18 +374,7 @@ fn oversize(rng: &mut Rng, turns: &[Turn]) -> Turn {
     let conn = rng.pick(&[0, 1, 2, 3, 4, 255]);
     let size = rng.pick(&[4_089, 4_090, 0x8000, 0xFFFF]) as u16;
     let [high, low] = size.to_be_bytes();
-    let call = vec![
-        0x4D,
-        conn,
-        0,
-        rng.pick(&[1, 7]),
-        high,
-        low,
-        0xFF,
-        0xFF,
-        0xFF,
-        0xFF,
-    ];
+    let call = vec![0x4D, conn, 0, rng.pick(&[1, 7]), high, low, 0xFF, 0xFF, 0xFF, 0xFF];
     let mut open = false;
     for turn in turns.iter().filter(|t| t.call[1] == conn && !refused(t)) {
         match turn.call[0] {
@@ -404,10 +388,7 @@ fn oversize(rng: &mut Rng, turns: &[Turn]) -> Turn {
         (_, false) => 7,
         (_, true) => 4,
     };
-    Turn {
-        call,
-        records: vec![vec![0x45, number]],
-    }
+    Turn { call, records: vec![vec![0x45, number]] }
 }
 
 fn oversize_call(rng: &mut Rng, turns: &[Turn]) -> Option<(Vec<u8>, Option<Finding>)> {
@@ -436,18 +417,7 @@ fn oversize_wrong(rng: &mut Rng, turns: &[Turn]) -> Option<(Vec<u8>, Option<Find
 fn oversize_header(rng: &mut Rng) -> Vec<u8> {
     let size = rng.pick(&[4_089, 4_090, 0x8000, 0xFFFF]) as u16;
     let [high, low] = size.to_be_bytes();
-    vec![
-        0x52,
-        rng.below(4) as u8,
-        0,
-        8,
-        high,
-        low,
-        0,
-        100,
-        0xFF,
-        0xFF,
-    ]
+    vec![0x52, rng.below(4) as u8, 0, 8, high, low, 0, 100, 0xFF, 0xFF]
 }
 
 fn oversize_record(rng: &mut Rng, turns: &[Turn]) -> Option<(Vec<u8>, Option<Finding>)> {
@@ -475,14 +445,7 @@ fn oversize_bytes(rng: &mut Rng, turns: &[Turn]) -> Option<(Vec<u8>, Option<Find
 fn twice(rng: &mut Rng, turns: &[Turn]) -> Option<(Vec<u8>, Option<Finding>)> {
     let (bytes, _) = byte_changed(rng, turns)?;
     let turned = turns_of(&bytes)?;
-    let kinds: [Kind; 6] = [
-        dropped,
-        doubled,
-        cut,
-        house_number,
-        turn_dropped,
-        before_any,
-    ];
+    let kinds: [Kind; 6] = [dropped, doubled, cut, house_number, turn_dropped, before_any];
     let (bytes, _) = rng.pick(&kinds)(rng, &turned)?;
     Some((bytes, None))
 }
@@ -593,10 +556,7 @@ pub fn of_stream(seed: u64, index: u64) -> Vec<Made> {
         list.extend(every_end(&short_day(&mut rng)));
     }
     if index.is_multiple_of(8) {
-        list.extend(longest(
-            &mut rng,
-            &base(seed, index, usize::MAX, LONGEST - 40),
-        ));
+        list.extend(longest(&mut rng, &base(seed, index, usize::MAX, LONGEST - 40)));
     }
     if index.is_multiple_of(12) {
         let bytes = [0x4F, rng.below(5) as u8].repeat(LONGEST / 2);
@@ -634,28 +594,16 @@ fn every_end(turns: &[Turn]) -> Vec<Made> {
     };
     let known = |to: usize| {
         let begins = list.iter().any(|e| e.at == to && !is_call(e.bytes[0]));
-        Some(if begins {
-            Finding::Call(calls(to))
-        } else {
-            Finding::None
-        })
+        Some(if begins { Finding::Call(calls(to)) } else { Finding::None })
     };
-    let made = |to: usize| Made {
-        kind: "every byte of a recording as its end",
-        bytes: whole[..to].to_vec(),
-        known: known(to),
-    };
+    let made = |to: usize| Made { kind: "every byte of a recording as its end", bytes: whole[..to].to_vec(), known: known(to) };
     (0..=whole.len()).map(made).collect()
 }
 
 /// Recordings of 65,535 to 65,537 bytes, good, wrong at their last call, or with an unknown mark.
 fn longest(rng: &mut Rng, turns: &[Turn]) -> Vec<Made> {
     let mut list = Vec::new();
-    let lengths = [
-        ("length 65,535", LONGEST - 1),
-        ("length 65,536", LONGEST),
-        ("length 65,537", LONGEST + 1),
-    ];
+    let lengths = [("length 65,535", LONGEST - 1), ("length 65,536", LONGEST), ("length 65,537", LONGEST + 1)];
     for (kind, length) in lengths {
         let good = filled(turns, length);
         let longer = length > LONGEST;
@@ -748,8 +696,7 @@ impl Tally {
     }
 
     pub fn table(&self) -> String {
-        let line =
-            |(name, floor): (&str, u64)| format!("{:>9} {floor:>6}  {name}\n", self.of(name));
+        let line = |(name, floor): (&str, u64)| format!("{:>9} {floor:>6}  {name}\n", self.of(name));
         let lines: String = floors().into_iter().map(line).collect();
         format!("     hits  floor  kind or finding\n{lines}")
     }
@@ -779,11 +726,7 @@ fn of_scenario(path: &str) -> Result<Option<Made>, String> {
     let steps = scenario::parse(&text).map_err(|e| format!("{path}: {e}"))?;
     // a rolling card's calls have no marks
     let marked = !scenario::is_rolling(&steps) && !scenario::is_cued(&steps);
-    Ok(marked.then(|| Made {
-        kind: "scenario",
-        bytes: recorded(&scenario::input_of(&steps)),
-        known: Some(Finding::None),
-    }))
+    Ok(marked.then(|| Made { kind: "scenario", bytes: recorded(&scenario::input_of(&steps)), known: Some(Finding::None) }))
 }
 
 /// Every recording with a name.
@@ -798,10 +741,7 @@ fn all(plan: &Plan) -> impl Iterator<Item = Result<(String, Made), String>> + '_
             let name = format!("recording-{}-{index:05}-{place:04}.rec", plan.seed);
             Ok((name, made))
         };
-        of_stream(plan.seed, index)
-            .into_iter()
-            .enumerate()
-            .map(named)
+        of_stream(plan.seed, index).into_iter().enumerate().map(named)
     });
     files.chain(streams)
 }
@@ -836,11 +776,7 @@ pub fn recordings(plan: &Plan) -> Result<bool, String> {
     if plan.table {
         print!("{}", tally.table());
     }
-    let missing = if plan.floors {
-        tally.missing()
-    } else {
-        Vec::new()
-    };
+    let missing = if plan.floors { tally.missing() } else { Vec::new() };
     for line in &missing {
         println!("below its floor: {line}");
     }
@@ -857,9 +793,7 @@ fn wrong(plan: &Plan, made: &Made) -> Result<Option<String>, String> {
     let own = check(&made.bytes);
     if let Some(known) = made.known.filter(|known| *known != own) {
         let (own, known) = (own.line(), known.line());
-        return Ok(Some(format!(
-            "the second program says {own}, by its damage {known}"
-        )));
+        return Ok(Some(format!("the second program says {own}, by its damage {known}")));
     }
     let Some(command) = &plan.checker else {
         return Ok(None);
@@ -871,9 +805,7 @@ fn wrong(plan: &Plan, made: &Made) -> Result<Option<String>, String> {
     }
     let found = String::from_utf8_lossy(&output.bytes).into_owned();
     let trouble = output.trouble.unwrap_or_default();
-    Ok(Some(format!(
-        "the second program says {due:?}, the checker {found:?} {trouble}"
-    )))
+    Ok(Some(format!("the second program says {due:?}, the checker {found:?} {trouble}")))
 }
 
 /// Shows that each deliberate mistake of a checker is noticed.
@@ -884,20 +816,14 @@ pub fn faults(seed: u64, n: u64) -> Result<bool, String> {
     for (lapse, text) in LAPSES {
         let differs = |at: &usize| checked(&all[*at].bytes, Some(*lapse)).0 != clean[*at];
         match (0..all.len()).find(differs) {
-            Some(at) => println!(
-                "{lapse:?} noticed in recording {at}, {}: {text}",
-                all[at].kind
-            ),
+            Some(at) => println!("{lapse:?} noticed in recording {at}, {}: {text}", all[at].kind),
             None => {
                 unnoticed += 1;
                 println!("{lapse:?} NOT NOTICED: {text}");
             }
         }
     }
-    println!(
-        "recordings: {} mistakes, {unnoticed} not noticed",
-        LAPSES.len()
-    );
+    println!("recordings: {} mistakes, {unnoticed} not noticed", LAPSES.len());
     Ok(unnoticed == 0)
 }
 

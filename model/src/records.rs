@@ -1,213 +1,64 @@
-//! The messages a splicer writes: their bytes, reading them back, and lines for people.
+//! Records as lines for people, and output bytes taken apart.
 
-/// One outgoing message and the connection it is for.
-#[derive(Clone, Debug, PartialEq, Eq)]
-pub struct Record {
-    pub conn: u8,
-    pub what: What,
+pub use rules::bytes::{all_bytes, Record, Shown, What};
+use rules::bytes::{half, NO_RESULT};
+
+/// What has a line for people.
+pub trait Line {
+    fn line(&self) -> String;
 }
 
-/// The kinds of outgoing message.
-#[derive(Clone, Debug, PartialEq, Eq)]
-pub enum What {
-    General {
-        result: u16,
-    },
-    Init {
-        result: u16,
-        revision: u16,
-        name: [u8; 32],
-    },
-    Alive {
-        result: u16,
-        state: u32,
-        id: u32,
-        seconds: u32,
-        micros: u32,
-    },
-    Splice {
-        result: u16,
-        id: u32,
-    },
-    Complete {
-        result: u16,
-        id: u32,
-        flag: u8,
-        bitrate: u32,
-        played: u32,
-    },
-    Abort {
-        result: u16,
-        id: u32,
-    },
-    /// A cue message (02, CR 7): "both Result fields 0xFFFF".
-    Cue {
-        seconds: u32,
-        micros: u32,
-        section: Vec<u8>,
-    },
-    /// GetConfig_Response (02, CR 6): Hardware_Config with its Length, and the map section.
-    Config {
-        result: u16,
-        name: [u8; 32],
-        hardware: Vec<u8>,
-        map: Vec<u8>,
-    },
-    /// 02, CR 8.
-    Extended {
-        result: u16,
-        id: u32,
-        shown: Option<Shown>,
-    },
-}
-
-/// An ended session in "one descriptor of ours: tag 0x01, length 14, identifier 0x43415244, SpliceEventID
-/// 4, result 2, PlayedDuration 4" (02, CR 8).
-#[derive(Clone, Copy, Debug, PartialEq, Eq)]
-pub struct Shown {
-    pub event: u32,
-    pub result: u16,
-    pub played: u32,
-}
-
-impl Shown {
-    /// "CARD" in ASCII.
-    const IDENTIFIER: u32 = 0x4341_5244;
-
-    fn bytes(self) -> Vec<u8> {
-        let mut bytes = vec![0x01, 14];
-        bytes.extend(words(&[Shown::IDENTIFIER, self.event]));
-        bytes.extend(self.result.to_be_bytes());
-        bytes.extend(words(&[self.played]));
-        bytes
-    }
-}
-
-impl What {
-    /// MessageID, Result and the data bytes, by 01's list under "Bytes".
-    fn parts(&self) -> (u16, u16, Vec<u8>) {
-        match self {
-            What::General { result } => (0x0000, *result, Vec::new()),
-            What::Init {
-                result,
-                revision,
-                name,
-            } => (
-                0x0002,
-                *result,
-                [&revision.to_be_bytes()[..], name].concat(),
-            ),
-            What::Alive {
-                result,
-                state,
-                id,
-                seconds,
-                micros,
-            } => (0x0006, *result, words(&[*state, *id, *seconds, *micros])),
-            What::Splice { result, id } => (0x0008, *result, words(&[*id])),
-            What::Complete {
-                result,
-                id,
-                flag,
-                bitrate,
-                played,
-            } => {
-                let mut data = words(&[*id]);
-                data.push(*flag);
-                data.extend(words(&[*bitrate, *played]));
-                (0x0009, *result, data)
-            }
-            What::Abort { result, id } => (0x000F, *result, words(&[*id])),
-            What::Cue {
-                seconds,
-                micros,
-                section,
-            } => {
-                let data = [words(&[*seconds, *micros]), section.clone()].concat();
-                (0x000C, NO_RESULT, data)
-            }
-            What::Config {
-                result,
-                name,
-                hardware,
-                map,
-            } => (0x000B, *result, [&name[..], hardware, map].concat()),
-            What::Extended { result, id, shown } => {
-                let descriptor = shown.map_or(Vec::new(), Shown::bytes);
-                (0x0004, *result, [words(&[*id]), descriptor].concat())
-            }
+/// The message's name in J.280, its result, and its fields as words.
+fn words_of(what: &What) -> (&'static str, u16, String) {
+    match what {
+        What::General { result } => ("General_Response", *result, String::new()),
+        What::Init { result, revision, name } => {
+            let fields = format!(" revision={revision} name={}", name_text(name));
+            ("Init_Response", *result, fields)
         }
-    }
-
-    /// The message's name in J.280, its result, and its fields as words.
-    fn words(&self) -> (&'static str, u16, String) {
-        match self {
-            What::General { result } => ("General_Response", *result, String::new()),
-            What::Init {
-                result,
-                revision,
-                name,
-            } => {
-                let fields = format!(" revision={revision} name={}", name_text(name));
-                ("Init_Response", *result, fields)
+        What::Alive { result, state, id, seconds, micros } => {
+            let id = number(*id);
+            let fields = format!(" state={state} id={id} time={seconds}.{micros:06}");
+            ("Alive_Response", *result, fields)
+        }
+        What::Splice { result, id } => ("Splice_Response", *result, id_word(*id)),
+        What::Complete { result, id, flag, bitrate, played } => {
+            let id = id_word(*id);
+            let fields = format!("{id} flag={flag} bitrate={bitrate} played={played}");
+            ("SpliceComplete_Response", *result, fields)
+        }
+        What::Abort { result, id } => ("Abort_Response", *result, id_word(*id)),
+        What::Cue { seconds, micros, section } => {
+            let (time, section) = (cue_time(*seconds, *micros), packed(section));
+            let fields = format!(" time={time} section={section}");
+            ("Cue_Request", NO_RESULT, fields)
+        }
+        What::Config { result, name, hardware, map } => {
+            let (name, hardware) = (name_text(name), packed(hardware));
+            let fields = format!(" name={name} hardware={hardware} map={}", packed(map));
+            ("GetConfig_Response", *result, fields)
+        }
+        What::Extended { result, id, shown } => {
+            let mut fields = id_word(*id);
+            if let Some(s) = shown {
+                let event = number(s.event);
+                fields += &format!(" event={event} result={} played={}", s.result, s.played);
             }
-            What::Alive {
-                result,
-                state,
-                id,
-                seconds,
-                micros,
-            } => {
-                let id = number(*id);
-                let fields = format!(" state={state} id={id} time={seconds}.{micros:06}");
-                ("Alive_Response", *result, fields)
-            }
-            What::Splice { result, id } => ("Splice_Response", *result, id_word(*id)),
-            What::Complete {
-                result,
-                id,
-                flag,
-                bitrate,
-                played,
-            } => {
-                let id = id_word(*id);
-                let fields = format!("{id} flag={flag} bitrate={bitrate} played={played}");
-                ("SpliceComplete_Response", *result, fields)
-            }
-            What::Abort { result, id } => ("Abort_Response", *result, id_word(*id)),
-            What::Cue {
-                seconds,
-                micros,
-                section,
-            } => {
-                let (time, section) = (cue_time(*seconds, *micros), packed(section));
-                let fields = format!(" time={time} section={section}");
-                ("Cue_Request", NO_RESULT, fields)
-            }
-            What::Config {
-                result,
-                name,
-                hardware,
-                map,
-            } => {
-                let (name, hardware) = (name_text(name), packed(hardware));
-                let fields = format!(" name={name} hardware={hardware} map={}", packed(map));
-                ("GetConfig_Response", *result, fields)
-            }
-            What::Extended { result, id, shown } => {
-                let mut fields = id_word(*id);
-                if let Some(s) = shown {
-                    let event = number(s.event);
-                    fields += &format!(" event={event} result={} played={}", s.result, s.played);
-                }
-                ("ExtendedData_Response", *result, fields)
-            }
+            ("ExtendedData_Response", *result, fields)
         }
     }
 }
 
-/// A request's Result.
-const NO_RESULT: u16 = 0xFFFF;
+/// In the words of a scenario's expected line.
+impl Line for Record {
+    fn line(&self) -> String {
+        let (kind, result, fields) = words_of(&self.what);
+        if result == NO_RESULT {
+            return format!("{} {kind}{fields}", self.conn);
+        }
+        format!("{} {kind} {}{fields}", self.conn, named(result))
+    }
+}
 
 /// The time of a cue: all ones are none.
 pub fn cue_time(seconds: u32, micros: u32) -> String {
@@ -222,39 +73,6 @@ fn id_word(id: u32) -> String {
     format!(" id={}", number(id))
 }
 
-fn words(list: &[u32]) -> Vec<u8> {
-    list.iter().flat_map(|w| w.to_be_bytes()).collect()
-}
-
-impl Record {
-    /// "after a two-byte mark: 0x52, and the connection it is for"; then MessageID 2,
-    /// MessageSize 2, Result 2, Result_Extension 2 ("in answers Result_Extension is 0xFFFF").
-    pub fn bytes(&self) -> Vec<u8> {
-        let (id, result, data) = self.what.parts();
-        let mut bytes = vec![0x52, self.conn];
-        bytes.extend(id.to_be_bytes());
-        bytes.extend((data.len() as u16).to_be_bytes());
-        bytes.extend(result.to_be_bytes());
-        bytes.extend([0xFF, 0xFF]);
-        bytes.extend(data);
-        bytes
-    }
-
-    /// The record as one line for people, in the words of a scenario's expected line.
-    pub fn line(&self) -> String {
-        let (kind, result, fields) = self.what.words();
-        if result == NO_RESULT {
-            return format!("{} {kind}{fields}", self.conn);
-        }
-        format!("{} {kind} {}{fields}", self.conn, named(result))
-    }
-}
-
-/// All records behind one another.
-pub fn all_bytes(records: &[Record]) -> Vec<u8> {
-    records.iter().flat_map(|r| r.bytes()).collect()
-}
-
 /// One thing found in the card program's output.
 #[derive(Clone, Debug, PartialEq, Eq)]
 pub enum Item {
@@ -262,16 +80,6 @@ pub enum Item {
     Refused(u8),
     /// Bytes that are no record of 01 (a wrong size, field or mark, or a cut record).
     Strange(Vec<u8>),
-}
-
-impl Item {
-    pub fn line(&self) -> String {
-        match self {
-            Item::Record(record) => record.line(),
-            Item::Refused(n) => format!("refused {n}"),
-            Item::Strange(bytes) => format!("bytes {}", hex(bytes)),
-        }
-    }
 }
 
 /// Takes output bytes apart. What cannot be read ends up as `Strange`.
@@ -291,7 +99,7 @@ fn first_item(rest: &[u8]) -> (Item, usize) {
         return (Item::Refused(rest[1]), 2);
     }
     if rest[0] == 0x52 && rest.len() >= 10 {
-        let length = 10 + u16::from_be_bytes([rest[4], rest[5]]) as usize;
+        let length = 10 + usize::from(half(rest, 4));
         if rest.len() >= length {
             let item = match record_of(&rest[..length]) {
                 Some(record) => Item::Record(record),
@@ -303,81 +111,51 @@ fn first_item(rest: &[u8]) -> (Item, usize) {
     (Item::Strange(rest.to_vec()), rest.len())
 }
 
-/// The record with exactly these bytes, if there is one.
+/// The record with exactly these bytes, if there is one: only one that writes these very bytes was read in full.
 fn record_of(bytes: &[u8]) -> Option<Record> {
-    let half = |at: usize| u16::from_be_bytes([bytes[at], bytes[at + 1]]);
-    let record = Record {
-        conn: bytes[1],
-        what: what_of(half(2), half(6), &bytes[10..])?,
-    };
-    // Only a record that writes these very bytes again was read in full.
+    let what = what_of(half(bytes, 2), half(bytes, 6), &bytes[10..])?;
+    let record = Record { conn: bytes[1], what };
     (record.bytes() == bytes).then_some(record)
 }
 
 /// The message of this MessageID, Result and data.
 fn what_of(id: u16, result: u16, data: &[u8]) -> Option<What> {
-    let word = |at: usize| {
-        let four = data.get(at..at + 4)?;
-        Some(u32::from_be_bytes([four[0], four[1], four[2], four[3]]))
-    };
+    let half = |at: usize| Some(u16::from_be_bytes(data.get(at..at + 2)?.try_into().ok()?));
+    let word = |at: usize| Some(u32::from_be_bytes(data.get(at..at + 4)?.try_into().ok()?));
+    let name = |at: usize| data.get(at..at + 32)?.try_into().ok();
     Some(match id {
         0x0000 => What::General { result },
-        0x0002 => What::Init {
-            result,
-            revision: u16::from_be_bytes([*data.first()?, *data.get(1)?]),
-            name: data.get(2..34)?.try_into().ok()?,
-        },
-        0x0004 => What::Extended {
-            result,
-            id: word(0)?,
-            shown: match data.len() {
-                4 => None,
-                _ => Some(Shown {
-                    event: word(10)?,
-                    result: u16::from_be_bytes([*data.get(14)?, *data.get(15)?]),
-                    played: word(16)?,
-                }),
-            },
-        },
-        0x0006 => What::Alive {
-            result,
-            state: word(0)?,
-            id: word(4)?,
-            seconds: word(8)?,
-            micros: word(12)?,
-        },
-        0x0008 => What::Splice {
-            result,
-            id: word(0)?,
-        },
-        0x0009 => What::Complete {
-            result,
-            id: word(0)?,
-            flag: *data.get(4)?,
-            bitrate: word(5)?,
-            played: word(9)?,
-        },
-        0x000F => What::Abort {
-            result,
-            id: word(0)?,
-        },
-        0x000C => What::Cue {
-            seconds: word(0)?,
-            micros: word(4)?,
-            section: data[8..].to_vec(),
-        },
+        0x0002 => What::Init { result, revision: half(0)?, name: name(2)? },
+        0x0004 if data.len() == 4 => What::Extended { result, id: word(0)?, shown: None },
+        0x0004 => {
+            let shown = Shown { event: word(10)?, result: half(14)?, played: word(16)? };
+            What::Extended { result, id: word(0)?, shown: Some(shown) }
+        }
+        0x0006 => What::Alive { result, state: word(0)?, id: word(4)?, seconds: word(8)?, micros: word(12)? },
+        0x0008 => What::Splice { result, id: word(0)? },
+        0x0009 => {
+            let (flag, bitrate, played) = (*data.get(4)?, word(5)?, word(9)?);
+            What::Complete { result, id: word(0)?, flag, bitrate, played }
+        }
+        0x000F => What::Abort { result, id: word(0)? },
+        0x000C => What::Cue { seconds: word(0)?, micros: word(4)?, section: data[8..].to_vec() },
         0x000B => {
-            let length = u16::from_be_bytes([*data.get(32)?, *data.get(33)?]);
-            let end = 34 + usize::from(length);
-            What::Config {
-                result,
-                name: data.get(..32)?.try_into().ok()?,
-                hardware: data.get(32..end)?.to_vec(),
-                map: data.get(end..)?.to_vec(),
-            }
+            let end = 34 + usize::from(half(32)?);
+            let (hardware, map) = (data.get(32..end)?.to_vec(), data.get(end..)?.to_vec());
+            What::Config { result, name: name(0)?, hardware, map }
         }
         _ => return None,
     })
+}
+
+impl Line for Item {
+    fn line(&self) -> String {
+        match self {
+            Item::Record(record) => record.line(),
+            Item::Refused(n) => format!("refused {n}"),
+            Item::Strange(bytes) => format!("bytes {}", hex(bytes)),
+        }
+    }
 }
 
 /// A result number with its name from J.280, Appendix I.
@@ -418,11 +196,7 @@ pub fn number(value: u32) -> String {
 /// A name up to its first zero byte, quoted; bytes behind the zero are shown if not all zero.
 pub fn name_text(name: &[u8]) -> String {
     let end = name.iter().position(|b| *b == 0).unwrap_or(name.len());
-    let text: String = name[..end]
-        .iter()
-        .flat_map(|b| b.escape_ascii())
-        .map(char::from)
-        .collect();
+    let text: String = name[..end].iter().flat_map(|b| b.escape_ascii()).map(char::from).collect();
     let rest = &name[end..];
     if rest.is_empty() {
         format!("\"{text}\" (no zero byte)")
@@ -441,79 +215,4 @@ fn packed(bytes: &[u8]) -> String {
 pub fn hex(bytes: &[u8]) -> String {
     let list: Vec<String> = bytes.iter().map(|b| format!("{b:02X}")).collect();
     list.join(" ")
-}
-
-#[cfg(test)]
-mod tests {
-    use super::*;
-
-    #[test]
-    fn a_completed_splice_has_01s_layout() {
-        let record = Record {
-            conn: 2,
-            what: What::Complete {
-                result: 125,
-                id: 7,
-                flag: 1,
-                bitrate: 0,
-                played: 900_000,
-            },
-        };
-        let expected = "52 02 00 09 00 0D 00 7D FF FF 00 00 00 07 01 00 00 00 00 00 0D BB A0";
-        assert_eq!(hex(&record.bytes()), expected);
-        assert_eq!(items(&record.bytes()), vec![Item::Record(record)]);
-    }
-
-    #[test]
-    fn a_cue_request_has_no_result() {
-        let record = Record {
-            conn: 3,
-            what: What::Cue {
-                seconds: 0x3E9,
-                micros: 0x1_B212,
-                section: vec![0xFC, 0x30, 0x00],
-            },
-        };
-        let expected = "52 03 00 0C 00 0B FF FF FF FF 00 00 03 E9 00 01 B2 12 FC 30 00";
-        assert_eq!(hex(&record.bytes()), expected);
-        let line = "3 Cue_Request time=1001.111122 section=FC3000";
-        assert_eq!(record.line(), line);
-        assert_eq!(items(&record.bytes()), vec![Item::Record(record.clone())]);
-        let mut other = record.bytes();
-        other[6..8].copy_from_slice(&[0, 100]);
-        assert_eq!(items(&other), vec![Item::Strange(other.clone())]);
-        let none = Record {
-            conn: 0,
-            what: What::Cue {
-                seconds: 0xFFFF_FFFF,
-                micros: 0xFFFF_FFFF,
-                section: Vec::new(),
-            },
-        };
-        assert_eq!(none.line(), "0 Cue_Request time=none section=");
-        let cut = [
-            0x52, 0, 0, 0x0C, 0, 7, 255, 255, 255, 255, 0, 0, 0, 0, 0, 0, 0,
-        ];
-        assert_eq!(items(&cut), vec![Item::Strange(cut.to_vec())]);
-    }
-
-    #[test]
-    fn a_wrong_result_extension_is_strange() {
-        let mut bytes = Record {
-            conn: 0,
-            what: What::General { result: 103 },
-        }
-        .bytes();
-        bytes[9] = 0;
-        assert_eq!(items(&bytes), vec![Item::Strange(bytes.clone())]);
-    }
-
-    #[test]
-    fn a_cut_record_behind_a_refusal_is_strange() {
-        let found = items(&[0x45, 7, 0x52, 0, 0]);
-        assert_eq!(
-            found,
-            vec![Item::Refused(7), Item::Strange(vec![0x52, 0, 0])]
-        );
-    }
 }

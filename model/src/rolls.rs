@@ -4,10 +4,12 @@
 use crate::card;
 use crate::draw::{Ask, Gen, Rng, TOP};
 use crate::episodes;
-use crate::records;
-use crate::rolling::{Call, Counter, Rolling, HORIZON, LIMIT, SLIPS};
+use crate::faults::Slip;
+use crate::records::{self, Line};
+use crate::rolling::{Call, Rolling, HORIZON, LIMIT, SLIPS};
 use crate::rules::{ninths, Splicer, State, MICROSECOND, NONE, ROOM, SECOND, TICK};
 use crate::table::{Floors, Hits};
+use crate::watch::{self, Watch, Watcher};
 
 /// Branches of a rolling card, with their floors for 200 streams.
 pub const FLOORS: &Floors = &[
@@ -52,7 +54,8 @@ pub const FLOORS: &Floors = &[
 
 /// What a rolling stream is drawn with beside `Gen`.
 pub struct Rolls {
-    pub counter: Counter,
+    /// The last reading, once the instant was given.
+    pub last: Option<u32>,
     pub calls: Vec<Call>,
     /// Every reading is at a whole microsecond.
     whole: bool,
@@ -75,12 +78,7 @@ pub fn stream(seed: u64, index: u64) -> Stream {
     let theme = &themes[(index % themes.len() as u64) as usize];
     gen.at_the_top = theme.at_the_top;
     let whole = index % 6 == 5;
-    gen.rolling = Some(Box::new(Rolls {
-        counter: Counter::default(),
-        calls: Vec::new(),
-        whole,
-        held_off: true,
-    }));
+    gen.rolling = Some(Box::new(Rolls { last: None, calls: Vec::new(), whole, held_off: true }));
     begin(&mut gen, theme.favourites);
     let length = gen.rng.between(150, 280);
     while gen.calls < length {
@@ -100,9 +98,7 @@ pub fn stream(seed: u64, index: u64) -> Stream {
 }
 
 /// What only this card has.
-const OWN: &[episodes::Episode] = &[
-    edges, edges, edges, aimed, aimed, aimed, small, small, late, second, last, on_air,
-];
+const OWN: &[episodes::Episode] = &[edges, edges, edges, aimed, aimed, aimed, small, small, late, second, last, on_air];
 
 /// Connections, at times requests at clock 0, and the instant.
 fn begin(gen: &mut Gen, favourites: &[episodes::Episode]) {
@@ -124,15 +120,7 @@ fn begin(gen: &mut Gen, favourites: &[episodes::Episode]) {
     let past = gen.rng.below(2_000_000_000) * 1_000_000;
     let near = gen.next_instant().map_or(past, |t| t / MICROSECOND);
     let drawn = gen.rng.below(1_000_000);
-    let mut time = gen.rng.pick(&[
-        0,
-        1_000_000_000,
-        past,
-        past + drawn,
-        near,
-        near + 1,
-        near / 2,
-    ]);
+    let mut time = gen.rng.pick(&[0, 1_000_000_000, past, past + drawn, near, near + 1, near / 2]);
     if gen.at_the_top {
         let back = gen.rng.pick(&[0, 1, 5, 100, 300]);
         time = TOP - back * 1_000_000 - drawn;
@@ -161,28 +149,16 @@ fn push(gen: &mut Gen, call: Call) {
     };
     rolls.calls.push(call.clone());
     gen.calls += 1;
-    match call {
-        Call::Plain(call) => {
-            card::make(&mut gen.model, &call);
-        }
-        Call::Instant {
-            seconds,
-            micros,
-            reading,
-        } => {
-            let time = (seconds, micros);
-            let _ = rolls.counter.instant(&mut gen.model, time, reading, ROOM);
-        }
-        Call::Reading(reading) => {
-            let _ = rolls.counter.reading(&mut gen.model, reading, ROOM);
-        }
-    }
+    let splicer = std::mem::replace(&mut gen.model, Splicer::fresh(&card::channel_name()).0);
+    let mut card = Rolling { splicer, last: rolls.last, counting: &rules::rolling::COUNTING };
+    card.shown(&call);
+    (gen.model, rolls.last) = (card.splicer, card.last);
 }
 
 /// The last reading, once the instant was given, and whether steps keep whole microseconds.
 fn state(gen: &Gen) -> (Option<u32>, bool, bool) {
     let rolls = gen.rolling.as_ref();
-    let last = rolls.and_then(|rolls| rolls.counter.last);
+    let last = rolls.and_then(|rolls| rolls.last);
     let whole = rolls.is_some_and(|rolls| rolls.whole);
     (last, whole, rolls.is_some_and(|rolls| rolls.held_off))
 }
@@ -208,14 +184,7 @@ fn brought(gen: &mut Gen, seconds: u32, micros: u32) {
         let near = 0u32.wrapping_sub(gen.rng.between(1, before) as u32);
         let drawn = gen.rng.next() as u32;
         let reading = gen.rng.pick(&[near, near, near, near, near, drawn]);
-        return push(
-            gen,
-            Call::Instant {
-                seconds,
-                micros,
-                reading,
-            },
-        );
+        return push(gen, Call::Instant { seconds, micros, reading });
     }
     let (target, clock) = (ninths(seconds, micros), gen.model.clock);
     if target < clock {
@@ -239,23 +208,9 @@ fn brought(gen: &mut Gen, seconds: u32, micros: u32) {
 fn edges(gen: &mut Gen) {
     let (_, whole, _) = state(gen);
     for _ in 0..gen.rng.between(1, 3) {
-        let any = [
-            0,
-            1,
-            LIMIT - 1,
-            LIMIT,
-            LIMIT + 1,
-            1 << 31,
-            u32::MAX,
-            LIMIT + 2,
-            1,
-        ];
+        let any = [0, 1, LIMIT - 1, LIMIT, LIMIT + 1, 1 << 31, u32::MAX, LIMIT + 2, 1];
         let kept = [0, 9, LIMIT, LIMIT + 1, LIMIT + 2, 1 << 31, u32::MAX];
-        let ticks = if whole {
-            gen.rng.pick(&kept)
-        } else {
-            gen.rng.pick(&any)
-        };
+        let ticks = if whole { gen.rng.pick(&kept) } else { gen.rng.pick(&any) };
         step(gen, ticks);
     }
     let conn = gen.conn();
@@ -288,14 +243,7 @@ fn second(gen: &mut Gen) {
     }
     let seconds = gen.rng.pick(&[0, now, now.saturating_add(100), u32::MAX]);
     let reading = last.unwrap_or(0).wrapping_add(5);
-    push(
-        gen,
-        Call::Instant {
-            seconds,
-            micros,
-            reading,
-        },
-    );
+    push(gen, Call::Instant { seconds, micros, reading });
 }
 
 /// A timed request whose start, or end, is a ninth before, on or behind a reading of the counter: its
@@ -331,11 +279,7 @@ fn aimed(gen: &mut Gen) {
     step(gen, ticks as u32);
     gen.alive(conn);
     // its end is as far from a reading as its start
-    let duration = if whole {
-        ask.duration.next_multiple_of(9)
-    } else {
-        ask.duration
-    };
+    let duration = if whole { ask.duration.next_multiple_of(9) } else { ask.duration };
     step(gen, duration);
     if gen.rng.chance(50) {
         step(gen, if whole { 9 } else { 1 });
@@ -433,15 +377,27 @@ pub fn timed_start(bytes: &[u8]) -> Option<u64> {
 /// What came of a stream on the second program.
 struct Played {
     outputs: Vec<Vec<u8>>,
-    card: Rolling,
     wrong: Option<String>,
 }
 
 /// Plays a stream. The clock is held to the sum of all good steps since the instant, and a stream of whole
 /// microseconds to a plain splicer that is ticked to the same.
-fn play(stream: &Stream, slip: Option<crate::rolling::Slip>) -> Played {
-    let (mut card, _) = Rolling::fresh(&card::channel_name());
-    card.counter.slip = slip;
+fn play(stream: &Stream, slip: Option<Slip>) -> Played {
+    let name = card::channel_name();
+    match slip {
+        None => play_on(stream, watch::fresh_rolling(&name).0),
+        Some(slip) => play_on(stream, Rolling::fresh_by(&name, slip.rules(), slip.counting()).0),
+    }
+}
+
+/// Plays a stream by the right rules, and counts.
+fn counted(stream: &Stream) -> (Played, Watch) {
+    let mut watcher = Watcher::new();
+    let played = watcher.during(|| play(stream, None));
+    (played, watcher.seen())
+}
+
+fn play_on(stream: &Stream, mut card: Rolling) -> Played {
     let (mut plain, _) = Splicer::fresh(&card::channel_name());
     let mut base = None;
     let mut outputs = Vec::new();
@@ -452,13 +408,11 @@ fn play(stream: &Stream, slip: Option<crate::rolling::Slip>) -> Played {
             let number = card.make(call, ROOM - 1).err().unwrap_or(0);
             outputs.push(vec![0x45, number]);
         }
-        let before = card.counter.last;
+        let before = card.last;
         let output = card.shown(call);
         let good = output.first() != Some(&0x45);
         match call {
-            Call::Instant {
-                seconds, micros, ..
-            } if good => base = Some((ninths(*seconds, *micros), 0)),
+            Call::Instant { seconds, micros, .. } if good => base = Some((ninths(*seconds, *micros), 0)),
             Call::Reading(reading) if good => {
                 let step = reading.wrapping_sub(before.unwrap_or(0));
                 base = base.map(|(time, ticks)| (time, ticks + u64::from(step)));
@@ -477,11 +431,7 @@ fn play(stream: &Stream, slip: Option<crate::rolling::Slip>) -> Played {
         }
         outputs.push(output);
     }
-    Played {
-        outputs,
-        card,
-        wrong,
-    }
+    Played { outputs, wrong }
 }
 
 /// What a plain splicer writes for the call, ticked to the same clock. Nothing is to be compared of a
@@ -504,9 +454,9 @@ pub fn rolls(seed: u64, n: u64, table: bool, floors: bool) -> Result<bool, Strin
     let (mut calls, mut differ) = (0, 0);
     for index in 0..n {
         let stream = stream(seed, index);
-        let played = play(&stream, None);
+        let (played, seen) = counted(&stream);
         calls += stream.calls.len();
-        hits.add(&played.card.counter.hits);
+        hits.add(&seen.rolls);
         if let Some(text) = played.wrong {
             println!("rolling stream {index}, {text}");
             differ += 1;
@@ -515,11 +465,7 @@ pub fn rolls(seed: u64, n: u64, table: bool, floors: bool) -> Result<bool, Strin
     if table {
         print!("{}", hits.table(FLOORS));
     }
-    let missing = if floors {
-        hits.missing(FLOORS)
-    } else {
-        Vec::new()
-    };
+    let missing = if floors { hits.missing(FLOORS) } else { Vec::new() };
     for line in &missing {
         println!("below its floor: {line}");
     }

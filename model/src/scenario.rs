@@ -5,7 +5,7 @@ use crate::compare;
 use crate::cues::Given;
 use crate::descriptors::AVERAGE;
 use crate::ended::{Row, KEPT};
-use crate::records::{self, Record, Shown, What};
+use crate::records::{self, Line, Record, Shown, What};
 use crate::rolling;
 use crate::rules::{Splicer, ROOM};
 use crate::streams::{self, Stream, Streams};
@@ -211,11 +211,7 @@ fn rolling_call(line: &str) -> Result<Option<rolling::Call>, String> {
             let mut fields = Fields::new(rest)?;
             let reading = fields.required("reading")?;
             fields.done()?;
-            Ok(Some(rolling::Call::Instant {
-                seconds,
-                micros,
-                reading,
-            }))
+            Ok(Some(rolling::Call::Instant { seconds, micros, reading }))
         }
         (Some("reading"), Some(text)) => {
             Fields::new(rest)?.done()?;
@@ -245,12 +241,7 @@ fn cue_call(line: &str) -> Result<Option<Given>, String> {
     let pts = wide(&fields.take("pts").ok_or("pts= is missing")?)?;
     let (seconds, micros) = time(&fields.take("at").ok_or("at= is missing")?)?;
     fields.done()?;
-    Ok(Some(Given {
-        section: hex_bytes(&section.concat())?,
-        pts,
-        seconds,
-        micros,
-    }))
+    Ok(Some(Given { section: hex_bytes(&section.concat())?, pts, seconds, micros }))
 }
 
 /// A decimal or 0x number of 64 bits.
@@ -318,9 +309,7 @@ pub fn rolling_calls(steps: &[Step]) -> Result<Vec<rolling::Call>, String> {
         None if step.cue.is_some() => Err(format!("line {}: no cue of a rolling card", step.line)),
         None if step.is_read() => Err(format!("line {}: no read of a rolling card", step.line)),
         None => match card::next_call(&step.input) {
-            Ok((Call::Tick(..), _)) => {
-                Err(format!("line {}: a rolling card has no tick", step.line))
-            }
+            Ok((Call::Tick(..), _)) => Err(format!("line {}: a rolling card has no tick", step.line)),
             Ok((call, length)) if length == step.input.len() => Ok(rolling::Call::Plain(call)),
             _ => Err(format!("line {}: not one call", step.line)),
         },
@@ -338,9 +327,7 @@ fn call_bytes(line: &str) -> Result<Vec<u8>, String> {
 
 fn call_of(kind: &str, rest: &str) -> Result<Call, String> {
     if kind == "message" {
-        let (conn, hex) = rest
-            .split_once(char::is_whitespace)
-            .ok_or("bytes are missing")?;
+        let (conn, hex) = rest.split_once(char::is_whitespace).ok_or("bytes are missing")?;
         return Ok(Call::Message(small(conn)?, hex_bytes(hex)?));
     }
     let words = words_of(rest)?;
@@ -519,38 +506,23 @@ fn cue_request(conn: u8, words: &[String]) -> Result<Vec<u8>, String> {
     };
     let section = hex_bytes(&fields.take("section").ok_or("section= is missing")?)?;
     fields.done()?;
-    let what = What::Cue {
-        seconds,
-        micros,
-        section,
-    };
+    let what = What::Cue { seconds, micros, section };
     Ok(Record { conn, what }.bytes())
 }
 
 fn expected_record(kind: &str, result: u16, fields: &mut Fields) -> Result<What, String> {
     Ok(match kind {
         "General_Response" => What::General { result },
-        "Init_Response" => What::Init {
-            result,
-            revision: 2,
-            name: name_field(&fields.take("name").unwrap_or("CH1".to_string()), &[])?,
-        },
+        "Init_Response" => {
+            What::Init { result, revision: 2, name: name_field(&fields.take("name").unwrap_or("CH1".to_string()), &[])? }
+        }
         "Alive_Response" => {
             let state = fields.required("state")?;
             let id = fields.required("id")?;
             let (seconds, micros) = time(&fields.take("time").ok_or("time= is missing")?)?;
-            What::Alive {
-                result,
-                state,
-                id,
-                seconds,
-                micros,
-            }
+            What::Alive { result, state, id, seconds, micros }
         }
-        "Splice_Response" => What::Splice {
-            result,
-            id: fields.required("id")?,
-        },
+        "Splice_Response" => What::Splice { result, id: fields.required("id")? },
         "SpliceComplete_Response" => What::Complete {
             result,
             id: fields.required("id")?,
@@ -558,21 +530,14 @@ fn expected_record(kind: &str, result: u16, fields: &mut Fields) -> Result<What,
             bitrate: 0,
             played: fields.required("played")?,
         },
-        "Abort_Response" => What::Abort {
-            result,
-            id: fields.required("id")?,
-        },
+        "Abort_Response" => What::Abort { result, id: fields.required("id")? },
         "GetConfig_Response" => What::Config {
             result,
             name: name_field(&fields.take("name").unwrap_or("CH1".to_string()), &[])?,
             hardware: hex_bytes(&fields.take("hardware").unwrap_or(HARDWARE.to_string()))?,
             map: hex_bytes(&fields.take("map").unwrap_or_default())?,
         },
-        "ExtendedData_Response" => What::Extended {
-            result,
-            id: fields.required("id")?,
-            shown: expected_shown(fields)?,
-        },
+        "ExtendedData_Response" => What::Extended { result, id: fields.required("id")?, shown: expected_shown(fields)? },
         _ => return Err(format!("unknown record {kind}")),
     })
 }
@@ -624,12 +589,27 @@ fn misread(step: &Step, mux: u8, rows: &[Row; KEPT], insertion: bool) -> Option<
     Some(format!("{text}    the second program {found}\n"))
 }
 
+/// `C:ID:EVENT:RESULT:PLAYED`, or `-` of an empty one.
+fn row_text(row: &Row) -> String {
+    if *row == Row::default() {
+        return "-".to_string();
+    }
+    let number = records::number;
+    format!(
+        "{}{}:{}:{}:{}:{}",
+        if row.kept { "" } else { "empty " },
+        row.conn,
+        number(row.id),
+        number(row.event),
+        row.result,
+        row.played
+    )
+}
+
 /// A page in the words of a scenario, its last empty rows left out.
 pub fn rows_text(rows: &[Row; KEPT]) -> String {
     let used = rows.iter().rposition(|row| *row != Row::default());
-    let texts = rows[..used.map_or(0, |last| last + 1)]
-        .iter()
-        .map(Row::text);
+    let texts = rows[..used.map_or(0, |last| last + 1)].iter().map(row_text);
     format!("rows {}", texts.collect::<Vec<_>>().join(" "))
 }
 
@@ -640,12 +620,7 @@ fn difference(steps: &[Step], who: &str, output: &[u8]) -> Option<String> {
         let to = at + step.expected.len();
         if output.get(at..to) != Some(&step.expected[..]) {
             let text = format!("line {}: {}", step.line, step.text);
-            return Some(told(
-                &text,
-                who,
-                &step.expected,
-                &output[at.min(output.len())..],
-            ));
+            return Some(told(&text, who, &step.expected, &output[at.min(output.len())..]));
         }
         at = to;
     }
@@ -694,10 +669,7 @@ fn run_cued(steps: &[Step]) -> Result<usize, String> {
     for step in steps {
         let output = match &step.cue {
             Some(given) => shown(splicer.cue(given, ROOM)),
-            None => calls_of(&step.input)
-                .iter()
-                .flat_map(|call| card::make(&mut splicer, call))
-                .collect(),
+            None => calls_of(&step.input).iter().flat_map(|call| card::make(&mut splicer, call)).collect(),
         };
         if let Some(text) = difference(std::slice::from_ref(step), "the second program", &output) {
             return Err(text);
@@ -735,10 +707,7 @@ fn run_file(path: &str, card: Option<&str>) -> Result<(usize, &'static str), Str
     let steps = parse(&text).map_err(|e| format!("  {e}\n"))?;
     if is_rolling(&steps) {
         run_rolling(&steps)?;
-        return Ok((
-            0,
-            " (a rolling card: the second program, not the card program)",
-        ));
+        return Ok((0, " (a rolling card: the second program, not the card program)"));
     }
     if is_cued(&steps) {
         let reads = run_cued(&steps)?;
@@ -812,27 +781,12 @@ mod tests {
         assert_eq!(bytes_of("close 0x10"), "43 10");
         assert_eq!(bytes_of("tick 1.000005"), "54 00 00 00 00 01 00 00 00 05");
         assert_eq!(bytes_of("tick 1:1000000"), "54 00 00 00 00 01 00 0F 42 40");
-        assert_eq!(
-            bytes_of("abort 2 id=0x01020304"),
-            "4D 02 00 0E 00 04 FF FF FF FF 01 02 03 04"
-        );
+        assert_eq!(bytes_of("abort 2 id=0x01020304"), "4D 02 00 0E 00 04 FF FF FF FF 01 02 03 04");
         assert_eq!(bytes_of("config 2"), "4D 02 00 0A 00 00 FF FF FF FF");
-        assert_eq!(
-            bytes_of("extended 2 id=7"),
-            "4D 02 00 03 00 08 FF FF FF FF 00 00 00 07 FF FF FF FF"
-        );
-        assert_eq!(
-            bytes_of("extended 2 id=7 type=0x80000000"),
-            "4D 02 00 03 00 08 FF FF FF FF 00 00 00 07 80 00 00 00"
-        );
-        assert_eq!(
-            bytes_of("alive 0 time=2.000001"),
-            "4D 00 00 05 00 08 FF FF FF FF 00 00 00 02 00 00 00 01"
-        );
-        assert_eq!(
-            bytes_of("message 1 00 0D 0000 FFFFFFFF"),
-            "4D 01 00 0D 00 00 FF FF FF FF"
-        );
+        assert_eq!(bytes_of("extended 2 id=7"), "4D 02 00 03 00 08 FF FF FF FF 00 00 00 07 FF FF FF FF");
+        assert_eq!(bytes_of("extended 2 id=7 type=0x80000000"), "4D 02 00 03 00 08 FF FF FF FF 00 00 00 07 80 00 00 00");
+        assert_eq!(bytes_of("alive 0 time=2.000001"), "4D 00 00 05 00 08 FF FF FF FF 00 00 00 02 00 00 00 01");
+        assert_eq!(bytes_of("message 1 00 0D 0000 FFFFFFFF"), "4D 01 00 0D 00 00 FF FF FF FF");
         assert_eq!(bytes_of("raw 4F"), "4F");
     }
 
@@ -849,7 +803,10 @@ mod tests {
              FF FF 00 00 00 01 00 00 00 01 00 00 00 02 00 00 00 01 04 AA BB CC DD"
         );
         assert_eq!(
-            bytes_of("splice 1 id=8 prior=7 duration=1 return=0 pcr=0x31 stream=0x32:27:4000000:6000000:0xFFFFFFFF:1920:1080:0501AA stream=0x1FFF:129:1:2:3:0xFFFF:0xFFFF"),
+            bytes_of(
+                "splice 1 id=8 prior=7 duration=1 return=0 pcr=0x31 stream=0x32:27:4000000:6000000:0xFFFFFFFF:1920:1080:0501AA \
+                 stream=0x1FFF:129:1:2:3:0xFFFF:0xFFFF"
+            ),
             "4D 01 00 07 00 54 FF FF FF FF 00 00 00 08 00 00 00 07 00 00 00 00 00 00 00 00 \
              FF FF 00 31 00 00 00 02 \
              18 00 32 00 1B 00 3D 09 00 00 5B 8D 80 FF FF FF FF 07 80 04 38 05 01 AA \
@@ -870,10 +827,7 @@ mod tests {
         assert_eq!(&plain[44..52], b"SPLICER\0");
         assert_eq!(hex(&plain[76..]), "00 08 00 01 00 01 00 01 00 00");
         let junk = call_bytes("init 2 name=\"CH1\" junk=4142 extra= revision=3").unwrap();
-        assert_eq!(
-            hex(&junk[..20]),
-            "4D 02 00 01 00 42 FF FF FF FF 00 03 43 48 31 00 41 42 00 00"
-        );
+        assert_eq!(hex(&junk[..20]), "4D 02 00 01 00 42 FF FF FF FF 00 03 43 48 31 00 41 42 00 00");
         let empty = call_bytes("init 2 name=\"\" splicer=\"A B\"").unwrap();
         assert_eq!(empty[12..44], [0; 32]);
         assert_eq!(&empty[44..48], b"A B\0");
@@ -925,23 +879,14 @@ mod tests {
                 "0 Alive_Response 100 state=1 id=0xFFFFFFFF time=3.000004",
                 "52 00 00 06 00 10 00 64 FF FF 00 00 00 01 FF FF FF FF 00 00 00 03 00 00 00 04",
             ),
-            (
-                "1 Splice_Response 109 id=5",
-                "52 01 00 08 00 04 00 6D FF FF 00 00 00 05",
-            ),
-            (
-                "1 Abort_Response 121 id=5",
-                "52 01 00 0F 00 04 00 79 FF FF 00 00 00 05",
-            ),
+            ("1 Splice_Response 109 id=5", "52 01 00 08 00 04 00 6D FF FF 00 00 00 05"),
+            ("1 Abort_Response 121 id=5", "52 01 00 0F 00 04 00 79 FF FF 00 00 00 05"),
             (
                 "1 GetConfig_Response 100 name=A hardware=0001FF map=02B0",
                 "52 01 00 0B 00 25 00 64 FF FF 41 00 00 00 00 00 00 00 00 00 00 00 00 00 00 00 00 00 \
                  00 00 00 00 00 00 00 00 00 00 00 00 00 00 00 01 FF 02 B0",
             ),
-            (
-                "1 ExtendedData_Response 121 id=5",
-                "52 01 00 04 00 04 00 79 FF FF 00 00 00 05",
-            ),
+            ("1 ExtendedData_Response 121 id=5", "52 01 00 04 00 04 00 79 FF FF 00 00 00 05"),
             (
                 "1 ExtendedData_Response 100 id=5 event=4001 result=116 played=900000",
                 "52 01 00 04 00 14 00 64 FF FF 00 00 00 05 01 0E 43 41 52 44 00 00 0F A1 00 74 \
@@ -956,30 +901,18 @@ mod tests {
             assert_eq!(hex(&expected_bytes(line).unwrap()), expected, "{line}");
         }
         let init = expected_bytes("0 Init_Response 104").unwrap();
-        assert_eq!(
-            hex(&init[..16]),
-            "52 00 00 02 00 22 00 68 FF FF 00 02 43 48 31 00"
-        );
+        assert_eq!(hex(&init[..16]), "52 00 00 02 00 22 00 68 FF FF 00 02 43 48 31 00");
         assert_eq!(init.len(), 44);
     }
 
     #[test]
     fn words_of_a_rolling_card() {
         let call = |line: &str| rolling_call(line).unwrap();
-        let instant = rolling::Call::Instant {
-            seconds: 5,
-            micros: 7,
-            reading: 0xFFFF_FFFF,
-        };
+        let instant = rolling::Call::Instant { seconds: 5, micros: 7, reading: 0xFFFF_FFFF };
         assert_eq!(call("instant 5.000007 reading=0xFFFFFFFF"), Some(instant));
         assert_eq!(call("reading 12"), Some(rolling::Call::Reading(12)));
         assert_eq!(call("tick 5"), None);
-        for line in [
-            "instant 5",
-            "instant 5 reading=1 x=2",
-            "reading 1 2",
-            "reading x",
-        ] {
+        for line in ["instant 5", "instant 5 reading=1 x=2", "reading 1 2", "reading x"] {
             assert!(rolling_call(line).is_err(), "{line}");
         }
         let mixed = parse("> reading 1\n> tick 5\n").unwrap();
@@ -992,31 +925,18 @@ mod tests {
 
     #[test]
     fn words_of_a_cue() {
-        let given = cue_call("cue FC30 16 pts=0x200000000 at=5.000007")
-            .unwrap()
-            .unwrap();
+        let given = cue_call("cue FC30 16 pts=0x200000000 at=5.000007").unwrap().unwrap();
         assert_eq!(given.section, [0xFC, 0x30, 0x16]);
         assert_eq!((given.pts, given.seconds, given.micros), (1 << 33, 5, 7));
         let empty = cue_call("cue pts=0 at=1:1000000").unwrap().unwrap();
         assert_eq!((empty.section.len(), empty.micros), (0, 1_000_000));
         assert_eq!(cue_call("tick 5"), Ok(None));
-        for line in [
-            "cue FC pts=1",
-            "cue FC at=1",
-            "cue F pts=1 at=1",
-            "cue FC pts=1 at=1 x=2",
-        ] {
+        for line in ["cue FC pts=1", "cue FC at=1", "cue F pts=1 at=1", "cue FC pts=1 at=1 x=2"] {
             assert!(cue_call(line).is_err(), "{line}");
         }
         let cases = [
-            (
-                "2 Cue_Request time=none section=FC30",
-                "52 02 00 0C 00 0A FF FF FF FF FF FF FF FF FF FF FF FF FC 30",
-            ),
-            (
-                "0 Cue_Request time=1.000002 section=FC",
-                "52 00 00 0C 00 09 FF FF FF FF 00 00 00 01 00 00 00 02 FC",
-            ),
+            ("2 Cue_Request time=none section=FC30", "52 02 00 0C 00 0A FF FF FF FF FF FF FF FF FF FF FF FF FC 30"),
+            ("0 Cue_Request time=1.000002 section=FC", "52 00 00 0C 00 09 FF FF FF FF 00 00 00 01 00 00 00 02 FC"),
         ];
         for (line, expected) in cases {
             assert_eq!(hex(&expected_bytes(line).unwrap()), expected, "{line}");
@@ -1026,9 +946,7 @@ mod tests {
         assert!(is_cued(&steps) && !is_rolling(&steps));
         assert_eq!(run_cued(&steps), Ok(1));
         let wrong = parse("> cue 00 pts=0 at=0\n").unwrap();
-        assert!(run_cued(&wrong)
-            .unwrap_err()
-            .contains("got       refused 11"));
+        assert!(run_cued(&wrong).unwrap_err().contains("got       refused 11"));
     }
 
     #[test]
@@ -1073,12 +991,7 @@ mod tests {
         for line in [1, 5, 7] {
             let mut other = parse(text).unwrap();
             let step = other.iter_mut().find(|step| step.line == line).unwrap();
-            step.rows = Some(
-                [Row {
-                    kept: true,
-                    ..Row::default()
-                }; KEPT],
-            );
+            step.rows = Some([Row { kept: true, ..Row::default() }; KEPT]);
             let told = read_difference(&other, &run).unwrap();
             assert!(told.contains(&format!("line {line}: > rows")), "{told}");
         }

@@ -399,11 +399,7 @@ impl Bits<'_> {
 
 impl Shown {
     pub fn of(section: &[u8]) -> Shown {
-        let mut bits = Bits {
-            bytes: section,
-            at: 0,
-            shown: Shown::default(),
-        };
+        let mut bits = Bits { bytes: section, at: 0, shown: Shown::default() };
         let head = bits.header();
         let plain = section.first() == Some(&0xFC) && section.get(4).is_some_and(|b| b < &0x80);
         let read = match head {
@@ -446,11 +442,7 @@ impl Shown {
 
 /// Whether the lengths of a splice_insert in component mode are right: only to tell branches apart.
 pub fn component_lengths_fit(section: &[u8]) -> bool {
-    let mut bits = Bits {
-        bytes: section,
-        at: 8 * COMMAND,
-        shown: Shown::default(),
-    };
+    let mut bits = Bits { bytes: section, at: 8 * COMMAND, shown: Shown::default() };
     if bits.splice_insert().is_none() || bits.place() + 6 > section.len() {
         return false;
     }
@@ -507,11 +499,9 @@ mod tests {
     }
 
     /// The page's two worked sections.
-    pub const FIRST: &str =
-        "FC 30 20 00 00 00 00 00 00 00 FF F0 0F 05 00 02 8C E8 7F CF FE D5 89 23 BF \
+    pub const FIRST: &str = "FC 30 20 00 00 00 00 00 00 00 FF F0 0F 05 00 02 8C E8 7F CF FE D5 89 23 BF \
                              55 66 00 00 00 00 1D 80 D8 5D";
-    pub const SECOND: &str =
-        "FC 30 16 00 01 00 00 00 10 00 FF F0 05 06 FF 23 45 67 89 00 00 71 3B 22 BD";
+    pub const SECOND: &str = "FC 30 16 00 01 00 00 00 10 00 FF F0 05 06 FF 23 45 67 89 00 00 71 3B 22 BD";
 
     #[test]
     fn the_pages_sections_are_made() {
@@ -568,11 +558,7 @@ mod tests {
 
     #[test]
     fn the_table_of_sizes() {
-        let sizes = [
-            (true, None, [10, 15]),
-            (false, None, [11, 16]),
-            (false, Some(1 << 32), [15, 20]),
-        ];
+        let sizes = [(true, None, [10, 15]), (false, None, [11, 16]), (false, Some(1 << 32), [15, 20])];
         for (immediate, time, [plain, with]) in sizes {
             let mut insert = Insert::new(1);
             insert.immediate = immediate;

@@ -36,11 +36,7 @@ pub fn stream(seed: u64, index: u64) -> Stream {
         let call = run_on(&mut rng, call);
         let room = rng.pick(&[OUT, OUT, OUT, OUT + 1, LONGEST]);
         let sections = good_sections(&mut rng, &call);
-        acts.push(Act {
-            call,
-            room,
-            sections,
-        });
+        acts.push(Act { call, room, sections });
     }
     Stream { index, name, acts }
 }
@@ -117,10 +113,7 @@ fn good_sections(rng: &mut Rng, call: &Call) -> Sections {
     }
     let lengths = [0, 1, 183, 1_023, 1_024, 1_024];
     let [primary, insertion] = [0; 2].map(|_| rng.pick(&lengths));
-    Sections {
-        primary: section(rng, primary),
-        insertion: section(rng, insertion),
-    }
+    Sections { primary: section(rng, primary), insertion: section(rng, insertion) }
 }
 
 /// The same call with a section above 1,024 bytes on one side or both; at times the message is cut.
@@ -133,15 +126,8 @@ fn long_sections(rng: &mut Rng, mut call: Call, room: usize) -> Act {
     let long = rng.pick(&[1_025, 1_025, 1_026, 2_048, 70_000]);
     let other = rng.pick(&[0, 1, 1_023, 1_024, 1_025]);
     let (primary, insertion) = rng.pick(&[(long, other), (other, long)]);
-    let sections = Sections {
-        primary: section(rng, primary),
-        insertion: section(rng, insertion),
-    };
-    Act {
-        call,
-        room,
-        sections,
-    }
+    let sections = Sections { primary: section(rng, primary), insertion: section(rng, insertion) };
+    Act { call, room, sections }
 }
 
 /// The same call for a connection that a byte cannot tell from it, or above 3 otherwise.

@@ -180,18 +180,10 @@ impl Books {
         self.clock
     }
 
-    fn entered(
-        &mut self,
-        number: u8,
-        said: &Said,
-        answered: impl FnOnce(&mut Books, &[Record]) -> Kept,
-    ) -> Kept {
+    fn entered(&mut self, number: u8, said: &Said, answered: impl FnOnce(&mut Books, &[Record]) -> Kept) -> Kept {
         must(said.refused == number, "another house number")?;
         if said.refused != 0 {
-            return must(
-                said.consumed == 0 && said.written.is_empty() && said.moved == 0,
-                "refused and wrote or moved",
-            );
+            return must(said.consumed == 0 && said.written.is_empty() && said.moved == 0, "refused and wrote or moved");
         }
         self.moved = 0;
         must(said.written.len() <= LONGEST_ANSWER, "a long answer")?;
@@ -244,10 +236,7 @@ impl Books {
             return must(list.is_empty(), "a cue told that is to be passed over");
         }
         let all: Vec<usize> = (0..CONNECTIONS).filter(ready).collect();
-        must(
-            told == all,
-            "not each initialised connection, from 0 upward",
-        )?;
+        must(told == all, "not each initialised connection, from 0 upward")?;
         for record in list {
             let code = (record.message_id, record.result);
             if due == Due::Bad {
@@ -301,15 +290,8 @@ impl Books {
     /// The started sessions, from the clock on.
     fn started(&self) -> Vec<Live> {
         let started = self.held.iter().filter(|s| s.started);
-        let live = |s: &Held| Live {
-            conn: s.conn,
-            id: s.id,
-            access: s.access,
-            from: self.clock,
-            to: None,
-            aired: s.aired,
-            said: None,
-        };
+        let live =
+            |s: &Held| Live { conn: s.conn, id: s.id, access: s.access, from: self.clock, to: None, aired: s.aired, said: None };
         started.map(live).collect()
     }
 
@@ -321,19 +303,9 @@ impl Books {
         };
         let own = |live: &&mut Live| live.conn == s.conn && live.id == s.id;
         if is_kind(record, COMPLETE, 100) && record.data[4] == 0 {
-            lives.push(Live {
-                conn: s.conn,
-                id: s.id,
-                access: s.access,
-                from: s.start,
-                to: None,
-                aired: 0,
-                said: None,
-            });
+            lives.push(Live { conn: s.conn, id: s.id, access: s.access, from: s.start, to: None, aired: 0, said: None });
         } else if let Some(live) = lives.iter_mut().find(own) {
-            let first = behind
-                .iter()
-                .find(|r| r.message_id == COMPLETE && r.data[4] == 0);
+            let first = behind.iter().find(|r| r.message_id == COMPLETE && r.data[4] == 0);
             let start = first.and_then(|r| self.of(r)).map_or(time, |new| new.start);
             live.to = Some(s.end.min(time).min(start));
             live.said = (record.message_id == COMPLETE).then(|| word(record.data, 9));
@@ -347,9 +319,7 @@ impl Books {
         self.primary += share(self.clock, time, lives);
         self.aired += lives.iter().map(|live| live.aired).sum::<u64>() - before;
         for live in lives {
-            let right = live
-                .said
-                .is_none_or(|said| u64::from(said) == live.aired / 100);
+            let right = live.said.is_none_or(|said| u64::from(said) == live.aired / 100);
             must(right, "a PlayedDuration that is not its time on air")?;
             if let Some(at) = self.find(live.conn, live.id) {
                 self.held[at].aired = live.aired;
@@ -370,18 +340,13 @@ impl Books {
     pub fn primary(&self, found: u64) -> Kept {
         must(found == self.primary, "another time on the primary channel")?;
         let together = self.primary + self.aired;
-        must(
-            together == self.clock,
-            "a moment that is nobody's, or two's",
-        )
+        must(together == self.clock, "a moment that is nobody's, or two's")
     }
 
     /// 02, CR 4: "at a start the equal one on air ends at once, SpliceComplete flag 1, result 125,
     /// and its waiting followers end with Splice_Response 125, all before the new start's record".
     fn overridden(&self, before: &[Record], record: &Record, behind: &[Record]) -> Kept {
-        let start = behind
-            .iter()
-            .find(|r| !is_kind(r, id::SPLICE_RESPONSE, 125));
+        let start = behind.iter().find(|r| !is_kind(r, id::SPLICE_RESPONSE, 125));
         let start = start.filter(|r| is_kind(r, COMPLETE, 100) && r.data[4] == 0);
         let new = start.and_then(|r| self.of(r));
         if record.message_id == id::SPLICE_RESPONSE {
@@ -393,10 +358,7 @@ impl Books {
             return must(false, "a record of a session that is not held");
         };
         let wins = |s: &Held| s.start >= old.end || (s.overrides && s.access == old.access);
-        must(
-            new.is_none_or(wins),
-            "ended at once by another than an equal",
-        )?;
+        must(new.is_none_or(wins), "ended at once by another than an equal")?;
         let at_once = new.is_some_and(|s| s.start < old.end);
         let highest = self.on_air().map(|top| (top.conn, top.id)) == Some((old.conn, old.id));
         // One that ends with the one above it may be the highest by then.
@@ -429,10 +391,7 @@ impl Books {
         // 02, CR 8: "123 for another type or a size not 8"
         if kind == EXTENDED_REQUEST {
             let asked = data.len() == 8 && word(data, 4) == NONE;
-            must(
-                asked != general(result::INVALID_DATA),
-                "123 not by size or type",
-            )?;
+            must(asked != general(result::INVALID_DATA), "123 not by size or type")?;
         }
         // 02, CR 6: "123 for data present"
         if kind == CONFIG_REQUEST {
@@ -441,10 +400,7 @@ impl Books {
         }
         if kind == id::INIT_REQUEST {
             let bad = !named(data) || hardware(data).is_none();
-            must(
-                bad == general(result::INVALID_DATA),
-                "123 not by names or hardware",
-            )?;
+            must(bad == general(result::INVALID_DATA), "123 not by names or hardware")?;
         }
         if general(result::INVALID_DATA) {
             return Ok(());
@@ -485,10 +441,7 @@ impl Books {
     /// 02, CR 6: "ChannelName, the Hardware_Config of their Init_Request and the output channel's program map
     /// section".
     fn config(&self, conn: u8, answer: &Record) -> Kept {
-        must(
-            is(answer, conn, CONFIG_RESPONSE, 100),
-            "no GetConfig_Response",
-        )?;
+        must(is(answer, conn, CONFIG_RESPONSE, 100), "no GetConfig_Response")?;
         let name = self.name.clone().unwrap_or_default();
         let wanted = [&name[..], &self.hardware[usize::from(conn)], self.map()].concat();
         must(answer.data == wanted, "another configuration")
@@ -510,10 +463,7 @@ impl Books {
     /// "State 2 and the SessionID on air, or State 1 and 0xFFFFFFFF; the present clock, microseconds
     /// rounded down."
     fn alive(&self, conn: u8, answer: &Record) -> Kept {
-        must(
-            is(answer, conn, id::ALIVE_RESPONSE, 100),
-            "no Alive_Response",
-        )?;
+        must(is(answer, conn, id::ALIVE_RESPONSE, 100), "no Alive_Response")?;
         let (state, session) = match self.on_air() {
             Some(s) => (2, s.id),
             None => (1, NONE),
@@ -532,16 +482,10 @@ impl Books {
             Some(_) => (result::SUCCESSFUL, Some(session)),
             None => (result::INVALID_SESSION, None),
         };
-        must(
-            is(answer, conn, id::ABORT_RESPONSE, code),
-            "another Abort_Response",
-        )?;
+        must(is(answer, conn, id::ABORT_RESPONSE, code), "another Abort_Response")?;
         must(word(answer.data, 0) == session, "another's Abort_Response")?;
         let found = ends.first().map(|r| word(r.data, 0));
-        must(
-            found == first,
-            "the aborted session is not the first to end",
-        )?;
+        must(found == first, "the aborted session is not the first to end")?;
         for record in ends {
             let own = record.connection == conn && record.result == result::ABORTED;
             must(own, "an abort ended another's session or without 116")?;
@@ -580,24 +524,12 @@ impl Books {
     fn splice(&mut self, conn: u8, ask: Ask, evicted: &[Record], answer: &Record) -> Kept {
         let (data, _) = ask;
         let code = self.code(conn, ask);
-        must(
-            is(answer, conn, id::SPLICE_RESPONSE, code),
-            "another result code",
-        )?;
-        must(
-            word(answer.data, 0) == word(data, 0),
-            "another's Splice_Response",
-        )?;
-        must(
-            code == 100 || evicted.is_empty(),
-            "evicted and not accepted",
-        )?;
+        must(is(answer, conn, id::SPLICE_RESPONSE, code), "another result code")?;
+        must(word(answer.data, 0) == word(data, 0), "another's Splice_Response")?;
+        must(code == 100 || evicted.is_empty(), "evicted and not accepted")?;
         let start = self.start(conn, data);
         for record in evicted {
-            must(
-                is_kind(record, id::SPLICE_RESPONSE, 109),
-                "evicted without 109",
-            )?;
+            must(is_kind(record, id::SPLICE_RESPONSE, 109), "evicted without 109")?;
             self.session(record)?;
         }
         if code == 100 {
@@ -613,10 +545,7 @@ impl Books {
         self.moved = waiting.filter(|s| s.start > start).count();
         must(self.moved <= 63, "more than 63 places moved")?;
         let mut waiting = self.held.iter().filter(|s| !s.started);
-        must(
-            waiting.all(|s| s.start != start),
-            "two waiting with one start",
-        )?;
+        must(waiting.all(|s| s.start != start), "two waiting with one start")?;
         let duration = word(tail, 0);
         self.held.push(Held {
             conn,
@@ -714,12 +643,8 @@ impl Books {
         must(played <= s.duration, "played longer than its Duration")?;
         let highest = self.on_air().map(|top| (top.access, top.conn, top.id));
         let kept = match (flag, record.result) {
-            (Some(0), 100) => {
-                !s.started && highest.is_none_or(|(a, ..)| s.overrides && s.access > a)
-            }
-            (Some(0), 109) => {
-                !s.started && highest.is_some_and(|(a, ..)| !s.overrides || s.access < a)
-            }
+            (Some(0), 100) => !s.started && highest.is_none_or(|(a, ..)| s.overrides && s.access > a),
+            (Some(0), 109) => !s.started && highest.is_some_and(|(a, ..)| !s.overrides || s.access < a),
             (Some(1), 100) => highest == Some((s.access, s.conn, s.id)),
             (Some(1), 116 | 125) => s.started,
             (None, 109 | 125) => !s.started,
@@ -744,25 +669,14 @@ impl Books {
             COMPLETE => word(record.data, 9),
             _ => (gone.aired / 100) as u32,
         };
-        let ended = Ended {
-            conn: gone.conn,
-            id: gone.id,
-            event: gone.event,
-            result: record.result,
-            played,
-        };
+        let ended = Ended { conn: gone.conn, id: gone.id, event: gone.event, result: record.result, played };
         self.ended.insert(0, ended);
         self.ended.truncate(ROWS);
     }
 
     /// 02, CR 4: "no two started sessions ever have the same AccessType".
     fn apart(&self) -> Kept {
-        let mut list: Vec<u8> = self
-            .held
-            .iter()
-            .filter(|s| s.started)
-            .map(|s| s.access)
-            .collect();
+        let mut list: Vec<u8> = self.held.iter().filter(|s| s.started).map(|s| s.access).collect();
         list.sort();
         let equal = list.windows(2).any(|two| two[0] == two[1]);
         must(!equal, "two started with one AccessType")
@@ -777,22 +691,13 @@ impl Books {
         must(self.held.len() - all <= 10, "more than 10 started")?;
         self.apart()?;
         for (place, s) in self.held.iter().enumerate() {
-            must(
-                self.open[usize::from(s.conn)],
-                "held by a closed connection",
-            )?;
-            must(
-                self.find(s.conn, s.id) == Some(place),
-                "one number held twice",
-            )?;
+            must(self.open[usize::from(s.conn)], "held by a closed connection")?;
+            must(self.find(s.conn, s.id) == Some(place), "one number held twice")?;
             if s.started || s.prior == NONE {
                 continue;
             }
             let prior = self.find(s.conn, s.prior).map(|at| self.held[at].end);
-            must(
-                prior == Some(s.start),
-                "a follower without its prior session",
-            )?;
+            must(prior == Some(s.start), "a follower without its prior session")?;
         }
         Ok(())
     }
@@ -845,8 +750,5 @@ fn well_formed(record: &Record) -> Kept {
         _ => return must(false, "a MessageID that is not written"),
     };
     must(record.data.len() == size, "a record of another size")?;
-    must(
-        half(record.message, 6) == 0xFFFF,
-        "another Result_Extension",
-    )
+    must(half(record.message, 6) == 0xFFFF, "another Result_Extension")
 }

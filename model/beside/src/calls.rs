@@ -3,7 +3,7 @@
 use model::card;
 use model::config;
 use model::cues::Given;
-use model::records;
+use model::records::{self, Line};
 use model::rules;
 
 #[derive(Clone, Debug)]
@@ -37,17 +37,11 @@ pub struct Sections {
 
 impl Sections {
     pub fn of_model(&self) -> config::Maps<'_> {
-        config::Maps {
-            primary: &self.primary,
-            insertion: &self.insertion,
-        }
+        config::Maps { primary: &self.primary, insertion: &self.insertion }
     }
 
     pub fn of_core(&self) -> splicer::Maps<'_> {
-        splicer::Maps {
-            primary: &self.primary,
-            insertion: &self.insertion,
-        }
+        splicer::Maps { primary: &self.primary, insertion: &self.insertion }
     }
 
     /// The longer one's length.
@@ -76,31 +70,16 @@ pub struct Said {
 
 impl Said {
     fn good(consumed: usize, written: Vec<u8>, moved: usize) -> Said {
-        Said {
-            refused: 0,
-            consumed,
-            written,
-            moved,
-        }
+        Said { refused: 0, consumed, written, moved }
     }
 
     pub fn refusal(number: u8) -> Said {
-        Said {
-            refused: number,
-            consumed: 0,
-            written: Vec::new(),
-            moved: 0,
-        }
+        Said { refused: number, consumed: 0, written: Vec::new(), moved: 0 }
     }
 
     pub fn line(&self) -> String {
         match self.refused {
-            0 => format!(
-                "consumed {} moved {} wrote {}",
-                self.consumed,
-                self.moved,
-                hex(&self.written)
-            ),
+            0 => format!("consumed {} moved {} wrote {}", self.consumed, self.moved, hex(&self.written)),
             number => format!("refused {number}"),
         }
     }
@@ -109,11 +88,7 @@ impl Said {
 impl Act {
     /// With empty sections, as the card program lends them.
     pub fn plain(call: Call, room: usize) -> Act {
-        Act {
-            call,
-            room,
-            sections: Sections::default(),
-        }
+        Act { call, room, sections: Sections::default() }
     }
 
     pub fn line(&self) -> String {
@@ -160,19 +135,14 @@ pub fn ask_model(model: &mut rules::Splicer, act: &Act) -> Said {
     let result = match &act.call {
         Call::Open(conn) => model.open(byte(conn)).map(|()| (Vec::new(), 0)),
         Call::Close(conn) => model.close(byte(conn), act.room).map(|r| (r, 0)),
-        Call::Message(conn, bytes) => {
-            model.message_with(byte(conn), bytes, &act.sections.of_model(), act.room)
-        }
+        Call::Message(conn, bytes) => model.message_with(byte(conn), bytes, &act.sections.of_model(), act.room),
         Call::Tick(seconds, micros) => model.tick(*seconds, *micros, act.room).map(|r| (r, 0)),
         Call::Cue(given) => model.cue(given, act.room).map(|r| (r, 0)),
     };
     match result {
         Ok((written, consumed)) => Said::good(consumed, records::all_bytes(&written), model.moved),
         // 02, CR 11: it must be 0 after a refusal too.
-        Err(number) => Said {
-            moved: model.moved,
-            ..Said::refusal(number)
-        },
+        Err(number) => Said { moved: model.moved, ..Said::refusal(number) },
     }
 }
 
@@ -182,26 +152,19 @@ pub fn ask_core(core: &mut splicer::Splicer, call: &Call, out: &mut [u8]) -> Sai
 }
 
 /// The core's answer, with `out` and the sections lent to it. Only a message can move places (02, CR 11).
-pub fn ask_core_with(
-    core: &mut splicer::Splicer,
-    call: &Call,
-    sections: &Sections,
-    out: &mut [u8],
-) -> Said {
+pub fn ask_core_with(core: &mut splicer::Splicer, call: &Call, sections: &Sections, out: &mut [u8]) -> Said {
     let result = match call {
         Call::Open(conn) => core.open(*conn).map(|()| (&[][..], 0, 0)),
         Call::Close(conn) => core.close(*conn, out).map(|w| (w, 0, 0)),
         // both names of the call
-        Call::Message(conn, bytes) if sections.longest() == 0 => core
-            .message(*conn, bytes, out)
-            .map(|h| (h.written, h.consumed, h.moved as usize)),
-        Call::Message(conn, bytes) => core
-            .message_with(*conn, bytes, sections.of_core(), out)
-            .map(|h| (h.written, h.consumed, h.moved as usize)),
+        Call::Message(conn, bytes) if sections.longest() == 0 => {
+            core.message(*conn, bytes, out).map(|h| (h.written, h.consumed, h.moved as usize))
+        }
+        Call::Message(conn, bytes) => {
+            core.message_with(*conn, bytes, sections.of_core(), out).map(|h| (h.written, h.consumed, h.moved as usize))
+        }
         Call::Tick(seconds, micros) => core.tick(*seconds, *micros, out).map(|w| (w, 0, 0)),
-        Call::Cue(given) => core
-            .cue(&given.section, given.pts, given.seconds, given.micros, out)
-            .map(|w| (w, 0, 0)),
+        Call::Cue(given) => core.cue(&given.section, given.pts, given.seconds, given.micros, out).map(|w| (w, 0, 0)),
     };
     match result {
         Ok((written, consumed, moved)) => Said::good(consumed, written.to_vec(), moved),
@@ -222,11 +185,7 @@ impl Desk {
     /// For output buffers up to this length.
     pub fn new(longest: usize) -> Desk {
         let filled: Vec<u8> = (0..longest + 3 * GUARD).map(|at| at as u8).collect();
-        Desk {
-            lent: filled.clone(),
-            kept: filled,
-            turn: 0,
-        }
+        Desk { lent: filled.clone(), kept: filled, turn: 0 }
     }
 
     /// Another number after every call.
@@ -249,8 +208,7 @@ impl Desk {
     pub fn touched(&mut self, written: usize) -> bool {
         let begin = self.begin();
         let end = begin + written;
-        let touched =
-            self.lent[..begin] != self.kept[..begin] || self.lent[end..] != self.kept[end..];
+        let touched = self.lent[..begin] != self.kept[..begin] || self.lent[end..] != self.kept[end..];
         self.turn += 1;
         self.lent[begin..end].fill(self.turn as u8);
         self.kept[begin..end].fill(self.turn as u8);

@@ -26,9 +26,7 @@ fn wrong(made: &Made) -> Option<String> {
     let known = made.known.unwrap_or(own);
     if core != own || core != known {
         let (core, own, known) = (core.line(), own.line(), known.line());
-        return Some(format!(
-            "core {core}, second program {own}, by its damage {known}"
-        ));
+        return Some(format!("core {core}, second program {own}, by its damage {known}"));
     }
     if kept != made.bytes || found(&kept) != core {
         return Some("the recording or a second finding changed".to_string());
@@ -39,18 +37,13 @@ fn wrong(made: &Made) -> Option<String> {
 /// The recordings of N streams through both, then every mistake of a checker.
 pub fn everything(seed: u64, n: u64) -> Vec<bool> {
     let mut results = vec![compared(seed, n)];
-    let list: Vec<Made> = (0..FOR_A_LAPSE)
-        .flat_map(|index| of_stream(seed, index))
-        .collect();
+    let list: Vec<Made> = (0..FOR_A_LAPSE).flat_map(|index| of_stream(seed, index)).collect();
     let core: Vec<check::Finding> = list.iter().map(|made| found(&made.bytes)).collect();
     for (lapse, text) in LAPSES {
         let differs = |at: &usize| checked(&list[*at].bytes, Some(*lapse)).0 != core[*at];
         let noticed = (0..list.len()).find(differs);
         match noticed {
-            Some(at) => println!(
-                "noticed in recording {at}, {}: {lapse:?}: {text}",
-                list[at].kind
-            ),
+            Some(at) => println!("noticed in recording {at}, {}: {lapse:?}: {text}", list[at].kind),
             None => println!("NOT NOTICED: {lapse:?}: {text}"),
         }
         results.push(noticed.is_some());
@@ -68,10 +61,7 @@ fn compared(seed: u64, n: u64) -> bool {
             if let Some(text) = wrong(&made) {
                 differ += 1;
                 if differ <= 3 {
-                    println!(
-                        "seed {seed}, recording of stream {index}, {}: {text}",
-                        made.kind
-                    );
+                    println!("seed {seed}, recording of stream {index}, {}: {text}", made.kind);
                 }
             }
         }

@@ -96,11 +96,7 @@ pub fn due(section: &[u8]) -> Due {
         return Due::Bad;
     }
     let (end, crc) = (bits.len() - 48, bits.len() - 32);
-    let mut command = Command {
-        bits: &bits[..end],
-        at: 14 * 8,
-        time: None,
-    };
+    let mut command = Command { bits: &bits[..end], at: 14 * 8, time: None };
     let component = match (number(&bits[..8]), bits[32], number(&bits[104..112])) {
         (0xFC, false, 0x00) => Some(false),
         (0xFC, false, 0x05) => command.splice_insert(),
@@ -120,9 +116,7 @@ pub fn due(section: &[u8]) -> Due {
         return Due::Bad;
     }
     let adjustment = number(&bits[39..72]);
-    command
-        .time
-        .map_or(Due::Timeless, |time| Due::Sum(time + adjustment))
+    command.time.map_or(Due::Timeless, |time| Due::Sum(time + adjustment))
 }
 
 /// Whether this is the time: of all whole numbers of ticks behind the given instant the one that leads from
@@ -135,8 +129,7 @@ pub fn timely(due: Due, given: &Given, (seconds, micros): (u32, u32)) -> bool {
     let turn = 1u128 << 33;
     let (sum, pts) = (u128::from(sum), u128::from(given.pts));
     let ticks = (sum % turn + turn - pts % turn) % turn;
-    let ninths =
-        |seconds: u32, micros: u32| u128::from(seconds) * 9_000_000 + u128::from(micros) * 9;
+    let ninths = |seconds: u32, micros: u32| u128::from(seconds) * 9_000_000 + u128::from(micros) * 9;
     let exact = ninths(given.seconds, given.micros) + 100 * ticks;
     if exact >= (1 << 32) * 9_000_000 {
         return ones;
@@ -150,8 +143,8 @@ mod tests {
     use super::*;
 
     const SECOND: [u8; 25] = [
-        0xFC, 0x30, 0x16, 0x00, 0x01, 0x00, 0x00, 0x00, 0x10, 0x00, 0xFF, 0xF0, 0x05, 0x06, 0xFF,
-        0x23, 0x45, 0x67, 0x89, 0x00, 0x00, 0x71, 0x3B, 0x22, 0xBD,
+        0xFC, 0x30, 0x16, 0x00, 0x01, 0x00, 0x00, 0x00, 0x10, 0x00, 0xFF, 0xF0, 0x05, 0x06, 0xFF, 0x23, 0x45, 0x67, 0x89, 0x00,
+        0x00, 0x71, 0x3B, 0x22, 0xBD,
     ];
 
     #[test]
@@ -159,12 +152,7 @@ mod tests {
         assert!(fits(&SECOND));
         assert!(!fits(&SECOND[..24]));
         assert_eq!(due(&SECOND), Due::Sum(0x1_2345_6789 + 0x1_0000_0010));
-        let given = |pts| Given {
-            section: SECOND.to_vec(),
-            pts,
-            seconds: 1_000,
-            micros: 0,
-        };
+        let given = |pts| Given { section: SECOND.to_vec(), pts, seconds: 1_000, micros: 0 };
         let cue = due(&SECOND);
         assert!(timely(cue, &given(591_651_064), (1_001, 111_122)));
         assert!(!timely(cue, &given(591_651_064), (1_001, 111_123)));

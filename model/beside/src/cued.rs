@@ -23,17 +23,11 @@ pub fn stream(seed: u64, index: u64) -> Stream {
         cueing::Call::Cue(given, room) => Act::plain(Call::Cue(given), room.min(LONGEST)),
     };
     let calls = cueing::stream(seed, index);
-    Stream {
-        index,
-        name: card::channel_name(),
-        acts: calls.into_iter().map(act).collect(),
-    }
+    Stream { index, name: card::channel_name(), acts: calls.into_iter().map(act).collect() }
 }
 
 pub fn streams(seed: u64) -> Vec<Stream> {
-    (0..FOR_A_MISTAKE)
-        .map(|index| stream(seed, index))
-        .collect()
+    (0..FOR_A_MISTAKE).map(|index| stream(seed, index)).collect()
 }
 
 /// The comparison on N streams and on the plainest sections, then every mistake, by the comparison and by
@@ -59,11 +53,7 @@ pub fn everything(plan: &Plan, n: u64) -> Vec<bool> {
 }
 
 fn compared(plan: &Plan, n: u64) -> bool {
-    let plan = Plan {
-        n,
-        make: stream,
-        ..*plan
-    };
+    let plan = Plan { n, make: stream, ..*plan };
     let tally = run::run(&plan);
     for text in tally.differences.iter().take(3) {
         print!("seed {}, cue {text}", plan.seed);
@@ -121,10 +111,7 @@ fn plainest() -> bool {
             }
         }
     }
-    println!(
-        "beside: {} cut and changed sections, {differ} differences",
-        list.len()
-    );
+    println!("beside: {} cut and changed sections, {differ} differences", list.len());
     differ == 0
 }
 
@@ -137,12 +124,7 @@ pub fn write_records(seed: u64, path: &str) -> Result<bool, String> {
     }
     let mut written = Vec::new();
     for section in cueing::good(seed ^ 1, 600) {
-        let call = Call::Cue(Given {
-            section,
-            pts: 0,
-            seconds: 1_700_000_000,
-            micros: 0,
-        });
+        let call = Call::Cue(Given { section, pts: 0, seconds: 1_700_000_000, micros: 0 });
         written.extend(ask_core(&mut core, &call, &mut out).written);
     }
     std::fs::write(path, &written).map_err(|e| format!("{path}: {e}"))?;

@@ -42,20 +42,8 @@ mod tests {
 
     #[test]
     fn pieces_by_hand() {
-        let live = |access, from, to| Live {
-            conn: 0,
-            id: 0,
-            access,
-            from,
-            to,
-            aired: 100,
-            said: None,
-        };
-        let mut list = [
-            live(1, 10, Some(40)),
-            live(5, 20, Some(30)),
-            live(3, 45, None),
-        ];
+        let live = |access, from, to| Live { conn: 0, id: 0, access, from, to, aired: 100, said: None };
+        let mut list = [live(1, 10, Some(40)), live(5, 20, Some(30)), live(3, 45, None)];
         // 10 to 20 and 30 to 40; 20 to 30; 45 to 50; the rest is the primary channel's
         assert_eq!(share(5, 50, &mut list), 5 + 5);
         assert_eq!(list.map(|l| l.aired), [120, 110, 105]);

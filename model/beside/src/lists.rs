@@ -2,7 +2,7 @@
 //! and kept byte, the bytes written, and what is lent and must stay as it was.
 
 use model::draw::{Gen, Rng};
-use model::faults::Fault;
+use model::faults::{rules_of, Fault};
 use model::streams::{self, Stream, Streams};
 use splicer::{KEPT, STREAMS, STREAM_WORDS};
 
@@ -135,25 +135,12 @@ struct Words {
 
 /// The list as the core takes it, 16 rows of it at most.
 fn handed(streams: &Streams) -> splicer::Streams {
-    let mut words = Words {
-        count: streams.list.len() as u64,
-        pcr_pid: streams.pcr_pid,
-        row: [0; STREAMS * STREAM_WORDS],
-        kept: [0; KEPT],
-    };
+    let mut words =
+        Words { count: streams.list.len() as u64, pcr_pid: streams.pcr_pid, row: [0; STREAMS * STREAM_WORDS], kept: [0; KEPT] };
     let mut at = 0;
     let rows = words.row.chunks_exact_mut(STREAM_WORDS);
     for (row, s) in rows.zip(&streams.list) {
-        row.copy_from_slice(&[
-            s.pid,
-            s.kind,
-            s.average,
-            s.highest,
-            s.lowest,
-            s.width,
-            s.height,
-            s.kept.len() as u64,
-        ]);
+        row.copy_from_slice(&[s.pid, s.kind, s.average, s.highest, s.lowest, s.width, s.height, s.kept.len() as u64]);
         let length = s.kept.len().min(KEPT - at);
         words.kept[at..at + length].copy_from_slice(&s.kept[..length]);
         at += length;
@@ -178,7 +165,7 @@ fn taken(s: splicer::Stream) -> Stream {
 
 /// Both read these bytes alike; what was read is written back as it was. True if it was a good list.
 fn same_read(bytes: &[u8], fault: Option<Fault>) -> Result<bool, String> {
-    let wanted = streams::read(bytes, fault).ok();
+    let wanted = rules_of(fault).reading.streams(bytes).ok();
     let found = splicer::Streams::read(bytes);
     let (Some((list, length)), Some((core, consumed))) = (&wanted, &found) else {
         return match wanted.is_some() == found.is_some() {
@@ -186,14 +173,9 @@ fn same_read(bytes: &[u8], fault: Option<Fault>) -> Result<bool, String> {
             false => Err(format!("read by one only: {}", model::records::hex(bytes))),
         };
     };
-    let fields = Streams {
-        pcr_pid: core.pcr_pid().into(),
-        list: core.iter().map(taken).collect(),
-    };
+    let fields = Streams { pcr_pid: core.pcr_pid().into(), list: core.iter().map(taken).collect() };
     if length != consumed || fields != *list {
-        return Err(format!(
-            "core {consumed} {fields:?}, second program {length} {list:?}"
-        ));
+        return Err(format!("core {consumed} {fields:?}, second program {length} {list:?}"));
     }
     // All words: the rows behind the last are zero, the kept bytes behind the last stay.
     if *core != handed(list) {
@@ -216,9 +198,7 @@ fn same_written(list: &Streams, spare: isize) -> Result<bool, String> {
     let mut lent = vec![0xEE; room + 50];
     let found = handed(list).write(&mut lent[..room]).map(<[u8]>::to_vec);
     if found != wanted {
-        return Err(format!(
-            "core {found:?}, second program {wanted:?} for {list:?}"
-        ));
+        return Err(format!("core {found:?}, second program {wanted:?} for {list:?}"));
     }
     let length = wanted.as_ref().map_or(0, Vec::len);
     let stays = lent[length..].iter().all(|byte| *byte == 0xEE);

@@ -233,9 +233,7 @@ fn everything(plan: &Plan, list: &[Stream]) -> Vec<bool> {
 fn number(args: &mut Vec<String>, name: &str, usual: u64) -> Result<u64, String> {
     match option(args, name)? {
         None => Ok(usual),
-        Some(text) => text
-            .parse()
-            .map_err(|_| format!("{name}: no number: {text}")),
+        Some(text) => text.parse().map_err(|_| format!("{name}: no number: {text}")),
     }
 }
 

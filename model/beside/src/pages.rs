@@ -64,11 +64,7 @@ struct Lent {
 
 impl Lent {
     fn new(turn: usize, count: usize) -> Lent {
-        Lent {
-            rows: std::array::from_fn(|place| odd(place, turn)),
-            turn,
-            count,
-        }
+        Lent { rows: std::array::from_fn(|place| odd(place, turn)), turn, count }
     }
 
     fn rows(&mut self) -> &mut [splicer::Row] {
@@ -100,9 +96,7 @@ pub fn read(core: &impl Paged, turn: usize, wrong: Wrong) -> Result<[Row; ROWS],
         return Err("a row outside the page changed".to_string());
     }
     let found: Vec<Row> = lent.rows().iter().map(numbers).collect();
-    let list = core
-        .list()
-        .map(|row| row.map_or([0; 6], |row| numbers(&row)));
+    let list = core.list().map(|row| row.map_or([0; 6], |row| numbers(&row)));
     if wrong == Wrong::Nothing && found != list {
         return Err(format!("rows(): {list:?}, ended(): {found:?}"));
     }

@@ -5,37 +5,32 @@ use crate::calls::{ask_core, ask_core_with, ask_model, model_rows, Act, Call, De
 use crate::maps;
 use crate::pages;
 use crate::wrong::{Drift, Wrong};
-use model::counts::Counts;
 use model::rules;
 use model::scenario::message;
+use model::watch::{self, Watcher};
 use splicer::{CONNECTIONS, NAME, OUT};
 
 #[derive(Clone)]
 pub struct Pair {
     pub core: splicer::Splicer,
     pub model: rules::Splicer,
+    /// Counts the branches that the second program takes.
+    pub watcher: Watcher,
     books: Books,
     drift: Drift,
 }
 
 impl Pair {
     pub fn fresh(name: &[u8; NAME], wrong: Wrong) -> Result<Pair, String> {
-        let (mut model, number) = rules::Splicer::fresh(name);
-        model.fault = wrong.of_model();
-        model.cueing.miscue = wrong.of_cues();
+        let mut watcher = Watcher::new();
+        let (mut model, number) = watcher.during(|| watch::fresh(name));
+        model.rules = wrong.rules();
         let (core, refused) = wrong.fresh(name);
         let refused = refused.err().map(|r| r.number());
         if refused != number {
-            return Err(format!(
-                "fresh: core {refused:?}, second program {number:?}"
-            ));
+            return Err(format!("fresh: core {refused:?}, second program {number:?}"));
         }
-        let pair = Pair {
-            core,
-            model,
-            books: Books::default(),
-            drift: Drift::default(),
-        };
+        let pair = Pair { core, model, watcher, books: Books::default(), drift: Drift::default() };
         pair.same_waiting(pair.core.waiting())?;
         pair.same_primary(pair.core.primary())?;
         pair.same_mux()?;
@@ -58,9 +53,7 @@ impl Pair {
     fn same_waiting(&self, found: [u64; CONNECTIONS]) -> Result<(), String> {
         let wanted = self.model.waiting_counts().map(|n| n as u64);
         if found != wanted {
-            return Err(format!(
-                "waiting: core {found:?}, second program {wanted:?}"
-            ));
+            return Err(format!("waiting: core {found:?}, second program {wanted:?}"));
         }
         Ok(())
     }
@@ -76,18 +69,11 @@ impl Pair {
 
     /// The page read from the core (02, CR 8) is the second program's, and what the records alone give.
     fn same_rows(&self, turn: usize, wrong: Wrong) -> Result<(), String> {
-        let (found, wanted) = (
-            pages::read(&self.core, turn, wrong)?,
-            model_rows(&self.model),
-        );
+        let (found, wanted) = (pages::read(&self.core, turn, wrong)?, model_rows(&self.model));
         if found != wanted {
-            let (place, (own, other)) = (0..)
-                .zip(found.iter().zip(&wanted))
-                .find(|(_, (own, other))| own != other)
-                .unwrap_or((0, (&found[0], &wanted[0])));
-            return Err(format!(
-                "row {place}: core {own:?}, second program {other:?}"
-            ));
+            let (place, (own, other)) =
+                (0..).zip(found.iter().zip(&wanted)).find(|(_, (own, other))| own != other).unwrap_or((0, (&found[0], &wanted[0])));
+            return Err(format!("row {place}: core {own:?}, second program {other:?}"));
         }
         self.books.rows(&found)
     }
@@ -103,7 +89,7 @@ impl Pair {
 
     /// Makes the call on both and compares all that is seen of it.
     pub fn call(&mut self, act: &Act, desk: &mut Desk, wrong: Wrong) -> Result<Said, String> {
-        let wanted = ask_model(&mut self.model, act);
+        let wanted = self.watcher.during(|| ask_model(&mut self.model, act));
         // 02, CR 7: a cue changes nothing, good or refused.
         let kept = wanted.refused != 0 || matches!(act.call, Call::Cue(_));
         let before = kept.then(|| self.core.clone());
@@ -128,10 +114,7 @@ impl Pair {
             return Err("bytes outside the written ones changed".to_string());
         }
         if before.is_some_and(|before| before != self.core) {
-            return Err(format!(
-                "refused {}, or a cue, and changed its state",
-                found.refused
-            ));
+            return Err(format!("refused {}, or a cue, and changed its state", found.refused));
         }
         // After every call, refused ones too.
         let waiting = wrong.waiting(act, &found, self.core.waiting(), &mut self.drift);
@@ -148,13 +131,7 @@ impl Pair {
 
     /// A copy of the core as it was before a call gives the same answer and becomes the same,
     /// elsewhere and later.
-    pub fn again(
-        &self,
-        before: &splicer::Splicer,
-        act: &Act,
-        said: &Said,
-        desk: &mut Desk,
-    ) -> Result<(), String> {
+    pub fn again(&self, before: &splicer::Splicer, act: &Act, said: &Said, desk: &mut Desk) -> Result<(), String> {
         let mut copy = Box::new(before.clone());
         let again = ask_core_with(&mut copy, &act.call, &act.sections, desk.buffer(act.room));
         if desk.touched(again.written.len()) || again != *said || *copy != self.core {
@@ -167,9 +144,9 @@ impl Pair {
     /// closes. Gives the number of calls.
     pub fn probe(&mut self, ahead: u64, desk: &mut Desk, wrong: Wrong) -> Result<u64, String> {
         // The branch table is not for copies.
-        let counts = std::mem::replace(&mut self.model.counts, Counts::new());
+        let watcher = std::mem::replace(&mut self.watcher, Watcher::none());
         let mut copy = self.clone();
-        self.model.counts = counts;
+        self.watcher = watcher;
         let time = copy.model.clock / rules::MICROSECOND + ahead;
         let seconds = (time / 1_000_000).min(u32::MAX.into()) as u32;
         let mut calls = vec![Call::Tick(seconds, (time % 1_000_000) as u32)];

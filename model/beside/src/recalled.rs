@@ -41,11 +41,7 @@ impl Lent {
         let mut memory: Vec<u8> = (0..begin).map(|at| at as u8 ^ 0x4F).collect();
         memory.extend(bytes);
         memory.extend((0..GUARD).map(|at| at as u8 ^ 0x43));
-        Lent {
-            memory,
-            begin,
-            length: bytes.len(),
-        }
+        Lent { memory, begin, length: bytes.len() }
     }
 
     fn slice(&mut self) -> &mut [u8] {
@@ -57,8 +53,7 @@ impl Lent {
         let (before, rest) = self.memory.split_at(self.begin);
         let behind = &rest[self.length..];
         let same = |(at, byte): (usize, &u8), mask: u8| *byte == at as u8 ^ mask;
-        !before.iter().enumerate().all(|pair| same(pair, 0x4F))
-            || !behind.iter().enumerate().all(|pair| same(pair, 0x43))
+        !before.iter().enumerate().all(|pair| same(pair, 0x4F)) || !behind.iter().enumerate().all(|pair| same(pair, 0x43))
     }
 }
 
@@ -98,11 +93,7 @@ struct Pair {
 
 impl Pair {
     fn new(log: &[u8]) -> Pair {
-        Pair {
-            log: log.to_vec(),
-            model: log.to_vec(),
-            turn: 0,
-        }
+        Pair { log: log.to_vec(), model: log.to_vec(), turn: 0 }
     }
 
     /// Makes the call on both, and compares the reply, every byte of the output buffer and the whole log.
@@ -145,12 +136,7 @@ struct Card {
 
 impl Card {
     fn new() -> Card {
-        Card {
-            core: Splicer::fresh(&card::channel_name()).0,
-            kept: Vec::new(),
-            good: 0,
-            full: false,
-        }
+        Card { core: Splicer::fresh(&card::channel_name()).0, kept: Vec::new(), good: 0, full: false }
     }
 
     /// Holds what the second engine did to the card's engine, until the first 13, and 13 to the count of the good calls
@@ -183,12 +169,7 @@ impl Card {
         };
         let mut out: Vec<u8> = (0..act.room).map(|at| (at + turn) as u8).collect();
         let said = ask_core_with(&mut self.core, &call, &sections, &mut out);
-        let reply = Reply {
-            refused: said.refused,
-            consumed: said.consumed,
-            written: said.written.len(),
-            moved: said.moved,
-        };
+        let reply = Reply { refused: said.refused, consumed: said.consumed, written: said.written.len(), moved: said.moved };
         if reply != seen.reply || out != seen.out {
             return Err(format!("{:?}, the card's {}", seen.reply, said.line()));
         }
@@ -205,10 +186,7 @@ fn of_core(act: &Act) -> Option<(Call, Sections)> {
         driver::Call::Message(conn, read) => Call::Message(*conn, read.clone()),
         driver::Call::Tick(seconds, micros) => Call::Tick(*seconds, *micros),
     };
-    let sections = Sections {
-        primary: act.primary.clone(),
-        insertion: act.insertion.clone(),
-    };
+    let sections = Sections { primary: act.primary.clone(), insertion: act.insertion.clone() };
     Some((call, sections))
 }
 
@@ -245,8 +223,7 @@ impl Tally {
             });
             if let Err(text) = held {
                 let line = act.line();
-                self.differences
-                    .push(format!("{name}, call {turn}: {line}\n{text}\n"));
+                self.differences.push(format!("{name}, call {turn}: {line}\n{text}\n"));
                 return;
             }
         }
@@ -261,8 +238,7 @@ impl Tally {
                 Ok(seen) => self.count(&seen.reply),
                 Err(text) => {
                     let (kind, line) = (history.kind, act.line());
-                    self.differences
-                        .push(format!("{name}, {kind}, call {turn}: {line}\n{text}\n"));
+                    self.differences.push(format!("{name}, {kind}, call {turn}: {line}\n{text}\n"));
                     return;
                 }
             }
@@ -335,9 +311,7 @@ fn played(seed: u64) -> Vec<(History, Vec<(Seen, u64)>)> {
 fn mistakes(seed: u64) -> Vec<bool> {
     let list = played(seed);
     let mut results = Vec::new();
-    let lapses = LAPSES
-        .iter()
-        .filter(|(lapse, _)| !OF_PROGRAM.contains(lapse));
+    let lapses = LAPSES.iter().filter(|(lapse, _)| !OF_PROGRAM.contains(lapse));
     for (lapse, text) in lapses {
         let engine: &dyn Remembers = &Lapsed(Some(*lapse));
         let place = list.iter().find_map(|(history, seen)| {
@@ -350,9 +324,7 @@ fn mistakes(seed: u64) -> Vec<bool> {
         let place = list.iter().find_map(|(history, _)| {
             let mut pair = Pair::new(&history.log);
             let calls = history.acts.iter();
-            let call = calls
-                .take(3)
-                .position(|act| pair.call(act, name).is_err())?;
+            let call = calls.take(3).position(|act| pair.call(act, name).is_err())?;
             Some(format!("{}, call {call}", history.kind))
         });
         results.push(told(&format!("{name}: {text}"), place));

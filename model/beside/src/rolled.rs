@@ -8,12 +8,13 @@ use crate::pages;
 use crate::wrong::Wrong;
 use model::card;
 use model::draw::Rng;
-use model::records;
+use model::records::{self, Line};
 use model::rolling::{Call, Rolling, Slip, SLIPS};
 use model::rolls::{self, FLOORS};
 use model::rules;
 use model::scenario;
 use model::table::Hits;
+use model::watch::{self, Watcher};
 use splicer::{RollingSplicer, Splicer, OUT};
 
 /// A mistake must be noticed within this many streams.
@@ -24,25 +25,15 @@ fn plain(call: &Call) -> Option<calls::Call> {
     Some(match call {
         Call::Plain(card::Call::Open(conn)) => calls::Call::Open((*conn).into()),
         Call::Plain(card::Call::Close(conn)) => calls::Call::Close((*conn).into()),
-        Call::Plain(card::Call::Message(conn, bytes)) => {
-            calls::Call::Message((*conn).into(), bytes.clone())
-        }
+        Call::Plain(card::Call::Message(conn, bytes)) => calls::Call::Message((*conn).into(), bytes.clone()),
         _ => return None,
     })
 }
 
 fn ask_model(model: &mut Rolling, call: &Call, room: usize) -> Said {
     match model.make(call, room) {
-        Ok((out, consumed)) => Said {
-            refused: 0,
-            consumed,
-            written: records::all_bytes(&out),
-            moved: model.splicer.moved,
-        },
-        Err(number) => Said {
-            moved: model.splicer.moved,
-            ..Said::refusal(number)
-        },
+        Ok((out, consumed)) => Said { refused: 0, consumed, written: records::all_bytes(&out), moved: model.splicer.moved },
+        Err(number) => Said { moved: model.splicer.moved, ..Said::refusal(number) },
     }
 }
 
@@ -51,26 +42,15 @@ fn ask_core(core: &mut RollingSplicer, call: &Call, out: &mut [u8]) -> Said {
     let result = match call {
         Call::Plain(card::Call::Open(conn)) => core.open((*conn).into()).map(|()| (nothing, 0, 0)),
         Call::Plain(card::Call::Close(conn)) => core.close((*conn).into(), out).map(|w| (w, 0, 0)),
-        Call::Plain(card::Call::Message(conn, bytes)) => core
-            .message((*conn).into(), bytes, out)
-            .map(|h| (h.written, h.consumed, h.moved as usize)),
+        Call::Plain(card::Call::Message(conn, bytes)) => {
+            core.message((*conn).into(), bytes, out).map(|h| (h.written, h.consumed, h.moved as usize))
+        }
         Call::Plain(card::Call::Tick(..)) => panic!("a rolling card has no tick"),
-        Call::Instant {
-            seconds,
-            micros,
-            reading,
-        } => core
-            .instant(*seconds, *micros, *reading, out)
-            .map(|w| (w, 0, 0)),
+        Call::Instant { seconds, micros, reading } => core.instant(*seconds, *micros, *reading, out).map(|w| (w, 0, 0)),
         Call::Reading(reading) => core.reading(*reading, out).map(|w| (w, 0, 0)),
     };
     match result {
-        Ok((written, consumed, moved)) => Said {
-            refused: 0,
-            consumed,
-            written: written.to_vec(),
-            moved,
-        },
+        Ok((written, consumed, moved)) => Said { refused: 0, consumed, written: written.to_vec(), moved },
         Err(refusal) => Said::refusal(refusal.number()),
     }
 }
@@ -99,11 +79,7 @@ impl RollingBooks {
     fn due(&self, call: &Call, room: usize) -> (u8, u64, u32) {
         let clock = self.books.clock();
         match *call {
-            Call::Instant {
-                seconds,
-                micros,
-                reading,
-            } => {
+            Call::Instant { seconds, micros, reading } => {
                 let time = u64::from(seconds) * 9_000_000 + u64::from(micros) * 9;
                 let number = match (room < OUT, micros > 999_999, self.last) {
                     (true, ..) => 2,
@@ -131,6 +107,7 @@ impl RollingBooks {
 struct RollingPair {
     core: RollingSplicer,
     model: Rolling,
+    watcher: Watcher,
     books: RollingBooks,
     /// Of a stream of whole microseconds.
     plain: Option<Splicer>,
@@ -139,8 +116,10 @@ struct RollingPair {
 impl RollingPair {
     fn fresh(slip: Option<Slip>, whole: bool) -> Result<RollingPair, String> {
         let name = card::channel_name();
-        let (mut model, _) = Rolling::fresh(&name);
-        model.counter.slip = slip;
+        let (model, _) = match slip {
+            None => watch::fresh_rolling(&name),
+            Some(slip) => Rolling::fresh_by(&name, slip.rules(), slip.counting()),
+        };
         let (core, named) = RollingSplicer::fresh(&name);
         if named.is_err() {
             return Err("fresh refused".to_string());
@@ -148,13 +127,14 @@ impl RollingPair {
         Ok(RollingPair {
             core,
             model,
+            watcher: Watcher::new(),
             books: RollingBooks::default(),
             plain: whole.then(|| Splicer::fresh(&name).0),
         })
     }
 
     fn call(&mut self, call: &Call, room: usize, desk: &mut Desk) -> Result<Said, String> {
-        let wanted = ask_model(&mut self.model, call, room);
+        let wanted = self.watcher.during(|| ask_model(&mut self.model, call, room));
         let before = (wanted.refused != 0).then(|| self.core.clone());
         let found = ask_core(&mut self.core, call, desk.buffer(room));
         if found != wanted {
@@ -193,13 +173,7 @@ impl RollingPair {
 
     /// The plain core, ticked to the same whole microsecond, says the same. It is not called where the
     /// rolling card alone refuses.
-    fn as_plain(
-        &mut self,
-        call: &Call,
-        room: usize,
-        said: &Said,
-        desk: &mut Desk,
-    ) -> Result<(), String> {
+    fn as_plain(&mut self, call: &Call, room: usize, said: &Said, desk: &mut Desk) -> Result<(), String> {
         let Some(core) = &mut self.plain else {
             return Ok(());
         };
@@ -247,35 +221,22 @@ fn play(seed: u64, index: u64, slip: Option<Slip>, desk: &mut Desk, tally: &mut 
         for room in short.into_iter().chain([full]) {
             tally.calls += 1;
             let told = match pair.call(call, room, desk) {
-                Ok(said) => again(
-                    before.as_ref().filter(|_| room == full),
-                    &pair,
-                    call,
-                    &said,
-                    desk,
-                ),
+                Ok(said) => again(before.as_ref().filter(|_| room == full), &pair, call, &said, desk),
                 Err(text) => Err(text),
             };
             if let Err(text) = told {
                 let (at, line) = (at + 1, call.line());
-                let text =
-                    format!("rolling stream {index}, call {at}: {line}, room {room}\n{text}\n");
+                let text = format!("rolling stream {index}, call {at}: {line}, room {room}\n{text}\n");
                 return tally.differences.push(text);
             }
         }
     }
-    tally.hits.add(&pair.model.counter.hits);
+    tally.hits.add(&pair.watcher.seen().rolls);
 }
 
 /// A copy of the core from before the call gives the same and becomes the same. The call with a short
 /// buffer between has changed nothing.
-fn again(
-    before: Option<&RollingSplicer>,
-    pair: &RollingPair,
-    call: &Call,
-    said: &Said,
-    desk: &mut Desk,
-) -> Result<(), String> {
+fn again(before: Option<&RollingSplicer>, pair: &RollingPair, call: &Call, said: &Said, desk: &mut Desk) -> Result<(), String> {
     let Some(before) = before else {
         return Ok(());
     };
@@ -299,10 +260,7 @@ pub fn everything(seed: u64, n: u64) -> Vec<bool> {
         results.push(booked(seed, *slip, text));
     }
     let unnoticed = results[1..].iter().filter(|good| !**good).count();
-    println!(
-        "beside: {} mistakes of a rolling card, each by the records alone too: {unnoticed} not noticed",
-        SLIPS.len()
-    );
+    println!("beside: {} mistakes of a rolling card, each by the records alone too: {unnoticed} not noticed", SLIPS.len());
     results.extend(scenarios());
     results
 }
@@ -349,8 +307,7 @@ fn noticed(seed: u64, slip: Slip, text: &str) -> bool {
 /// The books find a mistake of the second program without the core.
 fn booked(seed: u64, slip: Slip, text: &str) -> bool {
     for index in 0..FOR_A_SLIP {
-        let (mut model, _) = Rolling::fresh(&card::channel_name());
-        model.counter.slip = Some(slip);
+        let (mut model, _) = Rolling::fresh_by(&card::channel_name(), slip.rules(), slip.counting());
         let mut books = RollingBooks::default();
         let calls = rolls::stream(seed, index).calls;
         for (at, call) in calls.iter().enumerate() {
@@ -359,9 +316,7 @@ fn booked(seed: u64, slip: Slip, text: &str) -> bool {
                 let said = ask_model(&mut model, call, *room);
                 if let Err(found) = books.call(call, *room, &said) {
                     let at = at + 1;
-                    println!(
-                        "noticed in rolling stream {index}, call {at}, {found}: {slip:?}: {text}"
-                    );
+                    println!("noticed in rolling stream {index}, call {at}, {found}: {slip:?}: {text}");
                     return true;
                 }
             }
@@ -380,15 +335,8 @@ fn scenarios() -> Vec<bool> {
     };
     paths.sort();
     let mut results = Vec::new();
-    for path in paths
-        .iter()
-        .filter(|p| p.extension().is_some_and(|e| e == "txt"))
-    {
-        let name = path
-            .file_name()
-            .unwrap_or_default()
-            .to_string_lossy()
-            .into_owned();
+    for path in paths.iter().filter(|p| p.extension().is_some_and(|e| e == "txt")) {
+        let name = path.file_name().unwrap_or_default().to_string_lossy().into_owned();
         match scenario_of(path) {
             Ok(None) => continue,
             Ok(Some(calls)) => {

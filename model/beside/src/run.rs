@@ -102,9 +102,7 @@ pub fn run(plan: &Plan) -> Tally {
     };
     let mut sum = Tally::new();
     std::thread::scope(|scope| {
-        let parts: Vec<_> = (0..plan.threads)
-            .map(|part| scope.spawn(move || work(part)))
-            .collect();
+        let parts: Vec<_> = (0..plan.threads).map(|part| scope.spawn(move || work(part))).collect();
         for part in parts {
             match part.join() {
                 Ok(tally) => sum.add(tally),
@@ -129,21 +127,14 @@ pub fn noticed(seed: u64, list: &[Stream], wrong: Wrong) -> Option<String> {
 
 impl Share {
     fn new(seed: u64, wrong: Wrong) -> Share {
-        Share {
-            desk: Desk::new(LONGEST),
-            tally: Tally::new(),
-            rng: Rng::new(seed),
-            wrong,
-        }
+        Share { desk: Desk::new(LONGEST), tally: Tally::new(), rng: Rng::new(seed), wrong }
     }
 
     /// Some streams, a call of one and a call of another as they are drawn.
     fn group(&mut self, list: &[Stream]) {
         let mut lanes: Vec<Lane> = list.iter().map(|stream| self.lane(stream)).collect();
         loop {
-            let alive: Vec<usize> = (0..lanes.len())
-                .filter(|at| lanes[*at].pair.is_some())
-                .collect();
+            let alive: Vec<usize> = (0..lanes.len()).filter(|at| lanes[*at].pair.is_some()).collect();
             // One difference is enough to have noticed a fault.
             let noticed = self.wrong != Wrong::Nothing && !self.tally.differences.is_empty();
             if alive.is_empty() || noticed {
@@ -167,22 +158,19 @@ impl Share {
             self.tally.differences.push(text);
         }
         let pair = fresh.ok();
-        Lane {
-            stream,
-            next: 0,
-            pair,
-        }
+        Lane { stream, next: 0, pair }
     }
 
     /// The lane's next call. A difference ends the lane.
     fn step(&mut self, lane: &mut Lane) {
-        let Some(pair) = &mut lane.pair else {
+        let Some(act) = lane.stream.acts.get(lane.next) else {
+            if let Some(seen) = lane.pair.take().map(|pair| pair.watcher.seen()) {
+                self.tally.counts.add(&seen.counts);
+                self.tally.hits.add(&seen.cues);
+            }
             return;
         };
-        let Some(act) = lane.stream.acts.get(lane.next) else {
-            self.tally.counts.add(&pair.model.counts);
-            self.tally.hits.add(&pair.model.cueing.hits);
-            lane.pair = None;
+        let Some(pair) = &mut lane.pair else {
             return;
         };
         lane.next += 1;
@@ -227,8 +215,7 @@ fn share_state(lanes: &mut [Lane], at: usize) {
 pub fn booked(list: &[Stream], wrong: Wrong) -> Option<String> {
     for stream in list {
         let (mut model, _) = rules::Splicer::fresh(&stream.name);
-        model.fault = wrong.of_model();
-        model.cueing.miscue = wrong.of_cues();
+        model.rules = wrong.rules();
         let mut books = Books::default();
         let mut drift = Drift::default();
         for (at, act) in stream.acts.iter().enumerate() {

@@ -11,14 +11,7 @@ const GUARD: u64 = 0x5AFE_5AFE_5AFE_5AFE;
 extern "C" {
     fn splicer_bench_2_recall_fresh(log: *mut u8, size: usize, reply: *mut u64);
     fn splicer_bench_2_recall_open(log: *mut u8, size: usize, conn: u32, reply: *mut u64);
-    fn splicer_bench_2_recall_close(
-        log: *mut u8,
-        size: usize,
-        conn: u32,
-        out: *mut u8,
-        room: usize,
-        reply: *mut u64,
-    );
+    fn splicer_bench_2_recall_close(log: *mut u8, size: usize, conn: u32, out: *mut u8, room: usize, reply: *mut u64);
     fn splicer_bench_2_recall_message(
         log: *mut u8,
         size: usize,

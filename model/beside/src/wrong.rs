@@ -4,6 +4,8 @@
 use crate::calls::{Act, Call, Desk, Said, Sections};
 use model::cues::{Miscue, MISCUES};
 use model::faults::{Fault, FAULTS};
+use model::rules::Rules;
+use model::watch::SEEN;
 use splicer::{message_id as id, records, Record};
 use splicer::{Refusal, Splicer, CONNECTIONS, HEADER, NAME, OUT};
 
@@ -28,10 +30,7 @@ pub const OWN: &[(&str, &str)] = &[
     ("byte-before", "a byte before the buffer changed"),
     ("refused-changes", "a refused call opens a connection"),
     ("room", "an output buffer of 4,095 bytes taken"),
-    (
-        "cut-message",
-        "the missing bytes of a message taken as zeros",
-    ),
+    ("cut-message", "the missing bytes of a message taken as zeros"),
     ("connection", "connection 256 taken as 0"),
     ("name", "a name without a zero byte cut to 31 bytes"),
     ("shared", "two splicers with one state"),
@@ -40,31 +39,13 @@ pub const OWN: &[(&str, &str)] = &[
 /// Faults in the waiting counts that the core is read to keep.
 pub const COUNTING: &[(&str, &str)] = &[
     ("count-start", "a start leaves its session counted"),
-    (
-        "count-failed-start",
-        "a failed start leaves its session counted",
-    ),
-    (
-        "count-failed-followers",
-        "a failed start leaves its followers counted",
-    ),
-    (
-        "count-ended-followers",
-        "an equal start leaves the ended one's followers counted",
-    ),
+    ("count-failed-start", "a failed start leaves its session counted"),
+    ("count-failed-followers", "a failed start leaves its followers counted"),
+    ("count-ended-followers", "an equal start leaves the ended one's followers counted"),
     ("count-evicted", "an eviction leaves its session counted"),
-    (
-        "count-evicted-followers",
-        "an eviction leaves the followers counted",
-    ),
-    (
-        "count-aborted-followers",
-        "an abort leaves the followers counted",
-    ),
-    (
-        "count-elsewhere",
-        "an acceptance raises the next connection's count",
-    ),
+    ("count-evicted-followers", "an eviction leaves the followers counted"),
+    ("count-aborted-followers", "an abort leaves the followers counted"),
+    ("count-elsewhere", "an acceptance raises the next connection's count"),
     ("count-close", "a close leaves its count as it was"),
 ];
 
@@ -79,10 +60,7 @@ pub const MOVING: &[(&str, &str)] = &[
 
 /// Faults in the time on the primary channel that the core is read to keep (02, CR 13).
 pub const TIMING: &[(&str, &str)] = &[
-    (
-        "primary-clock",
-        "the clock read for the primary channel's time",
-    ),
+    ("primary-clock", "the clock read for the primary channel's time"),
     ("primary-ticks", "the primary channel's time read in ticks"),
 ];
 
@@ -97,10 +75,7 @@ pub const CUEING: &[(&str, &str)] = &[
 pub const MAPPING: &[(&str, &str)] = &[
     ("section-1025", "sections of 1,025 bytes taken"),
     ("section-1024", "a section of 1,024 bytes refused"),
-    (
-        "section-insertion",
-        "the insertion's section of any length taken",
-    ),
+    ("section-insertion", "the insertion's section of any length taken"),
     ("section-behind-5", "10 behind 5"),
     ("section-before-7", "10 before 7"),
     ("section-other", "GetConfig with the other section"),
@@ -111,10 +86,7 @@ pub const MAPPING: &[(&str, &str)] = &[
 /// Faults in the page that the core is read to fill (02, CR 8).
 pub const PAGING: &[(&str, &str)] = &[
     ("rows-oldest", "the page filled from the oldest up"),
-    (
-        "rows-stale",
-        "an unused row keeps a number that it was lent with",
-    ),
+    ("rows-stale", "an unused row keeps a number that it was lent with"),
     ("rows-unmarked", "an unused row marked as kept"),
     ("rows-connection", "a row's connection not written"),
     ("rows-fifteen", "fifteen rows taken"),
@@ -132,12 +104,7 @@ pub struct Drift {
 /// Every fault that must be noticed.
 pub fn all() -> Vec<Wrong> {
     let model = FAULTS.iter().map(|(fault, _)| Wrong::Model(*fault));
-    model
-        .chain(own())
-        .chain(paging())
-        .chain(mapping())
-        .chain(reporting())
-        .collect()
+    model.chain(own()).chain(paging()).chain(mapping()).chain(reporting()).collect()
 }
 
 /// Every mistake about cues.
@@ -192,17 +159,12 @@ impl Wrong {
         }
     }
 
-    pub fn of_model(self) -> Option<Fault> {
+    /// The rules that the second program goes by: the right ones are counted.
+    pub fn rules(self) -> &'static Rules {
         match self {
-            Wrong::Model(fault) => Some(fault),
-            _ => None,
-        }
-    }
-
-    pub fn of_cues(self) -> Option<Miscue> {
-        match self {
-            Wrong::Cue(miscue) => Some(miscue),
-            _ => None,
+            Wrong::Model(fault) => fault.rules(),
+            Wrong::Cue(miscue) => miscue.rules(),
+            _ => &SEEN,
         }
     }
 
@@ -231,9 +193,7 @@ impl Wrong {
                 let size = usize::from(u16::from_be_bytes([bytes[2], bytes[3]]));
                 bytes.resize(bytes.len().max(HEADER + size), 0);
             }
-            Call::Open(conn) | Call::Close(conn) | Call::Message(conn, _)
-                if self.is("connection") && *conn > 255 =>
-            {
+            Call::Open(conn) | Call::Close(conn) | Call::Message(conn, _) if self.is("connection") && *conn > 255 => {
                 *conn %= 256;
             }
             _ => {}
@@ -365,13 +325,7 @@ impl Wrong {
     }
 
     /// The waiting counts that the core is seen to keep after a call: those it has, or a fault's.
-    pub fn waiting(
-        self,
-        act: &Act,
-        said: &Said,
-        now: [u64; CONNECTIONS],
-        drift: &mut Drift,
-    ) -> [u64; CONNECTIONS] {
+    pub fn waiting(self, act: &Act, said: &Said, now: [u64; CONNECTIONS], drift: &mut Drift) -> [u64; CONNECTIONS] {
         let Wrong::Core(name) = self else {
             return now;
         };
@@ -385,9 +339,7 @@ impl Wrong {
             (Call::Close(conn), _) if name == "count-close" && said.refused == 0 => {
                 drift.by[*conn as usize] += drift.before[*conn as usize] as i64;
             }
-            (Call::Message(conn, bytes), Some(answer))
-                if name == "count-elsewhere" && is_splice(bytes) && answer.result == 100 =>
-            {
+            (Call::Message(conn, bytes), Some(answer)) if name == "count-elsewhere" && is_splice(bytes) && answer.result == 100 => {
                 drift.by[*conn as usize] -= 1;
                 drift.by[(*conn as usize + 1) % CONNECTIONS] += 1;
             }

@@ -1,11 +1,11 @@
-//! The second program's own engine (model/src/rules.rs: an unordered list, scanned for each question) by C names, without its branch counters.
+//! The second program's own engine (model/rules: an unordered list, scanned for each question) by C names.
 //! A record is made, turned into bytes and copied to the lent buffer, as that program makes its records.
 
 // The bench lends the place where the pointer stands.
 #![allow(clippy::borrowed_box)]
 
-use model::records::{all_bytes, Record};
-use model::rules::Splicer;
+use rules::bytes::{all_bytes, Record};
+use rules::state::Splicer;
 use std::slice;
 
 /// The list itself lies where the allocator puts it.

@@ -2,11 +2,7 @@
 //! the generated streams must reach. A floor of 0 marks a branch that the card program cannot
 //! reach (it always lends a large enough buffer and whole messages); the unit tests take it.
 
-use std::collections::{BTreeMap, BTreeSet};
-
-/// Whether branches are counted. They are not where this program's engine is measured: what only
-/// serves the table is left out there. No rule depends on it.
-pub const COUNTED: bool = !cfg!(feature = "uncounted");
+use std::collections::BTreeMap;
 
 pub const FULL_BY_20: [&str; 4] = [
     "Splice e 114 by 20, connection 0",
@@ -32,11 +28,8 @@ pub const ACCEPTED: [&str; 4] = [
     "Splice f 100 on connection 2",
     "Splice f 100 on connection 3",
 ];
-pub const EVICTED_FOLLOWERS: [&str; 3] = [
-    "eviction with no follower",
-    "eviction with one follower",
-    "eviction with two followers or more",
-];
+pub const EVICTED_FOLLOWERS: [&str; 3] =
+    ["eviction with no follower", "eviction with one follower", "eviction with two followers or more"];
 pub const EQUAL_EVICTED_FOLLOWERS: [&str; 3] = [
     "eviction of an equal with no follower",
     "eviction of an equal with one follower",
@@ -47,36 +40,16 @@ pub const EQUAL_FOLLOWERS: [&str; 3] = [
     "start over an equal one with one follower",
     "start over an equal one with two followers or more",
 ];
-pub const FAILED_FOLLOWERS: [&str; 3] = [
-    "failed start with no follower",
-    "failed start with one follower",
-    "failed start with two followers or more",
-];
-pub const ON_AIR_FOLLOWERS: [&str; 3] = [
-    "Abort on air with no follower",
-    "Abort on air with one follower",
-    "Abort on air with two followers or more",
-];
-pub const COVERED_FOLLOWERS: [&str; 3] = [
-    "Abort covered with no follower",
-    "Abort covered with one follower",
-    "Abort covered with two followers or more",
-];
-pub const WAITING_FOLLOWERS: [&str; 3] = [
-    "Abort waiting with no follower",
-    "Abort waiting with one follower",
-    "Abort waiting with two followers or more",
-];
-pub const CLOSE_ENDS: [&str; 3] = [
-    "Close with 15 ends",
-    "Close with 16 ends",
-    "Close with 17 ends or more",
-];
-pub const TICK_ENDS: [&str; 3] = [
-    "tick with 15 ends",
-    "tick with 16 ends",
-    "tick with 17 ends or more",
-];
+pub const FAILED_FOLLOWERS: [&str; 3] =
+    ["failed start with no follower", "failed start with one follower", "failed start with two followers or more"];
+pub const ON_AIR_FOLLOWERS: [&str; 3] =
+    ["Abort on air with no follower", "Abort on air with one follower", "Abort on air with two followers or more"];
+pub const COVERED_FOLLOWERS: [&str; 3] =
+    ["Abort covered with no follower", "Abort covered with one follower", "Abort covered with two followers or more"];
+pub const WAITING_FOLLOWERS: [&str; 3] =
+    ["Abort waiting with no follower", "Abort waiting with one follower", "Abort waiting with two followers or more"];
+pub const CLOSE_ENDS: [&str; 3] = ["Close with 15 ends", "Close with 16 ends", "Close with 17 ends or more"];
+pub const TICK_ENDS: [&str; 3] = ["tick with 15 ends", "tick with 16 ends", "tick with 17 ends or more"];
 pub const DEPTH: [&str; 10] = [
     "stack 1 deep",
     "stack 2 deep",
@@ -199,10 +172,7 @@ const OTHERS: &[(&str, u64)] = &[
     ("read Splice with descriptors", 10000),
     ("read Splice descriptor length 4", 2500),
     ("read Splice descriptor length 254", 800),
-    (
-        "read Splice with separate PIDs and nothing behind the tail",
-        1500,
-    ),
+    ("read Splice with separate PIDs and nothing behind the tail", 1500),
     ("read Splice with separate PIDs and descriptors", 1000),
     ("read Splice with no structure", 200),
     ("read Splice with one structure", 500),
@@ -260,20 +230,14 @@ const OTHERS: &[(&str, u64)] = &[
     ("Abort of the one on air", 400),
     ("Abort of a covered one", 400),
     ("Abort of a waiting one", 300),
-    (
-        "Abort of a reused number that a started PriorSession names",
-        90,
-    ),
+    ("Abort of a reused number that a started PriorSession names", 90),
     ("Splice b 121 SessionID 0xFFFFFFFF", 10),
     ("Splice b 121 SessionID waiting", 90),
     ("Splice b 121 SessionID on air", 70),
     ("Splice b 121 SessionID covered", 70),
     ("Splice b SessionID held by another connection only", 4000),
     ("Splice b 121 PriorSession not held", 90),
-    (
-        "Splice b 121 PriorSession held by another connection only",
-        80,
-    ),
+    ("Splice b 121 PriorSession held by another connection only", 80),
     ("Splice b 121 with separate PIDs", 30),
     ("Splice c 112 with separate PIDs", 40),
     ("Splice d 109 with separate PIDs", 100),
@@ -303,10 +267,7 @@ const OTHERS: &[(&str, u64)] = &[
     ("Splice f Duration 0xFFFFFFFF", 100),
     ("Splice f start at the top of the range", 10),
     ("Splice f starts a ninth apart", 100),
-    (
-        "Splice f reused number that a started PriorSession names",
-        200,
-    ),
+    ("Splice f reused number that a started PriorSession names", 200),
     ("Splice f moved 0, none waiting", 900),
     ("Splice f moved 0, behind others", 9000),
     ("Splice f moved 1 to 9", 2000),
@@ -326,10 +287,7 @@ const OTHERS: &[(&str, u64)] = &[
     ("start over an equal one above covered ones", 60),
     ("start over an equal one, ten deep", 20),
     ("start over an equal one that was covered before", 20),
-    (
-        "start over an equal one on air again at the same instant",
-        10,
-    ),
+    ("start over an equal one on air again at the same instant", 10),
     ("start over an equal one that would end past the range", 3),
     ("start behind the end of an equal one on air", 50),
     ("start fails, lower AccessType with override", 1000),
@@ -389,14 +347,8 @@ const OTHERS: &[(&str, u64)] = &[
     ("ExtendedData 100 of a 125, played some", 50),
     ("ExtendedData 100 of a number that ended twice", 50),
     ("ExtendedData 100 of a number held again", 50),
-    (
-        "ExtendedData 100 from before its connection was opened again",
-        50,
-    ),
-    (
-        "ExtendedData 100 of a number that ended on two connections",
-        50,
-    ),
+    ("ExtendedData 100 from before its connection was opened again", 50),
+    ("ExtendedData 100 of a number that ended on two connections", 50),
     ("ExtendedData 100 of the oldest of 16", 20),
     ("card stops at the end of the input", 20),
     ("card stops at a cut record", 30),
@@ -429,14 +381,6 @@ const LISTS: &[(&[&str], u64)] = &[
 #[derive(Clone, Debug)]
 pub struct Counts {
     hits: BTreeMap<&'static str, u64>,
-    /// The numbers accepted so far, only to count those used again.
-    accepted: BTreeSet<(u8, u32)>,
-    /// Those whose end was kept and is no longer, the last one and all, only to count who asks for them.
-    pub last_dropped: Option<(u8, u32)>,
-    dropped: BTreeSet<(u8, u32)>,
-    /// Of each connection: a later Init failed, or a further one was good, since; only to count who asks then.
-    pub failed: [bool; 4],
-    pub again: [bool; 4],
 }
 
 /// Every branch with its floor, in the order of the table.
@@ -450,45 +394,13 @@ pub fn floors() -> Vec<(&'static str, u64)> {
 
 impl Counts {
     pub fn new() -> Counts {
-        Counts {
-            hits: if COUNTED {
-                floors().into_iter().map(|(name, _)| (name, 0)).collect()
-            } else {
-                BTreeMap::new()
-            },
-            accepted: BTreeSet::new(),
-            last_dropped: None,
-            dropped: BTreeSet::new(),
-            failed: [false; 4],
-            again: [false; 4],
-        }
+        Counts { hits: floors().into_iter().map(|(name, _)| (name, 0)).collect() }
     }
 
     /// One more for this branch. A name outside the table is a mistake in this program.
     pub fn hit(&mut self, branch: &'static str) {
-        if !COUNTED {
-            return;
-        }
         let place = self.hits.get_mut(branch);
         *place.unwrap_or_else(|| panic!("branch not in the table: {branch}")) += 1;
-    }
-
-    pub fn accepted(&mut self, conn: u8, id: u32) {
-        self.hit(ACCEPTED[conn as usize]);
-        if !self.accepted.insert((conn, id)) {
-            self.hit("Splice f SessionID used before on this connection");
-        }
-    }
-
-    pub fn dropped(&mut self, conn: u8, id: u32) {
-        if COUNTED {
-            self.last_dropped = Some((conn, id));
-            self.dropped.insert((conn, id));
-        }
-    }
-
-    pub fn was_dropped(&self, conn: u8, id: u32) -> bool {
-        self.dropped.contains(&(conn, id))
     }
 
     pub fn of(&self, branch: &str) -> u64 {
@@ -510,8 +422,7 @@ impl Counts {
 
     /// The whole table: hits, floor, name.
     pub fn table(&self) -> String {
-        let line =
-            |(name, floor): (&str, u64)| format!("{:>9} {:>6}  {name}\n", self.of(name), floor);
+        let line = |(name, floor): (&str, u64)| format!("{:>9} {:>6}  {name}\n", self.of(name), floor);
         let lines: String = floors().into_iter().map(line).collect();
         format!("     hits  floor  branch\n{lines}")
     }
@@ -521,11 +432,7 @@ impl Counts {
         let all = floors();
         let floored: Vec<_> = all.iter().filter(|(_, floor)| *floor > 0).collect();
         let taken = floored.iter().filter(|(name, _)| self.of(name) > 0).count();
-        format!(
-            "{} branches, {} with a floor, {taken} of these taken",
-            all.len(),
-            floored.len()
-        )
+        format!("{} branches, {} with a floor, {taken} of these taken", all.len(), floored.len())
     }
 }
 

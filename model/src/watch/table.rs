@@ -16,9 +16,7 @@ impl Hits {
     }
 
     pub fn more(&mut self, name: &'static str, hits: u64) {
-        if crate::counts::COUNTED {
-            *self.hits.entry(name).or_insert(0) += hits;
-        }
+        *self.hits.entry(name).or_insert(0) += hits;
     }
 
     pub fn add(&mut self, other: &Hits) {
@@ -43,8 +41,7 @@ impl Hits {
     }
 
     pub fn table(&self, floors: &Floors) -> String {
-        let line =
-            |(name, floor): &(&str, u64)| format!("{:>9} {floor:>6}  {name}\n", self.of(name));
+        let line = |(name, floor): &(&str, u64)| format!("{:>9} {floor:>6}  {name}\n", self.of(name));
         let lines: String = floors.iter().map(line).collect();
         format!("     hits  floor  branch\n{lines}")
     }
