@@ -2,46 +2,25 @@
 //! one process with the proved core. It uses nothing of the core.
 #![allow(clippy::new_without_default, clippy::should_implement_trait)]
 
-pub mod aims;
-pub mod aside;
-pub mod asrun;
-pub mod card;
-pub mod carriage;
-pub mod cases;
-pub mod check;
-pub mod compare;
-pub mod cue;
-pub mod cueing;
-pub mod cues;
-pub mod damage;
-pub mod demand3;
-pub mod draw;
-pub mod driver;
-pub mod due;
-pub mod episodes;
-pub mod faults;
-pub mod fuzz;
+#[path = "../gen/mod.rs"]
 pub mod gen;
-pub mod lapses;
-pub mod logs;
+#[path = "../hold/mod.rs"]
+pub mod hold;
+#[path = "../people/mod.rs"]
 pub mod people;
-pub mod pieces;
-pub mod primary;
-pub mod recall;
-pub mod recalls;
-pub mod recording;
-pub mod recordings;
-pub mod records;
-pub mod rolling;
-pub mod rolls;
-pub mod scenario;
-pub mod section;
 #[cfg(test)]
 mod tests;
-pub mod watch;
 
 pub use ::rules::{descriptors, streams};
-pub use watch::{counts, table};
+
+pub use hold::{faults, recordings};
+pub use people::{aside, check, recording, scenario, section};
+
+/// What `desk` takes of the card program's runs.
+pub mod card {
+    pub use crate::hold::run::by as run;
+    pub use crate::people::card::{channel_name, input_bytes, is_too_large, make, next_call, Call, Done, Run, Stop};
+}
 
 /// 01's names, as the modules here use them.
 pub mod rules {

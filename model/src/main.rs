@@ -1,54 +1,67 @@
-//! The independent second program of the splicer core. See `model help`.
+//! The command `model` of the second program: one table of its commands. See `model --help`.
 
-use model::faults::Fault;
-use model::{
-    asrun, card, cases, check, cue, cueing, fuzz, option, people, pieces, recall, recalls, recording, recordings, rolls, scenario,
-};
-use std::io::{Read, Write};
+mod commands;
 
-const HELP: &str = "\
-model card [--fault NAME]                    01's card program, standard input to output
-                                             (with a deliberate fault, to try the harness)
-model recall                                 the engine that only remembers (02, CR 12), with the card program's input
-model scenario [--card CMD] FILE...          runs scenario files
-model scenario --bytes FILE                  writes a scenario's card input
-model scenario --tables DIR FILE...          writes scenarios as tables of antt
-model gen --seed S --n N --out DIR           writes N generated streams as files
-model fuzz --seed S --n N [--card CMD] [--table] [--floors off]
-                                             N generated streams through both programs
-model pieces --seed S --n N --card CMD       N generated streams through the card program, in pieces
-model faults --seed S --n N                  shows that each deliberate fault is noticed
-model decode IN OUT                          a recording's calls and answers as lines
-model asrun IN OUT                           a recording's as-run list and timeline
-model asrun SCENARIO                         those of a scenario's calls, a rolling card's too
-model check FILE                             02's checker (CR 14): the first call of a recording (or of a
-                                             scenario, FILE.txt) whose records are not the due ones
-model record FILE                            card input, or a scenario's calls and records, as a recording
-model recordings --seed S --n N [--checker CMD] [--out DIR] [--table] [--floors off] [FILE...]
-                                             recordings of N streams, whole and damaged, and of scenario files,
-                                             through both checkers; written with their lines into DIR
-model rolls --seed S --n N [--table] [--floors off]
-                                             N streams of a rolling card (02, CR 9) on the second program
-model rolls --seed S --n N --faults          shows that each deliberate mistake of a rolling card is noticed
-model recordings --seed S --n N --faults     shows that each deliberate mistake of a checker is noticed
-model recalls --seed S --n N [--remember CMD] [--card CMD] [--out DIR] [--table] [--floors off] [FILE...]
-                                             N streams, logs of each, and scenario files, through the engine that
-                                             only remembers and what is given; written with what is due into DIR
-model recalls --seed S --n N --faults        shows that each deliberate mistake of such an engine is noticed
-model cue (HEX | BASE64)... [--pts N --at TIME]
-                                             sections: every field, the CRC, what the core would do, the time
-model cue --ts FILE [--pid N] ...            those of a transport stream, by its tables or this PID
-model cue --records FILE ...                 those of the Cue_Requests in a recorded output
-model cue --make COMMAND [KEY=VALUE]... ...  one from words: null, insert, time_signal, schedule, bandwidth, private or
-                                             a number; README.md has the keys
-model cue --drawn N [--seed S] ...           N drawn ones
-   ... [--hex | --fields NAME,.. | --out FILE.ts]
-                                             as digits, as values with tabs between, or into a transport stream
-model cues --seed S --n N [--table] [--floors off]
-                                             N streams with cue calls (02, CR 7) on the second program
-model cues --seed S --n N --faults           shows that each deliberate mistake about cues is noticed
-model cues --seed S --n N --rows             N cue calls and what comes of each, a line each
-";
+use commands as c;
+
+/// A command: its group, its name, the words behind it, what it does, and more lines of its help.
+struct Command {
+    group: &'static str,
+    name: &'static str,
+    words: &'static [&'static str],
+    does: &'static str,
+    run: fn(&[String]) -> Result<bool, String>,
+}
+
+/// A row of the table.
+const fn row(
+    group: &'static str,
+    name: &'static str,
+    words: &'static [&'static str],
+    does: &'static str,
+    run: fn(&[String]) -> Result<bool, String>,
+) -> Command {
+    Command { group, name, words, does, run }
+}
+
+const PROGRAMS: &str = "programs (standard input to standard output)";
+const PEOPLE: &str = "for people";
+const MAKING: &str = "making";
+const HOLDING: &str =
+    "holding (S a seed, N a number of streams; status 1 for a difference, an unnoticed fault, a branch below its floor)";
+
+const STREAMS: &[&str] = &["--seed S --n N [--table] [--floors off]", "--seed S --n N --faults", "--seed S --n N --show I"];
+
+#[rustfmt::skip]
+const COMMANDS: &[Command] = &[
+    row(PROGRAMS, "card", &["[--fault NAME]"], "01's card program; with one deliberate fault, to try what holds it", c::card),
+    row(PROGRAMS, "recall", &[""], "the engine that only remembers (02, CR 12), with the card program's input", c::recall),
+    row(PEOPLE, "decode", &["IN OUT"], "a card program's input and output as lines", c::decode),
+    row(PEOPLE, "asrun", &["IN OUT", "SCENARIO"], "the as-run list and timeline, of a scenario's calls too", c::asrun),
+    row(PEOPLE, "check", &["FILE"], "02's checker (CR 14) over a recording, or a scenario (FILE.txt): the first wrong call", c::check),
+    row(PEOPLE, "cue",
+        &["SECTION.. [HOW]", "--ts FILE [--pid N] [HOW]", "--records FILE [HOW]", "--make COMMAND [KEY=VALUE].. [HOW]",
+          "--drawn N [--seed S] [HOW]", "HOW: --pts N --at TIME | --hex | --fields NAME,.. | --out FILE.ts",
+          "SECTION: hexadecimal, with 0x or without, or base64; TIME: seconds, or ISO 8601 in UTC"],
+        "sections of SCTE 35 (02, CR 7): every field, the CRC, what the core does, the time", c::cue),
+    row(MAKING, "record", &["FILE"], "card input, or a scenario's calls and records (FILE.txt), as a recording", c::record),
+    row(MAKING, "gen", &["--seed S --n N --out DIR"], "generated streams as files of card input", c::gen),
+    row(MAKING, "scenario", &["[--card CMD] FILE..", "--bytes FILE", "--tables DIR FILE.."],
+        "runs scenario files; writes one's card input; or tables of antt", c::scenario),
+    row(HOLDING, "fuzz", &["--seed S --n N [--card CMD] [--table] [--floors off]"], "streams, and a card program held to them", c::fuzz),
+    row(HOLDING, "pieces", &["--seed S --n N --card CMD"], "a card program with its input in pieces", c::pieces),
+    row(HOLDING, "faults", &["--seed S --n N"], "each deliberate fault of the rules is noticed", c::faults),
+    row(HOLDING, "rolls", STREAMS, "streams of a rolling card (02, CR 9), and its mistakes", c::rolls),
+    row(HOLDING, "cues",
+        &["--seed S --n N [--table] [--floors off]", "--seed S --n N --faults", "--seed S --n N --show I", "--seed S --n N --rows"],
+        "streams with cue calls (02, CR 7), and mistakes about them; or N calls and what comes of each", c::cues),
+    row(HOLDING, "recordings",
+        &["--seed S --n N [--checker CMD] [--out DIR] [--table] [--floors off] [SCENARIO..]", "--seed S --n N --faults"],
+        "recordings whole, cut and damaged (02, CR 14), a checker held to them, and its mistakes", c::recordings),
+    row(HOLDING, "recalls",
+        &["--seed S --n N [--remember CMD] [--card CMD] [--out DIR] [--table] [--floors off] [SCENARIO..]", "--seed S --n N --faults"],
+        "streams and logs for the engine that only remembers (02, CR 12), a program of it, and its mistakes", c::recalls),
+];
 
 fn main() {
     let args: Vec<String> = std::env::args().skip(1).collect();
@@ -63,294 +76,91 @@ fn main() {
 }
 
 fn command(args: &[String]) -> Result<bool, String> {
-    let Some(first) = args.first() else {
-        return Err(format!("a command is missing\n{HELP}"));
+    let Some((first, rest)) = args.split_first() else {
+        return Err("a command is missing; model --help lists them".to_string());
     };
-    let rest = &args[1..];
-    match first.as_str() {
-        "card" => run_card(rest),
-        "recall" => run_recall(rest),
-        "scenario" => run_scenario(rest),
-        "gen" => run_gen(rest),
-        "fuzz" => run_fuzz(rest),
-        "pieces" => run_pieces(rest),
-        "faults" => run_faults(rest),
-        "decode" => run_recording(rest, people::decode),
-        "asrun" if rest.len() == 1 => run_asrun(&rest[0]),
-        "asrun" => run_recording(rest, asrun::as_run),
-        "check" => run_check(rest),
-        "record" => run_record(rest),
-        "recordings" => run_recordings(rest),
-        "recalls" => run_recalls(rest),
-        "rolls" => run_rolls(rest),
-        "cue" => write_out(cue::command(rest)?.as_bytes()),
-        "cues" => run_cues(rest),
-        "help" | "--help" => {
-            print!("{HELP}");
-            Ok(true)
+    if ["help", "--help", "-h"].contains(&first.as_str()) {
+        return c::write_out(table().as_bytes());
+    }
+    let known = COMMANDS.iter().find(|command| command.name == first);
+    let known = known.ok_or(format!("unknown command {first}; model --help lists them"))?;
+    if rest.iter().any(|word| word == "--help" || word == "-h") {
+        return c::write_out(usage(known).as_bytes());
+    }
+    (known.run)(rest).map_err(|text| format!("{first}: {text}"))
+}
+
+/// All commands by their groups, a line each.
+fn table() -> String {
+    let (mut text, mut group) = ("model COMMAND [WORD..]; model COMMAND --help says what it takes\n".to_string(), "");
+    for command in COMMANDS {
+        if group != command.group {
+            group = command.group;
+            text += &format!("\n{group}\n");
         }
-        _ => Err(format!("unknown command {first}\n{HELP}")),
+        text += &format!("  {:<11} {}\n", command.name, command.does);
     }
+    text
 }
 
-fn run_card(args: &[String]) -> Result<bool, String> {
-    let mut args = args.to_vec();
-    let fault = match option(&mut args, "--fault")? {
-        Some(name) => Some(Fault::named(&name).ok_or(format!("no fault {name}"))?),
-        None => None,
-    };
-    nothing_left(&args)?;
-    write_out(&card::run(&read_in()?, fault).output())
+fn usage(command: &Command) -> String {
+    let mut text = format!("{}\n", command.does);
+    for words in command.words {
+        let line = match words.split_once(": ") {
+            Some((name, _)) if name.bytes().all(|b| b.is_ascii_uppercase()) => format!("  {words}"),
+            _ => format!("  model {} {words}", command.name),
+        };
+        text += &format!("{}\n", line.trim_end());
+    }
+    text
 }
 
-fn run_recall(args: &[String]) -> Result<bool, String> {
-    nothing_left(args)?;
-    write_out(&recall::run(&read_in()?).output())
-}
+#[cfg(test)]
+mod tests {
+    use super::*;
 
-fn read_in() -> Result<Vec<u8>, String> {
-    let mut input = Vec::new();
-    let told = |e: std::io::Error| e.to_string();
-    std::io::stdin().read_to_end(&mut input).map_err(told)?;
-    Ok(input)
-}
+    fn of(words: &[&str]) -> Result<bool, String> {
+        command(&words.iter().map(|word| word.to_string()).collect::<Vec<_>>())
+    }
 
-fn write_out(bytes: &[u8]) -> Result<bool, String> {
-    let mut out = std::io::stdout().lock();
-    let told = |e: std::io::Error| e.to_string();
-    out.write_all(bytes).map_err(told)?;
-    out.flush().map_err(told)?;
-    Ok(true)
-}
-
-fn run_scenario(args: &[String]) -> Result<bool, String> {
-    let mut args = args.to_vec();
-    if let Some(path) = option(&mut args, "--bytes")? {
-        let text = std::fs::read_to_string(&path).map_err(|e| format!("{path}: {e}"))?;
-        let steps = scenario::parse(&text).map_err(|e| format!("{path}: {e}"))?;
-        if scenario::is_rolling(&steps) || scenario::is_cued(&steps) {
-            let which = "a rolling card's calls and cues are no card input";
-            return Err(format!("{path}: {which}"));
+    #[test]
+    fn every_command_is_in_the_table_once() {
+        let names: Vec<&str> = COMMANDS.iter().map(|command| command.name).collect();
+        for (place, name) in names.iter().enumerate() {
+            assert_eq!(names.iter().position(|other| other == name), Some(place), "{name}");
+            assert!(table().contains(&format!("\n  {name} ")), "{name}");
         }
-        return write_out(&scenario::input_of(&steps));
+        assert_eq!(names.len(), 16);
     }
-    if let Some(dir) = option(&mut args, "--tables")? {
-        return write_tables(&dir, &args);
-    }
-    let card = option(&mut args, "--card")?;
-    if args.is_empty() {
-        return Err("no scenario file".to_string());
-    }
-    Ok(scenario::run_files(&args, card.as_deref()))
-}
 
-/// A table of antt for each scenario file.
-fn write_tables(dir: &str, files: &[String]) -> Result<bool, String> {
-    for path in files {
-        let text = std::fs::read_to_string(path).map_err(|e| format!("{path}: {e}"))?;
-        let steps = scenario::parse(&text).map_err(|e| format!("{path}: {e}"))?;
-        // a rolling card's calls and cues are none of the card program
-        if scenario::is_rolling(&steps) || scenario::is_cued(&steps) {
-            continue;
+    #[test]
+    fn wrong_words_are_one_line() {
+        let wrong: [&[&str]; 12] = [
+            &[],
+            &["zzz"],
+            &["fuzz"],
+            &["fuzz", "--seed", "x", "--n", "1"],
+            &["fuzz", "--seed", "1", "--n"],
+            &["fuzz", "--seed", "1", "--n", "1", "--floors", "on"],
+            &["cue"],
+            &["cue", "zzz"],
+            &["cue", "0xFC3"],
+            &["cue", "--make", "null", "--pts", "1", "--at", "2001-13-01"],
+            &["decode", "one"],
+            &["check", "no such file"],
+        ];
+        for words in wrong {
+            let text = of(words).expect_err(&words.join(" "));
+            assert!(!text.contains('\n'), "{words:?}: {text}");
         }
-        let file = format!("{dir}/{}.antt", cases::module(path));
-        let table = cases::table(path, &text, &steps);
-        std::fs::write(&file, table).map_err(|e| format!("{file}: {e}"))?;
     }
-    Ok(true)
-}
 
-/// A command over the recorded input and output of a card program.
-fn run_recording(args: &[String], tell: fn(&[u8], &[u8]) -> (String, bool)) -> Result<bool, String> {
-    let [input, output] = args else {
-        return Err("the files IN and OUT are needed".to_string());
-    };
-    let read = |path: &String| std::fs::read(path).map_err(|e| format!("{path}: {e}"));
-    let (text, same) = tell(&read(input)?, &read(output)?);
-    write_out(text.as_bytes())?;
-    Ok(same)
-}
-
-/// A file's bytes and, of a scenario, its steps.
-fn read_either(args: &[String]) -> Result<(Vec<u8>, Option<Vec<scenario::Step>>), String> {
-    let [path] = args else {
-        return Err("one file is needed".to_string());
-    };
-    let bytes = std::fs::read(path).map_err(|e| format!("{path}: {e}"))?;
-    if !path.ends_with(".txt") {
-        return Ok((bytes, None));
+    #[test]
+    fn the_help_of_each_has_its_words() {
+        for command in COMMANDS {
+            let text = usage(command);
+            assert!(text.starts_with(command.does), "{text}");
+            assert!(text.contains(&format!("model {}", command.name)), "{text}");
+        }
     }
-    let text = String::from_utf8(bytes).map_err(|e| format!("{path}: {e}"))?;
-    let steps = scenario::parse(&text).map_err(|e| format!("{path}: {e}"))?;
-    if scenario::is_rolling(&steps) || scenario::is_cued(&steps) {
-        let which = "a rolling card's calls and cues have no marks";
-        return Err(format!("{path}: {which}"));
-    }
-    Ok((Vec::new(), Some(steps)))
-}
-
-/// The as-run list of a scenario's calls.
-fn run_asrun(path: &String) -> Result<bool, String> {
-    let text = std::fs::read_to_string(path).map_err(|e| format!("{path}: {e}"))?;
-    let steps = scenario::parse(&text).map_err(|e| format!("{path}: {e}"))?;
-    if scenario::is_rolling(&steps) {
-        let calls = scenario::rolling_calls(&steps).map_err(|e| format!("{path}: {e}"))?;
-        return write_out(asrun::as_rolled(&calls).as_bytes());
-    }
-    let input = scenario::input_of(&steps);
-    let (text, same) = asrun::as_run(&input, &card::run(&input, None).output());
-    write_out(text.as_bytes())?;
-    Ok(same)
-}
-
-fn run_check(args: &[String]) -> Result<bool, String> {
-    let (text, none) = match read_either(args)? {
-        (_, Some(steps)) => check::told(&recording::of_steps(&steps)),
-        (bytes, None) => check::told(&bytes),
-    };
-    write_out(text.as_bytes())?;
-    Ok(none)
-}
-
-fn run_record(args: &[String]) -> Result<bool, String> {
-    write_out(&match read_either(args)? {
-        (_, Some(steps)) => recording::of_steps(&steps),
-        (bytes, None) => recording::recorded(&bytes),
-    })
-}
-
-/// Whether the arguments have this word; it is taken out.
-fn flag(args: &mut Vec<String>, word: &str) -> bool {
-    let place = args.iter().position(|a| a == word);
-    place.map(|at| args.remove(at)).is_some()
-}
-
-/// What is left of the arguments: files.
-fn files(args: Vec<String>) -> Result<Vec<String>, String> {
-    match args.iter().find(|word| word.starts_with("--")) {
-        Some(word) => Err(format!("unknown word {word}")),
-        None => Ok(args),
-    }
-}
-
-fn run_recordings(args: &[String]) -> Result<bool, String> {
-    let mut args = args.to_vec();
-    let faults = flag(&mut args, "--faults");
-    let plan = recordings::Plan {
-        seed: required(&mut args, "--seed")?,
-        n: required(&mut args, "--n")?,
-        checker: option(&mut args, "--checker")?,
-        out: option(&mut args, "--out")?,
-        table: flag(&mut args, "--table"),
-        floors: option(&mut args, "--floors")?.as_deref() != Some("off"),
-        files: files(args)?,
-    };
-    if faults {
-        return recordings::faults(plan.seed, plan.n);
-    }
-    recordings::recordings(&plan)
-}
-
-fn run_recalls(args: &[String]) -> Result<bool, String> {
-    let mut args = args.to_vec();
-    let faults = flag(&mut args, "--faults");
-    let plan = recalls::Plan {
-        seed: required(&mut args, "--seed")?,
-        n: required(&mut args, "--n")?,
-        remember: option(&mut args, "--remember")?,
-        card: option(&mut args, "--card")?,
-        out: option(&mut args, "--out")?,
-        table: flag(&mut args, "--table"),
-        floors: option(&mut args, "--floors")?.as_deref() != Some("off"),
-        files: files(args)?,
-    };
-    if faults {
-        return recalls::faults(plan.seed, plan.n);
-    }
-    recalls::recalls(&plan)
-}
-
-fn run_rolls(args: &[String]) -> Result<bool, String> {
-    let mut args = args.to_vec();
-    let (seed, n) = (required(&mut args, "--seed")?, required(&mut args, "--n")?);
-    let floors = option(&mut args, "--floors")?.as_deref() != Some("off");
-    let (table, faults) = (flag(&mut args, "--table"), flag(&mut args, "--faults"));
-    if let Some(index) = option(&mut args, "--show")? {
-        let index = index.parse().map_err(|_| format!("no number: {index}"))?;
-        return write_out(rolls::lines(seed, index).as_bytes());
-    }
-    nothing_left(&args)?;
-    if faults {
-        return rolls::faults(seed, n);
-    }
-    rolls::rolls(seed, n, table, floors)
-}
-
-fn run_cues(args: &[String]) -> Result<bool, String> {
-    let mut args = args.to_vec();
-    let (seed, n) = (required(&mut args, "--seed")?, required(&mut args, "--n")?);
-    let floors = option(&mut args, "--floors")?.as_deref() != Some("off");
-    let (table, faults) = (flag(&mut args, "--table"), flag(&mut args, "--faults"));
-    let rows = flag(&mut args, "--rows");
-    if let Some(index) = option(&mut args, "--show")? {
-        let index = index.parse().map_err(|_| format!("no number: {index}"))?;
-        return write_out(cueing::lines(seed, index).as_bytes());
-    }
-    nothing_left(&args)?;
-    if rows {
-        return write_out(cueing::rows(seed, n).as_bytes());
-    }
-    if faults {
-        return cueing::faults(seed, n);
-    }
-    cueing::cues(seed, n, table, floors)
-}
-
-fn required(args: &mut Vec<String>, name: &str) -> Result<u64, String> {
-    let value = option(args, name)?.ok_or(format!("{name} is missing"))?;
-    value.parse().map_err(|_| format!("{name}: no number: {value}"))
-}
-
-fn nothing_left(args: &[String]) -> Result<(), String> {
-    match args.first() {
-        None => Ok(()),
-        Some(word) => Err(format!("unknown word {word}")),
-    }
-}
-
-fn run_gen(args: &[String]) -> Result<bool, String> {
-    let mut args = args.to_vec();
-    let (seed, n) = (required(&mut args, "--seed")?, required(&mut args, "--n")?);
-    let dir = option(&mut args, "--out")?.ok_or("--out is missing")?;
-    nothing_left(&args)?;
-    fuzz::write_streams(seed, n, &dir)
-}
-
-fn run_fuzz(args: &[String]) -> Result<bool, String> {
-    let mut args = args.to_vec();
-    let table = args.iter().position(|a| a == "--table").map(|at| args.remove(at));
-    let plan = fuzz::Fuzz {
-        seed: required(&mut args, "--seed")?,
-        n: required(&mut args, "--n")?,
-        card: option(&mut args, "--card")?,
-        table: table.is_some(),
-        floors: option(&mut args, "--floors")?.as_deref() != Some("off"),
-    };
-    nothing_left(&args)?;
-    fuzz::fuzz(&plan)
-}
-
-fn run_pieces(args: &[String]) -> Result<bool, String> {
-    let mut args = args.to_vec();
-    let (seed, n) = (required(&mut args, "--seed")?, required(&mut args, "--n")?);
-    let card = option(&mut args, "--card")?.ok_or("--card is missing")?;
-    nothing_left(&args)?;
-    pieces::pieces(seed, n, &card)
-}
-
-fn run_faults(args: &[String]) -> Result<bool, String> {
-    let mut args = args.to_vec();
-    let (seed, n) = (required(&mut args, "--seed")?, required(&mut args, "--n")?);
-    nothing_left(&args)?;
-    fuzz::faults(seed, n)
 }

@@ -2,10 +2,10 @@
 //! card program cannot make.
 
 use crate::calls::{Act, Call, Sections};
-use model::card;
-use model::cueing;
-use model::draw::Rng;
 use model::gen;
+use model::gen::cues;
+use model::gen::draw::Rng;
+use model::people::card;
 use splicer::{HEADER, NAME, OUT};
 
 /// The longest output buffer lent.
@@ -43,7 +43,7 @@ pub fn stream(seed: u64, index: u64) -> Stream {
 
 /// A cue call (02, CR 7): the card program has no mark of it.
 fn cue(rng: &mut Rng) -> Act {
-    let call = Call::Cue(cueing::given(rng));
+    let call = Call::Cue(cues::given(rng));
     let room = rng.pick(&[OUT, OUT, OUT, OUT, OUT + 1, LONGEST, OUT - 1]);
     Act::plain(call, room)
 }

@@ -5,7 +5,7 @@
 use crate::calls::{Act, Call, Row, Said, Sections, ROWS};
 use crate::cuebooks::{self, Due};
 use crate::intervals::{share, Live};
-use model::cues::Given;
+use model::people::cues::Given;
 use splicer::{message_id as id, records, result, Record, CONNECTIONS, HEADER, OUT};
 
 const NONE: u32 = 0xFFFF_FFFF;

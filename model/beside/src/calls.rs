@@ -1,9 +1,9 @@
 //! A call as both programs get it, what each of them says, and the memory lent to the core.
 
-use model::card;
 use model::config;
-use model::cues::Given;
-use model::records::{self, Line};
+use model::people::card;
+use model::people::cues::Given;
+use model::people::records::{self, Line};
 use model::rules;
 
 #[derive(Clone, Debug)]

@@ -1,8 +1,9 @@
 //! Bench recordings (02, CR 14): the core's checker and the second program's, held to one another and to what
 //! a recording's damage alone says.
 
-use model::check::{self, checked, LAPSES};
-use model::recordings::{of_stream, Made, Tally};
+use model::hold::checker::{checked, LAPSES};
+use model::hold::recordings::{of_stream, Made, Tally};
+use model::people::check;
 use splicer::bench::{check, Finding};
 
 /// A mistake must be noticed within this many streams' recordings.

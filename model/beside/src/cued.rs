@@ -7,10 +7,11 @@ use crate::pair::Pair;
 use crate::run::{self, Plan};
 use crate::wrong::{self, Wrong};
 use crate::{booked, noticed};
-use model::card;
-use model::cueing;
-use model::cues::{Given, FLOORS};
-use model::scenario::message;
+use model::gen::cues;
+use model::hold::watch::CUE_FLOORS as FLOORS;
+use model::people::card;
+use model::people::cues::Given;
+use model::people::scenario::message;
 use splicer::{Splicer, OUT};
 
 /// A mistake must be noticed within this many streams.
@@ -18,11 +19,11 @@ const FOR_A_MISTAKE: u64 = 30;
 
 /// The calls of a generated stream of cues.
 pub fn stream(seed: u64, index: u64) -> Stream {
-    let act = |call: cueing::Call| match call {
-        cueing::Call::Plain(call) => Act::plain(Call::from(call), OUT),
-        cueing::Call::Cue(given, room) => Act::plain(Call::Cue(given), room.min(LONGEST)),
+    let act = |call: cues::Call| match call {
+        cues::Call::Plain(call) => Act::plain(Call::from(call), OUT),
+        cues::Call::Cue(given, room) => Act::plain(Call::Cue(given), room.min(LONGEST)),
     };
-    let calls = cueing::stream(seed, index);
+    let calls = cues::stream(seed, index);
     Stream { index, name: card::channel_name(), acts: calls.into_iter().map(act).collect() }
 }
 
@@ -91,7 +92,7 @@ fn ready() -> Vec<Act> {
 }
 
 fn plainest() -> bool {
-    let list = cueing::systematic();
+    let list = cues::systematic();
     let cue = |given: &Given| Act::plain(Call::Cue(given.clone()), OUT);
     let acts = ready().into_iter().chain(list.iter().map(cue));
     let mut desk = Desk::new(LONGEST);
@@ -123,7 +124,7 @@ pub fn write_records(seed: u64, path: &str) -> Result<bool, String> {
         ask_core(&mut core, &act.call, &mut out);
     }
     let mut written = Vec::new();
-    for section in cueing::good(seed ^ 1, 600) {
+    for section in cues::good(seed ^ 1, 600) {
         let call = Call::Cue(Given { section, pts: 0, seconds: 1_700_000_000, micros: 0 });
         written.extend(ask_core(&mut core, &call, &mut out).written);
     }

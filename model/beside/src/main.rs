@@ -21,7 +21,7 @@ mod second;
 mod wrong;
 
 use acts::Stream;
-use model::faults::Fault;
+use model::hold::faults::Fault;
 use model::option;
 use run::{Plan, Tally};
 use wrong::Wrong;
@@ -264,7 +264,7 @@ fn never(plan: &Plan, tally: &Tally) -> Vec<&'static str> {
     if plan.n < 200 {
         return Vec::new();
     }
-    let floors = model::counts::floors();
+    let floors = model::hold::watch::counts::floors();
     let names = floors.into_iter().map(|(name, _)| name);
     // These are the card program's own reading.
     let calls = names.filter(|name| !name.starts_with("card "));

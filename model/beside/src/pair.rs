@@ -5,9 +5,9 @@ use crate::calls::{ask_core, ask_core_with, ask_model, model_rows, Act, Call, De
 use crate::maps;
 use crate::pages;
 use crate::wrong::{Drift, Wrong};
+use model::hold::watch::{self, Watcher};
+use model::people::scenario::message;
 use model::rules;
-use model::scenario::message;
-use model::watch::{self, Watcher};
 use splicer::{CONNECTIONS, NAME, OUT};
 
 #[derive(Clone)]

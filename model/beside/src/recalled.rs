@@ -4,12 +4,12 @@
 
 use crate::calls::{ask_core_with, Call, Sections};
 use crate::second::ENGINE;
-use model::aims::ROUND;
-use model::card;
-use model::driver::{self, Act, History, Seen};
-use model::lapses::{Lapsed, LAPSES, OF_PROGRAM};
-use model::logs::{histories, whole};
-use model::recall::{record, Recall, Remembers, Reply, FULL, LEAST_FREE, LOG, MOST};
+use model::gen::aims::ROUND;
+use model::gen::driver::{self, Act, History, Seen};
+use model::gen::logs::{histories, whole};
+use model::hold::lapses::{Lapsed, LAPSES, OF_PROGRAM};
+use model::people::card;
+use model::people::recall::{record, Recall, Remembers, Reply, FULL, LEAST_FREE, LOG, MOST};
 use splicer::Splicer;
 
 /// A mistake must be noticed in the logs of these streams, or in the streams: configurations first.

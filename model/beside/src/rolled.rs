@@ -6,15 +6,17 @@ use crate::books::Books;
 use crate::calls::{self, model_rows, Act, Desk, Said};
 use crate::pages;
 use crate::wrong::Wrong;
-use model::card;
-use model::draw::Rng;
-use model::records::{self, Line};
-use model::rolling::{Call, Rolling, Slip, SLIPS};
-use model::rolls::{self, FLOORS};
+use model::gen::draw::Rng;
+use model::gen::rolls;
+use model::hold::faults::{Slip, SLIPS};
+use model::hold::rolls::FLOORS;
+use model::hold::watch::table::Hits;
+use model::hold::watch::{self, Watcher};
+use model::people::card;
+use model::people::records::{self, Line};
+use model::people::rolling::{Call, Rolling};
+use model::people::scenario;
 use model::rules;
-use model::scenario;
-use model::table::Hits;
-use model::watch::{self, Watcher};
 use splicer::{RollingSplicer, Splicer, OUT};
 
 /// A mistake must be noticed within this many streams.

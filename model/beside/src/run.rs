@@ -5,10 +5,10 @@ use crate::books::Books;
 use crate::calls::{ask_model, model_rows, Act, Call, Desk};
 use crate::pair::Pair;
 use crate::wrong::{Drift, Wrong};
-use model::counts::Counts;
-use model::draw::Rng;
+use model::gen::draw::Rng;
+use model::hold::watch::counts::Counts;
+use model::hold::watch::table::Hits;
 use model::rules;
-use model::table::Hits;
 
 /// Splicers alive at once in a thread, their calls interleaved.
 pub const GROUP: u64 = 4;

@@ -7,8 +7,8 @@ use crate::calls::{ask_core, Call, Row, ROWS};
 use crate::maps;
 use crate::pages;
 use crate::wrong::Wrong;
-use model::card;
-use model::scenario::{self, Step};
+use model::people::card;
+use model::people::scenario::{self, Step};
 use splicer::{name, Splicer};
 
 const FOLDER: &str = concat!(env!("CARGO_MANIFEST_DIR"), "/../scenarios");

@@ -1,7 +1,7 @@
 //! The second engine (02, CR 12) of the archive, as the second program's trait has it: the one place that knows its
 //! functions. `ENGINE` says which engine is compared.
 
-use model::recall::{Asked, Remembers, Reply};
+use model::people::recall::{Asked, Remembers, Reply};
 
 /// The words of a reply: refused, consumed, written, moved.
 const REPLY: usize = 4;
@@ -85,5 +85,5 @@ unsafe fn handed(log: &mut [u8], asked: &Asked, out: &mut [u8], reply: *mut u64)
     }
 }
 
-/// The engine that is compared: the archive's. (`&model::recall::Recall`, the second program's own, tries the comparison itself.)
+/// The engine that is compared: the archive's. (`&model::people::recall::Recall`, the second program's own, tries the comparison itself.)
 pub const ENGINE: &dyn Remembers = &Archive;

@@ -2,10 +2,9 @@
 //! and some in what the core is handed or seen to do.
 
 use crate::calls::{Act, Call, Desk, Said, Sections};
-use model::cues::{Miscue, MISCUES};
-use model::faults::{Fault, FAULTS};
+use model::hold::faults::{Fault, Miscue, FAULTS, MISCUES};
+use model::hold::watch::SEEN;
 use model::rules::Rules;
-use model::watch::SEEN;
 use splicer::{message_id as id, records, Record};
 use splicer::{Refusal, Splicer, CONNECTIONS, HEADER, NAME, OUT};
 

@@ -1,7 +1,7 @@
 //! The card program.
 
-use crate::card::{input_bytes, next_call, run, Call};
-use crate::records::hex;
+use crate::people::card::{input_bytes, next_call, run, Call};
+use crate::people::records::hex;
 
 fn bytes(text: &str) -> Vec<u8> {
     let parts = text.split_whitespace();
@@ -9,7 +9,7 @@ fn bytes(text: &str) -> Vec<u8> {
 }
 
 fn out(text: &str) -> String {
-    hex(&run(&bytes(text), None).output())
+    hex(&run(&bytes(text)).output())
 }
 
 #[test]

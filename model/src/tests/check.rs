@@ -1,8 +1,8 @@
 //! The checker (02, CR 14), small recordings by hand.
 
-use crate::check::{check, told, Finding};
-use crate::recording::{entries, is_call, of_steps, recorded};
-use crate::scenario::parse;
+use crate::people::check::{check, told, Finding};
+use crate::people::recording::{entries, is_call, of_steps, recorded};
+use crate::people::scenario::parse;
 
 fn hex(text: &str) -> Vec<u8> {
     let parts = text.split_whitespace();
@@ -173,7 +173,7 @@ fn what_was_found_never_changes_the_splicer() {
 /// "Every recording of that length that our own card program could have made passes."
 #[test]
 fn our_own_recordings_pass_cut_or_not() {
-    let input = crate::scenario::input_of(&parse(DAY).unwrap());
+    let input = crate::people::scenario::input_of(&parse(DAY).unwrap());
     let own = recorded(&input);
     assert_eq!(own, of_steps(&parse(DAY).unwrap()));
     let (list, _) = entries(&own);

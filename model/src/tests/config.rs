@@ -1,8 +1,8 @@
 //! Configuration on request (02, CR 6).
 
-use crate::card;
-use crate::records::{Record, What};
-use crate::scenario::message;
+use crate::people::card;
+use crate::people::records::{Record, What};
+use crate::people::scenario::message;
 use rules::config::nothing;
 use rules::right::READING;
 use rules::state::{Maps, Splicer, ROOM};

@@ -1,8 +1,8 @@
 //! The cue call (02, CR 7), by the worked sections of docs/SCTE35.md.
 
-use crate::cues::{crc, judged, time_of, Comes, Given, WRAP};
-use crate::records::{all_bytes, hex};
-use crate::section::{closed, remade, Command, Insert, Section};
+use crate::people::cues::{crc, judged, time_of, Comes, Given, WRAP};
+use crate::people::records::{all_bytes, hex};
+use crate::people::section::{closed, remade, Command, Insert, Section};
 use rules::state::{Splicer, ROOM};
 use rules::times::NONE;
 
@@ -192,7 +192,7 @@ fn one_bit_makes_any_section_bad() {
 
 #[test]
 fn to_the_initialised_connections_upward() {
-    let (mut splicer, _) = Splicer::fresh(&crate::card::channel_name());
+    let (mut splicer, _) = Splicer::fresh(&crate::people::card::channel_name());
     let second = given(bytes(SECOND), 591_651_064, 1_000, 0);
     assert_eq!(splicer.cue(&second, ROOM), Ok(Vec::new()));
     splicer.open = [true, true, true, false];

@@ -1,6 +1,6 @@
 //! What ended lately (02, CR 8).
 
-use crate::card;
+use crate::people::card;
 use rules::state::{By, Row, Session, Splicer, State};
 use rules::times::NONE;
 

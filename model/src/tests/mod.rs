@@ -11,17 +11,18 @@ mod reading;
 mod recall;
 mod recording;
 mod records;
+mod scenario;
 mod streams;
 
-use crate::records::{self as lines, hex, Item, Line, Record, What};
+use crate::people::records::{self as lines, hex, Item, Line, Record, What};
+use crate::people::scenario as format;
 use crate::rules::{ninths, Splicer, State, ROOM};
-use crate::scenario;
 
 /// Runs the calls of a scenario text and holds the output to its records.
 fn hold(text: &str) -> Splicer {
-    let mut steps = scenario::parse(text).unwrap();
-    let run = crate::card::run(&scenario::input_of(&steps), None);
-    assert_eq!(scenario::read_difference(&steps, &run), None);
+    let mut steps = format::parse(text).unwrap();
+    let run = crate::people::card::run(&format::input_of(&steps));
+    assert_eq!(crate::hold::scenarios::read_difference(&steps, &run), None);
     steps.retain(|step| !step.is_read());
     let lines = |bytes: &[u8]| -> Vec<String> { lines::items(bytes).iter().map(Item::line).collect() };
     for (step, done) in steps.iter().zip(&run.calls) {
@@ -475,7 +476,7 @@ fn a_full_queue_is_counted_before_the_eviction() {
 
 #[test]
 fn house_numbers_of_direct_calls() {
-    let (mut splicer, refusal) = Splicer::fresh(&crate::card::channel_name());
+    let (mut splicer, refusal) = Splicer::fresh(&crate::people::card::channel_name());
     assert_eq!(refusal, None);
     let before = splicer.sessions.clone();
     assert_eq!(splicer.open(4), Err(1));
@@ -624,12 +625,12 @@ fn the_waiting_counts_after_each_event() {
 
 /// The places moved by each call behind the rehearsed situation, 0 for calls that are refused.
 fn moves(text: &str) -> Vec<usize> {
-    let steps = scenario::parse(&format!("{REHEARSED}{text}")).unwrap();
-    let (mut splicer, _) = Splicer::fresh(&crate::card::channel_name());
+    let steps = format::parse(&format!("{REHEARSED}{text}")).unwrap();
+    let (mut splicer, _) = Splicer::fresh(&crate::people::card::channel_name());
     let mut list = Vec::new();
     for step in &steps {
-        let (call, _) = crate::card::next_call(&step.input).unwrap();
-        assert_eq!(hex(&crate::card::make(&mut splicer, &call)), hex(&step.expected), "{}", step.text);
+        let (call, _) = crate::people::card::next_call(&step.input).unwrap();
+        assert_eq!(hex(&crate::people::card::make(&mut splicer, &call)), hex(&step.expected), "{}", step.text);
         list.push(splicer.moved);
     }
     assert_eq!(list[..3], [0, 0, 0]);
@@ -695,12 +696,12 @@ fn moved_is_counted_after_the_eviction() {
 
 #[test]
 fn at_most_63_are_moved() {
-    let (mut splicer, _) = Splicer::fresh(&crate::card::channel_name());
+    let (mut splicer, _) = Splicer::fresh(&crate::people::card::channel_name());
     let text = format!("{REHEARSED}{}", waiting([9, 20, 20, 14]));
     let last = "> splice 0 id=50 at=1003 duration=1\n< 0 Splice_Response 100 id=50";
-    for step in scenario::parse(&format!("{text}{last}")).unwrap() {
-        let (call, _) = crate::card::next_call(&step.input).unwrap();
-        crate::card::make(&mut splicer, &call);
+    for step in format::parse(&format!("{text}{last}")).unwrap() {
+        let (call, _) = crate::people::card::next_call(&step.input).unwrap();
+        crate::people::card::make(&mut splicer, &call);
     }
     assert_eq!(splicer.moved, 63);
 }

@@ -1,8 +1,9 @@
 //! Every moment belongs to someone (02, CR 13).
 
-use crate::primary::{Airing, History, Times};
+use crate::gen::{self, rolls};
+use crate::hold::primary::{Airing, History, Times};
+use crate::people::{card, rolling, scenario};
 use crate::rules::SECOND;
-use crate::{card, gen, rolling, rolls, scenario};
 
 /// An override, an equal override, an abort and a close.
 const DAY: &str = "> open 0\n> init 0\n> open 1\n> init 1\n> tick 1000\n\
@@ -15,7 +16,7 @@ const DAY: &str = "> open 0\n> init 0\n> open 1\n> init 1\n> tick 1000\n\
 
 #[test]
 fn a_day_by_hand() {
-    let run = card::run(&scenario::input_of(&scenario::parse(DAY).unwrap()), None);
+    let run = card::run(&scenario::input_of(&scenario::parse(DAY).unwrap()));
     let history = History::of(&run.calls);
     // 1 is on air from 1,003 s, covered from 1,005 to 1,007 and aborted at 1,009 s; 2 is ended at
     // 1,006 s by 3, which plays 1 s; 5 fails; 4 is on air from 1,012 s to the close at 1,015 s.
@@ -66,7 +67,7 @@ fn the_pieces_are_the_ninths() {
 #[test]
 fn every_moment_of_streams_belongs_to_someone() {
     for index in 0..28 {
-        let run = card::run(&gen::stream(13, index), None);
+        let run = card::run(&gen::stream(13, index));
         let history = History::of(&run.calls);
         assert_eq!(history.wrong(run.splicer.primary), [""; 0], "stream {index}");
     }

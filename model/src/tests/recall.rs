@@ -1,9 +1,9 @@
 //! The engine that only remembers (02, CR 12).
 
-use crate::card::{Call as Kept, Stop};
-use crate::recall::{call, list, run, Asked, Reply, LOG};
-use crate::records::hex;
-use crate::scenario;
+use crate::people::card::{Call as Kept, Stop};
+use crate::people::recall::{call, list, run, Asked, Reply, LOG};
+use crate::people::records::hex;
+use crate::people::scenario;
 use rules::state::{Maps, ROOM};
 
 fn bytes(text: &str) -> Vec<u8> {

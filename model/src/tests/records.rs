@@ -1,6 +1,6 @@
 //! Records by hand from 01's list.
 
-use crate::records::{hex, items, Item, Line, Record, What};
+use crate::people::records::{hex, items, Item, Line, Record, What};
 
 #[test]
 fn a_completed_splice_has_01s_layout() {

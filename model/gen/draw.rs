@@ -1,0 +1,465 @@
+//! What a stream of card input is drawn with: random numbers, requests, and a second program of its
+//! own at hand, which is asked for the present state, so that the episodes can aim.
+
+use crate::people::card::{self, Call};
+use crate::people::scenario::message;
+use crate::rules::{Session, Splicer, State, MICROSECOND, NONE, SECOND};
+use crate::streams::{self, Stream, Streams};
+use rules::calls;
+use rules::ended::{self, KEPT};
+use rules::right::RULES;
+use rules::rolling;
+use rules::state::{By, Rules};
+use std::cell::Cell;
+
+/// The last microsecond that a wire time can name.
+pub const TOP: u64 = 0xFFFF_FFFF * 1_000_000 + 999_999;
+
+/// splitmix64.
+pub struct Rng(u64);
+
+impl Rng {
+    pub fn new(seed: u64) -> Rng {
+        Rng(seed)
+    }
+
+    pub fn next(&mut self) -> u64 {
+        self.0 = self.0.wrapping_add(0x9E37_79B9_7F4A_7C15);
+        let mut z = self.0;
+        z = (z ^ (z >> 30)).wrapping_mul(0xBF58_476D_1CE4_E5B9);
+        z = (z ^ (z >> 27)).wrapping_mul(0x94D0_49BB_1331_11EB);
+        z ^ (z >> 31)
+    }
+
+    pub fn below(&mut self, n: u64) -> u64 {
+        self.next() % n
+    }
+
+    pub fn between(&mut self, low: u64, high: u64) -> u64 {
+        low + self.below(high - low + 1)
+    }
+
+    pub fn chance(&mut self, percent: u64) -> bool {
+        self.below(100) < percent
+    }
+
+    pub fn pick<T: Clone>(&mut self, list: &[T]) -> T {
+        list[self.below(list.len() as u64) as usize].clone()
+    }
+}
+
+/// A Splice_Request to be sent. The fields without effect are drawn when it is sent.
+#[derive(Clone)]
+pub struct Ask {
+    pub id: u32,
+    pub prior: u32,
+    /// The wire time in microseconds.
+    pub at: u64,
+    pub duration: u32,
+    pub access: u8,
+    pub overrides: u8,
+}
+
+pub struct Gen {
+    pub rng: Rng,
+    pub model: Splicer,
+    pub bytes: Vec<u8>,
+    pub calls: u64,
+    /// The good calls among them, and the bytes of their records (02, CR 12).
+    pub kept: u64,
+    pub kept_bytes: usize,
+    /// The stream's step of time in microseconds.
+    pub unit: u64,
+    /// The stream plays near the top of the range and must not run against it soon.
+    pub at_the_top: bool,
+    /// Of a rolling card's stream: its counter and its calls.
+    pub rolling: Option<Box<Rolls>>,
+}
+
+/// What a rolling stream is drawn with beside `Gen`.
+pub struct Rolls {
+    /// The last reading, once the instant was given.
+    pub last: Option<u32>,
+    pub calls: Vec<rolling::Call>,
+    /// Every reading is at a whole microsecond.
+    pub whole: bool,
+    /// The instant is not given yet: a time is a reading before it.
+    pub held_off: bool,
+    /// How a plain call becomes this card's.
+    pub call: fn(&mut Gen, Call),
+}
+
+thread_local! {
+    static LAST_DROPPED: Cell<Option<(u8, u32)>> = const { Cell::new(None) };
+}
+
+/// A splicer by the right rules; whose end was dropped last from those kept (02, CR 8) is noted.
+fn noted() -> Splicer {
+    static NOTED: Rules = Rules { remember, ..RULES };
+    fn remember(s: &mut Splicer, session: &Session, by: By, result: u16, played: u32) {
+        if s.ended.len() == KEPT {
+            LAST_DROPPED.set(Some((s.ended[0].conn, s.ended[0].id)));
+        }
+        ended::remember(s, session, by, result, played);
+    }
+    LAST_DROPPED.set(None);
+    calls::fresh(&card::channel_name(), &NOTED).0
+}
+
+impl Gen {
+    /// Whose end was kept and was the last to be dropped, in this stream.
+    pub fn last_dropped(&self) -> Option<(u8, u32)> {
+        LAST_DROPPED.get()
+    }
+
+    pub fn new(rng: Rng) -> Gen {
+        Gen { rng, model: noted(), bytes: Vec::new(), calls: 0, kept: 0, kept_bytes: 0, unit: 1, at_the_top: false, rolling: None }
+    }
+
+    /// The stream's unit, its connections and its first time.
+    pub fn begin(&mut self) {
+        let units = [1, 11, 12, 100, 100, 1_000, 100_000, 100_000, 1_000_000, 1_000_000, 1_000_000];
+        self.unit = self.rng.pick(&units);
+        for conn in 0..4 {
+            if self.rng.chance(85) {
+                self.ready(conn);
+            }
+        }
+        let past = self.rng.below(2_000_000_000);
+        let second = self.rng.pick(&[0, 1, 1_000, 1_000, past, past, past]);
+        let micros = self.rng.pick(&[0, 0, 1, 999_999, 500_000]);
+        self.tick_to(second * 1_000_000 + micros);
+        if self.at_the_top {
+            self.unit = self.rng.pick(&[1, 11, 100, 1_000, 10_000]);
+            // The longest Duration is 47,721 s.
+            let most = self.rng.pick(&[40_000, 400_000]);
+            let back = self.rng.between(1_000, most);
+            self.tick_to(TOP - back * 1_000_000);
+        }
+    }
+
+    pub fn call(&mut self, call: Call) {
+        if let Some(rolls) = &self.rolling {
+            return (rolls.call)(self, call);
+        }
+        let record = card::input_bytes(&call);
+        let output = card::make(&mut self.model, &call);
+        self.calls += 1;
+        if output.first() != Some(&0x45) {
+            self.kept += 1;
+            self.kept_bytes += record.len();
+        }
+        self.bytes.extend(record);
+    }
+
+    /// Sends a message; the Result fields, which are not read, are drawn at times.
+    pub fn send(&mut self, conn: u8, id: u16, data: Vec<u8>) {
+        let mut bytes = message(id, data);
+        if self.rng.chance(15) {
+            let drawn = (self.rng.next() as u32).to_be_bytes();
+            bytes[4..8].copy_from_slice(&drawn);
+        }
+        self.call(Call::Message(conn, bytes));
+    }
+
+    /// The clock in microseconds, rounded down on a rolling card.
+    pub fn now(&self) -> u64 {
+        self.model.clock / MICROSECOND
+    }
+
+    pub fn tick_to(&mut self, micros: u64) {
+        let time = micros.min(TOP);
+        let seconds = (time / 1_000_000) as u32;
+        self.call(Call::Tick(seconds, (time % 1_000_000) as u32));
+    }
+
+    /// Opens and initialises a connection if need be.
+    pub fn ready(&mut self, conn: u8) {
+        if !self.model.open[conn as usize] {
+            self.call(Call::Open(conn));
+        }
+        if !self.model.initialised[conn as usize] {
+            let data = self.good_init();
+            self.send(conn, 0x0001, data);
+        }
+    }
+
+    pub fn good_init(&mut self) -> Vec<u8> {
+        let mut data = vec![0; 66];
+        data[1] = 2;
+        data[2..5].copy_from_slice(b"CH1");
+        if self.rng.chance(40) {
+            let from = self.rng.between(6, 33) as usize;
+            data[from..34].fill(self.rng.pick(&[1, 0x41, 0xFF]));
+        }
+        data[34..41].copy_from_slice(b"SPLICER");
+        let length = self.rng.pick(&[0, 0, 1, 7, 8, 8, 8, 14, 26, 253, 254]);
+        data.extend(self.hardware(length));
+        for _ in 0..self.rng.pick(&[0, 0, 1, 10, 30]) {
+            data.push(self.rng.next() as u8);
+        }
+        data
+    }
+
+    /// A Hardware_Config of this Length, its bytes drawn (02, CR 6).
+    pub fn hardware(&mut self, length: u16) -> Vec<u8> {
+        let mut bytes = length.to_be_bytes().to_vec();
+        bytes.extend((0..length).map(|_| self.rng.next() as u8));
+        bytes
+    }
+
+    /// A GetConfig_Request (02, CR 6).
+    pub fn config(&mut self, conn: u8) {
+        self.send(conn, 0x000A, Vec::new());
+    }
+
+    /// Any of the four connections, made ready.
+    pub fn conn(&mut self) -> u8 {
+        let conn = self.rng.below(4) as u8;
+        self.ready(conn);
+        conn
+    }
+
+    /// A SessionID that this connection does not hold, from few numbers, so that numbers are
+    /// used again and again and by several connections.
+    pub fn free_id(&mut self, conn: u8) -> u32 {
+        if self.rng.chance(3) {
+            let drawn = self.rng.next() as u32;
+            let id = self.rng.pick(&[0, 0xFFFF_FFFE, drawn]);
+            if id != NONE && self.model.held(conn, id).is_none() {
+                return id;
+            }
+        }
+        loop {
+            let id = self.rng.between(1, 60) as u32;
+            if self.model.held(conn, id).is_none() {
+                return id;
+            }
+        }
+    }
+
+    /// A start in microseconds, at least 3 s ahead, on the grid of the stream's units.
+    pub fn ahead(&self, units: u64) -> u64 {
+        let first = (self.now() + 3_000_000).div_ceil(self.unit) * self.unit;
+        first + units * self.unit
+    }
+
+    /// A Duration of about that many units.
+    pub fn ticks(&self, units: u64) -> u32 {
+        (units * self.unit * 9 / 100).clamp(1, 0xFFFF_FFFF) as u32
+    }
+
+    /// A timed request with drawn Duration, AccessType and OverridePlaying.
+    pub fn timed(&mut self, conn: u8, at: u64) -> Ask {
+        let units = self.rng.between(1, 12);
+        let extra = self.rng.pick(&[0, 0, 0, 1, 3]);
+        Ask {
+            id: self.free_id(conn),
+            prior: NONE,
+            at,
+            duration: self.ticks(units) + extra,
+            access: self.rng.below(10) as u8,
+            overrides: self.rng.chance(60) as u8,
+        }
+    }
+
+    pub fn linked(&mut self, conn: u8, prior: u32) -> Ask {
+        let at = self.rng.pick(&[0, 0, 1_000_000]);
+        let mut ask = self.timed(conn, at);
+        ask.prior = prior;
+        ask
+    }
+
+    pub fn ask(&mut self, conn: u8, ask: &Ask) {
+        let data = self.splice_data(ask);
+        self.send(conn, 0x0007, data);
+    }
+
+    /// The data of a readable Splice_Request, at times with separate PIDs.
+    pub fn splice_data(&mut self, ask: &Ask) -> Vec<u8> {
+        let data = self.plain_data(ask);
+        if self.rng.chance(92) {
+            return data;
+        }
+        let count = self.rng.pick(&[0, 1, 1, 2, 2, 3, 7, 14, 15, 16]);
+        let streams = self.streams(count);
+        separate(data, &streams)
+    }
+
+    /// The data of a readable Splice_Request with another ServiceID than 0xFFFF.
+    pub fn plain_data(&mut self, ask: &Ask) -> Vec<u8> {
+        let at = ask.at.min(TOP);
+        let mut micros = (at % 1_000_000) as u32;
+        if ask.prior != NONE && self.rng.chance(20) {
+            // A linked request's time is not read.
+            micros = self.rng.pick(&[1_000_000, 0xFFFF_FFFF]);
+        }
+        let mut data = Vec::new();
+        for word in [ask.id, ask.prior, (at / 1_000_000) as u32, micros] {
+            data.extend(word.to_be_bytes());
+        }
+        data.extend((self.rng.pick(&[0, 1, 2, 0xFFFE]) as u16).to_be_bytes());
+        let drawn = self.rng.next() as u32;
+        let event = self.rng.pick(&[NONE, 0, drawn]);
+        let black = self.rng.pick(&[0, 0, 90_000, NONE]);
+        for word in [ask.duration, event, black] {
+            data.extend(word.to_be_bytes());
+        }
+        data.extend([ask.access, ask.overrides, self.rng.below(2) as u8]);
+        for _ in 0..self.rng.pick(&[0, 0, 0, 0, 1, 2, 3]) {
+            data.extend(self.good_descriptor());
+        }
+        data
+    }
+
+    /// A muxpriority_descriptor, one that is almost one, or any other.
+    pub fn good_descriptor(&mut self) -> Vec<u8> {
+        let drawn = self.rng.between(1, 10) as u8;
+        let value = self.rng.pick(&[1, 5, 10, drawn, drawn]);
+        let any = self.rng.next() as u8;
+        let length = self.rng.pick(&[4, 4, 5, 9, 254]);
+        match self.rng.below(12) {
+            0..=4 => mux(value),
+            5 => named(2, b"CUEI", &[any]),
+            6 => named(2, b"IPAS", &[any]),
+            7 => named(3, b"SAPI", &[any]),
+            8 => named(2, b"SAPJ", &[]),
+            _ => self.descriptor(length),
+        }
+    }
+
+    /// A readable list of separate PIDs, short enough for any tail.
+    pub fn streams(&mut self, count: usize) -> Streams {
+        let drawn = self.rng.below(0x2000);
+        let pcr_pid = self.rng.pick(&[0, 0x31, 0x1FFE, 0x1FFF, drawn]);
+        let list = (0..count).map(|_| self.stream(count, pcr_pid)).collect();
+        Streams { pcr_pid, list }
+    }
+
+    fn stream(&mut self, count: usize, pcr_pid: u64) -> Stream {
+        let drawn = self.rng.below(0x2000);
+        let rate = self.rng.below(1 << 32);
+        let rates = [0xFFFF_FFFF, 0xFFFF_FFFE, 0xFFFF, 0, 4_000_000, rate];
+        let sizes = [0xFFFF, 0xFFFE, 0, 720, 1_920];
+        let kept = match count {
+            0..=10 => self.rng.pick(&[0, 0, 0, 1, 3, 234]),
+            _ => self.rng.pick(&[0, 0, 0, 1, 3]),
+        };
+        Stream {
+            pid: self.rng.pick(&[pcr_pid, 0x31, 0x32, 0x1FFF, drawn, drawn]),
+            kind: self.rng.pick(&[0x02, 0x1B, 0x81, 0, 0x8100, 0xFFFE]),
+            average: self.rng.pick(&rates),
+            highest: self.rng.pick(&rates),
+            lowest: self.rng.pick(&rates),
+            width: self.rng.pick(&sizes),
+            height: self.rng.pick(&sizes),
+            kept: (0..kept).map(|_| self.rng.next() as u8).collect(),
+        }
+    }
+
+    pub fn descriptor(&mut self, length: u8) -> Vec<u8> {
+        let mut bytes = vec![self.rng.next() as u8, length];
+        for _ in 0..length {
+            bytes.push(self.rng.next() as u8);
+        }
+        bytes
+    }
+
+    pub fn abort(&mut self, conn: u8, id: u32) {
+        self.send(conn, 0x000E, id.to_be_bytes().to_vec());
+    }
+
+    /// An ExtendedData_Request for the default type (02, CR 8).
+    pub fn extended(&mut self, conn: u8, id: u32) {
+        let data = [id.to_be_bytes(), NONE.to_be_bytes()].concat();
+        self.send(conn, 0x0003, data);
+    }
+
+    pub fn alive(&mut self, conn: u8) {
+        let drawn = self.rng.next().to_be_bytes();
+        self.send(conn, 0x0005, drawn.to_vec());
+    }
+
+    /// A held session of this connection (or of any) in one of these states.
+    pub fn some(&mut self, conn: Option<u8>, states: &[State]) -> Option<Session> {
+        let fits = |s: &&Session| states.contains(&s.state) && conn.is_none_or(|c| s.conn == c);
+        let list: Vec<Session> = self.model.sessions.iter().filter(fits).cloned().collect();
+        if list.is_empty() {
+            return None;
+        }
+        Some(self.rng.pick(&list))
+    }
+
+    /// Ends everything: past the last instant, or by closing.
+    pub fn clear(&mut self) {
+        let last = self.model.sessions.iter().map(|s| s.end).max().unwrap_or(0);
+        let micros = last.div_ceil(MICROSECOND);
+        if !self.at_the_top || micros < self.now() + 10_000_000 {
+            if micros > self.now() {
+                self.tick_to(micros);
+            }
+            return;
+        }
+        for conn in 0..4 {
+            if self.model.open[conn as usize] {
+                self.call(Call::Close(conn));
+            }
+            self.ready(conn);
+        }
+    }
+
+    /// The next instant in ninths.
+    pub fn next_instant(&self) -> Option<u64> {
+        self.model.next_instant(TOP * MICROSECOND)
+    }
+
+    /// Ticks near an instant: on it where a microsecond allows it, just before or just after.
+    pub fn tick_near(&mut self, instant: u64) {
+        let floor = instant / MICROSECOND;
+        let before = (instant - 1) / MICROSECOND;
+        let after = (instant + 1).div_ceil(MICROSECOND);
+        let time = self.rng.pick(&[floor, floor, before, after, floor + 1]);
+        self.tick_to(time.max(self.now()));
+    }
+
+    pub fn seconds(&self) -> u64 {
+        self.model.clock / SECOND
+    }
+}
+
+/// A muxpriority_descriptor, good or not.
+pub fn mux(value: u8) -> Vec<u8> {
+    named(2, b"SAPI", &[value])
+}
+
+/// A descriptor of this tag, identifier and private bytes.
+pub fn named(tag: u8, identifier: &[u8; 4], private: &[u8]) -> Vec<u8> {
+    let length = 4 + private.len() as u8;
+    [&[tag, length], &identifier[..], private].concat()
+}
+
+/// The data with ServiceID 0xFFFF and these PIDs behind it.
+pub fn separate(data: Vec<u8>, streams: &Streams) -> Vec<u8> {
+    between(data, &streams::write(streams).unwrap_or_default())
+}
+
+/// The data with ServiceID 0xFFFF and these bytes behind it.
+pub fn between(mut data: Vec<u8>, bytes: &[u8]) -> Vec<u8> {
+    let tail = data.split_off(18);
+    data[16..].fill(0xFF);
+    data.extend(bytes);
+    data.extend(tail);
+    data
+}
+
+#[cfg(test)]
+mod tests {
+    use super::*;
+
+    #[test]
+    fn splitmix64_is_the_known_one() {
+        let mut rng = Rng::new(1_234_567);
+        assert_eq!(rng.next(), 6_457_827_717_110_365_317);
+        assert_eq!(rng.next(), 3_203_168_211_198_807_973);
+    }
+}
