@@ -6,7 +6,8 @@ use crate::people::cues::{self, crc, judged, time_of, Comes, Given};
 use crate::people::recording;
 use crate::people::records;
 use crate::people::scenario::{self, hex_bytes, wide};
-use crate::people::section::{is_whole, Command, Insert, Section, Shown};
+use crate::people::section::{is_whole, Command, Insert, Section};
+use crate::people::shown::Shown;
 use crate::people::time;
 use crate::people::why::{in_full, misfit};
 use rules::sections::ticks;
@@ -310,10 +311,14 @@ fn fields_of(section: &[u8], names: &[String]) -> String {
 /// Every field, the CRC, and what the core does with it.
 fn lines_of(section: &[u8], asked: &Asked) -> String {
     let mut text = format!("section of {} bytes, {}\n", section.len(), to_base64(section));
-    for (name, value) in Shown::of(section).fields {
+    let shown = Shown::of(section);
+    for (place, (name, value)) in shown.fields.iter().enumerate() {
         let mut line = format!("  {name:<30} {}", value.line());
-        if name == "CRC_32" {
+        if *name == "CRC_32" {
             line += &crc_word(section);
+        }
+        if let Some(words) = shown.meant(place) {
+            line += &format!(" ({words})");
         }
         text += &format!("{line}\n");
     }

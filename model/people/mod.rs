@@ -14,5 +14,7 @@ pub mod records;
 pub mod rolling;
 pub mod scenario;
 pub mod section;
+pub mod segmentation;
+pub mod shown;
 pub mod time;
 pub mod why;

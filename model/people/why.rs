@@ -1,6 +1,6 @@
 //! Why a section is refused, passed over or bad, in full.
 
-use crate::people::section;
+use crate::people::shown::component_lengths_fit;
 use rules::sections::{self, command_length, section_length, LEAST, RIGHT};
 
 /// The reason for house number 11, if there is one.
@@ -28,7 +28,7 @@ pub fn misfit(section: &[u8]) -> Option<&'static str> {
 /// A verdict's name, with what the lengths tell beside.
 pub fn in_full(section: &[u8], name: &'static str) -> &'static str {
     match name {
-        "nothing: component mode" if !section::component_lengths_fit(section) => "nothing: component mode with wrong lengths",
+        "nothing: component mode" if !component_lengths_fit(section) => "nothing: component mode with wrong lengths",
         "passes: splice_insert" => insert_name(section),
         "bad: splice_command_length" => match command_size(section) {
             Some(size) if usize::from(command_length(section)) + 1 == size => "bad: splice_command_length one less",

@@ -14,7 +14,7 @@ mod tests;
 pub use ::rules::{descriptors, streams};
 
 pub use hold::{faults, recordings};
-pub use people::{aside, check, recording, scenario, section};
+pub use people::{aside, check, recording, scenario, shown as section};
 
 /// What `desk` takes of the card program's runs.
 pub mod card {

@@ -96,7 +96,7 @@ pub fn protocol_checked(r: &Sections, section: &[u8]) -> Option<Verdict> {
 }
 
 pub fn lengths_before_silence(r: &Sections, section: &[u8]) -> Verdict {
-    match crate::people::section::component_lengths_fit(section) {
+    match crate::people::shown::component_lengths_fit(section) {
         true => right::component_mode(r, section),
         false => (Comes::Bad, "bad: component mode"),
     }

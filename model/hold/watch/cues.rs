@@ -1,8 +1,8 @@
 //! The branches of the cue call (02, CR 7).
 
+use super::notes::with;
 use super::table::{Floors, Hits};
-use super::with;
-use crate::people::section;
+use crate::people::shown::Shown;
 use crate::people::why::{in_full, misfit};
 use rules::bytes::Record;
 use rules::cue as right;
@@ -98,7 +98,7 @@ fn wrong_crc(section: &[u8]) -> &'static str {
 }
 
 fn count_passed(hits: &mut Hits, section: &[u8]) {
-    let shown = section::Shown::of(section);
+    let shown = Shown::of(section);
     if section[3] != 0 {
         hits.hit("passes with another protocol_version");
     }
@@ -121,7 +121,7 @@ fn count_passed(hits: &mut Hits, section: &[u8]) {
 
 fn count_time(hits: &mut Hits, given: &Given, cue: u64, time: (u32, u32)) {
     let section = &given.section;
-    let pts_time = section::Shown::of(section).number("pts_time").unwrap_or(0);
+    let pts_time = Shown::of(section).number("pts_time").unwrap_or(0);
     let adjustment = RIGHT.adjustment(section);
     hits.hit(match (adjustment, pts_time + adjustment >= WRAP) {
         (0, _) => "cue's PTS without an adjustment",

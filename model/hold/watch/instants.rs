@@ -1,7 +1,7 @@
 //! The branches of instants, starts, ends and followers.
 
 use super::counts::{COVERED_FOLLOWERS, DEPTH, EQUAL_FOLLOWERS, FAILED_FOLLOWERS, ON_AIR_FOLLOWERS, TICK_ENDS, WAITING_FOLLOWERS};
-use super::{ask, hit, hit_mux, hit_of, with};
+use super::notes::{ask, hit, hit_mux, hit_of, with};
 use rules::ended::KEPT;
 use rules::state::{By, Out, Rules, Session, Splicer, State};
 use rules::times::{HORIZON, MICROSECOND, TICK};

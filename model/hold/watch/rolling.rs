@@ -1,6 +1,6 @@
 //! The branches of a rolling card's calls (02, CR 9).
 
-use super::with;
+use super::notes::with;
 use rules::bytes::{Record, What};
 use rules::calls;
 use rules::rolling::{self as right, Counting, Rolling};

@@ -12,6 +12,7 @@ mod recall;
 mod recording;
 mod records;
 mod scenario;
+mod sections;
 mod streams;
 
 use crate::people::records::{self as lines, hex, Item, Line, Record, What};
