@@ -92,9 +92,13 @@ descriptor_length scte35.splice_descriptor.length
 identifier scte35.splice_descriptor.identifier
 CRC_32 scte35.crc
 END
-ours=$(awk '{ printf "%s%s", (NR > 1 ? "," : ""), $1 }' "$work/names")
-theirs=$(awk '{ for (i = 2; i <= NF; i++) printf " -e %s", $i }' "$work/names")
-columns=$(awk '{ printf " %d", NF - 1 }' "$work/names")
+# named FILE: its fields are those that are compared
+named() {
+    ours=$(awk '{ printf "%s%s", (NR > 1 ? "," : ""), $1 }' "$1")
+    theirs=$(awk '{ for (i = 2; i <= NF; i++) printf " -e %s", $i }' "$1")
+    columns=$(awk '{ printf " %d", NF - 1 }' "$1")
+}
+named "$work/names"
 
 # by_tshark STREAM: the same columns as the second program's, in decimal digits
 by_tshark() {
@@ -153,6 +157,45 @@ compared() {
     END { print "cue-peer: " name ": " NR " sections, " values " values" }' "$work/$name.ours"
 }
 
+# segmented: segmentation_descriptors field by field. tshark 4.0 knows no sub-segments
+segmented() {
+    cat >"$work/segments" <<'END'
+segmentation_event_id scte35.splice_descriptor.event_id
+segmentation_event_cancel_indicator scte35.splice_descriptor.cancel_indicator
+program_segmentation_flag scte35.splice_descriptor.psf
+segmentation_duration_flag scte35.splice_descriptor.sdf
+delivery_not_restricted_flag scte35.splice_descriptor.dnr
+web_delivery_allowed_flag scte35.splice_descriptor.web_delivery_allowed
+no_regional_blackout_flag scte35.splice_descriptor.no_regional_blackout
+archive_allowed_flag scte35.splice_descriptor.archive_allowed
+device_restrictions scte35.splice_descriptor.device_restrictions
+segmentation_component_count scte35.splice_descriptor.component_count
+segmentation_component_tag scte35.splice_descriptor.component.tag
+pts_offset scte35.splice_descriptor.component.pts_offset
+segmentation_duration scte35.splice_descriptor.segmentation_duration
+segmentation_upid_type scte35.splice_descriptor.upid_type
+segmentation_upid_length scte35.splice_descriptor.upid_length
+segmentation_type_id scte35.splice_descriptor.segmentation_type_id
+segment_num scte35.splice_descriptor.segment_num
+segments_expected scte35.splice_descriptor.segments_expected
+CRC_32 scte35.crc
+END
+    named "$work/segments"
+    # SCTE 35's example; no duration; unrestricted; cancelled; components; two in one section
+    for desc in 021C435545494800008E7FCF0001A599B00808000000002CA0A18A340200 \
+        021243554549000000017F9F0303414243100102 021743554549FFFFFFFF7FFFFF000000010F03412F42220000 \
+        0209435545490000000AFF 021C435545490000000B7F1F0201FE00000000FFFF0000005A0000350304 \
+        020F435545490000000C7FBF0000300101020F435545490000000D7FBF0000310101; do
+        "$model" cue --make time_signal pts=1 "desc=$desc" --hex
+    done >"$work/segmented"
+    # shellcheck disable=SC2046
+    "$model" cue --out "$work/segmented.ts" $(cat "$work/segmented") >"$work/segmented.out"
+    "$model" cue --ts "$work/segmented.ts" --fields "$ours" >"$work/segmented.ours"
+    by_tshark "$work/segmented.ts" >"$work/segmented.tshark"
+    held 'segmented: each field' diff "$work/segmented.ours" "$work/segmented.tshark"
+    named "$work/names"
+}
+
 # crcs NAME FILE: crcmod of each; behind the digits stands what came of it, if it is not known to be right
 crcs() {
     held "$1: each CRC_32 as crcmod has it" "$python" -c '
@@ -181,6 +224,7 @@ open(sys.argv[3], "w").write("%d %d\n" % (right, wrong))
 long=$(awk 'BEGIN { for (i = 0; i < 49; i++) printf "00084355454900000%03d", i }')
 "$model" cue --make time_signal pts=1 "desc=$long" --hex >>"$work/made"
 compared made "$work/made"
+segmented
 crcs made "$work/made"
 number=0
 for file in $files; do

@@ -40,6 +40,13 @@ pub fn config(gen: &mut Gen) {
     }
     let mut data = gen.good_init();
     data.truncate(66);
+    bad_hardware(gen, &mut data);
+    gen.send(conn, 0x0001, data);
+    asked(gen, conn);
+}
+
+/// A Hardware_Config at its edges, good or bad, behind the names; or another revision or name before a good one.
+fn bad_hardware(gen: &mut Gen, data: &mut Vec<u8>) {
     match gen.rng.below(8) {
         0 => data.resize(gen.rng.pick(&[65, 66, 67, 67, 68]), 0),
         1 | 2 => {
@@ -72,8 +79,6 @@ pub fn config(gen: &mut Gen) {
             }
         }
     }
-    gen.send(conn, 0x0001, data);
-    asked(gen, conn);
 }
 
 /// GetConfig_Requests of this connection or another, at times with data.

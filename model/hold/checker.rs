@@ -33,29 +33,16 @@ mistakes! { Lapse, LAPSES;
 /// What a checker with this mistake says, and the calls that it was found from.
 pub fn checked(recording: &[u8], lapse: Option<Lapse>) -> (Finding, Vec<Judged<'_>>) {
     let lapsed = |own: Lapse| lapse == Some(own);
-    let most = LONGEST - usize::from(lapsed(Lapse::FullRefused));
     let (list, end) = read(recording, lapse);
     let end = match end {
         End::Unknown { at } if lapsed(Lapse::LoneMarkCut) && at + 1 == recording.len() => End::Cut { at, needs: 2 },
         end => end,
     };
-    // "house number 15 for a longer recording; then 14 for an unknown mark anywhere, with its
-    // place; both before any finding"
-    let long = recording.len() > most && !lapsed(Lapse::LongerRead);
-    if long && !lapsed(Lapse::MarkBeforeLength) {
-        return (Finding::Longer, Vec::new());
-    }
-    let mut unknown = Finding::None;
-    if let End::Unknown { at } = end {
-        let before = list.last().map_or(0, |entry| entry.at);
-        unknown = Finding::Unknown([at, before][usize::from(lapsed(Lapse::MarkBefore))]);
-        if !lapsed(Lapse::FindingBeforeMark) {
-            return (unknown, Vec::new());
-        }
-    }
-    if long {
-        return (Finding::Longer, Vec::new());
-    }
+    let unknown = match (refused(recording, &list, end, lapse), lapsed(Lapse::FindingBeforeMark)) {
+        (Some(Finding::Unknown(at)), true) => Finding::Unknown(at),
+        (Some(refusal), _) => return (refusal, Vec::new()),
+        (None, _) => Finding::None,
+    };
     let mut calls = by_call(&match lapse {
         Some(Lapse::StopsAtOversize) => until_oversize(&list),
         _ => list,
@@ -77,6 +64,24 @@ pub fn checked(recording: &[u8], lapse: Option<Lapse>) -> (Finding, Vec<Judged<'
         Some(call) => Finding::Call(call),
     };
     (finding, calls)
+}
+
+/// "house number 15 for a longer recording; then 14 for an unknown mark anywhere, with its
+/// place; both before any finding"
+fn refused(recording: &[u8], list: &[Entry], end: End, lapse: Option<Lapse>) -> Option<Finding> {
+    let lapsed = |own: Lapse| lapse == Some(own);
+    let most = LONGEST - usize::from(lapsed(Lapse::FullRefused));
+    let longer = (recording.len() > most && !lapsed(Lapse::LongerRead)).then_some(Finding::Longer);
+    let before = list.last().map_or(0, |entry| entry.at);
+    let unknown = match end {
+        End::Unknown { .. } if lapsed(Lapse::MarkBefore) => Some(Finding::Unknown(before)),
+        End::Unknown { at } => Some(Finding::Unknown(at)),
+        _ => None,
+    };
+    match lapsed(Lapse::MarkBeforeLength) {
+        true => unknown.or(longer),
+        false => longer.or(unknown),
+    }
 }
 
 /// The whole entries and how the recording ends.

@@ -6,7 +6,7 @@ use crate::gen::draw::Rng;
 use crate::hold::checker::{checked, LAPSES};
 use crate::hold::compare;
 use crate::people::card;
-use crate::people::check::{check, Finding, LONGEST};
+use crate::people::check::{check, Finding, Judged, LONGEST};
 use crate::people::recording::{entries, is_call, recorded, End};
 use crate::people::scenario;
 use std::collections::BTreeMap;
@@ -651,28 +651,7 @@ impl Tally {
                     }
                 }
             }
-            Finding::Call(number) => {
-                let (last, cut) = (number + 1 == calls.len(), matches!(end, End::Cut { .. }));
-                self.hit(match (number, last, cut) {
-                    (0, ..) => "found call 0",
-                    (_, true, true) => "found the last call though cut",
-                    (_, true, false) => "found the last call",
-                    (1, ..) => "found the first call",
-                    (_, false, true) => "found a call before the last, cut",
-                    _ => "found a call between",
-                });
-                let oversize = |e: &[u8]| e[0] == 0x4D && e[4..6] > [0x0F, 0xF8][..];
-                let before = calls[..number].iter().filter_map(|judged| judged.call);
-                if before.into_iter().any(oversize) {
-                    self.hit("found a call behind an oversize one");
-                }
-                if calls[number].due.first().is_some_and(|d| d[0] == 0x45) {
-                    self.hit("found a call that is refused");
-                }
-                if number > 255 {
-                    self.hit("found call above 255");
-                }
-            }
+            Finding::Call(number) => self.found(&calls, number, matches!(end, End::Cut { .. })),
             Finding::Unknown(0) => self.hit("refused 14 at 0"),
             Finding::Unknown(at) => {
                 let before = &made.bytes[..list.last().map_or(0, |e| e.at + e.bytes.len())];
@@ -683,6 +662,30 @@ impl Tally {
                 });
             }
             Finding::Longer => self.hit("refused 15"),
+        }
+    }
+
+    /// Which call was found, and what is behind it.
+    fn found(&mut self, calls: &[Judged], number: usize, cut: bool) {
+        let last = number + 1 == calls.len();
+        self.hit(match (number, last, cut) {
+            (0, ..) => "found call 0",
+            (_, true, true) => "found the last call though cut",
+            (_, true, false) => "found the last call",
+            (1, ..) => "found the first call",
+            (_, false, true) => "found a call before the last, cut",
+            _ => "found a call between",
+        });
+        let oversize = |e: &[u8]| e[0] == 0x4D && e[4..6] > [0x0F, 0xF8][..];
+        let before = calls[..number].iter().filter_map(|judged| judged.call);
+        if before.into_iter().any(oversize) {
+            self.hit("found a call behind an oversize one");
+        }
+        if calls[number].due.first().is_some_and(|d| d[0] == 0x45) {
+            self.hit("found a call that is refused");
+        }
+        if number > 255 {
+            self.hit("found call above 255");
         }
     }
 

@@ -154,6 +154,25 @@ fn mux_of(descriptors: &[u8]) -> Option<u8> {
     rest.is_empty().then_some(value)
 }
 
+/// 123 exactly where size, type, names or hardware ask for it, of those that these alone decide.
+fn unreadable(kind: u16, data: &[u8], said: bool) -> Kept {
+    // 02, CR 8: "123 for another type or a size not 8"
+    if kind == EXTENDED_REQUEST {
+        let asked = data.len() == 8 && word(data, 4) == NONE;
+        must(asked != said, "123 not by size or type")?;
+    }
+    // 02, CR 6: "123 for data present"
+    if kind == CONFIG_REQUEST {
+        let bad = !data.is_empty();
+        must(bad == said, "123 not by its data")?;
+    }
+    if kind == id::INIT_REQUEST {
+        let bad = !named(data) || hardware(data).is_none();
+        must(bad == said, "123 not by names or hardware")?;
+    }
+    Ok(())
+}
+
 impl Books {
     /// Enters a call and its answer.
     pub fn call(&mut self, act: &Act, said: &Said) -> Kept {
@@ -388,20 +407,7 @@ impl Books {
             _ => return must(general(result::UNKNOWN_MESSAGE), "no 120"),
         }
         let data = &message[HEADER..];
-        // 02, CR 8: "123 for another type or a size not 8"
-        if kind == EXTENDED_REQUEST {
-            let asked = data.len() == 8 && word(data, 4) == NONE;
-            must(asked != general(result::INVALID_DATA), "123 not by size or type")?;
-        }
-        // 02, CR 6: "123 for data present"
-        if kind == CONFIG_REQUEST {
-            let bad = !data.is_empty();
-            must(bad == general(result::INVALID_DATA), "123 not by its data")?;
-        }
-        if kind == id::INIT_REQUEST {
-            let bad = !named(data) || hardware(data).is_none();
-            must(bad == general(result::INVALID_DATA), "123 not by names or hardware")?;
-        }
+        unreadable(kind, data, general(result::INVALID_DATA))?;
         if general(result::INVALID_DATA) {
             return Ok(());
         }

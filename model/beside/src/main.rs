@@ -155,13 +155,25 @@ fn main() {
         Ok(true) => {}
         Ok(false) => std::process::exit(1),
         Err(text) => {
-            eprint!("beside: {text}\n{HELP}");
+            eprintln!("beside: {text}; --help says what it takes");
             std::process::exit(2);
         }
     }
 }
 
+/// How many streams of the further kinds.
+struct More {
+    recordings: u64,
+    rolling: u64,
+    cues: u64,
+    recalls: u64,
+}
+
 fn command(mut args: Vec<String>) -> Result<bool, String> {
+    if args.iter().any(|word| word == "--help" || word == "-h") {
+        print!("{HELP}");
+        return Ok(true);
+    }
     let fault = option(&mut args, "--fault")?;
     let plan = Plan {
         seed: number(&mut args, "--seed", 280)?,
@@ -170,10 +182,12 @@ fn command(mut args: Vec<String>) -> Result<bool, String> {
         threads: number(&mut args, "--threads", 2)?.max(1),
         make: acts::stream,
     };
-    let recordings = number(&mut args, "--recordings", 40)?;
-    let rolling = number(&mut args, "--rolling", 300)?;
-    let cues = number(&mut args, "--cues", 420)?;
-    let recalls = number(&mut args, "--recalls", 36)?;
+    let more = More {
+        recordings: number(&mut args, "--recordings", 40)?,
+        rolling: number(&mut args, "--rolling", 300)?,
+        cues: number(&mut args, "--cues", 420)?,
+        recalls: number(&mut args, "--recalls", 36)?,
+    };
     let cue_records = option(&mut args, "--cue-records")?;
     if let Some(word) = args.first() {
         return Err(format!("unknown word {word}"));
@@ -184,28 +198,32 @@ fn command(mut args: Vec<String>) -> Result<bool, String> {
     if let Some(path) = cue_records {
         return cued::write_records(plan.seed, &path);
     }
-    let list = run::streams(plan.seed, 0, FOR_A_FAULT);
     let results = match fault {
-        Some(name) => {
-            let wrong = wrong::named(&name).ok_or(format!("no fault {name}"))?;
-            match wrong::cues().contains(&wrong) {
-                true => vec![noticed(&plan, &cued::streams(plan.seed), wrong)],
-                false => vec![noticed(&plan, &list, wrong)],
-            }
-        }
-        None => {
-            let mut results = everything(&plan, &list);
-            results.extend(checked::everything(plan.seed, recordings));
-            results.extend(rolled::everything(plan.seed, rolling));
-            results.extend(cued::everything(&plan, cues));
-            results.extend(recalled::everything(plan.seed, recalls));
-            results
-        }
+        Some(name) => vec![one(&plan, wrong::named(&name).ok_or(format!("no fault {name}"))?)],
+        None => all(&plan, &more),
     };
     let passed = results.iter().filter(|good| **good).count();
     let failed = results.len() - passed;
     println!("{passed} passed, {failed} failed");
     Ok(failed == 0)
+}
+
+/// One fault.
+fn one(plan: &Plan, wrong: Wrong) -> bool {
+    match wrong::cues().contains(&wrong) {
+        true => noticed(plan, &cued::streams(plan.seed), wrong),
+        false => noticed(plan, &run::streams(plan.seed, 0, FOR_A_FAULT), wrong),
+    }
+}
+
+/// The comparison of every kind of stream, and every fault.
+fn all(plan: &Plan, more: &More) -> Vec<bool> {
+    let mut results = everything(plan, &run::streams(plan.seed, 0, FOR_A_FAULT));
+    results.extend(checked::everything(plan.seed, more.recordings));
+    results.extend(rolled::everything(plan.seed, more.rolling));
+    results.extend(cued::everything(plan, more.cues));
+    results.extend(recalled::everything(plan.seed, more.recalls));
+    results
 }
 
 /// The comparison, and every fault.

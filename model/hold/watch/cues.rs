@@ -145,7 +145,11 @@ fn count_time(hits: &mut Hits, given: &Given, cue: u64, time: (u32, u32)) {
         _ if cue < given.pts % WRAP => "cue behind the rollover of the PTS",
         _ => "cue elsewhere",
     });
-    let exact = ninths(given.seconds, given.micros) + TICK * ticks;
+    count_written(hits, given, ninths(given.seconds, given.micros) + TICK * ticks, time);
+}
+
+/// How the time that is written was rounded, and where it lies.
+fn count_written(hits: &mut Hits, given: &Given, exact: u64, time: (u32, u32)) {
     hits.hit(match exact % MICROSECOND {
         0 => "time exact in microseconds",
         1..=4 => "time rounded down by 4 ninths at most",

@@ -51,26 +51,7 @@ pub fn parse(text: &str) -> Result<Vec<Step>, String> {
             continue;
         }
         if let Some(rest) = line.strip_prefix('>') {
-            let rolling = rolling_call(rest.trim()).map_err(at)?;
-            let mux = mux_word(rest.trim()).map_err(at)?;
-            let cue = cue_call(rest.trim()).map_err(at)?;
-            let rows = rows_word(rest.trim()).map_err(at)?;
-            let insertion = map_word(rest.trim()).map_err(at)?;
-            let input = match (&rolling, mux, &cue, &rows, insertion) {
-                (None, None, None, None, None) => call_bytes(rest.trim()).map_err(at)?,
-                _ => Vec::new(),
-            };
-            steps.push(Step {
-                line: index + 1,
-                text: line.to_string(),
-                input,
-                expected: Vec::new(),
-                rolling,
-                mux,
-                cue,
-                rows,
-                insertion,
-            });
+            steps.push(step_of(rest.trim(), index + 1, line).map_err(at)?);
         } else if let Some(rest) = line.strip_prefix('<') {
             let bytes = expected_bytes(rest.trim()).map_err(at)?;
             match steps.last_mut() {
@@ -85,6 +66,17 @@ pub fn parse(text: &str) -> Result<Vec<Step>, String> {
         }
     }
     Ok(steps)
+}
+
+/// A call, or something that is read.
+fn step_of(call: &str, line: usize, text: &str) -> Result<Step, String> {
+    let (rolling, cue) = (rolling_call(call)?, cue_call(call)?);
+    let (mux, rows, insertion) = (mux_word(call)?, rows_word(call)?, map_word(call)?);
+    let input = match (&rolling, mux, &cue, &rows, insertion) {
+        (None, None, None, None, None) => call_bytes(call)?,
+        _ => Vec::new(),
+    };
+    Ok(Step { line, text: text.to_string(), input, expected: Vec::new(), rolling, mux, cue, rows, insertion })
 }
 
 /// `instant TIME reading=N` or `reading N`.
