@@ -1,6 +1,7 @@
 //! What a stream of card input is drawn with: random numbers, requests, and a second program of its
 //! own at hand, which is asked for the present state, so that the episodes can aim.
 
+pub use crate::gen::rng::Rng;
 use crate::people::card::{self, Call};
 use crate::people::scenario::message;
 use crate::rules::{Session, Splicer, State, MICROSECOND, NONE, SECOND};
@@ -14,39 +15,6 @@ use std::cell::Cell;
 
 /// The last microsecond that a wire time can name.
 pub const TOP: u64 = 0xFFFF_FFFF * 1_000_000 + 999_999;
-
-/// splitmix64.
-pub struct Rng(u64);
-
-impl Rng {
-    pub fn new(seed: u64) -> Rng {
-        Rng(seed)
-    }
-
-    pub fn next(&mut self) -> u64 {
-        self.0 = self.0.wrapping_add(0x9E37_79B9_7F4A_7C15);
-        let mut z = self.0;
-        z = (z ^ (z >> 30)).wrapping_mul(0xBF58_476D_1CE4_E5B9);
-        z = (z ^ (z >> 27)).wrapping_mul(0x94D0_49BB_1331_11EB);
-        z ^ (z >> 31)
-    }
-
-    pub fn below(&mut self, n: u64) -> u64 {
-        self.next() % n
-    }
-
-    pub fn between(&mut self, low: u64, high: u64) -> u64 {
-        low + self.below(high - low + 1)
-    }
-
-    pub fn chance(&mut self, percent: u64) -> bool {
-        self.below(100) < percent
-    }
-
-    pub fn pick<T: Clone>(&mut self, list: &[T]) -> T {
-        list[self.below(list.len() as u64) as usize].clone()
-    }
-}
 
 /// A Splice_Request to be sent. The fields without effect are drawn when it is sent.
 #[derive(Clone)]

@@ -7,7 +7,9 @@ pub mod draw;
 pub mod driver;
 pub mod episodes;
 pub mod logs;
+pub mod rng;
 pub mod rolls;
+pub mod sections;
 
 use crate::config::MOST_HARDWARE;
 use crate::people::card::{self, Call};

@@ -177,7 +177,7 @@ impl Sum {
         for (name, _) in RULES {
             self.rules.more(name, counts.of(name));
         }
-        for (name, floor) in crate::hold::watch::counts::floors() {
+        for (name, floor) in crate::hold::watch::floors::floors() {
             if floor > 0 && counts.of(name) > 0 {
                 self.taken.insert(name);
             }
@@ -209,7 +209,7 @@ impl Sum {
         for line in &missing {
             println!("below its floor: {line}");
         }
-        let all = crate::hold::watch::counts::floors().into_iter().filter(|(_, f)| *f > 0);
+        let all = crate::hold::watch::floors::floors().into_iter().filter(|(_, f)| *f > 0);
         if self.differ > 0 {
             let (seed, n) = (plan.seed, plan.n);
             println!("model recalls --seed {seed} --n {n} --out DIR writes the streams and what is due");

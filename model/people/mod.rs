@@ -8,6 +8,7 @@ pub mod check;
 pub mod cue;
 pub mod cues;
 pub mod decode;
+pub mod made;
 pub mod recall;
 pub mod recording;
 pub mod records;

@@ -1,6 +1,6 @@
 //! The commands, each from its words.
 
-use model::gen::cues::good;
+use model::gen::sections::good;
 use model::hold::faults::Fault;
 use model::hold::{self, cases, run, scenarios};
 use model::option;

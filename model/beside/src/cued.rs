@@ -7,7 +7,7 @@ use crate::pair::Pair;
 use crate::run::{self, Plan};
 use crate::wrong::{self, Wrong};
 use crate::{booked, noticed};
-use model::gen::cues;
+use model::gen::{cues, sections};
 use model::hold::watch::CUE_FLOORS as FLOORS;
 use model::people::card;
 use model::people::cues::Given;
@@ -124,7 +124,7 @@ pub fn write_records(seed: u64, path: &str) -> Result<bool, String> {
         ask_core(&mut core, &act.call, &mut out);
     }
     let mut written = Vec::new();
-    for section in cues::good(seed ^ 1, 600) {
+    for section in sections::good(seed ^ 1, 600) {
         let call = Call::Cue(Given { section, pts: 0, seconds: 1_700_000_000, micros: 0 });
         written.extend(ask_core(&mut core, &call, &mut out).written);
     }

@@ -282,7 +282,7 @@ fn never(plan: &Plan, tally: &Tally) -> Vec<&'static str> {
     if plan.n < 200 {
         return Vec::new();
     }
-    let floors = model::hold::watch::counts::floors();
+    let floors = model::hold::watch::floors::floors();
     let names = floors.into_iter().map(|(name, _)| name);
     // These are the card program's own reading.
     let calls = names.filter(|name| !name.starts_with("card "));

@@ -1,6 +1,6 @@
 //! The branches of instants, starts, ends and followers.
 
-use super::counts::{COVERED_FOLLOWERS, DEPTH, EQUAL_FOLLOWERS, FAILED_FOLLOWERS, ON_AIR_FOLLOWERS, TICK_ENDS, WAITING_FOLLOWERS};
+use super::floors::{COVERED_FOLLOWERS, DEPTH, EQUAL_FOLLOWERS, FAILED_FOLLOWERS, ON_AIR_FOLLOWERS, TICK_ENDS, WAITING_FOLLOWERS};
 use super::notes::{ask, hit, hit_mux, hit_of, with};
 use rules::ended::KEPT;
 use rules::state::{By, Out, Rules, Session, Splicer, State};

@@ -1,6 +1,6 @@
 //! The branches of calls and answers.
 
-use super::counts::{ACCEPTED, CLOSE_ENDS, EQUAL_EVICTED_FOLLOWERS, EVICTED_FOLLOWERS, FULL_BY_20, FULL_BY_64, RESERVED};
+use super::floors::{ACCEPTED, CLOSE_ENDS, EQUAL_EVICTED_FOLLOWERS, EVICTED_FOLLOWERS, FULL_BY_20, FULL_BY_64, RESERVED};
 use super::notes::{ask, hit, hit_of, with};
 use super::reading;
 use rules::bytes::{half, Record, What};

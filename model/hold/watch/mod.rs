@@ -3,6 +3,7 @@
 
 pub mod counts;
 mod cues;
+pub mod floors;
 mod instants;
 mod messages;
 mod notes;
