@@ -15,7 +15,8 @@ if ! command -v cargo >/dev/null 2>&1; then
 fi
 needs_rust 1.81
 echo 'example: building the second program, as far as the day needs it (some seconds)'
-rustc --edition 2021 -C debuginfo=0 -o "$work/day" model/src/day.rs
+rustc --edition 2021 -C debuginfo=0 --crate-type rlib --crate-name rules -o "$work/librules.rlib" model/rules/src/lib.rs
+rustc --edition 2021 -C debuginfo=0 --extern "rules=$work/librules.rlib" -o "$work/day" model/src/day.rs
 "$work/day" model/scenarios/example-day.txt "$work/in" "$work/second"
 echo
 echo 'example: so far the second program, in Rust'

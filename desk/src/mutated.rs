@@ -178,7 +178,7 @@ fn cue_words(input: &[u8], path: &str) -> Vec<String> {
 
 #[test]
 fn mutated_cues() {
-    let sections = (0..40).map(|n| model::cueing::good(n, 1).concat());
+    let sections = (0..40).map(|n| model::gen::sections::good(n, 1).concat());
     let sections: Vec<Vec<u8>> = sections.collect();
     let streams = vec![model::carriage::stream(&sections[..3]), messages()];
     let file = std::env::temp_dir().join(format!("mutated-cue-{}", std::process::id()));
@@ -196,7 +196,7 @@ fn mutated_cues() {
         if input[0] < 2 {
             std::fs::write(&path, &input[1..]).unwrap();
         }
-        model::cue::command(&cue_words(input, &path)).is_ok()
+        model::cue::command(&cue_words(input, &path), model::gen::sections::good).is_ok()
     });
     let _ = std::fs::remove_file(file);
     assert!(good > 100, "{good}");

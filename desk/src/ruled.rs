@@ -131,7 +131,7 @@ fn whole(section: &[u8]) -> bool {
 }
 
 fn comes(section: &[u8]) -> Comes {
-    judged(section, None).0
+    judged(section).0
 }
 
 /// Cue_Request, or the General_Response that tells of a bad cue. No call writes either.

@@ -1,34 +1,14 @@
-//! A first look (`tools/example.sh`): the day of a scenario file, with the second program's modules that this needs and no others, so that it
-//! is built within seconds. `day SCENARIO IN OUT` writes the card input to IN and what the second program answers to OUT, and prints the
-//! calls with their answers decoded, then the as-run list.
-#![allow(dead_code, clippy::new_without_default, clippy::should_implement_trait)]
+//! A first look (`tools/example.sh`): the day of a scenario file, with the rules and what is for people and no more, so that it is built
+//! within seconds. `day SCENARIO IN OUT` writes the card input to IN and what the second program answers to OUT, and prints the calls with
+//! their answers decoded, then the as-run list.
+#![allow(dead_code, unused_imports, clippy::new_without_default, clippy::should_implement_trait)]
 
-mod asrun;
-mod card;
-mod compare;
-mod config;
-mod counts;
-mod cues;
-mod damage;
-mod descriptors;
-mod draw;
-mod ended;
-mod episodes;
-mod faults;
-mod gen;
-mod instants;
+mod names;
+#[path = "../people/mod.rs"]
 mod people;
-mod primary;
-mod reading;
-mod records;
-mod rolling;
-mod rolls;
-mod rules;
-mod scenario;
-mod section;
-mod streams;
-mod table;
 
+use names::*;
+use people::{asrun, card, decode, scenario};
 use std::fs;
 use std::io::Write;
 
@@ -47,10 +27,10 @@ fn day(args: &[String]) -> Result<(), String> {
     let text = fs::read_to_string(path).map_err(|e| format!("{path}: {e}"))?;
     let steps = scenario::parse(&text).map_err(|e| format!("{path}: {e}"))?;
     let calls = scenario::input_of(&steps);
-    let answers = card::run(&calls, None).output();
+    let answers = card::run(&calls).output();
     fs::write(input, &calls).map_err(|e| format!("{input}: {e}"))?;
     fs::write(output, &answers).map_err(|e| format!("{output}: {e}"))?;
-    let (decoded, _) = people::decode(&calls, &answers);
+    let (decoded, _) = decode::decode(&calls, &answers);
     let (listed, _) = asrun::as_run(&calls, &answers);
     let shown = format!("{decoded}{listed}");
     let mut out = std::io::stdout().lock();
