@@ -213,8 +213,8 @@ left() {
 
     # of any inputs
     function typed(s, names,    n, t, i) {
-        # a name is an array, and so are the words and the bytes of a list of streams
-        if (s ~ /^length (name ≡ 32|words ≡ 130|kept ≡ 3744)$/) { split(s, t, " "); return is_bound(t[2], names) }
+        # a name is an array
+        if (s == "length name ≡ 32") return is_bound("name", names)
         gsub(/[(){}]/, " ", s)
         n = split(s, t, " ")
         if (n == 3 && t[2] == "<" && t[3] == "4294967296") return is_bound(t[1], names)

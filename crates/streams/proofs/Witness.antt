@@ -99,6 +99,14 @@ request-read = refl
 pub service : 1 < separateService
 service = omega arith
 
+pub words-wide : length words ≡ 130
+unfolding computing
+words-wide = refl
+
+pub kept-long : length kept ≡ 3744
+unfolding computing
+kept-long = refl
+
 pub shown : badList words ≡ false
 unfolding computing
 shown = refl
