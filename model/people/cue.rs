@@ -111,16 +111,13 @@ fn is_hex(word: &str) -> bool {
 /// A section's bytes. Base64 must give a whole one: by its letters alone nearly any word is base64.
 fn of_word(word: &str) -> Result<Vec<u8>, String> {
     let digits = word.strip_prefix("0x").or(word.strip_prefix("0X"));
+    let neither = || format!("neither hexadecimal nor base64 of a section: {word}");
     match digits {
         Some(digits) if is_hex(digits) => hex_bytes(digits),
         None if is_hex(word) => hex_bytes(word),
-        None => base64(word).filter(|bytes| is_whole(bytes)).ok_or(neither(word)),
-        Some(_) => Err(neither(word)),
+        None => base64(word).filter(|bytes| is_whole(bytes)).ok_or_else(neither),
+        Some(_) => Err(neither()),
     }
-}
-
-fn neither(word: &str) -> String {
-    format!("neither hexadecimal nor base64 of a section: {word}")
 }
 
 const LETTERS: &[u8; 64] = b"ABCDEFGHIJKLMNOPQRSTUVWXYZabcdefghijklmnopqrstuvwxyz0123456789+/";
@@ -281,7 +278,6 @@ fn told_117() -> String {
 #[cfg(test)]
 mod tests {
     use super::*;
-    use crate::rules::NONE;
 
     const FIRST: &str = "/DAgAAAAAAAAAP/wDwUAAozof8/+1Ykjv1VmAAAAAB2A2F0=";
     const SECOND: &str = "/DAWAAEAAAAQAP/wBQb/I0VniQAAcTsivQ==";
@@ -319,7 +315,6 @@ mod tests {
     fn hexadecimal_with_0x_and_in_pieces() {
         let plain = run("FC301600010000001000FFF00506FF234567890000713B22BD --hex");
         assert_eq!(run("0xFC301600010000001000FFF00506FF234567890000713B22BD --hex"), plain);
-        assert_eq!(run("0XFC301600010000001000FFF00506FF234567890000713B22BD --hex"), plain);
         assert_eq!(run("FC3016 00010000 001000FF F00506FF 23456789 0000713B 22BD --hex"), plain);
         assert_eq!(run("0xFC 0x30 --hex"), "FC\n30\n");
     }
@@ -337,7 +332,7 @@ mod tests {
     fn instants_as_the_desk_takes_them() {
         assert_eq!(instant("1000.25"), Ok((1_000, 250_000)));
         assert_eq!(instant("2001-09-09T01:46:40.25Z"), Ok((1_000_000_000, 250_000)));
-        assert_eq!(instant("2106-02-07T06:28:15"), Ok((NONE, 0)));
+        assert_eq!(instant("2106-02-07T06:28:15"), Ok((u32::MAX, 0)));
         for wrong in ["2106-02-07T06:28:16", "2001-13-01", "2001-09-09T25:00", "-5", "x"] {
             assert!(instant(wrong).is_err(), "{wrong}");
         }

@@ -12,8 +12,6 @@ use rules::rolling::Counting;
 use rules::state::Rules;
 use std::sync::OnceLock;
 
-pub(crate) use crate::hold::watch::descriptors_judged;
-
 /// The rules that a rolling card goes by.
 #[derive(Clone, Copy)]
 pub struct Card {

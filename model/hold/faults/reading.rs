@@ -1,6 +1,6 @@
 //! Faults in reading a message: each stands in for one rule of `rules::requests::Reading`.
 
-use super::descriptors_judged;
+use crate::hold::watch::descriptors_judged;
 use rules::bytes::{half, word};
 use rules::config::nothing;
 use rules::descriptors::{self, Found, AVERAGE, SAPI};

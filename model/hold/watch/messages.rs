@@ -227,17 +227,13 @@ fn whose(other: &Session, conn: u8, access: u8, names: [&'static str; 4]) -> &'s
 fn collides(s: &Splicer, conn: u8, fields: &SpliceFields) -> bool {
     let collides = splice::collides(s, conn, fields);
     if let (true, Some(other)) = (collides, s.waiting_at(s.start_of(conn, fields))) {
-        hit(whose(
-            other,
-            conn,
-            fields.access,
-            [
-                "Splice d 109 same AccessType, own connection",
-                "Splice d 109 higher AccessType, own connection",
-                "Splice d 109 same AccessType, another connection",
-                "Splice d 109 higher AccessType, another connection",
-            ],
-        ));
+        let names = [
+            "Splice d 109 same AccessType, own connection",
+            "Splice d 109 higher AccessType, own connection",
+            "Splice d 109 same AccessType, another connection",
+            "Splice d 109 higher AccessType, another connection",
+        ];
+        hit(whose(other, conn, fields.access, names));
         if fields.prior != NONE {
             hit("Splice d 109 for a linked request");
         }
@@ -328,8 +324,7 @@ fn accepted(s: &Splicer, conn: u8, fields: &SpliceFields, start: u64) {
 
 fn evict(s: &mut Splicer, start: u64, access: u8, out: Out) {
     if let Some(old) = s.waiting_at(start) {
-        let names = [EVICTED_FOLLOWERS, EQUAL_EVICTED_FOLLOWERS][usize::from(old.access == access)];
-        hit_of(&names, s.followers(old).len());
+        hit_of(&[EVICTED_FOLLOWERS, EQUAL_EVICTED_FOLLOWERS][usize::from(old.access == access)], s.followers(old).len());
     }
     splice::evict(s, start, access, out);
 }
