@@ -35,6 +35,7 @@ if lacks cargo; then
     # Debian 12's plain cargo, 1.65, is too old
     install cargo-web rustc-web || install cargo rustc
 fi
+needs_rust 1.82
 if lacks cc; then
     update
     install gcc libc6-dev
@@ -43,7 +44,6 @@ if lacks c++ pkg-config; then
     update
     install g++ pkg-config
 fi
-needs_rust 1.82
 cargo --version
 if lacks rt; then
     echo 'setup.sh: the Rattle kit (rt) is not here: nothing can be proved; the second program and the desk run without it'
