@@ -174,8 +174,8 @@ all_unharmed() {
 if ! command -v tshark >/dev/null 2>&1 && command -v apt-get >/dev/null 2>&1; then
     echo 'dissector: installing tshark'
     {
-        apt-get update -o Acquire::http::Timeout=20 -o Acquire::Retries=1 || :
-        DEBIAN_FRONTEND=noninteractive apt-get install -y --no-install-recommends --no-remove tshark || :
+        apt-get update -o Acquire::http::Timeout=20 -o Acquire::Retries=1 -o DPkg::Lock::Timeout=120 || :
+        DEBIAN_FRONTEND=noninteractive apt-get install -y --no-install-recommends --no-remove -o DPkg::Lock::Timeout=120 tshark || :
     } >"$work/setup.log" 2>&1
 fi
 needs tshark text2pcap

@@ -262,6 +262,67 @@ mod tests {
         assert_eq!(shown(&held.recording).1.len(), 2);
     }
 
+    /// An exchange at one second each: Init, Alive and a Splice_Request for 1,010 s are answered; at
+    /// the last second GetConfig is. No start is shown.
+    fn never_started(last: u32) -> Vec<u8> {
+        let mut to = Writer::new(1_460);
+        let mut flow = to.open(0);
+        let head = |id: u8, size: u8, result: u16| {
+            [&[0, id, 0, size][..], &result.to_be_bytes(), &[255; 2]].concat()
+        };
+        let (asks, says) = (u16::MAX, 100);
+        let name = [&b"CH1"[..], &[0; 29]].concat();
+        let config = [0, 8, 0, 1, 0, 2, 0, 3, 0, 4];
+        let splice = [
+            &[0, 0, 0, 7][..],
+            &[255; 4],
+            &1_010u32.to_be_bytes(),
+            &[0; 4],
+            &[0, 1],
+        ]
+        .concat();
+        let splice = [&splice[..], &90_000u32.to_be_bytes(), &[0; 8], &[3, 0, 0]].concat();
+        let alive = [
+            &[0, 0, 0, 1][..],
+            &[255; 4],
+            &1_001u32.to_be_bytes(),
+            &[0; 4],
+        ]
+        .concat();
+        let turns = [
+            (
+                1_000,
+                head(1, 76, asks),
+                [&[0, 2][..], &name, &name, &config].concat(),
+            ),
+            (1_000, head(2, 34, says), [&[0, 2][..], &name].concat()),
+            (1_001, head(5, 8, asks), vec![0; 8]),
+            (1_001, head(6, 16, says), alive),
+            (1_002, head(7, 33, asks), splice),
+            (1_002, head(8, 4, says), vec![0, 0, 0, 7]),
+            (last, head(10, 0, asks), Vec::new()),
+            (last, head(11, 42, says), [&name[..], &config].concat()),
+        ];
+        for (place, (second, head, data)) in turns.into_iter().enumerate() {
+            to.clock = (second, 0);
+            to.data(&mut flow, place % 2 == 0, &[head, data].concat());
+        }
+        to.bytes
+    }
+
+    /// 90 s behind its instant a start is missing; before that the splicer may not have ticked.
+    #[test]
+    fn a_start_that_never_comes() {
+        assert_eq!(back(&never_started(1_090)).broken, [0; 0]);
+        let held = back(&never_started(1_102));
+        // due at 1,010 s, and its end a second later
+        assert_eq!(held.broken.len(), 2);
+        let due: Vec<&[u8]> = held.broken.iter().map(|call| held.due(*call)).collect();
+        assert!(due
+            .iter()
+            .all(|due| due[2..4] == [0, 9] && due[10..14] == [0, 0, 0, 7]));
+    }
+
     #[test]
     fn captures_that_are_none() {
         let wrong = |bytes: &[u8]| recorded("it", bytes, &CH1).err().unwrap();

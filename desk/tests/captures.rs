@@ -49,6 +49,24 @@ fn what_a_capture_cannot_tell_is_said() {
     );
 }
 
+/// The clock of the machine that captures is an hour and a half late, or ahead: nothing changes but the
+/// packets' times.
+#[test]
+fn another_clock_of_the_capture() {
+    for shift in [5_400u32, 0u32.wrapping_sub(5_400)] {
+        let mut bytes = std::fs::read(recording("live.pcap")).unwrap();
+        let mut at = 24;
+        while at < bytes.len() {
+            let word = |at: usize| u32::from_le_bytes(bytes[at..at + 4].try_into().unwrap());
+            let (seconds, size) = (word(at), word(at + 8) as usize);
+            bytes[at..at + 4].copy_from_slice(&seconds.wrapping_add(shift).to_le_bytes());
+            at += 16 + size;
+        }
+        let ran = back(&scratch("shifted.pcap", &bytes));
+        assert_eq!(ran.status, 0, "{}", ran.said);
+    }
+}
+
 /// 1.5 s on air are 135,000 ticks (0x20F58); one more was never played.
 #[test]
 fn a_wrong_played_duration_is_found() {

@@ -12,8 +12,12 @@ use crate::ruled::{ticked, Rules};
 use crate::time::{ninths, MICRO, SECOND, TICK};
 use std::collections::VecDeque;
 
-/// A packet may be so much later than the clock, and a clock so much later than a packet.
+/// The capture's clock may drift so far from the splicer's.
 const LAG: u64 = SECOND;
+/// A splicer that ticks less often than this, CR 9's longest step, is late.
+const LATE: u64 = 90 * SECOND;
+/// An answer that had so much time is missing.
+const WAIT: u64 = 10 * SECOND;
 /// The most instants that one record is sought behind.
 const MOST: usize = 400;
 
@@ -50,8 +54,9 @@ pub struct Back {
     rules: Rules,
     pub made: Vec<Made>,
     lines: [Line; 4],
-    /// The splicer's clock less the capture's, by its first Alive_Response.
-    ahead: i64,
+    /// The splicer's clock less the capture's, by the Alive_Response that is least behind; none if
+    /// there is none: then no packet's time says anything.
+    ahead: Option<i64>,
 }
 
 impl Back {
@@ -61,7 +66,7 @@ impl Back {
             rules: Rules::of(name),
             made: Vec::new(),
             lines: Default::default(),
-            ahead: clocks(events).first().copied().unwrap_or(0),
+            ahead: clocks(events).into_iter().max(),
         };
         for (place, event) in events.iter().enumerate() {
             back.event(event, &events[place..]);
@@ -73,7 +78,12 @@ impl Back {
 
     /// The splicer's clock at a packet's time.
     fn clock(&self, at: u64) -> u64 {
-        at.saturating_add_signed(self.ahead)
+        at.saturating_add_signed(self.ahead.unwrap_or(0))
+    }
+
+    /// The latest that the clock may be at a packet.
+    fn bound(&self, at: u64) -> u64 {
+        self.ahead.map_or(u64::MAX, |_| at + LAG)
     }
 
     fn event(&mut self, event: &Event, rest: &[Event]) {
@@ -114,7 +124,7 @@ impl Back {
         while let Some((call, asked)) = self.lines[conn].asked.pop_front() {
             self.make(&call, asked);
             // an answer that had its time and did not come is missing
-            if asked + LAG < at {
+            if asked + WAIT < at {
                 self.lines[conn].due.clear();
             }
         }
@@ -122,15 +132,14 @@ impl Back {
 
     /// The end of the capture: what must have been done by then.
     fn last(&mut self, end: u64) {
-        let by = end.saturating_sub(LAG);
+        let by = self.ahead.map_or(0, |_| end.saturating_sub(LATE));
         while let Some(next) = self.rules.next().filter(|next| *next <= by) {
-            self.tick(next, end);
+            self.tick(next, next);
         }
         for conn in 0..4 {
             self.unanswered(conn, end);
-            let late = self.made.len();
             for due in std::mem::take(&mut self.lines[conn].due) {
-                if self.made[due.entry].at + LAG >= end || due.entry >= late {
+                if self.made[due.entry].at + WAIT >= end {
                     self.made[due.entry].found.push((due.place, due.bytes));
                 }
             }
@@ -209,7 +218,7 @@ impl Back {
     fn by_time(&mut self, conn: usize, at: u64) -> bool {
         let (mut rules, mut steps) = (self.rules.clone(), Vec::new());
         for _ in 0..MOST {
-            let Some(next) = rules.next().filter(|next| *next <= at + LAG) else {
+            let Some(next) = rules.next().filter(|next| *next <= self.bound(at)) else {
                 return false;
             };
             let written = rules.tick(next);
@@ -274,7 +283,7 @@ impl Back {
         list.extend(self.played(conn, call, at));
         list.push(at.saturating_sub(LAG));
         list.push(at);
-        list.retain(|time| (clock..=at + LAG).contains(time));
+        list.retain(|time| (clock..=self.bound(at)).contains(time));
         list
     }
 
