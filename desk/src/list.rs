@@ -102,7 +102,7 @@ pub fn text(view: &View, broken: bool, to: &mut dyn Write) -> io::Result<()> {
                 Kind::Missing => "! DUE, MISSING: ",
                 Kind::Unexpected => "! FOUND, NOT DUE:",
             };
-            let time = view.clock.text(line.at);
+            let time = view.time(line.at).unwrap_or("-".to_string());
             writeln!(to, "{call:>6}  {time}  {mark} {}", line.told.line())?;
         }
     }
@@ -133,7 +133,7 @@ pub fn rows(view: &View, broken: bool, form: Form, to: &mut dyn Write) -> io::Re
             let told = line.told;
             let words = told.result.map(|_| told.words.to_string());
             rows.row(&[
-                Value::Text(view.clock.text(line.at)),
+                view.time(line.at).into(),
                 Value::Number(call as u64),
                 line.byte.map(|b| b as u64).into(),
                 Value::text(line.kind.word()),

@@ -38,6 +38,11 @@ impl<'o> View<'o> {
         !self.options.middle || Some(at) >= self.found.first
     }
 
+    /// An instant in words, if it is known.
+    pub fn time(&self, at: u64) -> Option<String> {
+        self.knows(at).then(|| self.clock.text(at))
+    }
+
     /// The clock behind a call, as recorded.
     pub fn clock_of(&self, call: usize) -> u64 {
         let recording = &self.held.recording;

@@ -254,6 +254,8 @@ fn a_day_from_its_middle() {
     for line in expected {
         assert!(lines.contains(&line.to_string()), "{line}\n{}", ran.text());
     }
+    let list = desk(&["list", "--raw", "--middle"], &day[1_893..]).lines();
+    assert_eq!(list[0], "1 - > 0 close");
     let fresh = desk(&["check"], &day[1_893..]);
     assert_eq!(fresh.status, 1);
     assert!(fresh
