@@ -203,7 +203,7 @@ fn aimed(gen: &mut Gen) {
     let mut start = clock + 3 * SECOND + off - 1;
     start += (TICK - 3 * SECOND % TICK) % TICK;
     let unit = if whole { 9 * TICK } else { TICK };
-    while start % MICROSECOND != 0 || (start + 1 - off - clock) % unit != 0 {
+    while !start.is_multiple_of(MICROSECOND) || !(start + 1 - off - clock).is_multiple_of(unit) {
         start += TICK;
         if start > clock + 4 * SECOND {
             return;
@@ -233,7 +233,7 @@ fn aimed(gen: &mut Gen) {
 /// A request less than a microsecond short of 3 s, or past it.
 fn late(gen: &mut Gen) {
     let (_, whole, _) = state(gen);
-    if !whole && gen.model.clock % MICROSECOND == 0 {
+    if !whole && gen.model.clock.is_multiple_of(MICROSECOND) {
         step(gen, 1);
     }
     let conn = gen.conn();

@@ -134,7 +134,7 @@ fn base64(word: &str) -> Option<Vec<u8>> {
         bytes.extend(&number.to_be_bytes()[1..four.len()]);
     }
     // nothing between the letters, no bits behind the last byte, and as many signs of the end as are due
-    (to_base64(&bytes).trim_end_matches('=') == text && (text == word || word.len() % 4 == 0)).then_some(bytes)
+    (to_base64(&bytes).trim_end_matches('=') == text && (text == word || word.len().is_multiple_of(4))).then_some(bytes)
 }
 
 /// Seconds, or ISO 8601 in UTC; or Seconds:MicroSeconds, which may be out of range.

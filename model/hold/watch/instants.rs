@@ -132,7 +132,7 @@ fn on_air_again(s: &mut Splicer, time: u64) -> bool {
 
 fn time_on_air(s: &Splicer, session: &Session, time: u64) -> u64 {
     let sum = instants::time_on_air(s, session, time);
-    if sum % TICK != 0 {
+    if !sum.is_multiple_of(TICK) {
         hit("PlayedDuration rounded down");
     }
     sum

@@ -88,7 +88,7 @@ fn count_reading(splicer: &Splicer, until: u64, rolled: bool) {
             hit("rollover with one on air");
         }
     }
-    if until % MICROSECOND != 0 {
+    if !until.is_multiple_of(MICROSECOND) {
         hit("clock between two microseconds");
     }
     if until + SECOND >= HORIZON {
@@ -116,7 +116,7 @@ fn count_reading(splicer: &Splicer, until: u64, rolled: bool) {
 }
 
 fn count_message(clock: u64, bytes: &[u8], out: &[Record]) {
-    let between = clock % MICROSECOND != 0;
+    let between = !clock.is_multiple_of(MICROSECOND);
     for record in out {
         let name = match record.what {
             What::Alive { .. } if between => "Alive between two microseconds",

@@ -3,14 +3,14 @@
 //! through the rollover."
 
 use crate::bytes::{all_bytes, Record};
-use crate::calls;
-use crate::card;
 use crate::right::RIGHT as RULES;
 use crate::state::{Rules, Said, Splicer, ROOM};
 use crate::times::{ninths, HORIZON, TICK};
+use crate::{calls, card};
 
 /// "a step over 8,100,000 ticks" is refused.
 pub const LIMIT: u32 = 8_100_000;
+type Told = Result<Vec<Record>, u8>;
 
 /// A call of this card. It has no tick.
 #[rustfmt::skip]
@@ -25,8 +25,8 @@ pub enum Call {
 /// The rules of the counter, by name.
 #[derive(Clone, Copy)]
 pub struct Counting {
-    pub instant: fn(&mut Rolling, (u32, u32), u32, usize) -> Result<Vec<Record>, u8>,
-    pub reading: fn(&mut Rolling, u32, usize) -> Result<Vec<Record>, u8>,
+    pub instant: fn(&mut Rolling, (u32, u32), u32, usize) -> Told,
+    pub reading: fn(&mut Rolling, u32, usize) -> Told,
     /// The ticks from the last reading to this one.
     pub step: fn(u32, u32) -> u32,
     /// Where such a step brings this clock; none if it is refused.
@@ -45,7 +45,7 @@ pub struct Rolling {
 
 /// "Refusals, on this card after 2: 8 for the given instant; house number 12 [..] for [..] a
 /// second instant." What is due until then is worked through, as by a tick.
-pub fn instant(card: &mut Rolling, (seconds, micros): (u32, u32), reading: u32, room: usize) -> Result<Vec<Record>, u8> {
+pub fn instant(card: &mut Rolling, (seconds, micros): (u32, u32), reading: u32, room: usize) -> Told {
     card.splicer.moved = 0;
     if room < ROOM {
         return Err(2);
