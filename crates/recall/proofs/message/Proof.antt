@@ -138,58 +138,46 @@ hear-requires c κs =
 
 finish-requires : tie.Need-finish-requires
 finish-requires c κs =
+    let low = (
     let c8 = c .before .before .before .before .before .before .before .before in
     let c16 = c8 .before .before .before .before .before .before .before .before in
     let c24 = c16 .before .before .before .before .before .before .before .before in
     let slice-known = c24 .before .before .before .before .before .before .slice-known in
     let s = c24 .before .before .before .before .before .before .before in
-    let next-place = c24 .next-place in
     let space = c16 .before .before .before .before .before .before .space in
     let pass = c16 .before .before .pass in
-    let is-long = c16 .is-long in
     let framed = c8 .before .before .before .before .before .before .before .framed in
     let id = c8 .before .before .before .before .before .id in
+    let loans = lendingMaps (s .args .primary .now) (s .args .insertion .now) (length (s .args .out .now)) in
+    message-low (s .args .log .now) (all-at Byte 0 (s .args .log .now) (λ i. omega (arith, slice-known .given i)))
+    ((space-from (s .args .log .now) (sym (c24 .next-place .ensures) ∙ space .given .1)) .0) (pass .ensures) (s .args .conn)
+    (s .args .l .now) loans
+    (framed-here (pass .ensures) (s .args .conn) (s .args .l .now) loans (framed .ensures) (c16 .is-long .ensures) (id .given .1))
+    ) in
+    let placed = (
+    let c8 = c .before .before .before .before .before .before .before .before in
+    let c16 = c8 .before .before .before .before .before .before .before .before in c16 .before .before .pass .ensures .placed
+    ) in
+    let short = (
+    let c8 = c .before .before .before .before .before .before .before .before in
+    let c16 = c8 .before .before .before .before .before .before .before .before in
+    let c24 = c16 .before .before .before .before .before .before .before .before in
+    let s = c24 .before .before .before .before .before .before .before in
     let feed = c8 .before .before .feed in
-    let map-on-air = c .before .before .before .before .before .before .before .before .before .map-on-air in (
-      message-low (s .args .log .now) (all-at Byte 0 (s .args .log .now) (λ i. omega (arith, slice-known .given i)))
-          ((space-from (s .args .log .now) (sym (next-place .ensures) ∙ space .given .1)) .0) (pass .ensures) (s .args .conn)
-          (s .args .l .now) (lendingMaps (s .args .primary .now) (s .args .insertion .now) (length (s .args .out .now)))
-          (framed-here (pass .ensures) (s .args .conn) (s .args .l .now)
-          (lendingMaps (s .args .primary .now) (s .args .insertion .now) (length (s .args .out .now))) (framed .ensures) (is-long .ensures)
-          (id .given .1)) .0,
-      (
-        pass .ensures .placed,
-        (
-          subst (λ (x : List ℕ). length x ≤ longestSection)
-              (sym (ap (λ x. now x) (map-on-air .ensures)
-              ∙ chosen (λ x. now x) (eqb (feed .result) 0) (s .args .primary) (s .args .insertion)))
-              (brief (eqb (feed .result) 0) (s .args .primary .now) (s .args .insertion .now)
-              ((both-short (s .args .primary .now) (s .args .insertion .now)
-              (message-low (s .args .log .now) (all-at Byte 0 (s .args .log .now) (λ i. omega (arith, slice-known .given i)))
-              ((space-from (s .args .log .now) (sym (next-place .ensures) ∙ space .given .1)) .0) (pass .ensures) (s .args .conn)
-              (s .args .l .now) (lendingMaps (s .args .primary .now) (s .args .insertion .now) (length (s .args .out .now)))
-              (framed-here (pass .ensures) (s .args .conn) (s .args .l .now)
-              (lendingMaps (s .args .primary .now) (s .args .insertion .now) (length (s .args .out .now))) (framed .ensures)
-              (is-long .ensures)
-              (id .given .1)) .2)) .0) ((both-short (s .args .primary .now) (s .args .insertion .now)
-              (message-low (s .args .log .now) (all-at Byte 0 (s .args .log .now) (λ i. omega (arith, slice-known .given i)))
-              ((space-from (s .args .log .now) (sym (next-place .ensures) ∙ space .given .1)) .0) (pass .ensures) (s .args .conn)
-              (s .args .l .now) (lendingMaps (s .args .primary .now) (s .args .insertion .now) (length (s .args .out .now)))
-              (framed-here (pass .ensures) (s .args .conn) (s .args .l .now)
-              (lendingMaps (s .args .primary .now) (s .args .insertion .now) (length (s .args .out .now))) (framed .ensures)
-              (is-long .ensures)
-              (id .given .1)) .2)) .1)),
-          (let w : 4096 ≤ length (s .args .out .now) =
-              message-low (s .args .log .now) (all-at Byte 0 (s .args .log .now) (λ i. omega (arith, slice-known .given i)))
-              ((space-from (s .args .log .now) (sym (next-place .ensures) ∙ space .given .1)) .0) (pass .ensures) (s .args .conn)
-              (s .args .l .now) (lendingMaps (s .args .primary .now) (s .args .insertion .now) (length (s .args .out .now)))
-              (framed-here (pass .ensures) (s .args .conn) (s .args .l .now)
-              (lendingMaps (s .args .primary .now) (s .args .insertion .now) (length (s .args .out .now))) (framed .ensures)
-              (is-long .ensures)
-              (id .given .1)) .1 in search needs),
-        ),
-      ),
-    )
+    let map-on-air = c8 .before .map-on-air in
+    let both = both-short (s .args .primary .now) (s .args .insertion .now) (low .2) in
+    subst (λ (x : List ℕ). length x ≤ longestSection)
+    (sym (ap (λ x. now x) (map-on-air .ensures)
+    ∙ chosen (λ x. now x) (eqb (feed .result) 0) (s .args .primary) (s .args .insertion)))
+    (brief (eqb (feed .result) 0) (s .args .primary .now) (s .args .insertion .now) (both .0) (both .1))
+    ) in
+    let w : (
+    let c8 = c .before .before .before .before .before .before .before .before in
+    let c16 = c8 .before .before .before .before .before .before .before .before in
+    let c24 = c16 .before .before .before .before .before .before .before .before in
+    4096 ≤ length (c24 .before .before .before .before .before .before .before .args .out .now)
+    ) = low .1 in
+    (low .0, (placed, (short, search needs)))
 
 cast-keep-message : tie.Need-cast-keep-message
 cast-keep-message c =
