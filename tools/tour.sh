@@ -61,7 +61,8 @@ table() {
 imports() {
     sed 's/#.*//' crates.txt | while IFS=: read -r name rest; do
         for import in $rest; do
-            found=$(find "crates/$name" \( -name '*.rt' -o -name '*.antt' \) -exec grep -lE "Rattle.$import[·.]|(^|[^a-z_:])$import::" {} +)
+            word="Rattle.$import[·.]|(^|[^a-z_:])$import::"
+            found=$(find "crates/$name" \( -name '*.rt' -o -name '*.antt' \) -exec grep -lE "$word" {} +) || :
             [ -n "$found" ] || echo "$name does not use $import"
         done
     done
