@@ -17,7 +17,7 @@ failed=0
 # the wings, in the order in which a reader walks through them
 cat >"$work/wings" <<'END'
 The law: rules cases
-The core, from the bottom up: units writing reading places memory ends instants checks requests answers cues relay engine streams rows feed
+The core, from the bottom up: units reply writing reading places memory ends instants checks requests answers cues relay engine streams rows feed
 Doors, for C: door door_rolling door_bench
 Programs: card checker remember
 The rolling card: rolling

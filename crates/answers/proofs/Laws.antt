@@ -33,7 +33,7 @@ use Rattle.memory.proofs.Laws.{memory-same, kept-at}
 use Rattle.ends.specs.Does.{Turns}
 use Rattle.writing.specs.Puts.{Puts}
 use Rattle.ends.proofs.Laws.{tells-none, tells-first}
-use Rattle.requests.specs.declared.Given.{Given}
+use Rattle.reply.specs.declared.Did.{Did}
 use Rattle.requests.specs.Made.{Splices}
 use Rattle.answers.specs.Gives.{Says, Gives, unmoved, barred}
 
@@ -46,27 +46,28 @@ named b s = record { name = nameOf b; clock = s .clock; primary = s .primary; li
 module _ {m b : List ℕ} (w : Whole m b) {e : List ℕ} where
   -- no answer
   pub silent : Gives (says [] (shown m b)) (see m .ringEnd) e (unmoved 0) m b e
-  silent = record { whole = w; splicer = refl; ring = refl; tells = tells-none; moved = refl }
+  silent = record { whole = w; splicer = refl; ring = refl; consumed = refl; tells = tells-none; moved = refl }
 
   -- one record, and nothing changes
   pub said : {x : Record} {n : ℕ} {o : List ℕ} → Says x e n o → Gives (says (x ∷ []) (shown m b)) (see m .ringEnd) e (unmoved n) m b o
-  said t = record { whole = w; splicer = refl; ring = refl; tells = t; moved = refl }
+  said t = record { whole = w; splicer = refl; ring = refl; consumed = refl; tells = t; moved = refl }
 
   -- what a request did to the sessions
-  pub spliced : {a : Spliced} {n : List ℕ} {r : Given} {o : List ℕ} → Splices a m e r n o
+  pub spliced : {a : Spliced} {n : List ℕ} {r : Did} {o : List ℕ} → Splices a m e r n o
       → Gives (splices a (shown m b)) (see m .ringEnd) e r n b o
   spliced g =
       record {
         whole = record { words = g .does .shows .form; bytes = w .bytes };
         splicer = ap (named b) (g .does .shows .is);
         ring = ap (λ (s : Memory). s .ringEnd) (g .does .shows .is);
+        consumed = g .consumed;
         tells = g .does .tells;
         moved = g .moved;
       }
 
   pub turned : {t : Turn} {n : List ℕ} {to : ℕ} {o : List ℕ} → Turns e 0 t (see m) n to o
       → Gives (turns t (shown m b)) (see m .ringEnd) e (unmoved to) n b o
-  turned {t} g = spliced {a = record { turn = t; accepted = false; moved = 0 }} (record { does = g; moved = refl })
+  turned {t} g = spliced {a = record { turn = t; accepted = false; moved = 0 }} (record { consumed = refl; does = g; moved = refl })
 
 -- ## Init
 
@@ -113,6 +114,7 @@ module _ {m b : List ℕ} (w : Whole m b) (c revision : ℕ) (d : List ℕ) {e :
         whole = k;
         splicer = h ∙ ap (λ (k : ℕ). cond (eqb k 100) (initialised c (hardwareIn d) (shown m b)) (shown m b)) p;
         ring = g;
+        consumed = refl;
         moved = refl;
         tells =
             subst (λ (z : Record). Says z e len o) (ap₂ (λ (k : ℕ) (z : List ℕ). InitResponse c k (nameIn z)) p ry) (tells-first ro);
@@ -198,7 +200,7 @@ config-says m b c {e} {o} {len = len} h y rx rh g =
 -- ## A message that is read
 
 -- y: the message that was read; x: what it is
-pub reads : (s : Splicer) (c id : ℕ) (d section : List ℕ) {at : ℕ} {e : List ℕ} {r : Given} {n b o : List ℕ} {y x : Message} → y ≡ read id d
+pub reads : (s : Splicer) (c id : ℕ) (d section : List ℕ) {at : ℕ} {e : List ℕ} {r : Did} {n b o : List ℕ} {y x : Message} → y ≡ read id d
     → y ≡ x →
     Gives (answerRead c x d section s) at e r n b o → Gives (answerRead c (read id d) d section s) at e r n b o
 reads s c id d section {at} {e} {r} {n} {b} {o} p q g = subst (λ (z : Message). Gives (answerRead c z d section s) at e r n b o) (sym q ∙ p)
@@ -210,11 +212,11 @@ bars : (s : Splicer) (c id : ℕ) {l : Link} {t v : Bool} → l ≡ linkOf c s �
 bars s c id p q i = ap (λ (y : Link). barred y id) (sym p) ∙ sym q ∙ i
 
 -- of an answer from the memory m and b
-abbrev GivesOf : (m e : List ℕ) → Answered → Given → (n b o : List ℕ) → Type 0
+abbrev GivesOf : (m e : List ℕ) → Answered → Did → (n b o : List ℕ) → Type 0
 GivesOf m e a r n b o = Gives a (see m .ringEnd) e r n b o
 
 module _ {m b : List ℕ} (w : Whole m b) (c id : ℕ) (d section : List ℕ) {e : List ℕ} where
-  by-answer : (a : Answered) {r : Given} {n p o : List ℕ} → answer c id d section (shown m b) ≡ a → GivesOf m e a r n p o →
+  by-answer : (a : Answered) {r : Did} {n p o : List ℕ} → answer c id d section (shown m b) ≡ a → GivesOf m e a r n p o →
       GivesOf m e (answer c id d section (shown m b)) r n p o
   by-answer a {r} {n} {p} {o} q g = subst (λ (y : Answered). GivesOf m e y r n p o) (sym q) g
 
@@ -248,7 +250,7 @@ module _ {m b : List ℕ} (w : Whole m b) (c id : ℕ) (d section : List ℕ) {e
             (rw (ne-eqb id 0x0000 h, bars (shown m b) c id p q i, ne-eqb id 0x000D j, ← r, k)) (said w g)
 
         -- a message of the list
-        pub fifth : {g : Given} {n p : List ℕ} → not v ≡ false → GivesOf m e (answerRead c (read id d) d section (shown m b)) g n p o →
+        pub fifth : {g : Did} {n p : List ℕ} → not v ≡ false → GivesOf m e (answerRead c (read id d) d section (shown m b)) g n p o →
             GivesOf m e (answer c id d section (shown m b)) g n p o
         unfolding answer
         fifth k g =
@@ -258,11 +260,15 @@ module _ {m b : List ℕ} (w : Whole m b) (c id : ℕ) (d section : List ℕ) {e
 -- ## "any two results it allows are proved equal"
 
 -- the lent words and bytes and the buffer included
-pub answer-same : (a : Answered) (at : ℕ) (e : List ℕ) (r s : Given) (m n b c o p : List ℕ) → Gives a at e r m b o → Gives a at e s n c p →
+pub answer-same : (a : Answered) (at : ℕ) (e : List ℕ) (r s : Did) (m n b c o p : List ℕ) → Gives a at e r m b o → Gives a at e s n c p →
     (r ≡ s) × (m ≡ n) × (b ≡ c) × (o ≡ p)
 answer-same a at e r s m n b c o p x y =
     let same = memory-same m b n c (x .whole) (y .whole) (x .ring ∙ sym (y .ring)) (x .splicer ∙ sym (y .splicer)) in (
-      (λ i. record { len = (x .tells .count ∙ sym (y .tells .count)) i; moved = (x .moved ∙ sym (y .moved)) i }),
+      (λ i. record {
+        consumed = (x .consumed ∙ sym (y .consumed)) i;
+        written = (x .tells .count ∙ sym (y .tells .count)) i;
+        moved = (x .moved ∙ sym (y .moved)) i;
+      }),
       same .0,
       same .1,
       x .tells .bytes ∙ sym (y .tells .bytes),

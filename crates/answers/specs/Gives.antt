@@ -11,23 +11,21 @@ use Rattle.rules.specs.Records.{Record}
 use Rattle.rules.specs.Answers.{Answered}
 use Rattle.memory.specs.Memory.{see, shifted, Whole, shown}
 use Rattle.ends.specs.Does.{Tells}
-use Rattle.requests.specs.declared.Given.{Given}
+use Rattle.reply.specs.declared.Did.{Did}
+pub use Rattle.reply.specs.Unmoved.{unmoved}
 
 -- one record stands at the start of the buffer that held e
 abbrev pub Says : Record → (e : List ℕ) → ℕ → (o : List ℕ) → Type 0
 Says x e len o = Tells e 0 (x ∷ []) len o
 
--- an answer that shifted no place
-abbrev pub unmoved : ℕ → Given
-unmoved len = record { len = len; moved = 0 }
-
 -- the memory shows the splicer after the answer, and the records stand at the start of the buffer that held e; the ring, which ended at the
 -- place `at`, has moved on with an acceptance alone, and as many places as the answer says were shifted
-pub record Gives (a : Answered) (at : ℕ) (e : List ℕ) (r : Given) (m b o : List ℕ) : Type 0 where
+pub record Gives (a : Answered) (at : ℕ) (e : List ℕ) (r : Did) (m b o : List ℕ) : Type 0 where
   pub whole : Whole m b
   pub splicer : shown m b ≡ a .splicer
   pub ring : see m .ringEnd ≡ shifted (a .accepted) at
-  pub tells : Tells e 0 (a .written) (r .len) o
+  pub consumed : r .consumed ≡ 0
+  pub tells : Tells e 0 (a .written) (r .written) o
   pub moved : r .moved ≡ a .moved
 
 -- "2. Not initialised and not Init_Request"

@@ -1,7 +1,7 @@
 // Answering a message: 01's five steps, Init, Alive, GetConfig, ExtendedData, and what requests answer.
 use memory::WORDS;
 use memory::Which;
-use requests::Given;
+use reply::Did;
 use rules::Link;
 use rules::Message;
 ghost use mathlib.Core.Path.{_≡_};
@@ -132,7 +132,7 @@ fn answer_read(
     d: &[u8],
     section: &[u8],
     out: &mut [u8],
-) -> Given
+) -> Did
     requires { ⌜ Whole (now m) (now b) ⌝ }
     requires { ⌜ Sound (shown (now m) (now b)) ⌝ }
     requires { ⌜ conn ≤ 3 ⌝ }
@@ -145,29 +145,35 @@ fn answer_read(
 {
     let message = reading::read(id, d);
     match message {
-        Message::Init(revision) => Given {
-            len: answer_init(&mut *m, &mut *b, conn, revision, d, &mut *out),
+        Message::Init(revision) => Did {
+            consumed: 0,
+            written: answer_init(&mut *m, &mut *b, conn, revision, d, &mut *out),
             moved: 0,
         },
-        Message::Alive => Given {
-            len: answer_alive(&*m, &*b, conn, &mut *out),
+        Message::Alive => Did {
+            consumed: 0,
+            written: answer_alive(&*m, &*b, conn, &mut *out),
             moved: 0,
         },
         Message::Splice(r) => requests::answer_splice(&mut *m, conn as u64, r, &mut *out),
-        Message::Abort(x) => Given {
-            len: requests::answer_abort(&mut *m, conn as u64, x as u64, &mut *out),
+        Message::Abort(x) => Did {
+            consumed: 0,
+            written: requests::answer_abort(&mut *m, conn as u64, x as u64, &mut *out),
             moved: 0,
         },
-        Message::Extended(x) => Given {
-            len: answer_extended(&*m, conn, x, &mut *out),
+        Message::Extended(x) => Did {
+            consumed: 0,
+            written: answer_extended(&*m, conn, x, &mut *out),
             moved: 0,
         },
-        Message::Config => Given {
-            len: answer_config(&*m, &*b, conn, section, &mut *out),
+        Message::Config => Did {
+            consumed: 0,
+            written: answer_config(&*m, &*b, conn, section, &mut *out),
             moved: 0,
         },
-        Message::Unreadable => Given {
-            len: general(conn, 123, &mut *out),
+        Message::Unreadable => Did {
+            consumed: 0,
+            written: general(conn, 123, &mut *out),
             moved: 0,
         },
     }
@@ -194,7 +200,7 @@ pub fn answer(
     d: &[u8],
     section: &[u8],
     out: &mut [u8],
-) -> Given
+) -> Did
     requires { ⌜ Whole (now m) (now b) ⌝ }
     requires { ⌜ Sound (shown (now m) (now b)) ⌝ }
     requires { ⌜ conn ≤ 3 ⌝ }
@@ -205,21 +211,31 @@ pub fn answer(
         (see (now (m .entry)) .ringEnd) (now (out .entry)) r (now (m .exit)) (now (b .exit)) (now (out .exit)) ⌝ }
 {
     if id == 0x0000 {
-        return Given { len: 0, moved: 0 };
+        return Did {
+            consumed: 0,
+            written: 0,
+            moved: 0,
+        };
     }
     let link = memory::link(&*m, conn);
     if is_barred(link, id) {
-        return Given {
-            len: general(conn, 103, &mut *out),
+        return Did {
+            consumed: 0,
+            written: general(conn, 103, &mut *out),
             moved: 0,
         };
     }
     if id == 0x000D {
-        return Given { len: 0, moved: 0 };
+        return Did {
+            consumed: 0,
+            written: 0,
+            moved: 0,
+        };
     }
     if !reading::is_read(id) {
-        return Given {
-            len: general(conn, 120, &mut *out),
+        return Did {
+            consumed: 0,
+            written: general(conn, 120, &mut *out),
             moved: 0,
         };
     }

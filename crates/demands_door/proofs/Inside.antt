@@ -47,27 +47,27 @@ refusal-read NotSixteen = (refl, refl)
 pub number-told : (a : Answer) → numberIn (replyOf a) ≡ engine.numberIn a
 unfolding replyOf engine.numberIn
 number-told (Refused n) = refl
-number-told (Done consumed written moved) = refl
+number-told (Done did) = refl
 
 answer-read : (a : Answer) → answerIn (replyOf a) ≡ a
 unfolding replyOf
 answer-read (Refused n) = rw (refusal-read n .0, refusal-read n .1) refl
-answer-read (Done consumed written moved) = refl
+answer-read (Done did) = refl
 
 pub moved-told : (a : Answer) → movedIn (replyOf a) ≡ engine.movedIn a
 unfolding replyOf engine.movedIn
 moved-told (Refused n) = refl
-moved-told (Done consumed written moved) = refl
+moved-told (Done did) = refl
 
 bytes-told : (a : Answer) (o : List ℕ) → take (writtenIn (replyOf a)) o ≡ engine.bytesIn a o
 unfolding replyOf engine.bytesIn
 bytes-told (Refused n) o = refl
-bytes-told (Done consumed written moved) o = refl
+bytes-told (Done did) o = refl
 
 reply-told : (a : Answer) (o : List ℕ) → replyIn (replyOf a) o ≡ engine.replyIn a o
 unfolding replyOf engine.replyIn engine.bytesIn
 reply-told (Refused n) o = rw (refusal-read n .0, refusal-read n .1) refl
-reply-told (Done consumed written moved) o = refl
+reply-told (Done did) o = refl
 
 -- and what document 01 says
 words-ruled : (a : rules.Answer) (k : ℕ) → replyOf (answerOf a k) ≡ wordsOf a k

@@ -156,7 +156,8 @@ handed (aCue l g e) = engine.aCue l (ptsOf g) (getD g 2 0) (getD g 3 0) e
 
 -- the engine's answer, from the reply's words
 abbrev pub answerIn : List ℕ → Answer
-answerIn w = cond (eqb (numberIn w) 0) (Done (consumedIn w) (writtenIn w) (movedIn w)) (Refused (refusalAmong refusals (numberIn w)))
+answerIn w = cond (eqb (numberIn w) 0) (Done (record { consumed = consumedIn w; written = writtenIn w; moved = movedIn w }))
+    (Refused (refusalAmong refusals (numberIn w)))
 
 abbrev pub inside : Seen → engine.Result
 inside r = record { answer = answerIn (r .reply); memory = left r; buffer = r .buffer }

@@ -142,7 +142,7 @@ module _ (name : List ℕ) (long : length name ≡ 32) (bytes : All Byte name) w
 
       go : (z : Bool) → hasZero name ≡ z → Run name is
       go true e =
-          from (blank (nameIn name)) (Done 0 0 0)
+          from (blank (nameIn name)) (Done (record { consumed = 0; written = 0; moved = 0 }))
           (fresh-good name long bytes cleared-now (named (nameIn name) (nameIn-zero name) (omega (arith, name-short name))) e)
       go false e =
           from (blank []) (Refused BadName)

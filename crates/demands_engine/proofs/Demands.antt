@@ -108,7 +108,7 @@ module _ (name : List ℕ) (h : List Made) (m : Memory) where
       where
         go : (a : Answer) → r .answer ≡ a → (r .memory ≡ m) × (r .buffer ≡ bufferOf i)
         go (Refused n) e = unchanged m i r (c .allowed) (trace-lent name h m (c .trace)) n e
-        go (Done consumed written places) e = let z : number r ≡ 0 = ap numberIn e in absurd (omega arith)
+        go (Done did) e = let z : number r ≡ 0 = ap numberIn e in absurd (omega arith)
 
     -- no answer is longer than 3,174 bytes, so the 4,096 that a good call has are enough
     pub answers-fit : length (bytesOf r) ≤ 3174

@@ -130,17 +130,17 @@ pub record Point (name : List ℕ) (h g : List Made) (m : Memory) : Type 0 where
 -- the number of a refusal; 0 stands for a good call
 unfoldable pub numberIn : Answer → ℕ
 numberIn (Refused n) = houseNumber n
-numberIn (Done consumed len moved) = 0
+numberIn (Done did) = 0
 
 -- the bytes written: the first of the buffer, as many as the answer says
 unfoldable pub bytesIn : Answer → List ℕ → List ℕ
 bytesIn (Refused n) o = []
-bytesIn (Done consumed len moved) o = take len o
+bytesIn (Done did) o = take (did .written) o
 
 -- 02, CR 11, "how many places an acceptance shifts"; a refusal shifts none
 unfoldable pub movedIn : Answer → ℕ
 movedIn (Refused n) = 0
-movedIn (Done consumed len moved) = moved
+movedIn (Done did) = did .moved
 
 abbrev pub number : Result → ℕ
 number r = numberIn (r .answer)
@@ -153,7 +153,7 @@ bytesOf r = bytesIn (r .answer) (r .buffer)
 
 unfoldable pub replyIn : Answer → List ℕ → Reply
 replyIn (Refused n) o = refusal n
-replyIn (Done consumed len moved) o = wrote (take len o)
+replyIn (Done did) o = wrote (take (did .written) o)
 
 -- a call that was made, as demand 3 takes it: the call, and the answer's bytes or the refusal
 abbrev pub eventOf : Made → Event

@@ -44,13 +44,13 @@ use Rattle.demands_recall.proofs.Alike.{as-ruled}
 same-words : (a : Answer) → replyWords (asReply a) ≡ replyOf a
 unfolding replyWords asReply replyOf numberOf
 same-words (answer.Refused n) = refl
-same-words (answer.Done consumed len moved) = refl
+same-words (answer.Done did) = refl
 
 words-13 : (r : Reply) → is13 (replyWords r) ≡ sides.is13 r
 unfolding replyWords
 words-13 Full = refl
 words-13 (Refused n) = refl
-words-13 (Done consumed len moved) = refl
+words-13 (Done did) = refl
 
 -- 13 of any log, as C sees it: "before all others"
 pub thirteen-of-any : (k : Call) (l e : List ℕ) {w n o : List ℕ} → Tells k l e w n o → is13 w ≡ full l
@@ -80,7 +80,7 @@ number-some NotSixteen = refl
 words-good : (a : Answer) → eqb (numberIn (replyOf a)) 0 ≡ isDone (asReply a)
 unfolding replyOf isDone asReply
 words-good (answer.Refused n) = number-some n
-words-good (answer.Done consumed len moved) = refl
+words-good (answer.Done did) = refl
 
 -- ## One call
 

@@ -246,7 +246,8 @@ module _ {l n : List ℕ} {r : Reply} (f : Forgets l r n) (h : List Pair) (c : C
 -- ## Fresh
 
 -- the card's answer to fresh with "CH1"
-fresh-card : replyOf (rules.fresh (padded cardName) .answer) (rules.fresh (padded cardName) .moved) ≡ Done 0 0 0
+fresh-card : replyOf (rules.fresh (padded cardName) .answer) (rules.fresh (padded cardName) .moved)
+    ≡ Done (record { consumed = 0; written = 0; moved = 0 })
 unfolding rules.fresh cardName replyOf output
 fresh-card = refl
 

@@ -57,7 +57,7 @@ pub record Beside (h : List Both) : Type 0 where
 -- an answer of the card's engine in the second one's words
 unfoldable pub asReply : Answer → Reply
 asReply (answer.Refused n) = Refused n
-asReply (answer.Done consumed len moved) = Done consumed len moved
+asReply (answer.Done did) = Done did
 
 abbrev pub pairOf : Both → Pair
 pairOf x =

@@ -50,7 +50,7 @@ logAfter l (p ∷ h) = logAfter (p .log) h
 unfoldable pub isDone : Reply → Bool
 isDone Full = false
 isDone (Refused n) = false
-isDone (Done consumed len moved) = true
+isDone (Done did) = true
 
 -- the good ones of the calls, by the card's replies, in the form that is kept
 abbrev pub goodOnes : List Pair → List Call

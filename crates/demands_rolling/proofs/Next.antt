@@ -82,7 +82,7 @@ module _ (name : List ℕ) (h : List Made) (m : Memory) (i : RollInput) (r : Rol
           let u = refused-unchanged (rollCallOf i) n (m .core .words) (m .core .bytes) (m .counter) (rollBufferOf i) (answerIn (r .reply))
           (r .words) (r .bytes) (r .counter) (r .buffer) here holds e in
           ((λ j. record { core = memory-same (left r .core) (m .core) (u .0) (u .1) j; counter = u .2 j }), u .3)
-      go (Done consumed written shifted) e =
+      go (Done did) e =
           let z : number r ≡ 0 = number-inside replies ∙ ap engine.numberIn e in
           absurd (omega arith)
 
@@ -108,7 +108,7 @@ module _ (name : List ℕ) (h : List Made) (m : Memory) (i : RollInput) (r : Rol
             moved = moved-inside replies ∙ ap engine.movedIn e;
             left = unchanged (omega (arith, eqb-false (number r) 0 bad)) .0;
           }
-      go (Done consumed written shifted) e =
+      go (Done did) e =
           let z : number r ≡ 0 = number-inside replies ∙ ap engine.numberIn e in
           let y : true ≡ false = sym (ap (λ n. eqb n 0) z) ∙ bad in
           let x : _≡_ {A = ℕ} 0 1 = cc in

@@ -34,6 +34,6 @@ refused-unchanged k m b e r v c o l x f = by (x .answer) refl
   where
     by : (a : Answer) → x .answer ≡ a → (v ≡ m) × (c ≡ b) × (o ≡ e)
     by (Refused n) y = engine.refused-unchanged k n m b e (x .answer) v c o l (x .answers) y
-    by (Done consumed written moved) y =
+    by (Done did) y =
         let t : getD r 0 0 ≡ 0 = ap (λ z. getD z 0 0) (x .reply ∙ ap replyOf y) in
         absurd (omega arith)

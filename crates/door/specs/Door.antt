@@ -6,17 +6,12 @@ use lib.ListN.{length, getD}
 use Rattle.rules.specs.Lists.{All}
 use Rattle.rules.specs.Bytes.{Byte}
 use Rattle.rules.specs.State.{Splicer}
-use Rattle.rules.specs.Calls.{Called, houseNumber, Call, opens, closes, messages, lendingMaps, ticks, cues, cueCall, call}
+use Rattle.rules.specs.Calls.{Called, Call, opens, closes, messages, lendingMaps, ticks, cues, cueCall, call}
 use Rattle.memory.specs.Memory.{see, shown}
 use Rattle.relay.specs.declared.Anchor.{Anchor}
 use Rattle.engine.specs.declared.Answer.{Answer}
-use Rattle.engine.specs.declared.Answer.the-variants.{Refused, Done}
 use Rattle.engine.specs.Lent.{Answers}
-
--- "A refusal returns its number": its house number, or 0 and the bytes consumed and written; 02, CR 11: and the places shifted
-unfoldable pub replyOf : Answer → List ℕ
-replyOf (Refused n) = houseNumber n ∷ 0 ∷ 0 ∷ 0 ∷ []
-replyOf (Done consumed written moved) = 0 ∷ consumed ∷ written ∷ moved ∷ []
+unfoldable pub use Rattle.engine.specs.Lent.{replyOf}
 
 -- what a call promises: what the engine promises, of the lent words m and bytes b, of the ring that ended at the place `at`, and of the
 -- buffer o, which held e; and the reply r is the engine's answer

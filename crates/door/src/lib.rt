@@ -1,7 +1,6 @@
 // The calls of document 01 for C, what a card reads, and lists of streams: libdoor.a.
 // Lent words, bytes and numbers only; a reply is lent words too. include/splicer.h declares them. The names carry the header's
 // version, so that a header of another version does not link.
-use engine::Answer;
 use memory::BYTES;
 use memory::WORDS;
 use relay::Anchor;
@@ -14,23 +13,8 @@ ghost use lib.ListN.{length};
 ghost use Rattle.rules.specs.Calls.{fresh, openCall, closeCall, messageCall, tickCall, lendingMaps};
 ghost use Rattle.engine.specs.Lent.{Lent, Counts, Primary, ReadsMux, ReadsFeed};
 ghost use Rattle.streams.specs.Rows.{ReadsList, WritesList};
-ghost use Rattle.door.specs.Door.{replyOf, Replies, Hears, anchorOf, cueOf, version};
+ghost use Rattle.door.specs.Door.{Replies, Hears, anchorOf, cueOf, version};
 ghost use Rattle.rows.specs.Rows.{Pages};
-
-// The house number of a refusal or 0, the bytes consumed and written, and how many places an acceptance shifted.
-fn reply_of(a: Answer) -> [u64; 4]
-    ensures { λ r. ⌜ r ≡ replyOf a ⌝ }
-{
-    match a {
-        Answer::Refused(n) => [engine::house_number(n) as u64, 0, 0, 0],
-        Answer::Done(consumed, written, moved) => [
-            0,
-            consumed as u64,
-            written as u64,
-            moved as u64,
-        ],
-    }
-}
 
 // Whatever stood in the words before.
 #[no_mangle]
@@ -43,7 +27,7 @@ pub extern "C" fn splicer_7_fresh(
     ensures { λ _. ⌜ Replies (fresh (now (name .entry))) 0 [] (now (reply .exit)) (now (words .exit)) (now (bytes .exit)) [] ⌝ }
 {
     let a = engine::fresh(name, &mut *words, &mut *bytes);
-    *reply = reply_of(a);
+    *reply = engine::reply_of(a);
 }
 
 #[no_mangle]
@@ -59,7 +43,7 @@ pub extern "C" fn splicer_7_open(
         (now (words .exit)) (now (bytes .exit)) [] ⌝ }
 {
     let a = engine::open(&mut *words, &mut *bytes, conn);
-    *reply = reply_of(a);
+    *reply = engine::reply_of(a);
 }
 
 #[no_mangle]
@@ -76,7 +60,7 @@ pub extern "C" fn splicer_7_close(
         (now (words .exit)) (now (bytes .exit)) (now (out .exit)) ⌝ }
 {
     let a = engine::close(&mut *words, &mut *bytes, conn, &mut *out);
-    *reply = reply_of(a);
+    *reply = engine::reply_of(a);
 }
 
 // l: the bytes read so far. 02, CR 6: the lent sections have one lifetime, as the function has that returns one of them.
@@ -106,7 +90,7 @@ pub extern "C" fn splicer_7_message<'a>(
         insertion,
         &mut *out,
     );
-    *reply = reply_of(a);
+    *reply = engine::reply_of(a);
 }
 
 #[no_mangle]
@@ -124,7 +108,7 @@ pub extern "C" fn splicer_7_tick(
         (now (words .exit)) (now (bytes .exit)) (now (out .exit)) ⌝ }
 {
     let a = engine::tick(&mut *words, &mut *bytes, seconds, micros, &mut *out);
-    *reply = reply_of(a);
+    *reply = engine::reply_of(a);
 }
 
 // 02, CR 2: how many wait of each connection. It only reads, and nothing is refused.
@@ -213,7 +197,7 @@ pub extern "C" fn splicer_7_cue(
         (now (reply .exit)) (now (words .entry)) (now (bytes .entry)) (now (out .exit)) ⌝ }
 {
     let a = engine::cue(words, bytes, section, anchor_of(given), &mut *out);
-    *reply = reply_of(a);
+    *reply = engine::reply_of(a);
 }
 
 // 02, CR 8: the driver's page: the last 16 that ended, from the newest down, into sixteen rows that the caller lends. 0, or house number 16

@@ -27,7 +27,7 @@ wordsOf None = houseNumber None ∷ 0 ∷ 0 ∷ []
 unfoldable pub replyWords : Reply → List ℕ
 replyWords Full = numberOf Full ∷ 0 ∷ 0 ∷ 0 ∷ []
 replyWords (Refused n) = numberOf (Refused n) ∷ 0 ∷ 0 ∷ 0 ∷ []
-replyWords (Done consumed len moved) = numberOf (Done consumed len moved) ∷ consumed ∷ len ∷ moved ∷ []
+replyWords (Done did) = numberOf (Done did) ∷ did .consumed ∷ did .written ∷ did .moved ∷ []
 
 -- a call: the reply's words w; e, o: the buffer before and after it, l, n: the log
 pub record Tells (k : Call) (l e w n o : List ℕ) : Type 0 where

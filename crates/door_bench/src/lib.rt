@@ -38,8 +38,8 @@ fn reply_words(r: Reply) -> [u64; 4]
 {
     match r {
         Reply::Full => [13, 0, 0, 0],
-        Reply::Refused(n) => [recall::house_number(n) as u64, 0, 0, 0],
-        Reply::Done(consumed, len, moved) => [0, consumed as u64, len as u64, moved as u64],
+        Reply::Refused(n) => [reply::house_number(n) as u64, 0, 0, 0],
+        Reply::Done(did) => [0, did.consumed as u64, did.written as u64, did.moved as u64],
     }
 }
 

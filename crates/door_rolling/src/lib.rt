@@ -1,7 +1,6 @@
 // The rolling card's own calls for C, beside those of `door`: librolldoor.a (02, CR 9).
 // Lent words, bytes and numbers only; the reply goes into lent words. include/splicer.h declares them. An archive of its own, so that
 // the tick of the other cards is compiled as it was.
-use engine::Answer;
 use memory::BYTES;
 use memory::WORDS;
 use rolling::Given;
@@ -9,23 +8,7 @@ ghost use mathlib.Core.Path.{_≡_};
 ghost use mathlib.Core.List.{[]};
 ghost use Rattle.rules.specs.Rolling.{rollingFresh, readingCall};
 ghost use Rattle.rolling.specs.LentRolling.{LentRolling};
-ghost use Rattle.door.specs.Door.{replyOf};
 ghost use Rattle.door_rolling.specs.RollDoor.{RollReplies, RollHears, instantOf};
-
-// The house number of a refusal or 0, the bytes consumed and written, and how many places an acceptance shifted.
-fn reply_of(a: Answer) -> [u64; 4]
-    ensures { λ r. ⌜ r ≡ replyOf a ⌝ }
-{
-    match a {
-        Answer::Refused(n) => [engine::house_number(n) as u64, 0, 0, 0],
-        Answer::Done(consumed, written, moved) => [
-            0,
-            consumed as u64,
-            written as u64,
-            moved as u64,
-        ],
-    }
-}
 
 // Whatever stood in the words before. The words and bytes go to the door's open, close, message and read; the counter's words stand beside
 // them.
@@ -42,7 +25,7 @@ pub extern "C" fn splicer_7_rolling_fresh(
         (now (counter .exit)) [] ⌝ }
 {
     let a = rolling::fresh(name, &mut *words, &mut *bytes, &mut *counter);
-    *reply = reply_of(a);
+    *reply = engine::reply_of(a);
 }
 
 // given: Seconds, MicroSeconds and the counter's reading.
@@ -66,7 +49,7 @@ pub extern "C" fn splicer_7_instant(
         reading: given[2],
     };
     let a = rolling::instant(&mut *words, &mut *bytes, &mut *counter, instant, &mut *out);
-    *reply = reply_of(a);
+    *reply = engine::reply_of(a);
 }
 
 #[no_mangle]
@@ -84,5 +67,5 @@ pub extern "C" fn splicer_7_reading(
         (now (reply .exit)) (now (words .exit)) (now (bytes .exit)) (now (counter .exit)) (now (out .exit)) ⌝ }
 {
     let a = rolling::reading(&mut *words, &mut *bytes, &mut *counter, reading, &mut *out);
-    *reply = reply_of(a);
+    *reply = engine::reply_of(a);
 }

@@ -16,6 +16,7 @@ use Rattle.rules.proofs.Sound.{reached-fresh}
 use Rattle.memory.specs.Memory.{Memory, Now, nothingShown, shifted, Named, shown}
 use Rattle.engine.specs.declared.Answer.{Answer}
 use Rattle.engine.specs.declared.Answer.the-variants.{Refused, Done}
+use Rattle.answers.specs.Gives.{unmoved}
 use Rattle.engine.specs.Lent.{answerOf, Answers}
 
 begun : (m b n : List ℕ) → Now m nothingShown → Named b n → shown m b ≡ named n
@@ -49,9 +50,9 @@ module _ (name : List ℕ) {m b : List ℕ} (long : length name ≡ 32) (bytes :
         buffer = o;
       }
 
-  pub fresh-good : Named b (nameIn name) → hasZero name ≡ true → Answers (fresh name) 0 [] (Done 0 0 0) m b []
+  pub fresh-good : Named b (nameIn name) → hasZero name ≡ true → Answers (fresh name) 0 [] (Done (unmoved 0)) m b []
   unfolding fresh answerOf bufferAfter writtenBy output
-  fresh-good kept z = fresh-as (nameIn name) (Done 0 0 0) kept (rw z) (rw z) (rw z) (rw z (sym (written-none [] 0)))
+  fresh-good kept z = fresh-as (nameIn name) (Done (unmoved 0)) kept (rw z) (rw z) (rw z) (rw z (sym (written-none [] 0)))
 
   pub fresh-bad : Named b [] → hasZero name ≡ false → Answers (fresh name) 0 [] (Refused BadName) m b []
   unfolding fresh answerOf bufferAfter writtenBy

@@ -39,7 +39,7 @@ use Rattle.rules.proofs.Sound.{reached-call, reached-sound, few-wait, few-start
 use Rattle.memory.specs.Memory.{Memory, see, Now, timed, linked, queued, silenced, shifted, nameOf, keptOf, Holds, shown}
 use Rattle.ends.specs.Does.{roomFor, Tells, Turns}
 use Rattle.instants.specs.Runs.{Ticked}
-use Rattle.requests.specs.declared.Given.{Given}
+use Rattle.reply.specs.declared.Did.{Did}
 use Rattle.answers.specs.Gives.{Gives, unmoved}
 use Rattle.engine.specs.declared.Answer.{Answer}
 use Rattle.engine.specs.declared.Answer.the-variants.{Refused, Done}
@@ -71,13 +71,13 @@ stay : {m b : List ℕ} → Lent m b → Holds b (nameOf b) (keptOf b)
 stay l = record { stored = l .whole .bytes; name = refl; kept = refl }
 
 -- k is called of the memory m and b, and lent the buffer e: the memory is v and c after it, and "bytes beyond those written stay unchanged"
-done-as : (k : Call) {m b e : List ℕ} (consumed : ℕ) (a : Answered) {r : Given} {v c o : List ℕ} → Lent m b → Wired k
+done-as : (k : Call) {m b e : List ℕ} (consumed : ℕ) (a : Answered) {r : Did} {v c o : List ℕ} → Lent m b → Wired k
     → call k (shown m b) ≡ replies consumed a → Gives a (see m .ringEnd) e r v c o
-    → Answers (call k (shown m b)) (see m .ringEnd) e (Done consumed (r .len) (r .moved)) v c o
+    → Answers (call k (shown m b)) (see m .ringEnd) e (Done (record { consumed = consumed; written = r .written; moved = r .moved })) v c o
 unfolding answerOf bufferAfter writtenBy
 done-as k {m} {b} {e} consumed a {r} {v} {c} l wired f g =
     let q : shown v c ≡ call k (shown m b) .splicer = g .splicer ∙ sym (ap (λ y. y .splicer) f) in
-    let n : r .len ≡ length (output (a .written)) = omega (arith, g .tells .count) in
+    let n : r .written ≡ length (output (a .written)) = omega (arith, g .tells .count) in
     record {
       lent = record {
         whole = g .whole;
@@ -85,7 +85,8 @@ done-as k {m} {b} {e} consumed a {r} {v} {c} l wired f g =
       };
       splicer = q;
       ring = g .ring ∙ sym (ap (λ y. shifted (y .accepted) (see m .ringEnd)) f);
-      answer = ap₂ (λ (y z : ℕ). Done consumed y z) n (g .moved) ∙ sym (ap (λ y. answerOf (y .answer) (y .moved)) f);
+      answer = ap₂ (λ (y z : ℕ). Done (record { consumed = consumed; written = y; moved = z })) n (g .moved)
+          ∙ sym (ap (λ y. answerOf (y .answer) (y .moved)) f);
       buffer = g .tells .bytes ∙ sym (ap (λ y. bufferAfter (y .answer) e) f);
     }
 
@@ -95,7 +96,7 @@ turned-as : (k : Call) {m b e : List ℕ} (z : Memory) (f : Memory → Memory) (
     → f (queued (t .queue) z) .ringEnd ≡ see m .ringEnd → Lent m b → Wired k
     → call k (shown m b) ≡ does 0 (t .written) (told (nameOf b) h (f (queued (t .queue) z)))
     → Turns e 0 t z n len o → Now v (f (see n)) → Holds c (nameOf b) h
-    → Answers (call k (shown m b)) (see m .ringEnd) e (Done 0 len 0) v c o
+    → Answers (call k (shown m b)) (see m .ringEnd) e (Done (unmoved len)) v c o
 turned-as k {m} {b} z f t h stays l wired g x y q =
     let is = y .is ∙ ap f (x .shows .is) in
     done-as k 0 (says (t .written) (told (nameOf b) h (f (queued (t .queue) z)))) {r = unmoved _} l wired g
@@ -103,6 +104,7 @@ turned-as k {m} {b} z f t h stays l wired g x y q =
       whole = record { words = y .form; bytes = q .stored };
       splicer = λ i. told (q .name i) (q .kept i) (is i);
       ring = ap (λ (s : Memory). s .ringEnd) is ∙ stays;
+      consumed = refl;
       tells = x .tells;
       moved = refl;
     })
@@ -154,7 +156,7 @@ module _ {m b : List ℕ} (c : ℕ) (l : Lent m b) where
     open-twice f = refused-as (openCall c (shown m b)) AlreadyOpen l (open-again c (shown m b) low (ap isOpen (sym is) ∙ f))
 
     pub open-done : {v : List ℕ} → isOpen a ≡ false → Now v (linked c Opened (see m))
-        → Answers (openCall c (shown m b)) (see m .ringEnd) [] (Done 0 0 0) v b []
+        → Answers (openCall c (shown m b)) (see m .ringEnd) [] (Done (unmoved 0)) v b []
     unfolding call output
     open-done f n =
         done-as (opens c) 0 (says [] (withLink c Opened (shown m b))) {r = unmoved 0} l tt
@@ -163,6 +165,7 @@ module _ {m b : List ℕ} (c : ℕ) (l : Lent m b) where
           whole = record { words = n .form; bytes = l .whole .bytes };
           splicer = ap (told (nameOf b) (keptOf b)) (n .is);
           ring = ap (λ (s : Memory). s .ringEnd) (n .is);
+          consumed = refl;
           tells = record { count = refl; bytes = sym (written-none [] 0) };
           moved = refl;
         })
@@ -277,8 +280,8 @@ brief false p q h k = k
 
 module _ {m b e : List ℕ} (c : ℕ) (l : Lent m b) (good : Good ≡ openTest c (length e) (see m .links)) where
   pub close-done : {n v p o : List ℕ} {len : ℕ} → Turns e 0 (closedBy c (see m .queue)) (see m) n len o → Now v (linked c Closed (see n))
-      → Holds p (nameOf b) (set (keptOf b) c noHardware) → Answers (closeCall c (length e) (shown m b)) (see m .ringEnd) e (Done 0 len 0) v
-      p o
+      → Holds p (nameOf b) (set (keptOf b) c noHardware) → Answers (closeCall c (length e) (shown m b)) (see m .ringEnd) e
+      (Done (unmoved len)) v p o
   unfolding closeCall call
   close-done =
       turned-as (closes c (length e)) (see m) (linked c Closed) (closedBy c (see m .queue)) (set (keptOf b) c noHardware) refl l tt
@@ -301,12 +304,11 @@ module _ {m b e : List ℕ} (c : ℕ) (l : Lent m b) (good : Good ≡ openTest c
           (message-framed c (length e) (shown m b) d p q good (Unframed n) (both-short p q (length e) h k) (sym i ∙ u))
 
       -- y: the data that was handed on; x: the section that was chosen, where n have started
-      pub message-done : {v w o y x : List ℕ} (id size n : ℕ) {r : Given} {f : Framing} → All Byte d × All Byte p × All Byte q
-          → f ≡ framing d
+      pub message-done : {v w o y x : List ℕ} (id size n : ℕ) {r : Did} {f : Framing} → All Byte d × All Byte p × All Byte q → f ≡ framing d
           → f ≡ Framed id size → y ≡ dataOf size d → n ≡ length (see m .queue .started) → x ≡ cond (eqb n 0) p q
           → Gives (answer c id y x (shown m b)) (see m .ringEnd) e r v w o
-          → Answers (messageCall c d (lendingMaps p q (length e)) (shown m b)) (see m .ringEnd) e (Done (8 + size) (r .len) (r .moved)) v w
-          o
+          → Answers (messageCall c d (lendingMaps p q (length e)) (shown m b)) (see m .ringEnd) e
+          (Done (record { consumed = 8 + size; written = r .written; moved = r .moved })) v w o
       unfolding handled call
       message-done {y = y} {x = x} id size n a i u z t t′ g =
           let s = shown m b in
@@ -340,7 +342,7 @@ module _ {m b e : List ℕ} (until : ℕ) (l : Lent m b) where
 
   pub move-done : {n v o : List ℕ} {len : ℕ} → until < horizon → 4096 ≤ length e → see m .clock ≤ until
       → Ticked until (see m) e len n o → Now v (timed until (see n))
-      → Answers (moveCall until (length e) (shown m b)) (see m .ringEnd) e (Done 0 len 0) v b o
+      → Answers (moveCall until (length e) (shown m b)) (see m .ringEnd) e (Done (unmoved len)) v b o
   unfolding call ticked
   move-done low h i x y =
       turned-as (moves until (length e)) (silenced (silentAll (see m .clock) until (see m .queue)) (see m)) (timed until)
@@ -421,9 +423,9 @@ module _ {m b e : List ℕ} (x : List ℕ) (pts seconds micros : ℕ) (l : Lent 
 
   pub cue-done : {o : List ℕ} {len : ℕ} → All Byte x → 4096 ≤ length e → micros ≤ 999999 → badSection x ≡ false
       → Tells e 0 (cueRecords (readCue x) (cueTime pts seconds micros (readCue x)) x (initialisedOnes (see m .links))) len o
-      → Answers (cueCall x pts seconds micros (length e) (shown m b)) (see m .ringEnd) e (Done 0 len 0) m b o
+      → Answers (cueCall x pts seconds micros (length e) (shown m b)) (see m .ringEnd) e (Done (unmoved len)) m b o
   unfolding call
   cue-done y h i g t =
       done-as (cues x pts seconds micros (length e)) 0 (says _ (shown m b)) {r = unmoved _} l y
       (cue-good x pts seconds micros (length e) (shown m b) h i g)
-      (record { whole = l .whole; splicer = refl; ring = refl; tells = t; moved = refl })
+      (record { whole = l .whole; splicer = refl; ring = refl; consumed = refl; tells = t; moved = refl })

@@ -1,7 +1,7 @@
 -- What each call may rely on, and what it promises.
 use mathlib.Core.Path.{_≡_}
 use mathlib.Core.Bool.{cond, not}
-use mathlib.Core.List.{List}
+use mathlib.Core.List.{List, [], _∷_}
 use Prim.Native.Nat.{ℕ}
 use lib.ListN.{length, getD}
 use Rattle.rules.specs.declared.Link.{Link}
@@ -10,7 +10,7 @@ use Rattle.rules.specs.declared.Refusal.the-variants.{NoConnection, NoRoom, Not
 use Rattle.rules.specs.Records.{output}
 use Rattle.rules.specs.State.{Splicer, isOpen}
 use Rattle.rules.specs.Answers.{airMux, airFeed}
-use Rattle.rules.specs.Calls.{Called, refused, good, noConnection, noRoom, bufferAfter}
+use Rattle.rules.specs.Calls.{Called, refused, good, houseNumber, noConnection, noRoom, bufferAfter}
 use Rattle.rules.specs.Calls as calls
 use Rattle.rules.specs.Sound.{Reached}
 use Rattle.memory.specs.Memory.{see, shifted, Whole, shown, tallied}
@@ -27,7 +27,12 @@ pub record Lent (m b : List ℕ) : Type 0 where
 -- an answer of document 01 as the code has it: the refusal, or the bytes consumed and written; 02, CR 11: and the places shifted
 unfoldable pub answerOf : calls.Answer → (moved : ℕ) → Answer
 answerOf (refused n) moved = Refused n
-answerOf (good consumed rs) moved = Done consumed (length (output rs)) moved
+answerOf (good consumed rs) moved = Done (record { consumed = consumed; written = length (output rs); moved = moved })
+
+-- "A refusal returns its number": its house number, or 0 and the bytes consumed and written; 02, CR 11: and the places shifted
+unfoldable pub replyOf : Answer → List ℕ
+replyOf (Refused n) = houseNumber n ∷ 0 ∷ 0 ∷ 0 ∷ []
+replyOf (Done did) = 0 ∷ did .consumed ∷ did .written ∷ did .moved ∷ []
 
 -- what a call promises: the memory m and b shows the splicer after the call, the answer is the call's, and so is the whole
 -- content o of the output buffer, which held e; the ring, which ended at the place `at`, has moved on with an acceptance alone

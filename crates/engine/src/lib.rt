@@ -4,6 +4,7 @@ use memory::BYTES;
 use memory::WORDS;
 use memory::Which;
 use relay::Anchor;
+use reply::Did;
 use rules::Framing;
 use rules::Link;
 use rules::Ninths;
@@ -13,18 +14,18 @@ ghost use mathlib.Core.List.{[]};
 ghost use Prim.Native.Nat.{_<_};
 ghost use Rattle.rules.specs.Lists.{All};
 ghost use Rattle.rules.specs.Bytes.{Byte, hasZero};
-ghost use Rattle.rules.specs.Calls.{houseNumber, fresh, openCall, closeCall, messageCall, moveCall, tickCall, lendingMaps, cueCall};
+ghost use Rattle.rules.specs.Calls.{fresh, openCall, closeCall, messageCall, moveCall, tickCall, lendingMaps, cueCall};
 ghost use Rattle.rules.specs.Sound.{horizon};
 ghost use Rattle.memory.specs.Memory.{Form, see};
-ghost use Rattle.engine.specs.Lent.{Lent, Answers, Makes, openTest, Counts, Primary, ReadsMux, ReadsFeed};
+ghost use Rattle.engine.specs.Lent.{Lent, replyOf, Answers, Makes, openTest, Counts, Primary, ReadsMux, ReadsFeed};
 
 // 02, CR 6, 10: "a lent section over 1,024 bytes".
 const SECTION: usize = 1024;
 
-// What a call answers: a refusal, or the bytes consumed, the bytes written, and how many places an acceptance shifted.
+// What a call answers: a refusal, or what it did.
 pub enum Answer {
     Refused(Refusal),
-    Done(usize, usize, usize),
+    Done(Did),
 }
 
 // Whether a call may go on to its work.
@@ -33,24 +34,14 @@ enum Tested {
     Bad(Refusal),
 }
 
-// The table of house numbers.
-pub fn house_number(n: Refusal) -> u8
-    ensures { λ r. ⌜ r ≡ houseNumber n ⌝ }
+// The reply's four words, for the doors: the house number of a refusal or 0, the bytes consumed and written, and how many places an
+// acceptance shifted.
+pub fn reply_of(a: Answer) -> [u64; 4]
+    ensures { λ r. ⌜ r ≡ replyOf a ⌝ }
 {
-    match n {
-        Refusal::NoConnection => 1,
-        Refusal::NoRoom => 2,
-        Refusal::ClockBack => 3,
-        Refusal::Oversize => 4,
-        Refusal::Short => 5,
-        Refusal::AlreadyOpen => 6,
-        Refusal::NotOpen => 7,
-        Refusal::BadMicros => 8,
-        Refusal::BadName => 9,
-        Refusal::Counter => 12,
-        Refusal::BadSection => 11,
-        Refusal::LongSection => 10,
-        Refusal::NotSixteen => 16,
+    match a {
+        Answer::Refused(n) => [reply::house_number(n) as u64, 0, 0, 0],
+        Answer::Done(did) => [0, did.consumed as u64, did.written as u64, did.moved as u64],
     }
 }
 
@@ -69,7 +60,11 @@ pub fn fresh(name: &[u8; 32], m: &mut [u64; WORDS], b: &mut [u8; BYTES]) -> Answ
     memory::clear(&mut *m);
     if is_ended(name) {
         memory::keep_name(&mut *b, name);
-        return Answer::Done(0, 0, 0);
+        return Answer::Done(Did {
+            consumed: 0,
+            written: 0,
+            moved: 0,
+        });
     }
     memory::clear_name(&mut *b);
     Answer::Refused(Refusal::BadName)
@@ -126,7 +121,11 @@ pub fn open(m: &mut [u64; WORDS], b: &mut [u8], conn: u32) -> Answer
         return Answer::Refused(Refusal::AlreadyOpen);
     };
     memory::set_link(&mut *m, conn, Link::Opened);
-    Answer::Done(0, 0, 0)
+    Answer::Done(Did {
+        consumed: 0,
+        written: 0,
+        moved: 0,
+    })
 }
 
 // 1, 2, 7: what close and message test before their work.
@@ -161,7 +160,11 @@ pub fn close(m: &mut [u64; WORDS], b: &mut [u8], conn: u32, out: &mut [u8]) -> A
     let len = ends::end_all_of(&mut *m, conn as u64, &mut *out);
     memory::set_link(&mut *m, conn, Link::Closed);
     memory::forget(&mut *b, conn);
-    Answer::Done(0, len, 0)
+    Answer::Done(Did {
+        consumed: 0,
+        written: len,
+        moved: 0,
+    })
 }
 
 // Message: 1, 2, 7, 10, then 5 (header), 4, 5 (body); then the answer. l: the bytes read so far; primary, insertion: the lent sections.
@@ -195,8 +198,12 @@ pub fn message<'a>(
             let d = reading::data_of(l, size as usize);
             let started = memory::count(&*m, Which::Started);
             let section = answers::map_on_air(primary, insertion, started);
-            let given = answers::answer(&mut *m, &mut *b, conn, id, d, section, &mut *out);
-            Answer::Done(8 + size as usize, given.len, given.moved)
+            let did = answers::answer(&mut *m, &mut *b, conn, id, d, section, &mut *out);
+            Answer::Done(Did {
+                consumed: 8 + size as usize,
+                written: did.written,
+                moved: did.moved,
+            })
         }
     }
 }
@@ -218,7 +225,11 @@ pub fn bring_to(m: &mut [u64; WORDS], b: &mut [u8], until: Ninths, out: &mut [u8
     }
     let len = instants::run(&mut *m, until, &mut *out);
     memory::set_clock(&mut *m, until);
-    Answer::Done(0, len, 0)
+    Answer::Done(Did {
+        consumed: 0,
+        written: len,
+        moved: 0,
+    })
 }
 
 // Tick: 2, 8, 3.
@@ -255,5 +266,9 @@ pub fn cue(m: &[u64; WORDS], b: &[u8], section: &[u8], at: Anchor, out: &mut [u8
         return Answer::Refused(Refusal::BadSection);
     }
     let len = relay::pass_on(m, section, at, &mut *out);
-    Answer::Done(0, len, 0)
+    Answer::Done(Did {
+        consumed: 0,
+        written: len,
+        moved: 0,
+    })
 }

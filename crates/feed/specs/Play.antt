@@ -60,12 +60,12 @@ pub record Plays (at : ℕ) (e : List ℕ) (g : Step) (r : Played) (m b o : List
 -- what is still to be written then: only a refusal's bytes, since a good call wrote its own
 unfoldable pub untold : Answer → List ℕ
 untold (Refused n) = told (refused n)
-untold (Done consumed len moved) = []
+untold (Done did) = []
 
 -- how much is written in all
 unfoldable pub toldLength : Answer → ℕ
 toldLength (Refused n) = length (told (refused n))
-toldLength (Done consumed len moved) = len
+toldLength (Done did) = did .written
 
 -- of the buffer e
 pub record Tells (a : Answer) (e : List ℕ) (len : ℕ) (o : List ℕ) : Type 0 where

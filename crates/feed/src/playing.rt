@@ -23,10 +23,10 @@ fn tell(a: Answer, out: &mut [u8]) -> usize
     match a {
         Answer::Refused(n) => {
             out[0] = 0x45;
-            out[1] = engine::house_number(n);
+            out[1] = reply::house_number(n);
             2
         }
-        Answer::Done(_, len, _) => len,
+        Answer::Done(did) => did.written,
     }
 }
 

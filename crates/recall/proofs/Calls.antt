@@ -19,7 +19,8 @@ use Rattle.recall_log.specs.declared.Reply.{Reply}
 use Rattle.recall_log.specs.declared.Reply.the-variants.{Full, Done}
 use Rattle.recall_log.specs.declared.Space.the-variants.{From, NoSpace}
 use Rattle.recall_log.specs.Log.{keptCalls, taken, full, otherLength}
-use Rattle.recall_log.specs.Kept.{Good, keptForm, replyOf, appended, cleared, logAfter, spaceIn, Behind}
+use Rattle.reply.specs.declared.Did.{Did}
+use Rattle.recall_log.specs.Kept.{Good, keptForm, replyOf, unmoved, appended, cleared, logAfter, spaceIn, Behind}
 use Rattle.recall_log.proofs.Logs.{place-behind, any-log}
 use Rattle.recall_log.proofs.Reply.{the-type}
 use Rattle.recall_rules.specs.Calls.{Pass, Called, openCall, closeCall, tickCall, call, begun, passed}
@@ -48,12 +49,12 @@ forgets-full l f =
     let g = sym (fresh-leaves l f) in
     record { reply = ap (λ (x : Recalled). x .told .reply) g; log = ap (λ (x : Recalled). x .log) g }
 
-fresh-clears : (l : List ℕ) → otherLength l ≡ false → recallFresh l
-    ≡ record { told = record { reply = Done 0 0 0; shows = [] }; log = cleared l }
+fresh-clears : (l : List ℕ) → otherLength l ≡ false → recallFresh l ≡ record
+    { told = record { reply = Done (unmoved 0); shows = [] }; log = cleared l }
 unfolding recallFresh
 fresh-clears l f = rw f
 
-pub forgets-all : {l n : List ℕ} → otherLength l ≡ false → n ≡ cleared l → Forgets l (Done 0 0 0) n
+pub forgets-all : {l n : List ℕ} → otherLength l ≡ false → n ≡ cleared l → Forgets l (Done (unmoved 0)) n
 forgets-all {l} {n} f e =
     let g = sym (fresh-clears l f) in
     record { reply = ap (λ (x : Recalled). x .told .reply) g; log = e ∙ ap (λ (x : Recalled). x .log) g }
@@ -68,7 +69,7 @@ forgets-same l a b = (a .reply ∙ sym (b .reply), a .log ∙ sym (b .log))
 
 -- ## Whether a call is kept
 
-is-kept : (k : Call) (a : Answer) (n : ℕ) (l : List ℕ) {x y z : ℕ} → replyOf a n ≡ Done x y z
+is-kept : (k : Call) (a : Answer) (n : ℕ) (l : List ℕ) {x : Did} → replyOf a n ≡ Done x
     → Good a × (logAfter k a l ≡ appended (keptForm k) l)
 unfolding replyOf logAfter
 is-kept k (refused m) n l e = let z : _≡_ {A = ℕ} 0 1 = cc in absurd (omega arith)
@@ -125,7 +126,7 @@ module _ (k : Call) (l : List ℕ) (b : All Byte l) (f : full l ≡ false) where
           (subst (λ (x : Reply). OneOf (0 ∷ 1 ∷ []) (tagOf the-type x)) told t))) i
 
       -- a good one is
-      module _ {x y z : ℕ} (d : r ≡ Done x y z) where
+      module _ {x : Did} (d : r ≡ Done x) where
         pub remembers-done : {n e o : List ℕ} → n ≡ appended (keptForm k) l → o ≡ bufferAfter (c .answer) e → Remembers k l e r n o
         remembers-done {n} h i = remembers (h ∙ sym (is-kept k (c .answer) (c .moved) l (sym told ∙ d) .1)) i
 
@@ -161,7 +162,7 @@ module _ (k : Call) (l : List ℕ) (b : All Byte l) (f : full l ≡ false) {h : 
   pub played-not : OneOf (0 ∷ 1 ∷ []) (tagOf the-type (q .reply)) → Remembers k l e (q .reply) l o
   played-not t = remembers-not k l b f played-made (y .reply) t (y .buffer)
 
-  module _ {x z w : ℕ} (d : q .reply ≡ Done x z w) where
+  module _ {x : Did} (d : q .reply ≡ Done x) where
     pub played-done : {n : List ℕ} → n ≡ appended (keptForm k) l → Remembers k l e (q .reply) n o
     played-done i = remembers-done k l b f played-made (y .reply) d i (y .buffer)
 

@@ -145,10 +145,11 @@ module _ (l : List ℕ) (b : All Byte l) (f : full l ≡ false) {h : Carried} {m
         → Tells e 0 (answer c id (dataOf size read) (sectionOf loans s) s .written) len o
         → moved ≡ answer c id (dataOf size read) (sectionOf loans s) s .moved
         → n ≡ appended (messages c (part 0 (8 + size) read) cardLoans) l
-        → Remembers k l e (Done (8 + size) len moved) n o
+        → Remembers k l e (Done (record { consumed = 8 + size; written = len; moved = moved })) n o
     unfolding handled replyOf logAfter bufferAfter writtenBy keptForm
     message-done {moved} {len} {n} {e} {o} t q x =
-        remembers k l b f (made g) (ap₂ (λ (i j : ℕ). Done (8 + size) i j) (omega (arith, t .count)) q)
+        remembers k l b f (made g) (ap₂ (λ (i j : ℕ). Done (record { consumed = 8 + size; written = i; moved = j }))
+        (omega (arith, t .count)) q)
         (x ∙ ap (λ (i : ℕ). appended (messages c (part 0 (8 + i) read) cardLoans) l) message-size) (t .bytes)
 
     pub message-within : (8 + size ≤ length read) × (size ≤ largestSize)
@@ -158,7 +159,7 @@ module _ (l : List ℕ) (b : All Byte l) (f : full l ≡ false) {h : Carried} {m
     pub message-whole : {y x e i j o n : List ℕ} {w : Heard} {len : ℕ} → y ≡ dataOf size read → x ≡ sectionOf loans s
         → HearsAny c id y h m e w j i
         → Finishes l h c x w i len o → n ≡ appended (messages c (part 0 (8 + size) read) cardLoans) l
-        → Remembers k l e (Done (8 + size) len (w .moved)) n o
+        → Remembers k l e (Done (record { consumed = 8 + size; written = len; moved = w .moved })) n o
     message-whole {y} {x} {e} {i} {j} {o} {n} {w} {len} z t a v q =
         let b = a (hardwares l h) x in
         let r : answer c id y x s ≡ answer c id (dataOf size read) (sectionOf loans s) s = ap₂ (λ (u v : List ℕ). answer c id u v s) z t in

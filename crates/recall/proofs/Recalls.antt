@@ -18,7 +18,7 @@ use Rattle.rules.specs.Sound.{Wired}
 use Rattle.rules.proofs.Tests.{by}
 use Rattle.recall_log.specs.declared.Reply.the-variants.{Refused, Done}
 use Rattle.recall_log.specs.Log.{keptCalls, taken, logLength, otherLength, full}
-use Rattle.recall_log.specs.Kept.{Its, keptForm, recorded, isGood, Neat, numberOf, replyOf, cleared, logAfter}
+use Rattle.recall_log.specs.Kept.{Its, keptForm, recorded, isGood, Neat, numberOf, replyOf, unmoved, cleared, logAfter}
 use Rattle.recall_log.proofs.Appends.{cleared-calls}
 use Rattle.recall_log.proofs.Logs.{same-length, taken-recorded}
 use Rattle.recall.specs.Recall.{begun, toldBy, thirteen, recallCall, recallFresh, recalls, logLeft, before13, None13, cardTells}
@@ -165,8 +165,11 @@ unfolding recallFresh numberOf
 thirteen-of-fresh l = go (otherLength l)
   where
     go : (b : Bool)
-        → eqb (numberOf (cond b (thirteen l) (record { told = record { reply = Done 0 0 0; shows = [] }; log = cleared l }) .told .reply))
-        13 ≡ b
+        → eqb (numberOf (cond b (thirteen l) (record {
+          told = record { reply = Done (unmoved 0); shows = [] };
+          log =
+              cleared l;
+        }) .told .reply)) 13 ≡ b
     go true = refl
     go false = refl
 

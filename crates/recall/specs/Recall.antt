@@ -13,7 +13,7 @@ use Rattle.rules.specs.Card.{cardName}
 use Rattle.recall_log.specs.declared.Reply.{Reply}
 use Rattle.recall_log.specs.declared.Reply.the-variants.{Full, Done}
 use Rattle.recall_log.specs.Log.{keptCalls, logLength, mostCalls, longestRecord, otherLength, full}
-use Rattle.recall_log.specs.Kept.{keptForm, recorded, isGood, replyOf, cleared, logAfter}
+use Rattle.recall_log.specs.Kept.{keptForm, recorded, isGood, replyOf, unmoved, cleared, logAfter}
 
 -- the splicer of a fresh card
 unfoldable pub begun : Splicer
@@ -47,7 +47,7 @@ recallCall k l =
 
 -- fresh: it forgets what is kept, so the length alone counts
 unfoldable pub recallFresh : List ℕ → Recalled
-recallFresh l = cond (otherLength l) (thirteen l) (record { told = record { reply = Done 0 0 0; shows = [] }; log = cleared l })
+recallFresh l = cond (otherLength l) (thirteen l) (record { told = record { reply = Done (unmoved 0); shows = [] }; log = cleared l })
 
 -- ## What a call promises
 

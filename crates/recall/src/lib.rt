@@ -6,8 +6,8 @@ use recall_log::Reply;
 use recall_log::Space;
 use recall_pass::Heard;
 use recall_pass::WORDS;
+use reply::Did;
 use rules::Framing;
-use rules::Refusal;
 ghost use mathlib.Core.Path.{_≡_};
 ghost use mathlib.Core.Bool.{cond};
 ghost use mathlib.Core.List.{[]};
@@ -15,7 +15,7 @@ ghost use Prim.Native.Nat.{_≤_};
 ghost use lib.Dec.{eqb};
 ghost use lib.ListN.{length};
 ghost use Rattle.rules.specs.Lists.{All};
-ghost use Rattle.rules.specs.Calls.{houseNumber, lendingMaps, longestSection, longSection, opens, closes, messages, ticks};
+ghost use Rattle.rules.specs.Calls.{lendingMaps, longestSection, longSection, opens, closes, messages, ticks};
 ghost use Rattle.rules.specs.Card.{cardRoom};
 ghost use Rattle.recall_answers.specs.Replies.{Placed};
 ghost use Rattle.recall.specs.Recall.{Remembers, Forgets};
@@ -23,27 +23,6 @@ ghost use Rattle.recall.specs.Finish.{Finishes};
 
 // 02, CR 6, 10: "a lent section over 1,024 bytes".
 const SECTION: usize = 1024;
-
-// The table of house numbers; 13 is no refusal of the rules.
-pub fn house_number(n: Refusal) -> u8
-    ensures { λ r. ⌜ r ≡ houseNumber n ⌝ }
-{
-    match n {
-        Refusal::NoConnection => 1,
-        Refusal::NoRoom => 2,
-        Refusal::ClockBack => 3,
-        Refusal::Oversize => 4,
-        Refusal::Short => 5,
-        Refusal::AlreadyOpen => 6,
-        Refusal::NotOpen => 7,
-        Refusal::BadMicros => 8,
-        Refusal::BadName => 9,
-        Refusal::Counter => 12,
-        Refusal::BadSection => 11,
-        Refusal::LongSection => 10,
-        Refusal::NotSixteen => 16,
-    }
-}
 
 // Fresh: no name, it is "CH1". It forgets what is kept, so the length alone counts.
 pub fn fresh(log: &mut [u8]) -> Reply
@@ -53,7 +32,11 @@ pub fn fresh(log: &mut [u8]) -> Reply
         return Reply::Full;
     }
     recall_log::clear(&mut *log);
-    Reply::Done(0, 0, 0)
+    Reply::Done(Did {
+        consumed: 0,
+        written: 0,
+        moved: 0,
+    })
 }
 
 // Open: 13, 1, 6.
@@ -68,7 +51,7 @@ pub fn open(log: &mut [u8], conn: u32) -> Reply
     let h = recall_pass::pass(&*log, &mut m);
     let p = recall_pass::open(h, conn);
     let reply = p.reply;
-    let Reply::Done(_, _, _) = reply else {
+    let Reply::Done(_) = reply else {
         return reply;
     };
     recall_log::keep_open(&mut *log, at, conn as u8);
@@ -89,7 +72,7 @@ pub fn close(log: &mut [u8], conn: u32, out: &mut [u8]) -> Reply
     let h = recall_pass::pass(&*log, &mut m);
     let p = recall_pass::close(&mut m, h, conn, &mut *out);
     let reply = p.reply;
-    let Reply::Done(_, _, _) = reply else {
+    let Reply::Done(_) = reply else {
         return reply;
     };
     recall_log::keep_close(&mut *log, at, conn as u8);
@@ -110,7 +93,7 @@ pub fn tick(log: &mut [u8], seconds: u32, micros: u32, out: &mut [u8]) -> Reply
     let h = recall_pass::pass(&*log, &mut m);
     let p = recall_pass::tick(&mut m, h, seconds, micros, &mut *out);
     let reply = p.reply;
-    let Reply::Done(_, _, _) = reply else {
+    let Reply::Done(_) = reply else {
         return reply;
     };
     recall_log::keep_tick(&mut *log, at, seconds, micros);
@@ -177,7 +160,11 @@ pub fn message<'a>(
             let g = recall_pass::hear(&mut m, h, conn, id, d, &mut *out);
             let len = finish(&*log, h, conn, section, g, &mut *out);
             recall_log::keep_message(&mut *log, at, conn as u8, l, size);
-            Reply::Done(8 + size as usize, len, g.moved)
+            Reply::Done(Did {
+                consumed: 8 + size as usize,
+                written: len,
+                moved: g.moved,
+            })
         }
     }
 }

@@ -11,6 +11,7 @@ use Rattle.rules.specs.Records.{output}
 use Rattle.rules.specs.Calls.{Answer, refused, good, houseNumber, Call, opens, closes, messages, ticks, moves, cues}
 use Rattle.rules.specs.Card.{cardRoom, cardLoans, openMark, closeMark, messageMark, tickMark, markEnd, tickEnd, messageEnd}
 use Rattle.rules.specs.Card.{Next, calls, ends, stops, next}
+pub use Rattle.reply.specs.Unmoved.{unmoved}
 use Rattle.recall_log.specs.declared.Record.{Record}
 use Rattle.recall_log.specs.declared.Record.the-variants.{Open, Close, Message, Tick, None}
 use Rattle.recall_log.specs.declared.Held.{Held}
@@ -92,12 +93,12 @@ isGood (good consumed rs) = true
 unfoldable pub numberOf : Reply → ℕ
 numberOf Full = 13
 numberOf (Refused n) = houseNumber n
-numberOf (Done consumed len moved) = 0
+numberOf (Done did) = 0
 
 -- an answer of the rules
 unfoldable pub replyOf : Answer → (moved : ℕ) → Reply
 replyOf (refused n) moved = Refused n
-replyOf (good consumed rs) moved = Done consumed (length (output rs)) moved
+replyOf (good consumed rs) moved = Done (record { consumed = consumed; written = length (output rs); moved = moved })
 
 -- ## As the code has it
 

@@ -9,6 +9,7 @@ pub use keeping::keep_open;
 pub use keeping::keep_tick;
 pub use records::record_at;
 pub use records::span_of;
+use reply::Did;
 use rules::Refusal;
 ghost use mathlib.Core.Path.{_≡_};
 ghost use Rattle.recall_log.specs.Kept.{Counts, spaceIn};
@@ -43,11 +44,11 @@ pub enum Space {
     NoSpace,
 }
 
-// What this engine answers: 13, or the rules' refusal, or the bytes consumed, the bytes written and the places that an acceptance shifted.
+// What this engine answers: 13, or the rules' refusal, or what the call did.
 pub enum Reply {
     Full,
     Refused(Refusal),
-    Done(usize, usize, usize),
+    Done(Did),
 }
 
 // From call to call, up to the first byte that begins none.

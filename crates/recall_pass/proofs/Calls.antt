@@ -41,7 +41,7 @@ use Rattle.recall_instants.proofs.Running.{tick-room}
 use Rattle.recall_answers.specs.declared.Carried.{Carried}
 use Rattle.recall_answers.specs.Replies.{linkFor, passOf, hardwareAt, hardwares, Placed}
 use Rattle.recall_log.specs.declared.Reply.the-variants.{Refused, Done}
-use Rattle.recall_log.specs.Kept.{replyOf}
+use Rattle.recall_log.specs.Kept.{replyOf, unmoved}
 use Rattle.recall_pass.specs.declared.Played.{Played}
 use Rattle.recall_pass.specs.Passes.{rowsOf, passIn, relinked, replaced, Begins, Leads, Plays, framed}
 use Rattle.recall_pass.proofs.Rows.{map-set, all-set, rows-back, long-back, all-rows}
@@ -83,12 +83,13 @@ module _ (l : List ℕ) (h : Carried) (m : List ℕ) (f : Fits (h .rows) m) wher
 
 -- the records rs are written, and the pass is q after it
 pub plays-done : {l : List ℕ} {h : Carried} {c : Called} {e k o : List ℕ} {r : Carried} {len : ℕ} (rs : List Record) (q : Pass)
-    → c ≡ does 0 rs q → Leads l h (does 0 rs q) r k → Tells e 0 rs len o → Plays l h c e (record { carried = r; reply = Done 0 len 0 }) k o
+    → c ≡ does 0 rs q → Leads l h (does 0 rs q) r k → Tells e 0 rs len o
+    → Plays l h c e (record { carried = r; reply = Done (unmoved len) }) k o
 unfolding replyOf bufferAfter writtenBy
 plays-done {l} {h} {c} {e} {k} {o} {r} {len} rs q i g t =
     let n : len ≡ length (output rs) = omega (arith, t .count) in
-    subst (λ (x : Called). Plays l h x e (record { carried = r; reply = Done 0 len 0 }) k o) (sym i)
-    (record { leads = g; reply = ap (λ (j : ℕ). Done 0 j 0) n; buffer = t .bytes })
+    subst (λ (x : Called). Plays l h x e (record { carried = r; reply = Done (unmoved len) }) k o) (sym i)
+    (record { leads = g; reply = ap (λ (j : ℕ). Done (unmoved j)) n; buffer = t .bytes })
 
 -- ## Connections
 
@@ -140,10 +141,10 @@ module _ (c : ℕ) (h : Carried) (m e : List ℕ) (f : Fits (h .rows) m) (l : Li
     open-twice i g = refuses l h m f e AlreadyOpen g (open-again c (passIn l h m) low (ap isOpen same ∙ i))
 
     pub open-done : {r : Carried} → isOpen a ≡ false → r ≡ relinked c 1 h
-        → Plays l h (openCall c (passIn l h m)) e (record { carried = r; reply = Done 0 0 0 }) m e
+        → Plays l h (openCall c (passIn l h m)) e (record { carried = r; reply = Done (unmoved 0) }) m e
     unfolding linkFor
     open-done {r} i g =
-        subst (λ (x : Carried). Plays l h (openCall c (passIn l h m)) e (record { carried = x; reply = Done 0 0 0 }) m e) (sym g)
+        subst (λ (x : Carried). Plays l h (openCall c (passIn l h m)) e (record { carried = x; reply = Done (unmoved 0) }) m e) (sym g)
         (plays-done [] (withLink c Opened (passIn l h m)) (open-good c (passIn l h m) low (ap isOpen same ∙ i))
         (record { pass = linked-is (hardwares l h) h (rowsOf h m) c 1; fits = f; few = omega arith; placed = λ x. x })
         tells-none)
@@ -234,15 +235,15 @@ module _ (c : ℕ) (h : Carried) (m e : List ℕ) (f : Fits (h .rows) m) (l : Li
       pub shuts : {k o : List ℕ} {len : ℕ} {r : Carried} → isOpen a ≡ true → length k ≡ length (rowsOf h m)
           → Does (closedBy c) 0 (rowsOf h m) e len k o
           → r ≡ replaced c 0 (relinked c 0 h)
-          → Plays l h (closeCall c (length e) (passIn l h m)) e (record { carried = r; reply = Done 0 len 0 })
+          → Plays l h (closeCall c (length e) (passIn l h m)) e (record { carried = r; reply = Done (unmoved len) })
           (k ++ drop (h .rows * width) m) o
       unfolding linkFor hardwareAt
       shuts {k} {o} {len} {r} i z d g =
           let t = closedBy c (all (rowsOf h m)) in
           let x = k ++ drop (h .rows * width) m in
           let v : all (take (h .rows * width) x) ≡ t .verdicts = ap all (rows-back (h .rows) m k f z) ∙ d .holds in
-          subst (λ (y : Carried). Plays l h (closeCall c (length e) (passIn l h m)) e (record { carried = y; reply = Done 0 len 0 }) x o)
-          (sym g)
+          subst (λ (y : Carried). Plays l h (closeCall c (length e) (passIn l h m)) e (record { carried = y; reply = Done (unmoved len) }) x
+          o) (sym g)
           (plays-done (t .written) (shut c (withVerdicts (t .verdicts) (passIn l h m)))
           (close-good c (length e) (passIn l h m) low roomy (ap isOpen (link-is (hardwares l h) h (rowsOf h m) c is) ∙ i))
           (record {
@@ -309,7 +310,7 @@ module _ (seconds micros : ℕ) (h : Carried) (m e : List ℕ) (f : Fits (h .row
       pub ticks-done : {k o : List ℕ} {len : ℕ} → h .clock .0 ≤ until .0 → length k ≡ length (rowsOf h m)
           → Does (runAll (h .clock .0) (until .0)) 0 (rowsOf h m) e len k o
           → Plays l h (tickCall seconds micros (length e) (passIn l h m)) e
-          (record { carried = record { clock = until; links = h .links; places = h .places; rows = h .rows }; reply = Done 0 len 0 })
+          (record { carried = record { clock = until; links = h .links; places = h .places; rows = h .rows }; reply = Done (unmoved len) })
           (k ++ drop (h .rows * width) m) o
       ticks-done {k} {o} {len} i z d =
           let t = runAll (h .clock .0) (until .0) (all (rowsOf h m)) in

@@ -8,6 +8,7 @@ use recall_log::Reply;
 use recall_rows::WIDTH;
 use recall_rules::Phase;
 use recall_rules::Verdict;
+use reply::Did;
 use rules::Framing;
 use rules::Link;
 use rules::Ninths;
@@ -101,7 +102,11 @@ pub fn open(h: Carried, conn: u32) -> Played
     };
     Played {
         carried: linked(h, conn, 1),
-        reply: Reply::Done(0, 0, 0),
+        reply: Reply::Done(Did {
+            consumed: 0,
+            written: 0,
+            moved: 0,
+        }),
     }
 }
 
@@ -146,7 +151,11 @@ pub fn close(m: &mut [u64], h: Carried, conn: u32, out: &mut [u8]) -> Played
     let len = recall_ends::close(&mut m[..end], conn as u64, &mut *out, 0);
     Played {
         carried: placed(linked(h, conn, 0), conn, 0),
-        reply: Reply::Done(0, len, 0),
+        reply: Reply::Done(Did {
+            consumed: 0,
+            written: len,
+            moved: 0,
+        }),
     }
 }
 
@@ -174,7 +183,11 @@ pub fn tick(m: &mut [u64], h: Carried, seconds: u32, micros: u32, out: &mut [u8]
     next.clock = until;
     Played {
         carried: next,
-        reply: Reply::Done(0, len, 0),
+        reply: Reply::Done(Did {
+            consumed: 0,
+            written: len,
+            moved: 0,
+        }),
     }
 }
 

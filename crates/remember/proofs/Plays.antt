@@ -19,6 +19,7 @@ use Rattle.rules.proofs.Values.{field-one}
 use Rattle.rules.proofs.Written.{written-none, length-written}
 use Rattle.recall_log.specs.declared.Record.{Record}
 use Rattle.recall_log.specs.declared.Record.the-variants.{Open, Close, Message, Tick, None}
+use Rattle.reply.specs.declared.Did.{Did}
 use Rattle.recall_log.specs.declared.Reply.{Reply}
 use Rattle.recall_log.specs.declared.Reply.the-variants.{Full, Refused, Done}
 use Rattle.recall_log.specs.Log.{keptCalls, full}
@@ -40,7 +41,7 @@ unfolding said saidLength numberOf told written
 says-refused {r} {n} e x f g h = record { count = rw f; bytes = rw (f, g) (sets-eq (said (Refused n) []) e 0 h) }
 
 -- what a good call wrote stands there already
-pub says-done : {r : Reply} {consumed len moved : ℕ} (e : List ℕ) → r ≡ Done consumed len moved → Says r e len e
+pub says-done : {r : Reply} {did : Did} (e : List ℕ) → r ≡ Done did → Says r e (did .written) e
 unfolding said saidLength
 says-done e f = record { count = rw f; bytes = rw f (sym (written-none e 0)) }
 

@@ -32,12 +32,12 @@ callFor l = madeOf (recordIn l) l
 unfoldable pub said : Reply → (shows : List ℕ) → List ℕ
 said Full shows = 0x45 ∷ numberOf Full ∷ []
 said (Refused n) shows = told (refused n)
-said (Done consumed len moved) shows = shows
+said (Done did) shows = shows
 
 unfoldable pub saidLength : Reply → ℕ
 saidLength Full = 2
 saidLength (Refused n) = 2
-saidLength (Done consumed len moved) = len
+saidLength (Done did) = did .written
 
 -- behind the call, whose own output stands in the buffer e: only a refusal's bytes are still to be written
 pub record Says (r : Reply) (e : List ℕ) (len : ℕ) (o : List ℕ) : Type 0 where

@@ -38,10 +38,10 @@ fn say(r: Reply, out: &mut [u8]) -> usize
         }
         Reply::Refused(n) => {
             out[0] = 0x45;
-            out[1] = recall::house_number(n);
+            out[1] = reply::house_number(n);
             2
         }
-        Reply::Done(_, len, _) => len,
+        Reply::Done(did) => did.written,
     }
 }
 

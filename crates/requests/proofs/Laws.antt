@@ -47,14 +47,14 @@ use Rattle.checks.specs.declared.Where.{Where}
 use Rattle.checks.specs.declared.Where.the-variants.{In}
 use Rattle.checks.specs.Found.{startIn, whereIn}
 use Rattle.checks.proofs.Laws.{HeldAt, held-at, held-alone, start-known, taken-at, free-at, taken-within, result-none}
+use Rattle.reply.specs.declared.Did.{Did}
 use Rattle.writing.specs.Puts.{Puts}
 use Rattle.requests.specs.declared.Way.{Way}
-use Rattle.requests.specs.declared.Given.{Given}
 use Rattle.requests.specs.Made.{MadeWay, Splices}
 
 -- one that shifted no place
-abbrev unmoved : ℕ → Given
-unmoved len = record { len = len; moved = 0 }
+abbrev unmoved : ℕ → Did
+unmoved len = record { consumed = 0; written = len; moved = 0 }
 
 -- ## Way for a new session
 
@@ -139,13 +139,15 @@ pub accept-turns : (new : Session) {m e n o n′ ys : List ℕ} {r : Way} {moves
     Now n′ (onward true (relisted Waiting (insertAt (r .at) new (sessions Waiting n)) (see n))) →
     moves ≡ length (sessions Waiting n) - r .at → length o ≡ length e → r .len ≤ length e →
     Puts (accepts new) (midOf (r .len) (length o - r .len) o) k ys →
-    Splices (grants new (see m .queue)) m e (record { len = r .len + k; moved = moves }) n′ (putMid (r .len) (length o - r .len) o ys)
+    Splices (grants new (see m .queue)) m e (record { consumed = 0; written = r .len + k; moved = moves }) n′
+    (putMid (r .len) (length o - r .len) o ys)
 unfolding accepted andThen inserted later
 accept-turns new {m} {e} {n} {o} {n′} {ys} {r} a j v c l h b =
     let t = new .start .0 in
     let put : (i : ℕ) → Memory → Memory = λ i s. onward true (relisted Waiting (insertAt i new (s .queue .waiting)) s) in
     let after : Memory → Memory = λ s. put (place (startsAfter t) (s .queue .waiting)) s in
     record {
+      consumed = refl;
       does =
           record {
             shows = record { form = v .form; is = v .is ∙ ap (λ (i : ℕ). put i (see n)) (a .goes) ∙ ap after (a .does .shows .is) };
@@ -218,7 +220,7 @@ module _ (c : ℕ) (r : Request) (m : List ℕ) {new : Session} {n : ℕ} (a : n
   answer-is = ap₂ (λ (k : ℕ) (s : Session). cond (eqb k 100) (grants s q) (declines c k r q)) result-is a
 
   module _ {e o : List ℕ} where
-    pub splice-accepted : {m′ : List ℕ} {g : Given} → n ≡ 100 → Splices (grants new q) m e g m′ o →
+    pub splice-accepted : {m′ : List ℕ} {g : Did} → n ≡ 100 → Splices (grants new q) m e g m′ o →
         Splices (answerSplice (see m .clock) c r q) m e g m′ o
     splice-accepted {m′} {g} h d = subst (λ (t : Spliced). Splices t m e g m′ o) answer-is (rw (eq-eqb n 100 h) d)
 
@@ -226,7 +228,7 @@ module _ (c : ℕ) (r : Request) (m : List ℕ) {new : Session} {n : ℕ} (a : n
         Splices (answerSplice (see m .clock) c r q) m e (unmoved len) m o
     splice-refused {len} h k b =
         subst (λ (t : Spliced). Splices t m e (unmoved len) m o) answer-is
-        (rw (ne-eqb n 100 h) (record { does = turns-first k b; moved = refl }))
+        (rw (ne-eqb n 100 h) (record { consumed = refl; does = turns-first k b; moved = refl }))
 
 -- b: its start is not known
 pub splice-unknown : (c : ℕ) (r : Request) (m : List ℕ) {e o : List ℕ} {len : ℕ} → startIn c (r .start) (see m .queue) ≡ Never →

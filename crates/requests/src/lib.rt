@@ -2,6 +2,7 @@
 use checks::Where;
 use memory::WORDS;
 use memory::Which;
+use reply::Did;
 use rules::Ninths;
 use rules::Request;
 use rules::Session;
@@ -18,12 +19,6 @@ ghost use Rattle.memory.specs.Memory.{Form, see, placesOf, Storable};
 ghost use Rattle.memory.specs.declared.Which.the-variants.{Waiting};
 ghost use Rattle.ends.specs.Does.{Does};
 ghost use Rattle.requests.specs.Made.{MadeWay, Splices};
-
-// What an answer gave: how far the output is written, and how many places an acceptance shifted.
-pub struct Given {
-    pub len: usize,
-    pub moved: usize,
-}
 
 // Where a new session goes, and how far the output is written.
 struct Way {
@@ -48,7 +43,7 @@ fn make_way(m: &mut [u64; WORDS], t: Ninths, at: usize, out: &mut [u8]) -> Way
 }
 
 // f. The new session waits, once the one that it evicts has ended; the 100 is written last.
-fn accept(m: &mut [u64; WORDS], new: Session, at: usize, out: &mut [u8]) -> Given
+fn accept(m: &mut [u64; WORDS], new: Session, at: usize, out: &mut [u8]) -> Did
     requires { ⌜ Form (now m) ⌝ }
     requires { ⌜ Holding (see (now m) .clock) (see (now m) .queue) ⌝ }
     requires { ⌜ at ≡ place (startsFrom (new .start .0)) (see (now m) .queue .waiting) ⌝ }
@@ -62,14 +57,15 @@ fn accept(m: &mut [u64; WORDS], new: Session, at: usize, out: &mut [u8]) -> Give
     let len = way.len;
     let moved = memory::accept(&mut *m, way.at, new);
     let to = len + writing::splice_response(&mut out[len..], new.conn, 100, new.id);
-    Given {
-        len: to,
+    Did {
+        consumed: 0,
+        written: to,
         moved: moved,
     }
 }
 
 // The answer to a Splice_Request.
-pub fn answer_splice(m: &mut [u64; WORDS], conn: u64, r: Request, out: &mut [u8]) -> Given
+pub fn answer_splice(m: &mut [u64; WORDS], conn: u64, r: Request, out: &mut [u8]) -> Did
     requires { ⌜ Form (now m) ⌝ }
     requires { ⌜ Holding (see (now m) .clock) (see (now m) .queue) ⌝ }
     requires { ⌜ see (now m) .clock < horizon ⌝ }
@@ -84,7 +80,11 @@ pub fn answer_splice(m: &mut [u64; WORDS], conn: u64, r: Request, out: &mut [u8]
     let when = checks::start_of(&*m, conn, start);
     let When::At(t) = when else {
         let len = writing::splice_response(&mut *out, conn, 121, r.id as u64);
-        return Given { len: len, moved: 0 };
+        return Did {
+            consumed: 0,
+            written: len,
+            moved: 0,
+        };
     };
     let new = checks::session_at(t, conn, r);
     let at = memory::find_start(&*m, t);
@@ -93,7 +93,11 @@ pub fn answer_splice(m: &mut [u64; WORDS], conn: u64, r: Request, out: &mut [u8]
         return accept(&mut *m, new, at, &mut *out);
     }
     let len = writing::splice_response(&mut *out, conn, n, r.id as u64);
-    Given { len: len, moved: 0 }
+    Did {
+        consumed: 0,
+        written: len,
+        moved: 0,
+    }
 }
 
 // The answer to an Abort_Request: 121, or 100, the session's end and its followers' ends. No number is held twice: one search finds it.

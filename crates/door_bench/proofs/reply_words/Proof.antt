@@ -15,8 +15,8 @@ enum-known-r c = search needs
 house-number-requires : tie.Need-house-number-requires
 house-number-requires c κs = search needs
 
-cast-t8 : tie.Need-cast-t8
-cast-t8 c = search needs
+cast-t6 : tie.Need-cast-t6
+cast-t6 c = search needs
 
 enum-known-r-2 : tie.Need-enum-known-r-2
 enum-known-r-2 c = search needs
@@ -39,7 +39,7 @@ reply-words-spec =
     enum-told
     enum-known-r
     house-number-requires
-    cast-t8
+    cast-t6
     enum-known-r-2
     returns
     returns-2

@@ -1,8 +1,8 @@
--- Each case is the table's.
+-- `house_number`: each case is the table's.
 use Rattle.rules.specs.Calls.{houseNumber}
 use borrow.Author.Needs.{needs}
-use Rattle.recall.proofs.house_number.Statement.{statement}
-use Rattle.recall.proofs.house_number.Tie as tie
+use Rattle.reply.proofs.house_number.Statement.{statement}
+use Rattle.reply.proofs.house_number.Tie as tie
 
 enum-told : tie.Need-enum-told
 enum-told c = search needs
