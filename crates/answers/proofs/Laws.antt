@@ -2,7 +2,7 @@
 -- Rests on ends' laws of what is told, on what memory shows, which determines every word, and on rules' laws of names and of records'
 -- lengths.
 use mathlib.Core.Path.{_≡_, refl, sym, ap, ap₂, subst, _∙_}
-use mathlib.Core.Bool.{Bool, true, false, cond, not}
+use mathlib.Core.Bool.{Bool, true, false, cond, not, _&&_, _||_}
 use mathlib.Core.List.{List, [], _∷_}
 use Prim.Native.Nat.{ℕ, _+_, _≤_, _<_}
 use native.Mathlib.Omega.{arith}
@@ -10,22 +10,27 @@ use lib.Dec.{eqb}
 use lib.ListN.{length, getD, set, drop, length-take, length-drop}
 use lib.Seq.{length-take-le, take-take}
 use borrow.Author.Tests.{eq-eqb, ne-eqb}
+use mathlib.Core.Logic.{inl, inr}
+use types.Run.{OneOf}
+use denote.Enum.Declared.{tagOf}
+use Rattle.rules.proofs.Link.{the-type}
 use Rattle.rules.specs.declared.Ninths.{Ninths}
 use Rattle.rules.specs.declared.Micros.{Micros}
 use Rattle.rules.specs.declared.Link.{Link}
-use Rattle.rules.specs.declared.Link.the-variants.{Initialised}
+use Rattle.rules.specs.declared.Link.the-variants.{Closed, Opened, Initialised}
 use Rattle.rules.specs.declared.Message.{Message}
 use Rattle.rules.specs.declared.Session.{Session}
 use Rattle.rules.specs.declared.Past.{Past}
 use Rattle.rules.specs.Units.{toMicros}
 use Rattle.rules.specs.Bytes.{nameIn, padded, sameName, value}
 use Rattle.rules.specs.Reading.{nobody, channelName, hardwarePlace, hardwareLength, hardwareIn, longestHardware, lengthIn, badInit, isRead}
-use Rattle.rules.specs.Reading.{read}
-use Rattle.rules.specs.State.{Queue, Splicer, empty, noHardware, linkOf, isKept, recent}
+use Rattle.rules.specs.Reading.{initRequest, read}
+use Rattle.rules.specs.State.{Queue, Splicer, empty, noHardware, linkOf, isInitialised, isKept, recent}
 use Rattle.rules.specs.Records.{Record, General, InitResponse, AliveResponse, ConfigResponse, ExtendedFound, ExtendedNone}
 use Rattle.rules.specs.Ends.{Turn}
 use Rattle.rules.specs.Answers.{Answered, Spliced, says, turns, splices, initResult, initialised, answerInit, airState, airID}
 use Rattle.rules.specs.Answers.{aliveResponse, configResponse, latest, extendedResponse, answerRead, answer}
+use Rattle.rules.proofs.Tests.{clash, or-none, and-both, both-and}
 use Rattle.rules.proofs.Bytes.{nameIn-twice}
 use Rattle.reading.proofs.Laws.{hardware-fits}
 use Rattle.memory.specs.Memory.{Memory, see, Now, linked, nameSize, nameBytes, nameOf, keptBytes, keptOf, Stored, Holds, Whole, shown}
@@ -35,7 +40,7 @@ use Rattle.writing.specs.Puts.{Puts}
 use Rattle.ends.proofs.Laws.{tells-none, tells-first}
 use Rattle.reply.specs.declared.Did.{Did}
 use Rattle.requests.specs.Made.{Splices}
-use Rattle.answers.specs.Gives.{Says, Gives, unmoved, barred}
+use Rattle.answers.specs.Gives.{Says, Gives, unmoved, barred, mute}
 
 -- ## The whole, from a part
 
@@ -211,6 +216,26 @@ reads s c id d section {at} {e} {r} {n} {b} {o} p q g = subst (λ (z : Message).
 bars : (s : Splicer) (c id : ℕ) {l : Link} {t v : Bool} → l ≡ linkOf c s → t ≡ barred l id → t ≡ v → barred (linkOf c s) id ≡ v
 bars s c id p q i = ap (λ (y : Link). barred y id) (sym p) ∙ sym q ∙ i
 
+-- one that the match leaves: Closed or Opened
+pub not-initialised : (l : Link) → OneOf (0 ∷ 1 ∷ []) (tagOf the-type l) → isInitialised l ≡ false
+not-initialised Closed h = refl
+not-initialised Opened h = refl
+not-initialised Initialised (inl e) = absurd (omega arith)
+not-initialised Initialised (inr e) = absurd (omega arith)
+
+unless : (a : Bool) → not a ≡ true → a ≡ false
+unless true e = sym e
+unless false e = refl
+
+-- one that is not barred, and has an answer
+unbarred : (a x y : Bool) → (a && (not x && y)) ≡ false → x ≡ false → (a && y) ≡ false
+unbarred a true y e f = absurd (clash true refl f)
+unbarred a false y e f = e
+
+open-to : (s : Splicer) (c id : ℕ) → barred (linkOf c s) id ≡ false → eqb id 0x0000 ≡ false
+    → (not (isInitialised (linkOf c s)) && not (eqb id initRequest)) ≡ false
+open-to s c id = unbarred (not (isInitialised (linkOf c s))) (eqb id 0x0000) (not (eqb id initRequest))
+
 -- of an answer from the memory m and b
 abbrev GivesOf : (m e : List ℕ) → Answered → Did → (n b o : List ℕ) → Type 0
 GivesOf m e a r n b o = Gives a (see m .ringEnd) e r n b o
@@ -220,42 +245,51 @@ module _ {m b : List ℕ} (w : Whole m b) (c id : ℕ) (d section : List ℕ) {e
       GivesOf m e (answer c id d section (shown m b)) r n p o
   by-answer a {r} {n} {p} {o} q g = subst (λ (y : Answered). GivesOf m e y r n p o) (sym q) g
 
-  -- "1. ID 0x0000: no answer."
-  pub first : id ≡ 0x0000 → GivesOf m e (answer c id d section (shown m b)) (unmoved 0) m b e
-  unfolding answer
-  first z = by-answer (says [] (shown m b)) (rw z) (silent w)
-
-  -- l: what the connection is; t: whether that bars the message
-  module _ (h : id ≡ 0x0000 → ⊥) {l : Link} {t : Bool} (p : l ≡ linkOf c (shown m b)) (q : t ≡ barred l id) where
+  -- l: what the connection is; t: whether that bars the message; u: whether it has no answer
+  module _ {l : Link} {t u : Bool} (p : l ≡ linkOf c (shown m b)) (q : t ≡ barred l id) (x : u ≡ mute id) where
     -- "2. Not initialised and not Init_Request: General_Response 103."
     pub second : t ≡ true → {to : ℕ} {o : List ℕ} → Says (General c 103) e to o
         → GivesOf m e (answer c id d section (shown m b)) (unmoved to) m b o
     unfolding answer
-    second i g = by-answer (says (General c 103 ∷ []) (shown m b)) (rw (ne-eqb id 0x0000 h, bars (shown m b) c id p q i)) (said w g)
+    second i g =
+        let f = and-both (not (isInitialised (linkOf c (shown m b)))) (not (eqb id 0x0000) && not (eqb id initRequest))
+        (bars (shown m b) c id p q i) in
+        let k = and-both (not (eqb id 0x0000)) (not (eqb id initRequest)) (f .1) in
+        by-answer (says (General c 103 ∷ []) (shown m b))
+        (rw (unless (eqb id 0x0000) (k .0), both-and (not (isInitialised (linkOf c (shown m b)))) (not (eqb id initRequest)) (f .0) (k .1)))
+        (said w g)
 
     module _ (i : t ≡ false) where
-      -- "3. ID 0x000D: no answer."
-      pub third : id ≡ 0x000D → GivesOf m e (answer c id d section (shown m b)) (unmoved 0) m b e
+      -- "1. ID 0x0000: no answer." "3. ID 0x000D: no answer."
+      pub third : u ≡ true → GivesOf m e (answer c id d section (shown m b)) (unmoved 0) m b e
       unfolding answer
-      third z = by-answer (says [] (shown m b)) (rw (ne-eqb id 0x0000 h, bars (shown m b) c id p q i, eq-eqb id 0x000D z)) (silent w)
+      third j = go (eqb id 0x0000) refl
+        where
+          go : (v : Bool) → eqb id 0x0000 ≡ v → GivesOf m e (answer c id d section (shown m b)) (unmoved 0) m b e
+          go true z = by-answer (says [] (shown m b)) (rw z) (silent w)
+          go false z =
+              let k : eqb id 0x000D ≡ true = ap (λ (v : Bool). v || eqb id 0x000D) (sym z) ∙ sym x ∙ j in
+              by-answer (says [] (shown m b)) (rw (z, open-to (shown m b) c id (bars (shown m b) c id p q i) z, k)) (silent w)
 
       -- v: whether it is in the list
-      module _ (j : id ≡ 0x000D → ⊥) {v : Bool} (r : v ≡ isRead id) {o : List ℕ} where
+      module _ (j : u ≡ false) {v : Bool} (r : v ≡ isRead id) {o : List ℕ} where
         -- "4. ID not in the list of four: General_Response 120."
         pub fourth : {to : ℕ} → not v ≡ true → Says (General c 120) e to o
             → GivesOf m e (answer c id d section (shown m b)) (unmoved to) m b o
         unfolding answer
         fourth k g =
+            let y = or-none (eqb id 0x0000) (eqb id 0x000D) (sym x ∙ j) in
             by-answer (says (General c 120 ∷ []) (shown m b))
-            (rw (ne-eqb id 0x0000 h, bars (shown m b) c id p q i, ne-eqb id 0x000D j, ← r, k)) (said w g)
+            (rw (y .0, open-to (shown m b) c id (bars (shown m b) c id p q i) (y .0), y .1, ← r, k)) (said w g)
 
         -- a message of the list
         pub fifth : {g : Did} {n p : List ℕ} → not v ≡ false → GivesOf m e (answerRead c (read id d) d section (shown m b)) g n p o →
             GivesOf m e (answer c id d section (shown m b)) g n p o
         unfolding answer
         fifth k g =
+            let y = or-none (eqb id 0x0000) (eqb id 0x000D) (sym x ∙ j) in
             by-answer (answerRead c (read id d) d section (shown m b))
-            (rw (ne-eqb id 0x0000 h, bars (shown m b) c id p q i, ne-eqb id 0x000D j, ← r, k)) g
+            (rw (y .0, open-to (shown m b) c id (bars (shown m b) c id p q i) (y .0), y .1, ← r, k)) g
 
 -- ## "any two results it allows are proved equal"
 

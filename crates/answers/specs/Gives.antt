@@ -1,6 +1,6 @@
 -- What an answer to a message gives.
 use mathlib.Core.Path.{_≡_}
-use mathlib.Core.Bool.{Bool, not, _&&_}
+use mathlib.Core.Bool.{Bool, not, _&&_, _||_}
 use mathlib.Core.List.{List, [], _∷_}
 use Prim.Native.Nat.{ℕ}
 use lib.Dec.{eqb}
@@ -28,6 +28,10 @@ pub record Gives (a : Answered) (at : ℕ) (e : List ℕ) (r : Did) (m b o : Lis
   pub tells : Tells e 0 (a .written) (r .written) o
   pub moved : r .moved ≡ a .moved
 
--- "2. Not initialised and not Init_Request"
+-- "2. Not initialised and not Init_Request", of an ID that has an answer at all (1)
 abbrev pub barred : Link → ℕ → Bool
-barred l id = not (isInitialised l) && not (eqb id initRequest)
+barred l id = not (isInitialised l) && (not (eqb id 0x0000) && not (eqb id initRequest))
+
+-- "1. ID 0x0000: no answer." "3. ID 0x000D: no answer."
+abbrev pub mute : ℕ → Bool
+mute id = eqb id 0x0000 || eqb id 0x000D

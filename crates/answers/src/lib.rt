@@ -5,9 +5,8 @@ use reply::Did;
 use rules::Link;
 use rules::Message;
 ghost use mathlib.Core.Path.{_≡_};
-ghost use mathlib.Core.Bool.{false, cond};
+ghost use mathlib.Core.Bool.{false};
 ghost use Prim.Native.Nat.{_≤_};
-ghost use lib.Dec.{eqb};
 ghost use lib.ListN.{length};
 ghost use Rattle.rules.specs.Bytes.{nameIn};
 ghost use Rattle.rules.specs.Reading.{badInit, «read»};
@@ -16,7 +15,13 @@ ghost use Rattle.rules.specs.Answers.{initResult, answerInit, aliveResponse, co
 ghost use Rattle.rules.specs.Calls.{longestSection};
 ghost use Rattle.rules.specs.Sound.{Sound};
 ghost use Rattle.memory.specs.Memory.{Form, Whole, see, shown};
-ghost use Rattle.answers.specs.Gives.{Gives, Says, unmoved, barred};
+ghost use Rattle.answers.specs.Gives.{Gives, Says, unmoved, barred, mute};
+
+// What came: the connection that sent it, and its MessageID.
+pub struct Sent {
+    pub conn: u32,
+    pub id: u16,
+}
 
 // Init: "Revision not 2 gives 102, another name 104, else 100".
 fn init_result(revision: u16, asked: &[u8], name: &[u8]) -> u16
@@ -91,17 +96,6 @@ fn answer_extended(m: &[u64], conn: u32, x: u32, out: &mut [u8]) -> usize
     )
 }
 
-// 02, CR 6: "the caller lends both sections .. and gets back the one on air, as part of what was lent": the very slice, by whether a
-// session has started.
-pub fn map_on_air<'a>(primary: &'a [u8], insertion: &'a [u8], started: usize) -> &'a [u8]
-    ensures { λ r. ⌜ r ≡ cond (eqb started 0) (primary .entry) (insertion .entry) ⌝ }
-{
-    if started == 0 {
-        return primary;
-    }
-    insertion
-}
-
 // GetConfig: the ChannelName, what the connection keeps and the section on air.
 fn answer_config(m: &[u64], b: &[u8], conn: u32, section: &[u8], out: &mut [u8]) -> usize
     requires { ⌜ Whole (now m) (now b) ⌝ }
@@ -127,67 +121,72 @@ fn general(conn: u32, result: u16, out: &mut [u8]) -> usize
 fn answer_read(
     m: &mut [u64; WORDS],
     b: &mut [u8],
-    conn: u32,
-    id: u16,
+    sent: Sent,
     d: &[u8],
     section: &[u8],
     out: &mut [u8],
 ) -> Did
     requires { ⌜ Whole (now m) (now b) ⌝ }
     requires { ⌜ Sound (shown (now m) (now b)) ⌝ }
-    requires { ⌜ conn ≤ 3 ⌝ }
+    requires { ⌜ sent .conn ≤ 3 ⌝ }
     requires { ⌜ length (now section) ≤ longestSection ⌝ }
     requires { ⌜ 4096 ≤ length (now out) ⌝ }
     ensures { λ r.
-        ⌜ Gives (answerRead conn («read» id (now (d .entry))) (now (d .entry)) (now (section .entry))
+        ⌜ Gives (answerRead (sent .conn) («read» (sent .id) (now (d .entry))) (now (d .entry)) (now (section .entry))
         (shown (now (m .entry)) (now (b .entry))))
         (see (now (m .entry)) .ringEnd) (now (out .entry)) r (now (m .exit)) (now (b .exit)) (now (out .exit)) ⌝ }
 {
-    let message = reading::read(id, d);
+    let message = reading::read(sent.id, d);
     match message {
         Message::Init(revision) => Did {
             consumed: 0,
-            written: answer_init(&mut *m, &mut *b, conn, revision, d, &mut *out),
+            written: answer_init(&mut *m, &mut *b, sent.conn, revision, d, &mut *out),
             moved: 0,
         },
         Message::Alive => Did {
             consumed: 0,
-            written: answer_alive(&*m, &*b, conn, &mut *out),
+            written: answer_alive(&*m, &*b, sent.conn, &mut *out),
             moved: 0,
         },
-        Message::Splice(r) => requests::answer_splice(&mut *m, conn as u64, r, &mut *out),
+        Message::Splice(r) => requests::answer_splice(&mut *m, sent.conn as u64, r, &mut *out),
         Message::Abort(x) => Did {
             consumed: 0,
-            written: requests::answer_abort(&mut *m, conn as u64, x as u64, &mut *out),
+            written: requests::answer_abort(&mut *m, sent.conn as u64, x as u64, &mut *out),
             moved: 0,
         },
         Message::Extended(x) => Did {
             consumed: 0,
-            written: answer_extended(&*m, conn, x, &mut *out),
+            written: answer_extended(&*m, sent.conn, x, &mut *out),
             moved: 0,
         },
         Message::Config => Did {
             consumed: 0,
-            written: answer_config(&*m, &*b, conn, section, &mut *out),
+            written: answer_config(&*m, &*b, sent.conn, section, &mut *out),
             moved: 0,
         },
         Message::Unreadable => Did {
             consumed: 0,
-            written: general(conn, 123, &mut *out),
+            written: general(sent.conn, 123, &mut *out),
             moved: 0,
         },
     }
 }
 
-// 2. Not initialised, and not Init_Request.
+// 2. Not initialised, and not Init_Request; nor 0x0000, which has no answer whoever sends it.
 fn is_barred(link: Link, id: u16) -> bool
     ensures { λ r. ⌜ r ≡ barred link id ⌝ }
 {
-    match link {
-        Link::Initialised => false,
-        Link::Opened => id != reading::INIT_REQUEST,
-        Link::Closed => id != reading::INIT_REQUEST,
+    if let Link::Initialised = link {
+        return false;
     }
+    id != 0x0000 && id != reading::INIT_REQUEST
+}
+
+// 1 and 3: no answer.
+fn is_mute(id: u16) -> bool
+    ensures { λ r. ⌜ r ≡ mute id ⌝ }
+{
+    id == 0x0000 || id == 0x000D
 }
 
 // "1. ID 0x0000: no answer. 2. Not initialised and not Init_Request: General_Response 103. 3. ID 0x000D: no answer.
@@ -195,49 +194,41 @@ fn is_barred(link: Link, id: u16) -> bool
 pub fn answer(
     m: &mut [u64; WORDS],
     b: &mut [u8],
-    conn: u32,
-    id: u16,
+    sent: Sent,
     d: &[u8],
     section: &[u8],
     out: &mut [u8],
 ) -> Did
     requires { ⌜ Whole (now m) (now b) ⌝ }
     requires { ⌜ Sound (shown (now m) (now b)) ⌝ }
-    requires { ⌜ conn ≤ 3 ⌝ }
+    requires { ⌜ sent .conn ≤ 3 ⌝ }
     requires { ⌜ length (now section) ≤ longestSection ⌝ }
     requires { ⌜ 4096 ≤ length (now out) ⌝ }
     ensures { λ r.
-        ⌜ Gives (answer conn id (now (d .entry)) (now (section .entry)) (shown (now (m .entry)) (now (b .entry))))
+        ⌜ Gives (answer (sent .conn) (sent .id) (now (d .entry)) (now (section .entry)) (shown (now (m .entry)) (now (b .entry))))
         (see (now (m .entry)) .ringEnd) (now (out .entry)) r (now (m .exit)) (now (b .exit)) (now (out .exit)) ⌝ }
 {
-    if id == 0x0000 {
+    let link = memory::link(&*m, sent.conn);
+    if is_barred(link, sent.id) {
+        return Did {
+            consumed: 0,
+            written: general(sent.conn, 103, &mut *out),
+            moved: 0,
+        };
+    }
+    if is_mute(sent.id) {
         return Did {
             consumed: 0,
             written: 0,
             moved: 0,
         };
     }
-    let link = memory::link(&*m, conn);
-    if is_barred(link, id) {
+    if !reading::is_read(sent.id) {
         return Did {
             consumed: 0,
-            written: general(conn, 103, &mut *out),
+            written: general(sent.conn, 120, &mut *out),
             moved: 0,
         };
     }
-    if id == 0x000D {
-        return Did {
-            consumed: 0,
-            written: 0,
-            moved: 0,
-        };
-    }
-    if !reading::is_read(id) {
-        return Did {
-            consumed: 0,
-            written: general(conn, 120, &mut *out),
-            moved: 0,
-        };
-    }
-    answer_read(&mut *m, &mut *b, conn, id, d, section, &mut *out)
+    answer_read(&mut *m, &mut *b, sent, d, section, &mut *out)
 }

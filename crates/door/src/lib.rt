@@ -81,15 +81,8 @@ pub extern "C" fn splicer_7_message<'a>(
         (now (words .entry)) (now (bytes .entry)) (now (out .entry))
         (now (reply .exit)) (now (words .exit)) (now (bytes .exit)) (now (out .exit)) ⌝ }
 {
-    let a = engine::message(
-        &mut *words,
-        &mut *bytes,
-        conn,
-        l,
-        primary,
-        insertion,
-        &mut *out,
-    );
+    let section = engine::map_on_air(&*words, primary, insertion);
+    let a = engine::message(&mut *words, &mut *bytes, conn, l, section, &mut *out);
     *reply = engine::reply_of(a);
 }
 

@@ -6,7 +6,7 @@ use mathlib.Core.List.{List, [], _∷_}
 use mathlib.Core.Logic.{inl, inr}
 use Prim.Native.Nat.{ℕ, _+_, _≤_, _<_}
 use native.Mathlib.Omega.{arith}
-use lib.Dec.{eqb}
+use lib.Dec.{eqb, ltb}
 use lib.ListN.{length, getD, set}
 use borrow.Author.Tests.{lt-ltb, le-ltb, ltb-false, ne-eqb}
 use types.Run.{OneOf}
@@ -243,25 +243,14 @@ module _ (c room : ℕ) (s : Splicer) (d p q : List ℕ) (e : Good ≡ openTest 
   message-framed f i j = message-past ∙ rw (i, j)
 
 -- 10: "a lent section over 1,024 bytes"
-module _ (p q : List ℕ) (room : ℕ) where
-  pub long-first : longestSection < length p → longSection (lendingMaps p q room) ≡ true
-  long-first h = rw (lt-ltb longestSection (length p) h)
+one-long : (p : List ℕ) (room : ℕ) (v : Bool) → ltb longestSection (length p) ≡ v → longSection (lendingMaps p p room) ≡ v
+one-long p room true e = rw e
+one-long p room false e = rw e
 
-  pub long-second : length p ≤ longestSection → longestSection < length q → longSection (lendingMaps p q room) ≡ true
-  long-second h k = rw (le-ltb longestSection (length p) h, lt-ltb longestSection (length q) k)
-
-  both-short : length p ≤ longestSection → length q ≤ longestSection → longSection (lendingMaps p q room) ≡ false
-  both-short h k = rw (le-ltb longestSection (length p) h, le-ltb longestSection (length q) k)
-
--- what `map_on_air` gives: one of the two lent, by how many have started
-pub chosen : {A B : Type 0} (f : A → B) (b : Bool) (x y : A) → f (cond b x y) ≡ cond b (f x) (f y)
-chosen f true x y = refl
-chosen f false x y = refl
-
-on-air : (k : List Session) (n : ℕ) (p q : List ℕ) → n ≡ length k → cond (eqb n 0) p q ≡ airMap k p q
+air-one : (k : List Session) (p : List ℕ) → airMap k p p ≡ p
 unfolding airFeed
-on-air [] n p q e = rw e
-on-air (s ∷ k) n p q e = rw (ne-eqb n 0 (λ z. omega (arith, z)))
+air-one [] p = refl
+air-one (x ∷ k) p = refl
 
 -- the read of the feed on air
 pub feed-none : (l : List Session) → length l ≡ 0 → 0 ≡ airFeed l
@@ -274,10 +263,6 @@ unfolding airFeed
 feed-some [] h = absurd (omega arith)
 feed-some (x ∷ l) h = refl
 
-pub brief : (b : Bool) (p q : List ℕ) → length p ≤ longestSection → length q ≤ longestSection → length (cond b p q) ≤ longestSection
-brief true p q h k = h
-brief false p q h k = k
-
 module _ {m b e : List ℕ} (c : ℕ) (l : Lent m b) (good : Good ≡ openTest c (length e) (see m .links)) where
   pub close-done : {n v p o : List ℕ} {len : ℕ} → Turns e 0 (closedBy c (see m .queue)) (see m) n len o → Now v (linked c Closed (see n))
       → Holds p (nameOf b) (set (keptOf b) c noHardware) → Answers (closeCall c (length e) (shown m b)) (see m .ringEnd) e
@@ -287,35 +272,34 @@ module _ {m b e : List ℕ} (c : ℕ) (l : Lent m b) (good : Good ≡ openTest c
       turned-as (closes c (length e)) (see m) (linked c Closed) (closedBy c (see m .queue)) (set (keptOf b) c noHardware) refl l tt
       (guarded-is c (length e) (shown m b) _ Good good)
 
-  -- d is what was read; p, q: the sections
-  module _ (d p q : List ℕ) where
-    pub message-section : longSection (lendingMaps p q (length e)) ≡ true
-        → Answers (messageCall c d (lendingMaps p q (length e)) (shown m b)) (see m .ringEnd) e (Refused LongSection) m b e
+  -- d is what was read; p: the one section that is handed on
+  module _ (d p : List ℕ) where
+    pub message-section : longestSection < length p
+        → Answers (messageCall c d (lendingMaps p p (length e)) (shown m b)) (see m .ringEnd) e (Refused LongSection) m b e
     message-section h =
-        refused-as (messageCall c d (lendingMaps p q (length e)) (shown m b)) LongSection l
-        (message-long c (length e) (shown m b) d p q good h)
+        refused-as (messageCall c d (lendingMaps p p (length e)) (shown m b)) LongSection l
+        (message-long c (length e) (shown m b) d p p good (one-long p (length e) true (lt-ltb longestSection (length p) h)))
 
-    module _ (h : length p ≤ longestSection) (k : length q ≤ longestSection) where
+    module _ (h : length p ≤ longestSection) where
       pub message-unframed : (n : Refusal) {f : Framing} → f ≡ framing d → f ≡ Unframed n
-          → Answers (messageCall c d (lendingMaps p q (length e)) (shown m b)) (see m .ringEnd) e (Refused n) m b e
+          → Answers (messageCall c d (lendingMaps p p (length e)) (shown m b)) (see m .ringEnd) e (Refused n) m b e
       unfolding handled
       message-unframed n i u =
-          refused-as (messageCall c d (lendingMaps p q (length e)) (shown m b)) n l
-          (message-framed c (length e) (shown m b) d p q good (Unframed n) (both-short p q (length e) h k) (sym i ∙ u))
+          refused-as (messageCall c d (lendingMaps p p (length e)) (shown m b)) n l
+          (message-framed c (length e) (shown m b) d p p good (Unframed n)
+          (one-long p (length e) false (le-ltb longestSection (length p) h)) (sym i ∙ u))
 
-      -- y: the data that was handed on; x: the section that was chosen, where n have started
-      pub message-done : {v w o y x : List ℕ} (id size n : ℕ) {r : Did} {f : Framing} → All Byte d × All Byte p × All Byte q → f ≡ framing d
-          → f ≡ Framed id size → y ≡ dataOf size d → n ≡ length (see m .queue .started) → x ≡ cond (eqb n 0) p q
-          → Gives (answer c id y x (shown m b)) (see m .ringEnd) e r v w o
-          → Answers (messageCall c d (lendingMaps p q (length e)) (shown m b)) (see m .ringEnd) e
+      -- y: the data that was handed on
+      pub message-done : {v w o y : List ℕ} (id size : ℕ) {r : Did} {f : Framing} → All Byte d × All Byte p → f ≡ framing d
+          → f ≡ Framed id size → y ≡ dataOf size d → Gives (answer c id y p (shown m b)) (see m .ringEnd) e r v w o
+          → Answers (messageCall c d (lendingMaps p p (length e)) (shown m b)) (see m .ringEnd) e
           (Done (record { consumed = 8 + size; written = r .written; moved = r .moved })) v w o
       unfolding handled call
-      message-done {y = y} {x = x} id size n a i u z t t′ g =
+      message-done {y = y} id size a i u z g =
           let s = shown m b in
-          let o : x ≡ airMap (s .queue .started) p q = t′ ∙ on-air (s .queue .started) n p q t in
-          let g′ = message-framed c (length e) s d p q good (Framed id size) (both-short p q (length e) h k) (sym i ∙ u)
-          ∙ ap₂ (λ k j. replies (8 + size) (answer c id k j s)) (sym z) (sym o) in
-          done-as (messages c d (lendingMaps p q (length e))) (8 + size) (answer c id y x s) l a g′ g
+          let g′ = message-framed c (length e) s d p p good (Framed id size) (one-long p (length e) false (le-ltb longestSection (length p) h))
+          (sym i ∙ u) ∙ ap₂ (λ k j. replies (8 + size) (answer c id k j s)) (sym z) (air-one (s .queue .started) p) in
+          done-as (messages c d (lendingMaps p p (length e))) (8 + size) (answer c id y p s) l (a .0, a .1, a .1) g′ g
 
 -- ## The clock brought to until
 

@@ -2,3 +2,4 @@ pub mod Calls
 pub mod Beginning
 pub mod Laws
 pub mod Held
+pub mod Maps

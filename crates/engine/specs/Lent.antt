@@ -3,6 +3,7 @@ use mathlib.Core.Path.{_≡_}
 use mathlib.Core.Bool.{cond, not}
 use mathlib.Core.List.{List, [], _∷_}
 use Prim.Native.Nat.{ℕ}
+use lib.Dec.{eqb, ltb}
 use lib.ListN.{length, getD}
 use Rattle.rules.specs.declared.Link.{Link}
 use Rattle.rules.specs.declared.Link.the-variants.{Closed}
@@ -10,7 +11,7 @@ use Rattle.rules.specs.declared.Refusal.the-variants.{NoConnection, NoRoom, Not
 use Rattle.rules.specs.Records.{output}
 use Rattle.rules.specs.State.{Splicer, isOpen}
 use Rattle.rules.specs.Answers.{airMux, airFeed}
-use Rattle.rules.specs.Calls.{Called, refused, good, houseNumber, noConnection, noRoom, bufferAfter}
+use Rattle.rules.specs.Calls.{Called, refused, good, houseNumber, noConnection, noRoom, longestSection, bufferAfter}
 use Rattle.rules.specs.Calls as calls
 use Rattle.rules.specs.Sound.{Reached}
 use Rattle.memory.specs.Memory.{see, shifted, Whole, shown, tallied}
@@ -46,6 +47,10 @@ pub record Answers (c : Called) (at : ℕ) (e : List ℕ) (r : Answer) (m b o : 
 -- the same of a call of the splicer that the memory m and b showed, lent the buffer e; n, c and o: the memory and the buffer after it
 abbrev pub Makes : (ℕ → Splicer → Called) → (m b e : List ℕ) → Answer → (n c o : List ℕ) → Type 0
 Makes k m b e r n c o = Answers (k (length e) (shown m b)) (see m .ringEnd) e r n c o
+
+-- 02, CR 6: of what is lent of two lengths, where n have started: a section over 1,024 bytes (10), or that of the feed on air
+abbrev pub needed : {A : Type 0} → (primary insertion n : ℕ) → A → A → A
+needed primary insertion n x y = cond (ltb longestSection primary) x (cond (ltb longestSection insertion) y (cond (eqb n 0) x y))
 
 -- "close 1, 2, 7; message 1, 2, 7": what the two test before their work, by the states of the connections
 unfoldable pub openTest : ℕ → ℕ → List Link → Tested

@@ -1,5 +1,6 @@
 // The calls of document 01 and the reads, over memory that the caller lends.
 // The splicer's words are in one piece and its bytes in a second.
+use answers::Sent;
 use memory::BYTES;
 use memory::WORDS;
 use memory::Which;
@@ -12,12 +13,13 @@ use rules::Refusal;
 ghost use mathlib.Core.Path.{_≡_};
 ghost use mathlib.Core.List.{[]};
 ghost use Prim.Native.Nat.{_<_};
+ghost use lib.ListN.{length};
 ghost use Rattle.rules.specs.Lists.{All};
 ghost use Rattle.rules.specs.Bytes.{Byte, hasZero};
 ghost use Rattle.rules.specs.Calls.{fresh, openCall, closeCall, messageCall, moveCall, tickCall, lendingMaps, cueCall};
 ghost use Rattle.rules.specs.Sound.{horizon};
 ghost use Rattle.memory.specs.Memory.{Form, see};
-ghost use Rattle.engine.specs.Lent.{Lent, replyOf, Answers, Makes, openTest, Counts, Primary, ReadsMux, ReadsFeed};
+ghost use Rattle.engine.specs.Lent.{Lent, replyOf, Answers, Makes, openTest, needed, Counts, Primary, ReadsMux, ReadsFeed};
 
 // 02, CR 6, 10: "a lent section over 1,024 bytes".
 const SECTION: usize = 1024;
@@ -167,38 +169,54 @@ pub fn close(m: &mut [u64; WORDS], b: &mut [u8], conn: u32, out: &mut [u8]) -> A
     })
 }
 
-// Message: 1, 2, 7, 10, then 5 (header), 4, 5 (body); then the answer. l: the bytes read so far; primary, insertion: the lent sections.
-pub fn message<'a>(
+// 02, CR 6: "the caller lends both sections .. and gets back the one on air, as part of what was lent": the very slice, by whether a
+// session has started; but of two of which one is too long that one, for 10. It is the only section that `message` needs.
+pub fn map_on_air<'a>(m: &[u64; WORDS], primary: &'a [u8], insertion: &'a [u8]) -> &'a [u8]
+    requires { ⌜ Form (now m) ⌝ }
+    ensures { λ r.
+        ⌜ r ≡ needed (length (now (primary .entry))) (length (now (insertion .entry))) (length (see (now (m .entry)) .queue .started))
+        (primary .entry) (insertion .entry) ⌝ }
+{
+    if SECTION < primary.len() {
+        return primary;
+    }
+    if SECTION < insertion.len() {
+        return insertion;
+    }
+    let started = memory::count(m, Which::Started);
+    if started == 0 {
+        return primary;
+    }
+    insertion
+}
+
+// Message: 1, 2, 7, 10, then 5 (header), 4, 5 (body); then the answer. l: the bytes read so far; section: what `map_on_air` gives.
+pub fn message(
     m: &mut [u64; WORDS],
     b: &mut [u8],
     conn: u32,
     l: &[u8],
-    primary: &'a [u8],
-    insertion: &'a [u8],
+    section: &[u8],
     out: &mut [u8],
 ) -> Answer
     requires { ⌜ Lent (now m) (now b) ⌝ }
     ensures { λ r.
-        ⌜ Makes (λ room. messageCall conn (now (l .entry)) (lendingMaps (now (primary .entry)) (now (insertion .entry)) room))
+        ⌜ Makes (λ room. messageCall conn (now (l .entry)) (lendingMaps (now (section .entry)) (now (section .entry)) room))
         (now (m .entry)) (now (b .entry)) (now (out .entry)) r (now (m .exit)) (now (b .exit)) (now (out .exit)) ⌝ }
 {
     let test = test_open(&*m, conn, out.len());
     if let Tested::Bad(n) = test {
         return Answer::Refused(n);
     }
-    if SECTION < primary.len() {
-        return Answer::Refused(Refusal::LongSection);
-    }
-    if SECTION < insertion.len() {
+    if SECTION < section.len() {
         return Answer::Refused(Refusal::LongSection);
     }
     match reading::frame(l) {
         Framing::Unframed(n) => Answer::Refused(n),
         Framing::Framed(id, size) => {
             let d = reading::data_of(l, size as usize);
-            let started = memory::count(&*m, Which::Started);
-            let section = answers::map_on_air(primary, insertion, started);
-            let did = answers::answer(&mut *m, &mut *b, conn, id, d, section, &mut *out);
+            let sent = Sent { conn: conn, id: id };
+            let did = answers::answer(&mut *m, &mut *b, sent, d, section, &mut *out);
             Answer::Done(Did {
                 consumed: 8 + size as usize,
                 written: did.written,

@@ -54,7 +54,7 @@ fn stopped(more: bool) -> Played
     }
 }
 
-// A message call: "The card program lends empty sections." Both are the one empty part.
+// A message call: "The card program lends empty sections." So the one on air is empty.
 fn message(m: &mut [u64; WORDS], b: &mut [u8], conn: u32, l: &[u8], out: &mut [u8]) -> Answer
     requires { ⌜ Lent (now m) (now b) ⌝ }
     ensures { λ r.
@@ -63,7 +63,7 @@ fn message(m: &mut [u64; WORDS], b: &mut [u8], conn: u32, l: &[u8], out: &mut [u
 {
     let none = [0u8; 1];
     let e = &none[..0];
-    engine::message(&mut *m, &mut *b, conn, l, e, e, &mut *out)
+    engine::message(&mut *m, &mut *b, conn, l, e, &mut *out)
 }
 
 // The call of a record that l begins with, and what the card program writes for it: more says whether the program goes on.

@@ -25,7 +25,7 @@ answer-init-requires c κs =
     let read = c .before .before .before .before .before .before .read in
     let message = c .before .before .before .before .message in
     let e = sym (read .ensures) ∙ message .given .1 in
-    (s .pre .0, (s .pre .1 .1 .0, (init-good (s .args .id) (s .args .d .now) _ e, omega (arith, s .pre .1 .1 .1 .1))))
+    (s .pre .0, (s .pre .1 .1 .0, (init-good (s .args .sent .id) (s .args .d .now) _ e, omega (arith, s .pre .1 .1 .1 .1))))
 
 enum-told : tie.Need-enum-told
 enum-told c = search needs
@@ -36,17 +36,20 @@ answer-alive-requires c κs = search needs
 enum-known-message-2 : tie.Need-enum-known-message-2
 enum-known-message-2 c = search needs
 
+cast-answer-splice : tie.Need-cast-answer-splice
+cast-answer-splice c = search needs
+
 answer-splice-requires : tie.Need-answer-splice-requires
 answer-splice-requires c κs =
     let c8 = c .before .before .before .before .before .before .before .before in
-    let shared-slice-known = c .before .before .before .before .before .before .before .before .shared-slice-known in
-    let s = c8 .before .before in
-    let read = c .before .before .before .before .before .read in
-    let message2 = c .before .before .before .message2 in
+    let shared-slice-known = c8 .before .shared-slice-known in
+    let s = c8 .before .before .before in
+    let read = c .before .before .before .before .before .before .read in
+    let message2 = c .before .before .before .before .message2 in
     let h = s .pre .1 .0 in
     let e = sym (read .ensures) ∙ message2 .given .1 in
     let a = all-at Byte 0 (s .args .d .now) (λ i. omega (arith, shared-slice-known .given i)) in
-    let asked = splice-grants (s .args .d .now) a (s .args .id) _ e in
+    let asked = splice-grants (s .args .d .now) a (s .args .sent .id) _ e in
     (s .pre .0 .words, (h .holding, (h .clock, (s .pre .1 .1 .0, (asked, s .pre .1 .1 .1 .1)))))
 
 enum-known-message-3 : tie.Need-enum-known-message-3
@@ -54,6 +57,9 @@ enum-known-message-3 c = search needs
 
 cast-answer-abort : tie.Need-cast-answer-abort
 cast-answer-abort c = search needs
+
+cast-answer-abort-2 : tie.Need-cast-answer-abort-2
+cast-answer-abort-2 c = search needs
 
 answer-abort-requires : tie.Need-answer-abort-requires
 answer-abort-requires c κs = search needs
@@ -91,7 +97,7 @@ returns c =
     let read = c8 .before .before .before .read in
     let message = c .before .before .before .before .before .before .before .before .before .message in
     let answer-init = c .before .before .before .before .answer-init in
-    reads (shown (s .args .m .now) (s .args .b .now)) (s .args .conn) (s .args .id) (s .args .d .now) (s .args .section .now)
+    reads (shown (s .args .m .now) (s .args .b .now)) (s .args .sent .conn) (s .args .sent .id) (s .args .d .now) (s .args .section .now)
     (read .ensures) (message .given .1)
     (answer-init .ensures)
 
@@ -109,7 +115,7 @@ returns-2 c =
     let read = c .before .before .before .before .before .before .before .before .before .read in
     let enum-told = c .before .before .before .before .before .before .before .enum-told in
     let answer-alive = c .before .before .answer-alive in
-    reads (shown (s .args .m .now) (s .args .b .now)) (s .args .conn) (s .args .id) (s .args .d .now) (s .args .section .now)
+    reads (shown (s .args .m .now) (s .args .b .now)) (s .args .sent .conn) (s .args .sent .id) (s .args .d .now) (s .args .section .now)
     (read .ensures) (enum-told .given .1)
     (said (s .pre .0) (answer-alive .ensures))
 
@@ -120,11 +126,11 @@ returns-3 : tie.Need-returns-3
 unfolding answerRead
 returns-3 c =
     let c8 = c .before .before .before .before .before .before .before .before in
-    let s = c8 .before .before .before .before .before in
-    let read = c .before .before .before .before .before .before .before .before .read in
-    let message2 = c .before .before .before .before .before .before .message2 in
+    let s = c8 .before .before .before .before .before .before in
+    let read = c .before .before .before .before .before .before .before .before .before .read in
+    let message2 = c .before .before .before .before .before .before .before .message2 in
     let answer-splice = c .before .before .answer-splice in
-    reads (shown (s .args .m .now) (s .args .b .now)) (s .args .conn) (s .args .id) (s .args .d .now) (s .args .section .now)
+    reads (shown (s .args .m .now) (s .args .b .now)) (s .args .sent .conn) (s .args .sent .id) (s .args .d .now) (s .args .section .now)
     (read .ensures) (message2 .given .1)
     (spliced (s .pre .0) (answer-splice .ensures))
 
@@ -135,11 +141,11 @@ returns-4 : tie.Need-returns-4
 unfolding answerRead
 returns-4 c =
     let c8 = c .before .before .before .before .before .before .before .before in
-    let s = c8 .before .before .before .before .before in
-    let read = c .before .before .before .before .before .before .before .before .read in
-    let message3 = c .before .before .before .before .before .before .message3 in
+    let s = c8 .before .before .before .before .before .before in
+    let read = c .before .before .before .before .before .before .before .before .before .read in
+    let message3 = c .before .before .before .before .before .before .before .message3 in
     let answer-abort = c .before .before .answer-abort in
-    reads (shown (s .args .m .now) (s .args .b .now)) (s .args .conn) (s .args .id) (s .args .d .now) (s .args .section .now)
+    reads (shown (s .args .m .now) (s .args .b .now)) (s .args .sent .conn) (s .args .sent .id) (s .args .d .now) (s .args .section .now)
     (read .ensures) (message3 .given .1)
     (turned (s .pre .0) (answer-abort .ensures))
 
@@ -154,7 +160,7 @@ returns-5 c =
     let read = c .before .before .before .before .before .before .before .before .before .read in
     let message4 = c .before .before .before .before .before .before .before .message4 in
     let answer-extended = c .before .before .answer-extended in
-    reads (shown (s .args .m .now) (s .args .b .now)) (s .args .conn) (s .args .id) (s .args .d .now) (s .args .section .now)
+    reads (shown (s .args .m .now) (s .args .b .now)) (s .args .sent .conn) (s .args .sent .id) (s .args .d .now) (s .args .section .now)
     (read .ensures) (message4 .given .1)
     (said (s .pre .0) (answer-extended .ensures))
 
@@ -172,7 +178,7 @@ returns-6 c =
     let read = c .before .before .before .before .before .before .before .before .before .read in
     let enum-told2 = c .before .before .before .before .before .before .before .enum-told2 in
     let answer-config = c .before .before .answer-config in
-    reads (shown (s .args .m .now) (s .args .b .now)) (s .args .conn) (s .args .id) (s .args .d .now) (s .args .section .now)
+    reads (shown (s .args .m .now) (s .args .b .now)) (s .args .sent .conn) (s .args .sent .id) (s .args .d .now) (s .args .section .now)
     (read .ensures) (enum-told2 .given .1)
     (said (s .pre .0) (answer-config .ensures))
 
@@ -187,7 +193,7 @@ returns-7 c =
     let read = c .before .before .before .before .before .before .read in
     let enum-told3 = c .before .before .before .before .enum-told3 in
     let general = c .before .before .general in
-    reads (shown (s .args .m .now) (s .args .b .now)) (s .args .conn) (s .args .id) (s .args .d .now) (s .args .section .now)
+    reads (shown (s .args .m .now) (s .args .b .now)) (s .args .sent .conn) (s .args .sent .id) (s .args .d .now) (s .args .section .now)
     (read .ensures) (enum-told3 .given .1)
     (said (s .pre .0) (general .ensures))
 
@@ -201,9 +207,11 @@ answer-read-spec =
     enum-told
     answer-alive-requires
     enum-known-message-2
+    cast-answer-splice
     answer-splice-requires
     enum-known-message-3
     cast-answer-abort
+    cast-answer-abort-2
     answer-abort-requires
     enum-known-message-4
     answer-extended-requires
