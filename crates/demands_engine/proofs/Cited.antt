@@ -107,7 +107,8 @@ module _ {M : Type 1} (𝓤 : URA M) (H : Heap 𝓤) (A : Atoms 𝓤) (mem : sto
   -- map_on_air(m, primary, insertion)
   module _ (κs : Lfts 2) (a : Args mapping.signature κs) (r : Res mapping.signature κs) (z : AtExit mapping.ended κs) where
     pub map-ensures : mapping.clauses 𝓤 H A mem run κs a .ensures tt r z
-        ≡ ⌜ r ≡ needed (length (now (a .1 .0))) (length (now (a .1 .1 .0))) (length (see (now (a .0)) .queue .started)) (a .1 .0) (a .1 .1 .0) ⌝
+        ≡ ⌜ r ≡ needed (length (now (a .1 .0))) (length (now (a .1 .1 .0))) (length (see (now (a .0)) .queue .started))
+        (a .1 .0) (a .1 .1 .0) ⌝
     map-ensures = refl
 
   -- tick(m, b, seconds, micros, out)
@@ -227,11 +228,13 @@ message-typed κs conn l pm e =
     )
 
 -- 02, CR 6: a message with both sections is, of any splicer, the one with what `map_on_air` gives of them
-pub message-of-both : (c : ℕ) (l p q e : List ℕ) (s : Splicer) {x : List ℕ}
-    → x ≡ needed (length p) (length q) (length (s .queue .started)) p q
-    → call (callOf (aMessage c l p q e)) s ≡ call (callOf (aMessage c l x x e)) s
+abbrev one : (p q : List ℕ) → Splicer → List ℕ
+one p q s = needed (length p) (length q) (length (s .queue .started)) p q
+
+pub message-of-both : (c : ℕ) (l p q e : List ℕ) (s : Splicer)
+    → call (callOf (aMessage c l p q e)) s ≡ call (callOf (aMessage c l (one p q s) (one p q s) e)) s
 unfolding call
-message-of-both c l p q e s f = one-map c (length e) l p q s f
+message-of-both c l p q e s = one-map c (length e) l p q s refl
 
 -- 02, CR 7: what is given with a section is a struct of a u64 and two u32
 pub cue-typed : (κs : Lfts 4) (section : RefT (List ℕ)) (pts seconds micros : ℕ) (e : List ℕ)

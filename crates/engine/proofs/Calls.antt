@@ -297,8 +297,9 @@ module _ {m b e : List ℕ} (c : ℕ) (l : Lent m b) (good : Good ≡ openTest c
       unfolding handled call
       message-done {y = y} id size a i u z g =
           let s = shown m b in
-          let g′ = message-framed c (length e) s d p p good (Framed id size) (one-long p (length e) false (le-ltb longestSection (length p) h))
-          (sym i ∙ u) ∙ ap₂ (λ k j. replies (8 + size) (answer c id k j s)) (sym z) (air-one (s .queue .started) p) in
+          let short = one-long p (length e) false (le-ltb longestSection (length p) h) in
+          let g′ = message-framed c (length e) s d p p good (Framed id size) short (sym i ∙ u)
+          ∙ ap₂ (λ k j. replies (8 + size) (answer c id k j s)) (sym z) (air-one (s .queue .started) p) in
           done-as (messages c d (lendingMaps p p (length e))) (8 + size) (answer c id y p s) l (a .0, a .1, a .1) g′ g
 
 -- ## The clock brought to until
