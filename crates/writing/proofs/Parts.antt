@@ -1,11 +1,11 @@
 -- Each record is its parts, in the order in which they are written.
 -- Rests on the definitions of the bytes alone: `bytes` at a given width computes.
 use mathlib.Core.Path.{_≡_, refl, sym, ap, _∙_}
-use mathlib.Core.List.{List, [], _∷_, _++_, append-assoc}
+use mathlib.Core.List.{List, [], _∷_, _++_, append-assoc, append-nil}
 use Prim.Native.Nat.{ℕ, _+_, _-_, _/_, _≤_, _<_}
 use native.Mathlib.Omega.{arith}
 use native.Mathlib.Numerals.{add-one}
-use lib.ListN.{length, take, set, getD, length-append}
+use lib.ListN.{length, take, set, getD, length-append, drop-of-length-le}
 use lib.Seq.{length-take-le, take-suc}
 use borrow.Rule.Slice.PartMut.{putMid, midOf}
 use Rattle.rules.specs.Bytes.{bytes, nameIn, padded, written}
@@ -15,6 +15,11 @@ use Rattle.rules.proofs.Bytes.{length-bytes}
 use Rattle.rules.proofs.Written.{written-set, written-more, written-next, length-written}
 use Rattle.writing.specs.Header.{headerOf}
 use Rattle.writing.specs.Puts.{Wrote}
+
+-- all bytes of a buffer written
+pub written-whole : (e l : List ℕ) → length l ≡ length e → written e 0 l ≡ l
+unfolding written
+written-whole e l h = ap (λ (x : List ℕ). l ++ x) (drop-of-length-le e {i = 0 + length l} (omega arith)) ∙ append-nil l
 
 pub header-parts : (c id n r : ℕ) → bytes 1 0x52 ++ bytes 1 c ++ bytes 2 id ++ bytes 2 n ++ bytes 2 r ++ bytes 2 0xFFFF ≡ headerOf c id n r
 unfolding headerOf bytes

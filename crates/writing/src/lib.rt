@@ -53,13 +53,14 @@ pub fn put4(out: &mut [u8], x: u64)
     out[3] = (y / 256 / 256 / 256 % 256) as u8;
 }
 
-// Seconds 4, MicroSeconds 4.
+// Seconds 4, MicroSeconds 4. One division gives both.
 fn put_time(out: &mut [u8], time: Micros)
     requires { ⌜ 8 ≤ length (now out) ⌝ }
     ensures { λ _. ⌜ now (out .exit) ≡ written (now (out .entry)) 0 (timeBytes (time .0)) ⌝ }
 {
-    put4(&mut *out, time.0 / 1000000);
-    put4(&mut out[4..], time.0 % 1000000);
+    let seconds = time.0 / 1000000;
+    put4(&mut *out, seconds);
+    put4(&mut out[4..], time.0 - seconds * 1000000);
 }
 
 // l at the start of out.
@@ -72,6 +73,18 @@ pub fn copy(out: &mut [u8], name: &[u8])
         out[i] = name[i];
         i += 1;
     }
+}
+
+// A name at the start of out, by way of an array of its own: what is read is then nothing that is written, so that its 32 bytes are moved
+// in two pieces. Bytes that may be out's are moved one by one.
+fn copy_name(out: &mut [u8], name: &[u8])
+    requires { ⌜ length (now name) ≡ 32 ⌝ }
+    requires { ⌜ 32 ≤ length (now out) ⌝ }
+    ensures { λ _. ⌜ now (out .exit) ≡ written (now (out .entry)) 0 (now (name .entry)) ⌝ }
+{
+    let mut own = [0u8; 32];
+    copy(&mut own, name);
+    copy(&mut *out, &own);
 }
 
 // The mark and the header of a record with `size` bytes of data; "in answers Result_Extension is 0xFFFF". How many bytes the record has.
@@ -117,7 +130,7 @@ pub fn init_response(out: &mut [u8], conn: u64, result: u16, name: &[u8]) -> usi
 {
     let len = header(&mut *out, conn, 0x0002, 34, result);
     put2(&mut out[10..], 2);
-    copy(&mut out[12..], name);
+    copy_name(&mut out[12..], name);
     len
 }
 

@@ -20,17 +20,17 @@ part-put2-end c = search needs
 put2-requires : tie.Need-put2-requires
 put2-requires c κs = search needs
 
-sub-copy : tie.Need-sub-copy
-sub-copy c = search needs
+sub-copy-name : tie.Need-sub-copy-name
+sub-copy-name c = search needs
 
-part-copy-start : tie.Need-part-copy-start
-part-copy-start c = search needs
+part-copy-name-start : tie.Need-part-copy-name-start
+part-copy-name-start c = search needs
 
-part-copy-end : tie.Need-part-copy-end
-part-copy-end c = search needs
+part-copy-name-end : tie.Need-part-copy-name-end
+part-copy-name-end c = search needs
 
-copy-requires : tie.Need-copy-requires
-copy-requires c κs = search needs
+copy-name-requires : tie.Need-copy-name-requires
+copy-name-requires c κs = search needs
 
 same-length : tie.Need-same-length
 same-length c = search needs
@@ -43,7 +43,7 @@ returns c =
     let s = p0 .before .before .before .before in
     let w0 = row-header (s .args .conn) 0x0002 34 (s .args .result) (p0 .header .ensures .0) in
     let w1 = row-bytes 2 2 w0 (p1 .put2 .ensures) (omega (arith, s .pre)) in
-    let w2 = row-next (s .args .name .now) (s .pre .1 .0) w1 (p2 .copy .ensures) (omega (arith, s .pre)) in
+    let w2 = row-next (s .args .name .now) (s .pre .1 .0) w1 (p2 .copy-name .ensures) (omega (arith, s .pre)) in
     row-wrote w2 (init-parts (s .args .conn) (s .args .result) (s .args .name .now) (s .pre .1 .0) (s .pre .1 .1)) (p0 .header .ensures .1)
     (s .pre .0)
 
@@ -56,9 +56,9 @@ init-response-spec =
     part-put2-start
     part-put2-end
     put2-requires
-    sub-copy
-    part-copy-start
-    part-copy-end
-    copy-requires
+    sub-copy-name
+    part-copy-name-start
+    part-copy-name-end
+    copy-name-requires
     same-length
     returns)
