@@ -42,6 +42,7 @@ pub fn fresh(
     ensures { λ r.
         ⌜ Rolls (rollingFresh (now (name .entry))) 0 [] r (now (m .exit)) (now (b .exit)) (now (counter .exit)) [] ⌝ }
 {
+    // called for its promise alone, that the name is bytes, which no array's type says; whether it has its zero the engine asks
     is_ended(name);
     let a = engine::fresh(name, &mut *m, &mut *b);
     *counter = [0, 0];
