@@ -31,7 +31,8 @@ returns c =
     let s = c8 .before .before in
     let first = c .before .before .before .before .before .before .copy in
     let second = c .before .before .copy2 in
-    second .ensures ∙ ap (λ (x : List ℕ). written (s .args .out .now) 0 x) (first .ensures ∙ written-whole _ (s .args .name .now) (omega (arith, s .pre)))
+    second .ensures ∙ ap (λ (x : List ℕ). written (s .args .out .now) 0 x)
+    (first .ensures ∙ written-whole _ (s .args .name .now) (omega (arith, s .pre)))
 
 pub copy-name-spec : {M : Type 1} → statement M
 copy-name-spec =
