@@ -3,7 +3,7 @@
 use mathlib.Core.Path.{_≡_, refl, sym, ap, subst, _∙_}
 use mathlib.Core.Bool.{Bool, true, false, not}
 use mathlib.Core.List.{List, [], _∷_, _++_, map, append-assoc, append-nil}
-use Prim.Native.Nat.{ℕ, suc, _+_, _≤_, _<_}
+use Prim.Native.Nat.{ℕ, zero, suc, _+_, _≤_, _<_}
 use native.Mathlib.Omega.{arith}
 use native.Mathlib.Numerals.{add-one}
 use lib.ListN.{length, take, drop, getD, drop-of-length-le}
@@ -27,7 +27,7 @@ use Rattle.memory.specs.declared.Which.{Which}
 use Rattle.memory.specs.declared.Which.the-variants.{Waiting, Started}
 use Rattle.memory.specs.Memory.{Memory, see, sessions, listOf, listed, queued, relisted, Form, Now}
 use Rattle.memory.proofs.Laws.{sessions-list}
-use Rattle.ends.specs.Does.{Playable, roomFor, Tells, Turns, Does, oneEnded, theirsEnded}
+use Rattle.ends.specs.Does.{Playable, roomFor, Tells, Turns, Does, oneEnded, thoseEnded, theirsEnded}
 use Rattle.ends.proofs.Laws.{tells-none, tells-then, brief}
 
 -- ## The records
@@ -119,7 +119,7 @@ module _ {p : Session → Bool} {air cover : Ending} {l : List Session} {e : Lis
         let r : endings air cover p l Past past ≡ v .gone = v .pasts ∙ rw (drop-of-length-le k {i = i} b) (append-nil (v .gone)) in
         v .kept ∙ ap (λ (z : List Past). rememberedAll z was) (sym r)
 
--- ## A connection's of a list: the loop of `end_waiting_of`
+-- ## Those of a list that pass a test: the loops of `end_waiting_of` and of `end_flagged`
 
 -- a list as long as before is without none
 omit-none : (p : Session → Bool) (l : List Session) → length l ≤ length (omit p l) → omit p l ≡ l
@@ -129,7 +129,7 @@ omit-none p (x ∷ l) h = go (p x) h (omit-none p l)
     go : (b : Bool) → suc (length l) ≤ length (put (not b) x (omit p l)) → (length l ≤ length (omit p l) → omit p l ≡ l)
         → put (not b) x (omit p l) ≡ x ∷ l
     go true k f = absurd (omega (arith, k, length-split p l))
-    go false k f = ap (λ (r : List Session). x ∷ r) (f (omega (arith, k)))
+    go false k f = ap (λ (u : List Session). x ∷ u) (f (omega (arith, k)))
 
 -- what ended is kept beside the lists
 list-late : (w : Which) (l : Lately) (q : Queue) → listOf w (withLately l q) ≡ listOf w q
@@ -145,18 +145,19 @@ listed-same Waiting q = refl
 listed-same Started q = refl
 
 -- of what the words showed at first: the words m show all as it was but for what ended; of the list the first i are passed, and `left` of
--- them are others'
-pub record Theirs (c : ℕ) (w : Which) (s : Memory) (e : List ℕ) (len : ℕ) (m : List ℕ) (i to left : ℕ) (o : List ℕ) : Type 0 where
+-- them do not pass
+pub record Theirs (p : Session → Bool) (r : ℕ) (w : Which) (s : Memory) (e : List ℕ) (len : ℕ) (m : List ℕ) (i to left : ℕ) (o : List ℕ) :
+    Type 0 where
   pub form : Form m
   pub is : see m ≡ queued (withLately (see m .queue .lately) (s .queue)) s
-  pub writes : Closing (of c) (Response 116) (Response 116) (listOf w (s .queue)) (drop i (listOf w (s .queue))) e len (Response 116) to o
+  pub writes : Closing p (Response r) (Response r) (listOf w (s .queue)) (drop i (listOf w (s .queue))) e len (Response r) to o
       (s .queue .lately) (see m .queue .lately)
   pub few : left ≤ i
-  pub rest : left + length (omit (of c) (drop i (listOf w (s .queue)))) ≡ length (omit (of c) (listOf w (s .queue)))
+  pub rest : left + length (omit p (drop i (listOf w (s .queue)))) ≡ length (omit p (listOf w (s .queue)))
 
-module _ {c : ℕ} {e : List ℕ} {len : ℕ} where
+module _ {p : Session → Bool} {r : ℕ} {e : List ℕ} {len : ℕ} where
   pub theirs-none : (w : Which) (m : List ℕ) → Form m → len + roomFor (length (sessions w m)) ≤ length e
-      → Theirs c w (see m) e len m 0 len 0 e
+      → Theirs p r w (see m) e len m 0 len 0 e
   theirs-none w m f h =
       record {
         form = f;
@@ -167,7 +168,7 @@ module _ {c : ℕ} {e : List ℕ} {len : ℕ} where
             omega arith;
       }
 
-  module _ (w : Which) {s : Memory} {m : List ℕ} {i to left : ℕ} {o : List ℕ} (v : Theirs c w s e len m i to left o) where
+  module _ (w : Which) {s : Memory} {m : List ℕ} {i to left : ℕ} {o : List ℕ} (v : Theirs p r w s e len m i to left o) where
     abbrev list : List Session
     list = listOf w (s .queue)
 
@@ -176,23 +177,22 @@ module _ {c : ℕ} {e : List ℕ} {len : ℕ} where
     theirs-list = sessions-list w m ∙ ap (λ (z : Memory). listOf w (z .queue)) (v .is) ∙ list-late w (see m .queue .lately) (s .queue)
 
     module _ (k : i < length list) where
-      counted : bit (not (of c (getD list i empty))) + length (omit (of c) (drop (i + 1) list)) ≡ length (omit (of c) (drop i list))
+      counted : bit (not (p (getD list i empty))) + length (omit p (drop (i + 1) list)) ≡ length (omit p (drop i list))
       counted =
           let x = getD list i empty in
-          sym (ap (λ (r : List Session). length (omit (of c) r)) (next list i k)
-          ∙ length-put (not (of c x)) x (omit (of c) (drop (i + 1) list)))
+          sym (ap (λ (u : List Session). length (omit p u)) (next list i k) ∙ length-put (not (p x)) x (omit p (drop (i + 1) list)))
 
-      -- it is the connection's, and its end is kept and written
-      pub theirs-goes : {x : Session} {to′ : ℕ} {n o′ : List ℕ} → of c (getD list i empty) ≡ true → x ≡ getD list i empty →
-          Does (ending (oneEnd (Response 116) x)) to m o to′ n o′ → Theirs c w s e len n (i + 1) to′ left o′
+      -- it passes, and its end is kept and written
+      pub theirs-goes : {x : Session} {to′ : ℕ} {n o′ : List ℕ} → p (getD list i empty) ≡ true → x ≡ getD list i empty →
+          Does (ending (oneEnd (Response r) x)) to m o to′ n o′ → Theirs p r w s e len n (i + 1) to′ left o′
       theirs-goes {x} {n = n} d q t =
-          let late : see n .queue .lately ≡ rememberedAll (past (Response 116) x ∷ []) (see m .queue .lately) =
+          let late : see n .queue .lately ≡ rememberedAll (past (Response r) x ∷ []) (see m .queue .lately) =
           ap (λ (z : Memory). z .queue .lately) (t .shows .is) in
           record {
             form = t .shows .form;
             is =
                 t .shows .is
-                ∙ ap (λ (z : Memory). queued (withLately (rememberedAll (past (Response 116) x ∷ []) (see m .queue .lately)) (z .queue)) z)
+                ∙ ap (λ (z : Memory). queued (withLately (rememberedAll (past (Response r) x ∷ []) (see m .queue .lately)) (z .queue)) z)
                 (v .is)
                 ∙ ap (λ (y : Lately). queued (withLately y (s .queue)) s) (sym late);
             writes = closing-next list i (v .writes) k (rw (d, ← q) (t .tells)) (rw (d, ← q) late);
@@ -200,8 +200,8 @@ module _ {c : ℕ} {e : List ℕ} {len : ℕ} where
             rest = omega (arith, v .rest, counted, ap (λ (b : Bool). bit (not b)) d);
           }
 
-      -- it is another's
-      pub theirs-stays : of c (getD list i empty) ≡ false → Theirs c w s e len m (i + 1) to (left + 1) o
+      -- it does not
+      pub theirs-stays : p (getD list i empty) ≡ false → Theirs p r w s e len m (i + 1) to (left + 1) o
       unfolding rememberedAll
       theirs-stays d =
           record {
@@ -214,47 +214,66 @@ module _ {c : ℕ} {e : List ℕ} {len : ℕ} where
 
     -- all are passed
     module _ (k : length list ≤ i) where
-      pub theirs-left : left ≡ length (omit (of c) list)
-      theirs-left = omega (arith, v .rest, ap (λ (r : List Session). length (omit (of c) r)) (drop-of-length-le list {i = i} k))
+      pub theirs-left : left ≡ length (omit p list)
+      theirs-left = omega (arith, v .rest, ap (λ (u : List Session). length (omit p u)) (drop-of-length-le list {i = i} k))
 
-      theirs-told : Tells e len (map (ended (Response 116)) (keep (of c) list)) to o
-      theirs-told = rw (← (endings-map ended (Response 116) (of c) list)) (closing-done list i (v .writes) k)
+      theirs-told : Tells e len (map (ended (Response r)) (keep p list)) to o
+      theirs-told = rw (← (endings-map ended (Response r) p list)) (closing-done list i (v .writes) k)
 
-      theirs-kept : see m .queue .lately ≡ rememberedAll (map (past (Response 116)) (keep (of c) list)) (s .queue .lately)
-      theirs-kept = rw (← (endings-map past (Response 116) (of c) list)) (closing-kept list i (v .writes) k)
+      theirs-kept : see m .queue .lately ≡ rememberedAll (map (past (Response r)) (keep p list)) (s .queue .lately)
+      theirs-kept = rw (← (endings-map past (Response r) p list)) (closing-kept list i (v .writes) k)
 
       -- without them, and with their ends kept
-      theirs-shown : relisted w (omit (of c) (sessions w m)) (see m) ≡ queued (theirsEnded w c (s .queue) .queue) s
-      unfolding theirsEnded
+      theirs-shown : relisted w (omit p (sessions w m)) (see m) ≡ queued (thoseEnded w p r (s .queue) .queue) s
+      unfolding thoseEnded
       theirs-shown =
-          ap (λ (u : List Session). relisted w (omit (of c) u) (see m)) theirs-list
-          ∙ ap (relisted w (omit (of c) list)) (v .is)
+          ap (λ (u : List Session). relisted w (omit p u) (see m)) theirs-list
+          ∙ ap (relisted w (omit p list)) (v .is)
           ∙ ap (λ (q : Queue). queued q s)
-          (listed-late w (omit (of c) list) (see m .queue .lately) (s .queue)
-          ∙ ap (λ (y : Lately). withLately y (listed w (omit (of c) list) (s .queue))) (late-listed w theirs-kept))
+          (listed-late w (omit p list) (see m .queue .lately) (s .queue)
+          ∙ ap (λ (y : Lately). withLately y (listed w (omit p list) (s .queue))) (late-listed w theirs-kept))
         where
-          late-listed : (w : Which) → see m .queue .lately ≡ rememberedAll (map (past (Response 116)) (keep (of c) list)) (s .queue .lately)
-              →
-              see m .queue .lately ≡ rememberedAll (map (past (Response 116)) (keep (of c) list))
-              (listed w (omit (of c) list) (s .queue) .lately)
+          late-listed : (w : Which) → see m .queue .lately ≡ rememberedAll (map (past (Response r)) (keep p list)) (s .queue .lately) →
+              see m .queue .lately ≡ rememberedAll (map (past (Response r)) (keep p list)) (listed w (omit p list) (s .queue) .lately)
           late-listed Waiting e = e
           late-listed Started e = e
 
       -- and taken out
-      pub theirs-done : {n : List ℕ} → Now n (relisted w (omit (of c) (sessions w m)) (see m))
-          → Turns e len (theirsEnded w c (s .queue)) s n to o
-      unfolding theirsEnded
+      pub theirs-done : {n : List ℕ} → Now n (relisted w (omit p (sessions w m)) (see m))
+          → Turns e len (thoseEnded w p r (s .queue)) s n to o
+      unfolding thoseEnded
       theirs-done z = record { shows = record { form = z .form; is = z .is ∙ theirs-shown }; tells = theirs-told }
 
-      -- or none is theirs, and the words stay
-      pub theirs-spared : length list ≤ left → Turns e len (theirsEnded w c (s .queue)) s m to o
+      -- or none passes, and the words stay
+      pub theirs-spared : length list ≤ left → Turns e len (thoseEnded w p r (s .queue)) s m to o
       theirs-spared h =
-          let all : omit (of c) list ≡ list = omit-none (of c) list (omega (arith, h, theirs-left)) in
-          let same : see m ≡ relisted w (omit (of c) (sessions w m)) (see m) =
-          sym (ap (λ (u : List Session). relisted w (omit (of c) u) (see m)) theirs-list
+          let all : omit p list ≡ list = omit-none p list (omega (arith, h, theirs-left)) in
+          let same : see m ≡ relisted w (omit p (sessions w m)) (see m) =
+          sym (ap (λ (u : List Session). relisted w (omit p u) (see m)) theirs-list
           ∙ ap (λ (u : List Session). relisted w u (see m)) (all ∙ sym theirs-list ∙ sessions-list w m)
           ∙ ap (λ (q : Queue). queued q (see m)) (listed-same w (see m .queue))) in
           theirs-done (record { form = v .form; is = same })
+
+-- nobody passes from a place on
+omit-step : (p : Session → Bool) (x : Session) (l : List Session) → x ∷ l ≡ omit p (x ∷ l) → (p x ≡ false) × (l ≡ omit p l)
+omit-step p x l = go (p x)
+  where
+    go : (b : Bool) → x ∷ l ≡ put (not b) x (omit p l) → (b ≡ false) × (l ≡ omit p l)
+    go true e = absurd (omega (arith, ap length e, length-split p l))
+    go false e = (refl, ap (drop 1) e)
+
+pub theirs-by : {p : Session → Bool} {r : ℕ} {e : List ℕ} {len : ℕ} (w : Which) {s : Memory} {m : List ℕ} (i : ℕ) {to : ℕ} (left : ℕ)
+    {o : List ℕ} (k j n : ℕ) → Theirs p r w s e len m i to left o → i + k ≡ length (listOf w (s .queue)) → j ≡ i + k → n ≡ left + k →
+    drop i (listOf w (s .queue)) ≡ omit p (drop i (listOf w (s .queue))) → Theirs p r w s e len m j to n o
+theirs-by w i left zero j n v h f g a =
+    let b : j ≡ i = omega (arith, f) in
+    let c : n ≡ left = omega (arith, g) in
+    rw (b, c) v
+theirs-by {p} w {s} i left (suc k) j n v h f g a =
+    let l = listOf w (s .queue) in
+    let b : i < length l = omega (arith, h) in
+    let c = omit-step p (getD l i empty) (drop (i + 1) l) (sym (next l i b) ∙ a ∙ ap (omit p) (next l i b)) in
+    theirs-by w (i + 1) (left + 1) k j n (theirs-stays w v b (c .0)) (omega (arith, h)) (omega (arith, f)) (omega (arith, g)) (c .1)
 
 -- ## Started ones go one by one, and the others stay: the loops of `end_due` and of `end_covered_of`
 
@@ -357,7 +376,7 @@ leaving-done t v k = leaving-over v k
 pub leaving-theirs : (c : ℕ) {s : Memory} {e o m : List ℕ} {len i to : ℕ} {h : Ending} →
     Leaving (of c) (Response 116) (Response 116) s e len m i h to o → length (see m .queue .started) ≤ i →
     Turns e len (theirsEnded Started c (s .queue)) s m to o
-unfolding theirsEnded
+unfolding thoseEnded
 leaving-theirs c {s} v k =
     let l = s .queue .started in
     rw (← (endings-map past (Response 116) (of c) l), ← (endings-map ended (Response 116) (of c) l)) (leaving-over v k)

@@ -40,7 +40,7 @@ use Rattle.memory.specs.Memory.{Memory, see, sessions, listOf, listed, queued, 
 use Rattle.memory.proofs.Laws.{sessions-list, same-words}
 use Rattle.writing.specs.Puts.{Puts}
 use Rattle.ends.specs.Does.{Playable, Writable, Completing, roomFor, Tells, Turns, Does, oneEnded, chainEnded, endingAt}
-use Rattle.ends.specs.Does.{airEnded, theirsEnded}
+use Rattle.ends.specs.Does.{airEnded, thoseEnded, theirsEnded}
 
 -- ## Records, one behind another
 
@@ -308,7 +308,7 @@ air-fewer c q =
     by (λ (t : Turn). Fewer l (t .queue .started)) (some (of c) (take 1 l)) _ _ (λ d. fewer-removeAt 0 l) (λ d. fewer-same l)
 
 theirs-slim : (c : ℕ) (q : Queue) → Slim q (theirsEnded Started c q)
-unfolding theirsEnded
+unfolding thoseEnded
 theirs-slim c q =
     let l = q .started in
     record { room = omega (arith, weight-all (Response 116) (keep (of c) l), length-split (of c) l); wait = refl }
@@ -317,7 +317,7 @@ theirs-slim c q =
 closed-by : (c : ℕ) (w k : List Session) (l : Lately) →
     let q : Queue = record { waiting = w; started = k; lately = l } in
     closedBy c q ≡ andThen (andThen (airEnded c q) (theirsEnded Started c)) (theirsEnded Waiting c)
-unfolding closedBy cancelled endings andThen airEnded theirsEnded oneEnded removeAt rememberedAll
+unfolding closedBy cancelled endings andThen airEnded thoseEnded oneEnded removeAt rememberedAll
 closed-by c w [] l = refl
 closed-by c w (s ∷ k) l = go (of c s) refl
   where

@@ -1,16 +1,16 @@
 -- What a piece of work on the lent words promises, and the turns of the ends of one list.
 use mathlib.Core.Path.{_≡_}
-use mathlib.Core.Bool.{cond}
-use mathlib.Core.List.{List}
+use mathlib.Core.Bool.{Bool, true, cond}
+use mathlib.Core.List.{List, [], _∷_}
 use Prim.Native.Nat.{ℕ, zero, suc, _+_, _*_, _/_, _<_}
 use lib.ListN.{length, take, getD}
 use Rattle.rules.specs.declared.Session.{Session}
 use Rattle.rules.specs.declared.Ending.{Ending}
 use Rattle.rules.specs.declared.Ending.the-variants.{Complete, Failed, Response}
-use Rattle.rules.specs.Lists.{some, keep, omit, removeAt}
+use Rattle.rules.specs.Lists.{All, some, keep, omit, removeAt}
 use Rattle.rules.specs.Bytes.{written}
 use Rattle.rules.specs.Records.{Record, output}
-use Rattle.rules.specs.State.{Queue, empty, of}
+use Rattle.rules.specs.State.{Queue, empty, of, follows, Sorted}
 use Rattle.rules.specs.Ends.{Turn, quiet, andThen, ending, oneEnd, allEnd, dismissed}
 use Rattle.memory.specs.declared.Which.{Which}
 use Rattle.memory.specs.declared.Which.the-variants.{Started}
@@ -77,7 +77,28 @@ unfoldable pub airEnded : ℕ → Queue → Turn
 airEnded c q =
     cond (some (of c) (take 1 (q .started))) (oneEnded Started 0 (Complete 116) q) (quiet q)
 
--- the connection's of a list end, none of which is on air
-unfoldable pub theirsEnded : Which → ℕ → Queue → Turn
-theirsEnded v c q =
-    ending (allEnd (Response 116) (keep (of c) (listOf v q))) (listed v (omit (of c) (listOf v q)) q)
+-- those of a list that pass p end with the result r, none of which is on air
+unfoldable pub thoseEnded : Which → (Session → Bool) → ℕ → Queue → Turn
+thoseEnded v p r q = ending (allEnd (Response r) (keep p (listOf v q))) (listed v (omit p (listOf v q)) q)
+
+-- the connection's
+abbrev pub theirsEnded : Which → ℕ → Queue → Turn
+theirsEnded v c = thoseEnded v (of c) 116
+
+-- ## Followers
+
+-- of w, in order of start: whoever follows one of w starts after it
+pub record Ordered (w : List Session) : Type 0 where
+  pub sorted : Sorted w
+  pub behind : All (λ g. All (λ s. follows (g .conn) (g .id) s ≡ true → g .start .0 < s .start .0) w) w
+
+-- the flags f with a 1 for each of w that reaches connection c's number x link by link: each link looks on from where the last one stood
+abbrev pub flagging : ℕ → ℕ → List Session → List ℕ → List ℕ
+flagging c x [] f = f
+flagging c x (s ∷ w) [] = []
+flagging c x (s ∷ w) (b ∷ f) = cond (follows c x s) (1 ∷ flagging c (s .id) w f) (b ∷ flagging c x w f)
+
+-- w stands from the place i on: the place behind the last of them, or e where there is none
+abbrev pub behindLast : ℕ → ℕ → ℕ → List Session → ℕ → ℕ
+behindLast c x i [] e = e
+behindLast c x i (s ∷ w) e = cond (follows c x s) (behindLast c (s .id) (suc i) w (suc i)) (behindLast c x (suc i) w e)

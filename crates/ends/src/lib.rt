@@ -9,18 +9,26 @@ use rules::Session;
 use rules::Ticks;
 ghost use mathlib.Core.Path.{_≡_};
 ghost use Prim.Native.Nat.{_+_, _≤_, _<_};
-ghost use lib.ListN.{length, getD};
-ghost use mathlib.Core.List.{[], _∷_};
-ghost use Rattle.rules.specs.Lists.{All};
+ghost use lib.ListN.{length, take, drop, getD};
+ghost use mathlib.Core.Bool.{true};
+ghost use mathlib.Core.List.{[], _∷_, _++_};
+ghost use Rattle.rules.specs.Lists.{All, keep};
 ghost use Rattle.rules.specs.declared.Ending.the-variants.{Response};
-ghost use Rattle.rules.specs.State.{empty};
+ghost use Rattle.rules.specs.State.{empty, of, follows, Sorted};
 ghost use Rattle.rules.specs.Records.{resultOf};
 ghost use Rattle.rules.specs.Ends.{ended, past, ending, oneEnd, dismissed, closedBy};
 ghost use Rattle.rules.specs.Instants.{failed, endAt};
 ghost use Rattle.memory.specs.declared.Which.the-variants.{Waiting, Started};
 ghost use Rattle.memory.specs.Memory.{Form, Now, see, recalling};
 ghost use Rattle.ends.specs.Does.{Writable, Playable, Completing, roomFor, Tells, Does, endingAt, oneEnded, chainEnded};
-ghost use Rattle.ends.specs.Does.{airEnded, theirsEnded};
+ghost use Rattle.ends.specs.Does.{airEnded, thoseEnded, theirsEnded, Ordered, flagging, behindLast};
+ghost use Rattle.places.specs.Places.{flagged, Unflagged};
+
+// Followers of one number: whose they are, and the place behind the last of them.
+struct Chain {
+    conn: u64,
+    end: usize,
+}
 
 // A SpliceComplete that is an end: flag 1 with the time on air, or flag 0 and 109 of a start that failed.
 fn write_complete(how: Ending, x: Session, out: &mut [u8], len: usize) -> usize
@@ -83,6 +91,7 @@ fn write_end(m: &mut [u64; WORDS], how: Ending, x: Session, out: &mut [u8], len:
 // The start of x fails, and those that follow it end.
 pub fn fail(m: &mut [u64; WORDS], x: Session, out: &mut [u8], len: usize) -> usize
     requires { ⌜ Form (now m) ⌝ }
+    requires { ⌜ Ordered (see (now m) .queue .waiting) ⌝ }
     requires { ⌜ len + roomFor (1 + length (see (now m) .queue .waiting)) ≤ length (now out) ⌝ }
     ensures { λ r. ⌜ Does (failed x) len (now (m .entry)) (now (out .entry)) r (now (m .exit)) (now (out .exit)) ⌝ }
 {
@@ -109,26 +118,6 @@ fn end_one_started(
     write_end(&mut *m, how, x, &mut *out, len)
 }
 
-// The waiting session `at` ends with the result, and the others close up. A function of its own, called at one place: the compiler takes it
-// into `dismiss`, which so keeps no session over its recursive call.
-fn end_one_waiting(
-    m: &mut [u64; WORDS],
-    at: usize,
-    result: u16,
-    out: &mut [u8],
-    len: usize,
-) -> usize
-    requires { ⌜ Form (now m) ⌝ }
-    requires { ⌜ at < length (see (now m) .queue .waiting) ⌝ }
-    requires { ⌜ len + roomFor 1 ≤ length (now out) ⌝ }
-    ensures { λ r. ⌜ Does (oneEnded Waiting at (Response result))
-        len (now (m .entry)) (now (out .entry)) r (now (m .exit)) (now (out .exit)) ⌝ }
-{
-    let x = memory::load(&*m, Which::Waiting, at);
-    memory::remove(&mut *m, Which::Waiting, at);
-    write_end(&mut *m, Ending::Response(result), x, &mut *out, len)
-}
-
 // The waiting session `at` ends with the result, and then the ones that follow it.
 pub fn end_waiting(
     m: &mut [u64; WORDS],
@@ -139,6 +128,7 @@ pub fn end_waiting(
 ) -> usize
     requires { ⌜ Form (now m) ⌝ }
     requires { ⌜ at < length (see (now m) .queue .waiting) ⌝ }
+    requires { ⌜ Ordered (see (now m) .queue .waiting) ⌝ }
     requires { ⌜ len + roomFor (length (see (now m) .queue .waiting)) ≤ length (now out) ⌝ }
     ensures { λ r. ⌜ Does (chainEnded Waiting at (Response result) result)
         len (now (m .entry)) (now (out .entry)) r (now (m .exit)) (now (out .exit)) ⌝ }
@@ -170,6 +160,7 @@ pub fn end_started(
     requires { ⌜ Form (now m) ⌝ }
     requires { ⌜ at < length (see (now m) .queue .started) ⌝ }
     requires { ⌜ All Playable (see (now m) .queue .started) ⌝ }
+    requires { ⌜ Ordered (see (now m) .queue .waiting) ⌝ }
     requires { ⌜ len + roomFor (1 + length (see (now m) .queue .waiting)) ≤ length (now out) ⌝ }
     ensures { λ r. ⌜ Does (chainEnded Started at (endingAt at result) result)
         len (now (m .entry)) (now (out .entry)) r (now (m .exit)) (now (out .exit)) ⌝ }
@@ -267,6 +258,77 @@ pub fn end_due(m: &mut [u64; WORDS], t: Ninths, out: &mut [u8], len: usize) -> u
     to
 }
 
+// x was requested behind the connection's number.
+fn is_behind(x: Session, conn: u64, id: u64) -> bool
+    ensures { λ r. ⌜ r ≡ follows conn id x ⌝ }
+{
+    if conn != x.conn {
+        return false;
+    }
+    id == x.prior
+}
+
+// The waiting sessions from the place i on that reach the number link by link: each that does gets the flag 1, and from there the walk goes
+// on behind its number. The place behind the last of them, or `end` where there is none.
+fn walk(m: &[u64; WORDS], conn: u64, id: u64, i: usize, end: usize, flags: &mut [u8; 64]) -> usize
+    requires { ⌜ Form (now m) ⌝ }
+    requires { ⌜ length (now flags) ≡ 64 ⌝ }
+    requires { ⌜ i ≤ length (see (now m) .queue .waiting) ⌝ }
+    ensures marks { λ _. ⌜ now (flags .exit) ≡ take i (now (flags .entry))
+        ++ flagging conn id (drop i (see (now (m .entry)) .queue .waiting)) (drop i (now (flags .entry))) ⌝ }
+    ensures last { λ r. ⌜ r ≡ behindLast conn id i (drop i (see (now (m .entry)) .queue .waiting)) end ⌝ }
+{
+    if i < memory::count(m, Which::Waiting) {
+        let x = memory::load(m, Which::Waiting, i);
+        let next = x.id;
+        if is_behind(x, conn, id) {
+            flags[i] = 1;
+            walk(m, conn, next, i + 1, i + 1, flags)
+        } else {
+            walk(m, conn, id, i + 1, end, flags)
+        }
+    } else {
+        end
+    }
+}
+
+// The waiting sessions whose flag is 1, all of them the chain's, end with the result; the others close up.
+fn end_flagged(
+    m: &mut [u64; WORDS],
+    result: u16,
+    chain: Chain,
+    flags: &[u8; 64],
+    out: &mut [u8],
+    len: usize,
+) -> usize
+    requires { ⌜ Form (now m) ⌝ }
+    requires { ⌜ chain .conn ≤ 3 ⌝ }
+    requires { ⌜ Sorted (see (now m) .queue .waiting) ⌝ }
+    requires { ⌜ Unflagged (now flags) (chain .end) (see (now m) .queue .waiting) ⌝ }
+    requires { ⌜ All (λ s. of (chain .conn) s ≡ true)
+        (keep (flagged (now flags) (see (now m) .queue .waiting)) (see (now m) .queue .waiting)) ⌝ }
+    requires { ⌜ len + roomFor (length (see (now m) .queue .waiting)) ≤ length (now out) ⌝ }
+    ensures { λ r. ⌜ Does (thoseEnded Waiting (flagged (now (flags .entry)) (see (now (m .entry)) .queue .waiting)) result)
+        len (now (m .entry)) (now (out .entry)) r (now (m .exit)) (now (out .exit)) ⌝ }
+{
+    let n = memory::count(&*m, Which::Waiting);
+    let end = chain.end;
+    let mut to = len;
+    let mut left = n - end;
+    let mut i = 0;
+    while i < end {
+        if flags[i] == 1 {
+            let x = memory::load(&*m, Which::Waiting, i);
+            to = write_end(&mut *m, Ending::Response(result), x, &mut *out, to);
+        } else {
+            left += 1;
+        }
+        i += 1;
+    }
+    memory::omit_flagged(&mut *m, flags, chain.conn, end, left);
+    to
+}
+
 // The waiting sessions that reach the number link by link end with the result.
 fn dismiss(
     m: &mut [u64; WORDS],
@@ -277,15 +339,20 @@ fn dismiss(
     len: usize,
 ) -> usize
     requires { ⌜ Form (now m) ⌝ }
+    requires { ⌜ Ordered (see (now m) .queue .waiting) ⌝ }
     requires { ⌜ len + roomFor (length (see (now m) .queue .waiting)) ≤ length (now out) ⌝ }
     ensures { λ r.
         ⌜ Does (dismissed result conn id) len (now (m .entry)) (now (out .entry)) r (now (m .exit)) (now (out .exit)) ⌝ }
 {
     let i = memory::find(&*m, Which::Waiting, Key::Follows(conn, id));
     if i < memory::count(&*m, Which::Waiting) {
-        let next = memory::id_at(&*m, Which::Waiting, i);
-        let to = end_one_waiting(&mut *m, i, result, &mut *out, len);
-        dismiss(m, result, conn, next, out, to)
+        let mut flags = [0; 64];
+        let end = walk(&*m, conn, id, 0, 0, &mut flags);
+        let chain = Chain {
+            conn: conn,
+            end: end,
+        };
+        end_flagged(&mut *m, result, chain, &flags, &mut *out, len)
     } else {
         len
     }

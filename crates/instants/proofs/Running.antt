@@ -25,6 +25,7 @@ use Rattle.memory.specs.Memory.{Memory, Form, see, queued, silenced, Now}
 use Rattle.memory.proofs.Laws.{silenced-then, silenced-none}
 use Rattle.ends.specs.Does.{Playable, roomFor, Tells, Turns}
 use Rattle.ends.proofs.Laws.{tells-none, tells-then}
+use Rattle.ends.proofs.Followers.{ordered-now}
 use Rattle.instants.specs.Runs.{Meets, Placed, Lasts, Lasting, passed, Ticked}
 
 -- ## A tick, an instant at a time
@@ -67,7 +68,7 @@ module _ (now until : ℕ) (q : Queue) where
 
       meeting : Meets (t .0) (elapse (t .0 - now) q)
       unfolding elapse
-      meeting = record { sorted = h .timed .sorted; starts = due-first until t q d .starts }
+      meeting = record { ordered = ordered-now now q h; starts = due-first until t q d .starts }
 
       playable : All Playable (elapse (t .0 - now) q .started)
       playable =

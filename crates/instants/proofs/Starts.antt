@@ -16,13 +16,14 @@ use Rattle.rules.specs.Ends.{Turn, writes, andThen}
 use Rattle.rules.specs.Instants.{outranks, mayStart, began, failed, meetsEqual, ousted, launched, startAt, endAt, instant}
 use Rattle.rules.specs.Instants.{onAir, elapse, silence}
 use Rattle.rules.proofs.All.{all-into}
-use Rattle.rules.proofs.Every.{all-getD, fewer-all}
+use Rattle.rules.proofs.Every.{all-getD, fewer-all, fewer-removeAt}
 use Rattle.rules.proofs.Leaving.{endAt-fewer}
 use Rattle.rules.proofs.Size.{ousted-brief, endAt-brief}
 use Rattle.memory.specs.declared.Which.the-variants.{Waiting, Started}
 use Rattle.memory.specs.Memory.{Memory, Form, see, relisted, silenced, placesOf, Now}
 use Rattle.memory.proofs.Laws.{silenced-none}
-use Rattle.ends.specs.Does.{Playable, roomFor, Tells, Turns, Does, oneEnded, chainEnded, endingAt}
+use Rattle.ends.specs.Does.{Playable, roomFor, Tells, Turns, Does, oneEnded, chainEnded, endingAt, Ordered}
+use Rattle.ends.proofs.Followers.{ordered-fewer}
 use Rattle.ends.proofs.Laws.{turns-quiet, turns-then, turns-over, removed-less}
 use Rattle.instants.specs.Runs.{Meets, Placed, Lasts, Lasting, passed}
 
@@ -182,7 +183,7 @@ module _ (t : ℕ) {e : List ℕ} {len : ℕ} {m : List ℕ} (g : Form m) where
   pub start-later : (x : Session) → 0 < length (see m .queue .waiting) → x ≡ getD (see m .queue .waiting) 0 empty →
       (x .start .0 ≡ t → ⊥) → Meets t (see m .queue) → Turns e len (startAt t (see m .queue)) (see m) m len e
   start-later x h f y v =
-      start-quiet (first-later t (see m .queue .waiting) (v .sorted) (v .starts) h (λ z. y (ap (λ u. u .start .0) f ∙ z)))
+      start-quiet (first-later t (see m .queue .waiting) (v .ordered .sorted) (v .starts) h (λ z. y (ap (λ u. u .start .0) f ∙ z)))
 
 -- the first starts, and the words m hold the others
 module _ {t : ℕ} (s : Memory) (x : Session) (h : 0 < length (s .queue .waiting)) (f : x ≡ getD (s .queue .waiting) 0 empty)
@@ -200,6 +201,10 @@ module _ {t : ℕ} (s : Memory) (x : Session) (h : 0 < length (s .queue .waiting
 
   pub start-playable : All Playable (s .queue .started) → All Playable (see m .queue .started)
   start-playable a = subst (λ (z : Memory). All Playable (z .queue .started)) (sym (u .is)) a
+
+  pub start-ordered : Ordered (s .queue .waiting) → Ordered (see m .queue .waiting)
+  start-ordered a = subst (λ (z : Memory). Ordered (z .queue .waiting)) (sym (u .is))
+      (ordered-fewer (fewer-removeAt 0 (s .queue .waiting)) a)
 
   pub start-placed : Placed (startAt t (s .queue)) → Placed (launched x (see m .queue))
   start-placed p = subst Placed start-launched p
@@ -230,7 +235,7 @@ module _ (t : ℕ) {e : List ℕ} {len : ℕ} {s : Memory} {m : List ℕ} {to : 
 
   pub instant-meets : Meets t (s .queue) → Meets t (see m .queue)
   instant-meets v =
-      record { sorted = subst Sorted (sym waiting) (v .sorted); starts = subst (All (λ s. t ≤ s .start .0)) (sym waiting) (v .starts) }
+      record { ordered = subst Ordered (sym waiting) (v .ordered); starts = subst (All (λ s. t ≤ s .start .0)) (sym waiting) (v .starts) }
 
   pub instant-placed : Placed (instant t (s .queue)) → Placed (startAt t (see m .queue))
   unfolding instant andThen

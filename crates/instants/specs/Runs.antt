@@ -4,16 +4,16 @@ use mathlib.Core.List.{List}
 use lib.ListN.{length}
 use Rattle.rules.specs.declared.Session.{Session}
 use Rattle.rules.specs.Lists.{All}
-use Rattle.rules.specs.State.{Queue, Sorted}
+use Rattle.rules.specs.State.{Queue}
 use Rattle.rules.specs.Ends.{Turn}
 use Rattle.rules.specs.Instants.{elapse, runAll, silence, silentAll}
 use Rattle.memory.specs.declared.Which.the-variants.{Started}
 use Rattle.memory.specs.Memory.{placesOf, Memory, queued, silenced}
-use Rattle.ends.specs.Does.{Turns}
+use Rattle.ends.specs.Does.{Turns, Ordered}
 
--- at the instant t: those that wait are in order of start, and none of them starts before it
+-- at the instant t: those that wait are in order of start, each behind the one that it follows, and none of them starts before it
 pub record Meets (t : ℕ) (q : Queue) : Type 0 where
-  pub sorted : Sorted (q .waiting)
+  pub ordered : Ordered (q .waiting)
   pub starts : All (λ s. t ≤ s .start .0) (q .waiting)
 
 -- there is a place for each that has started after the work; before it ten may have, if it ends an equal one first

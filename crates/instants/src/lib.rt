@@ -14,7 +14,7 @@ ghost use Rattle.rules.specs.Instants.{mayStart, ousted, launched, startAt, ins
 ghost use Rattle.rules.specs.Sound.{Holding, horizon};
 ghost use Rattle.places.specs.Places.{Narrow};
 ghost use Rattle.memory.specs.Memory.{Form, see, Now};
-ghost use Rattle.ends.specs.Does.{Playable, roomFor, Does};
+ghost use Rattle.ends.specs.Does.{Playable, roomFor, Does, Ordered};
 ghost use Rattle.instants.specs.Runs.{Meets, Placed, Lasting, passed, Ticked};
 
 // d ninths pass for the one on air or, with none, for the primary channel: the one place where time is added.
@@ -46,6 +46,7 @@ fn may_start(m: &[u64], x: Session) -> bool
 fn oust(m: &mut [u64; WORDS], x: Session, out: &mut [u8], len: usize) -> usize
     requires { ⌜ Form (now m) ⌝ }
     requires { ⌜ All Playable (see (now m) .queue .started) ⌝ }
+    requires { ⌜ Ordered (see (now m) .queue .waiting) ⌝ }
     requires { ⌜ len + roomFor (1 + length (see (now m) .queue .waiting)) ≤ length (now out) ⌝ }
     ensures { λ r. ⌜ Does (ousted x) len (now (m .entry)) (now (out .entry)) r (now (m .exit)) (now (out .exit)) ⌝ }
 {
@@ -64,6 +65,7 @@ fn launch(m: &mut [u64; WORDS], x: Session, out: &mut [u8], len: usize) -> usize
     requires { ⌜ Form (now m) ⌝ }
     requires { ⌜ Placed (launched x (see (now m) .queue)) × Narrow x ⌝ }
     requires { ⌜ All Playable (see (now m) .queue .started) ⌝ }
+    requires { ⌜ Ordered (see (now m) .queue .waiting) ⌝ }
     requires { ⌜ len + roomFor (2 + toCome (see (now m) .queue)) ≤ length (now out) ⌝ }
     ensures { λ r. ⌜ Does (launched x) len (now (m .entry)) (now (out .entry)) r (now (m .exit)) (now (out .exit)) ⌝ }
 {

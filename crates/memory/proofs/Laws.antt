@@ -17,7 +17,7 @@ use Rattle.rules.specs.declared.Session.{Session}
 use Rattle.rules.specs.declared.Past.{Past}
 use Rattle.rules.specs.declared.Link.{Link}
 use Rattle.rules.specs.declared.Link.the-variants.{Closed, Opened, Initialised}
-use Rattle.rules.specs.Lists.{All, bit, omit, insertAt, removeAt}
+use Rattle.rules.specs.Lists.{All, bit, count, keep, omit, insertAt, removeAt}
 use Rattle.rules.specs.Bytes.{part, padded}
 use Rattle.rules.specs.Answers.{waits}
 use Rattle.rules.specs.State.{Queue, Splicer, empty, noHardware, of, Sorted, sooner, earliest, withWaiting, withLately, Lately, mostKept}
@@ -25,9 +25,9 @@ use Rattle.rules.specs.State.{unused, remembered, recentAt}
 use Rattle.rules.specs.Reading.{longestHardware, structureIn}
 use Rattle.rules.specs.Sound.{Each, Proper, Holding}
 use Rattle.rules.proofs.All.{all-replicate, all-into}
-use Rattle.rules.proofs.Count.{count-insertAt, count-removeAt, count-omitted, count-other}
+use Rattle.rules.proofs.Count.{count-insertAt, count-removeAt, count-omitted, count-other, count-split, length-split}
 use Rattle.rules.proofs.Tick.{earliest-first, earliest-start, sooner-second}
-use Rattle.rules.proofs.Every.{each-at, all-getD, all-insertAt, all-keep, fewer-all, fewer-removeAt}
+use Rattle.rules.proofs.Every.{each-at, all-getD, all-insertAt, all-keep, none-all, fewer-all, fewer-removeAt}
 use Rattle.places.specs.Places.{Lot, lot, Good, used, width, capacity, zeros, Ring, next, leastEnd}
 use Rattle.places.proofs.Laws.{length-used, words-same, cleared, cleared-none, Leading, least-leads}
 use Rattle.places.proofs.Words.{spare-none}
@@ -243,6 +243,27 @@ tallied-omit : (c : ℕ) (l : List Session) → c ≤ 3 → set (tallied l) c 0 
 tallied-omit c l h =
     tallied-set l (omit (of c) l) c 0 h (sym (count-omitted (of c) l))
     (λ d n. sym (count-other (of d) (of c) (λ x e. ne-eqb d (x .conn) (λ q. n (q ∙ sym (eqb-true c (x .conn) e)))) l))
+
+-- l without some that are all connection c's
+module _ (c : ℕ) (p : Session → Bool) (l : List Session) (a : All (λ s. of c s ≡ true) (keep p l)) where
+  own-counted : (k : List Session) → All (λ s. of c s ≡ true) k → count (of c) k ≡ length k
+  own-counted [] b = refl
+  own-counted (s ∷ k) b = rw (b .0) (omega (arith, own-counted k (b .1)))
+
+  pub less-waits : length l - length (omit p l) ≤ waits c l
+  less-waits = omega (arith, count-split (of c) p l, own-counted (keep p l) a, length-split p l)
+
+  tallied-less : c ≤ 3 → set (tallied l) c (waits c l - (length l - length (omit p l))) ≡ tallied (omit p l)
+  tallied-less h =
+      tallied-set l (omit p l) c (waits c l - (length l - length (omit p l))) h
+      (omega (arith, count-split (of c) p l, own-counted (keep p l) a, length-split p l))
+      (λ d n. omega (
+        arith,
+        count-split (of d) p l,
+        none-all (of d) (keep p l)
+            (all-into (λ s. of c s ≡ true) (λ s. of d s ≡ false) (λ s e. ne-eqb d (s .conn) (λ q. n (q ∙ sym (eqb-true c (s .conn) e))))
+            (keep p l) a),
+      ))
 
 -- ## The first start and the first end
 
@@ -783,6 +804,14 @@ module _ {v : Which} {m x : List ℕ} (w : v ≡ Waiting) (f : Form m) where
       → Now (set x (firstCount + c) 0) (relisted v (omit (of c) (sessions v m)) (see m))
   omitted-now c h g = counts-now w f g c 0 h (all-keep OfFour (λ s. not (of c s)) (sessions v m) (all-four w f))
       (tallied-omit c (sessions v m) h)
+
+  pub less-now : (c : ℕ) (p : Session → Bool) (k : ℕ) → c ≤ 3 → All (λ s. of c s ≡ true) (keep p (sessions v m))
+      → k ≡ length (sessions v m) - length (omit p (sessions v m)) →
+      Changed false v m x (omit p (sessions v m)) → Now (set x (firstCount + c) (getD x (firstCount + c) 0 - k))
+      (relisted v (omit p (sessions v m)) (see m))
+  less-now c p k h a e g =
+      rw (count-word w f g c h, e)
+      (counts-now w f g c _ h (all-keep OfFour (λ s. not (p s)) (sessions v m) (all-four w f)) (tallied-less c p (sessions v m) a h))
 
 -- all words are zeros
 pub cleared-now : Now (zeros words) nothingShown

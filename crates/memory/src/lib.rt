@@ -18,12 +18,12 @@ ghost use lib.ListN.{length, getD, set};
 ghost use lib.Seq.{paste};
 ghost use Rattle.rules.specs.declared.Link.the-variants.{Closed};
 ghost use Rattle.rules.specs.Bytes.{nameIn};
-ghost use Rattle.rules.specs.Lists.{omit, place, insertAt, removeAt};
+ghost use Rattle.rules.specs.Lists.{All, keep, omit, place, insertAt, removeAt};
 ghost use Rattle.rules.specs.State.{empty, of, Sorted, earliest, noHardware, mostKept, unused, recentAt, recent};
 ghost use Rattle.rules.specs.Answers.{isPast, latest};
 ghost use Rattle.rules.specs.Reading.{longestHardware, lengthIn, structureIn};
 ghost use Rattle.rules.specs.Instants.{onAir};
-ghost use Rattle.places.specs.Places.{Narrow, keyTest, startsFrom, round, zeros};
+ghost use Rattle.places.specs.Places.{Narrow, keyTest, startsFrom, round, zeros, flagged, unflagged, Unflagged};
 ghost use Rattle.memory.specs.declared.Which.the-variants.{Waiting, Started};
 ghost use Rattle.memory.specs.Memory.{slotOf, ringOf, firstLink, fromOf, toOf, words, placesOf, wordOf, linkIn};
 ghost use Rattle.memory.specs.Memory.{sessions, see, Form, Now, timed, silenced, linked, relisted, recalling, onward, nothingShown};
@@ -340,6 +340,26 @@ pub fn omit_of(m: &mut [u64], which: Which, conn: u64, left: usize)
         let c = COUNTS + conn as usize;
         m[c] = 0;
     }
+}
+
+// Of the waiting, in order of start, without those whose flag is 1: all of them the connection's, and none from the place `end` on. The
+// `left` others close up.
+pub fn omit_flagged(m: &mut [u64], flags: &[u8; 64], conn: u64, end: usize, left: usize)
+    requires { ⌜ Form (now m) ⌝ }
+    requires { ⌜ conn ≤ 3 ⌝ }
+    requires { ⌜ Sorted (sessions Waiting (now m)) ⌝ }
+    requires { ⌜ Unflagged (now flags) end (sessions Waiting (now m)) ⌝ }
+    requires { ⌜ All (λ s. of conn s ≡ true) (keep (flagged (now flags) (sessions Waiting (now m))) (sessions Waiting (now m))) ⌝ }
+    requires { ⌜ left ≡ length (unflagged (now flags) (sessions Waiting (now m))) ⌝ }
+    ensures { λ _. ⌜ Now (now (m .exit))
+        (relisted Waiting (unflagged (now (flags .entry)) (sessions Waiting (now (m .entry)))) (see (now (m .entry)))) ⌝ }
+{
+    let n = count(&*m, Which::Waiting);
+    let r = ring_end(&*m, Which::Waiting);
+    places::omit_flagged(&mut m[WAITING_FROM..STARTED_FROM], r, n, flags, end, left);
+    m[WAITING] = left as u64;
+    let c = COUNTS + conn as usize;
+    m[c] -= (n - left) as u64;
 }
 
 // The clock.

@@ -7,20 +7,21 @@ use Prim.Native.Nat.{ℕ, zero, suc, _+_, _-_, _*_, _/_, _%_, _≤_, _<_}
 use native.Mathlib.Omega.{arith}
 use native.Mathlib.Numerals.{add-one}
 use native.Mathlib.Nat.{not-suc-le-zero, le-of-suc-le-suc}
-use borrow.Author.Tests.{ltb-true, ltb-false, lt-ltb, le-ltb, le-leb, lt-leb}
-use lib.Dec.{ltb}
+use borrow.Author.Tests.{ne-eqb, ltb-true, ltb-false, lt-ltb, le-ltb, le-leb, lt-leb}
+use lib.Dec.{eqb, ltb}
 use lib.ListN.{length, take, drop, set, getD, replicate, length-append, length-set, length-take, length-drop, length-replicate}
 use lib.ListN.{take-append-drop, drop-of-length-le}
 use lib.Seq.{drop-cons, drop-drop, take-length, length-take-le, take-take, getD-take, take-append-add, drop-append-add, take-at, drop-at}
 use lib.Seq.{getD-drop, take-set-le, drop-set-add}
 use Rattle.rules.specs.declared.Session.{Session}
 use Rattle.rules.specs.Lists.{put, omit, some, place, insertAt, removeAt}
-use Rattle.rules.specs.State.{empty, Sorted}
+use Rattle.rules.specs.State.{empty, Sorted, startsAt}
 use Rattle.rules.specs.Instants.{playing, onAir}
 use Rattle.rules.proofs.Count.{length-insertAt, length-removeAt, length-split, place≤}
 use Rattle.rules.proofs.Every.{all-getD, each-at, none-some}
+use Rattle.rules.proofs.Tests.{eqb-same}
 use Rattle.places.specs.Places.{width, capacity, Row, round, turned, Ring, Lot, lot, places, spare, zeros, free, Good, Made, used}
-use Rattle.places.specs.Places.{startsFrom, endsFirst, leastEnd}
+use Rattle.places.specs.Places.{startsFrom, endsFirst, leastEnd, flagged, Unflagged}
 use Rattle.places.proofs.Words.{length-places, loaded, load-is, store-is, store-spare, playedWord, store-played, places-zero}
 use Rattle.places.proofs.Words.{places-same}
 use Rattle.places.proofs.Ring.{size, turned-none, turned-same, flat-set, row-of, row-read}
@@ -517,3 +518,31 @@ module _ (p : Session → Bool) (u : List Session) (l : Lot) (i to left : ℕ) (
       omega (arith, v .fits, stays-behind, length-append (omit p (take i u)) (omit p (drop i u))) in
       ap (λ (k : ℕ). drop k (used l)) (sym b) ∙ v .back
       ∙ sym (omit-parts p i u ∙ none-before (omit p (take i u)) (omit p (drop i u)) (omega (arith, v .fits, stays-behind)))
+
+-- ## The same by flags: in order of start, each has its place
+
+sorted-place : (u : List Session) (i : ℕ) → Sorted u → i < length u → place (startsAt (getD u i empty .start .0)) u ≡ i
+unfolding place
+sorted-place [] i o h = absurd (omega arith)
+sorted-place (s ∷ u) zero o h = rw (eqb-same (s .start .0)) refl
+sorted-place (s ∷ u) (suc i) o h =
+    let later : s .start .0 < getD u i empty .start .0 = all-getD (λ v. s .start .0 < v .start .0) u i empty (omega arith) (o .0) in
+    rw (ne-eqb (getD u i empty .start .0) (s .start .0) (λ e. omega arith)) (ap suc (sorted-place u i (o .1) (omega arith)))
+
+pub flag-at : (f : List ℕ) (u : List Session) (i : ℕ) → Sorted u → i < length u → flagged f u (getD u i empty) ≡ eqb 1 (getD f i 0)
+flag-at f u i o h = ap (λ (k : ℕ). eqb 1 (getD f k 0)) (sorted-place u i o h)
+
+pub omitting-from : (f : List ℕ) (l : Lot) (i : ℕ) → Good l → Unflagged f i (used l) → Omitting (flagged f (used l)) (used l) l i i
+omitting-from f l i g h =
+    let n : length (used l) ≡ l .len = length-used l g in
+    record { good = g; ahead = omega arith; fits = omega (arith, h .within); front = refl; back = h .all }
+
+pub omitting-flag : (f : List ℕ) (u : List Session) (l : Lot) (i to j : ℕ) → Omitting (flagged f u) u l i to → i ≡ suc j → Sorted u →
+    flagged f u (getD (used l) j empty) ≡ eqb 1 (getD f j 0)
+omitting-flag f u l i to j v e o =
+    let n : length (used l) ≡ l .len = length-used l (v .good) in
+    let m = length-take-le i (used l) (omega (arith, v .ahead, v .fits)) in
+    let x : getD (used l) j empty ≡ getD u j empty =
+    sym (getD-take i (used l) j empty (omega arith)) ∙ ap (λ (r : List Session). getD r j empty) (v .front)
+    ∙ getD-take i u j empty (omega arith) in
+    ap (flagged f u) x ∙ flag-at f u j o (omega (arith, length-take i u, ap length (v .front)))

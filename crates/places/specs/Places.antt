@@ -3,11 +3,11 @@ use mathlib.Core.Path.{_≡_}
 use mathlib.Core.List.{List, [], _∷_, _++_}
 use mathlib.Core.Bool.{Bool, not}
 use Prim.Native.Nat.{ℕ, zero, suc, _+_, _-_, _*_, _/_, _%_, _≤_, _<_}
-use lib.Dec.{leb, ltb}
+use lib.Dec.{eqb, leb, ltb}
 use lib.ListN.{length, take, drop, set, getD, replicate}
 use Rattle.rules.specs.declared.Session.{Session}
-use Rattle.rules.specs.Lists.{some, place}
-use Rattle.rules.specs.State.{empty, is, follows}
+use Rattle.rules.specs.Lists.{some, omit, place}
+use Rattle.rules.specs.State.{empty, is, follows, startsAt}
 use Rattle.places.specs.declared.Key.{Key}
 use Rattle.places.specs.declared.Key.the-variants.{Held, Follows}
 
@@ -131,6 +131,18 @@ startsFrom t s = leb t (s .start .0)
 abbrev pub keyTest : Key → Session → Bool
 keyTest (Held c x) = is c x
 keyTest (Follows c x) = follows c x
+
+-- of l in order of start, each with its flag in f: that of s is 1
+abbrev pub flagged : List ℕ → List Session → Session → Bool
+flagged f l s = eqb 1 (getD f (place (startsAt (s .start .0)) l) 0)
+
+abbrev pub unflagged : List ℕ → List Session → List Session
+unflagged f l = omit (flagged f l) l
+
+-- none from the place i on
+pub record Unflagged (f : List ℕ) (i : ℕ) (l : List Session) : Type 0 where
+  pub within : i ≤ length l
+  pub all : drop i l ≡ omit (flagged f l) (drop i l)
 
 -- nothing of l ends before s
 abbrev pub endsFirst : List Session → Session → Bool

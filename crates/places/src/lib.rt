@@ -12,7 +12,7 @@ ghost use Rattle.rules.specs.Lists.{omit, place, insertAt, removeAt};
 ghost use Rattle.rules.specs.State.{empty, of, Sorted};
 ghost use Rattle.rules.specs.Instants.{outranks, onAir};
 ghost use Rattle.places.specs.Places.{width, capacity, Row, places, spare, round, turned, Ring, next, lot, used, moved};
-ghost use Rattle.places.specs.Places.{Narrow, Good, Made, keyTest, startsFrom, leastEnd};
+ghost use Rattle.places.specs.Places.{Narrow, Good, Made, keyTest, startsFrom, leastEnd, unflagged, Unflagged};
 
 // The words of a place, and which of them is which field; ASKED is OverridePlaying, twice what is asked of the multiplexer, and 256 times
 // the SpliceEventID.
@@ -351,6 +351,35 @@ pub fn omit_of(q: &mut [u64], ring_end: usize, n: usize, conn: u64, left: usize)
     while n - left < to {
         i -= 1;
         if conn != conn_at(&*q, ring_end, n, i) {
+            to -= 1;
+            move_to(&mut *q, ring_end, n, i, to);
+        }
+    }
+    drop_first(&mut *q, ring_end, n, n - left)
+}
+
+// Of sessions in order of start, without those whose flag is 1, none of which stands from the place `end` on: the `left` others close up.
+pub fn omit_flagged(
+    q: &mut [u64],
+    ring_end: usize,
+    n: usize,
+    flags: &[u8; 64],
+    end: usize,
+    left: usize,
+)
+    requires { ⌜ Good (lot (now q) «ring_end» n) ⌝ }
+    requires { ⌜ Ring (capacity (now q)) «ring_end» ⌝ }
+    requires { ⌜ Sorted (used (lot (now q) «ring_end» n)) ⌝ }
+    requires { ⌜ Unflagged (now flags) end (used (lot (now q) «ring_end» n)) ⌝ }
+    requires { ⌜ left ≡ length (unflagged (now flags) (used (lot (now q) «ring_end» n))) ⌝ }
+    ensures { λ _. ⌜ Made (now (q .entry)) (now (q .exit)) «ring_end» left
+        (unflagged (now (flags .entry)) (used (lot (now (q .entry)) «ring_end» n))) ⌝ }
+{
+    let mut to = end;
+    let mut i = end;
+    while n - left < to {
+        i -= 1;
+        if flags[i] != 1 {
             to -= 1;
             move_to(&mut *q, ring_end, n, i, to);
         }

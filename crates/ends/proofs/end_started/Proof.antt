@@ -8,6 +8,7 @@ use Rattle.memory.specs.declared.Which.the-variants.{Started}
 use Rattle.memory.specs.Memory.{see}
 use Rattle.ends.specs.Does.{Playable}
 use Rattle.ends.proofs.Laws.{writable, chain-room, chain-turns}
+use Rattle.ends.proofs.Followers.{started-ordered}
 use Rattle.ends.proofs.end_started.Statement.{statement}
 use Rattle.ends.proofs.end_started.Tie as tie
 
@@ -25,7 +26,7 @@ end-one-started-requires c κs =
     let c8 = c .before .before .before .before .before .before .before .before in
     let s = c8 .before .before in
     let p = all-getD Playable (see (s .args .m .now) .queue .started) (s .args .at) empty (s .pre .1 .0) (s .pre .1 .1 .0) in
-    (s .pre .0, (s .pre .1 .0, (writable (c .before .before .ending-at .result) _ p, omega (arith, s .pre .1 .1 .1))))
+    (s .pre .0, (s .pre .1 .0, (writable (c .before .before .ending-at .result) _ p, omega (arith, s .pre .1 .1 .1 .1))))
 
 dismiss-requires : tie.Need-dismiss-requires
 dismiss-requires c κs =
@@ -34,8 +35,13 @@ dismiss-requires c κs =
     let s = one8 .before .before .before in
     let a = s .args in
     let how = one .before .before .before .ending-at .result in
-    let d = one .end-one-started .ensures in
-    (d .shows .form, chain-room Started (a .at) how (a .m .now) d (s .pre .1 .1 .1) (search needs))
+    let d = one .end-one-started .ensures in (
+      d .shows .form,
+      (
+        started-ordered (a .at) how (a .m .now) d (s .pre .1 .1 .1 .0),
+        chain-room Started (a .at) how (a .m .now) d (s .pre .1 .1 .1 .1) (search needs),
+      ),
+    )
 
 same-length : tie.Need-same-length
 same-length c = search needs
@@ -51,7 +57,7 @@ returns c =
     let a = s .args in
     rw (← (asked .ending-at .ensures)) (
     chain-turns Started (a .at) (asked .ending-at .result) (a .m .now) (one .end-one-started .ensures) (a .result) (conn .conn-at .ensures)
-    (id .id-at .ensures) (omega (arith, s .pre .1 .1 .1)) (then .dismiss .ensures)
+    (id .id-at .ensures) (omega (arith, s .pre .1 .1 .1 .1)) (then .dismiss .ensures)
     )
 
 pub end-started-spec : {M : Type 1} → statement M

@@ -21,7 +21,7 @@ use Rattle.ends.proofs.end_waiting_of.Statement.{statement}
 use Rattle.ends.proofs.end_waiting_of.Tie as tie
 
 abbrev Inv-loop : tie.InvT-loop
-Inv-loop m₀ conn out₀ len n to₀ left₀ i₀ m out to left i = Theirs conn Waiting (see m₀) out₀ len m i to left out
+Inv-loop m₀ conn out₀ len n to₀ left₀ i₀ m out to left i = Theirs (of conn) 116 Waiting (see m₀) out₀ len m i to left out
 
 abbrev μ-loop : tie.MeasureT-loop
 μ-loop m₀ conn out₀ len n to₀ left₀ i₀ m out to left i = n - i

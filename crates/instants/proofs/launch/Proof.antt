@@ -17,19 +17,19 @@ may-start-requires c κs = search needs
 oust-requires : tie.Need-oust-requires
 oust-requires c κs =
     let s = c .before .before .before .before .before .before .before in
-    (s .pre .0, (s .pre .1 .1 .0, omega (arith, s .pre .1 .1 .1)))
+    (s .pre .0, (s .pre .1 .1 .0, (s .pre .1 .1 .1 .0, omega (arith, s .pre .1 .1 .1 .1))))
 
 sub-splice-complete : tie.Need-sub-splice-complete
 sub-splice-complete c =
     let out = c .before .before in
     let s = out .before .before .before .before .before .before .before .before in
-    omega (arith, on-room (s .args .x) (out .oust .ensures) (s .pre .1 .1 .1))
+    omega (arith, on-room (s .args .x) (out .oust .ensures) (s .pre .1 .1 .1 .1))
 
 part-splice-complete-start : tie.Need-part-splice-complete-start
 part-splice-complete-start c =
     let out = c .before .before in
     let s = out .before .before .before .before .before .before .before .before in
-    omega (arith, on-room (s .args .x) (out .oust .ensures) (s .pre .1 .1 .1))
+    omega (arith, on-room (s .args .x) (out .oust .ensures) (s .pre .1 .1 .1 .1))
 
 part-splice-complete-end : tie.Need-part-splice-complete-end
 part-splice-complete-end c = search needs
@@ -38,7 +38,7 @@ splice-complete-requires : tie.Need-splice-complete-requires
 splice-complete-requires c κs =
     let out = c .before .before .before in
     let s = out .before .before .before .before .before .before .before .before in
-    omega (arith, on-room (s .args .x) (out .oust .ensures) (s .pre .1 .1 .1))
+    omega (arith, on-room (s .args .x) (out .oust .ensures) (s .pre .1 .1 .1 .1))
 
 add-end : tie.Need-add-end
 add-end c =
@@ -47,7 +47,7 @@ add-end c =
     let s = out .before .before .before .before .before .before .before .before in
     let x = s .args .x in
     let long = length-record (SpliceComplete (x .conn) 100 (x .id) 0 0) tt in
-    omega (arith, on-room x (out .oust .ensures) (s .pre .1 .1 .1), wrote .splice-complete .ensures .count, long)
+    omega (arith, on-room x (out .oust .ensures) (s .pre .1 .1 .1 .1), wrote .splice-complete .ensures .count, long)
 
 push-requires : tie.Need-push-requires
 push-requires c κs =
@@ -59,7 +59,8 @@ push-requires c κs =
     (d .shows .form, (on-placed (s .args .x) d f (s .pre .1 .0 .0), s .pre .1 .0 .1))
 
 fail-requires : tie.Need-fail-requires
-fail-requires c κs = let s = c .before .before .before .before .before .before .before in (s .pre .0, omega (arith, s .pre .1 .1 .1))
+fail-requires c κs = let s = c .before .before .before .before .before .before .before in
+    (s .pre .0, (s .pre .1 .1 .1 .0, omega (arith, s .pre .1 .1 .1 .1)))
 
 same-length : tie.Need-same-length
 same-length c = search needs
@@ -71,7 +72,7 @@ returns c =
     let s = may .before .before .before .before .before in
     let f = sym (may .before .may-start .ensures) ∙ may .if1 .taken in
     let d = out .oust .ensures in
-    let room = s .pre .1 .1 .1 in
+    let room = s .pre .1 .1 .1 .1 in
     let wrote = c .before .before .before .before .splice-complete in
     launched-on (s .args .x) d f room (c .push .ensures)
     (tells-part (omega (arith, on-room (s .args .x) d room)) (wrote .ensures))

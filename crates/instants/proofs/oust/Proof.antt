@@ -24,7 +24,7 @@ end-started-requires : tie.Need-end-started-requires
 end-started-requires c κs =
     let some = c .before .before .before .before .before .before .before .before in
     let s = some .before .before .before .before .before in
-    (s .pre .0, (omega (arith, some .if1 .left, some .before .count .ensures), (s .pre .1 .0, s .pre .1 .1)))
+    (s .pre .0, (omega (arith, some .if1 .left, some .before .count .ensures), (s .pre .1 .0, (s .pre .1 .1 .0, s .pre .1 .1 .1))))
 
 same-length : tie.Need-same-length
 same-length c = search needs

@@ -4,7 +4,7 @@ use Prim.Native.Nat.{_<_}
 use native.Mathlib.Omega.{arith}
 use lib.ListN.{length}
 use Rattle.memory.specs.Memory.{see}
-use Rattle.instants.proofs.Starts.{start-none, start-later, start-room, start-playable, start-placed, start-turns}
+use Rattle.instants.proofs.Starts.{start-none, start-later, start-room, start-playable, start-ordered, start-placed, start-turns}
 use borrow.Author.Needs.{needs}
 use Rattle.instants.proofs.start_at.Statement.{statement}
 use Rattle.instants.proofs.start_at.Tie as tie
@@ -37,7 +37,10 @@ launch-requires c κs =
         (start-placed m (x .result) h (x .ensures .0) (now .if2 .taken) (left .ensures) (s .pre .1 .1 .0), x .ensures .1),
         (
           start-playable m (x .result) h (x .ensures .0) (now .if2 .taken) (left .ensures) (s .pre .1 .1 .1 .0),
-          omega (arith, s .pre .1 .1 .1 .1, start-room m (x .result) h (x .ensures .0) (now .if2 .taken) (left .ensures)),
+          (
+            start-ordered m (x .result) h (x .ensures .0) (now .if2 .taken) (left .ensures) (s .pre .1 .0 .ordered),
+            omega (arith, s .pre .1 .1 .1 .1, start-room m (x .result) h (x .ensures .0) (now .if2 .taken) (left .ensures)),
+          ),
         ),
       ),
     )

@@ -9,6 +9,7 @@ use Rattle.rules.proofs.Sound.{few-wait}
 use Rattle.memory.specs.declared.Which.the-variants.{Started}
 use Rattle.memory.specs.Memory.{see}
 use Rattle.ends.proofs.Laws.{playable}
+use Rattle.ends.proofs.Followers.{ordered-now}
 use Rattle.checks.proofs.Laws.{held-nowhere}
 use Rattle.requests.proofs.Laws.{found-in, abort-unknown, abort-waiting, abort-started}
 use borrow.Author.Needs.{needs}
@@ -60,13 +61,16 @@ end-waiting-requires c κs =
       s .pre .0,
       (
         omega (arith, h .within),
-        omega (
-          arith,
-          few-wait (s .pre .1 .0),
-          s .pre .1 .1 .1,
-          wrote .abort-response2 .kept .0,
-          k,
-          wrote .abort-response2 .ensures .count,
+        (
+          ordered-now _ _ (s .pre .1 .0),
+          omega (
+            arith,
+            few-wait (s .pre .1 .0),
+            s .pre .1 .1 .1,
+            wrote .abort-response2 .kept .0,
+            k,
+            wrote .abort-response2 .ensures .count,
+          ),
         ),
       ),
     )
@@ -91,13 +95,16 @@ end-started-requires c κs =
         omega (arith, h .within),
         (
           p,
-          omega (
-            arith,
-            few-wait (s .pre .1 .0),
-            s .pre .1 .1 .1,
-            wrote .abort-response2 .kept .0,
-            k,
-            wrote .abort-response2 .ensures .count,
+          (
+            ordered-now _ _ (s .pre .1 .0),
+            omega (
+              arith,
+              few-wait (s .pre .1 .0),
+              s .pre .1 .1 .1,
+              wrote .abort-response2 .kept .0,
+              k,
+              wrote .abort-response2 .ensures .count,
+            ),
           ),
         ),
       ),

@@ -2,6 +2,7 @@
 -- Rests on what `is_taken`, `end_waiting` and one search promise.
 use native.Mathlib.Omega.{arith}
 use Rattle.rules.proofs.Sound.{few-wait}
+use Rattle.ends.proofs.Followers.{ordered-now}
 use Rattle.requests.proofs.Laws.{way-free, way-taken, way-over, way-sorted}
 use borrow.Author.Needs.{needs}
 use Rattle.requests.proofs.make_way.Statement.{statement}
@@ -18,7 +19,7 @@ end-waiting-requires c κs =
     let asked = test .before in
     let s = asked .before .before .before .before in
     let i = way-taken (s .args .t .0) (s .args .m .now) (s .pre .1 .1 .0) (asked .is-taken .ensures) (test .if1 .taken) (s .pre .1 .0) in
-    (s .pre .0, (omega (arith, i), omega (arith, few-wait (s .pre .1 .0), s .pre .1 .1 .1)))
+    (s .pre .0, (omega (arith, i), (ordered-now _ _ (s .pre .1 .0), omega (arith, few-wait (s .pre .1 .0), s .pre .1 .1 .1))))
 
 find-start-requires : tie.Need-find-start-requires
 find-start-requires c κs =
