@@ -303,14 +303,14 @@ frames0() {
     "$objdump" -d --no-show-raw-insn "$work/door0.o" | framed | awk '{ print $1, $3 }' >"$work/frames0"
     abort="door::splicer_7_message engine::message answers::answer answers::answer_read requests::answer_abort ends::end_started"
     evict="door::splicer_7_message engine::message answers::answer answers::answer_read requests::answer_splice requests::accept requests::make_way"
-    below="ends::end_one_waiting memory::remove places::remove_at places::read_row"
+    below="memory::load places::load places::read_at places::read_row"
     echo '| Way, at -O0 | Function | Frame | Times |'
     echo '|---|---|---|---|'
     way 'the due search below run' instants::next_due memory::least_end places::least_end places::end_at
     # shellcheck disable=SC2086
-    way 'an abort with 20 followers' $abort 'ends::dismiss*20' $below
+    way 'an abort with 20 followers' $abort ends::dismiss 'ends::walk*21' $below
     # shellcheck disable=SC2086
-    way 'a Splice_Request evicts one with 19' $evict ends::end_waiting 'ends::dismiss*19' $below
+    way 'a Splice_Request evicts one with 19' $evict ends::end_waiting ends::dismiss 'ends::walk*20' $below
 }
 
 # code FILE MEMBER: bytes of machine code in the sections .text of an archive's members whose name has MEMBER in it

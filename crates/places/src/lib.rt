@@ -358,33 +358,33 @@ pub fn omit_of(q: &mut [u64], ring_end: usize, n: usize, conn: u64, left: usize)
     drop_first(&mut *q, ring_end, n, n - left)
 }
 
-// Of sessions in order of start, without those whose flag is 1, none of which stands from the place `end` on: the `left` others close up.
+// Of sessions in order of start, without those whose flag is 1, none of which stands from the place `end` on: the `stay` others close up.
 pub fn omit_flagged(
     q: &mut [u64],
     ring_end: usize,
     n: usize,
     flags: &[u8; 64],
     end: usize,
-    left: usize,
+    stay: usize,
 )
     requires { ⌜ Good (lot (now q) «ring_end» n) ⌝ }
     requires { ⌜ Ring (capacity (now q)) «ring_end» ⌝ }
     requires { ⌜ Sorted (used (lot (now q) «ring_end» n)) ⌝ }
     requires { ⌜ Unflagged (now flags) end (used (lot (now q) «ring_end» n)) ⌝ }
-    requires { ⌜ left ≡ length (unflagged (now flags) (used (lot (now q) «ring_end» n))) ⌝ }
-    ensures { λ _. ⌜ Made (now (q .entry)) (now (q .exit)) «ring_end» left
+    requires { ⌜ stay ≡ length (unflagged (now flags) (used (lot (now q) «ring_end» n))) ⌝ }
+    ensures { λ _. ⌜ Made (now (q .entry)) (now (q .exit)) «ring_end» stay
         (unflagged (now (flags .entry)) (used (lot (now (q .entry)) «ring_end» n))) ⌝ }
 {
     let mut to = end;
-    let mut i = end;
-    while n - left < to {
-        i -= 1;
-        if flags[i] != 1 {
+    let mut from = end;
+    while n - stay < to {
+        from -= 1;
+        if flags[from] != 1 {
             to -= 1;
-            move_to(&mut *q, ring_end, n, i, to);
+            move_to(&mut *q, ring_end, n, from, to);
         }
     }
-    drop_first(&mut *q, ring_end, n, n - left)
+    drop_first(&mut *q, ring_end, n, n - stay)
 }
 
 // The place of the session that ends first; of several that end together the first. In places that never come round.

@@ -62,8 +62,8 @@ returns c =
     let walked8 = walked .before .before .before .before .before .before .before .before in
     let s = walked8 .before .before .before in
     let a = s .args in
-    dismissed-flags (a .result) (a .conn) (a .id) (a .m .now) _ (s .pre .1 .0) (few-places (a .m .now) (s .pre .0)) (walked .walk .ensures .0)
-    (done .end-flagged .ensures)
+    dismissed-flags (a .result) (a .conn) (a .id) (a .m .now) _ (s .pre .1 .0) (few-places (a .m .now) (s .pre .0))
+    (walked .walk .ensures .0) (done .end-flagged .ensures)
 
 returns-2 : tie.Need-returns-2
 returns-2 c =

@@ -15,12 +15,12 @@ use Rattle.places.proofs.omit_flagged.Statement.{statement}
 use Rattle.places.proofs.omit_flagged.Tie as tie
 
 abbrev Inv-loop : tie.InvT-loop
-Inv-loop q₀ ring-end n flags end left to₀ i₀ q to i =
+Inv-loop q₀ ring-end n flags end stay to₀ from₀ q to from =
     let u = used (lot q₀ ring-end n) in
-    Omitting (flagged flags u) u (lot q ring-end n) i to × (length q ≡ length q₀) × (spare q ≡ spare q₀)
+    Omitting (flagged flags u) u (lot q ring-end n) from to × (length q ≡ length q₀) × (spare q ≡ spare q₀)
 
 abbrev μ-loop : tie.MeasureT-loop
-μ-loop q₀ ring-end n flags end left to₀ i₀ q to i = i
+μ-loop q₀ ring-end n flags end stay to₀ from₀ q to from = from
 
 loop-holds : tie.Need-loop-holds Inv-loop μ-loop
 loop-holds c =
@@ -35,13 +35,13 @@ sub-loop : tie.Need-sub-loop Inv-loop μ-loop
 sub-loop c =
     let s = c .before .before in
     let q = lot (s .args .q .now) (s .args .ring-end) (s .args .n) in
-    stay-fits (flagged (s .args .flags .now) (used q)) q (s .args .left) (s .pre .0) (s .pre .1 .1 .1 .1)
+    stay-fits (flagged (s .args .flags .now) (used q)) q (s .args .stay) (s .pre .0) (s .pre .1 .1 .1 .1)
 
-sub-i : tie.Need-sub-i Inv-loop μ-loop
-sub-i c =
+sub-from : tie.Need-sub-from Inv-loop μ-loop
+sub-from c =
     let s = c .before .before .before in
     let l = c .before .loop in
-    omitting-ahead _ _ (lot (l .q) (s .args .ring-end) (s .args .n)) (l .i) (l .to) (s .args .left) (l .inv .0) (s .pre .1 .1 .1 .1)
+    omitting-ahead _ _ (lot (l .q) (s .args .ring-end) (s .args .n)) (l .from) (l .to) (s .args .stay) (l .inv .0) (s .pre .1 .1 .1 .1)
     (omega (arith, l .inv .0 .ahead))
 
 element-copy-out-if1 : tie.Need-element-copy-out-if1 Inv-loop μ-loop
@@ -50,7 +50,7 @@ element-copy-out-if1 c =
     let v = c .before .loop .inv .0 in
     omega (
       arith,
-      sub-i c,
+      sub-from c,
       v .ahead,
       v .fits,
       used-fits (s .args .q .now) (s .args .ring-end) (s .args .n) (s .pre .0),
@@ -73,7 +73,7 @@ move-to-requires c κs =
     )
 
 loop-less : tie.Need-loop-less Inv-loop μ-loop
-loop-less c = omega (arith, sub-i (c .before .before .before .before .before .before))
+loop-less c = omega (arith, sub-from (c .before .before .before .before .before .before))
 
 loop-again : tie.Need-loop-again Inv-loop μ-loop
 loop-again c =
@@ -84,11 +84,11 @@ loop-again c =
     let q = lot (l .q) (s .args .ring-end) (s .args .n) in
     let v = l .inv .0 in
     let m = c .before .before .move-to .ensures in
-    let a = sub-i (c .before .before .before .before .before .before) in
-    let d : flagged f u (getD (used q) (l .i - 1) empty) ≡ false =
-    omitting-flag f u q (l .i) (l .to) (l .i - 1) v (omega (arith, a)) (s .pre .1 .1 .0)
-    ∙ ne-eqb 1 (getD f (l .i - 1) 0) (λ e. c .before .before .before .before .if1 .taken (sym e)) in (
-      omitting-stays _ _ q (l .i) (l .to) (l .i - 1) v (omega (arith, a))
+    let a = sub-from (c .before .before .before .before .before .before) in
+    let d : flagged f u (getD (used q) (l .from - 1) empty) ≡ false =
+    omitting-flag f u q (l .from) (l .to) (l .from - 1) v (omega (arith, a)) (s .pre .1 .1 .0)
+    ∙ ne-eqb 1 (getD f (l .from - 1) 0) (λ e. c .before .before .before .before .if1 .taken (sym e)) in (
+      omitting-stays _ _ q (l .from) (l .to) (l .from - 1) v (omega (arith, a))
           (lot (c .before .before .move-to .last .0) (s .args .ring-end) (s .args .n)) (l .to - 1) (omega (arith, v .ahead)) d (m .good)
           refl (m .list),
       omega arith,
@@ -96,7 +96,7 @@ loop-again c =
     )
 
 loop-less-2 : tie.Need-loop-less-2 Inv-loop μ-loop
-loop-less-2 c = omega (arith, sub-i (c .before .before))
+loop-less-2 c = omega (arith, sub-from (c .before .before))
 
 loop-again-2 : tie.Need-loop-again-2 Inv-loop μ-loop
 loop-again-2 c =
@@ -105,11 +105,11 @@ loop-again-2 c =
     let f = s .args .flags .now in
     let u = used (lot (s .args .q .now) (s .args .ring-end) (s .args .n)) in
     let q = lot (l .q) (s .args .ring-end) (s .args .n) in
-    let a = sub-i (c .before .before) in
-    let d : flagged f u (getD (used q) (l .i - 1) empty) ≡ true =
-    omitting-flag f u q (l .i) (l .to) (l .i - 1) (l .inv .0) (omega (arith, a)) (s .pre .1 .1 .0)
-    ∙ eq-eqb 1 (getD f (l .i - 1) 0) (sym (c .if1 .left)) in
-    (omitting-goes _ _ q (l .i) (l .to) (l .i - 1) (l .inv .0) (omega (arith, a)) d, l .inv .1, l .inv .2)
+    let a = sub-from (c .before .before) in
+    let d : flagged f u (getD (used q) (l .from - 1) empty) ≡ true =
+    omitting-flag f u q (l .from) (l .to) (l .from - 1) (l .inv .0) (omega (arith, a)) (s .pre .1 .1 .0)
+    ∙ eq-eqb 1 (getD f (l .from - 1) 0) (sym (c .if1 .left)) in
+    (omitting-goes _ _ q (l .from) (l .to) (l .from - 1) (l .inv .0) (omega (arith, a)) d, l .inv .1, l .inv .2)
 
 sub-drop-first : tie.Need-sub-drop-first Inv-loop μ-loop
 sub-drop-first c = omega (arith, sub-loop (c .before .before))
@@ -136,9 +136,9 @@ returns c =
     let m = c .before .before .drop-first .ensures in
     let f = sub-loop (c .before .before .before .before .before) in
     let u = unflagged (s .args .flags .now) (used (lot (s .args .q .now) (s .args .ring-end) (s .args .n))) in
-    let z : s .args .n - (s .args .n - s .args .left) ≡ s .args .left = omega (arith, f) in
-    let d = omitting-done _ _ (lot (l .q) (s .args .ring-end) (s .args .n)) (l .i) (l .to) (s .args .left) (l .inv .0) (s .pre .1 .1 .1 .1)
-    f (omega arith) in
+    let z : s .args .n - (s .args .n - s .args .stay) ≡ s .args .stay = omega (arith, f) in
+    let d = omitting-done _ _ (lot (l .q) (s .args .ring-end) (s .args .n)) (l .from) (l .to) (s .args .stay) (l .inv .0)
+    (s .pre .1 .1 .1 .1) f (omega arith) in
     subst (λ (k : ℕ). Made (s .args .q .now) (c .before .before .drop-first .last .0) (s .args .ring-end) k u) z
     (record { good = m .good; list = m .list ∙ d; rest = m .rest ∙ l .inv .2 })
 
@@ -150,7 +150,7 @@ omit-flagged-spec =
     μ-loop
     loop-holds
     sub-loop
-    sub-i
+    sub-from
     element-copy-out-if1
     sub-to
     move-to-requires
