@@ -69,7 +69,7 @@ fn answer_alive(m: &[u64], b: &[u8], conn: u32, out: &mut [u8]) -> usize
     ensures { λ r. ⌜ Says (aliveResponse conn (shown (now (m .entry)) (now (b .entry)))) (now (out .entry)) r (now (out .exit)) ⌝ }
 {
     let time = units::to_micros(memory::clock(m));
-    if memory::count(m, Which::Started) == 0 {
+    if memory::is_quiet(m) {
         return writing::alive_response(&mut *out, conn as u64, 1, 0xFFFFFFFF, time);
     }
     let air = memory::load(m, Which::Started, 0);

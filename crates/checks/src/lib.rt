@@ -13,6 +13,7 @@ ghost use Prim.Native.Nat.{_+_, _≤_, _<_};
 ghost use lib.ListN.{getD};
 ghost use Rattle.rules.specs.Lists.{some, place};
 ghost use Rattle.rules.specs.State.{startsAt, holds, Sorted};
+ghost use Rattle.rules.specs.Instants.{outranks};
 ghost use Rattle.rules.specs.Answers.{priorOf, sessionAt, tooLate, collides, raised, sumOf, full, spliceResult};
 ghost use Rattle.rules.specs.declared.When.the-variants.{At};
 ghost use Rattle.rules.specs.Reading.{nobody};
@@ -21,6 +22,16 @@ ghost use Rattle.rules.specs.Asked.{Within};
 ghost use Rattle.places.specs.Places.{startsFrom};
 ghost use Rattle.memory.specs.Memory.{Form, see};
 ghost use Rattle.checks.specs.Found.{whereIn, endIn, startIn, Few};
+
+// c. "Less than 3 s".
+const NOTICE: u32 = 3;
+
+// e. "This connection has 20 waiting; or it has 10 or more and the four counts, each raised to 10 if lower, sum to 64."
+const MOST_OF_ONE: u64 = 20;
+
+const OWN: u64 = 10;
+
+const MOST: u64 = 64;
 
 // Where a session is held: at a place of a list, or nowhere.
 pub enum Where {
@@ -134,7 +145,7 @@ fn is_too_late(clock: Ninths, start: Start) -> bool
 {
     match start {
         Start::Timed(t) => {
-            let soon = units::from_micros(units::time_of(3, 0));
+            let soon = units::from_micros(units::time_of(NOTICE, 0));
             let s = units::from_micros(t);
             s.0 < clock.0 + soon.0
         }
@@ -146,7 +157,7 @@ fn is_too_late(clock: Ninths, start: Start) -> bool
 fn raise(n: u64) -> u64
     ensures { λ r. ⌜ r ≡ raised n ⌝ }
 {
-    if n < 10 { 10 } else { n }
+    if n < OWN { OWN } else { n }
 }
 
 // The four counts, each raised to 10 if lower.
@@ -170,13 +181,13 @@ fn is_full(m: &[u64], conn: u64) -> bool
     let t = memory::tally(m);
     let c = conn as usize;
     let n = t[c];
-    if n == 20 {
+    if n == MOST_OF_ONE {
         return true;
     }
-    if n < 10 {
+    if n < OWN {
         return false;
     }
-    raised_sum(t) == 64
+    raised_sum(t) == MOST
 }
 
 // Whether one that waits starts at t. `at` is the place of the first from t on: no two that wait start together, so it decides.
@@ -193,24 +204,31 @@ pub fn is_taken(m: &[u64], t: Ninths, at: usize) -> bool
     false
 }
 
-// d. Whether a waiting session has the same start and is not outranked.
-fn does_collide(m: &[u64], new: Session, at: usize) -> bool
+// d, f and the start itself: whether a new session outranks an old one: a higher one does, and with the flag at 1 an equal one.
+pub fn outranks(new: Session, old: Session) -> bool
+    ensures { λ r. ⌜ r ≡ outranks new old ⌝ }
+{
+    old.access < new.access || old.access - new.access < new.overrides
+}
+
+// d. Whether a waiting session has the same start and is not outranked. taken: whether one has the start.
+fn does_collide(m: &[u64], new: Session, at: usize, taken: bool) -> bool
     requires { ⌜ Form (now m) ⌝ }
     requires { ⌜ Sorted (see (now m) .queue .waiting) ⌝ }
     requires { ⌜ at ≡ place (startsFrom (new .start .0)) (see (now m) .queue .waiting) ⌝ }
+    requires { ⌜ taken ≡ some (startsAt (new .start .0)) (see (now m) .queue .waiting) ⌝ }
     ensures { λ r. ⌜ r ≡ collides new (see (now (m .entry)) .queue .waiting) ⌝ }
 {
-    let t = new.start;
-    if is_taken(m, t, at) {
+    if taken {
         let old = memory::load(m, Which::Waiting, at);
-        return !places::outranks(new, old);
+        return !outranks(new, old);
     }
     false
 }
 
 // The first of b to f that applies to a request whose start is known. new: the session that it asks for; at: the place of the
-// first that starts then or later.
-pub fn splice_result(m: &[u64], conn: u64, r: Request, new: Session, at: usize) -> u16
+// first that starts then or later; taken: whether that one starts then.
+pub fn splice_result(m: &[u64], conn: u64, r: Request, new: Session, at: usize, taken: bool) -> u16
     requires { ⌜ Form (now m) ⌝ }
     requires { ⌜ Holding (see (now m) .clock) (see (now m) .queue) ⌝ }
     requires { ⌜ see (now m) .clock < horizon ⌝ }
@@ -218,6 +236,7 @@ pub fn splice_result(m: &[u64], conn: u64, r: Request, new: Session, at: usize) 
     requires { ⌜ Within (r .start) ⌝ }
     requires { ⌜ startIn conn (r .start) (see (now m) .queue) ≡ At (new .start) ⌝ }
     requires { ⌜ at ≡ place (startsFrom (new .start .0)) (see (now m) .queue .waiting) ⌝ }
+    requires { ⌜ taken ≡ some (startsAt (new .start .0)) (see (now m) .queue .waiting) ⌝ }
     ensures { λ n. ⌜ n ≡ spliceResult (see (now (m .entry)) .clock) conn r new (see (now (m .entry)) .queue) ⌝ }
 {
     if is_wrong_number(m, conn, r.id as u64) {
@@ -227,7 +246,7 @@ pub fn splice_result(m: &[u64], conn: u64, r: Request, new: Session, at: usize) 
     if is_too_late(memory::clock(m), start) {
         return 112;
     }
-    if does_collide(m, new, at) {
+    if does_collide(m, new, at, taken) {
         return 109;
     }
     if is_full(m, conn) {

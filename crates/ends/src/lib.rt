@@ -179,7 +179,7 @@ fn end_on_air_of(m: &mut [u64; WORDS], conn: u64, out: &mut [u8]) -> usize
     requires { ⌜ roomFor (length (see (now m) .queue .started)) ≤ length (now out) ⌝ }
     ensures { λ r. ⌜ Does (airEnded conn) 0 (now (m .entry)) (now (out .entry)) r (now (m .exit)) (now (out .exit)) ⌝ }
 {
-    if memory::count(&*m, Which::Started) == 0 {
+    if memory::is_quiet(&*m) {
         return 0;
     }
     if conn != memory::conn_at(&*m, Which::Started, 0) {

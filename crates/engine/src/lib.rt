@@ -24,6 +24,12 @@ ghost use Rattle.engine.specs.Lent.{Lent, replyOf, Answers, Makes, openT
 // 02, CR 6, 10: "a lent section over 1,024 bytes".
 const SECTION: usize = 1024;
 
+// "2: output buffer below 4,096 bytes".
+pub const ROOM: usize = 4096;
+
+// "8: MicroSeconds above 999,999".
+pub const LAST_MICRO: u32 = 999999;
+
 // What a call answers: a refusal, or what it did.
 pub enum Answer {
     Refused(Refusal),
@@ -93,7 +99,7 @@ pub fn mux(m: &[u64; WORDS], b: &[u8]) -> u64
     requires { ⌜ Lent (now m) (now b) ⌝ }
     ensures { λ r. ⌜ ReadsMux (now (m .entry)) (now (b .entry)) r ⌝ }
 {
-    if memory::count(m, Which::Started) == 0 {
+    if memory::is_quiet(m) {
         return 5;
     }
     memory::mux_at(m, 0)
@@ -104,7 +110,7 @@ pub fn on_air(m: &[u64; WORDS], b: &[u8]) -> u64
     requires { ⌜ Lent (now m) (now b) ⌝ }
     ensures { λ r. ⌜ ReadsFeed (now (m .entry)) (now (b .entry)) r ⌝ }
 {
-    if memory::count(m, Which::Started) == 0 {
+    if memory::is_quiet(m) {
         return 0;
     }
     1
@@ -138,7 +144,7 @@ fn test_open(m: &[u64], conn: u32, room: usize) -> Tested
     if 3 < conn {
         return Tested::Bad(Refusal::NoConnection);
     }
-    if room < 4096 {
+    if room < ROOM {
         return Tested::Bad(Refusal::NoRoom);
     }
     let link = memory::link(m, conn);
@@ -234,7 +240,7 @@ pub fn bring_to(m: &mut [u64; WORDS], b: &mut [u8], until: Ninths, out: &mut [u8
         ⌜ Makes (moveCall (until .0)) (now (m .entry)) (now (b .entry)) (now (out .entry)) r
         (now (m .exit)) (now (b .exit)) (now (out .exit)) ⌝ }
 {
-    if out.len() < 4096 {
+    if out.len() < ROOM {
         return Answer::Refused(Refusal::NoRoom);
     }
     let clock = memory::clock(&*m);
@@ -257,10 +263,10 @@ pub fn tick(m: &mut [u64; WORDS], b: &mut [u8], seconds: u32, micros: u32, out: 
         ⌜ Makes (tickCall seconds micros) (now (m .entry)) (now (b .entry)) (now (out .entry)) r
         (now (m .exit)) (now (b .exit)) (now (out .exit)) ⌝ }
 {
-    if out.len() < 4096 {
+    if out.len() < ROOM {
         return Answer::Refused(Refusal::NoRoom);
     }
-    if 999999 < micros {
+    if LAST_MICRO < micros {
         return Answer::Refused(Refusal::BadMicros);
     }
     let until = units::from_micros(units::time_of(seconds, micros));
@@ -274,10 +280,10 @@ pub fn cue(m: &[u64; WORDS], b: &[u8], section: &[u8], at: Anchor, out: &mut [u8
         ⌜ Makes (cueCall (now (section .entry)) (at .pts) (at .seconds) (at .micros)) (now (m .entry)) (now (b .entry))
         (now (out .entry)) r (now (m .entry)) (now (b .entry)) (now (out .exit)) ⌝ }
 {
-    if out.len() < 4096 {
+    if out.len() < ROOM {
         return Answer::Refused(Refusal::NoRoom);
     }
-    if 999999 < at.micros {
+    if LAST_MICRO < at.micros {
         return Answer::Refused(Refusal::BadMicros);
     }
     if cues::bad_section(section) {

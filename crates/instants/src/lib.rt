@@ -24,7 +24,7 @@ fn elapse(m: &mut [u64; WORDS], d: u64)
     requires { ⌜ see (now m) .primary + d < 18446744073709551616 ⌝ }
     ensures { λ _. ⌜ Now (now (m .exit)) (passed d (see (now (m .entry)))) ⌝ }
 {
-    if memory::count(&*m, Which::Started) == 0 {
+    if memory::is_quiet(&*m) {
         return memory::silence(&mut *m, d);
     }
     memory::play(&mut *m, d)
@@ -35,11 +35,11 @@ fn may_start(m: &[u64], x: Session) -> bool
     requires { ⌜ Form (now m) ⌝ }
     ensures { λ r. ⌜ r ≡ mayStart x (see (now (m .entry)) .queue .started) ⌝ }
 {
-    if memory::count(m, Which::Started) == 0 {
+    if memory::is_quiet(m) {
         return true;
     }
     let air = memory::load(m, Which::Started, 0);
-    x.overrides == 1 && places::outranks(x, air)
+    x.overrides == 1 && checks::outranks(x, air)
 }
 
 // An equal one on air ends at once, before the start of x, and then the waiting ones that follow it.
@@ -50,7 +50,7 @@ fn oust(m: &mut [u64; WORDS], x: Session, out: &mut [u8], len: usize) -> usize
     requires { ⌜ len + roomFor (1 + length (see (now m) .queue .waiting)) ≤ length (now out) ⌝ }
     ensures { λ r. ⌜ Does (ousted x) len (now (m .entry)) (now (out .entry)) r (now (m .exit)) (now (out .exit)) ⌝ }
 {
-    if memory::count(&*m, Which::Started) == 0 {
+    if memory::is_quiet(&*m) {
         return len;
     }
     let air = memory::load(&*m, Which::Started, 0);

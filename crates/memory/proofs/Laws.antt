@@ -10,7 +10,7 @@ use lib.ListN.{length, take, drop, set, getD, replicate, length-set, length-repl
 use lib.Seq.{length-take-le, take-all, take-at, drop-at, take-add, take-take, take-set-lt, take-set-le, drop-drop, drop-cons, getD-take}
 use lib.Seq.{getD-drop, drop-set-lt, drop-set-add, getD-set-same, getD-set-other, set-getD, ext-getD}
 use borrow.Rule.Slice.PartMut.{putMid, postOf, same-len-mid, mid-len, take-put, drop-put}
-use borrow.Author.Tests.{eqb-true, eqb-false, eq-eqb, ne-eqb}
+use borrow.Author.Tests.{eqb-true, eqb-false, eq-eqb, ne-eqb, le-ltb}
 use Rattle.rules.specs.declared.Ninths.{Ninths}
 use Rattle.rules.specs.declared.When.the-variants.{At}
 use Rattle.rules.specs.declared.Session.{Session}
@@ -33,12 +33,12 @@ use Rattle.places.proofs.Laws.{length-used, words-same, cleared, cleared-none, 
 use Rattle.places.proofs.Words.{spare-none}
 use Rattle.places.proofs.Ring.{ring-full}
 use Rattle.memory.specs.declared.Which.{Which}
-use Rattle.memory.proofs.Late.{pasts-at, late-same, none-late, written5, length5, far5, lateAfter, late-after}
+use Rattle.memory.proofs.Late.{pastAt, pasts-at, late-same, none-late, written5, length5, far5, lateAfter, late-after}
 use Rattle.memory.specs.declared.Which.the-variants.{Waiting, Started}
 use Rattle.memory.specs.Memory.{clockWord, slotOf, ringWord, primaryWord, firstCount, firstLink, connections, placesOf, fromOf, toOf}
 use Rattle.memory.specs.Memory.{spanOf, words, wordOf, linkIn, IsLink, linksOf, countsOf, ringOf, lotOf, sessions, OfFour, tallied}
 use Rattle.memory.specs.Memory.{Form, Memory, see, Now, firstPast, pastWidth, pastWords, nextWord, lateSize, lateOf, nextIn, latelyIn}
-use Rattle.memory.specs.Memory.{recalling}
+use Rattle.memory.specs.Memory.{recalling, pastFrom, endedIn}
 use Rattle.memory.specs.Memory.{timed, silenced, linked, listOf, relisted, onward, nothingShown, nameSize, bytes, nameBytes, nameOf}
 use Rattle.memory.specs.Memory.{keptFrom, keptBytes, keptOf, spread, Stored, Whole, shown}
 
@@ -655,6 +655,43 @@ recent-word m i {n} h o =
     first =
         let e : firstPast + j * pastWidth ≡ firstPast + j * pastWidth + 0 = omega arith in
         ap (λ (b : ℕ). getD m b 0) e ∙ word 0 (omega arith)
+
+-- the same of these words alone
+pub ended-recent : (m : List ℕ) → Form m → (i : ℕ) → i < mostKept → endedIn (lateOf m) i ≡ recentAt i (see m .queue .lately)
+unfolding endedIn recentAt
+ended-recent m f i h = rw (le-ltb (length e) lateSize long) (ap (λ (q : ℕ). pastFrom e (q * pastWidth)) same ∙ first
+    ∙ sym (pasts-at mostKept p e (omega arith)))
+  where
+    e : List ℕ
+    e = lateOf m
+
+    p : ℕ
+    p = (nextIn e + (mostKept - 1 - i)) % mostKept
+
+    long : lateSize ≤ length e
+    long = let l = length-take-le lateSize (drop firstPast m) (omega (arith, length-drop firstPast m, f .whole)) in omega (arith, l)
+
+    same : (nextIn e % mostKept + (mostKept - 1 - i)) % mostKept ≡ p
+    same = omega (arith, f .late)
+
+    first : pastFrom e (p * pastWidth) ≡ pastAt e p
+    first =
+        let z : p * pastWidth ≡ p * pastWidth + 0 = omega arith in
+        (λ j. record {
+          conn = getD e (z j) 0;
+          id = getD e (p * pastWidth + 1) 0;
+          event = getD e (p * pastWidth + 2) 0;
+          result = getD e (p * pastWidth + 3) 0;
+          played = getD e (p * pastWidth + 4) 0;
+        })
+
+-- ## Whether one is on air
+
+pub quiet-none : {n : ℕ} {b : Bool} → b ≡ eqb n 0 → b ≡ true → n ≡ 0
+quiet-none {n} e h = eqb-true n 0 (sym e ∙ h)
+
+pub quiet-some : {n : ℕ} {b : Bool} → b ≡ eqb n 0 → b ≡ false → 0 < n
+quiet-some {n} e h = let k = eqb-false n 0 (sym e ∙ h) in omega (arith, k)
 
 -- one more has ended: its words from the word b on, n being the next place
 module _ (m : List ℕ) (e : Past) (n b : ℕ) (o : n ≡ nextIn (lateOf m)) (p : b ≡ firstPast + n * pastWidth) (f : Form m) where

@@ -2,8 +2,8 @@
 use mathlib.Core.Path.{_≡_}
 use mathlib.Core.Bool.{Bool, cond}
 use mathlib.Core.List.{List, [], _∷_, _++_, map}
-use Prim.Native.Nat.{ℕ, zero, suc, _+_, _-_, _*_, _≤_, _<_}
-use lib.Dec.{eqb}
+use Prim.Native.Nat.{ℕ, zero, suc, _+_, _-_, _*_, _%_, _≤_, _<_}
+use lib.Dec.{eqb, ltb}
 use lib.ListN.{length, drop, set, getD, replicate}
 use Rattle.rules.specs.declared.Session.{Session}
 use Rattle.rules.specs.declared.Past.{Past}
@@ -14,6 +14,7 @@ use Rattle.rules.specs.Bytes.{part, nameIn, padded}
 use Rattle.rules.specs.Reading.{longestHardware, lengthIn, structureIn}
 use Rattle.rules.specs.Answers.{waits}
 use Rattle.rules.specs.State.{Lately, Queue, Splicer, noHardware, withWaiting, withStarted, withLately, mostKept, remembered, noneHeld}
+use Rattle.rules.specs.State.{unused}
 use Rattle.places.specs.Places.{Narrow, Lot, lot, Good, used, width, places, turned, round, next}
 use Rattle.memory.specs.declared.Which.{Which}
 use Rattle.memory.specs.declared.Which.the-variants.{Waiting, Started}
@@ -137,6 +138,16 @@ nextIn q = getD q pastWords 0
 
 abbrev pub latelyIn : List ℕ → Lately
 latelyIn q = record { places = pasts mostKept q; next = nextIn q }
+
+-- the one whose words stand from the word b on
+abbrev pub pastFrom : List ℕ → ℕ → Past
+pastFrom q b =
+    record { conn = getD q b 0; id = getD q (b + 1) 0; event = getD q (b + 2) 0; result = getD q (b + 3) 0; played = getD q (b + 4) 0 }
+
+-- of any words: the one that ended i ends before the newest, "filled from the newest down"; fewer words keep nothing
+unfoldable pub endedIn : List ℕ → ℕ → Past
+endedIn q i =
+    cond (ltb (length q) lateSize) unused (pastFrom q ((nextIn q % mostKept + (mostKept - 1 - i)) % mostKept * pastWidth))
 
 -- ## What the words show
 

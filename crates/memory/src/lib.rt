@@ -14,6 +14,7 @@ ghost use mathlib.Core.Path.{_≡_};
 ghost use mathlib.Core.Bool.{true};
 ghost use mathlib.Core.List.{[], _∷_};
 ghost use Prim.Native.Nat.{_+_, _-_, _≤_, _<_};
+ghost use lib.Dec.{eqb};
 ghost use lib.ListN.{length, getD, set};
 ghost use lib.Seq.{paste};
 ghost use Rattle.rules.specs.declared.Link.the-variants.{Closed};
@@ -27,7 +28,7 @@ ghost use Rattle.places.specs.Places.{Narrow, keyTest, startsFrom, round, zeros
 ghost use Rattle.memory.specs.declared.Which.the-variants.{Waiting, Started};
 ghost use Rattle.memory.specs.Memory.{slotOf, ringOf, firstLink, fromOf, toOf, words, placesOf, wordOf, linkIn};
 ghost use Rattle.memory.specs.Memory.{sessions, see, Form, Now, timed, silenced, linked, relisted, recalling, onward, nothingShown};
-ghost use Rattle.memory.specs.Memory.{Storable, tallied};
+ghost use Rattle.memory.specs.Memory.{Storable, tallied, pastWidth, pastFrom, endedIn};
 ghost use Rattle.memory.specs.Memory.{nameBytes, nameOf, keptOf, spread, Stored, Holds, Named};
 
 // Where what stands in the words.
@@ -56,15 +57,19 @@ const WAITING_FROM: usize = LINKS + CONNECTIONS;
 const STARTED_FROM: usize = WAITING_FROM + WAITING_PLACES * WIDTH;
 
 // What ended lately: the words of each, and behind the last the place that is written next.
-const PASTS: usize = STARTED_FROM + STARTED_PLACES * WIDTH;
+pub const PASTS: usize = STARTED_FROM + STARTED_PLACES * WIDTH;
 
 const PAST_WIDTH: usize = 5;
 
-const PAST_PLACES: usize = 16;
+pub const PAST_PLACES: usize = 16;
 
-const NEXT: usize = PASTS + PAST_PLACES * PAST_WIDTH;
+const PAST_NEXT: usize = PAST_PLACES * PAST_WIDTH;
 
-pub const WORDS: usize = NEXT + 1;
+pub const PAST_WORDS: usize = PAST_NEXT + 1;
+
+const NEXT: usize = PASTS + PAST_NEXT;
+
+pub const WORDS: usize = PASTS + PAST_WORDS;
 
 // A connection's word.
 const CLOSED: u64 = 0;
@@ -138,6 +143,14 @@ pub fn count(m: &[u64], which: Which) -> usize
 {
     let i = slot(which);
     m[i] as usize
+}
+
+// Whether none has started, so that nothing is on air but the primary channel.
+pub fn is_quiet(m: &[u64]) -> bool
+    requires { ⌜ Form (now m) ⌝ }
+    ensures { λ r. ⌜ r ≡ eqb (length (sessions Started (now (m .entry)))) 0 ⌝ }
+{
+    count(m, Which::Started) == 0
 }
 
 // The session `at`.
@@ -419,6 +432,20 @@ pub fn remember(m: &mut [u64], x: Past)
     m[NEXT] = ((next + 1) % PAST_PLACES) as u64;
 }
 
+// The one that ended whose words stand from the word b on.
+fn past_in(e: &[u64], b: usize) -> Past
+    requires { ⌜ b + pastWidth ≤ length (now e) ⌝ }
+    ensures { λ r. ⌜ r ≡ pastFrom (now (e .entry)) b ⌝ }
+{
+    Past {
+        conn: e[b],
+        id: e[b + 1],
+        event: e[b + 2],
+        result: e[b + 3],
+        played: e[b + 4],
+    }
+}
+
 // The one that ended i ends before the newest, or nothing where fewer have ended.
 pub fn recent_at(m: &[u64], i: usize) -> Past
     requires { ⌜ Form (now m) ⌝ }
@@ -427,13 +454,7 @@ pub fn recent_at(m: &[u64], i: usize) -> Past
 {
     let next = next_past(m);
     let b = PASTS + (next + (PAST_PLACES - 1 - i)) % PAST_PLACES * PAST_WIDTH;
-    Past {
-        conn: m[b],
-        id: m[b + 1],
-        event: m[b + 2],
-        result: m[b + 3],
-        played: m[b + 4],
-    }
+    past_in(m, b)
 }
 
 // What stands where none is kept.
@@ -447,6 +468,19 @@ fn no_past() -> Past
         result: 0,
         played: 0,
     }
+}
+
+// The same of the last words alone, those of what ended, whatever they hold: fewer words keep nothing.
+pub fn ended_at(e: &[u64], i: usize) -> Past
+    requires { ⌜ i < mostKept ⌝ }
+    ensures { λ r. ⌜ r ≡ endedIn (now (e .entry)) i ⌝ }
+{
+    if e.len() < PAST_WORDS {
+        return no_past();
+    }
+    let next = e[PAST_NEXT] as usize;
+    let p = (next % PAST_PLACES + (PAST_PLACES - 1 - i)) % PAST_PLACES;
+    past_in(e, p * PAST_WIDTH)
 }
 
 // An end is kept there, of the connection's number.

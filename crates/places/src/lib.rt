@@ -10,7 +10,7 @@ ghost use Prim.Native.Nat.{_+_, _-_, _/_, _≤_, _<_};
 ghost use lib.ListN.{length, drop, set, getD};
 ghost use Rattle.rules.specs.Lists.{omit, place, insertAt, removeAt};
 ghost use Rattle.rules.specs.State.{empty, of, Sorted};
-ghost use Rattle.rules.specs.Instants.{outranks, onAir};
+ghost use Rattle.rules.specs.Instants.{onAir};
 ghost use Rattle.places.specs.Places.{width, capacity, Row, places, spare, round, turned, Ring, next, lot, used, moved};
 ghost use Rattle.places.specs.Places.{Narrow, Good, Made, keyTest, startsFrom, leastEnd, unflagged, Unflagged};
 
@@ -280,13 +280,6 @@ fn drop_first(q: &mut [u64], ring_end: usize, n: usize, k: usize)
         remove_at(&mut *q, ring_end, n - i, 0);
         i += 1;
     }
-}
-
-// Whether a new session outranks an old one: a higher one does, and with the flag at 1 an equal one.
-pub fn outranks(new: Session, old: Session) -> bool
-    ensures { λ r. ⌜ r ≡ outranks new old ⌝ }
-{
-    old.access < new.access || old.access - new.access < new.overrides
 }
 
 // Whether the session in the words from b on is one that the key looks for.

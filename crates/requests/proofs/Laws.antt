@@ -184,6 +184,12 @@ asks c r q {t} f e k =
       at = k ∙ ap (λ (u : Ninths). place (startsFrom (u .0)) (q .waiting)) z;
     }
 
+-- whether its start is taken
+pub asks-taken : (c : ℕ) (r : Request) (w : List Session) (t : Ninths) {new : Session} {b : Bool} → new ≡ sessionAt (t .0) c r →
+    b ≡ some (startsAt (t .0)) w → b ≡ some (startsAt (new .start .0)) w
+unfolding sessionAt
+asks-taken c r w t e k = k ∙ ap (λ (u : Ninths). some (startsAt (u .0)) w) (sym (ap (λ (s : Session). s .start) e))
+
 -- a connection that is not full leaves room for one more
 room-left : (s : Session) (w : List Session) → OfFour s → All OfFour w → Room w → full (s .conn) w ≡ false → length w < placesOf Waiting
 room-left s w low a r f = omega (arith, sixty-four (s ∷ w) (low, a) (room-more w (s ∷ w) (s .conn) low f (λ c. omega arith) r))

@@ -10,7 +10,8 @@ use rules::When;
 ghost use mathlib.Core.Path.{_≡_};
 ghost use Prim.Native.Nat.{_+_, _≤_, _<_};
 ghost use lib.ListN.{length};
-ghost use Rattle.rules.specs.Lists.{place};
+ghost use Rattle.rules.specs.Lists.{some, place};
+ghost use Rattle.rules.specs.State.{startsAt};
 ghost use Rattle.rules.specs.Answers.{grants, answerSplice, answerAbort};
 ghost use Rattle.rules.specs.Sound.{horizon, Holding};
 ghost use Rattle.rules.specs.Asked.{Asked};
@@ -26,15 +27,16 @@ struct Way {
     len: usize,
 }
 
-// f. One that waits with the start t ends first, with its followers; `at` is the place of the first from t on.
-fn make_way(m: &mut [u64; WORDS], t: Ninths, at: usize, out: &mut [u8]) -> Way
+// f. One that waits with the start t, if it is taken, ends first, with its followers; `at` is the place of the first from t on.
+fn make_way(m: &mut [u64; WORDS], t: Ninths, at: usize, taken: bool, out: &mut [u8]) -> Way
     requires { ⌜ Form (now m) ⌝ }
     requires { ⌜ Holding (see (now m) .clock) (see (now m) .queue) ⌝ }
     requires { ⌜ at ≡ place (startsFrom (t .0)) (see (now m) .queue .waiting) ⌝ }
+    requires { ⌜ taken ≡ some (startsAt (t .0)) (see (now m) .queue .waiting) ⌝ }
     requires { ⌜ 4096 ≤ length (now out) ⌝ }
     ensures { λ r. ⌜ MadeWay (t .0) (now (m .entry)) (now (out .entry)) r (now (m .exit)) (now (out .exit)) ⌝ }
 {
-    if checks::is_taken(&*m, t, at) {
+    if taken {
         let to = ends::end_waiting(&mut *m, at, 109, &mut *out, 0);
         let i = memory::find_start(&*m, t);
         return Way { at: i, len: to };
@@ -43,17 +45,18 @@ fn make_way(m: &mut [u64; WORDS], t: Ninths, at: usize, out: &mut [u8]) -> Way
 }
 
 // f. The new session waits, once the one that it evicts has ended; the 100 is written last.
-fn accept(m: &mut [u64; WORDS], new: Session, at: usize, out: &mut [u8]) -> Did
+fn accept(m: &mut [u64; WORDS], new: Session, at: usize, taken: bool, out: &mut [u8]) -> Did
     requires { ⌜ Form (now m) ⌝ }
     requires { ⌜ Holding (see (now m) .clock) (see (now m) .queue) ⌝ }
     requires { ⌜ at ≡ place (startsFrom (new .start .0)) (see (now m) .queue .waiting) ⌝ }
+    requires { ⌜ taken ≡ some (startsAt (new .start .0)) (see (now m) .queue .waiting) ⌝ }
     requires { ⌜ length (see (now m) .queue .waiting) < placesOf Waiting ⌝ }
     requires { ⌜ Storable new ⌝ }
     requires { ⌜ 4096 ≤ length (now out) ⌝ }
     ensures { λ r. ⌜ Splices (grants new (see (now (m .entry)) .queue))
         (now (m .entry)) (now (out .entry)) r (now (m .exit)) (now (out .exit)) ⌝ }
 {
-    let way = make_way(&mut *m, new.start, at, &mut *out);
+    let way = make_way(&mut *m, new.start, at, taken, &mut *out);
     let len = way.len;
     let moved = memory::accept(&mut *m, way.at, new);
     let to = len + writing::splice_response(&mut out[len..], new.conn, 100, new.id);
@@ -88,9 +91,10 @@ pub fn answer_splice(m: &mut [u64; WORDS], conn: u64, r: Request, out: &mut [u8]
     };
     let new = checks::session_at(t, conn, r);
     let at = memory::find_start(&*m, t);
-    let n = checks::splice_result(&*m, conn, r, new, at);
+    let taken = checks::is_taken(&*m, t, at);
+    let n = checks::splice_result(&*m, conn, r, new, at, taken);
     if n == 100 {
-        return accept(&mut *m, new, at, &mut *out);
+        return accept(&mut *m, new, at, taken, &mut *out);
     }
     let len = writing::splice_response(&mut *out, conn, n, r.id as u64);
     Did {

@@ -4,12 +4,12 @@
 use mathlib.Core.Path.{_≡_, refl, sym, ap, _∙_}
 use mathlib.Core.Bool.{Bool, true, false}
 use mathlib.Core.List.{List, [], _∷_, map}
-use Prim.Native.Nat.{ℕ, zero, suc, _+_, _-_, _*_, _%_, _≤_, _<_}
+use Prim.Native.Nat.{ℕ, zero, suc, _+_, _%_, _≤_, _<_}
 use native.Mathlib.Omega.{arith}
-use lib.Dec.{eqb, ltb}
+use lib.Dec.{eqb}
 use lib.ListN.{length, set, getD, length-set}
 use lib.Seq.{getD-set-same, getD-set-other, ext-getD}
-use borrow.Author.Tests.{eqb-true, eqb-false, eq-eqb, ne-eqb, le-ltb}
+use borrow.Author.Tests.{eqb-true, eqb-false, eq-eqb, ne-eqb}
 use Rattle.rules.specs.declared.Past.{Past}
 use Rattle.rules.specs.declared.Refusal.the-variants.{NotSixteen}
 use Rattle.rules.specs.State.{Lately, mostKept, isKept, recentAt, recentFrom, recent}
@@ -17,7 +17,7 @@ use Rattle.rules.specs.Calls.{houseNumber}
 use Rattle.rules.specs.Sound.{Noted}
 use Rattle.rules.proofs.Tests.{by}
 use Rattle.rows.specs.declared.Row.{Row}
-use Rattle.rows.specs.Rows.{rows, width, nextWord, words, placeOf, unusedRow, placeRow, rowAt, sixteen, pageNumber, filled, Pages}
+use Rattle.rows.specs.Rows.{rows, unusedRow, rowIn, rowAt, sixteen, pageNumber, filled, Pages}
 use Rattle.rows.specs.Rows.{rowOf, rowsOf}
 
 -- ## The promise
@@ -102,34 +102,26 @@ page-rows e l lent {r} {a} f h p =
     (λ i k. let j : i < rows = omega (arith, q .1) in let o : 0 + i ≡ i = omega arith in
     q .2 i j ∙ f i j ∙ sym (recent-row 0 mostKept i l j ∙ ap (λ (n : ℕ). rowOf (recentAt n l)) o))
 
--- the row of five words x, each as narrow as a row's number
-pub narrow-row : (e : List ℕ) (b : ℕ) (x : Past) → getD e b 0 ≡ x .conn → getD e (b + 1) 0 ≡ x .id → getD e (b + 2) 0 ≡ x .event →
-    getD e (b + 3) 0 ≡ x .result → getD e (b + 4) 0 ≡ x .played → Noted x → placeRow e b ≡ rowOf x
-unfolding placeRow
-narrow-row e b x c i v r p n = go (eqb (x .result) 0) refl
+-- the row of one that ended, each of its numbers as narrow as a row's
+pub narrow-row : (x : Past) → Noted x → rowIn x ≡ rowOf x
+unfolding rowIn
+narrow-row x n = go (eqb (x .result) 0) refl
   where
-    m0 : getD e b 0 % 4294967296 ≡ x .conn
-    m0 = omega (arith, c, n .conn)
+    m0 : x .conn % 4294967296 ≡ x .conn
+    m0 = omega (arith, n .conn)
 
-    m1 : getD e (b + 1) 0 % 4294967296 ≡ x .id
-    m1 = omega (arith, i, n .id)
+    m1 : x .id % 4294967296 ≡ x .id
+    m1 = omega (arith, n .id)
 
-    m2 : getD e (b + 2) 0 % 4294967296 ≡ x .event
-    m2 = omega (arith, v, n .event)
+    m2 : x .event % 4294967296 ≡ x .event
+    m2 = omega (arith, n .event)
 
-    m3 : getD e (b + 3) 0 % 4294967296 ≡ x .result
-    m3 = omega (arith, r, n .result)
+    m3 : x .result % 4294967296 ≡ x .result
+    m3 = omega (arith, n .result)
 
-    m4 : getD e (b + 4) 0 % 4294967296 ≡ x .played
-    m4 = omega (arith, p, n .played)
+    m4 : x .played % 4294967296 ≡ x .played
+    m4 = omega (arith, n .played)
 
-    go : (t : Bool) → eqb (x .result) 0 ≡ t → placeRow e b ≡ rowOf x
-    go true h = let z : eqb (getD e (b + 3) 0) 0 ≡ true = ap (λ (k : ℕ). eqb k 0) r ∙ h in rw (z, h)
-    go false h =
-        let z : eqb (getD e (b + 3) 0) 0 ≡ false = ap (λ (k : ℕ). eqb k 0) r ∙ h in
-        rw (z, h) (λ j. record { kept = 1; connection = m0 j; session = m1 j; event = m2 j; result = m3 j; played = m4 j })
-
--- of words enough, the row i is that of its place
-pub row-place : (e : List ℕ) (i : ℕ) → words ≤ length e → rowAt e i ≡ placeRow e (placeOf (getD e nextWord 0) i * width)
-unfolding rowAt
-row-place e i h = rw (le-ltb (length e) words h)
+    go : (t : Bool) → eqb (x .result) 0 ≡ t → rowIn x ≡ rowOf x
+    go true h = rw h
+    go false h = rw h (λ j. record { kept = 1; connection = m0 j; session = m1 j; event = m2 j; result = m3 j; played = m4 j })

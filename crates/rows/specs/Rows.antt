@@ -2,31 +2,19 @@
 use mathlib.Core.Path.{_≡_}
 use mathlib.Core.Bool.{cond}
 use mathlib.Core.List.{List, map}
-use Prim.Native.Nat.{ℕ, zero, suc, _+_, _-_, _*_, _%_}
-use lib.Dec.{eqb, ltb}
-use lib.ListN.{length, set, getD}
+use Prim.Native.Nat.{ℕ, zero, suc, _%_}
+use lib.Dec.{eqb}
+use lib.ListN.{length, set}
 use Rattle.rules.specs.declared.Past.{Past}
 use Rattle.rules.specs.declared.Refusal.the-variants.{NotSixteen}
 use Rattle.rules.specs.State.{Lately, isKept, recent}
 use Rattle.rules.specs.Calls.{houseNumber}
+use Rattle.memory.specs.Memory.{endedIn}
 use Rattle.rows.specs.declared.Row.{Row}
 
--- "the last 16 ended sessions": sixteen places of five words, and which of them is written next
+-- "the last 16 ended sessions"
 abbrev pub rows : ℕ
 rows = 16
-
-abbrev pub width : ℕ
-width = 5
-
-abbrev pub nextWord : ℕ
-nextWord = rows * width
-
-abbrev pub words : ℕ
-words = nextWord + 1
-
--- the place of the row i, "filled from the newest down": places are written in turn, so the newest stands before the next one
-abbrev pub placeOf : (next i : ℕ) → ℕ
-placeOf n i = (n % rows + (rows - 1 - i)) % rows
 
 -- "unused rows marked empty, numbers 0"
 abbrev pub unusedRow : Row
@@ -35,25 +23,21 @@ unusedRow = record { kept = 0; connection = 0; session = 0; event = 0; result = 
 abbrev pub narrow : ℕ → ℕ
 narrow n = n % 4294967296
 
--- the place that begins with the word b: connection, SessionID, SpliceEventID, result, PlayedDuration
-abbrev pub keptRow : List ℕ → ℕ → Row
-keptRow e b =
-    record {
-      kept = 1;
-      connection = narrow (getD e b 0);
-      session = narrow (getD e (b + 1) 0);
-      event = narrow (getD e (b + 2) 0);
-      result = narrow (getD e (b + 3) 0);
-      played = narrow (getD e (b + 4) 0);
-    }
-
 -- a place whose result is 0 keeps nothing (rules' `isKept`)
-unfoldable pub placeRow : List ℕ → ℕ → Row
-placeRow e b = cond (eqb (getD e (b + 3) 0) 0) unusedRow (keptRow e b)
+unfoldable pub rowIn : Past → Row
+rowIn x =
+    cond (eqb (x .result) 0) unusedRow (record {
+      kept = 1;
+      connection = narrow (x .conn);
+      session = narrow (x .id);
+      event = narrow (x .event);
+      result = narrow (x .result);
+      played = narrow (x .played);
+    })
 
--- fewer words keep nothing
-unfoldable pub rowAt : List ℕ → ℕ → Row
-rowAt e i = cond (ltb (length e) words) unusedRow (placeRow e (placeOf (getD e nextWord 0) i * width))
+-- the row i, "filled from the newest down", of any words
+abbrev pub rowAt : List ℕ → ℕ → Row
+rowAt e i = rowIn (endedIn e i)
 
 -- "the caller lends sixteen rows and they are filled": of n rows, all of sixteen, of another number none
 abbrev pub sixteen : ℕ → ℕ

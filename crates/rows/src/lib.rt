@@ -1,19 +1,12 @@
 // The rows of the driver's page, from the words in which what ended is kept (02, CR 8).
-// The page itself is the door's.
+// The page itself is the door's; where what stands in the words `memory` knows.
+use rules::Past;
 ghost use mathlib.Core.Path.{_≡_};
-ghost use Prim.Native.Nat.{_+_, _≤_, _<_};
-ghost use lib.ListN.{length};
-ghost use Rattle.rows.specs.Rows.{rows, width, unusedRow, placeRow, rowAt, sixteen, pageNumber};
+ghost use Prim.Native.Nat.{_<_};
+ghost use Rattle.rows.specs.Rows.{rows, unusedRow, rowIn, rowAt, sixteen, pageNumber};
 
-// How many rows the page has, and how many words the place of one that ended.
-pub const ROWS: usize = 16;
-
-pub const WIDTH: usize = 5;
-
-// The places, and behind them which is written next.
-const NEXT: usize = ROWS * WIDTH;
-
-pub const WORDS: usize = NEXT + 1;
+// How many rows the page has.
+pub const ROWS: usize = memory::PAST_PLACES;
 
 // The house number for other than sixteen rows.
 const NOT_SIXTEEN: u64 = 16;
@@ -45,21 +38,20 @@ fn nothing() -> Row
     }
 }
 
-// The row of the place that begins with the word b.
-fn place_row(e: &[u64], b: usize) -> Row
-    requires { ⌜ b + width ≤ length (now e) ⌝ }
-    ensures { λ r. ⌜ r ≡ placeRow (now (e .entry)) b ⌝ }
+// The row of one that ended, or of a place that keeps none.
+fn row_of(x: Past) -> Row
+    ensures { λ r. ⌜ r ≡ rowIn x ⌝ }
 {
-    if e[b + 3] == 0 {
+    if x.result == 0 {
         return nothing();
     }
     Row {
         kept: 1,
-        connection: (e[b] % U32) as u32,
-        session: (e[b + 1] % U32) as u32,
-        event: (e[b + 2] % U32) as u32,
-        result: (e[b + 3] % U32) as u32,
-        played: (e[b + 4] % U32) as u32,
+        connection: (x.conn % U32) as u32,
+        session: (x.id % U32) as u32,
+        event: (x.event % U32) as u32,
+        result: (x.result % U32) as u32,
+        played: (x.played % U32) as u32,
     }
 }
 
@@ -68,12 +60,7 @@ pub fn row_at(e: &[u64], i: usize) -> Row
     requires { ⌜ i < rows ⌝ }
     ensures { λ r. ⌜ r ≡ rowAt (now (e .entry)) i ⌝ }
 {
-    if e.len() < WORDS {
-        return nothing();
-    }
-    let next = e[NEXT] as usize;
-    let p = (next % ROWS + (ROWS - 1 - i)) % ROWS;
-    place_row(e, p * WIDTH)
+    row_of(memory::ended_at(e, i))
 }
 
 // How many rows are filled: all of sixteen, or none.

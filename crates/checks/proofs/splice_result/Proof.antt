@@ -39,7 +39,7 @@ returns-2 c =
 does-collide-requires : tie.Need-does-collide-requires
 does-collide-requires c κs =
     let s = c .before .before .before .before .before .before .before in
-    (s .pre .0, (s .pre .1 .0 .timed .sorted, s .pre .1 .1 .1 .1 .1 .1))
+    (s .pre .0, (s .pre .1 .0 .timed .sorted, (s .pre .1 .1 .1 .1 .1 .1 .0, s .pre .1 .1 .1 .1 .1 .1 .1)))
 
 returns-3 : tie.Need-returns-3
 returns-3 c =

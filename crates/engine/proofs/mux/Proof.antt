@@ -9,6 +9,7 @@ use Rattle.rules.specs.State.{empty}
 use Rattle.rules.specs.Answers.{airMux}
 use Rattle.memory.specs.declared.Which.the-variants.{Started}
 use Rattle.memory.specs.Memory.{sessions}
+use Rattle.memory.proofs.Laws.{quiet-none, quiet-some}
 use borrow.Author.Needs.{needs}
 use Rattle.engine.proofs.mux.Statement.{statement}
 use Rattle.engine.proofs.mux.Tie as tie
@@ -23,22 +24,22 @@ unfolding airMux
 air-first [] h = absurd (omega arith)
 air-first (x ∷ l) h = refl
 
-count-requires : tie.Need-count-requires
-count-requires c κs = search needs
+is-quiet-requires : tie.Need-is-quiet-requires
+is-quiet-requires c κs = search needs
 
 returns : tie.Need-returns
 returns c =
     let m = c .before .before .before .before .args .m .now in
-    air-none (sessions Started m) (omega (arith, c .before .count .ensures, c .if1 .taken))
+    air-none (sessions Started m) (quiet-none (c .before .is-quiet .ensures) (c .if1 .taken))
 
 mux-at-requires : tie.Need-mux-at-requires
-mux-at-requires c κs = search needs
+mux-at-requires c κs = search (needs, quiet-some (c .before .is-quiet .ensures) (c .if1 .left))
 
 returns-2 : tie.Need-returns-2
 returns-2 c =
     let some = c .before .before in
     let m = c .before .before .before .before .before .before .args .m .now in
-    c .mux-at .ensures ∙ air-first (sessions Started m) (omega (arith, some .before .count .ensures, some .if1 .left))
+    c .mux-at .ensures ∙ air-first (sessions Started m) (quiet-some (some .before .is-quiet .ensures) (some .if1 .left))
 
 pub mux-spec : {M : Type 1} → statement M
-mux-spec = tie.close (tie.spec count-requires returns mux-at-requires returns-2)
+mux-spec = tie.close (tie.spec is-quiet-requires returns mux-at-requires returns-2)

@@ -4,26 +4,23 @@ use denote.Ref.{now}
 use Rattle.memory.specs.declared.Which.the-variants.{Started}
 use Rattle.memory.specs.Memory.{sessions}
 use Rattle.engine.proofs.Calls.{feed-none, feed-some}
+use Rattle.memory.proofs.Laws.{quiet-none, quiet-some}
 use borrow.Author.Needs.{needs}
 use Rattle.engine.proofs.on_air.Statement.{statement}
 use Rattle.engine.proofs.on_air.Tie as tie
 
-count-requires : tie.Need-count-requires
-count-requires c κs = search needs
+is-quiet-requires : tie.Need-is-quiet-requires
+is-quiet-requires c κs = search needs
 
 returns : tie.Need-returns
 returns c =
     let s = c .before .before .before .before in
-    let count = c .before .count in
-    let if1 = c .if1 in
-    feed-none (sessions Started (s .args .m .now)) (omega (arith, count .ensures, if1 .taken))
+    feed-none (sessions Started (s .args .m .now)) (quiet-none (c .before .is-quiet .ensures) (c .if1 .taken))
 
 returns-2 : tie.Need-returns-2
 returns-2 c =
     let s = c .before .before .before .before in
-    let count = c .before .count in
-    let if1 = c .if1 in
-    feed-some (sessions Started (s .args .m .now)) (omega (arith, count .ensures, if1 .left))
+    feed-some (sessions Started (s .args .m .now)) (quiet-some (c .before .is-quiet .ensures) (c .if1 .left))
 
 pub on-air-spec : {M : Type 1} → statement M
-on-air-spec = tie.close (tie.spec count-requires returns returns-2)
+on-air-spec = tie.close (tie.spec is-quiet-requires returns returns-2)

@@ -3,7 +3,7 @@
 use mathlib.Core.Path.{sym, _∙_}
 use native.Mathlib.Omega.{arith}
 use Rattle.memory.specs.Memory.{see}
-use Rattle.requests.proofs.Laws.{start-fits, asks, storable, room-waiting, splice-accepted, splice-refused, splice-unknown}
+use Rattle.requests.proofs.Laws.{start-fits, asks, asks-taken, storable, room-waiting, splice-accepted, splice-refused, splice-unknown}
 use borrow.Author.Needs.{needs}
 use Rattle.requests.proofs.answer_splice.Statement.{statement}
 use Rattle.requests.proofs.answer_splice.Tie as tie
@@ -52,9 +52,17 @@ find-start-requires c κs =
     let s = c8 .before .before in
     (s .pre .0, s .pre .1 .0 .timed .sorted)
 
+is-taken-requires : tie.Need-is-taken-requires
+is-taken-requires c κs =
+    let found = c .before .before in
+    let wanted = found .before .before .before in
+    let s = wanted .before .before .before .before .before .before .before .before in
+    (s .pre .0, (s .pre .1 .0 .timed .sorted, found .find-start .ensures))
+
 splice-result-requires : tie.Need-splice-result-requires
 splice-result-requires c κs =
-    let found = c .before .before in
+    let asked = c .before .before in
+    let found = asked .before .before .before in
     let wanted = found .before .before .before in
     let known = wanted .before .before in
     let began = known .before .before in
@@ -62,13 +70,16 @@ splice-result-requires c κs =
     let m = s .args .m .now in
     let yes = sym (began .start-of .ensures) ∙ known .when .given .1 in
     let a = asks (s .args .conn) (s .args .r) (see m .queue) yes (wanted .session-at .ensures) (found .find-start .ensures) in
-    (s .pre .0, (s .pre .1 .0, (s .pre .1 .1 .0, (s .pre .1 .1 .1 .0, (s .pre .1 .1 .1 .1 .0 .start, (a .known, a .at))))))
+    let b = asks-taken (s .args .conn) (s .args .r) (see m .queue .waiting) (known .when .given .0 .0) (wanted .session-at .ensures)
+    (asked .is-taken .ensures) in
+    (s .pre .0, (s .pre .1 .0, (s .pre .1 .1 .0, (s .pre .1 .1 .1 .0, (s .pre .1 .1 .1 .1 .0 .start, (a .known, (a .at, b)))))))
 
 accept-requires : tie.Need-accept-requires
 accept-requires c κs =
     let test = c .before .before in
     let judged = test .before in
-    let found = judged .before .before .before in
+    let asked = judged .before .before .before in
+    let found = asked .before .before .before in
     let wanted = found .before .before .before in
     let known = wanted .before .before in
     let began = known .before .before in
@@ -80,7 +91,9 @@ accept-requires c κs =
     let n = judged .splice-result .ensures in
     let room = room-waiting (s .args .conn) (s .args .r) m (a .is) n (test .if1 .taken) low (s .pre .0) (s .pre .1 .0) in
     let fit = storable (s .args .conn) (s .args .r) m (a .is) n low (s .pre .1 .1 .1 .1 .0) in
-    (s .pre .0, (s .pre .1 .0, (a .at, (room, (fit, s .pre .1 .1 .1 .1 .1)))))
+    let b = asks-taken (s .args .conn) (s .args .r) (see m .queue .waiting) (known .when .given .0 .0) (wanted .session-at .ensures)
+    (asked .is-taken .ensures) in
+    (s .pre .0, (s .pre .1 .0, (a .at, (b, (room, (fit, s .pre .1 .1 .1 .1 .1))))))
 
 same-length-2 : tie.Need-same-length-2
 same-length-2 c = search needs
@@ -90,7 +103,8 @@ returns-2 c =
     let done = c .before .before in
     let test = done .before .before .before in
     let judged = test .before in
-    let found = judged .before .before .before in
+    let asked = judged .before .before .before in
+    let found = asked .before .before .before in
     let wanted = found .before .before .before in
     let known = wanted .before .before in
     let began = known .before .before in
@@ -106,7 +120,8 @@ cast-splice-response-2 c = search needs
 splice-response-requires-2 : tie.Need-splice-response-requires-2
 splice-response-requires-2 c κs =
     let judged = c .before .before .before in
-    let known = judged .before .before .before .before .before .before .before .before in
+    let asked = judged .before .before .before in
+    let known = asked .before .before .before .before .before .before .before .before in
     let s = known .before .before .before .before .before .before in
     omega (arith, s .pre .1 .1 .1 .1 .1)
 
@@ -118,7 +133,8 @@ returns-3 c =
     let wrote = c .before .before in
     let test = wrote .before .before .before in
     let judged = test .before in
-    let found = judged .before .before .before in
+    let asked = judged .before .before .before in
+    let found = asked .before .before .before in
     let wanted = found .before .before .before in
     let known = wanted .before .before in
     let began = known .before .before in
@@ -142,6 +158,7 @@ answer-splice-spec =
     returns
     session-at-requires
     find-start-requires
+    is-taken-requires
     splice-result-requires
     accept-requires
     same-length-2

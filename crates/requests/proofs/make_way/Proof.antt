@@ -1,5 +1,5 @@
 -- One that has the start ends with its followers (`way-over`); where none has it nothing is done (`way-free`).
--- Rests on what `is_taken`, `end_waiting` and one search promise.
+-- Rests on what `end_waiting` and one search promise.
 use native.Mathlib.Omega.{arith}
 use Rattle.rules.proofs.Sound.{few-wait}
 use Rattle.ends.proofs.Followers.{ordered-now}
@@ -8,27 +8,20 @@ use borrow.Author.Needs.{needs}
 use Rattle.requests.proofs.make_way.Statement.{statement}
 use Rattle.requests.proofs.make_way.Tie as tie
 
-is-taken-requires : tie.Need-is-taken-requires
-is-taken-requires c κs =
-    let s = c .before .before .before in
-    (s .pre .0, (s .pre .1 .0 .timed .sorted, s .pre .1 .1 .0))
-
 end-waiting-requires : tie.Need-end-waiting-requires
 end-waiting-requires c κs =
     let test = c .before .before in
-    let asked = test .before in
-    let s = asked .before .before .before .before in
-    let i = way-taken (s .args .t .0) (s .args .m .now) (s .pre .1 .1 .0) (asked .is-taken .ensures) (test .if1 .taken) (s .pre .1 .0) in
-    (s .pre .0, (omega (arith, i), (ordered-now _ _ (s .pre .1 .0), omega (arith, few-wait (s .pre .1 .0), s .pre .1 .1 .1))))
+    let s = test .before .before in
+    let i = way-taken (s .args .t .0) (s .args .m .now) (s .pre .1 .1 .0) (s .pre .1 .1 .1 .0) (test .if1 .taken) (s .pre .1 .0) in
+    (s .pre .0, (omega (arith, i), (ordered-now _ _ (s .pre .1 .0), omega (arith, few-wait (s .pre .1 .0), s .pre .1 .1 .1 .1))))
 
 find-start-requires : tie.Need-find-start-requires
 find-start-requires c κs =
     let done = c .before .before .before .before in
     let test = done .before .before .before in
-    let asked = test .before in
-    let s = asked .before .before .before .before in
+    let s = test .before .before in
     let d = done .end-waiting .ensures in
-    let sorted = way-sorted (s .args .t .0) (s .args .m .now) (s .pre .1 .1 .0) (asked .is-taken .ensures) (test .if1 .taken) (s .pre .1 .0)
+    let sorted = way-sorted (s .args .t .0) (s .args .m .now) (s .pre .1 .1 .0) (s .pre .1 .1 .1 .0) (test .if1 .taken) (s .pre .1 .0)
     d in
     (d .shows .form, sorted)
 
@@ -39,22 +32,19 @@ returns : tie.Need-returns
 returns c =
     let done = c .before .before .before .before .before in
     let test = done .before .before .before in
-    let asked = test .before in
-    let s = asked .before .before .before .before in
-    way-over (s .args .t .0) (s .args .m .now) (s .pre .1 .1 .0) (asked .is-taken .ensures) (test .if1 .taken) (s .pre .1 .0)
+    let s = test .before .before in
+    way-over (s .args .t .0) (s .args .m .now) (s .pre .1 .1 .0) (s .pre .1 .1 .1 .0) (test .if1 .taken) (s .pre .1 .0)
     (done .end-waiting .ensures) (c .find-start .ensures)
 
 returns-2 : tie.Need-returns-2
 returns-2 c =
-    let asked = c .before in
-    let s = asked .before .before .before .before in
-    way-free (s .args .t .0) (s .args .m .now) (s .pre .1 .1 .0) (asked .is-taken .ensures) (c .if1 .left) (s .pre .0)
+    let s = c .before .before in
+    way-free (s .args .t .0) (s .args .m .now) (s .pre .1 .1 .0) (s .pre .1 .1 .1 .0) (c .if1 .left) (s .pre .0)
 
 pub make-way-spec : {M : Type 1} → statement M
 make-way-spec =
     tie.close
     (tie.spec
-    is-taken-requires
     end-waiting-requires
     find-start-requires
     same-length

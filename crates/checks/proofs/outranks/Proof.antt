@@ -5,8 +5,8 @@ use Prim.Native.Nat.{ℕ, _+_, _-_, _≤_}
 use native.Mathlib.Omega.{arith}
 use lib.Dec.{ltb}
 use borrow.Author.Tests.{ltb-true, ltb-false, lt-ltb, le-ltb}
-use Rattle.places.proofs.outranks.Statement.{statement}
-use Rattle.places.proofs.outranks.Tie as tie
+use Rattle.checks.proofs.outranks.Statement.{statement}
+use Rattle.checks.proofs.outranks.Tie as tie
 
 less-of-sum : (a b o : ℕ) → b ≤ a → ltb (a - b) o ≡ ltb a (b + o)
 less-of-sum a b o h = go (ltb a (b + o)) refl
