@@ -17,11 +17,6 @@ ghost use Rattle.rules.specs.Sound.{horizon};
 ghost use Rattle.rules.specs.Rolling.{at, stepOf, stepCourse, rollingFresh, instantCall, readingCall};
 ghost use Rattle.rolling.specs.LentRolling.{LentRolling, whenOf, Rolls, Turns};
 
-// "A step over 8,100,000 ticks or past the time field's last second": in ninths, the instant behind that second.
-const LONGEST_STEP: u32 = 8100000;
-
-const BEHIND_LAST_SECOND: u64 = 38654705664000000;
-
 // What is given once: a UTC instant, and the counter's reading at it.
 pub struct Given {
     pub seconds: u32,
@@ -67,11 +62,11 @@ fn reached(clock: Ninths, last: u32, reading: u32) -> When
     ensures { λ r. ⌜ r ≡ whenOf (stepCourse (clock .0) reading (at last)) ⌝ }
 {
     let d = step(last, reading);
-    if LONGEST_STEP < d {
+    if 8100000 < d {
         return When::Never;
     }
     let until = clock.0 + units::from_ticks(Ticks(d)).0;
-    if BEHIND_LAST_SECOND <= until {
+    if 38654705664000000 <= until {
         return When::Never;
     }
     When::At(Ninths(until))
@@ -90,10 +85,10 @@ pub fn instant(
         ⌜ Turns (instantCall (given .seconds) (given .micros) (given .reading)) (now (m .entry)) (now (b .entry)) (now (counter .entry))
         (now (out .entry)) r (now (m .exit)) (now (b .exit)) (now (counter .exit)) (now (out .exit)) ⌝ }
 {
-    if out.len() < engine::ROOM {
+    if out.len() < 4096 {
         return Answer::Refused(Refusal::NoRoom);
     }
-    if engine::LAST_MICRO < given.micros {
+    if 999999 < given.micros {
         return Answer::Refused(Refusal::BadMicros);
     }
     if counter[0] != 0 {
@@ -118,7 +113,7 @@ pub fn reading(
         ⌜ Turns (readingCall reading) (now (m .entry)) (now (b .entry)) (now (counter .entry)) (now (out .entry)) r
         (now (m .exit)) (now (b .exit)) (now (counter .exit)) (now (out .exit)) ⌝ }
 {
-    if out.len() < engine::ROOM {
+    if out.len() < 4096 {
         return Answer::Refused(Refusal::NoRoom);
     }
     if counter[0] == 0 {

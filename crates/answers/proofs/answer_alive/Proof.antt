@@ -1,6 +1,7 @@
 -- The first of the started is on air (`air-none`, `air-some`).
 use mathlib.Core.Path.{sym, ap, _∙_}
-use native.Mathlib.Omega.{arith}
+use Prim.Native.Nat.{_<_}
+use lib.ListN.{length}
 use Rattle.rules.specs.declared.Session.{Session}
 use Rattle.memory.specs.Memory.{see}
 use Rattle.answers.proofs.Laws.{air-none, air-some, alive-says}
@@ -34,7 +35,11 @@ returns c =
     (k .before .to-micros .ensures) (c .before .before .alive-response .ensures)
 
 load-requires : tie.Need-load-requires
-load-requires c κs = search (needs, quiet-some (c .before .is-quiet .ensures) (c .if1 .left))
+load-requires c κs =
+    let k = c .before in
+    let s = k .before .before .before .before .before .before in
+    let h : 0 < length (see (s .args .m .now) .queue .started) = quiet-some (k .is-quiet .ensures) (c .if1 .left) in
+    (s .pre .0 .words, h)
 
 alive-response-requires-2 : tie.Need-alive-response-requires-2
 alive-response-requires-2 c κs = search needs
@@ -46,7 +51,8 @@ returns-2 : tie.Need-returns-2
 returns-2 c =
     let k = c .before .before .before .before .before .before in
     let s = k .before .before .before .before .before .before in
-    let air = air-some (see (s .args .m .now) .queue .started) (quiet-some (k .is-quiet .ensures) (c .before .before .before .before .before .if1 .left)) in
+    let air = air-some (see (s .args .m .now) .queue .started)
+    (quiet-some (k .is-quiet .ensures) (c .before .before .before .before .before .if1 .left)) in
     let id = air .1 ∙ ap (λ (x : Session). x .id) (sym (c .before .before .before .before .load .ensures .0)) in
     alive-says (s .args .m .now) (s .args .b .now) (s .args .conn) (air .0, id) (k .before .before .clock .ensures)
     (k .before .to-micros .ensures) (c .before .before .alive-response2 .ensures)

@@ -33,7 +33,11 @@ returns c =
     air-none (sessions Started m) (quiet-none (c .before .is-quiet .ensures) (c .if1 .taken))
 
 mux-at-requires : tie.Need-mux-at-requires
-mux-at-requires c κs = search (needs, quiet-some (c .before .is-quiet .ensures) (c .if1 .left))
+mux-at-requires c κs =
+    let test = c .before in
+    let s = test .before .before .before .before in
+    let h : 0 < length (sessions Started (s .args .m .now)) = quiet-some (test .before .is-quiet .ensures) (test .if1 .left) in
+    (s .pre .whole .words, h)
 
 returns-2 : tie.Need-returns-2
 returns-2 c =

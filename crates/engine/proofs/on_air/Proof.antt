@@ -1,5 +1,4 @@
 -- By whether one has started (`feed-none`, `feed-some`).
-use native.Mathlib.Omega.{arith}
 use denote.Ref.{now}
 use Rattle.memory.specs.declared.Which.the-variants.{Started}
 use Rattle.memory.specs.Memory.{sessions}

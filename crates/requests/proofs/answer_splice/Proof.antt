@@ -3,7 +3,8 @@
 use mathlib.Core.Path.{sym, _∙_}
 use native.Mathlib.Omega.{arith}
 use Rattle.memory.specs.Memory.{see}
-use Rattle.requests.proofs.Laws.{start-fits, asks, asks-taken, storable, room-waiting, splice-accepted, splice-refused, splice-unknown}
+use Rattle.requests.proofs.Laws.{start-fits, asks, asks-taken, storable, room-waiting, splice-accepted, splice-refused}
+use Rattle.requests.proofs.Laws.{splice-unknown}
 use borrow.Author.Needs.{needs}
 use Rattle.requests.proofs.answer_splice.Statement.{statement}
 use Rattle.requests.proofs.answer_splice.Tie as tie
