@@ -109,7 +109,7 @@ s/Seen/Result/g
 s/left r/r .memory/g
 s/r \.words/r .memory .words/g
 s/r \.bytes/r .memory .bytes/g
-s/\.reply/.answer/g
+s/r \.reply/r .answer/g
 s/Allowed (r \.memory \.words) (r \.memory \.bytes)/Allowed (r .memory)/g
 s/(l g e : List ℕ)/(l : List ℕ) (pts seconds micros : ℕ) (e : List ℕ)/g
 s/aCue l g e/aCue l pts seconds micros e/g

@@ -21,7 +21,7 @@ use Rattle.door.specs.Door.{replyOf, Replies, Input, anOpen, aClose, aMessage, 
 use Rattle.door.proofs.Laws.{reply-is}
 use Rattle.demands_engine.specs.Trace.{Memory}
 use Rattle.demands_engine.specs.Trace as engine
-use Rattle.demands_door.specs.Driven.{left, Made, made, Leads, Trace, More, numberIn, writtenIn, movedIn, number, refusals}
+use Rattle.demands_door.specs.Driven.{left, Made, made, Leads, Trace, More, numberIn, writtenIn, movedIn, refusals}
 use Rattle.demands_door.specs.Driven.{refusalAmong, replyIn, eventOf, events, calls, wordsOf, handed, answerIn, inside, within}
 
 -- ## The reply's words
@@ -145,16 +145,16 @@ calls-inside (x ∷ h) = λ j. call-handed (x .input) j ∷ calls-inside h j
 
 pub within-append : (h g : List Made) → within (h ++ g) ≡ within h ++ within g
 within-append [] g = refl
-within-append (x ∷ h) g = ap (λ l. engine.made (handed (x .input)) (inside (x .seen)) ∷ l) (within-append h g)
+within-append (x ∷ h) g = ap (λ l. engine.made (handed (x .input)) (inside (x .result)) ∷ l) (within-append h g)
 
 pub led-inside : (h : List Made) (b m : Memory) → Leads b h m → engine.Leads b (within h) m
 led-inside [] b m l = l
 led-inside (x ∷ h) b m l =
-    (typed-handed (x .input) (l .0), allowed-inside b (x .input) (x .seen) (l .1), led-inside h (left (x .seen)) m (l .2))
+    (typed-handed (x .input) (l .0), allowed-inside b (x .input) (x .result) (l .1), led-inside h (left (x .result)) m (l .2))
 
 led-events : (h : List Made) (b m : Memory) → Leads b h m → events h ≡ engine.events (within h)
 led-events [] b m l = refl
-led-events (x ∷ h) b m l = λ j. event-inside b (x .input) (x .seen) (l .1) j ∷ led-events h (left (x .seen)) m (l .2) j
+led-events (x ∷ h) b m l = λ j. event-inside b (x .input) (x .result) (l .1) j ∷ led-events h (left (x .result)) m (l .2) j
 
 -- ## Traces
 
@@ -165,7 +165,7 @@ module _ (name : List ℕ) (h : List Made) (m : Memory) where
         whole = t .whole;
         bytes = t .bytes;
         begun = t .begun;
-        answer = answerIn (t .reply);
+        reply = answerIn (t .reply);
         fresh = told (t .fresh);
         leads = led-inside h (t .begun) m (t .leads);
       }

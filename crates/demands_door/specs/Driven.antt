@@ -9,8 +9,6 @@ use lib.ListN.{length, getD, take}
 use Rattle.rules.specs.declared.Refusal.{Refusal}
 use Rattle.rules.specs.declared.Refusal.the-variants.{NoConnection, NoRoom, ClockBack, Oversize, Short, AlreadyOpen, NotOpen, BadMicros}
 use Rattle.rules.specs.declared.Refusal.the-variants.{BadName, Counter, LongSection, BadSection, NotSixteen}
-use Rattle.rules.specs.Lists.{All}
-use Rattle.rules.specs.Bytes.{Byte}
 use Rattle.rules.specs.Calls as rules
 use Rattle.rules.specs.Calls.{Call, call, fresh, houseNumber, writtenBy, consumedBy, bufferAfter}
 use Rattle.demands.specs.History.{Reply, refusal, wrote, Event}
@@ -18,6 +16,8 @@ use Rattle.demands.specs.Told.{numberOf}
 use Rattle.engine.specs.declared.Answer.{Answer}
 use Rattle.engine.specs.declared.Answer.the-variants.{Refused, Done}
 use Rattle.door.specs.Door.{Replies, Input, anOpen, aClose, aMessage, aTick, aCue, ptsOf, Typed, callOf, bufferOf, Seen, Allowed}
+use Rattle.demands_engine.specs.Device.{Device}
+use Rattle.demands_engine.specs.Device as any
 use Rattle.demands_engine.specs.Trace.{Memory, shown}
 use Rattle.demands_engine.specs.Trace as engine
 
@@ -27,39 +27,44 @@ use Rattle.demands_engine.specs.Trace as engine
 abbrev pub left : Seen → Memory
 left r = record { words = r .words; bytes = r .bytes }
 
--- a call that was made, and what C sees after it
-pub record Made : Type 0 where
-  pub input : Input
-  pub seen : Seen
+-- the door as a device: what comes back is what C sees after the call, and what fresh allows for a name is its contract
+abbrev pub device : Device
+device =
+    record {
+      Memory = Memory;
+      Input = Input;
+      Result = Seen;
+      Reply = List ℕ;
+      Typed = Typed;
+      Allowed = λ m i r. Allowed (m .words) (m .bytes) i r;
+      left = left;
+      Begins = λ name r m. Replies (fresh name) 0 [] r (m .words) (m .bytes) [];
+    }
+
+-- what a driver sees of it, by the words of demands_engine's specs/Device
+abbrev pub Made : Type 0
+Made = any.Made device
 
 abbrev pub made : Input → Seen → Made
-made i r = record { input = i; seen = r }
+made i r = record { input = i; result = r }
 
--- the calls h, made from the memory m one after the other, have led to the memory n
 abbrev pub Leads : Memory → List Made → Memory → Type 0
-Leads m [] n = n ≡ m
-Leads m (x ∷ h) n = Typed (x .input) × Allowed (m .words) (m .bytes) (x .input) (x .seen) × Leads (left (x .seen)) h n
+Leads = any.Leads device
 
--- fresh was called with a name of 32 bytes, then the calls h were made, and the memory now is m; reply: fresh's
-pub record Trace (name : List ℕ) (h : List Made) (m : Memory) : Type 0 where
-  pub whole : length name ≡ 32
-  pub bytes : All Byte name
-  pub begun : Memory
-  pub reply : List ℕ
-  pub fresh : Replies (fresh name) 0 [] reply (begun .words) (begun .bytes) []
-  pub leads : Leads begun h m
+abbrev pub Trace : (name : List ℕ) (h : List Made) (m : Memory) → Type 0
+Trace = any.Trace device
 
--- a trace, and one call more: with the input i, after which C sees r
-pub record More (name : List ℕ) (h : List Made) (m : Memory) (i : Input) (r : Seen) : Type 0 where
-  pub trace : Trace name h m
-  pub typed : Typed i
-  pub allowed : Allowed (m .words) (m .bytes) i r
+abbrev pub More : (name : List ℕ) (h : List Made) (m : Memory) (i : Input) (r : Seen) → Type 0
+More = any.More device
 
--- a point of a trace: the calls h were made before it, and then the calls g, which led to the memory m
-pub record Point (name : List ℕ) (h g : List Made) (m : Memory) : Type 0 where
-  pub here : Memory
-  pub before : Trace name h here
-  pub behind : Leads here g m
+abbrev pub Point : (name : List ℕ) (h g : List Made) (m : Memory) → Type 0
+Point = any.Point device
+
+abbrev pub Answerable : (m : Memory) (i : Input) → Type 0
+Answerable = any.Answerable device
+
+abbrev pub Run : (name : List ℕ) (is : List Input) → Type 0
+Run = any.Run device
 
 -- ## What C reads in the reply's words
 
@@ -103,7 +108,7 @@ replyIn w o = cond (eqb (numberIn w) 0) (wrote (take (writtenIn w) o)) (refusal 
 
 -- a call that was made, as demand 3 takes it: the call, and the answer's bytes or the refusal
 abbrev pub eventOf : Made → Event
-eventOf x = record { call = callOf (x .input); reply = replyIn (x .seen .reply) (x .seen .buffer) }
+eventOf x = record { call = callOf (x .input); reply = replyIn (x .result .reply) (x .result .buffer) }
 
 abbrev pub events : List Made → List Event
 events h = map eventOf h
@@ -112,21 +117,7 @@ abbrev pub calls : List Made → List Call
 calls h = map (λ x. callOf (x .input)) h
 
 abbrev pub inputs : List Made → List Input
-inputs h = map (λ x. x .input) h
-
--- ## "every call takes every input and ends"
-
--- the call's contract allows something that C sees
-pub record Answerable (m : Memory) (i : Input) : Type 0 where
-  pub seen : Seen
-  pub allowed : Allowed (m .words) (m .bytes) i seen
-
--- fresh was called with the name and the calls with the inputs were made, in their order
-pub record Run (name : List ℕ) (is : List Input) : Type 0 where
-  pub course : List Made
-  pub memory : Memory
-  pub trace : Trace name course memory
-  pub same : inputs course ≡ is
+inputs = any.inputs device
 
 -- ## "every answer byte, its order and the state after it are those that 01's rules give"
 
@@ -163,4 +154,4 @@ abbrev pub inside : Seen → engine.Result
 inside r = record { answer = answerIn (r .reply); memory = left r; buffer = r .buffer }
 
 abbrev pub within : List Made → List engine.Made
-within h = map (λ x. engine.made (handed (x .input)) (inside (x .seen))) h
+within h = map (λ x. engine.made (handed (x .input)) (inside (x .result))) h

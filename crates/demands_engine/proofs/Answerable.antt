@@ -2,7 +2,7 @@
 -- Rests on memory's stood-now and stands.
 use mathlib.Core.Path.{_≡_, refl, sym, ap, subst}
 use mathlib.Core.Bool.{Bool, true, false}
-use mathlib.Core.List.{List, [], _∷_}
+use mathlib.Core.List.{List, []}
 use Prim.Native.Nat.{ℕ, _<_}
 use native.Mathlib.Omega.{arith}
 use lib.ListN.{length, replicate}
@@ -24,8 +24,10 @@ use Rattle.engine.specs.declared.Answer.the-variants.{Refused, Done}
 use Rattle.engine.specs.Lent.{Lent, answerOf, Answers}
 use Rattle.engine.proofs.Beginning.{fresh-good, fresh-bad}
 use Rattle.demands_engine.specs.Trace.{Memory, shown, Input, anOpen, aClose, aMessage, aTick, aMove, aCue, Typed, callOf, bufferOf}
-use Rattle.demands_engine.specs.Trace.{Result, Made, made, Leads, Answerable, Run, inputs}
-use Rattle.demands_engine.proofs.Steps.{wired, promised}
+use Rattle.demands_engine.specs.Trace.{Result, device, Answerable, Run}
+use Rattle.demands_engine.proofs.Device as any
+use Rattle.demands_engine.proofs.Steps.{wired}
+use Rattle.demands_engine.proofs.Course.{LentAt, lent-next}
 
 -- ## A memory for every splicer that the calls have given
 
@@ -110,35 +112,14 @@ module _ (m : Memory) (l : Lent (m .words) (m .bytes)) where
 
 -- ## Any calls
 
--- a memory that the calls led to, with what they were
-record Led (b : Memory) (is : List Input) : Type 0 where
-  course : List Made
-  memory : Memory
-  leads : Leads b course memory
-  same : inputs course ≡ is
-
-led : (is : List Input) (b : Memory) → Lent (b .words) (b .bytes) → All Typed is → Led b is
-led [] b l t = record { course = []; memory = b; leads = refl; same = refl }
-led (i ∷ is) b l t =
-    let a = answerable b l i (t .0) in
-    let r = a .result in
-    let d = led is (r .memory) (promised b i r (a .allowed) .lent) (t .1) in
-    record { course = made i r ∷ d .course; memory = d .memory; leads = (t .0, a .allowed, d .leads); same = ap (λ js. i ∷ js) (d .same) }
-
 module _ (name : List ℕ) (long : length name ≡ 32) (bytes : All Byte name) where
   pub runs : (is : List Input) → All Typed is → Run name is
   runs is t = go (hasZero name) refl
     where
       from : (b : List ℕ) (a : Answer) → Answers (fresh name) 0 [] a (replicate lent.words 0) b [] → Run name is
       from b a p =
-          let begun : Memory = record { words = replicate lent.words 0; bytes = b } in
-          let d = led is begun (p .lent) t in
-          record {
-            course = d .course;
-            memory = d .memory;
-            trace = record { whole = long; bytes = bytes; begun = begun; answer = a; fresh = p; leads = d .leads };
-            same = d .same;
-          }
+          any.runs device LentAt lent-next answerable name long bytes a
+          (record { words = replicate lent.words 0; bytes = b }) p (p .lent) is t
 
       go : (z : Bool) → hasZero name ≡ z → Run name is
       go true e =

@@ -116,7 +116,7 @@ module _ (name : List ℕ) (h : List Made) (m : Memory) where
         rw (as-ruled m i r (c .allowed) .bytes) (told.answers-fit (events h) (shown m) (trace-told name h m (c .trace)) (callOf i))
 
   -- fresh: number 9 for a name without a zero byte, and then the memory is that of an empty name, without sessions
-  pub bad-name-number : (t : Trace name h m) → numberIn (t .answer) ≡ cond (hasZero name) 0 9
+  pub bad-name-number : (t : Trace name h m) → numberIn (t .reply) ≡ cond (hasZero name) 0 9
   bad-name-number = fresh-number name h m
 
   pub bad-name-gives-empty : (t : Trace name h m) → hasZero name ≡ false → t .begun ≡ emptyMemory
@@ -322,7 +322,7 @@ module _ (name : List ℕ) (h : List Made) (m : Memory) where
   -- "Report that number with the call. [..] A request not accepted reports 0.": and so does every call that is no Splice_Request answered
   -- with
   -- 100; fresh too
-  pub fresh-unmoved : (t : Trace name h m) → movedIn (t .answer) ≡ 0
+  pub fresh-unmoved : (t : Trace name h m) → movedIn (t .reply) ≡ 0
   fresh-unmoved t = ap movedIn (t .fresh .answer) ∙ fresh-none name
 
   pub unmoved-else : (i : Input) (r : Result) → More name h m i r → grantedBy (callOf i) (recordsIn (bytesOf r)) ≡ false → moved r ≡ 0

@@ -1,5 +1,6 @@
 pub mod Demands
 pub mod Steps
+pub mod Device
 pub mod Course
 pub mod Closed
 pub mod Cited

@@ -1,7 +1,7 @@
 -- A trace: what the driver sees of the calls of `engine`, any number of them in any order, each result one that the call's contract
 -- allows. The contracts' own words (`Answers`, `Makes`) stand here as they stand in engine/src/lib.rt.
 use mathlib.Core.Path.{_≡_}
-use mathlib.Core.List.{List, [], _∷_, map}
+use mathlib.Core.List.{List, [], map}
 use Prim.Native.Nat.{ℕ, _<_}
 use lib.ListN.{length, take, replicate}
 use Rattle.rules.specs.Lists.{All}
@@ -15,6 +15,8 @@ use Rattle.memory.specs.Memory as lent
 use Rattle.engine.specs.declared.Answer.{Answer}
 use Rattle.engine.specs.declared.Answer.the-variants.{Refused, Done}
 use Rattle.engine.specs.Lent.{answerOf, Answers, Makes}
+use Rattle.demands_engine.specs.Device.{Device}
+use Rattle.demands_engine.specs.Device as any
 
 -- ## What the driver holds and hands in
 
@@ -91,39 +93,44 @@ Allowed m (aCue l pts seconds micros e) r = Promises (cueCall l pts seconds micr
 
 -- ## The trace
 
--- a call that was made, with its result
-pub record Made : Type 0 where
-  pub input : Input
-  pub result : Result
+-- the engine as a device: what `fresh` allows for a name is its contract
+abbrev pub device : Device
+device =
+    record {
+      Memory = Memory;
+      Input = Input;
+      Result = Result;
+      Reply = Answer;
+      Typed = Typed;
+      Allowed = Allowed;
+      left = λ r. r .memory;
+      Begins = λ name a m. Answers (fresh name) 0 [] a (m .words) (m .bytes) [];
+    }
+
+-- what a driver sees of it, by the words of specs/Device
+abbrev pub Made : Type 0
+Made = any.Made device
 
 abbrev pub made : Input → Result → Made
 made i r = record { input = i; result = r }
 
--- the calls h, made from the memory m one after the other, have led to the memory n
 abbrev pub Leads : Memory → List Made → Memory → Type 0
-Leads m [] n = n ≡ m
-Leads m (x ∷ h) n = Typed (x .input) × Allowed m (x .input) (x .result) × Leads (x .result .memory) h n
+Leads = any.Leads device
 
--- fresh was called with a name of 32 bytes, then the calls h were made, and the memory now is m
-pub record Trace (name : List ℕ) (h : List Made) (m : Memory) : Type 0 where
-  pub whole : length name ≡ 32
-  pub bytes : All Byte name
-  pub begun : Memory
-  pub answer : Answer
-  pub fresh : Answers (fresh name) 0 [] answer (begun .words) (begun .bytes) []
-  pub leads : Leads begun h m
+abbrev pub Trace : (name : List ℕ) (h : List Made) (m : Memory) → Type 0
+Trace = any.Trace device
 
--- a trace, and one call more: with the input i, and the result r
-pub record More (name : List ℕ) (h : List Made) (m : Memory) (i : Input) (r : Result) : Type 0 where
-  pub trace : Trace name h m
-  pub typed : Typed i
-  pub allowed : Allowed m i r
+abbrev pub More : (name : List ℕ) (h : List Made) (m : Memory) (i : Input) (r : Result) → Type 0
+More = any.More device
 
--- a point of a trace: the calls h were made before it, and then the calls g, which led to the memory m
-pub record Point (name : List ℕ) (h g : List Made) (m : Memory) : Type 0 where
-  pub here : Memory
-  pub before : Trace name h here
-  pub behind : Leads here g m
+abbrev pub Point : (name : List ℕ) (h g : List Made) (m : Memory) → Type 0
+Point = any.Point device
+
+abbrev pub Answerable : (m : Memory) (i : Input) → Type 0
+Answerable = any.Answerable device
+
+abbrev pub Run : (name : List ℕ) (is : List Input) → Type 0
+Run = any.Run device
 
 -- ## What the driver reads in a result
 
@@ -166,21 +173,7 @@ abbrev pub calls : List Made → List Call
 calls h = map (λ x. callOf (x .input)) h
 
 abbrev pub inputs : List Made → List Input
-inputs h = map (λ x. x .input) h
-
--- ## "every call takes every input and ends"
-
--- the call's contract allows a result
-pub record Answerable (m : Memory) (i : Input) : Type 0 where
-  pub result : Result
-  pub allowed : Allowed m i result
-
--- fresh was called with the name and the calls with the inputs were made, in their order
-pub record Run (name : List ℕ) (is : List Input) : Type 0 where
-  pub course : List Made
-  pub memory : Memory
-  pub trace : Trace name course memory
-  pub same : inputs course ≡ is
+inputs = any.inputs device
 
 -- ## "every answer byte, its order and the state after it are those that 01's rules give"
 

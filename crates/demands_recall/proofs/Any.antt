@@ -82,7 +82,7 @@ any-calls l is t i =
       run =
           record {
             memory = c .begun;
-            answer = c .answer;
+            answer = c .reply;
             fresh = c .fresh;
             lent = l;
             reply = recallFresh l .told .reply;
@@ -106,7 +106,7 @@ seen-of (x ∷ h) l =
     let r = recallCall k l in
     record {
       input = x .input;
-      card = x .seen;
+      card = x .result;
       second = record {
         reply = replyWords (r .told .reply);
         log = r .log;
@@ -135,7 +135,7 @@ run-of (x ∷ h) m n l a b = (
         record { reply = refl; log = refl; buffer = refl };
     words = refl;
   },
-  run-of h (door.left (x .seen)) n (recallCall (door-calls.callOf (x .input)) l .log) (a .1) (b .2),
+  run-of h (door.left (x .result)) n (recallCall (door-calls.callOf (x .input)) l .log) (a .1) (b .2),
 )
 
 pub record RunInC (is : List door-calls.Input) : Type 0 where

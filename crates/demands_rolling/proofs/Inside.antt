@@ -2,43 +2,38 @@
 -- to
 -- an instant, a refused one changes nothing. Rests on the door's promises and on rolling's laws of courses.
 use mathlib.Core.Path.{_≡_, refl, sym, ap, ap₂, subst, _∙_}
-use mathlib.Core.Bool.{true, false, cond}
+use mathlib.Core.Bool.{cond}
 use mathlib.Core.List.{List, [], _∷_, _++_, append-assoc}
-use Prim.Native.Nat.{ℕ, _≤_, _<_}
+use Prim.Native.Nat.{ℕ, _<_}
 use native.Mathlib.Omega.{arith}
 use lib.Dec.{eqb}
 use lib.ListN.{length, getD}
 use borrow.Author.Tests.{ne-eqb, ltb-false}
-use Rattle.rules.specs.declared.Refusal.{Refusal}
 use Rattle.rules.specs.Lists.{All}
-use Rattle.rules.specs.Calls.{Called, fresh, refuse, houseNumber, ticked, moveCall, Call, call, bufferAfter, writtenBy}
+use Rattle.rules.specs.Calls.{Called, fresh, houseNumber, ticked, moveCall, Call, call}
 use Rattle.rules.specs.Sound.{Wired}
 use Rattle.rules.specs.Rolling.{none, Rolling, Rolled, rollingOf, Course, refuses, brings, instantCourse, readingCourse, rolls, instantCall}
-use Rattle.rules.specs.Rolling.{readingCall, rollingFresh, RollingCall, known, instants, readings, roll, rolledAfter, asMove, asCalls}
+use Rattle.rules.specs.Rolling.{readingCall, rollingFresh, RollingCall, known, roll, rolledAfter, asMove, asCalls}
 use Rattle.rules.specs.Rolling.{asMoves, RollWired, RollReached, Timeless}
 use Rattle.rules.proofs.All.{at-all}
-use Rattle.demands.specs.Told.{numberOf}
 use Rattle.demands.proofs.Refusals.{a-number}
 use Rattle.memory.specs.Memory.{see}
-use Rattle.memory.specs.Memory as lent
 use Rattle.engine.specs.declared.Answer.{Answer}
-use Rattle.engine.specs.declared.Answer.the-variants.{Refused, Done}
+use Rattle.engine.specs.declared.Answer.the-variants.{Refused}
 use Rattle.engine.specs.Lent.{answerOf, Answers}
-use Rattle.rolling.specs.LentRolling.{counterOf, lastOf, rolling, LentRolling, Rolls}
+use Rattle.rolling.specs.LentRolling.{counterOf, lastOf, rolling, Rolls}
 use Rattle.rolling.proofs.Ruled.{Ahead, move-same, instant-ahead, reading-ahead, reached-roll}
 use Rattle.rolling.proofs.Calls.{lent-steady, last-read}
 use Rattle.rolling.proofs.Laws.{refused-unchanged}
 use Rattle.door.specs.Door.{replyOf, Replies, Input, callOf}
 use Rattle.door_rolling.specs.RollDoor.{RollReplies, RollInput, aKnown, anInstant, aReading, RollTyped, rollCallOf, rollBufferOf, RollSeen}
 use Rattle.demands_engine.specs.Trace as engine
+use Rattle.demands_engine.proofs.Device as any
 use Rattle.demands_engine.proofs.Steps.{wired, memory-same}
 use Rattle.demands_door.specs.Driven.{handed, inside, answerIn, numberIn, movedIn}
-use Rattle.demands_door.proofs.Inside.{number-told, moved-told, told, number-inside, call-handed, buffer-handed, typed-handed}
-use Rattle.demands_door.proofs.Inside.{allowed-inside}
-use Rattle.demands_door.proofs.Inside.{reply-back}
-use Rattle.demands_rolling.specs.Rolled.{Memory, shown, LentAt, left, Made, made, AllowedAt, Leads, Trace, More, seenOf, number}
-use Rattle.demands_rolling.specs.Rolled.{calls}
-use Rattle.demands_rolling.specs.Rolled.{timeMade, asMade, within}
+use Rattle.demands_door.proofs.Inside.{number-told, moved-told, told, call-handed, typed-handed, allowed-inside, reply-back}
+use Rattle.demands_rolling.specs.Rolled.{Memory, shown, LentAt, left, device, Made, made, AllowedAt, Leads, Trace, More, seenOf}
+use Rattle.demands_rolling.specs.Rolled.{number, calls, timeMade, asMade, within}
 
 -- ## One call, as this card's rules have it
 
@@ -192,10 +187,6 @@ step m (aReading x e) r l t a =
 
 -- ## The calls that led from one memory to another
 
-led-append : (h g : List engine.Made) (a b c : engine.Memory) → engine.Leads a h b → engine.Leads b g c → engine.Leads a (h ++ g) c
-led-append [] g a b c x y = rw (← x) y
-led-append (z ∷ h) g a b c x y = (x .0, x .1, led-append h g (z .result .memory) b c (x .2) y)
-
 calls-append : (h g : List engine.Made) → engine.calls (h ++ g) ≡ engine.calls h ++ engine.calls g
 calls-append [] g = refl
 calls-append (x ∷ h) g = ap (λ l. engine.callOf (x .input) ∷ l) (calls-append h g)
@@ -203,31 +194,29 @@ calls-append (x ∷ h) g = ap (λ l. engine.callOf (x .input) ∷ l) (calls-appe
 pub within-append : (h g : List Made) → within (h ++ g) ≡ within h ++ within g
 unfolding within
 within-append [] g = refl
-within-append (x ∷ h) g = ap (λ l. asMade (x .input) (x .seen) ++ l) (within-append h g)
-    ∙ sym (append-assoc (asMade (x .input) (x .seen)) (within h) (within g))
+within-append (x ∷ h) g = ap (λ l. asMade (x .input) (x .result) ++ l) (within-append h g)
+    ∙ sym (append-assoc (asMade (x .input) (x .result)) (within h) (within g))
 
-pub led-lent : (h : List Made) (b m : Memory) → LentAt b → Leads b h m → LentAt m
-led-lent [] b m t l = rw l t
-led-lent (x ∷ h) b m t l = led-lent h (left (x .seen)) m (promised b (x .input) (x .seen) t (l .0) (l .1) .lent) (l .2)
+pub lent-next : (m : Memory) (i : RollInput) (r : RollSeen) → LentAt m → RollTyped i → AllowedAt m i r → LentAt (left r)
+lent-next m i r l t a = promised m i r l t a .lent
 
 pub led-inside : (h : List Made) (b m : Memory) → LentAt b → Leads b h m → engine.Leads (b .core) (within h) (m .core)
 unfolding within
 led-inside [] b m t l = ap (λ y. y .core) l
 led-inside (x ∷ h) b m t l =
-    led-append (asMade (x .input) (x .seen)) (within h) (b .core) (left (x .seen) .core) (m .core)
-    (step b (x .input) (x .seen) t (l .0) (l .1) .leads)
-    (led-inside h (left (x .seen)) m (promised b (x .input) (x .seen) t (l .0) (l .1) .lent) (l .2))
+    any.led-append engine.device (asMade (x .input) (x .result)) (within h) (b .core) (left (x .result) .core) (m .core)
+    (step b (x .input) (x .result) t (l .0) (l .1) .leads)
+    (led-inside h (left (x .result)) m (promised b (x .input) (x .result) t (l .0) (l .1) .lent) (l .2))
 
 pub led-wired : (h : List Made) (b m : Memory) → Leads b h m → All RollWired (calls h)
-led-wired [] b m l = tt
-led-wired (x ∷ h) b m l = (roll-wired (x .input) (l .0), led-wired h (left (x .seen)) m (l .2))
+led-wired = any.led-all device rollCallOf RollWired roll-wired
 
 pub led-shown : (h : List Made) (b m : Memory) → LentAt b → Leads b h m → shown m ≡ rolledAfter (calls h) (shown b)
 unfolding rolledAfter
 led-shown [] b m t l = ap shown l
 led-shown (x ∷ h) b m t l =
-    let p = promised b (x .input) (x .seen) t (l .0) (l .1) in
-    led-shown h (left (x .seen)) m (p .lent) (l .2) ∙ ap (rolledAfter (calls h)) (state-is b (x .input) (x .seen) p)
+    let p = promised b (x .input) (x .result) t (l .0) (l .1) in
+    led-shown h (left (x .result)) m (p .lent) (l .2) ∙ ap (rolledAfter (calls h)) (state-is b (x .input) (x .result) p)
 
 pub calls-after : (h g : List Made) (r : Rolling) → rolledAfter (calls (h ++ g)) r ≡ rolledAfter (calls g) (rolledAfter (calls h) r)
 unfolding rolledAfter
@@ -239,17 +228,17 @@ pub led-calls : (h : List Made) (b m : Memory) → LentAt b → Leads b h m → 
 unfolding within asMoves
 led-calls [] b m t l = refl
 led-calls (x ∷ h) b m t l =
-    let p = promised b (x .input) (x .seen) t (l .0) (l .1) in
-    let s = step b (x .input) (x .seen) t (l .0) (l .1) in
-    calls-append (asMade (x .input) (x .seen)) (within h)
-    ∙ ap₂ (λ y z. y ++ z) (s .calls) (led-calls h (left (x .seen)) m (p .lent) (l .2)
-    ∙ ap (asMoves (calls h)) (state-is b (x .input) (x .seen) p))
+    let p = promised b (x .input) (x .result) t (l .0) (l .1) in
+    let s = step b (x .input) (x .result) t (l .0) (l .1) in
+    calls-append (asMade (x .input) (x .result)) (within h)
+    ∙ ap₂ (λ y z. y ++ z) (s .calls) (led-calls h (left (x .result)) m (p .lent) (l .2)
+    ∙ ap (asMoves (calls h)) (state-is b (x .input) (x .result) p))
 
 -- ## Traces
 
 module _ (name : List ℕ) (h : List Made) (m : Memory) where
   pub trace-lent : Trace name h m → LentAt m
-  trace-lent t = led-lent h (t .begun) m (t .fresh .rolls .lent) (t .leads)
+  trace-lent t = any.led-kept device LentAt lent-next h (t .begun) m (t .fresh .rolls .lent) (t .leads)
 
   abbrev pub trace-inside : Trace name h m → engine.Trace name (within h) (m .core)
   trace-inside t =
@@ -257,7 +246,7 @@ module _ (name : List ℕ) (h : List Made) (m : Memory) where
         whole = t .whole;
         bytes = t .bytes;
         begun = t .begun .core;
-        answer = t .fresh .answer;
+        reply = t .fresh .answer;
         fresh = fresh-inside name (t .fresh);
         leads = led-inside h (t .begun) m (t .fresh .rolls .lent) (t .leads);
       }

@@ -6,10 +6,7 @@ use mathlib.Core.Bool.{Bool, false, cond}
 use mathlib.Core.List.{List, [], _∷_, _++_, map}
 use Prim.Native.Nat.{ℕ}
 use lib.Dec.{eqb}
-use lib.ListN.{length}
-use Rattle.rules.specs.Lists.{All}
-use Rattle.rules.specs.Bytes.{Byte}
-use Rattle.rules.specs.Calls.{writtenBy, consumedBy, bufferAfter, Call}
+use Rattle.rules.specs.Calls.{writtenBy, bufferAfter}
 use Rattle.rules.specs.Records.{Record}
 use Rattle.rules.specs.Rolling.{none, Rolling, rollingOf, rollingFresh, RollingCall, roll}
 use Rattle.demands.specs.History.{Reply, Event, othersOf}
@@ -19,6 +16,8 @@ use Rattle.rolling.specs.LentRolling.{counterOf, rolling, LentRolling}
 use Rattle.door.specs.Door.{callOf, Seen}
 use Rattle.door_rolling.specs.RollDoor.{RollReplies, RollInput, aKnown, anInstant, aReading, RollTyped, rollCallOf, rollBufferOf, RollSeen}
 use Rattle.door_rolling.specs.RollDoor.{RollAllowed}
+use Rattle.demands_engine.specs.Device.{Device}
+use Rattle.demands_engine.specs.Device as any
 use Rattle.demands_engine.specs.Trace as engine
 use Rattle.demands_door.specs.Driven.{wordsOf, handed, inside}
 use Rattle.demands_door.specs.Driven as plain
@@ -45,42 +44,47 @@ LentAt m = LentRolling (m .core .words) (m .core .bytes) (m .counter)
 abbrev pub left : RollSeen → Memory
 left r = record { core = record { words = r .words; bytes = r .bytes }; counter = r .counter }
 
--- a call that was made, and what C sees after it
-pub record Made : Type 0 where
-  pub input : RollInput
-  pub seen : RollSeen
-
-abbrev pub made : RollInput → RollSeen → Made
-made i r = record { input = i; seen = r }
-
 abbrev pub AllowedAt : Memory → RollInput → RollSeen → Type 0
 AllowedAt m i r = RollAllowed (m .core .words) (m .core .bytes) (m .counter) i r
 
--- the calls h, made from the memory m one after the other, have led to the memory n
+-- this card as a device: what comes back is what C sees after the call, and what its fresh allows for a name is its contract
+abbrev pub device : Device
+device =
+    record {
+      Memory = Memory;
+      Input = RollInput;
+      Result = RollSeen;
+      Reply = List ℕ;
+      Typed = RollTyped;
+      Allowed = AllowedAt;
+      left = left;
+      Begins = λ name r m. RollReplies (rollingFresh name) 0 [] r (m .core .words) (m .core .bytes) (m .counter) [];
+    }
+
+-- what a driver sees of it, by the words of demands_engine's specs/Device
+abbrev pub Made : Type 0
+Made = any.Made device
+
+abbrev pub made : RollInput → RollSeen → Made
+made i r = record { input = i; result = r }
+
 abbrev pub Leads : Memory → List Made → Memory → Type 0
-Leads m [] n = n ≡ m
-Leads m (x ∷ h) n = RollTyped (x .input) × AllowedAt m (x .input) (x .seen) × Leads (left (x .seen)) h n
+Leads = any.Leads device
 
--- this card's fresh was called with a name of 32 bytes, then the calls h were made, and the memory now is m; reply: fresh's
-pub record Trace (name : List ℕ) (h : List Made) (m : Memory) : Type 0 where
-  pub whole : length name ≡ 32
-  pub bytes : All Byte name
-  pub begun : Memory
-  pub reply : List ℕ
-  pub fresh : RollReplies (rollingFresh name) 0 [] reply (begun .core .words) (begun .core .bytes) (begun .counter) []
-  pub leads : Leads begun h m
+abbrev pub Trace : (name : List ℕ) (h : List Made) (m : Memory) → Type 0
+Trace = any.Trace device
 
--- a trace, and one call more: with the input i, after which C sees r
-pub record More (name : List ℕ) (h : List Made) (m : Memory) (i : RollInput) (r : RollSeen) : Type 0 where
-  pub trace : Trace name h m
-  pub typed : RollTyped i
-  pub allowed : AllowedAt m i r
+abbrev pub More : (name : List ℕ) (h : List Made) (m : Memory) (i : RollInput) (r : RollSeen) → Type 0
+More = any.More device
 
--- a point of a trace: the calls h were made before it, and then the calls g, which led to the memory m
-pub record Point (name : List ℕ) (h g : List Made) (m : Memory) : Type 0 where
-  pub here : Memory
-  pub before : Trace name h here
-  pub behind : Leads here g m
+abbrev pub Point : (name : List ℕ) (h g : List Made) (m : Memory) → Type 0
+Point = any.Point device
+
+abbrev pub Answerable : (m : Memory) (i : RollInput) → Type 0
+Answerable = any.Answerable device
+
+abbrev pub Run : (name : List ℕ) (is : List RollInput) → Type 0
+Run = any.Run device
 
 -- ## What C reads
 
@@ -102,7 +106,7 @@ abbrev pub calls : List Made → List RollingCall
 calls h = map (λ x. rollCallOf (x .input)) h
 
 abbrev pub inputs : List Made → List RollInput
-inputs h = map (λ x. x .input) h
+inputs = any.inputs device
 
 -- the records of a call's answer, but for a Splice_Request's own
 abbrev pub othersBy : RollInput → List Record → List Record
@@ -136,7 +140,7 @@ asMade (aReading x e) r = timeMade e r
 
 unfoldable pub within : List Made → List engine.Made
 within [] = []
-within (x ∷ h) = asMade (x .input) (x .seen) ++ within h
+within (x ∷ h) = asMade (x .input) (x .result) ++ within h
 
 -- calls and answers as demand 3 takes them
 abbrev pub events : List Made → List Event
@@ -148,16 +152,3 @@ pub record AsRuled (m : Memory) (i : RollInput) (r : RollSeen) : Type 0 where
   pub reply : r .reply ≡ wordsOf (roll (rollCallOf i) (shown m) .called .answer) (roll (rollCallOf i) (shown m) .called .moved)
   pub bytes : bytesOf r ≡ writtenBy (roll (rollCallOf i) (shown m) .called .answer)
   pub buffer : r .buffer ≡ bufferAfter (roll (rollCallOf i) (shown m) .called .answer) (rollBufferOf i)
-
--- ## "every call takes every input and ends"
-
-pub record Answerable (m : Memory) (i : RollInput) : Type 0 where
-  pub seen : RollSeen
-  pub allowed : AllowedAt m i seen
-
--- fresh was called with the name and the calls with the inputs were made, in their order
-pub record Run (name : List ℕ) (is : List RollInput) : Type 0 where
-  pub course : List Made
-  pub memory : Memory
-  pub trace : Trace name course memory
-  pub same : inputs course ≡ is
