@@ -74,13 +74,13 @@ paths() {
     END { printf "%d %d %d %.1f\n", all, long, most, all ? sum / all : 0 }' $proofs
 }
 
-# imports: of the files proofs/Demands, the most lines that begin with `use`
+# imports: of the files with the customer's statements, the most lines that bring names in: a file below each hands them on (Words)
 imports() {
-    # shellcheck disable=SC2086
+    # shellcheck disable=SC2046
     awk '
     FNR == 1 { n = 0 }
-    /^use / { n++; if (n > most) most = n }
-    END { print most + 0 }' $(echo "$proofs" | tr ' ' '\n' | grep '/proofs/Demands.antt$')
+    /^((unfoldable )?pub )?(use|mod) / { n++; if (n > most) most = n }
+    END { print most + 0 }' $(echo "$proofs" | tr ' ' '\n' | grep -E '/proofs/Demands.antt$|^crates/demands_recall/proofs/(Alike|InC).antt$')
 }
 
 # row WHAT VALUE [MOST]: a row of the table, and whether the value is within its bound
@@ -116,7 +116,7 @@ row 'paths (runs of .before)' "${13}"
 row 'paths of ten or more' "${14}" 0
 row 'the longest path' "${15}" 9
 row 'mean path' "${16}"
-row 'import lines of a statement file, the most' "${17}" 61
+row 'import lines of a statement file, the most' "${17}" 10
 [ "$1" = --check ] || exit 0
 echo "$passed passed, $failed failed"
 [ "$failed" -eq 0 ]

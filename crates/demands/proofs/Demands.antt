@@ -1,40 +1,8 @@
 -- The customer's demands as theorems about the definitions of `rules`, for all sequences of calls, each under its sentence;
--- `demands_engine` and
--- `demands_door` have them of the real calls. What the statements speak of stands in specs/Told and specs/History. No axiom, no hole.
-use mathlib.Core.Path.{_≡_, refl}
-use mathlib.Core.Bool.{true, false, cond}
-use mathlib.Core.List.{List, [], _∷_, _++_, map}
-use mathlib.Core.Logic.{_⊎_}
-use Prim.Native.Nat.{ℕ, _+_, _≤_}
-use lib.ListN.{length, take}
-use Rattle.rules.specs.declared.Request.{Request}
-use Rattle.rules.specs.declared.Refusal.{Refusal}
-use Rattle.rules.specs.declared.Refusal.the-variants.{BadName}
-use Rattle.rules.specs.Lists.{All, count}
-use Rattle.rules.specs.Bytes.{Byte, hasZero}
-use Rattle.rules.specs.State.{Splicer, mostKept, recent}
-use Rattle.rules.specs.Records.{recordsIn}
-use Rattle.rules.specs.Answers.{airMux, requested, spliceResult}
-use Rattle.rules.specs.Cues.{readCue, cueTime, initialisedOnes, cueRecords}
-use Rattle.rules.specs.Calls.{refused, refuse, writtenBy, named, fresh, Loans, Call, closes, messages, cues, call, after}
-use Rattle.demands.specs.History.{Event, startsOf, endsOf, history, ownAnswer, othersOf, waitingCount, book, clockAfter}
-use Rattle.rules.specs.Sound.{Each, Wired, Coded}
-use Rattle.rules.proofs.Sound.{sound-size, sound-found}
-use Rattle.rules.proofs.Codes.{call-coded}
-use Rattle.demands.specs.Told.{FromFresh, Unchanged, firstNumber, checks, numberOf, answers, Asks, Passes, earlierCode, fullTold}
-use Rattle.demands.specs.Told.{outsOf, startedTold, unended, Ended, Stands, airMuxTold, MuxInRange, Inquires, Finds, connOf}
-use Rattle.demands.specs.Told.{concerned, Carries}
-use Rattle.demands.specs.Alike.{Alike}
-use Rattle.demands.proofs.Refusals.{unchanged, first-number, fresh-number, fresh-refused}
-use Rattle.demands.proofs.Room.{from-sound, count-room, own-answer, passes-or-earlier, full-answer}
-use Rattle.demands.proofs.Once.{all-ended}
-use Rattle.demands.proofs.Aired.{ends-accepted, outs-started}
-use Rattle.demands.proofs.Closed.{from-more, close-stands}
-use Rattle.demands.proofs.Recalled.{extended-recalled, extended-of-told}
-use Rattle.demands.proofs.Mux.{air-told, air-in-range, held-in-range}
-use Rattle.demands.proofs.Cued.{cue-same, counts-nothing, told-records, to-whom, whole-section}
-use Rattle.demands.specs.Lately.{ofNumber, answerTold, endedOnce, KeptAs, endsTold}
-use Rattle.demands.proofs.Lately.{lately-told, one-kept-each}
+-- `demands_engine` and `demands_door` have them of the real calls. What the statements speak of stands in specs/Told and specs/History. No
+-- axiom, no hole.
+mod Words
+use Words.*
 
 -- ## "Over all sequences of opens, closes, messages and ticks from a fresh splicer"
 

@@ -1,65 +1,9 @@
 -- The customer's demands as theorems about the calls of `engine`, each under its sentence; proofs/Demands of demands_door has them of the
--- calls
--- for C, that of demands_rolling of the rolling card's, in the same words (tools/theorems.sh). The only hypothesis is a trace
--- (specs/Trace): fresh,
--- then any calls with any inputs, each result one that the call's contract allows; proofs/Cited holds it to the contracts in
--- engine/src/lib.rt. No axiom, no hole.
-use mathlib.Core.Path.{_≡_, refl, sym, ap, subst, _∙_}
-use mathlib.Core.Bool.{true, false, cond}
-use mathlib.Core.List.{List, [], _∷_, _++_, map}
-use mathlib.Core.Logic.{_⊎_}
-use Prim.Native.Nat.{ℕ, _+_, _-_, _/_, _≤_, _<_}
-use native.Mathlib.Omega.{arith}
-use native.Mathlib.Nat.{le-trans}
-use lib.Dec.{eqb}
-use lib.ListN.{length, take, getD, replicate}
-use Rattle.rules.specs.declared.Request.{Request}
-use Rattle.rules.specs.declared.When.the-variants.{At, Never}
-use Rattle.rules.specs.Lists.{All, some, count}
-use Rattle.rules.specs.Bytes.{Byte, hasZero}
-use Rattle.rules.specs.Records.{recordsIn, General, ConfigResponse}
-use Rattle.rules.specs.State.{Splicer, hardwareOf, empty, Sorted, startsAt, startsAfter, sooner, earliest, due, mostKept, recent}
-use Rattle.rules.specs.Reading.{longestHardware}
-use Rattle.rules.specs.Sound.{Each, Later, Falling, Coded}
-use Rattle.rules.specs.Answers.{requested, spliceResult}
-use Rattle.rules.specs.Cues.{readCue, cueTime, initialisedOnes, cueRecords}
-use Rattle.rules.specs.Calls.{fresh, after, lendingMaps, messages, call, writtenBy, sectionOf, Loans}
-use Rattle.rules.proofs.All.{all-into}
-use Rattle.rules.proofs.Sound.{reached-sound}
-use Rattle.rules.proofs.Tick.{earliest-start}
-use Rattle.demands.specs.History.{Event, startsOf, endsOf, history, ownAnswer, othersOf, waitingCount, book, clockAfter}
-use Rattle.engine.specs.declared.Answer.{Answer}
-use Rattle.engine.specs.declared.Answer.the-variants.{Refused, Done}
-use Rattle.places.specs.Places.{round, next}
-use Rattle.memory.specs.Memory.{see, placesFrom, countsOf, tallied, keptBytes}
-use Rattle.engine.specs.Lent.{Lent, Counts, Primary, ReadsMux, ReadsFeed}
-use Rattle.demands.specs.Told.{firstNumber, checks, answers, Asks, Passes, earlierCode, fullTold, countsTold, grantedBy, outsOf}
-use Rattle.demands.specs.Told.{startedTold, unended, Ended, Stands, airMuxTold, MuxInRange, Inquires, Finds, connOf, concerned, Carries}
-use Rattle.demands.specs.Alike.{Alike}
-use Rattle.demands.specs.Lately.{ofNumber, answerTold, endedOnce, KeptAs, endsTold}
-use Rattle.demands.specs.Airing.{airingsTold, clockTold, primaryTold, timeTold, airTold, numberTold}
-use Rattle.demands.specs.Kept.{keptTold, changed, AsksConfig, AsksAlive, Ready, stateIn}
-use Rattle.demands.specs.Moments.{Gapless, Printed, Within, PlayedAs}
-use Rattle.demands.proofs.Demands as told
-use Rattle.demands.proofs.Waiting.{waiting-counted}
-use Rattle.demands.proofs.Moved as shifting
-use Rattle.demands.proofs.Owners as owners
-use Rattle.demands.proofs.Said as said
-use Rattle.demands.proofs.Kept as kept
-use Rattle.demands_engine.specs.Trace.{Memory, emptyMemory, shown, Input, anOpen, aClose, aMessage, aCue, Typed, callOf, bufferOf}
-use Rattle.demands_engine.specs.Trace.{Result}
-use Rattle.demands_engine.specs.Trace.{Allowed, Made, made, Leads, Trace, More, Point, numberIn, number, movedIn, moved, bytesOf}
-use Rattle.demands_engine.specs.Trace.{replyIn}
-use Rattle.demands_engine.specs.Trace.{events, calls, inputs, Answerable, Run, AsRuled}
-use Rattle.demands_engine.proofs.Steps.{wired, promised, as-ruled, replied, number-is, number-first, unchanged}
-use Rattle.demands_engine.proofs.Course.{events-append, led-wired, led-heard, trace-lent, trace-history, trace-told, trace-more}
-use Rattle.demands_engine.proofs.Course.{trace-point}
-use Rattle.demands_engine.proofs.Course.{trace-same, fresh-number, fresh-empty}
-use Rattle.demands_engine.proofs.Closed.{not-full, closed-stands, unended-newer}
-use Rattle.demands_engine.proofs.Kept.{close-low, forgotten}
-use Rattle.demands_engine.proofs.Answerable.{answerable, runs}
-use Rattle.demands_engine.proofs.Moved.{moved-is, fresh-none, last-code, others-stay}
-use Rattle.demands_engine.proofs.Cued.{memory-stays}
+-- calls for C, that of demands_rolling of the rolling card's, in the same words (tools/theorems.sh). The only hypothesis is a trace
+-- (specs/Trace, specs/Device): fresh, then any calls with any inputs, each result one that the call's contract allows; proofs/Cited holds
+-- it to the contracts in engine/src/lib.rt. No axiom, no hole.
+mod Words
+use Words.*
 
 -- ## "On a splicer that came from fresh and the calls after it"
 

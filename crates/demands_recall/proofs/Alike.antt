@@ -1,23 +1,7 @@
 -- The theorems of 02's CR 12 between the contracts of both engines. Rests on Sides, and on demands_engine: what the card's contracts allow
--- is what
--- document 01 says.
-use mathlib.Core.Path.{_≡_, refl, sym, subst, ap, _∙_}
-use mathlib.Core.Bool.{true, _||_}
-use mathlib.Core.List.{List, [], _∷_}
-use Prim.Native.Nat.{ℕ}
-use lib.ListN.{length}
-use Rattle.rules.specs.State.{Splicer}
-use Rattle.rules.specs.Calls.{Answer, refused, good, call}
-use Rattle.recall_log.specs.Log.{logLength, otherLength}
-use Rattle.recall_log.specs.Kept.{replyOf}
-use Rattle.engine.specs.Lent.{answerOf}
-use Rattle.demands_engine.specs.Trace.{Memory, shown, Input, callOf, bufferOf}
-use Rattle.demands_engine.proofs.Steps.{wired, promised}
-use Rattle.recall.specs.Recall.{begun, spent}
-use Rattle.demands_recall.specs.Sides.{is13, logAfter, goodOnes, LikeTheCard}
-use Rattle.demands_recall.specs.Beside.{Recollection, Both, Recollects, Course, Beside, asReply, pairs}
-use Rattle.demands_recall.proofs.Sides as both
-use Rattle.demands_recall.proofs.Sides.{like-the-card, thirteen, fresh-same}
+-- is what document 01 says.
+mod Words
+use Words.*
 
 -- a card's answer of document 01 in the second one's words
 pub as-ruled : (a : Answer) (n : ℕ) → asReply (answerOf a n) ≡ replyOf a n

@@ -1,42 +1,8 @@
 -- The same theorems of what C sees: every word of the replies, every byte of the buffers. Rests on Sides, and on the promises of both
 -- archives'
 -- functions, that a reply's words are the answer.
-use mathlib.Core.Path.{_≡_, refl, sym, subst, ap, ap₂, _∙_}
-use mathlib.Core.Bool.{Bool, true, false, _||_}
-use mathlib.Core.List.{List, [], _∷_, _++_, append-nil, append-assoc}
-use Prim.Native.Nat.{ℕ}
-use lib.Dec.{eqb}
-use lib.ListN.{length}
-use Rattle.rules.specs.declared.Refusal.{Refusal}
-use Rattle.rules.specs.declared.Refusal.the-variants.{NoConnection, NoRoom, ClockBack, Oversize, Short, AlreadyOpen, NotOpen, BadMicros}
-use Rattle.rules.specs.declared.Refusal.the-variants.{BadName, Counter, LongSection, BadSection, NotSixteen}
-use Rattle.rules.specs.Lists.{All, put}
-use Rattle.rules.specs.State.{Splicer}
-use Rattle.rules.specs.Calls.{houseNumber, Call, call}
-use Rattle.rules.specs.Sound.{Wired}
-use Rattle.rules.proofs.Tests.{by}
-use Rattle.memory.specs.Memory.{shown}
-use Rattle.engine.specs.declared.Answer.{Answer}
-use Rattle.engine.specs.declared.Answer.the-variants as answer
-use Rattle.door.specs.Door.{replyOf, Input, anOpen, aClose, aMessage, aTick, aCue, Typed, callOf, bufferOf, Allowed}
-use Rattle.recall_log.specs.declared.Reply.{Reply}
-use Rattle.recall_log.specs.declared.Reply.the-variants.{Full, Refused, Done}
-use Rattle.recall_log.specs.Log.{keptCalls, logLength, otherLength, full}
-use Rattle.recall_log.specs.Kept.{Its, keptForm, numberOf}
-use Rattle.recall.specs.Recall.{begun, spent, Remembers}
-use Rattle.recall.proofs.Steps.{Leads}
-use Rattle.recall.proofs.Recalls as recall-laws
-use Rattle.recall.proofs.Recalls.{neat-is}
-use Rattle.door_bench.specs.Bench.{replyWords, Tells, TellsFresh}
-use Rattle.demands_recall.specs.Sides as sides
-use Rattle.demands_recall.specs.Sides.{Pair, isDone}
-use Rattle.demands_recall.specs.Beside.{asReply}
-use Rattle.demands_recall.specs.InC.{Recollection, Both, Recollects, Course, Beside, Alike, numberIn, is13, until13, None13, logAfter}
-use Rattle.demands_recall.specs.InC.{goodOnes, LikeTheCard}
-use Rattle.demands_recall.proofs.Sides as both
-use Rattle.demands_recall.proofs.Sides.{Step, full-13, step-same, step-leads, step-calls, put-append, begins, none-kept, thirteen}
-use Rattle.demands_recall.proofs.Sides.{fresh-same}
-use Rattle.demands_recall.proofs.Alike.{as-ruled}
+mod Words
+use Words.*
 
 -- ## The words of a reply
 
