@@ -28,21 +28,9 @@ loop-holds c =
 shared-slice-read-end : tie.Need-shared-slice-read-end Inv-loop μ-loop
 shared-slice-read-end c =
     let s = c .before .before .before .before .before .before in
-    let f = c .before .before .loop .inv .3 in
-    let h = c .before .loop-test .taken in
-    let on = fill-good f h in
-    omega (
-      arith,
-      on .inside,
-      on .within,
-      on .grows,
-      s .pre .few,
-      s .pre .wide,
-      s .pre .long,
-      f .small,
-      c .before .before .loop .inv .1,
-      c .before .before .loop .inv .2,
-    )
+    let l = c .before .before .loop .inv in
+    let on = fill-good (l .3) (c .before .loop-test .taken) in
+    omega (arith, s .pre, l, on)
 
 cast-end : tie.Need-cast-end Inv-loop μ-loop
 cast-end c = omega (arith, c .shared-slice-known2 .given (c .before .before .loop .at))
@@ -50,116 +38,44 @@ cast-end c = omega (arith, c .shared-slice-known2 .given (c .before .before .loo
 add-end : tie.Need-add-end Inv-loop μ-loop
 add-end c =
     let s = c .before .before .before .before .before .before in
-    let f = c .before .before .loop .inv .3 in
-    let h = c .before .loop-test .taken in
-    let on = fill-good f h in
-    omega (
-      arith,
-      on .inside,
-      on .within,
-      on .grows,
-      s .pre .few,
-      s .pre .wide,
-      s .pre .long,
-      f .small,
-      c .before .before .loop .inv .1,
-      c .before .before .loop .inv .2,
-    )
+    let l = c .before .before .loop .inv in
+    let on = fill-good (l .3) (c .before .loop-test .taken) in
+    omega (arith, s .pre, l, on)
 
 add-from : tie.Need-add-from Inv-loop μ-loop
 add-from c =
     let s = c .before .before .before .before .before .before in
-    let f = c .before .before .loop .inv .3 in
-    let h = c .before .loop-test .taken in
-    let on = fill-good f h in
-    omega (
-      arith,
-      on .inside,
-      on .within,
-      on .grows,
-      s .pre .few,
-      s .pre .wide,
-      s .pre .long,
-      f .small,
-      c .before .before .loop .inv .1,
-      c .before .before .loop .inv .2,
-    )
+    let l = c .before .before .loop .inv in
+    let on = fill-good (l .3) (c .before .loop-test .taken) in
+    omega (arith, s .pre, l, on)
 
 mul-row : tie.Need-mul-row Inv-loop μ-loop
 mul-row c =
     let s = c .before .before .before .before .before .before in
-    let f = c .before .before .loop .inv .3 in
-    let h = c .before .loop-test .taken in
-    let on = fill-good f h in
-    omega (
-      arith,
-      on .inside,
-      on .within,
-      on .grows,
-      s .pre .few,
-      s .pre .wide,
-      s .pre .long,
-      f .small,
-      c .before .before .loop .inv .1,
-      c .before .before .loop .inv .2,
-    )
+    let l = c .before .before .loop .inv in
+    let on = fill-good (l .3) (c .before .loop-test .taken) in
+    omega (arith, s .pre, l, on)
 
 add-row : tie.Need-add-row Inv-loop μ-loop
 add-row c =
     let s = c .before .before .before .before .before .before in
-    let f = c .before .before .loop .inv .3 in
-    let h = c .before .loop-test .taken in
-    let on = fill-good f h in
-    omega (
-      arith,
-      on .inside,
-      on .within,
-      on .grows,
-      s .pre .few,
-      s .pre .wide,
-      s .pre .long,
-      f .small,
-      c .before .before .loop .inv .1,
-      c .before .before .loop .inv .2,
-    )
+    let l = c .before .before .loop .inv in
+    let on = fill-good (l .3) (c .before .loop-test .taken) in
+    omega (arith, s .pre, l, on)
 
 sub-fill-row : tie.Need-sub-fill-row Inv-loop μ-loop
 sub-fill-row c =
     let s = c .before .before .before .before .before .before in
-    let f = c .before .before .loop .inv .3 in
-    let h = c .before .loop-test .taken in
-    let on = fill-good f h in
-    omega (
-      arith,
-      on .inside,
-      on .within,
-      on .grows,
-      s .pre .few,
-      s .pre .wide,
-      s .pre .long,
-      f .small,
-      c .before .before .loop .inv .1,
-      c .before .before .loop .inv .2,
-    )
+    let l = c .before .before .loop .inv in
+    let on = fill-good (l .3) (c .before .loop-test .taken) in
+    omega (arith, s .pre, l, on)
 
 part-fill-row-start : tie.Need-part-fill-row-start Inv-loop μ-loop
 part-fill-row-start c =
     let s = c .before .before .before .before .before .before in
-    let f = c .before .before .loop .inv .3 in
-    let h = c .before .loop-test .taken in
-    let on = fill-good f h in
-    omega (
-      arith,
-      on .inside,
-      on .within,
-      on .grows,
-      s .pre .few,
-      s .pre .wide,
-      s .pre .long,
-      f .small,
-      c .before .before .loop .inv .1,
-      c .before .before .loop .inv .2,
-    )
+    let l = c .before .before .loop .inv in
+    let on = fill-good (l .3) (c .before .loop-test .taken) in
+    omega (arith, s .pre, l, on)
 
 part-fill-row-end : tie.Need-part-fill-row-end Inv-loop μ-loop
 part-fill-row-end c = search needs
@@ -167,59 +83,23 @@ part-fill-row-end c = search needs
 mul-fill-row : tie.Need-mul-fill-row Inv-loop μ-loop
 mul-fill-row c =
     let s = c .before .before .before .before .before .before .before in
-    let f = c .before .before .before .loop .inv .3 in
-    let h = c .before .before .loop-test .taken in
-    let on = fill-good f h in
-    omega (
-      arith,
-      on .inside,
-      on .within,
-      on .grows,
-      s .pre .few,
-      s .pre .wide,
-      s .pre .long,
-      f .small,
-      c .before .before .before .loop .inv .1,
-      c .before .before .before .loop .inv .2,
-    )
+    let l = c .before .before .before .loop .inv in
+    let on = fill-good (l .3) (c .before .before .loop-test .taken) in
+    omega (arith, s .pre, l, on)
 
 sub-fill-row-2 : tie.Need-sub-fill-row-2 Inv-loop μ-loop
 sub-fill-row-2 c =
     let s = c .before .before .before .before .before .before .before in
-    let f = c .before .before .before .loop .inv .3 in
-    let h = c .before .before .loop-test .taken in
-    let on = fill-good f h in
-    omega (
-      arith,
-      on .inside,
-      on .within,
-      on .grows,
-      s .pre .few,
-      s .pre .wide,
-      s .pre .long,
-      f .small,
-      c .before .before .before .loop .inv .1,
-      c .before .before .before .loop .inv .2,
-    )
+    let l = c .before .before .before .loop .inv in
+    let on = fill-good (l .3) (c .before .before .loop-test .taken) in
+    omega (arith, s .pre, l, on)
 
 part-fill-row-start-2 : tie.Need-part-fill-row-start-2 Inv-loop μ-loop
 part-fill-row-start-2 c =
     let s = c .before .before .before .before .before .before .before in
-    let f = c .before .before .before .loop .inv .3 in
-    let h = c .before .before .loop-test .taken in
-    let on = fill-good f h in
-    omega (
-      arith,
-      on .inside,
-      on .within,
-      on .grows,
-      s .pre .few,
-      s .pre .wide,
-      s .pre .long,
-      f .small,
-      c .before .before .before .loop .inv .1,
-      c .before .before .before .loop .inv .2,
-    )
+    let l = c .before .before .before .loop .inv in
+    let on = fill-good (l .3) (c .before .before .loop-test .taken) in
+    omega (arith, s .pre, l, on)
 
 part-fill-row-end-2 : tie.Need-part-fill-row-end-2 Inv-loop μ-loop
 part-fill-row-end-2 c = search needs
@@ -227,63 +107,28 @@ part-fill-row-end-2 c = search needs
 fill-row-requires : tie.Need-fill-row-requires Inv-loop μ-loop
 fill-row-requires c κs =
     let s = c .before .before .before .before .before .before .before .before in
-    let f = c .before .before .before .before .loop .inv .3 in
+    let l = c .before .before .before .before .loop .inv in
     let h = c .before .before .before .loop-test .taken in
-    let on = fill-good f h in (
-      fill-bad f h,
-      simp (length-take, length-drop) (omega (
-        arith,
-        on .inside,
-        on .within,
-        on .grows,
-        s .pre .few,
-        s .pre .wide,
-        s .pre .long,
-        f .small,
-        c .before .before .before .before .loop .inv .1,
-        c .before .before .before .before .loop .inv .2,
-      )),
+    let on = fill-good (l .3) h in (
+      fill-bad (l .3) h,
+      simp (length-take, length-drop) (omega (arith, s .pre, l, on)),
     )
 
 sub-copy : tie.Need-sub-copy Inv-loop μ-loop
 sub-copy c =
     let c8 = c .before .before .before .before .before .before .before .before in
     let s = c8 .before .before .before in
-    let f = c .before .before .before .before .before .before .before .loop .inv .3 in
-    let h = c .before .before .before .before .before .before .loop-test .taken in
-    let on = fill-good f h in
-    omega (
-      arith,
-      on .inside,
-      on .within,
-      on .grows,
-      s .pre .few,
-      s .pre .wide,
-      s .pre .long,
-      f .small,
-      c .before .before .before .before .before .before .before .loop .inv .1,
-      c .before .before .before .before .before .before .before .loop .inv .2,
-    )
+    let l = c .before .before .before .before .before .before .before .loop .inv in
+    let on = fill-good (l .3) (c .before .before .before .before .before .before .loop-test .taken) in
+    omega (arith, s .pre, l, on)
 
 part-copy-start : tie.Need-part-copy-start Inv-loop μ-loop
 part-copy-start c =
     let c8 = c .before .before .before .before .before .before .before .before in
     let s = c8 .before .before .before in
-    let f = c .before .before .before .before .before .before .before .loop .inv .3 in
-    let h = c .before .before .before .before .before .before .loop-test .taken in
-    let on = fill-good f h in
-    omega (
-      arith,
-      on .inside,
-      on .within,
-      on .grows,
-      s .pre .few,
-      s .pre .wide,
-      s .pre .long,
-      f .small,
-      c .before .before .before .before .before .before .before .loop .inv .1,
-      c .before .before .before .before .before .before .before .loop .inv .2,
-    )
+    let l = c .before .before .before .before .before .before .before .loop .inv in
+    let on = fill-good (l .3) (c .before .before .before .before .before .before .loop-test .taken) in
+    omega (arith, s .pre, l, on)
 
 part-copy-end : tie.Need-part-copy-end Inv-loop μ-loop
 part-copy-end c = search needs
@@ -292,61 +137,25 @@ sub-copy-2 : tie.Need-sub-copy-2 Inv-loop μ-loop
 sub-copy-2 c =
     let c8 = c .before .before .before .before .before .before .before .before in
     let s = c8 .before .before .before .before in
-    let f = c .before .before .before .before .before .before .before .before .loop .inv .3 in
-    let h = c .before .before .before .before .before .before .before .loop-test .taken in
-    let on = fill-good f h in
-    omega (
-      arith,
-      on .inside,
-      on .within,
-      on .grows,
-      s .pre .few,
-      s .pre .wide,
-      s .pre .long,
-      f .small,
-      c .before .before .before .before .before .before .before .before .loop .inv .1,
-      c .before .before .before .before .before .before .before .before .loop .inv .2,
-    )
+    let l = c .before .before .before .before .before .before .before .before .loop .inv in
+    let on = fill-good (l .3) (c .before .before .before .before .before .before .before .loop-test .taken) in
+    omega (arith, s .pre, l, on)
 
 part-copy-start-2 : tie.Need-part-copy-start-2 Inv-loop μ-loop
 part-copy-start-2 c =
     let c8 = c .before .before .before .before .before .before .before .before in
     let s = c8 .before .before .before .before in
-    let f = c .before .before .before .before .before .before .before .before .loop .inv .3 in
-    let h = c .before .before .before .before .before .before .before .loop-test .taken in
-    let on = fill-good f h in
-    omega (
-      arith,
-      on .inside,
-      on .within,
-      on .grows,
-      s .pre .few,
-      s .pre .wide,
-      s .pre .long,
-      f .small,
-      c .before .before .before .before .before .before .before .before .loop .inv .1,
-      c .before .before .before .before .before .before .before .before .loop .inv .2,
-    )
+    let l = c .before .before .before .before .before .before .before .before .loop .inv in
+    let on = fill-good (l .3) (c .before .before .before .before .before .before .before .loop-test .taken) in
+    omega (arith, s .pre, l, on)
 
 part-copy-end-2 : tie.Need-part-copy-end-2 Inv-loop μ-loop
 part-copy-end-2 c =
     let c8 = c .before .before .before .before .before .before .before .before in
     let s = c8 .before .before .before .before in
-    let f = c .before .before .before .before .before .before .before .before .loop .inv .3 in
-    let h = c .before .before .before .before .before .before .before .loop-test .taken in
-    let on = fill-good f h in
-    omega (
-      arith,
-      on .inside,
-      on .within,
-      on .grows,
-      s .pre .few,
-      s .pre .wide,
-      s .pre .long,
-      f .small,
-      c .before .before .before .before .before .before .before .before .loop .inv .1,
-      c .before .before .before .before .before .before .before .before .loop .inv .2,
-    )
+    let l = c .before .before .before .before .before .before .before .before .loop .inv in
+    let on = fill-good (l .3) (c .before .before .before .before .before .before .before .loop-test .taken) in
+    omega (arith, s .pre, l, on)
 
 copy-requires : tie.Need-copy-requires Inv-loop μ-loop
 copy-requires c κs =
@@ -376,44 +185,19 @@ sub-to c =
     let c8 = c .before .before .before .before .before .before .before .before in
     let c16 = c8 .before .before .before .before .before .before .before .before in
     let s = c16 in
-    let f = c8 .before .before .before .before .loop .inv .3 in
-    let h = c8 .before .before .before .loop-test .taken in
-    let on = fill-good f h in
-    omega (
-      arith,
-      on .inside,
-      on .within,
-      on .grows,
-      s .pre .few,
-      s .pre .wide,
-      s .pre .long,
-      f .small,
-      c8 .before .before .before .before .loop .inv .1,
-      c8 .before .before .before .before .loop .inv .2,
-    )
+    let l = c8 .before .before .before .before .loop .inv in
+    let on = fill-good (l .3) (c8 .before .before .before .loop-test .taken) in
+    omega (arith, s .pre, l, on)
 
 add-to : tie.Need-add-to Inv-loop μ-loop
 add-to c =
     let c8 = c .before .before .before .before .before .before .before .before in
     let c16 = c8 .before .before .before .before .before .before .before .before in
     let s = c16 in
-    let f = c8 .before .before .before .before .loop .inv .3 in
-    let h = c8 .before .before .before .loop-test .taken in
-    let on = fill-good f h in
+    let l = c8 .before .before .before .before .loop .inv in
+    let on = fill-good (l .3) (c8 .before .before .before .loop-test .taken) in
     let low = c8 .before .before .shared-slice-known2 .given (c8 .before .before .before .before .loop .at) in
-    omega (
-      arith,
-      low,
-      on .inside,
-      on .within,
-      on .grows,
-      s .pre .few,
-      s .pre .wide,
-      s .pre .long,
-      f .small,
-      c8 .before .before .before .before .loop .inv .1,
-      c8 .before .before .before .before .loop .inv .2,
-    )
+    omega (arith, low, s .pre, l, on)
 
 add-i : tie.Need-add-i Inv-loop μ-loop
 add-i c = search needs
