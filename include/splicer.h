@@ -74,6 +74,11 @@ enum {
     SPLICER_ENDED_WORDS = 81
 };
 
+/* The card with a rolling counter: the most ticks of 90 kHz from one good reading to the next. */
+enum {
+    SPLICER_LONGEST_STEP = 8100000
+};
+
 /* Lists of streams: the most of them, the words of a row, and the bytes that all together may keep. */
 enum {
     SPLICER_STREAMS = 16,
@@ -221,6 +226,20 @@ struct splicer_row {
     uint32_t played;
 };
 
+/* The session on air. In ninths of a microsecond: its start and end, as accepted, and its time on air so far. event: its SpliceEventID; mux
+ * as splicer_call_mux has it. */
+struct splicer_air {
+    uint64_t start, end, played;
+    uint32_t connection, session, event, access, mux;
+};
+
+/* When a tick would next do anything: the instant in ninths of a microsecond, and Seconds and MicroSeconds of the first tick that reaches
+ * it. */
+struct splicer_due {
+    uint64_t instant;
+    uint32_t seconds, micros;
+};
+
 /* The archive is made for machines on which these hold. */
 SPLICER_ASSERT(sizeof(size_t) == 8, "a length is 8 bytes");
 SPLICER_ASSERT(sizeof(struct splicer) == 6544, "size of struct splicer");
@@ -244,12 +263,18 @@ SPLICER_ASSERT(SPLICER_OFFSET(struct splicer_row, session) == 8, "layout of stru
 SPLICER_ASSERT(SPLICER_OFFSET(struct splicer_row, event) == 12, "layout of struct splicer_row");
 SPLICER_ASSERT(SPLICER_OFFSET(struct splicer_row, result) == 16, "layout of struct splicer_row");
 SPLICER_ASSERT(SPLICER_OFFSET(struct splicer_row, played) == 20, "layout of struct splicer_row");
+SPLICER_ASSERT(sizeof(struct splicer_air) == 48, "size of struct splicer_air");
+SPLICER_ASSERT(SPLICER_OFFSET(struct splicer_air, connection) == 24, "layout of struct splicer_air");
+SPLICER_ASSERT(sizeof(struct splicer_due) == 16, "size of struct splicer_due");
+SPLICER_ASSERT(SPLICER_OFFSET(struct splicer_due, seconds) == 8, "layout of struct splicer_due");
 SPLICER_ASSERT(SPLICER_ENDED + SPLICER_ENDED_WORDS == SPLICER_WORDS, "what ended stands last in the words");
 
 /* ---- The archive's functions ----
  * Drivers use the splicer_call_ functions below, which are inline. These take the parts of a struct splicer, pointers and numbers only:
  * nothing is passed or returned by value that two compilers could pass in two ways. reply, SPLICER_REPLY words, gets the house number or 0,
- * the bytes consumed, the bytes written and the places shifted. */
+ * the bytes consumed, the bytes written and the places shifted. air gets nine words: 1, or 0 and all 0; connection, SessionID, start, end,
+ * played, SpliceEventID, AccessType, MuxPriorityValue. due gets four: 0, 1 or 2, the instant, Seconds, MicroSeconds; of the rolling card
+ * two: 0 or 1, and ticks. */
 void splicer_7_fresh(const uint8_t *name, uint64_t *words, uint8_t *bytes, uint64_t *reply);
 void splicer_7_rolling_fresh(const uint8_t *name, uint64_t *words, uint8_t *bytes, uint64_t *counter, uint64_t *reply);
 void splicer_7_open(uint64_t *words, uint8_t *bytes, uint32_t conn, uint64_t *reply);
@@ -268,6 +293,9 @@ void splicer_7_waiting(const uint64_t *words, const uint8_t *bytes, uint64_t *co
 uint64_t splicer_7_primary(const uint64_t *words, const uint8_t *bytes);
 uint64_t splicer_7_mux(const uint64_t *words, const uint8_t *bytes);
 uint64_t splicer_7_map(const uint64_t *words, const uint8_t *bytes);
+void splicer_7_air(const uint64_t *words, const uint8_t *bytes, uint64_t *air);
+void splicer_7_due(const uint64_t *words, const uint8_t *bytes, uint64_t *due);
+void splicer_7_rolling_due(const uint64_t *words, const uint8_t *bytes, const uint64_t *counter, uint64_t *due);
 uint64_t splicer_7_ended(const uint64_t *ended, size_t words, struct splicer_row *page, size_t rows);
 size_t splicer_7_write_streams(const uint64_t *list, const uint8_t *kept, uint8_t *out, size_t room);
 
@@ -465,6 +493,47 @@ static inline const uint8_t *splicer_call_map(const struct splicer *s, const str
     }
     *length = maps->insertion_length;
     return maps->insertion;
+}
+
+/* The session on air: 1; or 0 and all of *air 0. It changes with starts, ends, aborts and closes: a covered session that is on air again
+ * writes no record.
+ * Refused: never. Cost: some 20. Threads: shared. */
+static inline int splicer_call_air(const struct splicer *s, struct splicer_air *air) {
+    uint64_t row[9];
+    splicer_7_air(s->words, s->bytes, row);
+    air->connection = (uint32_t)row[1];
+    air->session = (uint32_t)row[2];
+    air->start = row[3];
+    air->end = row[4];
+    air->played = row[5];
+    air->event = (uint32_t)row[6];
+    air->access = (uint32_t)row[7];
+    air->mux = (uint32_t)row[8];
+    return (int)row[0];
+}
+
+/* When a tick would next do anything. 0: nothing is due, and all of *due is 0. 1: an instant is, but no tick's time reaches it; seconds and
+ * micros are 0. 2: the instant, and the time of the first tick that reaches it: an earlier tick writes nothing and leaves this as it is,
+ * that tick is good and writes. To be read again after a call that wrote anything.
+ * Refused: never. Cost: 20 to 55 with at most one on air, however many wait; 151 with 10 started. Threads: shared. */
+static inline int splicer_call_due(const struct splicer *s, struct splicer_due *due) {
+    uint64_t row[4];
+    splicer_7_due(s->words, s->bytes, row);
+    due->instant = row[1];
+    due->seconds = (uint32_t)row[2];
+    due->micros = (uint32_t)row[3];
+    return (int)row[0];
+}
+
+/* The card with a rolling counter: when a reading would next do anything. 1, and in *ticks how many ticks after the last good reading: fewer
+ * write nothing, so many are good and write. 0 and SPLICER_LONGEST_STEP, by when the counter must be read anyway: no good reading before
+ * that writes anything, or the instant is not yet given.
+ * Refused: never. Cost: that of splicer_call_due. Threads: shared. */
+static inline int splicer_call_rolling_due(const struct splicer_rolling *r, uint32_t *ticks) {
+    uint64_t row[2];
+    splicer_7_rolling_due(r->core.words, r->core.bytes, r->counter, row);
+    *ticks = (uint32_t)row[1];
+    return (int)row[0];
 }
 
 /* The last 16 sessions that ended, of all connections, from the newest down: rows[0] is the one whose end was written last. 0, or 16 if

@@ -152,6 +152,15 @@ extern "C" {
     #[link_name = "splicer_7_map"]
     pub fn map(words: *const u64, bytes: *const u8) -> u64;
 
+    #[link_name = "splicer_7_air"]
+    pub fn air(words: *const u64, bytes: *const u8, air: *mut u64);
+
+    #[link_name = "splicer_7_due"]
+    pub fn due(words: *const u64, bytes: *const u8, due: *mut u64);
+
+    #[link_name = "splicer_7_rolling_due"]
+    pub fn rolling_due(words: *const u64, bytes: *const u8, counter: *const u64, due: *mut u64);
+
     #[link_name = "splicer_7_version"]
     pub fn version() -> u64;
 }

@@ -46,6 +46,7 @@
 #[cfg(feature = "bench")]
 extern crate alloc;
 
+mod air;
 #[cfg(feature = "bench")]
 #[cfg_attr(docsrs, doc(cfg(feature = "bench")))]
 pub mod bench;
@@ -59,6 +60,7 @@ mod says;
 mod streams;
 pub mod texts;
 
+pub use air::{Air, Due};
 use core::fmt;
 pub use ended::Row;
 pub use records::{message_id, records, result, Record, Records};
@@ -106,6 +108,8 @@ pub const MUX_AVERAGE: u8 = 5;
 
 /// Rows of the page of what ended lately.
 pub const ROWS: usize = 16;
+/// The card with a rolling counter: the most ticks of 90 kHz from one good reading to the next.
+pub const LONGEST_STEP: u32 = 8_100_000;
 /// Where in the words what ended is kept, and in how many.
 pub const ENDED: usize = 605;
 /// See [`ENDED`].

@@ -1,6 +1,7 @@
 //! The card with a rolling counter: an instant and readings in place of ticks.
 
-use crate::{door, Handled, Maps, Refusal, Row, Splicer, BYTES, CONNECTIONS, NAME, ROWS, WORDS};
+use crate::{door, Air, Handled, Maps, Refusal, Row, Splicer};
+use crate::{BYTES, CONNECTIONS, NAME, ROWS, WORDS};
 use core::fmt;
 
 /// One output channel of the card with a rolling counter.
@@ -135,6 +136,31 @@ impl RollingSplicer {
     /// As [`Splicer::mux`].
     pub fn mux(&self) -> u8 {
         self.core.mux()
+    }
+
+    /// As [`Splicer::air`].
+    pub fn air(&self) -> Option<Air> {
+        self.core.air()
+    }
+
+    /// How many ticks of 90 kHz after the last good reading a reading would next do anything: fewer
+    /// write nothing, so many are good, and write. None, if no good reading does, or the instant is not
+    /// yet given; the counter must be read all the same, at the latest after
+    /// [`LONGEST_STEP`](crate::LONGEST_STEP) ticks. It only reads.
+    ///
+    /// ```
+    /// let (channel, _) = splicer::RollingSplicer::fresh(&splicer::name(b"CH1"));
+    /// assert_eq!(channel.due(), None);
+    /// ```
+    pub fn due(&self) -> Option<u32> {
+        let mut row = [0; 2];
+        let (words, bytes) = (self.core.words.as_ptr(), self.core.bytes.as_ptr());
+        let counter = self.counter.as_ptr();
+        // SAFETY: the state came from fresh and this type's calls, and is lent for reading; the row is
+        // a local, so apart.
+        unsafe { door::rolling_due(words, bytes, counter, row.as_mut_ptr()) };
+        // At most LONGEST_STEP, so it fits.
+        (row[0] == 1).then_some(row[1] as u32)
     }
 
     /// As [`Splicer::cue`].

@@ -5,11 +5,12 @@ use splicer::{message_id, result, Refusal};
 
 const HEADER_TEXT: &str = include_str!("../../include/splicer.h");
 const DOOR_TEXT: &str = include_str!("../src/door.rs");
-const CALLS: [&str; 11] = [
-    "fresh", "open", "close", "message", "tick", "waiting", "primary", "mux", "cue", "ended", "map",
+const CALLS: [&str; 13] = [
+    "fresh", "open", "close", "message", "tick", "waiting", "primary", "mux", "cue", "ended",
+    "map", "air", "due",
 ];
 /// Those of the card with a rolling counter alone.
-const ROLLING: [&str; 3] = ["rolling_fresh", "instant", "reading"];
+const ROLLING: [&str; 4] = ["rolling_fresh", "instant", "reading", "rolling_due"];
 /// No calls on a splicer.
 const LISTS: [&str; 2] = ["read_streams", "write_streams"];
 
@@ -52,6 +53,7 @@ fn sizes() -> Vec<(&'static str, u32)> {
         ("ROWS", splicer::ROWS),
         ("ENDED", splicer::ENDED),
         ("ENDED_WORDS", splicer::ENDED_WORDS),
+        ("LONGEST_STEP", splicer::LONGEST_STEP as usize),
     ];
     list.map(|(name, size)| (name, size as u32)).to_vec()
 }

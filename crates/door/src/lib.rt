@@ -11,7 +11,7 @@ ghost use mathlib.Core.Path.{_≡_};
 ghost use mathlib.Core.List.{[]};
 ghost use lib.ListN.{length};
 ghost use Rattle.rules.specs.Calls.{fresh, openCall, closeCall, messageCall, tickCall, lendingMaps};
-ghost use Rattle.engine.specs.Lent.{Lent, Counts, Primary, ReadsMux, ReadsFeed};
+ghost use Rattle.engine.specs.Lent.{Lent, Counts, Primary, ReadsMux, ReadsFeed, ReadsAir, ReadsDue};
 ghost use Rattle.streams.specs.Rows.{ReadsList, WritesList};
 ghost use Rattle.door.specs.Door.{Replies, Hears, anchorOf, cueOf, version};
 ghost use Rattle.rows.specs.Rows.{Pages};
@@ -227,4 +227,24 @@ pub extern "C" fn splicer_7_version() -> u64
     ensures { λ r. ⌜ r ≡ version ⌝ }
 {
     7000
+}
+
+// The one on air: 1, connection, SessionID, start, end and time on air so far in ninths, SpliceEventID, AccessType, MuxPriorityValue; with
+// none all 0. It only reads, and nothing is refused.
+#[no_mangle]
+pub extern "C" fn splicer_7_air(words: &[u64; WORDS], bytes: &[u8; BYTES], air: &mut [u64; 9])
+    requires { ⌜ Lent (now words) (now bytes) ⌝ }
+    ensures { λ _. ⌜ ReadsAir (now (words .entry)) (now (bytes .entry)) (now (air .exit)) ⌝ }
+{
+    *air = engine::air(words, bytes);
+}
+
+// When a tick would do anything: 2, the instant in ninths, Seconds and MicroSeconds of the first tick that reaches it; 1 and the instant, if
+// no tick does; 0 with nothing due. It only reads, and nothing is refused.
+#[no_mangle]
+pub extern "C" fn splicer_7_due(words: &[u64; WORDS], bytes: &[u8; BYTES], due: &mut [u64; 4])
+    requires { ⌜ Lent (now words) (now bytes) ⌝ }
+    ensures { λ _. ⌜ ReadsDue (now (words .entry)) (now (bytes .entry)) (now (due .exit)) ⌝ }
+{
+    *due = engine::due(words, bytes);
 }

@@ -7,7 +7,8 @@ use rolling::Given;
 ghost use mathlib.Core.Path.{_≡_};
 ghost use mathlib.Core.List.{[]};
 ghost use Rattle.rules.specs.Rolling.{rollingFresh, readingCall};
-ghost use Rattle.rolling.specs.LentRolling.{LentRolling};
+ghost use Rattle.rolling.specs.LentRolling.{LentRolling, ReadsStep};
+ghost use Rattle.engine.specs.Lent.{Lent};
 ghost use Rattle.door_rolling.specs.RollDoor.{RollReplies, RollHears, instantOf};
 
 // Whatever stood in the words before. The words and bytes go to the door's open, close, message and read; the counter's words stand beside
@@ -68,4 +69,19 @@ pub extern "C" fn splicer_7_reading(
 {
     let a = rolling::reading(&mut *words, &mut *bytes, &mut *counter, reading, &mut *out);
     *reply = engine::reply_of(a);
+}
+
+// After how many ticks of the counter, from the last good reading on, a reading would do anything: 1 and the ticks; or 0 and the longest
+// step, if none that is good does, as before the instant is given. It only reads, and nothing is refused.
+#[no_mangle]
+pub extern "C" fn splicer_7_rolling_due(
+    words: &[u64; WORDS],
+    bytes: &[u8; BYTES],
+    counter: &[u64; 2],
+    due: &mut [u64; 2],
+)
+    requires { ⌜ Lent (now words) (now bytes) ⌝ }
+    ensures { λ _. ⌜ ReadsStep (now (words .entry)) (now (bytes .entry)) (now (counter .entry)) (now (due .exit)) ⌝ }
+{
+    *due = rolling::due(words, bytes, counter);
 }

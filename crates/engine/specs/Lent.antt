@@ -9,9 +9,9 @@ use Rattle.rules.specs.declared.Link.{Link}
 use Rattle.rules.specs.declared.Link.the-variants.{Closed}
 use Rattle.rules.specs.declared.Refusal.the-variants.{NoConnection, NoRoom, NotOpen}
 use Rattle.rules.specs.Records.{output}
-use Rattle.rules.specs.State.{Splicer, isOpen}
-use Rattle.rules.specs.Answers.{airMux, airFeed}
-use Rattle.rules.specs.Calls.{Called, refused, good, houseNumber, noConnection, noRoom, longestSection, bufferAfter}
+use Rattle.rules.specs.State.{Splicer, isOpen, due}
+use Rattle.rules.specs.Answers.{airMux, airFeed, airRow}
+use Rattle.rules.specs.Calls.{Called, refused, good, houseNumber, noConnection, noRoom, longestSection, bufferAfter, dueRow}
 use Rattle.rules.specs.Calls as calls
 use Rattle.rules.specs.Sound.{Reached}
 use Rattle.memory.specs.Memory.{see, shifted, Whole, shown, tallied}
@@ -74,3 +74,11 @@ Counts m b r = r ≡ tallied (shown m b .queue .waiting)
 -- 02, CR 13: the primary sum r that is read of them
 abbrev pub Primary : (m b : List ℕ) → (r : ℕ) → Type 0
 Primary m b r = r ≡ shown m b .primary
+
+-- the one on air, as it is read of them in nine words r
+abbrev pub ReadsAir : (m b r : List ℕ) → Type 0
+ReadsAir m b r = r ≡ airRow (shown m b .queue .started)
+
+-- when a tick would do anything, as it is read of them in four words r
+abbrev pub ReadsDue : (m b r : List ℕ) → Type 0
+ReadsDue m b r = r ≡ dueRow (due (shown m b .queue))

@@ -10,6 +10,7 @@ use rules::Framing;
 use rules::Link;
 use rules::Ninths;
 use rules::Refusal;
+use rules::When;
 ghost use mathlib.Core.Path.{_≡_};
 ghost use mathlib.Core.List.{[]};
 ghost use Prim.Native.Nat.{_<_};
@@ -19,7 +20,8 @@ ghost use Rattle.rules.specs.Bytes.{Byte, hasZero};
 ghost use Rattle.rules.specs.Calls.{fresh, openCall, closeCall, messageCall, moveCall, tickCall, lendingMaps, cueCall};
 ghost use Rattle.rules.specs.Sound.{horizon};
 ghost use Rattle.memory.specs.Memory.{Form, see};
-ghost use Rattle.engine.specs.Lent.{Lent, replyOf, Answers, Makes, openTest, needed, Counts, Primary, ReadsMux, ReadsFeed};
+ghost use Rattle.engine.specs.Lent.{Lent, replyOf, Answers, Makes, openTest, needed, Counts, Primary, ReadsMux, ReadsFeed, ReadsAir};
+ghost use Rattle.engine.specs.Lent.{ReadsDue};
 
 // 02, CR 6, 10: "a lent section over 1,024 bytes".
 const SECTION: usize = 1024;
@@ -114,6 +116,46 @@ pub fn on_air(m: &[u64; WORDS], b: &[u8]) -> u64
         return 0;
     }
     1
+}
+
+// The one on air: 1, connection, SessionID, start, end and time on air so far in ninths, SpliceEventID, AccessType, MuxPriorityValue; with
+// none all 0. It only reads.
+pub fn air(m: &[u64; WORDS], b: &[u8]) -> [u64; 9]
+    requires { ⌜ Lent (now m) (now b) ⌝ }
+    ensures { λ r. ⌜ ReadsAir (now (m .entry)) (now (b .entry)) r ⌝ }
+{
+    if memory::count(m, Which::Started) == 0 {
+        return [0, 0, 0, 0, 0, 0, 0, 0, 0];
+    }
+    let s = memory::load(m, Which::Started, 0);
+    [
+        1,
+        s.conn,
+        s.id,
+        s.start.0,
+        s.end.0,
+        s.played.0,
+        s.event,
+        s.access,
+        s.mux,
+    ]
+}
+
+// When a tick would do anything: 2, the instant in ninths, Seconds and MicroSeconds of the first tick that reaches it; 1 and the instant, if
+// no tick does; 0 with nothing due. It only reads.
+pub fn due(m: &[u64; WORDS], b: &[u8]) -> [u64; 4]
+    requires { ⌜ Lent (now m) (now b) ⌝ }
+    ensures { λ r. ⌜ ReadsDue (now (m .entry)) (now (b .entry)) r ⌝ }
+{
+    let next = instants::upcoming(m);
+    let When::At(t) = next else {
+        return [0, 0, 0, 0];
+    };
+    let up = units::up_micros(t);
+    if 4294967296000000 <= up {
+        return [1, t.0, 0, 0];
+    }
+    [2, t.0, up / 1000000, up % 1000000]
 }
 
 // Open: 1, 6.

@@ -113,15 +113,24 @@ fn at_instant(m: &mut [u64; WORDS], t: Ninths, out: &mut [u8], len: usize) -> us
     start_at(&mut *m, t, &mut *out, to)
 }
 
-// The next start or end up to a time, if there is one.
+// The next start or end.
+pub fn upcoming(m: &[u64]) -> When
+    requires { ⌜ Form (now m) ⌝ }
+    requires { ⌜ Sorted (see (now m) .queue .waiting) ⌝ }
+    ensures { λ r. ⌜ r ≡ due (see (now (m .entry)) .queue) ⌝ }
+{
+    let a = memory::least_end(m);
+    let b = memory::first_start(m);
+    units::sooner(a, b)
+}
+
+// The same up to a time, if there is one.
 fn next_due(m: &[u64], until: Ninths) -> When
     requires { ⌜ Form (now m) ⌝ }
     requires { ⌜ Sorted (see (now m) .queue .waiting) ⌝ }
     ensures { λ r. ⌜ r ≡ notAfter (until .0) (due (see (now (m .entry)) .queue)) ⌝ }
 {
-    let a = memory::least_end(m);
-    let b = memory::first_start(m);
-    units::not_after(until, units::sooner(a, b))
+    units::not_after(until, upcoming(m))
 }
 
 // Every instant from the clock to `until`, in order of time. The clock's word stays. A tick that finds nothing due is out before the loop.

@@ -7,7 +7,8 @@ use lib.Dec.{eqb}
 use lib.ListN.{length, getD}
 use Rattle.rules.specs.declared.When.{When}
 use Rattle.rules.specs.declared.When.the-variants.{At, Never}
-use Rattle.rules.specs.Rolling.{Last, none, at, Rolling, Rolled, Course, refuses, brings, RollReached}
+use Rattle.rules.specs.State.{due}
+use Rattle.rules.specs.Rolling.{Last, none, at, Rolling, Rolled, Course, refuses, brings, stepRow, RollReached}
 use Rattle.memory.specs.Memory.{see, Whole, shown}
 use Rattle.engine.specs.declared.Answer.{Answer}
 use Rattle.engine.specs.Lent.{Answers}
@@ -45,3 +46,7 @@ Turns f m b k e r n c j o = Rolls (f (length e) (rolling m b k)) (see m .ringEnd
 unfoldable pub whenOf : Course → When
 whenOf (refuses n) = Never
 whenOf (brings until) = At (record { 0 = until })
+
+-- after how many ticks of the counter a reading would do anything, as it is read of the memory m and b and the words k in two words r
+abbrev pub ReadsStep : (m b k r : List ℕ) → Type 0
+ReadsStep m b k r = r ≡ stepRow (lastOf k) (shown m b .clock) (due (shown m b .queue))

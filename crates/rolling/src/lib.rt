@@ -15,7 +15,8 @@ ghost use Rattle.rules.specs.Lists.{All};
 ghost use Rattle.rules.specs.Bytes.{Byte, hasZero};
 ghost use Rattle.rules.specs.Sound.{horizon};
 ghost use Rattle.rules.specs.Rolling.{at, stepOf, stepCourse, rollingFresh, instantCall, readingCall};
-ghost use Rattle.rolling.specs.LentRolling.{LentRolling, whenOf, Rolls, Turns};
+ghost use Rattle.engine.specs.Lent.{Lent};
+ghost use Rattle.rolling.specs.LentRolling.{LentRolling, whenOf, Rolls, Turns, ReadsStep};
 
 // What is given once: a UTC instant, and the counter's reading at it.
 pub struct Given {
@@ -126,4 +127,28 @@ pub fn reading(
     let a = engine::bring_to(&mut *m, &mut *b, until, &mut *out);
     *counter = [1, reading as u64];
     a
+}
+
+// After how many ticks of the counter, from the last good reading on, a reading would do anything: 1 and the ticks; or 0 and the longest
+// step, if none that is good does, as before the instant is given. It only reads.
+pub fn due(m: &[u64; WORDS], b: &[u8], counter: &[u64; 2]) -> [u64; 2]
+    requires { ⌜ Lent (now m) (now b) ⌝ }
+    ensures { λ r. ⌜ ReadsStep (now (m .entry)) (now (b .entry)) (now (counter .entry)) r ⌝ }
+{
+    if counter[0] == 0 {
+        return [0, 8100000];
+    }
+    let next = engine::due(m, b);
+    if next[0] == 0 {
+        return [0, 8100000];
+    }
+    let clock = memory::clock(m);
+    let n = units::up_ticks(Ninths(next[1] - clock.0));
+    if 8100000 < n {
+        return [0, 8100000];
+    }
+    if 38654705664000000 <= clock.0 + n * 100 {
+        return [0, 8100000];
+    }
+    [1, n]
 }

@@ -70,6 +70,13 @@ unfoldable pub airMux : List Session → ℕ
 airMux [] = averageMux
 airMux (air ∷ k) = air .mux
 
+-- the one on air, in words: 1, its connection and SessionID, its start, end and time on air so far in ninths, its SpliceEventID, AccessType
+-- and MuxPriorityValue; with none all 0
+unfoldable pub airRow : List Session → List ℕ
+airRow [] = 0 ∷ 0 ∷ 0 ∷ 0 ∷ 0 ∷ 0 ∷ 0 ∷ 0 ∷ 0 ∷ []
+airRow (air ∷ k) =
+    1 ∷ air .conn ∷ air .id ∷ air .start .0 ∷ air .end .0 ∷ air .played .0 ∷ air .event ∷ air .access ∷ air .mux ∷ []
+
 -- "the present clock, microseconds rounded down"
 unfoldable pub aliveResponse : ℕ → Splicer → Record
 aliveResponse c s =

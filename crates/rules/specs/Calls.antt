@@ -1,16 +1,18 @@
 -- 01, "Calls and house numbers".
 use mathlib.Core.Bool.{Bool, false, cond, not, _||_}
 use mathlib.Core.List.{List, [], _∷_}
-use Prim.Native.Nat.{ℕ, _+_}
-use lib.Dec.{ltb}
+use Prim.Native.Nat.{ℕ, _+_, _*_, _/_, _%_}
+use lib.Dec.{leb, ltb}
 use lib.ListN.{length}
+use Rattle.rules.specs.declared.When.{When}
+use Rattle.rules.specs.declared.When.the-variants.{At, Never}
 use Rattle.rules.specs.declared.Link.the-variants.{Closed, Opened}
 use Rattle.rules.specs.declared.Refusal.{Refusal}
 use Rattle.rules.specs.declared.Refusal.the-variants.{NoConnection, NoRoom, ClockBack, Oversize, Short, AlreadyOpen, NotOpen}
 use Rattle.rules.specs.declared.Refusal.the-variants.{BadMicros, BadName, Counter, LongSection, BadSection, NotSixteen}
 use Rattle.rules.specs.declared.Framing.{Framing}
 use Rattle.rules.specs.declared.Framing.the-variants.{Framed, Unframed}
-use Rattle.rules.specs.Units.{timeOf, badMicros, fromMicros}
+use Rattle.rules.specs.Units.{second, timeOf, badMicros, fromMicros, upMicros}
 use Rattle.rules.specs.Bytes.{messageID, messageSize, oversize, dataOf, hasZero, nameIn, written}
 use Rattle.rules.specs.State.{Splicer, noHardware, linkOf, isOpen, withLink, withHardware, withQueue, withClock, noneHeld}
 use Rattle.rules.specs.Records.{Record, output}
@@ -195,6 +197,17 @@ tickCall seconds micros room s =
     cond (noRoom room) (refuse NoRoom s)
     (cond (badMicros micros) (refuse BadMicros s)
     (moveCall (fromMicros (timeOf seconds micros) .0) room s))
+
+-- no tick's time is so late: Seconds has four bytes
+abbrev pub beyond : ℕ → Bool
+beyond t = leb (4294967296 * 9000000) (upMicros t * 9)
+
+-- when a tick would next do anything, in words: 0 with nothing due; 1 and the instant in ninths, if no tick reaches it; 2, the instant, and
+-- Seconds and MicroSeconds of the first tick that does
+unfoldable pub dueRow : When → List ℕ
+dueRow Never = 0 ∷ 0 ∷ 0 ∷ 0 ∷ []
+dueRow (At t) =
+    cond (beyond (t .0)) (1 ∷ t .0 ∷ 0 ∷ 0 ∷ []) (2 ∷ t .0 ∷ upMicros (t .0) / second ∷ upMicros (t .0) % second ∷ [])
 
 -- 02, CR 7: a section of cues, a PTS and the UTC instant that belongs to it: 2, 8, 11. It changes nothing, and the clock plays no part
 unfoldable pub cueCall : (section : List ℕ) (pts seconds micros room : ℕ) → Splicer → Called

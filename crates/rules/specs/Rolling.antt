@@ -5,10 +5,12 @@ use mathlib.Core.List.{List, [], _∷_, _++_}
 use Prim.Native.Nat.{ℕ, _+_, _-_, _*_, _%_, _<_}
 use lib.Dec.{leb, ltb}
 use lib.ListN.{length}
+use Rattle.rules.specs.declared.When.{When}
+use Rattle.rules.specs.declared.When.the-variants.{At, Never}
 use Rattle.rules.specs.declared.Refusal.{Refusal}
 use Rattle.rules.specs.declared.Refusal.the-variants.{NoRoom, BadMicros, Counter}
 use Rattle.rules.specs.Lists.{All}
-use Rattle.rules.specs.Units.{timeOf, badMicros, fromMicros, fromTicks}
+use Rattle.rules.specs.Units.{timeOf, badMicros, fromMicros, fromTicks, upTicks}
 use Rattle.rules.specs.Bytes.{Byte}
 use Rattle.rules.specs.State.{Splicer}
 use Rattle.rules.specs.Calls.{Answer, Called, refuse, noRoom, fresh, ticked, Call, opens, closes, messages, ticks, moves, cues, call}
@@ -97,6 +99,25 @@ instantCall seconds micros reading room r = rolls (instantCourse seconds micros 
 
 unfoldable pub readingCall : (reading room : ℕ) → Rolling → Rolled
 readingCall reading room r = rolls (readingCourse (r .splicer .clock) reading room (r .last)) reading r
+
+-- ## When a reading would do anything
+
+-- "a step over 8,100,000 ticks" is refused: by then the counter must be read
+abbrev pub longestStep : ℕ
+longestStep = 8100000
+
+-- from the clock: after n ticks of the counter, if a reading can be so late
+abbrev pub within : (clock n : ℕ) → List ℕ
+within clock n =
+    cond (ltb longestStep n) (0 ∷ longestStep ∷ [])
+    (cond (pastField (clock + fromTicks (record { 0 = n }) .0)) (0 ∷ longestStep ∷ []) (1 ∷ n ∷ []))
+
+-- from the last good reading on, in words: 1 and after how many ticks of the counter the first reading does anything; 0 and the longest step,
+-- if none that is good does. Before the instant is given every reading is refused
+unfoldable pub stepRow : Last → (clock : ℕ) → When → List ℕ
+stepRow none clock w = 0 ∷ longestStep ∷ []
+stepRow (at reading) clock Never = 0 ∷ longestStep ∷ []
+stepRow (at reading) clock (At t) = within clock (upTicks (t .0 - clock))
 
 -- ## Sequences of this card's calls
 

@@ -32,3 +32,11 @@ toMicros n = record { 0 = n .0 / 9 }
 -- rounded down
 abbrev pub toTicks : Ninths → Ticks
 toTicks n = record { 0 = n .0 / 100 }
+
+-- rounded up: the first microsecond that is not before an instant in ninths
+abbrev pub upMicros : ℕ → ℕ
+upMicros t = (t + 8) / 9
+
+-- rounded up: the first tick that is not before so many ninths
+abbrev pub upTicks : ℕ → ℕ
+upTicks d = (d + 99) / 100

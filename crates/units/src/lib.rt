@@ -2,7 +2,7 @@
 // 01, Bytes: "A wire time counts microseconds and a Duration counts 90 kHz ticks, and one becomes the other only here".
 ghost use mathlib.Core.Path.{_≡_};
 ghost use Prim.Native.Nat.{_*_, _^_, _<_};
-ghost use Rattle.rules.specs.Units.{timeOf, fromMicros, fromTicks, toMicros, toTicks};
+ghost use Rattle.rules.specs.Units.{timeOf, fromMicros, fromTicks, toMicros, toTicks, upMicros, upTicks};
 ghost use Rattle.rules.specs.State.{sooner, notAfter};
 use rules::Micros;
 use rules::Ninths;
@@ -58,6 +58,28 @@ pub fn to_long_ticks(n: Ninths) -> u64
     ensures { λ r. ⌜ r ≡ toTicks n .0 ⌝ }
 {
     n.0 / 100
+}
+
+// Rounded up: the first microsecond that is not before an instant. A sum of the instant and 8 could pass 64 bits.
+pub fn up_micros(n: Ninths) -> u64
+    ensures { λ r. ⌜ r ≡ upMicros (n .0) ⌝ }
+{
+    let down = n.0 / 9;
+    if n.0 % 9 == 0 {
+        return down;
+    }
+    down + 1
+}
+
+// Rounded up: the first tick that is not before so many ninths.
+pub fn up_ticks(n: Ninths) -> u64
+    ensures { λ r. ⌜ r ≡ upTicks (n .0) ⌝ }
+{
+    let down = n.0 / 100;
+    if n.0 % 100 == 0 {
+        return down;
+    }
+    down + 1
 }
 
 // The sooner of two instants, of which either may never come.
