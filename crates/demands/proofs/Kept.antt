@@ -194,7 +194,7 @@ module _ (c : ℕ) (l : List ℕ) (loans : Loans) (s : Splicer) where
   unfolding call messageCall handled answer
   denied-call a r = rw (a .low, a .roomy, r, a .sections, a .framed, r)
 
-  alive-call : AsksAlive c l loans s → Ready c s → call (messages c l loans) s ≡ replies 16 (says (aliveResponse c s ∷ []) s)
+  pub alive-call : AsksAlive c l loans s → Ready c s → call (messages c l loans) s ≡ replies 16 (says (aliveResponse c s ∷ []) s)
   unfolding call messageCall handled answer answerRead read readAlive
   alive-call a r =
       let n : eqb (length (dataOf 8 l)) 8 ≡ true =

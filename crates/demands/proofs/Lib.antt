@@ -24,3 +24,7 @@ pub mod Said
 pub mod Same
 pub mod Cued
 pub mod Kept
+pub mod Writes
+pub mod Due
+pub mod Readings
+pub mod OnAir

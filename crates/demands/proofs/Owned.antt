@@ -85,6 +85,9 @@ pub record Owned (β : Base) (now pr : ℕ) (w k : List Session) (l : List Airin
   pub plays : All (Plays now l) k
   pub once : (c x : ℕ) → count (is c x) w + count (is c x) k ≤ 1
   pub live : (p : ℕ → Bool) → count (λ a. airs a && p (a .access)) l ≡ count (λ s. p (s .access)) k
+  -- those of the history that have had no end are those that are held
+  pub unended : (p : Airing → Bool)
+      → count (λ a. not (a .over) && p a) l ≡ count (λ s. p (airing false s)) w + count (λ s. p (airing true s)) k
   pub past : All (Past now) l
   pub distinct : (n : ℕ) → n < now → Distinct n l
 
@@ -201,6 +204,8 @@ module _ (β : Base) (now pr t : ℕ) (r : Record) (s : Session) (e : EndOf (s .
             once = λ d y. omega (arith, h .once d y);
             live = λ p. let i = rw told at (count-upon c x (ends t r) (λ a. airs a && p (a .access)) l found) in
                 omega (arith, i, h .live p);
+            unended = λ p. let i = rw told at (count-upon c x (ends t r) (λ a. not (a .over) && p a) l found) in
+                omega (arith, i, h .unended p);
             past = all-upon c x (ends t r) (Past now) l (h .past) (rw told (record { begun = λ i. h .plays .0 .begun; over = λ i j. hm }));
             distinct = distinct-upon now c x (ends t r) (λ a. refl) (λ a. refl) l quiet found (h .distinct);
           }
@@ -237,6 +242,8 @@ module _ (β : Base) (now pr t : ℕ) (r : Record) (s : Session) (e : EndOf (s .
             once = λ d y. omega (arith, h .once d y);
             live = λ p. let i = rw told at (count-upon c x (ends t r) (λ a. airs a && p (a .access)) l found) in
                 omega (arith, i, h .live p);
+            unended = λ p. let i = rw told at (count-upon c x (ends t r) (λ a. not (a .over) && p a) l found) in
+                omega (arith, i, h .unended p);
             past = all-upon c x (ends t r) (Past now) l (h .past) (rw told
                 (record { begun = λ i. absurd (clash false i refl); over = λ i j. absurd (clash false i refl) }));
             distinct = distinct-upon now c x (ends t r) (λ a. refl) (λ a. refl) l quiet found (h .distinct);
@@ -287,6 +294,8 @@ module _ (β : Base) (now pr t : ℕ) (r : Record) (s : Session) (e : StartOf (s
             once = λ d y. omega (arith, h .once d y);
             live = λ p. let i = rw told at (count-upon (s .conn) (s .id) begins (λ a. airs a && p (a .access)) l found) in
                 omega (arith, i, h .live p);
+            unended = λ p. let i = rw told at (count-upon (s .conn) (s .id) begins (λ a. not (a .over) && p a) l found) in
+                omega (arith, i, h .unended p);
             past = all-upon (s .conn) (s .id) begins (Past now) l (h .past)
                 (rw told (record { begun = λ i. omega arith; over = λ i o. absurd (clash false o refl) }));
             distinct = distinct-upon now (s .conn) (s .id) begins (λ a. refl) (λ a. refl) l quiet found (h .distinct);
@@ -348,6 +357,7 @@ module _ (β : Base) (now pr : ℕ) (s : Session) (w k : List Session) (l : List
             (all-both (λ u. is (s .conn) (s .id) u ≡ false) (Plays now l) k (all-none (is (s .conn) (s .id)) k (omega arith)) (h .plays));
         once = λ d y. one d y (is d y s) refl;
         live = λ p. omega (arith, h .live p);
+        unended = λ p. omega (arith, h .unended p);
         past = (record { begun = λ i. absurd (clash false i refl); over = λ i o. absurd (clash false i refl) }, h .past);
         distinct = λ n i v. omega (arith, h .distinct n i v);
       }
@@ -521,6 +531,7 @@ module _ (β : Base) (now pr t : ℕ) (le : now ≤ t) (w : List Session) (l : L
         plays = plays-on k f h;
         once = λ c x. omega (arith, h .once c x, count-onAir (is c x) (λ e s. refl) (t - now) k);
         live = λ p. h .live p ∙ sym (count-onAir (λ s. p (s .access)) (λ e s. refl) (t - now) k);
+        unended = λ p. omega (arith, h .unended p, count-onAir (λ s. p (airing true s)) (λ e s. refl) (t - now) k);
         past = all-into (Past now) (Past t) (λ a g. record {
           begun = λ i. omega (arith, g .begun i);
           over =
@@ -548,6 +559,7 @@ reorder β now pr w k w′ k′ l cw ck aw ak h =
       plays = ak (h .plays);
       once = λ c x. omega (arith, h .once c x, cw (is c x), ck (is c x));
       live = λ p. h .live p ∙ sym (ck (λ s. p (s .access)));
+      unended = λ p. omega (arith, h .unended p, cw (λ s. p (airing false s)), ck (λ s. p (airing true s)));
       past = h .past;
       distinct = h .distinct;
     }

@@ -226,6 +226,8 @@ owned-fresh name =
       once = λ c x. omega arith;
       live =
           λ p. refl;
+      unended =
+          λ p. refl;
       past = tt;
       distinct = λ n h v. absurd (omega arith);
     }
@@ -346,6 +348,7 @@ module _ (h : List Event) (s : Splicer) (f : FromFresh h s) (js : List Call) (w 
         plays = o .plays;
         once = o .once;
         live = o .live;
+        unended = o .unended;
         past = o .past;
         distinct = o .distinct;
       }

@@ -5,3 +5,4 @@ pub mod Told
 pub mod Moments
 pub mod Kept
 pub mod Alike
+pub mod Due

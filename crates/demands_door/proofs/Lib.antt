@@ -2,3 +2,4 @@ pub mod Inside
 pub mod Course
 pub mod Demands
 pub mod Any
+pub mod Due

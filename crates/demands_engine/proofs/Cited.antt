@@ -22,7 +22,7 @@ use Rattle.rules.specs.Calls as rules
 use Rattle.rules.specs.Calls.{call}
 use Rattle.memory.specs.Memory.{see}
 use Rattle.engine.specs.declared.Answer.{Answer}
-use Rattle.engine.specs.Lent.{Answers, needed, Counts, Primary, ReadsMux, ReadsFeed}
+use Rattle.engine.specs.Lent.{Answers, needed, Counts, Primary, ReadsMux, ReadsFeed, ReadsAir, ReadsDue}
 use Rattle.engine.proofs.Held.{kind, Holds, Same, both, number-held, name-held, InRoom, bytes-held}
 use Rattle.engine.proofs.fresh as fresh
 use Rattle.engine.proofs.«open» as opening
@@ -37,6 +37,8 @@ use Rattle.engine.proofs.waiting as waiting
 use Rattle.engine.proofs.primary as primary
 use Rattle.engine.proofs.mux as mux
 use Rattle.engine.proofs.on_air as airing
+use Rattle.engine.proofs.air as reading-air
+use Rattle.engine.proofs.due as reading-due
 use Rattle.demands_engine.specs.Trace.{Memory, shown, Input, anOpen, aClose, aMessage, aTick, aMove, aCue, Typed, callOf, bufferOf}
 use Rattle.demands_engine.specs.Trace.{Allowed}
 use Rattle.demands_engine.specs.Trace.{Result, Run}
@@ -182,6 +184,22 @@ module _ {M : Type 1} (𝓤 : URA M) (H : Heap 𝓤) (A : Atoms 𝓤) (mem : sto
 
     pub airing-ensures : airing.clauses 𝓤 H A mem run κs a .ensures tt r z ≡ ⌜ ReadsFeed (now (a .0)) (now (a .1 .0)) r ⌝
     airing-ensures = refl
+
+  -- air(m, b)
+  module _ (κs : Lfts 2) (a : Args reading-air.signature κs) (r : Res reading-air.signature κs) (z : AtExit reading-air.ended κs) where
+    pub air-requires : reading-air.clauses 𝓤 H A mem run κs a .requires tt ≡ ⌜ LentAt (at (now (a .0)) (now (a .1 .0))) ⌝
+    air-requires = refl
+
+    pub air-ensures : reading-air.clauses 𝓤 H A mem run κs a .ensures tt r z ≡ ⌜ ReadsAir (now (a .0)) (now (a .1 .0)) r ⌝
+    air-ensures = refl
+
+  -- due(m, b)
+  module _ (κs : Lfts 2) (a : Args reading-due.signature κs) (r : Res reading-due.signature κs) (z : AtExit reading-due.ended κs) where
+    pub due-requires : reading-due.clauses 𝓤 H A mem run κs a .requires tt ≡ ⌜ LentAt (at (now (a .0)) (now (a .1 .0))) ⌝
+    due-requires = refl
+
+    pub due-ensures : reading-due.clauses 𝓤 H A mem run κs a .ensures tt r z ≡ ⌜ ReadsDue (now (a .0)) (now (a .1 .0)) r ⌝
+    due-ensures = refl
 
 -- ## What Allowed says is of the call `callOf`
 

@@ -9,3 +9,4 @@ pub mod Moved
 pub mod Cued
 pub mod Kept
 pub mod Any
+pub mod Due

@@ -4,3 +4,4 @@ pub mod Next
 pub mod Demands
 pub mod Any
 pub mod Witness
+pub mod Due

@@ -20,7 +20,7 @@ use Rattle.rules.specs.Lists.{All}
 use Rattle.rules.specs.Bytes.{Byte}
 use Rattle.rules.specs.Calls as rules
 use Rattle.rules.specs.Calls.{call}
-use Rattle.engine.specs.Lent.{Lent, Counts, Primary, ReadsMux, ReadsFeed}
+use Rattle.engine.specs.Lent.{Lent, Counts, Primary, ReadsMux, ReadsFeed, ReadsAir, ReadsDue}
 use Rattle.streams.specs.Rows.{ReadsList, WritesList}
 use Rattle.rows.specs.Rows.{Pages}
 use Rattle.engine.proofs.Held.{kind, Holds, Same, both, number-held, words-held, name-held, InRoom, bytes-held}
@@ -36,6 +36,8 @@ use Rattle.door.proofs.«splicer_7_primary» as primary
 use Rattle.door.proofs.«splicer_7_mux» as mux
 use Rattle.door.proofs.«splicer_7_ended» as page
 use Rattle.door.proofs.«splicer_7_map» as mapping
+use Rattle.door.proofs.«splicer_7_air» as airing
+use Rattle.door.proofs.«splicer_7_due» as dueing
 use Rattle.door.proofs.«splicer_7_read_streams» as reads
 use Rattle.door.proofs.«splicer_7_write_streams» as writes
 use Rattle.door.proofs.«splicer_7_version» as versioned
@@ -155,6 +157,24 @@ module _ {M : Type 1} (𝓤 : URA M) (H : Heap 𝓤) (A : Atoms 𝓤) (mem : sto
 
     pub mapping-ensures : mapping.clauses 𝓤 H A mem run κs a .ensures tt r z ≡ ⌜ ReadsFeed (now (a .0)) (now (a .1 .0)) r ⌝
     mapping-ensures = refl
+
+  -- splicer_7_air(words, bytes, air)
+  module _ (κs : Lfts 3) (a : Args airing.signature κs) (r : Res airing.signature κs) (z : AtExit airing.ended κs) where
+    pub air-requires : airing.clauses 𝓤 H A mem run κs a .requires tt ≡ ⌜ Lent (now (a .0)) (now (a .1 .0)) ⌝
+    air-requires = refl
+
+    pub air-ensures : airing.clauses 𝓤 H A mem run κs a .ensures tt r z
+        ≡ ⌜ ReadsAir (now (a .0)) (now (a .1 .0)) (now (z .1 .1 .0)) ⌝
+    air-ensures = refl
+
+  -- splicer_7_due(words, bytes, due)
+  module _ (κs : Lfts 3) (a : Args dueing.signature κs) (r : Res dueing.signature κs) (z : AtExit dueing.ended κs) where
+    pub due-requires : dueing.clauses 𝓤 H A mem run κs a .requires tt ≡ ⌜ Lent (now (a .0)) (now (a .1 .0)) ⌝
+    due-requires = refl
+
+    pub due-ensures : dueing.clauses 𝓤 H A mem run κs a .ensures tt r z
+        ≡ ⌜ ReadsDue (now (a .0)) (now (a .1 .0)) (now (z .1 .1 .0)) ⌝
+    due-ensures = refl
 
   -- splicer_7_read_streams(l, words, kept)
   module _ (κs : Lfts 3) (a : Args reads.signature κs) (r : Res reads.signature κs) (z : AtExit reads.ended κs) where

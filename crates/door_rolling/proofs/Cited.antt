@@ -21,13 +21,15 @@ use Rattle.rules.specs.Bytes.{Byte}
 use Rattle.rules.specs.Rolling.{rollingFresh, Timeless, roll}
 use Rattle.engine.proofs.Held.{kind, Holds, Same, both, number-held, words-held, name-held}
 use Rattle.memory.specs.Memory.{see}
-use Rattle.rolling.specs.LentRolling.{rolling, LentRolling}
+use Rattle.engine.specs.Lent.{Lent}
+use Rattle.rolling.specs.LentRolling.{rolling, LentRolling, ReadsStep}
 use Rattle.door.specs.Door.{Replies, Input, anOpen, aClose, aMessage, aTick, aCue, Typed, callOf, Allowed}
 use Rattle.door_rolling.specs.RollDoor.{RollReplies, RollInput, aKnown, anInstant, aReading, RollTyped, RollSeen, RollAllowed}
 use Rattle.door_rolling.specs.RollDoor.{rollCallOf, rollBufferOf}
 use Rattle.door_rolling.proofs.«splicer_7_rolling_fresh» as fresh
 use Rattle.door_rolling.proofs.«splicer_7_instant» as instant
 use Rattle.door_rolling.proofs.«splicer_7_reading» as reading
+use Rattle.door_rolling.proofs.«splicer_7_rolling_due» as dueing
 
 -- what C sees
 abbrev ended : (r m b k o : List ℕ) → RollSeen
@@ -70,6 +72,15 @@ module _ {M : Type 1} (𝓤 : URA M) (H : Heap 𝓤) (A : Atoms 𝓤) (mem : sto
         (ended (now (z .1 .1 .1 .1 .1 .0)) (now (z .0)) (now (z .1 .0)) (now (z .1 .1 .0)) (now (z .1 .1 .1 .1 .0))) ⌝
     unfolding roll
     reading-ensures = refl
+
+  -- splicer_7_rolling_due(words, bytes, counter, due)
+  module _ (κs : Lfts 4) (a : Args dueing.signature κs) (r : Res dueing.signature κs) (z : AtExit dueing.ended κs) where
+    pub due-requires : dueing.clauses 𝓤 H A mem run κs a .requires tt ≡ ⌜ Lent (now (a .0)) (now (a .1 .0)) ⌝
+    due-requires = refl
+
+    pub due-ensures : dueing.clauses 𝓤 H A mem run κs a .ensures tt r z
+        ≡ ⌜ ReadsStep (now (a .0)) (now (a .1 .0)) (now (a .1 .1 .0)) (now (z .1 .1 .1 .0)) ⌝
+    due-ensures = refl
 
 -- ## RollTyped is what the parameters' types say, and no more; a buffer may be any
 

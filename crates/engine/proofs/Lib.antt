@@ -3,3 +3,4 @@ pub mod Beginning
 pub mod Laws
 pub mod Held
 pub mod Maps
+pub mod Drivers

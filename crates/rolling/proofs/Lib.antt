@@ -2,3 +2,4 @@ pub mod Ruled
 pub mod Calls
 pub mod Laws
 pub mod Time
+pub mod Steps
