@@ -9,7 +9,7 @@ pub mod Moved
 pub mod Counted
 pub mod Days
 pub mod Mux
-pub mod Due
+pub mod DueCases
 pub mod Lately
 pub mod Sections
 pub mod Cued

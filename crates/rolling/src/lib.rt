@@ -135,7 +135,8 @@ pub fn due(m: &[u64; WORDS], b: &[u8], counter: &[u64; 2]) -> [u64; 2]
     requires { ⌜ Lent (now m) (now b) ⌝ }
     ensures { λ r. ⌜ ReadsStep (now (m .entry)) (now (b .entry)) (now (counter .entry)) r ⌝ }
 {
-    if counter[0] == 0 {
+    let given = counter[0];
+    if given == 0 {
         return [0, 8100000];
     }
     let next = engine::due(m, b);
