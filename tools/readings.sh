@@ -42,7 +42,7 @@ build() {
     cp -R crates/rules/src "$crate/src"
     for file in crates/rules/specs/*.antt crates/demands/specs/*.antt; do
         case $file in
-        */Lib.antt | */Asked.antt) continue ;;
+        */Lib.antt | */Asked.antt | crates/demands/specs/Due.antt) continue ;;
         # only for the table that speaks of it: the card with a rolling counter; what the demands' statements say, and what follows from the rules
         */Rolling.antt) speaks "$1" Rolling || continue ;;
         */Told.antt | */Lately.antt | */Kept.antt | */Moments.antt | */Alike.antt) speaks "$1" "$said" || continue ;;

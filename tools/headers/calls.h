@@ -9,6 +9,9 @@ void splicer_7_waiting(const uint64_t *, const uint8_t *, uint64_t *);
 uint64_t splicer_7_primary(const uint64_t *, const uint8_t *);
 uint64_t splicer_7_mux(const uint64_t *, const uint8_t *);
 uint64_t splicer_7_map(const uint64_t *, const uint8_t *);
+void splicer_7_air(const uint64_t *, const uint8_t *, uint64_t *);
+void splicer_7_due(const uint64_t *, const uint8_t *, uint64_t *);
+void splicer_7_rolling_due(const uint64_t *, const uint8_t *, const uint64_t *, uint64_t *);
 void splicer_7_cue(const uint64_t *, const uint8_t *, const uint8_t *, size_t, const uint32_t *, uint8_t *, size_t, uint64_t *);
 void splicer_7_rolling_fresh(const uint8_t *, uint64_t *, uint8_t *, uint64_t *, uint64_t *);
 void splicer_7_instant(uint64_t *, uint8_t *, uint64_t *, const uint32_t *, uint8_t *, size_t, uint64_t *);
@@ -124,6 +127,33 @@ static void held_cue(void) {
     expect_call("splicer_call_cue", splicer_call_cue(&card, in, length, pts, seconds, micros, out, n));
 }
 
+/* The one on air, and what is due: each word of the archive's row in its field. */
+static void held_air(void) {
+    uint64_t row[9];
+    struct splicer_air air;
+    fill(&air, sizeof air);
+    splicer_7_air(words, bytes, row);
+    expect("splicer_call_air", splicer_call_air(&card, &air) == (int)row[0]);
+    expect("splicer_call_air", air.connection == row[1] && air.session == row[2] && air.start == row[3] && air.end == row[4]);
+    expect("splicer_call_air", air.played == row[5] && air.event == row[6] && air.access == row[7] && air.mux == row[8]);
+}
+
+static void held_due(void) {
+    uint64_t row[4];
+    struct splicer_due due;
+    fill(&due, sizeof due);
+    splicer_7_due(words, bytes, row);
+    expect("splicer_call_due", splicer_call_due(&card, &due) == (int)row[0]);
+    expect("splicer_call_due", due.instant == row[1] && due.seconds == row[2] && due.micros == row[3]);
+}
+
+static void held_rolling_due(void) {
+    uint64_t row[2];
+    uint32_t ticks = (uint32_t)drawn();
+    splicer_7_rolling_due(rolling_words, rolling_bytes, counter, row);
+    expect("splicer_call_rolling_due", splicer_call_rolling_due(&rolling, &ticks) == (int)row[0] && ticks == row[1]);
+}
+
 /* What only reads. */
 static void held_reads(void) {
     uint64_t counts[4];
@@ -168,6 +198,8 @@ static void held_card(void) {
         held_cue();
     }
     held_reads();
+    held_air();
+    held_due();
     held_ended();
     held_reply_of();
 }
@@ -214,6 +246,7 @@ static void held_rolling(void) {
     memcpy(rolling.core.words, rolling_words, sizeof words);
     memcpy(rolling.core.bytes, rolling_bytes, sizeof bytes);
     memcpy(out, bare_out, sizeof out);
+    held_rolling_due();
 }
 
 /* Lists of streams: the archive's words are count, PcrPID and 16 rows of 8. */
