@@ -1,4 +1,5 @@
-/* A small driver: four connections whose bytes come in pieces, a clock, and the core's records sent or logged. Every call is recorded.
+/* A small driver: four connections whose bytes come in pieces, a clock, and the core's records sent or logged. It sleeps until something is
+ * due, and its output follows the session on air. Every call is recorded.
  * Sockets are left out: `heard` stands for what was read, and a printed line for what would be sent.
  * driver [NAME [RECORDING]]: the channel's name, CH1 if it is not given, and the file that gets the recording. */
 #include "splicer.h"
@@ -108,6 +109,23 @@ static void page(void) {
     }
 }
 
+/* The output follows the session on air, which is read after every call: a covered one that is on air again writes no record. With none all
+ * of it is 0. */
+static void switched(void) {
+    static struct splicer_air shown;
+    struct splicer_air now;
+    int some = splicer_call_air(&channel, &now);
+    if (now.connection == shown.connection && now.session == shown.session && now.start == shown.start) {
+        return;
+    }
+    shown = now;
+    if (some) {
+        printf("  on air: connection %u, session %u, %u ms played\n", now.connection, now.session, (unsigned)(now.played / 9000));
+    } else {
+        printf("  on air: nobody\n");
+    }
+}
+
 static void connected(uint32_t conn) {
     report("open", conn, splicer_recorded_open(&channel, &sink, conn));
 }
@@ -118,12 +136,25 @@ static void dropped(uint32_t conn) {
     inboxes[conn].length = 0;
     report("close", conn, reply);
     deliver("log", reply.written);
+    switched();
 }
 
 static void ticks(uint32_t seconds, uint32_t micros) {
     struct splicer_reply reply = splicer_recorded_tick(&channel, &sink, seconds, micros, out, sizeof out);
     report("tick", seconds, reply);
     deliver("send to", reply.written);
+    switched();
+}
+
+/* Nothing will be read before a time: the driver sleeps till then, and wakes for what is due before it. On a card that is one wait for bytes
+ * with a time limit; here the clock is only told. With 0 or 1 no tick would do anything. */
+static void sleeps(uint32_t seconds, uint32_t micros) {
+    struct splicer_due due;
+    while (splicer_call_due(&channel, &due) == 2 && (due.seconds < seconds || (due.seconds == seconds && due.micros < micros))) {
+        printf("asleep until %u s %u us\n", due.seconds, due.micros);
+        ticks(due.seconds, due.micros);
+    }
+    ticks(seconds, micros);
 }
 
 /* Hands on each whole message of an inbox until more must be read (house number 5). 0 if what was read with them must be dropped too: at 4,
@@ -147,6 +178,7 @@ static int handled(uint32_t conn, struct inbox *box) {
             printf("  places shifted: %u\n", reply.moved);
         }
         deliver("send to", reply.written);
+        switched();
         box->length -= reply.consumed;
         memmove(box->bytes, box->bytes + reply.consumed, box->length);
     }
@@ -249,7 +281,8 @@ static void avail(void) {
     end = splice(wire, 7, timed, 1020, 900000, 2, 1);
     heard(1, wire, (size_t)(end - wire));
     counts();
-    ticks(1010, 0);
+    sleeps(1010, 0);
+    /* busy elsewhere for 5 s too long: a late tick does all that was due, each at its instant */
     ticks(1025, 0);
     ticks(1024, 999999);
     end = alive(wire);
@@ -257,8 +290,7 @@ static void avail(void) {
     end = abort_request(wire, 7);
     heard(1, wire, (size_t)(end - wire));
     counts();
-    ticks(1040, 0);
-    ticks(1043, 0);
+    sleeps(1043, 0);
 }
 
 /* What goes wrong: a connection is lost, a read is longer than the inbox, a header is wrong. */
@@ -276,7 +308,7 @@ static void trouble(void) {
     /* a header that announces more than a message may hold */
     end = header(wire, SPLICER_ALIVE_REQUEST, 4089);
     heard(1, wire, (size_t)(end - wire));
-    ticks(1050, 0);
+    sleeps(1050, 0);
 }
 
 int main(int words, char **word) {
