@@ -10,6 +10,7 @@ pub mod Counted
 pub mod Days
 pub mod Mux
 pub mod DueCases
+pub mod DueWitness
 pub mod Lately
 pub mod Sections
 pub mod Cued

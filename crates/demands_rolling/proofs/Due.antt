@@ -34,7 +34,8 @@ pub due-told : (name : List ℕ) (h : List Made) (m : Memory) (w : List ℕ) →
     → Trace name h m → DueTold (events h) w
 due-told name h m w reads t = called.due-told name (rolled.within h) (m .core) w reads (trace-inside name h m t)
 
-module _ (name : List ℕ) (h : List Made) (m : Memory) (w : List ℕ) (reads : ReadsStep (m .core .words) (m .core .bytes) (m .counter) w) where
+module _ (name : List ℕ) (h : List Made) (m : Memory) (w : List ℕ)
+    (reads : ReadsStep (m .core .words) (m .core .bytes) (m .counter) w) where
   sound : Trace name h m → Sound (shown m .splicer)
   sound t = reached-sound (shown m .splicer) (core.trace-lent name (rolled.within h) (m .core) (trace-inside name h m t) .reached)
 

@@ -236,11 +236,16 @@ pub extern "C" fn splicer_7_air(words: &[u64; WORDS], bytes: &[u8; BYTES], air: 
     requires { ⌜ Lent (now words) (now bytes) ⌝ }
     ensures { λ _. ⌜ ReadsAir (now (words .entry)) (now (bytes .entry)) (now (air .exit)) ⌝ }
 {
+    // zeros first: with nobody on air that is all
+    *air = [0; 9];
+    if engine::on_air(words, bytes) == 0 {
+        return;
+    }
     *air = engine::air(words, bytes);
 }
 
-// When a tick would do anything: 2, the instant in ninths, Seconds and MicroSeconds of the first tick that reaches it; 1 and the instant, if
-// no tick does; 0 with nothing due. It only reads, and nothing is refused.
+// When a tick would do anything: 2, the instant in ninths, Seconds and MicroSeconds of the first tick that reaches it; 1 and the instant,
+// if no tick does; 0 with nothing due. It only reads, and nothing is refused.
 #[no_mangle]
 pub extern "C" fn splicer_7_due(words: &[u64; WORDS], bytes: &[u8; BYTES], due: &mut [u64; 4])
     requires { ⌜ Lent (now words) (now bytes) ⌝ }

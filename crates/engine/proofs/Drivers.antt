@@ -11,7 +11,7 @@ use Rattle.rules.specs.declared.When.the-variants.{At, Never}
 use Rattle.rules.specs.declared.Session.{Session}
 use Rattle.rules.specs.Units.{upMicros}
 use Rattle.rules.specs.State.{empty}
-use Rattle.rules.specs.Answers.{airRow}
+use Rattle.rules.specs.Answers.{airFeed, airRow}
 use Rattle.rules.specs.Calls.{dueRow}
 use Rattle.rules.specs.Sound.{horizon}
 
@@ -19,6 +19,12 @@ pub air-none : (l : List Session) → length l ≡ 0 → 0 ∷ 0 ∷ 0 ∷ 0 ∷
 unfolding airRow
 air-none [] h = refl
 air-none (x ∷ l) h = absurd (omega arith)
+
+-- the same of the feed that is on air
+pub air-silent : (l : List Session) → airFeed l ≡ 0 → 0 ∷ 0 ∷ 0 ∷ 0 ∷ 0 ∷ 0 ∷ 0 ∷ 0 ∷ 0 ∷ [] ≡ airRow l
+unfolding airRow airFeed
+air-silent [] h = refl
+air-silent (x ∷ l) h = absurd (omega (arith, h))
 
 abbrev rowOf : Session → List ℕ
 rowOf s = 1 ∷ s .conn ∷ s .id ∷ s .start .0 ∷ s .end .0 ∷ s .played .0 ∷ s .event ∷ s .access ∷ s .mux ∷ []

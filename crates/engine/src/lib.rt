@@ -125,7 +125,7 @@ pub fn air(m: &[u64; WORDS], b: &[u8]) -> [u64; 9]
     ensures { λ r. ⌜ ReadsAir (now (m .entry)) (now (b .entry)) r ⌝ }
 {
     if memory::count(m, Which::Started) == 0 {
-        return [0, 0, 0, 0, 0, 0, 0, 0, 0];
+        return [0; 9];
     }
     let s = memory::load(m, Which::Started, 0);
     [
@@ -141,8 +141,8 @@ pub fn air(m: &[u64; WORDS], b: &[u8]) -> [u64; 9]
     ]
 }
 
-// When a tick would do anything: 2, the instant in ninths, Seconds and MicroSeconds of the first tick that reaches it; 1 and the instant, if
-// no tick does; 0 with nothing due. It only reads.
+// When a tick would do anything: 2, the instant in ninths, Seconds and MicroSeconds of the first tick that reaches it; 1 and the instant,
+// if no tick does; 0 with nothing due. It only reads.
 pub fn due(m: &[u64; WORDS], b: &[u8]) -> [u64; 4]
     requires { ⌜ Lent (now m) (now b) ⌝ }
     ensures { λ r. ⌜ ReadsDue (now (m .entry)) (now (b .entry)) r ⌝ }

@@ -112,8 +112,8 @@ within clock n =
     cond (ltb longestStep n) (0 ∷ longestStep ∷ [])
     (cond (pastField (clock + fromTicks (record { 0 = n }) .0)) (0 ∷ longestStep ∷ []) (1 ∷ n ∷ []))
 
--- from the last good reading on, in words: 1 and after how many ticks of the counter the first reading does anything; 0 and the longest step,
--- if none that is good does. Before the instant is given every reading is refused
+-- from the last good reading on, in words: 1 and after how many ticks of the counter the first reading does anything; 0 and the longest
+-- step, if none that is good does. Before the instant is given every reading is refused
 unfoldable pub stepRow : Last → (clock : ℕ) → When → List ℕ
 stepRow none clock w = 0 ∷ longestStep ∷ []
 stepRow (at reading) clock Never = 0 ∷ longestStep ∷ []

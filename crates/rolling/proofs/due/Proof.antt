@@ -56,7 +56,8 @@ returns-3 c =
     let clock = c .before .before .before .clock in
     let up = c .before .up-ticks in
     let ticks = up .ensures ∙ ap (λ (n : ℕ). upTicks (getD (due .result) 1 0 - n)) (clock .ensures) in
-    reads-over (s .pre) (s .args .counter .now) (due .result) (due .ensures) (if2 .left) (c .before .before .before .before .before .before .before .if1 .left) (up .result) ticks
+    let given = c .before .before .before .before .before .before .before .if1 .left in
+    reads-over (s .pre) (s .args .counter .now) (due .result) (due .ensures) (if2 .left) given (up .result) ticks
     (omega (arith, c .if3 .taken))
 
 mul-if4 : tie.Need-mul-if4
