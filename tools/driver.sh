@@ -1,7 +1,8 @@
 #!/bin/sh
 # driver.sh: the C headers, each by itself, as C99, C11 and C++11 to C++20, and the example drivers over the proved archive, their output
 # compared with examples/driver.out, rolling.out, cues.out and remember.out, and the first one's recording with desk/recordings/sport.rec;
-# the example day by a driver that sleeps and by one that ticks each millisecond; a driver of version 1 or 6 must not link with it. All by the kit's own compiler and linker.
+# the reads for drivers in random states; the example day by a driver that sleeps and by one that ticks each millisecond; a driver of
+# version 1 or 6 must not link with it. All by the kit's own compiler and linker.
 # The last line is 'N passed, M failed'.
 set -eu
 . "$(dirname "$0")/words.sh"
@@ -46,6 +47,7 @@ built() {
         sh tools/build-driver.sh "$work/sleeping" tools/driver/sleeping.c target/staticlib/libdoor.a -Iinclude &&
         archive "$work/archive" rolldoor &&
         sh tools/build-driver.sh "$work/rolling" examples/rolling.c target/staticlib/libdoor.a target/staticlib/librolldoor.a -Iinclude &&
+        sh tools/build-driver.sh "$work/reads" tools/driver/reads.c target/staticlib/libdoor.a target/staticlib/librolldoor.a -Iinclude &&
         archive "$work/archive" bench &&
         sh tools/build-driver.sh "$work/remember" examples/remember.c target/staticlib/libdoor.a target/staticlib/libbench.a -Iinclude
 }
@@ -68,6 +70,11 @@ cues() {
 # remembers: so does the driver of the engine that only remembers
 remembers() {
     sh tools/run-program.sh "$work/remember" >"$work/remembered" && diff examples/remember.out "$work/remembered"
+}
+
+# reads: in random states the reads for drivers say what the calls then do
+reads() {
+    sh tools/run-program.sh "$work/reads"
 }
 
 # sleeps: on the example day a driver that sleeps until something is due, and one that ticks each millisecond, write the same records
@@ -98,6 +105,7 @@ tried 'run with a rolling counter' rolls
 tried 'run with cues' cues
 tried 'run with the engine that only remembers' remembers
 tried 'recording' records
+tried 'reads of random states' reads
 tried 'the example day, asleep and each millisecond' sleeps
 tried 'a driver of version 1 does not link' old 1 splicer_fresh
 tried 'a driver of version 6 does not link' old 6 splicer_6_ended
