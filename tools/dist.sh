@@ -150,7 +150,7 @@ gathered() {
     cp "$source/desk/desk.1" share/man/man1/
     cp -R "$source/examples" "$source/wireshark" "$source/docs" "$source/CHANGELOG.md" .
     mkdir rust
-    for part in Cargo.toml Cargo.lock README.md build.rs src tests; do cp -R "$source/bindings/$part" rust/; done
+    for part in Cargo.toml Cargo.lock README.md build.rs src tests examples; do cp -R "$source/bindings/$part" rust/; done
     cp "$source/tools/release/README.md" "$source/NOTICE" .
     sh "$source/tools/spdx.sh" "$release" "$(commit | cut -d , -f 1)" "$(when)" >../splicer.spdx
     mv ../splicer.spdx .
