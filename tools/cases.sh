@@ -11,7 +11,7 @@ esac
 needs_rust 1.81
 cd "$(dirname "$0")/.."
 specs=crates/cases/specs
-hand='Layouts Rooms Rehearsed Histories Worked Moved Counted Days Mux Lately Sections Cued Extended Config Heard LatelyCases KeptCases MomentsCases ToldCases ToldNumbers ToldRequests AlikeCases'
+hand='Layouts Rooms Rehearsed Histories Worked Moved Counted Days Mux DueCases DueWitness Lately Sections Cued Extended Config Heard LatelyCases KeptCases MomentsCases ToldCases ToldNumbers ToldRequests AlikeCases'
 made=target/cases
 rm -rf "$made"
 mkdir -p "$made"
