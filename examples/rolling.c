@@ -51,10 +51,19 @@ static void report(const char *call, struct splicer_reply reply) {
     deliver(reply.written);
 }
 
-/* The counter is read, once a frame in practice. */
+/* The counter is read: when something is due, or once a frame. */
 static void reads(void) {
     printf("at %u: ", counter);
     report("reading", splicer_call_reading(&card, counter, out, sizeof out));
+}
+
+/* The card sleeps until something is due, so many ticks after the last good reading, which is where the counter stands here; with nothing
+ * due it is read by then. */
+static void sleeps(void) {
+    uint32_t ticks;
+    int due = splicer_call_rolling_due(&card, &ticks);
+    printf("asleep for %u ticks%s\n", ticks, due ? "" : ", nothing is due");
+    counter += ticks;
 }
 
 /* What a server would send. */
@@ -124,7 +133,7 @@ int main(void) {
     report("instant", splicer_call_instant(&card, 1000, 0, counter, out, sizeof out));
     /* a spot from 1,005 s for 8 s, over the rollover at 1,010 s */
     splice(1, 1005, 8 * TICKS);
-    counter += 5 * TICKS;
+    sleeps();
     reads();
     counter += 5 * TICKS - 1;
     reads();
@@ -132,7 +141,7 @@ int main(void) {
     counter += 1;
     reads();
     alive();
-    counter += 3 * TICKS;
+    sleeps();
     extended(1);
     reads();
     extended(1);
