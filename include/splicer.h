@@ -79,6 +79,18 @@ enum {
     SPLICER_LONGEST_STEP = 8100000
 };
 
+/* The sessions that are held: the most of them, the 64-bit words of a row, and what a session is. */
+enum {
+    SPLICER_SESSIONS = 74,
+    SPLICER_SESSION_WORDS = 7
+};
+
+enum {
+    SPLICER_ON_AIR = 1,
+    SPLICER_COVERED = 2,
+    SPLICER_WAITING = 3
+};
+
 /* Lists of streams: the most of them, the words of a row, and the bytes that all together may keep. */
 enum {
     SPLICER_STREAMS = 16,
@@ -240,8 +252,20 @@ struct splicer_due {
     uint32_t seconds, micros;
 };
 
+/* A session that is held. start, end, played: in ninths of a microsecond; played is its time on air up to the clock. prior: the
+ * PriorSession that was asked for, also of one that has started; 0xFFFFFFFF for a timed one. access, override: AccessType, OverridePlaying.
+ * mux: what it asks of the multiplexer. state: SPLICER_ON_AIR, SPLICER_COVERED or SPLICER_WAITING. The archive writes it as seven words,
+ * two 32-bit numbers in one, the first in the low half. */
+struct splicer_session {
+    uint64_t start, end, played;
+    uint32_t connection, session, event, prior, access, override, mux, state;
+};
+
 /* The archive is made for machines on which these hold. */
 SPLICER_ASSERT(sizeof(size_t) == 8, "a length is 8 bytes");
+#ifdef __BYTE_ORDER__
+SPLICER_ASSERT(__BYTE_ORDER__ == __ORDER_LITTLE_ENDIAN__, "the low half of a word stands first");
+#endif
 SPLICER_ASSERT(sizeof(struct splicer) == 6544, "size of struct splicer");
 SPLICER_ASSERT(SPLICER_ALIGN(struct splicer) == 8, "alignment of struct splicer");
 SPLICER_ASSERT(SPLICER_OFFSET(struct splicer, bytes) == 5488, "layout of struct splicer");
@@ -268,6 +292,17 @@ SPLICER_ASSERT(SPLICER_OFFSET(struct splicer_air, connection) == 24, "layout of 
 SPLICER_ASSERT(sizeof(struct splicer_due) == 16, "size of struct splicer_due");
 SPLICER_ASSERT(SPLICER_OFFSET(struct splicer_due, seconds) == 8, "layout of struct splicer_due");
 SPLICER_ASSERT(SPLICER_ENDED + SPLICER_ENDED_WORDS == SPLICER_WORDS, "what ended stands last in the words");
+SPLICER_ASSERT(sizeof(struct splicer_session) == 8 * SPLICER_SESSION_WORDS, "size of struct splicer_session");
+SPLICER_ASSERT(SPLICER_OFFSET(struct splicer_session, end) == 8, "layout of struct splicer_session");
+SPLICER_ASSERT(SPLICER_OFFSET(struct splicer_session, played) == 16, "layout of struct splicer_session");
+SPLICER_ASSERT(SPLICER_OFFSET(struct splicer_session, connection) == 24, "layout of struct splicer_session");
+SPLICER_ASSERT(SPLICER_OFFSET(struct splicer_session, session) == 28, "layout of struct splicer_session");
+SPLICER_ASSERT(SPLICER_OFFSET(struct splicer_session, event) == 32, "layout of struct splicer_session");
+SPLICER_ASSERT(SPLICER_OFFSET(struct splicer_session, prior) == 36, "layout of struct splicer_session");
+SPLICER_ASSERT(SPLICER_OFFSET(struct splicer_session, access) == 40, "layout of struct splicer_session");
+SPLICER_ASSERT(SPLICER_OFFSET(struct splicer_session, override) == 44, "layout of struct splicer_session");
+SPLICER_ASSERT(SPLICER_OFFSET(struct splicer_session, mux) == 48, "layout of struct splicer_session");
+SPLICER_ASSERT(SPLICER_OFFSET(struct splicer_session, state) == 52, "layout of struct splicer_session");
 
 /* ---- The archive's functions ----
  * Drivers use the splicer_call_ functions below, which are inline. These take the parts of a struct splicer, pointers and numbers only:
@@ -297,6 +332,7 @@ void splicer_7_air(const uint64_t *words, const uint8_t *bytes, uint64_t *air);
 void splicer_7_due(const uint64_t *words, const uint8_t *bytes, uint64_t *due);
 void splicer_7_rolling_due(const uint64_t *words, const uint8_t *bytes, const uint64_t *counter, uint64_t *due);
 uint64_t splicer_7_ended(const uint64_t *ended, size_t words, struct splicer_row *page, size_t rows);
+size_t splicer_7_sessions(const uint64_t *words, const uint8_t *bytes, struct splicer_session *rows, size_t row_words);
 size_t splicer_7_write_streams(const uint64_t *list, const uint8_t *kept, uint8_t *out, size_t room);
 
 /* The version of the archive that was linked: SPLICER_VERSION * 1000 + SPLICER_VERSION_MINOR of its own header.
@@ -459,7 +495,7 @@ static inline size_t splicer_call_read_streams(const uint8_t *in, size_t length,
     return splicer_7_read_streams(in, length, (uint64_t *)(void *)s, s->kept);
 }
 
-/* ---- Reads: nothing changes, and none but the last is refused ---- */
+/* ---- Reads: nothing changes, and none but the page of what ended is refused ---- */
 
 /* How many sessions of each connection wait: at most 20 of one, 64 in all.
  * Refused: never. Cost: 13, however many wait. Threads: shared. */
@@ -541,6 +577,15 @@ static inline int splicer_call_rolling_due(const struct splicer_rolling *r, uint
  * Refused: 16. Cost: some 400. Threads: shared. */
 static inline uint32_t splicer_call_ended(const struct splicer *s, struct splicer_row *rows, size_t count) {
     return (uint32_t)splicer_7_ended(s->words + SPLICER_ENDED, SPLICER_ENDED_WORDS, rows, count);
+}
+
+/* Every session that is held, at most SPLICER_SESSIONS: the started ones from the highest AccessType down, so that the first is on air and
+ * the others are covered, then those that wait, in order of start. How many are held is returned, whatever `count` is; of `count` rows the
+ * first so many are written, and those behind them stay as they were. rows may be null with a count of 0.
+ * Refused: never. Cost: some 34 for each row written, and some 50. Threads: shared. */
+static inline size_t splicer_call_sessions(const struct splicer *s, struct splicer_session *rows, size_t count) {
+    size_t most = count < (size_t)SPLICER_SESSIONS ? count : (size_t)SPLICER_SESSIONS;
+    return splicer_7_sessions(s->words, s->bytes, rows, most * SPLICER_SESSION_WORDS);
 }
 
 /* ---- Bench: splicer_bench.h has more ---- */

@@ -1,6 +1,7 @@
 //! The archive's functions, as `include/splicer.h` declares them: their link names carry the
 //! version, so that this crate and an archive of two versions do not link.
 
+use crate::sessions::Held;
 use crate::{Refusal, Row};
 
 /// Words of a reply: the house number of a refusal or 0, the bytes consumed, the bytes written and
@@ -148,6 +149,14 @@ extern "C" {
 
     #[link_name = "splicer_7_ended"]
     pub fn ended(ended: *const u64, words: usize, page: *mut Row, rows: usize) -> u64;
+
+    #[link_name = "splicer_7_sessions"]
+    pub fn sessions(
+        words: *const u64,
+        bytes: *const u8,
+        rows: *mut Held,
+        row_words: usize,
+    ) -> usize;
 
     #[link_name = "splicer_7_map"]
     pub fn map(words: *const u64, bytes: *const u8) -> u64;

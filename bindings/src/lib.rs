@@ -57,6 +57,7 @@ mod records;
 mod rolling;
 mod saved;
 mod says;
+mod sessions;
 mod streams;
 pub mod texts;
 
@@ -67,6 +68,7 @@ pub use records::{message_id, records, result, Record, Records};
 pub use rolling::RollingSplicer;
 pub use saved::{NotSaved, SAVED};
 pub use says::Says;
+pub use sessions::{Session, Sessions, State};
 pub use streams::{Stream, Streams, KEPT, STREAMS, STREAM_WORDS};
 
 /// The version of the state and of the archive's functions, whose names carry it.
@@ -114,6 +116,11 @@ pub const LONGEST_STEP: u32 = 8_100_000;
 pub const ENDED: usize = 605;
 /// See [`ENDED`].
 pub const ENDED_WORDS: usize = 81;
+
+/// The most sessions that are held: 64 that wait and 10 that have started.
+pub const SESSIONS: usize = 74;
+/// The 64-bit words of a session's row.
+pub const SESSION_WORDS: usize = 7;
 
 /// One output channel.
 ///

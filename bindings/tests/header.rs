@@ -1,13 +1,13 @@
 //! The crate's numbers and its declarations of the archive's functions are those of
 //! `include/splicer.h`.
 
-use splicer::{message_id, result, Refusal};
+use splicer::{message_id, result, Refusal, State};
 
 const HEADER_TEXT: &str = include_str!("../../include/splicer.h");
 const DOOR_TEXT: &str = include_str!("../src/door.rs");
-const CALLS: [&str; 13] = [
+const CALLS: [&str; 14] = [
     "fresh", "open", "close", "message", "tick", "waiting", "primary", "mux", "cue", "ended",
-    "map", "air", "due",
+    "map", "air", "due", "sessions",
 ];
 /// Those of the card with a rolling counter alone.
 const ROLLING: [&str; 4] = ["rolling_fresh", "instant", "reading", "rolling_due"];
@@ -54,6 +54,11 @@ fn sizes() -> Vec<(&'static str, u32)> {
         ("ENDED", splicer::ENDED),
         ("ENDED_WORDS", splicer::ENDED_WORDS),
         ("LONGEST_STEP", splicer::LONGEST_STEP as usize),
+        ("SESSIONS", splicer::SESSIONS),
+        ("SESSION_WORDS", splicer::SESSION_WORDS),
+        ("ON_AIR", State::OnAir as usize),
+        ("COVERED", State::Covered as usize),
+        ("WAITING", State::Waiting as usize),
     ];
     list.map(|(name, size)| (name, size as u32)).to_vec()
 }
@@ -189,6 +194,7 @@ fn of_header_call(name: &str) -> Vec<&'static str> {
         ("uint8_t *", "*mut u8"),
         ("uint64_t *", "*mut u64"),
         ("struct splicer_row *", "*mut Row"),
+        ("struct splicer_session *", "*mut Held"),
         ("uint32_t ", "u32"),
         ("size_t ", "usize"),
     ];

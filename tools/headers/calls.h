@@ -18,6 +18,7 @@ void splicer_7_instant(uint64_t *, uint8_t *, uint64_t *, const uint32_t *, uint
 void splicer_7_reading(uint64_t *, uint8_t *, uint64_t *, uint32_t, uint8_t *, size_t, uint64_t *);
 size_t splicer_7_read_streams(const uint8_t *, size_t, uint64_t *, uint8_t *);
 size_t splicer_7_write_streams(const uint64_t *, const uint8_t *, uint8_t *, size_t);
+size_t splicer_7_sessions(const uint64_t *, const uint8_t *, struct splicer_session *, size_t);
 uint64_t splicer_7_version(void);
 
 static struct splicer card;
@@ -180,6 +181,27 @@ static void held_ended(void) {
     expect("splicer_call_ended", memcmp(rows, page, sizeof rows) == 0);
 }
 
+/* Whether a row has the seven words w: three times, then two numbers in each, the first in the low half. */
+static int row_is(const struct splicer_session *s, const uint64_t *w) {
+    return s->start == w[0] && s->end == w[1] && s->played == w[2] && s->connection == (uint32_t)w[3] && s->session == w[3] >> 32
+           && s->event == (uint32_t)w[4] && s->prior == w[4] >> 32 && s->access == (uint32_t)w[5] && s->override == w[5] >> 32
+           && s->mux == (uint32_t)w[6] && s->state == w[6] >> 32;
+}
+
+/* The sessions; 76 rows are lent, of which 74 are used at most. */
+static void held_sessions(void) {
+    static struct splicer_session rows[76];
+    static uint64_t lent[76 * 7];
+    size_t count = once_in(4) ? below(77) : once_in(4) ? 76 : below(6);
+    fill(rows, sizeof rows);
+    memcpy(lent, rows, sizeof rows);
+    size_t held = splicer_7_sessions(words, bytes, (struct splicer_session *)(void *)lent, 7 * (count < 74 ? count : 74));
+    expect("splicer_call_sessions", splicer_call_sessions(&card, rows, count) == held);
+    for (size_t i = 0; i < 76; i++) {
+        expect("splicer_call_sessions", row_is(&rows[i], &lent[7 * i]));
+    }
+}
+
 static void held_card(void) {
     uint32_t kind = below(64), conn = once_in(20) ? 4 + below(2) : below(4);
     if (kind == 0) {
@@ -201,6 +223,7 @@ static void held_card(void) {
     held_air();
     held_due();
     held_ended();
+    held_sessions();
     held_reply_of();
 }
 

@@ -11,7 +11,7 @@ ghost use mathlib.Core.Path.{_≡_};
 ghost use mathlib.Core.List.{[]};
 ghost use lib.ListN.{length};
 ghost use Rattle.rules.specs.Calls.{fresh, openCall, closeCall, messageCall, tickCall, lendingMaps};
-ghost use Rattle.engine.specs.Lent.{Lent, Counts, Primary, ReadsMux, ReadsFeed, ReadsAir, ReadsDue};
+ghost use Rattle.engine.specs.Lent.{Lent, Counts, Primary, ReadsMux, ReadsFeed, ReadsAir, ReadsDue, ReadsSessions};
 ghost use Rattle.streams.specs.Rows.{ReadsList, WritesList};
 ghost use Rattle.door.specs.Door.{Replies, Hears, anchorOf, cueOf, version};
 ghost use Rattle.rows.specs.Rows.{Pages};
@@ -219,6 +219,21 @@ pub extern "C" fn splicer_7_map(words: &[u64; WORDS], bytes: &[u8; BYTES]) -> u6
     ensures { λ r. ⌜ ReadsFeed (now (words .entry)) (now (bytes .entry)) r ⌝ }
 {
     engine::on_air(words, bytes)
+}
+
+// The sessions that are held, as rows of seven words in lent words: two 32-bit numbers of a row share a word, the first in its low half, so
+// that on a little-endian machine a row is C's struct. How many there are. It only reads, and nothing is refused.
+#[no_mangle]
+pub extern "C" fn splicer_7_sessions(
+    words: &[u64; WORDS],
+    bytes: &[u8; BYTES],
+    rows: &mut [u64],
+) -> usize
+    requires { ⌜ Lent (now words) (now bytes) ⌝ }
+    ensures { λ r.
+        ⌜ ReadsSessions (now (words .entry)) (now (bytes .entry)) (now (rows .entry)) r (now (rows .exit)) ⌝ }
+{
+    engine::sessions(words, bytes, &mut *rows)
 }
 
 // What the archive is: so that a driver that was linked can say it.

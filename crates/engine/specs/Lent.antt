@@ -2,19 +2,25 @@
 use mathlib.Core.Path.{_≡_}
 use mathlib.Core.Bool.{cond, not}
 use mathlib.Core.List.{List, [], _∷_}
-use Prim.Native.Nat.{ℕ}
+use Prim.Native.Nat.{ℕ, _+_, _*_, _/_, _≤_}
 use lib.Dec.{eqb, ltb}
-use lib.ListN.{length, getD}
+use lib.ListN.{length, getD, take}
 use Rattle.rules.specs.declared.Link.{Link}
 use Rattle.rules.specs.declared.Link.the-variants.{Closed}
 use Rattle.rules.specs.declared.Refusal.the-variants.{NoConnection, NoRoom, NotOpen}
+use Rattle.rules.specs.declared.Session.{Session}
+use Rattle.rules.specs.Lists.{All}
+use Rattle.rules.specs.Bytes.{written}
 use Rattle.rules.specs.Records.{output}
 use Rattle.rules.specs.State.{Splicer, isOpen, due}
 use Rattle.rules.specs.Answers.{airMux, airFeed, airRow}
 use Rattle.rules.specs.Calls.{Called, refused, good, houseNumber, noConnection, noRoom, longestSection, bufferAfter, dueRow}
+use Rattle.rules.specs.Listing.{startedState, waitingState, rowWidth, sessionRows, heldRows, heldNumber}
 use Rattle.rules.specs.Calls as calls
-use Rattle.rules.specs.Sound.{Reached}
-use Rattle.memory.specs.Memory.{see, shifted, Whole, shown, tallied}
+use Rattle.rules.specs.Sound.{Proper, Small, Reached}
+use Rattle.memory.specs.declared.Which.{Which}
+use Rattle.memory.specs.declared.Which.the-variants.{Waiting, Started}
+use Rattle.memory.specs.Memory.{sessions, see, shifted, Form, Whole, shown, tallied}
 use Rattle.engine.specs.declared.Answer.{Answer}
 use Rattle.engine.specs.declared.Answer.the-variants.{Refused, Done}
 use Rattle.engine.specs.declared.Tested.{Tested}
@@ -82,3 +88,25 @@ ReadsAir m b r = r ≡ airRow (shown m b .queue .started)
 -- when a tick would do anything, as it is read of them in four words r
 abbrev pub ReadsDue : (m b r : List ℕ) → Type 0
 ReadsDue m b r = r ≡ dueRow (due (shown m b .queue))
+
+-- the sessions as rows: how many are held, and what the lent words hold after, of which as many rows as there is room for are filled
+pub record ReadsSessions (m b lent : List ℕ) (r : ℕ) (after : List ℕ) : Type 0 where
+  pub number : r ≡ heldNumber (shown m b .queue)
+  pub rows : after ≡ written lent 0 (heldRows (length lent / rowWidth) (shown m b .queue))
+
+-- the state of the i-th of a list
+unfoldable pub stateOf : Which → ℕ → ℕ
+stateOf Waiting i = waitingState i
+stateOf Started i = startedState i
+
+-- what is asked to fill n rows with the first n of a list: the words are there, and each number is as narrow as its half of a word
+pub record Listable (which : Which) (n : ℕ) (m lent : List ℕ) : Type 0 where
+  pub form : Form m
+  pub held : n ≤ length (sessions which m)
+  pub room : n * rowWidth ≤ length lent
+  pub proper : All Proper (sessions which m)
+  pub small : All Small (sessions which m)
+
+-- what is then lent
+abbrev pub Lists : (which : Which) (n : ℕ) (m lent after : List ℕ) → Type 0
+Lists which n m lent after = after ≡ written lent 0 (sessionRows (stateOf which) (take n (sessions which m)))

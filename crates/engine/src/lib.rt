@@ -11,20 +11,34 @@ use rules::Link;
 use rules::Ninths;
 use rules::Refusal;
 use rules::When;
+use rules::Session;
 ghost use mathlib.Core.Path.{_≡_};
 ghost use mathlib.Core.List.{[]};
-ghost use Prim.Native.Nat.{_<_};
+ghost use Prim.Native.Nat.{_<_, _≤_, min};
 ghost use lib.ListN.{length};
 ghost use Rattle.rules.specs.Lists.{All};
-ghost use Rattle.rules.specs.Bytes.{Byte, hasZero};
+ghost use Rattle.rules.specs.Bytes.{Byte, hasZero, written};
 ghost use Rattle.rules.specs.Calls.{fresh, openCall, closeCall, messageCall, moveCall, tickCall, lendingMaps, cueCall};
-ghost use Rattle.rules.specs.Sound.{horizon};
+ghost use Rattle.rules.specs.Sound.{horizon, Proper, Small};
+ghost use Rattle.rules.specs.Listing.{rowWidth, sessionRow};
 ghost use Rattle.memory.specs.Memory.{Form, see};
 ghost use Rattle.engine.specs.Lent.{Lent, replyOf, Answers, Makes, openTest, needed, Counts, Primary, ReadsMux, ReadsFeed, ReadsAir};
-ghost use Rattle.engine.specs.Lent.{ReadsDue};
+ghost use Rattle.engine.specs.Lent.{ReadsDue, ReadsSessions, stateOf, Listable, Lists};
 
 // 02, CR 6, 10: "a lent section over 1,024 bytes".
 const SECTION: usize = 1024;
+
+// The words of a session's row, and what a row's high halves count.
+pub const ROW: usize = 7;
+
+const HIGH: u64 = 4294967296;
+
+// What a session is.
+const STATE_ON_AIR: u64 = 1;
+
+const STATE_COVERED: u64 = 2;
+
+const STATE_WAITING: u64 = 3;
 
 // "2: output buffer below 4,096 bytes".
 pub const ROOM: usize = 4096;
@@ -156,6 +170,83 @@ pub fn due(m: &[u64; WORDS], b: &[u8]) -> [u64; 4]
         return [1, t.0, 0, 0];
     }
     [2, t.0, up / 1000000, up % 1000000]
+}
+
+// What the session `at` of a list is: of the started the first is on air.
+fn state_of(which: Which, at: usize) -> u64
+    ensures { λ r. ⌜ r ≡ stateOf which at ⌝ }
+    ensures within { λ r. ⌜ r ≤ 3 ⌝ }
+{
+    match which {
+        Which::Waiting => STATE_WAITING,
+        Which::Started => {
+            if at == 0 {
+                return STATE_ON_AIR;
+            }
+            STATE_COVERED
+        }
+    }
+}
+
+// A session as a row.
+fn put_session(row: &mut [u64], state: u64, s: Session)
+    requires { ⌜ rowWidth ≤ length (now row) ⌝ }
+    requires { ⌜ Proper s × Small s × (state ≤ 3) ⌝ }
+    ensures { λ _. ⌜ now (row .exit) ≡ written (now (row .entry)) 0 (sessionRow state s) ⌝ }
+{
+    row[0] = s.start.0;
+    row[1] = s.end.0;
+    row[2] = s.played.0;
+    row[3] = s.conn + HIGH * s.id;
+    row[4] = s.event + HIGH * s.prior;
+    row[5] = s.access + HIGH * s.overrides;
+    row[6] = s.mux + HIGH * state;
+}
+
+// The first n of a list as rows.
+fn list_sessions(m: &[u64], which: Which, n: usize, rows: &mut [u64])
+    requires { ⌜ Listable which n (now m) (now rows) ⌝ }
+    ensures { λ _. ⌜ Lists which n (now (m .entry)) (now (rows .entry)) (now (rows .exit)) ⌝ }
+{
+    let mut i = 0;
+    while i < n {
+        let s = memory::load(m, which, i);
+        let at = i * ROW;
+        put_session(&mut rows[at..], state_of(which, i), s);
+        i += 1;
+    }
+}
+
+// The smaller of two.
+fn at_most(n: usize, most: usize) -> usize
+    ensures { λ r. ⌜ r ≡ min n most ⌝ }
+{
+    if most < n {
+        return most;
+    }
+    n
+}
+
+// The sessions that are held: the started from the highest AccessType down, then those that wait in order of start, as many as there is
+// room for. How many there are. It only reads.
+pub fn sessions(m: &[u64; WORDS], b: &[u8], rows: &mut [u64]) -> usize
+    requires { ⌜ Lent (now m) (now b) ⌝ }
+    ensures { λ r.
+        ⌜ ReadsSessions (now (m .entry)) (now (b .entry)) (now (rows .entry)) r (now (rows .exit)) ⌝ }
+{
+    let started = memory::count(m, Which::Started);
+    let waiting = memory::count(m, Which::Waiting);
+    let room = rows.len() / ROW;
+    let first = at_most(started, room);
+    list_sessions(m, Which::Started, first, &mut *rows);
+    let at = first * ROW;
+    list_sessions(
+        m,
+        Which::Waiting,
+        at_most(waiting, room - first),
+        &mut rows[at..],
+    );
+    started + waiting
 }
 
 // Open: 1, 6.

@@ -5,6 +5,7 @@ pub mod Reading
 pub mod Descriptors
 pub mod Asked
 pub mod State
+pub mod Listing
 pub mod Records
 pub mod Ends
 pub mod Instants
