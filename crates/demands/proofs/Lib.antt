@@ -28,3 +28,4 @@ pub mod Writes
 pub mod Due
 pub mod Readings
 pub mod OnAir
+pub mod Between
