@@ -180,7 +180,7 @@ started = refl
 
 -- an accepted session with an end time, some ends, and whether its connection has closed since
 entry : (conn id end ends : ℕ) → Bool → Entry
-entry c x t n b = record { conn = c; id = x; end = t; mux = 5; event = 0; ends = n; closed = b }
+entry c x t n b = record { conn = c; id = x; end = t; mux = 5; event = 0; prior = 0xFFFFFFFF; overrides = 0; ends = n; closed = b }
 
 -- one that has had no end, before its time and with its connection open; and one that has had its end
 ahead : {now : ℕ} (e : Entry) → e .ends ≡ 0 → T (not (leb (e .end) now)) → e .closed ≡ false → Ended now e

@@ -249,6 +249,11 @@ pub record Brings (until : ℕ) (f : Splicer → Called) : Type 0 where
   pub made : (s : Splicer) → numberOf (f s .answer) ≡ 0 → (s .clock ≤ until) × (f s ≡ ticked until s)
   pub also : (s t : Splicer) → numberOf (f t .answer) ≡ 0 → s .clock ≤ until → f s ≡ ticked until s
 
+-- a good one accepts nothing
+pub brings-only : (until : ℕ) (f : Splicer → Called) (s : Splicer) → Brings until f → numberOf (f s .answer) ≡ 0 → f s .accepted ≡ false
+unfolding ticked
+brings-only until f s b z = ap (λ (r : Called). r .accepted) (b .made s z .1)
+
 module _ (until room : ℕ) where
   move-made : (s : Splicer) → numberOf (moveCall until room s .answer) ≡ 0
       → (noRoom room ≡ false) × (s .clock ≤ until) × (moveCall until room s ≡ ticked until s)

@@ -29,7 +29,7 @@ use Rattle.rules.specs.Answers.{endOf, startOf, sessionAt, requested, unknownPr
 use Rattle.rules.specs.Calls.{Called, ticked, Call, call, after, named, fresh}
 use Rattle.demands.specs.History.{endResult, isEnd, isYes, endsOf, front, last, Entry, entryIs, withEnds, credited, lastTold, endTold}
 use Rattle.demands.specs.History.{muxTold, eventTold, startTold, endAsked, muxAsked, eventAsked, entryOf, bookAnswered, withClosed}
-use Rattle.demands.specs.History.{shut, bookAfter}
+use Rattle.demands.specs.History.{shut, bookAfter, priorTold, overridesTold, priorAsked, overridesAsked}
 use Rattle.rules.specs.Sound.{Each, heldCount}
 use Rattle.rules.proofs.Tests.{clash, by, and-both, eqb-same}
 use Rattle.rules.proofs.All.{all-into}
@@ -165,10 +165,11 @@ unfolding lastTold shut
 told-shut f h c x d [] = refl
 told-shut f h c x d (e ∷ es) = rw (told-shut f h c x d es, h .shut d e)
 
--- a session's end time, what it asks of the multiplexer and its SpliceEventID are what the book says
+-- a session's end time, what it asks of the multiplexer, its SpliceEventID, PriorSession and OverridePlaying are what the book says
 abbrev pub Dated : List Entry → Session → Type 0
 Dated es s =
     (endTold (s .conn) (s .id) es ≡ s .end .0) × (muxTold (s .conn) (s .id) es ≡ s .mux) × (eventTold (s .conn) (s .id) es ≡ s .event)
+    × (priorTold (s .conn) (s .id) es ≡ s .prior) × (overridesTold (s .conn) (s .id) es ≡ s .overrides)
 
 end-lasts : Lasting (λ e. e .end)
 end-lasts = record { credited = λ rs e. refl; shut = λ d e. refl }
@@ -179,6 +180,12 @@ mux-lasts = record { credited = λ rs e. refl; shut = λ d e. refl }
 event-lasts : Lasting (λ e. e .event)
 event-lasts = record { credited = λ rs e. refl; shut = λ d e. refl }
 
+prior-lasts : Lasting (λ e. e .prior)
+prior-lasts = record { credited = λ rs e. refl; shut = λ d e. refl }
+
+overrides-lasts : Lasting (λ e. e .overrides)
+overrides-lasts = record { credited = λ rs e. refl; shut = λ d e. refl }
+
 redated : (q : Queue) (es fs : List Entry) → ((f : Entry → ℕ) → Lasting f → (c x : ℕ) → lastTold f c x fs ≡ lastTold f c x es)
     → Each (Dated es) q → Each (Dated fs) q
 redated q es fs h d =
@@ -187,6 +194,8 @@ redated q es fs h d =
       h (λ e. e .end) end-lasts (s .conn) (s .id) ∙ k .0,
       h (λ e. e .mux) mux-lasts (s .conn) (s .id) ∙ k .1,
       h (λ e. e .event) event-lasts (s .conn) (s .id) ∙ k .2,
+      h (λ e. e .prior) prior-lasts (s .conn) (s .id) ∙ k .3,
+      h (λ e. e .overrides) overrides-lasts (s .conn) (s .id) ∙ k .4,
     ) in
     record {
       waiting = all-into (Dated es) (Dated fs) same (q .waiting) (d .waiting);
@@ -241,7 +250,18 @@ told-start c (Linked p) q es d e = told-end c p q es d (not-false _ e)
 -- ## A session that is accepted
 
 abbrev entry : Session → Entry
-entry s = record { conn = s .conn; id = s .id; end = s .end .0; mux = s .mux; event = s .event; ends = 0; closed = false }
+entry s =
+    record {
+      conn = s .conn;
+      id = s .id;
+      end = s .end .0;
+      mux = s .mux;
+      event = s .event;
+      prior = s .prior;
+      overrides = s .overrides;
+      ends = 0;
+      closed = false;
+    }
 
 module _ (new : Session) (q : Queue) (es : List Entry) (b : Booked q es) (none : heldCount q (is (new .conn) (new .id)) ≡ 0) where
   abbrev t : Turn
@@ -288,8 +308,9 @@ module _ (new : Session) (q : Queue) (es : List Entry) (b : Booked q es) (none :
   old u o h = (
     still (λ e. e .end) end-lasts u o ∙ h .0,
     still (λ e. e .mux) mux-lasts u o ∙ h .1,
-    still (λ e. e .event) event-lasts u o
-        ∙ h .2,
+    still (λ e. e .event) event-lasts u o ∙ h .2,
+    still (λ e. e .prior) prior-lasts u o ∙ h .3,
+    still (λ e. e .overrides) overrides-lasts u o ∙ h .4,
   )
 
   olds : (l : List Session) → count (is (new .conn) (new .id)) l ≡ 0 → All (Dated es) l → All (Dated later) l
@@ -300,6 +321,8 @@ module _ (new : Session) (q : Queue) (es : List Entry) (b : Booked q es) (none :
   own : Dated later new
   unfolding lastTold
   own = (
+    rw (eqb-same (new .conn), eqb-same (new .id)),
+    rw (eqb-same (new .conn), eqb-same (new .id)),
     rw (eqb-same (new .conn), eqb-same (new .id)),
     rw (eqb-same (new .conn), eqb-same (new .id)),
     rw (eqb-same (new .conn), eqb-same (new .id)),
@@ -343,7 +366,7 @@ module _ (s : Splicer) (es : List Entry) (b : Booked (s .queue) es) where
   -- the entry of a request that is accepted
   pub asked-entry : (c : ℕ) (l : List ℕ) (r : Request) → readSplice (dataIn l) ≡ Splice r → unknownPrior c (r .start) q ≡ false
       → entryOf c (dataIn l) es ≡ entry (requested c r q)
-  unfolding entryOf endAsked muxAsked eventAsked requested sessionAt
+  unfolding entryOf endAsked muxAsked eventAsked priorAsked overridesAsked requested sessionAt
   asked-entry c l r e u = rw (e, ← (read-id (dataIn l) r e), told-start c (r .start) q es (b .dated) u)
 
   tick-booked : (until : ℕ) → Booked (runAll (s .clock) until q .queue) (credited (runAll (s .clock) until q .written) es)

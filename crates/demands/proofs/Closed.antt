@@ -59,6 +59,8 @@ record Later (e f : Entry) : Type 0 where
   end : f .end ≡ e .end
   mux : f .mux ≡ e .mux
   event : f .event ≡ e .event
+  prior : f .prior ≡ e .prior
+  overrides : f .overrides ≡ e .overrides
   ends : e .ends ≤ f .ends
   closed : e .closed ≡ true → f .closed ≡ true
 
@@ -74,7 +76,18 @@ data Since : List Entry → List Entry → Type 0 where
 aligned-self : (es : List Entry) → Aligned es es
 aligned-self [] = none
 aligned-self (e ∷ es) =
-    let l : Later e e = record { conn = refl; id = refl; end = refl; mux = refl; event = refl; ends = omega arith; closed = λ k. k } in
+    let l : Later e e =
+    record {
+      conn = refl;
+      id = refl;
+      end = refl;
+      mux = refl;
+      event = refl;
+      prior = refl;
+      overrides = refl;
+      ends = omega arith;
+      closed = λ k. k;
+    } in
     both l (aligned-self es)
 
 aligned-credited : {es fs : List Entry} (rs : List Record) → Aligned es fs → Aligned es (credited rs fs)
@@ -87,6 +100,8 @@ aligned-credited rs (both {e = e} {f = f} l a) =
       end = l .end;
       mux = l .mux;
       event = l .event;
+      prior = l .prior;
+      overrides = l .overrides;
       ends =
           omega (arith, l .ends);
       closed = l .closed;
@@ -112,6 +127,8 @@ aligned-shut d (both {f = f} l a) =
       end = l .end;
       mux = l .mux;
       event = l .event;
+      prior = l .prior;
+      overrides = l .overrides;
       ends = l .ends;
       closed =
           λ k. or-right (eqb d (f .conn)) (f .closed) (l .closed k);
@@ -160,11 +177,17 @@ module _ (c : ℕ) where
   same-entry e f l a b o =
       let g : f .ends ≡ e .ends = omega (arith, l .ends) in
       let k : f .closed ≡ e .closed = l .closed b ∙ sym b in
-      let i : f ≡ record { conn = f .conn; id = f .id; end = f .end; mux = f .mux; event = f .event; ends = f .ends; closed = f .closed } =
-      refl in
-      let j : e ≡ record { conn = e .conn; id = e .id; end = e .end; mux = e .mux; event = e .event; ends = e .ends; closed = e .closed } =
-      refl in
-      i ∙ rw (l .conn, l .id, l .end, l .mux, l .event, g, k)
+      λ n. record {
+        conn = l .conn n;
+        id = l .id n;
+        end = l .end n;
+        mux = l .mux n;
+        event = l .event n;
+        prior = l .prior n;
+        overrides = l .overrides n;
+        ends = g n;
+        closed = k n;
+      }
 
   aligned-same : {es fs : List Entry} → Aligned es fs → All (Over c) es → All (λ f. f .ends ≤ 1) fs → entriesOf c fs ≡ entriesOf c es
   aligned-same none a o = refl

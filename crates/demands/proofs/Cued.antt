@@ -100,6 +100,8 @@ quiet-credits rs a (e ∷ es) =
       end = e .end;
       mux = e .mux;
       event = e .event;
+      prior = e .prior;
+      overrides = e .overrides;
       ends =
           y;
       closed = e .closed;

@@ -29,3 +29,4 @@ pub mod Due
 pub mod Readings
 pub mod OnAir
 pub mod Between
+pub mod Sessions

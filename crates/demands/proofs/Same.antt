@@ -17,7 +17,8 @@ use Rattle.rules.specs.State.{sameNumber}
 use Rattle.rules.specs.Records.{Record, recordsIn}
 use Rattle.rules.specs.Calls.{Call, opens, closes, messages, ticks, moves, cues}
 use Rattle.demands.specs.History.{Reply, refusal, wrote, Event, Entry, entryIs, isStart, isEnd, grantedIn, othersIn, credited}
-use Rattle.demands.specs.History.{lastTold, endTold, startTold, endAsked, muxAsked, eventAsked, entryOf, bookAnswered, shut}
+use Rattle.demands.specs.History.{lastTold, endTold, startTold, endAsked, muxAsked, eventAsked, priorAsked, overridesAsked, entryOf}
+use Rattle.demands.specs.History.{bookAnswered, shut}
 use Rattle.demands.specs.History.{bookAfter, bookReplied, book, clockReplied}
 use Rattle.rules.proofs.Tests.{by, and-both, eqb-same}
 use Rattle.demands.specs.Airing.{Airing, airingIs, newest, begins, ends, marked, concerns, heard, byThen, heardAll, startAsked}
@@ -133,6 +134,8 @@ module _ (l : List Airing) (es : List Entry) (h : map ofAiring l ≡ map ofEntry
             mux =
                 muxAsked (readSplice (dataIn b));
             event = eventAsked (readSplice (dataIn b));
+            prior = priorAsked (readSplice (dataIn b));
+            overrides = overridesAsked (readSplice (dataIn b));
             ends = 0;
             closed = false;
           })

@@ -15,6 +15,7 @@ use Rattle.rules.specs.Reading.{sessionID, readSplice, dataIn, isSplice}
 use Rattle.rules.specs.State.{Splicer, sameNumber}
 use Rattle.rules.specs.Records.{Record, General, InitResponse, AliveResponse, SpliceResponse, SpliceComplete, AbortResponse, ConfigResponse}
 use Rattle.rules.specs.Records.{ExtendedFound, ExtendedNone, CueRequest, recordsIn}
+use Rattle.rules.specs.Answers.{priorOf}
 use Rattle.rules.specs.Calls.{Answer, refused, good, Call, opens, closes, messages, ticks, moves, cues, call, writtenBy}
 
 -- ## Starts and ends among records
@@ -144,14 +145,16 @@ waitingCount c h = length (waitingTold c h [])
 
 -- ## The sessions accepted, the newest first
 
--- connection, number and end time, what it asked of the multiplexer (02, CR 5), its SpliceEventID (02, CR 8), the ends written for it, and
--- whether its connection has closed since
+-- connection, number and end time, what it asked of the multiplexer (02, CR 5), its SpliceEventID (02, CR 8), its PriorSession, 0xFFFFFFFF
+-- for a timed one, and OverridePlaying, the ends written for it, and whether its connection has closed since
 pub record Entry : Type 0 where
   pub conn : ℕ
   pub id : ℕ
   pub end : ℕ
   pub mux : ℕ
   pub event : ℕ
+  pub prior : ℕ
+  pub overrides : ℕ
   pub ends : ℕ
   pub closed : Bool
 
@@ -166,6 +169,8 @@ withEnds rs e =
       end = e .end;
       mux = e .mux;
       event = e .event;
+      prior = e .prior;
+      overrides = e .overrides;
       ends = e .ends + endsOf (e .conn) (e .id) rs;
       closed = e .closed;
     }
@@ -191,6 +196,13 @@ muxTold c x es = lastTold (λ e. e .mux) c x es
 -- 02, CR 8: its SpliceEventID
 abbrev pub eventTold : ℕ → ℕ → List Entry → ℕ
 eventTold c x es = lastTold (λ e. e .event) c x es
+
+-- the PriorSession and the OverridePlaying that were asked
+abbrev pub priorTold : ℕ → ℕ → List Entry → ℕ
+priorTold c x es = lastTold (λ e. e .prior) c x es
+
+abbrev pub overridesTold : ℕ → ℕ → List Entry → ℕ
+overridesTold c x es = lastTold (λ e. e .overrides) c x es
 
 unfoldable pub startTold : ℕ → Start → List Entry → ℕ
 startTold c (Timed t) es = fromMicros t .0
@@ -226,6 +238,26 @@ eventAsked (Extended x) = 0
 eventAsked Config = 0
 eventAsked Unreadable = 0
 
+-- the PriorSession of a message
+unfoldable pub priorAsked : Message → ℕ
+priorAsked (Init revision) = 0
+priorAsked Alive = 0
+priorAsked (Splice r) = priorOf (r .start)
+priorAsked (Abort x) = 0
+priorAsked (Extended x) = 0
+priorAsked Config = 0
+priorAsked Unreadable = 0
+
+-- the OverridePlaying of a message
+unfoldable pub overridesAsked : Message → ℕ
+overridesAsked (Init revision) = 0
+overridesAsked Alive = 0
+overridesAsked (Splice r) = r .overrides
+overridesAsked (Abort x) = 0
+overridesAsked (Extended x) = 0
+overridesAsked Config = 0
+overridesAsked Unreadable = 0
+
 -- the entry of a Splice_Request with the data d
 unfoldable pub entryOf : ℕ → List ℕ → List Entry → Entry
 entryOf c d es =
@@ -235,6 +267,8 @@ entryOf c d es =
       end = endAsked c (readSplice d) es;
       mux = muxAsked (readSplice d);
       event = eventAsked (readSplice d);
+      prior = priorAsked (readSplice d);
+      overrides = overridesAsked (readSplice d);
       ends = 0;
       closed = false;
     }
@@ -251,6 +285,8 @@ withClosed d e =
       end = e .end;
       mux = e .mux;
       event = e .event;
+      prior = e .prior;
+      overrides = e .overrides;
       ends = e .ends;
       closed = eqb d (e .conn) || e .closed;
     }

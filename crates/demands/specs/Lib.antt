@@ -6,3 +6,4 @@ pub mod Moments
 pub mod Kept
 pub mod Alike
 pub mod Due
+pub mod Sessions

@@ -10,3 +10,4 @@ pub mod Cued
 pub mod Kept
 pub mod Any
 pub mod Due
+pub mod Between

@@ -4,3 +4,4 @@ pub mod Laws
 pub mod Held
 pub mod Maps
 pub mod Drivers
+pub mod Listed

@@ -96,8 +96,8 @@ pub record ReadsSessions (m b lent : List ℕ) (r : ℕ) (after : List ℕ) : Ty
 
 -- the state of the i-th of a list
 unfoldable pub stateOf : Which → ℕ → ℕ
-stateOf Waiting i = waitingState i
-stateOf Started i = startedState i
+stateOf Waiting = waitingState
+stateOf Started = startedState
 
 -- what is asked to fill n rows with the first n of a list: the words are there, and each number is as narrow as its half of a word
 pub record Listable (which : Which) (n : ℕ) (m lent : List ℕ) : Type 0 where
