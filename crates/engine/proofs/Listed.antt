@@ -6,19 +6,21 @@ use mathlib.Core.List.{List, [], _∷_, _++_, append-assoc, append-nil}
 use Prim.Native.Nat.{ℕ, zero, suc, _+_, _-_, _*_, _/_, _≤_, _<_, min}
 use native.Mathlib.Omega.{arith}
 use lib.Dec.{ltb}
-use lib.ListN.{length, take, getD, length-append}
+use lib.ListN.{length, take, getD, length-take, length-drop}
 use lib.Seq.{take-all, take-length, length-take-le}
 use borrow.Author.Tests.{ltb-true, ltb-false}
 use borrow.Rule.Slice.PartMut.{putMid, midOf}
 use Rattle.rules.specs.declared.Session.{Session}
 use Rattle.rules.specs.Bytes.{written}
 use Rattle.rules.specs.State.{Queue, empty}
-use Rattle.rules.specs.Listing.{startedState, waitingState, rowWidth, sessionRow, sessionRows, heldRows, heldNumber}
-use Rattle.rules.proofs.Written.{written-none, written-next}
+use Rattle.rules.specs.Listing.{startedState, waitingState, rowWidth, sessionRow, sessionRows, heldRows}
+use Rattle.rules.proofs.Written.{written-none, length-written, written-next}
+use Rattle.rules.proofs.Sound.{few-wait, few-started}
 use Rattle.memory.specs.declared.Which.{Which}
 use Rattle.memory.specs.declared.Which.the-variants.{Waiting, Started}
 use Rattle.memory.specs.Memory.{sessions, see, shown}
-use Rattle.engine.specs.Lent.{ReadsSessions, stateOf, Listable, Lists}
+use Rattle.engine.specs.Lent.{Lent, ReadsSessions, stateOf, Listable, Lists}
+use Rattle.engine.proofs.Calls.{holding}
 
 -- ## Rows
 
@@ -44,6 +46,23 @@ rows-one f (s ∷ l) (suc i) h =
 pub sessions-same : (m b lent : List ℕ) {r s : ℕ} {a c : List ℕ} → ReadsSessions m b lent r a → ReadsSessions m b lent s c
     → (r ≡ s) × (a ≡ c)
 sessions-same m b lent p q = (p .number ∙ sym (q .number), p .rows ∙ sym (q .rows))
+
+-- ## What a session is
+
+module _ (which : Which) (at : ℕ) where
+  pub state-first : which ≡ Started → at ≡ 0 → 1 ≡ stateOf which at
+  unfolding stateOf startedState
+  state-first e z = λ i. stateOf (sym e i) (sym z i)
+
+  pub state-other : which ≡ Started → 0 < at → 2 ≡ stateOf which at
+  unfolding stateOf startedState
+  state-other e z =
+      let k : at ≡ suc (at - 1) = omega arith in
+      λ i. stateOf (sym e i) (sym k i)
+
+  pub state-waits : which ≡ Waiting → 3 ≡ stateOf which at
+  unfolding stateOf
+  state-waits e = λ i. stateOf (sym e i) at
 
 -- ## The loop
 
@@ -72,6 +91,45 @@ module _ (which : Which) (n : ℕ) (m lent : List ℕ) where
         ∙ ap (written lent 0)
         (ap (λ (x : List ℕ). sessionRows (stateOf which) u ++ x) (λ o. sessionRow (e o) (f o))
         ∙ sym (rows-one (stateOf which) k i (omega (arith, l .held))) ∙ ap (λ (a : ℕ). sessionRows (stateOf which) (take a k)) j)
+
+-- ## What is asked of the words, and what stays
+
+listed-length : (which : Which) (n : ℕ) (m lent xs : List ℕ) → Listable which n m lent → Lists which n m lent xs → length xs ≡ length lent
+listed-length which n m lent xs l w =
+    let u = take n (sessions which m) in
+    let c : length u ≡ n = length-take-le n (sessions which m) (l .held) in
+    ap length w ∙ length-written lent 0 (sessionRows (stateOf which) u) (omega (arith, c, length-rows (stateOf which) u, l .room))
+
+module _ {m b : List ℕ} (l : Lent m b) where
+  pub held-few : (length (sessions Started m) ≤ 10) × (length (sessions Waiting m) ≤ 64)
+  held-few = (few-started (holding l), few-wait (holding l))
+
+  -- the started, as many as there is room for
+  module _ (lent : List ℕ) (first : ℕ) (e : first ≡ min (length (sessions Started m)) (length lent / 7)) where
+    pub started-listable : Listable Started first m lent
+    started-listable =
+        record {
+          form = l .whole .words;
+          few = omega (arith, held-few .0);
+          held = omega arith;
+          room = omega arith;
+          proper = holding l .proper .started;
+          small = holding l .small .started;
+        }
+
+    -- behind them those that wait
+    pub waiting-listable : (more : ℕ) (xs : List ℕ) → more ≡ min (length (sessions Waiting m)) (length lent / 7 - first)
+        → Lists Started first m lent xs → Listable Waiting more m (midOf (first * 7) (length xs - first * 7) xs)
+    waiting-listable more xs f w =
+        let k = listed-length Started first m lent xs started-listable w in
+        record {
+          form = l .whole .words;
+          few = omega (arith, held-few .1);
+          held = omega arith;
+          room = simp (length-take, length-drop) (omega (arith, k));
+          proper = holding l .proper .waiting;
+          small = holding l .small .waiting;
+        }
 
 -- ## Both lists
 

@@ -102,6 +102,7 @@ stateOf Started = startedState
 -- what is asked to fill n rows with the first n of a list: the words are there, and each number is as narrow as its half of a word
 pub record Listable (which : Which) (n : ℕ) (m lent : List ℕ) : Type 0 where
   pub form : Form m
+  pub few : n ≤ 64
   pub held : n ≤ length (sessions which m)
   pub room : n * rowWidth ≤ length lent
   pub proper : All Proper (sessions which m)
