@@ -11,7 +11,7 @@ esac
 needs_rust 1.81
 cd "$(dirname "$0")/.."
 specs=crates/cases/specs
-hand='Layouts Rooms Rehearsed Histories Worked Moved Counted Days Mux DueCases DueWitness Lately Sections Cued Extended Config Heard LatelyCases KeptCases MomentsCases ToldCases ToldNumbers ToldRequests AlikeCases'
+hand='Layouts Rooms Rehearsed Histories Worked Moved Counted Days Mux DueCases DueWitness Lately Sections Cued Extended Config Heard LatelyCases KeptCases MomentsCases ToldCases ToldNumbers ToldRequests AlikeCases Listing'
 made=target/cases
 rm -rf "$made"
 mkdir -p "$made"
@@ -30,7 +30,7 @@ first='digit, hex, row, input, output, joined, eachStep, eachRun'
 second='outputs, oneMore, callsIn, size, same, fits, Written'
 
 # the modules of rules that the card program and what is read of cues are written in, those of demand 3 and of CR 13, and their definitions
-modules='Lists Bytes Reading State Records Ends Instants Answers Crc Cues Calls Card'
+modules='Lists Bytes Reading State Listing Records Ends Instants Answers Crc Cues Calls Card'
 names=$({
     for m in $modules; do
         sed -nE "s/^ *unfoldable pub ([^ ]+).*/$m.\\1/p" "crates/rules/specs/$m.antt"

@@ -4,6 +4,7 @@ use Rattle.rules.specs.Lists
 use Rattle.rules.specs.Bytes
 use Rattle.rules.specs.Reading
 use Rattle.rules.specs.State
+use Rattle.rules.specs.Listing
 use Rattle.rules.specs.Records
 use Rattle.rules.specs.Ends
 use Rattle.rules.specs.Instants

@@ -3,3 +3,4 @@ pub mod Course
 pub mod Demands
 pub mod Any
 pub mod Due
+pub mod Sessions

@@ -1,12 +1,12 @@
 -- Two calls in a row that bring the clock to a time, and the second alone. Rests on demands' law of the definitions.
 use mathlib.Core.Path.{_≡_, sym, ap, ap₂, _∙_}
 use mathlib.Core.List.{List, _++_}
-use Prim.Native.Nat.{ℕ}
+use Prim.Native.Nat.{ℕ, _≤_}
 use lib.ListN.{length}
 use Rattle.rules.specs.State.{Splicer}
 use Rattle.rules.specs.Calls.{Called, writtenBy}
 use Rattle.demands.specs.Told.{numberOf}
-use Rattle.demands.proofs.Between.{Brings, brings-only, alone-good, together-state, together-bytes}
+use Rattle.demands.proofs.Between.{Brings, brings-only, alone-good, together-state, together-bytes, later-good}
 use Rattle.memory.specs.Memory.{see, shifted}
 use Rattle.memory.proofs.Laws as lent
 use Rattle.engine.specs.declared.Answer.{Answer}
@@ -20,6 +20,14 @@ number-of {c} p = ap numberIn (p .answer) ∙ number-read (c .answer) (c .moved)
 
 bytes-of : {c : Called} {at : ℕ} {e : List ℕ} {r : Answer} {m b o : List ℕ} → Answers c at e r m b o → bytesIn r o ≡ writtenBy (c .answer)
 bytes-of {c} {at} {e} p = rw (p .answer, p .buffer) (bytes-read (c .answer) (c .moved) e)
+
+-- one that is good alone, and not earlier, is good behind another that is good
+pub stays-good : (mid until : ℕ) (f g : ℕ → Splicer → Called) (m : Memory) (e o : List ℕ) → Brings mid (f (length e))
+    → Brings until (g (length o)) → (one two alone : Result) → Promises f m e one → Promises g (one .memory) o two → Promises g m o alone
+    → number one ≡ 0 → number alone ≡ 0 → mid ≤ until → number two ≡ 0
+stays-good mid until f g m e o a b one two alone p q r z y le =
+    number-of q ∙ ap (λ (x : Splicer). numberOf (g (length o) x .answer)) (p .splicer)
+    ∙ later-good mid until (f (length e)) (g (length o)) a b (shown m) (sym (number-of p) ∙ z) (sym (number-of r) ∙ y) le
 
 -- one and two, lent the buffers e and o, one after the other; alone: the second from the same memory as the first
 module _ (mid until : ℕ) (f g : ℕ → Splicer → Called) (m : Memory) (e o : List ℕ) (a : Brings mid (f (length e)))
@@ -63,6 +71,6 @@ module _ (mid until : ℕ) (f g : ℕ → Splicer → Called) (m : Memory) (e o 
       (r .lent .whole) ring state in (
         number-of r ∙ lone,
         ap₂ _++_ (bytes-of p) (bytes-of q ∙ ap (λ (x : Splicer). writtenBy (G x .answer)) (p .splicer))
-        ∙ together-bytes mid until F G a b s first second ∙ sym (bytes-of r),
+            ∙ together-bytes mid until F G a b s first second ∙ sym (bytes-of r),
         memory-same (two .memory) (alone .memory) (w .0) (w .1),
       )

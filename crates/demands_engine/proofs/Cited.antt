@@ -22,7 +22,7 @@ use Rattle.rules.specs.Calls as rules
 use Rattle.rules.specs.Calls.{call}
 use Rattle.memory.specs.Memory.{see}
 use Rattle.engine.specs.declared.Answer.{Answer}
-use Rattle.engine.specs.Lent.{Answers, needed, Counts, Primary, ReadsMux, ReadsFeed, ReadsAir, ReadsDue}
+use Rattle.engine.specs.Lent.{Answers, needed, Counts, Primary, ReadsMux, ReadsFeed, ReadsAir, ReadsDue, ReadsSessions}
 use Rattle.engine.proofs.Held.{kind, Holds, Same, both, number-held, name-held, InRoom, bytes-held}
 use Rattle.engine.proofs.fresh as fresh
 use Rattle.engine.proofs.«open» as opening
@@ -39,6 +39,7 @@ use Rattle.engine.proofs.mux as mux
 use Rattle.engine.proofs.on_air as airing
 use Rattle.engine.proofs.air as reading-air
 use Rattle.engine.proofs.due as reading-due
+use Rattle.engine.proofs.sessions as listing
 use Rattle.demands_engine.specs.Trace.{Memory, shown, Input, anOpen, aClose, aMessage, aTick, aMove, aCue, Typed, callOf, bufferOf}
 use Rattle.demands_engine.specs.Trace.{Allowed}
 use Rattle.demands_engine.specs.Trace.{Result, Run}
@@ -200,6 +201,15 @@ module _ {M : Type 1} (𝓤 : URA M) (H : Heap 𝓤) (A : Atoms 𝓤) (mem : sto
 
     pub due-ensures : reading-due.clauses 𝓤 H A mem run κs a .ensures tt r z ≡ ⌜ ReadsDue (now (a .0)) (now (a .1 .0)) r ⌝
     due-ensures = refl
+
+  -- sessions(m, b, rows): the memory is only read
+  module _ (κs : Lfts 3) (a : Args listing.signature κs) (r : Res listing.signature κs) (z : AtExit listing.ended κs) where
+    pub sessions-requires : listing.clauses 𝓤 H A mem run κs a .requires tt ≡ ⌜ LentAt (at (now (a .0)) (now (a .1 .0))) ⌝
+    sessions-requires = refl
+
+    pub sessions-ensures : listing.clauses 𝓤 H A mem run κs a .ensures tt r z
+        ≡ ⌜ ReadsSessions (now (a .0)) (now (a .1 .0)) (now (a .1 .1 .0)) r (now (z .1 .1 .0)) ⌝
+    sessions-ensures = refl
 
 -- ## What Allowed says is of the call `callOf`
 

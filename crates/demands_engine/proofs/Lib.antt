@@ -11,3 +11,4 @@ pub mod Kept
 pub mod Any
 pub mod Due
 pub mod Between
+pub mod Sessions

@@ -5,3 +5,4 @@ pub mod Demands
 pub mod Any
 pub mod Witness
 pub mod Due
+pub mod Sessions

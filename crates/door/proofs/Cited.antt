@@ -20,7 +20,7 @@ use Rattle.rules.specs.Lists.{All}
 use Rattle.rules.specs.Bytes.{Byte}
 use Rattle.rules.specs.Calls as rules
 use Rattle.rules.specs.Calls.{call}
-use Rattle.engine.specs.Lent.{Lent, Counts, Primary, ReadsMux, ReadsFeed, ReadsAir, ReadsDue}
+use Rattle.engine.specs.Lent.{Lent, Counts, Primary, ReadsMux, ReadsFeed, ReadsAir, ReadsDue, ReadsSessions}
 use Rattle.streams.specs.Rows.{ReadsList, WritesList}
 use Rattle.rows.specs.Rows.{Pages}
 use Rattle.engine.proofs.Held.{kind, Holds, Same, both, number-held, words-held, name-held, InRoom, bytes-held}
@@ -38,6 +38,7 @@ use Rattle.door.proofs.«splicer_7_ended» as page
 use Rattle.door.proofs.«splicer_7_map» as mapping
 use Rattle.door.proofs.«splicer_7_air» as airing
 use Rattle.door.proofs.«splicer_7_due» as dueing
+use Rattle.door.proofs.«splicer_7_sessions» as listing
 use Rattle.door.proofs.«splicer_7_read_streams» as reads
 use Rattle.door.proofs.«splicer_7_write_streams» as writes
 use Rattle.door.proofs.«splicer_7_version» as versioned
@@ -175,6 +176,15 @@ module _ {M : Type 1} (𝓤 : URA M) (H : Heap 𝓤) (A : Atoms 𝓤) (mem : sto
     pub due-ensures : dueing.clauses 𝓤 H A mem run κs a .ensures tt r z
         ≡ ⌜ ReadsDue (now (a .0)) (now (a .1 .0)) (now (z .1 .1 .0)) ⌝
     due-ensures = refl
+
+  -- splicer_7_sessions(words, bytes, rows): the words and the bytes are only read
+  module _ (κs : Lfts 3) (a : Args listing.signature κs) (r : Res listing.signature κs) (z : AtExit listing.ended κs) where
+    pub sessions-requires : listing.clauses 𝓤 H A mem run κs a .requires tt ≡ ⌜ Lent (now (a .0)) (now (a .1 .0)) ⌝
+    sessions-requires = refl
+
+    pub sessions-ensures : listing.clauses 𝓤 H A mem run κs a .ensures tt r z
+        ≡ ⌜ ReadsSessions (now (a .0)) (now (a .1 .0)) (now (a .1 .1 .0)) r (now (z .1 .1 .0)) ⌝
+    sessions-ensures = refl
 
   -- splicer_7_read_streams(l, words, kept)
   module _ (κs : Lfts 3) (a : Args reads.signature κs) (r : Res reads.signature κs) (z : AtExit reads.ended κs) where
