@@ -177,7 +177,7 @@ left() {
         # the trace: fresh, then any calls, each result one that its contract allows
         words("Trace engine.Trace More Point Leads Run Beside FromFresh", trace)
         # what a contract allows: the code is proved to meet it, and Cited holds it to the source
-        words("Allowed AllowedAt Counts Primary ReadsMux ReadsFeed ReadsAir ReadsDue ReadsStep Pages ReadsList WritesList", trace)
+        words("Allowed AllowedAt Counts Primary ReadsMux ReadsFeed ReadsAir ReadsDue ReadsStep ReadsSessions Pages ReadsList WritesList", trace)
         words("Tells TellsFresh Remembers Forgets Recollects Judges Finds", trace)
         # what may stand in one of these beside names that are bound: then it is of any calls, of that kind
         words("anOpen aClose aMessage aTick aMove aCue aKnown anInstant aReading made ++ ∷", among)

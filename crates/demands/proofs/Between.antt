@@ -25,28 +25,12 @@ use Rattle.demands.specs.Told.{numberOf}
 
 -- ## Two stretches of time
 
--- s, having played n ninths
-abbrev havingPlayed : ℕ → Session → Session
-havingPlayed n s =
-    record {
-      conn = s .conn;
-      id = s .id;
-      prior = s .prior;
-      start = s .start;
-      end = s .end;
-      access = s .access;
-      overrides = s .overrides;
-      mux = s .mux;
-      event = s .event;
-      played = record { 0 = n };
-    }
-
 onAir-twice : (a b : ℕ) (k : List Session) → onAir a (onAir b k) ≡ onAir (b + a) k
 unfolding onAir
 onAir-twice a b [] = refl
 onAir-twice a b (s ∷ k) =
     let e : s .played .0 + b + a ≡ s .played .0 + (b + a) = omega arith in
-    ap (λ (n : ℕ). havingPlayed n s ∷ k) e
+    rw e
 
 elapse-twice : (a b : ℕ) (q : Queue) → elapse a (elapse b q) ≡ elapse (b + a) q
 unfolding elapse
@@ -231,7 +215,8 @@ module _ (s : Splicer) (mid until : ℕ) (h : s .clock ≤ mid) (le : mid ≤ un
       let n = s .clock in
       let r = run-two mid until le (toCome q) n q (omega arith) h in
       let d = silent-two mid until le (toCome q) n q (omega arith) h in
-      let p : s .primary + silentAll n mid q + silentAll mid until (runAll n mid q .queue) ≡ s .primary + silentAll n until q = omega (arith, d) in
+      let p : s .primary + silentAll n mid q + silentAll mid until (runAll n mid q .queue) ≡ s .primary + silentAll n until q =
+      omega (arith, d) in
       λ i. record { name = s .name; clock = until; primary = p i; links = s .links; hardware = s .hardware; queue = r i .queue }
 
   pub ticked-bytes : writtenBy (ticked mid s .answer) ++ writtenBy (ticked until (ticked mid s .splicer) .answer)
@@ -303,7 +288,8 @@ module _ (seconds micros room : ℕ) where
 -- ## "a good tick put in before a later one changes neither the bytes written by the two together nor the splicer after them"
 
 -- f is put in before g, and is good
-module _ (mid until : ℕ) (f g : Splicer → Called) (a : Brings mid f) (b : Brings until g) (s : Splicer) (z : numberOf (f s .answer) ≡ 0) where
+module _ (mid until : ℕ) (f g : Splicer → Called) (a : Brings mid f) (b : Brings until g) (s : Splicer)
+    (z : numberOf (f s .answer) ≡ 0) where
   here : (s .clock ≤ mid) × (f s ≡ ticked mid s)
   here = a .made s z
 

@@ -21,7 +21,7 @@ use Rattle.rules.proofs.All.{all-append, all-take, all-into}
 use Rattle.rules.proofs.Every.{all-both}
 use Rattle.rules.proofs.Count.{count-append, count-same}
 use Rattle.demands.specs.History.{Event, Entry, book}
-use Rattle.demands.specs.Airing.{Airing, airingsTold, numberTold}
+use Rattle.demands.specs.Airing.{Airing, newest, airingsTold, numberTold}
 use Rattle.demands.specs.Told.{FromFresh}
 use Rattle.demands.specs.Sessions.{HeldRow, rowIn, rowsIn, RowTold, rowIs, openAs, SessionsTold, Behind, Ranked, Led, InOrder}
 use Rattle.demands.proofs.Room.{from-sound}
@@ -147,41 +147,31 @@ abbrev Stands : List Event → Session → Type 0
 Stands h s = Waits (airingsTold h) s × Dated (book h []) s × (s .played .0 ≡ numberTold h (s .conn) (s .id))
 
 module _ (h : List Event) where
-  started-told : (now i : ℕ) (s : Session) → Starts h now s → RowTold h (rowOf (startedState i) s)
-  started-told now i s a =
-      let t = a .0 .told in
-      let d = a .1 in
+  -- b: its start was written
+  row-told : (b : Bool) (state : ℕ) (s : Session) → newest (s .conn) (s .id) (airingsTold h) ≡ airing b s → Dated (book h []) s
+      → s .played .0 ≡ numberTold h (s .conn) (s .id) → (b ≡ false → state ≡ stateWaiting)
+      → (b ≡ true → (state ≡ stateOnAir) ⊎ (state ≡ stateCovered)) → RowTold h (rowOf state s)
+  row-told b state s t d p w k =
       record {
         unended = ap (λ (x : Airing). x .over) t;
         start = sym (ap (λ (x : Airing). x .start) t);
         end = sym (ap (λ (x : Airing). x .end) t);
         access = sym (ap (λ (x : Airing). x .access) t);
-        played = a .2;
+        played = p;
         event = sym (d .2);
         prior = sym (d .3);
         overrides = sym (d .4);
         mux = sym (d .1);
-        waits = λ e. absurd (clash true refl (sym (ap (λ (x : Airing). x .begun) t) ∙ e));
-        began = λ e. started-is i;
+        waits = λ e. w (sym (ap (λ (x : Airing). x .begun) t) ∙ e);
+        began = λ e. k (sym (ap (λ (x : Airing). x .begun) t) ∙ e);
       }
 
+  started-told : (now i : ℕ) (s : Session) → Starts h now s → RowTold h (rowOf (startedState i) s)
+  started-told now i s a =
+      row-told true (startedState i) s (a .0 .told) (a .1) (a .2) (λ e. absurd (clash true refl e)) (λ e. started-is i)
+
   waiting-told : (i : ℕ) (s : Session) → Stands h s → RowTold h (rowOf (waitingState i) s)
-  waiting-told i s a =
-      let t = a .0 .told in
-      let d = a .1 in
-      record {
-        unended = ap (λ (x : Airing). x .over) t;
-        start = sym (ap (λ (x : Airing). x .start) t);
-        end = sym (ap (λ (x : Airing). x .end) t);
-        access = sym (ap (λ (x : Airing). x .access) t);
-        played = a .2;
-        event = sym (d .2);
-        prior = sym (d .3);
-        overrides = sym (d .4);
-        mux = sym (d .1);
-        waits = λ e. refl;
-        began = λ e. absurd (clash false (sym (ap (λ (x : Airing). x .begun) t) ∙ e) refl);
-      }
+  waiting-told i s a = row-told false (waitingState i) s (a .0 .told) (a .1) (a .2) (λ e. refl) (λ e. absurd (clash false e refl))
 
 -- ## As many
 

@@ -290,3 +290,10 @@ unchanged = refl
 pub cued : numberOf (call (cues section 0 0 0 4096) now .answer) ≡ 0
 unfolding computing
 cued = refl
+
+-- two good ticks, one behind the other, and the second alone
+pub ticks-good : (numberOf (call (ticks 5 0 4096) waiting .answer) ≡ 0)
+    × (numberOf (call (ticks 10 0 4096) (call (ticks 5 0 4096) waiting .splicer) .answer) ≡ 0)
+    × (numberOf (call (ticks 10 0 4096) waiting .answer) ≡ 0)
+unfolding computing
+ticks-good = (refl, refl, refl)

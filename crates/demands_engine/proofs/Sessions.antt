@@ -1,7 +1,7 @@
 -- The read of the sessions, and two ticks in a row, of every sequence of the engine's calls. n, after: whatever the read's contract allows,
 -- lent the words `lent`; proofs/Cited holds it to engine/src/lib.rt. Rests on demands' proofs/Sessions and proofs/Between.
-use mathlib.Core.Path.{_≡_, _∙_}
-use mathlib.Core.List.{List, [], _∷_, _++_}
+use mathlib.Core.Path.{_≡_}
+use mathlib.Core.List.{List, _++_}
 use Prim.Native.Nat.{ℕ, _/_, _≤_}
 use native.Mathlib.Omega.{arith}
 use lib.ListN.{length}
@@ -13,7 +13,7 @@ use Rattle.demands.proofs.Sessions as told
 use Rattle.demands.proofs.Between.{tick-brings, move-brings}
 use Rattle.engine.specs.Lent.{ReadsSessions}
 use Rattle.engine.proofs.Listed.{held-few}
-use Rattle.demands_engine.specs.Trace.{Memory, shown, aTick, aMove, Result, Made, made, Trace, More, number, bytesOf, events}
+use Rattle.demands_engine.specs.Trace.{Memory, shown, aTick, aMove, Result, Allowed, Made, Trace, More, number, bytesOf, events}
 use Rattle.demands_engine.proofs.Course.{trace-lent, trace-told}
 use Rattle.demands_engine.proofs.Between.{stays-good, joined}
 
@@ -39,7 +39,7 @@ module _ (name : List ℕ) (h : List Made) (m : Memory) (lent after : List ℕ) 
 -- a tick, good, and behind it another; alone: the second without the first
 module _ (name : List ℕ) (h : List Made) (m : Memory) (seconds micros seconds′ micros′ : ℕ) (e o : List ℕ) (one two alone : Result)
     (c : More name h m (aTick seconds micros e) one)
-    (d : More name (h ++ (made (aTick seconds micros e) one ∷ [])) (one .memory) (aTick seconds′ micros′ o) two)
+    (d : Allowed (one .memory) (aTick seconds′ micros′ o) two)
     (a : More name h m (aTick seconds′ micros′ o) alone) (z : number one ≡ 0) where
   -- "a good tick put in before a later one changes neither the bytes written by the two together nor the splicer after them"
   pub ticks-between : number two ≡ 0
@@ -47,7 +47,7 @@ module _ (name : List ℕ) (h : List Made) (m : Memory) (seconds micros seconds�
   ticks-between =
       joined (fromMicros (timeOf seconds micros) .0) (fromMicros (timeOf seconds′ micros′) .0) (tickCall seconds micros)
       (tickCall seconds′ micros′) m e o (tick-brings seconds micros (length e)) (tick-brings seconds′ micros′ (length o)) one two alone
-      (c .allowed) (d .allowed) (a .allowed) z
+      (c .allowed) d (a .allowed) z
 
   -- and one that is good alone, and not earlier, is good behind it
   pub later-stays-good : number alone ≡ 0 → fromMicros (timeOf seconds micros) .0 ≤ fromMicros (timeOf seconds′ micros′) .0
@@ -55,15 +55,15 @@ module _ (name : List ℕ) (h : List Made) (m : Memory) (seconds micros seconds�
   later-stays-good =
       stays-good (fromMicros (timeOf seconds micros) .0) (fromMicros (timeOf seconds′ micros′) .0) (tickCall seconds micros)
       (tickCall seconds′ micros′) m e o (tick-brings seconds micros (length e)) (tick-brings seconds′ micros′ (length o)) one two alone
-      (c .allowed) (d .allowed) (a .allowed) z
+      (c .allowed) d (a .allowed) z
 
 -- the same of the clock brought to instants in ninths
 module _ (name : List ℕ) (h : List Made) (m : Memory) (mid until : ℕ) (e o : List ℕ) (one two alone : Result)
     (c : More name h m (aMove mid e) one)
-    (d : More name (h ++ (made (aMove mid e) one ∷ [])) (one .memory) (aMove until o) two)
+    (d : Allowed (one .memory) (aMove until o) two)
     (a : More name h m (aMove until o) alone) (z : number one ≡ 0) where
   pub moves-between : number two ≡ 0
       → (number alone ≡ 0) × (bytesOf one ++ bytesOf two ≡ bytesOf alone) × (two .memory ≡ alone .memory)
   moves-between =
       joined mid until (moveCall mid) (moveCall until) m e o (move-brings mid (length e)) (move-brings until (length o)) one two alone
-      (c .allowed) (d .allowed) (a .allowed) z
+      (c .allowed) d (a .allowed) z

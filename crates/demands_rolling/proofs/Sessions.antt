@@ -1,8 +1,8 @@
--- The read of the sessions, and two readings in a row, of every sequence of the rolling card's calls. n, after: whatever the read's contract
--- allows, lent the words `lent`: the read is the door's. Rests on demands_engine's proofs of the same names: a good reading brings the clock
--- to an instant, and the steps of two add up, as each is far below the rollover.
+-- The read of the sessions, and two readings in a row, of every sequence of the rolling card's calls. n, after: whatever the read's
+-- contract allows, lent the words `lent`: the read is the door's. Rests on demands_engine's proofs of the same names: a good reading brings
+-- the clock to an instant, and the steps of two add up, as each is far below the rollover.
 use mathlib.Core.Path.{_≡_, refl, sym, ap, ap₂, subst, _∙_}
-use mathlib.Core.Bool.{Bool, true, cond}
+use mathlib.Core.Bool.{cond}
 use mathlib.Core.List.{List, [], _∷_, _++_}
 use Prim.Native.Nat.{ℕ, _+_, _≤_, _<_}
 use native.Mathlib.Omega.{arith}
@@ -11,21 +11,21 @@ use lib.ListN.{length}
 use borrow.Author.Tests.{ltb-false}
 use Rattle.rules.specs.Calls.{noRoom, ticked, moveCall, houseNumber}
 use Rattle.rules.specs.Rolling.{Last, none, at, Rolling, Rolled, stepOf, overStep, movedOn, pastField, Course, stepCourse, readingCourse}
-use Rattle.rules.specs.Rolling.{rolls, readingCall, readings, roll}
+use Rattle.rules.specs.Rolling.{rollingOf, rolls, readingCall, readings, roll}
 use Rattle.rules.proofs.Tests.{by}
 use Rattle.demands.specs.Told.{numberOf}
 use Rattle.demands.specs.Sessions.{rowsRead, SessionsTold, InOrder}
 use Rattle.demands.proofs.Between.{move-brings}
 use Rattle.engine.specs.Lent.{ReadsSessions}
 use Rattle.rolling.specs.LentRolling.{counterOf}
-use Rattle.door_rolling.specs.RollDoor.{RollInput, aReading, RollTyped, rollCallOf, RollSeen}
+use Rattle.door_rolling.specs.RollDoor.{aReading, RollTyped, RollSeen}
 use Rattle.demands_engine.specs.Trace as engine
 use Rattle.demands_engine.proofs.Steps.{number-read}
 use Rattle.demands_engine.proofs.Between.{joined}
 use Rattle.demands_engine.proofs.Sessions as called
 use Rattle.demands_door.specs.Driven.{inside}
 use Rattle.demands_door.proofs.Inside.{number-inside, bytes-inside}
-use Rattle.demands_rolling.specs.Rolled.{Memory, shown, LentAt, left, Made, made, AllowedAt, Trace, More, seenOf, number, bytesOf}
+use Rattle.demands_rolling.specs.Rolled.{Memory, shown, LentAt, left, Made, AllowedAt, Trace, More, seenOf, number, bytesOf}
 use Rattle.demands_rolling.specs.Rolled.{timeMade, events, within}
 use Rattle.demands_rolling.proofs.Inside.{Promised, promised, replies-of, state-is, step, trace-lent, trace-inside}
 
@@ -102,7 +102,7 @@ module _ (m : Memory) (l : LentAt m) (x : ℕ) (e : List ℕ) (r : RollSeen) (t 
   read : Read x (shown m) (roll (readings x (length e)) (shown m))
   read = reading-is x (length e) (shown m) good
 
-  state : shown (left r) ≡ record { splicer = roll (readings x (length e)) (shown m) .called .splicer; last = roll (readings x (length e)) (shown m) .last }
+  state : shown (left r) ≡ rollingOf (roll (readings x (length e)) (shown m))
   state = state-is m (aReading x e) r holds
 
   clock-is : until ≡ movedOn (shown m .splicer .clock) (read .last) x
@@ -126,7 +126,7 @@ module _ (m : Memory) (l : LentAt m) (x : ℕ) (e : List ℕ) (r : RollSeen) (t 
 -- a reading, good, and behind it another, good; alone: the second without the first, good too, for its step may be too long
 module _ (name : List ℕ) (h : List Made) (m : Memory) (x y : ℕ) (e o : List ℕ) (one two alone : RollSeen)
     (c : More name h m (aReading x e) one)
-    (d : More name (h ++ (made (aReading x e) one ∷ [])) (left one) (aReading y o) two)
+    (d : AllowedAt (left one) (aReading y o) two)
     (a : More name h m (aReading y o) alone) (z : number one ≡ 0) (w : number two ≡ 0) (v : number alone ≡ 0) where
   here : LentAt m
   here = trace-lent name h m (c .trace)
@@ -138,7 +138,7 @@ module _ (name : List ℕ) (h : List Made) (m : Memory) (x y : ℕ) (e o : List 
   one-read = read m here x e one (c .typed) (c .allowed) z
 
   two-read : Read y (shown (left one)) (roll (readings y (length o)) (shown (left one)))
-  two-read = read (left one) there y o two (d .typed) (d .allowed) w
+  two-read = read (left one) there y o two (a .typed) d w
 
   alone-read : Read y (shown m) (roll (readings y (length o)) (shown m))
   alone-read = read m here y o alone (a .typed) (a .allowed) v
@@ -147,7 +147,7 @@ module _ (name : List ℕ) (h : List Made) (m : Memory) (x y : ℕ) (e o : List 
   same-time : shown (left alone) .splicer .clock ≡ shown (left two) .splicer .clock
   same-time =
       let p = clock-is m here x e one (c .typed) (c .allowed) z in
-      let q = clock-is (left one) there y o two (d .typed) (d .allowed) w in
+      let q = clock-is (left one) there y o two (a .typed) d w in
       let r = clock-is m here y o alone (a .typed) (a .allowed) v in
       let i : two-read .last ≡ x = same-last _ _ (sym (two-read .was) ∙ last-is m here x e one (c .typed) (c .allowed) z) in
       let j : alone-read .last ≡ one-read .last = same-last _ _ (sym (alone-read .was) ∙ one-read .was) in
@@ -162,15 +162,15 @@ module _ (name : List ℕ) (h : List Made) (m : Memory) (x y : ℕ) (e o : List 
       let mid = shown (left one) .splicer .clock in
       let end = shown (left two) .splicer .clock in
       let p = moves m here x e one (c .typed) (c .allowed) z in
-      let q = moves (left one) there y o two (d .typed) (d .allowed) w in
+      let q = moves (left one) there y o two (a .typed) d w in
       let r = subst (λ (t : ℕ). engine.Allowed (m .core) (engine.aMove t o) (inside (seenOf alone))) same-time
       (moves m here y o alone (a .typed) (a .allowed) v) in
       let f = replies-of m (aReading x e) one (c .allowed) in
-      let g = replies-of (left one) (aReading y o) two (d .allowed) in
+      let g = replies-of (left one) (aReading y o) two d in
       let k = replies-of m (aReading y o) alone (a .allowed) in
       let j = joined mid end (moveCall mid) (moveCall end) (m .core) e o (move-brings mid (length e)) (move-brings end (length o))
       (inside (seenOf one)) (inside (seenOf two)) (inside (seenOf alone)) p q r (sym (number-inside f) ∙ z) (sym (number-inside g) ∙ w) in
-      let n = counter-is (left one) there y o two (d .typed) (d .allowed) w ∙ sym (counter-is m here y o alone (a .typed) (a .allowed) v) in (
+      let n = counter-is (left one) there y o two (a .typed) d w ∙ sym (counter-is m here y o alone (a .typed) (a .allowed) v) in (
         ap₂ _++_ (bytes-inside f) (bytes-inside g) ∙ j .1 ∙ sym (bytes-inside k),
         (λ i. record { core = j .2 i; counter = n i }),
       )
