@@ -1,6 +1,6 @@
 //! The card with a rolling counter: an instant and readings in place of ticks.
 
-use crate::{door, Air, Handled, Maps, Refusal, Row, Splicer};
+use crate::{door, Air, Handled, Maps, Refusal, Row, Sessions, Splicer};
 use crate::{BYTES, CONNECTIONS, NAME, ROWS, WORDS};
 use core::fmt;
 
@@ -178,6 +178,11 @@ impl RollingSplicer {
     /// As [`Splicer::ended`].
     pub fn ended(&self, rows: &mut [Row]) -> Result<(), Refusal> {
         self.core.ended(rows)
+    }
+
+    /// As [`Splicer::sessions`].
+    pub fn sessions(&self) -> Sessions {
+        self.core.sessions()
     }
 
     /// As [`Splicer::rows`].

@@ -178,9 +178,12 @@ started = refl
 
 -- ## One end
 
--- an accepted session with an end time, some ends, and whether its connection has closed since
+-- an accepted session with an end time, OverridePlaying, some ends, and whether its connection has closed since
+entryAs : (conn id end over ends : ℕ) → Bool → Entry
+entryAs c x t o n b = record { conn = c; id = x; end = t; mux = 5; event = 0; prior = 0xFFFFFFFF; overrides = o; ends = n; closed = b }
+
 entry : (conn id end ends : ℕ) → Bool → Entry
-entry c x t n b = record { conn = c; id = x; end = t; mux = 5; event = 0; prior = 0xFFFFFFFF; overrides = 0; ends = n; closed = b }
+entry c x t n b = entryAs c x t 0 n b
 
 -- one that has had no end, before its time and with its connection open; and one that has had its end
 ahead : {now : ℕ} (e : Entry) → e .ends ≡ 0 → T (not (leb (e .end) now)) → e .closed ≡ false → Ended now e
@@ -197,19 +200,19 @@ past e n = record { once = le-of-eq n; byTime = λ t. n; byClose = λ c. n }
 -- after the fourth call of the day, at 100, neither has come to its end; after the ninth, at 500, both have had it
 one-end : All (Ended (clockAfter (events (take 4 day)) 0)) (book (events (take 4 day)) [])
     × All (Ended (clockAfter (events (take 9 day)) 0)) (book (events (take 9 day)) [])
-unfolding step day events entry telling
+unfolding step day events entryAs entry telling
 one-end = (
-  (ahead (entry 1 1 280 0 false) refl tt refl, (ahead (entry 0 1 490 0 false) refl tt refl, tt)),
-  (past (entry 1 1 280 1 false) refl, (past (entry 0 1 490 1 false) refl, tt)),
+  (ahead (entryAs 1 1 280 1 0 false) refl tt refl, (ahead (entry 0 1 490 0 false) refl tt refl, tt)),
+  (past (entryAs 1 1 280 1 1 false) refl, (past (entry 0 1 490 1 false) refl, tt)),
 )
 
 -- not: a second end; none at its end time; none when its connection has closed. At its end time itself, and before it
 ended-not : (Ended 500 (entry 0 1 490 2 false) → ⊥) × (Ended 490 (entry 0 1 490 0 false) → ⊥) × (Ended 100 (entry 0 1 490 0 true) → ⊥)
-unfolding entry
+unfolding entryAs entry
 ended-not = (λ e. unordered 2 1 tt (e .once), λ e. unlike 0 1 tt (e .byTime (lit≤ tt)), λ e. unlike 0 1 tt (e .byClose refl))
 
 ended-before : Ended 489 (entry 0 1 490 0 false)
-unfolding entry
+unfolding entryAs entry
 ended-before = ahead (entry 0 1 490 0 false) refl tt refl
 
 -- ## A closed connection's sessions stand
@@ -243,7 +246,7 @@ unfolding closing reusing telling
 own = refl
 
 closed-stands : Stands 0 (book closing []) (book (closing ++ reusing) [])
-unfolding closing reusing entry telling
+unfolding closing reusing entryAs entry telling
 closed-stands = record { newer = entry 0 1 550 1 false ∷ []; same = refl; ended = (refl, (refl, tt)) }
 
 -- the ends of the oldest of a list
@@ -261,7 +264,7 @@ behind (e ∷ g ∷ l) m f = behind (g ∷ l) m f
 -- an end that comes too late counts for one that had its end: the incident. And one that has none at the close
 stands-not : (Stands 0 (book closing []) (book (closing ++ (late ∷ [])) []) → ⊥)
     × (Stands 1 (book closing []) (book closing []) → ⊥)
-unfolding closing late oldest entry telling
+unfolding closing late oldest entryAs entry telling
 stands-not = (
   λ s. unlike 2 1 tt (ap oldest (s .same) ∙ behind (s .newer) (entry 0 1 490 1 true ∷ []) (entry 0 2 910 1 true)),
   λ s. unlike 0 1 tt (s .ended .0),
