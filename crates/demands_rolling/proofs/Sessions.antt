@@ -134,13 +134,13 @@ module _ (name : List ℕ) (h : List Made) (m : Memory) (x y : ℕ) (e o : List 
   there : LentAt (left one)
   there = holds m here x e one (c .typed) (c .allowed) z .lent
 
-  one-read : Read x (shown m) (roll (readings x (length e)) (shown m))
+  abbrev one-read : Read x (shown m) (roll (readings x (length e)) (shown m))
   one-read = read m here x e one (c .typed) (c .allowed) z
 
-  two-read : Read y (shown (left one)) (roll (readings y (length o)) (shown (left one)))
+  abbrev two-read : Read y (shown (left one)) (roll (readings y (length o)) (shown (left one)))
   two-read = read (left one) there y o two (a .typed) d w
 
-  alone-read : Read y (shown m) (roll (readings y (length o)) (shown m))
+  abbrev alone-read : Read y (shown m) (roll (readings y (length o)) (shown m))
   alone-read = read m here y o alone (a .typed) (a .allowed) v
 
   -- the same instant
