@@ -1,6 +1,7 @@
 //! The read of the sessions, with values by hand from document 01.
 
-use splicer::{message_id, name, Session, Splicer, State, OUT};
+use splicer::{message_id, name, records, result, Refusal, Session, Splicer, State, OUT};
+use std::collections::BTreeMap;
 
 /// A second in ninths of a microsecond.
 const SECOND: u64 = 9_000_000;
@@ -114,4 +115,121 @@ fn started_ones_from_the_highest_down_then_those_that_wait_by_start() {
     };
     assert_eq!(channel.sessions().next(), Some(started));
     assert_eq!(channel.sessions().skip(1).collect::<Vec<_>>(), [next, last]);
+}
+
+/// What a driver knows of its sessions by connection and SessionID: what was asked, and by the state
+/// whether the start was written. The time on air is left 0.
+type Book = BTreeMap<(u32, u32), Session>;
+
+/// A number from 0 to n - 1.
+fn below(seed: &mut u64, n: u32) -> u32 {
+    *seed = seed.wrapping_mul(6364136223846793005).wrapping_add(1);
+    (*seed >> 33) as u32 % n
+}
+
+/// The starts and ends that records tell.
+fn hear(book: &mut Book, written: &[u8]) {
+    for record in records(written) {
+        let told = |at: usize| u32::from_be_bytes(record.data[at..at + 4].try_into().unwrap());
+        let complete = record.message_id == message_id::SPLICE_COMPLETE_RESPONSE;
+        if !complete && record.message_id != message_id::SPLICE_RESPONSE {
+            continue;
+        }
+        let key = (u32::from(record.connection), told(0));
+        if complete && record.data[4] == 0 && record.result == result::SUCCESSFUL {
+            book.get_mut(&key).expect("a start of one accepted").state = State::OnAir;
+        } else {
+            assert!(book.remove(&key).is_some(), "an end of one accepted");
+        }
+    }
+}
+
+/// A Splice_Request; accepted, it is in the book. Evictions stand before its own answer.
+fn request(channel: &mut Splicer, book: &mut Book, seed: &mut u64, now: u32) {
+    let (connection, session) = ([0, 3][below(seed, 2) as usize], below(seed, 12));
+    let linked = below(seed, 3) == 0;
+    let prior = if linked { below(seed, 12) } else { 0xFFFF_FFFF };
+    let (seconds, duration) = (now + 3 + below(seed, 8), 1 + below(seed, 6));
+    let (access, overrides, mux) = (below(seed, 10), below(seed, 2), 1 + below(seed, 10));
+    let event = below(seed, 1000);
+    let mut out = [0; OUT];
+    let numbers = [session, prior, seconds, duration, event];
+    let bytes = splice(numbers, [access as u8, overrides as u8], Some(mux as u8));
+    let handled = channel.message(connection, &bytes, &mut out).unwrap();
+    let start = match book.get(&(connection, prior)) {
+        Some(before) if linked => before.end,
+        _ => u64::from(seconds) * SECOND,
+    };
+    let own = records(handled.written).last().expect("its answer");
+    hear(
+        book,
+        &handled.written[..handled.written.len() - 2 - own.message.len()],
+    );
+    if own.result == result::SUCCESSFUL {
+        let new = Session {
+            start,
+            end: start + u64::from(duration) * SECOND,
+            played: 0,
+            connection,
+            session,
+            event,
+            prior: linked.then_some(prior),
+            access: access as u8,
+            overrides: overrides == 1,
+            mux: mux as u8,
+            state: State::Waiting,
+        };
+        assert_eq!(book.insert((connection, session), new), None);
+    }
+}
+
+/// The rows as the book has them, in their order.
+fn expected(book: &Book) -> Vec<Session> {
+    let all = book.values().copied();
+    let (mut started, mut waiting): (Vec<Session>, Vec<Session>) =
+        all.partition(|s| s.state != State::Waiting);
+    started.sort_by_key(|s| std::cmp::Reverse(s.access));
+    waiting.sort_by_key(|s| s.start);
+    for covered in started.iter_mut().skip(1) {
+        covered.state = State::Covered;
+    }
+    [started, waiting].concat()
+}
+
+#[test]
+fn rows_are_what_requests_and_records_tell() {
+    let (mut channel, mut out) = ready();
+    let (mut book, mut seed, mut now) = (Book::new(), 41, 1000);
+    let (mut most, mut covered) = (0, 0);
+    for _ in 0..20_000 {
+        match below(&mut seed, 8) {
+            0 => {
+                let (connection, session) =
+                    ([0, 3][below(&mut seed, 2) as usize], below(&mut seed, 12));
+                let abort = message(message_id::ABORT_REQUEST, &session.to_be_bytes());
+                let handled = channel.message(connection, &abort, &mut out).unwrap();
+                hear(&mut book, handled.written);
+            }
+            1 | 2 => {
+                now += below(&mut seed, 2);
+                let micros = below(&mut seed, 1_000_000);
+                match channel.tick(now, micros, &mut out) {
+                    Ok(written) => hear(&mut book, written),
+                    Err(refusal) => assert_eq!(refusal, Refusal::ClockBack),
+                }
+            }
+            _ => request(&mut channel, &mut book, &mut seed, now),
+        }
+        let rows: Vec<Session> = channel.sessions().collect();
+        let told: Vec<Session> = rows.iter().map(|s| Session { played: 0, ..*s }).collect();
+        assert_eq!(told, expected(&book));
+        let waits = |s: &&Session| s.state == State::Waiting;
+        assert!(rows.iter().filter(waits).all(|s| s.played == 0));
+        most = most.max(rows.len());
+        covered += rows.iter().filter(|s| s.state == State::Covered).count();
+    }
+    assert!(
+        most > 10 && covered > 1000,
+        "{most} at most, {covered} covered"
+    );
 }
