@@ -24,7 +24,7 @@ pub mod ToldCases
 pub mod ToldNumbers
 pub mod ToldRequests
 pub mod AlikeCases
-pub mod Listing
+pub mod HeldCases
 pub mod Case-01-card-cut-header
 pub mod Case-01-card-cut-mark
 pub mod Case-01-card-cut-message
