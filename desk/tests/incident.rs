@@ -37,7 +37,7 @@ fn the_example_day_with_a_wrong_end_is_named_by_its_call() {
     let kept = std::fs::read(&path).unwrap();
     assert!(made.out == kept, "desk join --text on the changed day");
     let found = model::check::check(&kept);
-    assert_eq!(found.line(), "call 45");
+    assert_eq!(found, model::check::Finding::Call(45));
     let ran = desk(&["check", "--raw", &path], b"");
     assert_eq!(ran.status, 1);
     let verdict = "87 calls, 1 call breaks the rules, first call 45 (byte 1893)\n";

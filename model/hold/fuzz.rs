@@ -158,7 +158,7 @@ pub fn faults(seed: u64, n: u64) -> Result<bool, String> {
             let (agreed, _, same) = agreement(&clean[index], &faulty.output());
             let read = clean[index].calls.iter().zip(&faulty.calls);
             // What is read shows in no record.
-            let other = read.take(agreed).position(|(own, found)| own.read() != found.read());
+            let other = read.take(agreed).position(|(own, found)| own.read != found.read);
             if !same || other.is_some() {
                 first = Some((index, other.unwrap_or(agreed) + 1));
                 break;

@@ -8,6 +8,7 @@ use crate::hold::compare;
 use crate::people::card;
 use crate::people::check::{check, Finding, Judged, LONGEST};
 use crate::people::recording::{entries, is_call, recorded, End};
+use crate::people::records::Line;
 use crate::people::scenario;
 use std::collections::BTreeMap;
 

@@ -53,6 +53,8 @@ pub const FLOORS: &Floors = &[
 /// What came of a stream on the second program.
 struct Played {
     outputs: Vec<Vec<u8>>,
+    /// The ticks to what is due, read after each call.
+    dues: Vec<(bool, u32)>,
     wrong: Option<String>,
 }
 
@@ -76,7 +78,7 @@ fn counted(stream: &Stream) -> (Played, Watch) {
 fn play_on(stream: &Stream, mut card: Rolling) -> Played {
     let (mut plain, _) = Splicer::fresh(&card::channel_name());
     let mut base = None;
-    let mut outputs = Vec::new();
+    let (mut outputs, mut dues) = (Vec::new(), Vec::new());
     let mut wrong = None;
     for (at, call) in stream.calls.iter().enumerate() {
         if at % 13 == 5 && !matches!(call, Call::Plain(_)) {
@@ -106,8 +108,9 @@ fn play_on(stream: &Stream, mut card: Rolling) -> Played {
             }
         }
         outputs.push(output);
+        dues.push((card.counting.due)(&card));
     }
-    Played { outputs, wrong }
+    Played { outputs, dues, wrong }
 }
 
 /// What a plain splicer writes for the call, ticked to the same clock. Nothing is to be compared of a
@@ -156,7 +159,10 @@ pub fn faults(seed: u64, n: u64) -> Result<bool, String> {
     let clean: Vec<Played> = streams.iter().map(|s| play(s, None)).collect();
     let mut unnoticed = 0;
     for (slip, text) in SLIPS {
-        let differs = |at: &usize| play(&streams[*at], Some(*slip)).outputs != clean[*at].outputs;
+        let differs = |at: &usize| {
+            let played = play(&streams[*at], Some(*slip));
+            (played.outputs, played.dues) != (clean[*at].outputs.clone(), clean[*at].dues.clone())
+        };
         match (0..streams.len()).find(differs) {
             Some(at) => println!("{slip:?} noticed in stream {at}: {text}"),
             None => {

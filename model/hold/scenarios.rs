@@ -1,25 +1,20 @@
 //! Scenario files run through the second program and the card program.
 
-use crate::descriptors::AVERAGE;
-use crate::ended::{Row, KEPT};
 use crate::hold::compare;
 use crate::people::card::{self, Call, Run};
+use crate::people::reads::Reads;
 use crate::people::records::{self, Line};
 use crate::people::rolling;
-use crate::people::scenario::{input_of, is_cued, is_rolling, parse, rolling_calls, rows_text, shown, Step};
+use crate::people::scenario::{input_of, is_cued, is_rolling, parse, rolling_calls, shown, Step};
 use crate::rules::{Splicer, ROOM};
 
 /// Holds what is read after the calls so far to the scenario. The text tells the first difference.
 pub fn read_difference(steps: &[Step], run: &Run) -> Option<String> {
-    let mut at = 0;
+    let (mut at, fresh) = (0, Reads::of(&Splicer::fresh(&card::channel_name()).0));
     for step in steps {
         at += step.input.len();
         let made = run.calls.iter().take_while(|done| done.to <= at);
-        let last = made.last();
-        let mux = last.map_or(AVERAGE, |done| done.mux);
-        let rows = last.map_or([Row::default(); KEPT], |done| done.rows);
-        let insertion = last.is_some_and(|done| done.insertion);
-        if let Some(text) = misread(step, mux, &rows, insertion) {
+        if let Some(text) = misread(step, made.last().map_or(&fresh, |done| &done.read)) {
             return Some(text);
         }
     }
@@ -27,15 +22,9 @@ pub fn read_difference(steps: &[Step], run: &Run) -> Option<String> {
 }
 
 /// Holds what is read here to one line of a scenario.
-fn misread(step: &Step, mux: u8, rows: &[Row; KEPT], insertion: bool) -> Option<String> {
-    let found = match (step.mux, step.rows, step.insertion) {
-        (Some(wanted), ..) if wanted != mux => format!("reads {mux}"),
-        (_, Some(wanted), _) if wanted != *rows => format!("reads {}", rows_text(rows)),
-        (.., Some(wanted)) if wanted != insertion => "gives the other".to_string(),
-        _ => return None,
-    };
-    let text = format!("  line {}: {}\n", step.line, step.text);
-    Some(format!("{text}    the second program {found}\n"))
+fn misread(step: &Step, reads: &Reads) -> Option<String> {
+    let found = step.misread(reads)?;
+    Some(format!("  line {}: {}\n    the second program reads {found}\n", step.line, step.text))
 }
 
 /// Holds one output to the scenario. The text tells the first difference.
@@ -99,8 +88,7 @@ pub(crate) fn run_cued(steps: &[Step]) -> Result<usize, String> {
         if let Some(text) = difference(std::slice::from_ref(step), "the second program", &output) {
             return Err(text);
         }
-        let (mux, insertion) = (splicer.mux(), splicer.insertion());
-        if let Some(text) = misread(step, mux, &splicer.rows(), insertion) {
+        if let Some(text) = misread(step, &Reads::of(&splicer)) {
             return Err(text);
         }
     }

@@ -5,6 +5,7 @@
 
 use crate::people::card::{self, Call, Done};
 use crate::people::decode::{agreement, differing, time_text};
+use crate::people::reads::Reads;
 use crate::people::records::{self, named, number, Item, Record, What};
 use crate::people::rolling::{self, Rolling};
 use crate::reading::{self, Request, SpliceFields};
@@ -63,14 +64,7 @@ pub fn as_rolled(calls: &[rolling::Call]) -> String {
     for call in calls {
         let output = card.shown(call);
         match call {
-            rolling::Call::Plain(call) => day.call(&Done {
-                call: call.clone(),
-                to: 0,
-                output,
-                mux: card.splicer.mux(),
-                rows: card.splicer.rows(),
-                insertion: card.splicer.insertion(),
-            }),
+            rolling::Call::Plain(call) => day.call(&Done { call: call.clone(), to: 0, output, read: Reads::of(&card.splicer) }),
             _ => {
                 day.clock = card.splicer.clock;
                 day.records(&records::items(&output));

@@ -1,9 +1,9 @@
 //! Runs of the card program, for comparing and for people.
 
-pub use rules::card::{channel_name, input_bytes, is_too_large, make, next_call, Call, Stop};
-use rules::ended::KEPT;
+use crate::people::reads::Reads;
+pub use rules::card::{channel_name, input_bytes, is_too_large, make, next_call, shown, Call, Stop};
 use rules::right::RIGHT;
-use rules::state::{Row, Rules, Splicer};
+use rules::state::{Rules, Splicer};
 
 /// Why the card program stopped, in words.
 pub fn stop_line(stop: Stop) -> &'static str {
@@ -21,19 +21,8 @@ pub struct Done {
     pub call: Call,
     pub to: usize,
     pub output: Vec<u8>,
-    /// The muxpriority value that is read after it (02, CR 5).
-    pub mux: u8,
-    /// The desk's page that is read after it (02, CR 8).
-    pub rows: [Row; KEPT],
-    /// Whether the insertion's map section is the one on air after it (02, CR 6).
-    pub insertion: bool,
-}
-
-impl Done {
     /// What is read after it.
-    pub fn read(&self) -> (u8, &[Row; KEPT], bool) {
-        (self.mux, &self.rows, self.insertion)
-    }
+    pub read: Reads,
 }
 
 /// A run of the card program.
@@ -57,8 +46,7 @@ pub fn run(input: &[u8]) -> Run {
 pub fn run_by(input: &[u8], rules: &'static Rules) -> Run {
     let mut calls = Vec::new();
     let (splicer, stop) = rules::card::run(input, rules, |splicer, call, to, output| {
-        let (mux, rows, insertion) = (splicer.mux(), splicer.rows(), splicer.insertion());
-        calls.push(Done { call, to, output, mux, rows, insertion });
+        calls.push(Done { call, to, output, read: Reads::of(splicer) });
     });
     Run { calls, stop, splicer }
 }

@@ -7,6 +7,18 @@ use crate::people::records::{self, Line};
 pub use rules::check::{check, checked, Finding, Judged, LONGEST};
 use rules::recording::{entries, End};
 
+/// The checker's line, without its end.
+impl Line for Finding {
+    fn line(&self) -> String {
+        match self {
+            Finding::None => "none".to_string(),
+            Finding::Call(number) => format!("call {number}"),
+            Finding::Unknown(place) => format!("refused 14 at {place}"),
+            Finding::Longer => "refused 15".to_string(),
+        }
+    }
+}
+
 /// What `model check` writes: the checker's line, then for people the call, and the due records and
 /// those found side by side.
 pub fn told(recording: &[u8]) -> (String, bool) {

@@ -9,6 +9,7 @@ pub mod cue;
 pub mod cues;
 pub mod decode;
 pub mod made;
+pub mod reads;
 pub mod recall;
 pub mod recording;
 pub mod records;

@@ -123,10 +123,7 @@ pub const ROWS: usize = 16;
 
 /// The page of the second program.
 pub fn model_rows(model: &rules::Splicer) -> [Row; ROWS] {
-    model.rows().map(|row| {
-        let (conn, result) = (row.conn.into(), row.result.into());
-        [row.kept.into(), conn, row.id, row.event, result, row.played]
-    })
+    model.rows().map(|row| row.map_or([0; 6], |row| [1, row.conn.into(), row.id, row.event, row.result.into(), row.played]))
 }
 
 /// The second program's answer. It keeps connections in a byte; 01 knows only "above 3".

@@ -4,6 +4,7 @@
 use model::hold::checker::{checked, LAPSES};
 use model::hold::recordings::{of_stream, Made, Tally};
 use model::people::check;
+use model::people::records::Line;
 use splicer::bench::{check, Finding};
 
 /// A mistake must be noticed within this many streams' recordings.

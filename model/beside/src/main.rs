@@ -21,7 +21,7 @@ mod second;
 mod wrong;
 
 use acts::Stream;
-use model::hold::faults::Fault;
+use model::hold::faults::{Fault, FAULTS};
 use model::option;
 use run::{Plan, Tally};
 use wrong::Wrong;
@@ -39,114 +39,22 @@ beside --fault NAME [--seed S]                        one deliberate fault, by i
 /// A fault must be noticed within this many streams.
 const FOR_A_FAULT: u64 = 64;
 
-/// Faults of the second program that the records alone give away, with no program to compare.
-const BOOKED: &[Fault] = &[
-    Fault::OnlyDirectFollower,
-    Fault::CountedAfterEviction,
-    Fault::EqualStartsWithoutFlag,
-    Fault::ThreeSecondsTooLate,
-    Fault::OwnCollisionsOnly,
-    Fault::CoveredEnd100,
-    Fault::NeverOnAirAgain,
-    Fault::OnePool,
-    Fault::TwentyOneWaiting,
-    Fault::AliveWholeSeconds,
-    Fault::EvictedAfterAnswer,
-    Fault::FollowersElsewhere,
-    Fault::FailedInitUndoes,
-    Fault::CueSilentBeforeInit,
-    Fault::LateBeforeNumbers,
-    Fault::CollisionBeforeLate,
-    Fault::EvictionLeavesFollowers,
-    Fault::AbortedFollowers109,
-    Fault::ReopenedInitialised,
-    Fault::ClockBeforeMicros,
-    Fault::LowestOnAirAgain,
-    Fault::EqualPassesWithoutFlag,
-    Fault::OthersNumbersHeld,
-    Fault::AliveOwnOnly,
-    Fault::InstantLeftOver,
-    Fault::PresentTimeRefused,
-    Fault::FailureLeavesFollowers,
-    Fault::ElevenReserved,
-    Fault::LinkedThreeSeconds,
-    Fault::CoveredEndMoves,
-    Fault::FullBeforeCollision,
-    Fault::CollisionInMicroseconds,
-    Fault::LinkedStartRounded,
-    Fault::NothingAfterClose,
-    Fault::ZeroAnsweredBeforeInit,
-    Fault::EqualRefused,
-    Fault::EqualEvicted125,
-    Fault::EqualFailsAtStart,
-    Fault::EqualCovered,
-    Fault::EqualResumed,
-    Fault::EqualFollowers109,
-    Fault::EqualLeavesFollowers,
-    Fault::EqualEnds100,
-    Fault::EqualEndsBehindStart,
-    Fault::PlayedInMicroseconds,
-    Fault::CoveredTimePlayed,
-    Fault::EqualPlayedToItsEnd,
-    Fault::AbortPlayedToItsEnd,
-    Fault::PrimaryWhileOnAir,
-    Fault::PrimaryLastStretch,
-    Fault::PrimaryFromTickStart,
-    Fault::PrimaryInTicks,
-    Fault::PrimaryNotWhileWaiting,
-    Fault::Length20Taken,
-    Fault::PidCountUnchecked,
-    Fault::PcrPidUnchecked,
-    Fault::PidUnchecked,
-    Fault::StreamTypeUnchecked,
-    Fault::SeparatePids110,
-    Fault::Descriptor255,
-    Fault::Descriptor3,
-    Fault::MuxValue0,
-    Fault::MuxValue11,
-    Fault::MuxLength6,
-    Fault::MuxAnyIdentifier,
-    Fault::MuxTag3,
-    Fault::MuxBadBeforeGood,
-    Fault::MuxFirstWins,
-    Fault::MuxWithoutOne0,
-    Fault::MuxLostAtOverride,
-    Fault::MuxZeroWithNone,
-    Fault::MuxOfTheLowest,
-    Fault::FifteenKept,
-    Fault::SeventeenKept,
-    Fault::SixteenOfEach,
-    Fault::NewestDropped,
-    Fault::RefusedKept,
-    Fault::FailedNotKept,
-    Fault::WaitedNotKept,
-    Fault::EndedAnswersResult,
-    Fault::CoveredPlayedLost,
-    Fault::EvictedKeptLast,
-    Fault::CloseDropsEnded,
-    Fault::OpenDropsEnded,
-    Fault::EventAt22,
-    Fault::AnothersEndFound,
-    Fault::OldestEndFound,
-    Fault::HeldAgain121,
-    Fault::EmptyDescriptor121,
-    Fault::Extended9Taken,
-    Fault::AnyTypeTaken,
-    Fault::RowsFromTheOldest,
-    Fault::Init66Taken,
-    Fault::HardwareAt64,
-    Fault::Length255Taken,
-    Fault::Length254Refused,
-    Fault::LengthNotCounted,
-    Fault::HardwareToTheEnd,
-    Fault::HardwarePastTheEnd,
-    Fault::FailedInitKept,
-    Fault::FirstHardwareKept,
-    Fault::OneHardware,
-    Fault::LengthLeftOut,
-    Fault::ConfigDataTaken,
-    Fault::MapAlwaysPrimary,
-    Fault::MapWhileWaiting,
+/// Faults of the second program that the records alone do not give away: they hold no order of records and no field that is
+/// read in another place to a sentence. All others must be noticed with no program to compare.
+const UNBOOKED: &[Fault] = &[
+    Fault::LowestEndsFirst,
+    Fault::StartBeforeEnds,
+    Fault::WholeNameCompared,
+    Fault::CoveredAbortCompletes,
+    Fault::CloseWaitingFirst,
+    Fault::LinkedMicrosChecked,
+    Fault::FollowersOfStarted,
+    Fault::FollowersLastFirst,
+    Fault::NextStructureTooFar,
+    Fault::TailAt18,
+    Fault::UnknownRateRefused,
+    Fault::CloseByNewState,
+    Fault::NameBeginsAlike,
 ];
 
 fn main() {
@@ -234,7 +142,8 @@ fn everything(plan: &Plan, list: &[Stream]) -> Vec<bool> {
         results.push(noticed(plan, list, wrong));
     }
     results.extend(lists::FAULTS.map(|fault| lists::noticed(plan.seed, fault)));
-    let faults = BOOKED.iter().map(|fault| Wrong::Model(*fault));
+    let booked_too = FAULTS.iter().filter(|(fault, _)| !UNBOOKED.contains(fault));
+    let faults = booked_too.map(|(fault, _)| Wrong::Model(*fault));
     let by_records: Vec<Wrong> = faults.chain(wrong::reporting()).collect();
     for wrong in &by_records {
         results.push(booked(list, *wrong));

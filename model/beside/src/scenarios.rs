@@ -3,11 +3,13 @@
 //! and `> rows` lines (02, CR 8) are held to it here.
 
 use crate::acts::LONGEST;
-use crate::calls::{ask_core, Call, Row, ROWS};
+use crate::calls::{ask_core, Call, Row};
 use crate::maps;
 use crate::pages;
 use crate::wrong::Wrong;
+use model::ended::Ended;
 use model::people::card;
+use model::people::reads::Reads;
 use model::people::scenario::{self, Step};
 use splicer::{name, Splicer};
 
@@ -62,28 +64,28 @@ fn run_file(path: &str) -> Result<Option<(usize, usize)>, String> {
         if found != step.expected {
             return Err(told(step, "wrote other bytes"));
         }
-        if step.mux.is_some_and(|wanted| wanted != core.mux()) {
-            return Err(told(step, &format!("reads {}", core.mux())));
-        }
-        if let Some(wanted) = step.insertion {
-            if maps::read(&core, step.line, Wrong::Nothing)? != wanted {
-                return Err(told(step, "gives the other section"));
-            }
-        }
-        if let Some(rows) = step.rows {
-            let wanted: [Row; ROWS] = rows.map(|row| {
-                let (conn, result) = (row.conn.into(), row.result.into());
-                [row.kept.into(), conn, row.id, row.event, result, row.played]
-            });
-            let found = pages::read(&core, step.line, Wrong::Nothing)?;
-            if found != wanted {
-                return Err(told(step, &format!("reads {found:?}")));
-            }
+        if let Some(found) = step.misread(&reads(&core, step.line)?) {
+            return Err(told(step, &format!("reads {found}")));
         }
     }
     let reads = steps.iter().filter(|step| step.is_read()).count();
     let cues = steps.iter().filter(|step| step.cue.is_some()).count();
     Ok(Some((reads, cues)))
+}
+
+/// All that is read of the core.
+fn reads(core: &Splicer, turn: usize) -> Result<Reads, String> {
+    let row = |[kept, conn, id, event, result, played]: Row| {
+        (kept == 1).then_some(Ended { conn: conn as u8, id, event, result: result as u16, played })
+    };
+    Ok(Reads {
+        mux: core.mux(),
+        insertion: maps::read(core, turn, Wrong::Nothing)?,
+        rows: pages::read(core, turn, Wrong::Nothing)?.map(row),
+        air: None,
+        due: None,
+        sessions: Vec::new(),
+    })
 }
 
 fn told(step: &Step, what: &str) -> String {

@@ -5,6 +5,7 @@ mod answers;
 mod cues;
 mod instants;
 mod reading;
+mod reads;
 mod rolling;
 
 use rules::right::{RIGHT, RULES};
@@ -184,6 +185,17 @@ mistakes! { Fault, FAULTS, Rules, RULES;
     ConfigDataTaken: "a GetConfig_Request with data answered", |r| r.reading.read_config = reading::config_data_taken;
     MapAlwaysPrimary: "the primary's map always", |r| r.insertion = |_| false;
     MapWhileWaiting: "the insertion's map while one waits", |r| r.insertion = answers::map_while_waiting;
+    AirBeforeTheLastChange: "time on air read without what has passed since the last change",
+        |r| r.air = reads::air_before_the_last_change;
+    AirOfTheLowest: "the lowest of the started read as on air", |r| r.air = reads::air_of_the_lowest;
+    DueWithoutStarts: "starts are not read as due", |r| r.due = reads::due_without_starts;
+    DueWithoutCovered: "a covered one's end is not read as due", |r| r.due = reads::due_without_covered;
+    DueBeforeTheLastSecond: "no tick reaches an instant of the last second", |r| r.due = reads::due_before_the_last_second;
+    DueRoundedDown: "the tick read is the one before an instant between two microseconds", |r| r.due = reads::due_rounded_down;
+    SessionsOneFewer: "one of the sessions is not read", |r| r.sessions = reads::sessions_one_fewer;
+    SessionsCoveredOnAir: "a covered session read as on air", |r| r.sessions = reads::sessions_covered_on_air;
+    SessionsByNumber: "the sessions read in order of their numbers", |r| r.sessions = reads::sessions_by_number;
+    SessionsAllTimed: "a linked session read as timed", |r| r.sessions = reads::sessions_all_timed;
 }
 
 // about cues
@@ -280,6 +292,11 @@ mistakes! { Slip, SLIPS, Card, Card { rules: RULES, counting: ::rules::rolling::
         |r| r.rules.too_late = rolling::late_in_microseconds;
     PlayedToTheMicrosecond: "an abort counts time on air up to the last whole microsecond",
         |r| r.rules.abort = rolling::played_to_the_microsecond;
+    TicksRoundedDown: "the ticks read are one too few", |r| r.counting.due = reads::ticks_rounded_down;
+    TicksBelowTheLimit: "8,100,000 ticks are not read as reached", |r| r.counting.due = reads::ticks_below_the_limit;
+    TicksBeforeTheInstant: "ticks are read before the instant is given", |r| r.counting.due = reads::ticks_before_the_instant;
+    TicksPastTheLastSecond: "ticks are read to a reading past the last second",
+        |r| r.counting.due = reads::ticks_past_the_last_second;
 }
 
 impl Fault {

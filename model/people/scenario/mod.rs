@@ -2,18 +2,19 @@
 
 mod calls;
 mod expected;
+mod read;
 mod words;
 
-use crate::ended::{Row, KEPT};
 use crate::people::card::{self, Call};
 use crate::people::cues::Given;
+use crate::people::reads::Reads;
 use crate::people::records::{self, Record};
 use crate::people::rolling;
 pub(crate) use calls::call_bytes;
 pub use calls::message;
 pub(crate) use expected::expected_bytes;
 pub use words::{hex_bytes, time, wide};
-use words::{number, small, words_of, Fields};
+use words::{number, words_of, Fields};
 
 /// One call of a scenario, its bytes, and the bytes it must write.
 #[derive(Debug, PartialEq, Eq)]
@@ -24,20 +25,23 @@ pub struct Step {
     pub expected: Vec<u8>,
     /// A call that only a rolling card has (02, CR 9): there is no card input of it.
     pub rolling: Option<rolling::Call>,
-    /// `> mux N`: no call of the card program, but what is read here (02, CR 5).
-    pub mux: Option<u8>,
     /// A cue call (02, CR 7): the card program has no mark of it.
     pub cue: Option<Given>,
-    /// `> rows ..`: no call of the card program either, but the desk's page here (02, CR 8).
-    pub rows: Option<[Row; KEPT]>,
-    /// `> map primary` or `insertion`: which lent section is the one on air here (02, CR 6).
-    pub insertion: Option<bool>,
+    /// `> mux N` and the like: no call of the card program, but what is read here.
+    pub read: Option<String>,
 }
 
 impl Step {
     /// Whether it is no call, but something that is read.
     pub fn is_read(&self) -> bool {
-        self.mux.is_some() || self.rows.is_some() || self.insertion.is_some()
+        self.read.is_some()
+    }
+
+    /// What is read here, if it is not what the line says.
+    pub fn misread(&self, reads: &Reads) -> Option<String> {
+        let wanted = self.read.as_ref()?;
+        let found = reads.text(wanted.split(' ').next().unwrap_or_default());
+        (found != *wanted).then_some(found)
     }
 }
 
@@ -70,13 +74,12 @@ pub fn parse(text: &str) -> Result<Vec<Step>, String> {
 
 /// A call, or something that is read.
 fn step_of(call: &str, line: usize, text: &str) -> Result<Step, String> {
-    let (rolling, cue) = (rolling_call(call)?, cue_call(call)?);
-    let (mux, rows, insertion) = (mux_word(call)?, rows_word(call)?, map_word(call)?);
-    let input = match (&rolling, mux, &cue, &rows, insertion) {
-        (None, None, None, None, None) => call_bytes(call)?,
+    let (rolling, cue, read) = (rolling_call(call)?, cue_call(call)?, read::wanted(call)?);
+    let input = match (&rolling, &cue, &read) {
+        (None, None, None) => call_bytes(call)?,
         _ => Vec::new(),
     };
-    Ok(Step { line, text: text.to_string(), input, expected: Vec::new(), rolling, mux, cue, rows, insertion })
+    Ok(Step { line, text: text.to_string(), input, expected: Vec::new(), rolling, cue, read })
 }
 
 /// `instant TIME reading=N` or `reading N`.
@@ -99,14 +102,6 @@ pub(crate) fn rolling_call(line: &str) -> Result<Option<rolling::Call>, String> 
     }
 }
 
-/// The value of `mux N`.
-fn mux_word(line: &str) -> Result<Option<u8>, String> {
-    match line.split_once(char::is_whitespace) {
-        Some(("mux", value)) => small(value.trim()).map(Some),
-        _ => Ok(None),
-    }
-}
-
 /// `cue HEX pts=N at=TIME`: a section, a PTS and the instant that belongs to it.
 pub(crate) fn cue_call(line: &str) -> Result<Option<Given>, String> {
     let words = words_of(line)?;
@@ -125,45 +120,6 @@ pub(crate) fn cue_call(line: &str) -> Result<Option<Given>, String> {
 /// Whether the scenario has cue calls, so that it is none of the card program.
 pub fn is_cued(steps: &[Step]) -> bool {
     steps.iter().any(|step| step.cue.is_some())
-}
-
-/// Whether `map` says `insertion`.
-fn map_word(line: &str) -> Result<Option<bool>, String> {
-    match line.split_once(char::is_whitespace) {
-        Some(("map", which)) => match which.trim() {
-            "primary" => Ok(Some(false)),
-            "insertion" => Ok(Some(true)),
-            other => Err(format!("neither primary nor insertion: {other}")),
-        },
-        _ => Ok(None),
-    }
-}
-
-/// The page of `rows C:ID:EVENT:RESULT:PLAYED ..`, the newest first; the rows behind are empty.
-fn rows_word(line: &str) -> Result<Option<[Row; KEPT]>, String> {
-    let words = words_of(line)?;
-    let Some((first, list)) = words.split_first().filter(|(first, _)| *first == "rows") else {
-        return Ok(None);
-    };
-    if list.len() > KEPT {
-        return Err(format!("{first} has more than {KEPT}"));
-    }
-    let mut rows = [Row::default(); KEPT];
-    for (row, word) in rows.iter_mut().zip(list) {
-        let parts: Vec<&str> = word.split(':').collect();
-        let [conn, id, event, result, played] = parts[..] else {
-            return Err(format!("five numbers are needed: {word}"));
-        };
-        *row = Row {
-            kept: true,
-            conn: small(conn)?,
-            id: number(id)?,
-            event: number(event)?,
-            result: u16::try_from(number(result)?).map_err(|_| "result too large")?,
-            played: number(played)?,
-        };
-    }
-    Ok(Some(rows))
 }
 
 /// Whether the scenario is one of a rolling card.
@@ -189,30 +145,6 @@ pub fn rolling_calls(steps: &[Step]) -> Result<Vec<rolling::Call>, String> {
 /// The card input of a scenario.
 pub fn input_of(steps: &[Step]) -> Vec<u8> {
     steps.iter().flat_map(|s| s.input.clone()).collect()
-}
-
-/// `C:ID:EVENT:RESULT:PLAYED`, or `-` of an empty one.
-fn row_text(row: &Row) -> String {
-    if *row == Row::default() {
-        return "-".to_string();
-    }
-    let number = records::number;
-    format!(
-        "{}{}:{}:{}:{}:{}",
-        if row.kept { "" } else { "empty " },
-        row.conn,
-        number(row.id),
-        number(row.event),
-        row.result,
-        row.played
-    )
-}
-
-/// A page in the words of a scenario, its last empty rows left out.
-pub fn rows_text(rows: &[Row; KEPT]) -> String {
-    let used = rows.iter().rposition(|row| *row != Row::default());
-    let texts = rows[..used.map_or(0, |last| last + 1)].iter().map(row_text);
-    format!("rows {}", texts.collect::<Vec<_>>().join(" "))
 }
 
 /// What a call writes, as the card program would show it.

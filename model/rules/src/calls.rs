@@ -11,8 +11,7 @@ pub fn text_of(name: &[u8; 32]) -> &[u8] {
     &name[..end]
 }
 
-/// "A fresh splicer has clock 0, all connections closed." "A refused fresh gives, with
-/// number 9, the splicer of an empty name."
+/// "A fresh splicer has clock 0, all connections closed." "A refused fresh gives, with number 9, the splicer of an empty name."
 pub fn fresh(name: &[u8; 32], rules: &'static Rules) -> (Splicer, Option<u8>) {
     let mut splicer = Splicer {
         name: [0; 32],
@@ -54,18 +53,20 @@ pub fn opened(s: &mut Splicer, conn: u8) {
     s.initialised[usize::from(conn)] = false;
 }
 
+/// What close and message look at first: "1, 2, 7".
+fn usable(s: &Splicer, conn: u8, room: usize) -> Result<(), u8> {
+    match (conn, room) {
+        (4.., _) => Err(1),
+        (_, ..ROOM) => Err(2),
+        _ if !s.open[usize::from(conn)] => Err(7),
+        _ => Ok(()),
+    }
+}
+
 /// "close 1, 2, 7".
 pub fn close(s: &mut Splicer, conn: u8, room: usize) -> Result<Vec<Record>, u8> {
     s.moved = 0;
-    if conn > 3 {
-        return Err(1);
-    }
-    if room < ROOM {
-        return Err(2);
-    }
-    if !s.open[usize::from(conn)] {
-        return Err(7);
-    }
+    usable(s, conn, room)?;
     let mut out = Vec::new();
     s.end_all_of(conn, &mut out);
     s.closed(conn);
@@ -83,15 +84,7 @@ pub fn closed(s: &mut Splicer, conn: u8) {
 pub fn message_with(s: &mut Splicer, conn: u8, bytes: &[u8], maps: &Maps, room: usize) -> Result<Said, u8> {
     // 02, CR 11: "A request not accepted reports 0."
     s.moved = 0;
-    if conn > 3 {
-        return Err(1);
-    }
-    if room < ROOM {
-        return Err(2);
-    }
-    if !s.open[usize::from(conn)] {
-        return Err(7);
-    }
+    usable(s, conn, room)?;
     if config::long_section(maps) {
         return Err(10);
     }

@@ -1,9 +1,8 @@
-//! 01, "The card program": records of standard input become calls, and what the calls write
-//! becomes standard output.
+//! 01, "The card program": records of standard input become calls, and what the calls write becomes standard output.
 
 use crate::bytes::{self, word};
 use crate::calls;
-use crate::state::{Rules, Splicer, LARGEST_SIZE, ROOM};
+use crate::state::{Rules, Said, Splicer, LARGEST_SIZE, ROOM};
 
 /// One call as the card program reads it.
 #[derive(Clone, Debug, PartialEq, Eq)]
@@ -52,8 +51,7 @@ pub fn run(input: &[u8], rules: &'static Rules, mut each: impl FnMut(&Splicer, C
     }
 }
 
-/// The first record of the input and its length. "It stops at the end, a cut record or
-/// another mark".
+/// The first record of the input and its length. "It stops at the end, a cut record or another mark".
 pub fn next_call(input: &[u8]) -> Result<(Call, usize), Stop> {
     let Some(mark) = input.first() else {
         return Err(Stop::End);
@@ -89,18 +87,24 @@ pub fn is_too_large(call: &Call) -> bool {
     matches!(call, Call::Message(_, bytes) if usize::from(bytes::half(bytes, 2)) > LARGEST_SIZE)
 }
 
-/// Makes the call. "It writes each call's output; a refusal is 0x45 and the number."
+/// Makes the call, and what the card program writes of it.
 pub fn make(splicer: &mut Splicer, call: &Call) -> Vec<u8> {
-    let result = match call {
-        Call::Open(conn) => splicer.open(*conn).map(|()| Vec::new()),
-        Call::Close(conn) => splicer.close(*conn, ROOM),
-        Call::Message(conn, bytes) => splicer.message(*conn, bytes, ROOM).map(|(out, _)| out),
-        Call::Tick(seconds, micros) => splicer.tick(*seconds, *micros, ROOM),
-    };
-    match result {
-        Ok(out) => bytes::all_bytes(&out),
-        Err(number) => vec![0x45, number],
+    shown(made(splicer, call, ROOM))
+}
+
+/// The call's records and the bytes consumed, or its house number.
+pub fn made(splicer: &mut Splicer, call: &Call, room: usize) -> Result<Said, u8> {
+    match call {
+        Call::Open(conn) => splicer.open(*conn).map(|()| Said::default()),
+        Call::Close(conn) => splicer.close(*conn, room).map(|out| (out, 0)),
+        Call::Message(conn, bytes) => splicer.message(*conn, bytes, room),
+        Call::Tick(seconds, micros) => splicer.tick(*seconds, *micros, room).map(|out| (out, 0)),
     }
+}
+
+/// "It writes each call's output; a refusal is 0x45 and the number."
+pub fn shown(said: Result<Said, u8>) -> Vec<u8> {
+    said.map_or_else(|number| vec![0x45, number], |(out, _)| bytes::all_bytes(&out))
 }
 
 /// The input record of a call.

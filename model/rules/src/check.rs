@@ -1,5 +1,4 @@
-//! The checker of 02, CR 14: it "names the first call whose records aren't those that the rules
-//! give, or says that there is none".
+//! The checker of 02, CR 14: it "names the first call whose records aren't those that the rules give, or says that there is none".
 
 use crate::card;
 use crate::recording::{entries, is_call, End, Entry};
@@ -17,18 +16,6 @@ pub enum Finding {
     Unknown(usize),
     /// "house number 15 for a longer recording"
     Longer,
-}
-
-impl Finding {
-    /// The checker's line, without its end.
-    pub fn line(self) -> String {
-        match self {
-            Finding::None => "none".to_string(),
-            Finding::Call(number) => format!("call {number}"),
-            Finding::Unknown(place) => format!("refused 14 at {place}"),
-            Finding::Longer => "refused 15".to_string(),
-        }
-    }
 }
 
 /// A call of a recording, what was found behind it and what was due.

@@ -25,8 +25,7 @@ pub fn keep_hardware(s: &mut Splicer, conn: u8, result: u16, hardware: &[u8]) {
     }
 }
 
-/// "Our card passes the map of the feed that is on air": the insertion's while a session is on air, of
-/// whatever connection.
+/// "Our card passes the map of the feed that is on air": the insertion's while a session is on air, of whatever connection.
 pub fn insertion(s: &Splicer) -> bool {
     s.on_air().is_some()
 }

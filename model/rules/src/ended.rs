@@ -1,5 +1,4 @@
-//! What ended lately (02, CR 8): the last 16 ended sessions, ExtendedData_Request over them, and the
-//! desk's page.
+//! What ended lately (02, CR 8): the last 16 ended sessions, ExtendedData_Request over them, and the desk's page.
 
 use crate::bytes::{Record, Shown, What};
 use crate::state::{By, Ended, Row, Session, Splicer, State};
@@ -20,8 +19,7 @@ pub fn remember(s: &mut Splicer, session: &Session, _: By, result: u16, played: 
     s.ended.push(Ended { conn, id, event, result, played });
 }
 
-/// "PlayedDuration (0 if never on air)", of an end whose record has none: waiting, or covered, when its time on air does
-/// not grow.
+/// "PlayedDuration (0 if never on air)", of an end whose record has none: waiting, or covered, when its time on air does not grow.
 pub fn unshown(_: &Splicer, session: &Session) -> u32 {
     match session.state {
         State::Waiting => 0,
@@ -31,7 +29,7 @@ pub fn unshown(_: &Splicer, session: &Session) -> u32 {
 
 /// "the asking connection's latest ended session of that number"
 pub fn latest_ended(s: &Splicer, conn: u8, id: u32) -> Option<Ended> {
-    s.ended.iter().rev().find(|ended| ended.conn == conn && ended.id == id).cloned()
+    s.ended.iter().rev().find(|ended| ended.conn == conn && ended.id == id).copied()
 }
 
 /// "answered with [it], in one descriptor of ours"; "121 with the SessionID alone where none is kept". It changes nothing.
@@ -41,22 +39,14 @@ pub fn extended(s: &mut Splicer, conn: u8, id: u32, out: &mut Vec<Record>) {
     out.push(Record { conn, what: What::Extended { result, id, shown } });
 }
 
-impl From<&Ended> for Row {
-    fn from(ended: &Ended) -> Row {
-        let Ended { conn, id, event, result, played } = *ended;
-        Row { kept: true, conn, id, event, result, played }
-    }
-}
-
 /// "For the desk's page the caller lends sixteen rows and they are filled from the newest down, unused
 /// rows marked empty, numbers 0." Refused, nothing is written. It only reads.
 pub fn page(s: &Splicer, rows: &mut [Row]) -> Result<(), u8> {
     if rows.len() != KEPT {
         return Err(NOT_SIXTEEN);
     }
-    rows.fill(Row::default());
-    for (row, ended) in rows.iter_mut().zip(s.ended.iter().rev()) {
-        *row = Row::from(ended);
+    for (place, row) in rows.iter_mut().enumerate() {
+        *row = s.ended.iter().rev().nth(place).copied();
     }
     Ok(())
 }
@@ -64,7 +54,7 @@ pub fn page(s: &Splicer, rows: &mut [Row]) -> Result<(), u8> {
 impl Splicer {
     /// The page, with sixteen rows lent.
     pub fn rows(&self) -> [Row; KEPT] {
-        let mut rows = [Row::default(); KEPT];
+        let mut rows = [None; KEPT];
         let filled = self.page(&mut rows);
         debug_assert_eq!(filled, Ok(()));
         rows

@@ -23,9 +23,8 @@ pub fn splice_response(s: &mut Splicer, session: &Session, result: u16, out: Out
     s.remember(session, By::Splice, result, played);
 }
 
-/// "Followers of a session are the waiting ones that reach it through PriorSession, link
-/// by link and over waiting ones only, within its connection (a started session's
-/// PriorSession no longer counts [...])". "in order of start"
+/// "Followers of a session are the waiting ones that reach it through PriorSession, link by link and over waiting ones only, within
+/// its connection (a started session's PriorSession no longer counts [...])". "in order of start"
 pub fn followers(s: &Splicer, of: &Session) -> Vec<Session> {
     let (mut found, mut reached, mut next) = (Vec::new(), vec![of.id], 0);
     while next < reached.len() {
@@ -65,8 +64,7 @@ pub fn abort(s: &mut Splicer, conn: u8, id: u32, out: Out) {
     }
 }
 
-/// "An aborted session on air ends with SpliceComplete flag 1, result 116; a covered or
-/// waiting one with Splice_Response 116."
+/// "An aborted session on air ends with SpliceComplete flag 1, result 116; a covered or waiting one with Splice_Response 116."
 pub fn aborted_end(s: &mut Splicer, session: &Session, out: Out) {
     if session.state == State::OnAir {
         let time = s.time_on_air(session, s.clock);
@@ -76,9 +74,8 @@ pub fn aborted_end(s: &mut Splicer, session: &Session, out: Out) {
     }
 }
 
-/// "Close ends, as by abort, the connection's started sessions from the highest AccessType
-/// down, each by what it was before the close (on air or covered), then all its waiting
-/// ones by start, followers among them, each once".
+/// "Close ends, as by abort, the connection's started sessions from the highest AccessType down, each by what it was before the
+/// close (on air or covered), then all its waiting ones by start, followers among them, each once".
 pub fn end_all_of(s: &mut Splicer, conn: u8, out: Out) {
     let own = s.sessions.iter().filter(|session| session.conn == conn).cloned();
     let (mut waiting, mut started): (Vec<Session>, Vec<Session>) = own.partition(|s| s.state == State::Waiting);

@@ -24,8 +24,7 @@ pub fn next_instant(s: &Splicer, until: u64) -> Option<u64> {
     s.sessions.iter().map(time).filter(|time| *time <= until).min()
 }
 
-/// "At one instant, ends come first, from the highest AccessType down, then the one
-/// possible start."
+/// "At one instant, ends come first, from the highest AccessType down, then the one possible start."
 pub fn instant(s: &mut Splicer, time: u64, out: Out) {
     let start = s.waiting_at(time).cloned();
     s.ends(time, out);
@@ -34,8 +33,7 @@ pub fn instant(s: &mut Splicer, time: u64, out: Out) {
     }
 }
 
-/// The ends of one instant. "When the one on air ends, the highest covered session not ending at that instant is on air
-/// again".
+/// The ends of one instant. "When the one on air ends, the highest covered session not ending at that instant is on air again".
 pub fn ends(s: &mut Splicer, time: u64, out: Out) {
     let ending = s.ending(time);
     for session in &ending {
@@ -55,8 +53,7 @@ pub fn ending(s: &Splicer, time: u64) -> Vec<Session> {
     all
 }
 
-/// "End: SpliceComplete flag 1; result 100 if it was on air just before the instant, 125
-/// if covered."
+/// "End: SpliceComplete flag 1; result 100 if it was on air just before the instant, 125 if covered."
 pub fn end(s: &mut Splicer, session: &Session, time: u64, out: Out) {
     let result = if session.state == State::OnAir { 100 } else { 125 };
     let time = s.time_on_air(session, time);

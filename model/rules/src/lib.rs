@@ -13,6 +13,7 @@ pub mod ended;
 pub mod ends;
 pub mod instants;
 pub mod reading;
+pub mod reads;
 pub mod recall;
 pub mod recording;
 pub mod requests;

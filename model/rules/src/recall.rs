@@ -15,8 +15,7 @@ pub const LEAST_FREE: usize = 4_098;
 /// "house number 13 from this engine alone"
 pub const FULL: u8 = 13;
 
-/// What a call gave: its house number or 0, the bytes consumed and written, and the places that an acceptance
-/// shifted (02, CR 11).
+/// What a call gave: its house number or 0, the bytes consumed and written, and the places that an acceptance shifted (02, CR 11).
 #[derive(Clone, Copy, Debug, Default, PartialEq, Eq)]
 pub struct Reply {
     pub refused: u8,
@@ -31,8 +30,7 @@ impl Reply {
     }
 }
 
-/// A call, with what is lent to it beside the log and the output buffer. "Cues and the rolling counter aren't
-/// among its calls."
+/// A call, with what is lent to it beside the log and the output buffer. "Cues and the rolling counter aren't among its calls."
 #[derive(Clone, Copy, Debug, PartialEq, Eq)]
 pub enum Asked<'c> {
     Fresh,
@@ -60,8 +58,7 @@ pub fn call(log: &mut [u8], asked: &Asked, out: &mut [u8]) -> Reply {
     }
 }
 
-/// The rules' answer after the calls in the log. "A good call is appended, a refused one is not and leaves the
-/// log as it was."
+/// The rules' answer after the calls in the log. "A good call is appended, a refused one is not and leaves the log as it was."
 fn answered(log: &mut [u8], asked: &Asked, out: &mut [u8]) -> Reply {
     let list = list(log);
     // "before all others"

@@ -19,8 +19,7 @@ pub fn is_call(mark: u8) -> bool {
     matches!(mark, 0x4F | 0x43 | 0x4D | 0x54)
 }
 
-/// The entry at the front of bytes that are not empty. "A message header with MessageSize above
-/// 4,088 ends its record."
+/// The entry at the front of bytes that are not empty. "A message header with MessageSize above 4,088 ends its record."
 pub fn first(rest: &[u8]) -> First {
     let needs = match rest[0] {
         0x4F | 0x43 | 0x45 => 2,

@@ -2,7 +2,7 @@
 
 use crate::requests::Reading;
 use crate::state::{Rules, Splicer};
-use crate::{answers, calls, config, cue, descriptors, ended, ends, instants, reading, sections, splice, streams};
+use crate::{answers, calls, config, cue, descriptors, ended, ends, instants, reading, reads, sections, splice, streams};
 
 macro_rules! right {
     ($kind:ident { $($field:ident: $value:expr,)* } $($module:ident: $($name:ident)*;)*) => {
@@ -28,6 +28,7 @@ pub const RULES: Rules = right! {
     config: mux keep_hardware insertion config;
     cue: cue cue_refused cue_to;
     ended: remember unshown latest_ended extended page;
+    reads: air due sessions;
 };
 
 /// All of them in one place.

@@ -1,8 +1,7 @@
-//! 02, CR 9: the card without a UTC clock, whose 32-bit counter of 90 kHz ticks rolls over. "Given a
-//! UTC instant and a reading once, later readings move the clock on by the difference, taken
-//! through the rollover."
+//! 02, CR 9: the card without a UTC clock, whose 32-bit counter of 90 kHz ticks rolls over. "Given a UTC instant and a reading
+//! once, later readings move the clock on by the difference, taken through the rollover."
 
-use crate::bytes::{all_bytes, Record};
+use crate::bytes::Record;
 use crate::right::RIGHT as RULES;
 use crate::state::{Rules, Said, Splicer, ROOM};
 use crate::times::{ninths, HORIZON, TICK};
@@ -31,9 +30,11 @@ pub struct Counting {
     pub step: fn(u32, u32) -> u32,
     /// Where such a step brings this clock; none if it is refused.
     pub brought: fn(u64, u32) -> Option<u64>,
+    /// What a driver that sleeps reads.
+    pub due: fn(&Rolling) -> (bool, u32),
 }
 
-pub const COUNTING: Counting = Counting { instant, reading, step, brought };
+pub const COUNTING: Counting = Counting { instant, reading, step, brought, due };
 
 /// A rolling card: a splicer and, once the instant was given, the last reading.
 #[derive(Clone)]
@@ -61,7 +62,7 @@ pub fn instant(card: &mut Rolling, (seconds, micros): (u32, u32), reading: u32, 
 }
 
 /// "later readings move the clock on by the difference"; 12 for "a reading before the instant is given".
-pub fn reading(card: &mut Rolling, reading: u32, room: usize) -> Result<Vec<Record>, u8> {
+pub fn reading(card: &mut Rolling, reading: u32, room: usize) -> Told {
     card.splicer.moved = 0;
     if room < ROOM {
         return Err(2);
@@ -84,6 +85,16 @@ pub fn brought(clock: u64, step: u32) -> Option<u64> {
     (step <= LIMIT && until < HORIZON).then_some(until)
 }
 
+/// "1 and the 90 kHz ticks after the last good reading; 0 and 8,100,000, by when the counter must be read anyway; before
+/// the instant is given 0 and 8,100,000": told of a reading that is good alone, as the reason in the text has it.
+pub fn due(card: &Rolling) -> (bool, u32) {
+    let clock = card.splicer.clock;
+    let ticks = |(instant, _): (u64, _)| u32::try_from((instant - clock).div_ceil(TICK)).ok();
+    let good = |step: &u32| (card.counting.brought)(clock, *step).is_some();
+    let due = card.last.and(card.splicer.due()).and_then(ticks).filter(good);
+    due.map_or((false, LIMIT), |step| (true, step))
+}
+
 impl Rolling {
     pub fn fresh(name: &[u8; 32]) -> (Rolling, Option<u8>) {
         Rolling::fresh_by(name, &RULES, &COUNTING)
@@ -98,10 +109,8 @@ impl Rolling {
     pub fn make(&mut self, call: &Call, room: usize) -> Result<Said, u8> {
         let alone = |out: Vec<Record>| (out, 0);
         match call {
-            Call::Plain(card::Call::Open(conn)) => self.splicer.open(*conn).map(|()| alone(Vec::new())),
-            Call::Plain(card::Call::Close(conn)) => self.splicer.close(*conn, room).map(alone),
-            Call::Plain(card::Call::Message(conn, bytes)) => self.splicer.message(*conn, bytes, room),
             Call::Plain(card::Call::Tick(..)) => panic!("this card has no tick"),
+            Call::Plain(call) => card::made(&mut self.splicer, call, room),
             Call::Instant { seconds, micros, reading } => {
                 (self.counting.instant)(self, (*seconds, *micros), *reading, room).map(alone)
             }
@@ -111,9 +120,6 @@ impl Rolling {
 
     /// What the call writes, as the card program would: its records, or 0x45 and the number.
     pub fn shown(&mut self, call: &Call) -> Vec<u8> {
-        match self.make(call, ROOM) {
-            Ok((out, _)) => all_bytes(&out),
-            Err(number) => vec![0x45, number],
-        }
+        card::shown(self.make(call, ROOM))
     }
 }

@@ -1,6 +1,7 @@
 //! 02, CR 7: what comes of a section of SCTE 35, "first that applies", and the time that is written. The source
 //! documents have no sections: docs/SCTE35.md says how they are read, and its sentences stand here.
 
+use crate::bytes::word;
 use crate::times::{ninths, wire, HORIZON, NONE, TICK};
 
 /// "11 for a section not 3 + section_length bytes long, under 20 or over 512".
@@ -132,8 +133,7 @@ pub fn judged(r: &Sections, section: &[u8]) -> Verdict {
     }
 }
 
-/// (ii) "table_id not 0xFC, or encrypted_packet 1: nothing"; (iii) "splice_command_type other than 0x00,
-/// 0x05, 0x06: nothing".
+/// (ii) "table_id not 0xFC, or encrypted_packet 1: nothing"; (iii) "splice_command_type other than 0x00, 0x05, 0x06: nothing".
 pub fn passed_over(_: &Sections, section: &[u8]) -> Option<Verdict> {
     if section[0] != 0xFC {
         return Some((Comes::Nothing, "nothing: another table"));
@@ -201,8 +201,7 @@ pub fn splice_insert(r: &Sections, section: &[u8], command: &[u8]) -> Result<Syn
     }
 }
 
-/// (iv) "a splice_insert that is not cancelled and has program_splice_flag 0: nothing, even if its
-/// lengths are wrong".
+/// (iv) "a splice_insert that is not cancelled and has program_splice_flag 0: nothing, even if its lengths are wrong".
 pub fn component_mode(_: &Sections, _: &[u8]) -> Verdict {
     (Comes::Nothing, "nothing: component mode")
 }
@@ -264,8 +263,7 @@ pub fn moment(r: &Sections, section: &[u8], time: Option<u64>) -> Comes {
 
 /// "bit 32 is the lowest bit of byte 4 (0x01), the others are bytes 5 to 8".
 pub fn adjustment(_: &Sections, section: &[u8]) -> u64 {
-    let low = u32::from_be_bytes([section[5], section[6], section[7], section[8]]);
-    u64::from(section[4] & 1) << 32 | u64::from(low)
+    u64::from(section[4] & 1) << 32 | u64::from(word(section, 5))
 }
 
 /// The ticks from the given PTS to the cue's: "the first one at or after that PTS". 2^64 is a multiple of 2^33.

@@ -32,8 +32,7 @@ pub fn splice_result(s: &Splicer, conn: u8, fields: &SpliceFields) -> u16 {
     100
 }
 
-/// b. "121: SessionID 0xFFFFFFFF or already held by this connection; or PriorSession
-/// neither 0xFFFFFFFF nor held by it."
+/// b. "121: SessionID 0xFFFFFFFF or already held by this connection; or PriorSession neither 0xFFFFFFFF nor held by it."
 pub fn wrong_number(s: &Splicer, conn: u8, fields: &SpliceFields) -> bool {
     let held = |id: u32| s.held(conn, id).is_some();
     fields.id == NONE || held(fields.id) || !(fields.prior == NONE || held(fields.prior))
@@ -64,9 +63,8 @@ pub fn queue_full(s: &Splicer, conn: u8, _: &SpliceFields) -> bool {
     own >= 20 || (own >= 10 && sum >= 64)
 }
 
-/// f. "100. A waiting session with the same start, then lower, is evicted first: it and
-/// its waiting followers end (109), written before the 100." "End is start plus Duration."
-/// 02, CR 4: "f evicts the waiting equal as it does a lower one".
+/// f. "100. A waiting session with the same start, then lower, is evicted first: it and its waiting followers end (109), written
+/// before the 100." "End is start plus Duration." 02, CR 4: "f evicts the waiting equal as it does a lower one".
 pub fn accept(s: &mut Splicer, conn: u8, fields: &SpliceFields, out: Out) {
     let start = s.start_of(conn, fields);
     s.evict(start, fields.access, out);

@@ -41,7 +41,7 @@ pub struct Session {
 }
 
 /// 02, CR 8: "connection, SessionID, SpliceEventID, result, PlayedDuration".
-#[derive(Clone, Debug, PartialEq, Eq)]
+#[derive(Clone, Copy, Debug, PartialEq, Eq)]
 pub struct Ended {
     pub conn: u8,
     pub id: u32,
@@ -57,16 +57,11 @@ pub enum By {
     Splice,
 }
 
-/// A row of the desk's page (02, CR 8). "unused rows marked empty, numbers 0"
-#[derive(Clone, Copy, Debug, Default, PartialEq, Eq)]
-pub struct Row {
-    pub kept: bool,
-    pub conn: u8,
-    pub id: u32,
-    pub event: u32,
-    pub result: u16,
-    pub played: u32,
-}
+/// A row of the desk's page (02, CR 8). "unused rows marked empty, numbers 0": none.
+pub type Row = Option<Ended>;
+
+/// What is due next: its instant, and Seconds and MicroSeconds of the first tick that reaches it, if one does.
+pub type Due = (u64, Option<(u32, u32)>);
 
 /// 02, CR 6: "the caller lends both sections, the primary's and the insertion's".
 #[derive(Clone, Copy, Debug, Default, PartialEq, Eq)]
@@ -205,6 +200,10 @@ table! {
     page[&](rows: &mut [Row]) -> Result<(), u8>;
     /// 02, CR 13.
     pass[&mut](from: u64, to: u64);
+    // What a driver that sleeps reads.
+    air[&]() -> Option<Session>;
+    due[&]() -> Option<Due>;
+    sessions[&]() -> Vec<Session>;
 }
 
 /// Questions that several rules ask.

@@ -2,6 +2,7 @@
 
 use crate::people::check::{check, told, Finding};
 use crate::people::recording::{entries, is_call, of_steps, recorded};
+use crate::people::records::Line;
 use crate::people::scenario::parse;
 
 fn hex(text: &str) -> Vec<u8> {

@@ -9,6 +9,7 @@ mod ended;
 mod moved;
 mod primary;
 mod reading;
+mod reads;
 mod recall;
 mod recording;
 mod records;

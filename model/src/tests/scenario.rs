@@ -1,6 +1,5 @@
 //! The scenario format.
 
-use crate::ended::{Row, KEPT};
 use crate::hold::scenarios::{difference, read_difference, run_cued, run_rolling};
 use crate::people::card;
 use crate::people::records::hex;
@@ -102,6 +101,9 @@ fn wrong_lines_are_told() {
     assert!(parse("> map").is_err());
     assert!(parse("> map both").is_err());
     assert!(parse("> map primary\n< refused 1").is_err());
+    for line in ["air", "air 1:2", "due", "due 1 2.000000 3", "due 1 2.5", "sessions 1", "sessions on:0:1:2:3:4:5:6:7:8:9"] {
+        assert!(parse(&format!("> {line}")).is_err(), "{line}");
+    }
     assert!(parse("open 1").is_err());
 }
 
@@ -195,7 +197,7 @@ fn a_value_is_read_after_the_calls_so_far() {
     for line in [1, 4, 6, 8, 10] {
         let mut other = parse(text).unwrap();
         let step = other.iter_mut().find(|step| step.line == line).unwrap();
-        step.mux = Some(9);
+        step.read = Some("mux 9".to_string());
         let told = read_difference(&other, &run).unwrap();
         assert!(told.contains(&format!("line {line}: > mux")), "{told}");
     }
@@ -211,7 +213,8 @@ fn a_map_is_given_after_the_calls_so_far() {
     for line in [1, 5, 7, 9] {
         let mut other = parse(text).unwrap();
         let step = other.iter_mut().find(|step| step.line == line).unwrap();
-        step.insertion = step.insertion.map(|insertion| !insertion);
+        let flipped = |read: String| ["map primary", "map insertion"][usize::from(read == "map primary")].to_string();
+        step.read = step.read.take().map(flipped);
         let told = read_difference(&other, &run).unwrap();
         assert!(told.contains(&format!("line {line}: > map")), "{told}");
     }
@@ -227,12 +230,12 @@ fn a_page_is_read_after_the_calls_so_far() {
     for line in [1, 5, 7] {
         let mut other = parse(text).unwrap();
         let step = other.iter_mut().find(|step| step.line == line).unwrap();
-        step.rows = Some([Row { kept: true, ..Row::default() }; KEPT]);
+        step.read = Some("rows 0:0:0:0:0".to_string());
         let told = read_difference(&other, &run).unwrap();
         assert!(told.contains(&format!("line {line}: > rows")), "{told}");
     }
     let mut other = parse(text).unwrap();
-    other.iter_mut().find(|s| s.line == 7).unwrap().rows = Some([Row::default(); KEPT]);
+    other.iter_mut().find(|s| s.line == 7).unwrap().read = Some("rows".to_string());
     let told = read_difference(&other, &run).unwrap();
     assert!(told.ends_with("reads rows 0:1:7:100:90000\n"), "{told}");
     assert!(parse("> rows 0:1:7:100").is_err());
