@@ -37,6 +37,7 @@ pub fn stream(seed: u64, index: u64) -> Stream {
         long_run(&mut gen);
     }
     rolled_over(&mut gen);
+    at_the_limit(&mut gen);
     let calls = gen.rolling.take().map_or(Vec::new(), |rolls| rolls.calls);
     Stream { calls, whole }
 }
@@ -309,4 +310,20 @@ fn rolled_over(gen: &mut Gen) {
         step(gen, ticks);
         alive(gen);
     }
+}
+
+/// One session alone that starts a tick behind the longest step, and then one that starts as far on as a reading may be.
+fn at_the_limit(gen: &mut Gen) {
+    (0..4).for_each(|conn| gen.call(card::Call::Close(conn)));
+    for ticks in [LIMIT + 1, LIMIT] {
+        gen.ready(0);
+        let at = (gen.model.clock + u64::from(ticks) * TICK) / MICROSECOND;
+        if at <= TOP {
+            let ask = gen.timed(0, at);
+            gen.ask(0, &ask);
+            step(gen, 0);
+            gen.abort(0, if ticks == LIMIT { NONE } else { ask.id });
+        }
+    }
+    step(gen, LIMIT);
 }

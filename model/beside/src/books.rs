@@ -5,6 +5,7 @@
 use crate::calls::{Act, Call, Row, Said, Sections, ROWS};
 use crate::cuebooks::{self, Due};
 use crate::intervals::{share, Live};
+use crate::reads::{self, State, Told};
 use model::people::cues::Given;
 use splicer::{message_id as id, records, result, Record, CONNECTIONS, HEADER, OUT};
 
@@ -623,6 +624,50 @@ impl Books {
     pub fn mux(&self, found: u8) -> Kept {
         let asked = self.on_air().map_or(5, |s| s.mux);
         must(found == asked, "another muxpriority value on air")
+    }
+
+    /// What is held, as it is read: "the started from the highest AccessType down, then the waiting in order of start".
+    fn sessions(&self) -> Vec<reads::Row> {
+        let (mut started, mut waiting): (Vec<&Held>, Vec<&Held>) = self.held.iter().partition(|s| s.started);
+        started.sort_by_key(|s| -i16::from(s.access));
+        waiting.sort_by_key(|s| s.start);
+        let row = |(place, s): (usize, &&Held)| reads::Row {
+            start: s.start,
+            end: s.end,
+            played: s.aired,
+            conn: s.conn.into(),
+            id: s.id,
+            event: s.event,
+            prior: (s.prior != NONE).then_some(s.prior),
+            access: s.access,
+            overrides: s.overrides,
+            mux: s.mux,
+            state: match (s.started, place) {
+                (true, 0) => State::OnAir,
+                (true, _) => State::Covered,
+                _ => State::Waiting,
+            },
+        };
+        started.iter().chain(&waiting).enumerate().map(row).collect()
+    }
+
+    /// The next start or end, in ninths.
+    pub fn instant(&self) -> Option<u64> {
+        self.held.iter().map(|s| if s.started { s.end } else { s.start }).min()
+    }
+
+    /// The reads of a driver that sleeps. The first tick that reaches an instant: rounded up to a microsecond, within the range.
+    pub fn reads(&self, found: &Told) -> Kept {
+        let sessions = self.sessions();
+        let air = sessions.first().filter(|s| s.state == State::OnAir).map(reads::Row::air);
+        must(found.sessions == sessions, "other sessions read")?;
+        must(found.air == air, "another one read as on air")?;
+        let due = self.instant().map(|instant| {
+            let micros = instant / 9 + u64::from(instant % 9 != 0);
+            let seconds = u32::try_from(micros / 1_000_000).ok();
+            (instant, seconds.map(|seconds| (seconds, (micros % 1_000_000) as u32)))
+        });
+        must(found.due == due, "another instant read as due")
     }
 
     fn find(&self, conn: u8, session: u32) -> Option<usize> {

@@ -13,6 +13,7 @@ mod lists;
 mod maps;
 mod pages;
 mod pair;
+mod reads;
 mod recalled;
 mod rolled;
 mod run;
@@ -175,6 +176,8 @@ fn compared(plan: &Plan) -> bool {
         println!("never taken: {branch}");
     }
     println!("refusals from 1 on: {:?}", &tally.refusals[1..]);
+    let [air, covered, none, reached, not] = tally.read;
+    println!("read: {air} with one on air, {covered} with a covered one; {none} nothing due, {reached} reached, {not} by no tick");
     println!(
         "beside: seed {}, {} streams, {} calls ({} cues), {} differences",
         plan.seed,
@@ -183,7 +186,8 @@ fn compared(plan: &Plan) -> bool {
         tally.cues,
         tally.differences.len()
     );
-    tally.differences.is_empty() && never.is_empty()
+    let unread = plan.n >= 200 && tally.read.contains(&0);
+    tally.differences.is_empty() && never.is_empty() && !unread
 }
 
 /// The branches of the second program's table that no call took. Few streams need not take all.

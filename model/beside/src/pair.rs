@@ -4,6 +4,7 @@ use crate::books::Books;
 use crate::calls::{ask_core, ask_core_with, ask_model, model_rows, Act, Call, Desk, Said};
 use crate::maps;
 use crate::pages;
+use crate::reads::Told;
 use crate::wrong::{Drift, Wrong};
 use model::hold::watch::{self, Watcher};
 use model::people::scenario::message;
@@ -18,6 +19,8 @@ pub struct Pair {
     pub watcher: Watcher,
     books: Books,
     drift: Drift,
+    /// How often each kind of read was seen.
+    pub read: [u64; 5],
 }
 
 impl Pair {
@@ -30,12 +33,13 @@ impl Pair {
         if refused != number {
             return Err(format!("fresh: core {refused:?}, second program {number:?}"));
         }
-        let pair = Pair { core, model, watcher, books: Books::default(), drift: Drift::default() };
+        let pair = Pair { core, model, watcher, books: Books::default(), drift: Drift::default(), read: [0; 5] };
         pair.same_waiting(pair.core.waiting())?;
         pair.same_primary(pair.core.primary())?;
         pair.same_mux()?;
         pair.same_rows(0, wrong)?;
         pair.same_map(0, wrong)?;
+        pair.same_reads(wrong)?;
         Ok(pair)
     }
 
@@ -87,6 +91,18 @@ impl Pair {
         self.books.insertion(insertion)
     }
 
+    /// What a driver reads of the core to sleep is what it reads of the second program, and what the records alone give.
+    fn same_reads(&self, wrong: Wrong) -> Result<Told, String> {
+        let wanted = Told::model(&self.model);
+        let mut found = Told::core(&self.core).unwrap_or_else(|| wanted.clone());
+        wrong.read(&mut found);
+        if found != wanted {
+            return Err(format!("reads: core {found:?}\nsecond program {wanted:?}"));
+        }
+        self.books.reads(&found)?;
+        Ok(found)
+    }
+
     /// Makes the call on both and compares all that is seen of it.
     pub fn call(&mut self, act: &Act, desk: &mut Desk, wrong: Wrong) -> Result<Said, String> {
         let wanted = self.watcher.during(|| ask_model(&mut self.model, act));
@@ -126,6 +142,10 @@ impl Pair {
         self.books.mux(self.core.mux())?;
         self.same_rows(desk.turn(), wrong)?;
         self.same_map(desk.turn(), wrong)?;
+        let read = self.same_reads(wrong)?;
+        for (count, seen) in self.read.iter_mut().zip(read.kinds()) {
+            *count += u64::from(seen);
+        }
         Ok(found)
     }
 

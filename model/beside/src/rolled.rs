@@ -5,6 +5,7 @@ use crate::acts::LONGEST;
 use crate::books::Books;
 use crate::calls::{self, model_rows, Act, Desk, Said};
 use crate::pages;
+use crate::reads::{rolled, rolled_model, Rolled};
 use crate::wrong::Wrong;
 use model::gen::draw::Rng;
 use model::gen::rolls;
@@ -75,6 +76,19 @@ impl RollingBooks {
             self.last = Some(reading);
         }
         Ok(())
+    }
+
+    /// What a driver reads to sleep: the ticks to the first good reading that writes. 12 "for a step over 8,100,000 ticks or
+    /// past the time field's last second, a reading before the instant is given".
+    fn reads(&self, (_, due): Rolled) -> Result<(), String> {
+        let clock = self.books.clock();
+        let step = |instant: u64| (instant - clock + 99) / 100;
+        let good = |step: &u64| *step <= 8_100_000 && (clock + 100 * step) / 9_000_000 <= u64::from(u32::MAX);
+        let wanted = self.last.and(self.books.instant()).map(step).filter(good);
+        match due.map(u64::from) == wanted {
+            true => Ok(()),
+            false => Err("by the records alone: other ticks to what is due".to_string()),
+        }
     }
 
     /// The house number or 0, the clock afterwards, and the reading that is kept.
@@ -169,6 +183,12 @@ impl RollingPair {
             return Err("another page of what ended lately".to_string());
         }
         self.books.books.rows(&rows)?;
+        let wanted = rolled_model(&self.model);
+        let read = rolled(&self.core).unwrap_or(wanted);
+        if read != wanted {
+            return Err(format!("reads: core {read:?}, second program {wanted:?}"));
+        }
+        self.books.reads(read)?;
         self.as_plain(call, room, &found, desk)?;
         Ok(found)
     }
@@ -316,7 +336,8 @@ fn booked(seed: u64, slip: Slip, text: &str) -> bool {
             let rooms = [OUT - 1, OUT];
             for room in &rooms[usize::from(at % 13 != 5)..] {
                 let said = ask_model(&mut model, call, *room);
-                if let Err(found) = books.call(call, *room, &said) {
+                let kept = books.call(call, *room, &said).and_then(|()| books.reads(rolled_model(&model)));
+                if let Err(found) = kept {
                     let at = at + 1;
                     println!("noticed in rolling stream {index}, call {at}, {found}: {slip:?}: {text}");
                     return true;

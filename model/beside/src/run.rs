@@ -4,6 +4,7 @@ use crate::acts::{self, Stream, LONGEST};
 use crate::books::Books;
 use crate::calls::{ask_model, model_rows, Act, Call, Desk};
 use crate::pair::Pair;
+use crate::reads::Told;
 use crate::wrong::{Drift, Wrong};
 use model::gen::draw::Rng;
 use model::hold::watch::counts::Counts;
@@ -38,6 +39,8 @@ pub struct Tally {
     pub counts: Counts,
     /// The branches of the cue calls.
     pub hits: Hits,
+    /// The reads with one on air, with a covered one, with nothing due, with an instant that a tick reaches, that none does.
+    pub read: [u64; 5],
 }
 
 impl Tally {
@@ -50,6 +53,7 @@ impl Tally {
             differences: Vec::new(),
             counts: Counts::new(),
             hits: Hits::default(),
+            read: [0; 5],
         }
     }
 
@@ -63,6 +67,7 @@ impl Tally {
         self.differences.extend(other.differences);
         self.counts.add(&other.counts);
         self.hits.add(&other.hits);
+        self.read = std::array::from_fn(|at| self.read[at] + other.read[at]);
     }
 }
 
@@ -164,7 +169,9 @@ impl Share {
     /// The lane's next call. A difference ends the lane.
     fn step(&mut self, lane: &mut Lane) {
         let Some(act) = lane.stream.acts.get(lane.next) else {
-            if let Some(seen) = lane.pair.take().map(|pair| pair.watcher.seen()) {
+            if let Some(pair) = lane.pair.take() {
+                self.tally.read = std::array::from_fn(|at| self.tally.read[at] + pair.read[at]);
+                let seen = pair.watcher.seen();
                 self.tally.counts.add(&seen.counts);
                 self.tally.hits.add(&seen.cues);
             }
@@ -229,6 +236,9 @@ pub fn booked(list: &[Stream], wrong: Wrong) -> Option<String> {
             let kept = kept.and_then(|()| books.mux(model.mux()));
             let kept = kept.and_then(|()| books.rows(&model_rows(&model)));
             let kept = kept.and_then(|()| books.insertion(model.insertion()));
+            let mut told = Told::model(&model);
+            wrong.read(&mut told);
+            let kept = kept.and_then(|()| books.reads(&told));
             if let Err(text) = kept {
                 let index = stream.index;
                 return Some(format!("stream {index}, call {}, {text}", at + 1));

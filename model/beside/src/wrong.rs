@@ -2,6 +2,7 @@
 //! and some in what the core is handed or seen to do.
 
 use crate::calls::{Act, Call, Desk, Said, Sections};
+use crate::reads::{State, Told};
 use model::hold::faults::{Fault, Miscue, FAULTS, MISCUES};
 use model::hold::watch::SEEN;
 use model::rules::Rules;
@@ -93,6 +94,18 @@ pub const PAGING: &[(&str, &str)] = &[
     ("rows-behind", "a row behind the sixteenth written"),
 ];
 
+/// Faults in what the core is read to tell a driver that sleeps.
+pub const SLEEPING: &[(&str, &str)] = &[
+    ("air-connection", "the one on air read under connection 0"),
+    ("air-played", "no time on air read"),
+    ("due-later", "the instant read a ninth later"),
+    ("due-tick-later", "the tick read a microsecond later"),
+    ("due-never", "an instant that no tick reaches read as none"),
+    ("sessions-fewer", "the last session not read"),
+    ("sessions-covered", "a covered session read as waiting"),
+    ("sessions-order", "those that wait read from the last start on"),
+];
+
 /// How far a fault's waiting counts have gone from the true ones, and the true ones before the call.
 #[derive(Clone, Default)]
 pub struct Drift {
@@ -127,7 +140,7 @@ fn paging() -> impl Iterator<Item = Wrong> {
 
 /// The faults in the numbers beside the records: the records alone give them away too.
 pub fn reporting() -> impl Iterator<Item = Wrong> {
-    let all = COUNTING.iter().chain(MOVING).chain(TIMING);
+    let all = COUNTING.iter().chain(MOVING).chain(TIMING).chain(SLEEPING);
     all.map(|(name, _)| Wrong::Core(name))
 }
 
@@ -149,7 +162,7 @@ impl Wrong {
             Wrong::Model(fault) => format!("{}: {}", fault.name(), fault.text()),
             Wrong::Cue(miscue) => format!("{}: {}", miscue.name(), miscue.text()),
             Wrong::Core(name) => {
-                let numbers = COUNTING.iter().chain(MOVING).chain(TIMING);
+                let numbers = COUNTING.iter().chain(MOVING).chain(TIMING).chain(SLEEPING);
                 let lent = PAGING.iter().chain(MAPPING).chain(CUEING);
                 let mut all = OWN.iter().chain(lent).chain(numbers);
                 let text = all.find(|(n, _)| *n == name);
@@ -320,6 +333,31 @@ impl Wrong {
             Wrong::Core("primary-clock") => clock,
             Wrong::Core("primary-ticks") => found / 100,
             _ => found,
+        }
+    }
+
+    /// Spoils what a driver reads to sleep.
+    pub fn read(self, told: &mut Told) {
+        let Wrong::Core(name) = self else {
+            return;
+        };
+        let Told { air, due, sessions } = told;
+        match (name, air, due) {
+            ("air-connection", Some(air), _) => air.0 = 0,
+            ("air-played", Some(air), _) => air.7 = 0,
+            ("due-later", _, Some((instant, _))) => *instant += 1,
+            ("due-tick-later", _, Some((_, Some((_, micros))))) => *micros += 1,
+            ("due-never", _, due) if due.is_some_and(|(_, tick)| tick.is_none()) => *due = None,
+            ("sessions-fewer", ..) => drop(sessions.pop()),
+            ("sessions-covered", ..) => {
+                let covered = sessions.iter_mut().find(|s| s.state == State::Covered);
+                covered.into_iter().for_each(|s| s.state = State::Waiting);
+            }
+            ("sessions-order", ..) => {
+                let started = sessions.iter().take_while(|s| s.state != State::Waiting).count();
+                sessions[started..].reverse();
+            }
+            _ => {}
         }
     }
 
