@@ -37,7 +37,7 @@ pub const ROUND: u64 = AIMS.len() as u64;
 
 /// One stream. The same seed and index give the same on every machine.
 pub fn stream(seed: u64, index: u64) -> Vec<u8> {
-    let mut mixed = Rng::new(seed ^ 0x1200);
+    let mixed = Rng::new(seed ^ 0x1200);
     let rng = Rng::new(mixed.next() ^ index.wrapping_mul(0xD1B5_4A32_D192_ED03));
     let mut gen = Gen::new(rng);
     AIMS[(index % ROUND) as usize](&mut gen);
@@ -87,8 +87,7 @@ fn short(gen: &mut Gen) {
 
 /// A header with MessageSize above 4,088, and calls behind it that must not be made.
 fn oversize(gen: &mut Gen) {
-    let conn = gen.rng.pick(&[0, 1, 2, 3, 4]);
-    gen.bytes.extend([0x4D, conn, 0, 1, 0x0F, 0xF9, 0, 0, 0, 0]);
+    gen.bytes.extend([0x4D, gen.rng.pick(&[0, 1, 2, 3, 4]), 0, 1, 0x0F, 0xF9, 0, 0, 0, 0]);
     gen.bytes.extend([0x4F, 0, 0x43, 0, 0x4F, 9]);
 }
 
@@ -119,8 +118,7 @@ fn to_255(gen: &mut Gen) {
         match gen.rng.below(5) {
             0 => refused(gen),
             1 => {
-                let now = gen.now();
-                gen.tick_to(now);
+                gen.tick_to(gen.now());
             }
             2 if gen.model.open.contains(&true) => {
                 let conn = opened(gen);
@@ -171,8 +169,7 @@ fn exactly(gen: &mut Gen, kept: u64, bytes: usize) {
         if low > high {
             return;
         }
-        let drawn = gen.rng.between(low as u64, high as u64) as usize;
-        let record = gen.rng.pick(&[drawn, low, 18.clamp(low, high), high]);
+        let record = gen.rng.pick(&[gen.rng.between(low as u64, high as u64) as usize, low, 18.clamp(low, high), high]);
         sized(gen, conn, record - 10);
     }
 }
@@ -212,9 +209,7 @@ fn sized(gen: &mut Gen, conn: u8, size: usize) {
 
 /// A readable Splice_Request of so many bytes of data, filled with descriptors.
 fn large_splice(gen: &mut Gen, conn: u8, size: usize) -> Vec<u8> {
-    let units = gen.rng.between(0, 60);
-    let at = gen.ahead(units);
-    let ask = gen.timed(conn, at);
+    let ask = gen.timed(conn, gen.ahead(gen.rng.between(0, 60)));
     let mut data = gen.plain_data(&ask);
     data.truncate(33);
     while data.len() < size {
@@ -235,21 +230,16 @@ fn refused(gen: &mut Gen) {
         1 => gen.call(Call::Close(above)),
         2 => gen.alive(above),
         3 => {
-            let micros = gen.rng.pick(&[1_000_000, 1_000_001, NONE]);
-            gen.call(Call::Tick(NONE, micros));
+            gen.call(Call::Tick(NONE, gen.rng.pick(&[1_000_000, 1_000_001, NONE])));
         }
         4 if gen.now() > 0 => {
-            let back = gen.rng.pick(&[1, 1, gen.now()]);
-            let now = gen.now();
-            gen.tick_to(now - back);
+            gen.tick_to(gen.now() - gen.rng.pick(&[1, 1, gen.now()]));
         }
         5 if !closed.is_empty() => {
-            let conn = gen.rng.pick(&closed);
-            gen.call(Call::Close(conn));
+            gen.call(Call::Close(gen.rng.pick(&closed)));
         }
         6 if !closed.is_empty() => {
-            let conn = gen.rng.pick(&closed);
-            gen.alive(conn);
+            gen.alive(gen.rng.pick(&closed));
         }
         _ if closed.len() < 4 => {
             let conn = opened(gen);
@@ -272,8 +262,7 @@ fn good(gen: &mut Gen) {
         1 => {
             let time = gen.next_instant().map_or(gen.now(), |t| t.div_ceil(9));
             let now = gen.now();
-            let time = gen.rng.pick(&[now, now + 1, time]);
-            gen.tick_to(time);
+            gen.tick_to(gen.rng.pick(&[now, now + 1, time]));
         }
         2 => gen.config(conn),
         3 => {
@@ -289,8 +278,7 @@ fn good(gen: &mut Gen) {
             gen.send(conn, 0x0001, data);
         }
         _ => {
-            let at = gen.ahead(3);
-            let ask = gen.timed(conn, at);
+            let ask = gen.timed(conn, gen.ahead(3));
             gen.ask(conn, &ask);
         }
     }
@@ -340,8 +328,7 @@ fn long_chain(gen: &mut Gen) {
     let mut head = gen.timed(conn, at);
     head.access = 4;
     gen.ask(conn, &head);
-    let links = gen.rng.between(3, 19);
-    episodes::link(gen, conn, head.id, links);
+    gen.link(conn, head.id, gen.rng.between(3, 19));
     let other = gen.conn();
     broken(gen, conn, &head, other);
     if gen.rng.chance(80) {
@@ -469,8 +456,7 @@ fn small(gen: &mut Gen) {
             5 => gen.send(conn, 0x0000, Vec::new()),
             6 => gen.send(conn, 0x000A, Vec::new()),
             _ => {
-                let time = gen.now() + gen.rng.below(3);
-                gen.tick_to(time);
+                gen.tick_to(gen.now() + gen.rng.below(3));
             }
         }
     }

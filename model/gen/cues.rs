@@ -31,7 +31,7 @@ impl Call {
 
 /// One stream. The same seed and index give the same on every machine.
 pub fn stream(seed: u64, index: u64) -> Vec<Call> {
-    let mut mixed = Rng::new(seed ^ 0x7000);
+    let mixed = Rng::new(seed ^ 0x7000);
     let rng = Rng::new(mixed.next() ^ index.wrapping_mul(0xD1B5_4A32_D192_ED03));
     let mut gen = Gen::new(rng);
     gen.begin();
@@ -85,8 +85,7 @@ fn connection(gen: &mut Gen) {
 /// A cue call: a section good or damaged, and a PTS and an instant that are drawn around it.
 pub fn given(rng: &mut Rng) -> Given {
     let section = section(rng);
-    let drawn = rng.below(WRAP);
-    let cue = cue_of(&section).unwrap_or(drawn);
+    let cue = cue_of(&section).unwrap_or(rng.below(WRAP));
     let pts = pts(rng, cue);
     let (seconds, micros) = instant(rng, sections::ticks(cue, pts));
     Given { section, pts, seconds, micros }

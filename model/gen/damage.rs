@@ -50,13 +50,11 @@ fn bad_hardware(gen: &mut Gen, data: &mut Vec<u8>) {
     match gen.rng.below(8) {
         0 => data.resize(gen.rng.pick(&[65, 66, 67, 67, 68]), 0),
         1 | 2 => {
-            let length = gen.rng.pick(&[0, 7, 8, 253, 254, 254, 255, 255, 256, 257]);
-            data.extend(gen.hardware(length));
+            data.extend(gen.hardware(gen.rng.pick(&[0, 7, 8, 253, 254, 254, 255, 255, 256, 257])));
         }
         3 => {
             // Length one more than follows, or two; or a byte behind it.
-            let length = gen.rng.pick(&[0, 7, 8, 14, 253, 254]);
-            data.extend(gen.hardware(length));
+            data.extend(gen.hardware(gen.rng.pick(&[0, 7, 8, 14, 253, 254])));
             match gen.rng.below(3) {
                 0 => data.truncate(data.len() - 1),
                 1 => data.truncate((data.len() - 2).max(67)),
@@ -70,8 +68,7 @@ fn bad_hardware(gen: &mut Gen, data: &mut Vec<u8>) {
             data.extend([7; 8]);
         }
         kind => {
-            let length = gen.rng.pick(&[0, 8, 14, 254]);
-            data.extend(gen.hardware(length));
+            data.extend(gen.hardware(gen.rng.pick(&[0, 8, 14, 254])));
             match kind {
                 5 => data[1] = 3,
                 6 => data[2] = b'X',
@@ -91,8 +88,7 @@ pub fn asked(gen: &mut Gen, conn: u8) {
         gen.config(other);
     }
     if gen.rng.chance(20) {
-        let size = gen.rng.pick(&[1, 1, 2, 8, 66]);
-        gen.send(conn, 0x000A, vec![0; size]);
+        gen.send(conn, 0x000A, vec![0; gen.rng.pick(&[1, 1, 2, 8, 66])]);
     }
 }
 
@@ -109,14 +105,12 @@ fn maybe_uninitialised(gen: &mut Gen) -> u8 {
 pub fn alive_and_abort(gen: &mut Gen) {
     let conn = maybe_uninitialised(gen);
     if gen.rng.chance(50) {
-        let size = gen.rng.pick(&[0, 1, 7, 7, 8, 9, 9, 16]);
-        gen.send(conn, 0x0005, vec![0; size]);
+        gen.send(conn, 0x0005, vec![0; gen.rng.pick(&[0, 1, 7, 7, 8, 9, 9, 16])]);
     } else {
         let all = [State::Waiting, State::OnAir];
         let id = gen.some(Some(conn), &all).map_or(1, |s| s.id);
         let mut data = id.to_be_bytes().to_vec();
-        let size = gen.rng.pick(&[0, 3, 3, 5, 5, 8]);
-        data.resize(size, 0);
+        data.resize(gen.rng.pick(&[0, 3, 3, 5, 5, 8]), 0);
         gen.send(conn, 0x000E, data);
     }
 }
@@ -143,8 +137,7 @@ pub fn extended(gen: &mut Gen) {
 /// A Splice_Request that would be accepted, but for one change on either side of a boundary.
 pub fn splice(gen: &mut Gen) {
     let conn = maybe_uninitialised(gen);
-    let units = gen.rng.between(0, 60);
-    let at = gen.ahead(units);
+    let at = gen.ahead(gen.rng.between(0, 60));
     let ask = gen.timed(conn, at);
     let mut data = gen.plain_data(&ask);
     data.truncate(33);
@@ -185,9 +178,7 @@ fn linked_micros(gen: &mut Gen, conn: u8, data: &mut [u8]) {
 /// either side of a boundary.
 pub fn separate(gen: &mut Gen) {
     let conn = maybe_uninitialised(gen);
-    let units = gen.rng.between(0, 60);
-    let at = gen.ahead(units);
-    let mut ask = gen.timed(conn, at);
+    let mut ask = gen.timed(conn, gen.ahead(gen.rng.between(0, 60)));
     if let Some(prior) = gen.some(Some(conn), &[State::Waiting, State::OnAir]) {
         ask.prior = gen.rng.pick(&[NONE, prior.id]);
     }
@@ -356,8 +347,7 @@ fn longer(gen: &mut Gen, ask: &Ask) -> Vec<u8> {
 fn descriptors(gen: &mut Gen, long: bool) -> Vec<u8> {
     let mut bytes = Vec::new();
     for _ in 0..gen.rng.below(3) {
-        let length = gen.rng.pick(&[4, 5, 254]);
-        bytes.extend(gen.descriptor(length));
+        bytes.extend(gen.descriptor(gen.rng.pick(&[4, 5, 254])));
     }
     let last = match (long, gen.rng.below(5)) {
         (true, 0..=1) => gen.descriptor(255),
@@ -375,10 +365,7 @@ fn descriptors(gen: &mut Gen, long: bool) -> Vec<u8> {
             cut.pop();
             cut
         }
-        _ => {
-            let length = gen.rng.below(4) as u8;
-            gen.descriptor(length)
-        }
+        _ => gen.descriptor(gen.rng.below(4) as u8),
     };
     bytes.extend(last);
     bytes
@@ -388,9 +375,7 @@ fn descriptors(gen: &mut Gen, long: bool) -> Vec<u8> {
 /// either side of a boundary, good and bad ones mixed.
 pub fn mux(gen: &mut Gen) {
     let conn = maybe_uninitialised(gen);
-    let units = gen.rng.between(0, 60);
-    let at = gen.ahead(units);
-    let mut ask = gen.timed(conn, at);
+    let mut ask = gen.timed(conn, gen.ahead(gen.rng.between(0, 60)));
     if let Some(prior) = gen.some(Some(conn), &[State::Waiting, State::OnAir]) {
         ask.prior = gen.rng.pick(&[NONE, prior.id]);
     }
@@ -438,8 +423,7 @@ pub fn unknown(gen: &mut Gen) {
         0x0010, 0x0011, 0x0012, 0x0100, 0x0700, 0x7FFF, 0x8000, 0xFFFF,
     ];
     let id = gen.rng.pick(&ids);
-    let size = gen.rng.pick(&[0, 0, 4, 8, 33, 66]);
-    gen.send(conn, id, vec![0; size]);
+    gen.send(conn, id, vec![0; gen.rng.pick(&[0, 0, 4, 8, 33, 66])]);
     if id == 0 && gen.rng.chance(50) {
         gen.alive(conn);
     }
@@ -460,8 +444,7 @@ pub fn refused(gen: &mut Gen) {
         4 => {
             let micros = gen.rng.pick(&[1_000_000, 1_000_001, NONE]);
             let seconds = gen.seconds() as u32;
-            let other = gen.rng.pick(&[seconds, 0, NONE]);
-            gen.call(Call::Tick(other, micros));
+            gen.call(Call::Tick(gen.rng.pick(&[seconds, 0, NONE]), micros));
         }
         5 => {
             let back = gen.rng.pick(&[1, 1, 1_000_000, 5_000_000]);
@@ -469,8 +452,7 @@ pub fn refused(gen: &mut Gen) {
             gen.tick_to(now.saturating_sub(back));
         }
         6 => {
-            let now = gen.now();
-            gen.tick_to(now);
+            gen.tick_to(gen.now());
         }
         _ => closed(gen, conn),
     }
@@ -495,8 +477,7 @@ fn closed(gen: &mut Gen, conn: u8) {
 /// MessageSize 4,088: 33 bytes, fifteen descriptors of 256 bytes and one of 215.
 pub fn largest(gen: &mut Gen) {
     let conn = gen.conn();
-    let at = gen.ahead(20);
-    let ask = gen.timed(conn, at);
+    let ask = gen.timed(conn, gen.ahead(20));
     let mut data = gen.plain_data(&ask);
     data.truncate(33);
     for _ in 0..15 {
@@ -523,13 +504,11 @@ pub fn tail(gen: &mut Gen) {
     match gen.rng.below(10) {
         0..=2 => {}
         3 => {
-            let mark = gen.rng.pick(&[0x00, 0x45, 0x52, 0x6D, 0xFF]);
-            gen.bytes.push(mark);
+            gen.bytes.push(gen.rng.pick(&[0x00, 0x45, 0x52, 0x6D, 0xFF]));
             gen.bytes.extend(behind);
         }
         4 => {
-            let mark = gen.rng.pick(&[0x4F, 0x43, 0x4D, 0x54]);
-            gen.bytes.push(mark);
+            gen.bytes.push(gen.rng.pick(&[0x4F, 0x43, 0x4D, 0x54]));
         }
         5 => {
             let time = (TOP / 1_000_000) as u32;

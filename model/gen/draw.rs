@@ -95,14 +95,11 @@ impl Gen {
         }
         let past = self.rng.below(2_000_000_000);
         let second = self.rng.pick(&[0, 1, 1_000, 1_000, past, past, past]);
-        let micros = self.rng.pick(&[0, 0, 1, 999_999, 500_000]);
-        self.tick_to(second * 1_000_000 + micros);
+        self.tick_to(second * 1_000_000 + self.rng.pick(&[0, 0, 1, 999_999, 500_000]));
         if self.at_the_top {
             self.unit = self.rng.pick(&[1, 11, 100, 1_000, 10_000]);
             // The longest Duration is 47,721 s.
-            let most = self.rng.pick(&[40_000, 400_000]);
-            let back = self.rng.between(1_000, most);
-            self.tick_to(TOP - back * 1_000_000);
+            self.tick_to(TOP - self.rng.between(1_000, self.rng.pick(&[40_000, 400_000])) * 1_000_000);
         }
     }
 
@@ -161,8 +158,7 @@ impl Gen {
             data[from..34].fill(self.rng.pick(&[1, 0x41, 0xFF]));
         }
         data[34..41].copy_from_slice(b"SPLICER");
-        let length = self.rng.pick(&[0, 0, 1, 7, 8, 8, 8, 14, 26, 253, 254]);
-        data.extend(self.hardware(length));
+        data.extend(self.hardware(self.rng.pick(&[0, 0, 1, 7, 8, 8, 8, 14, 26, 253, 254])));
         for _ in 0..self.rng.pick(&[0, 0, 1, 10, 30]) {
             data.push(self.rng.next() as u8);
         }
@@ -192,8 +188,7 @@ impl Gen {
     /// used again and again and by several connections.
     pub fn free_id(&mut self, conn: u8) -> u32 {
         if self.rng.chance(3) {
-            let drawn = self.rng.next() as u32;
-            let id = self.rng.pick(&[0, 0xFFFF_FFFE, drawn]);
+            let id = self.rng.pick(&[0, 0xFFFF_FFFE, self.rng.next() as u32]);
             if id != NONE && self.model.held(conn, id).is_none() {
                 return id;
             }
@@ -232,8 +227,7 @@ impl Gen {
     }
 
     pub fn linked(&mut self, conn: u8, prior: u32) -> Ask {
-        let at = self.rng.pick(&[0, 0, 1_000_000]);
-        let mut ask = self.timed(conn, at);
+        let mut ask = self.timed(conn, self.rng.pick(&[0, 0, 1_000_000]));
         ask.prior = prior;
         ask
     }
@@ -243,14 +237,29 @@ impl Gen {
         self.send(conn, 0x0007, data);
     }
 
+    /// Links `count` sessions behind `prior`; gives the last one accepted.
+    pub fn link(&mut self, conn: u8, prior: u32, count: u64) -> u32 {
+        let mut last = prior;
+        for _ in 0..count {
+            if self.model.held(conn, last).is_none() {
+                return last;
+            }
+            let ask = self.linked(conn, last);
+            self.ask(conn, &ask);
+            if self.model.held(conn, ask.id).is_some() {
+                last = ask.id;
+            }
+        }
+        last
+    }
+
     /// The data of a readable Splice_Request, at times with separate PIDs.
     pub fn splice_data(&mut self, ask: &Ask) -> Vec<u8> {
         let data = self.plain_data(ask);
         if self.rng.chance(92) {
             return data;
         }
-        let count = self.rng.pick(&[0, 1, 1, 2, 2, 3, 7, 14, 15, 16]);
-        let streams = self.streams(count);
+        let streams = self.streams(self.rng.pick(&[0, 1, 1, 2, 2, 3, 7, 14, 15, 16]));
         separate(data, &streams)
     }
 
@@ -267,10 +276,7 @@ impl Gen {
             data.extend(word.to_be_bytes());
         }
         data.extend((self.rng.pick(&[0, 1, 2, 0xFFFE]) as u16).to_be_bytes());
-        let drawn = self.rng.next() as u32;
-        let event = self.rng.pick(&[NONE, 0, drawn]);
-        let black = self.rng.pick(&[0, 0, 90_000, NONE]);
-        for word in [ask.duration, event, black] {
+        for word in [ask.duration, self.rng.pick(&[NONE, 0, self.rng.next() as u32]), self.rng.pick(&[0, 0, 90_000, NONE])] {
             data.extend(word.to_be_bytes());
         }
         data.extend([ask.access, ask.overrides, self.rng.below(2) as u8]);
@@ -298,16 +304,14 @@ impl Gen {
 
     /// A readable list of separate PIDs, short enough for any tail.
     pub fn streams(&mut self, count: usize) -> Streams {
-        let drawn = self.rng.below(0x2000);
-        let pcr_pid = self.rng.pick(&[0, 0x31, 0x1FFE, 0x1FFF, drawn]);
+        let pcr_pid = self.rng.pick(&[0, 0x31, 0x1FFE, 0x1FFF, self.rng.below(0x2000)]);
         let list = (0..count).map(|_| self.stream(count, pcr_pid)).collect();
         Streams { pcr_pid, list }
     }
 
     fn stream(&mut self, count: usize, pcr_pid: u64) -> Stream {
         let drawn = self.rng.below(0x2000);
-        let rate = self.rng.below(1 << 32);
-        let rates = [0xFFFF_FFFF, 0xFFFF_FFFE, 0xFFFF, 0, 4_000_000, rate];
+        let rates = [0xFFFF_FFFF, 0xFFFF_FFFE, 0xFFFF, 0, 4_000_000, self.rng.below(1 << 32)];
         let sizes = [0xFFFF, 0xFFFE, 0, 720, 1_920];
         let kept = match count {
             0..=10 => self.rng.pick(&[0, 0, 0, 1, 3, 234]),
@@ -344,8 +348,7 @@ impl Gen {
     }
 
     pub fn alive(&mut self, conn: u8) {
-        let drawn = self.rng.next().to_be_bytes();
-        self.send(conn, 0x0005, drawn.to_vec());
+        self.send(conn, 0x0005, self.rng.next().to_be_bytes().to_vec());
     }
 
     /// A held session of this connection (or of any) in one of these states.
@@ -426,7 +429,7 @@ mod tests {
 
     #[test]
     fn splitmix64_is_the_known_one() {
-        let mut rng = Rng::new(1_234_567);
+        let rng = Rng::new(1_234_567);
         assert_eq!(rng.next(), 6_457_827_717_110_365_317);
         assert_eq!(rng.next(), 3_203_168_211_198_807_973);
     }

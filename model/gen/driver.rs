@@ -127,8 +127,7 @@ pub fn foreign_acts(rng: &mut Rng, calls: &[Kept], most: usize) -> Vec<Act> {
 /// A good buffer, at times longer; sections up to 1,024 bytes (02, CR 6), most often for a GetConfig_Request;
 /// at times bytes behind the message.
 fn lent(rng: &mut Rng, call: Call) -> Act {
-    let room = rng.pick(&[ROOM, ROOM, ROOM, ROOM + 1, ROOM + 100]);
-    let mut act = Act { room, ..Act::plain(call) };
+    let mut act = Act { room: rng.pick(&[ROOM, ROOM, ROOM, ROOM + 1, ROOM + 100]), ..Act::plain(call) };
     if let Call::Message(_, read) = &mut act.call {
         let asks = read[..2] == [0, 0x0A];
         if rng.chance(if asks { 85 } else { 10 }) {
@@ -148,8 +147,7 @@ fn lent(rng: &mut Rng, call: Call) -> Act {
 fn foreign(rng: &mut Rng, call: &Call, acts: &mut Vec<Act>) {
     if rng.chance(12) {
         let below = rng.below(ROOM as u64) as usize;
-        let room = rng.pick(&[0, 1, ROOM - 1, ROOM - 1, below]);
-        acts.push(Act { room, ..Act::plain(call.clone()) });
+        acts.push(Act { room: rng.pick(&[0, 1, ROOM - 1, ROOM - 1, below]), ..Act::plain(call.clone()) });
     }
     if rng.chance(8) {
         acts.push(elsewhere(rng, call));
@@ -161,8 +159,7 @@ fn foreign(rng: &mut Rng, call: &Call, acts: &mut Vec<Act>) {
         acts.push(long_sections(rng, *conn, read));
     }
     if rng.chance(15) {
-        let any = rng.below(read.len() as u64) as usize;
-        let length = rng.pick(&[0, 7, read.len() - 1, any]).min(read.len() - 1);
+        let length = rng.pick(&[0, 7, read.len() - 1, rng.below(read.len() as u64) as usize]).min(read.len() - 1);
         acts.push(Act::plain(Call::Message(*conn, read[..length].to_vec())));
     }
     if rng.chance(5) {

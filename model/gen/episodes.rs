@@ -56,29 +56,9 @@ pub fn request(gen: &mut Gen) {
     let prior = gen.some(Some(conn), &HELD);
     let ask = match prior {
         Some(prior) if gen.rng.chance(30) => gen.linked(conn, prior.id),
-        _ => {
-            let units = gen.rng.between(0, 40);
-            let at = gen.ahead(units);
-            gen.timed(conn, at)
-        }
+        _ => gen.timed(conn, gen.ahead(gen.rng.between(0, 40))),
     };
     gen.ask(conn, &ask);
-}
-
-/// Links `count` sessions behind `prior`; gives the last one accepted.
-pub fn link(gen: &mut Gen, conn: u8, prior: u32, count: u64) -> u32 {
-    let mut last = prior;
-    for _ in 0..count {
-        if gen.model.held(conn, last).is_none() {
-            return last;
-        }
-        let ask = gen.linked(conn, last);
-        gen.ask(conn, &ask);
-        if gen.model.held(conn, ask.id).is_some() {
-            last = ask.id;
-        }
-    }
-    last
 }
 
 fn chain(gen: &mut Gen) {
@@ -86,14 +66,12 @@ fn chain(gen: &mut Gen) {
     let count = gen.rng.between(1, 6);
     match gen.some(Some(conn), &HELD) {
         Some(prior) if gen.rng.chance(50) => {
-            link(gen, conn, prior.id, count);
+            gen.link(conn, prior.id, count);
         }
         _ => {
-            let units = gen.rng.between(0, 20);
-            let at = gen.ahead(units);
-            let ask = gen.timed(conn, at);
+            let ask = gen.timed(conn, gen.ahead(gen.rng.between(0, 20)));
             gen.ask(conn, &ask);
-            link(gen, conn, ask.id, count);
+            gen.link(conn, ask.id, count);
         }
     }
 }
@@ -195,8 +173,7 @@ pub fn lately(gen: &mut Gen) {
         let oldest = kept[0];
         let drawn = gen.rng.pick(&kept);
         let (conn, id) = gen.rng.pick(&[oldest, drawn, drawn, drawn, kept[kept.len() - 1]]);
-        let other = gen.rng.below(4) as u8;
-        let conn = gen.rng.pick(&[conn, conn, conn, conn, other]);
+        let conn = gen.rng.pick(&[conn, conn, conn, conn, gen.rng.below(4) as u8]);
         gen.ready(conn);
         gen.extended(conn, id);
         if gen.rng.chance(25) {
@@ -207,9 +184,7 @@ pub fn lately(gen: &mut Gen) {
 
 /// A number used again: asked for while it is held, and behind its next end.
 fn again(gen: &mut Gen, conn: u8, id: u32) {
-    let units = gen.rng.between(0, 40);
-    let at = gen.ahead(units);
-    let mut ask = gen.timed(conn, at);
+    let mut ask = gen.timed(conn, gen.ahead(gen.rng.between(0, 40)));
     ask.id = id;
     gen.ask(conn, &ask);
     gen.extended(conn, id);
@@ -237,8 +212,7 @@ pub fn many_ends(gen: &mut Gen) {
     }
     for _ in 0..gen.rng.between(1, 4) {
         if !before.is_empty() {
-            let id = gen.rng.pick(&before);
-            gen.extended(conn, id);
+            gen.extended(conn, gen.rng.pick(&before));
         }
     }
     lately(gen);
@@ -248,8 +222,7 @@ pub fn many_ends(gen: &mut Gen) {
 fn step(gen: &mut Gen) {
     let now = gen.now();
     let Some(next) = gen.next_instant() else {
-        let ahead = gen.rng.between(1, 5_000_000);
-        return gen.tick_to(now + ahead);
+        return gen.tick_to(now + gen.rng.between(1, 5_000_000));
     };
     match gen.rng.below(12) {
         0..=4 => gen.tick_near(next),
@@ -295,8 +268,7 @@ pub fn stack(gen: &mut Gen) {
     }
     let depth = gen.rng.pick(&[2, 3, 3, 4, 6, 10, 10]);
     let step = even(gen);
-    let units = gen.rng.between(0, 5);
-    let base = gen.ahead(units);
+    let base = gen.ahead(gen.rng.between(0, 5));
     let last = base + (depth + gen.rng.between(1, 4)) * step;
     let lowest = gen.rng.between(0, 10 - depth);
     let kind = gen.rng.below(6);
@@ -332,8 +304,7 @@ fn start_at(gen: &mut Gen, at: u64) {
     let conn = gen.conn();
     let ask = gen.timed(conn, at);
     gen.ask(conn, &ask);
-    let count = gen.rng.below(3);
-    link(gen, conn, ask.id, count);
+    gen.link(conn, ask.id, gen.rng.below(3));
 }
 
 /// Ticks up to a time: at once, or by some steps, at times to just before it first.
@@ -364,7 +335,7 @@ fn disturb(gen: &mut Gen) {
             }
             2 => {
                 if let Some(session) = gen.some(None, &STARTED) {
-                    link(gen, session.conn, session.id, 2);
+                    gen.link(session.conn, session.id, 2);
                 }
             }
             3 if gen.rng.chance(50) => close_one(gen),
@@ -381,8 +352,7 @@ fn held_number(gen: &mut Gen) {
         return;
     };
     let conn = gen.conn();
-    let at = gen.ahead(50);
-    let mut ask = gen.timed(conn, at);
+    let mut ask = gen.timed(conn, gen.ahead(50));
     if gen.rng.chance(60) {
         ask.id = session.id;
         return gen.ask(session.conn, &ask);
@@ -499,28 +469,23 @@ fn in_front(gen: &mut Gen) {
 fn reuse(gen: &mut Gen) {
     gen.clear();
     let conn = gen.conn();
-    let at = gen.ahead(1);
-    let mut first = gen.timed(conn, at);
+    let mut first = gen.timed(conn, gen.ahead(1));
     first.duration = gen.ticks(2);
     first.access = 8;
     gen.ask(conn, &first);
     let mut second = gen.linked(conn, first.id);
     second.duration = gen.ticks(200);
     gen.ask(conn, &second);
-    let count = gen.rng.between(0, 3);
-    let last = link(gen, conn, second.id, count);
+    let last = gen.link(conn, second.id, gen.rng.between(0, 3));
     if let Some(session) = gen.model.held(conn, second.id) {
         let start = session.start.div_ceil(MICROSECOND);
         gen.tick_to(start.max(gen.now()));
     }
-    let units = gen.rng.between(0, 20);
-    let at = gen.ahead(units);
-    let mut again = gen.timed(conn, at);
+    let mut again = gen.timed(conn, gen.ahead(gen.rng.between(0, 20)));
     again.id = first.id;
     again.prior = gen.rng.pick(&[NONE, second.id, last]);
     gen.ask(conn, &again);
-    let count = gen.rng.below(3);
-    link(gen, conn, again.id, count);
+    gen.link(conn, again.id, gen.rng.below(3));
     match gen.rng.below(4) {
         0 | 1 => gen.abort(conn, again.id),
         2 => gen.abort(conn, second.id),
@@ -531,13 +496,10 @@ fn reuse(gen: &mut Gen) {
 /// A waiting session with followers, evicted by its own or another connection.
 pub fn evict(gen: &mut Gen) {
     let conn = gen.conn();
-    let units = gen.rng.between(0, 20);
-    let at = gen.ahead(units);
-    let mut ask = gen.timed(conn, at);
+    let mut ask = gen.timed(conn, gen.ahead(gen.rng.between(0, 20)));
     ask.access = gen.rng.below(9) as u8;
     gen.ask(conn, &ask);
-    let count = gen.rng.below(5);
-    link(gen, conn, ask.id, count);
+    gen.link(conn, ask.id, gen.rng.below(5));
     let Some(first) = gen.model.held(conn, ask.id).cloned() else {
         return;
     };
@@ -568,8 +530,7 @@ pub fn failing(gen: &mut Gen) {
         ask.access = related(gen, long.access);
         ask.overrides = gen.rng.below(2) as u8;
         gen.ask(conn, &ask);
-        let count = gen.rng.below(4);
-        link(gen, conn, ask.id, count);
+        gen.link(conn, ask.id, gen.rng.below(4));
     }
     walk(gen, at + 30 * gen.unit);
 }
@@ -592,11 +553,9 @@ pub fn covered(gen: &mut Gen) {
     high.overrides = 1;
     high.duration = gen.ticks(20);
     gen.ask(other, &high);
-    let early = gen.rng.below(3);
-    let last = link(gen, conn, low.id, early);
+    let last = gen.link(conn, low.id, gen.rng.below(3));
     gen.tick_to((at + 3 * gen.unit).max(gen.now()));
-    let late = gen.rng.below(3);
-    link(gen, conn, last, late);
+    gen.link(conn, last, gen.rng.below(3));
     match gen.rng.below(5) {
         0 | 1 => gen.abort(conn, low.id),
         2 => gen.abort(other, high.id),
@@ -628,8 +587,7 @@ pub fn equals(gen: &mut Gen) {
         gen.ask(conn, &ask);
         top = (conn, ask.id);
     }
-    let count = gen.rng.below(4);
-    link(gen, top.0, top.1, count);
+    gen.link(top.0, top.1, gen.rng.below(4));
     let mut at = base + depth * step;
     for _ in 0..gen.rng.between(1, 3) {
         let conn = gen.rng.pick(&[top.0, gen.model.sessions.len() as u8 % 4]);
@@ -638,8 +596,7 @@ pub fn equals(gen: &mut Gen) {
         ask.access = (lowest + depth - 1) as u8;
         ask.overrides = gen.rng.chance(85) as u8;
         gen.ask(conn, &ask);
-        let count = gen.rng.below(3);
-        link(gen, conn, ask.id, count);
+        gen.link(conn, ask.id, gen.rng.below(3));
         at += gen.rng.pick(&[step, 2 * step, 10 * step]);
     }
     walk(gen, at);
@@ -651,8 +608,7 @@ fn late(gen: &mut Gen) {
     let conn = gen.conn();
     let now = gen.now();
     let limit = now + 3_000_000;
-    let at = gen.rng.pick(&[limit, limit, limit - 1, limit - 1, limit + 1, now, now + 1, now / 2, 0]);
-    let ask = gen.timed(conn, at);
+    let ask = gen.timed(conn, gen.rng.pick(&[limit, limit, limit - 1, limit - 1, limit + 1, now, now + 1, now / 2, 0]));
     gen.ask(conn, &ask);
 }
 
@@ -704,8 +660,7 @@ fn nearest(gen: &Gen) -> Option<Session> {
 /// Starts and ends a ninth apart: 100 leaves 1 over whole microseconds of 9 ninths.
 fn ninth(gen: &mut Gen) {
     let conn = gen.conn();
-    let units = gen.rng.between(0, 10);
-    let at = gen.ahead(units) + gen.rng.below(20);
+    let at = gen.ahead(gen.rng.between(0, 10)) + gen.rng.below(20);
     let mut first = gen.timed(conn, at);
     let rest = gen.rng.pick(&[1, 8, 1, 8, 0, 4]);
     first.duration = gen.rng.between(0, 30) as u32 * 9 + rest;
@@ -738,8 +693,7 @@ fn ninth(gen: &mut Gen) {
 /// The shortest and the longest Duration.
 fn extreme(gen: &mut Gen) {
     let conn = gen.conn();
-    let units = gen.rng.between(0, 10);
-    let at = gen.ahead(units);
+    let at = gen.ahead(gen.rng.between(0, 10));
     let mut ask = gen.timed(conn, at);
     ask.duration = gen.rng.pick(&[1, 1, NONE]);
     ask.access = gen.rng.pick(&[0, 0, 1, ask.access]);
@@ -751,20 +705,17 @@ fn extreme(gen: &mut Gen) {
     follower.duration = gen.rng.pick(&[1, 2, NONE]);
     gen.ask(conn, &follower);
     if gen.rng.chance(40) {
-        let micros = gen.rng.pick(&[11, 12, 22, 23]);
-        gen.tick_to((at + micros).max(gen.now()));
+        gen.tick_to((at + gen.rng.pick(&[11, 12, 22, 23])).max(gen.now()));
     }
 }
 
 /// Requests and ticks at the top of the range.
 fn top(gen: &mut Gen) {
     let conn = gen.conn();
-    let at = gen.rng.pick(&[TOP, TOP, TOP - 1, TOP - 1_000_000]);
-    let mut ask = gen.timed(conn, at);
+    let mut ask = gen.timed(conn, gen.rng.pick(&[TOP, TOP, TOP - 1, TOP - 1_000_000]));
     ask.duration = gen.rng.pick(&[1, ask.duration, NONE]);
     gen.ask(conn, &ask);
-    let count = gen.rng.below(4);
-    link(gen, conn, ask.id, count);
+    gen.link(conn, ask.id, gen.rng.below(4));
     if gen.calls > 200 && gen.rng.chance(2) {
         let time = gen.rng.pick(&[TOP, TOP - 1, TOP - 3_000_000]);
         gen.tick_to(time.max(gen.now()));
@@ -774,9 +725,7 @@ fn top(gen: &mut Gen) {
 /// SessionIDs and PriorSessions that give 121.
 fn wrong_numbers(gen: &mut Gen) {
     let conn = gen.conn();
-    let units = gen.rng.between(0, 20);
-    let at = gen.ahead(units);
-    let mut ask = gen.timed(conn, at);
+    let mut ask = gen.timed(conn, gen.ahead(gen.rng.between(0, 20)));
     let state = gen.rng.pick(&HELD);
     match gen.rng.below(7) {
         0 => ask.id = NONE,

@@ -96,21 +96,19 @@ const KINDS: &[(&str, Kind)] = &[
 
 /// The logs of a stream, each with some calls. The same seed and index give the same on every machine.
 pub fn histories(seed: u64, index: u64) -> Vec<History> {
-    let mut mixed = Rng::new(seed ^ 0x1212);
+    let mixed = Rng::new(seed ^ 0x1212);
     let mut rng = Rng::new(mixed.next() ^ index.wrapping_mul(0x9E6C_63D0_876A_9A63));
     let base = Base::of(&aims::stream(seed, index));
     let mut list = Vec::new();
     for (kind, make) in KINDS {
-        let most = rng.between(1, 250) as usize;
-        let (mut kept, at) = base.kept(most);
+        let (mut kept, at) = base.kept(rng.between(1, 250) as usize);
         if kept.is_empty() {
             kept.push(vec![0x4F, 0]);
         }
         let log = make(&mut Desk { rng: &mut rng, kept });
         let mut acts = foreign_acts(&mut rng, &base.calls[at..], 8);
         if rng.chance(25) {
-            let at = rng.below(acts.len() as u64) as usize;
-            acts.insert(at, Act::plain(Call::Fresh));
+            acts.insert(rng.below(acts.len() as u64) as usize, Act::plain(Call::Fresh));
         }
         list.push(History { kind, log, acts });
     }
@@ -163,8 +161,7 @@ fn bytes_behind(desk: &mut Desk) -> Vec<u8> {
 
 /// What would be calls if the zero were not there.
 fn calls_behind(desk: &mut Desk) -> Vec<u8> {
-    let one = desk.rng.pick(&desk.kept);
-    let list = [vec![0x4F, 0], vec![0x4F, 3], vec![0x43, 1], one];
+    let list = [vec![0x4F, 0], vec![0x4F, 3], vec![0x43, 1], desk.rng.pick(&desk.kept)];
     let mut log = [desk.kept.concat(), vec![0]].concat();
     while log.len() + 4_100 < LOG {
         log.extend(desk.rng.pick(&list));
@@ -175,8 +172,7 @@ fn calls_behind(desk: &mut Desk) -> Vec<u8> {
 /// A byte that begins no call.
 fn unknown(rng: &mut Rng) -> u8 {
     loop {
-        let any = rng.next() as u8;
-        let byte = rng.pick(&[0x45, 0x52, 0x42, 0x44, 0x4E, 0x50, 0x53, 0x55, 0xFF, any]);
+        let byte = rng.pick(&[0x45, 0x52, 0x42, 0x44, 0x4E, 0x50, 0x53, 0x55, 0xFF, rng.next() as u8]);
         if ![0, 0x4F, 0x43, 0x4D, 0x54].contains(&byte) {
             return byte;
         }
@@ -264,8 +260,7 @@ fn oversize(desk: &mut Desk) -> Vec<u8> {
     let at = desk.rng.below(desk.kept.len() as u64 + 1) as usize;
     let size: u16 = desk.rng.pick(&[4_089, 4_090, 0x8000, 0xFFFF]);
     let [high, low] = size.to_be_bytes();
-    let conn = desk.rng.pick(&[0, 1, 2, 3, 9]);
-    let header = vec![0x4D, conn, 0, 1, high, low, 0xFF, 0xFF, 0xFF, 0xFF];
+    let header = vec![0x4D, desk.rng.pick(&[0, 1, 2, 3, 9]), 0, 1, high, low, 0xFF, 0xFF, 0xFF, 0xFF];
     desk.kept.insert(at, header);
     as_kept(desk)
 }
@@ -286,8 +281,7 @@ fn entries(desk: &mut Desk) -> Vec<u8> {
         bytes.extend([mark, desk.rng.below(5) as u8]);
         match mark {
             0x54 => {
-                let second = desk.rng.below(9) as u8;
-                bytes.extend([0, 0, 0, second, 0, desk.rng.below(20) as u8, 0, 0]);
+                bytes.extend([0, 0, 0, desk.rng.below(9) as u8, 0, desk.rng.below(20) as u8, 0, 0]);
             }
             0x4D => {
                 let size = desk.rng.pick(&[0, 0, 4, 8, 33, 68]);

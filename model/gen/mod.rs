@@ -18,7 +18,7 @@ use draw::{Gen, Rng};
 
 /// One stream of card input.
 pub fn stream(seed: u64, index: u64) -> Vec<u8> {
-    let mut mixed = Rng::new(seed);
+    let mixed = Rng::new(seed);
     let rng = Rng::new(mixed.next() ^ index.wrapping_mul(0xD1B5_4A32_D192_ED03));
     let mut gen = Gen::new(rng);
     let themes = episodes::THEMES;

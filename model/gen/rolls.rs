@@ -15,7 +15,7 @@ pub struct Stream {
 
 /// One stream. The same seed and index give the same on every machine.
 pub fn stream(seed: u64, index: u64) -> Stream {
-    let mut mixed = Rng::new(seed ^ 0x9000);
+    let mixed = Rng::new(seed ^ 0x9000);
     let rng = Rng::new(mixed.next() ^ index.wrapping_mul(0xD1B5_4A32_D192_ED03));
     let mut gen = Gen::new(rng);
     let themes = episodes::THEMES;
@@ -67,15 +67,13 @@ fn begin(gen: &mut Gen, favourites: &[episodes::Episode]) {
     let drawn = gen.rng.below(1_000_000);
     let mut time = gen.rng.pick(&[0, 1_000_000_000, past, past + drawn, near, near + 1, near / 2]);
     if gen.at_the_top {
-        let back = gen.rng.pick(&[0, 1, 5, 100, 300]);
-        time = TOP - back * 1_000_000 - drawn;
+        time = TOP - gen.rng.pick(&[0, 1, 5, 100, 300]) * 1_000_000 - drawn;
     }
     if let Some(rolls) = &mut gen.rolling {
         rolls.held_off = false;
     }
     if gen.rng.chance(10) {
-        let micros = gen.rng.pick(&[1_000_000, 0xFFFF_FFFF]);
-        gen.call(card::Call::Tick(5, micros));
+        gen.call(card::Call::Tick(5, gen.rng.pick(&[1_000_000, 0xFFFF_FFFF])));
     }
     gen.tick_to(time);
 }
@@ -118,17 +116,14 @@ fn step(gen: &mut Gen, ticks: u32) {
 fn brought(gen: &mut Gen, seconds: u32, micros: u32) {
     let (last, whole, held_off) = state(gen);
     if held_off {
-        let drawn = gen.rng.next() as u32;
-        let reading = gen.rng.pick(&[0, 1, drawn]);
+        let reading = gen.rng.pick(&[0, 1, gen.rng.next() as u32]);
         return push(gen, Call::Reading(reading));
     }
     if last.is_none() || micros > 999_999 {
         // near the rollover, so that it comes in mid-stream
         let far = [10_000_000, 1_000_000][usize::from(gen.at_the_top)];
-        let before = gen.rng.pick(&[1, 10, far / 10, far, far]);
-        let near = 0u32.wrapping_sub(gen.rng.between(1, before) as u32);
-        let drawn = gen.rng.next() as u32;
-        let reading = gen.rng.pick(&[near, near, near, near, near, drawn]);
+        let near = 0u32.wrapping_sub(gen.rng.between(1, gen.rng.pick(&[1, 10, far / 10, far, far])) as u32);
+        let reading = gen.rng.pick(&[near, near, near, near, near, gen.rng.next() as u32]);
         return push(gen, Call::Instant { seconds, micros, reading });
     }
     let (target, clock) = (ninths(seconds, micros), gen.model.clock);
@@ -312,18 +307,17 @@ fn rolled_over(gen: &mut Gen) {
     }
 }
 
-/// One session alone that starts a tick behind the longest step, and then one that starts as far on as a reading may be.
+/// One session alone that starts a tick behind the longest step, and then one that starts as far on as a reading may be, or at
+/// the range's end.
 fn at_the_limit(gen: &mut Gen) {
     (0..4).for_each(|conn| gen.call(card::Call::Close(conn)));
     for ticks in [LIMIT + 1, LIMIT] {
         gen.ready(0);
         let at = (gen.model.clock + u64::from(ticks) * TICK) / MICROSECOND;
-        if at <= TOP {
-            let ask = gen.timed(0, at);
-            gen.ask(0, &ask);
-            step(gen, 0);
-            gen.abort(0, if ticks == LIMIT { NONE } else { ask.id });
-        }
+        let ask = gen.timed(0, at.min(TOP));
+        gen.ask(0, &ask);
+        step(gen, 0);
+        gen.abort(0, if ticks == LIMIT { NONE } else { ask.id });
     }
     step(gen, LIMIT);
 }

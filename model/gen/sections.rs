@@ -86,8 +86,7 @@ fn command(rng: &mut Rng) -> Command {
         3..=12 => Command::Insert(insert(rng)),
         13..=17 => Command::TimeSignal(time(rng)),
         _ => {
-            let reserved = rng.between(8, 254) as u8;
-            let kind = rng.pick(&[0x04, 0x04, 0x07, 0xFF, 0x01, 0x02, 0x03, reserved]);
+            let kind = rng.pick(&[0x04, 0x04, 0x07, 0xFF, 0x01, 0x02, 0x03, rng.between(8, 254) as u8]);
             let count = rng.pick(&[0, 1, 4, 5, 10, 15]);
             Command::Other(kind, bytes_of(rng, count))
         }
@@ -133,8 +132,7 @@ fn descriptors(rng: &mut Rng) -> Vec<u8> {
 /// splice_command_length: one less, one more, or another.
 fn other_length(rng: &mut Rng, section: &mut Section) {
     let size = section.command.bytes().len() as u16;
-    let drawn = rng.below(0x1000) as u16;
-    let other = [size.saturating_sub(1), size + 1, 0, 5, 6, 0xFFE, drawn];
+    let other = [size.saturating_sub(1), size + 1, 0, 5, 6, 0xFFE, rng.below(0x1000) as u16];
     section.length = Some(rng.pick(&other));
 }
 
@@ -165,8 +163,7 @@ fn sized(rng: &mut Rng, section: &Section) -> Vec<u8> {
 fn cut(rng: &mut Rng, mut bytes: Vec<u8>) -> Vec<u8> {
     let short = rng.below(bytes.len() as u64) as usize;
     let behind = rng.between(18, 36.min(bytes.len() as u64).max(19)) as usize;
-    let end = rng.pick(&[short, behind, behind, behind, 19, 2]);
-    bytes.truncate(end);
+    bytes.truncate(rng.pick(&[short, behind, behind, behind, 19, 2]));
     if rng.chance(85) {
         return remade(bytes);
     }
@@ -251,8 +248,7 @@ fn loop_length(rng: &mut Rng, mut section: Section) -> Vec<u8> {
     let left = section.descriptors.len() + section.stuffing.len();
     let left = left as u16;
     let one_less = left.saturating_sub(1);
-    let drawn = rng.next() as u16;
-    let other = [left, left, left + 1, left + 1, left + 2, left + 4, one_less, drawn, 0xFFFF];
+    let other = [left, left, left + 1, left + 1, left + 2, left + 4, one_less, rng.next() as u16, 0xFFFF];
     section.loop_length = Some(rng.pick(&other));
     section.bytes()
 }
@@ -265,8 +261,7 @@ fn wrong_size(rng: &mut Rng, mut bytes: Vec<u8>) -> Vec<u8> {
         2 => bytes[1] ^= rng.pick(&[0x04, 0x08, 0x0C]),
         3 => bytes[2] ^= 1 << rng.below(8),
         4 => {
-            let more = rng.between(2, 188) as usize;
-            bytes.extend(vec![0xFF; more]);
+            bytes.extend(vec![0xFF; rng.between(2, 188) as usize]);
         }
         _ => bytes[2] = rng.next() as u8,
     }

@@ -307,8 +307,7 @@ fn call_doubled(rng: &mut Rng, turns: &[Turn]) -> Option<(Vec<u8>, Option<Findin
 
 fn before_any(rng: &mut Rng, turns: &[Turn]) -> Option<(Vec<u8>, Option<Finding>)> {
     let general = vec![0x52, 0, 0, 0, 0, 0, 0, 103, 0xFF, 0xFF];
-    let record = rng.pick(&[vec![0x45, 7], general]);
-    let bytes = [record, bytes_of(turns)].concat();
+    let bytes = [rng.pick(&[vec![0x45, 7], general]), bytes_of(turns)].concat();
     Some((bytes, Some(Finding::Call(0))))
 }
 
@@ -316,8 +315,7 @@ fn before_any(rng: &mut Rng, turns: &[Turn]) -> Option<(Vec<u8>, Option<Finding>
 fn unknown(rng: &mut Rng) -> u8 {
     loop {
         let near = rng.pick(&[0x42, 0x44, 0x46, 0x4C, 0x4E, 0x50, 0x51, 0x53, 0x55, 0x00, 0xFF]);
-        let any = rng.next() as u8;
-        let byte = rng.pick(&[near, any]);
+        let byte = rng.pick(&[near, rng.next() as u8]);
         if !is_call(byte) && byte != 0x45 && byte != 0x52 {
             return byte;
         }
@@ -412,8 +410,7 @@ fn oversize_wrong(rng: &mut Rng, turns: &[Turn]) -> Option<(Vec<u8>, Option<Find
     turns.insert(at, oversize(rng, &turns[..at]));
     let number = turns[at].records[0][1];
     let other = [vec![], vec![vec![0x45, number ^ 5]], vec![vec![0x45, 5]]];
-    let other = rng.pick(&other);
-    with(&turns, at, other)
+    with(&turns, at, rng.pick(&other))
 }
 
 fn oversize_header(rng: &mut Rng) -> Vec<u8> {
@@ -540,7 +537,7 @@ fn filled(turns: &[Turn], bytes: usize) -> Vec<Turn> {
 
 /// All recordings of a stream.
 pub fn of_stream(seed: u64, index: u64) -> Vec<Made> {
-    let mut mixed = Rng::new(seed ^ 0x14);
+    let mixed = Rng::new(seed ^ 0x14);
     let mut rng = Rng::new(mixed.next() ^ index.wrapping_mul(0x9E6C_63D0_876A_9A63));
     let mut list = Vec::new();
     let long = base(seed, index, usize::MAX, LONGEST - 9_000);

@@ -80,9 +80,7 @@ fn named(mut call: Call, name: &[u8; NAME]) -> Call {
 /// Calls that a driver may make and the card program does not, before this one.
 fn foreign(rng: &mut Rng, call: &Call, acts: &mut Vec<Act>) {
     if rng.chance(12) {
-        let below = rng.below(OUT as u64) as usize;
-        let room = rng.pick(&[0, 1, OUT - 1, OUT - 1, below]);
-        acts.push(Act::plain(call.clone(), room));
+        acts.push(Act::plain(call.clone(), rng.pick(&[0, 1, OUT - 1, OUT - 1, rng.below(OUT as u64) as usize])));
     }
     if rng.chance(6) {
         let room = rng.pick(&[OUT, OUT, OUT, OUT - 1]);
@@ -90,8 +88,7 @@ fn foreign(rng: &mut Rng, call: &Call, acts: &mut Vec<Act>) {
     }
     if rng.chance(4) {
         let call = elsewhere(rng, call);
-        let room = rng.pick(&[OUT, OUT, OUT - 1]);
-        acts.push(Act::plain(call.clone(), room));
+        acts.push(Act::plain(call.clone(), rng.pick(&[OUT, OUT, OUT - 1])));
         acts.push(long_sections(rng, call, OUT));
     }
     if let Call::Message(conn, bytes) = call {
@@ -146,8 +143,7 @@ fn foreign_messages(rng: &mut Rng, conn: u32, bytes: &[u8], acts: &mut Vec<Act>)
         acts.push(Act::plain(call, OUT));
     };
     if rng.chance(15) {
-        let any = rng.below(bytes.len() as u64) as usize;
-        let length = rng.pick(&[0, 7, bytes.len() - 1, any]);
+        let length = rng.pick(&[0, 7, bytes.len() - 1, rng.below(bytes.len() as u64) as usize]);
         push(bytes[..length.min(bytes.len() - 1)].to_vec());
     }
     if rng.chance(4) {
@@ -186,8 +182,7 @@ fn renamed(rng: &mut Rng, bytes: &[u8]) -> Vec<u8> {
 /// message's own any more, and must not be read.
 fn shorter(rng: &mut Rng, bytes: &[u8]) -> Vec<u8> {
     let size = bytes.len() - HEADER;
-    let less = rng.between(1, size as u64) as usize;
-    let size = (size - rng.pick(&[1, 1, 1, less])) as u16;
+    let size = (size - rng.pick(&[1, 1, 1, rng.between(1, size as u64) as usize])) as u16;
     let mut bytes = bytes.to_vec();
     bytes[2..4].copy_from_slice(&size.to_be_bytes());
     bytes

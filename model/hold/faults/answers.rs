@@ -2,20 +2,16 @@
 
 use rules::answers;
 use rules::bytes::{Record, What};
-use rules::calls::{self, text_of};
+use rules::calls::{self};
 use rules::config::{self, nothing};
 use rules::requests::SpliceFields;
 use rules::splice;
 use rules::state::{Ended, First, Maps, Out, Session, Splicer, State};
-use rules::times::{ninths, MICROSECOND, NONE, SECOND};
+use rules::times::{ninths, MICROSECOND, NONE};
 
 pub fn open_drops_ended(s: &mut Splicer, conn: u8) {
     calls::opened(s, conn);
     s.ended.retain(|ended| ended.conn != conn);
-}
-
-pub fn reopened_initialised(s: &mut Splicer, conn: u8) {
-    s.open[usize::from(conn)] = true;
 }
 
 pub fn close_drops_ended(s: &mut Splicer, conn: u8) {
@@ -57,14 +53,6 @@ pub fn failed_init_undoes(s: &mut Splicer, conn: u8, id: u16, data: &[u8], maps:
     }
 }
 
-pub fn whole_name_compared(s: &Splicer, name: &[u8; 32]) -> bool {
-    name == &s.name
-}
-
-pub fn name_begins_alike(s: &Splicer, name: &[u8; 32]) -> bool {
-    text_of(name).starts_with(text_of(&s.name))
-}
-
 pub fn alive_own_only(s: &Splicer, conn: u8) -> What {
     match (answers::alive(s, conn), s.on_air().is_some_and(|on_air| on_air.conn != conn)) {
         (What::Alive { result, seconds, micros, .. }, true) => What::Alive { result, state: 1, id: NONE, seconds, micros },
@@ -77,10 +65,6 @@ pub fn alive_whole_seconds(s: &Splicer, conn: u8) -> What {
         What::Alive { result, state, id, seconds, .. } => What::Alive { result, state, id, seconds, micros: 0 },
         other => other,
     }
-}
-
-pub fn failed_init_kept(s: &mut Splicer, conn: u8, _: u16, hardware: &[u8]) {
-    s.hardware[usize::from(conn)] = hardware.to_vec();
 }
 
 pub fn first_hardware_kept(s: &mut Splicer, conn: u8, result: u16, hardware: &[u8]) {
@@ -100,10 +84,6 @@ pub fn length_left_out(s: &mut Splicer, conn: u8, maps: &Maps, out: Out) {
     if let Some(Record { what: What::Config { hardware, .. }, .. }) = out.last_mut() {
         hardware.drain(..nothing().len());
     }
-}
-
-pub fn map_while_waiting(s: &Splicer) -> bool {
-    !s.sessions.is_empty()
 }
 
 pub fn refused_kept(s: &mut Splicer, conn: u8, fields: &SpliceFields, out: Out) {
@@ -155,22 +135,6 @@ pub fn others_numbers_held(s: &Splicer, conn: u8, fields: &SpliceFields) -> bool
     s.sessions.iter().any(|session| session.id == fields.id) || splice::wrong_number(s, conn, fields)
 }
 
-pub fn three_seconds_too_late(s: &Splicer, conn: u8, fields: &SpliceFields) -> bool {
-    fields.prior == NONE && s.start_of(conn, fields) <= s.clock + 3 * SECOND
-}
-
-pub fn linked_three_seconds(s: &Splicer, conn: u8, fields: &SpliceFields) -> bool {
-    s.start_of(conn, fields) < s.clock + 3 * SECOND
-}
-
-pub fn equal_passes_without_flag(s: &Splicer, conn: u8, fields: &SpliceFields) -> bool {
-    splice::collides(s, conn, &SpliceFields { overrides: 1, ..fields.clone() })
-}
-
-pub fn equal_refused(s: &Splicer, conn: u8, fields: &SpliceFields) -> bool {
-    splice::collides(s, conn, &SpliceFields { overrides: 0, ..fields.clone() })
-}
-
 pub fn own_collisions_only(s: &Splicer, conn: u8, fields: &SpliceFields) -> bool {
     let start = s.start_of(conn, fields);
     splice::collides(s, conn, fields) && s.waiting_at(start).is_some_and(|other| other.conn == conn)
@@ -186,7 +150,7 @@ pub fn collision_in_microseconds(s: &Splicer, conn: u8, fields: &SpliceFields) -
 }
 
 /// Full by these counts, with so many places for one and so many reserved.
-fn full_by(counts: [usize; 4], conn: u8, most: usize, reserved: usize) -> bool {
+pub fn full_by(counts: [usize; 4], conn: u8, most: usize, reserved: usize) -> bool {
     let own = counts[usize::from(conn)];
     let sum: usize = counts.iter().map(|count| (*count).max(10)).sum();
     own >= most || (own >= reserved && sum >= 64)
@@ -202,14 +166,6 @@ pub fn counted_after_eviction(s: &Splicer, conn: u8, fields: &SpliceFields) -> b
 pub fn one_pool(s: &Splicer, conn: u8, _: &SpliceFields) -> bool {
     let counts = s.waiting_counts();
     counts[usize::from(conn)] == 20 || counts.iter().sum::<usize>() >= 64
-}
-
-pub fn eleven_reserved(s: &Splicer, conn: u8, _: &SpliceFields) -> bool {
-    full_by(s.waiting_counts(), conn, 20, 11)
-}
-
-pub fn twenty_one_waiting(s: &Splicer, conn: u8, _: &SpliceFields) -> bool {
-    full_by(s.waiting_counts(), conn, 21, 10)
 }
 
 pub fn linked_start_rounded(s: &Splicer, conn: u8, fields: &SpliceFields) -> u64 {
@@ -250,8 +206,4 @@ pub fn evicted_kept_last(s: &mut Splicer, start: u64, access: u8, out: Out) {
 pub fn mux_of_the_lowest(s: &Splicer) -> u8 {
     let started = s.sessions.iter().filter(|session| session.state != State::Waiting);
     started.min_by_key(|session| session.access).map_or(5, |session| session.mux)
-}
-
-pub fn mux_zero_with_none(s: &Splicer) -> u8 {
-    s.on_air().map_or(0, |session| session.mux)
 }

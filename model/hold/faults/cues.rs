@@ -1,13 +1,117 @@
 //! Mistakes about cues (02, CR 7): each stands in for one rule of `rules::sections`, or of the cue call.
 
+use super::{dashed, mistakes};
 use rules::bytes::{Record, What};
+use rules::right::RULES;
 use rules::sections::{self, Comes, Given, Sections, Syntax, Verdict, BEHIND, COMMAND, LEAST, MOST, WRAP};
+use rules::state::Rules;
 use rules::state::{Splicer, ROOM};
 use rules::times::{ninths, wire, HORIZON, MICROSECOND, NONE, SECOND, TICK};
 use rules::{cue, sections as right};
+use std::sync::OnceLock;
+
+mistakes! { Miscue, MISCUES, Rules, RULES;
+    RegisterFromZero: "the CRC's register begins at 0", |r| r.sections.crc = |_, bytes| crc_by(bytes, 0, 0x04C1_1DB7, DOWN);
+    ReflectedPolynomial: "the CRC's polynomial is 0xEDB88320",
+        |r| r.sections.crc = |_, bytes| crc_by(bytes, NONE, 0xEDB8_8320, DOWN);
+    LowestBitFirst: "the lowest bit of a byte comes first",
+        |r| r.sections.crc = |_, bytes| crc_by(bytes, NONE, 0x04C1_1DB7, [0, 1, 2, 3, 4, 5, 6, 7]);
+    CrcInverted: "the CRC is inverted at the end", |r| r.sections.right = crc_inverted;
+    CrcUnchecked: "a wrong CRC_32 is let pass", |r| r.sections.right = |_, _| true;
+    SilenceBeforeCrc: "another table, command or mode is silent with a wrong CRC_32",
+        |r| r.sections.judged = silence_before_crc;
+    SilentCrc: "a wrong CRC_32 writes nothing", |r| r.sections.judged = silent_crc;
+    OtherTablePassed: "another table is read on", |r| r.sections.passed_over = |r, section| passed_with(r, section, 0, 0xFC);
+    EncryptedPassed: "an encrypted section is read on",
+        |r| r.sections.passed_over = |r, section| passed_with(r, section, 4, section[4] & 0x7F);
+    EncryptedBad: "an encrypted section gives 117",
+        |r| r.sections.passed_over = |r, section| but(r, section, |name| name == "nothing: encrypted", Comes::Bad);
+    OtherCommandBad: "another command gives 117", |r| r.sections.passed_over = other_command_bad;
+    SchedulePassed: "a splice_schedule is passed without a time",
+        |r| r.sections.passed_over = |r, section| but(r, section, |name| name == "nothing: splice_schedule", Comes::Timeless);
+    ProtocolChecked: "a protocol_version other than 0 writes nothing", |r| r.sections.passed_over = protocol_checked;
+    LengthsBeforeSilence: "lengths are checked before the mode", |r| r.sections.component_mode = lengths_before_silence;
+    ComponentPassed: "component mode is passed without a time",
+        |r| r.sections.component_mode = |_, _| (Comes::Timeless, "passes: component mode");
+    ComponentBad: "component mode gives 117", |r| r.sections.component_mode = |_, _| (Comes::Bad, "bad: component mode");
+    ShortIsComponent: "a splice_insert without its flags writes nothing", |r| r.sections.splice_insert = short_is_component;
+    ModeByCommandLength: "the flags must lie within splice_command_length",
+        |r| r.sections.splice_insert = mode_by_command_length;
+    CancelledReadOn: "a cancelled splice_insert is read on for a time", |r| r.sections.splice_insert = cancelled_read_on;
+    CancelledNothing: "a cancelled splice_insert writes nothing", |r| r.sections.splice_insert = cancelled_nothing;
+    TimeAlwaysFive: "a splice_time() has 5 bytes without a pts_time too",
+        |r| r.sections.splice_time = |r, bytes| right::splice_time(r, bytes).map(|(_, time)| (5, time));
+    ImmediateHasTime: "an immediate splice_insert has a splice_time()",
+        |r| r.sections.program_mode = |r, flags, command| right::program_mode(r, flags & !0x10, command);
+    DurationUnread: "duration_flag adds nothing to the size",
+        |r| r.sections.program_mode = |r, flags, command| right::program_mode(r, flags & !0x20, command);
+    NotGivenIsLength: "0xFFF is taken as a length", |r| r.sections.wrong_length = not_given_is_length;
+    NotGivenPasses: "with 0xFFF the syntax is not held to the section", |r| {
+        (r.sections.program_mode, r.sections.wrong_loop) = (not_given_passes, not_given_has_no_loop)
+    };
+    CommandLengthUnchecked: "splice_command_length is not compared", |r| r.sections.wrong_length = |_, _, _| None;
+    LongerCommandTaken: "a splice_command_length above the size is taken", |r| r.sections.wrong_length = longer_command_taken;
+    CommandOverCrc: "a command may reach over descriptor_loop_length", |r| r.sections.commanded = command_over_crc;
+    LoopUnchecked: "descriptor_loop_length is not checked", |r| r.sections.wrong_loop = |_, _, _| None;
+    LoopOneMore: "descriptor_loop_length may reach into CRC_32", |r| r.sections.wrong_loop = loop_one_more;
+    LoopMustFill: "bytes behind the descriptors give 117", |r| r.sections.wrong_loop = loop_must_fill;
+    AdjustmentLeftOut: "pts_adjustment is left out", |r| r.sections.adjustment = |_, _| 0;
+    AdjustmentOf32: "bit 32 of pts_adjustment is dropped",
+        |r| r.sections.adjustment = |r, section| right::adjustment(r, section) % (1 << 32);
+    TimeOf32: "bit 32 of pts_time is dropped", |r| r.sections.splice_time = time_of_32;
+    SumNotModulo: "the sum is not taken modulo 2^33",
+        |r| (r.sections.moment, r.sections.exact) = (sum_not_modulo, sum_not_wrapped);
+    AdjustmentIsTime: "pts_adjustment is the time where there is no pts_time", |r| r.sections.moment = adjustment_is_time;
+    Nearest: "the nearest of the cue's moments, before or after", |r| r.sections.exact = nearest;
+    FirstAfter: "the first moment after the given PTS", |r| r.sections.exact = first_after;
+    PtsRefused: "a PTS of 2^33 or more is refused with 8", |r| r.cue_refused = pts_refused;
+    RoundedUp: "the time is rounded up",
+        |r| r.sections.exact = |r, cue, given| right::exact(r, cue, given).next_multiple_of(MICROSECOND);
+    RoundedToNearest: "the time is rounded to the nearest microsecond",
+        |r| r.sections.exact = |r, cue, given| right::exact(r, cue, given) + 4;
+    ThroughMilliseconds: "the ticks are taken in milliseconds", |r| r.sections.exact = through_milliseconds;
+    PastWrapped: "an instant past the range wraps",
+        |r| r.sections.time_of = |r, comes, given| past_by(r, comes, given, |exact| exact % HORIZON);
+    PastClamped: "an instant past the range is the last microsecond",
+        |r| r.sections.time_of = |r, comes, given| past_by(r, comes, given, |_| HORIZON - 1);
+    LastSecondPast: "the last second counts as past the range", |r| r.sections.time_of = last_second_past;
+    TimelessIsGiven: "without a pts_time the given instant is written", |r| r.sections.time_of = timeless_is_given;
+    OpenServed: "open connections that are not initialised are served",
+        |r| r.cue_to = |s, _| (0..4).filter(|conn| s.open[usize::from(*conn)]).collect();
+    ClosedServed: "a connection closed since its Init is served",
+        |r| r.cue_to = |s, _| (0..4).filter(|conn| s.initialised[usize::from(*conn)]).collect();
+    FromThreeDown: "the connections from 3 downward", |r| r.cue_to = |s, comes| cue::cue_to(s, comes).into_iter().rev().collect();
+    BadToFirst: "117 to the first initialised connection only", |r| r.cue_to = bad_to_first;
+    WithoutCrc: "the section is sent without its CRC_32", |r| r.cue = without_crc;
+    EightFirst: "8 before 2", |r| r.cue_refused = eight_first;
+    ElevenFirst: "11 before 8", |r| r.cue_refused = eleven_first;
+    Twentieth: "20 bytes are refused", |r| r.sections.fits = |_, section| fits_by(section, LEAST + 1, MOST, 12);
+    Nineteen: "19 bytes are taken", |r| r.sections.fits = |_, section| fits_by(section, LEAST - 1, MOST, 12);
+    FiveHundredTwelve: "512 bytes are refused", |r| r.sections.fits = |_, section| fits_by(section, LEAST, MOST - 1, 12);
+    FiveHundredThirteen: "513 bytes are taken", |r| r.sections.fits = |_, section| fits_by(section, LEAST, MOST + 1, 12);
+    LongerTaken: "bytes behind the section are left over", |r| r.sections.fits = longer_taken;
+    LengthOf10: "section_length has 10 bits", |r| r.sections.fits = |_, section| fits_by(section, LEAST, MOST, 10);
+    ClockBrought: "a cue brings the clock to the given instant", |r| r.cue = clock_brought;
+}
+
+impl Miscue {
+    /// Its name on a command line.
+    pub fn name(self) -> String {
+        format!("cue-{}", dashed(&format!("{self:?}")))
+    }
+
+    pub fn named(name: &str) -> Option<Miscue> {
+        let mut all = MISCUES.iter().map(|(miscue, _)| *miscue);
+        all.find(|miscue| miscue.name() == name)
+    }
+
+    pub fn rules(self) -> &'static Rules {
+        self.made()
+    }
+}
 
 /// The CRC with another first register, polynomial or order of bits.
-fn crc_by(bytes: &[u8], mut register: u32, polynomial: u32, places: [u8; 8]) -> u32 {
+pub fn crc_by(bytes: &[u8], mut register: u32, polynomial: u32, places: [u8; 8]) -> u32 {
     for (byte, place) in bytes.iter().flat_map(|byte| places.map(|place| (byte, place))) {
         let highest = (register >> 31) as u8;
         register <<= 1;
@@ -20,25 +124,9 @@ fn crc_by(bytes: &[u8], mut register: u32, polynomial: u32, places: [u8; 8]) -> 
 
 const DOWN: [u8; 8] = [7, 6, 5, 4, 3, 2, 1, 0];
 
-pub fn register_from_zero(_: &Sections, bytes: &[u8]) -> u32 {
-    crc_by(bytes, 0, 0x04C1_1DB7, DOWN)
-}
-
-pub fn reflected_polynomial(_: &Sections, bytes: &[u8]) -> u32 {
-    crc_by(bytes, NONE, 0xEDB8_8320, DOWN)
-}
-
-pub fn lowest_bit_first(_: &Sections, bytes: &[u8]) -> u32 {
-    crc_by(bytes, NONE, 0x04C1_1DB7, [0, 1, 2, 3, 4, 5, 6, 7])
-}
-
 pub fn crc_inverted(r: &Sections, section: &[u8]) -> bool {
     let (front, last) = section.split_at(section.len() - 4);
     (!r.crc(front)).to_be_bytes() == last
-}
-
-pub fn crc_unchecked(_: &Sections, _: &[u8]) -> bool {
-    true
 }
 
 pub fn silent_crc(r: &Sections, section: &[u8]) -> Verdict {
@@ -57,35 +145,19 @@ pub fn silence_before_crc(r: &Sections, section: &[u8]) -> Verdict {
 }
 
 /// What is passed over, of a section changed in one byte.
-fn passed_with(r: &Sections, section: &[u8], at: usize, byte: u8) -> Option<Verdict> {
+pub fn passed_with(r: &Sections, section: &[u8], at: usize, byte: u8) -> Option<Verdict> {
     let mut other = section.to_vec();
     other[at] = byte;
     right::passed_over(r, &other)
 }
 
-pub fn other_table_passed(r: &Sections, section: &[u8]) -> Option<Verdict> {
-    passed_with(r, section, 0, 0xFC)
-}
-
-pub fn encrypted_passed(r: &Sections, section: &[u8]) -> Option<Verdict> {
-    passed_with(r, section, 4, section[4] & 0x7F)
-}
-
 /// The verdict as it is, or another of these.
-fn but(r: &Sections, section: &[u8], which: fn(&str) -> bool, comes: Comes) -> Option<Verdict> {
+pub fn but(r: &Sections, section: &[u8], which: fn(&str) -> bool, comes: Comes) -> Option<Verdict> {
     right::passed_over(r, section).map(|(right, name)| (if which(name) { comes } else { right }, name))
-}
-
-pub fn encrypted_bad(r: &Sections, section: &[u8]) -> Option<Verdict> {
-    but(r, section, |name| name == "nothing: encrypted", Comes::Bad)
 }
 
 pub fn other_command_bad(r: &Sections, section: &[u8]) -> Option<Verdict> {
     but(r, section, |name| name != "nothing: encrypted" && name != "nothing: another table", Comes::Bad)
-}
-
-pub fn schedule_passed(r: &Sections, section: &[u8]) -> Option<Verdict> {
-    but(r, section, |name| name == "nothing: splice_schedule", Comes::Timeless)
 }
 
 pub fn protocol_checked(r: &Sections, section: &[u8]) -> Option<Verdict> {
@@ -100,14 +172,6 @@ pub fn lengths_before_silence(r: &Sections, section: &[u8]) -> Verdict {
         true => right::component_mode(r, section),
         false => (Comes::Bad, "bad: component mode"),
     }
-}
-
-pub fn component_passed(_: &Sections, _: &[u8]) -> Verdict {
-    (Comes::Timeless, "passes: component mode")
-}
-
-pub fn component_bad(_: &Sections, _: &[u8]) -> Verdict {
-    (Comes::Bad, "bad: component mode")
 }
 
 pub fn short_is_component(r: &Sections, section: &[u8], command: &[u8]) -> Result<Syntax, Verdict> {
@@ -140,20 +204,8 @@ pub fn cancelled_nothing(r: &Sections, section: &[u8], command: &[u8]) -> Result
     }
 }
 
-pub fn time_always_five(r: &Sections, bytes: &[u8]) -> Option<(usize, Option<u64>)> {
-    right::splice_time(r, bytes).map(|(_, time)| (5, time))
-}
-
 pub fn time_of_32(r: &Sections, bytes: &[u8]) -> Option<(usize, Option<u64>)> {
     right::splice_time(r, bytes).map(|(size, time)| (size, time.map(|time| time % (1 << 32))))
-}
-
-pub fn immediate_has_time(r: &Sections, flags: u8, command: &[u8]) -> Result<Syntax, Verdict> {
-    right::program_mode(r, flags & !0x10, command)
-}
-
-pub fn duration_unread(r: &Sections, flags: u8, command: &[u8]) -> Result<Syntax, Verdict> {
-    right::program_mode(r, flags & !0x20, command)
 }
 
 /// As if there were room enough behind it.
@@ -178,10 +230,6 @@ pub fn not_given_is_length(_: &Sections, section: &[u8], size: usize) -> Option<
     (usize::from(sections::command_length(section)) != size).then_some("bad: splice_command_length")
 }
 
-pub fn command_length_unchecked(_: &Sections, _: &[u8], _: usize) -> Option<&'static str> {
-    None
-}
-
 pub fn longer_command_taken(r: &Sections, section: &[u8], size: usize) -> Option<&'static str> {
     right::wrong_length(r, section, size).filter(|_| usize::from(sections::command_length(section)) < size)
 }
@@ -192,10 +240,6 @@ pub fn command_over_crc(r: &Sections, section: &[u8]) -> Verdict {
     syntax.map_or_else(|verdict| verdict, |syntax| right::fitted(r, section, syntax))
 }
 
-pub fn loop_unchecked(_: &Sections, _: &[u8], _: usize) -> Option<&'static str> {
-    None
-}
-
 pub fn loop_one_more(r: &Sections, section: &[u8], size: usize) -> Option<&'static str> {
     let (end, crc) = sections::loop_end(section, size);
     right::wrong_loop(r, section, size).filter(|_| end > crc + 1)
@@ -204,14 +248,6 @@ pub fn loop_one_more(r: &Sections, section: &[u8], size: usize) -> Option<&'stat
 pub fn loop_must_fill(_: &Sections, section: &[u8], size: usize) -> Option<&'static str> {
     let (end, crc) = sections::loop_end(section, size);
     (end != crc).then_some("bad: descriptor_loop_length")
-}
-
-pub fn adjustment_left_out(_: &Sections, _: &[u8]) -> u64 {
-    0
-}
-
-pub fn adjustment_of_32(r: &Sections, section: &[u8]) -> u64 {
-    right::adjustment(r, section) % (1 << 32)
 }
 
 pub fn sum_not_modulo(r: &Sections, section: &[u8], time: Option<u64>) -> Comes {
@@ -245,32 +281,16 @@ pub fn first_after(r: &Sections, cue: u64, given: &Given) -> u64 {
     right::exact(r, cue, given) + again
 }
 
-pub fn rounded_up(r: &Sections, cue: u64, given: &Given) -> u64 {
-    right::exact(r, cue, given).next_multiple_of(MICROSECOND)
-}
-
-pub fn rounded_to_nearest(r: &Sections, cue: u64, given: &Given) -> u64 {
-    right::exact(r, cue, given) + 4
-}
-
 pub fn through_milliseconds(_: &Sections, cue: u64, given: &Given) -> u64 {
     ninths(given.seconds, given.micros) + sections::ticks(cue, given.pts) / 90 * 1_000 * MICROSECOND
 }
 
 /// The time, with another one for an instant past the range.
-fn past_by(r: &Sections, comes: Comes, given: &Given, past: fn(u64) -> u64) -> (u32, u32) {
+pub fn past_by(r: &Sections, comes: Comes, given: &Given, past: fn(u64) -> u64) -> (u32, u32) {
     match comes {
         Comes::At(cue) if r.exact(cue, given) >= HORIZON => wire(past(r.exact(cue, given))),
         _ => right::time_of(r, comes, given),
     }
-}
-
-pub fn past_wrapped(r: &Sections, comes: Comes, given: &Given) -> (u32, u32) {
-    past_by(r, comes, given, |exact| exact % HORIZON)
-}
-
-pub fn past_clamped(r: &Sections, comes: Comes, given: &Given) -> (u32, u32) {
-    past_by(r, comes, given, |_| HORIZON - 1)
 }
 
 pub fn last_second_past(r: &Sections, comes: Comes, given: &Given) -> (u32, u32) {
@@ -285,18 +305,6 @@ pub fn timeless_is_given(r: &Sections, comes: Comes, given: &Given) -> (u32, u32
         Comes::At(_) => right::time_of(r, comes, given),
         _ => (given.seconds, given.micros),
     }
-}
-
-pub fn open_served(s: &Splicer, _: Comes) -> Vec<u8> {
-    (0..4).filter(|conn| s.open[usize::from(*conn)]).collect()
-}
-
-pub fn closed_served(s: &Splicer, _: Comes) -> Vec<u8> {
-    (0..4).filter(|conn| s.initialised[usize::from(*conn)]).collect()
-}
-
-pub fn from_three_down(s: &Splicer, comes: Comes) -> Vec<u8> {
-    cue::cue_to(s, comes).into_iter().rev().collect()
 }
 
 pub fn bad_to_first(s: &Splicer, comes: Comes) -> Vec<u8> {
@@ -344,31 +352,11 @@ pub fn eleven_first(s: &Splicer, given: &Given, room: usize) -> Option<u8> {
 }
 
 /// The lengths that are taken, by the bits of section_length that count.
-fn fits_by(section: &[u8], least: usize, most: usize, bits: usize) -> bool {
+pub fn fits_by(section: &[u8], least: usize, most: usize, bits: usize) -> bool {
     (least..=most).contains(&section.len()) && section.len() == 3 + sections::section_length(section) % (1 << bits)
-}
-
-pub fn twentieth(_: &Sections, section: &[u8]) -> bool {
-    fits_by(section, LEAST + 1, MOST, 12)
-}
-
-pub fn nineteen(_: &Sections, section: &[u8]) -> bool {
-    fits_by(section, LEAST - 1, MOST, 12)
-}
-
-pub fn five_hundred_twelve(_: &Sections, section: &[u8]) -> bool {
-    fits_by(section, LEAST, MOST - 1, 12)
-}
-
-pub fn five_hundred_thirteen(_: &Sections, section: &[u8]) -> bool {
-    fits_by(section, LEAST, MOST + 1, 12)
 }
 
 pub fn longer_taken(r: &Sections, section: &[u8]) -> bool {
     let longer = (LEAST..=MOST).contains(&section.len()) && 3 + sections::section_length(section) < section.len();
     longer || right::fits(r, section)
-}
-
-pub fn length_of_10(_: &Sections, section: &[u8]) -> bool {
-    fits_by(section, LEAST, MOST, 10)
 }

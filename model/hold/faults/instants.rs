@@ -4,12 +4,7 @@ use rules::bytes::{Record, Shown, What};
 use rules::descriptors::AVERAGE;
 use rules::ends::{self, complete};
 use rules::state::{By, Ended, Out, Row, Session, Splicer, State};
-use rules::times::{MICROSECOND, TICK};
 use rules::{ended, instants};
-
-pub fn instant_left_over(s: &Splicer, until: u64) -> Option<u64> {
-    until.checked_sub(1).and_then(|before| instants::next_instant(s, before))
-}
 
 pub fn start_before_ends(s: &mut Splicer, time: u64, out: Out) {
     if let Some(session) = s.waiting_at(time).cloned() {
@@ -27,10 +22,6 @@ pub fn lowest_ends_first(s: &Splicer, time: u64) -> Vec<Session> {
 pub fn covered_end_100(s: &mut Splicer, session: &Session, time: u64, out: Out) {
     let played = s.time_on_air(session, time);
     complete(s, session, (1, 100), played, out);
-}
-
-pub fn never_on_air_again(_: &mut Splicer, _: u64) -> bool {
-    false
 }
 
 pub fn lowest_on_air_again(s: &mut Splicer, time: u64) -> bool {
@@ -51,14 +42,6 @@ pub fn covered_end_moves(s: &mut Splicer, time: u64) -> bool {
         }
     }
     again
-}
-
-pub fn played_in_microseconds(s: &Splicer, session: &Session, time: u64) -> u64 {
-    instants::time_on_air(s, session, time) / MICROSECOND * MICROSECOND
-}
-
-pub fn covered_time_played(_: &Splicer, session: &Session, time: u64) -> u64 {
-    time - session.start
 }
 
 pub fn equal_ends_behind_start(s: &mut Splicer, session: &Session, time: u64, out: Out) {
@@ -85,7 +68,7 @@ pub fn failure_leaves_followers(s: &mut Splicer, session: &Session, out: Out) {
 pub fn equal_covered(_: &mut Splicer, _: &Session, _: u64, _: Out) {}
 
 /// The equal one on air, for a fault in how it ends.
-fn equal(s: &Splicer, session: &Session) -> Option<Session> {
+pub fn equal(s: &Splicer, session: &Session) -> Option<Session> {
     s.on_air().filter(|on_air| on_air.access == session.access).cloned()
 }
 
@@ -146,7 +129,7 @@ pub fn only_direct_follower(s: &Splicer, of: &Session) -> Vec<Session> {
 }
 
 /// Followers by other links.
-fn followers_by(s: &Splicer, of: &Session, near: fn(&Session, &Session) -> bool) -> Vec<Session> {
+pub fn followers_by(s: &Splicer, of: &Session, near: fn(&Session, &Session) -> bool) -> Vec<Session> {
     let (mut found, mut reached, mut next) = (Vec::new(), vec![of.id], 0);
     while next < reached.len() {
         let prior = reached[next];
@@ -163,22 +146,10 @@ fn followers_by(s: &Splicer, of: &Session, near: fn(&Session, &Session) -> bool)
     found
 }
 
-pub fn followers_elsewhere(s: &Splicer, of: &Session) -> Vec<Session> {
-    followers_by(s, of, |other, _| other.state == State::Waiting)
-}
-
-pub fn followers_of_started(s: &Splicer, of: &Session) -> Vec<Session> {
-    followers_by(s, of, |other, of| other.conn == of.conn)
-}
-
 pub fn followers_last_first(s: &Splicer, of: &Session) -> Vec<Session> {
     let mut all = ends::followers(s, of);
     all.reverse();
     all
-}
-
-pub fn aborted_followers_109(s: &mut Splicer, of: &Session, _: u16, out: Out) {
-    ends::end_followers(s, of, 109, out);
 }
 
 pub fn covered_abort_completes(s: &mut Splicer, session: &Session, out: Out) {
@@ -237,22 +208,10 @@ pub fn nothing_after_close(s: &mut Splicer, conn: u8, out: Out) {
     }
 }
 
-pub fn primary_while_on_air(s: &mut Splicer, from: u64, to: u64) {
-    s.primary += to - from;
-}
-
 pub fn primary_not_while_waiting(s: &mut Splicer, from: u64, to: u64) {
     if s.sessions.is_empty() {
         instants::pass(s, from, to);
     }
-}
-
-pub fn primary_from_tick_start(s: &mut Splicer, _: u64, to: u64) {
-    instants::pass(s, s.clock, to);
-}
-
-pub fn primary_in_ticks(s: &mut Splicer, from: u64, to: u64) {
-    instants::pass(s, from, from + (to - from) / TICK * TICK);
 }
 
 pub fn primary_last_stretch(s: &mut Splicer, until: u64, out: Out) {
@@ -279,25 +238,13 @@ pub fn waited_not_kept(s: &mut Splicer, session: &Session, by: By, result: u16, 
     }
 }
 
-pub fn ended_answers_result(s: &mut Splicer, session: &Session, by: By, _: u16, played: u32) {
-    ended::remember(s, session, by, 100, played);
-}
-
 /// It is kept, and the oldest of so many dropped.
-fn keep(s: &mut Splicer, session: &Session, result: u16, played: u32, most: usize) {
+pub fn keep(s: &mut Splicer, session: &Session, result: u16, played: u32, most: usize) {
     let Session { conn, id, event, .. } = *session;
     s.ended.push(Ended { conn, id, event, result, played });
     if s.ended.len() > most {
         s.ended.remove(0);
     }
-}
-
-pub fn fifteen_kept(s: &mut Splicer, session: &Session, _: By, result: u16, played: u32) {
-    keep(s, session, result, played, 15);
-}
-
-pub fn seventeen_kept(s: &mut Splicer, session: &Session, _: By, result: u16, played: u32) {
-    keep(s, session, result, played, 17);
 }
 
 pub fn sixteen_of_each(s: &mut Splicer, session: &Session, _: By, result: u16, played: u32) {
@@ -312,18 +259,6 @@ pub fn newest_dropped(s: &mut Splicer, session: &Session, by: By, result: u16, p
     if s.ended.len() < ended::KEPT {
         ended::remember(s, session, by, result, played);
     }
-}
-
-pub fn covered_played_lost(_: &Splicer, _: &Session) -> u32 {
-    0
-}
-
-pub fn anothers_end_found(s: &Splicer, _: u8, id: u32) -> Option<Ended> {
-    s.ended.iter().rev().find(|ended| ended.id == id).cloned()
-}
-
-pub fn oldest_end_found(s: &Splicer, conn: u8, id: u32) -> Option<Ended> {
-    s.ended.iter().find(|ended| ended.conn == conn && ended.id == id).cloned()
 }
 
 pub fn held_again_121(s: &Splicer, conn: u8, id: u32) -> Option<Ended> {

@@ -3,10 +3,10 @@
 use crate::hold::watch::descriptors_judged;
 use rules::bytes::{half, word};
 use rules::config::nothing;
-use rules::descriptors::{self, Found, AVERAGE, SAPI};
-use rules::reading::{self, MOST_HARDWARE};
+use rules::descriptors::{self, Found};
+use rules::reading::{self};
 use rules::requests::{Formed, Read, Reading, Request, SpliceFields, Tail, Why};
-use rules::streams::{self, number, of_bytes, Stream, Streams, HEAD, LARGEST_PID, LEAST, MOST};
+use rules::streams::{self, number, of_bytes, Stream, Streams, HEAD, LEAST};
 
 /// The lengths that a descriptor may have.
 fn formed_by(bytes: &[u8], least: u8, most: u8) -> Formed<'_> {
@@ -34,7 +34,7 @@ pub fn linked_micros_checked(r: &Reading, fields: &SpliceFields, returns: u8) ->
 }
 
 /// The list, with the largest PcrPID and PIDCount taken, and bytes left out behind each structure.
-fn list_by(r: &Reading, bytes: &[u8], pcr: u64, most: u64, gap: usize) -> Result<(Streams, usize), Why> {
+pub fn list_by(r: &Reading, bytes: &[u8], pcr: u64, most: u64, gap: usize) -> Result<(Streams, usize), Why> {
     if bytes.len() < HEAD {
         return Err("123 Splice without a whole PIDCount");
     }
@@ -51,20 +51,8 @@ fn list_by(r: &Reading, bytes: &[u8], pcr: u64, most: u64, gap: usize) -> Result
     Ok((Streams { pcr_pid, list }, at))
 }
 
-pub fn next_structure_too_far(r: &Reading, bytes: &[u8]) -> Result<(Streams, usize), Why> {
-    list_by(r, bytes, LARGEST_PID, MOST as u64, 1)
-}
-
-pub fn pid_count_unchecked(r: &Reading, bytes: &[u8]) -> Result<(Streams, usize), Why> {
-    list_by(r, bytes, LARGEST_PID, u64::MAX, 0)
-}
-
-pub fn pcr_pid_unchecked(r: &Reading, bytes: &[u8]) -> Result<(Streams, usize), Why> {
-    list_by(r, bytes, u64::MAX, MOST as u64, 0)
-}
-
 /// A structure, with the least Length, the largest PID and the largest StreamType taken.
-fn one_by(bytes: &[u8], least: usize, pid: u64, kind: u64) -> Result<(Stream, usize), Why> {
+pub fn one_by(bytes: &[u8], least: usize, pid: u64, kind: u64) -> Result<(Stream, usize), Why> {
     let length = bytes.first().map_or(0, |b| usize::from(*b));
     let whole = bytes.get(..length.max(LEAST)).filter(|_| length >= least);
     let stream = of_bytes(whole.ok_or("123 Splice structure of another Length")?);
@@ -72,18 +60,6 @@ fn one_by(bytes: &[u8], least: usize, pid: u64, kind: u64) -> Result<(Stream, us
         true => Ok((stream, length)),
         false => Err("123 Splice PID or StreamType"),
     }
-}
-
-pub fn length_20_taken(_: &Reading, bytes: &[u8]) -> Result<(Stream, usize), Why> {
-    one_by(bytes, LEAST - 1, LARGEST_PID, 0xFFFE)
-}
-
-pub fn pid_unchecked(_: &Reading, bytes: &[u8]) -> Result<(Stream, usize), Why> {
-    one_by(bytes, LEAST, u64::MAX, 0xFFFE)
-}
-
-pub fn stream_type_unchecked(_: &Reading, bytes: &[u8]) -> Result<(Stream, usize), Why> {
-    one_by(bytes, LEAST, LARGEST_PID, u64::MAX)
 }
 
 pub fn unknown_rate_refused(r: &Reading, bytes: &[u8]) -> Result<(Stream, usize), Why> {
@@ -100,18 +76,6 @@ pub fn tail_at_18<'d>(r: &Reading, data: &'d [u8]) -> Result<Tail<'d>, Why> {
     }
     let (list, _) = r.streams(&data[18..])?;
     Ok(Tail { bytes: &data[18..], streams: Some(list) })
-}
-
-pub fn event_at_22(r: &Reading, data: &[u8], tail: Tail) -> SpliceFields {
-    SpliceFields { event: word(data, 22), ..reading::fields(r, data, tail) }
-}
-
-pub fn mux_any_identifier(_: &Reading, tag: u8, _: &[u8]) -> bool {
-    tag == 2
-}
-
-pub fn mux_tag_3(_: &Reading, tag: u8, body: &[u8]) -> bool {
-    tag == 3 && body.starts_with(&SAPI)
 }
 
 pub fn mux_value_0(r: &Reading, body: &[u8]) -> Result<u8, Why> {
@@ -134,7 +98,7 @@ pub fn mux_length_6(r: &Reading, body: &[u8]) -> Result<u8, Why> {
 }
 
 /// All values in their order.
-fn values(r: &Reading, bytes: &[u8]) -> Result<Vec<u8>, Why> {
+pub fn values(r: &Reading, bytes: &[u8]) -> Result<Vec<u8>, Why> {
     let (mut list, mut rest) = (Vec::new(), bytes);
     while let Some((found, behind)) = descriptors::first(r, rest)? {
         if let Found::Mux(value) = found {
@@ -143,14 +107,6 @@ fn values(r: &Reading, bytes: &[u8]) -> Result<Vec<u8>, Why> {
         rest = behind;
     }
     Ok(list)
-}
-
-pub fn mux_first_wins(r: &Reading, bytes: &[u8]) -> Result<u8, Why> {
-    Ok(values(r, bytes)?.first().copied().unwrap_or(AVERAGE))
-}
-
-pub fn mux_without_one_0(r: &Reading, bytes: &[u8]) -> Result<u8, Why> {
-    Ok(values(r, bytes)?.last().copied().unwrap_or(0))
 }
 
 pub fn mux_bad_before_good(r: &Reading, bytes: &[u8]) -> Result<u8, Why> {
@@ -166,7 +122,7 @@ pub fn mux_bad_before_good(r: &Reading, bytes: &[u8]) -> Result<u8, Why> {
 }
 
 /// The Hardware_Config with its Length at `from`, `most` bytes at most.
-fn hardware_by(data: &[u8], from: usize, most: usize) -> Result<Vec<u8>, Why> {
+pub fn hardware_by(data: &[u8], from: usize, most: usize) -> Result<Vec<u8>, Why> {
     if data.len() < 68 {
         return Err("123 Init of 66 or 67 bytes");
     }
@@ -182,39 +138,11 @@ pub fn init_66_taken(r: &Reading, data: &[u8]) -> Result<Vec<u8>, Why> {
     }
 }
 
-pub fn hardware_at_64(_: &Reading, data: &[u8]) -> Result<Vec<u8>, Why> {
-    hardware_by(data, 64, MOST_HARDWARE)
-}
-
-pub fn length_255_taken(_: &Reading, data: &[u8]) -> Result<Vec<u8>, Why> {
-    hardware_by(data, 66, MOST_HARDWARE + 1)
-}
-
-pub fn length_254_refused(_: &Reading, data: &[u8]) -> Result<Vec<u8>, Why> {
-    hardware_by(data, 66, MOST_HARDWARE - 1)
-}
-
-pub fn length_not_counted(_: &Reading, data: &[u8]) -> Result<Vec<u8>, Why> {
-    hardware_by(data, 66, MOST_HARDWARE + 2)
-}
-
-pub fn hardware_to_the_end(r: &Reading, data: &[u8]) -> Result<Vec<u8>, Why> {
-    reading::hardware(r, data).map(|_| data[66..].to_vec())
-}
-
 pub fn hardware_past_the_end(r: &Reading, data: &[u8]) -> Result<Vec<u8>, Why> {
     match reading::hardware(r, data) {
         Err("123 Init Hardware_Config past the end") => Ok(data[66..].to_vec()),
         other => other,
     }
-}
-
-pub fn config_data_taken(_: &Reading, _: &[u8]) -> Read {
-    Ok(Request::Config)
-}
-
-pub fn extended_9_taken(r: &Reading, data: &[u8]) -> Read {
-    reading::read_extended(r, data.get(..8).unwrap_or(data))
 }
 
 pub fn any_type_taken(r: &Reading, data: &[u8]) -> Read {

@@ -1,12 +1,13 @@
 //! What a driver reads to sleep until something happens: what is on air, what is due next, and all that is held. The
 //! reads refuse nothing and change nothing. All times are in ninths.
 
+use crate::instants::time_on_air;
 use crate::state::{Due, Session, Splicer, State};
 use crate::times::{wire, HORIZON, MICROSECOND};
 
 /// A session as it is read: its time on air is told up to the clock.
 fn told(s: &Splicer, session: &Session) -> Session {
-    Session { played: s.time_on_air(session, s.clock), since: s.clock, ..session.clone() }
+    Session { played: time_on_air(s, session, s.clock), since: s.clock, ..session.clone() }
 }
 
 /// "1 and the session on air; or 0".
