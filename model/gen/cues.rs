@@ -1,8 +1,8 @@
 //! Cue calls (02, CR 7) between the plain ones; sections whole, cut and damaged.
 
 use crate::gen::draw::{Gen, Rng, TOP};
-use crate::gen::episodes;
 use crate::gen::sections::{plainest, section};
+use crate::gen::themes;
 use crate::people::card;
 use crate::people::cues::{judged, Comes, Given, HORIZON, WRAP};
 use crate::people::decode::call_line;
@@ -41,7 +41,7 @@ pub fn stream(seed: u64, index: u64) -> Vec<Call> {
     for _ in 0..length {
         match gen.rng.below(100) {
             0..=3 => connection(&mut gen),
-            4..=6 => gen.rng.pick(episodes::ALL)(&mut gen),
+            4..=6 => gen.rng.pick(themes::ALL)(&mut gen),
             _ => {}
         }
         taken(&mut gen, &mut list);

@@ -1,32 +1,17 @@
 //! What a stream of card input is drawn with: random numbers, requests, and a second program of its
 //! own at hand, which is asked for the present state, so that the episodes can aim.
 
+pub use crate::gen::data::{Ask, TOP};
 pub use crate::gen::rng::Rng;
 use crate::people::card::{self, Call};
 use crate::people::scenario::message;
 use crate::rules::{Session, Splicer, State, MICROSECOND, NONE, SECOND};
-use crate::streams::{self, Stream, Streams};
 use rules::calls;
 use rules::ended::{self, KEPT};
 use rules::right::RULES;
 use rules::rolling;
 use rules::state::{By, Rules};
 use std::cell::Cell;
-
-/// The last microsecond that a wire time can name.
-pub const TOP: u64 = 0xFFFF_FFFF * 1_000_000 + 999_999;
-
-/// A Splice_Request to be sent. The fields without effect are drawn when it is sent.
-#[derive(Clone)]
-pub struct Ask {
-    pub id: u32,
-    pub prior: u32,
-    /// The wire time in microseconds.
-    pub at: u64,
-    pub duration: u32,
-    pub access: u8,
-    pub overrides: u8,
-}
 
 pub struct Gen {
     pub rng: Rng,
@@ -144,32 +129,9 @@ impl Gen {
             self.call(Call::Open(conn));
         }
         if !self.model.initialised[conn as usize] {
-            let data = self.good_init();
+            let data = self.rng.good_init();
             self.send(conn, 0x0001, data);
         }
-    }
-
-    pub fn good_init(&mut self) -> Vec<u8> {
-        let mut data = vec![0; 66];
-        data[1] = 2;
-        data[2..5].copy_from_slice(b"CH1");
-        if self.rng.chance(40) {
-            let from = self.rng.between(6, 33) as usize;
-            data[from..34].fill(self.rng.pick(&[1, 0x41, 0xFF]));
-        }
-        data[34..41].copy_from_slice(b"SPLICER");
-        data.extend(self.hardware(self.rng.pick(&[0, 0, 1, 7, 8, 8, 8, 14, 26, 253, 254])));
-        for _ in 0..self.rng.pick(&[0, 0, 1, 10, 30]) {
-            data.push(self.rng.next() as u8);
-        }
-        data
-    }
-
-    /// A Hardware_Config of this Length, its bytes drawn (02, CR 6).
-    pub fn hardware(&mut self, length: u16) -> Vec<u8> {
-        let mut bytes = length.to_be_bytes().to_vec();
-        bytes.extend((0..length).map(|_| self.rng.next() as u8));
-        bytes
     }
 
     /// A GetConfig_Request (02, CR 6).
@@ -233,7 +195,7 @@ impl Gen {
     }
 
     pub fn ask(&mut self, conn: u8, ask: &Ask) {
-        let data = self.splice_data(ask);
+        let data = self.rng.splice_data(ask);
         self.send(conn, 0x0007, data);
     }
 
@@ -251,90 +213,6 @@ impl Gen {
             }
         }
         last
-    }
-
-    /// The data of a readable Splice_Request, at times with separate PIDs.
-    pub fn splice_data(&mut self, ask: &Ask) -> Vec<u8> {
-        let data = self.plain_data(ask);
-        if self.rng.chance(92) {
-            return data;
-        }
-        let streams = self.streams(self.rng.pick(&[0, 1, 1, 2, 2, 3, 7, 14, 15, 16]));
-        separate(data, &streams)
-    }
-
-    /// The data of a readable Splice_Request with another ServiceID than 0xFFFF.
-    pub fn plain_data(&mut self, ask: &Ask) -> Vec<u8> {
-        let at = ask.at.min(TOP);
-        let mut micros = (at % 1_000_000) as u32;
-        if ask.prior != NONE && self.rng.chance(20) {
-            // A linked request's time is not read.
-            micros = self.rng.pick(&[1_000_000, 0xFFFF_FFFF]);
-        }
-        let mut data = Vec::new();
-        for word in [ask.id, ask.prior, (at / 1_000_000) as u32, micros] {
-            data.extend(word.to_be_bytes());
-        }
-        data.extend((self.rng.pick(&[0, 1, 2, 0xFFFE]) as u16).to_be_bytes());
-        for word in [ask.duration, self.rng.pick(&[NONE, 0, self.rng.next() as u32]), self.rng.pick(&[0, 0, 90_000, NONE])] {
-            data.extend(word.to_be_bytes());
-        }
-        data.extend([ask.access, ask.overrides, self.rng.below(2) as u8]);
-        for _ in 0..self.rng.pick(&[0, 0, 0, 0, 1, 2, 3]) {
-            data.extend(self.good_descriptor());
-        }
-        data
-    }
-
-    /// A muxpriority_descriptor, one that is almost one, or any other.
-    pub fn good_descriptor(&mut self) -> Vec<u8> {
-        let drawn = self.rng.between(1, 10) as u8;
-        let value = self.rng.pick(&[1, 5, 10, drawn, drawn]);
-        let any = self.rng.next() as u8;
-        let length = self.rng.pick(&[4, 4, 5, 9, 254]);
-        match self.rng.below(12) {
-            0..=4 => mux(value),
-            5 => named(2, b"CUEI", &[any]),
-            6 => named(2, b"IPAS", &[any]),
-            7 => named(3, b"SAPI", &[any]),
-            8 => named(2, b"SAPJ", &[]),
-            _ => self.descriptor(length),
-        }
-    }
-
-    /// A readable list of separate PIDs, short enough for any tail.
-    pub fn streams(&mut self, count: usize) -> Streams {
-        let pcr_pid = self.rng.pick(&[0, 0x31, 0x1FFE, 0x1FFF, self.rng.below(0x2000)]);
-        let list = (0..count).map(|_| self.stream(count, pcr_pid)).collect();
-        Streams { pcr_pid, list }
-    }
-
-    fn stream(&mut self, count: usize, pcr_pid: u64) -> Stream {
-        let drawn = self.rng.below(0x2000);
-        let rates = [0xFFFF_FFFF, 0xFFFF_FFFE, 0xFFFF, 0, 4_000_000, self.rng.below(1 << 32)];
-        let sizes = [0xFFFF, 0xFFFE, 0, 720, 1_920];
-        let kept = match count {
-            0..=10 => self.rng.pick(&[0, 0, 0, 1, 3, 234]),
-            _ => self.rng.pick(&[0, 0, 0, 1, 3]),
-        };
-        Stream {
-            pid: self.rng.pick(&[pcr_pid, 0x31, 0x32, 0x1FFF, drawn, drawn]),
-            kind: self.rng.pick(&[0x02, 0x1B, 0x81, 0, 0x8100, 0xFFFE]),
-            average: self.rng.pick(&rates),
-            highest: self.rng.pick(&rates),
-            lowest: self.rng.pick(&rates),
-            width: self.rng.pick(&sizes),
-            height: self.rng.pick(&sizes),
-            kept: (0..kept).map(|_| self.rng.next() as u8).collect(),
-        }
-    }
-
-    pub fn descriptor(&mut self, length: u8) -> Vec<u8> {
-        let mut bytes = vec![self.rng.next() as u8, length];
-        for _ in 0..length {
-            bytes.push(self.rng.next() as u8);
-        }
-        bytes
     }
 
     pub fn abort(&mut self, conn: u8, id: u32) {
@@ -396,31 +274,6 @@ impl Gen {
     pub fn seconds(&self) -> u64 {
         self.model.clock / SECOND
     }
-}
-
-/// A muxpriority_descriptor, good or not.
-pub fn mux(value: u8) -> Vec<u8> {
-    named(2, b"SAPI", &[value])
-}
-
-/// A descriptor of this tag, identifier and private bytes.
-pub fn named(tag: u8, identifier: &[u8; 4], private: &[u8]) -> Vec<u8> {
-    let length = 4 + private.len() as u8;
-    [&[tag, length], &identifier[..], private].concat()
-}
-
-/// The data with ServiceID 0xFFFF and these PIDs behind it.
-pub fn separate(data: Vec<u8>, streams: &Streams) -> Vec<u8> {
-    between(data, &streams::write(streams).unwrap_or_default())
-}
-
-/// The data with ServiceID 0xFFFF and these bytes behind it.
-pub fn between(mut data: Vec<u8>, bytes: &[u8]) -> Vec<u8> {
-    let tail = data.split_off(18);
-    data[16..].fill(0xFF);
-    data.extend(bytes);
-    data.extend(tail);
-    data
 }
 
 #[cfg(test)]

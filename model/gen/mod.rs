@@ -1,15 +1,24 @@
 //! The seeded generator of card input. The same seed gives the same streams on every machine.
 
 pub mod aims;
+pub mod chains;
+pub mod changed;
 pub mod cues;
 pub mod damage;
+pub mod data;
 pub mod draw;
 pub mod driver;
+pub mod edges;
 pub mod episodes;
+pub mod filling;
 pub mod logs;
+pub mod queues;
 pub mod rng;
 pub mod rolls;
 pub mod sections;
+pub mod splices;
+pub mod stacks;
+pub mod themes;
 
 use crate::config::MOST_HARDWARE;
 use crate::people::card::{self, Call};
@@ -21,13 +30,13 @@ pub fn stream(seed: u64, index: u64) -> Vec<u8> {
     let mixed = Rng::new(seed);
     let rng = Rng::new(mixed.next() ^ index.wrapping_mul(0xD1B5_4A32_D192_ED03));
     let mut gen = Gen::new(rng);
-    let themes = episodes::THEMES;
+    let themes = themes::THEMES;
     let theme = &themes[(index % themes.len() as u64) as usize];
     gen.at_the_top = theme.at_the_top;
     gen.begin();
     let length = gen.rng.between(200, 1000);
     while gen.calls < length {
-        let list = if gen.rng.chance(60) { theme.favourites } else { episodes::ALL };
+        let list = if gen.rng.chance(60) { theme.favourites } else { themes::ALL };
         gen.rng.pick(list)(&mut gen);
     }
     damage::tail(&mut gen);
@@ -66,12 +75,12 @@ mod tests {
     fn the_same_seed_gives_the_same_stream() {
         assert_eq!(stream(7, 3), stream(7, 3));
         assert_ne!(stream(7, 3), stream(8, 3));
-        assert_ne!(stream(7, 3), stream(7, 3 + episodes::THEMES.len() as u64));
+        assert_ne!(stream(7, 3), stream(7, 3 + themes::THEMES.len() as u64));
     }
 
     #[test]
     fn a_stream_is_long() {
-        for index in 0..episodes::THEMES.len() as u64 {
+        for index in 0..themes::THEMES.len() as u64 {
             let calls = card::run(&stream(1, index)).calls.len();
             assert!(calls >= 200, "stream {index}: {calls} calls");
         }

@@ -2,7 +2,7 @@
 //! card has.
 
 use crate::gen::draw::{Ask, Gen, Rng, Rolls, TOP};
-use crate::gen::episodes;
+use crate::gen::themes;
 use crate::people::card;
 use crate::people::rolling::{Call, Rolling, HORIZON, LIMIT};
 use crate::rules::{ninths, Splicer, State, MICROSECOND, NONE, SECOND, TICK};
@@ -18,7 +18,7 @@ pub fn stream(seed: u64, index: u64) -> Stream {
     let mixed = Rng::new(seed ^ 0x9000);
     let rng = Rng::new(mixed.next() ^ index.wrapping_mul(0xD1B5_4A32_D192_ED03));
     let mut gen = Gen::new(rng);
-    let themes = episodes::THEMES;
+    let themes = themes::THEMES;
     let theme = &themes[(index % themes.len() as u64) as usize];
     gen.at_the_top = theme.at_the_top;
     let whole = index % 6 == 5;
@@ -28,7 +28,7 @@ pub fn stream(seed: u64, index: u64) -> Stream {
     while gen.calls < length {
         let list = match gen.rng.below(10) {
             0..=3 => theme.favourites,
-            4..=5 => episodes::ALL,
+            4..=5 => themes::ALL,
             _ => OWN,
         };
         gen.rng.pick(list)(&mut gen);
@@ -43,10 +43,10 @@ pub fn stream(seed: u64, index: u64) -> Stream {
 }
 
 /// What only this card has.
-const OWN: &[episodes::Episode] = &[edges, edges, edges, aimed, aimed, aimed, small, small, late, second, last, on_air];
+const OWN: &[themes::Episode] = &[edges, edges, edges, aimed, aimed, aimed, small, small, late, second, last, on_air];
 
 /// Connections, at times requests at clock 0, and the instant.
-fn begin(gen: &mut Gen, favourites: &[episodes::Episode]) {
+fn begin(gen: &mut Gen, favourites: &[themes::Episode]) {
     let units = [1, 11, 100, 1_000, 100_000, 1_000_000, 1_000_000];
     gen.unit = gen.rng.pick(&units);
     for conn in 0..4 {

@@ -1,6 +1,7 @@
 //! Sections of SCTE 35 drawn (02, CR 7): whole, cut and damaged.
 
-use crate::gen::draw::{named, Rng};
+use crate::gen::data::named;
+use crate::gen::draw::Rng;
 use crate::people::cues::{self, WRAP};
 use crate::people::section::{closed, remade, Command, Insert, Section, Time};
 use crate::rules::NONE;

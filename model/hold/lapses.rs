@@ -398,27 +398,3 @@ fn of(call: &Kept, conn: u8) -> bool {
         Kept::Tick(..) => false,
     }
 }
-
-/// What the program writes, with a mistake.
-pub fn program(input: &[u8], lapse: Option<Lapse>) -> Vec<u8> {
-    let run = recall::run_by(&Lapsed(lapse), input);
-    let output = run.output();
-    let Some(first) = run.first_13() else {
-        return output;
-    };
-    let to = run.calls[first].to;
-    let until = || -> Vec<u8> {
-        let before = run.calls[..=first].iter().map(|done| &done.output[..]);
-        before.collect::<Vec<_>>().concat()
-    };
-    match lapse {
-        Some(Lapse::StopsAtThirteen) => until(),
-        Some(Lapse::FreshAtThirteen) => [until(), program(&input[to..], lapse)].concat(),
-        Some(Lapse::OversizeGoesOn) if run.stop == Stop::TooLarge => {
-            let last = run.calls.last().map_or(0, |done| done.to);
-            let more = recall::run(&input[last..]).calls.len();
-            [output, [0x45, FULL].repeat(more)].concat()
-        }
-        _ => output,
-    }
-}

@@ -8,13 +8,13 @@ use crate::gen::logs::{histories, whole};
 use crate::hold::compare;
 use crate::hold::due::{due, Due, FLOORS};
 use crate::hold::faults::Fault;
-use crate::hold::lapses::{program, Lapse, Lapsed, LAPSES};
+use crate::hold::lapses::{Lapse, Lapsed, LAPSES};
 use crate::hold::run;
 use crate::hold::watch::counts::Counts;
 use crate::hold::watch::table::{Floors, Hits};
-use crate::people::card;
+use crate::people::card::{self, Stop};
 use crate::people::decode::{agreement, call_line};
-use crate::people::recall::{self, Recall};
+use crate::people::recall::{self, Recall, FULL};
 use crate::people::records::{self, Line};
 use crate::people::scenario;
 
@@ -85,6 +85,30 @@ const MUST_SHOW: &[Fault] = &[
     Fault::FirstHardwareKept,
     Fault::OneHardware,
 ];
+
+/// What the program writes, with a mistake.
+fn program(input: &[u8], lapse: Option<Lapse>) -> Vec<u8> {
+    let run = recall::run_by(&Lapsed(lapse), input);
+    let output = run.output();
+    let Some(first) = run.first_13() else {
+        return output;
+    };
+    let to = run.calls[first].to;
+    let until = || -> Vec<u8> {
+        let before = run.calls[..=first].iter().map(|done| &done.output[..]);
+        before.collect::<Vec<_>>().concat()
+    };
+    match lapse {
+        Some(Lapse::StopsAtThirteen) => until(),
+        Some(Lapse::FreshAtThirteen) => [until(), program(&input[to..], lapse)].concat(),
+        Some(Lapse::OversizeGoesOn) if run.stop == Stop::TooLarge => {
+            let last = run.calls.last().map_or(0, |done| done.to);
+            let more = recall::run(&input[last..]).calls.len();
+            [output, [0x45, FULL].repeat(more)].concat()
+        }
+        _ => output,
+    }
+}
 
 /// What `recalls` is asked for.
 pub struct Plan {

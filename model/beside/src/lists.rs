@@ -68,7 +68,7 @@ fn compared(seed: u64, fault: Option<Fault>) -> Alike {
 /// The bytes of a list and some behind it, mostly damaged.
 fn bytes(gen: &mut Gen) -> Vec<u8> {
     let count = gen.rng.pick(&[0, 1, 1, 2, 3, 15, 16]);
-    let list = gen.streams(count);
+    let list = gen.rng.streams(count);
     let mut bytes = streams::write(&list).unwrap_or_default();
     if count == 16 && gen.rng.chance(20) {
         bytes[5] = 17;
@@ -96,9 +96,9 @@ fn bytes(gen: &mut Gen) -> Vec<u8> {
 /// A list to be written, often with a number that does not fit its field or one stream too many.
 fn list(gen: &mut Gen) -> Streams {
     let count = gen.rng.pick(&[0, 1, 2, 3, 15, 16]);
-    let mut streams = gen.streams(count);
+    let mut streams = gen.rng.streams(count);
     if gen.rng.chance(5) {
-        streams.list = vec![gen.streams(1).list.remove(0); 17];
+        streams.list = vec![gen.rng.streams(1).list.remove(0); 17];
     }
     if gen.rng.chance(10) {
         streams.pcr_pid = gen.rng.pick(&[0x1FFF, 0x2000, 1 << 16, 1 << 63]);

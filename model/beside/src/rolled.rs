@@ -229,7 +229,7 @@ pub struct Tally {
 /// Plays a stream on both, at times with a short buffer first, or on a copy.
 fn play(seed: u64, index: u64, slip: Option<Slip>, desk: &mut Desk, tally: &mut Tally) {
     let stream = rolls::stream(seed, index);
-    let mut rng = Rng::new(seed ^ index.wrapping_mul(0x2545_F491_4F6C_DD1D));
+    let rng = Rng::new(seed ^ index.wrapping_mul(0x2545_F491_4F6C_DD1D));
     tally.streams += 1;
     tally.whole += u64::from(stream.whole);
     let mut pair = match RollingPair::fresh(slip, stream.whole) {
