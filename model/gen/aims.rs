@@ -105,8 +105,7 @@ fn to_255(gen: &mut Gen) {
     }
 }
 
-/// So many bytes left, some refused, the largest message or another if it is answered, more until it is full, and
-/// behind that.
+/// So many bytes left, some refused, the largest message or another if it is answered, more until it is full, and behind that.
 fn by_bytes(gen: &mut Gen, left: usize, largest: bool) {
     let kept = gen.rng.between(10, 120);
     plain(gen, kept, 30_000);

@@ -81,8 +81,7 @@ pub fn inits(gen: &mut Gen) {
     gen.config(other);
 }
 
-/// One that was on air for a while and is covered, at times by one of its own connection: aborted, or closed, and asked
-/// for.
+/// One that was on air for a while and is covered, at times by one of its own connection: aborted, or closed, and asked for.
 pub fn played(gen: &mut Gen) {
     gen.clear();
     let (conn, drawn) = (gen.conn(), gen.conn());

@@ -219,8 +219,7 @@ pub fn largest(gen: &mut Gen) {
     gen.send(conn, 0x0007, data);
 }
 
-/// The end of a stream: nothing, a cut record, another mark or a large MessageSize, and calls
-/// behind it that must not be made.
+/// The end of a stream: nothing, a cut record, another mark or a large MessageSize, and calls behind it that must not be made.
 pub fn tail(gen: &mut Gen) {
     let behind = [0x43, 0, 0x43, 1, 0x43, 2, 0x43, 3, 0x4F, 0];
     match gen.rng.below(10) {

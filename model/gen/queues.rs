@@ -70,8 +70,7 @@ fn one_more(gen: &mut Gen, conn: u8, at: u64) {
     gen.ask(conn, &ask);
 }
 
-/// All four connections up to the sum 64, each asking once more, and often one tick over it
-/// all.
+/// All four connections up to the sum 64, each asking once more, and often one tick over it all.
 pub fn fill_all(gen: &mut Gen) {
     gen.clear();
     let sets = [

@@ -46,8 +46,7 @@ fn linked_micros(gen: &mut Gen, conn: u8, data: &mut [u8]) {
     data[4..8].copy_from_slice(&prior.to_be_bytes());
 }
 
-/// A Splice_Request with separate PIDs, timed or linked, that would be accepted, but for one change on
-/// either side of a boundary.
+/// A Splice_Request with separate PIDs, timed or linked, that would be accepted, but for one change on either side of a boundary.
 pub fn separate(gen: &mut Gen) {
     let conn = maybe_uninitialised(gen);
     let mut ask = gen.timed(conn, gen.ahead(gen.rng.between(0, 60)));
@@ -192,8 +191,7 @@ fn tails(gen: &mut Gen, ask: &Ask) -> Vec<u8> {
     data::between(data, &bytes)
 }
 
-/// MessageSize 4,088: 39 bytes, fifteen structures of 255 bytes and one of 224; or no PIDs at all
-/// behind ServiceID 0xFFFF.
+/// MessageSize 4,088: 39 bytes, fifteen structures of 255 bytes and one of 224; or no PIDs at all behind ServiceID 0xFFFF.
 fn longer(gen: &mut Gen, ask: &Ask) -> Vec<u8> {
     let mut data = gen.rng.plain_data(ask);
     data.truncate(33);

@@ -89,8 +89,7 @@ fn disturb(gen: &mut Gen) {
     }
 }
 
-/// A request under a number that is on air or covered, or linked to one of another
-/// connection.
+/// A request under a number that is on air or covered, or linked to one of another connection.
 fn held_number(gen: &mut Gen) {
     let Some(session) = gen.some(None, &STARTED) else {
         return;

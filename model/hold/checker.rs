@@ -66,8 +66,7 @@ pub fn checked(recording: &[u8], lapse: Option<Lapse>) -> (Finding, Vec<Judged<'
     (finding, calls)
 }
 
-/// "house number 15 for a longer recording; then 14 for an unknown mark anywhere, with its
-/// place; both before any finding"
+/// "house number 15 for a longer recording; then 14 for an unknown mark anywhere, with its place; both before any finding"
 fn refused(recording: &[u8], list: &[Entry], end: End, lapse: Option<Lapse>) -> Option<Finding> {
     let lapsed = |own: Lapse| lapse == Some(own);
     let most = LONGEST - usize::from(lapsed(Lapse::FullRefused));

@@ -51,8 +51,7 @@ fn start(command: &str, input: Stdio) -> Result<Child, String> {
         .map_err(|e| format!("cannot start {command}: {e}"))
 }
 
-/// A thread of its own feeds the program: it may write before it has read everything, and it may
-/// stop before the end of the input.
+/// A thread of its own feeds the program: it may write before it has read everything, and it may stop before the end of the input.
 fn finish(command: &str, child: Child, feed: impl FnOnce() + Send + 'static) -> Result<Output, String> {
     let feeder = std::thread::spawn(feed);
     let done = child.wait_with_output().map_err(|e| format!("{command}: {e}"))?;

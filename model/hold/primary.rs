@@ -1,7 +1,6 @@
-//! 02, CR 13: every moment belongs to someone. The splicer's own sum of the time on the primary channel, and
-//! the same from the calls and records alone, by intervals: "Primary time is counted from the
-//! history, as the time in which no session was started and unended; a session's, as the time in
-//! which it had the highest AccessType of those started and unended."
+//! 02, CR 13: every moment belongs to someone. The splicer's own sum of the time on the primary channel, and the same from the
+//! calls and records alone, by intervals: "Primary time is counted from the history, as the time in which no session was started
+//! and unended; a session's, as the time in which it had the highest AccessType of those started and unended."
 
 use crate::people::card::{Call, Done};
 use crate::people::records::{self, Item, Record, What};

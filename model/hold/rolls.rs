@@ -113,8 +113,7 @@ fn play_on(stream: &Stream, mut card: Rolling) -> Played {
     Played { outputs, dues, wrong }
 }
 
-/// What a plain splicer writes for the call, ticked to the same clock. Nothing is to be compared of a
-/// refused instant or reading.
+/// What a plain splicer writes for the call, ticked to the same clock. Nothing is to be compared of a refused instant or reading.
 pub fn as_plain(plain: &mut Splicer, call: &Call, good: bool, clock: u64) -> Option<Vec<u8>> {
     let call = match call {
         Call::Plain(call) => call.clone(),

@@ -1,7 +1,6 @@
-//! The as-run list and the timeline of a recording. The records are those of the recorded
-//! output; the times come from the recorded requests and ticks by 01's sentences "A timed
-//! start is the request's time; a linked start is the prior session's end. End is start plus
-//! Duration."
+//! The as-run list and the timeline of a recording. The records are those of the recorded output; the times come from the recorded
+//! requests and ticks by 01's sentences "A timed start is the request's time; a linked start is the prior session's end. End is
+//! start plus Duration."
 
 use crate::people::card::{self, Call, Done};
 use crate::people::decode::{agreement, differing, time_text};

@@ -19,8 +19,7 @@ impl Line for Finding {
     }
 }
 
-/// What `model check` writes: the checker's line, then for people the call, and the due records and
-/// those found side by side.
+/// What `model check` writes: the checker's line, then for people the call, and the due records and those found side by side.
 pub fn told(recording: &[u8]) -> (String, bool) {
     let (finding, calls) = rules::check::checked(recording);
     let mut text = finding.line() + "\n";

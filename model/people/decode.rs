@@ -165,8 +165,7 @@ pub fn agreement(run: &Run, output: &[u8]) -> (usize, usize, bool) {
     (run.calls.len(), at, at == output.len())
 }
 
-/// Calls and the records found in the output, interleaved. True if they are the second
-/// program's own.
+/// Calls and the records found in the output, interleaved. True if they are the second program's own.
 pub fn decode(input: &[u8], output: &[u8]) -> (String, bool) {
     let run = card::run(input);
     let (agreed, at, same) = agreement(&run, output);

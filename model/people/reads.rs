@@ -1,5 +1,4 @@
-//! What is read of a splicer between its calls, in the words of a scenario: `mux`, `map`, `rows`, `air`, `due` and
-//! `sessions`.
+//! What is read of a splicer between its calls, in the words of a scenario: `mux`, `map`, `rows`, `air`, `due` and `sessions`.
 
 use rules::ended::KEPT;
 use rules::state::{Due, Row, Session, Splicer, State};

@@ -112,8 +112,7 @@ pub fn asrun(args: &[String]) -> Told {
     Ok(same)
 }
 
-/// A recording, or of a scenario (FILE.txt) its calls and records; of card input what the card program makes of it if
-/// `recorded`.
+/// A recording, or of a scenario (FILE.txt) its calls and records; of card input what the card program makes of it if `recorded`.
 fn recording_of(args: &[String], recorded: bool) -> Result<Vec<u8>, String> {
     let [path] = args else {
         return Err("one file is needed".to_string());

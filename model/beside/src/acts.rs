@@ -1,5 +1,4 @@
-//! The calls of a stream: those of the second program's generator, and between them calls that the
-//! card program cannot make.
+//! The calls of a stream: those of the second program's generator, and between them calls that the card program cannot make.
 
 use crate::calls::{Act, Call, Sections};
 use model::gen;
@@ -62,8 +61,7 @@ fn name(rng: &mut Rng, index: u64) -> [u8; NAME] {
     name
 }
 
-/// The generator's servers know the name "CH1": they get this channel's instead, so that a stream
-/// goes on as it was meant to.
+/// The generator's servers know the name "CH1": they get this channel's instead, so that a stream goes on as it was meant to.
 fn named(mut call: Call, name: &[u8; NAME]) -> Call {
     let Call::Message(_, bytes) = &mut call else {
         return call;
@@ -188,8 +186,7 @@ fn shorter(rng: &mut Rng, bytes: &[u8]) -> Vec<u8> {
     bytes
 }
 
-/// At times more was read than the message: an Alive_Request, whole or cut. Only the first message
-/// is handled.
+/// At times more was read than the message: an Alive_Request, whole or cut. Only the first message is handled.
 fn run_on(rng: &mut Rng, mut call: Call) -> Call {
     if let Call::Message(_, bytes) = &mut call {
         if rng.chance(15) {

@@ -116,8 +116,7 @@ fn hex(bytes: &[u8]) -> String {
     }
 }
 
-/// A row of the desk's page (02, CR 8) as the header's struct has it: kept, connection, session, event, result,
-/// played.
+/// A row of the desk's page (02, CR 8) as the header's struct has it: kept, connection, session, event, result, played.
 pub type Row = [u32; 6];
 pub const ROWS: usize = 16;
 
@@ -200,8 +199,7 @@ impl Desk {
         &mut self.lent[begin..begin + room]
     }
 
-    /// True if bytes outside the written ones changed. The written ones get another filling, so
-    /// that a later call is seen to write.
+    /// True if bytes outside the written ones changed. The written ones get another filling, so that a later call is seen to write.
     pub fn touched(&mut self, written: usize) -> bool {
         let begin = self.begin();
         let end = begin + written;

@@ -31,8 +31,7 @@ pub fn streams(seed: u64) -> Vec<Stream> {
     (0..FOR_A_MISTAKE).map(|index| stream(seed, index)).collect()
 }
 
-/// The comparison on N streams and on the plainest sections, then every mistake, by the comparison and by
-/// the records alone.
+/// The comparison on N streams and on the plainest sections, then every mistake, by the comparison and by the records alone.
 pub fn everything(plan: &Plan, n: u64) -> Vec<bool> {
     let mut results = vec![compared(plan, n), plainest()];
     let list = streams(plan.seed);

@@ -188,8 +188,7 @@ fn same_read(bytes: &[u8], fault: Option<Fault>) -> Result<bool, String> {
     }
 }
 
-/// Both write this list alike, into a room of this many bytes more than it needs; all else stays. True
-/// if something was written.
+/// Both write this list alike, into a room of this many bytes more than it needs; all else stays. True if something was written.
 fn same_written(list: &Streams, spare: isize) -> Result<bool, String> {
     let wanted = streams::write(list);
     let need = wanted.as_ref().map_or(400, Vec::len);

@@ -42,19 +42,11 @@ const FOR_A_FAULT: u64 = 64;
 
 /// Faults of the second program that the records alone do not give away: they hold no order of records and no field that is
 /// read in another place to a sentence. All others must be noticed with no program to compare.
+#[rustfmt::skip]
 const UNBOOKED: &[Fault] = &[
-    Fault::LowestEndsFirst,
-    Fault::StartBeforeEnds,
-    Fault::WholeNameCompared,
-    Fault::CoveredAbortCompletes,
-    Fault::CloseWaitingFirst,
-    Fault::LinkedMicrosChecked,
-    Fault::FollowersOfStarted,
-    Fault::FollowersLastFirst,
-    Fault::NextStructureTooFar,
-    Fault::TailAt18,
-    Fault::UnknownRateRefused,
-    Fault::CloseByNewState,
+    Fault::LowestEndsFirst, Fault::StartBeforeEnds, Fault::WholeNameCompared, Fault::CoveredAbortCompletes,
+    Fault::CloseWaitingFirst, Fault::LinkedMicrosChecked, Fault::FollowersOfStarted, Fault::FollowersLastFirst,
+    Fault::NextStructureTooFar, Fault::TailAt18, Fault::UnknownRateRefused, Fault::CloseByNewState,
     Fault::NameBeginsAlike,
 ];
 

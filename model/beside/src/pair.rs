@@ -43,8 +43,7 @@ impl Pair {
         Ok(pair)
     }
 
-    /// The time on the primary channel read from the core (02, CR 13) is the second program's, and what
-    /// the records alone give.
+    /// The time on the primary channel read from the core (02, CR 13) is the second program's, and what the records alone give.
     fn same_primary(&self, found: u64) -> Result<(), String> {
         let wanted = self.model.primary;
         if found != wanted {
@@ -149,8 +148,7 @@ impl Pair {
         Ok(found)
     }
 
-    /// A copy of the core as it was before a call gives the same answer and becomes the same,
-    /// elsewhere and later.
+    /// A copy of the core as it was before a call gives the same answer and becomes the same, elsewhere and later.
     pub fn again(&self, before: &splicer::Splicer, act: &Act, said: &Said, desk: &mut Desk) -> Result<(), String> {
         let mut copy = Box::new(before.clone());
         let again = ask_core_with(&mut copy, &act.call, &act.sections, desk.buffer(act.room));
@@ -160,8 +158,7 @@ impl Pair {
         Ok(())
     }
 
-    /// On a copy, brings to light all that is held: the clock goes on, then every connection
-    /// closes. Gives the number of calls.
+    /// On a copy, brings to light all that is held: the clock goes on, then every connection closes. Gives the number of calls.
     pub fn probe(&mut self, ahead: u64, desk: &mut Desk, wrong: Wrong) -> Result<u64, String> {
         // The branch table is not for copies.
         let watcher = std::mem::replace(&mut self.watcher, Watcher::none());
@@ -203,8 +200,7 @@ impl Pair {
     }
 }
 
-/// Calls on a splicer whose connections are all closed: requests before and behind one another, and a
-/// tick over some of them.
+/// Calls on a splicer whose connections are all closed: requests before and behind one another, and a tick over some of them.
 fn afresh(name: &[u8; NAME], seconds: u32) -> Vec<Call> {
     let mut calls = Vec::new();
     for conn in 0..CONNECTIONS as u32 {

@@ -306,8 +306,7 @@ fn played(seed: u64) -> Vec<(History, Vec<(Seen, u64)>)> {
     .collect()
 }
 
-/// Shows that each mistake is noticed: of the second program's list against the engine, and some in what the engine is
-/// seen to do.
+/// Shows that each mistake is noticed: of the second program's list against the engine, and some in what the engine is seen to do.
 fn mistakes(seed: u64) -> Vec<bool> {
     let list = played(seed);
     let mut results = Vec::new();

@@ -6,6 +6,7 @@ use crate::books::Books;
 use crate::calls::{self, model_rows, Act, Desk, Said};
 use crate::pages;
 use crate::reads::{rolled, rolled_model, Rolled};
+use crate::scenarios;
 use crate::wrong::Wrong;
 use model::gen::draw::Rng;
 use model::gen::rolls;
@@ -193,8 +194,7 @@ impl RollingPair {
         Ok(found)
     }
 
-    /// The plain core, ticked to the same whole microsecond, says the same. It is not called where the
-    /// rolling card alone refuses.
+    /// The plain core, ticked to the same whole microsecond, says the same. It is not called where the rolling card alone refuses.
     fn as_plain(&mut self, call: &Call, room: usize, said: &Said, desk: &mut Desk) -> Result<(), String> {
         let Some(core) = &mut self.plain else {
             return Ok(());
@@ -283,7 +283,7 @@ pub fn everything(seed: u64, n: u64) -> Vec<bool> {
     }
     let unnoticed = results[1..].iter().filter(|good| !**good).count();
     println!("beside: {} mistakes of a rolling card, each by the records alone too: {unnoticed} not noticed", SLIPS.len());
-    results.extend(scenarios());
+    results.extend(from_files());
     results
 }
 
@@ -350,16 +350,10 @@ fn booked(seed: u64, slip: Slip, text: &str) -> bool {
 }
 
 /// The rolling cards' scenarios, against the core.
-fn scenarios() -> Vec<bool> {
-    let folder = concat!(env!("CARGO_MANIFEST_DIR"), "/../scenarios");
-    let mut paths: Vec<_> = match std::fs::read_dir(folder) {
-        Ok(list) => list.filter_map(|entry| Some(entry.ok()?.path())).collect(),
-        Err(_) => Vec::new(),
-    };
-    paths.sort();
+fn from_files() -> Vec<bool> {
     let mut results = Vec::new();
-    for path in paths.iter().filter(|p| p.extension().is_some_and(|e| e == "txt")) {
-        let name = path.file_name().unwrap_or_default().to_string_lossy().into_owned();
+    for path in &scenarios::paths() {
+        let name = path.rsplit('/').next().unwrap_or(path);
         match scenario_of(path) {
             Ok(None) => continue,
             Ok(Some(calls)) => {
@@ -373,13 +367,13 @@ fn scenarios() -> Vec<bool> {
         }
     }
     if results.is_empty() {
-        println!("FAILED: no rolling card's scenario in {folder}");
+        println!("FAILED: no rolling card's scenario");
         results.push(false);
     }
     results
 }
 
-fn scenario_of(path: &std::path::Path) -> Result<Option<usize>, String> {
+fn scenario_of(path: &str) -> Result<Option<usize>, String> {
     let text = std::fs::read_to_string(path).map_err(|e| e.to_string())?;
     let steps = scenario::parse(&text)?;
     if !scenario::is_rolling(&steps) {

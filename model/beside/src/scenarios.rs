@@ -39,7 +39,8 @@ pub fn run() -> bool {
     failed == 0 && files > 0 && reads > 0 && cues > 0
 }
 
-fn paths() -> Vec<String> {
+/// The scenario files.
+pub fn paths() -> Vec<String> {
     let list = std::fs::read_dir(FOLDER).into_iter().flatten().flatten();
     let names = list.map(|entry| entry.path().display().to_string());
     let mut all: Vec<String> = names.filter(|path| path.ends_with(".txt")).collect();

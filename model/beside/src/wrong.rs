@@ -16,94 +16,80 @@ pub enum Wrong {
     Model(Fault),
     /// A mistake of the second program about cues (02, CR 7).
     Cue(Miscue),
-    /// A fault of `OWN`, by its name.
+    /// A fault of `CORE`, by its name.
     Core(&'static str),
 }
 
-/// The faults on the core's side.
-pub const OWN: &[(&str, &str)] = &[
-    ("house-number", "5 told as 4"),
-    ("consumed", "a byte more consumed than the message has"),
-    ("written-short", "the last written byte not counted"),
-    ("byte-changed", "a written byte changed"),
-    ("byte-behind", "a byte behind the written ones changed"),
-    ("byte-before", "a byte before the buffer changed"),
-    ("refused-changes", "a refused call opens a connection"),
-    ("room", "an output buffer of 4,095 bytes taken"),
-    ("cut-message", "the missing bytes of a message taken as zeros"),
-    ("connection", "connection 256 taken as 0"),
-    ("name", "a name without a zero byte cut to 31 bytes"),
-    ("shared", "two splicers with one state"),
-];
+/// What a fault on the core's side is of: its calls, the rows, map sections, waiting counts, places moved and primary time that it
+/// is read to keep, what a driver reads to sleep, its cue calls.
+#[derive(Clone, Copy, PartialEq, Eq)]
+pub enum Of {
+    Calls,
+    Rows,
+    Maps,
+    Counts,
+    Moves,
+    Primary,
+    Reads,
+    Cues,
+}
 
-/// Faults in the waiting counts that the core is read to keep.
-pub const COUNTING: &[(&str, &str)] = &[
-    ("count-start", "a start leaves its session counted"),
-    ("count-failed-start", "a failed start leaves its session counted"),
-    ("count-failed-followers", "a failed start leaves its followers counted"),
-    ("count-ended-followers", "an equal start leaves the ended one's followers counted"),
-    ("count-evicted", "an eviction leaves its session counted"),
-    ("count-evicted-followers", "an eviction leaves the followers counted"),
-    ("count-aborted-followers", "an abort leaves the followers counted"),
-    ("count-elsewhere", "an acceptance raises the next connection's count"),
-    ("count-close", "a close leaves its count as it was"),
-];
-
-/// Faults in the number of places that the core says an acceptance shifted (02, CR 11).
-pub const MOVING: &[(&str, &str)] = &[
-    ("moved-earlier", "moved counts those that start earlier"),
-    ("moved-all", "moved counts all that wait"),
-    ("moved-evicted", "moved counts the followers evicted"),
-    ("moved-itself", "moved counts the new session too"),
-    ("moved-refused", "1 moved by a request with 109"),
-];
-
-/// Faults in the time on the primary channel that the core is read to keep (02, CR 13).
-pub const TIMING: &[(&str, &str)] = &[
-    ("primary-clock", "the clock read for the primary channel's time"),
-    ("primary-ticks", "the primary channel's time read in ticks"),
-];
-
-/// Faults in what the core is seen to do in a cue call (02, CR 7).
-pub const CUEING: &[(&str, &str)] = &[
-    ("cue-result", "a Cue_Request with Result 100"),
-    ("cue-consumed", "a cue call consumes its section"),
-    ("cue-opens", "a good cue call opens a connection"),
-];
-
-/// Faults in what the core is lent and gives back of map sections (02, CR 6).
-pub const MAPPING: &[(&str, &str)] = &[
-    ("section-1025", "sections of 1,025 bytes taken"),
-    ("section-1024", "a section of 1,024 bytes refused"),
-    ("section-insertion", "the insertion's section of any length taken"),
-    ("section-behind-5", "10 behind 5"),
-    ("section-before-7", "10 before 7"),
-    ("section-other", "GetConfig with the other section"),
-    ("map-other", "the other section given back"),
-    ("map-shorter", "a section given back without its last byte"),
-];
-
-/// Faults in the page that the core is read to fill (02, CR 8).
-pub const PAGING: &[(&str, &str)] = &[
-    ("rows-oldest", "the page filled from the oldest up"),
-    ("rows-stale", "an unused row keeps a number that it was lent with"),
-    ("rows-unmarked", "an unused row marked as kept"),
-    ("rows-connection", "a row's connection not written"),
-    ("rows-fifteen", "fifteen rows taken"),
-    ("rows-more", "32 rows taken"),
-    ("rows-behind", "a row behind the sixteenth written"),
-];
-
-/// Faults in what the core is read to tell a driver that sleeps.
-pub const SLEEPING: &[(&str, &str)] = &[
-    ("air-connection", "the one on air read under connection 0"),
-    ("air-played", "no time on air read"),
-    ("due-later", "the instant read a ninth later"),
-    ("due-tick-later", "the tick read a microsecond later"),
-    ("due-never", "an instant that no tick reaches read as none"),
-    ("sessions-fewer", "the last session not read"),
-    ("sessions-covered", "a covered session read as waiting"),
-    ("sessions-order", "those that wait read from the last start on"),
+/// The faults on the core's side, in what it is handed or seen to do.
+pub const CORE: &[(Of, &str, &str)] = &[
+    (Of::Calls, "house-number", "5 told as 4"),
+    (Of::Calls, "consumed", "a byte more consumed than the message has"),
+    (Of::Calls, "written-short", "the last written byte not counted"),
+    (Of::Calls, "byte-changed", "a written byte changed"),
+    (Of::Calls, "byte-behind", "a byte behind the written ones changed"),
+    (Of::Calls, "byte-before", "a byte before the buffer changed"),
+    (Of::Calls, "refused-changes", "a refused call opens a connection"),
+    (Of::Calls, "room", "an output buffer of 4,095 bytes taken"),
+    (Of::Calls, "cut-message", "the missing bytes of a message taken as zeros"),
+    (Of::Calls, "connection", "connection 256 taken as 0"),
+    (Of::Calls, "name", "a name without a zero byte cut to 31 bytes"),
+    (Of::Calls, "shared", "two splicers with one state"),
+    (Of::Rows, "rows-oldest", "the page filled from the oldest up"),
+    (Of::Rows, "rows-stale", "an unused row keeps a number that it was lent with"),
+    (Of::Rows, "rows-unmarked", "an unused row marked as kept"),
+    (Of::Rows, "rows-connection", "a row's connection not written"),
+    (Of::Rows, "rows-fifteen", "fifteen rows taken"),
+    (Of::Rows, "rows-more", "32 rows taken"),
+    (Of::Rows, "rows-behind", "a row behind the sixteenth written"),
+    (Of::Maps, "section-1025", "sections of 1,025 bytes taken"),
+    (Of::Maps, "section-1024", "a section of 1,024 bytes refused"),
+    (Of::Maps, "section-insertion", "the insertion's section of any length taken"),
+    (Of::Maps, "section-behind-5", "10 behind 5"),
+    (Of::Maps, "section-before-7", "10 before 7"),
+    (Of::Maps, "section-other", "GetConfig with the other section"),
+    (Of::Maps, "map-other", "the other section given back"),
+    (Of::Maps, "map-shorter", "a section given back without its last byte"),
+    (Of::Counts, "count-start", "a start leaves its session counted"),
+    (Of::Counts, "count-failed-start", "a failed start leaves its session counted"),
+    (Of::Counts, "count-failed-followers", "a failed start leaves its followers counted"),
+    (Of::Counts, "count-ended-followers", "an equal start leaves the ended one's followers counted"),
+    (Of::Counts, "count-evicted", "an eviction leaves its session counted"),
+    (Of::Counts, "count-evicted-followers", "an eviction leaves the followers counted"),
+    (Of::Counts, "count-aborted-followers", "an abort leaves the followers counted"),
+    (Of::Counts, "count-elsewhere", "an acceptance raises the next connection's count"),
+    (Of::Counts, "count-close", "a close leaves its count as it was"),
+    (Of::Moves, "moved-earlier", "moved counts those that start earlier"),
+    (Of::Moves, "moved-all", "moved counts all that wait"),
+    (Of::Moves, "moved-evicted", "moved counts the followers evicted"),
+    (Of::Moves, "moved-itself", "moved counts the new session too"),
+    (Of::Moves, "moved-refused", "1 moved by a request with 109"),
+    (Of::Primary, "primary-clock", "the clock read for the primary channel's time"),
+    (Of::Primary, "primary-ticks", "the primary channel's time read in ticks"),
+    (Of::Reads, "air-connection", "the one on air read under connection 0"),
+    (Of::Reads, "air-played", "no time on air read"),
+    (Of::Reads, "due-later", "the instant read a ninth later"),
+    (Of::Reads, "due-tick-later", "the tick read a microsecond later"),
+    (Of::Reads, "due-never", "an instant that no tick reaches read as none"),
+    (Of::Reads, "sessions-fewer", "the last session not read"),
+    (Of::Reads, "sessions-covered", "a covered session read as waiting"),
+    (Of::Reads, "sessions-order", "those that wait read from the last start on"),
+    (Of::Cues, "cue-result", "a Cue_Request with Result 100"),
+    (Of::Cues, "cue-consumed", "a cue call consumes its section"),
+    (Of::Cues, "cue-opens", "a good cue call opens a connection"),
 ];
 
 /// How far a fault's waiting counts have gone from the true ones, and the true ones before the call.
@@ -113,35 +99,26 @@ pub struct Drift {
     before: [u64; CONNECTIONS],
 }
 
+/// The faults on the core's side of these.
+fn core(of: &[Of]) -> Vec<Wrong> {
+    CORE.iter().filter(|(own, ..)| of.contains(own)).map(|(_, name, _)| Wrong::Core(name)).collect()
+}
+
 /// Every fault that must be noticed.
 pub fn all() -> Vec<Wrong> {
     let model = FAULTS.iter().map(|(fault, _)| Wrong::Model(*fault));
-    model.chain(own()).chain(paging()).chain(mapping()).chain(reporting()).collect()
+    model.chain(core(&[Of::Calls, Of::Rows, Of::Maps])).chain(reporting()).collect()
 }
 
 /// Every mistake about cues.
 pub fn cues() -> Vec<Wrong> {
     let model = MISCUES.iter().map(|(miscue, _)| Wrong::Cue(*miscue));
-    let own = CUEING.iter().map(|(name, _)| Wrong::Core(name));
-    model.chain(own).collect()
-}
-
-fn own() -> impl Iterator<Item = Wrong> {
-    OWN.iter().map(|(name, _)| Wrong::Core(name))
-}
-
-fn mapping() -> impl Iterator<Item = Wrong> {
-    MAPPING.iter().map(|(name, _)| Wrong::Core(name))
-}
-
-fn paging() -> impl Iterator<Item = Wrong> {
-    PAGING.iter().map(|(name, _)| Wrong::Core(name))
+    model.chain(core(&[Of::Cues])).collect()
 }
 
 /// The faults in the numbers beside the records: the records alone give them away too.
-pub fn reporting() -> impl Iterator<Item = Wrong> {
-    let all = COUNTING.iter().chain(MOVING).chain(TIMING).chain(SLEEPING);
-    all.map(|(name, _)| Wrong::Core(name))
+pub fn reporting() -> Vec<Wrong> {
+    core(&[Of::Counts, Of::Moves, Of::Primary, Of::Reads])
 }
 
 /// The fault of this name.
@@ -162,11 +139,8 @@ impl Wrong {
             Wrong::Model(fault) => format!("{}: {}", fault.name(), fault.text()),
             Wrong::Cue(miscue) => format!("{}: {}", miscue.name(), miscue.text()),
             Wrong::Core(name) => {
-                let numbers = COUNTING.iter().chain(MOVING).chain(TIMING).chain(SLEEPING);
-                let lent = PAGING.iter().chain(MAPPING).chain(CUEING);
-                let mut all = OWN.iter().chain(lent).chain(numbers);
-                let text = all.find(|(n, _)| *n == name);
-                format!("{name}: {}", text.map_or("", |(_, t)| t))
+                let text = CORE.iter().find(|(_, own, _)| *own == name);
+                format!("{name}: {}", text.map_or("", |(.., text)| text))
             }
         }
     }

@@ -9,16 +9,6 @@ use rules::splice;
 use rules::state::{Ended, First, Maps, Out, Session, Splicer, State};
 use rules::times::{ninths, MICROSECOND, NONE};
 
-pub fn open_drops_ended(s: &mut Splicer, conn: u8) {
-    calls::opened(s, conn);
-    s.ended.retain(|ended| ended.conn != conn);
-}
-
-pub fn close_drops_ended(s: &mut Splicer, conn: u8) {
-    calls::closed(s, conn);
-    s.ended.retain(|ended| ended.conn != conn);
-}
-
 pub fn clock_before_micros(s: &Splicer, seconds: u32, micros: u32) -> Option<u8> {
     match ninths(seconds, micros) < s.clock {
         true => Some(3),
@@ -35,13 +25,6 @@ pub fn zero_answered_before_init(s: &Splicer, conn: u8, id: u16) -> First {
     match id == 0 && !s.initialised[usize::from(conn)] {
         true => First::General(103),
         false => answers::first_answer(s, conn, id),
-    }
-}
-
-pub fn cue_silent_before_init(s: &Splicer, conn: u8, id: u16) -> First {
-    match id {
-        0x000D => First::Silence,
-        _ => answers::first_answer(s, conn, id),
     }
 }
 
@@ -69,12 +52,6 @@ pub fn alive_whole_seconds(s: &Splicer, conn: u8) -> What {
 
 pub fn first_hardware_kept(s: &mut Splicer, conn: u8, result: u16, hardware: &[u8]) {
     if !s.initialised[usize::from(conn)] {
-        config::keep_hardware(s, conn, result, hardware);
-    }
-}
-
-pub fn one_hardware(s: &mut Splicer, _: u8, result: u16, hardware: &[u8]) {
-    for conn in 0..4 {
         config::keep_hardware(s, conn, result, hardware);
     }
 }
@@ -107,13 +84,6 @@ pub fn separate_pids_110(s: &Splicer, conn: u8, fields: &SpliceFields) -> u16 {
     match fields.streams {
         Some(_) => 110,
         None => splice::splice_result(s, conn, fields),
-    }
-}
-
-pub fn late_before_numbers(s: &Splicer, conn: u8, fields: &SpliceFields) -> u16 {
-    match s.too_late(conn, fields) {
-        true => 112,
-        false => splice::splice_result(s, conn, fields),
     }
 }
 

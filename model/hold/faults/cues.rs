@@ -83,7 +83,8 @@ mistakes! { Miscue, MISCUES, Rules, RULES;
     FromThreeDown: "the connections from 3 downward", |r| r.cue_to = |s, comes| cue::cue_to(s, comes).into_iter().rev().collect();
     BadToFirst: "117 to the first initialised connection only", |r| r.cue_to = bad_to_first;
     WithoutCrc: "the section is sent without its CRC_32", |r| r.cue = without_crc;
-    EightFirst: "8 before 2", |r| r.cue_refused = eight_first;
+    EightFirst: "8 before 2",
+        |r| r.cue_refused = |s, given, room| match given.micros { 1_000_000.. => Some(8), _ => cue::cue_refused(s, given, room) };
     ElevenFirst: "11 before 8", |r| r.cue_refused = eleven_first;
     Twentieth: "20 bytes are refused", |r| r.sections.fits = |_, section| fits_by(section, LEAST + 1, MOST, 12);
     Nineteen: "19 bytes are taken", |r| r.sections.fits = |_, section| fits_by(section, LEAST - 1, MOST, 12);
@@ -334,13 +335,6 @@ pub fn pts_refused(s: &Splicer, given: &Given, room: usize) -> Option<u8> {
     match room >= ROOM && given.pts >= WRAP {
         true => Some(8),
         false => cue::cue_refused(s, given, room),
-    }
-}
-
-pub fn eight_first(s: &Splicer, given: &Given, room: usize) -> Option<u8> {
-    match given.micros {
-        1_000_000.. => Some(8),
-        _ => cue::cue_refused(s, given, room),
     }
 }
 

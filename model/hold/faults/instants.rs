@@ -3,7 +3,7 @@
 use rules::bytes::{Record, Shown, What};
 use rules::descriptors::AVERAGE;
 use rules::ends::{self, complete};
-use rules::state::{By, Ended, Out, Row, Session, Splicer, State};
+use rules::state::{By, Ended, Out, Session, Splicer, State};
 use rules::{ended, instants};
 
 pub fn start_before_ends(s: &mut Splicer, time: u64, out: Out) {
@@ -11,12 +11,6 @@ pub fn start_before_ends(s: &mut Splicer, time: u64, out: Out) {
         s.start(&session, time, out);
     }
     s.ends(time, out);
-}
-
-pub fn lowest_ends_first(s: &Splicer, time: u64) -> Vec<Session> {
-    let mut all = instants::ending(s, time);
-    all.reverse();
-    all
 }
 
 pub fn covered_end_100(s: &mut Splicer, session: &Session, time: u64, out: Out) {
@@ -58,11 +52,6 @@ pub fn equal_fails_at_start(s: &Splicer, session: &Session) -> bool {
 
 pub fn equal_starts_without_flag(s: &Splicer, session: &Session) -> bool {
     instants::may_start(s, session) || s.on_air().is_some_and(|on_air| on_air.access == session.access)
-}
-
-pub fn failure_leaves_followers(s: &mut Splicer, session: &Session, out: Out) {
-    complete(s, session, (0, 109), 0, out);
-    s.remove(session);
 }
 
 pub fn equal_covered(_: &mut Splicer, _: &Session, _: u64, _: Out) {}
@@ -122,12 +111,6 @@ pub fn mux_lost_at_override(s: &mut Splicer, session: &Session, time: u64) {
     instants::go_on_air(s, session, time);
 }
 
-pub fn only_direct_follower(s: &Splicer, of: &Session) -> Vec<Session> {
-    let mut all = ends::followers(s, of);
-    all.retain(|session| session.prior == of.id);
-    all
-}
-
 /// Followers by other links.
 pub fn followers_by(s: &Splicer, of: &Session, near: fn(&Session, &Session) -> bool) -> Vec<Session> {
     let (mut found, mut reached, mut next) = (Vec::new(), vec![of.id], 0);
@@ -144,12 +127,6 @@ pub fn followers_by(s: &Splicer, of: &Session, near: fn(&Session, &Session) -> b
     found.retain(|session| session.state == State::Waiting);
     found.sort_by_key(|session| session.start);
     found
-}
-
-pub fn followers_last_first(s: &Splicer, of: &Session) -> Vec<Session> {
-    let mut all = ends::followers(s, of);
-    all.reverse();
-    all
 }
 
 pub fn covered_abort_completes(s: &mut Splicer, session: &Session, out: Out) {
@@ -208,12 +185,6 @@ pub fn nothing_after_close(s: &mut Splicer, conn: u8, out: Out) {
     }
 }
 
-pub fn primary_not_while_waiting(s: &mut Splicer, from: u64, to: u64) {
-    if s.sessions.is_empty() {
-        instants::pass(s, from, to);
-    }
-}
-
 pub fn primary_last_stretch(s: &mut Splicer, until: u64, out: Out) {
     let mut last = s.clock;
     while let Some(time) = s.next_instant(until) {
@@ -261,22 +232,9 @@ pub fn newest_dropped(s: &mut Splicer, session: &Session, by: By, result: u16, p
     }
 }
 
-pub fn held_again_121(s: &Splicer, conn: u8, id: u32) -> Option<Ended> {
-    match s.held(conn, id) {
-        Some(_) => None,
-        None => ended::latest_ended(s, conn, id),
-    }
-}
-
 pub fn empty_descriptor_121(s: &mut Splicer, conn: u8, id: u32, out: Out) {
     ended::extended(s, conn, id, out);
     if let Some(Record { what: What::Extended { shown, .. }, .. }) = out.last_mut() {
         shown.get_or_insert(Shown { event: 0, result: 0, played: 0 });
     }
-}
-
-pub fn rows_from_the_oldest(s: &Splicer, rows: &mut [Row]) -> Result<(), u8> {
-    ended::page(s, rows)?;
-    rows[..s.ended.len()].reverse();
-    Ok(())
 }

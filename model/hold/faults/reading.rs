@@ -2,7 +2,6 @@
 
 use crate::hold::watch::descriptors_judged;
 use rules::bytes::{half, word};
-use rules::config::nothing;
 use rules::descriptors::{self, Found};
 use rules::reading::{self};
 use rules::requests::{Formed, Read, Reading, Request, SpliceFields, Tail, Why};
@@ -78,20 +77,6 @@ pub fn tail_at_18<'d>(r: &Reading, data: &'d [u8]) -> Result<Tail<'d>, Why> {
     Ok(Tail { bytes: &data[18..], streams: Some(list) })
 }
 
-pub fn mux_value_0(r: &Reading, body: &[u8]) -> Result<u8, Why> {
-    match body {
-        [_, _, _, _, 0] => Ok(0),
-        _ => descriptors::mux_value(r, body),
-    }
-}
-
-pub fn mux_value_11(r: &Reading, body: &[u8]) -> Result<u8, Why> {
-    match body {
-        [_, _, _, _, 11] => Ok(11),
-        _ => descriptors::mux_value(r, body),
-    }
-}
-
 pub fn mux_length_6(r: &Reading, body: &[u8]) -> Result<u8, Why> {
     let end = if body.len() == 6 { 5 } else { body.len() };
     descriptors::mux_value(r, &body[..end])
@@ -129,13 +114,6 @@ pub fn hardware_by(data: &[u8], from: usize, most: usize) -> Result<Vec<u8>, Why
     let whole = 2 + usize::from(half(data, from));
     let kept = data.get(from..from + whole).filter(|_| whole <= most);
     kept.map(<[u8]>::to_vec).ok_or("123 Init Hardware_Config")
-}
-
-pub fn init_66_taken(r: &Reading, data: &[u8]) -> Result<Vec<u8>, Why> {
-    match data.len() {
-        0..68 => Ok(nothing()),
-        _ => reading::hardware(r, data),
-    }
 }
 
 pub fn hardware_past_the_end(r: &Reading, data: &[u8]) -> Result<Vec<u8>, Why> {

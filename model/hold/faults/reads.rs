@@ -18,21 +18,9 @@ pub fn due_of(s: &Splicer, counts: fn(&Session) -> bool, horizon: u64) -> Option
     Some((instant, (first < horizon).then(|| wire(first))))
 }
 
-pub fn sessions_one_fewer(s: &Splicer) -> Vec<Session> {
-    let mut all = reads::sessions(s);
-    all.pop();
-    all
-}
-
 pub fn sessions_covered_on_air(s: &Splicer) -> Vec<Session> {
     let mut all = reads::sessions(s);
     all.iter_mut().filter(|session| session.state == State::Covered).for_each(|session| session.state = State::OnAir);
-    all
-}
-
-pub fn sessions_by_number(s: &Splicer) -> Vec<Session> {
-    let mut all = reads::sessions(s);
-    all.sort_by_key(|session| session.id);
     all
 }
 

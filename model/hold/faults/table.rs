@@ -3,20 +3,24 @@
 use super::{answers::*, dashed, instants::*, mistakes, reading::*, reads::*};
 use rules::bytes::word;
 use rules::calls::text_of;
+use rules::config::nothing;
 use rules::descriptors::{AVERAGE, SAPI};
+use rules::ends::complete;
 use rules::reading::MOST_HARDWARE;
 use rules::requests::{Request, SpliceFields};
 use rules::right::RULES;
-use rules::state::{Rules, Session, State};
+use rules::state::{First, Rules, Session, State};
 use rules::streams::{LARGEST_PID, LEAST, MOST};
 use rules::times::{wire, HORIZON, MICROSECOND, NONE, SECOND, TICK};
-use rules::{ended, ends, instants, reading, reads, splice};
+use rules::{answers, calls, config, descriptors, ended, ends, instants, reading, reads, splice};
 use std::sync::OnceLock;
 
 // on a command line `OnlyDirectFollower` is `only-direct-follower`
 mistakes! { Fault, FAULTS, Rules, RULES;
-    LowestEndsFirst: "ends at one instant from the lowest AccessType up", |r| r.ending = lowest_ends_first;
-    OnlyDirectFollower: "only the direct follower ends", |r| r.followers = only_direct_follower;
+    LowestEndsFirst: "ends at one instant from the lowest AccessType up",
+        |r| r.ending = |s, time| { let mut all = instants::ending(s, time); all.reverse(); all };
+    OnlyDirectFollower: "only the direct follower ends",
+        |r| r.followers = |s, of| { let mut all = ends::followers(s, of); all.retain(|session| session.prior == of.id); all };
     CountedAfterEviction: "114 counted after the eviction", |r| r.queue_full = counted_after_eviction;
     EqualStartsWithoutFlag: "an equal AccessType wins at a start with OverridePlaying 0",
         |r| r.may_start = equal_starts_without_flag;
@@ -42,8 +46,10 @@ mistakes! { Fault, FAULTS, Rules, RULES;
     FollowersOfStarted: "followers also through a started session's PriorSession",
         |r| r.followers = |s, of| followers_by(s, of, |other, of| other.conn == of.conn);
     FailedInitUndoes: "a failed later Init un-initialises", |r| r.read_and_obey = failed_init_undoes;
-    CueSilentBeforeInit: "0x000D unanswered also before Init", |r| r.first_answer = cue_silent_before_init;
-    LateBeforeNumbers: "112 before 121", |r| r.splice_result = late_before_numbers;
+    CueSilentBeforeInit: "0x000D unanswered also before Init",
+        |r| r.first_answer = |s, conn, id| match id { 0x000D => First::Silence, _ => answers::first_answer(s, conn, id) };
+    LateBeforeNumbers: "112 before 121",
+        |r| r.splice_result = |s, conn, fields| if s.too_late(conn, fields) { 112 } else { splice::splice_result(s, conn, fields) };
     CollisionBeforeLate: "109 before 112", |r| r.splice_result = collision_before_late;
     EvictionLeavesFollowers: "an eviction leaves the followers waiting", |r| r.evict = eviction_leaves_followers;
     AbortedFollowers109: "followers end with 109 after an abort",
@@ -51,7 +57,8 @@ mistakes! { Fault, FAULTS, Rules, RULES;
     CoveredTimePlayed: "covered time counts as played", |r| r.time_on_air = |_, session, time| time - session.start;
     ReopenedInitialised: "a connection opened again is still initialised",
         |r| r.opened = |s, conn| { s.open[usize::from(conn)] = true; };
-    FollowersLastFirst: "followers end from the last start back", |r| r.followers = followers_last_first;
+    FollowersLastFirst: "followers end from the last start back",
+        |r| r.followers = |s, of| { let mut all = ends::followers(s, of); all.reverse(); all };
     ClockBeforeMicros: "tick looks at 3 before 8", |r| r.tick_refused = clock_before_micros;
     NextStructureTooFar: "the next structure one too far",
         |r| r.reading.streams = |r, bytes| list_by(r, bytes, LARGEST_PID, MOST as u64, 1);
@@ -66,8 +73,10 @@ mistakes! { Fault, FAULTS, Rules, RULES;
         |r| r.reading.stream = |_, bytes| one_by(bytes, LEAST, LARGEST_PID, u64::MAX);
     UnknownRateRefused: "a rate of 0xFFFFFFFF refused", |r| r.reading.stream = unknown_rate_refused;
     SeparatePids110: "110 for separate PIDs", |r| r.splice_result = separate_pids_110;
-    MuxValue0: "muxpriority value 0 taken", |r| r.reading.mux_value = mux_value_0;
-    MuxValue11: "muxpriority value 11 taken", |r| r.reading.mux_value = mux_value_11;
+    MuxValue0: "muxpriority value 0 taken",
+        |r| r.reading.mux_value = |r, body| match body { [_, _, _, _, 0] => Ok(0), _ => descriptors::mux_value(r, body) };
+    MuxValue11: "muxpriority value 11 taken",
+        |r| r.reading.mux_value = |r, body| match body { [_, _, _, _, 11] => Ok(11), _ => descriptors::mux_value(r, body) };
     MuxLength6: "muxpriority length 6 taken", |r| r.reading.mux_value = mux_length_6;
     MuxAnyIdentifier: "tag 0x02 under any identifier is muxpriority", |r| r.reading.is_mux = |_, tag, _| tag == 2;
     MuxTag3: "tag 0x03 under SAPI is muxpriority", |r| r.reading.is_mux = |_, tag, body| tag == 3 && body.starts_with(&SAPI);
@@ -89,7 +98,8 @@ mistakes! { Fault, FAULTS, Rules, RULES;
     InstantLeftOver: "an instant at the tick's very time waits for the next tick",
         |r| r.next_instant = |s, until| until.checked_sub(1).and_then(|before| instants::next_instant(s, before));
     PresentTimeRefused: "a tick to the present time is refused", |r| r.tick_refused = present_time_refused;
-    FailureLeavesFollowers: "a failed start leaves its followers waiting", |r| r.fail = failure_leaves_followers;
+    FailureLeavesFollowers: "a failed start leaves its followers waiting",
+        |r| r.fail = |s, session, out| { complete(s, session, (0, 109), 0, out); s.remove(session); };
     ElevenReserved: "the reserved places are 11",
         |r| r.queue_full = |s, conn, _| full_by(s.waiting_counts(), conn, 20, 11);
     LinkedThreeSeconds: "a linked request is held to the 3 s",
@@ -125,7 +135,8 @@ mistakes! { Fault, FAULTS, Rules, RULES;
         |r| r.pass = |s, _, to| { instants::pass(s, s.clock, to); };
     PrimaryInTicks: "the primary channel's time is counted in ticks",
         |r| r.pass = |s, from, to| { instants::pass(s, from, from + (to - from) / TICK * TICK); };
-    PrimaryNotWhileWaiting: "the primary channel has no time while one waits", |r| r.pass = primary_not_while_waiting;
+    PrimaryNotWhileWaiting: "the primary channel has no time while one waits",
+        |r| r.pass = |s, from, to| if s.sessions.is_empty() { instants::pass(s, from, to); };
     FifteenKept: "15 ended ones kept",
         |r| r.remember = |s, session, _, result, played| { keep(s, session, result, played, 15); };
     SeventeenKept: "17 ended ones kept",
@@ -139,21 +150,26 @@ mistakes! { Fault, FAULTS, Rules, RULES;
         |r| r.remember = |s, session, by, _, played| { ended::remember(s, session, by, 100, played); };
     CoveredPlayedLost: "a covered one's time on air lost at its abort", |r| r.unshown = |_, _| 0;
     EvictedKeptLast: "an evicted one kept behind its followers", |r| r.evict = evicted_kept_last;
-    CloseDropsEnded: "close drops what ended on its connection", |r| r.closed = close_drops_ended;
-    OpenDropsEnded: "open drops what ended on its connection", |r| r.opened = open_drops_ended;
+    CloseDropsEnded: "close drops what ended on its connection",
+        |r| r.closed = |s, conn| { calls::closed(s, conn); s.ended.retain(|ended| ended.conn != conn); };
+    OpenDropsEnded: "open drops what ended on its connection",
+        |r| r.opened = |s, conn| { calls::opened(s, conn); s.ended.retain(|ended| ended.conn != conn); };
     EventAt22: "SpliceEventID read at 22, with separate PIDs too",
         |r| r.reading.fields = |r, data, tail| SpliceFields { event: word(data, 22), ..reading::fields(r, data, tail) };
     AnothersEndFound: "another connection's end of that number shown",
         |r| r.latest_ended = |s, _, id| s.ended.iter().rev().find(|ended| ended.id == id).cloned();
     OldestEndFound: "the oldest end of a number shown",
         |r| r.latest_ended = |s, conn, id| s.ended.iter().find(|ended| ended.conn == conn && ended.id == id).cloned();
-    HeldAgain121: "121 for a number held again, its end kept", |r| r.latest_ended = held_again_121;
+    HeldAgain121: "121 for a number held again, its end kept",
+        |r| r.latest_ended = |s, conn, id| match s.held(conn, id) { Some(_) => None, None => ended::latest_ended(s, conn, id) };
     EmptyDescriptor121: "121 with an empty descriptor", |r| r.extended = empty_descriptor_121;
     Extended9Taken: "an ExtendedData_Request of 9 bytes taken",
         |r| r.reading.read_extended = |r, data| reading::read_extended(r, data.get(..8).unwrap_or(data));
     AnyTypeTaken: "any ExtendedDataType taken", |r| r.reading.read_extended = any_type_taken;
-    RowsFromTheOldest: "the page from the oldest up", |r| r.page = rows_from_the_oldest;
-    Init66Taken: "an Init of 66 or 67 bytes taken", |r| r.reading.hardware = init_66_taken;
+    RowsFromTheOldest: "the page from the oldest up",
+        |r| r.page = |s, rows| { ended::page(s, rows)?; rows[..s.ended.len()].reverse(); Ok(()) };
+    Init66Taken: "an Init of 66 or 67 bytes taken",
+        |r| r.reading.hardware = |r, data| match data.len() { 0..68 => Ok(nothing()), _ => reading::hardware(r, data) };
     HardwareAt64: "Hardware_Config read at 64", |r| r.reading.hardware = |_, data| hardware_by(data, 64, MOST_HARDWARE);
     Length255Taken: "a Hardware_Config of Length 255 taken",
         |r| r.reading.hardware = |_, data| hardware_by(data, 66, MOST_HARDWARE + 1);
@@ -167,7 +183,8 @@ mistakes! { Fault, FAULTS, Rules, RULES;
     FailedInitKept: "the Hardware_Config of a failed Init kept",
         |r| r.keep_hardware = |s, conn, _, hardware| { s.hardware[usize::from(conn)] = hardware.to_vec(); };
     FirstHardwareKept: "a later Init does not replace the Hardware_Config", |r| r.keep_hardware = first_hardware_kept;
-    OneHardware: "one Hardware_Config for all connections", |r| r.keep_hardware = one_hardware;
+    OneHardware: "one Hardware_Config for all connections",
+        |r| r.keep_hardware = |s, _, result, hardware| for conn in 0..4 { config::keep_hardware(s, conn, result, hardware); };
     LengthLeftOut: "GetConfig_Response without the Length", |r| r.config = length_left_out;
     ConfigDataTaken: "a GetConfig_Request with data answered", |r| r.reading.read_config = |_, _| Ok(Request::Config);
     MapAlwaysPrimary: "the primary's map always", |r| r.insertion = |_| false;
@@ -183,9 +200,10 @@ mistakes! { Fault, FAULTS, Rules, RULES;
         |r| r.due = |s| due_of(s, |_| true, HORIZON - SECOND);
     DueRoundedDown: "the tick read is the one before an instant between two microseconds",
         |r| r.due = |s| reads::due(s).map(|(instant, _)| (instant, (instant < HORIZON).then(|| wire(instant))));
-    SessionsOneFewer: "one of the sessions is not read", |r| r.sessions = sessions_one_fewer;
+    SessionsOneFewer: "one of the sessions is not read", |r| r.sessions = |s| { let mut all = reads::sessions(s); all.pop(); all };
     SessionsCoveredOnAir: "a covered session read as on air", |r| r.sessions = sessions_covered_on_air;
-    SessionsByNumber: "the sessions read in order of their numbers", |r| r.sessions = sessions_by_number;
+    SessionsByNumber: "the sessions read in order of their numbers",
+        |r| r.sessions = |s| { let mut all = reads::sessions(s); all.sort_by_key(|session| session.id); all };
     SessionsAllTimed: "a linked session read as timed",
         |r| r.sessions = |s| reads::sessions(s).into_iter().map(|session| Session { prior: NONE, ..session }).collect();
 }

@@ -85,8 +85,7 @@ fn the_last_second() {
     );
 }
 
-/// Two connections hold the same number; the higher one evicts the other at the same start. A start at an end is one
-/// instant.
+/// Two connections hold the same number; the higher one evicts the other at the same start. A start at an end is one instant.
 #[test]
 fn equal_starts() {
     rehearsed(

@@ -7,8 +7,7 @@ fn read(bytes: &[u8]) -> Result<(Streams, usize), &'static str> {
     READING.streams(bytes)
 }
 
-/// Two structures by hand from Table 8-6: a video of 1920 x 1080 with three bytes behind its 21,
-/// and an audio.
+/// Two structures by hand from Table 8-6: a video of 1920 x 1080 with three bytes behind its 21, and an audio.
 const TWO: [u8; 51] = [
     0x00, 0x31, 0x00, 0x00, 0x00, 0x02, // PcrPID 49, PIDCount 2
     0x18, 0x00, 0x32, 0x00, 0x1B, // Length 24, PID 50, StreamType 0x1B

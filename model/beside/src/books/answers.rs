@@ -57,8 +57,7 @@ impl Books {
         must(answer.data[2..] == name[..], "another ChannelName")
     }
 
-    /// 02, CR 6: "ChannelName, the Hardware_Config of their Init_Request and the output channel's program map
-    /// section".
+    /// 02, CR 6: "ChannelName, the Hardware_Config of their Init_Request and the output channel's program map section".
     pub(super) fn config(&self, conn: u8, answer: &Record) -> Kept {
         must(is(answer, conn, CONFIG_RESPONSE, 100), "no GetConfig_Response")?;
         let name = self.name.clone().unwrap_or_default();
@@ -74,8 +73,7 @@ impl Books {
         }
     }
 
-    /// "State 2 and the SessionID on air, or State 1 and 0xFFFFFFFF; the present clock, microseconds
-    /// rounded down."
+    /// "State 2 and the SessionID on air, or State 1 and 0xFFFFFFFF; the present clock, microseconds rounded down."
     pub(super) fn alive(&self, conn: u8, answer: &Record) -> Kept {
         must(is(answer, conn, id::ALIVE_RESPONSE, 100), "no Alive_Response")?;
         let (state, session) = match self.on_air() {
@@ -88,8 +86,7 @@ impl Books {
         must(clock == self.clock / 9 * 9, "another clock")
     }
 
-    /// "121 if this connection doesn't hold the SessionID; else 100, then the session's end and
-    /// after it its followers' ends".
+    /// "121 if this connection doesn't hold the SessionID; else 100, then the session's end and after it its followers' ends".
     pub(super) fn abort(&mut self, conn: u8, data: &[u8], answer: &Record, ends: &[Record]) -> Kept {
         let session = word(data, 0);
         let (code, first) = match self.find(conn, session) {

@@ -94,8 +94,7 @@ pub fn named(data: &[u8]) -> bool {
     data.len() >= 66 && data[2..34].contains(&0) && data[34..66].contains(&0)
 }
 
-/// The Hardware_Config of an Init_Request with its Length: none "over 256 bytes or past the message's end"
-/// (02, CR 6).
+/// The Hardware_Config of an Init_Request with its Length: none "over 256 bytes or past the message's end" (02, CR 6).
 pub fn hardware(data: &[u8]) -> Option<&[u8]> {
     let (length, _) = data.get(66..)?.split_first_chunk::<2>()?;
     let all = 2 + usize::from(u16::from_be_bytes(*length));

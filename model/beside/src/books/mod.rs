@@ -1,6 +1,5 @@
-//! What must hold of a splicer, by the calls and records alone: who waits and who has started is
-//! rebuilt from the records, and each answer is compared with 01's sentences about it. It uses
-//! neither the second program nor the core's state.
+//! What must hold of a splicer, by the calls and records alone: who waits and who has started is rebuilt from the records, and each
+//! answer is compared with 01's sentences about it. It uses neither the second program nor the core's state.
 
 mod answers;
 mod bytes;
@@ -140,8 +139,7 @@ impl Books {
         }
     }
 
-    /// 02, CR 7: "to every initialised connection, from 0 upward": 117, or the cue with its time and the
-    /// whole section.
+    /// 02, CR 7: "to every initialised connection, from 0 upward": 117, or the cue with its time and the whole section.
     fn cued(&self, given: &Given, list: &[Record]) -> Kept {
         let due = cuebooks::due(&given.section);
         let ready = |conn: &usize| self.open[*conn] && self.initialised[*conn];

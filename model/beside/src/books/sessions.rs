@@ -19,8 +19,7 @@ impl Books {
         self.held.iter().position(own)
     }
 
-    /// Only a higher AccessType covers, and an equal one ends, so the highest started session is the
-    /// one on air.
+    /// Only a higher AccessType covers, and an equal one ends, so the highest started session is the one on air.
     pub(super) fn on_air(&self) -> Option<&Held> {
         let started = self.held.iter().filter(|s| s.started);
         started.max_by_key(|s| s.access)
@@ -57,8 +56,7 @@ impl Books {
         Ok(())
     }
 
-    /// 02, CR 8: "the last 16 ended sessions", with "PlayedDuration (0 if never on air)", also of an end whose
-    /// record shows none.
+    /// 02, CR 8: "the last 16 ended sessions", with "PlayedDuration (0 if never on air)", also of an end whose record shows none.
     pub(super) fn end(&mut self, gone: &Held, record: &Record) {
         let played = match record.message_id {
             COMPLETE => word(record.data, 9),
