@@ -2,7 +2,7 @@
 
 use crate::gen::cues::{given, stream, Call};
 use crate::gen::draw::Rng;
-use crate::hold::faults::{Miscue, MISCUES};
+use crate::hold::faults::{told, Miscue, MISCUES};
 use crate::hold::watch::table::Hits;
 use crate::hold::watch::{Watch, Watcher, CUE_FLOORS as FLOORS, SEEN};
 use crate::people::card;
@@ -133,39 +133,24 @@ pub fn cues(seed: u64, n: u64, table: bool, floors: bool) -> Result<bool, String
             differ += 1;
         }
     }
-    if table {
-        print!("{}", hits.table(FLOORS));
-    }
-    let missing = match floors {
-        true => hits.missing(FLOORS),
-        false => Vec::new(),
-    };
-    for line in &missing {
-        println!("below its floor: {line}");
-    }
+    let reached = hits.reached(FLOORS, table, floors);
     let known = FLOORS.len();
     println!("cues: {n} streams, {calls} calls, {made} cues, {known} branches, {differ} differ");
-    Ok(differ == 0 && missing.is_empty())
+    Ok(differ == 0 && reached)
 }
 
 /// Shows that each deliberate mistake about cues is noticed.
 pub fn faults(seed: u64, n: u64) -> Result<bool, String> {
     let streams: Vec<Vec<Call>> = (0..n).map(|index| stream(seed, index)).collect();
     let clean: Vec<Played> = streams.iter().map(|s| play(s, None)).collect();
-    let mut unnoticed = 0;
-    for (miscue, text) in MISCUES {
+    let seen = |(miscue, text): &&(Miscue, &str)| {
         let differs = |at: &usize| {
             let played = play(&streams[*at], Some(*miscue));
             played.outputs != clean[*at].outputs || played.wrong.is_some()
         };
-        match (0..streams.len()).find(differs) {
-            Some(at) => println!("{} noticed in stream {at}: {text}", miscue.name()),
-            None => {
-                unnoticed += 1;
-                println!("{} NOT NOTICED: {text}", miscue.name());
-            }
-        }
-    }
+        told(&miscue.name(), text, (0..streams.len()).find(differs).map(|at| format!("stream {at}")))
+    };
+    let unnoticed = MISCUES.len() - MISCUES.iter().filter(seen).count();
     println!("cues: {} mistakes, {unnoticed} not noticed", MISCUES.len());
     Ok(unnoticed == 0)
 }

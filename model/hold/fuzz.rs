@@ -3,10 +3,11 @@
 use crate::gen;
 use crate::hold::compare;
 use crate::hold::demand3;
-use crate::hold::faults::FAULTS;
+use crate::hold::faults::{told, FAULTS};
 use crate::hold::primary::History;
 use crate::hold::run;
-use crate::hold::watch::counts::Counts;
+use crate::hold::watch::floors::floors;
+use crate::hold::watch::table::Hits;
 use crate::people::card::{self, Run};
 use crate::people::decode::{agreement, call_line, differing, time_text};
 use crate::people::records::{self, Line};
@@ -33,7 +34,7 @@ pub struct Fuzz {
 
 /// Runs the second program, and the card program if given, on N streams.
 pub fn fuzz(plan: &Fuzz) -> Result<bool, String> {
-    let mut counts = Counts::new();
+    let mut counts = Hits::default();
     let (mut calls, mut differ, mut broken) = (0, 0, 0);
     for index in 0..plan.n {
         let input = gen::stream(plan.seed, index);
@@ -59,16 +60,10 @@ pub fn fuzz(plan: &Fuzz) -> Result<bool, String> {
     if let Some(command) = &plan.card {
         differ += u64::from(!fills(command)?);
     }
-    let missing = if plan.floors { counts.missing() } else { Vec::new() };
-    if plan.table {
-        print!("{}", counts.table());
-    }
-    for line in &missing {
-        println!("below its floor: {line}");
-    }
-    println!("fuzz: {}", counts.totals());
+    let reached = counts.reached(&floors(), plan.table, plan.floors);
+    println!("fuzz: {}", counts.totals(&floors()));
     println!("fuzz: {} streams, {calls} calls, {differ} differ", plan.n);
-    Ok(differ == 0 && broken == 0 && missing.is_empty())
+    Ok(differ == 0 && broken == 0 && reached)
 }
 
 /// Whether the card program writes all that the filling stream asks for.
@@ -169,15 +164,8 @@ pub fn faults(seed: u64, n: u64) -> Result<bool, String> {
                 break;
             }
         }
-        match first {
-            Some((stream, call)) => {
-                println!("{name} noticed in stream {stream} at call {call}: {text}");
-            }
-            None => {
-                unnoticed += 1;
-                println!("{name} NOT NOTICED: {text}");
-            }
-        }
+        let place = first.map(|(stream, call)| format!("stream {stream} at call {call}"));
+        unnoticed += usize::from(!told(&name, text, place));
     }
     println!("faults: {} faults, {unnoticed} not noticed", FAULTS.len());
     Ok(unnoticed == 0)

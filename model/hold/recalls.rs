@@ -7,10 +7,9 @@ use crate::gen::driver::{differing, not_the_cards, History};
 use crate::gen::logs::{histories, whole};
 use crate::hold::compare;
 use crate::hold::due::{due, Due, FLOORS};
-use crate::hold::faults::Fault;
+use crate::hold::faults::{told, Fault};
 use crate::hold::lapses::{Lapse, Lapsed, LAPSES};
 use crate::hold::run;
-use crate::hold::watch::counts::Counts;
 use crate::hold::watch::table::{Floors, Hits};
 use crate::people::card::{self, Stop};
 use crate::people::decode::{agreement, call_line};
@@ -168,7 +167,7 @@ impl Sum {
         Ok(())
     }
 
-    fn count_rules(&mut self, counts: &Counts) {
+    fn count_rules(&mut self, counts: &Hits) {
         for (name, _) in RULES {
             self.rules.more(name, counts.of(name));
         }
@@ -272,27 +271,12 @@ fn other_output(who: &str, due: &Due, output: &[u8]) -> Option<String> {
 /// Shows that each deliberate mistake is noticed: of the log and the calls on it, of the program, and of the rules.
 pub fn faults(seed: u64, n: u64) -> Result<bool, String> {
     let logs: Vec<History> = (0..n).flat_map(|index| histories(seed, index)).collect();
-    let mut unnoticed = 0;
-    for (lapse, text) in LAPSES {
-        match noticed(seed, n, &logs, *lapse) {
-            Some(place) => println!("{lapse:?} noticed in {place}: {text}"),
-            None => {
-                unnoticed += 1;
-                println!("{lapse:?} NOT NOTICED: {text}");
-            }
-        }
-    }
+    let seen = |(lapse, text): &&(Lapse, &str)| told(&format!("{lapse:?}"), text, noticed(seed, n, &logs, *lapse));
     let inputs: Vec<Vec<u8>> = (0..2 * ROUND).map(|index| until_13(seed, index)).collect();
-    for fault in MUST_SHOW {
-        match shown(&inputs, *fault) {
-            Some(place) => println!("{} noticed in {place}: {}", fault.name(), fault.text()),
-            None => {
-                unnoticed += 1;
-                println!("{} NOT NOTICED: {}", fault.name(), fault.text());
-            }
-        }
-    }
+    let must = |fault: &&Fault| told(&fault.name(), fault.text(), shown(&inputs, **fault));
+    let good = LAPSES.iter().filter(seen).count() + MUST_SHOW.iter().filter(must).count();
     let all = LAPSES.len() + MUST_SHOW.len();
+    let unnoticed = all - good;
     println!("recalls: {all} mistakes, {unnoticed} not noticed");
     Ok(unnoticed == 0)
 }

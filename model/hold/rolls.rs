@@ -1,7 +1,7 @@
 //! The commands `rolls` and `rolls --faults`: streams of a rolling card (02, CR 9) on the second program.
 
 use crate::gen::rolls::{stream, Stream};
-use crate::hold::faults::{Slip, SLIPS};
+use crate::hold::faults::{told, Slip, SLIPS};
 use crate::hold::watch::table::{Floors, Hits};
 use crate::hold::watch::{self, Watch, Watcher};
 use crate::people::card;
@@ -140,36 +140,24 @@ pub fn rolls(seed: u64, n: u64, table: bool, floors: bool) -> Result<bool, Strin
             differ += 1;
         }
     }
-    if table {
-        print!("{}", hits.table(FLOORS));
-    }
-    let missing = if floors { hits.missing(FLOORS) } else { Vec::new() };
-    for line in &missing {
-        println!("below its floor: {line}");
-    }
+    let reached = hits.reached(FLOORS, table, floors);
     let rollovers = hits.of("rollover");
     println!("rolls: {n} streams, {calls} calls, {rollovers} rollovers, {differ} differ");
-    Ok(differ == 0 && missing.is_empty())
+    Ok(differ == 0 && reached)
 }
 
 /// Shows that each deliberate mistake of a rolling card is noticed.
 pub fn faults(seed: u64, n: u64) -> Result<bool, String> {
     let streams: Vec<Stream> = (0..n).map(|index| stream(seed, index)).collect();
     let clean: Vec<Played> = streams.iter().map(|s| play(s, None)).collect();
-    let mut unnoticed = 0;
-    for (slip, text) in SLIPS {
+    let seen = |(slip, text): &&(Slip, &str)| {
         let differs = |at: &usize| {
             let played = play(&streams[*at], Some(*slip));
             (played.outputs, played.dues) != (clean[*at].outputs.clone(), clean[*at].dues.clone())
         };
-        match (0..streams.len()).find(differs) {
-            Some(at) => println!("{slip:?} noticed in stream {at}: {text}"),
-            None => {
-                unnoticed += 1;
-                println!("{slip:?} NOT NOTICED: {text}");
-            }
-        }
-    }
+        told(&format!("{slip:?}"), text, (0..streams.len()).find(differs).map(|at| format!("stream {at}")))
+    };
+    let unnoticed = SLIPS.len() - SLIPS.iter().filter(seen).count();
     println!("rolls: {} mistakes, {unnoticed} not noticed", SLIPS.len());
     Ok(unnoticed == 0)
 }

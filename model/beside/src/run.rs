@@ -7,7 +7,6 @@ use crate::pair::Pair;
 use crate::reads::Told;
 use crate::wrong::{Drift, Wrong};
 use model::gen::draw::Rng;
-use model::hold::watch::counts::Counts;
 use model::hold::watch::table::Hits;
 use model::rules;
 
@@ -36,7 +35,7 @@ pub struct Tally {
     pub cues: u64,
     pub refusals: [u64; NUMBERS],
     pub differences: Vec<String>,
-    pub counts: Counts,
+    pub counts: Hits,
     /// The branches of the cue calls.
     pub hits: Hits,
     /// The reads with one on air, with a covered one, with nothing due, with an instant that a tick reaches, that none does.
@@ -51,7 +50,7 @@ impl Tally {
             cues: 0,
             refusals: [0; NUMBERS],
             differences: Vec::new(),
-            counts: Counts::new(),
+            counts: Hits::default(),
             hits: Hits::default(),
             read: [0; 5],
         }

@@ -53,6 +53,15 @@ macro_rules! mistakes {
 
 pub(crate) use mistakes;
 
+/// Tells where a mistake was noticed, or that it was not; whether it was.
+pub fn told(name: &str, text: &str, place: Option<String>) -> bool {
+    match &place {
+        Some(place) => println!("{name} noticed in {place}: {text}"),
+        None => println!("{name} NOT NOTICED: {text}"),
+    }
+    place.is_some()
+}
+
 /// The right rules, or those with a fault.
 pub fn rules_of(fault: Option<Fault>) -> &'static Rules {
     fault.map_or(&RIGHT, Fault::rules)

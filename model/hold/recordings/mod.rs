@@ -11,8 +11,9 @@ pub use kinds::of_stream;
 pub use tally::Tally;
 pub use turns::Made;
 
-use crate::hold::checker::{checked, LAPSES};
+use crate::hold::checker::{checked, Lapse, LAPSES};
 use crate::hold::compare;
+use crate::hold::faults::told;
 use crate::people::check::{check, Finding};
 use crate::people::recording::recorded;
 use crate::people::records::Line;
@@ -83,19 +84,13 @@ pub fn recordings(plan: &Plan) -> Result<bool, String> {
         let path = format!("{dir}/lines.txt");
         std::fs::write(&path, lines).map_err(|e| format!("{path}: {e}"))?;
     }
-    if plan.table {
-        print!("{}", tally.table());
-    }
-    let missing = if plan.floors { tally.missing() } else { Vec::new() };
-    for line in &missing {
-        println!("below its floor: {line}");
-    }
+    let reached = tally.reached(plan.table, plan.floors);
     println!(
         "recordings: {count} recordings of {} streams and {} scenarios, {bytes} bytes, {differ} differ",
         plan.n,
         tally.of("scenario")
     );
-    Ok(differ == 0 && missing.is_empty())
+    Ok(differ == 0 && reached)
 }
 
 /// What differs in this recording: from what its damage says, or from the checker program's line.
@@ -122,17 +117,12 @@ fn wrong(plan: &Plan, made: &Made) -> Result<Option<String>, String> {
 pub fn faults(seed: u64, n: u64) -> Result<bool, String> {
     let all: Vec<Made> = (0..n).flat_map(|index| of_stream(seed, index)).collect();
     let clean: Vec<Finding> = all.iter().map(|made| check(&made.bytes)).collect();
-    let mut unnoticed = 0;
-    for (lapse, text) in LAPSES {
+    let seen = |(lapse, text): &&(Lapse, &str)| {
         let differs = |at: &usize| checked(&all[*at].bytes, Some(*lapse)).0 != clean[*at];
-        match (0..all.len()).find(differs) {
-            Some(at) => println!("{lapse:?} noticed in recording {at}, {}: {text}", all[at].kind),
-            None => {
-                unnoticed += 1;
-                println!("{lapse:?} NOT NOTICED: {text}");
-            }
-        }
-    }
+        let place = (0..all.len()).find(differs).map(|at| format!("recording {at}, {}", all[at].kind));
+        told(&format!("{lapse:?}"), text, place)
+    };
+    let unnoticed = LAPSES.len() - LAPSES.iter().filter(seen).count();
     println!("recordings: {} mistakes, {unnoticed} not noticed", LAPSES.len());
     Ok(unnoticed == 0)
 }

@@ -3,9 +3,9 @@
 use super::kinds::KINDS;
 use super::turns::Made;
 use crate::hold::checker::checked;
+use crate::hold::watch::table::Hits;
 use crate::people::check::{check, Finding, Judged};
 use crate::people::recording::{entries, is_call, End};
-use std::collections::BTreeMap;
 
 /// What was found in all of them, with floors for 20 streams.
 const OUTCOMES: &[(&str, u64)] = &[
@@ -32,17 +32,18 @@ const OUTCOMES: &[(&str, u64)] = &[
     ("refused 14 behind a finding", 15),
     ("refused 14", 5),
     ("refused 15", 2),
+    ("scenario", 0),
 ];
 
 /// How often each kind and outcome came.
 #[derive(Default)]
 pub struct Tally {
-    hits: BTreeMap<&'static str, u64>,
+    hits: Hits,
 }
 
 impl Tally {
     fn hit(&mut self, name: &'static str) {
-        *self.hits.entry(name).or_insert(0) += 1;
+        self.hits.hit(name);
     }
 
     /// Counts a recording and what was found in it.
@@ -101,19 +102,11 @@ impl Tally {
     }
 
     pub fn of(&self, name: &str) -> u64 {
-        self.hits.get(name).copied().unwrap_or(0)
+        self.hits.of(name)
     }
 
-    pub fn missing(&self) -> Vec<String> {
-        let low = |(name, floor): &(&str, u64)| self.of(name) < *floor;
-        let line = |(name, floor): (&str, u64)| format!("{name}: {} of {floor}", self.of(name));
-        floors().into_iter().filter(low).map(line).collect()
-    }
-
-    pub fn table(&self) -> String {
-        let line = |(name, floor): (&str, u64)| format!("{:>9} {floor:>6}  {name}\n", self.of(name));
-        let lines: String = floors().into_iter().map(line).collect();
-        format!("     hits  floor  kind or finding\n{lines}")
+    pub fn reached(&self, table: bool, hold: bool) -> bool {
+        self.hits.reached(&floors(), table, hold)
     }
 }
 

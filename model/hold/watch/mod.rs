@@ -1,7 +1,6 @@
 //! How often each branch of each rule was taken. Nothing of it is in the rules: here stand rules that look, count, and
 //! then do what the right one does. A splicer by `SEEN` counts into the watch that is set while it is called.
 
-pub mod counts;
 mod cues;
 pub mod floors;
 mod instants;

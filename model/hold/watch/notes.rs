@@ -1,15 +1,15 @@
 //! What is noted while a splicer is watched.
 
-use super::counts::Counts;
 use super::table::Hits;
 use rules::state::{Ended, Splicer};
 use std::cell::RefCell;
 use std::collections::BTreeSet;
 
 /// What is counted of one splicer, and what of its past is needed for that.
-#[derive(Clone)]
+#[derive(Clone, Default)]
 pub struct Watch {
-    pub counts: Counts,
+    /// Of the rules.
+    pub counts: Hits,
     /// Of cue calls (02, CR 7) and of a rolling card's (CR 9).
     pub cues: Hits,
     pub rolls: Hits,
@@ -28,25 +28,6 @@ pub struct Watch {
     pub instants: u64,
     /// Whether the last who could be was on air again.
     pub on_air_again: bool,
-}
-
-impl Default for Watch {
-    fn default() -> Watch {
-        Watch {
-            counts: Counts::new(),
-            cues: Hits::default(),
-            rolls: Hits::default(),
-            accepted: BTreeSet::new(),
-            last_dropped: None,
-            dropped: BTreeSet::new(),
-            failed: [false; 4],
-            again: [false; 4],
-            ends: 0,
-            opened: [0; 4],
-            instants: 0,
-            on_air_again: false,
-        }
-    }
 }
 
 thread_local! {

@@ -40,6 +40,25 @@ impl Hits {
         lines
     }
 
+    /// Prints the table if it is asked for, and if `hold` the branches below their floors; whether there are none.
+    pub fn reached(&self, floors: &Floors, table: bool, hold: bool) -> bool {
+        if table {
+            print!("{}", self.table(floors));
+        }
+        let missing = if hold { self.missing(floors) } else { Vec::new() };
+        for line in &missing {
+            println!("below its floor: {line}");
+        }
+        missing.is_empty()
+    }
+
+    /// The table in a line: how many branches it has, and how many of those with a floor were taken.
+    pub fn totals(&self, floors: &Floors) -> String {
+        let floored: Vec<_> = floors.iter().filter(|(_, floor)| *floor > 0).collect();
+        let taken = floored.iter().filter(|(name, _)| self.of(name) > 0).count();
+        format!("{} branches, {} with a floor, {taken} of these taken", floors.len(), floored.len())
+    }
+
     pub fn table(&self, floors: &Floors) -> String {
         let line = |(name, floor): &(&str, u64)| format!("{:>9} {floor:>6}  {name}\n", self.of(name));
         let lines: String = floors.iter().map(line).collect();
@@ -61,5 +80,25 @@ mod tests {
         let other = hits.clone();
         hits.add(&other);
         assert_eq!(hits.of("a"), 2);
+    }
+
+    #[test]
+    fn the_totals_are_those_of_the_table() {
+        let mut hits = Hits::default();
+        let floors = [("a", 5), ("b", 0), ("c", 1)];
+        assert_eq!(hits.totals(&floors), "3 branches, 2 with a floor, 0 of these taken");
+        // b has no floor
+        hits.hit("a");
+        hits.hit("b");
+        assert_eq!(hits.totals(&floors), "3 branches, 2 with a floor, 1 of these taken");
+    }
+
+    #[test]
+    fn every_branch_of_the_rules_has_one_line() {
+        let mut names: Vec<&str> = crate::hold::watch::floors::floors().into_iter().map(|(name, _)| name).collect();
+        let all = names.len();
+        names.sort();
+        names.dedup();
+        assert_eq!(names.len(), all);
     }
 }
