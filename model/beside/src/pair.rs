@@ -141,9 +141,12 @@ impl Pair {
         self.books.mux(self.core.mux())?;
         self.same_rows(desk.turn(), wrong)?;
         self.same_map(desk.turn(), wrong)?;
-        let read = self.same_reads(wrong)?;
-        for (count, seen) in self.read.iter_mut().zip(read.kinds()) {
-            *count += u64::from(seen);
+        // A refused call and a cue have left the core's memory as it was: what is read of it is what was read before.
+        if !kept {
+            let read = self.same_reads(wrong)?;
+            for (count, seen) in self.read.iter_mut().zip(read.kinds()) {
+                *count += u64::from(seen);
+            }
         }
         Ok(found)
     }

@@ -45,9 +45,8 @@ impl Books {
 
     /// What is held, as it is read: "the started from the highest AccessType down, then the waiting in order of start".
     pub(super) fn sessions(&self) -> Vec<reads::Row> {
-        let (mut started, mut waiting): (Vec<&Held>, Vec<&Held>) = self.held.iter().partition(|s| s.started);
-        started.sort_by_key(|s| -i16::from(s.access));
-        waiting.sort_by_key(|s| s.start);
+        let mut all: Vec<&Held> = self.held.iter().collect();
+        all.sort_unstable_by_key(|s| if s.started { (0, 9 - u64::from(s.access)) } else { (1, s.start) });
         let row = |(place, s): (usize, &&Held)| reads::Row {
             start: s.start,
             end: s.end,
@@ -65,7 +64,7 @@ impl Books {
                 _ => State::Waiting,
             },
         };
-        started.iter().chain(&waiting).enumerate().map(row).collect()
+        all.iter().enumerate().map(row).collect()
     }
 
     /// The next start or end, in ninths.
