@@ -131,24 +131,26 @@ impl Pair {
         if before.is_some_and(|before| before != self.core) {
             return Err(format!("refused {}, or a cue, and changed its state", found.refused));
         }
-        // After every call, refused ones too.
-        let waiting = wrong.waiting(act, &found, self.core.waiting(), &mut self.drift);
-        self.same_waiting(waiting)?;
-        self.same_mux()?;
-        self.books.call(act, &found)?;
-        self.books.waiting(waiting)?;
-        self.same_primary(wrong.primary(self.core.primary(), self.model.clock))?;
-        self.books.mux(self.core.mux())?;
-        self.same_rows(desk.turn(), wrong)?;
-        self.same_map(desk.turn(), wrong)?;
+        self.read_after(act, &found, desk.turn(), wrong)?;
         // A refused call and a cue have left the core's memory as it was: what is read of it is what was read before.
         if !kept {
             let read = self.same_reads(wrong)?;
-            for (count, seen) in self.read.iter_mut().zip(read.kinds()) {
-                *count += u64::from(seen);
-            }
+            self.read = std::array::from_fn(|at| self.read[at] + u64::from(read.kinds()[at]));
         }
         Ok(found)
+    }
+
+    /// What is read after every call, refused ones too.
+    fn read_after(&mut self, act: &Act, found: &Said, turn: usize, wrong: Wrong) -> Result<(), String> {
+        let waiting = wrong.waiting(act, found, self.core.waiting(), &mut self.drift);
+        self.same_waiting(waiting)?;
+        self.same_mux()?;
+        self.books.call(act, found)?;
+        self.books.waiting(waiting)?;
+        self.same_primary(wrong.primary(self.core.primary(), self.model.clock))?;
+        self.books.mux(self.core.mux())?;
+        self.same_rows(turn, wrong)?;
+        self.same_map(turn, wrong)
     }
 
     /// A copy of the core as it was before a call gives the same answer and becomes the same, elsewhere and later.

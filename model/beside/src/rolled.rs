@@ -184,14 +184,19 @@ impl RollingPair {
             return Err("another page of what ended lately".to_string());
         }
         self.books.books.rows(&rows)?;
+        self.same_reads()?;
+        self.as_plain(call, room, &found, desk)?;
+        Ok(found)
+    }
+
+    /// What a driver reads to sleep.
+    fn same_reads(&self) -> Result<(), String> {
         let wanted = rolled_model(&self.model);
         let read = rolled(&self.core).unwrap_or(wanted);
         if read != wanted {
             return Err(format!("reads: core {read:?}, second program {wanted:?}"));
         }
-        self.books.reads(read)?;
-        self.as_plain(call, room, &found, desk)?;
-        Ok(found)
+        self.books.reads(read)
     }
 
     /// The plain core, ticked to the same whole microsecond, says the same. It is not called where the rolling card alone refuses.
