@@ -93,7 +93,7 @@ impl Pair {
     /// What a driver reads of the core to sleep is what it reads of the second program, and what the records alone give.
     fn same_reads(&self, wrong: Wrong) -> Result<Told, String> {
         let wanted = Told::model(&self.model);
-        let mut found = Told::core(&self.core).unwrap_or_else(|| wanted.clone());
+        let mut found = Told::core(&self.core);
         wrong.read(&mut found);
         if found != wanted {
             return Err(format!("reads: core {found:?}\nsecond program {wanted:?}"));

@@ -37,9 +37,10 @@ pub struct Told {
 }
 
 impl Told {
-    /// Of the core; none while its bindings have no such reads.
-    pub fn core(_: &Splicer) -> Option<Told> {
-        None
+    /// Of the core.
+    pub fn core(core: &Splicer) -> Told {
+        let due = core.due().map(|due| (due.instant, due.tick));
+        Told { air: core.air().map(on_air), due, sessions: core.sessions().map(held).collect() }
     }
 
     pub fn model(model: &rules::Splicer) -> Told {
@@ -59,6 +60,30 @@ impl Row {
     pub fn air(&self) -> Air {
         (self.conn, self.id, self.event, self.access, self.mux, self.start, self.end, self.played)
     }
+
+    /// In the words of a scenario's reads.
+    pub fn session(&self) -> rules::Session {
+        let Row { start, end, played, id, event, access, overrides, mux, state, .. } = *self;
+        let (conn, prior) = (self.conn as u8, self.prior.unwrap_or(rules::NONE));
+        rules::Session { conn, id, prior, start, end, access, overrides, mux, event, state, played, since: 0 }
+    }
+}
+
+/// The core's one on air.
+fn on_air(air: splicer::Air) -> Air {
+    let splicer::Air { connection, session, event, access, mux, start, end, played } = air;
+    (connection, session, event, access, mux, start, end, played)
+}
+
+/// A session of the core.
+fn held(s: splicer::Session) -> Row {
+    let splicer::Session { start, end, played, event, prior, access, overrides, mux, .. } = s;
+    let state = match s.state {
+        splicer::State::OnAir => State::OnAir,
+        splicer::State::Covered => State::Covered,
+        splicer::State::Waiting => State::Waiting,
+    };
+    Row { start, end, played, conn: s.connection, id: s.session, event, prior, access, overrides, mux, state }
 }
 
 fn shown(s: &rules::Session) -> Row {
@@ -80,9 +105,9 @@ fn shown(s: &rules::Session) -> Row {
 /// A rolling card's: the one on air and the ticks to what is due.
 pub type Rolled = (Option<Air>, Option<u32>);
 
-/// Of the core; none while its bindings have no such reads.
-pub fn rolled(_: &RollingSplicer) -> Option<Rolled> {
-    None
+/// Of the core.
+pub fn rolled(core: &RollingSplicer) -> Rolled {
+    (core.air().map(on_air), core.due())
 }
 
 pub fn rolled_model(card: &Rolling) -> Rolled {

@@ -192,7 +192,7 @@ impl RollingPair {
     /// What a driver reads to sleep.
     fn same_reads(&self) -> Result<(), String> {
         let wanted = rolled_model(&self.model);
-        let read = rolled(&self.core).unwrap_or(wanted);
+        let read = rolled(&self.core);
         if read != wanted {
             return Err(format!("reads: core {read:?}, second program {wanted:?}"));
         }

@@ -3,9 +3,10 @@
 //! and `> rows` lines (02, CR 8) are held to it here.
 
 use crate::acts::LONGEST;
-use crate::calls::{ask_core, Call, Row};
+use crate::calls::{self, ask_core, Call};
 use crate::maps;
 use crate::pages;
+use crate::reads::{Row, Told};
 use crate::wrong::Wrong;
 use model::ended::Ended;
 use model::people::card;
@@ -76,16 +77,17 @@ fn run_file(path: &str) -> Result<Option<(usize, usize)>, String> {
 
 /// All that is read of the core.
 fn reads(core: &Splicer, turn: usize) -> Result<Reads, String> {
-    let row = |[kept, conn, id, event, result, played]: Row| {
+    let row = |[kept, conn, id, event, result, played]: calls::Row| {
         (kept == 1).then_some(Ended { conn: conn as u8, id, event, result: result as u16, played })
     };
+    let told = Told::core(core);
     Ok(Reads {
         mux: core.mux(),
         insertion: maps::read(core, turn, Wrong::Nothing)?,
         rows: pages::read(core, turn, Wrong::Nothing)?.map(row),
-        air: None,
-        due: None,
-        sessions: Vec::new(),
+        air: told.sessions.first().filter(|s| told.air == Some(s.air())).map(Row::session),
+        due: told.due,
+        sessions: told.sessions.iter().map(Row::session).collect(),
     })
 }
 
