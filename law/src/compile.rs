@@ -2,7 +2,7 @@
 //! `&&` and `||` only when they are asked for. An expression that stands twice in a clause is computed once.
 
 use crate::code::{ClauseCode, Def, FunCode, LamCode, Pat, Prim, Region, C};
-use crate::kit::arity;
+use crate::kit::{arity, kit};
 use crate::load::{Program, Res, What};
 use crate::tree::{Clause, Ex, Id, Kind};
 use crate::value::{bytes, Fun, Ty, V};
@@ -48,14 +48,25 @@ pub struct Compiler<'a> {
     shared: HashSet<String>,
 }
 
+const NOWHERE: Region = Region::MAX;
+
 type Made<T> = Result<T, String>;
 
 fn arity_of(what: &What) -> usize {
     match what {
         What::Fun { clauses, .. } => clauses.first().map_or(0, |c| c.pats.len()),
-        What::Con { arity, .. } => *arity,
+        What::Con { arity } => *arity,
         What::Record { params, .. } => params.iter().map(|p| p.names.len()).sum(),
         What::Type => 0,
+    }
+}
+
+/// A name of the kit by its module, or a statement's sign, in a changed definition.
+fn absolute(name: &str) -> Option<Res> {
+    match name {
+        "<" => Some(Res::Prim(Prim::Lt)),
+        "≤" => Some(Res::Prim(Prim::Le)),
+        _ => name.rsplit_once('.').and_then(|(m, n)| kit(m, n)),
     }
 }
 
@@ -115,6 +126,9 @@ impl Compiler<'_> {
 
     fn note(&mut self, ex: &Ex) {
         let region = self.region;
+        if region == NOWHERE {
+            return;
+        }
         let of = &mut self.regions.of;
         ex.walk(&mut |e| {
             of.entry(e.id).or_insert(region);
@@ -132,8 +146,15 @@ impl Compiler<'_> {
         self.plain(ex)
     }
 
+    /// the region of one expression
+    fn stands(&mut self, ex: &Ex) {
+        if self.region != NOWHERE {
+            self.regions.of.entry(ex.id).or_insert(self.region);
+        }
+    }
+
     fn plain(&mut self, ex: &Ex) -> Made<C> {
-        self.regions.of.entry(ex.id).or_insert(self.region);
+        self.stands(ex);
         match &ex.kind {
             Kind::Name(n) => self.applied(ex, n, &[]),
             Kind::Num(n) => Ok(C::Val(V::Num(*n))),
@@ -187,11 +208,15 @@ impl Compiler<'_> {
     }
 
     fn applied(&mut self, at: &Ex, name: &str, args: &[Ex]) -> Made<C> {
-        self.regions.of.entry(at.id).or_insert(self.region);
+        self.stands(at);
         if let Some(slot) = self.here(name) {
             return self.wrap(C::Local(slot), args);
         }
-        let Some(res) = self.prog.resolve(self.module, name) else {
+        let res = match name.strip_prefix('@') {
+            Some(rest) => absolute(rest),
+            None => self.prog.resolve(self.module, name),
+        };
+        let Some(res) = res else {
             return Err(format!("{}:{}: no such name: {name}", self.prog.modules[self.module].file, at.line));
         };
         match res {
@@ -314,6 +339,8 @@ impl Compiler<'_> {
 
     fn body(&mut self, body: &Ex) -> Made<C> {
         let mut lets = Vec::new();
+        // what stands twice stands where it is used
+        self.region = NOWHERE;
         for e in self.repeated(body) {
             self.frames.push(Frame::default());
             let code = self.plain(&e);

@@ -4,6 +4,7 @@ use crate::code::{Def, FunCode, LamCode, Pat, Prim, Region, Sym, C};
 use crate::kit::arity;
 use crate::value::{self, Fun, Rec, Thunk, Ty, V};
 use std::cell::RefCell;
+use std::collections::HashMap;
 use std::rc::Rc;
 
 #[derive(Debug, Clone)]
@@ -22,6 +23,9 @@ pub struct Machine {
     pub cafs: Vec<Option<V>>,
     pub fuel: u64,
     pub seen: Option<Vec<bool>>,
+    /// functions of one list that no definition of the law changes: their values are kept
+    pub keeps: Vec<bool>,
+    kept: HashMap<(Def, usize, u32, u32), (V, V)>,
     stack: Vec<V>,
 }
 
@@ -62,7 +66,8 @@ fn parts(n: usize, r: &Rc<Rec>) -> Option<Vec<V>> {
 impl Machine {
     pub fn new(code: Vec<Option<Rc<FunCode>>>, names: Vec<String>, titles: Vec<String>) -> Machine {
         let cafs = vec![None; code.len()];
-        Machine { code, names, titles: Rc::new(titles), cafs, fuel: u64::MAX, seen: None, stack: Vec::new() }
+        let (keeps, kept) = (vec![false; code.len()], HashMap::new());
+        Machine { code, names, titles: Rc::new(titles), cafs, fuel: u64::MAX, seen: None, keeps, kept, stack: Vec::new() }
     }
 
     /// What an earlier fault left behind is removed.
@@ -96,8 +101,31 @@ impl Machine {
         }
     }
 
-    /// its arguments stand at the end of the stack, from base on
     fn call(&mut self, def: Def, base: usize) -> Got {
+        if self.keeps.get(def as usize) == Some(&true) {
+            if let Some(place) = place(&self.stack[base]) {
+                return self.kept(def, place, base);
+            }
+        }
+        self.compute(def, base)
+    }
+
+    /// a value that was computed before is not computed again
+    fn kept(&mut self, def: Def, at: (usize, u32, u32), base: usize) -> Got {
+        let key = (def, at.0, at.1, at.2);
+        if let Some((_, v)) = self.kept.get(&key) {
+            let v = v.clone();
+            self.stack.truncate(base);
+            return Ok(v);
+        }
+        let arg = self.stack[base].clone();
+        let got = self.compute(def, base)?;
+        self.kept.insert(key, (arg, got.clone()));
+        Ok(got)
+    }
+
+    /// its arguments stand at the end of the stack, from base on
+    fn compute(&mut self, def: Def, base: usize) -> Got {
         if self.fuel == 0 {
             return Err(Stop::Fuel);
         }
@@ -244,7 +272,11 @@ impl Machine {
 
     fn mark(&mut self, region: Region) {
         if let Some(seen) = &mut self.seen {
-            seen[region as usize] = true;
+            let region = region as usize;
+            if region >= seen.len() {
+                seen.resize(region + 1, false);
+            }
+            seen[region] = true;
         }
     }
 
@@ -392,6 +424,16 @@ impl Machine {
             }
         }
         Ok(xs.len() == ys.len())
+    }
+}
+
+/// where a list stands in memory
+fn place(v: &V) -> Option<(usize, u32, u32)> {
+    match v {
+        V::Cons(l) => Some((Rc::as_ptr(l) as usize, 0, 0)),
+        V::Bytes(b, i, j) => Some((Rc::as_ptr(b) as usize, *i, *j)),
+        V::Vals(b, i, j) => Some((Rc::as_ptr(b) as usize, *i, *j)),
+        _ => None,
     }
 }
 

@@ -6,7 +6,7 @@ use crate::eval::{Machine, Stop};
 use crate::load::{self, Program, What};
 use crate::tree::Kind;
 use crate::value::{self, V};
-use crate::{cases, lex, parse, show};
+use crate::{cases, cues, lex, mutate, parse, show, table};
 use std::collections::HashMap;
 use std::io::{Read, Write};
 use std::path::Path;
@@ -27,7 +27,12 @@ law: the definitions of crates/*/specs, run
   law run <IN                the card program, by its definition: input to output
   law runs FILE..            the same for each file, its output to FILE.law
   law show DEF ARGS          a definition's value, as law show rules.Reading.readAlive hex:0000000000000000
+  law cues <ROWS             cue calls, as `model cues --rows` writes them, with what the definitions give
+  law kit                    the kit's functions on a table of arguments, as statements for the prover
   law cases                  every worked case of crates/cases that it can decide
+  law mutate [--every] [--part I/N] [MODULE..]
+                             mechanical changes of definitions, one at a time, each against the worked cases that reach it: of rules and
+                             demands, or of the named modules or definitions (rules.Reading, rules.Reading.muxOf)
 The repository is the present folder, or that in LAW_ROOT.";
 
 impl Law {
@@ -54,6 +59,19 @@ impl Law {
         Law { prog, regions, machine, fields: HashMap::new(), errors }
     }
 
+    /// A module that no file has, its definitions read.
+    pub fn text(&mut self, key: &str, text: &str) -> Result<usize, String> {
+        let from = self.prog.infos.len();
+        let module = self.prog.text(key, text);
+        for def in from..self.prog.infos.len() {
+            let What::Fun { clauses, .. } = self.prog.infos[def].what.clone() else { continue };
+            let made = compile::function(&mut self.prog, &mut self.regions, def as Def, &clauses)?;
+            self.machine.code.push(Some(Rc::new(made)));
+            self.machine.cafs.push(None);
+        }
+        Ok(module)
+    }
+
     pub fn value(&mut self, name: &str, args: Vec<V>) -> Result<V, String> {
         let def = self.prog.find(name).ok_or(format!("no definition {name}"))?;
         let arity = self.machine.code[def as usize].as_ref().map_or(0, |c| c.arity);
@@ -67,6 +85,12 @@ impl Law {
             Err(Stop::Error(format!("{name} takes {arity} arguments")))
         };
         got.map_err(|e| format!("{name}: {e:?}"))
+    }
+
+    pub fn field(&mut self, v: &V, name: &str) -> Result<V, String> {
+        let V::Rec(r) = v else { return Err(format!("no record, for its field {name}")) };
+        let at = r.names.iter().position(|s| self.machine.names[*s as usize] == name);
+        at.map(|i| r.vals[i].clone()).ok_or(format!("no field {name}"))
     }
 
     pub fn argument(&mut self, module: usize, word: &str) -> Result<V, String> {
@@ -150,6 +174,9 @@ pub fn command(args: &[String]) -> i32 {
         "runs" => runs(&mut law, &args[1..]),
         "show" => shown(&mut law, &args[1..]),
         "cases" => cases::all(&mut law, &args[1..]),
+        "cues" => cues::rows(&mut law),
+        "mutate" => mutate::run(&mut law, &args[1..], Path::new(&root)),
+        "kit" => table::statements(&mut law),
         _ => Err(format!("no command {word}")),
     };
     done.unwrap_or_else(|e| {

@@ -24,7 +24,7 @@ pub enum Res {
 #[derive(Clone, Debug)]
 pub enum What {
     Fun { sig: Option<Ex>, clauses: Vec<Clause> },
-    Con { arity: usize, of: String },
+    Con { arity: usize },
     Record { params: Vec<Param>, fields: Vec<(String, Ex)> },
     Type,
 }
@@ -56,6 +56,8 @@ pub struct Program {
     keys: HashMap<String, usize>,
     syms: HashMap<String, Sym>,
     pub names: Vec<String>,
+    /// of each record type and struct, its fields and their types
+    pub structs: Vec<Vec<(String, String)>>,
 }
 
 fn explicit(kind: &Ex) -> usize {
@@ -124,12 +126,13 @@ impl Program {
                 self.modules[m].whole.insert(alias, key(&path));
             }
             Item::Record { name, params, fields } => {
+                self.structs.push(fields.iter().map(|(n, k)| (n.clone(), k.text())).collect());
                 self.define(m, &name, line, What::Record { params, fields });
             }
             Item::Data { name, cons } => {
                 self.define(m, &name, line, What::Type);
                 for (con, kind) in cons {
-                    let what = What::Con { arity: explicit(&kind), of: name.clone() };
+                    let what = What::Con { arity: explicit(&kind) };
                     self.define(m, &con, kind.line, what);
                 }
             }
@@ -147,6 +150,16 @@ impl Program {
                 }
             }
         }
+    }
+
+    /// A module that no file has.
+    pub fn text(&mut self, key: &str, text: &str) -> usize {
+        let m = self.module(key, key);
+        let (items, _) = parse::file(&lex::words(text).unwrap_or_default(), &mut self.ids);
+        for item in items {
+            self.put(m, item);
+        }
+        m
     }
 
     fn file(&mut self, key: &str, path: &Path, shown: &str) {
@@ -182,6 +195,9 @@ impl Program {
         let m = self.module(&format!("{prefix}.{name}"), "");
         self.define(m, &name, 0, What::Type);
         if !is_enum {
+            let body = text.split(['{', ';']).nth(1).and_then(|b| b.split('}').next()).unwrap_or("");
+            let fields = body.split(',').filter_map(|f| f.trim().trim_start_matches("pub ").split_once(": "));
+            self.structs.push(fields.map(|(n, k)| (n.trim().to_string(), k.trim().to_string())).collect());
             return;
         }
         let body = text.split('{').nth(1).and_then(|b| b.split('}').next()).unwrap_or("");
@@ -194,7 +210,7 @@ impl Program {
         for part in parts.map(str::trim).filter(|p| !p.is_empty()) {
             let con: String = part.chars().take_while(|c| c.is_alphanumeric() || *c == '_').collect();
             let arity = if part.contains('(') { part.matches(',').count() + 1 } else { 0 };
-            self.define(v, &con, 0, What::Con { arity, of: name.clone() });
+            self.define(v, &con, 0, What::Con { arity });
         }
     }
 

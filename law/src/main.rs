@@ -1,15 +1,19 @@
 //! The definitions of the repository, run: see docs/notes/law.md.
 
 mod cases;
+mod change;
 mod code;
 mod compile;
+mod cues;
 mod eval;
 mod kit;
 mod law;
 mod lex;
 mod load;
+mod mutate;
 mod parse;
 mod show;
+mod table;
 mod tree;
 mod value;
 
