@@ -11,7 +11,7 @@ esac
 needs_rust 1.81
 cd "$(dirname "$0")/.."
 specs=crates/cases/specs
-hand='Layouts Rooms Rehearsed Histories Worked Moved Counted Days Mux DueCases DueWitness Lately Sections Cued Extended Config Heard LatelyCases KeptCases MomentsCases ToldCases ToldNumbers ToldRequests AlikeCases HeldCases'
+hand='Layouts Rooms Rehearsed Histories Worked Moved Counted Days Mux DueCases DueWitness Lately Sections Cued Extended Config Heard LatelyCases KeptCases MomentsCases ToldCases ToldNumbers ToldRequests AlikeCases HeldCases Widths Numbers'
 made=target/cases
 rm -rf "$made"
 mkdir -p "$made"

@@ -25,6 +25,8 @@ work=target/law
 mkdir -p "$work"
 . tools/ran.sh
 law=$work/release/law
+# of so many parts of the mutants one is tried in the gate
+parts=8
 model=target/model/release/model
 CARGO_TARGET_DIR=$work cargo build --quiet --release --offline --manifest-path law/Cargo.toml
 
@@ -104,6 +106,10 @@ case $what in
     ran kit kit || :
     ran streams batch 280 36 || :
     ran cues cues 280 2000 || :
+    # a part of the mutants, by the commit
+    part=$((0x$(git rev-parse HEAD 2>/dev/null | cut -c 1-6 | grep . || echo 0) % parts))
+    echo "law: part $part of $parts of the mutants"
+    ran mutants "$law" mutate --part "$part/$parts" || :
     ;;
 esac
 echo "$passed passed, $failed failed"

@@ -59,17 +59,25 @@ fn numeral(n: u128) -> Vec<Ex> {
 
 /// turned, strict or not, an equality, and in the low 7 or 8 bits only
 fn comparison(f: &str, a: &Ex, b: &Ex) -> Vec<Ex> {
-    let all = ["eqb", "leb", "ltb"];
-    let mut out: Vec<Ex> = all.iter().filter(|g| **g != f).map(|g| app(&format!("{DEC}{g}"), &[a, b])).collect();
+    let test = |g: &str, x: &Ex, y: &Ex| app(&format!("{DEC}{g}"), &[x, y]);
+    let is_zero = |e: &Ex| matches!(e.kind, Kind::Num(0));
+    let mut out = Vec::new();
+    for g in ["eqb", "leb", "ltb"] {
+        // x ≤ 0 is x = 0
+        if g != f && !(is_zero(b) && f != "ltb" && g != "ltb") {
+            out.push(test(g, a, b));
+        }
+    }
     if f != "eqb" {
-        out.push(app(&format!("{DEC}{f}"), &[b, a]));
-    } else {
-        out.push(app(&format!("{DEC}leb"), &[b, a]));
-        out.push(app(&format!("{DEC}ltb"), &[b, a]));
+        out.push(test(f, b, a));
+    } else if !is_zero(a) {
+        out.extend([test("leb", b, a), test("ltb", b, a)]);
     }
-    for m in [128, 256] {
-        out.push(app(&format!("{DEC}{f}"), &[&nat("%", a, m), &nat("%", b, m)]));
-    }
+    let low = |e: &Ex, m: u128| match e.kind {
+        Kind::Num(n) => num(n % m),
+        _ => nat("%", e, m),
+    };
+    out.extend([128, 256].map(|m| test(f, &low(a, m), &low(b, m))));
     out
 }
 

@@ -149,6 +149,12 @@ fn equals(root: &std::path::Path) -> Vec<(String, bool)> {
     keys.map(|k| (k.trim_end_matches('*').to_string(), k.ends_with('*'))).collect()
 }
 
+/// law/closed.txt: the modules of which no mutant may be open.
+fn closed(root: &std::path::Path) -> HashSet<String> {
+    let text = std::fs::read_to_string(root.join("law/closed.txt")).unwrap_or_default();
+    text.lines().filter(|l| !l.starts_with('#')).map(|l| l.trim().to_string()).collect()
+}
+
 fn is_equal(list: &[(String, bool)], key: &str) -> bool {
     list.iter().any(|(k, star)| if *star { key.starts_with(k.as_str()) } else { key == k })
 }
@@ -208,6 +214,7 @@ fn all(law: &Law, w: &Words) -> Vec<Mutant> {
 pub fn run(law: &mut Law, args: &[String], root: &std::path::Path) -> Result<i32, String> {
     let w = words(args)?;
     let (list, users) = (equals(root), users(law));
+    let closed = closed(root);
     let known = known(law);
     keep(law, &users);
     let mut deps: HashMap<Def, Vec<Def>> = HashMap::new();
@@ -225,6 +232,9 @@ pub fn run(law: &mut Law, args: &[String], root: &std::path::Path) -> Result<i32
         }
         if listed && matches!(f, Fate::Open | Fate::Unreached) {
             f = Fate::Equal;
+        }
+        if matches!(f, Fate::Open | Fate::Unreached) && closed.contains(&law.prog.modules[module].key) {
+            wrong += 1;
         }
         add(scores.entry(file.clone()).or_default(), f);
         match f {

@@ -1,5 +1,7 @@
 pub mod Scenario
 pub mod Computing
+pub mod Widths
+pub mod Numbers
 pub mod Layouts
 pub mod Rooms
 pub mod Rehearsed

@@ -1,0 +1,125 @@
+-- Numbers are compared whole, in answers, in calls and in the sessions held: rows with numbers that are alike in their low 7 or 8 bits, or
+-- but for their highest. From 01 and 02, by hand. Assumes nothing.
+use mathlib.Core.Path.{_≡_, refl}
+use mathlib.Core.Bool.{true, false}
+use mathlib.Core.List.{[], _∷_, map}
+use Prim.Native.Nat.{ℕ}
+use lib.ListN.{replicate}
+use Rattle.rules.specs.declared.Start.the-variants.{Timed, Linked}
+use Rattle.rules.specs.declared.Request.{Request}
+use Rattle.rules.specs.declared.Session.{Session}
+use Rattle.rules.specs.declared.Link.the-variants.{Initialised}
+use Rattle.rules.specs.declared.Refusal.the-variants.{NoConnection}
+use Rattle.rules.specs.State.{Splicer, empty, sameNumber, startsAt, startsAfter, endsAt, withLink, noneHeld}
+use Rattle.rules.specs.Records.{General}
+use Rattle.rules.specs.Instants.{outranks, mayStart}
+use Rattle.rules.specs.Answers.{initResult, answer, airFeed, isPast, wrongNumber, tooLate}
+use Rattle.rules.specs.Calls.{refused, named, openCall, closeCall}
+use Rattle.cases.specs.Computing.{computing}
+
+-- ## "121: SessionID 0xFFFFFFFF": all of it
+
+asked : ℕ → Request
+asked x =
+    record { id = x; start = Timed (record { 0 = 0 }); duration = record { 0 = 1 }; event = 0; access = 0; overrides = 0; mux = 5 }
+
+wrong : map (λ x. wrongNumber 0 (asked x) noneHeld) (0 ∷ 0x7F ∷ 0xFF ∷ 0x7FFFFFFF ∷ 0xFFFFFF7F ∷ 0xFFFFFFFF ∷ [])
+    ≡ false ∷ false ∷ false ∷ false ∷ false ∷ true ∷ []
+unfolding computing asked
+wrong = refl
+
+-- a number is another's if one bit is another
+alike : map (λ x. sameNumber 1 7 1 x) (7 ∷ 0x87 ∷ 0x107 ∷ 0x80000007 ∷ 6 ∷ []) ≡ true ∷ false ∷ false ∷ false ∷ false ∷ []
+unfolding computing
+alike = refl
+
+-- ## "Revision not 2 gives 102"
+
+revisions : map (λ r. initResult r [] []) (2 ∷ 1 ∷ 3 ∷ 0x82 ∷ 0x102 ∷ 0x8002 ∷ []) ≡ 100 ∷ 102 ∷ 102 ∷ 102 ∷ 102 ∷ 102 ∷ []
+unfolding computing
+revisions = refl
+
+-- ## "1. ID 0x0000: no answer. 2. Not initialised and not Init_Request: 103. 3. ID 0x000D: no answer. 4. ID not in the list: 120."
+
+ready : Splicer
+ready = withLink 0 Initialised (named [])
+
+silences : map (λ n. answer 0 n [] [] ready .written) (0 ∷ 0xD ∷ []) ≡ [] ∷ [] ∷ []
+unfolding computing ready
+silences = refl
+
+unknown : map (λ n. answer 0 n [] [] ready .written) (0x80 ∷ 0x100 ∷ 0x8000 ∷ 0x8D ∷ 0x10D ∷ 0xC ∷ 0xE0 ∷ [])
+    ≡ replicate 7 (General 0 120 ∷ [])
+unfolding computing ready
+unknown = refl
+
+unready : map (λ n. answer 1 n [] [] ready .written) (0x81 ∷ 0x101 ∷ 0xD ∷ 5 ∷ []) ≡ replicate 4 (General 1 103 ∷ [])
+unfolding computing ready
+unready = refl
+
+-- ## House number 1: "connection above 3"
+
+connections : map (λ c. openCall c ready .answer) (4 ∷ 0x80 ∷ 0x100 ∷ 0x10001 ∷ []) ≡ replicate 4 (refused NoConnection)
+unfolding computing ready
+connections = refl
+
+closed : map (λ c. closeCall c 4096 ready .answer) (0x80 ∷ 0x100 ∷ []) ≡ replicate 2 (refused NoConnection)
+unfolding computing ready
+closed = refl
+
+-- ## 02, CR 6: "the one on air": 0 the primary's, 1 the insertion's
+
+feeds : airFeed [] ∷ airFeed (empty ∷ []) ∷ [] ≡ 0 ∷ 1 ∷ []
+unfolding computing
+feeds = refl
+
+-- ## Times in ninths: a start or an end is at an instant or it is not
+
+-- from t to u, with an AccessType and a flag
+from : (t u access flag : ℕ) → Session
+from t u a f =
+    record {
+      conn = 0;
+      id = 1;
+      prior = 0xFFFFFFFF;
+      start = record { 0 = t };
+      end = record { 0 = u };
+      access = a;
+      overrides = f;
+      mux = 5;
+      event = 0;
+      played = record { 0 = 0 };
+    }
+
+times : map (λ t. startsAt t (from 1280 2560 0 0) ∷ startsAfter t (from 1280 2560 0 0) ∷ endsAt t (from 1280 2560 0 0) ∷ [])
+    (1152 ∷ 1279 ∷ 1280 ∷ 1281 ∷ 1536 ∷ 2560 ∷ 2432 ∷ 2304 ∷ [])
+    ≡ (false ∷ true ∷ false ∷ []) ∷ (false ∷ true ∷ false ∷ []) ∷ (true ∷ false ∷ false ∷ []) ∷ (false ∷ false ∷ false ∷ [])
+    ∷ (false ∷ false ∷ false ∷ []) ∷ (false ∷ false ∷ true ∷ []) ∷ (false ∷ false ∷ false ∷ []) ∷ (false ∷ false ∷ false ∷ []) ∷ []
+unfolding computing from
+times = refl
+
+-- c. "112: timed, and the start is less than 3 s after the clock": at 3 s, a microsecond before it, and a linked one
+late : map (tooLate 9000000) (Timed (record { 0 = 4000000 }) ∷ Timed (record { 0 = 3999999 }) ∷ Timed (record { 0 = 0 }) ∷ Linked 0 ∷ [])
+    ≡ false ∷ true ∷ true ∷ false ∷ []
+unfolding computing
+late = refl
+
+-- ## 02: "With the flag at 1, an equal AccessType now wins"
+
+ranks : map (λ n. outranks n (from 0 1 5 0)) (from 0 1 4 0 ∷ from 0 1 4 1 ∷ from 0 1 5 0 ∷ from 0 1 5 1 ∷ from 0 1 6 0 ∷ from 0 1 6 1 ∷ [])
+    ≡ false ∷ false ∷ false ∷ true ∷ true ∷ true ∷ []
+unfolding computing from
+ranks = refl
+
+starts : map (λ n. mayStart n (from 0 1 5 0 ∷ from 0 1 3 0 ∷ []))
+    (from 0 1 4 1 ∷ from 0 1 5 0 ∷ from 0 1 5 1 ∷ from 0 1 6 0 ∷ from 0 1 6 1 ∷ [])
+    ≡ false ∷ false ∷ true ∷ false ∷ true ∷ []
+unfolding computing from
+starts = refl
+
+-- ## 02, CR 8: a place where none is kept tells of nobody, its numbers being 0
+
+kept : map (isPast 0 0) (record { conn = 0; id = 0; event = 0; result = 0; played = 0 }
+    ∷ record { conn = 0; id = 0; event = 0; result = 100; played = 0 } ∷ []) ≡ false ∷ true ∷ []
+unfolding computing
+kept = refl
