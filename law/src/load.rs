@@ -33,7 +33,6 @@ pub enum What {
 pub struct Info {
     pub name: String,
     pub module: usize,
-    pub line: u32,
     pub what: What,
     pub under: bool,
 }
@@ -99,22 +98,21 @@ impl Program {
         self.modules.len() - 1
     }
 
-    fn define(&mut self, module: usize, name: &str, line: u32, what: What) -> Def {
+    fn define(&mut self, module: usize, name: &str, what: What) -> Def {
         let def = self.infos.len() as Def;
-        self.infos.push(Info { name: name.to_string(), module, line, what, under: false });
+        self.infos.push(Info { name: name.to_string(), module, what, under: false });
         self.modules[module].own.insert(name.to_string(), def);
         def
     }
 
-    fn fun(&mut self, module: usize, name: &str, line: u32) -> Def {
+    fn fun(&mut self, module: usize, name: &str) -> Def {
         match self.modules[module].own.get(name) {
             Some(def) => *def,
-            None => self.define(module, name, line, What::Fun { sig: None, clauses: vec![] }),
+            None => self.define(module, name, What::Fun { sig: None, clauses: vec![] }),
         }
     }
 
     fn put(&mut self, m: usize, placed: Placed) {
-        let line = placed.line;
         match placed.item {
             Item::Use { path, names: Some(names), .. } => {
                 let from = key(&path);
@@ -127,24 +125,24 @@ impl Program {
             }
             Item::Record { name, params, fields } => {
                 self.structs.push(fields.iter().map(|(n, k)| (n.clone(), k.text())).collect());
-                self.define(m, &name, line, What::Record { params, fields });
+                self.define(m, &name, What::Record { params, fields });
             }
             Item::Data { name, cons } => {
-                self.define(m, &name, line, What::Type);
+                self.define(m, &name, What::Type);
                 for (con, kind) in cons {
                     let what = What::Con { arity: explicit(&kind) };
-                    self.define(m, &con, kind.line, what);
+                    self.define(m, &con, what);
                 }
             }
             Item::Sig { name, kind } => {
-                let def = self.fun(m, &name, line);
+                let def = self.fun(m, &name);
                 self.infos[def as usize].under = placed.under;
                 if let What::Fun { sig, .. } = &mut self.infos[def as usize].what {
                     *sig = Some(kind);
                 }
             }
             Item::Eqn { name, clause } => {
-                let def = self.fun(m, &name, line);
+                let def = self.fun(m, &name);
                 if let What::Fun { clauses, .. } = &mut self.infos[def as usize].what {
                     clauses.push(clause);
                 }
@@ -193,7 +191,7 @@ impl Program {
     fn declaration(&mut self, prefix: &str, text: &str, is_enum: bool) {
         let name: String = text.chars().take_while(|c| c.is_alphanumeric() || *c == '_').collect();
         let m = self.module(&format!("{prefix}.{name}"), "");
-        self.define(m, &name, 0, What::Type);
+        self.define(m, &name, What::Type);
         if !is_enum {
             let body = text.split(['{', ';']).nth(1).and_then(|b| b.split('}').next()).unwrap_or("");
             let fields = body.split(',').filter_map(|f| f.trim().trim_start_matches("pub ").split_once(": "));
@@ -210,7 +208,7 @@ impl Program {
         for part in parts.map(str::trim).filter(|p| !p.is_empty()) {
             let con: String = part.chars().take_while(|c| c.is_alphanumeric() || *c == '_').collect();
             let arity = if part.contains('(') { part.matches(',').count() + 1 } else { 0 };
-            self.define(v, &con, 0, What::Con { arity });
+            self.define(v, &con, What::Con { arity });
         }
     }
 
@@ -242,11 +240,6 @@ impl Program {
         let (module, name) = name.rsplit_once('.')?;
         let m = self.keys.get(module)?;
         self.modules[*m].own.get(name).copied()
-    }
-
-    pub fn place(&self, def: Def) -> String {
-        let info = &self.infos[def as usize];
-        format!("{}:{}", self.modules[info.module].file, info.line)
     }
 
     pub fn title(&self, def: Def) -> String {

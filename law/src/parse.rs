@@ -333,8 +333,8 @@ impl File<'_> {
         Parser { words, at: 0, ids: self.ids, ops: &self.ops }
     }
 
-    fn put(&mut self, line: u32, item: Item, under: bool) {
-        self.out.push(Placed { line, item, under });
+    fn put(&mut self, item: Item, under: bool) {
+        self.out.push(Placed { item, under });
     }
 
     /// name, parameters, and the lines behind `where`
@@ -344,8 +344,8 @@ impl File<'_> {
         let name = p.name()?;
         let mut params = Vec::new();
         while p.binds() {
-            let (names, kind, _) = p.binder()?;
-            params.push(Param { names, kind });
+            let (names, _, _) = p.binder()?;
+            params.push(Param { names });
         }
         let body = words.get(end + 1..).unwrap_or(&[]);
         let col = body.first().map_or(0, |t| t.col);
@@ -400,26 +400,26 @@ impl File<'_> {
         let line = words[0].line;
         let Tok::Word(word) = &words[0].tok else { return Err((line, "no declaration".to_string())) };
         match word.as_str() {
-            "use" => self.put(line, usage(words), under),
+            "use" => self.put(usage(words), under),
             "mod" | "unfolding" => {}
             "module" => self.block(words, under)?,
             "record" => {
                 let (name, params, lines) = self.headed(&words[1..])?;
                 let fields = self.sigs(lines)?;
-                self.put(line, Item::Record { name, params, fields }, under);
+                self.put(Item::Record { name, params, fields }, under);
             }
             "data" => {
                 let (name, _, lines) = self.headed(&words[1..])?;
                 let cons = self.sigs(lines)?;
-                self.put(line, Item::Data { name, cons }, under);
+                self.put(Item::Data { name, cons }, under);
             }
             _ if words.get(1).map(|t| &t.tok) == Some(&Tok::Colon) => {
                 let (name, kind) = self.sigs(vec![words])?.remove(0);
-                self.put(line, Item::Sig { name, kind }, under);
+                self.put(Item::Sig { name, kind }, under);
             }
             _ => {
                 let (name, clause) = self.clause(words)?;
-                self.put(line, Item::Eqn { name, clause }, under);
+                self.put(Item::Eqn { name, clause }, under);
             }
         }
         Ok(())

@@ -36,7 +36,6 @@ pub struct Clause {
 #[derive(Clone, Debug)]
 pub struct Param {
     pub names: Vec<String>,
-    pub kind: Ex,
 }
 
 #[derive(Clone, Debug)]
@@ -50,7 +49,6 @@ pub enum Item {
 
 #[derive(Clone, Debug)]
 pub struct Placed {
-    pub line: u32,
     pub item: Item,
     /// under `module _ (x : T) where`: only proofs stand there
     pub under: bool,

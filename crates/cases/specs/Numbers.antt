@@ -2,19 +2,24 @@
 -- but for their highest. From 01 and 02, by hand. Assumes nothing.
 use mathlib.Core.Path.{_≡_, refl}
 use mathlib.Core.Bool.{true, false}
-use mathlib.Core.List.{[], _∷_, map}
+use mathlib.Core.List.{List, [], _∷_, _++_, map}
 use Prim.Native.Nat.{ℕ}
+use Prim.Native.String.{String}
 use lib.ListN.{replicate}
 use Rattle.rules.specs.declared.Start.the-variants.{Timed, Linked}
 use Rattle.rules.specs.declared.Request.{Request}
 use Rattle.rules.specs.declared.Session.{Session}
 use Rattle.rules.specs.declared.Link.the-variants.{Initialised}
+use Rattle.rules.specs.declared.Cue.{Cue}
+use Rattle.rules.specs.declared.Cue.the-variants.{At, Timeless, Bad}
 use Rattle.rules.specs.declared.Refusal.the-variants.{NoConnection}
 use Rattle.rules.specs.State.{Splicer, empty, sameNumber, startsAt, startsAfter, endsAt, withLink, noneHeld}
 use Rattle.rules.specs.Records.{General}
 use Rattle.rules.specs.Instants.{outranks, mayStart}
 use Rattle.rules.specs.Answers.{initResult, answer, airFeed, isPast, wrongNumber, tooLate}
+use Rattle.rules.specs.Cues.{readCue}
 use Rattle.rules.specs.Calls.{refused, named, openCall, closeCall}
+use Rattle.cases.specs.Scenario.{hex}
 use Rattle.cases.specs.Computing.{computing}
 
 -- ## "121: SessionID 0xFFFFFFFF": all of it
@@ -123,3 +128,34 @@ kept : map (isPast 0 0) (record { conn = 0; id = 0; event = 0; result = 0; playe
     ∷ record { conn = 0; id = 0; event = 0; result = 100; played = 0 } ∷ []) ≡ false ∷ true ∷ []
 unfolding computing
 kept = refl
+
+-- ## 02, CR 7: lengths that do not fit, and those that do, in sections with more than 127 and 255 bytes for the command and descriptors
+
+record Cued : Type 0 where
+  section : List ℕ
+  wants : Cue
+
+cued : List ℕ → Cue → Cued
+cued l c = record { section = l; wants = c }
+
+-- what stands before the descriptors, so many zeros for these, and CRC_32
+far : String → ℕ → String → List ℕ
+far l n c = hex l ++ (replicate n 0 ++ hex c)
+
+cuesGiven : List Cued
+cuesGiven =
+    -- a command length of 127 or 255 is given, and not splice_null's; then time_signal, a cancelled and an immediate splice_insert, each
+    -- twice
+    cued (hex "FC301100000000000000FFF07F000000 53C92299") Bad
+    ∷ cued (hex "FC301100000000000000FFF0FF000000 F52F1F84") Bad
+    ∷ cued (far "FC309300000000000000FFF00506FE00000064007D" 125 "93E1138D") (At 100)
+    ∷ cued (far "FC311300000000000000FFF00506FE0000006400FD" 253 "287243A0") (At 100)
+    ∷ cued (far "FC309300000000000000FFF0050500000001FF007D" 125 "28381D04") Timeless
+    ∷ cued (far "FC311300000000000000FFF0050500000001FF00FD" 253 "0A7D8A47") Timeless
+    ∷ cued (far "FC309300000000000000FFF00A05000000017FDF000100000078" 120 "599374FB") Timeless
+    ∷ cued (far "FC311300000000000000FFF00A05000000017FDF0001000000F8" 248 "06E564D8") Timeless
+    ∷ []
+
+cues-read : map (λ x. readCue (x .section)) cuesGiven ≡ map (λ x. x .wants) cuesGiven
+unfolding computing cued far cuesGiven
+cues-read = refl
