@@ -89,6 +89,30 @@ kit() {
     fi
 }
 
+# halves: all mutants, by two processes; one table of both
+halves() {
+    "$law" mutate --part 0/2 >"$work/half.0" &
+    other=$!
+    status=0
+    "$law" mutate --part 1/2 >"$work/half.1" || status=1
+    wait "$other" || status=1
+    grep -hvE '^[|]' "$work/half.0" "$work/half.1"
+    awk -F'[|]' '
+    /^[|] (File|all) / || /^[|]---/ { next }
+    /^[|]/ { for (i = 3; i < 8; i++) { n[$2, i] += $i; sum[i] += $i } if (!seen[$2]++) order[++k] = $2 }
+    END {
+        print "| File | Mutants | Noticed | Equal | Open | Reached by no case |\n|---|---|---|---|---|---|"
+        for (j = 1; j <= k; j++) row(order[j], 1)
+        row(" all ", 0)
+    }
+    function row(name, own,   i, line) {
+        line = "|" name "|"
+        for (i = 3; i < 8; i++) line = line " " (own ? n[name, i] : sum[i]) + 0 " |"
+        print line
+    }' "$work/half.0" "$work/half.1"
+    return "$status"
+}
+
 if [ "$what" != --mutants ] && [ "$what" != --kit ]; then
     CARGO_TARGET_DIR=target/model cargo build --quiet --release --offline --manifest-path model/Cargo.toml
 fi
@@ -97,7 +121,11 @@ case $what in
 --streams) ran streams streams "$2" "$3" || : ;;
 --mutants)
     shift
-    ran mutants "$law" mutate "$@" || :
+    if [ $# -eq 0 ]; then
+        ran mutants halves || :
+    else
+        ran mutants "$law" mutate "$@" || :
+    fi
     ;;
 --gate)
     needs rt
