@@ -18,7 +18,8 @@ use Rattle.rules.specs.Records.{General}
 use Rattle.rules.specs.Instants.{outranks, mayStart}
 use Rattle.rules.specs.Answers.{initResult, answer, airFeed, isPast, wrongNumber, tooLate}
 use Rattle.rules.specs.Cues.{readCue}
-use Rattle.rules.specs.Calls.{refused, named, openCall, closeCall}
+use Rattle.rules.specs.Calls.{refused, consumedBy, named, fresh, openCall, closeCall}
+use Rattle.rules.specs.Card.{card}
 use Rattle.cases.specs.Scenario.{hex}
 use Rattle.cases.specs.Computing.{computing}
 
@@ -159,3 +160,24 @@ cuesGiven =
 cues-read : map (λ x. readCue (x .section)) cuesGiven ≡ map (λ x. x .wants) cuesGiven
 unfolding computing cued far cuesGiven
 cues-read = refl
+
+-- ## The card program: "It stops at the end, a cut record or another mark": the marks with their highest bit are others
+
+other-marks : map card (hex "CF04" ∷ hex "C300" ∷ hex "CD00 0000 0000 FFFF FFFF" ∷ hex "D400 00000000 FFFFFFFF" ∷ []) ≡ replicate 4 []
+unfolding computing
+other-marks = refl
+
+marks : map card (hex "4F04" ∷ hex "4300" ∷ hex "4D00 0000 0000 FFFF FFFF" ∷ hex "5400 00000000 FFFFFFFF" ∷ [])
+    ≡ hex "4501" ∷ hex "4507" ∷ hex "4507" ∷ hex "4508" ∷ []
+unfolding computing
+marks = refl
+
+-- MicroSeconds of a tick to their highest bit
+ticked : map card (hex "5400 00000001 80000000" ∷ hex "5400 00000001 000F423F" ∷ []) ≡ hex "4508" ∷ [] ∷ []
+unfolding computing
+ticked = refl
+
+-- "A good call returns the bytes written, and message also the bytes consumed": fresh consumes none; a refusal "consumes nothing"
+consumed : consumedBy (fresh (hex "00") .answer) ∷ consumedBy (refused NoConnection) ∷ [] ≡ 0 ∷ 0 ∷ []
+unfolding computing
+consumed = refl
