@@ -15,7 +15,7 @@ use Rattle.rules.specs.declared.Cue.the-variants.{At, Timeless, Bad}
 use Rattle.rules.specs.declared.Refusal.the-variants.{NoConnection}
 use Rattle.rules.specs.State.{Splicer, empty, sameNumber, startsAt, startsAfter, endsAt, withLink, noneHeld}
 use Rattle.rules.specs.Records.{General}
-use Rattle.rules.specs.Instants.{outranks, mayStart}
+use Rattle.rules.specs.Instants.{outranks, mayStart, onAir}
 use Rattle.rules.specs.Answers.{initResult, answer, airFeed, isPast, wrongNumber, tooLate}
 use Rattle.rules.specs.Cues.{readCue}
 use Rattle.rules.specs.Calls.{refused, consumedBy, named, fresh, openCall, closeCall}
@@ -95,6 +95,22 @@ from t u a f =
       mux = 5;
       event = 0;
       played = record { 0 = 0 };
+    }
+
+-- no two of whose numbers are alike
+distinct : ℕ → Session
+distinct d =
+    record {
+      conn = 1;
+      id = 2;
+      prior = 3;
+      start = record { 0 = 400 };
+      end = record { 0 = 500 };
+      access = 6;
+      overrides = 0;
+      mux = 9;
+      event = 10;
+      played = record { 0 = d };
     }
 
 times : map (λ t. startsAt t (from 1280 2560 0 0) ∷ startsAfter t (from 1280 2560 0 0) ∷ endsAt t (from 1280 2560 0 0) ∷ [])
@@ -181,3 +197,22 @@ ticked = refl
 consumed : consumedBy (fresh (hex "00") .answer) ∷ consumedBy (refused NoConnection) ∷ [] ≡ 0 ∷ 0 ∷ []
 unfolding computing
 consumed = refl
+
+-- no other byte is a mark
+no-marks : map (λ b. card (b ∷ hex "00 00000000 FFFFFFFF")) (0 ∷ 0x42 ∷ 0x44 ∷ 0x4C ∷ 0x4E ∷ 0x50 ∷ 0x53 ∷ 0x55 ∷ 0x74 ∷ 0xFF ∷ [])
+    ≡ replicate 10 []
+unfolding computing
+no-marks = refl
+
+-- ## 02, CR 7: "A section is right exactly if it is 0": the register behind these is 0, 0x80, 0x100 and 0x80000000
+
+registers : map (λ c. readCue (hex "FC 3011 00 00 00000000 00 FF F000 00 0000" ++ hex c))
+    ("7A4FBFFF" ∷ "39F97F03" ∷ "FD223E07" ∷ "F82F3124" ∷ []) ≡ Timeless ∷ Bad ∷ Bad ∷ Bad ∷ []
+unfolding computing
+registers = refl
+
+-- ## "PlayedDuration is time on air only": a session on air is as it was but for its time
+
+onward : onAir 5 (distinct 7 ∷ distinct 8 ∷ []) ≡ distinct 12 ∷ distinct 8 ∷ []
+unfolding computing distinct
+onward = refl
