@@ -251,6 +251,10 @@ impl Machine {
         }
     }
 
+    fn name(&self, sym: Sym) -> &str {
+        self.names.get(sym as usize).map_or("that was made anew", String::as_str)
+    }
+
     fn project(&mut self, v: V, sym: Sym, hint: &std::cell::Cell<usize>) -> Got {
         match v {
             V::Rec(r) => {
@@ -263,10 +267,10 @@ impl Machine {
                         hint.set(i);
                         Ok(r.vals[i].clone())
                     }
-                    None => error(&format!("no field {}", self.names[sym as usize])),
+                    None => error(&format!("no field {}", self.name(sym))),
                 }
             }
-            _ => error(&format!("no record, for its field {}", self.names[sym as usize])),
+            _ => error(&format!("no record, for its field {}", self.name(sym))),
         }
     }
 

@@ -18,6 +18,7 @@ use Rattle.rules.specs.declared.Framing.{Framing}
 use Rattle.rules.specs.declared.Framing.the-variants.{Framed, Unframed}
 use Rattle.rules.specs.Bytes.{nameIn, sameName, written}
 use Rattle.rules.specs.Reading.{lengthIn, muxOf, readInit, readAlive, readAbort, readExtended, readConfig, readSplice, isRead, read}
+use Rattle.rules.specs.Reading.{isSplice}
 use Rattle.rules.specs.Reading.{Listed, listed, unlisted, separateIn}
 use Rattle.rules.specs.Calls.{framing}
 use Rattle.cases.specs.Scenario.{hex}
@@ -292,12 +293,14 @@ splices =
     ∷ asks (splice "00000001 7FFFFFFF 00000000 FFFFFFFF" "00FF" "00000001 80000002 00000000 03 01 00" []) (reads 1 (Linked 0x7FFFFFFF) 1)
     ∷ asks (splice "00000001 FFFFFF7F 00000000 FFFFFFFF" "0FFF" "00000001 80000002 00000000 03 01 00" []) (reads 1 (Linked 0xFFFFFF7F) 1)
     ∷ asks (splice "00000001 00000004 00000000 FFFFFFFF" "7FFF" "00000001 80000002 00000000 03 01 00" []) (reads 1 (Linked 4) 1)
-    -- a tail of 142 bytes, data of 145
+    -- a tail of 142 bytes, data of 145 and 273, a tail of 270
     ∷ asks (splice "00000001 00000004 00000000 00000000" "0001" "00000001 80000002 00000000 03 01 00" (far "017D" 125))
     (reads 1 (Linked 4) 1)
     ∷ asks (splice "00000001 00000004 00000000 00000000" "0001" "00000001 80000002 00000000 03 01 00" (far "016E" 110))
     (reads 1 (Linked 4) 1)
     ∷ asks (splice "00000001 00000004 00000000 00000000" "0001" "00000001 80000002 00000000 03 01 00" (far "01EE" 238))
+    (reads 1 (Linked 4) 1)
+    ∷ asks (splice "00000001 00000004 00000000 00000000" "0001" "00000001 80000002 00000000 03 01 00" (far "01FD" 253))
     (reads 1 (Linked 4) 1)
     -- "MicroSeconds": 999,999 at most, of a timed one
     ∷ asks (splice "00000001 FFFFFFFF 00000001 000F423F" "0001" "00000001 80000002 00000000 03 01 00" [])
@@ -344,3 +347,15 @@ not-theirs :
     (0x87 ∷ 0x107 ∷ []))))) ≡ replicate 12 Unreadable
 unfolding computing name init splice
 not-theirs = refl
+
+-- nor lower ones
+not-lower : read 0 (init "0002" "0000" 0) ∷ read 2 (hex "00000001 FFFFFFFF") ∷ map (λ n. read n []) (4 ∷ 6 ∷ 8 ∷ 9 ∷ [])
+    ≡ replicate 6 Unreadable
+unfolding computing name init
+not-lower = refl
+
+-- of a message's own bytes
+are-splices : map (λ l. isSplice (hex l)) ("0007" ∷ "0006" ∷ "0008" ∷ "0001" ∷ "0087" ∷ "0107" ∷ "8007" ∷ [])
+    ≡ true ∷ false ∷ false ∷ false ∷ false ∷ false ∷ false ∷ []
+unfolding computing
+are-splices = refl
