@@ -26,7 +26,7 @@ mkdir -p "$work"
 . tools/ran.sh
 law=$work/release/law
 # of so many parts of the mutants one is tried in the gate
-parts=8
+parts=3
 model=target/model/release/model
 CARGO_TARGET_DIR=$work cargo build --quiet --release --offline --manifest-path law/Cargo.toml
 
