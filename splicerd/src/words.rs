@@ -38,10 +38,12 @@ fn instant(seconds: u32, micros: u32) -> String {
 }
 
 /// What a record says.
-pub fn record(record: &Record) -> String {
+pub fn record(record: &Record<'_>) -> String {
     let kind = texts::message(record.message_id);
     let said = match record.says() {
-        Some(Says::Cue { seconds, micros, section }) => return format!("{kind} for {}: {}", instant(seconds, micros), hex(section)),
+        Some(Says::Cue { seconds, micros, section }) => {
+            return format!("{kind} for {}: {}", instant(seconds, micros), hex(section))
+        }
         Some(Says::Init { name: own, .. }) => format!(", channel {}", name(own)),
         Some(Says::Alive { state, session, seconds, micros }) if session == u32::MAX => {
             format!(", {}, {}", texts::state(state), instant(seconds, micros))
@@ -68,7 +70,7 @@ fn config(data: &[u8]) -> String {
 }
 
 /// The same by its fields.
-pub fn record_json(record: &Record) -> Value {
+pub fn record_json(record: &Record<'_>) -> Value {
     let mut value = json!({
         "message": texts::message(record.message_id), "id": record.message_id, "result": record.result,
         "meaning": texts::result(record.result), "data": hex(record.data),
