@@ -2,6 +2,7 @@
 #![forbid(unsafe_code)]
 #![warn(rust_2018_idioms)]
 
+pub mod adserver;
 pub mod channel;
 pub mod clock;
 pub mod cues;
