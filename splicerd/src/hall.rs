@@ -64,6 +64,8 @@ impl Hall {
         // a fresh splicer's connection 0 is closed
         let _ = blank.open(0);
         let dues = vec![None; channels.len()];
+        // what stands at the front of recordings is to be written
+        let touched = (0..channels.len()).collect();
         Hall {
             channels,
             names,
@@ -73,7 +75,7 @@ impl Hall {
             clock,
             due: BTreeSet::new(),
             dues,
-            touched: Vec::new(),
+            touched,
             ending: Vec::new(),
             changed: BTreeSet::new(),
             cues: VecDeque::new(),

@@ -50,6 +50,7 @@ impl Server {
         hall.cues = options.cues.into();
         hall.fixed = options.fixed;
         limits(&mut hall, options.record.is_some());
+        hall.settle();
         let mut listeners = Vec::new();
         for (at, address) in options.listen.iter().enumerate() {
             let mut listener = listening(*address)?;
