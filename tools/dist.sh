@@ -1,12 +1,12 @@
 #!/bin/sh
 # dist.sh [--proved | --gate] [x86_64 | aarch64]: a release for one processor, this machine's if none is named,
-# target/dist/splicer-VERSION-PROCESSOR.tar.gz: headers, archives, pkg-config files, programs, the desk's program with its man page, the
-# Rust crate, examples, docs, README, CHANGELOG, NOTICE, splicer.spdx (what is in it, by SPDX) and MANIFEST (commit, versions of kit and
+# target/dist/splicer-VERSION-PROCESSOR.tar.gz: headers, archives, pkg-config files, programs, the desk's program, splicerd and adserver with
+# their man pages and a systemd unit, the Rust crate, examples, docs, README, CHANGELOG, NOTICE, splicer.spdx (what is in it, by SPDX) and MANIFEST (commit, versions of kit and
 # compilers, the sum of the logic that the proofs were checked by, and of each file). It is built twice of what is committed, from nothing
 # and in two folders, and compared byte by byte; then it is unpacked and used (tools/use-release.sh). With --proved both folders take over
 # the proofs of this one (target/rlib, target/stamp) for all crates but those of archives and programs, which are proved and built anew.
 # With --gate it is built once, of the files as they stand and of the archives and programs that the gate proved and built here, into
-# target/dist/gate; its `desk` is built without optimisation, and its MANIFEST says so. The last line is 'N passed, M failed'.
+# target/dist/gate; its `desk`, `splicerd` and `adserver` are built without optimisation, and its MANIFEST says so. The last line is 'N passed, M failed'.
 set -eu
 . "$(dirname "$0")/words.sh"
 how=
@@ -24,7 +24,7 @@ x86_64 | aarch64) ;;
 *) refuse "no release for $processor: x86_64 or aarch64" ;;
 esac
 needs rt git tar sha256sum sha1sum
-needs_rust 1.81
+needs_rust 1.82
 find_kit
 cd "$(dirname "$0")/.."
 here=$PWD
@@ -93,7 +93,7 @@ manifest() {
         echo "proved, of $crate: $(sed -n 's/^logic=proved //p' "$source/target/log/$crate.say" | head -n 1)"
     done
     echo "compiler of archives and proved programs $("$kit/on/$(uname -m)/toolchain/bin/clang" --version | head -n 1)"
-    echo "compiler of desk $(rustc --version), $optimised"
+    echo "compiler of desk, splicerd and adserver $(rustc --version), $optimised"
     find . -type f ! -name MANIFEST | LC_ALL=C sort | xargs sha256sum
 }
 
@@ -113,6 +113,25 @@ desk() {
     $rust --crate-type rlib --crate-name rules -o "$parts/librules.rlib" model/rules/src/lib.rs || return 1
     $rust --crate-type rlib --crate-name model --extern "rules=$parts/librules.rlib" -o "$parts/libmodel.rlib" model/src/lib.rs || return 1
     CARGO_PKG_VERSION=$of $rust -L "$parts" --crate-name desk --extern "model=$parts/libmodel.rlib" -o "$parts/desk" desk/src/main.rs
+}
+
+# network: splicerd and adserver of the present folder of sources, over the archives. By cargo, which puts a hash of the folder's name into
+# what it builds, so in one and the same folder for every build
+network() {
+    rm -rf "$work/network"
+    mkdir -p "$work/network/lib"
+    cp -R splicerd bindings model "$work/network/" && cp "$parts/libdoor.a" "$parts/librolldoor.a" "$work/network/lib/" || return 1
+    rm -f "$work/network/splicerd/Cargo.lock"
+    how_built=release
+    [ "$how" != --gate ] || how_built=dev
+    (
+        cd "$work/network/splicerd"
+        SPLICER_LIB=$work/network/lib CARGO_TARGET_DIR=$work/network/target RUSTFLAGS="--remap-path-prefix=$work/network=. -C linker=$cc" \
+            cargo build --quiet --offline --bins --profile "$how_built" --target "$target"
+    ) || return 1
+    [ "$how_built" = release ] || how_built=debug
+    for program in splicerd adserver; do cp "$work/network/target/$target/$how_built/$program" "$parts/" || return 1; done
+    cp "$work/network/splicerd/Cargo.lock" "$parts/splicerd.lock"
 }
 
 # proved_parts: the archives and the programs of proved crates, of the present folder of sources
@@ -140,19 +159,21 @@ gathered() {
     cp "$parts"/lib*.a lib/
     pc splicer '-lrolldoor -ldoor' 'proved splicer core, one output channel, four API connections (J.280)' >lib/pkgconfig/splicer.pc
     pc splicer-bench -lbench 'for the bench: proved checker of recordings, second engine' >lib/pkgconfig/splicer-bench.pc
-    for program in $programs desk; do cp "$parts/$program" bin/; done
+    for program in $programs desk splicerd adserver; do cp "$parts/$program" bin/; done
     cp "$source/tools/release/judged.sh" libexec/splicer/
     for program in $judges; do
         cp "$parts/$program" libexec/splicer/
         cp "$source/tools/release/judge.sh" "bin/$program"
         chmod +x "bin/$program"
     done
-    cp "$source/desk/desk.1" share/man/man1/
+    cp "$source/desk/desk.1" "$source/splicerd/splicerd.1" "$source/splicerd/adserver.1" share/man/man1/
+    mkdir -p lib/systemd/system
+    cp "$source/splicerd/splicerd.service" lib/systemd/system/
     cp -R "$source/examples" "$source/wireshark" "$source/docs" "$source/CHANGELOG.md" .
     mkdir rust
     for part in Cargo.toml Cargo.lock README.md build.rs src tests examples; do cp -R "$source/bindings/$part" rust/; done
     cp "$source/tools/release/README.md" "$source/NOTICE" .
-    sh "$source/tools/spdx.sh" "$release" "$(commit | cut -d , -f 1)" "$(when)" >../splicer.spdx
+    sh "$source/tools/spdx.sh" "$release" "$(commit | cut -d , -f 1)" "$(when)" "$parts/splicerd.lock" >../splicer.spdx
     mv ../splicer.spdx .
     manifest >MANIFEST
 }
@@ -177,7 +198,7 @@ built() {
     else
         committed "$source"
     fi
-    (cd "$source" && proved_parts && echo 'building desk' && desk)
+    (cd "$source" && proved_parts && echo 'building desk' && desk && echo 'building splicerd' && network)
     (cd "$1/$release" && gathered)
     tar -C "$1" --sort=name --owner=0 --group=0 --numeric-owner --mtime="@$(git log -1 --format=%ct "$head")" -cf - "$release" |
         gzip -n >"$1.tar.gz"

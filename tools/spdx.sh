@@ -1,11 +1,12 @@
 #!/bin/sh
-# spdx.sh NAME COMMIT TIME: the SPDX list (2.3, tag and value) of the files in the present folder, a release NAME made of COMMIT at TIME
-# (YYYY-MM-DDThh:mm:ssZ), on standard output: the release, what of others is in it, and each file with its sums. Called by dist.sh.
+# spdx.sh NAME COMMIT TIME LOCK: the SPDX list (2.3, tag and value) of the files in the present folder, a release NAME made of COMMIT at TIME
+# (YYYY-MM-DDThh:mm:ssZ), on standard output: the release, what of others is in it (the libraries of splicerd by its Cargo.lock, LOCK), and
+# each file with its sums. Called by dist.sh.
 set -eu
 . "$(dirname "$0")/words.sh"
-[ $# -eq 3 ] || refuse 'usage: spdx.sh NAME COMMIT TIME'
+[ $# -eq 4 ] || refuse 'usage: spdx.sh NAME COMMIT TIME LOCK'
 needs sha1sum sha256sum
-name=$1 commit=$2 time=$3
+name=$1 commit=$2 time=$3 lock=$4
 
 # document: what is said of all, what of others is in it, and last the release, whose the files behind it are
 document() {
@@ -26,8 +27,10 @@ FilesAnalyzed: false
 PackageLicenseConcluded: MIT OR Apache-2.0
 PackageLicenseDeclared: MIT OR Apache-2.0
 PackageCopyrightText: NOASSERTION
-PackageComment: <text>Linked into bin/desk.</text>
+PackageComment: <text>Linked into bin/desk, bin/splicerd and bin/adserver.</text>
 Relationship: SPDXRef-Release CONTAINS SPDXRef-RustStd
+
+$(libraries)
 
 PackageName: rattle-kit-library
 SPDXID: SPDXRef-Kit
@@ -55,6 +58,26 @@ Relationship: SPDXRef-DOCUMENT DESCRIBES SPDXRef-Release
 END_OF_HEAD
 }
 
+# libraries: those that the lock has with a sum: what Debian packages of others. Its own licence stands in each one's Cargo.toml
+libraries() {
+    awk '
+        /^name = / { name = $3 } /^version = / { version = $3 } /^checksum = / { gsub(/"/, "", name); gsub(/"/, "", version); print name, version }
+    ' "$lock" | while read -r crate version; do
+        its=$(sed -n 's/^license = "\(.*\)"/\1/p' "/usr/share/cargo/registry/$crate-$version/Cargo.toml" | sed 's,/, OR ,')
+        echo "PackageName: $crate"
+        echo "SPDXID: SPDXRef-Crate-$(echo "$crate" | tr _ -)"
+        echo "PackageVersion: $version"
+        echo 'PackageDownloadLocation: NOASSERTION'
+        echo 'FilesAnalyzed: false'
+        echo "PackageLicenseConcluded: ${its:-NOASSERTION}"
+        echo "PackageLicenseDeclared: ${its:-NOASSERTION}"
+        echo 'PackageCopyrightText: NOASSERTION'
+        echo 'PackageComment: <text>A library, as far as it is linked into bin/splicerd and bin/adserver.</text>'
+        echo "Relationship: SPDXRef-Release CONTAINS SPDXRef-Crate-$(echo "$crate" | tr _ -)"
+        echo
+    done
+}
+
 # verified: SPDX's sum over the sums of all files
 verified() {
     files | xargs sha1sum | cut -d ' ' -f 1 | LC_ALL=C sort | tr -d '\n' | sha1sum | cut -d ' ' -f 1
@@ -74,7 +97,8 @@ listed() {
         print "SPDXID: SPDXRef-File-" NR
         print "FileChecksum: SHA1: " $1
         print "FileChecksum: SHA256: " $3
-        print "LicenseConcluded: " ($2 == "./bin/desk" ? "LicenseRef-Owner AND (MIT OR Apache-2.0)" : "LicenseRef-Owner")
+        linked = $2 == "./bin/desk" || $2 == "./bin/splicerd" || $2 == "./bin/adserver"
+        print "LicenseConcluded: " (linked ? "LicenseRef-Owner AND (MIT OR Apache-2.0)" : "LicenseRef-Owner")
         print "LicenseInfoInFile: NOASSERTION"
         print "FileCopyrightText: NOASSERTION\n"
     }'

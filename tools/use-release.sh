@@ -182,6 +182,12 @@ END_OF_VERSIONS
 desk ${version%-*}.0
 END_OF_VERSION
     held 'desk asrun' "$release/bin/desk" asrun "$release/examples/recordings/day.rec"
+    for program in splicerd adserver; do
+        held "$program --version" prints - "$release/bin/$program" --version <<END_OF_VERSION
+$program ${version%-*}.0
+END_OF_VERSION
+    done
+    held 'adserver, no splicer' ends 2 "$release/bin/adserver" --to 127.0.0.1:9 init
 }
 
 PKG_CONFIG_PATH=$release/lib/pkgconfig

@@ -91,7 +91,7 @@ held 'beside.sh, a value is missing' refuses tools/beside.sh --seed
 held 'beside.sh, no number' refuses tools/beside.sh --n many
 held 'beside.sh, no such route' nowhere
 held 'setup.sh, no such word' refuses tools/setup.sh arm
-for script in setup desk compare beside cases example dissector; do
+for script in setup desk compare beside cases example dissector splicerd; do
     held "$script.sh with an old cargo" old "tools/$script.sh"
 done
 held 'build-driver.sh, no source' refuses tools/build-driver.sh target/x no.c no.a

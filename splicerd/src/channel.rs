@@ -14,6 +14,32 @@ pub const RECENT: usize = 50;
 /// Microseconds in a day.
 const DAY: u64 = 86_400 * time::SECOND;
 
+/// Longer entries are kept as words for the page, shorter ones as they are.
+const LONG: usize = 512;
+
+/// A call for the page.
+pub enum Made {
+    Entry(Box<[u8]>),
+    Words(Box<str>),
+}
+
+impl Made {
+    fn of(entry: &[u8]) -> Made {
+        if entry.len() > LONG {
+            Made::Words(words::entry(entry).chars().take(LONG).collect::<String>().into())
+        } else {
+            Made::Entry(entry.into())
+        }
+    }
+
+    pub fn text(&self) -> String {
+        match self {
+            Made::Entry(entry) => words::entry(entry),
+            Made::Words(words) => words.to_string(),
+        }
+    }
+}
+
 /// Its name and the sections of its two feeds.
 #[derive(Clone, Debug, Default, PartialEq, Eq)]
 pub struct Spec {
@@ -48,7 +74,7 @@ pub struct Channel {
     pub referee: Referee,
     pub counts: Counts,
     /// The last calls with their records, and when they were made.
-    pub recent: VecDeque<(u64, Box<[u8]>)>,
+    pub recent: VecDeque<(u64, Made)>,
     /// The day that the clock is in, and the primary time at its begin.
     pub day: (u64, u64),
     entry: Vec<u8>,
@@ -221,7 +247,7 @@ impl Channel {
         if self.recent.len() == RECENT {
             self.recent.pop_front();
         }
-        self.recent.push_back((self.clock, self.entry.as_slice().into()));
+        self.recent.push_back((self.clock, Made::of(&self.entry)));
     }
 
     /// Hands the recording to the system; an error is told once.

@@ -40,7 +40,7 @@ pub fn unescaped(text: &str) -> Option<Vec<u8>> {
     let mut found = parts.next()?.as_bytes().to_vec();
     for part in parts {
         found.push(u8::from_str_radix(part.get(..2)?, 16).ok()?);
-        found.extend_from_slice(part[2..].as_bytes());
+        found.extend_from_slice(&part.as_bytes()[2..]);
     }
     Some(found)
 }
@@ -56,7 +56,7 @@ pub fn hex(text: &str) -> Option<Vec<u8>> {
     (digits.len() % 2 == 0).then(|| digits.chunks(2).map(|pair| pair[0] << 4 | pair[1]).collect())
 }
 
-fn base64(text: &str) -> Option<Vec<u8>> {
+pub fn base64(text: &str) -> Option<Vec<u8>> {
     const LETTERS: &[u8] = b"ABCDEFGHIJKLMNOPQRSTUVWXYZabcdefghijklmnopqrstuvwxyz0123456789+/";
     let kept = text.trim_end_matches('=');
     let padded = text.len() - kept.len();

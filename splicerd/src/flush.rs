@@ -2,6 +2,7 @@
 
 use std::fs::File;
 use std::io::Write;
+use std::sync::atomic::{AtomicUsize, Ordering};
 use std::sync::mpsc::{channel, Sender};
 use std::sync::Arc;
 use std::thread::JoinHandle;
@@ -12,21 +13,23 @@ const EVERY: Duration = Duration::from_secs(1);
 pub struct Flush {
     at: Option<Instant>,
     sender: Option<Sender<Vec<Arc<File>>>>,
+    /// Batches that are not on the disk yet.
+    left: Arc<AtomicUsize>,
     thread: Option<JoinHandle<()>>,
 }
 
 impl Flush {
     pub fn new() -> Flush {
         let (sender, files) = channel::<Vec<Arc<File>>>();
+        let left = Arc::new(AtomicUsize::new(0));
+        let done = left.clone();
         let thread = std::thread::spawn(move || {
-            for file in files.into_iter().flatten() {
-                if let Err(error) = file.sync_data() {
-                    // the next write meets the error again, and tells whose it is
-                    let _ = writeln!(std::io::stderr(), "splicerd: flush: {error}");
-                }
+            for batch in files {
+                batch.iter().for_each(|file| on_disk(file));
+                done.fetch_sub(1, Ordering::AcqRel);
             }
         });
-        Flush { at: None, sender: Some(sender), thread: Some(thread) }
+        Flush { at: None, sender: Some(sender), left, thread: Some(thread) }
     }
 
     /// Something was written, or nothing.
@@ -45,9 +48,26 @@ impl Flush {
         self.at.is_some_and(|at| at <= Instant::now())
     }
 
+    /// Whether the last batch is not done: a disk that is slower than a second does not get a second one.
+    pub fn is_busy(&self) -> bool {
+        self.left.load(Ordering::Acquire) > 0
+    }
+
+    pub fn postpone(&mut self) {
+        self.at = Some(Instant::now() + EVERY);
+    }
+
+    /// Waits for the last batch, for the end alone.
+    pub fn wait(&self) {
+        while self.is_busy() {
+            std::thread::sleep(Duration::from_millis(1));
+        }
+    }
+
     pub fn start(&mut self, files: Vec<Arc<File>>) {
         self.at = None;
         if let Some(sender) = &self.sender {
+            self.left.fetch_add(1, Ordering::AcqRel);
             // it ends with this program only
             let _ = sender.send(files);
         }
@@ -59,6 +79,13 @@ impl Flush {
         if let Some(thread) = self.thread.take() {
             let _ = thread.join();
         }
+    }
+}
+
+fn on_disk(file: &File) {
+    if let Err(error) = file.sync_data() {
+        // the next write meets the error again, and tells whose it is
+        let _ = writeln!(std::io::stderr(), "splicerd: flush: {error}");
     }
 }
 

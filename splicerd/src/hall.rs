@@ -164,6 +164,8 @@ impl Hall {
             }
         }
         input.drain(..done);
+        // what a burst took is given back
+        input.shrink_to(MESSAGE);
         if let Some(peer) = self.peers.get(at) {
             peer.input = input;
         }
@@ -376,11 +378,15 @@ impl Hall {
             self.gone(at, "the splicer ends");
         }
         self.settle();
+        self.flush.wait();
         self.flush_now();
         self.flush.end();
     }
 
     pub fn flush_now(&mut self) {
+        if self.flush.is_busy() {
+            return self.flush.postpone();
+        }
         self.flush.start(self.channels.iter_mut().filter_map(|c| c.recording.as_mut()?.to_flush()).collect());
     }
 

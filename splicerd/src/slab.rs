@@ -49,6 +49,10 @@ impl<T> Slab<T> {
         self.len() == 0
     }
 
+    pub fn iter(&self) -> impl Iterator<Item = &T> {
+        self.places.iter().flatten()
+    }
+
     pub fn numbers(&self) -> Vec<usize> {
         (0..self.places.len()).filter(|at| !self.free.contains(at)).collect()
     }

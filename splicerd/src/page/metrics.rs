@@ -9,10 +9,13 @@ fn label(text: &str) -> String {
     text.replace('\\', "\\\\").replace('"', "\\\"").replace('\n', "\\n")
 }
 
+/// A figure of each channel: its name, kind, help and value.
+type Figure<'f> = (&'f str, &'f str, &'f str, &'f dyn Fn(&Channel) -> u64);
+
 pub fn of(hall: &mut Hall) -> String {
     let now = hall.now();
     let mut text = String::new();
-    let gauges: [(&str, &str, &str, &dyn Fn(&Channel) -> u64); 5] = [
+    let gauges: [Figure<'_>; 5] = [
         ("splicer_calls_total", "counter", "Calls of the core.", &|c| c.counts.calls),
         ("splicer_waiting", "gauge", "Sessions that wait.", &|c| c.splicer.waiting().iter().sum()),
         ("splicer_on_air", "gauge", "1 while a session is on air.", &|c| u64::from(c.at(now).air().is_some())),

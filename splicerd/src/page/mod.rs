@@ -12,6 +12,7 @@ use mio::{Interest, Registry, Token};
 use request::{Asked, Request};
 use std::fs::File;
 use std::io::{self, Read, Write};
+use std::net::Shutdown;
 use std::path::PathBuf;
 use std::time::{Duration, Instant};
 
@@ -20,6 +21,10 @@ pub const PAGES: usize = 1 << 30;
 /// Connections of the page, at most; how long a request may take; how much may wait for one.
 const MOST: usize = 64;
 const PATIENCE: Duration = Duration::from_secs(30);
+/// How long it is waited, behind an answer, until the other side has closed too.
+const LINGER: Duration = Duration::from_secs(2);
+/// Reads of one connection before the others have their turn.
+const READS: usize = 32;
 const WAITS: usize = 16 << 20;
 /// The page is told of changes at most so often.
 const EVERY: Duration = Duration::from_millis(250);
@@ -43,12 +48,15 @@ pub enum Body {
 
 struct Conn {
     stream: TcpStream,
+    /// When something of it last went on.
     since: Instant,
     input: Vec<u8>,
     output: Vec<u8>,
     file: Option<io::Take<File>>,
     events: bool,
     answered: bool,
+    /// All is sent and its own side is closed: what still comes is read and dropped.
+    lingers: bool,
     gone: bool,
 }
 
@@ -85,7 +93,17 @@ impl Page {
             return;
         }
         let (input, output, since) = (Vec::new(), Vec::new(), Instant::now());
-        self.conns.add(Conn { stream, since, input, output, file: None, events: false, answered: false, gone: false });
+        self.conns.add(Conn {
+            stream,
+            since,
+            input,
+            output,
+            file: None,
+            events: false,
+            answered: false,
+            lingers: false,
+            gone: false,
+        });
     }
 
     pub fn event(&mut self, at: usize, event: &mio::event::Event, hall: &mut Hall) {
@@ -125,7 +143,7 @@ impl Page {
         });
         for at in numbers {
             if let Some(conn) = self.conns.get(at) {
-                conn.gone |= !conn.events && conn.since.elapsed() >= PATIENCE && conn.output.is_empty();
+                conn.gone |= !conn.events && conn.since.elapsed() >= conn.patience();
                 if let (true, Some(event)) = (conn.events, &event) {
                     conn.output.extend_from_slice(event.as_bytes());
                     conn.gone |= conn.output.len() > WAITS;
@@ -139,7 +157,7 @@ impl Page {
     /// How long it has nothing to do.
     pub fn sleep(&self, hall: &Hall) -> Option<Duration> {
         let changed = (!hall.changed.is_empty()).then(|| EVERY.saturating_sub(self.told.elapsed()));
-        let patience = (!self.conns.is_empty()).then_some(PATIENCE);
+        let patience = self.conns.iter().filter(|c| !c.events).map(|c| c.patience().saturating_sub(c.since.elapsed())).min();
         [changed, patience].into_iter().flatten().min()
     }
 
@@ -168,11 +186,19 @@ fn own(request: &Request<'_>, stream: &TcpStream) -> bool {
 }
 
 impl Conn {
+    fn patience(&self) -> Duration {
+        if self.lingers {
+            LINGER
+        } else {
+            PATIENCE
+        }
+    }
+
     fn read(&mut self) {
         let mut slice = [0; 4096];
-        loop {
+        for _ in 0..READS {
             match self.stream.read(&mut slice) {
-                Ok(0) => return self.gone |= self.output.is_empty(),
+                Ok(0) => return self.gone |= self.lingers || self.output.is_empty(),
                 // what comes behind a request is not read
                 Ok(_) if self.answered => {}
                 Ok(n) => self.input.extend_from_slice(&slice[..n]),
@@ -205,19 +231,23 @@ impl Conn {
         }
     }
 
-    /// Sends what is taken, the next piece of a file behind it; closed when all is out.
+    /// Sends what is taken, the next piece of a file behind it; closed on this side when all is out.
     fn write(&mut self) {
-        loop {
-            if self.output.is_empty() && !self.more() {
-                self.gone |= self.answered && !self.events;
-                return;
-            }
+        while !self.output.is_empty() || self.more() {
             match self.stream.write(&self.output) {
-                Ok(n) => drop(self.output.drain(..n)),
+                Ok(n) => {
+                    self.output.drain(..n);
+                    self.since = Instant::now();
+                }
                 Err(error) if error.kind() == io::ErrorKind::Interrupted => {}
                 Err(error) if error.kind() == io::ErrorKind::WouldBlock => return,
                 Err(_) => return self.gone = true,
             }
+        }
+        if self.answered && !self.events && !self.lingers {
+            self.lingers = true;
+            self.gone |= self.stream.shutdown(Shutdown::Write).is_err();
+            self.read();
         }
     }
 

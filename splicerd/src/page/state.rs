@@ -3,7 +3,7 @@
 use crate::channel::Channel;
 use crate::clock::Kind;
 use crate::hall::Hall;
-use crate::{time, words};
+use crate::time;
 use serde_json::{json, Value};
 use splicer::{texts, Session, State};
 
@@ -55,7 +55,7 @@ fn channel(channel: &Channel, now: u64) -> Value {
         "referee": {"text": channel.referee.word().text(), "differs": channel.referee.word().differs()},
         "recording": recording,
         "primary_today_micros": primary / NINTH,
-        "calls": channel.recent.iter().rev().map(|(at, entry)| json!({"time": time::shown(*at), "text": words::entry(entry)})).collect::<Vec<_>>(),
+        "calls": channel.recent.iter().rev().map(|(at, entry)| json!({"time": time::shown(*at), "text": entry.text()})).collect::<Vec<_>>(),
     })
 }
 

@@ -50,7 +50,7 @@ impl Splicerd {
         std::thread::spawn(move || {
             for line in errors.lines().map_while(Result::ok) {
                 if let Some((_, address)) = line.split_once(" on ").filter(|_| line.contains("listening")) {
-                    let _ = told.send(address.trim_end_matches(|c| c == '"' || c == '}').parse::<SocketAddr>());
+                    let _ = told.send(address.trim_end_matches(['"', '}']).parse::<SocketAddr>());
                 }
                 kept.lock().expect("the log").push(line);
             }
