@@ -147,10 +147,26 @@ pub fn ask(to: SocketAddr, head: &str, headers: &str, body: &str) -> (u16, Strin
     let text = format!("{head} HTTP/1.1\r\n{host}{headers}Content-Length: {}\r\n\r\n{body}", body.len());
     stream.write_all(text.as_bytes()).expect("sent");
     let mut answer = Vec::new();
-    stream.read_to_end(&mut answer).expect("an answer");
+    let mut slice = [0; 65_536];
+    while !is_whole(&answer) {
+        match stream.read(&mut slice).expect("an answer") {
+            0 => break,
+            n => answer.extend_from_slice(&slice[..n]),
+        }
+    }
     let answer = String::from_utf8_lossy(&answer).into_owned();
     let status = answer.split(' ').nth(1).and_then(|s| s.parse().ok()).expect("a status");
     (status, answer.split_once("\r\n\r\n").map(|(_, body)| body.to_owned()).unwrap_or_default())
+}
+
+/// Whether an answer is there as long as its head says; not every server closes behind it.
+fn is_whole(answer: &[u8]) -> bool {
+    let Some(at) = answer.windows(4).position(|w| w == b"\r\n\r\n") else {
+        return false;
+    };
+    let head = String::from_utf8_lossy(&answer[..at]).to_ascii_lowercase();
+    let length = head.lines().find_map(|line| line.strip_prefix("content-length:")?.trim().parse::<usize>().ok());
+    length.is_some_and(|length| answer.len() >= at + 4 + length)
 }
 
 /// The next whole message of a connection.
