@@ -1,12 +1,13 @@
 #!/bin/sh
 # dist.sh [--proved | --gate] [x86_64 | aarch64]: a release for one processor, this machine's if none is named,
-# target/dist/splicer-VERSION-PROCESSOR.tar.gz: headers, archives, pkg-config files, programs, the desk's program, splicerd and adserver with
-# their man pages and a systemd unit, the Rust crate, examples, docs, README, CHANGELOG, NOTICE, splicer.spdx (what is in it, by SPDX) and MANIFEST (commit, versions of kit and
-# compilers, the sum of the logic that the proofs were checked by, and of each file). It is built twice of what is committed, from nothing
-# and in two folders, and compared byte by byte; then it is unpacked and used (tools/use-release.sh). With --proved both folders take over
-# the proofs of this one (target/rlib, target/stamp) for all crates but those of archives and programs, which are proved and built anew.
-# With --gate it is built once, of the files as they stand and of the archives and programs that the gate proved and built here, into
-# target/dist/gate; its `desk`, `splicerd` and `adserver` are built without optimisation, and its MANIFEST says so. The last line is 'N passed, M failed'.
+# target/dist/splicer-VERSION-PROCESSOR.tar.gz: headers, archives, pkg-config files, programs, the desk's program, splicerd and adserver
+# with their man pages and a systemd unit, the Rust crate, examples, docs, README, CHANGELOG, NOTICE, splicer.spdx (what is in it, by
+# SPDX) and MANIFEST (commit, versions of kit and compilers, the sum of the logic that the proofs were checked by, and of each file). It
+# is built twice of what is committed, from nothing and in two folders, and compared byte by byte; then it is unpacked and used
+# (tools/use-release.sh). With --proved both folders take over the proofs of this one (target/rlib, target/stamp) for all crates but those
+# of archives and programs, which are proved and built anew. With --gate it is built once, of the files as they stand and of the archives
+# and programs that the gate proved and built here, into target/dist/gate; its `desk`, `splicerd` and `adserver` are built without
+# optimisation, and its MANIFEST says so. The last line is 'N passed, M failed'.
 set -eu
 . "$(dirname "$0")/words.sh"
 how=

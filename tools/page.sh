@@ -1,7 +1,8 @@
 #!/bin/sh
-# page.sh: splicerd's page in Debian's Chromium by its driver: a spot goes on air while it is looked at, another covers it; names are text,
-# nothing comes from elsewhere, channels are reached by keyboard. Pictures of desktop and phone go to docs/pictures/. Installs Debian's
-# browser where there is none (as root). SPLICER_LIB as for splicerd.sh. No part of the gate. The last line is 'N passed, M failed'.
+# page.sh: splicerd's page in Debian's Chromium by its driver: a spot goes on air while it is looked at, another covers it; names are
+# text, nothing comes from elsewhere, channels are reached by keyboard. Pictures of desktop and phone go to docs/pictures/. Installs
+# Debian's browser where there is none (as root). SPLICER_LIB as for splicerd.sh. No part of the gate. The last line is 'N passed, M
+# failed'.
 set -eu
 . "$(dirname "$0")/words.sh"
 no_words "$@"

@@ -1,8 +1,9 @@
 #!/bin/sh
-# setup.sh [x86 | libraries]: what the comparisons and the release need beside the kit: cargo and rustc, 1.82 or later, a C compiler to link
-# with, a C++ compiler and pkg-config, and the libraries of splicerd, Debian's librust-*-dev; with libraries, these alone. With x86, also what builds x86-64 programs in Rust, runs and counts them (tools/measure.sh, and tools/beside.sh
-# with ROUTE=x86; the gate needs none of it): on x86-64 gcc, objdump and Debian's emulator, which takes plugins; on Arm the library and the
-# linker for x86-64 too. Installs Debian's where there are none (as root), and removes nothing: an older cargo that is there is named.
+# setup.sh [x86 | libraries]: what the comparisons and the release need beside the kit: cargo and rustc, 1.82 or later, a C compiler to
+# link with, a C++ compiler and pkg-config, and the libraries of splicerd, Debian's librust-*-dev; with libraries, these alone. With x86,
+# also what builds x86-64 programs in Rust, runs and counts them (tools/measure.sh, and tools/beside.sh with ROUTE=x86; the gate needs
+# none of it): on x86-64 gcc, objdump and Debian's emulator, which takes plugins; on Arm the library and the linker for x86-64 too.
+# Installs Debian's where there are none (as root), and removes nothing: an older cargo that is there is named.
 set -eu
 . "$(dirname "$0")/words.sh"
 case $#${1:-} in

@@ -1,7 +1,7 @@
 #!/bin/sh
-# spdx.sh NAME COMMIT TIME LOCK: the SPDX list (2.3, tag and value) of the files in the present folder, a release NAME made of COMMIT at TIME
-# (YYYY-MM-DDThh:mm:ssZ), on standard output: the release, what of others is in it (the libraries of splicerd by its Cargo.lock, LOCK), and
-# each file with its sums. Called by dist.sh.
+# spdx.sh NAME COMMIT TIME LOCK: the SPDX list (2.3, tag and value) of the files in the present folder, a release NAME made of COMMIT at
+# TIME (YYYY-MM-DDThh:mm:ssZ), on standard output: the release, what of others is in it (the libraries of splicerd by its Cargo.lock,
+# LOCK), and each file with its sums. Called by dist.sh.
 set -eu
 . "$(dirname "$0")/words.sh"
 [ $# -eq 4 ] || refuse 'usage: spdx.sh NAME COMMIT TIME LOCK'
@@ -61,7 +61,10 @@ END_OF_HEAD
 # libraries: those that the lock has with a sum: what Debian packages of others. Its own licence stands in each one's Cargo.toml
 libraries() {
     awk '
-        /^name = / { name = $3 } /^version = / { version = $3 } /^checksum = / { gsub(/"/, "", name); gsub(/"/, "", version); print name, version }
+        { gsub(/"/, "") }
+        /^name = / { name = $3 }
+        /^version = / { version = $3 }
+        /^checksum = / { print name, version }
     ' "$lock" | while read -r crate version; do
         its=$(sed -n 's/^license = "\(.*\)"/\1/p' "/usr/share/cargo/registry/$crate-$version/Cargo.toml" | sed 's,/, OR ,')
         echo "PackageName: $crate"

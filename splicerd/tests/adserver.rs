@@ -73,8 +73,9 @@ fn cues_are_waited_for_and_answered() {
     let splicerd = Splicerd::start("ad-cues", &[]);
     let child = adserver(&splicerd, &["cues", "--count", "1"]).spawn().unwrap();
     splicerd.until("it is initialised", || splicerd.state()["channels"][0]["connections"][0]["state"] == "initialised");
-    let body = "{\"channel\":\"CH1\",\"section\":\"FC301600000000000000FFF00506FE00015F9000000AF056B0\",\"pts\":0,\"seconds\":5,\"micros\":0}";
-    assert_eq!(splicerd.ask("POST /cue", "", body).0, 200);
+    let section = "FC301600000000000000FFF00506FE00015F9000000AF056B0";
+    let body = serde_json::json!({"channel": "CH1", "section": section, "pts": 0, "seconds": 5, "micros": 0}).to_string();
+    assert_eq!(splicerd.ask("POST /cue", "", &body).0, 200);
     let (status, lines) = said(&child.wait_with_output().unwrap());
     assert!(status == Some(0) && lines.contains("Cue_Request for 1970-01-01T00:00:06.000000Z"), "{lines}");
     splicerd.until_said("Cue_Response");

@@ -1,9 +1,9 @@
-//! The bars: by command alone, `sh tools/splicerd-bars.sh`. The desk's program, which judges the recordings by the second program's rules, is
-//! named by DESK.
+//! The bars: by command alone, `sh tools/splicerd-bars.sh`. The desk's program, which judges the recordings by the second program's rules,
+//! is named by DESK.
 
 mod common;
 
-use common::{Splicerd, PATIENCE};
+use common::Splicerd;
 use splicerd::wire;
 use std::collections::BTreeSet;
 use std::io::{ErrorKind, Read, Write};
@@ -295,9 +295,9 @@ fn hostile_connections() {
         HOSTILE,
     );
     let peak = memory(&splicerd, "VmHWM");
-    println!("{HOSTILE} hostile connections: 99 of 100 answers within {busy} us ({quiet} us undisturbed), all within {latest} us; peak {peak} kB");
+    println!("{HOSTILE} hostile connections: 99 of 100 answers within {busy} us ({quiet} us undisturbed)");
+    println!("all within {latest} us; peak {peak} kB");
     assert!(latest <= quiet + 50_000, "{latest} us");
-    assert!(PATIENCE > Duration::ZERO);
 }
 
 #[test]
