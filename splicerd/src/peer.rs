@@ -10,7 +10,7 @@ use std::time::Instant;
 pub const MOST: usize = 1 << 20;
 
 /// Bytes that are read of one connection before the others have their turn.
-pub const SLICE: usize = 16 * 1024;
+pub const SLICE: usize = 4 * 1024;
 
 /// Whose it is.
 pub enum Place {

@@ -190,6 +190,9 @@ fn day() {
         assert_eq!(passes(&path, &station.name), Ok(()), "{}", station.name);
         let (aired, sums) = as_run(&path, &station.name);
         assert_eq!(aired, station.started, "{}: the book and the as-run list", station.name);
+        let ticks =
+            |of: &str| sums.split(" | ").find_map(|l| l.strip_prefix(of)).map(|l| l.split_whitespace().nth(2).map(String::from));
+        assert!(ticks("together").is_some() && ticks("together") == ticks("the clock went on by"), "{sums}");
         println!("{}: {} of {} spots on air, {} drops; {sums}", station.name, aired.len(), station.session, station.drops);
     }
     println!("a day of {CHANNELS} channels and {SPOTS} spots in {:.1} s", took.as_secs_f64());
