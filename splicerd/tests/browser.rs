@@ -100,7 +100,7 @@ fn a_spot_goes_on_air_while_it_is_looked_at() {
     let browser = Browser::start(1200, 1100, false);
     browser.go(&format!("http://{}/", splicerd.page));
     browser.until("live", "return document.getElementById('link').textContent === 'live'");
-    let air = |text: &str| format!("return document.querySelector('.air').textContent.includes('{text}')");
+    let air = |text: &str| format!("return !!document.querySelector('.air')?.textContent.includes('{text}')");
     browser.until("the primary channel", &air("the primary channel"));
     browser.until("three wait", "return document.querySelectorAll('.spot.waiting').length === 3");
     assert_eq!(splicerd.clock(1_794_816_010, 0), 200);
