@@ -1,7 +1,5 @@
 pub mod Scenario
 pub mod Computing
-pub mod Widths
-pub mod Numbers
 pub mod Layouts
 pub mod Rooms
 pub mod Rehearsed
@@ -27,6 +25,8 @@ pub mod ToldNumbers
 pub mod ToldRequests
 pub mod AlikeCases
 pub mod HeldCases
+pub mod Widths
+pub mod Numbers
 pub mod Case-01-card-cut-header
 pub mod Case-01-card-cut-mark
 pub mod Case-01-card-cut-message
