@@ -41,6 +41,7 @@ turns t s = record { splicer = withQueue (t .queue) s; written = t .written; acc
 -- ## Init
 
 -- "Revision not 2 gives 102, another name 104, else 100"
+-- "Init: Revision not 2 gives 102"
 unfoldable pub initResult : ℕ → List ℕ → List ℕ → ℕ
 initResult revision asked name = cond (not (eqb revision 2)) 102 (cond (not (sameName asked name)) 104 100)
 
@@ -78,6 +79,7 @@ airRow (air ∷ k) =
     1 ∷ air .conn ∷ air .id ∷ air .start .0 ∷ air .end .0 ∷ air .played .0 ∷ air .event ∷ air .access ∷ air .mux ∷ []
 
 -- "the present clock, microseconds rounded down"
+-- "Alive: 100"
 unfoldable pub aliveResponse : ℕ → Splicer → Record
 aliveResponse c s =
     AliveResponse c 100 (airState (s .queue .started)) (airID (s .queue .started)) (toMicros (record { 0 = s .clock }) .0)
@@ -100,7 +102,8 @@ configResponse c section s = ConfigResponse c 100 (s .name) (hardwareOf c s) sec
 
 -- ## Abort
 
--- "Abort_Response 121 if this connection doesn't hold the SessionID; else 100, then the session's end and after it its followers' ends"
+-- "Abort: Abort_Response 121 if this connection doesn't hold the SessionID; else 100, then the session's end and after it its followers'
+-- ends"
 unfoldable pub answerAbort : ℕ → ℕ → Queue → Turn
 answerAbort c x q =
     cond (holds c x q)
@@ -141,6 +144,7 @@ priorOf (Timed t) = nobody
 priorOf (Linked p) = p
 
 -- the session that a request of connection c asks for, its start being t. "End is start plus Duration."
+-- 02, CR 5: "sessions carry the value"
 unfoldable pub sessionAt : ℕ → ℕ → Request → Session
 sessionAt t c r =
     record {
@@ -164,6 +168,7 @@ unfoldable pub unknownPrior : ℕ → Start → Queue → Bool
 unknownPrior c (Timed t) q = false
 unknownPrior c (Linked p) q = not (holds c p q)
 
+-- "b. 121: SessionID 0xFFFFFFFF or already held by this connection"
 abbrev pub wrongNumber : ℕ → Request → Queue → Bool
 wrongNumber c r q = eqb (r .id) nobody || (holds c (r .id) q || unknownPrior c (r .start) q)
 
@@ -173,6 +178,7 @@ tooLate clock (Timed t) = ltb (fromMicros t .0) (clock + fromMicros (timeOf 3 0)
 tooLate clock (Linked p) = false
 
 -- d. "109: a waiting session of any connection has the same start and the same or a higher AccessType." 02: "for equals, only at flag 0"
+-- 02, CR 4: "check d lets it pass"
 unfoldable pub collides : Session → List Session → Bool
 collides new w = some (λ s. startsAt (new .start .0) s && not (outranks new s)) w
 
@@ -198,6 +204,7 @@ unfoldable pub full : ℕ → List Session → Bool
 full c w = fullBy (λ d. waits d w) c
 
 -- "with the first that applies"; 02, CR 1: "checks b to f"
+-- 02, CR 1: "From here result 110 is no longer met"
 abbrev pub firstOf : (b c d e : Bool) → ℕ
 firstOf b c d e = cond b 121 (cond c 112 (cond d 109 (cond e 114 100)))
 
@@ -214,7 +221,7 @@ inserted s w = insertAt (place (startsAfter (s .start .0)) w) s w
 abbrev pub accepts : Session → Record
 accepts s = SpliceResponse (s .conn) 100 (s .id)
 
--- "f. 100. A waiting session with the same start, then lower" (02: or equal) "is evicted first", "written before the 100"
+-- "f. 100." "A waiting session with the same start, then lower, is evicted first" (02: or an equal one), "written before the 100"
 unfoldable pub accepted : Session → Queue → Turn
 accepted s q = andThen (evicted (s .start .0) q) (λ u. writes (accepts s ∷ []) (withWaiting (inserted s (u .waiting)) u))
 

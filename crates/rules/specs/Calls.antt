@@ -118,6 +118,7 @@ longSection loans = ltb longestSection (length (loans .primary)) || ltb longestS
 -- ## The five calls
 
 -- "A fresh splicer has clock 0, all connections closed."
+-- "connections 0 to 3"
 unfoldable pub named : List ℕ → Splicer
 named name =
     record {
@@ -130,10 +131,12 @@ named name =
     }
 
 -- "9: name without a zero byte." "A refused fresh gives, with number 9, the splicer of an empty name."
+-- "Fresh (a 32-byte ChannelName)"
 unfoldable pub fresh : List ℕ → Called
 fresh name = cond (hasZero name) (does 0 [] (named (nameIn name))) (refuse BadName (named []))
 
 -- "Order: open 1, 6". "Opening leaves the connection not initialised."
+-- 6: "already open"
 unfoldable pub openCall : ℕ → Splicer → Called
 openCall c s =
     cond (noConnection c) (refuse NoConnection s)
@@ -145,6 +148,8 @@ abbrev pub shut : ℕ → Splicer → Splicer
 shut c s = withHardware c noHardware (withLink c Closed s)
 
 -- "close 1, 2, 7"
+-- "Close, message and tick lend an output buffer."
+-- "and leaves it closed"
 unfoldable pub closeCall : ℕ → ℕ → Splicer → Called
 closeCall c room s =
     let t = closedBy c (s .queue) in
@@ -154,6 +159,7 @@ closeCall c room s =
     (does 0 (t .written) (shut c (withQueue (t .queue) s)))))
 
 -- "5 (header), 4, 5 (body)"; l: the bytes read so far
+-- 5: "fewer than 8 bytes, or fewer than 8 + MessageSize"
 unfoldable pub framing : List ℕ → Framing
 framing l =
     cond (ltb (length l) 8) (Unframed Short)
@@ -170,6 +176,7 @@ handled c (Unframed n) l loans s = refuse n s
 handled c (Framed id size) l loans s = replies (8 + size) (answer c id (dataOf size l) (sectionOf loans s) s)
 
 -- "message 1, 2, 7"; 02, CR 6: "house number 10 .., in the message call after 7"; then as above
+-- "message (one connection, bytes read so far)"
 unfoldable pub messageCall : ℕ → List ℕ → Loans → Splicer → Called
 messageCall c l loans s =
     cond (noConnection c) (refuse NoConnection s)
@@ -185,6 +192,7 @@ ticked until s =
     does 0 (t .written) (withClock until (silentAll (s .clock) until (s .queue)) (withQueue (t .queue) s))
 
 -- a tick whose time is in ninths: 2, 3. "A tick to the present time is good and writes nothing."
+-- 3: "clock earlier than the present one"
 unfoldable pub moveCall : (until room : ℕ) → Splicer → Called
 moveCall until room s =
     cond (noRoom room) (refuse NoRoom s)
@@ -192,6 +200,7 @@ moveCall until room s =
     (ticked until s))
 
 -- "tick 2, 8, 3"
+-- "tick (Seconds, MicroSeconds)"
 unfoldable pub tickCall : (seconds micros room : ℕ) → Splicer → Called
 tickCall seconds micros room s =
     cond (noRoom room) (refuse NoRoom s)

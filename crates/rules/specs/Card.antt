@@ -30,15 +30,19 @@ pub data Next : Type 0 where
 -- ## What stands where in a record: "0x4F connection (open), 0x43 connection (close), 0x4D connection and one message, 0x54 0x00 and
 -- Seconds 4, MicroSeconds 4 (tick; the 0x00 isn't read)"
 
+-- "It reads standard input: 0x4F connection (open)"
 abbrev pub openMark : ℕ
 openMark = 0x4F
 
+-- "0x43 connection (close)"
 abbrev pub closeMark : ℕ
 closeMark = 0x43
 
+-- "0x4D connection and one message"
 abbrev pub messageMark : ℕ
 messageMark = 0x4D
 
+-- "0x54 0x00 and Seconds 4, MicroSeconds 4"
 abbrev pub tickMark : ℕ
 tickMark = 0x54
 
@@ -85,6 +89,7 @@ nextMessage l =
     (cond (oversize m) (ends (messages (connIn l) (part 0 8 m) cardLoans))
     (whole (messageEnd size) l (calls (messages (connIn l) (part 0 (8 + size) m) cardLoans) (drop (messageEnd size) l))))
 
+-- "(tick; the 0x00 isn't read)"
 unfoldable pub nextTick : List ℕ → Next
 nextTick l = whole tickEnd l (calls (ticks (secondsIn l) (microsIn l) cardRoom) (drop tickEnd l))
 

@@ -6,8 +6,8 @@ use Prim.Native.Nat.{ℕ, zero, suc, _*_, _/_, _%_}
 use lib.Dec.{eqb}
 use lib.Bits.{bitXor}
 
--- a bit into the register c: "take the register's highest bit, shift the register left by one, and if the bit taken differs from the data's
--- bit, XOR the register with 0x04C11DB7"
+-- a bit into the register c: take the register's highest bit, shift the register left by one, and if the bit taken differs from the data's
+-- bit, XOR the register with 0x04C11DB7
 unfoldable pub crcBit : ℕ → ℕ → ℕ
 crcBit c bit = cond (eqb (c / 2147483648) bit) (c * 2 % 4294967296) (bitXor 0x04C11DB7 (c * 2 % 4294967296))
 
@@ -27,6 +27,6 @@ crcFrom c (b ∷ l) = crcFrom (crcByte c b) l
 unfoldable pub crc : List ℕ → ℕ
 crc l = crcFrom 0xFFFFFFFF l
 
--- "A section is right exactly if it is 0" behind the whole section
+-- a section is right exactly if it is 0 behind the whole section
 abbrev pub rightCrc : List ℕ → Bool
 rightCrc l = eqb (crc l) 0

@@ -32,6 +32,7 @@ writes rs q = record { queue = q; written = rs }
 
 -- "A session's end is its SpliceComplete with flag 1, or its SpliceComplete with flag 0 and 109, or a Splice_Response 109 (evicted, or its
 -- prior ended so or failed) or 116", 02: or 125. "PlayedDuration is time on air only, summed in ninths, divided by 100, rounded down."
+-- "(a session's record: the one that requested it)"
 abbrev pub ended : Ending → Session → Record
 ended (Complete r) s = SpliceComplete (s .conn) r (s .id) 1 (toTicks (s .played) .0)
 ended Failed s = SpliceComplete (s .conn) 109 (s .id) 0 0
@@ -74,6 +75,7 @@ pub record Walk : Type 0 where
 
 -- "the waiting ones that reach it through PriorSession, link by link and over waiting ones only, within its connection":
 -- from number x of connection c to the one behind it, n links at most
+-- "Followers of a session are the waiting ones that reach it through PriorSession, link by link"
 unfoldable pub walk : ℕ → ℕ → ℕ → List Session → Walk
 walk zero c x w = record { gone = []; left = w }
 walk (suc n) c x w =
@@ -88,6 +90,7 @@ followers c x w = walk (length w) c x w
 
 -- "Followers' ends are Splice_Response 109, or 116 after an abort or close, in order of start." 02: 125 after an end by an equal one's
 -- start
+-- "(a started session's PriorSession no longer counts, as that number may have a new holder)"
 unfoldable pub dismissed : (result conn id : ℕ) → Queue → Turn
 dismissed r c x q =
     let f = followers c x (q .waiting) in
@@ -102,6 +105,7 @@ evictedAt i q =
     andThen (ending (oneEnd (Response 109) s) (withWaiting (removeAt i (q .waiting)) q)) (dismissed 109 (s .conn) (s .id))
 
 -- "A waiting session with the same start, then lower" (02: or equal) "is evicted first: it and its waiting followers end (109)"
+-- 02, CR 4: "and f evicts the waiting equal as it does a lower one"
 unfoldable pub evicted : ℕ → Queue → Turn
 evicted t q =
     let i = place (startsAt t) (q .waiting) in

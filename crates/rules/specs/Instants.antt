@@ -19,6 +19,7 @@ abbrev pub outranks : Session → Session → Bool
 outranks new old = ltb (old .access) (new .access + new .overrides)
 
 -- "with nothing on air, or with OverridePlaying 1 and AccessType higher than the one on air", 02: or equal
+-- "Start: with nothing on air"
 unfoldable pub mayStart : Session → List Session → Bool
 mayStart s [] = true
 mayStart s (air ∷ k) = eqb (s .overrides) 1 && outranks s air
@@ -32,6 +33,7 @@ abbrev pub failed : Session → Queue → Turn
 failed s q = andThen (ending (oneEnd Failed s) q) (dismissed 109 (s .conn) (s .id))
 
 -- the one on air, if any, has the AccessType of s
+-- 02, CR 4: "and at a start the equal one on air ends at once"
 unfoldable pub meetsEqual : Session → List Session → Bool
 meetsEqual s [] = false
 meetsEqual s (air ∷ k) = eqb (air .access) (s .access)
@@ -47,6 +49,7 @@ ousted s q =
 
 -- s, which no longer waits, goes on air (an equal one on air ends, "all before the new start's record"; a lower one becomes covered), or
 -- fails
+-- "(which becomes covered)"
 unfoldable pub launched : Session → Queue → Turn
 launched s q =
     cond (mayStart s (q .started))
@@ -61,6 +64,7 @@ startAt t q =
 
 -- "SpliceComplete flag 1; result 100 if it was on air just before the instant, 125 if covered." With them gone,
 -- "the highest covered session not ending at that instant is on air again, without a message".
+-- "End: SpliceComplete flag 1"
 unfoldable pub endAt : ℕ → Queue → Turn
 endAt t q =
     ending (endings (Complete 100) (Complete 125) (endsAt t) (q .started)) (withStarted (omit (endsAt t) (q .started)) q)
@@ -70,6 +74,7 @@ unfoldable pub instant : ℕ → Queue → Turn
 instant t q = andThen (endAt t q) (startAt t)
 
 -- the one on air has played d ninths more
+-- "A covered session's end time doesn't move."
 abbrev pub playing : ℕ → Session → Session
 playing d s =
     record {

@@ -23,15 +23,19 @@ abbrev pub separateService : ℕ
 separateService = 0xFFFF
 
 -- "Read: Init_Request, Alive_Request, Splice_Request, Abort_Request."; 02, CR 8: and ExtendedData_Request
+-- "Init_Request 0x0001: Revision_Num 2, ChannelName 32, SplicerName 32"
 abbrev pub initRequest : ℕ
 initRequest = 0x0001
 
+-- "Alive_Request 0x0005: time 8."
 abbrev pub aliveRequest : ℕ
 aliveRequest = 0x0005
 
+-- "Splice_Request 0x0007: SessionID 4, PriorSession 4, time 8, ServiceID 2"
 abbrev pub spliceRequest : ℕ
 spliceRequest = 0x0007
 
+-- "Abort_Request 0x000E …: SessionID 4."
 abbrev pub abortRequest : ℕ
 abortRequest = 0x000E
 
@@ -76,6 +80,8 @@ badHardware d =
     ltb (length d) (hardwarePlace + 2)
     || (ltb longestHardware (2 + hardwareLength d) || ltb (length d) (hardwarePlace + 2 + hardwareLength d))
 
+-- "the rest unread"
+-- "Not readable: Init data below 66 bytes or either name without a zero"
 abbrev pub badInit : List ℕ → Bool
 badInit d = badHardware d || (not (hasZero (channelName d)) || not (hasZero (splicerName d)))
 
@@ -83,10 +89,12 @@ unfoldable pub readInit : List ℕ → Message
 readInit d = cond (badInit d) Unreadable (Init (field 0 2 d))
 
 -- Alive_Request: time 8. "An Alive time is not checked."
+-- "Alive data other than 8 bytes"
 unfoldable pub readAlive : List ℕ → Message
 readAlive d = cond (eqb (length d) 8) Alive Unreadable
 
 -- Abort_Request: SessionID 4
+-- "Abort data other than 4"
 unfoldable pub readAbort : List ℕ → Message
 readAbort d = cond (eqb (length d) 4) (Abort (field 0 4 d)) Unreadable
 
@@ -123,7 +131,7 @@ muxValue l = getD l 6 0
 abbrev pub badMux : List ℕ → Bool
 badMux l = not (eqb (descriptorLength l) 5 && (leb 1 (muxValue l) && leb (muxValue l) 10))
 
--- whether the first descriptor of l is good; of a foreign one "form only"
+-- whether the first descriptor of l is good; of a foreign one its form alone
 abbrev pub goodDescriptor : List ℕ → Bool
 goodDescriptor l = descriptorFits l && not (isMux l && badMux l)
 
@@ -171,6 +179,7 @@ abbrev pub serviceID : List ℕ → ℕ
 serviceID d = field 16 2 d
 
 -- "a Splice_Request's start is in turn either timed or linked"
+-- "and a Splice_Request's start is in turn either timed or linked"
 unfoldable pub readStart : List ℕ → Start
 readStart d = cond (eqb (priorSession d) nobody) (Timed (timeOf (seconds d) (microSeconds d))) (Linked (priorSession d))
 
@@ -247,10 +256,13 @@ mostStreams = 16
 abbrev pub badCount : List ℕ → Bool
 badCount p = ltb (length p) 6 || (ltb highestPid (pcrPid p) || ltb mostStreams (pidCount p))
 
+-- 02, CR 1: "their requests carry ServiceID 0xFFFF and then PcrPID, PIDCount and that many splice_elementary_stream structures, as in
+-- source document 000"
 unfoldable pub separateIn : List ℕ → Listed
 separateIn p = cond (badCount p) unlisted (streamsIn (pidCount p) (drop 6 p))
 
 -- structures that are bad leave nothing
+-- 02, CR 1: "Refusals: 123 for a bad structure or count, at the reading step."
 unfoldable pub restOf : Listed → List ℕ
 restOf (listed l rest) = rest
 restOf unlisted = []
@@ -266,6 +278,7 @@ pub record Writable (s : Stream) : Type 0 where
   pub vResolution : s .vResolution < 65536
   pub kept : length (s .kept) ≤ 234
 
+-- 02, CR 1: "and write them too for our bench"
 unfoldable pub streamBytes : Stream → List ℕ
 streamBytes s =
     bytes 1 (21 + length (s .kept))
@@ -288,10 +301,12 @@ separateBytes pcr l = bytes 2 pcr ++ bytes 4 (length l) ++ streamsBytes l
 -- ## The tail of a Splice_Request
 
 -- behind the ServiceID, or behind the structures
+-- 02, CR 1: "Read them"
 unfoldable pub tailOf : List ℕ → List ℕ
 tailOf d = cond (eqb (serviceID d) separateService) (restOf (separateIn (drop 18 d))) (drop 18 d)
 
 -- The tail: Duration 4, SpliceEventID 4, PostBlack 4, AccessType 1, OverridePlaying 1, ReturnToPriorChannel 1, then descriptors
+-- "Duration 4, SpliceEventID 4, PostBlack 4, AccessType 1, OverridePlaying 1, ReturnToPriorChannel 1 (33 bytes)"
 abbrev pub duration : List ℕ → ℕ
 duration t = field 0 4 t
 
@@ -308,9 +323,16 @@ overridePlaying t = getD t 13 0
 abbrev pub returnToPriorChannel : List ℕ → ℕ
 returnToPriorChannel t = getD t 14 0
 
+-- "then descriptors"
 abbrev pub descriptorsOf : List ℕ → List ℕ
 descriptorsOf t = drop 15 t
 
+-- "or, with ServiceID not 0xFFFF, any of: below 33"
+-- "descriptors ill-formed"
+-- "Duration 0"
+-- "AccessType above 9"
+-- "either of OverridePlaying and ReturnToPriorChannel above 1"
+-- 02, CR 5: "Refusals: 123 for a bad length or value, at the reading step."
 abbrev pub badTail : List ℕ → Bool
 badTail t =
     ltb (length t) 15
@@ -320,6 +342,7 @@ badTail t =
     || (ltb 1 (overridePlaying t) || ltb 1 (returnToPriorChannel t)))))
 
 -- the data d with the tail t
+-- "or PriorSession 0xFFFFFFFF with MicroSeconds above 999,999"
 abbrev pub badSplice : List ℕ → List ℕ → Bool
 badSplice d t = badTail t || (eqb (priorSession d) nobody && badMicros (microSeconds d))
 
@@ -338,6 +361,7 @@ wholeRequest d t =
 unfoldable pub readWhole : List ℕ → List ℕ → Message
 readWhole d t = cond (badSplice d t) Unreadable (Splice (wholeRequest d t))
 
+-- "Splice data below 18 bytes"
 unfoldable pub readSplice : List ℕ → Message
 readSplice d = cond (ltb (length d) 18) Unreadable (readWhole d (tailOf d))
 
@@ -348,6 +372,7 @@ isRead id =
     || (eqb id aliveRequest || (eqb id spliceRequest || (eqb id abortRequest || (eqb id extendedRequest || eqb id configRequest))))
 
 -- a message of that list, by its MessageID and its data
+-- "A parsed message is one of its kinds"
 unfoldable pub read : ℕ → List ℕ → Message
 read id d =
     cond (eqb id initRequest) (readInit d)

@@ -8,6 +8,7 @@ use Rattle.rules.specs.Units.{second, timeOf}
 use Rattle.rules.specs.Bytes.{bytes, field, part, padded, nameIn}
 
 -- an outgoing message: the connection it is for, its result, and its data
+-- "Written: their responses, SpliceComplete_Response, General_Response."
 pub data Record : Type 0 where
   General : (conn result : ℕ) → Record
   InitResponse : (conn result : ℕ) (name : List ℕ) → Record
@@ -27,7 +28,7 @@ resultOf (AliveResponse c r state x t) = r
 resultOf (SpliceResponse c r x) = r
 resultOf (SpliceComplete c r x flag played) = r
 resultOf (AbortResponse c r x) = r
--- 02, CR 7: "Result and Result_Extension both 0xFFFF"
+-- 02, CR 7: "(both Result fields 0xFFFF)"
 resultOf (CueRequest c a u l) = 0xFFFF
 resultOf (ExtendedFound c x event ended played) = 100
 resultOf (ExtendedNone c x) = 121
@@ -53,6 +54,12 @@ endDescriptor event ended played =
 -- kept".
 -- 02, CR 6: GetConfig_Response 0x000B (000, 7.13): "ChannelName, the Hardware_Config of their Init_Request and the output channel's program
 -- map section"
+-- "Init_Response 0x0002: Revision_Num 2 bytes (value 2), configured ChannelName 32."
+-- "Alive_Response 0x0006: State 4, SessionID 4, time 8."
+-- "Splice_Response 0x0008 …: SessionID 4."
+-- "Abort_Response 0x000F: SessionID 4."
+-- "SpliceComplete_Response 0x0009: SessionID 4, SpliceTypeFlag 1, Bitrate 4 (always 0 here), PlayedDuration 4."
+-- "General_Response 0x0000: no data."
 unfoldable pub recordBytes : Record → List ℕ
 recordBytes (General c r) = framed c 0x0000 r []
 recordBytes (InitResponse c r name) = framed c 0x0002 r (bytes 2 2 ++ padded name)

@@ -45,6 +45,7 @@ pub record Played (now : ℕ) (q : Queue) : Type 0 where
   pub since : All (Since now) (q .started)
 
 -- AccessTypes fall strictly: no two are the same
+-- 02, CR 4: "so no two started sessions ever have the same AccessType"
 abbrev pub Falling : List Session → Type 0
 Falling [] = Unit {0}
 Falling (s ∷ k) = All (λ u. u .access < s .access) k × Falling k

@@ -28,6 +28,7 @@ pub record Queue : Type 0 where
 
 -- name: the configured ChannelName, up to its first zero. links: of connections 0 to 3. primary: 02, CR 13, the ninths up to the clock in
 -- which nothing was on air. hardware: 02, CR 6, of connections 0 to 3, the Hardware_Config that is kept, its Length before it
+-- "One output channel"
 pub record Splicer : Type 0 where
   pub name : List ℕ
   pub clock : ℕ
@@ -113,6 +114,7 @@ abbrev pub toCome : Queue → ℕ
 toCome q = 2 * length (q .waiting) + length (q .started)
 
 -- in order of start, no two alike
+-- 02, CR 10: "Keep the waiting sessions ordered by start."
 abbrev pub Sorted : List Session → Type 0
 Sorted [] = Unit {0}
 Sorted (s ∷ w) = All (λ u. s .start .0 < u .start .0) w × Sorted w

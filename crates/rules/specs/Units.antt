@@ -16,12 +16,14 @@ abbrev pub timeOf : ℕ → ℕ → Micros
 timeOf seconds micros = record { 0 = seconds * second + micros }
 
 -- a time of the wire has at most 999,999 MicroSeconds
+-- 8: "MicroSeconds above 999,999"
 abbrev pub badMicros : ℕ → Bool
 badMicros micros = ltb 999999 micros
 
 abbrev pub fromMicros : Micros → Ninths
 fromMicros m = record { 0 = m .0 * 9 }
 
+-- "a tick 100"
 abbrev pub fromTicks : Ticks → Ninths
 fromTicks d = record { 0 = d .0 * 100 }
 
