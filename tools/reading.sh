@@ -45,7 +45,7 @@ wrong_readings() {
         awk -v label="$(basename "$edit" .edit)" '
         /^# table: / { table = substr($0, 10); next }
         /^# / { while (match($0, /"[^"]*"/)) { said = said "\t" substr($0, RSTART + 1, RLENGTH - 2); $0 = substr($0, RSTART + RLENGTH) } }
-        /^file: / && file == "" { file = substr($0, 13) }
+        /^file: / && file == "" { file = substr($0, 13); sub(/\.antt$/, "", file) }
         /^old: / && !/^old: use / && old == "" { old = substr($0, 6) }
         END { printf "wrong\t%s\t%s\t%s\t%s%s\n", label, table, file, old, said }' "$edit"
     done

@@ -44,13 +44,17 @@ END {
 function joined(a, b) { return a == "" ? b : a " " b }
 
 # module PATH: crates/rules/specs/Calls.antt is rules/Calls
-function module(path,    p) { split(path, p, "/"); sub(/\.antt$/, "", p[4]); return p[2] "/" p[4] }
+function module(path) { sub(/^crates\//, "", path); sub(/\/specs\//, "/", path); sub(/\.antt$/, "", path); return path }
 
 # place PATH NAME: how READING names a definition
-function place(path, n,    p) {
-    split(path, p, "/")
-    sub(/\.antt$/, "", p[4])
-    return p[2] == "rules" ? "`" p[4] "." n "`" : "`" n "` of `" p[2] "/specs/" p[4] "`"
+function place(path, n,    file) {
+    file = path
+    sub(/.*\//, "", file)
+    sub(/\.antt$/, "", file)
+    if (path ~ /^crates\/rules\//) return "`" file "." n "`"
+    sub(/^crates\//, "", path)
+    sub(/\.antt$/, "", path)
+    return "`" n "` of `" path "`"
 }
 
 # key S: without the marks around it
@@ -121,7 +125,7 @@ function give_wrongs(    w, t, p, to) {
     for (w = 1; w <= wrongs; w++) {
         p = ""
         for (t = 1; t <= texts; t++)
-            if (index(line[t], old[w]) && at[t] ~ ("^(rules|demands)/" substr(wrong_at[w], 1, length(wrong_at[w]) - 5) "$")) {
+            if (index(line[t], old[w]) && (at[t] == "rules/" wrong_at[w] || at[t] == "demands/" wrong_at[w])) {
                 p = where[t] ":" name[t]
                 break
             }
