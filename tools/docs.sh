@@ -51,7 +51,7 @@ broken() {
 
 # words: every word of the sources, and every path with its last parts
 words() {
-    git ls-files | grep -vE '\.(md|png|rec|pcap|pcapng|patch)$' | xargs -d '\n' grep -hoE "[A-Za-z0-9_][A-Za-z0-9_'·-]*" | sort -u
+    git ls-files | grep -vE '\.(md|png|rec|pcap|pcapng|patch)$' | xargs -d '\n' grep -IhoE "[A-Za-z0-9_][A-Za-z0-9_'·-]*" | sort -u
     git ls-files | sed 's/\.[a-z]*$//' | tr '/' '\n' | sort -u
 }
 
@@ -73,7 +73,7 @@ names() {
 words | sort -u >"$work/words"
 lines >"$work/wrong"
 broken >>"$work/wrong"
-for page in $(echo "$pages" | grep -v '^docs/notes/'); do names "$page"; done >"$work/names"
+for page in $(echo "$pages" | grep -vE '^(docs/notes/|CHANGELOG)'); do names "$page"; done >"$work/names"
 awk -F '\t' '
 NR == FNR { known[$1] = 1; next }
 {

@@ -1,6 +1,6 @@
 #!/bin/sh
-# tour.sh [--check]: writes the table of crates of docs/TOUR.md, between its two marks, from crates.txt and the first line of each crate, in
-# wings; with --check it only compares. A crate that is in no wing or in two, that crates.txt does not list, or whose first line is no
+# tour.sh [--check]: writes the tables of docs/TOUR.md, between their marks: the crates, from crates.txt and the first line of each, in wings,
+# and the files of the law, from the first line of each; with --check it only compares. A crate that is in no wing or in two, that crates.txt does not list, or whose first line is no
 # comment of 113 columns at most is an error; so is an import of crates.txt that its crate does not use. The last line is
 # 'N passed, M failed'.
 set -eu
@@ -57,6 +57,21 @@ table() {
     echo
 }
 
+# law: the files of the law in the order in which they are read, and what follows from it, each with its first line
+law() {
+    printf '\n| File | Holds |\n|---|---|\n'
+    for name in $(sed -n 's/^pub mod //p' crates/rules/specs/Lib.antt) $(sed -n 's/^pub mod /follows\//p' crates/rules/specs/follows.antt); do
+        first=$(head -n 1 "crates/rules/specs/$name.antt")
+        case $first in
+        '-- '*) ;;
+        *) wrong "crates/rules/specs/$name.antt begins with no comment" ;;
+        esac
+        [ $((${#first} + ${#name})) -le 128 ] || wrong "the first line of crates/rules/specs/$name.antt is too long for a table"
+        echo "| $name | ${first#-- } |"
+    done
+    echo
+}
+
 # imports: each word of crates.txt that its crate has no use for
 imports() {
     sed 's/#.*//' crates.txt | while IFS=: read -r name rest; do
@@ -77,13 +92,15 @@ fi
 imports >"$work/unused"
 while IFS= read -r line; do wrong "$line"; done <"$work/unused"
 table >"$work/table"
-grep '^tour: ' "$work/table" >"$work/said" || :
+law >"$work/law"
+grep -h '^tour: ' "$work/table" "$work/law" >"$work/said" || :
 while IFS= read -r line; do
     echo "$line"
     failed=$((failed + 1))
 done <"$work/said"
-awk -v table="$work/table" '
+awk -v table="$work/table" -v law="$work/law" '
 /^<!-- made by tools\/tour.sh -->$/ { print; while ((getline line < table) > 0) print line; inside = 1; next }
+/^<!-- the law, made by tools\/tour.sh -->$/ { print; while ((getline line < law) > 0) print line; inside = 1; next }
 /^<!-- made so far -->$/ { inside = 0 }
 !inside' docs/TOUR.md >"$work/page"
 if [ "${1:-}" != --check ]; then

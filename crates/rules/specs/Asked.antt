@@ -1,4 +1,4 @@
--- What is known of every message that is read from bytes: the ranges of its numbers. proofs/Readings shows it.
+-- What is known of every message that is read: the ranges of its numbers; proofs/Readings shows it.
 use Prim.Native.Nat.{_≤_, _<_}
 use Rattle.rules.specs.declared.Start.{Start}
 use Rattle.rules.specs.declared.Start.the-variants.{Timed, Linked}

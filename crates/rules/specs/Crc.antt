@@ -1,4 +1,5 @@
--- CRC_32 of a section (ISO/IEC 13818-1; docs/SCTE35.md): polynomial 0x04C11DB7, register 0xFFFFFFFF at the start, the highest bit of each
+-- CRC_32 of a section of cues, bit by bit (ISO/IEC 13818-1; docs/SCTE35.md).
+-- Polynomial 0x04C11DB7, register 0xFFFFFFFF at the start, the highest bit of each
 -- byte first, nothing turned or added at the end. 02, CR 7: "computed bit by bit".
 use mathlib.Core.Bool.{Bool, cond}
 use mathlib.Core.List.{List, [], _∷_}

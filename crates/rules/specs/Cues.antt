@@ -1,4 +1,4 @@
--- 02, CR 7: what is read of a section of cues (SCTE 35; docs/SCTE35.md has the layouts), what comes of it, and the time of its cue.
+-- 02, CR 7: what is read of a section of cues (layouts: docs/SCTE35.md), what comes of it, the time of its cue.
 use mathlib.Core.Bool.{Bool, cond, not, _&&_, _||_}
 use mathlib.Core.List.{List, [], _∷_, map}
 use Prim.Native.Nat.{ℕ, _+_, _-_, _*_, _/_, _%_}
