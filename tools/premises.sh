@@ -1,7 +1,6 @@
 #!/bin/sh
 # premises.sh: every premise of a theorem that docs/DEMANDS.md names, and of every statement in a proofs/Cited, is plain data, the trace, what
-# a call's contract allows or a fact of the types, or it stands in the table of that page's section "Premises" with a proved witness that it
-# can be met. Reads the statements of the crates and the page; proves nothing and needs no kit. A line for each premise that is in the table:
+# a call's contract allows or a fact of the types, or it stands in tools/premises/table.txt with a proved witness that it can be met. Reads the statements of the crates and the page; proves nothing and needs no kit. A line for each premise that is in the table:
 # theorem, crates, premise. The last line is 'N passed, M failed'.
 set -eu
 . "$(dirname "$0")/words.sh"
@@ -228,6 +227,24 @@ left() {
     }' "$@"
 }
 
+# the page, and behind it the table, a row for each block
+{
+    cat "$page"
+    printf '\n## Premises\n\n'
+    awk '
+    /^#/ { next }
+    /^[a-z]+: / { key = $1; sub(/^[a-z]+: /, ""); value[key] = $0; next }
+    /^  / { sub(/^ +/, ""); value[key] = value[key] " " $0; next }
+    /^$/ { row() }
+    END { row() }
+    function row() {
+        if (value["premise:"] == "") return
+        print "| " value["premise:"] " | " value["theorems:"] " | " value["says:"] " | " value["witness:"] " |"
+        value["premise:"] = ""
+    }' tools/premises/table.txt
+} >"$work/page"
+page=$work/page
+
 # named: the names in backticks above the section "Premises"
 named() {
     awk '
@@ -298,11 +315,11 @@ while IFS='	' read -r theorem premise; do
         echo "premises: $theorem: $crates: $premise"
         passed=$((passed + 1))
     else
-        wrong "$theorem: $crates: $premise: not in the table of $page"
+        wrong "$theorem: $crates: $premise: not in tools/premises/table.txt"
     fi
 done <"$work/premises"
 while IFS='	' read -r theorem premise; do
-    grep -qxF -e "$theorem	$premise" "$work/premises" || wrong "$theorem: in the table of $page, and no premise: $premise"
+    grep -qxF -e "$theorem	$premise" "$work/premises" || wrong "$theorem: in tools/premises/table.txt, and no premise: $premise"
 done <"$work/once"
 [ "$(wc -l <"$work/rows")" -eq "$(wc -l <"$work/once")" ] || wrong 'a row stands twice'
 

@@ -39,6 +39,9 @@ for crate in $(sed -n '/^<!-- made by tools\/tour.sh -->$/,/^<!-- made so far --
 done
 printf '\n## The bad programs of document 01\n\n' >>"$made"
 cat tools/promises/bad.md >>"$made"
+printf '\n## Premises\n\n' >>"$made"
+cat tools/promises/premises.md >>"$made"
+awk -f tools/promises/premises.awk tools/premises/table.txt >>"$made"
 failed=$(wc -l <"$work/errors")
 sed 's/^/promises: /; s/$/: FAILED/' "$work/errors"
 if [ $# -eq 0 ]; then
