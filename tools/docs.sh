@@ -10,7 +10,8 @@ work=target/docs
 mkdir -p "$work"
 LC_ALL=C
 export LC_ALL
-pages=$(git ls-files '*.md' | grep -v '^target/')
+# what stands in tools/demands and tools/promises is part of pages that are made
+pages=$(git ls-files '*.md' | grep -vE '^(target|tools/demands|tools/promises)/')
 
 # anchors PAGE: the headings of a page as a browser names them
 anchors() {
@@ -65,7 +66,7 @@ names() {
         while (match($0, /`[^`]+`/)) {
             one = substr($0, RSTART + 1, RLENGTH - 2)
             $0 = substr($0, RSTART + RLENGTH)
-            if (one ~ /^[A-Za-z_][A-Za-z0-9_.:\/-]*$/) print page ":" FNR "\t" one
+            if (one ~ /^[A-Za-z][A-Za-z0-9_.:\/-]*$/) print page ":" FNR "\t" one
         }
     }' "$1"
 }
