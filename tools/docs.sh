@@ -1,7 +1,8 @@
 #!/bin/sh
-# docs.sh: what pages say of the house: no line above 140 columns, every link leads to a file and a heading that are there, and every name in
-# backticks exists: a path, a script, a function, a definition, a theorem, an edit, a macro. Pages of docs/notes speak of what was, so of
-# these only lines and links are held. A line for each that is wrong. The last line is 'N passed, M failed'.
+# docs.sh: what pages say of the house: no line above 140 columns, every link leads to a file and a heading that are there, every name in
+# backticks exists: a path, a script, a function, a definition, a theorem, an edit, a macro; every cost that a header names is in a table of
+# MEASURES. Pages of docs/notes speak of what was, so of these only lines and links are held. A line for each that is wrong. The last line
+# is 'N passed, M failed'.
 set -eu
 . "$(dirname "$0")/words.sh"
 no_words "$@"
@@ -71,9 +72,23 @@ names() {
     }' "$1"
 }
 
+# figures: numbers of 20 and more that the headers' costs and INTEGRATION's sizes name and no table of MEASURES has; some and up to are no
+# figures of a table
+figures() {
+    tr -d ',' <docs/MEASURES.md | grep -oE '[0-9]+' | sort -u >"$work/measured"
+    {
+        awk '/Cost: /, /Threads: /' include/*.h | sed 's/.*Cost: //; s/Threads: .*//'
+        sed -n '/^## Sizes$/,/^## /p' docs/INTEGRATION.md
+    } | sed -E 's/(some|up to) [0-9,]+( (KB|million))?//g' | tr -d ',' | grep -oE '(^|[^A-Za-z0-9_.])[0-9]{2,}' | grep -oE '[0-9]+' | sort -u |
+        awk -v measured="$work/measured" '
+        BEGIN { while ((getline one <measured) > 0) known[one] = 1 }
+        $1 >= 20 && !($1 in known) { print "no table of docs/MEASURES.md has " $1 ", which a header or INTEGRATION names" }'
+}
+
 words | sort -u >"$work/words"
 lines >"$work/wrong"
 broken >>"$work/wrong"
+figures >>"$work/wrong"
 for page in $(echo "$pages" | grep -vE '^(docs/notes/|CHANGELOG)'); do names "$page"; done >"$work/names"
 awk -F '\t' '
 NR == FNR { known[$1] = 1; next }
