@@ -1,7 +1,7 @@
 #!/bin/sh
 # demands.sh [--check]: writes docs/DEMANDS.md: what stands in tools/demands by hand, and between it the theorems about what C sees, from
-# crates/demands_door/proofs/Demands.antt, and those that the rolling card has beside them, each by its comment; with --check it only
-# compares. A theorem without a comment stands with the one before it. The last line is 'N passed, M failed'.
+# Demands, Due and Sessions of crates/demands_door/proofs, and those that the rolling card has beside them, each by its comment; with --check
+# it only compares. A theorem without a comment stands with the one before it. The last line is 'N passed, M failed'.
 set -eu
 . "$(dirname "$0")/words.sh"
 case $#${1:-} in
@@ -13,8 +13,7 @@ work=target/demands
 mkdir -p "$work"
 LC_ALL=C
 export LC_ALL
-door=crates/demands_door/proofs/Demands.antt
-rolling=crates/demands_rolling/proofs/Demands.antt
+door='Demands Due Sessions'
 
 # theorems FILE [WITHOUT]: a line for each heading and theorem of a file: kind, name, words; those that WITHOUT lists by name are left out
 theorems() {
@@ -60,13 +59,23 @@ list() {
     }'
 }
 
-theorems "$door" | cut -f 2 >"$work/names"
+# of CRATE [WITHOUT]: the theorems of its three files
+of() {
+    crate=$1
+    shift
+    for file in $door; do
+        [ "$file" = Demands ] || printf 'heading\t%s\n' "$([ "$file" = Due ] && echo 'Who is on air, and what is due' || echo 'The sessions that are held, and ticks that are left out')"
+        theorems "crates/$crate/proofs/$file.antt" "$@"
+    done
+}
+
+of demands_door | cut -f 2 >"$work/names"
 {
     cat tools/demands/head.md
-    theorems "$door" | list
+    of demands_door | list
     printf '\n## The card with a rolling counter\n\n'
     cat tools/demands/rolling.md
-    theorems "$rolling" "$work/names" | list
+    of demands_rolling "$work/names" | list
     echo
     cat tools/demands/below.md
 } >"$work/DEMANDS.md"
