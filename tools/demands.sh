@@ -64,7 +64,7 @@ of() {
     crate=$1
     shift
     for file in $door; do
-        [ "$file" = Demands ] || printf 'heading\t%s\n' "$([ "$file" = Due ] && echo 'Who is on air, and what is due' || echo 'The sessions that are held, and ticks that are left out')"
+        [ "$file" != Sessions ] || printf 'heading\t%s\n' 'The sessions that are held, and ticks that are left out'
         theorems "crates/$crate/proofs/$file.antt" "$@"
     done
 }
