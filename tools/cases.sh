@@ -30,10 +30,11 @@ first='digit, hex, row, input, output, joined, eachStep, eachRun'
 second='outputs, oneMore, callsIn, size, same, fits, Written'
 
 # the modules of rules that the card program and what is read of cues are written in, those of demand 3 and of CR 13, and their definitions
-modules='Lists Bytes Reading State Listing Records Ends Instants Answers Crc Cues Calls Card'
+modules='Lists Bytes State Recent Hardware Descriptors Streams Request Reading Records Ends Instants Splicing Answers Crc Cues'
+modules="$modules HouseNumbers Calls Listing Card follows.ReadBack follows.Sequences"
 names=$({
     for m in $modules; do
-        sed -nE "s/^ *unfoldable pub ([^ ]+).*/$m.\\1/p" "crates/rules/specs/$m.antt"
+        sed -nE "s/^ *unfoldable pub ([^ ]+).*/${m#follows.}.\\1/p" "crates/rules/specs/$(echo "$m" | tr . /).antt"
     done
     for m in History Airing; do
         sed -nE "s/^ *unfoldable pub ([^ ]+).*/$m.\\1/p" "crates/demands/specs/$m.antt"

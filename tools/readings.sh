@@ -8,8 +8,6 @@ set -eu
 cd "$(dirname "$0")/.."
 needs rt
 work=target/readings
-# demands' modules beside History and Airing
-said='Told|Lately|Kept|Moments|Alike'
 case ${1:-} in
 '') set -- crates/cases/readings/*.edit ;;
 --all) set -- crates/cases/readings/*.edit crates/cases/more-readings/*.edit ;;
@@ -32,27 +30,40 @@ moved() {
         s/Rattle·(rules|demands)\.specs\./Rattle·$(crate_of "$1")·specs.specs./g" "$2"
 }
 
-# speaks TABLE MODULES: the table imports one of these modules of rules or demands, separated by |
-speaks() { grep -qE "^use Rattle·(rules|demands)\.specs\.($2)(\.|\$)" "crates/cases/specs/$1.antt"; }
+# needed TABLE: the files of definitions and tables that it imports, directly or through others, and its own
+needed() {
+    awk -v first="crates/cases/specs/$1.antt" '
+    BEGIN { visit(first) }
+    function visit(file,    line, list, n, i, own) {
+        if (file in seen) return
+        seen[file] = 1
+        print file
+        n = 0
+        while ((getline line <file) > 0) if (line ~ /^(pub )?use Rattle·(rules|demands|cases)(·specs\.specs|\.specs)\./) list[++n] = line
+        close(file)
+        for (i = 1; i <= n; i++) if ((own = path(list[i])) != "") visit(own)
+    }
+    # path LINE: the file that an import names; none for a type of the code
+    function path(line,    crate) {
+        sub(/^(pub )?use Rattle·/, "", line)
+        crate = line
+        sub(/(·specs\.specs|\.specs)\..*/, "", crate)
+        sub(/^[a-z]*(·specs\.specs|\.specs)\./, "", line)
+        sub(/\.\{.*/, "", line)
+        if (line ~ /^declared/) return ""
+        gsub(/\./, "/", line)
+        return "crates/" crate "/specs/" line ".antt"
+    }'
+}
 
 # build TABLE: its crate
 build() {
     crate=$work/crates/$(crate_of "$1")
-    mkdir -p "$crate/specs" "$crate/must-fail"
+    mkdir -p "$crate/specs/follows" "$crate/must-fail"
     cp -R crates/rules/src "$crate/src"
-    for file in crates/rules/specs/*.antt crates/demands/specs/*.antt; do
-        case $file in
-        */Lib.antt | */Asked.antt | crates/demands/specs/Due.antt) continue ;;
-        # only for the table that speaks of it: the card with a rolling counter; what the demands' statements say, and what follows from the rules
-        */Rolling.antt) speaks "$1" Rolling || continue ;;
-        */Told.antt | */Lately.antt | */Kept.antt | */Moments.antt | */Alike.antt) speaks "$1" "$said" || continue ;;
-        */Sound.antt) speaks "$1" "Rolling|$said" || continue ;;
-        esac
-        moved "$1" "$file" >"$crate/specs/$(basename "$file")"
-    done
-    for table in Scenario Computing $(sed -nE 's/^use Rattle\.cases\.specs\.([A-Za-z0-9-]+).*/\1/p' "crates/cases/specs/$1.antt") "$1"; do
-        moved "$1" "crates/cases/specs/$table.antt" >"$crate/specs/$table.antt"
-    done
+    for file in $(needed "$1"); do moved "$1" "$file" >"$crate/specs/${file#crates/*/specs/}"; done
+    ls "$crate/specs/follows" | sed -n 's/\.antt$//p' | sed 's/^/pub mod /' >"$work/lib"
+    if [ -s "$work/lib" ]; then mv "$work/lib" "$crate/specs/follows.antt"; else rmdir "$crate/specs/follows"; fi
     ls "$crate/specs" | sed -n 's/\.antt$//p' | sed 's/^/pub mod /' >"$work/lib"
     mv "$work/lib" "$crate/specs/Lib.antt"
     echo "$(crate_of "$1"):" >>"$work/crates.txt"

@@ -33,11 +33,20 @@ demands demands_engine: calls-of-the-engine: these are the definitions, and the 
 demands_rolling: calls-of-the-engine: rolls-as-ruled says it, and calls-as-ruled which calls they are
 demands demands_engine demands_door: rolls-as-ruled calls-as-ruled state-as-ruled: how the rolling card's calls amount to those of document 01
 demands demands_engine demands_door: true-step true-time true-time-shown true-time-good instant-shows: 02, CR 9, the counter's time: no other card has one
+demands: air-told alive-as-read due-told first-tick quiet-before due-stays quiet-always wakes-from good-from: what a read gives; laws in its Due
+demands: sessions-told sessions-in-order sessions-at-most ticks-between later-stays-good moves-between: laws in its Sessions and Between
+demands demands_door demands_rolling: move-quiet-before move-wakes-from: bring_to is a call of the engine's alone
+demands_door demands_rolling: moves-between: bring_to is a call of the engine's alone
+demands_rolling: first-tick due-stays quiet-always later-stays-good: of a counter: first-step, left-after, quiet-before
+demands demands_engine demands_door: first-step left-after counter-step: of a counter: no other card has one
 END
 
 lists='demands demands_engine demands_door demands_rolling'
 for list in $lists; do
-    sed -nE 's/^ *pub ([^ ]+) :.*/\1/p' "crates/$list/proofs/Demands.antt" >"$work/$list"
+    # the reads of drivers stand in files of their own; of the definitions these are laws below
+    files=Demands
+    [ "$list" = demands ] || files='Demands Due Sessions'
+    for file in $files; do sed -nE 's/^ *pub ([^ ]+) :.*/\1/p' "crates/$list/proofs/$file.antt"; done >"$work/$list"
 done
 
 # each name of any list, in each list: it is there once, or the table says why not, and not both; each name of the table is in some list
@@ -111,6 +120,8 @@ s/r \.words/r .memory .words/g
 s/r \.bytes/r .memory .bytes/g
 s/r \.reply/r .answer/g
 s/Allowed (r \.memory \.words) (r \.memory \.bytes)/Allowed (r .memory)/g
+s/Allowed (one \.words) (one \.bytes)/Allowed (one .memory)/g
+s/left \(two\|alone\)/\1 .memory/g
 s/(l g e : List ℕ)/(l : List ℕ) (pts seconds micros : ℕ) (e : List ℕ)/g
 s/aCue l g e/aCue l pts seconds micros e/g
 s/(ptsOf g) (getD g 2 0) (getD g 3 0)/pts seconds micros/g
@@ -140,7 +151,7 @@ END
 : >"$work/demands_engine.sed"
 cat "$work/demands_door.sed" >>"$work/demands_rolling.sed"
 
-# statements LIST: each theorem's name and its statement in one line, with what is given in the modules around it
+# statements LIST FILE: each theorem's name and its statement in one line, with what is given in the modules around it
 statements() {
     awk -v list="$1" '
     function put(at, words) { deep++; indent[deep] = at; given[deep] = words }
@@ -159,11 +170,15 @@ statements() {
     open == "" && line ~ /^(module _|abbrev) / { open = line; from = line ~ /^module/ ? here : here - 1 }
     open ~ /^module .* where$/ || (open != "" && here < 0) { put(from, open); open = "" }
     open == "" && line ~ /^pub [^ ]+ :/ { split(line, part, " "); name = part[2]; text = substr(line, length(name) + 8) }
-    ' "crates/$1/proofs/Demands.antt" | sed -f "$work/$1.sed"
+    ' "crates/$1/proofs/$2.antt" | sed -f "$work/$1.sed"
 }
 
 # each name that several lists of calls have is the same statement
-for list in demands_engine demands_door demands_rolling; do statements "$list"; done >"$work/said"
+{
+    for list in demands_engine demands_door demands_rolling; do statements "$list" Demands; done
+    # the rolling card's are of readings
+    for file in Due Sessions; do for list in demands_engine demands_door; do statements "$list" "$file"; done; done
+} >"$work/said"
 awk -F '\t' -v work="$work" '
 {
     if (!($2 in first)) { first[$2] = $3; by[$2] = $1; next }

@@ -269,9 +269,17 @@ pub fn load(root: &Path) -> Program {
             p.declared(&format!("{name}.declared{sub}"), &src);
         }
         for spec in listed(&dir.join("specs"), ".antt") {
-            if stem(&spec) != "Lib" {
+            if stem(&spec) != "Lib" && !spec.with_extension("").is_dir() {
                 let shown = format!("crates/{name}/specs/{}.antt", stem(&spec));
                 p.file(&format!("{name}.{}", stem(&spec)), &spec, &shown);
+            }
+        }
+        // a folder of definitions has a file of its name that only lists it
+        for folder in listed(&dir.join("specs"), "").into_iter().filter(|f| f.is_dir()) {
+            for spec in listed(&folder, ".antt") {
+                let part = stem(&folder);
+                let shown = format!("crates/{name}/specs/{part}/{}.antt", stem(&spec));
+                p.file(&format!("{name}.{part}.{}", stem(&spec)), &spec, &shown);
             }
         }
     }

@@ -23,12 +23,16 @@ use Rattle.rules.specs.declared.Session.{Session}
 use Rattle.rules.specs.declared.Past.{Past}
 use Rattle.rules.specs.Units.{toMicros}
 use Rattle.rules.specs.Bytes.{nameIn, padded, sameName, value}
-use Rattle.rules.specs.Reading.{nobody, channelName, hardwarePlace, hardwareLength, hardwareIn, longestHardware, lengthIn, badInit, isRead}
+use Rattle.rules.specs.Request.{nobody}
+use Rattle.rules.specs.Reading.{channelName, badInit, isRead}
+use Rattle.rules.specs.Hardware.{hardwarePlace, hardwareLength, hardwareIn, longestHardware, lengthIn}
 use Rattle.rules.specs.Reading.{initRequest, read}
-use Rattle.rules.specs.State.{Queue, Splicer, empty, noHardware, linkOf, isInitialised, isKept, recent}
+use Rattle.rules.specs.State.{Queue, Splicer, empty, noHardware, linkOf, isInitialised}
+use Rattle.rules.specs.Recent.{isKept, recent}
 use Rattle.rules.specs.Records.{Record, General, InitResponse, AliveResponse, ConfigResponse, ExtendedFound, ExtendedNone}
 use Rattle.rules.specs.Ends.{Turn}
-use Rattle.rules.specs.Answers.{Answered, Spliced, says, turns, splices, initResult, initialised, answerInit, airState, airID}
+use Rattle.rules.specs.Answers.{Answered, says, turns, splices, initResult, initialised, answerInit, airState, airID}
+use Rattle.rules.specs.Splicing.{Spliced}
 use Rattle.rules.specs.Answers.{aliveResponse, configResponse, latest, extendedResponse, answerRead, answer}
 use Rattle.rules.proofs.Tests.{clash, or-none, and-both, both-and}
 use Rattle.rules.proofs.Bytes.{nameIn-twice}

@@ -12,8 +12,8 @@ ghost use Rattle.rules.specs.Bytes.{nameIn};
 ghost use Rattle.rules.specs.Reading.{badInit, «read»};
 ghost use Rattle.rules.specs.Records.{General};
 ghost use Rattle.rules.specs.Answers.{initResult, answerInit, aliveResponse, configResponse, extendedResponse, answerRead, answer};
-ghost use Rattle.rules.specs.Calls.{longestSection};
-ghost use Rattle.rules.specs.Sound.{Sound};
+ghost use Rattle.rules.specs.HouseNumbers.{longestSection};
+ghost use Rattle.rules.specs.follows.Sound.{Sound};
 ghost use Rattle.memory.specs.Memory.{Form, Whole, see, shown};
 ghost use Rattle.answers.specs.Gives.{Gives, Says, unmoved, barred, mute};
 

@@ -9,9 +9,11 @@ use lib.Dec.{eqb, ltb}
 use lib.ListN.{length, drop}
 use borrow.Rule.Slice.PartMut.{midOf, putMid}
 use Rattle.rules.specs.Lists.{All}
-use Rattle.rules.specs.Bytes.{Byte, part, written, oversize}
+use Rattle.rules.specs.follows.Wires.{Byte}
+use Rattle.rules.specs.Bytes.{part, written, oversize}
 use Rattle.rules.specs.State.{Splicer}
-use Rattle.rules.specs.Calls.{Answer, refused, good, closes, messages, ticks, call, lending, writtenBy}
+use Rattle.rules.specs.HouseNumbers.{Answer, refused, good, lending, writtenBy}
+use Rattle.rules.specs.Calls.{closes, messages, ticks, call}
 use Rattle.rules.specs.Card.{openMark, closeMark, messageMark, tickMark, markIn, connIn, messageFrom}
 use Rattle.rules.specs.Card.{markEnd, tickEnd, headerEnd, messageEnd, Next, calls, ends, stops, next, told, cardRoom}
 use Rattle.rules.proofs.All.{all-take, all-drop}

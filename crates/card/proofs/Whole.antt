@@ -9,7 +9,8 @@ use lib.Dec.{ltb}
 use lib.ListN.{length, take, drop, replicate, length-append, length-drop, length-replicate}
 use borrow.Author.Tests.{ltb-true, ltb-false, le-ltb}
 use Rattle.rules.specs.Lists.{All}
-use Rattle.rules.specs.Bytes.{Byte, padded}
+use Rattle.rules.specs.follows.Wires.{Byte}
+use Rattle.rules.specs.Bytes.{padded}
 use Rattle.rules.specs.State.{Splicer}
 use Rattle.rules.specs.Calls.{fresh}
 use Rattle.rules.specs.Card.{cardName, cardRoom, card}

@@ -6,7 +6,8 @@ use Prim.Native.Nat.{ℕ}
 use Prim.Native.String.{String}
 use lib.ListN.{length, replicate}
 use Rattle.rules.specs.declared.Refusal.the-variants.{AlreadyOpen}
-use Rattle.rules.specs.Calls.{opens, messages, cues, lending}
+use Rattle.rules.specs.Calls.{opens, messages, cues}
+use Rattle.rules.specs.HouseNumbers.{lending}
 use Rattle.demands.specs.History.{Event, wrote, muxTold}
 use Rattle.demands.specs.Airing.{newest}
 use Rattle.demands.specs.Told

@@ -6,8 +6,10 @@ use Prim.Native.Nat.{ℕ}
 use Prim.Native.String.{String}
 use lib.ListN.{replicate}
 use Rattle.rules.specs.State.{Splicer}
-use Rattle.rules.specs.Calls.{Answer, refused, good, Loans, lending, lendingMaps, Call, opens, closes, messages, ticks, answers, fresh}
-use Rattle.rules.specs.Calls.{houseNumber, writtenBy}
+use Rattle.rules.specs.HouseNumbers.{Answer, refused, good, Loans, lending, lendingMaps}
+use Rattle.rules.specs.Calls.{Call, opens, closes, messages, ticks, fresh}
+use Rattle.rules.specs.follows.Sequences.{answers}
+use Rattle.rules.specs.HouseNumbers.{houseNumber, writtenBy}
 use Rattle.cases.specs.Scenario.{hex}
 use Rattle.cases.specs.Computing.{computing}
 

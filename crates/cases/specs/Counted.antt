@@ -5,11 +5,15 @@ use mathlib.Core.Path.{_≡_, refl}
 use mathlib.Core.List.{List, [], _∷_, map}
 use Prim.Native.Nat.{ℕ}
 use Rattle.rules.specs.Bytes.{padded}
-use Rattle.rules.specs.Records.{Record, AliveResponse, SpliceResponse, SpliceComplete, AbortResponse, recordsIn}
-use Rattle.rules.specs.Calls.{Answer, refused, good, houseNumber, Call, opens, writtenBy}
+use Rattle.rules.specs.Records.{Record, AliveResponse, SpliceResponse, SpliceComplete, AbortResponse}
+use Rattle.rules.specs.follows.ReadBack.{recordsIn}
+use Rattle.rules.specs.HouseNumbers.{Answer, refused, good, houseNumber, writtenBy}
+use Rattle.rules.specs.Calls.{Call, opens}
 use Rattle.rules.specs.Card
-use Rattle.rules.specs.Rolling.{Rolling, Rolled, rollingOf, stepOf, instantCourse, stepCourse, readingCourse, rolls, instantCall}
-use Rattle.rules.specs.Rolling.{readingCall, rollingFresh, RollingCall, known, instants, readings, roll}
+use Rattle.rules.specs.Rolling.{Rolling, Rolled, stepOf, instantCourse, stepCourse, readingCourse, rolls, instantCall}
+use Rattle.rules.specs.follows.Sequences.{rollingOf}
+use Rattle.rules.specs.Rolling.{readingCall, RollingCall, known, instants, readings, roll}
+use Rattle.rules.specs.follows.Sequences.{rollingFresh}
 use Rattle.cases.specs.Computing.{computing}
 use Rattle.cases.specs.Rehearsed.{sent, from, initOf, asks, timed, aborts}
 

@@ -4,11 +4,14 @@ use mathlib.Core.Path.{_≡_, refl}
 use mathlib.Core.List.{List, [], _∷_, map}
 use Prim.Native.Nat.{ℕ}
 use Rattle.rules.specs.State.{Splicer, due}
-use Rattle.rules.specs.Records.{Record, SpliceResponse, SpliceComplete, AbortResponse, InitResponse, recordsIn}
+use Rattle.rules.specs.Records.{Record, SpliceResponse, SpliceComplete, AbortResponse, InitResponse}
+use Rattle.rules.specs.follows.ReadBack.{recordsIn}
 use Rattle.rules.specs.Bytes.{padded}
 use Rattle.rules.specs.Answers.{airRow}
-use Rattle.rules.specs.Calls.{Call, Called, call, writtenBy, dueRow, opens}
-use Rattle.rules.specs.Rolling.{none, at, Rolling, Rolled, rollingOf, rollingFresh, stepOf, instantCourse, stepCourse, readingCourse, rolls}
+use Rattle.rules.specs.Calls.{Call, call, dueRow, opens}
+use Rattle.rules.specs.HouseNumbers.{Called, writtenBy}
+use Rattle.rules.specs.Rolling.{none, at, Rolling, Rolled, stepOf, instantCourse, stepCourse, readingCourse, rolls}
+use Rattle.rules.specs.follows.Sequences.{rollingOf, rollingFresh}
 use Rattle.rules.specs.Rolling.{instantCall, readingCall, RollingCall, known, instants, readings, roll, stepRow}
 use Rattle.rules.specs.Card.{cardName}
 use Rattle.cases.specs.Computing.{computing}

@@ -8,11 +8,14 @@ use lib.ListN.{take, drop}
 use Rattle.rules.specs.declared.Past.{Past}
 use Rattle.rules.specs.Lists.{keep}
 use Rattle.rules.specs.Bytes.{bytes}
-use Rattle.rules.specs.State.{Splicer, isKept, recent}
+use Rattle.rules.specs.State.{Splicer}
+use Rattle.rules.specs.Recent.{isKept, recent}
 use Rattle.rules.specs.Reading
+use Rattle.rules.specs.Request
 use Rattle.rules.specs.Records.{Record, General, InitResponse, SpliceResponse, SpliceComplete, AbortResponse, ExtendedFound, ExtendedNone}
-use Rattle.rules.specs.Records.{recordsIn}
-use Rattle.rules.specs.Calls.{Call, Called, opens, closes, call, writtenBy}
+use Rattle.rules.specs.follows.ReadBack.{recordsIn}
+use Rattle.rules.specs.Calls.{Call, opens, closes, call}
+use Rattle.rules.specs.HouseNumbers.{Called, writtenBy}
 use Rattle.rules.specs.Card
 use Rattle.cases.specs.Computing.{computing}
 use Rattle.cases.specs.Rehearsed.{sent, from, initOf, asks, timed, linked, aborts, to, card, plays, up, ready}
@@ -39,7 +42,7 @@ with : (event : ℕ) → List ℕ → List ℕ
 with e d = take 22 d ++ (bytes 4 e ++ drop 26 d)
 
 timedAs : (event conn id seconds access duration : ℕ) → Call
-timedAs e c x s a d = from c 0x0007 (with e (asks x Reading.nobody s 0 a 1 d))
+timedAs e c x s a d = from c 0x0007 (with e (asks x Request.nobody s 0 a 1 d))
 
 linkedAs : (event conn id prior duration : ℕ) → Call
 linkedAs e c x p d = from c 0x0007 (with e (asks x p 0 0 1 0 d))

@@ -8,8 +8,9 @@ use Prim.Native.String.{String}
 use lib.Dec.{T, T-not, eqb, eqb-refl, leb, le→leb, ltb, ltb→lt}
 use Rattle.rules.specs.declared.Refusal.{Refusal}
 use Rattle.rules.specs.Lists.{All}
-use Rattle.rules.specs.Bytes.{Byte}
-use Rattle.rules.specs.Calls.{Call, messages, moves, lending}
+use Rattle.rules.specs.follows.Wires.{Byte}
+use Rattle.rules.specs.Calls.{Call, messages, moves}
+use Rattle.rules.specs.HouseNumbers.{lending}
 use Rattle.demands.specs.History.{wrote, refusal, Event}
 use Rattle.cases.specs.Scenario.{hex, joined}
 

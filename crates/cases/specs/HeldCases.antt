@@ -7,7 +7,8 @@ use lib.ListN.{length, take, drop, replicate}
 use Rattle.rules.specs.Bytes.{written}
 use Rattle.rules.specs.State.{Splicer, Queue}
 use Rattle.rules.specs.Listing.{heldNumber, heldRows}
-use Rattle.rules.specs.Calls.{Call, Called, closes, call}
+use Rattle.rules.specs.Calls.{Call, closes, call}
+use Rattle.rules.specs.HouseNumbers.{Called}
 use Rattle.demands.specs.Sessions as read
 use Rattle.demands.specs.Sessions.{HeldRow, rowsIn}
 use Rattle.cases.specs.Computing.{computing}

@@ -11,8 +11,9 @@ use Rattle.rules.specs.declared.Framing.the-variants.{Framed, Unframed}
 use Rattle.rules.specs.declared.Refusal.the-variants.{NotOpen, NoRoom, LongSection}
 use Rattle.rules.specs.Lists.{bit}
 use Rattle.rules.specs.State.{Splicer}
-use Rattle.rules.specs.Records.{recordsIn}
-use Rattle.rules.specs.Calls.{Call, opens, closes, messages, ticks, cues, Loans, lending, lendingMaps, fresh, after}
+use Rattle.rules.specs.follows.ReadBack.{recordsIn}
+use Rattle.rules.specs.Calls.{Call, opens, closes, messages, ticks, cues, fresh, after}
+use Rattle.rules.specs.HouseNumbers.{Loans, lending, lendingMaps}
 use Rattle.demands.specs.History.{Event, wrote}
 use Rattle.demands.specs.Kept
 use Rattle.demands.specs.Kept.{changed, keptTold, AsksConfig, AsksAlive, Ready, stateIn}

@@ -5,10 +5,14 @@ use Prim.Native.Nat.{ℕ}
 use lib.ListN.{length, take, drop}
 use Rattle.rules.specs.declared.Past.{Past}
 use Rattle.rules.specs.Bytes.{bytes}
-use Rattle.rules.specs.State.{Splicer, unused, recent}
+use Rattle.rules.specs.State.{Splicer}
+use Rattle.rules.specs.Recent.{unused, recent}
 use Rattle.rules.specs.Reading
-use Rattle.rules.specs.Records.{Record, SpliceResponse, SpliceComplete, AbortResponse, recordsIn}
-use Rattle.rules.specs.Calls.{Call, Called, opens, closes, call, writtenBy}
+use Rattle.rules.specs.Request
+use Rattle.rules.specs.Records.{Record, SpliceResponse, SpliceComplete, AbortResponse}
+use Rattle.rules.specs.follows.ReadBack.{recordsIn}
+use Rattle.rules.specs.Calls.{Call, opens, closes, call}
+use Rattle.rules.specs.HouseNumbers.{Called, writtenBy}
 use Rattle.cases.specs.Computing.{computing}
 use Rattle.cases.specs.Rehearsed.{sent, from, initOf, asks, timed, linked, aborts, to, card, plays, up, ready}
 
@@ -30,7 +34,7 @@ noted e d = take 22 d ++ (bytes 4 e ++ drop 26 d)
 
 -- a timed request
 with : (conn id event seconds access override duration : ℕ) → Call
-with c x e s a o d = from c 0x0007 (noted e (asks x Reading.nobody s 0 a o d))
+with c x e s a o d = from c 0x0007 (noted e (asks x Request.nobody s 0 a o d))
 
 -- one linked to the number prior
 behind : (conn id event prior duration : ℕ) → Call

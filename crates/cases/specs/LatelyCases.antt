@@ -9,10 +9,12 @@ use Rattle.rules.specs.declared.Past.{Past}
 use Rattle.rules.specs.declared.Refusal.the-variants.{ClockBack, NoRoom}
 use Rattle.rules.specs.Lists.{bit, count}
 use Rattle.rules.specs.Bytes.{bytes}
-use Rattle.rules.specs.State.{unused, mostKept}
+use Rattle.rules.specs.Recent.{unused, mostKept}
 use Rattle.rules.specs.Records.{Record, General, InitResponse, AliveResponse, SpliceResponse, SpliceComplete, AbortResponse, ConfigResponse}
-use Rattle.rules.specs.Records.{ExtendedFound, ExtendedNone, CueRequest, recordsIn}
-use Rattle.rules.specs.Calls.{opens, closes, messages, lending}
+use Rattle.rules.specs.Records.{ExtendedFound, ExtendedNone, CueRequest}
+use Rattle.rules.specs.follows.ReadBack.{recordsIn}
+use Rattle.rules.specs.Calls.{opens, closes, messages}
+use Rattle.rules.specs.HouseNumbers.{lending}
 use Rattle.demands.specs.History.{Event, wrote, book}
 use Rattle.demands.specs.Lately
 use Rattle.demands.specs.Lately.{Told, isAnEnd, endsTold, ofNumber, answerTold, endedOnce, As, KeptAs}

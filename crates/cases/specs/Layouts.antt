@@ -6,9 +6,10 @@ use mathlib.Core.List.{List, [], _∷_, _++_, map}
 use Prim.Native.Nat.{ℕ}
 use Prim.Native.String.{String}
 use lib.ListN.{replicate}
-use Rattle.rules.specs.Reading.{Stream, Listed, listed, unlisted, pcrPid, pidCount, separateIn, separateBytes}
+use Rattle.rules.specs.Streams.{Stream, Listed, listed, unlisted, pcrPid, pidCount, separateIn, separateBytes}
 use Rattle.rules.specs.Records.{Record, General, InitResponse, AliveResponse, SpliceResponse, SpliceComplete, AbortResponse, CueRequest}
-use Rattle.rules.specs.Records.{ExtendedFound, ExtendedNone, ConfigResponse, recordBytes, output, recordsIn}
+use Rattle.rules.specs.Records.{ExtendedFound, ExtendedNone, ConfigResponse, recordBytes, output}
+use Rattle.rules.specs.follows.ReadBack.{recordsIn}
 use Rattle.cases.specs.Scenario.{hex}
 use Rattle.cases.specs.Computing.{computing}
 

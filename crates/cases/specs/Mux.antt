@@ -6,9 +6,12 @@ use lib.ListN.{replicate, take, drop}
 use Rattle.rules.specs.Bytes.{bytes}
 use Rattle.rules.specs.State.{Splicer}
 use Rattle.rules.specs.Reading
-use Rattle.rules.specs.Records.{Record, General, SpliceResponse, SpliceComplete, AbortResponse, recordsIn}
+use Rattle.rules.specs.Request
+use Rattle.rules.specs.Records.{Record, General, SpliceResponse, SpliceComplete, AbortResponse}
+use Rattle.rules.specs.follows.ReadBack.{recordsIn}
 use Rattle.rules.specs.Answers.{airMux}
-use Rattle.rules.specs.Calls.{Call, Called, closes, call, writtenBy}
+use Rattle.rules.specs.Calls.{Call, closes, call}
+use Rattle.rules.specs.HouseNumbers.{Called, writtenBy}
 use Rattle.cases.specs.Computing.{computing}
 use Rattle.cases.specs.Rehearsed.{sent, from, initOf, asks, timed, linked, aborts, to, card, plays, up, ready}
 
@@ -32,7 +35,7 @@ foreign =
 
 -- a timed request with OverridePlaying 1 and descriptors
 with : (conn id seconds access duration : ℕ) → List ℕ → Call
-with c x s a d l = from c 0x0007 (asks x Reading.nobody s 0 a 1 d ++ l)
+with c x s a d l = from c 0x0007 (asks x Request.nobody s 0 a 1 d ++ l)
 
 -- one linked to the number prior
 behind : (conn id prior duration : ℕ) → List ℕ → Call
@@ -42,9 +45,9 @@ behind c x p d l = from c 0x0007 (asks x p 0 0 1 0 d ++ l)
 naming : (conn id seconds access duration : ℕ) → List ℕ → Call
 naming c x s a d l =
     from c 0x0007
-    (take 16 (asks x Reading.nobody s 0 a 1 d)
+    (take 16 (asks x Request.nobody s 0 a 1 d)
     ++ (bytes 2 0xFFFF ++ (bytes 2 0x31 ++ (bytes 4 1 ++ (21 ∷ bytes 2 0x32
-    ++ (bytes 2 0x1B ++ (replicate 16 0xFF ++ (drop 18 (asks x Reading.nobody s 0 a 1 d) ++ l))))))))
+    ++ (bytes 2 0x1B ++ (replicate 16 0xFF ++ (drop 18 (asks x Request.nobody s 0 a 1 d) ++ l))))))))
 
 accepts : (conn id : ℕ) → Record
 accepts c x = SpliceResponse c 100 x

@@ -13,12 +13,15 @@ use Rattle.rules.specs.declared.Link.the-variants.{Initialised}
 use Rattle.rules.specs.declared.Cue.{Cue}
 use Rattle.rules.specs.declared.Cue.the-variants.{At, Timeless, Bad}
 use Rattle.rules.specs.declared.Refusal.the-variants.{NoConnection}
-use Rattle.rules.specs.State.{Splicer, empty, sameNumber, startsAt, startsAfter, endsAt, withLink, noneHeld}
+use Rattle.rules.specs.State.{Splicer, empty, sameNumber, startsAt, startsAfter, endsAt, withLink}
+use Rattle.rules.specs.Recent.{noneHeld}
 use Rattle.rules.specs.Records.{General}
 use Rattle.rules.specs.Instants.{outranks, mayStart, onAir}
-use Rattle.rules.specs.Answers.{initResult, answer, airFeed, isPast, wrongNumber, tooLate}
+use Rattle.rules.specs.Answers.{initResult, answer, airFeed, isPast}
+use Rattle.rules.specs.Splicing.{wrongNumber, tooLate}
 use Rattle.rules.specs.Cues.{readCue}
-use Rattle.rules.specs.Calls.{refused, consumedBy, named, fresh, openCall, closeCall}
+use Rattle.rules.specs.HouseNumbers.{refused, consumedBy}
+use Rattle.rules.specs.Calls.{named, fresh, openCall, closeCall}
 use Rattle.rules.specs.Card.{card}
 use Rattle.cases.specs.Scenario.{hex}
 use Rattle.cases.specs.Computing.{computing}

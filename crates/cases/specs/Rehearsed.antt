@@ -8,11 +8,16 @@ use lib.ListN.{length, replicate}
 use Rattle.rules.specs.declared.Session.{Session}
 use Rattle.rules.specs.Bytes.{bytes, padded}
 use Rattle.rules.specs.Reading
+use Rattle.rules.specs.Request
 use Rattle.rules.specs.Records
-use Rattle.rules.specs.Records.{Record, recordsIn}
+use Rattle.rules.specs.Records.{Record}
+use Rattle.rules.specs.follows.ReadBack.{recordsIn}
 use Rattle.rules.specs.Answers
+use Rattle.rules.specs.Splicing
 use Rattle.rules.specs.Calls
-use Rattle.rules.specs.Calls.{Call, Called, opens, messages, ticks, call}
+use Rattle.rules.specs.HouseNumbers
+use Rattle.rules.specs.Calls.{Call, opens, messages, ticks, call}
+use Rattle.rules.specs.HouseNumbers.{Called}
 use Rattle.rules.specs.Card
 use Rattle.cases.specs.Computing.{computing}
 
@@ -37,7 +42,7 @@ asks x p s u a o d =
     ++ (bytes 4 d ++ (bytes 4 0xFFFFFFFF ++ (bytes 4 0 ++ (a ∷ o ∷ 1 ∷ []))))))))
 
 unfoldable pub timed : (conn id seconds micros access over duration : ℕ) → Call
-timed c x s u a o d = from c 0x0007 (asks x Reading.nobody s u a o d)
+timed c x s u a o d = from c 0x0007 (asks x Request.nobody s u a o d)
 
 unfoldable pub linked : (conn id prior duration : ℕ) → Call
 linked c x p d = from c 0x0007 (asks x p 0 0 1 0 d)
@@ -65,7 +70,7 @@ pub data Seen : Type 0 where
   holds : List ℕ → Seen
 
 said : Called → Seen
-said r = wrote (recordsIn (Calls.writtenBy (r .answer)))
+said r = wrote (recordsIn (HouseNumbers.writtenBy (r .answer)))
 
 -- the ends of the waiting sessions
 ends : Called → Seen
@@ -77,7 +82,7 @@ air r = holds (map (λ (s : Session). s .id) (r .splicer .queue .started))
 
 -- each connection's waiting sessions
 waitingFour : Called → List ℕ
-waitingFour r = map (λ c. Answers.waits c (r .splicer .queue .waiting)) (0 ∷ 1 ∷ 2 ∷ 3 ∷ [])
+waitingFour r = map (λ c. Splicing.waits c (r .splicer .queue .waiting)) (0 ∷ 1 ∷ 2 ∷ 3 ∷ [])
 
 -- P: the number of the situation; waiting: the four counts that the calls before have given, which its premise speaks of
 record Row : Type 0 where

@@ -14,10 +14,13 @@ use Rattle.rules.specs.declared.Session.{Session}
 use Rattle.rules.specs.declared.Refusal.the-variants.{NoRoom}
 use Rattle.rules.specs.Lists.{bit, All}
 use Rattle.rules.specs.Bytes.{bytes}
-use Rattle.rules.specs.State.{Splicer, noneHeld}
+use Rattle.rules.specs.State.{Splicer}
+use Rattle.rules.specs.Recent.{noneHeld}
 use Rattle.rules.specs.Records.{Record, General, InitResponse, AliveResponse, SpliceResponse, SpliceComplete, AbortResponse, ConfigResponse}
-use Rattle.rules.specs.Records.{ExtendedFound, ExtendedNone, CueRequest, recordsIn}
-use Rattle.rules.specs.Calls.{Call, opens, closes, messages, ticks, cues, lending}
+use Rattle.rules.specs.Records.{ExtendedFound, ExtendedNone, CueRequest}
+use Rattle.rules.specs.follows.ReadBack.{recordsIn}
+use Rattle.rules.specs.Calls.{Call, opens, closes, messages, ticks, cues}
+use Rattle.rules.specs.HouseNumbers.{lending}
 use Rattle.demands.specs.History.{Event, wrote, Entry, book, clockAfter}
 use Rattle.demands.specs.Told
 use Rattle.demands.specs.Told.{answers, fullTold, isOut, outsOf, startedTold, unended, Ended, entriesOf, Stands, countsTold, airMuxTold}

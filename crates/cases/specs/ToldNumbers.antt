@@ -13,9 +13,11 @@ use Rattle.rules.specs.declared.Request.{Request}
 use Rattle.rules.specs.declared.Session.{Session}
 use Rattle.rules.specs.declared.Start.{Start}
 use Rattle.rules.specs.declared.Start.the-variants.{Timed, Linked}
-use Rattle.rules.specs.State.{Queue, Splicer, noneEnded}
+use Rattle.rules.specs.State.{Queue, Splicer}
+use Rattle.rules.specs.Recent.{noneEnded}
 use Rattle.rules.specs.Records.{General}
-use Rattle.rules.specs.Calls.{Answer, refused, good, Called, Call, opens, closes, messages, ticks, moves, cues, Loans, lending, lendingMaps}
+use Rattle.rules.specs.HouseNumbers.{Answer, refused, good, Called, Loans, lending, lendingMaps}
+use Rattle.rules.specs.Calls.{Call, opens, closes, messages, ticks, moves, cues}
 use Rattle.demands.specs.Told
 use Rattle.demands.specs.Told.{Check, check, firstNumber, checks, numberOf, Unchanged, earlierCode, Passes}
 use Rattle.cases.specs.Scenario.{hex}

@@ -17,11 +17,13 @@ use Rattle.rules.specs.declared.Past.{Past}
 use Rattle.rules.specs.declared.Request.{Request}
 use Rattle.rules.specs.declared.Start.{Start}
 use Rattle.rules.specs.declared.Start.the-variants.{Timed, Linked}
-use Rattle.rules.specs.State.{Splicer, noneHeld, unused}
+use Rattle.rules.specs.State.{Splicer}
+use Rattle.rules.specs.Recent.{noneHeld, unused}
 use Rattle.rules.specs.Answers.{isPast}
 use Rattle.rules.specs.Records.{Record, General, InitResponse, AliveResponse, SpliceResponse, SpliceComplete, AbortResponse, ConfigResponse}
-use Rattle.rules.specs.Records.{ExtendedFound, ExtendedNone, CueRequest, recordsIn}
-use Rattle.rules.specs.Calls.{Loans, lending, lendingMaps}
+use Rattle.rules.specs.Records.{ExtendedFound, ExtendedNone, CueRequest}
+use Rattle.rules.specs.follows.ReadBack.{recordsIn}
+use Rattle.rules.specs.HouseNumbers.{Loans, lending, lendingMaps}
 use Rattle.demands.specs.Told.{Asks, Inquires, Finds}
 use Rattle.cases.specs.Scenario.{hex}
 use Rattle.cases.specs.Computing.{computing}

@@ -17,9 +17,12 @@ use Rattle.rules.specs.declared.Refusal.the-variants.{Oversize, Short}
 use Rattle.rules.specs.declared.Framing.{Framing}
 use Rattle.rules.specs.declared.Framing.the-variants.{Framed, Unframed}
 use Rattle.rules.specs.Bytes.{nameIn, sameName, written}
-use Rattle.rules.specs.Reading.{lengthIn, muxOf, readInit, readAlive, readAbort, readExtended, readConfig, readSplice, isRead, read}
-use Rattle.rules.specs.Reading.{isSplice}
-use Rattle.rules.specs.Reading.{Listed, listed, unlisted, separateIn}
+use Rattle.rules.specs.Hardware.{lengthIn}
+use Rattle.rules.specs.Descriptors.{muxOf}
+use Rattle.rules.specs.Reading.{readInit, readAlive, readAbort, readExtended, readConfig, isRead, read}
+use Rattle.rules.specs.Request.{readSplice}
+use Rattle.rules.specs.follows.ReadBack.{isSplice}
+use Rattle.rules.specs.Streams.{Listed, listed, unlisted, separateIn}
 use Rattle.rules.specs.Calls.{framing}
 use Rattle.cases.specs.Scenario.{hex}
 use Rattle.cases.specs.Computing.{computing}

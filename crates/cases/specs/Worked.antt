@@ -7,8 +7,11 @@ use lib.ListN.{length, replicate}
 use Rattle.rules.specs.declared.Session.{Session}
 use Rattle.rules.specs.Bytes.{bytes}
 use Rattle.rules.specs.State.{Splicer}
-use Rattle.rules.specs.Records.{Record, InitResponse, SpliceResponse, SpliceComplete, AbortResponse, recordsIn}
+use Rattle.rules.specs.Records.{Record, InitResponse, SpliceResponse, SpliceComplete, AbortResponse}
+use Rattle.rules.specs.follows.ReadBack.{recordsIn}
 use Rattle.rules.specs.Calls
+use Rattle.rules.specs.follows.Sequences
+use Rattle.rules.specs.HouseNumbers
 use Rattle.rules.specs.Calls.{Call, opens, closes}
 use Rattle.rules.specs.Card
 use Rattle.demands.specs.History
@@ -28,11 +31,11 @@ joined (x ∷ l) = x ++ joined l
 
 -- the records in the answers of some calls from there
 played : List Call → List Record
-played ks = joined (map (λ a. recordsIn (Calls.writtenBy a)) (Calls.answers ks known))
+played ks = joined (map (λ a. recordsIn (HouseNumbers.writtenBy a)) (Sequences.answers ks known))
 
 -- how many records the last of them writes
 lastWrites : List Call → List ℕ
-lastWrites ks = length (recordsIn (Calls.writtenBy (plays (ready ++ ks) card .answer))) ∷ []
+lastWrites ks = length (recordsIn (HouseNumbers.writtenBy (plays (ready ++ ks) card .answer))) ∷ []
 
 -- the numbers of the started sessions then: on air, then covered
 started : List Call → List ℕ
@@ -62,7 +65,7 @@ counting l m = record { seen = counted l; wants = counted m }
 
 -- the records that the last of them writes
 lastSays : List Call → List Record → Case
-lastSays ks rs = record { seen = said (recordsIn (Calls.writtenBy (plays (ready ++ ks) card .answer))); wants = said rs }
+lastSays ks rs = record { seen = said (recordsIn (HouseNumbers.writtenBy (plays (ready ++ ks) card .answer))); wants = said rs }
 
 -- ## The cases
 

@@ -17,13 +17,15 @@ use Rattle.rules.specs.declared.Request.{Request}
 use Rattle.rules.specs.declared.Ninths.{Ninths}
 use Rattle.rules.specs.Units.{fromTicks}
 use Rattle.rules.specs.Bytes.{part}
-use Rattle.rules.specs.Reading.{nobody}
+use Rattle.rules.specs.Request.{nobody}
 use Rattle.rules.specs.Lists.{All, bit, some, place, removeAt}
-use Rattle.rules.specs.State.{Queue, empty, of, is, startsAt, startsAfter, held, holds, Sorted}
+use Rattle.rules.specs.State.{Queue, empty, of, is, startsAt, startsAfter, held, holds}
+use Rattle.rules.specs.follows.Wires.{Sorted}
 use Rattle.rules.specs.Instants.{outranks}
-use Rattle.rules.specs.Answers.{endOf, startOf, unknownPrior, wrongNumber, collides, waits, raisedSum, full, spliceResult, sessionAt}
-use Rattle.rules.specs.Answers.{priorOf, tooLate, sumOf}
-use Rattle.rules.specs.Sound.{heldCount, Once}
+use Rattle.rules.specs.Splicing.{endOf, startOf, unknownPrior, wrongNumber, collides, waits, full, spliceResult, sessionAt}
+use Rattle.rules.specs.follows.Sound.{raisedSum}
+use Rattle.rules.specs.Splicing.{priorOf, tooLate, sumOf}
+use Rattle.rules.specs.follows.Sound.{heldCount, Once}
 use Rattle.rules.proofs.Tests.{clash, by}
 use Rattle.rules.proofs.All.{all-into}
 use Rattle.rules.proofs.Count.{count≤length, count-removeAt, place-holds, some-none, some-place}

@@ -11,7 +11,7 @@ use Rattle.rules.specs.declared.When.the-variants.{At, Never}
 use Rattle.rules.specs.Units.{fromMicros}
 use Rattle.rules.specs.Lists.{place}
 use Rattle.rules.specs.State.{Queue, is, held, holds}
-use Rattle.rules.specs.Answers.{endOf}
+use Rattle.rules.specs.Splicing.{endOf}
 use Rattle.memory.specs.declared.Which.the-variants.{Waiting, Started}
 use Rattle.checks.specs.declared.Where.{Where}
 use Rattle.checks.specs.declared.Where.the-variants.{In, Nowhere}

@@ -11,7 +11,8 @@ use lib.Bits.{bitXor, differ, xor-step}
 use lib.Arith.{bin-ind}
 use borrow.Author.Tests.{eqb-true, eqb-false, eq-eqb}
 use Rattle.rules.specs.Lists.{All}
-use Rattle.rules.specs.Bytes.{Byte, bytes}
+use Rattle.rules.specs.follows.Wires.{Byte}
+use Rattle.rules.specs.Bytes.{bytes}
 use Rattle.rules.specs.Crc.{crcBit, crcBits, crcByte, crcFrom, crc, rightCrc}
 use Rattle.cues.proofs.Register.{Register, bit-register, digit-one, digit-below}
 

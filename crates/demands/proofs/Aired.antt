@@ -9,15 +9,17 @@ use lib.Dec.{eqb}
 use Rattle.rules.specs.Units.{timeOf, fromMicros}
 use Rattle.rules.specs.Lists.{All, bit}
 use Rattle.rules.specs.Bytes.{hasZero}
-use Rattle.rules.specs.Reading.{isSplice}
+use Rattle.rules.specs.follows.ReadBack.{isSplice}
 use Rattle.rules.specs.State.{Queue, Splicer, is}
-use Rattle.rules.specs.Records.{Record, recordsIn}
+use Rattle.rules.specs.Records.{Record}
+use Rattle.rules.specs.follows.ReadBack.{recordsIn}
 use Rattle.rules.specs.Ends.{Turn, quiet, writes, andThen, evicted, closedBy}
-use Rattle.rules.specs.Answers.{requested, accepts, accepted}
-use Rattle.rules.specs.Calls.{Answer, refused, good, Called, Call, opens, closes, messages, ticks, moves, cues, ticked, call, writtenBy}
+use Rattle.rules.specs.Splicing.{requested, accepts, accepted}
+use Rattle.rules.specs.HouseNumbers.{Answer, refused, good, Called, writtenBy}
+use Rattle.rules.specs.Calls.{Call, opens, closes, messages, ticks, moves, cues, ticked, call}
 use Rattle.rules.specs.Calls.{after, named, fresh}
 use Rattle.demands.specs.History.{Event, Entry, entryIs, isStart, startsOf, endsOf, replyOf, history, front, othersOf, book}
-use Rattle.rules.specs.Sound.{heldCount, Once, Wired, Sound}
+use Rattle.rules.specs.follows.Sound.{heldCount, Once, Wired, Sound}
 use Rattle.rules.proofs.Tests.{by}
 use Rattle.rules.proofs.Count.{count-append}
 use Rattle.rules.proofs.Fitted.{recordsOf}

@@ -16,12 +16,16 @@ use Rattle.rules.specs.declared.Message.the-variants.{Splice, Extended}
 use Rattle.rules.specs.declared.Framing.the-variants.{Framed}
 use Rattle.rules.specs.Lists.{All, bit}
 use Rattle.rules.specs.Bytes.{messageID, messageSize, oversize}
-use Rattle.rules.specs.Reading.{spliceRequest, extendedRequest, configRequest, aliveRequest, readSplice, readExtended, dataIn}
+use Rattle.rules.specs.Reading.{spliceRequest, extendedRequest, configRequest, aliveRequest, readExtended}
+use Rattle.rules.specs.Request.{readSplice}
+use Rattle.rules.specs.follows.ReadBack.{dataIn}
 use Rattle.rules.specs.State.{Splicer, linkOf, isOpen, isInitialised}
-use Rattle.rules.specs.Records.{Record, General, recordsIn}
-use Rattle.rules.specs.Calls.{Called, writtenBy, noConnection, noRoom, notOpen, longSection, framing, Loans}
+use Rattle.rules.specs.Records.{Record, General}
+use Rattle.rules.specs.follows.ReadBack.{recordsIn}
+use Rattle.rules.specs.HouseNumbers.{Called, writtenBy, noConnection, noRoom, notOpen, longSection, Loans}
+use Rattle.rules.specs.Calls.{framing}
 use Rattle.rules.specs.Calls.{Call, opens, closes, messages, ticks, moves, cues, call}
-use Rattle.rules.specs.Sound.{Wired}
+use Rattle.rules.specs.follows.Sound.{Wired}
 use Rattle.rules.proofs.Count.{length-put}
 use Rattle.rules.proofs.Fitted.{recordsOf}
 use Rattle.rules.proofs.Sound.{sound-found}

@@ -16,7 +16,8 @@ use Rattle.rules.specs.Records.{Record, output}
 use Rattle.rules.specs.State.{Queue, Splicer, sooner, earliest, due, notAfter, toCome, withStarted}
 use Rattle.rules.specs.Ends.{Turn, quiet, andThen}
 use Rattle.rules.specs.Instants.{instant, onAir, elapse, runAll, silence, silentAll}
-use Rattle.rules.specs.Calls.{Called, noRoom, ticked, moveCall, tickCall, writtenBy, houseNumber}
+use Rattle.rules.specs.HouseNumbers.{Called, noRoom, writtenBy, houseNumber}
+use Rattle.rules.specs.Calls.{ticked, moveCall, tickCall}
 use Rattle.rules.proofs.Tests.{by}
 use Rattle.rules.proofs.Tick.{notAfter-at, due-time, due-none, moved, moved-less, run-stop, run-more, runAll-enough}
 use Rattle.rules.proofs.Silence.{silentAll-stop, silentAll-more}

@@ -18,19 +18,22 @@ use Rattle.rules.specs.Units.{timeOf, fromMicros}
 use Rattle.rules.specs.Lists.{All, bit, omit, count, place}
 use Rattle.rules.specs.Bytes.{hasZero}
 use Rattle.rules.specs.declared.Request.{Request}
-use Rattle.rules.specs.Reading.{readSplice, dataIn}
-use Rattle.rules.specs.State.{sameNumber, Queue, Splicer, empty, of, is, held, holds, noneHeld}
+use Rattle.rules.specs.Request.{readSplice}
+use Rattle.rules.specs.follows.ReadBack.{dataIn}
+use Rattle.rules.specs.State.{sameNumber, Queue, Splicer, empty, of, is, held, holds}
+use Rattle.rules.specs.Recent.{noneHeld}
 use Rattle.rules.proofs.Checks.{read-id}
 use Rattle.rules.specs.Records.{Record, General, InitResponse, AliveResponse, SpliceResponse, SpliceComplete, AbortResponse, ConfigResponse}
 use Rattle.rules.specs.Records.{ExtendedFound, ExtendedNone, CueRequest}
 use Rattle.rules.specs.Ends.{Turn, writes, andThen, evicted, cancelled, closedBy}
 use Rattle.rules.specs.Instants.{runAll}
-use Rattle.rules.specs.Answers.{endOf, startOf, sessionAt, requested, unknownPrior, accepts, accepted}
-use Rattle.rules.specs.Calls.{Called, ticked, Call, call, after, named, fresh}
+use Rattle.rules.specs.Splicing.{endOf, startOf, sessionAt, requested, unknownPrior, accepts, accepted}
+use Rattle.rules.specs.HouseNumbers.{Called}
+use Rattle.rules.specs.Calls.{ticked, Call, call, after, named, fresh}
 use Rattle.demands.specs.History.{endResult, isEnd, isYes, endsOf, front, last, Entry, entryIs, withEnds, credited, lastTold, endTold}
 use Rattle.demands.specs.History.{muxTold, eventTold, startTold, endAsked, muxAsked, eventAsked, entryOf, bookAnswered, withClosed}
 use Rattle.demands.specs.History.{shut, bookAfter, priorTold, overridesTold, priorAsked, overridesAsked}
-use Rattle.rules.specs.Sound.{Each, heldCount}
+use Rattle.rules.specs.follows.Sound.{Each, heldCount}
 use Rattle.rules.proofs.Tests.{clash, by, and-both, eqb-same}
 use Rattle.rules.proofs.All.{all-into}
 use Rattle.rules.proofs.Count.{bit-and, place-holds, some-place, count-le, count-other, count-omitted, count-split, some-none}

@@ -10,7 +10,9 @@ use Rattle.rules.specs.declared.Request.{Request}
 use Rattle.rules.specs.declared.Message.the-variants.{Splice}
 use Rattle.rules.specs.Units.{timeOf, fromMicros}
 use Rattle.rules.specs.Bytes.{messageSize}
-use Rattle.rules.specs.Reading.{sessionID, hardwareIn, readSplice, dataIn, isSplice}
+use Rattle.rules.specs.Request.{sessionID, readSplice}
+use Rattle.rules.specs.Hardware.{hardwareIn}
+use Rattle.rules.specs.follows.ReadBack.{dataIn, isSplice}
 use Rattle.rules.specs.declared.Link.the-variants.{Opened}
 use Rattle.rules.specs.State.{Splicer, holds, linkOf, isOpen, withQueue, withLink}
 use Rattle.rules.specs.Records.{Record, General, InitResponse, SpliceResponse, AbortResponse}
@@ -20,8 +22,10 @@ use Rattle.rules.specs.declared.Cue.the-variants.{At, Timeless, Silent, Bad}
 use Rattle.rules.specs.declared.WireTime.{WireTime}
 use Rattle.rules.specs.Lists.{count}
 use Rattle.rules.specs.Cues.{readCue, cueTime, initialisedOnes, passedTo, complainedTo, cueRecords}
-use Rattle.rules.specs.Answers.{requested, grants, splices, aliveResponse, configResponse, extendedResponse, initialised}
-use Rattle.rules.specs.Calls.{Called, refuse, does, replies, sectionOf, shut, ticked, Loans, Call, opens, closes, messages, ticks, moves}
+use Rattle.rules.specs.Splicing.{requested, grants}
+use Rattle.rules.specs.Answers.{splices, aliveResponse, configResponse, extendedResponse, initialised}
+use Rattle.rules.specs.HouseNumbers.{Called, refuse, does, replies, Loans}
+use Rattle.rules.specs.Calls.{sectionOf, shut, ticked, Call, opens, closes, messages, ticks, moves}
 use Rattle.rules.specs.Calls.{cues, call}
 use Rattle.demands.specs.History.{isStart, isEnd, isYes}
 use Rattle.rules.proofs.Tests.{by}

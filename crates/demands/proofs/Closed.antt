@@ -6,13 +6,16 @@ use Prim.Native.Nat.{ℕ, _≤_}
 use native.Mathlib.Omega.{arith}
 use lib.Dec.{eqb}
 use Rattle.rules.specs.Lists.{All, put, omit}
-use Rattle.rules.specs.Reading.{sessionID, dataIn, isSplice}
+use Rattle.rules.specs.Request.{sessionID}
+use Rattle.rules.specs.follows.ReadBack.{dataIn, isSplice}
 use Rattle.rules.specs.State.{Splicer}
-use Rattle.rules.specs.Records.{Record, recordsIn}
-use Rattle.rules.specs.Calls.{Answer, refused, good, Call, opens, closes, messages, ticks, moves, cues, call, writtenBy, after, fresh}
+use Rattle.rules.specs.Records.{Record}
+use Rattle.rules.specs.follows.ReadBack.{recordsIn}
+use Rattle.rules.specs.HouseNumbers.{Answer, refused, good, writtenBy}
+use Rattle.rules.specs.Calls.{Call, opens, closes, messages, ticks, moves, cues, call, after, fresh}
 use Rattle.demands.specs.History.{Event, Reply, refusal, wrote, Entry, isEnd, isYes, withEnds, front, last, replyOf, history}
 use Rattle.demands.specs.History.{credited, entryOf, bookAnswered, shut, bookAfter, bookReplied, book, clockAfter}
-use Rattle.rules.specs.Sound.{Wired}
+use Rattle.rules.specs.follows.Sound.{Wired}
 use Rattle.rules.proofs.All.{all-into, all-append}
 use Rattle.rules.proofs.Every.{all-both, all-kept}
 use Rattle.demands.specs.Told.{FromFresh, numberOf, Ended, entriesOf, Stands}

@@ -12,12 +12,15 @@ use Rattle.rules.specs.declared.Cue.{Cue}
 use Rattle.rules.specs.declared.Cue.the-variants.{At, Timeless, Silent, Bad}
 use Rattle.rules.specs.declared.WireTime.{WireTime}
 use Rattle.rules.specs.Lists.{All, put, keep, count, omit}
-use Rattle.rules.specs.Bytes.{Byte, bytes}
+use Rattle.rules.specs.follows.Wires.{Byte}
+use Rattle.rules.specs.Bytes.{bytes}
 use Rattle.rules.specs.Units.{badMicros}
 use Rattle.rules.specs.State.{Splicer, noHardware}
-use Rattle.rules.specs.Records.{Record, CueRequest, framed, recordBytes, output, recordsIn}
+use Rattle.rules.specs.Records.{Record, CueRequest, framed, recordBytes, output}
+use Rattle.rules.specs.follows.ReadBack.{recordsIn}
 use Rattle.rules.specs.Cues.{badSection, readCue, cueTime, initialisedOnes, passedTo, complainedTo, cueRecords}
-use Rattle.rules.specs.Calls.{Answer, refused, good, Called, refuse, does, noRoom, writtenBy, Call, cues, cueCall, call}
+use Rattle.rules.specs.HouseNumbers.{Answer, refused, good, Called, refuse, does, noRoom, writtenBy}
+use Rattle.rules.specs.Calls.{Call, cues, cueCall, call}
 use Rattle.rules.proofs.Tests.{by, clash}
 use Rattle.rules.proofs.Every.{all-keep}
 use Rattle.rules.proofs.Fitted.{recordsOf}

@@ -14,9 +14,11 @@ use Rattle.rules.specs.declared.When.the-variants.{At, Never}
 use Rattle.rules.specs.declared.Refusal.the-variants.{NoRoom, ClockBack, BadMicros}
 use Rattle.rules.specs.Units.{second, badMicros, upMicros}
 use Rattle.rules.specs.State.{Splicer, due, notAfter}
-use Rattle.rules.specs.Records.{recordsIn}
-use Rattle.rules.specs.Calls.{Called, writtenBy, noRoom, ticked, moveCall, tickCall, ticks, moves, call, beyond, dueRow}
-use Rattle.rules.specs.Sound.{OnTime, horizon}
+use Rattle.rules.specs.follows.ReadBack.{recordsIn}
+use Rattle.rules.specs.HouseNumbers.{Called, writtenBy, noRoom}
+use Rattle.rules.specs.Calls.{ticked, moveCall, tickCall, ticks, moves, call, beyond, dueRow}
+use Rattle.rules.specs.follows.Sound.{OnTime}
+use Rattle.rules.specs.Units.{horizon}
 use Rattle.rules.proofs.Tests.{by, clash}
 use Rattle.rules.proofs.Tick.{due-meets, notAfter-at, notAfter-none}
 use Rattle.rules.proofs.Timed.{meets-after}

@@ -3,7 +3,8 @@ use mathlib.Core.Path.{_≡_, refl, ap, _∙_}
 use mathlib.Core.List.{List, [], _∷_}
 use Prim.Native.Nat.{ℕ}
 use Rattle.rules.specs.State.{Splicer}
-use Rattle.rules.specs.Calls.{Answer, refused, good, Call, call, writtenBy}
+use Rattle.rules.specs.HouseNumbers.{Answer, refused, good, writtenBy}
+use Rattle.rules.specs.Calls.{Call, call}
 use Rattle.demands.specs.History.{Entry, replyOf, history, waitAfter, waitReplied, waitingTold, bookAfter, bookReplied, book}
 use Rattle.rules.proofs.All.{All}
 use Rattle.rules.proofs.Records.{Fits, read-back}

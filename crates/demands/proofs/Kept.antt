@@ -15,15 +15,20 @@ use Rattle.rules.specs.declared.Framing.{Framing}
 use Rattle.rules.specs.declared.Framing.the-variants.{Framed, Unframed}
 use Rattle.rules.specs.declared.Session.{Session}
 use Rattle.rules.specs.Bytes.{messageSize, oversize, dataOf, hasZero}
-use Rattle.rules.specs.Reading.{readAlive, readConfig, read, hardwareIn, dataIn, aliveRequest}
+use Rattle.rules.specs.Reading.{readAlive, readConfig, read, aliveRequest}
+use Rattle.rules.specs.Hardware.{hardwareIn}
+use Rattle.rules.specs.follows.ReadBack.{dataIn}
 use Rattle.rules.specs.State.{Splicer, noHardware, hardwareOf, linkOf, isOpen, withLink}
-use Rattle.rules.specs.Records.{Record, General, AbortResponse, ConfigResponse, recordsIn}
+use Rattle.rules.specs.Records.{Record, General, AbortResponse, ConfigResponse}
+use Rattle.rules.specs.follows.ReadBack.{recordsIn}
 use Rattle.rules.specs.Ends.{andThen, aborted, evicted}
-use Rattle.rules.specs.Answers.{says, initialised, airState, airFeed, aliveResponse, configResponse, requested, accepts, accepted, answer}
+use Rattle.rules.specs.Answers.{says, initialised, airState, airFeed, aliveResponse, configResponse, answer}
+use Rattle.rules.specs.Splicing.{requested, accepts, accepted}
 use Rattle.rules.specs.Answers.{answerRead}
-use Rattle.rules.specs.Calls.{Answer, refused, good, Called, refuse, does, replies, writtenBy, noConnection, sectionOf, Loans, Call, opens}
+use Rattle.rules.specs.HouseNumbers.{Answer, refused, good, Called, refuse, does, replies, writtenBy, noConnection, Loans}
+use Rattle.rules.specs.Calls.{sectionOf, Call, opens}
 use Rattle.rules.specs.Calls.{closes, messages, openCall, framing, handled, messageCall, ticked, call, after, named, fresh}
-use Rattle.rules.specs.Sound.{Wired, Sound}
+use Rattle.rules.specs.follows.Sound.{Wired, Sound}
 use Rattle.rules.proofs.Tests.{by, eqb-same}
 use Rattle.rules.proofs.All.{All}
 use Rattle.rules.proofs.Cases as rules

@@ -17,16 +17,17 @@ use Rattle.rules.specs.Units.{timeOf, fromMicros, toTicks}
 use Rattle.rules.specs.Lists.{All, bit, put, keep, omit, count, place, removeAt}
 use Rattle.rules.specs.Bytes.{hasZero}
 use Rattle.rules.specs.State.{sameNumber, Lately, Queue, Splicer, empty, of, is, startsAt, endsAt, due, notAfter, withWaiting, withStarted}
-use Rattle.rules.specs.State.{mostKept, unused, isKept, noneEnded, remembered, rememberedAll, recentAt, recentFrom, recent}
+use Rattle.rules.specs.Recent.{mostKept, unused, isKept, noneEnded, remembered, rememberedAll, recentAt, recentFrom, recent}
 use Rattle.rules.specs.Records.{Record, General, InitResponse, AliveResponse, SpliceResponse, SpliceComplete, AbortResponse, CueRequest}
 use Rattle.rules.specs.Records.{ConfigResponse, ExtendedFound, ExtendedNone}
 use Rattle.rules.specs.Ends.{Turn, andThen, writes, ended, past, ending, oneEnd, endings, followers, dismissed, evictedAt, evicted}
 use Rattle.rules.specs.Ends.{cancelled, aborted, closedBy}
 use Rattle.rules.specs.Instants.{mayStart, began, meetsEqual, ousted, launched, startAt, endAt, instant, elapse, run, runAll}
-use Rattle.rules.specs.Reading.{dataIn}
-use Rattle.rules.specs.Answers.{sessionAt, requested, accepts, accepted}
-use Rattle.rules.specs.Calls.{Answer, refused, good, Called, ticked, Call, call, after, named, fresh, writtenBy}
-use Rattle.rules.specs.Sound.{Each, heldCount, Holding}
+use Rattle.rules.specs.follows.ReadBack.{dataIn}
+use Rattle.rules.specs.Splicing.{sessionAt, requested, accepts, accepted}
+use Rattle.rules.specs.HouseNumbers.{Answer, refused, good, Called, writtenBy}
+use Rattle.rules.specs.Calls.{ticked, Call, call, after, named, fresh}
+use Rattle.rules.specs.follows.Sound.{Each, heldCount, Holding}
 use Rattle.rules.proofs.Tests.{by, clash, eqb-same}
 use Rattle.rules.proofs.All.{all-into}
 use Rattle.rules.proofs.Every.{all-keep, all-both, all-getD, fewer-all, fewer-removeAt}

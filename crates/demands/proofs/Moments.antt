@@ -22,7 +22,7 @@ use Rattle.rules.specs.Ends.{cancelled, aborted, closedBy}
 use Rattle.rules.specs.Instants.{mayStart, began, meetsEqual, ousted, launched, startAt, endAt, instant, elapse, run, runAll, silence}
 use Rattle.rules.specs.Instants.{silent, silentAll}
 use Rattle.demands.specs.History.{isStart, isEnd}
-use Rattle.rules.specs.Sound.{Falling, OnTime}
+use Rattle.rules.specs.follows.Sound.{Falling, OnTime}
 use Rattle.rules.proofs.Tests.{by, clash}
 use Rattle.rules.proofs.All.{all-into, all-append}
 use Rattle.rules.proofs.Count.{count-append, count-split, count-removeAt, place-holds}

@@ -8,14 +8,15 @@ use native.Mathlib.Omega.{arith}
 use lib.ListN.{length}
 use Rattle.rules.specs.declared.Request.{Request}
 use Rattle.rules.specs.Lists.{count}
-use Rattle.rules.specs.Reading.{dataIn}
+use Rattle.rules.specs.follows.ReadBack.{dataIn}
 use Rattle.rules.specs.State.{Splicer, startsAfter}
 use Rattle.rules.proofs.Checks.{read-id}
-use Rattle.rules.specs.Records.{recordsIn}
+use Rattle.rules.specs.follows.ReadBack.{recordsIn}
 use Rattle.rules.specs.Ends.{andThen, evicted}
-use Rattle.rules.specs.Answers.{sessionAt, requested, spliceResult, accepts, accepted, answerSplice}
-use Rattle.rules.specs.Calls.{ticked, Loans, Call, messages, call, writtenBy}
-use Rattle.rules.specs.Sound.{Wired}
+use Rattle.rules.specs.Splicing.{sessionAt, requested, spliceResult, accepts, accepted, answerSplice}
+use Rattle.rules.specs.Calls.{ticked, Call, messages, call}
+use Rattle.rules.specs.HouseNumbers.{Loans, writtenBy}
+use Rattle.rules.specs.follows.Sound.{Wired}
 use Rattle.rules.proofs.Tests.{clash, eqb-same}
 use Rattle.rules.proofs.Fitted.{recordsOf}
 use Rattle.rules.proofs.Sound.{few-wait, sound-call, sound-found}

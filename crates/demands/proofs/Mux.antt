@@ -8,7 +8,7 @@ use Rattle.rules.specs.declared.Session.{Session}
 use Rattle.rules.specs.Lists.{All}
 use Rattle.rules.specs.State.{Splicer}
 use Rattle.rules.specs.Answers.{airMux}
-use Rattle.rules.specs.Sound.{Each, Proper}
+use Rattle.rules.specs.follows.Sound.{Each, Proper}
 use Rattle.rules.proofs.All.{all-into}
 use Rattle.demands.specs.History.{Event, Entry, book}
 use Rattle.demands.specs.Told.{FromFresh, airMuxTold, MuxInRange}

@@ -13,11 +13,13 @@ use Rattle.rules.specs.declared.When.the-variants.{At, Never}
 use Rattle.rules.specs.declared.Session.{Session}
 use Rattle.rules.specs.Lists.{All, bit, count}
 use Rattle.rules.specs.State.{Queue, Splicer, due, notAfter}
-use Rattle.rules.specs.Records.{AliveResponse, recordsIn}
+use Rattle.rules.specs.Records.{AliveResponse}
+use Rattle.rules.specs.follows.ReadBack.{recordsIn}
 use Rattle.rules.specs.Answers.{airState, airID, aliveResponse, airRow}
-use Rattle.rules.specs.Calls.{Called, writtenBy, messages, Loans, call, dueRow}
+use Rattle.rules.specs.HouseNumbers.{Called, writtenBy, Loans}
+use Rattle.rules.specs.Calls.{messages, call, dueRow}
 use Rattle.rules.specs.Rolling.{none}
-use Rattle.rules.specs.Sound.{Falling}
+use Rattle.rules.specs.follows.Sound.{Falling}
 use Rattle.rules.proofs.Tests.{eqb-same}
 use Rattle.rules.proofs.All.{all-into}
 use Rattle.rules.proofs.Every.{all-none, none-all}

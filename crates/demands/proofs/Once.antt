@@ -8,9 +8,10 @@ use native.Mathlib.Omega.{arith}
 use Rattle.rules.specs.Lists.{All}
 use Rattle.rules.specs.Bytes.{hasZero}
 use Rattle.rules.specs.State.{Splicer, is, held, holds}
-use Rattle.rules.specs.Calls.{Called, ticked, Call, call, after, named, fresh}
+use Rattle.rules.specs.HouseNumbers.{Called}
+use Rattle.rules.specs.Calls.{ticked, Call, call, after, named, fresh}
 use Rattle.demands.specs.History.{Event, Entry, entryIs, lastTold, endTold, replyOf, history, book, clockReplied, clockAfter}
-use Rattle.rules.specs.Sound.{heldCount}
+use Rattle.rules.specs.follows.Sound.{heldCount}
 use Rattle.rules.proofs.Tests.{by, clash, eqb-same}
 use Rattle.rules.proofs.All.{all-into}
 use Rattle.rules.proofs.Count.{some-none}

@@ -13,7 +13,7 @@ use Rattle.rules.specs.Lists.{All, bit, some, count}
 use Rattle.rules.specs.State.{is}
 use Rattle.rules.specs.Records.{Record}
 use Rattle.rules.specs.Instants.{onAir, silence}
-use Rattle.rules.specs.Sound.{Falling}
+use Rattle.rules.specs.follows.Sound.{Falling}
 use Rattle.rules.proofs.Tests.{clash, and-both, eqb-same}
 use Rattle.rules.proofs.All.{all-into}
 use Rattle.rules.proofs.Every.{all-both, all-none, none-all, none-some}

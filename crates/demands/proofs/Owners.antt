@@ -16,14 +16,17 @@ use Rattle.rules.specs.declared.Message.the-variants.{Splice}
 use Rattle.rules.specs.Units.{timeOf, fromMicros}
 use Rattle.rules.specs.Lists.{All, bit, count, place}
 use Rattle.rules.specs.Bytes.{hasZero}
-use Rattle.rules.specs.Reading.{sessionID, readSplice, dataIn}
+use Rattle.rules.specs.Request.{sessionID, readSplice}
+use Rattle.rules.specs.follows.ReadBack.{dataIn}
 use Rattle.rules.specs.State.{Queue, Splicer, empty, is, held, startsAfter}
-use Rattle.rules.specs.Records.{Record, recordsIn}
+use Rattle.rules.specs.Records.{Record}
+use Rattle.rules.specs.follows.ReadBack.{recordsIn}
 use Rattle.rules.specs.Ends.{andThen, evicted}
-use Rattle.rules.specs.Answers.{startOf, sessionAt, requested, unknownPrior, inserted, accepts, accepted}
-use Rattle.rules.specs.Calls.{Answer, refused, good, Called, ticked, Call, call, writtenBy, after, named, fresh}
+use Rattle.rules.specs.Splicing.{startOf, sessionAt, requested, unknownPrior, inserted, accepts, accepted}
+use Rattle.rules.specs.HouseNumbers.{Answer, refused, good, Called, writtenBy}
+use Rattle.rules.specs.Calls.{ticked, Call, call, after, named, fresh}
 use Rattle.demands.specs.History.{Event, replyOf, history, isStart, isEnd, isYes, front, last, clockReplied, clockAfter}
-use Rattle.rules.specs.Sound.{Each, heldCount, Wired, Sound}
+use Rattle.rules.specs.follows.Sound.{Each, heldCount, Wired, Sound}
 use Rattle.rules.proofs.Tests.{by, and-both, eqb-same}
 use Rattle.rules.proofs.All.{all-into, all-append}
 use Rattle.rules.proofs.Count.{place-holds, some-place, some-none, count-insertAt}

@@ -13,11 +13,14 @@ use Rattle.rules.specs.declared.When.the-variants.{At, Never}
 use Rattle.rules.specs.declared.Refusal.the-variants.{NoRoom, Counter}
 use Rattle.rules.specs.Units.{upTicks}
 use Rattle.rules.specs.State.{due, notAfter}
-use Rattle.rules.specs.Records.{recordsIn}
-use Rattle.rules.specs.Calls.{Answer, writtenBy, noRoom, ticked}
+use Rattle.rules.specs.follows.ReadBack.{recordsIn}
+use Rattle.rules.specs.HouseNumbers.{Answer, writtenBy, noRoom}
+use Rattle.rules.specs.Calls.{ticked}
 use Rattle.rules.specs.Rolling.{Last, none, at, Rolling, stepOf, overStep, movedOn, pastField, Course, brings, stepCourse, readingCourse}
-use Rattle.rules.specs.Rolling.{rolls, readingCall, readings, roll, Rolled, rollingOf, within, longestStep, stepRow}
-use Rattle.rules.specs.Sound.{Sound, horizon}
+use Rattle.rules.specs.Rolling.{rolls, readingCall, readings, roll, Rolled, within, longestStep, stepRow}
+use Rattle.rules.specs.follows.Sequences.{rollingOf}
+use Rattle.rules.specs.follows.Sound.{Sound}
+use Rattle.rules.specs.Units.{horizon}
 use Rattle.rules.proofs.Tests.{by}
 use Rattle.rules.proofs.Tick.{notAfter-none}
 use Rattle.demands.specs.Told.{numberOf}

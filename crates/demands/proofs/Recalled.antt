@@ -11,10 +11,13 @@ use Rattle.rules.specs.declared.Past.{Past}
 use Rattle.rules.specs.Bytes.{messageSize}
 use Rattle.rules.specs.Lists.{some, place}
 use Rattle.rules.specs.Reading.{read}
-use Rattle.rules.specs.State.{Splicer, Lately, linkOf, mostKept, unused, recentFrom, recent}
-use Rattle.rules.specs.Records.{Record, ExtendedFound, ExtendedNone, recordsIn}
+use Rattle.rules.specs.State.{Splicer, Lately, linkOf}
+use Rattle.rules.specs.Recent.{mostKept, unused, recentFrom, recent}
+use Rattle.rules.specs.Records.{Record, ExtendedFound, ExtendedNone}
+use Rattle.rules.specs.follows.ReadBack.{recordsIn}
 use Rattle.rules.specs.Answers.{says, isPast, latest, recalls, extendedResponse, answerRead, answer}
-use Rattle.rules.specs.Calls.{replies, handled, messageCall, Loans, messages, call, writtenBy}
+use Rattle.rules.specs.HouseNumbers.{replies, Loans, writtenBy}
+use Rattle.rules.specs.Calls.{handled, messageCall, messages, call}
 use Rattle.rules.proofs.Tests.{clash}
 use Rattle.rules.proofs.Sound.{sound-found}
 use Rattle.rules.proofs.Recall.{answers-latest, answers-none}

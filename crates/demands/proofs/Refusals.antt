@@ -16,8 +16,9 @@ use Rattle.rules.specs.Bytes.{messageID, messageSize, oversize, hasZero, nameIn
 use Rattle.rules.specs.State.{Splicer, linkOf, isOpen, withLink, withQueue}
 use Rattle.rules.specs.Ends.{closedBy}
 use Rattle.rules.specs.Cues.{badSection, readCue, cueTime, initialisedOnes, cueRecords}
-use Rattle.rules.specs.Calls.{houseNumber, refused, refuse, does, writtenBy, consumedBy, bufferAfter, noConnection, noRoom, notOpen}
-use Rattle.rules.specs.Calls.{longSection, shut, named, fresh, openCall, closeCall, framing, handled, messageCall, ticked, moveCall}
+use Rattle.rules.specs.HouseNumbers.{houseNumber, refused, refuse, does, writtenBy, consumedBy, bufferAfter, noConnection, noRoom, notOpen}
+use Rattle.rules.specs.HouseNumbers.{longSection}
+use Rattle.rules.specs.Calls.{shut, named, fresh, openCall, closeCall, framing, handled, messageCall, ticked, moveCall}
 use Rattle.rules.specs.Calls.{tickCall, Call, opens, closes, messages, ticks, moves, cueCall, cues, call}
 use Rattle.rules.proofs.Refused as rules
 use Rattle.rules.proofs.Written.{written-none}

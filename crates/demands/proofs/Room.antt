@@ -13,13 +13,15 @@ use Rattle.rules.specs.Reading.{read}
 use Rattle.rules.specs.declared.Link.{Link}
 use Rattle.rules.specs.declared.Link.the-variants.{Closed, Opened, Initialised}
 use Rattle.rules.specs.State.{Splicer, linkOf, isOpen, isInitialised}
-use Rattle.rules.specs.Records.{recordsIn}
+use Rattle.rules.specs.follows.ReadBack.{recordsIn}
 use Rattle.rules.specs.Ends.{andThen, evicted}
-use Rattle.rules.specs.Answers.{sessionAt, requested, wrongNumber, tooLate, collides, full, spliceResult, accepts, accepted, Spliced}
-use Rattle.rules.specs.Answers.{splices, answerSplice, answerRead, answer}
-use Rattle.rules.specs.Calls.{replies, handled, messageCall, Loans, messages, call, writtenBy}
+use Rattle.rules.specs.Splicing.{sessionAt, requested, wrongNumber, tooLate, collides, full, spliceResult, accepts, accepted, Spliced}
+use Rattle.rules.specs.Answers.{splices, answerRead, answer}
+use Rattle.rules.specs.Splicing.{answerSplice}
+use Rattle.rules.specs.HouseNumbers.{replies, Loans, writtenBy}
+use Rattle.rules.specs.Calls.{handled, messageCall, messages, call}
 use Rattle.demands.specs.History.{Event, last, ownAnswer, waitingCount}
-use Rattle.rules.specs.Sound.{Sound}
+use Rattle.rules.specs.follows.Sound.{Sound}
 use Rattle.rules.proofs.Tests.{by, clash, eqb-same}
 use Rattle.rules.proofs.Sound.{reached-sound, sound-found}
 use Rattle.demands.specs.Told.{FromFresh, answers, Asks, Passes, earlierCode, fullTold}

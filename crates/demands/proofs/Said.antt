@@ -14,13 +14,15 @@ use Rattle.rules.specs.Lists.{All, bit, some, count, place, removeAt}
 use Rattle.rules.specs.declared.Ending.the-variants.{Response}
 use Rattle.rules.specs.State.{sameNumber, Queue, Splicer, empty, is, held, startsAt}
 use Rattle.rules.specs.Records.{Record, General, InitResponse, AliveResponse, SpliceResponse, SpliceComplete, AbortResponse, ConfigResponse}
-use Rattle.rules.specs.Records.{ExtendedFound, ExtendedNone, CueRequest, recordsIn}
+use Rattle.rules.specs.Records.{ExtendedFound, ExtendedNone, CueRequest}
+use Rattle.rules.specs.follows.ReadBack.{recordsIn}
 use Rattle.rules.specs.Ends.{Turn, andThen, ended, evicted, evictedAt, dismissed, followers, closedBy}
 use Rattle.rules.specs.Instants.{runAll}
-use Rattle.rules.specs.Answers.{requested, accepts, accepted}
-use Rattle.rules.specs.Calls.{Called, ticked, Call, call, writtenBy, after}
+use Rattle.rules.specs.Splicing.{requested, accepts, accepted}
+use Rattle.rules.specs.HouseNumbers.{Called, writtenBy}
+use Rattle.rules.specs.Calls.{ticked, Call, call, after}
 use Rattle.demands.specs.History.{isStart, isEnd, endsOf, Event, history}
-use Rattle.rules.specs.Sound.{heldCount, Wired, Sound}
+use Rattle.rules.specs.follows.Sound.{heldCount, Wired, Sound}
 use Rattle.rules.proofs.Tests.{by, clash, and-both, eqb-same}
 use Rattle.rules.proofs.All.{all-into, all-append}
 use Rattle.rules.proofs.Count.{place-holds, some-place, some-none}

@@ -12,9 +12,11 @@ use Rattle.rules.specs.declared.Message.{Message}
 use Rattle.rules.specs.declared.Message.the-variants.{Init, Alive, Splice, Abort, Config, Extended, Unreadable}
 use Rattle.rules.specs.Units.{fromTicks}
 use Rattle.rules.specs.Lists.{put, keep}
-use Rattle.rules.specs.Reading.{sessionID, readSplice, dataIn}
+use Rattle.rules.specs.Request.{sessionID, readSplice}
+use Rattle.rules.specs.follows.ReadBack.{dataIn}
 use Rattle.rules.specs.State.{sameNumber}
-use Rattle.rules.specs.Records.{Record, recordsIn}
+use Rattle.rules.specs.Records.{Record}
+use Rattle.rules.specs.follows.ReadBack.{recordsIn}
 use Rattle.rules.specs.Calls.{Call, opens, closes, messages, ticks, moves, cues}
 use Rattle.demands.specs.History.{Reply, refusal, wrote, Event, Entry, entryIs, isStart, isEnd, grantedIn, othersIn, credited}
 use Rattle.demands.specs.History.{lastTold, endTold, startTold, endAsked, muxAsked, eventAsked, priorAsked, overridesAsked, entryOf}

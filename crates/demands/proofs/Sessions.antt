@@ -12,10 +12,11 @@ use lib.Seq.{take-all}
 use Rattle.rules.specs.declared.Session.{Session}
 use Rattle.rules.specs.Lists.{All, count}
 use Rattle.rules.specs.Bytes.{written}
-use Rattle.rules.specs.State.{Queue, Splicer, sameNumber, is, Sorted}
+use Rattle.rules.specs.State.{Queue, Splicer, sameNumber, is}
+use Rattle.rules.specs.follows.Wires.{Sorted}
 use Rattle.rules.specs.Listing.{stateOnAir, stateCovered, stateWaiting, startedState, waitingState, rowWidth, sessionRow, sessionRows}
 use Rattle.rules.specs.Listing.{heldRows, heldNumber}
-use Rattle.rules.specs.Sound.{Each, Proper, Small, Falling}
+use Rattle.rules.specs.follows.Sound.{Each, Proper, Small, Falling}
 use Rattle.rules.proofs.Tests.{clash}
 use Rattle.rules.proofs.All.{all-append, all-take, all-into}
 use Rattle.rules.proofs.Every.{all-both}

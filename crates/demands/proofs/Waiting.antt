@@ -13,16 +13,17 @@ use Rattle.rules.specs.declared.Session.{Session}
 use Rattle.rules.specs.Units.{timeOf, fromMicros}
 use Rattle.rules.specs.Lists.{All, bit, put, keep, count}
 use Rattle.rules.specs.Bytes.{hasZero}
-use Rattle.rules.specs.Reading.{dataIn}
+use Rattle.rules.specs.follows.ReadBack.{dataIn}
 use Rattle.rules.specs.State.{Queue, Splicer, of, is}
 use Rattle.rules.proofs.Checks.{read-id}
 use Rattle.rules.specs.Records.{Record}
 use Rattle.rules.specs.Ends.{Turn, writes, andThen, evicted, closedBy}
 use Rattle.rules.specs.Instants.{runAll}
-use Rattle.rules.specs.Answers.{sessionAt, requested, accepts, accepted, waits}
-use Rattle.rules.specs.Calls.{Called, ticked, Call, call, after, named, fresh}
+use Rattle.rules.specs.Splicing.{sessionAt, requested, accepts, accepted, waits}
+use Rattle.rules.specs.HouseNumbers.{Called}
+use Rattle.rules.specs.Calls.{ticked, Call, call, after, named, fresh}
 use Rattle.demands.specs.History.{Event, isYes, unmarked, front, last, waitAnswered, waitAfter, waitingCount}
-use Rattle.rules.specs.Sound.{Once, Wired, Sound}
+use Rattle.rules.specs.follows.Sound.{Once, Wired, Sound}
 use Rattle.rules.proofs.Tests.{tests, by, clash, eqb-same}
 use Rattle.rules.proofs.Count.{bit-and, count-put, count-le}
 use Rattle.rules.proofs.Sessions.{count-accepted}

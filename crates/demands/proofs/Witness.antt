@@ -12,21 +12,30 @@ use Rattle.rules.specs.declared.Refusal.the-variants.{AlreadyOpen}
 use Rattle.rules.specs.Lists
 use Rattle.rules.specs.Lists.{All, some}
 use Rattle.rules.specs.Bytes
-use Rattle.rules.specs.Bytes.{Byte, bytes, padded, hasZero}
+use Rattle.rules.specs.follows.Wires.{Byte}
+use Rattle.rules.specs.Bytes.{bytes, padded, hasZero}
 use Rattle.rules.specs.Reading
-use Rattle.rules.specs.Reading.{nobody, tailOf, wholeRequest, dataIn, aliveRequest, extendedRequest, configRequest, defaultType}
+use Rattle.rules.specs.Request
+use Rattle.rules.specs.Descriptors
+use Rattle.rules.specs.Request.{nobody, tailOf, wholeRequest}
+use Rattle.rules.specs.follows.ReadBack.{dataIn}
+use Rattle.rules.specs.Reading.{aliveRequest, extendedRequest, configRequest, defaultType}
 use Rattle.rules.specs.State
 use Rattle.rules.specs.State.{Splicer, startsAt}
 use Rattle.rules.specs.Records
-use Rattle.rules.specs.Records.{recordsIn}
+use Rattle.rules.specs.follows.ReadBack
+use Rattle.rules.specs.follows.ReadBack.{recordsIn}
 use Rattle.rules.specs.Ends
 use Rattle.rules.specs.Instants
 use Rattle.rules.specs.Crc
 use Rattle.rules.specs.Cues
 use Rattle.rules.specs.Answers
-use Rattle.rules.specs.Answers.{requested}
+use Rattle.rules.specs.Splicing
+use Rattle.rules.specs.Splicing.{requested}
 use Rattle.rules.specs.Calls
-use Rattle.rules.specs.Calls.{refused, writtenBy, fresh, Loans, lending, Call, opens, closes, messages, ticks, cues, call, after}
+use Rattle.rules.specs.HouseNumbers
+use Rattle.rules.specs.HouseNumbers.{refused, writtenBy, Loans, lending}
+use Rattle.rules.specs.Calls.{fresh, Call, opens, closes, messages, ticks, cues, call, after}
 use Rattle.rules.specs.Card
 use Rattle.rules.specs.Card.{cardName}
 use Rattle.demands.specs.History
@@ -123,13 +132,14 @@ small (b ∷ l) h = let p = split (ltb b 256) (each l) h in (ltb→lt b 256 (p .
 unfoldable computing : ℕ
 unfolding name message initialise asking inquiring configuring alive room calls heard now told asked waiting airing section request each
     cardName Lists.place Lists.insertAt Lists.removeAt Bytes.bytes Bytes.value Bytes.valueFrom Reading.readInit Reading.readAlive
-    Reading.tailOf Reading.readWhole Reading.readSplice Reading.muxFrom Reading.readStart Reading.readExtended Reading.read State.empty
-    State.due Records.framed Records.recordBytes Records.output Records.recordIn Records.recordsUpTo Records.recordsIn Ends.andThen
+    Request.tailOf Request.readWhole Request.readSplice Descriptors.muxFrom Request.readStart Reading.readExtended Reading.read State.empty
+    State.due Records.framed Records.recordBytes Records.output ReadBack.recordIn ReadBack.recordsUpTo ReadBack.recordsIn Ends.andThen
     Ends.endings Ends.evicted Ends.evictedAt Ends.closedBy Instants.mayStart Instants.meetsEqual Instants.ousted Instants.launched
     Instants.startAt Instants.endAt Instants.instant Instants.onAir Instants.elapse Instants.run Instants.runAll Instants.silent
-    Instants.silentAll Answers.initResult Answers.answerInit Answers.airState Answers.airID Answers.aliveResponse Answers.startOf
-    Answers.sessionAt Answers.requested Answers.unknownPrior Answers.tooLate Answers.collides Answers.full Answers.spliceResult
-    Answers.inserted Answers.accepted Answers.later Answers.answerSplice Answers.answerRead Answers.answer Calls.writtenBy Calls.named
+    Instants.silentAll Answers.initResult Answers.answerInit Answers.airState Answers.airID Answers.aliveResponse Splicing.startOf
+    Splicing.sessionAt Splicing.requested Splicing.unknownPrior Splicing.tooLate Splicing.collides Splicing.full Splicing.spliceResult
+    Splicing.inserted Splicing.accepted Splicing.later Splicing.answerSplice Answers.answerRead Answers.answer HouseNumbers.writtenBy
+    Calls.named
     Calls.fresh Calls.openCall Calls.closeCall Calls.framing Calls.handled Calls.messageCall Calls.ticked Calls.moveCall Calls.tickCall
     Calls.cueCall Calls.call Calls.after History.isYes History.history History.last History.waitAnswered History.waitAfter
     History.waitReplied History.waitingTold History.waitingCount History.isStart History.isEnd History.front History.othersOf

@@ -16,11 +16,14 @@ use Rattle.rules.specs.declared.Ending.{Ending}
 use Rattle.rules.specs.declared.Ending.the-variants.{Complete}
 use Rattle.rules.specs.Lists.{bit, put, keep, count, place, removeAt}
 use Rattle.rules.specs.State.{Queue, Splicer, empty, startsAt, endsAt, sooner, earliest, due, notAfter, toCome, withWaiting}
-use Rattle.rules.specs.Records.{Record, recordsIn, output}
+use Rattle.rules.specs.Records.{Record, output}
+use Rattle.rules.specs.follows.ReadBack.{recordsIn}
 use Rattle.rules.specs.Ends.{Turn, andThen, ended, endings}
 use Rattle.rules.specs.Instants.{mayStart, began, ousted, launched, startAt, endAt, instant, onAir, elapse, run, runAll}
-use Rattle.rules.specs.Calls.{Called, writtenBy, ticked, moveCall, moves, call}
-use Rattle.rules.specs.Sound.{Sound, horizon}
+use Rattle.rules.specs.HouseNumbers.{Called, writtenBy}
+use Rattle.rules.specs.Calls.{ticked, moveCall, moves, call}
+use Rattle.rules.specs.follows.Sound.{Sound}
+use Rattle.rules.specs.Units.{horizon}
 use Rattle.rules.proofs.Tests.{tests, by}
 use Rattle.rules.proofs.Count.{length-keep, place-none}
 use Rattle.rules.proofs.Tick.{meets, due-meets, moved, elapse-meets, run-stop, run-more, runAll-enough}

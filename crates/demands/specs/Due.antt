@@ -8,8 +8,8 @@ use lib.Dec.{eqb}
 use lib.ListN.{getD}
 use Rattle.rules.specs.Units.{timeOf, fromMicros}
 use Rattle.rules.specs.Lists.{All, count}
-use Rattle.rules.specs.Reading.{nobody}
-use Rattle.rules.specs.Sound.{horizon}
+use Rattle.rules.specs.Request.{nobody}
+use Rattle.rules.specs.Units.{horizon}
 use Rattle.rules.specs.Rolling.{Last, none, at, stepOf, longestStep}
 use Rattle.demands.specs.History.{Event, muxTold, eventTold, book}
 use Rattle.demands.specs.Airing.{Airing, newest, airingsTold, numberTold}

@@ -11,12 +11,15 @@ use Rattle.rules.specs.declared.Message.{Message}
 use Rattle.rules.specs.declared.Message.the-variants.{Init, Alive, Splice, Abort, Config, Extended, Unreadable}
 use Rattle.rules.specs.Units.{timeOf, fromMicros, fromTicks}
 use Rattle.rules.specs.Lists.{put, keep, count}
-use Rattle.rules.specs.Reading.{sessionID, readSplice, dataIn, isSplice}
+use Rattle.rules.specs.Request.{sessionID, readSplice}
+use Rattle.rules.specs.follows.ReadBack.{dataIn, isSplice}
 use Rattle.rules.specs.State.{Splicer, sameNumber}
 use Rattle.rules.specs.Records.{Record, General, InitResponse, AliveResponse, SpliceResponse, SpliceComplete, AbortResponse, ConfigResponse}
-use Rattle.rules.specs.Records.{ExtendedFound, ExtendedNone, CueRequest, recordsIn}
-use Rattle.rules.specs.Answers.{priorOf}
-use Rattle.rules.specs.Calls.{Answer, refused, good, Call, opens, closes, messages, ticks, moves, cues, call, writtenBy}
+use Rattle.rules.specs.Records.{ExtendedFound, ExtendedNone, CueRequest}
+use Rattle.rules.specs.follows.ReadBack.{recordsIn}
+use Rattle.rules.specs.Splicing.{priorOf}
+use Rattle.rules.specs.HouseNumbers.{Answer, refused, good, writtenBy}
+use Rattle.rules.specs.Calls.{Call, opens, closes, messages, ticks, moves, cues, call}
 
 -- ## Starts and ends among records
 

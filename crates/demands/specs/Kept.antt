@@ -5,12 +5,16 @@ use mathlib.Core.List.{List, [], _∷_}
 use Prim.Native.Nat.{ℕ}
 use lib.Dec.{eqb}
 use Rattle.rules.specs.declared.Framing.the-variants.{Framed}
-use Rattle.rules.specs.Reading.{aliveRequest, configRequest, hardwareIn, dataIn}
+use Rattle.rules.specs.Reading.{aliveRequest, configRequest}
+use Rattle.rules.specs.Hardware.{hardwareIn}
+use Rattle.rules.specs.follows.ReadBack.{dataIn}
 use Rattle.rules.specs.State.{Splicer, noHardware, linkOf, isInitialised}
 use Rattle.rules.specs.Records.{Record, General, InitResponse, AliveResponse, SpliceResponse, SpliceComplete, AbortResponse, ConfigResponse}
-use Rattle.rules.specs.Records.{ExtendedFound, ExtendedNone, CueRequest, recordsIn}
-use Rattle.rules.specs.Calls.{noConnection, noRoom, longSection, framing, Loans, Call, opens, closes, messages, ticks, moves, cues}
-use Rattle.rules.specs.Sound.{Wired}
+use Rattle.rules.specs.Records.{ExtendedFound, ExtendedNone, CueRequest}
+use Rattle.rules.specs.follows.ReadBack.{recordsIn}
+use Rattle.rules.specs.HouseNumbers.{noConnection, noRoom, longSection, Loans}
+use Rattle.rules.specs.Calls.{framing, Call, opens, closes, messages, ticks, moves, cues}
+use Rattle.rules.specs.follows.Sound.{Wired}
 use Rattle.demands.specs.History.{Reply, refusal, wrote, Event}
 
 -- ## What is kept: "the Hardware_Config of their Init_Request"; "A later Init that gets 100 replaces it; close forgets it."

@@ -7,9 +7,11 @@ use lib.Dec.{eqb}
 use Rattle.rules.specs.declared.Past.{Past}
 use Rattle.rules.specs.Units.{toTicks}
 use Rattle.rules.specs.Lists.{keep, count}
-use Rattle.rules.specs.State.{sameNumber, unused}
+use Rattle.rules.specs.State.{sameNumber}
+use Rattle.rules.specs.Recent.{unused}
 use Rattle.rules.specs.Records.{Record, General, InitResponse, AliveResponse, SpliceResponse, SpliceComplete, AbortResponse, CueRequest}
-use Rattle.rules.specs.Records.{ConfigResponse, ExtendedFound, ExtendedNone, recordsIn}
+use Rattle.rules.specs.Records.{ConfigResponse, ExtendedFound, ExtendedNone}
+use Rattle.rules.specs.follows.ReadBack.{recordsIn}
 use Rattle.rules.specs.Calls.{Call}
 use Rattle.demands.specs.History.{isEnd, Reply, refusal, wrote, Event, othersOf, Entry, entryIs, eventTold, bookReplied, clockReplied}
 use Rattle.demands.specs.Airing.{Airing, newest, airedReplied, airTime}

@@ -14,18 +14,27 @@ use Rattle.rules.specs.declared.Message.the-variants.{Splice, Extended}
 use Rattle.rules.specs.declared.Framing.the-variants.{Framed}
 use Rattle.rules.specs.Units.{timeOf, badMicros, fromMicros}
 use Rattle.rules.specs.Lists.{All, keep, some, count}
-use Rattle.rules.specs.Bytes.{Byte, messageSize, oversize}
-use Rattle.rules.specs.Reading.{averageMux, spliceRequest, extendedRequest, readSplice, readExtended, dataIn}
-use Rattle.rules.specs.State.{Splicer, linkOf, isOpen, isInitialised, unused}
+use Rattle.rules.specs.follows.Wires.{Byte}
+use Rattle.rules.specs.Bytes.{messageSize, oversize}
+use Rattle.rules.specs.Descriptors.{averageMux}
+use Rattle.rules.specs.Reading.{spliceRequest, extendedRequest, readExtended}
+use Rattle.rules.specs.Request.{readSplice}
+use Rattle.rules.specs.follows.ReadBack.{dataIn}
+use Rattle.rules.specs.State.{Splicer, linkOf, isOpen, isInitialised}
+use Rattle.rules.specs.Recent.{unused}
 use Rattle.rules.specs.Records.{Record, General, InitResponse, AliveResponse, SpliceResponse, SpliceComplete, AbortResponse, CueRequest}
-use Rattle.rules.specs.Records.{ExtendedFound, ExtendedNone, ConfigResponse, recordBytes, recordsIn}
+use Rattle.rules.specs.Records.{ExtendedFound, ExtendedNone, ConfigResponse, recordBytes}
+use Rattle.rules.specs.follows.ReadBack.{recordsIn}
 use Rattle.rules.specs.Cues.{badSection}
-use Rattle.rules.specs.Answers.{fullBy, firstOf, requested, wrongNumber, tooLate, collides, isPast}
-use Rattle.rules.specs.Calls.{houseNumber, Answer, refused, good, Called, writtenBy, consumedBy, bufferAfter, noConnection, noRoom, notOpen}
-use Rattle.rules.specs.Calls.{longSection, fresh, framing, Loans, Call, opens, closes, messages, ticks, moves, cues, after}
+use Rattle.rules.specs.Splicing.{fullBy, firstOf, requested, wrongNumber, tooLate, collides}
+use Rattle.rules.specs.Answers.{isPast}
+use Rattle.rules.specs.HouseNumbers.{houseNumber, Answer, refused, good, Called, writtenBy, consumedBy, bufferAfter, noConnection, noRoom}
+use Rattle.rules.specs.HouseNumbers.{notOpen}
+use Rattle.rules.specs.HouseNumbers.{longSection, Loans}
+use Rattle.rules.specs.Calls.{fresh, framing, Call, opens, closes, messages, ticks, moves, cues, after}
 use Rattle.demands.specs.History.{Reply, refusal, wrote, Event, Entry, entryIs, muxTold, startsOf, endsOf, history, grantedIn}
 use Rattle.demands.specs.History.{waitingCount, tells, othersOf}
-use Rattle.rules.specs.Sound.{Wired}
+use Rattle.rules.specs.follows.Sound.{Wired}
 
 -- "Over all sequences of opens, closes, messages and ticks from a fresh splicer": h, the calls with their answers, and s, the splicer
 -- after them. The name has 32 bytes, bytes are bytes and times stay below what four bytes of Seconds hold; nothing else is asked of the

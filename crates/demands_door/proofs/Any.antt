@@ -8,7 +8,7 @@ use lib.ListN.{length}
 use contract.Lifetimes.{Lfts}
 use denote.Ref.{RefT, now}
 use Rattle.rules.specs.Lists.{All}
-use Rattle.rules.specs.Bytes.{Byte}
+use Rattle.rules.specs.follows.Wires.{Byte}
 use Rattle.engine.proofs.Held.{kind, Holds, Same}
 use Rattle.door.specs.Door.{Input, anOpen, aClose, aMessage, aTick, aCue, Typed, Seen}
 use Rattle.door.proofs.Cited as door

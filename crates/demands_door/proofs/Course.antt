@@ -5,7 +5,7 @@ use mathlib.Core.List.{List, [], _∷_, _++_}
 use Prim.Native.Nat.{ℕ}
 use lib.ListN.{length}
 use Rattle.rules.specs.Lists.{All}
-use Rattle.rules.specs.Bytes.{Byte}
+use Rattle.rules.specs.follows.Wires.{Byte}
 use Rattle.rules.specs.Calls.{fresh}
 use Rattle.memory.specs.Memory.{see}
 use Rattle.door.specs.Door.{replyOf, Input, Typed, bufferOf, Seen, Allowed}

@@ -10,8 +10,9 @@ use lib.ListN.{take}
 use Rattle.rules.specs.declared.Refusal.{Refusal}
 use Rattle.rules.specs.declared.Refusal.the-variants.{NoConnection, NoRoom, ClockBack, Oversize, Short, AlreadyOpen, NotOpen, BadMicros}
 use Rattle.rules.specs.declared.Refusal.the-variants.{BadName, Counter, LongSection, BadSection, NotSixteen}
-use Rattle.rules.specs.Calls as rules
-use Rattle.rules.specs.Calls.{refused, good, Called, call, houseNumber, consumedBy, writtenBy}
+use Rattle.rules.specs.HouseNumbers as numbers
+use Rattle.rules.specs.HouseNumbers.{refused, good, Called, houseNumber, consumedBy, writtenBy}
+use Rattle.rules.specs.Calls.{call}
 use Rattle.rules.proofs.All.{at-all}
 use Rattle.demands.specs.Told.{numberOf}
 use Rattle.engine.specs.declared.Answer.{Answer}
@@ -70,7 +71,7 @@ reply-told (Refused n) o = rw (refusal-read n .0, refusal-read n .1) refl
 reply-told (Done did) o = refl
 
 -- and what document 01 says
-words-ruled : (a : rules.Answer) (k : ℕ) → replyOf (answerOf a k) ≡ wordsOf a k
+words-ruled : (a : numbers.Answer) (k : ℕ) → replyOf (answerOf a k) ≡ wordsOf a k
 unfolding replyOf answerOf numberOf consumedBy writtenBy
 words-ruled (refused n) k = refl
 words-ruled (good consumed rs) k = refl

@@ -9,8 +9,9 @@ use lib.ListN.{length, getD, take}
 use Rattle.rules.specs.declared.Refusal.{Refusal}
 use Rattle.rules.specs.declared.Refusal.the-variants.{NoConnection, NoRoom, ClockBack, Oversize, Short, AlreadyOpen, NotOpen, BadMicros}
 use Rattle.rules.specs.declared.Refusal.the-variants.{BadName, Counter, LongSection, BadSection, NotSixteen}
-use Rattle.rules.specs.Calls as rules
-use Rattle.rules.specs.Calls.{Call, call, fresh, houseNumber, writtenBy, consumedBy, bufferAfter}
+use Rattle.rules.specs.HouseNumbers as numbers
+use Rattle.rules.specs.Calls.{Call, call, fresh}
+use Rattle.rules.specs.HouseNumbers.{houseNumber, writtenBy, consumedBy, bufferAfter}
 use Rattle.demands.specs.History.{Reply, refusal, wrote, Event}
 use Rattle.demands.specs.Told.{numberOf}
 use Rattle.engine.specs.declared.Answer.{Answer}
@@ -122,12 +123,12 @@ inputs = any.inputs device
 -- ## "every answer byte, its order and the state after it are those that 01's rules give"
 
 -- the places shifted, which a refusal has none of
-abbrev pub movedBy : rules.Answer → ℕ → ℕ
-movedBy (rules.refused n) moved = 0
-movedBy (rules.good consumed rs) moved = moved
+abbrev pub movedBy : numbers.Answer → ℕ → ℕ
+movedBy (numbers.refused n) moved = 0
+movedBy (numbers.good consumed rs) moved = moved
 
 -- the number or 0, the bytes consumed and the bytes written, and the places shifted
-abbrev pub wordsOf : rules.Answer → (moved : ℕ) → List ℕ
+abbrev pub wordsOf : numbers.Answer → (moved : ℕ) → List ℕ
 wordsOf a moved = numberOf a ∷ consumedBy a ∷ length (writtenBy a) ∷ movedBy a moved ∷ []
 
 pub record AsRuled (m : Memory) (i : Input) (r : Seen) : Type 0 where

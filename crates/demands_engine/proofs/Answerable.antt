@@ -8,10 +8,12 @@ use native.Mathlib.Omega.{arith}
 use lib.ListN.{length, replicate}
 use Rattle.rules.specs.declared.Refusal.the-variants.{BadName}
 use Rattle.rules.specs.Lists.{All}
-use Rattle.rules.specs.Bytes.{Byte, hasZero, nameIn}
+use Rattle.rules.specs.follows.Wires.{Byte}
+use Rattle.rules.specs.Bytes.{hasZero, nameIn}
 use Rattle.rules.specs.State.{Splicer}
-use Rattle.rules.specs.Calls.{Called, call, bufferAfter, fresh}
-use Rattle.rules.specs.Sound.{Reached}
+use Rattle.rules.specs.HouseNumbers.{Called, bufferAfter}
+use Rattle.rules.specs.Calls.{call, fresh}
+use Rattle.rules.specs.follows.Sound.{Reached}
 use Rattle.rules.proofs.Bytes.{nameIn-zero}
 use Rattle.rules.proofs.Sound.{few-wait, few-started, reached-call, reached-sound}
 use Rattle.places.specs.Places.{round}

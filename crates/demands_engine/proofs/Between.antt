@@ -4,7 +4,7 @@ use mathlib.Core.List.{List, _++_}
 use Prim.Native.Nat.{ℕ, _≤_}
 use lib.ListN.{length}
 use Rattle.rules.specs.State.{Splicer}
-use Rattle.rules.specs.Calls.{Called, writtenBy}
+use Rattle.rules.specs.HouseNumbers.{Called, writtenBy}
 use Rattle.demands.specs.Told.{numberOf}
 use Rattle.demands.proofs.Between.{Brings, brings-only, alone-good, together-state, together-bytes, later-good}
 use Rattle.memory.specs.Memory.{see, shifted}

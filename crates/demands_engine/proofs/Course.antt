@@ -7,7 +7,7 @@ use Rattle.rules.specs.Lists.{All}
 use Rattle.rules.specs.Bytes.{hasZero}
 use Rattle.rules.specs.Calls.{fresh, Call, call, after}
 use Rattle.demands.specs.History.{Reply, Event, history}
-use Rattle.rules.specs.Sound.{Wired}
+use Rattle.rules.specs.follows.Sound.{Wired}
 use Rattle.engine.specs.declared.Answer.{Answer}
 use Rattle.engine.specs.Lent.{Lent}
 use Rattle.engine.proofs.Laws.{answers-same, fresh-refused}

@@ -6,9 +6,10 @@ use Prim.Native.Nat.{ℕ, _≤_}
 use native.Mathlib.Omega.{arith}
 use lib.ListN.{getD, replicate}
 use borrow.Author.Tests.{ltb-false}
-use Rattle.rules.specs.Reading.{longestHardware}
+use Rattle.rules.specs.Hardware.{longestHardware}
 use Rattle.rules.specs.State.{Splicer, noHardware}
-use Rattle.rules.specs.Calls.{noConnection, noRoom, notOpen, closes}
+use Rattle.rules.specs.HouseNumbers.{noConnection, noRoom, notOpen}
+use Rattle.rules.specs.Calls.{closes}
 use Rattle.memory.specs.Memory.{keptBytes, keptOf, spread, Stored}
 use Rattle.memory.proofs.Laws.{kept-at}
 use Rattle.demands.specs.Told.{firstNumber, checks}

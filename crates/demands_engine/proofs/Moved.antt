@@ -14,8 +14,10 @@ use Rattle.rules.specs.State.{Splicer, sameNumber, startsAt, startsAfter}
 use Rattle.rules.specs.Records.{Record, General, InitResponse, AliveResponse, SpliceResponse, SpliceComplete, AbortResponse, ConfigResponse}
 use Rattle.rules.specs.Records.{ExtendedFound, ExtendedNone, CueRequest}
 use Rattle.rules.specs.Ends.{Turn, andThen, evicted}
-use Rattle.rules.specs.Answers.{requested, spliceResult, inserted, accepted, later, grants, splices, answerSplice}
-use Rattle.rules.specs.Calls.{Called, Call, messages, lendingMaps, call, replies, fresh, ticked}
+use Rattle.rules.specs.Splicing.{requested, spliceResult, inserted, accepted, later, grants, answerSplice}
+use Rattle.rules.specs.Answers.{splices}
+use Rattle.rules.specs.HouseNumbers.{Called, lendingMaps, replies}
+use Rattle.rules.specs.Calls.{Call, messages, call, fresh, ticked}
 use Rattle.rules.proofs.Tests.{by, and-both, clash}
 use Rattle.rules.proofs.Count.{place≤}
 use Rattle.rules.proofs.Moves.{evicted-none, later-behind}

@@ -7,10 +7,11 @@ use lib.Seq.{take-append-seam}
 use Rattle.rules.specs.declared.Refusal.{Refusal}
 use Rattle.rules.specs.Bytes.{written}
 use Rattle.rules.specs.Records.{output}
-use Rattle.rules.specs.Calls.{Called, call, refused, good, writtenBy, bufferAfter}
-use Rattle.rules.specs.Calls as rules
+use Rattle.rules.specs.HouseNumbers.{Called, refused, good, writtenBy, bufferAfter}
+use Rattle.rules.specs.Calls.{call}
+use Rattle.rules.specs.HouseNumbers as numbers
 use Rattle.demands.specs.History.{wrote, replyOf}
-use Rattle.rules.specs.Sound.{Wired}
+use Rattle.rules.specs.follows.Sound.{Wired}
 use Rattle.memory.specs.Memory.{see}
 use Rattle.engine.specs.declared.Answer.{Answer}
 use Rattle.engine.specs.declared.Answer.the-variants.{Refused}
@@ -32,17 +33,17 @@ wired (aCue l pts seconds micros e) t = t .0
 
 -- ## What the driver reads in an answer of document 01
 
-pub bytes-read : (a : rules.Answer) (k : ℕ) (e : List ℕ) → bytesIn (answerOf a k) (bufferAfter a e) ≡ writtenBy a
+pub bytes-read : (a : numbers.Answer) (k : ℕ) (e : List ℕ) → bytesIn (answerOf a k) (bufferAfter a e) ≡ writtenBy a
 unfolding bytesIn answerOf bufferAfter writtenBy written
 bytes-read (refused n) k e = refl
 bytes-read (good consumed rs) k e = take-append-seam (output rs) (drop (0 + length (output rs)) e)
 
-reply-read : (a : rules.Answer) (k : ℕ) (e : List ℕ) → replyIn (answerOf a k) (bufferAfter a e) ≡ replyOf a
+reply-read : (a : numbers.Answer) (k : ℕ) (e : List ℕ) → replyIn (answerOf a k) (bufferAfter a e) ≡ replyOf a
 unfolding replyIn answerOf bytesIn
 reply-read (refused n) k e = refl
 reply-read (good consumed rs) k e = ap (λ l. wrote l) (bytes-read (good consumed rs) k e)
 
-pub number-read : (a : rules.Answer) (k : ℕ) → numberIn (answerOf a k) ≡ numberOf a
+pub number-read : (a : numbers.Answer) (k : ℕ) → numberIn (answerOf a k) ≡ numberOf a
 unfolding numberIn answerOf numberOf
 number-read (refused n) k = refl
 number-read (good consumed rs) k = refl

@@ -5,7 +5,7 @@ use mathlib.Core.List.{List, [], _∷_, map}
 use Prim.Native.Nat.{ℕ}
 use lib.ListN.{length}
 use Rattle.rules.specs.Lists.{All}
-use Rattle.rules.specs.Bytes.{Byte}
+use Rattle.rules.specs.follows.Wires.{Byte}
 
 -- the memory between two calls, a call with what it is handed, what comes back, and fresh's reply; what the types say of an input, what a
 -- call's contract allows from a memory, the memory that a call has left, and what fresh's contract allows for a name

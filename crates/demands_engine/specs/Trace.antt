@@ -5,11 +5,13 @@ use mathlib.Core.List.{List, [], map}
 use Prim.Native.Nat.{ℕ, _<_}
 use lib.ListN.{length, take, replicate}
 use Rattle.rules.specs.Lists.{All}
-use Rattle.rules.specs.Bytes.{Byte}
+use Rattle.rules.specs.follows.Wires.{Byte}
 use Rattle.rules.specs.State.{Splicer}
-use Rattle.rules.specs.Calls.{houseNumber, Called, fresh, openCall, closeCall, messageCall, lendingMaps, tickCall, moveCall, cueCall}
-use Rattle.rules.specs.Calls.{call, writtenBy, bufferAfter, Call, opens, closes, messages, ticks, moves, cues}
-use Rattle.rules.specs.Sound.{horizon}
+use Rattle.rules.specs.HouseNumbers.{houseNumber, Called, lendingMaps}
+use Rattle.rules.specs.Calls.{fresh, openCall, closeCall, messageCall, tickCall, moveCall, cueCall}
+use Rattle.rules.specs.Calls.{call, Call, opens, closes, messages, ticks, moves, cues}
+use Rattle.rules.specs.HouseNumbers.{writtenBy, bufferAfter}
+use Rattle.rules.specs.Units.{horizon}
 use Rattle.demands.specs.History.{Reply, refusal, wrote, Event}
 use Rattle.memory.specs.Memory as lent
 use Rattle.engine.specs.declared.Answer.{Answer}

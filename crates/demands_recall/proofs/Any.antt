@@ -8,7 +8,8 @@ use native.Mathlib.Omega.{arith}
 use contract.Lifetimes.{Lfts}
 use denote.Ref.{RefT, now}
 use Rattle.rules.specs.Lists.{All}
-use Rattle.rules.specs.Bytes.{Byte, padded, written}
+use Rattle.rules.specs.follows.Wires.{Byte}
+use Rattle.rules.specs.Bytes.{padded, written}
 use Rattle.rules.specs.Card.{cardName}
 use Rattle.rules.proofs.Bytes.{padded-byte}
 use Rattle.recall_log.specs.Kept.{Its}

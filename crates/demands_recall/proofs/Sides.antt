@@ -13,8 +13,9 @@ use Rattle.rules.specs.Card.{cardName}
 use Rattle.rules.specs.Records.{output}
 use Rattle.rules.specs.Calls as rules
 use Rattle.rules.specs.State.{Splicer}
-use Rattle.rules.specs.Calls.{Answer, refused, good, bufferAfter, Call, call}
-use Rattle.rules.specs.Sound.{Wired}
+use Rattle.rules.specs.HouseNumbers.{Answer, refused, good, bufferAfter}
+use Rattle.rules.specs.Calls.{Call, call}
+use Rattle.rules.specs.follows.Sound.{Wired}
 use Rattle.rules.proofs.Tests.{by}
 use Rattle.rules.proofs.Written.{written-none}
 use Rattle.recall_log.specs.declared.Reply.{Reply}

@@ -10,7 +10,7 @@ use lib.ListN.{length, replicate, length-replicate}
 use denote.Ref.{RefT, now}
 use Rattle.rules.specs.Lists.{All}
 use Rattle.rules.specs.Units.{timeOf, fromMicros}
-use Rattle.rules.specs.Rolling.{rollingOf, rollingFresh, rolledAfter}
+use Rattle.rules.specs.follows.Sequences.{rollingOf, rollingFresh, rolledAfter}
 use Rattle.engine.proofs.Held.{kind, Holds, Same}
 use Rattle.rolling.specs.Ruled.{ticked}
 use Rattle.rolling.proofs.Time.{Shows, course, course-shown}

@@ -6,10 +6,11 @@ use Prim.Native.Nat.{ℕ}
 use lib.ListN.{length, getD}
 use borrow.Author.Tests.{ltb-false}
 use Rattle.rules.specs.Lists.{All}
-use Rattle.rules.specs.Bytes.{Byte}
+use Rattle.rules.specs.follows.Wires.{Byte}
 use Rattle.rules.specs.Calls.{fresh}
 use Rattle.rules.specs.Rolling.{Rolled, Course, refuses, brings, instantCourse, readingCourse, rolls, instantCall, readingCall}
-use Rattle.rules.specs.Rolling.{RollingCall, roll, RollWired}
+use Rattle.rules.specs.Rolling.{RollingCall, roll}
+use Rattle.rules.specs.follows.Sequences.{RollWired}
 use Rattle.memory.specs.Memory.{see}
 use Rattle.engine.specs.declared.Answer.{Answer}
 use Rattle.engine.specs.declared.Answer.the-variants.{Refused}

@@ -3,31 +3,47 @@
 -- Rests on demands' proofs/Readings and, of who is on air, on demands_engine's proofs/Due.
 use mathlib.Core.Path.{_≡_, sym, ap, subst, _∙_}
 use mathlib.Core.List.{List, [], _∷_}
-use Prim.Native.Nat.{ℕ, _+_, _-_, _%_, _≤_, _<_}
+use Prim.Native.Nat.{ℕ, _+_, _-_, _/_, _%_, _≤_, _<_}
 use lib.ListN.{length, getD}
-use Rattle.rules.specs.Records.{recordsIn}
+use Rattle.rules.specs.follows.ReadBack.{recordsIn}
+use Rattle.rules.specs.Records.{AliveResponse}
+use Rattle.rules.specs.HouseNumbers.{lendingMaps}
 use Rattle.rules.specs.State.{due}
-use Rattle.rules.specs.Sound.{Sound}
+use Rattle.rules.specs.follows.Sound.{Sound}
 use Rattle.rules.specs.Rolling.{at, Rolling}
 use Rattle.rules.proofs.Sound.{reached-sound}
 use Rattle.demands.specs.Told.{numberOf}
-use Rattle.demands.specs.Due.{AirTold, DueTold, Before, NotBefore, stepFrom, FirstStep}
+use Rattle.demands.specs.Airing.{clockTold}
+use Rattle.demands.specs.Kept.{AsksAlive, Ready}
+use Rattle.demands.specs.Due.{stateOf, idOf, AirTold, DueTold, Before, NotBefore, stepFrom, FirstStep}
 use Rattle.demands.proofs.Readings as told
 use Rattle.engine.specs.Lent.{ReadsAir, ReadsDue}
 use Rattle.rolling.specs.LentRolling.{ReadsStep}
 use Rattle.rolling.proofs.Time as time
-use Rattle.door_rolling.specs.RollDoor.{aReading, RollSeen}
+use Rattle.door.specs.Door.{aMessage}
+use Rattle.door_rolling.specs.RollDoor.{aKnown, aReading, RollSeen}
 use Rattle.demands_engine.proofs.Course as core
 use Rattle.demands_engine.proofs.Due as called
 use Rattle.demands_rolling.specs.Rolled.{Memory, shown, left, Made, Trace, More, number, bytesOf, events}
 use Rattle.demands_rolling.specs.Rolled as rolled
-use Rattle.demands_rolling.proofs.Inside.{trace-inside}
-use Rattle.demands_rolling.proofs.Next.{as-ruled}
+use Rattle.demands_rolling.proofs.Inside.{trace-inside, known-more}
+use Rattle.demands_door.specs.Driven.{inside}
+use Rattle.demands_rolling.proofs.Next.{as-ruled, bytes-are}
 
 -- who is on air, from the calls and the answers' bytes alone
 pub air-told : (name : List ℕ) (h : List Made) (m : Memory) (w : List ℕ) → ReadsAir (m .core .words) (m .core .bytes) w
     → Trace name h m → AirTold (events h) w
 air-told name h m w reads t = called.air-told name (rolled.within h) (m .core) w reads (trace-inside name h m t)
+
+-- an Alive_Request in its place is answered with the State and the SessionID that are read, and the clock in whole microseconds
+pub alive-as-read : (name : List ℕ) (h : List Made) (m : Memory) (w : List ℕ) → ReadsAir (m .core .words) (m .core .bytes) w
+    → (d : ℕ) (l pm im e : List ℕ) (r : RollSeen) → More name h m (aKnown (aMessage d l pm im e)) r
+    → AsksAlive d l (lendingMaps pm im (length e)) (shown m .splicer) → Ready d (shown m .splicer)
+    → recordsIn (bytesOf r) ≡ AliveResponse d 100 (stateOf w) (idOf w) (clockTold (events h) / 9) ∷ []
+alive-as-read name h m w reads d l pm im e r c asks ready =
+    rw (bytes-are name h m _ r c)
+    (called.alive-as-read name (rolled.within h) (m .core) w reads d l pm im e (inside (rolled.seenOf r))
+    (known-more name h m (aMessage d l pm im e) r c) asks ready)
 
 -- when something starts or ends next, in ninths
 pub due-told : (name : List ℕ) (h : List Made) (m : Memory) (w : List ℕ) → ReadsDue (m .core .words) (m .core .bytes) w
@@ -86,6 +102,6 @@ module _ (name : List ℕ) (h : List Made) (m : Memory) (w : List ℕ)
         ∙ ap (λ (n : ℕ). 1 ∷ (n - step) ∷ []) (sym (same 1)))
 
 -- a counter that had ticked t times at the last good reading, and has d times since: the step is d
-pub true-step : (t d : ℕ) → d < 4294967296 → stepFrom (at (t % 4294967296)) ((t + d) % 4294967296) ≡ d
+pub counter-step : (t d : ℕ) → d < 4294967296 → stepFrom (at (t % 4294967296)) ((t + d) % 4294967296) ≡ d
 unfolding stepFrom
-true-step t d h = time.true-step t d h
+counter-step t d h = time.true-step t d h

@@ -10,11 +10,14 @@ use lib.Dec.{eqb}
 use lib.ListN.{length, getD}
 use borrow.Author.Tests.{ne-eqb, ltb-false}
 use Rattle.rules.specs.Lists.{All}
-use Rattle.rules.specs.Calls.{Called, fresh, houseNumber, ticked, moveCall, Call, call}
-use Rattle.rules.specs.Sound.{Wired}
-use Rattle.rules.specs.Rolling.{none, Rolling, Rolled, rollingOf, Course, refuses, brings, instantCourse, readingCourse, rolls, instantCall}
-use Rattle.rules.specs.Rolling.{readingCall, rollingFresh, RollingCall, known, roll, rolledAfter, asMove, asCalls}
-use Rattle.rules.specs.Rolling.{asMoves, RollWired, RollReached, Timeless}
+use Rattle.rules.specs.HouseNumbers.{Called, houseNumber}
+use Rattle.rules.specs.Calls.{fresh, ticked, moveCall, Call, call}
+use Rattle.rules.specs.follows.Sound.{Wired}
+use Rattle.rules.specs.Rolling.{none, Rolling, Rolled, Course, refuses, brings, instantCourse, readingCourse, rolls, instantCall}
+use Rattle.rules.specs.follows.Sequences.{rollingOf}
+use Rattle.rules.specs.Rolling.{readingCall, RollingCall, known, roll}
+use Rattle.rules.specs.follows.Sequences.{rollingFresh, rolledAfter, asMove, asCalls}
+use Rattle.rules.specs.follows.Sequences.{asMoves, RollWired, RollReached, Timeless}
 use Rattle.rules.proofs.All.{at-all}
 use Rattle.demands.proofs.Refusals.{a-number}
 use Rattle.memory.specs.Memory.{see}

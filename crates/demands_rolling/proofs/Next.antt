@@ -7,7 +7,8 @@ use native.Mathlib.Omega.{arith}
 use lib.Dec.{eqb}
 use lib.ListN.{length}
 use borrow.Author.Tests.{eqb-false}
-use Rattle.rules.specs.Calls.{Call, opens, closes, messages, ticks, moves, cues, writtenBy}
+use Rattle.rules.specs.Calls.{Call, opens, closes, messages, ticks, moves, cues}
+use Rattle.rules.specs.HouseNumbers.{writtenBy}
 use Rattle.rules.specs.Rolling.{roll}
 use Rattle.demands.specs.Told.{firstNumber, outsOf, grantedBy}
 use Rattle.demands.specs.History.{Reply, refusal, wrote, Event, endsOf, front, othersOf}
@@ -15,9 +16,10 @@ use Rattle.demands.specs.Kept.{changed}
 use Rattle.demands.specs.Kept as kept
 use Rattle.demands.specs.Moments.{PlayedAs}
 use Rattle.rules.specs.Lists.{All}
-use Rattle.rules.specs.Sound.{Coded}
-use Rattle.rules.specs.Reading.{isSplice}
-use Rattle.rules.specs.Records.{Record, recordsIn, recordsUpTo}
+use Rattle.rules.specs.follows.Sound.{Coded}
+use Rattle.rules.specs.follows.ReadBack.{isSplice}
+use Rattle.rules.specs.Records.{Record}
+use Rattle.rules.specs.follows.ReadBack.{recordsIn, recordsUpTo}
 use Rattle.memory.specs.Memory.{see}
 use Rattle.engine.specs.declared.Answer.{Answer}
 use Rattle.engine.specs.declared.Answer.the-variants.{Refused, Done}

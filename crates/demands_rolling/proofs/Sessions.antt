@@ -9,9 +9,11 @@ use native.Mathlib.Omega.{arith}
 use lib.Dec.{eqb}
 use lib.ListN.{length}
 use borrow.Author.Tests.{ltb-false}
-use Rattle.rules.specs.Calls.{noRoom, ticked, moveCall, houseNumber}
+use Rattle.rules.specs.HouseNumbers.{noRoom, houseNumber}
+use Rattle.rules.specs.Calls.{ticked, moveCall}
 use Rattle.rules.specs.Rolling.{Last, none, at, Rolling, Rolled, stepOf, overStep, movedOn, pastField, Course, stepCourse, readingCourse}
-use Rattle.rules.specs.Rolling.{rollingOf, rolls, readingCall, readings, roll}
+use Rattle.rules.specs.follows.Sequences.{rollingOf}
+use Rattle.rules.specs.Rolling.{rolls, readingCall, readings, roll}
 use Rattle.rules.proofs.Tests.{by}
 use Rattle.demands.specs.Told.{numberOf}
 use Rattle.demands.specs.Sessions.{rowsRead, SessionsTold, InOrder}

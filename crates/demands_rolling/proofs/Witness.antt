@@ -10,8 +10,9 @@ use Rattle.rules.specs.Bytes.{padded}
 use Rattle.rules.specs.Card.{cardName}
 use Rattle.rules.specs.Units.{timeOf, fromMicros}
 use Rattle.rules.specs.Calls.{opens}
-use Rattle.rules.specs.Sound.{horizon}
-use Rattle.rules.specs.Rolling.{none, Rolling, rollingOf, rollingFresh, instants, rolledAfter}
+use Rattle.rules.specs.Units.{horizon}
+use Rattle.rules.specs.Rolling.{none, Rolling, instants}
+use Rattle.rules.specs.follows.Sequences.{rollingOf, rollingFresh, rolledAfter}
 use Rattle.rolling.specs.Ruled.{Act, asked, read, InTime, ticked, callsAt}
 use Rattle.rolling.proofs.Time.{Shows, instant-shows}
 use Rattle.door.specs.Door.{anOpen}

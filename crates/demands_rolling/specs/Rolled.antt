@@ -6,9 +6,10 @@ use mathlib.Core.Bool.{Bool, false, cond}
 use mathlib.Core.List.{List, [], _∷_, _++_, map}
 use Prim.Native.Nat.{ℕ}
 use lib.Dec.{eqb}
-use Rattle.rules.specs.Calls.{writtenBy, bufferAfter}
+use Rattle.rules.specs.HouseNumbers.{writtenBy, bufferAfter}
 use Rattle.rules.specs.Records.{Record}
-use Rattle.rules.specs.Rolling.{none, Rolling, rollingOf, rollingFresh, RollingCall, roll}
+use Rattle.rules.specs.Rolling.{none, Rolling, RollingCall, roll}
+use Rattle.rules.specs.follows.Sequences.{rollingOf, rollingFresh}
 use Rattle.demands.specs.History.{Reply, Event, othersOf}
 use Rattle.demands.specs.Told.{grantedBy}
 use Rattle.demands.specs.Kept.{changed}

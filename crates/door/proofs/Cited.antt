@@ -17,7 +17,7 @@ use denote.Ref.{RefT, now}
 use denote.Triple.Clauses.{AtExit}
 use denote.Triple.Entry.{Args, Res}
 use Rattle.rules.specs.Lists.{All}
-use Rattle.rules.specs.Bytes.{Byte}
+use Rattle.rules.specs.follows.Wires.{Byte}
 use Rattle.rules.specs.Calls as rules
 use Rattle.rules.specs.Calls.{call}
 use Rattle.engine.specs.Lent.{Lent, Counts, Primary, ReadsMux, ReadsFeed, ReadsAir, ReadsDue, ReadsSessions}

@@ -5,7 +5,8 @@ use mathlib.Core.List.{List}
 use Prim.Native.Nat.{ℕ, _<_}
 use native.Mathlib.Omega.{arith}
 use lib.ListN.{getD}
-use Rattle.rules.specs.Calls.{Called, Call, call}
+use Rattle.rules.specs.HouseNumbers.{Called}
+use Rattle.rules.specs.Calls.{Call, call}
 use Rattle.memory.specs.Memory.{see, shown}
 use Rattle.engine.specs.declared.Answer.{Answer}
 use Rattle.engine.specs.declared.Answer.the-variants.{Refused, Done}

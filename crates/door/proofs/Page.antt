@@ -4,8 +4,8 @@ use mathlib.Core.Path.{_≡_, ap, _∙_}
 use mathlib.Core.List.{List}
 use Prim.Native.Nat.{ℕ, _<_}
 use lib.ListN.{length}
-use Rattle.rules.specs.State.{recentAt}
-use Rattle.rules.specs.Sound.{Recalled}
+use Rattle.rules.specs.Recent.{recentAt}
+use Rattle.rules.specs.follows.Sound.{Recalled}
 use Rattle.rules.proofs.Recall.{noted-at}
 use Rattle.memory.specs.Memory.{lateOf, see, Form}
 use Rattle.memory.proofs.Laws.{ended-recent}

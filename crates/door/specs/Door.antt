@@ -4,9 +4,10 @@ use mathlib.Core.List.{List, [], _∷_}
 use Prim.Native.Nat.{ℕ, _+_, _*_, _<_}
 use lib.ListN.{length, getD}
 use Rattle.rules.specs.Lists.{All}
-use Rattle.rules.specs.Bytes.{Byte}
+use Rattle.rules.specs.follows.Wires.{Byte}
 use Rattle.rules.specs.State.{Splicer}
-use Rattle.rules.specs.Calls.{Called, Call, opens, closes, messages, lendingMaps, ticks, cues, cueCall, call}
+use Rattle.rules.specs.HouseNumbers.{Called, lendingMaps}
+use Rattle.rules.specs.Calls.{Call, opens, closes, messages, ticks, cues, cueCall, call}
 use Rattle.memory.specs.Memory.{see, shown}
 use Rattle.relay.specs.declared.Anchor.{Anchor}
 use Rattle.engine.specs.declared.Answer.{Answer}

@@ -18,10 +18,11 @@ use denote.Ref.{RefT, now}
 use denote.Triple.Clauses.{AtExit}
 use denote.Triple.Entry.{Args, Res}
 use Rattle.rules.specs.Lists.{All}
-use Rattle.rules.specs.Bytes.{Byte}
+use Rattle.rules.specs.follows.Wires.{Byte}
 use Rattle.engine.proofs.Held.{kind, Holds, Same, both, number-held, InRoom, bytes-held}
 use Rattle.recording.specs.Recording.{checked}
-use Rattle.rules.specs.Calls.{Call, lendingMaps, opens, closes, messages, ticks}
+use Rattle.rules.specs.Calls.{Call, opens, closes, messages, ticks}
+use Rattle.rules.specs.HouseNumbers.{lendingMaps}
 use Rattle.recall.proofs.Calls.{remembers-same, forgets-same}
 use Rattle.door_bench.specs.Bench.{wordsOf, replyWords, Tells, TellsFresh}
 use Rattle.door_bench.proofs.«splicer_bench_2_check» as check

@@ -3,7 +3,7 @@ use mathlib.Core.Path.{_≡_, refl}
 use mathlib.Core.List.{[], _∷_}
 use Prim.Native.Nat.{ℕ}
 use Rattle.rules.specs.declared.Refusal.{Refusal}
-use Rattle.rules.specs.Calls.{houseNumber}
+use Rattle.rules.specs.HouseNumbers.{houseNumber}
 use Rattle.recall_log.specs.declared.Reply.{Reply}
 use Rattle.recall_log.specs.declared.Reply.the-variants.{Refused}
 use Rattle.recall_log.specs.Kept.{numberOf}

@@ -5,7 +5,8 @@ use recording::Finding;
 ghost use mathlib.Core.Path.{_≡_};
 ghost use mathlib.Core.List.{[]};
 ghost use lib.ListN.{length};
-ghost use Rattle.rules.specs.Calls.{lendingMaps, opens, closes, messages, ticks};
+ghost use Rattle.rules.specs.HouseNumbers.{lendingMaps};
+ghost use Rattle.rules.specs.Calls.{opens, closes, messages, ticks};
 ghost use Rattle.recording.specs.Recording.{checked};
 ghost use Rattle.door_bench.specs.Bench.{wordsOf, replyWords, Tells, TellsFresh};
 

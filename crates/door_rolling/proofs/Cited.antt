@@ -17,8 +17,9 @@ use denote.Ref.{RefT, now}
 use denote.Triple.Clauses.{AtExit}
 use denote.Triple.Entry.{Args, Res}
 use Rattle.rules.specs.Lists.{All}
-use Rattle.rules.specs.Bytes.{Byte}
-use Rattle.rules.specs.Rolling.{rollingFresh, Timeless, roll}
+use Rattle.rules.specs.follows.Wires.{Byte}
+use Rattle.rules.specs.follows.Sequences.{rollingFresh, Timeless}
+use Rattle.rules.specs.Rolling.{roll}
 use Rattle.engine.proofs.Held.{kind, Holds, Same, both, number-held, words-held, name-held}
 use Rattle.memory.specs.Memory.{see}
 use Rattle.engine.specs.Lent.{Lent}

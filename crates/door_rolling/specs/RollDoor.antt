@@ -5,7 +5,8 @@ use Prim.Native.Nat.{ℕ, _<_}
 use lib.ListN.{length, getD}
 use Rattle.rules.specs.Lists.{All}
 use Rattle.rules.specs.Calls.{call}
-use Rattle.rules.specs.Rolling.{Rolling, Rolled, instantCall, Timeless, RollingCall, known, instants, readings, roll}
+use Rattle.rules.specs.Rolling.{Rolling, Rolled, instantCall, RollingCall, known, instants, readings, roll}
+use Rattle.rules.specs.follows.Sequences.{Timeless}
 use Rattle.memory.specs.Memory.{see, shown}
 use Rattle.engine.specs.declared.Answer.{Answer}
 use Rattle.rolling.specs.LentRolling.{rolling, Rolls}

@@ -14,7 +14,8 @@ use Rattle.rules.specs.declared.Ending.{Ending}
 use Rattle.rules.specs.declared.Ninths.{Ninths}
 use Rattle.rules.specs.declared.Ending.the-variants.{Complete, Response}
 use Rattle.rules.specs.Lists.{All, bit, put, keep, omit, removeAt}
-use Rattle.rules.specs.State.{Lately, Queue, empty, of, endsAt, withStarted, withLately, rememberedAll}
+use Rattle.rules.specs.State.{Lately, Queue, empty, of, endsAt, withStarted, withLately}
+use Rattle.rules.specs.Recent.{rememberedAll}
 use Rattle.rules.specs.Records.{Record, output}
 use Rattle.rules.specs.Ends.{ended, past, ending, oneEnd, endings}
 use Rattle.rules.specs.Instants.{endAt}

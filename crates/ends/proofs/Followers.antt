@@ -12,8 +12,9 @@ use lib.Seq.{drop-cons, take-suc, take-suc-set, drop-set-lt, append-snoc}
 use borrow.Author.Tests.{eqb-true, ltb-true, ltb-false}
 use Rattle.rules.specs.declared.Session.{Session}
 use Rattle.rules.specs.Lists.{All, put, keep, omit, place, removeAt}
-use Rattle.rules.specs.State.{Queue, Sorted, empty, of, follows}
-use Rattle.rules.specs.Sound.{Holding}
+use Rattle.rules.specs.State.{Queue, empty, of, follows}
+use Rattle.rules.specs.follows.Wires.{Sorted}
+use Rattle.rules.specs.follows.Sound.{Holding}
 use Rattle.rules.specs.Ends.{Walk, followers, walk, dismissed}
 use Rattle.rules.proofs.Tests.{and-both, failed}
 use Rattle.rules.proofs.All.{all-into}

@@ -15,8 +15,9 @@ use Rattle.rules.specs.declared.Past.{Past}
 use Rattle.rules.specs.declared.Ending.{Ending}
 use Rattle.rules.specs.declared.Ending.the-variants.{Complete, Failed, Response}
 use Rattle.rules.specs.Lists.{All, some, keep, omit, place, removeAt}
-use Rattle.rules.specs.Sound.{Holding}
-use Rattle.rules.specs.State.{Lately, Queue, empty, of, follows, withWaiting, remembered, rememberedAll}
+use Rattle.rules.specs.follows.Sound.{Holding}
+use Rattle.rules.specs.State.{Lately, Queue, empty, of, follows, withWaiting}
+use Rattle.rules.specs.Recent.{remembered, rememberedAll}
 use Rattle.rules.specs.Units.{toTicks}
 use Rattle.rules.specs.Bytes.{written}
 use Rattle.rules.specs.Records.{Record, resultOf, recordBytes, output}

@@ -10,7 +10,8 @@ use Rattle.rules.specs.declared.Ending.the-variants.{Complete, Failed, Response
 use Rattle.rules.specs.Lists.{All, some, keep, omit, removeAt}
 use Rattle.rules.specs.Bytes.{written}
 use Rattle.rules.specs.Records.{Record, output}
-use Rattle.rules.specs.State.{Queue, empty, of, follows, Sorted}
+use Rattle.rules.specs.State.{Queue, empty, of, follows}
+use Rattle.rules.specs.follows.Wires.{Sorted}
 use Rattle.rules.specs.Ends.{Turn, quiet, andThen, ending, oneEnd, allEnd, dismissed}
 use Rattle.memory.specs.declared.Which.{Which}
 use Rattle.memory.specs.declared.Which.the-variants.{Started}

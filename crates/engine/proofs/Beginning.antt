@@ -6,11 +6,13 @@ use Prim.Native.Nat.{ℕ}
 use lib.ListN.{length}
 use Rattle.rules.specs.declared.Refusal.the-variants.{BadName}
 use Rattle.rules.specs.Lists.{All}
-use Rattle.rules.specs.Bytes.{Byte, hasZero, nameIn}
+use Rattle.rules.specs.follows.Wires.{Byte}
+use Rattle.rules.specs.Bytes.{hasZero, nameIn}
 use Rattle.rules.specs.Records.{output}
 use Rattle.rules.specs.State.{Splicer}
-use Rattle.rules.specs.Calls.{named, fresh, writtenBy, bufferAfter}
-use Rattle.rules.specs.Sound.{Reached}
+use Rattle.rules.specs.Calls.{named, fresh}
+use Rattle.rules.specs.HouseNumbers.{writtenBy, bufferAfter}
+use Rattle.rules.specs.follows.Sound.{Reached}
 use Rattle.rules.proofs.Written.{written-none}
 use Rattle.rules.proofs.Sound.{reached-fresh}
 use Rattle.memory.specs.Memory.{Memory, Now, nothingShown, shifted, Named, shown}

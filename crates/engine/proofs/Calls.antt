@@ -21,7 +21,8 @@ use Rattle.rules.specs.declared.Refusal.the-variants.{BadSection}
 use Rattle.rules.specs.declared.Framing.{Framing}
 use Rattle.rules.specs.declared.Framing.the-variants.{Framed, Unframed}
 use Rattle.rules.specs.Lists.{All}
-use Rattle.rules.specs.Bytes.{Byte, dataOf}
+use Rattle.rules.specs.follows.Wires.{Byte}
+use Rattle.rules.specs.Bytes.{dataOf}
 use Rattle.rules.specs.Units.{timeOf, fromMicros}
 use Rattle.rules.specs.declared.Session.{Session}
 use Rattle.rules.specs.State.{Queue, Splicer, noHardware, isOpen, linkOf, toCome, withLink}
@@ -30,10 +31,14 @@ use Rattle.rules.specs.Ends.{Turn, closedBy}
 use Rattle.rules.specs.Instants.{runAll, silentAll}
 use Rattle.rules.specs.Answers.{Answered, says, airFeed, airMap, answer}
 use Rattle.rules.specs.Cues.{badSection, readCue, cueTime, initialisedOnes, cueRecords}
-use Rattle.rules.specs.Calls.{Called, Call, opens, closes, messages, moves, cues, cueCall, call, noConnection, noRoom, notOpen, openCall}
-use Rattle.rules.specs.Calls.{closeCall, framing, handled, Loans, lendingMaps, longestSection, longSection, messageCall, moveCall, tickCall}
-use Rattle.rules.specs.Calls.{ticked, refuse, does, replies, writtenBy, bufferAfter}
-use Rattle.rules.specs.Sound.{Holding, Reached, Wired, horizon}
+use Rattle.rules.specs.HouseNumbers.{Called, noConnection, noRoom, notOpen}
+use Rattle.rules.specs.Calls.{Call, opens, closes, messages, moves, cues, cueCall, call, openCall}
+use Rattle.rules.specs.Calls.{closeCall, framing, handled, messageCall, moveCall, tickCall}
+use Rattle.rules.specs.HouseNumbers.{Loans, lendingMaps, longestSection, longSection}
+use Rattle.rules.specs.Calls.{ticked}
+use Rattle.rules.specs.HouseNumbers.{refuse, does, replies, writtenBy, bufferAfter}
+use Rattle.rules.specs.follows.Sound.{Holding, Reached, Wired}
+use Rattle.rules.specs.Units.{horizon}
 use Rattle.rules.proofs.Written.{written-none}
 use Rattle.rules.proofs.Sound.{reached-call, reached-sound, few-wait, few-started}
 use Rattle.memory.specs.Memory.{Memory, see, Now, timed, linked, queued, silenced, shifted, nameOf, keptOf, Holds, shown}

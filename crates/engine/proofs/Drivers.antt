@@ -13,7 +13,7 @@ use Rattle.rules.specs.Units.{upMicros}
 use Rattle.rules.specs.State.{empty}
 use Rattle.rules.specs.Answers.{airFeed, airRow}
 use Rattle.rules.specs.Calls.{dueRow}
-use Rattle.rules.specs.Sound.{horizon}
+use Rattle.rules.specs.Units.{horizon}
 
 pub air-none : (l : List Session) → length l ≡ 0 → 0 ∷ 0 ∷ 0 ∷ 0 ∷ 0 ∷ 0 ∷ 0 ∷ 0 ∷ 0 ∷ [] ≡ airRow l
 unfolding airRow

@@ -21,7 +21,7 @@ use denote.Ref.{RefT, now, ShrRef}
 use denote.Signature.{Signature, typesAt}
 use denote.Slice.{Room, ShrSlice}
 use Rattle.rules.specs.Lists.{All}
-use Rattle.rules.specs.Bytes.{Byte}
+use Rattle.rules.specs.follows.Wires.{Byte}
 
 -- the type of a parameter, by its place
 abbrev pub kind : (S : Signature) → Lfts (S .lifetimes) → ℕ → RattleType

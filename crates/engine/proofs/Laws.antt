@@ -14,14 +14,17 @@ use Rattle.rules.specs.declared.Framing.{Framing}
 use Rattle.rules.specs.declared.Framing.the-variants.{Framed, Unframed}
 use Rattle.rules.specs.Lists.{All}
 use Rattle.rules.specs.Units.{badMicros, timeOf, fromMicros}
-use Rattle.rules.specs.Bytes.{Byte, hasZero}
+use Rattle.rules.specs.follows.Wires.{Byte}
+use Rattle.rules.specs.Bytes.{hasZero}
 use Rattle.rules.specs.State.{Splicer, isOpen, linkOf}
 use Rattle.rules.specs.Answers.{Answered, says}
 use Rattle.rules.specs.Cues.{badSection}
-use Rattle.rules.specs.Calls.{Called, Call, opens, closes, messages, ticks, moves, cues, cueCall, call, refused, good, refuse, does}
-use Rattle.rules.specs.Calls.{replies, bufferAfter, noConnection, noRoom, notOpen, Loans, longSection, openCall, closeCall, messageCall}
+use Rattle.rules.specs.HouseNumbers.{Called, refused, good, refuse, does}
+use Rattle.rules.specs.Calls.{Call, opens, closes, messages, ticks, moves, cues, cueCall, call}
+use Rattle.rules.specs.HouseNumbers.{replies, bufferAfter, noConnection, noRoom, notOpen, Loans, longSection}
+use Rattle.rules.specs.Calls.{openCall, closeCall, messageCall}
 use Rattle.rules.specs.Calls.{framing, handled, moveCall, tickCall, ticked, fresh}
-use Rattle.rules.specs.Calls as calls
+use Rattle.rules.specs.HouseNumbers as numbers
 use Rattle.rules.specs.Records.{Record}
 use Rattle.rules.proofs.Tests.{by}
 use Rattle.memory.specs.Memory.{words, bytes, see, shown}
@@ -36,7 +39,7 @@ use Rattle.engine.proofs.Calls.{refused-as, guarded}
 -- ## "any two results it allows are proved equal"
 
 -- the buffer is an equation, so two results hold the same
-pub buffer-same : (a : calls.Answer) (e o p : List ℕ) → o ≡ bufferAfter a e → p ≡ bufferAfter a e → o ≡ p
+pub buffer-same : (a : numbers.Answer) (e o p : List ℕ) → o ≡ bufferAfter a e → p ≡ bufferAfter a e → o ≡ p
 buffer-same a e o p f g = f ∙ sym g
 
 pub answers-same : (c : Called) (at : ℕ) (e : List ℕ) (r s : Answer) (m b o n d p : List ℕ) → Answers c at e r m b o
@@ -94,7 +97,7 @@ module _ (s : Splicer) (n : Refusal) where
       keeps-test (noRoom room) NoRoom _ (keeps-test (badMicros micros) BadMicros _
       (keeps-test (badSection l) BadSection _ (keeps-does _ _ _)))
 
-pub refused-answer : (a : calls.Answer) (moved : ℕ) (n : Refusal) → Refused n ≡ answerOf a moved → a ≡ refused n
+pub refused-answer : (a : numbers.Answer) (moved : ℕ) (n : Refusal) → Refused n ≡ answerOf a moved → a ≡ refused n
 unfolding answerOf
 refused-answer (refused m) moved n e = cc
 refused-answer (good consumed rs) moved n e = let z : _≡_ {A = ℕ} 0 1 = cc in absurd (omega arith)

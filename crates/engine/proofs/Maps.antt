@@ -14,7 +14,8 @@ use Rattle.rules.specs.declared.Refusal.the-variants.{LongSection}
 use Rattle.rules.specs.State.{Splicer}
 use Rattle.rules.specs.Answers.{airFeed, airMap, answer}
 use Rattle.rules.specs.Bytes.{dataOf}
-use Rattle.rules.specs.Calls.{Loans, Called, refuse, replies, framing, lendingMaps, longestSection, longSection, sectionOf, handled}
+use Rattle.rules.specs.HouseNumbers.{Loans, Called, refuse, replies, lendingMaps, longestSection, longSection}
+use Rattle.rules.specs.Calls.{framing, sectionOf, handled}
 use Rattle.rules.specs.Calls.{messageCall}
 use Rattle.memory.specs.Memory.{see, shown}
 use Rattle.engine.specs.declared.Answer.{Answer}

@@ -14,10 +14,11 @@ use Rattle.rules.specs.Bytes.{written}
 use Rattle.rules.specs.Records.{output}
 use Rattle.rules.specs.State.{Splicer, isOpen, due}
 use Rattle.rules.specs.Answers.{airMux, airFeed, airRow}
-use Rattle.rules.specs.Calls.{Called, refused, good, houseNumber, noConnection, noRoom, longestSection, bufferAfter, dueRow}
+use Rattle.rules.specs.HouseNumbers.{Called, refused, good, houseNumber, noConnection, noRoom, longestSection, bufferAfter}
+use Rattle.rules.specs.Calls.{dueRow}
 use Rattle.rules.specs.Listing.{startedState, waitingState, rowWidth, sessionRows, heldRows, heldNumber}
-use Rattle.rules.specs.Calls as calls
-use Rattle.rules.specs.Sound.{Proper, Small, Reached}
+use Rattle.rules.specs.HouseNumbers as numbers
+use Rattle.rules.specs.follows.Sound.{Proper, Small, Reached}
 use Rattle.memory.specs.declared.Which.{Which}
 use Rattle.memory.specs.declared.Which.the-variants.{Waiting, Started}
 use Rattle.memory.specs.Memory.{sessions, see, shifted, Form, Whole, shown, tallied}
@@ -32,7 +33,7 @@ pub record Lent (m b : List ℕ) : Type 0 where
   pub reached : Reached (shown m b)
 
 -- an answer of document 01 as the code has it: the refusal, or the bytes consumed and written; 02, CR 11: and the places shifted
-unfoldable pub answerOf : calls.Answer → (moved : ℕ) → Answer
+unfoldable pub answerOf : numbers.Answer → (moved : ℕ) → Answer
 answerOf (refused n) moved = Refused n
 answerOf (good consumed rs) moved = Done (record { consumed = consumed; written = length (output rs); moved = moved })
 

@@ -11,8 +11,9 @@ use Rattle.rules.specs.declared.Refusal.{Refusal}
 use Rattle.rules.specs.Bytes.{part, written}
 use Rattle.rules.specs.State.{Splicer, isOpen, linkOf}
 use Rattle.rules.specs.Records.{output}
-use Rattle.rules.specs.Calls.{houseNumber, Called, Call, messages, call, refused, good, bufferAfter, writtenBy, openCall, noConnection}
-use Rattle.rules.specs.Calls as five
+use Rattle.rules.specs.HouseNumbers.{houseNumber, Called, refused, good, bufferAfter, writtenBy, noConnection}
+use Rattle.rules.specs.Calls.{Call, messages, call, openCall}
+use Rattle.rules.specs.HouseNumbers as numbers
 use Rattle.rules.specs.Card.{messageEnd, Next, calls, ends, stops, cardRoom, cardLoans, next, told, cardStep}
 use Rattle.rules.proofs.Tests.{by, clash}
 use Rattle.rules.proofs.Written.{written-none}
@@ -37,13 +38,13 @@ unfolding untold told toldLength written
 tells-refused {a} {n} e x f g h = record { count = rw f; bytes = rw (f, g) (sets-eq (told (refused n)) e 0 h) }
 
 -- e: the buffer before the call, o: after it, p: with the refusal's mark
-tells-bytes : (a : five.Answer) (k : ℕ) (e o p : List ℕ) → o ≡ bufferAfter a e → p ≡ written o 0 (untold (answerOf a k))
+tells-bytes : (a : numbers.Answer) (k : ℕ) (e o p : List ℕ) → o ≡ bufferAfter a e → p ≡ written o 0 (untold (answerOf a k))
     → p ≡ written e 0 (told a)
 unfolding bufferAfter writtenBy answerOf untold told
 tells-bytes (refused n) k e o p f g = g ∙ ap (λ y. written y 0 (told (refused n))) (f ∙ written-none e 0)
 tells-bytes (good consumed rs) k e o p f g = g ∙ written-none o 0 ∙ f
 
-tells-count : (a : five.Answer) (k : ℕ) → toldLength (answerOf a k) ≡ length (told a)
+tells-count : (a : numbers.Answer) (k : ℕ) → toldLength (answerOf a k) ≡ length (told a)
 unfolding writtenBy answerOf toldLength told
 tells-count (refused n) k = refl
 tells-count (good consumed rs) k = refl

@@ -6,7 +6,8 @@ use Prim.Native.Nat.{ℕ}
 use lib.ListN.{length, drop}
 use Rattle.rules.specs.Bytes.{written}
 use Rattle.rules.specs.State.{Splicer}
-use Rattle.rules.specs.Calls.{Call, call, refused}
+use Rattle.rules.specs.Calls.{Call, call}
+use Rattle.rules.specs.HouseNumbers.{refused}
 use Rattle.rules.specs.Card.{Next, calls, ends, stops, next, told}
 use Rattle.memory.specs.Memory.{see, shifted, shown}
 use Rattle.engine.specs.declared.Answer.{Answer}

@@ -13,7 +13,8 @@ use Rattle.rules.specs.State.{Queue, due, notAfter, toCome}
 use Rattle.rules.specs.Records.{Record, output}
 use Rattle.rules.specs.Ends.{Turn, quiet, andThen, writes}
 use Rattle.rules.specs.Instants.{instant, elapse, runAll, silence, silentAll}
-use Rattle.rules.specs.Sound.{Since, Holding, horizon}
+use Rattle.rules.specs.follows.Sound.{Since, Holding}
+use Rattle.rules.specs.Units.{horizon}
 use Rattle.rules.proofs.All.{all-into}
 use Rattle.rules.proofs.Bounds.{longest}
 use Rattle.rules.proofs.Tick.{moved, moved-less, due-first, due-time, elapse-toCome, run-stop, run-more, runAll-enough}

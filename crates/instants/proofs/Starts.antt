@@ -10,7 +10,8 @@ use lib.ListN.{length, getD}
 use borrow.Author.Tests.{eq-eqb, ne-eqb, lt-ltb, le-ltb}
 use Rattle.rules.specs.declared.Session.{Session}
 use Rattle.rules.specs.Lists.{All, place, removeAt}
-use Rattle.rules.specs.State.{Queue, Sorted, empty, startsAt, toCome, withStarted}
+use Rattle.rules.specs.State.{Queue, empty, startsAt, toCome, withStarted}
+use Rattle.rules.specs.follows.Wires.{Sorted}
 use Rattle.rules.specs.Records.{output}
 use Rattle.rules.specs.Ends.{Turn, writes, andThen}
 use Rattle.rules.specs.Instants.{outranks, mayStart, began, failed, meetsEqual, ousted, launched, startAt, endAt, instant}

@@ -10,7 +10,8 @@ use lib.ListN.{length, drop, set, getD, replicate, length-set, length-drop, drop
 use lib.Seq.{drop-cons, drop-drop, getD-drop, getD-set-same, getD-set-other, ext-getD}
 use borrow.Author.Tests.{eqb-true, eqb-false}
 use Rattle.rules.specs.declared.Past.{Past}
-use Rattle.rules.specs.State.{Lately, mostKept, unused, noneEnded, remembered, recentAt}
+use Rattle.rules.specs.State.{Lately}
+use Rattle.rules.specs.Recent.{mostKept, unused, noneEnded, remembered, recentAt}
 use Rattle.places.specs.Places.{zeros}
 use Rattle.memory.specs.Memory.{pastWidth, pastWords, lateSize, pastOf, pasts, nextIn, latelyIn}
 

@@ -19,11 +19,13 @@ use Rattle.rules.specs.declared.Link.{Link}
 use Rattle.rules.specs.declared.Link.the-variants.{Closed, Opened, Initialised}
 use Rattle.rules.specs.Lists.{All, bit, count, keep, omit, insertAt, removeAt}
 use Rattle.rules.specs.Bytes.{part, padded}
-use Rattle.rules.specs.Answers.{waits}
-use Rattle.rules.specs.State.{Queue, Splicer, empty, noHardware, of, Sorted, sooner, earliest, withWaiting, withLately, Lately, mostKept}
-use Rattle.rules.specs.State.{unused, remembered, recentAt}
-use Rattle.rules.specs.Reading.{longestHardware, structureIn}
-use Rattle.rules.specs.Sound.{Each, Proper, Holding}
+use Rattle.rules.specs.Splicing.{waits}
+use Rattle.rules.specs.State.{Queue, Splicer, empty, noHardware, of, sooner, earliest, withWaiting, withLately, Lately}
+use Rattle.rules.specs.follows.Wires.{Sorted}
+use Rattle.rules.specs.Recent.{mostKept}
+use Rattle.rules.specs.Recent.{unused, remembered, recentAt}
+use Rattle.rules.specs.Hardware.{longestHardware, structureIn}
+use Rattle.rules.specs.follows.Sound.{Each, Proper, Holding}
 use Rattle.rules.proofs.All.{all-replicate, all-into}
 use Rattle.rules.proofs.Count.{count-insertAt, count-removeAt, count-omitted, count-other, count-split, length-split}
 use Rattle.rules.proofs.Tick.{earliest-first, earliest-start, sooner-second}

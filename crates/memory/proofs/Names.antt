@@ -13,10 +13,11 @@ use lib.Seq.{length-take-le, take-all, drop-cons, drop-at, drop-drop, take-at, p
 use borrow.Rule.Slice.PartMut.{putMid}
 use borrow.Author.Tests.{eq-eqb, ne-eqb, eqb-true, eqb-false, ltb-true, ltb-false}
 use Rattle.rules.specs.Lists.{All}
-use Rattle.rules.specs.Bytes.{part, value, valueFrom, nameIn, padded, NoZero}
-use Rattle.rules.specs.Reading.{longestHardware, lengthIn, structureIn}
+use Rattle.rules.specs.Bytes.{part, value, valueFrom, nameIn, padded}
+use Rattle.rules.specs.follows.Wires.{NoZero}
+use Rattle.rules.specs.Hardware.{longestHardware, lengthIn, structureIn}
 use Rattle.rules.specs.State.{noHardware}
-use Rattle.rules.specs.Sound.{Structure}
+use Rattle.rules.specs.follows.Sound.{Structure}
 use Rattle.rules.proofs.Tests.{by}
 use Rattle.rules.proofs.Bytes.{length-padded, nameIn-padded, nameIn-zero}
 use Rattle.places.specs.Places.{zeros}

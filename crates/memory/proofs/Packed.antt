@@ -9,8 +9,9 @@ use lib.Seq.{take-at, drop-at, take-all, drop-drop}
 use Rattle.rules.specs.declared.Session.{Session}
 use Rattle.rules.specs.declared.Link.{Link}
 use Rattle.rules.specs.Lists.{All}
-use Rattle.rules.specs.State.{Lately, empty, mostKept}
-use Rattle.rules.specs.Sound.{Each}
+use Rattle.rules.specs.State.{Lately, empty}
+use Rattle.rules.specs.Recent.{mostKept}
+use Rattle.rules.specs.follows.Sound.{Each}
 use Rattle.rules.proofs.All.{all-append, all-take, all-drop, all-replicate}
 use Rattle.places.specs.Places.{width, capacity, wordsOf, rows, places, turned, lot, used, Good}
 use Rattle.places.proofs.Ring.{length-turned}

@@ -11,10 +11,11 @@ use Rattle.rules.specs.declared.Link.{Link}
 use Rattle.rules.specs.declared.Link.the-variants.{Closed, Opened, Initialised}
 use Rattle.rules.specs.Lists.{All}
 use Rattle.rules.specs.Bytes.{part, nameIn, padded}
-use Rattle.rules.specs.Reading.{longestHardware, lengthIn, structureIn}
-use Rattle.rules.specs.Answers.{waits}
-use Rattle.rules.specs.State.{Lately, Queue, Splicer, noHardware, withWaiting, withStarted, withLately, mostKept, remembered, noneHeld}
-use Rattle.rules.specs.State.{unused}
+use Rattle.rules.specs.Hardware.{longestHardware, lengthIn, structureIn}
+use Rattle.rules.specs.Splicing.{waits}
+use Rattle.rules.specs.State.{Lately, Queue, Splicer, noHardware, withWaiting, withStarted, withLately}
+use Rattle.rules.specs.Recent.{mostKept, remembered, noneHeld}
+use Rattle.rules.specs.Recent.{unused}
 use Rattle.places.specs.Places.{Narrow, Lot, lot, Good, used, width, places, turned, round, next}
 use Rattle.memory.specs.declared.Which.{Which}
 use Rattle.memory.specs.declared.Which.the-variants.{Waiting, Started}

@@ -15,7 +15,8 @@ use lib.Seq.{drop-cons, drop-drop, take-length, length-take-le, take-take, getD-
 use lib.Seq.{getD-drop, take-set-le, drop-set-add}
 use Rattle.rules.specs.declared.Session.{Session}
 use Rattle.rules.specs.Lists.{put, omit, some, place, insertAt, removeAt}
-use Rattle.rules.specs.State.{empty, Sorted, startsAt}
+use Rattle.rules.specs.State.{empty, startsAt}
+use Rattle.rules.specs.follows.Wires.{Sorted}
 use Rattle.rules.specs.Instants.{playing, onAir}
 use Rattle.rules.proofs.Count.{length-insertAt, length-removeAt, length-split, place≤}
 use Rattle.rules.proofs.Every.{all-getD, each-at, none-some}

@@ -10,8 +10,8 @@ use lib.Dec.{eqb}
 use lib.ListN.{length, take, drop, length-drop}
 use lib.Seq.{drop-drop}
 use Rattle.rules.specs.Lists.{All, some}
-use Rattle.rules.specs.Reading.{descriptorLength, isMux, muxValue, goodDescriptor}
-use Rattle.rules.specs.Descriptors.{descriptorsIn, allGood}
+use Rattle.rules.specs.Descriptors.{descriptorLength, isMux, muxValue, goodDescriptor}
+use Rattle.rules.specs.follows.Descriptors.{descriptorsIn, allGood}
 use Rattle.rules.proofs.Descriptors.{within, one-mux, one-good, good-fits, one-value, in-end, in-step, descriptors-whole}
 use Rattle.reading.specs.declared.descriptors.Descriptor.{Descriptor}
 use Rattle.reading.specs.declared.descriptors.Descriptor.the-variants.{Mux, Foreign, End, Bad}

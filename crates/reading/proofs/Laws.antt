@@ -16,9 +16,12 @@ use Rattle.rules.specs.declared.Message.{Message}
 use Rattle.rules.specs.declared.Message.the-variants.{Init, Alive, Splice, Abort, Config, Extended, Unreadable}
 use Rattle.rules.specs.Bytes.{messageSize, oversize}
 use Rattle.rules.specs.Calls.{framing}
-use Rattle.rules.specs.Reading.{initRequest, aliveRequest, spliceRequest, abortRequest, configRequest, hardwarePlace, hardwareLength}
-use Rattle.rules.specs.Reading.{longestHardware, badHardware, extendedRequest, badInit, badExtended, readInit, readAlive, readAbort}
-use Rattle.rules.specs.Reading.{readConfig, readExtended, tailOf, badSplice, readWhole, readSplice, isRead, read}
+use Rattle.rules.specs.Reading.{initRequest, aliveRequest, spliceRequest, abortRequest, configRequest}
+use Rattle.rules.specs.Hardware.{hardwarePlace, hardwareLength}
+use Rattle.rules.specs.Hardware.{longestHardware, badHardware}
+use Rattle.rules.specs.Reading.{extendedRequest, badInit, badExtended, readInit, readAlive, readAbort}
+use Rattle.rules.specs.Reading.{readConfig, readExtended, isRead, read}
+use Rattle.rules.specs.Request.{tailOf, badSplice, readWhole, readSplice}
 use Rattle.rules.proofs.Tests.{by, or-none}
 
 -- what was said of a part, by a test that is turned round

@@ -9,8 +9,9 @@ use native.Mathlib.Nat.{add-assoc, add-zero}
 use lib.Dec.{eqb}
 use lib.ListN.{length, getD, drop, length-drop}
 use lib.Seq.{drop-drop, getD-drop}
-use Rattle.rules.specs.Reading.{separateService, serviceID, tailOf, Stream, streamLength, streamAt, badStream, Listed, listed, unlisted}
-use Rattle.rules.specs.Reading.{behind, streamsIn, pidCount, badCount, separateIn, restOf}
+use Rattle.rules.specs.Request.{separateService, serviceID, tailOf}
+use Rattle.rules.specs.Streams.{Stream, streamLength, streamAt, badStream, Listed, listed, unlisted}
+use Rattle.rules.specs.Streams.{behind, streamsIn, pidCount, badCount, separateIn, restOf}
 use Rattle.rules.proofs.Streams.{streams-step, streams-none, GoodStream, good-stream, length-kept, Separate, separate-step}
 use Rattle.reading.specs.declared.structures.Streams.{Streams}
 use Rattle.reading.specs.declared.structures.Streams.the-variants.{End, Bad}

@@ -11,7 +11,7 @@ use lib.ListN.{length, getD, drop, length-drop}
 use lib.Seq.{getD-drop, drop-drop}
 use Rattle.rules.specs.declared.Priority.the-variants as priority
 use Rattle.rules.specs.Bytes.{field}
-use Rattle.rules.specs.Reading.{descriptorLength, descriptorFits, isMux, muxValue, badMux, goodDescriptor, muxAfter}
+use Rattle.rules.specs.Descriptors.{descriptorLength, descriptorFits, isMux, muxValue, badMux, goodDescriptor, muxAfter}
 use Rattle.rules.proofs.Descriptors.{muxRest, mux-end, mux-step}
 use Rattle.rules.proofs.Tests.{and-both}
 use Rattle.reading.specs.declared.descriptors.Descriptor.{Descriptor}

@@ -4,7 +4,8 @@ use mathlib.Core.List.{List, [], _∷_}
 use Prim.Native.Nat.{ℕ, zero, suc, _+_}
 use lib.Dec.{eqb}
 use lib.ListN.{length, drop}
-use Rattle.rules.specs.Reading.{separateService, serviceID, Stream, streamLength, badStream, Listed, listed, unlisted, separateIn}
+use Rattle.rules.specs.Request.{separateService, serviceID}
+use Rattle.rules.specs.Streams.{Stream, streamLength, badStream, Listed, listed, unlisted, separateIn}
 use Rattle.reading.specs.declared.structures.Streams.{Streams}
 use Rattle.reading.specs.declared.structures.Streams.the-variants.{End, Bad}
 

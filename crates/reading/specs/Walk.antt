@@ -6,8 +6,8 @@ use Prim.Native.Nat.{ℕ, zero, suc, _+_, _≤_}
 use lib.Dec.{eqb}
 use lib.ListN.{length, drop}
 use Rattle.rules.specs.Lists.{All, some}
-use Rattle.rules.specs.Descriptors.{descriptorsIn, bytesOf, allGood}
-use Rattle.rules.specs.Reading.{descriptorLength, isMux, muxValue, goodDescriptor}
+use Rattle.rules.specs.follows.Descriptors.{descriptorsIn, bytesOf, allGood}
+use Rattle.rules.specs.Descriptors.{descriptorLength, isMux, muxValue, goodDescriptor}
 use Rattle.reading.specs.declared.descriptors.Descriptor.{Descriptor}
 use Rattle.reading.specs.declared.descriptors.Descriptor.the-variants.{Mux, Foreign, End, Bad}
 

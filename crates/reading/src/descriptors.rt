@@ -2,7 +2,7 @@
 ghost use mathlib.Core.Path.{_≡_};
 ghost use Prim.Native.Nat.{_+_, _≤_};
 ghost use lib.ListN.{length, drop};
-ghost use Rattle.rules.specs.Reading.{isMux, muxOf};
+ghost use Rattle.rules.specs.Descriptors.{isMux, muxOf};
 ghost use Rattle.reading.specs.Walk.{stepAt};
 use super::numbers::byte_at;
 use super::numbers::number4;

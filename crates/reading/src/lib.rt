@@ -7,10 +7,14 @@ ghost use Rattle.rules.specs.Bytes.{dataOf};
 ghost use Rattle.rules.specs.Calls.{framing};
 ghost use mathlib.Core.Bool.{false};
 ghost use Rattle.rules.specs.declared.Priority.the-variants.{Is};
-ghost use Rattle.rules.specs.Reading.{readExtended, lengthIn, structureIn, hardwareLength, hardwareIn, readConfig};
-ghost use Rattle.rules.specs.Reading.{channelName, splicerName, readInit, readAlive, readAbort, readStart, badSplice, descriptorsOf, muxOf};
-ghost use Rattle.rules.specs.Reading.{isBad};
-ghost use Rattle.rules.specs.Reading.{wholeRequest, readWhole, readSplice, isRead, «read»};
+ghost use Rattle.rules.specs.Reading.{readExtended, readConfig};
+ghost use Rattle.rules.specs.Hardware.{lengthIn, structureIn, hardwareLength, hardwareIn};
+ghost use Rattle.rules.specs.Reading.{channelName, splicerName, readInit, readAlive, readAbort};
+ghost use Rattle.rules.specs.Request.{readStart, badSplice, descriptorsOf};
+ghost use Rattle.rules.specs.Descriptors.{muxOf};
+ghost use Rattle.rules.specs.Descriptors.{isBad};
+ghost use Rattle.rules.specs.Request.{wholeRequest, readWhole, readSplice};
+ghost use Rattle.rules.specs.Reading.{isRead, «read»};
 ghost use Rattle.reading.specs.Structures.{tailPlace};
 
 pub mod descriptors;

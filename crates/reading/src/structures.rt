@@ -2,7 +2,7 @@
 ghost use mathlib.Core.Path.{_≡_};
 ghost use Prim.Native.Nat.{_≤_};
 ghost use lib.ListN.{length};
-ghost use Rattle.rules.specs.Reading.{badStream, pidCount, mostStreams};
+ghost use Rattle.rules.specs.Streams.{badStream, pidCount, mostStreams};
 ghost use Rattle.reading.specs.Structures.{streamsEnd, endFrom};
 use super::numbers::byte_at;
 use super::numbers::number2;

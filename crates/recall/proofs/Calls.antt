@@ -9,10 +9,12 @@ use native.Mathlib.Omega.{arith}
 use types.Run.{OneOf}
 use denote.Enum.Declared.{tagOf}
 use Rattle.rules.specs.Lists.{All}
-use Rattle.rules.specs.Bytes.{Byte, padded, written}
+use Rattle.rules.specs.follows.Wires.{Byte}
+use Rattle.rules.specs.Bytes.{padded, written}
 use Rattle.rules.specs.Card.{cardName}
 use Rattle.rules.specs.Calls as rules
-use Rattle.rules.specs.Calls.{Answer, refused, good, writtenBy, bufferAfter, Call, opens, closes, ticks}
+use Rattle.rules.specs.HouseNumbers.{Answer, refused, good, writtenBy, bufferAfter}
+use Rattle.rules.specs.Calls.{Call, opens, closes, ticks}
 use Rattle.rules.proofs.Bytes.{padded-byte}
 use Rattle.rules.proofs.Written.{written-none}
 use Rattle.recall_log.specs.declared.Reply.{Reply}

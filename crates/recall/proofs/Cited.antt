@@ -16,7 +16,8 @@ use contract.Notation.{Connectives, connectives}
 use denote.Ref.{now}
 use denote.Triple.Clauses.{AtExit}
 use denote.Triple.Entry.{Args, Res}
-use Rattle.rules.specs.Calls.{lendingMaps, opens, closes, messages, ticks}
+use Rattle.rules.specs.HouseNumbers.{lendingMaps}
+use Rattle.rules.specs.Calls.{opens, closes, messages, ticks}
 use Rattle.recall.specs.Recall.{Remembers, Forgets}
 use Rattle.recall.proofs.fresh as freshly
 use Rattle.recall.proofs.«open» as opening

@@ -16,11 +16,13 @@ use Rattle.rules.specs.declared.Refusal.{Refusal}
 use Rattle.rules.specs.declared.Framing.{Framing}
 use Rattle.rules.specs.declared.Framing.the-variants.{Framed, Unframed}
 use Rattle.rules.specs.Lists.{All}
-use Rattle.rules.specs.Bytes.{Byte, part, dataOf, messageSize, largestSize, oversize}
+use Rattle.rules.specs.follows.Wires.{Byte}
+use Rattle.rules.specs.Bytes.{part, dataOf, messageSize, largestSize, oversize}
 use Rattle.rules.specs.Card.{cardName, cardLoans}
 use Rattle.rules.specs.State.{noHardware}
 use Rattle.rules.specs.Records.{Record, ConfigResponse, output}
-use Rattle.rules.specs.Calls.{Loans, lendingMaps, longestSection, longSection, framing, bufferAfter, writtenBy, Call, messages}
+use Rattle.rules.specs.HouseNumbers.{Loans, lendingMaps, longestSection, longSection, bufferAfter, writtenBy}
+use Rattle.rules.specs.Calls.{framing, Call, messages}
 use Rattle.rules.proofs.Tests.{or-none, by}
 use Rattle.rules.proofs.Written.{written-none}
 use Rattle.recall_log.specs.declared.Reply.the-variants.{Refused, Done}

@@ -13,8 +13,9 @@ use Rattle.rules.specs.declared.Refusal.the-variants.{BadName, Counter, LongSec
 use Rattle.rules.specs.Lists.{All, put}
 use Rattle.rules.specs.Bytes.{written}
 use Rattle.rules.specs.State.{Splicer}
-use Rattle.rules.specs.Calls.{Answer, refused, good, Called, houseNumber, writtenBy, bufferAfter, Call, call, after}
-use Rattle.rules.specs.Sound.{Wired}
+use Rattle.rules.specs.HouseNumbers.{Answer, refused, good, Called, houseNumber, writtenBy, bufferAfter}
+use Rattle.rules.specs.Calls.{Call, call, after}
+use Rattle.rules.specs.follows.Sound.{Wired}
 use Rattle.rules.proofs.Tests.{by}
 use Rattle.recall_log.specs.declared.Reply.the-variants.{Refused, Done}
 use Rattle.recall_log.specs.Log.{keptCalls, taken, logLength, otherLength, full}

@@ -8,8 +8,9 @@ use Prim.Native.Nat.{ℕ}
 use lib.ListN.{length}
 use Rattle.rules.specs.Lists.{put}
 use Rattle.rules.specs.State.{Splicer}
-use Rattle.rules.specs.Calls.{Answer, refused, good, Call, call, after}
-use Rattle.rules.specs.Sound.{Wired}
+use Rattle.rules.specs.HouseNumbers.{Answer, refused, good}
+use Rattle.rules.specs.Calls.{Call, call, after}
+use Rattle.rules.specs.follows.Sound.{Wired}
 use Rattle.rules.proofs.Refused.{unchanged}
 use Rattle.rules.proofs.Sound.{after-last}
 use Rattle.recall_log.specs.Log.{keptCalls, logLength, full}

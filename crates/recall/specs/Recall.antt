@@ -8,7 +8,8 @@ use lib.ListN.{length, replicate}
 use Rattle.rules.specs.Lists.{put}
 use Rattle.rules.specs.Bytes.{padded, written}
 use Rattle.rules.specs.State.{Splicer}
-use Rattle.rules.specs.Calls.{Called, writtenBy, fresh, Call, call, after}
+use Rattle.rules.specs.HouseNumbers.{Called, writtenBy}
+use Rattle.rules.specs.Calls.{fresh, Call, call, after}
 use Rattle.rules.specs.Card.{cardName}
 use Rattle.recall_log.specs.declared.Reply.{Reply}
 use Rattle.recall_log.specs.declared.Reply.the-variants.{Full, Done}

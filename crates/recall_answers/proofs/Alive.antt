@@ -8,7 +8,7 @@ use borrow.Author.Tests.{lt-ltb, le-ltb}
 use Rattle.rules.specs.declared.Ninths.{Ninths}
 use Rattle.rules.specs.declared.Micros.{Micros}
 use Rattle.rules.specs.Units.{toMicros}
-use Rattle.rules.specs.Reading.{nobody}
+use Rattle.rules.specs.Request.{nobody}
 use Rattle.rules.specs.Records.{AliveResponse}
 use Rattle.recall_rules.specs.declared.Verdict.{Verdict}
 use Rattle.recall_rules.specs.Verdicts.{sessionOf}

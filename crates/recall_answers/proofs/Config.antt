@@ -9,7 +9,8 @@ use borrow.Author.Tests.{eq-eqb, ne-eqb}
 use Rattle.rules.specs.Lists.{All}
 use Rattle.rules.specs.Bytes.{nameIn, padded, messageSize, dataOf}
 use Rattle.rules.specs.Card.{cardName}
-use Rattle.rules.specs.Reading.{hardwarePlace, hardwareLength, hardwareIn, longestHardware, badInit}
+use Rattle.rules.specs.Hardware.{hardwarePlace, hardwareLength, hardwareIn, longestHardware}
+use Rattle.rules.specs.Reading.{badInit}
 use Rattle.rules.specs.State.{noHardware}
 use Rattle.rules.specs.Records.{Record, ConfigResponse}
 use Rattle.rules.proofs.All.{at-all}

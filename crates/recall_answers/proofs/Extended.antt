@@ -10,7 +10,8 @@ use borrow.Author.Tests.{eq-eqb, ne-eqb}
 use Rattle.rules.specs.declared.Past.{Past}
 use Rattle.rules.specs.Units.{toTicks}
 use Rattle.rules.specs.Lists.{count, place}
-use Rattle.rules.specs.State.{empty, mostKept, unused, isKept}
+use Rattle.rules.specs.State.{empty}
+use Rattle.rules.specs.Recent.{mostKept, unused, isKept}
 use Rattle.rules.specs.Records.{ExtendedFound, ExtendedNone}
 use Rattle.rules.specs.Answers.{isPast, latest}
 use Rattle.recall_rules.specs.declared.Verdict.{Verdict}

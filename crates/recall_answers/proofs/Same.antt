@@ -7,8 +7,8 @@ use native.Mathlib.Omega.{arith}
 use lib.ListN.{length, getD, set, take, replicate, length-append, length-replicate, getD-replicate}
 use lib.Seq.{take-at, getD-set-same, getD-append-add}
 use Rattle.rules.specs.Bytes.{written}
-use Rattle.rules.specs.Reading.{hardwareIn}
-use Rattle.rules.specs.Calls.{longestSection}
+use Rattle.rules.specs.Hardware.{hardwareIn}
+use Rattle.rules.specs.HouseNumbers.{longestSection}
 use Rattle.rules.specs.Records.{Record, output}
 use Rattle.rules.proofs.Records.{length-record}
 use Rattle.rules.proofs.Written.{output-one}

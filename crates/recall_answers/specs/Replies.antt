@@ -11,7 +11,8 @@ use Rattle.rules.specs.declared.Message.the-variants.{Init, Splice}
 use Rattle.rules.specs.declared.Request.{Request}
 use Rattle.rules.specs.declared.Link.the-variants.{Closed, Opened, Initialised}
 use Rattle.rules.specs.Bytes.{messageSize, dataOf}
-use Rattle.rules.specs.Reading.{initRequest, hardwareIn, badInit}
+use Rattle.rules.specs.Reading.{initRequest, badInit}
+use Rattle.rules.specs.Hardware.{hardwareIn}
 use Rattle.rules.specs.State.{noHardware, isInitialised}
 use Rattle.rules.specs.Records.{Record}
 use Rattle.rules.specs.Card.{cardName}

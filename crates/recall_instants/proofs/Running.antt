@@ -17,8 +17,9 @@ use Rattle.rules.specs.State as state
 use Rattle.rules.specs.State.{notAfter}
 use Rattle.rules.specs.Records.{Record, output}
 use Rattle.rules.specs.Instants as instants
-use Rattle.rules.specs.Sound.{Since, Holding, horizon}
-use Rattle.rules.specs.Calls.{noRoom}
+use Rattle.rules.specs.follows.Sound.{Since, Holding}
+use Rattle.rules.specs.Units.{horizon}
+use Rattle.rules.specs.HouseNumbers.{noRoom}
 use Rattle.rules.proofs.All.{all-into}
 use Rattle.rules.proofs.Every.{none-some}
 use Rattle.rules.proofs.Count.{some-none}

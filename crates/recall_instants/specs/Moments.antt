@@ -5,7 +5,7 @@ use lib.ListN.{length, set}
 use Rattle.rules.specs.declared.Session.{Session}
 use Rattle.rules.specs.State.{Queue}
 use Rattle.rules.specs.Instants.{began}
-use Rattle.rules.specs.Sound.{Holding}
+use Rattle.rules.specs.follows.Sound.{Holding}
 use Rattle.recall_rules.specs.declared.Phase.the-variants.{Started}
 use Rattle.recall_rules.specs.declared.Verdict.{Verdict}
 use Rattle.recall_rules.specs.Verdicts.{verdict, sessionOf, Shows}

@@ -14,7 +14,7 @@ ghost use mathlib.Core.Path.{_≡_};
 ghost use Prim.Native.Nat.{_+_, _/_, _≤_, _<_};
 ghost use lib.ListN.{length};
 ghost use Rattle.rules.specs.State.{earliest, notAfter};
-ghost use Rattle.rules.specs.Sound.{horizon};
+ghost use Rattle.rules.specs.Units.{horizon};
 ghost use Rattle.recall_rules.specs.Verdicts.{isWaiting, hasStarted, standing, sessionOf};
 ghost use Rattle.recall_rows.specs.Rows.{width};
 ghost use Rattle.recall_rules.specs.Work.{onAir, elapse, due, mayStart, ousted, started, launched, startAt, instant, runAll};

@@ -21,9 +21,10 @@ use Rattle.rules.specs.State.{Splicer, linkOf, isInitialised}
 use Rattle.rules.specs.Records.{General}
 use Rattle.rules.specs.Answers.{says, answerRead, answer}
 use Rattle.rules.specs.Card.{cardLoans}
-use Rattle.rules.specs.Calls.{Loans, Called, refuse, noConnection, noRoom, notOpen, longSection, sectionOf, framing, handled}
+use Rattle.rules.specs.HouseNumbers.{Loans, Called, refuse, noConnection, noRoom, notOpen, longSection}
+use Rattle.rules.specs.Calls.{sectionOf, framing, handled}
 use Rattle.rules.specs.Calls.{openCall, closeCall, messageCall, moveCall, tickCall, Call, opens, closes, messages, ticks, moves, cues, call}
-use Rattle.rules.specs.Sound.{Wired}
+use Rattle.rules.specs.follows.Sound.{Wired}
 use Rattle.rules.proofs.Bytes.{part-byte}
 use Rattle.recall_log.specs.Kept.{Its, keptForm, Good}
 use Rattle.recall_log.proofs.Firsts.{part-take}

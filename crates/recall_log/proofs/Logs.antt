@@ -11,11 +11,13 @@ use lib.ListN.{length, take, drop, replicate, length-append, take-append-drop}
 use lib.Seq.{length-take-le, take-at, drop-at, drop-drop}
 use borrow.Author.Tests.{ltb-true, ltb-false, le-ltb, leb-false, le-leb, lt-leb, eqb-true, eq-eqb, ne-eqb}
 use Rattle.rules.specs.Lists.{All, put}
-use Rattle.rules.specs.Bytes.{Byte, messageSize, oversize}
-use Rattle.rules.specs.Calls.{Answer, refused, Call}
+use Rattle.rules.specs.follows.Wires.{Byte}
+use Rattle.rules.specs.Bytes.{messageSize, oversize}
+use Rattle.rules.specs.HouseNumbers.{Answer, refused}
+use Rattle.rules.specs.Calls.{Call}
 use Rattle.rules.specs.Card.{openMark, closeMark, messageMark, tickMark, markIn, messageFrom, markEnd, tickEnd, headerEnd, messageEnd}
 use Rattle.rules.specs.Card.{Next, calls, ends, stops, next, nextMessage, nextTick}
-use Rattle.rules.specs.Sound.{Wired}
+use Rattle.rules.specs.follows.Sound.{Wired}
 use Rattle.rules.proofs.Tests.{by, clash, or-none}
 use Rattle.rules.proofs.All.{all-drop}
 use Rattle.rules.proofs.Bytes.{part-byte, field-below}

@@ -8,7 +8,8 @@ use native.Mathlib.Omega.{arith}
 use lib.ListN.{length}
 use borrow.Author.Tests.{lt-ltb, le-ltb}
 use Rattle.rules.specs.Bytes.{bytes, value, valueFrom, messageSize, written}
-use Rattle.rules.specs.Calls.{opens, closes, messages, ticks, lending, lendingMaps}
+use Rattle.rules.specs.Calls.{opens, closes, messages, ticks}
+use Rattle.rules.specs.HouseNumbers.{lending, lendingMaps}
 use Rattle.rules.specs.Card.{cardLoans, next, nextMessage, nextTick}
 use Rattle.recall_log.specs.declared.Reply.the-variants.{Full}
 use Rattle.recall_log.specs.Log.{stepped, callsIn, bytesIn, keptCalls, taken, free, full, longestRecord}

@@ -8,7 +8,8 @@ use lib.ListN.{length, take, drop, replicate}
 use Rattle.rules.specs.Lists.{put}
 use Rattle.rules.specs.Bytes.{bytes, part, messageSize, written}
 use Rattle.rules.specs.Records.{output}
-use Rattle.rules.specs.Calls.{Answer, refused, good, houseNumber, Call, opens, closes, messages, ticks, moves, cues}
+use Rattle.rules.specs.HouseNumbers.{Answer, refused, good, houseNumber}
+use Rattle.rules.specs.Calls.{Call, opens, closes, messages, ticks, moves, cues}
 use Rattle.rules.specs.Card.{cardRoom, cardLoans, openMark, closeMark, messageMark, tickMark, markEnd, tickEnd, messageEnd}
 use Rattle.rules.specs.Card.{Next, calls, ends, stops, next}
 pub use Rattle.reply.specs.Unmoved.{unmoved}

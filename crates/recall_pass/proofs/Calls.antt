@@ -23,7 +23,8 @@ use Rattle.rules.specs.Records.{Record, output}
 use Rattle.rules.specs.State.{Queue, of, isOpen}
 use Rattle.rules.specs.Card.{cardName}
 use Rattle.rules.specs.Ends as ends
-use Rattle.rules.specs.Calls.{framing, writtenBy, bufferAfter}
+use Rattle.rules.specs.Calls.{framing}
+use Rattle.rules.specs.HouseNumbers.{writtenBy, bufferAfter}
 use Rattle.rules.proofs.Written.{written-none}
 use Rattle.rules.proofs.Size.{Lean, cancelled-lean}
 use Rattle.rules.proofs.Sound.{few-wait, few-started}

@@ -6,11 +6,12 @@ use mathlib.Core.List.{List, [], _∷_, _++_}
 use Prim.Native.Nat.{ℕ, _+_}
 use native.Mathlib.Omega.{arith}
 use Rattle.rules.specs.Lists.{All}
-use Rattle.rules.specs.Bytes.{Byte, padded}
+use Rattle.rules.specs.follows.Wires.{Byte}
+use Rattle.rules.specs.Bytes.{padded}
 use Rattle.rules.specs.Card.{cardName}
 use Rattle.rules.specs.Calls as calls
 use Rattle.rules.specs.Calls.{Call}
-use Rattle.rules.specs.Sound.{Sound, Wired}
+use Rattle.rules.specs.follows.Sound.{Sound, Wired}
 use Rattle.rules.proofs.Bytes.{padded-byte}
 use Rattle.rules.proofs.Sound.{sound-fresh, sound-call}
 use Rattle.recall_rules.specs.Calls.{Pass, call, begun, passed}

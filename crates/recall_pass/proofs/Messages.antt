@@ -20,9 +20,11 @@ use Rattle.rules.specs.declared.Framing.the-variants.{Framed, Unframed}
 use Rattle.rules.specs.declared.Refusal.the-variants.{NoConnection, NoRoom, NotOpen, LongSection}
 use Rattle.rules.specs.Lists.{All}
 use Rattle.rules.specs.Bytes.{value, part, field, messageSize, oversize, dataOf}
-use Rattle.rules.specs.Reading.{hardwareIn, badInit}
+use Rattle.rules.specs.Hardware.{hardwareIn}
+use Rattle.rules.specs.Reading.{badInit}
 use Rattle.rules.specs.Card.{cardLoans}
-use Rattle.rules.specs.Calls.{noConnection, noRoom, longSection, framing, Loans, messages}
+use Rattle.rules.specs.HouseNumbers.{noConnection, noRoom, longSection, Loans}
+use Rattle.rules.specs.Calls.{framing, messages}
 use Rattle.rules.proofs.Tests.{by}
 use Rattle.reading.proofs.Laws.{behind}
 use Rattle.reading.proofs.Laws as reads

@@ -7,10 +7,11 @@ use lib.ListN.{length, take, drop, length-append, length-drop}
 use lib.Seq.{append-snoc, drop-drop}
 use borrow.Rule.Slice.PartMut.{midOf}
 use Rattle.rules.specs.Lists.{All}
-use Rattle.rules.specs.Bytes.{Byte, value, part, messageSize}
+use Rattle.rules.specs.follows.Wires.{Byte}
+use Rattle.rules.specs.Bytes.{value, part, messageSize}
 use Rattle.rules.specs.Calls.{Call, opens, closes, messages, ticks, moves, cues}
 use Rattle.rules.specs.Card.{cardName, cardLoans, cardRoom, Next, calls, ends, stops, next}
-use Rattle.rules.specs.Sound.{Wired}
+use Rattle.rules.specs.follows.Sound.{Wired}
 use Rattle.rules.proofs.Every.{all-parts}
 use Rattle.reading.proofs.Laws.{behind}
 use Rattle.recall_rules.specs.Calls.{Pass, openCall, closeCall, tickCall, call, begun, passed}

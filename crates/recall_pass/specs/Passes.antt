@@ -8,11 +8,13 @@ use Rattle.rules.specs.declared.Refusal.the-variants.{NoConnection, NoRoom, Not
 use Rattle.rules.specs.declared.Framing.{Framing}
 use Rattle.rules.specs.declared.Framing.the-variants.{Unframed}
 use Rattle.rules.specs.Lists.{All}
-use Rattle.rules.specs.Reading.{hardwareIn}
+use Rattle.rules.specs.Hardware.{hardwareIn}
 use Rattle.rules.specs.State.{Queue, Splicer}
 use Rattle.rules.specs.Card.{cardName}
-use Rattle.rules.specs.Calls.{noConnection, noRoom, framing, bufferAfter}
-use Rattle.rules.specs.Sound.{horizon, Sound}
+use Rattle.rules.specs.HouseNumbers.{noConnection, noRoom, bufferAfter}
+use Rattle.rules.specs.Calls.{framing}
+use Rattle.rules.specs.Units.{horizon}
+use Rattle.rules.specs.follows.Sound.{Sound}
 use Rattle.recall_rules.specs.Verdicts.{Shows}
 use Rattle.recall_rules.specs.Calls.{Pass, Answered, Called, notOpen, answer, begun, passed}
 use Rattle.recall_rows.specs.Rows.{width, Fits}

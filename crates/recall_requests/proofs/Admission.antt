@@ -14,7 +14,7 @@ use Rattle.rules.specs.declared.Request.{Request}
 use Rattle.rules.specs.Lists.{count}
 use Rattle.rules.specs.Records.{Record, SpliceResponse, AbortResponse, output}
 use Rattle.rules.specs.State.{startsAfter}
-use Rattle.rules.specs.Answers.{sessionAt, accepts}
+use Rattle.rules.specs.Splicing.{sessionAt, accepts}
 use Rattle.rules.proofs.Size.{weight-one}
 use Rattle.rules.proofs.Written.{written-same}
 use Rattle.writing.specs.Puts.{Puts}

@@ -15,12 +15,13 @@ use Rattle.rules.specs.declared.Start.the-variants.{Timed, Linked}
 use Rattle.rules.specs.declared.Request.{Request}
 use Rattle.rules.specs.Units.{fromTicks}
 use Rattle.rules.specs.Lists.{some, count}
-use Rattle.rules.specs.Reading.{nobody}
+use Rattle.rules.specs.Request.{nobody}
 use Rattle.rules.specs.State.{Queue, empty, of}
-use Rattle.rules.specs.Answers as answers
-use Rattle.rules.specs.Answers.{priorOf, sessionAt, tooLate, sumOf}
-use Rattle.rules.specs.Asked.{Within, Asked}
-use Rattle.rules.specs.Sound.{horizon, Each}
+use Rattle.rules.specs.Splicing as splicing
+use Rattle.rules.specs.Splicing.{priorOf, sessionAt, tooLate, sumOf}
+use Rattle.rules.specs.follows.Asked.{Within, Asked}
+use Rattle.rules.specs.Units.{horizon}
+use Rattle.rules.specs.follows.Sound.{Each}
 use Rattle.rules.proofs.Count.{some-place}
 use Rattle.rules.proofs.Bounds.{never, start-early}
 use Rattle.rules.proofs.Sound.{early}
@@ -159,13 +160,13 @@ unfolding sessionAt
 rank-fits t c r e a = omega (arith, ap (λ (s : Session). s .access) e, ap (λ (s : Session). s .overrides) e, a .access, a .overrides)
 
 -- no start is so late that an end wraps
-early-start : (c : ℕ) (f : Start) (q : Queue) → Within f → Each (λ s. s .end .0 < never) q → answers.startOf c f q < never
-unfolding answers.startOf
+early-start : (c : ℕ) (f : Start) (q : Queue) → Within f → Each (λ s. s .end .0 < never) q → splicing.startOf c f q < never
+unfolding splicing.startOf
 early-start c (Timed t) q h a = omega arith
 early-start c (Linked p) q h a = start-early c (Linked p) q (omega arith) a
 
 pub start-fits : (clock c : ℕ) (r : Request) (l : List Verdict) → Asked r → Keeps clock l → clock < horizon → startOf c (r .start) l < never
-unfolding requested answers.requested sessionAt
+unfolding requested splicing.requested sessionAt
 start-fits clock c r l a k h =
     let q = k .queue in
     omega (

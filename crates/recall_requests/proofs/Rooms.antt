@@ -13,8 +13,9 @@ use Rattle.rules.specs.Records.{SpliceResponse, AbortResponse}
 use Rattle.rules.specs.State.{Queue, holds}
 use Rattle.rules.specs.Ends.{Turn, andThen, evicted, aborted}
 use Rattle.rules.specs.Answers as answers
-use Rattle.rules.specs.Answers.{Spliced, requested, spliceResult, accepts, accepted}
-use Rattle.rules.specs.Calls.{noRoom}
+use Rattle.rules.specs.Splicing as splicing
+use Rattle.rules.specs.Splicing.{Spliced, requested, spliceResult, accepts, accepted}
+use Rattle.rules.specs.HouseNumbers.{noRoom}
 use Rattle.rules.proofs.Tests.{by}
 use Rattle.rules.proofs.Size.{weight, weight-one, weight-append, evicted-lean, aborted-lean}
 use Rattle.rules.proofs.Sound.{few-wait, few-started}
@@ -28,8 +29,8 @@ use Rattle.recall_requests.specs.Admits.{spliced}
 abbrev most : Queue → ℕ
 most q = 14 + (14 * length (q .waiting) + 23 * length (q .started))
 
-splice-size : (clock c : ℕ) (r : Request) (q : Queue) → weight (answers.answerSplice clock c r q .turn .written) ≤ most q
-unfolding answers.answerSplice accepted andThen
+splice-size : (clock c : ℕ) (r : Request) (q : Queue) → weight (splicing.answerSplice clock c r q .turn .written) ≤ most q
+unfolding splicing.answerSplice accepted andThen
 splice-size clock c r q =
     let new = requested c r q in
     let n = spliceResult clock c r new q in

@@ -5,7 +5,7 @@ use mathlib.Core.List.{List, [], _∷_, _++_}
 use Prim.Native.Nat.{ℕ, _≤_}
 use Rattle.rules.specs.declared.Request.{Request}
 use Rattle.rules.specs.declared.Session.{Session}
-use Rattle.rules.specs.Answers.{accepts}
+use Rattle.rules.specs.Splicing.{accepts}
 use Rattle.recall_rules.specs.declared.Phase.the-variants.{Waits}
 use Rattle.recall_rules.specs.declared.Verdict.{Verdict}
 use Rattle.recall_rules.specs.Verdicts.{verdict}

@@ -14,14 +14,16 @@ use Rattle.rules.specs.declared.Start.the-variants.{Timed, Linked}
 use Rattle.rules.specs.declared.Request.{Request}
 use Rattle.rules.specs.declared.Past.{Past}
 use Rattle.rules.specs.Lists.{place}
-use Rattle.rules.specs.Reading.{nobody}
+use Rattle.rules.specs.Request.{nobody}
 use Rattle.rules.specs.State as state
 use Rattle.rules.specs.State.{Queue, empty, of, is, startsAt, startsAfter, held, withWaiting}
 use Rattle.rules.specs.Ends as ends
 use Rattle.rules.specs.Instants.{outranks}
 use Rattle.rules.specs.Answers as answers
-use Rattle.rules.specs.Answers.{sessionAt, fullBy, inserted, latest, recalls}
-use Rattle.rules.specs.Sound.{Once, Falling, Holding}
+use Rattle.rules.specs.Splicing as splicing
+use Rattle.rules.specs.Splicing.{sessionAt, fullBy, inserted}
+use Rattle.rules.specs.Answers.{latest, recalls}
+use Rattle.rules.specs.follows.Sound.{Once, Falling, Holding}
 use Rattle.rules.proofs.Count.{count-insertAt, count-append}
 use Rattle.recall_rules.specs.Verdicts.{Waits, isWaiting, hasStarted, isHeld, Verdict, none, verdict, standing, which, sessionOf}
 use Rattle.recall_rules.specs.Verdicts.{Same, Shows}
@@ -40,32 +42,32 @@ module _ (l : List Verdict) (q : Queue) (e : Shows l q) where
   pub holds-same : (c x : ℕ) → holds c x l ≡ state.holds c x q
   holds-same c x = same-some (is c x) (standing isHeld l) (held q) (shows-held l q e)
 
-  unknown-same : (c : ℕ) (f : Start) → unknownPrior c f l ≡ answers.unknownPrior c f q
-  unfolding unknownPrior answers.unknownPrior
+  unknown-same : (c : ℕ) (f : Start) → unknownPrior c f l ≡ splicing.unknownPrior c f q
+  unfolding unknownPrior splicing.unknownPrior
   unknown-same c (Timed t) = refl
   unknown-same c (Linked p) = ap not (holds-same c p)
 
-  pub number-same : (c : ℕ) (r : Request) → wrongNumber c r l ≡ answers.wrongNumber c r q
+  pub number-same : (c : ℕ) (r : Request) → wrongNumber c r l ≡ splicing.wrongNumber c r q
   unfolding wrongNumber
   number-same c r = ap₂ (λ a b. eqb (r .id) nobody || (a || b)) (holds-same c (r .id)) (unknown-same c (r .start))
 
-  pub collides-same : (new : Session) → collides new l ≡ answers.collides new (q .waiting)
-  unfolding collides answers.collides
+  pub collides-same : (new : Session) → collides new l ≡ splicing.collides new (q .waiting)
+  unfolding collides splicing.collides
   collides-same new = same-some (λ s. startsAt (new .start .0) s && not (outranks new s)) (standing isWaiting l) (q .waiting) (e .waiting)
 
-  pub full-same : (c : ℕ) → full c l ≡ answers.full c (q .waiting)
-  unfolding full answers.full
+  pub full-same : (c : ℕ) → full c l ≡ splicing.full c (q .waiting)
+  unfolding full splicing.full
   full-same c =
       ap (λ (n : ℕ → ℕ). fullBy n c) (fun-ext (λ d. e .waiting (of d)))
 
-  result-same : (clock c : ℕ) (r : Request) (new : Session) → spliceResult clock c r new l ≡ answers.spliceResult clock c r new q
-  unfolding spliceResult answers.spliceResult
+  result-same : (clock c : ℕ) (r : Request) (new : Session) → spliceResult clock c r new l ≡ splicing.spliceResult clock c r new q
+  unfolding spliceResult splicing.spliceResult
   result-same clock c r new = rw (number-same c r, collides-same new, full-same c)
 
   -- ## The session asked for
 
-  start-same : Once q → (c : ℕ) (f : Start) → startOf c f l ≡ answers.startOf c f q
-  unfolding startOf answers.startOf
+  start-same : Once q → (c : ℕ) (f : Start) → startOf c f l ≡ splicing.startOf c f q
+  unfolding startOf splicing.startOf
   start-same o c (Timed t) = refl
   start-same o c (Linked p) = ap (λ (s : Session). s .end .0) (go (ltb (which isHeld (is c p) l) (length l)) refl)
     where
@@ -81,8 +83,8 @@ module _ (l : List Verdict) (q : Queue) (e : Shows l q) where
           ∙ sym (List·getD-eq-default (held q) empty (ltb-false (place (is c p) (held q)) (length (held q))
           (sym (found isHeld (is c p) l (held q) h) ∙ f)))
 
-  pub requested-same : Once q → (c : ℕ) (r : Request) → requested c r l ≡ answers.requested c r q
-  unfolding requested answers.requested
+  pub requested-same : Once q → (c : ℕ) (r : Request) → requested c r l ≡ splicing.requested c r q
+  unfolding requested splicing.requested
   requested-same o c r = ap (λ t. sessionAt t c r) (start-same o c (r .start))
 
 -- ## f: the new call's verdict stands behind the others
@@ -104,26 +106,26 @@ appended-same s l q e =
       numbered = a .numbered;
     }
 
-pub accepted-same : (s : Session) (l : List Verdict) (q : Queue) → Shows l q → Fit q → SameTurn (accepted s l) (answers.accepted s q)
-unfolding accepted answers.accepted
+pub accepted-same : (s : Session) (l : List Verdict) (q : Queue) → Shows l q → Fit q → SameTurn (accepted s l) (splicing.accepted s q)
+unfolding accepted splicing.accepted
 accepted-same s l q e f =
     let a = evicted-same (s .start .0) l q e (f .sorted) (f .orderly) in
     then-same _ _ _ _ a (record { written = refl; shows = appended-same s _ _ (a .shows) })
 
 -- 02, CR 11
-pub later-same : (s : Session) (l : List Verdict) (q : Queue) → Shows l q → Fit q → later s l ≡ answers.later s q
-unfolding later answers.later
+pub later-same : (s : Session) (l : List Verdict) (q : Queue) → Shows l q → Fit q → later s l ≡ splicing.later s q
+unfolding later splicing.later
 later-same s l q e f = evicted-same (s .start .0) l q e (f .sorted) (f .orderly) .shows .waiting (startsAfter (s .start .0))
 
 -- the same turn, and CR 11's words the same
-pub record SameSpliced (a : Spliced) (b : answers.Spliced) : Type 0 where
+pub record SameSpliced (a : Spliced) (b : splicing.Spliced) : Type 0 where
   pub turn : SameTurn (a .turn) (b .turn)
   pub accepted : a .accepted ≡ b .accepted
   pub moved : a .moved ≡ b .moved
 
 module _ (now : ℕ) (l : List Verdict) (q : Queue) (e : Shows l q) (h : Holding now q) where
-  pub splice-same : (clock c : ℕ) (r : Request) → SameSpliced (answerSplice clock c r l) (answers.answerSplice clock c r q)
-  unfolding answerSplice answers.answerSplice
+  pub splice-same : (clock c : ℕ) (r : Request) → SameSpliced (answerSplice clock c r l) (splicing.answerSplice clock c r q)
+  unfolding answerSplice splicing.answerSplice
   splice-same clock c r =
       rw (← (requested-same l q e (h .once) c r), ← (result-same l q e clock c r (requested c r l)))
       (chosen SameSpliced (eqb (spliceResult clock c r (requested c r l) l) 100) _ _ _ _

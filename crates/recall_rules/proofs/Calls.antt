@@ -13,14 +13,17 @@ use Rattle.rules.specs.Units.{timeOf, badMicros, fromMicros, toMicros}
 use Rattle.rules.specs.Lists.{All}
 use Rattle.rules.specs.Bytes.{dataOf}
 use Rattle.rules.specs.Reading.{initRequest, channelName, isRead, read}
-use Rattle.rules.specs.State.{Queue, Splicer, isOpen, isInitialised, rememberedAll}
+use Rattle.rules.specs.State.{Queue, Splicer, isOpen, isInitialised}
+use Rattle.rules.specs.Recent.{rememberedAll}
 use Rattle.rules.specs.Records.{Record, AliveResponse}
 use Rattle.rules.specs.Answers as answers
 use Rattle.rules.specs.Answers.{initResult}
 use Rattle.rules.specs.Calls as calls
+use Rattle.rules.specs.HouseNumbers as numbers
 use Rattle.rules.specs.Cues.{badSection}
-use Rattle.rules.specs.Calls.{noConnection, noRoom, longSection, framing, Loans, Call, opens, closes, messages, ticks, moves, cues}
-use Rattle.rules.specs.Sound.{Holding, Sound, Wired}
+use Rattle.rules.specs.HouseNumbers.{noConnection, noRoom, longSection, Loans}
+use Rattle.rules.specs.Calls.{framing, Call, opens, closes, messages, ticks, moves, cues}
+use Rattle.rules.specs.follows.Sound.{Holding, Sound, Wired}
 use Rattle.rules.proofs.Sound.{sound-call}
 use Rattle.recall_rules.specs.Verdicts.{Shows}
 use Rattle.recall_rules.specs.Calls.{Pass, Answered, Called, linkOf, notOpen, says, aliveResponse, configResponse, answerInit}
@@ -44,7 +47,7 @@ pub record SameAnswered (a : Answered) (b : answers.Answered) : Type 0 where
   pub moved : a .moved ≡ b .moved
   pub state : SameState (a .pass) (b .splicer)
 
-pub record SameCalled (a : Called) (b : calls.Called) : Type 0 where
+pub record SameCalled (a : Called) (b : numbers.Called) : Type 0 where
   pub answer : a .answer ≡ b .answer
   pub accepted : a .accepted ≡ b .accepted
   pub moved : a .moved ≡ b .moved
@@ -111,7 +114,7 @@ module _ (s : Pass) (p : ℕ) (q : Queue) (e : Shows (s .verdicts) q) (h : Holdi
       (λ g. chosen SameAnswered (eqb id 0x000D) _ _ _ _ (λ i. says-same _)
       (λ i. chosen SameAnswered (not (isRead id)) _ _ _ _ (λ j. says-same _) (λ j. read-same c (read id d) d section))))
 
-  refused-same : (n : Refusal) → SameCalled (refuse n s) (calls.refuse n (shown s p q))
+  refused-same : (n : Refusal) → SameCalled (refuse n s) (numbers.refuse n (shown s p q))
   refused-same n = record { answer = refl; accepted = refl; moved = refl; state = stays }
 
   -- the section on air
@@ -127,7 +130,7 @@ module _ (s : Pass) (p : ℕ) (q : Queue) (e : Shows (s .verdicts) q) (h : Holdi
       let d = dataOf size l in
       let a : SameAnswered (answer c id d (sectionOf loans s) s) (answers.answer c id d (calls.sectionOf loans z) z) =
       rw (section-same loans) (answer-same c id d (calls.sectionOf loans z)) in
-      record { answer = ap (λ x. calls.good (8 + size) x) (a .written); accepted = a .accepted; moved = a .moved; state = a .state }
+      record { answer = ap (λ x. numbers.good (8 + size) x) (a .written); accepted = a .accepted; moved = a .moved; state = a .state }
 
   move-same : (until room : ℕ) → SameCalled (moveCall until room s) (calls.moveCall until room (shown s p q))
   unfolding moveCall ticked calls.moveCall calls.ticked
@@ -136,7 +139,7 @@ module _ (s : Pass) (p : ℕ) (q : Queue) (e : Shows (s .verdicts) q) (h : Holdi
       chosen SameCalled (noRoom room) _ _ _ _ (λ f. refused-same _)
       (λ f. chosen SameCalled (ltb until (s .clock)) _ _ _ _ (λ g. refused-same _)
       (λ g. record {
-        answer = ap (λ x. calls.good 0 x) (t .written);
+        answer = ap (λ x. numbers.good 0 x) (t .written);
         accepted = refl;
         moved = refl;
         state =
@@ -156,7 +159,7 @@ module _ (s : Pass) (p : ℕ) (q : Queue) (e : Shows (s .verdicts) q) (h : Holdi
       (λ f. chosen SameCalled (noRoom room) _ _ _ _ (λ g. refused-same _)
       (λ g. chosen SameCalled (notOpen c s) _ _ _ _ (λ i. refused-same _)
       (λ i. record {
-        answer = ap (λ x. calls.good 0 x) (t .written);
+        answer = ap (λ x. numbers.good 0 x) (t .written);
         accepted = refl;
         moved = refl;
         state =

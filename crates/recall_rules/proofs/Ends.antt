@@ -12,12 +12,14 @@ use Rattle.rules.specs.declared.Ending.{Ending}
 use Rattle.rules.specs.declared.Ending.the-variants.{Complete, Response}
 use Rattle.rules.specs.Lists.{All, bit, put, keep, some, count, place, removeAt}
 use Rattle.rules.specs.declared.Past.{Past}
-use Rattle.rules.specs.Reading.{nobody}
-use Rattle.rules.specs.State.{Queue, empty, of, is, startsAt, Sorted, holds, withWaiting, withLately, rememberedAll}
+use Rattle.rules.specs.Request.{nobody}
+use Rattle.rules.specs.State.{Queue, empty, of, is, startsAt, holds, withWaiting, withLately}
+use Rattle.rules.specs.follows.Wires.{Sorted}
+use Rattle.rules.specs.Recent.{rememberedAll}
 use Rattle.rules.specs.Records.{Record}
 use Rattle.rules.specs.Ends as ends
 use Rattle.rules.specs.Ends.{ended, past}
-use Rattle.rules.specs.Sound.{Each, Falling, Proper, Holding}
+use Rattle.rules.specs.follows.Sound.{Each, Falling, Proper, Holding}
 use Rattle.rules.proofs.All.{all-into}
 use Rattle.rules.proofs.Every.{all-keep, all-getD, none-some, fewer-keep, fewer-removeAt}
 use Rattle.rules.proofs.Timed.{sorted-single}

@@ -15,15 +15,15 @@ use Rattle.rules.specs.declared.Session.{Session}
 use Rattle.rules.specs.declared.Ending.{Ending}
 use Rattle.rules.specs.declared.Ending.the-variants.{Complete, Failed}
 use Rattle.rules.specs.Lists.{All, bit, some, count, place, removeAt}
-use Rattle.rules.specs.Reading.{nobody}
+use Rattle.rules.specs.Request.{nobody}
 use Rattle.rules.specs.State as state
 use Rattle.rules.specs.State.{Queue, empty, follows, startsAt, endsAt, sooner, earliest, notAfter, held, toCome, withWaiting, withStarted}
-use Rattle.rules.specs.State.{rememberedAll}
+use Rattle.rules.specs.Recent.{rememberedAll}
 use Rattle.rules.specs.Ends as ends
 use Rattle.rules.specs.Ends.{ended, past}
 use Rattle.rules.specs.Instants as instants
 use Rattle.rules.specs.Instants.{outranks, began, playing, onwards}
-use Rattle.rules.specs.Sound.{Falling, Proper, Holding}
+use Rattle.rules.specs.follows.Sound.{Falling, Proper, Holding}
 use Rattle.rules.proofs.Tests.{clash, by, and-both}
 use Rattle.rules.proofs.All.{all-into}
 use Rattle.rules.proofs.Count.{place-holds}

@@ -11,8 +11,9 @@ use Rattle.rules.specs.declared.Session.{Session}
 use Rattle.rules.specs.declared.Past.{Past}
 use Rattle.rules.specs.declared.Ending.{Ending}
 use Rattle.rules.specs.Lists.{bit, count, place}
-use Rattle.rules.specs.State as state
-use Rattle.rules.specs.State.{Queue, Lately, follows, mostKept, unused, noneEnded, remembered, rememberedAll, recentFrom}
+use Rattle.rules.specs.Recent as lately
+use Rattle.rules.specs.State.{Queue, Lately, follows}
+use Rattle.rules.specs.Recent.{mostKept, unused, noneEnded, remembered, rememberedAll, recentFrom}
 use Rattle.rules.specs.Ends.{past}
 use Rattle.rules.proofs.Tests.{clash, by, and-both}
 use Rattle.rules.proofs.Count.{place-holds}
@@ -265,16 +266,16 @@ shorter zero (suc n) l = refl
 shorter (suc k) zero l = ap (λ x. unused ∷ x) (shorter k zero l)
 shorter (suc k) (suc n) l = ap (λ x. nthEnd n l ∷ x) (shorter k n l)
 
-recent-below : (n : ℕ) (l : List Verdict) → state.recent (rememberedAll (endsBelow n l) noneEnded) ≡ latelyFrom mostKept n l
-unfolding rememberedAll state.recent recentFrom state.recentAt latelyFrom
+recent-below : (n : ℕ) (l : List Verdict) → lately.recent (rememberedAll (endsBelow n l) noneEnded) ≡ latelyFrom mostKept n l
+unfolding rememberedAll lately.recent recentFrom lately.recentAt latelyFrom
 recent-below zero l = refl
 recent-below (suc n) l =
     let r = rememberedAll (endsBelow n l) noneEnded in
     let h = ring-all (endsBelow n l) noneEnded (record { sixteen = refl; next = omega arith }) in
-    ap state.recent (remembered-append (endsBelow n l) (nthEnd n l ∷ []) noneEnded)
+    ap lately.recent (remembered-append (endsBelow n l) (nthEnd n l ∷ []) noneEnded)
     ∙ (recent-next (nthEnd n l) r (h .sixteen) (h .next)
     ∙ (ap (λ x. take mostKept (nthEnd n l ∷ x)) (recent-below n l) ∙ ap (λ x. nthEnd n l ∷ x) (shorter 15 n l)))
 
 -- the ended verdicts with the latest ends are those that are kept
-pub recent-same : (l : List Verdict) (q : Queue) → Shows l q → state.recent (q .lately) ≡ recent l
-recent-same l q e = ap state.recent (e .lately) ∙ recent-below (ends l) l
+pub recent-same : (l : List Verdict) (q : Queue) → Shows l q → lately.recent (q .lately) ≡ recent l
+recent-same l q e = ap lately.recent (e .lately) ∙ recent-below (ends l) l

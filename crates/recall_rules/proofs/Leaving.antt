@@ -10,8 +10,9 @@ use borrow.Author.Tests.{ltb-true, ltb-false, lt-ltb, le-ltb}
 use Rattle.rules.specs.declared.Session.{Session}
 use Rattle.rules.specs.declared.Ending.{Ending}
 use Rattle.rules.specs.Lists.{All, bit, put, keep, omit, some, count, place, removeAt}
-use Rattle.rules.specs.State.{empty, Sorted}
-use Rattle.rules.specs.Sound.{Falling}
+use Rattle.rules.specs.State.{empty}
+use Rattle.rules.specs.follows.Wires.{Sorted}
+use Rattle.rules.specs.follows.Sound.{Falling}
 use Rattle.rules.proofs.All.{all-into}
 use Rattle.rules.proofs.Count.{count≤length, count-removeAt, place-holds, place-none}
 use Rattle.rules.proofs.Every.{none-all, none-some, Fewer, fewer-removeAt, fewer-all, none, less, stay}

@@ -9,16 +9,18 @@ use lib.ListN.{length}
 use Rattle.rules.specs.declared.Session.{Session}
 use Rattle.rules.specs.declared.Request.{Request}
 use Rattle.rules.specs.Lists.{All}
-use Rattle.rules.specs.Bytes.{Byte, hasZero, nameIn}
-use Rattle.rules.specs.Reading.{nobody}
+use Rattle.rules.specs.follows.Wires.{Byte}
+use Rattle.rules.specs.Bytes.{hasZero, nameIn}
+use Rattle.rules.specs.Request.{nobody}
 use Rattle.rules.specs.State as state
 use Rattle.rules.specs.State.{Queue}
 use Rattle.rules.specs.Ends as ends
 use Rattle.rules.specs.Instants as instants
 use Rattle.rules.specs.Answers as answers
+use Rattle.rules.specs.Splicing as splicing
 use Rattle.rules.specs.Calls as calls
 use Rattle.rules.specs.Calls.{Call}
-use Rattle.rules.specs.Sound.{Holding, Wired}
+use Rattle.rules.specs.follows.Sound.{Holding, Wired}
 use Rattle.rules.proofs.Sound.{in-order, sound-fresh, sound-always}
 use Rattle.recall_rules.specs.Verdicts.{Verdict, Shows}
 use Rattle.recall_rules.specs.Work.{dismissed, evicted, aborted, closedBy, startAt, endAt, instant, elapse, due, runAll, requested}
@@ -47,14 +49,14 @@ pub record TwoWays (now : ℕ) (l : List Verdict) (q : Queue) : Type 0 where
   pub next : due l ≡ state.due q
   pub ticking : (until : ℕ) → SameTurn (runAll now until l) (instants.runAll now until q)
   -- the session asked for, checks b, d and e (c looks at the clock and the request alone), f, 02's CR 11
-  pub asking : (c : ℕ) (r : Request) → requested c r l ≡ answers.requested c r q
-  pub numbering : (c : ℕ) (r : Request) → wrongNumber c r l ≡ answers.wrongNumber c r q
-  pub colliding : (s : Session) → collides s l ≡ answers.collides s (q .waiting)
-  pub filling : (c : ℕ) → full c l ≡ answers.full c (q .waiting)
-  pub accepting : (s : Session) → SameTurn (accepted s l) (answers.accepted s q)
-  pub shifting : (s : Session) → later s l ≡ answers.later s q
+  pub asking : (c : ℕ) (r : Request) → requested c r l ≡ splicing.requested c r q
+  pub numbering : (c : ℕ) (r : Request) → wrongNumber c r l ≡ splicing.wrongNumber c r q
+  pub colliding : (s : Session) → collides s l ≡ splicing.collides s (q .waiting)
+  pub filling : (c : ℕ) → full c l ≡ splicing.full c (q .waiting)
+  pub accepting : (s : Session) → SameTurn (accepted s l) (splicing.accepted s q)
+  pub shifting : (s : Session) → later s l ≡ splicing.later s q
   -- the answers
-  pub splicing : (clock c : ℕ) (r : Request) → SameSpliced (answerSplice clock c r l) (answers.answerSplice clock c r q)
+  pub splicing : (clock c : ℕ) (r : Request) → SameSpliced (answerSplice clock c r l) (splicing.answerSplice clock c r q)
   pub ceasing : (c x : ℕ) → SameTurn (answerAbort c x l) (answers.answerAbort c x q)
   pub airing : (airState l ≡ answers.airState (q .started)) × (airID l ≡ answers.airID (q .started)) ×
       (airFeed l ≡ answers.airFeed (q .started))

@@ -10,10 +10,10 @@ use borrow.Author.Tests.{ltb-true, le-ltb}
 use Rattle.rules.specs.declared.Session.{Session}
 use Rattle.rules.specs.declared.Ending.{Ending}
 use Rattle.rules.specs.Lists.{count, place, removeAt}
-use Rattle.rules.specs.Reading.{nobody}
+use Rattle.rules.specs.Request.{nobody}
 use Rattle.rules.specs.State.{empty, follows}
 use Rattle.rules.specs.Ends as ends
-use Rattle.rules.specs.Sound.{Proper}
+use Rattle.rules.specs.follows.Sound.{Proper}
 use Rattle.rules.proofs.Count.{length-removeAt}
 use Rattle.rules.proofs.Every.{all-getD, fewer-removeAt}
 use Rattle.rules.proofs.Priors.{Orderly, orderly-fewer}

@@ -15,12 +15,14 @@ use Rattle.rules.specs.declared.Message.{Message}
 use Rattle.rules.specs.declared.Message.the-variants.{Init, Alive, Splice, Abort, Config, Extended, Unreadable}
 use Rattle.rules.specs.Units.{timeOf, badMicros, fromMicros, toMicros}
 use Rattle.rules.specs.Bytes.{dataOf}
-use Rattle.rules.specs.Reading.{initRequest, channelName, hardwareIn, isRead, read}
+use Rattle.rules.specs.Reading.{initRequest, channelName, isRead, read}
+use Rattle.rules.specs.Hardware.{hardwareIn}
 use Rattle.rules.specs.State.{noHardware, isOpen, isInitialised}
 use Rattle.rules.specs.Records.{Record, General, InitResponse, AliveResponse, ConfigResponse}
 use Rattle.rules.specs.Answers.{initResult}
 use Rattle.rules.specs.Cues.{badSection, readCue, cueTime, initialisedOnes, cueRecords}
-use Rattle.rules.specs.Calls.{Answer, refused, good, noConnection, noRoom, longSection, framing, Loans, Call, opens, closes, messages}
+use Rattle.rules.specs.HouseNumbers.{Answer, refused, good, noConnection, noRoom, longSection, Loans}
+use Rattle.rules.specs.Calls.{framing, Call, opens, closes, messages}
 use Rattle.rules.specs.Calls.{ticks, moves, cues}
 use Rattle.recall_rules.specs.Verdicts.{Verdict}
 use Rattle.recall_rules.specs.Work.{Turn, Spliced, closedBy, runAll, answerSplice, answerAbort, airState, airID, airFeed}

@@ -10,7 +10,8 @@ use Rattle.rules.specs.declared.Session.{Session}
 use Rattle.rules.specs.declared.Past.{Past}
 use Rattle.rules.specs.Units.{toTicks}
 use Rattle.rules.specs.Lists.{put, some, count, place}
-use Rattle.rules.specs.State.{Queue, empty, mostKept, unused, noneEnded, rememberedAll}
+use Rattle.rules.specs.State.{Queue, empty}
+use Rattle.rules.specs.Recent.{mostKept, unused, noneEnded, rememberedAll}
 use Rattle.rules.specs.Records.{resultOf}
 use Rattle.rules.specs.Ends.{ended}
 pub use Rattle.recall_rules.specs.declared.Phase.{Phase}

@@ -14,12 +14,13 @@ use Rattle.rules.specs.declared.Start.the-variants.{Timed, Linked}
 use Rattle.rules.specs.declared.Request.{Request}
 use Rattle.rules.specs.Units.{fromMicros}
 use Rattle.rules.specs.Lists.{some, count}
-use Rattle.rules.specs.Reading.{nobody}
+use Rattle.rules.specs.Request.{nobody}
 use Rattle.rules.specs.State.{of, is, follows, startsAt, startsAfter, endsAt, sooner, earliest, notAfter}
 use Rattle.rules.specs.Records.{Record, SpliceResponse, AbortResponse}
 use Rattle.rules.specs.Ends.{ended}
 use Rattle.rules.specs.Instants.{outranks, began, playing, onwards}
-use Rattle.rules.specs.Answers.{sessionAt, tooLate, fullBy, firstOf, accepts, latest, recalls}
+use Rattle.rules.specs.Splicing.{sessionAt, tooLate, fullBy, firstOf, accepts}
+use Rattle.rules.specs.Answers.{latest, recalls}
 use Rattle.recall_rules.specs.Verdicts.{Phase, Out, Waits, Started, isWaiting, hasStarted, isHeld, Verdict, verdict, standing, which}
 use Rattle.recall_rules.specs.Verdicts.{sessionOf, turned, over, first, recent}
 

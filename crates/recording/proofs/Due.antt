@@ -11,8 +11,9 @@ use Rattle.rules.specs.Records.{Record, General, InitResponse, AliveResponse, S
 use Rattle.rules.specs.Records.{ExtendedFound, ExtendedNone, endDescriptor, CueRequest, timeBytes, framed, recordBytes, output}
 use Rattle.rules.specs.declared.Refusal.{Refusal}
 use Rattle.rules.specs.State.{Splicer}
-use Rattle.rules.specs.Sound.{Wired, Sound}
-use Rattle.rules.specs.Calls.{Answer, refused, good, writtenBy, Call, call}
+use Rattle.rules.specs.follows.Sound.{Wired, Sound}
+use Rattle.rules.specs.HouseNumbers.{Answer, refused, good, writtenBy}
+use Rattle.rules.specs.Calls.{Call, call}
 use Rattle.rules.specs.Card.{headerEnd, told}
 use Rattle.rules.proofs.All.{All, all-into}
 use Rattle.rules.proofs.Bytes.{value-bytes, length-padded}

@@ -12,7 +12,8 @@ use lib.Seq.{take-append-add}
 use borrow.Author.Tests.{eqb-true, eqb-false, eq-eqb, ne-eqb}
 use Rattle.rules.specs.Lists.{same}
 use Rattle.rules.specs.State.{Splicer}
-use Rattle.rules.specs.Calls.{Call, call, answers}
+use Rattle.rules.specs.Calls.{Call, call}
+use Rattle.rules.specs.follows.Sequences.{answers}
 use Rattle.rules.specs.Card.{told}
 use Rattle.rules.proofs.All.{All}
 use Rattle.rules.proofs.Bytes.{same-self, same-true}

@@ -8,9 +8,9 @@ use native.Mathlib.Omega.{arith}
 use lib.Dec.{eqb, ltb}
 use lib.ListN.{length, take, drop, length-append, take-append-drop}
 use lib.Seq.{take-length, take-append-add}
-use Rattle.rules.specs.Bytes.{Byte}
+use Rattle.rules.specs.follows.Wires.{Byte}
 use Rattle.rules.specs.State.{Splicer}
-use Rattle.rules.specs.Sound.{Wired, Sound}
+use Rattle.rules.specs.follows.Sound.{Wired, Sound}
 use Rattle.rules.specs.Calls.{Call, call}
 use Rattle.rules.specs.Card.{openMark, closeMark, messageMark, tickMark, markIn, messageFrom, markEnd, tickEnd, headerEnd, messageEnd}
 use Rattle.rules.specs.Card.{Next, calls, ends, stops, nextMessage, nextTick, next, told, cardStep, cardRun}

@@ -9,9 +9,9 @@ use lib.Dec.{ltb}
 use lib.ListN.{length, take}
 use lib.Seq.{take-nil, take-append-le, take-append-add, take-append-seam, drop-append-seam}
 use borrow.Author.Tests.{ltb-true, ltb-false}
-use Rattle.rules.specs.Bytes.{Byte}
+use Rattle.rules.specs.follows.Wires.{Byte}
 use Rattle.rules.specs.State.{Splicer}
-use Rattle.rules.specs.Sound.{Wired, Sound}
+use Rattle.rules.specs.follows.Sound.{Wired, Sound}
 use Rattle.rules.specs.Calls.{Call, call}
 use Rattle.rules.specs.Card.{Next, calls, ends, stops, next, told}
 use Rattle.rules.proofs.All.{All}

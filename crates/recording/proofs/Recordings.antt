@@ -10,9 +10,10 @@ use lib.Dec.{ltb}
 use lib.ListN.{length, take}
 use borrow.Author.Tests.{ltb-true, ltb-false}
 use Rattle.rules.specs.Lists.{All}
-use Rattle.rules.specs.Bytes.{Byte, padded}
+use Rattle.rules.specs.follows.Wires.{Byte}
+use Rattle.rules.specs.Bytes.{padded}
 use Rattle.rules.specs.State.{Splicer}
-use Rattle.rules.specs.Sound.{Wired, Sound}
+use Rattle.rules.specs.follows.Sound.{Wired, Sound}
 use Rattle.rules.specs.Calls.{Call, call}
 use Rattle.rules.specs.Card.{cardName, told, card}
 use Rattle.rules.proofs.Bytes.{padded-byte}

@@ -9,7 +9,9 @@ use lib.ListN.{length, getD, take, drop}
 use Rattle.rules.specs.Lists.{same}
 use Rattle.rules.specs.State.{Splicer}
 use Rattle.rules.specs.Records.{recordBytes}
-use Rattle.rules.specs.Calls.{Answer, refused, good, Call, call, answers}
+use Rattle.rules.specs.HouseNumbers.{Answer, refused, good}
+use Rattle.rules.specs.Calls.{Call, call}
+use Rattle.rules.specs.follows.Sequences.{answers}
 use Rattle.rules.specs.Card.{Next, calls, ends, stops, next, told}
 use Rattle.recording.specs.declared.Entry.the-variants.{Made, Wrote}
 use Rattle.recording.specs.Recording.{marksCall, marksRecord, span, entryIn, Item, made, wrote, cut, another, start, begins, longest}

@@ -7,12 +7,14 @@ use Prim.Native.Nat.{ℕ, zero, suc}
 use lib.Dec.{eqb, ltb}
 use lib.ListN.{length, replicate, length-replicate}
 use Rattle.rules.specs.Lists.{All}
-use Rattle.rules.specs.Bytes.{Byte, value, valueFrom, messageSize, oversize}
+use Rattle.rules.specs.follows.Wires.{Byte}
+use Rattle.rules.specs.Bytes.{value, valueFrom, messageSize, oversize}
 use Rattle.rules.specs.State.{Splicer}
-use Rattle.rules.specs.Calls.{Answer, refused, good, writtenBy, Call, call}
+use Rattle.rules.specs.HouseNumbers.{Answer, refused, good, writtenBy}
+use Rattle.rules.specs.Calls.{Call, call}
 use Rattle.rules.specs.Card.{openMark, closeMark, messageMark, tickMark, markIn, messageFrom, markEnd, tickEnd, headerEnd, messageEnd}
 use Rattle.rules.specs.Card.{Next, calls, ends, stops, next, nextMessage, nextTick, told, cardStep, cardRun, card}
-use Rattle.rules.specs.Sound.{Wired}
+use Rattle.rules.specs.follows.Sound.{Wired}
 use Rattle.rules.proofs.All.{all-drop}
 use Rattle.rules.proofs.Bytes.{part-byte}
 use Rattle.rules.proofs.Tests.{by}

@@ -8,10 +8,12 @@ use lib.ListN.{length, getD, take, drop, set, length-drop}
 use lib.Seq.{sets-eq, length-take-le, take-at, take-all}
 use Rattle.rules.specs.declared.Refusal.{Refusal}
 use Rattle.rules.specs.Lists.{All}
-use Rattle.rules.specs.Bytes.{Byte, part, padded, written}
-use Rattle.rules.specs.Calls.{Answer, refused, good, houseNumber, writtenBy, Call, opens, closes, messages, ticks, call, after}
+use Rattle.rules.specs.follows.Wires.{Byte}
+use Rattle.rules.specs.Bytes.{part, padded, written}
+use Rattle.rules.specs.HouseNumbers.{Answer, refused, good, houseNumber, writtenBy}
+use Rattle.rules.specs.Calls.{Call, opens, closes, messages, ticks, call, after}
 use Rattle.rules.specs.Card.{cardName, cardRoom, cardLoans, messageEnd, Next, calls, ends, stops, next, told}
-use Rattle.rules.specs.Sound.{Sound}
+use Rattle.rules.specs.follows.Sound.{Sound}
 use Rattle.rules.proofs.Bytes.{padded-byte}
 use Rattle.rules.proofs.Sound.{sound-always, sound-size}
 use Rattle.rules.proofs.Tests.{by}

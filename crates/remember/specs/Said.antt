@@ -6,7 +6,8 @@ use Prim.Native.Nat.{ℕ, _≤_}
 use lib.Dec.{eqb, leb, ltb}
 use lib.ListN.{length, getD, take}
 use Rattle.rules.specs.Bytes.{field, largestSize, written}
-use Rattle.rules.specs.Calls.{Call, messages, refused}
+use Rattle.rules.specs.Calls.{Call, messages}
+use Rattle.rules.specs.HouseNumbers.{refused}
 use Rattle.rules.specs.Card.{openMark, closeMark, messageMark, tickMark, connIn, messageFrom, markEnd, headerEnd}
 use Rattle.rules.specs.Card.{cardLoans, told}
 use Rattle.recall_log.specs.declared.Record.{Record}

@@ -1,7 +1,7 @@
 // What a call did, and the table of house numbers: for both engines the one form below a reply's words.
 use rules::Refusal;
 ghost use mathlib.Core.Path.{_≡_};
-ghost use Rattle.rules.specs.Calls.{houseNumber};
+ghost use Rattle.rules.specs.HouseNumbers.{houseNumber};
 
 // The bytes consumed and written, and how many places an acceptance shifted (02, CR 11).
 pub struct Did {

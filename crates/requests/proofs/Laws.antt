@@ -19,13 +19,17 @@ use Rattle.rules.specs.declared.Request.{Request}
 use Rattle.rules.specs.declared.Ending.{Ending}
 use Rattle.rules.specs.declared.Ending.the-variants.{Complete, Response}
 use Rattle.rules.specs.Lists.{All, bit, put, keep, omit, some, count, place, insertAt, removeAt}
-use Rattle.rules.specs.State.{Queue, empty, is, startsAt, startsAfter, holds, Sorted, rememberedAll}
+use Rattle.rules.specs.State.{Queue, empty, is, startsAt, startsAfter, holds}
+use Rattle.rules.specs.follows.Wires.{Sorted}
+use Rattle.rules.specs.Recent.{rememberedAll}
 use Rattle.rules.specs.Records.{Record, SpliceResponse, AbortResponse}
 use Rattle.rules.specs.Ends.{Turn, writes, andThen, ended, past, endings, dismissed, evictedAt, evicted, cancelled, aborted}
-use Rattle.rules.specs.Answers.{startOf, sessionAt, requested, full}
-use Rattle.rules.specs.Answers.{spliceResult, inserted, accepts, accepted, later, Spliced, grants, declines, answerSplice, answerAbort}
-use Rattle.rules.specs.Asked.{Within, Asked}
-use Rattle.rules.specs.Sound.{Room, horizon, Once, Holding}
+use Rattle.rules.specs.Splicing.{startOf, sessionAt, requested, full}
+use Rattle.rules.specs.Splicing.{spliceResult, inserted, accepts, accepted, later, Spliced, grants, declines, answerSplice}
+use Rattle.rules.specs.Answers.{answerAbort}
+use Rattle.rules.specs.follows.Asked.{Within, Asked}
+use Rattle.rules.specs.follows.Sound.{Room, Once, Holding}
+use Rattle.rules.specs.Units.{horizon}
 use Rattle.rules.proofs.Tests.{and-both}
 use Rattle.rules.proofs.Count.{place≤}
 use Rattle.rules.proofs.Every.{all-none, none-some, fewer-sorted}

@@ -5,7 +5,7 @@ use Prim.Native.Nat.{ℕ}
 use Rattle.rules.specs.Lists.{place}
 use Rattle.rules.specs.State.{startsAfter}
 use Rattle.rules.specs.Ends.{evicted}
-use Rattle.rules.specs.Answers.{Spliced}
+use Rattle.rules.specs.Splicing.{Spliced}
 use Rattle.memory.specs.Memory.{see, onward}
 use Rattle.ends.specs.Does.{Turns, Does}
 use Rattle.reply.specs.declared.Did.{Did}

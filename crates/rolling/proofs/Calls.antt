@@ -15,13 +15,17 @@ use Rattle.rules.specs.declared.Refusal.{Refusal}
 use Rattle.rules.specs.declared.Refusal.the-variants.{NoRoom, BadMicros, Counter}
 use Rattle.rules.specs.Lists.{All}
 use Rattle.rules.specs.Units.{timeOf, fromMicros}
-use Rattle.rules.specs.Bytes.{Byte}
+use Rattle.rules.specs.follows.Wires.{Byte}
 use Rattle.rules.specs.State.{Splicer}
-use Rattle.rules.specs.Calls.{Called, fresh, moveCall}
-use Rattle.rules.specs.Sound.{horizon}
-use Rattle.rules.specs.Rolling.{Last, none, at, Rolling, Rolled, rollingOf, rollover, stepOf, overStep, movedOn, pastField, isGiven, Course}
-use Rattle.rules.specs.Rolling.{refuses, brings, instantCourse, stepCourse, readingCourse, rolls, instantCall, readingCall, rollingFresh}
-use Rattle.rules.specs.Rolling.{RollingCall, instants, readings, roll, RollWired, RollReached}
+use Rattle.rules.specs.HouseNumbers.{Called}
+use Rattle.rules.specs.Calls.{fresh, moveCall}
+use Rattle.rules.specs.Units.{horizon}
+use Rattle.rules.specs.Rolling.{Last, none, at, Rolling, Rolled, rollover, stepOf, overStep, movedOn, pastField, isGiven, Course}
+use Rattle.rules.specs.follows.Sequences.{rollingOf}
+use Rattle.rules.specs.Rolling.{refuses, brings, instantCourse, stepCourse, readingCourse, rolls, instantCall, readingCall}
+use Rattle.rules.specs.follows.Sequences.{rollingFresh}
+use Rattle.rules.specs.Rolling.{RollingCall, instants, readings, roll}
+use Rattle.rules.specs.follows.Sequences.{RollWired, RollReached}
 use Rattle.rules.proofs.Sound.{reached-sound}
 use Rattle.memory.specs.Memory.{see, shown}
 use Rattle.engine.specs.declared.Answer.{Answer}

@@ -8,10 +8,12 @@ use native.Mathlib.Omega.{arith}
 use Rattle.rules.specs.declared.Refusal.{Refusal}
 use Rattle.rules.specs.declared.Refusal.the-variants.{NoRoom, BadMicros, Counter}
 use Rattle.rules.specs.Units.{badMicros, timeOf, fromMicros}
-use Rattle.rules.specs.Calls.{refused, good, houseNumber, noRoom, ticked, call}
+use Rattle.rules.specs.HouseNumbers.{refused, good, houseNumber, noRoom}
+use Rattle.rules.specs.Calls.{ticked, call}
 use Rattle.rules.specs.Rolling.{Last, none, at, Rolling, Rolled, rollover, overStep, movedOn, pastField, isGiven, Course, refuses, brings}
 use Rattle.rules.specs.Rolling.{instantCourse, stepCourse, readingCourse, rolls, instantCall, readingCall, RollingCall, known, instants}
-use Rattle.rules.specs.Rolling.{readings, roll, RollWired}
+use Rattle.rules.specs.Rolling.{readings, roll}
+use Rattle.rules.specs.follows.Sequences.{RollWired}
 use Rattle.demands.specs.Told.{firstNumber, numberOf}
 use Rattle.demands.proofs.Refusals.{first-number}
 use Rattle.memory.specs.Memory.{see, shown}

@@ -11,15 +11,20 @@ use Rattle.rules.specs.declared.Refusal.{Refusal}
 use Rattle.rules.specs.declared.Refusal.the-variants.{NoRoom, BadMicros, Counter}
 use Rattle.rules.specs.Lists.{All}
 use Rattle.rules.specs.Units.{timeOf, badMicros, fromMicros}
-use Rattle.rules.specs.Bytes.{Byte}
+use Rattle.rules.specs.follows.Wires.{Byte}
 use Rattle.rules.specs.State.{Splicer}
-use Rattle.rules.specs.Calls.{Called, noRoom, fresh, ticked, moveCall, Call, opens, closes, messages, ticks, moves, cues, call, after}
-use Rattle.rules.specs.Calls.{answers}
-use Rattle.rules.specs.Sound.{Wired, Reached, horizon}
-use Rattle.rules.specs.Rolling.{Last, none, at, Rolling, rollingOf, rollover, overStep, movedOn, pastField, isGiven, Course, refuses}
-use Rattle.rules.specs.Rolling.{brings, instantCourse, stepCourse, readingCourse, rolls, instantCall, readingCall, rollingFresh, Timeless}
-use Rattle.rules.specs.Rolling.{RollingCall, known, instants, readings, roll, rolledAfter, asMove, asCalls, asMoves, said, rollAnswers}
-use Rattle.rules.specs.Rolling.{RollWired, RollReached}
+use Rattle.rules.specs.HouseNumbers.{Called, noRoom}
+use Rattle.rules.specs.Calls.{fresh, ticked, moveCall, Call, opens, closes, messages, ticks, moves, cues, call, after}
+use Rattle.rules.specs.follows.Sequences.{answers}
+use Rattle.rules.specs.follows.Sound.{Wired, Reached}
+use Rattle.rules.specs.Units.{horizon}
+use Rattle.rules.specs.Rolling.{Last, none, at, Rolling, rollover, overStep, movedOn, pastField, isGiven, Course, refuses}
+use Rattle.rules.specs.follows.Sequences.{rollingOf}
+use Rattle.rules.specs.Rolling.{brings, instantCourse, stepCourse, readingCourse, rolls, instantCall, readingCall}
+use Rattle.rules.specs.follows.Sequences.{rollingFresh, Timeless}
+use Rattle.rules.specs.Rolling.{RollingCall, known, instants, readings, roll}
+use Rattle.rules.specs.follows.Sequences.{rolledAfter, asMove, asCalls, asMoves, said, rollAnswers}
+use Rattle.rules.specs.follows.Sequences.{RollWired, RollReached}
 use Rattle.rules.proofs.All.{all-append}
 use Rattle.demands.specs.History.{Reply, refusal, wrote, replyOf, clockReplied}
 use Rattle.demands.proofs.Once.{call-clock, fresh-clock}

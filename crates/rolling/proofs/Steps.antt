@@ -12,7 +12,7 @@ use Rattle.rules.specs.declared.When.the-variants.{At, Never}
 use Rattle.rules.specs.Units.{upTicks}
 use Rattle.rules.specs.State.{due}
 use Rattle.rules.specs.Calls.{beyond, dueRow}
-use Rattle.rules.specs.Sound.{horizon}
+use Rattle.rules.specs.Units.{horizon}
 use Rattle.rules.specs.Rolling.{Last, none, at, within, stepRow}
 use Rattle.rules.proofs.Tests.{by}
 use Rattle.rules.proofs.Sound.{reached-sound}

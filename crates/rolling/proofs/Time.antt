@@ -9,11 +9,14 @@ use lib.Dec.{ltb}
 use borrow.Author.Tests.{ltb-false, le-ltb, lt-leb}
 use Rattle.rules.specs.Lists.{All}
 use Rattle.rules.specs.Units.{timeOf, fromMicros}
-use Rattle.rules.specs.Calls.{houseNumber, ticked, lending, Call, opens, closes, messages, cues}
-use Rattle.rules.specs.Sound.{horizon}
-use Rattle.rules.specs.Rolling.{Last, none, at, Rolling, rollingOf, rollover, stepOf, brings, instantCourse, stepCourse, readingCourse}
-use Rattle.rules.specs.Rolling.{rolls, instantCall, readingCall, rollingFresh, Timeless, RollingCall, known, instants, readings, roll}
-use Rattle.rules.specs.Rolling.{rolledAfter}
+use Rattle.rules.specs.HouseNumbers.{houseNumber, lending}
+use Rattle.rules.specs.Calls.{ticked, Call, opens, closes, messages, cues}
+use Rattle.rules.specs.Units.{horizon}
+use Rattle.rules.specs.Rolling.{Last, none, at, Rolling, rollover, stepOf, brings, instantCourse, stepCourse, readingCourse}
+use Rattle.rules.specs.follows.Sequences.{rollingOf}
+use Rattle.rules.specs.Rolling.{rolls, instantCall, readingCall, RollingCall, known, instants, readings, roll}
+use Rattle.rules.specs.follows.Sequences.{rollingFresh, Timeless}
+use Rattle.rules.specs.follows.Sequences.{rolledAfter}
 use Rattle.rules.proofs.Timeless.{NoTime, timeless-has-none, none-is-timeless}
 use Rattle.demands.specs.Told.{numberOf}
 use Rattle.engine.proofs.Held.{Same}

@@ -8,7 +8,8 @@ use lib.ListN.{length, getD}
 use Rattle.rules.specs.declared.When.{When}
 use Rattle.rules.specs.declared.When.the-variants.{At, Never}
 use Rattle.rules.specs.State.{due}
-use Rattle.rules.specs.Rolling.{Last, none, at, Rolling, Rolled, Course, refuses, brings, stepRow, RollReached}
+use Rattle.rules.specs.Rolling.{Last, none, at, Rolling, Rolled, Course, refuses, brings, stepRow}
+use Rattle.rules.specs.follows.Sequences.{RollReached}
 use Rattle.memory.specs.Memory.{see, Whole, shown}
 use Rattle.engine.specs.declared.Answer.{Answer}
 use Rattle.engine.specs.Lent.{Answers}

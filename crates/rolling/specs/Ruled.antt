@@ -5,10 +5,13 @@ use mathlib.Core.List.{List, [], _∷_}
 use Prim.Native.Nat.{ℕ, _+_, _%_, _≤_}
 use Rattle.rules.specs.declared.Refusal.{Refusal}
 use Rattle.rules.specs.Units.{badMicros}
-use Rattle.rules.specs.Calls.{refuse, noRoom, Call, call}
-use Rattle.rules.specs.Sound.{Wired}
-use Rattle.rules.specs.Rolling.{Last, none, at, Rolling, rollover, overStep, movedOn, pastField, isGiven, Timeless, RollingCall, known}
-use Rattle.rules.specs.Rolling.{instants, readings, roll, asCalls}
+use Rattle.rules.specs.HouseNumbers.{refuse, noRoom}
+use Rattle.rules.specs.Calls.{Call, call}
+use Rattle.rules.specs.follows.Sound.{Wired}
+use Rattle.rules.specs.Rolling.{Last, none, at, Rolling, rollover, overStep, movedOn, pastField, isGiven, RollingCall, known}
+use Rattle.rules.specs.follows.Sequences.{Timeless}
+use Rattle.rules.specs.Rolling.{instants, readings, roll}
+use Rattle.rules.specs.follows.Sequences.{asCalls}
 use Rattle.demands.specs.Told.{Check, check, checks}
 
 -- a call of this card amounts to none of document 01's, and is then refused and changes nothing, or to one, and then its answer and the

@@ -12,9 +12,11 @@ ghost use mathlib.Core.Path.{_≡_};
 ghost use mathlib.Core.List.{[]};
 ghost use Prim.Native.Nat.{_<_};
 ghost use Rattle.rules.specs.Lists.{All};
-ghost use Rattle.rules.specs.Bytes.{Byte, hasZero};
-ghost use Rattle.rules.specs.Sound.{horizon};
-ghost use Rattle.rules.specs.Rolling.{at, stepOf, stepCourse, rollingFresh, instantCall, readingCall};
+ghost use Rattle.rules.specs.follows.Wires.{Byte};
+ghost use Rattle.rules.specs.Bytes.{hasZero};
+ghost use Rattle.rules.specs.Units.{horizon};
+ghost use Rattle.rules.specs.Rolling.{at, stepOf, stepCourse, instantCall, readingCall};
+ghost use Rattle.rules.specs.follows.Sequences.{rollingFresh};
 ghost use Rattle.engine.specs.Lent.{Lent};
 ghost use Rattle.rolling.specs.LentRolling.{LentRolling, whenOf, Rolls, Turns, ReadsStep};
 

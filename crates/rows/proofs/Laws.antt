@@ -12,9 +12,10 @@ use lib.Seq.{getD-set-same, getD-set-other, ext-getD}
 use borrow.Author.Tests.{eqb-true, eqb-false, eq-eqb, ne-eqb}
 use Rattle.rules.specs.declared.Past.{Past}
 use Rattle.rules.specs.declared.Refusal.the-variants.{NotSixteen}
-use Rattle.rules.specs.State.{Lately, mostKept, isKept, recentAt, recentFrom, recent}
-use Rattle.rules.specs.Calls.{houseNumber}
-use Rattle.rules.specs.Sound.{Noted}
+use Rattle.rules.specs.State.{Lately}
+use Rattle.rules.specs.Recent.{mostKept, isKept, recentAt, recentFrom, recent}
+use Rattle.rules.specs.HouseNumbers.{houseNumber}
+use Rattle.rules.specs.follows.Sound.{Noted}
 use Rattle.rules.proofs.Tests.{by}
 use Rattle.rows.specs.declared.Row.{Row}
 use Rattle.rows.specs.Rows.{rows, unusedRow, rowIn, rowAt, sixteen, pageNumber, filled, Pages}

@@ -7,8 +7,9 @@ use lib.Dec.{eqb}
 use lib.ListN.{length, set}
 use Rattle.rules.specs.declared.Past.{Past}
 use Rattle.rules.specs.declared.Refusal.the-variants.{NotSixteen}
-use Rattle.rules.specs.State.{Lately, isKept, recent}
-use Rattle.rules.specs.Calls.{houseNumber}
+use Rattle.rules.specs.State.{Lately}
+use Rattle.rules.specs.Recent.{isKept, recent}
+use Rattle.rules.specs.HouseNumbers.{houseNumber}
 use Rattle.memory.specs.Memory.{endedIn}
 use Rattle.rows.specs.declared.Row.{Row}
 

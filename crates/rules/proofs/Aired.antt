@@ -12,7 +12,7 @@ use Rattle.rules.specs.Lists.{place, removeAt}
 use Rattle.rules.specs.State.{Queue, empty, startsAt, withWaiting}
 use Rattle.rules.specs.Ends.{Turn, andThen, evicted, dismissed}
 use Rattle.rules.specs.Instants.{mayStart, ousted, launched, startAt, endAt, instant, onAir, elapse}
-use Rattle.rules.specs.Answers.{sessionAt, requested, accepted}
+use Rattle.rules.specs.Splicing.{sessionAt, requested, accepted}
 use Rattle.rules.specs.Calls.{Call}
 use Rattle.rules.proofs.Tests.{by}
 use Rattle.rules.proofs.All.{All, all-into}
@@ -22,7 +22,7 @@ use Rattle.rules.proofs.Leaving.{failed-fewer, ousted-fewer, endAt-fewe
 use Rattle.rules.proofs.Always.{KeptHeld}
 use Rattle.rules.proofs.Tick.{Due, meets, elapse-due, tick-through}
 use Rattle.rules.proofs.Timed.{OnTime, timed-fewer, instant-timed, elapse-timed, wait-timed, meets-after, accept-timed}
-pub use Rattle.rules.specs.Sound.{Since, Played}
+pub use Rattle.rules.specs.follows.Sound.{Since, Played}
 
 pub played-fewer : (now : ℕ) (q r : Queue) → FewerHeld q r → Played now q → Played now r
 played-fewer now q r f h = record {

@@ -9,19 +9,25 @@ use Rattle.rules.specs.declared.Link.the-variants.{Opened}
 use Rattle.rules.specs.declared.Request.{Request}
 use Rattle.rules.specs.declared.Message.the-variants.{Splice}
 use Rattle.rules.specs.Bytes.{part, hasZero, messageSize}
-use Rattle.rules.specs.Reading.{isRead, readSplice, dataIn, badInit, hardwareIn}
-use Rattle.rules.specs.State.{Queue, Splicer, holds, linkOf, isOpen, withQueue, withLink, withClock, noneHeld}
+use Rattle.rules.specs.Reading.{isRead, badInit}
+use Rattle.rules.specs.Request.{readSplice}
+use Rattle.rules.specs.follows.ReadBack.{dataIn}
+use Rattle.rules.specs.Hardware.{hardwareIn}
+use Rattle.rules.specs.State.{Queue, Splicer, holds, linkOf, isOpen, withQueue, withLink, withClock}
+use Rattle.rules.specs.Recent.{noneHeld}
 use Rattle.rules.specs.Ends.{andThen, aborted, closedBy}
 use Rattle.rules.specs.Instants.{runAll, silentAll}
-use Rattle.rules.specs.Answers.{initialised, requested, accepted}
-use Rattle.rules.specs.Calls.{Called, sectionOf, shut, ticked, Loans, Call, messages, call, after, named, fresh}
+use Rattle.rules.specs.Answers.{initialised}
+use Rattle.rules.specs.Splicing.{requested, accepted}
+use Rattle.rules.specs.HouseNumbers.{Called, Loans}
+use Rattle.rules.specs.Calls.{sectionOf, shut, ticked, Call, messages, call, after, named, fresh}
 use Rattle.rules.proofs.Tests.{by}
 use Rattle.rules.proofs.Cases.{Brings, Answering, cases}
 use Rattle.rules.proofs.All.{All}
 use Rattle.rules.proofs.Bytes.{part-byte}
 use Rattle.rules.proofs.Every.{all-any}
 use Rattle.rules.proofs.Checks.{Passed, Granted, granted, Fitting, fitting}
-pub use Rattle.rules.specs.Sound.{Wired}
+pub use Rattle.rules.specs.follows.Sound.{Wired}
 
 -- any call
 abbrev pub Any : Call → Type 0

@@ -9,11 +9,11 @@ use lib.ListN.{length}
 use borrow.Author.Tests.{eqb-true}
 use Rattle.rules.specs.declared.Session.{Session}
 use Rattle.rules.specs.Lists.{bit, count, place}
-use Rattle.rules.specs.Reading.{nobody}
+use Rattle.rules.specs.Request.{nobody}
 use Rattle.rules.specs.declared.Start.{Start}
 use Rattle.rules.specs.declared.Start.the-variants.{Timed, Linked}
 use Rattle.rules.specs.State.{Queue, empty, is, held}
-use Rattle.rules.specs.Answers.{startOf}
+use Rattle.rules.specs.Splicing.{startOf}
 use Rattle.rules.proofs.Checks.{StartBelow}
 use Rattle.rules.proofs.Tests.{failed}
 use Rattle.rules.proofs.All.{All, all-into, at-all}
@@ -23,7 +23,7 @@ use Rattle.rules.proofs.Timed.{OnTime}
 use Rattle.rules.proofs.Aired.{Played}
 use Rattle.rules.proofs.Held.{Proper, Small}
 use Rattle.rules.proofs.Priors.{isPrior, Tied, tied-more, prior-parts}
-pub use Rattle.rules.specs.Sound.{horizon}
+pub use Rattle.rules.specs.Units.{horizon}
 
 -- the longest Duration
 abbrev pub longest : ℕ

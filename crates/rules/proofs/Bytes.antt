@@ -12,7 +12,7 @@ use Rattle.rules.specs.Lists.{same}
 use Rattle.rules.specs.Bytes.{bytes, valueFrom, value, part, field, hasZero, nameIn, sameName, padded}
 use Rattle.rules.proofs.Tests.{clash, or-none, and-both}
 use Rattle.rules.proofs.All.{All, all-append, all-take, all-drop, all-replicate}
-pub use Rattle.rules.specs.Bytes.{Byte, NoZero}
+pub use Rattle.rules.specs.follows.Wires.{Byte, NoZero}
 
 -- ## Numbers
 

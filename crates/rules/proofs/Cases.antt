@@ -17,20 +17,28 @@ use Rattle.rules.specs.declared.Link.the-variants.{Opened}
 use Rattle.rules.specs.Units.{timeOf, badMicros, fromMicros}
 use Rattle.rules.specs.Bytes.{messageID, messageSize, oversize, field, sameName}
 use Rattle.rules.specs.Reading.{initRequest, aliveRequest, spliceRequest, abortRequest, configRequest, extendedRequest, channelName}
-use Rattle.rules.specs.Reading.{hardwareIn, sessionID, badInit, badExtended, tailOf, badSplice, wholeRequest, readInit, readAlive}
-use Rattle.rules.specs.Reading.{readAbort, readConfig, readExtended, readWhole, readSplice, isRead, read, dataIn, isSplice}
+use Rattle.rules.specs.Hardware.{hardwareIn}
+use Rattle.rules.specs.Request.{sessionID, tailOf, badSplice, wholeRequest}
+use Rattle.rules.specs.Reading.{badInit, badExtended, readInit, readAlive}
+use Rattle.rules.specs.Reading.{readAbort, readConfig, readExtended, isRead, read}
+use Rattle.rules.specs.Request.{readWhole, readSplice}
+use Rattle.rules.specs.follows.ReadBack.{dataIn, isSplice}
 use Rattle.rules.specs.State.{Splicer, holds, linkOf, isOpen, isInitialised, withQueue, withLink}
 use Rattle.rules.specs.Records.{General, InitResponse, SpliceResponse, AbortResponse}
 use Rattle.rules.specs.Ends.{Turn, andThen, writes, aborted, closedBy}
-use Rattle.rules.specs.Answers.{Answered, says, turns, requested, wrongNumber, tooLate, collides, full, firstOf, spliceResult}
-use Rattle.rules.specs.Answers.{Spliced, grants, splices, answerSplice, answerAbort, initResult, initialised, answerInit}
+use Rattle.rules.specs.Answers.{Answered, says, turns}
+use Rattle.rules.specs.Splicing.{requested, wrongNumber, tooLate, collides, full, firstOf, spliceResult}
+use Rattle.rules.specs.Splicing.{Spliced, grants, answerSplice}
+use Rattle.rules.specs.Answers.{splices, answerAbort, initResult, initialised, answerInit}
 use Rattle.rules.specs.Answers.{aliveResponse, configResponse, extendedResponse, answerRead, answer}
-use Rattle.rules.specs.Calls.{Called, refuse, does, replies, noConnection, noRoom, notOpen, longSection, sectionOf, shut, openCall}
-use Rattle.rules.specs.Calls.{closeCall, framing, handled, messageCall, ticked, moveCall, tickCall, Loans, Call, opens, closes}
+use Rattle.rules.specs.HouseNumbers.{Called, refuse, does, replies, noConnection, noRoom, notOpen, longSection}
+use Rattle.rules.specs.Calls.{sectionOf, shut, openCall}
+use Rattle.rules.specs.Calls.{closeCall, framing, handled, messageCall, ticked, moveCall, tickCall, Call, opens, closes}
+use Rattle.rules.specs.HouseNumbers.{Loans}
 use Rattle.rules.specs.Calls.{messages, ticks, moves, cues, cueCall, call}
 use Rattle.rules.specs.Cues.{badSection, readCue, cueTime, initialisedOnes, cueRecords}
 use Rattle.rules.specs.Lists.{All, some}
-use Rattle.rules.specs.Sound.{codes, Given}
+use Rattle.rules.specs.follows.Sound.{codes, Given}
 use Rattle.rules.proofs.Tests.{by, clash}
 use Rattle.rules.proofs.Checks.{Passed, passed-all}
 

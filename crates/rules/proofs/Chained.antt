@@ -14,12 +14,12 @@ use Rattle.rules.specs.declared.Start.{Start}
 use Rattle.rules.specs.declared.Start.the-variants.{Timed, Linked}
 use Rattle.rules.specs.declared.Request.{Request}
 use Rattle.rules.specs.Lists.{bit, keep, omit, count, place, removeAt}
-use Rattle.rules.specs.Reading.{nobody}
+use Rattle.rules.specs.Request.{nobody}
 use Rattle.rules.specs.State.{Queue, Splicer, empty, of, is, follows, startsAt, endsAt, held, holds, withWaiting, withStarted}
 use Rattle.rules.specs.Ends.{Turn, Walk, andThen, followers, dismissed, evictedAt, evicted, cancelled, aborted, closedBy, ending}
 use Rattle.rules.specs.Ends.{oneEnd}
 use Rattle.rules.specs.Instants.{mayStart, meetsEqual, ousted, launched, startAt, endAt, instant, elapse, runAll}
-use Rattle.rules.specs.Answers.{startOf, priorOf, sessionAt, requested, unknownPrior, accepted}
+use Rattle.rules.specs.Splicing.{startOf, priorOf, sessionAt, requested, unknownPrior, accepted}
 use Rattle.rules.specs.Calls.{Call, fresh, after}
 use Rattle.rules.proofs.Tests.{clash, by, failed, and-both, both-and, eqb-same}
 use Rattle.rules.proofs.All.{All, all-append, all-into}

@@ -13,12 +13,15 @@ use Rattle.rules.specs.declared.Request.{Request}
 use Rattle.rules.specs.declared.Message.the-variants.{Init, Alive, Splice, Abort, Config, Extended, Unreadable}
 use Rattle.rules.specs.Units.{timeOf}
 use Rattle.rules.specs.Bytes.{field}
-use Rattle.rules.specs.Reading.{nobody, sessionID, badInit, badExtended, readInit, readAlive, readAbort, readConfig, readExtended}
-use Rattle.rules.specs.Reading.{isBad, muxOf, descriptorsOf, priorSession, seconds, microSeconds, duration, accessType}
-use Rattle.rules.specs.Reading.{overridePlaying, returnToPriorChannel, readStart, tailOf, badTail, badSplice, wholeRequest, readWhole}
-use Rattle.rules.specs.Reading.{readSplice, read}
+use Rattle.rules.specs.Request.{nobody, sessionID}
+use Rattle.rules.specs.Reading.{badInit, badExtended, readInit, readAlive, readAbort, readConfig, readExtended}
+use Rattle.rules.specs.Descriptors.{isBad, muxOf}
+use Rattle.rules.specs.Request.{descriptorsOf, priorSession, seconds, microSeconds, duration, accessType}
+use Rattle.rules.specs.Request.{overridePlaying, returnToPriorChannel, readStart, tailOf, badTail, badSplice, wholeRequest, readWhole}
+use Rattle.rules.specs.Request.{readSplice}
+use Rattle.rules.specs.Reading.{read}
 use Rattle.rules.specs.State.{Queue, holds}
-use Rattle.rules.specs.Answers.{requested, unknownPrior, wrongNumber, tooLate, collides, full, firstOf, spliceResult}
+use Rattle.rules.specs.Splicing.{requested, unknownPrior, wrongNumber, tooLate, collides, full, firstOf, spliceResult}
 use Rattle.rules.proofs.Tests.{tests, or-none}
 use Rattle.rules.proofs.All.{All}
 use Rattle.rules.proofs.Bytes.{Byte, field-below}

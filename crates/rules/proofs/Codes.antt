@@ -14,10 +14,11 @@ use Rattle.rules.specs.Records.{Record}
 use Rattle.rules.specs.Ends.{Turn, andThen, ended, ending, oneEnd, endings, followers, dismissed, evictedAt, evicted, cancelled}
 use Rattle.rules.specs.Ends.{aborted, closedBy}
 use Rattle.rules.specs.Instants.{mayStart, began, meetsEqual, ousted, launched, startAt, endAt, instant, elapse, run, runAll}
-use Rattle.rules.specs.Answers.{aliveResponse, configResponse, requested, accepts, accepted}
+use Rattle.rules.specs.Answers.{aliveResponse, configResponse}
+use Rattle.rules.specs.Splicing.{requested, accepts, accepted}
 use Rattle.rules.specs.Calls.{ticked, Call, call, sectionOf}
 use Rattle.rules.specs.Cues.{readCue, cueTime, initialisedOnes}
-use Rattle.rules.specs.Sound.{Given, Coded}
+use Rattle.rules.specs.follows.Sound.{Given, Coded}
 use Rattle.rules.proofs.Tests.{by}
 use Rattle.rules.proofs.All.{All, all-append}
 use Rattle.rules.proofs.Recall.{by-recall}

@@ -13,9 +13,9 @@ use Rattle.rules.specs.declared.Priority.{Priority}
 use Rattle.rules.specs.declared.Priority.the-variants.{Is, Bad}
 use Rattle.rules.specs.Lists.{put}
 use Rattle.rules.specs.Bytes.{field, value}
-use Rattle.rules.specs.Reading.{descriptorLength, descriptorFits, isMux, muxValue, badMux, goodDescriptor, averageMux, muxAfter}
-use Rattle.rules.specs.Reading.{muxFrom, muxOf, muxIn}
-use Rattle.rules.specs.Descriptors.{cut, descriptorsIn, bytesOf, allGood, muxValues, lastOr}
+use Rattle.rules.specs.Descriptors.{descriptorLength, descriptorFits, isMux, muxValue, badMux, goodDescriptor, averageMux, muxAfter}
+use Rattle.rules.specs.Descriptors.{muxFrom, muxOf, muxIn}
+use Rattle.rules.specs.follows.Descriptors.{cut, descriptorsIn, bytesOf, allGood, muxValues, lastOr}
 use Rattle.rules.proofs.Tests.{by, and-both}
 
 -- ## The fuel

@@ -7,7 +7,8 @@ use borrow.Author.Tests.{eq-eqb, lt-ltb}
 use Rattle.rules.specs.declared.Session.{Session}
 use Rattle.rules.specs.declared.Ending.the-variants.{Complete, Response}
 use Rattle.rules.specs.Lists.{removeAt}
-use Rattle.rules.specs.State.{Lately, rememberedAll}
+use Rattle.rules.specs.State.{Lately}
+use Rattle.rules.specs.Recent.{rememberedAll}
 use Rattle.rules.specs.Ends.{andThen, ended, past, followers, dismissed}
 use Rattle.rules.specs.Instants.{mayStart, began, meetsEqual, ousted, launched}
 

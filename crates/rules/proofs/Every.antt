@@ -9,11 +9,11 @@ use borrow.Author.Tests.{ltb-true, ltb-false}
 use Rattle.rules.specs.declared.Session.{Session}
 use Rattle.rules.specs.Lists.{bit, put, keep, some, count, place, insertAt, removeAt}
 use Rattle.rules.specs.State.{Queue, held, startsAfter}
-pub use Rattle.rules.specs.State.{Sorted}
-use Rattle.rules.specs.Answers.{inserted}
+pub use Rattle.rules.specs.follows.Wires.{Sorted}
+use Rattle.rules.specs.Splicing.{inserted}
 use Rattle.rules.proofs.All.{All, all-append, all-into}
 use Rattle.rules.proofs.Tests.{or-none}
-pub use Rattle.rules.specs.Sound.{Each}
+pub use Rattle.rules.specs.follows.Sound.{Each}
 
 -- ## All of a list
 

@@ -15,16 +15,22 @@ use Rattle.rules.specs.declared.Request.{Request}
 use Rattle.rules.specs.declared.Message.the-variants.{Splice}
 use Rattle.rules.specs.Lists.{put, keep, place, removeAt}
 use Rattle.rules.specs.Bytes.{messageSize}
-use Rattle.rules.specs.Reading.{read, readSplice, dataIn, sessionID, spliceRequest}
+use Rattle.rules.specs.Reading.{read, spliceRequest}
+use Rattle.rules.specs.Request.{readSplice, sessionID}
+use Rattle.rules.specs.follows.ReadBack.{dataIn}
 use Rattle.rules.specs.State.{Queue, Splicer, empty, of, is, startsAt, endsAt, due, notAfter, withWaiting, withStarted}
-use Rattle.rules.specs.Records.{Record, output, recordsIn}
+use Rattle.rules.specs.Records.{Record, output}
+use Rattle.rules.specs.follows.ReadBack.{recordsIn}
 use Rattle.rules.specs.Ends.{Turn, andThen, ended, ending, oneEnd, endings, followers, dismissed, evictedAt, evicted, cancelled}
 use Rattle.rules.specs.Ends.{aborted, closedBy}
 use Rattle.rules.specs.Instants.{mayStart, began, meetsEqual, ousted, launched, startAt, endAt, instant, elapse, run, runAll}
-use Rattle.rules.specs.Answers.{airState, airID, aliveResponse, airFeed, configResponse, extendedResponse, sessionAt, requested}
-use Rattle.rules.specs.Answers.{accepts, accepted, answer}
-use Rattle.rules.specs.Calls.{Answer, refused, good, longestSection, longSection, sectionOf, Loans, ticked, Call, messages, call}
-use Rattle.rules.specs.Calls.{writtenBy}
+use Rattle.rules.specs.Answers.{airState, airID, aliveResponse, airFeed, configResponse, extendedResponse}
+use Rattle.rules.specs.Splicing.{sessionAt, requested}
+use Rattle.rules.specs.Splicing.{accepts, accepted}
+use Rattle.rules.specs.Answers.{answer}
+use Rattle.rules.specs.HouseNumbers.{Answer, refused, good, longestSection, longSection, Loans}
+use Rattle.rules.specs.Calls.{sectionOf, ticked, Call, messages, call}
+use Rattle.rules.specs.HouseNumbers.{writtenBy}
 use Rattle.rules.proofs.Tests.{by}
 use Rattle.rules.proofs.All.{All, all-append, all-into}
 use Rattle.rules.proofs.Bytes.{Byte, part-byte, field-below}
@@ -32,7 +38,7 @@ use Rattle.rules.proofs.Records.{Fits, read-back}
 use Rattle.rules.proofs.Readings.{splice-grants}
 use Rattle.rules.proofs.Recall.{by-recall, latest-noted}
 use Rattle.rules.proofs.Cases.{given-below, Answering, cases}
-use Rattle.rules.specs.Asked.{Asked}
+use Rattle.rules.specs.follows.Asked.{Asked}
 use Rattle.rules.specs.Cues.{readCue, cueTime, initialisedOnes}
 use Rattle.rules.proofs.Cued.{section-size, cue-wide, initialised-low, cue-all}
 use Rattle.rules.proofs.Every.{all-keep, all-both, all-getD, fewer-all, fewer-removeAt, Each, FewerHeld, fewer-each}
@@ -42,7 +48,7 @@ use Rattle.rules.proofs.Always.{Wired}
 use Rattle.rules.proofs.Tick.{Due, meets, due-first, due-meets, elapse-due, moved, by-next}
 use Rattle.rules.proofs.Timed.{meets-after}
 use Rattle.rules.proofs.Sessions.{each-elapse, each-instant}
-use Rattle.rules.specs.Sound.{Recalled}
+use Rattle.rules.specs.follows.Sound.{Recalled}
 use Rattle.rules.proofs.Held.{Proper, Small, Linking, structure-at}
 use Rattle.rules.proofs.Size.{section-short}
 use Rattle.rules.proofs.Aired.{Played, elapse-played, Aired, moved-aired}

@@ -17,13 +17,17 @@ use Rattle.rules.specs.declared.Start.the-variants.{Timed, Linked}
 use Rattle.rules.specs.declared.Request.{Request}
 use Rattle.rules.specs.Lists.{bit, count}
 use Rattle.rules.specs.Bytes.{valueFrom, value, messageSize, hasZero}
-use Rattle.rules.specs.Reading.{nobody, dataIn, hardwarePlace, hardwareLength, longestHardware, hardwareIn, badHardware, badInit}
+use Rattle.rules.specs.Request.{nobody}
+use Rattle.rules.specs.follows.ReadBack.{dataIn}
+use Rattle.rules.specs.Hardware.{hardwarePlace, hardwareLength, longestHardware, hardwareIn, badHardware}
+use Rattle.rules.specs.Reading.{badInit}
 use Rattle.rules.specs.State.{Queue, Splicer, of, is, held, holds, noHardware, linkOf, isOpen, isInitialised, hardwareOf, withLink}
 use Rattle.rules.specs.State.{withHardware, withQueue}
 use Rattle.rules.specs.Ends.{closedBy, cancelled}
 use Rattle.rules.specs.Instants.{playing, runAll}
-use Rattle.rules.specs.Answers.{startOf, priorOf, sessionAt, requested, accepted}
-use Rattle.rules.specs.Calls.{Call, Called, named, fresh}
+use Rattle.rules.specs.Splicing.{startOf, priorOf, sessionAt, requested, accepted}
+use Rattle.rules.specs.Calls.{Call, named, fresh}
+use Rattle.rules.specs.HouseNumbers.{Called}
 use Rattle.rules.proofs.Tests.{by, clash, and-both, or-none}
 use Rattle.rules.proofs.All.{All}
 use Rattle.rules.proofs.Bytes.{Byte, part-byte, nameIn-zero, nameIn-shorter, nameIn-byte}
@@ -33,7 +37,7 @@ use Rattle.rules.proofs.Checks.{Fitting, StartFits}
 use Rattle.rules.proofs.Leaving.{evicted-fewer, aborted-fewer, closedBy-fewer}
 use Rattle.rules.proofs.Always.{Wired, grants, fits, Named, Kept, KeptHeld}
 use Rattle.rules.proofs.Sessions.{each-kept, heldCount, count-held, fewer-held, held-accepted, held-tick}
-pub use Rattle.rules.specs.Sound.{Proper, Small, Once, Structure, Linking}
+pub use Rattle.rules.specs.follows.Sound.{Proper, Small, Once, Structure, Linking}
 
 -- ## Each session
 

@@ -15,13 +15,14 @@ use Rattle.rules.specs.declared.Past.{Past}
 use Rattle.rules.specs.declared.Ending.{Ending}
 use Rattle.rules.specs.declared.Ending.the-variants.{Complete, Failed, Response}
 use Rattle.rules.specs.Lists.{put, keep, place, removeAt}
-use Rattle.rules.specs.State.{Lately, Queue, empty, of, is, startsAt, endsAt, withWaiting, withStarted, mostKept, unused, noneEnded}
-use Rattle.rules.specs.State.{remembered, rememberedAll, recentAt, recentFrom, recent}
+use Rattle.rules.specs.State.{Lately, Queue, empty, of, is, startsAt, endsAt, withWaiting, withStarted}
+use Rattle.rules.specs.Recent.{mostKept, unused, noneEnded}
+use Rattle.rules.specs.Recent.{remembered, rememberedAll, recentAt, recentFrom, recent}
 use Rattle.rules.specs.Ends.{Turn, andThen, past, ending, oneEnd, endings, followers, dismissed, evictedAt, evicted, cancelled}
 use Rattle.rules.specs.Ends.{aborted, closedBy}
 use Rattle.rules.specs.Instants.{mayStart, meetsEqual, ousted, launched, startAt, endAt, instant}
-use Rattle.rules.specs.Answers.{accepted}
-use Rattle.rules.specs.Sound.{Noted, Recalled}
+use Rattle.rules.specs.Splicing.{accepted}
+use Rattle.rules.specs.follows.Sound.{Noted, Recalled}
 use Rattle.rules.proofs.Tests.{by}
 use Rattle.rules.proofs.All.{All, all-append}
 use Rattle.rules.proofs.Every.{all-keep, all-getD, fewer-all, fewer-removeAt, Each, fewer-each}

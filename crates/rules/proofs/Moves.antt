@@ -9,9 +9,10 @@ use lib.ListN.{length}
 use borrow.Author.Tests.{lt-ltb, le-ltb, ltb-true}
 use Rattle.rules.specs.declared.Session.{Session}
 use Rattle.rules.specs.Lists.{All, bit, some, count, place}
-use Rattle.rules.specs.State.{Queue, Sorted, startsAt, startsAfter}
+use Rattle.rules.specs.State.{Queue, startsAt, startsAfter}
+use Rattle.rules.specs.follows.Wires.{Sorted}
 use Rattle.rules.specs.Ends.{quiet, andThen, evicted}
-use Rattle.rules.specs.Answers.{inserted, accepted, later}
+use Rattle.rules.specs.Splicing.{inserted, accepted, later}
 use Rattle.rules.proofs.Count.{some-place, length-insertAt}
 use Rattle.rules.proofs.Sessions.{count-accepted}
 

@@ -10,7 +10,7 @@ use lib.ListN.{length, getD}
 use borrow.Author.Tests.{eqb-true, eq-eqb, ltb-true, ltb-false}
 use Rattle.rules.specs.declared.Session.{Session}
 use Rattle.rules.specs.Lists.{bit, count, place, removeAt}
-use Rattle.rules.specs.Reading.{nobody}
+use Rattle.rules.specs.Request.{nobody}
 use Rattle.rules.specs.State.{Queue, empty, is, follows}
 use Rattle.rules.specs.Ends.{Walk, walk, followers, dismissed}
 use Rattle.rules.proofs.Tests.{clash, by, failed, and-both, both-and}
@@ -22,7 +22,7 @@ use Rattle.rules.proofs.Walk.{Walked, walked, followed}
 use Rattle.rules.proofs.Sessions.{heldCount}
 use Rattle.rules.proofs.Timed.{OnTime}
 use Rattle.rules.proofs.Held.{Proper, Once}
-pub use Rattle.rules.specs.Sound.{isPrior, Tied}
+pub use Rattle.rules.specs.follows.Sound.{isPrior, Tied}
 
 pub tied-more : (n n′ : (Session → Bool) → ℕ) → ((p : Session → Bool) → n p ≤ n′ p) → (w : List Session) → All (Tied n) w → All (Tied n′) w
 tied-more n n′ le w a = all-into (Tied n) (Tied n′) (λ s d e. omega (arith, d e, le (isPrior s))) w a

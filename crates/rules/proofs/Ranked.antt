@@ -12,7 +12,7 @@ use Rattle.rules.specs.Lists.{place, removeAt}
 use Rattle.rules.specs.State.{Queue, empty, startsAt, withWaiting}
 use Rattle.rules.specs.Ends.{Turn, andThen, dismissed}
 use Rattle.rules.specs.Instants.{outranks, mayStart, meetsEqual, ousted, launched, startAt, endAt, instant, onAir, elapse, runAll}
-use Rattle.rules.specs.Answers.{requested, accepted}
+use Rattle.rules.specs.Splicing.{requested, accepted}
 use Rattle.rules.specs.Calls.{Call, fresh, after}
 use Rattle.rules.proofs.Tests.{clash, by, and-both}
 use Rattle.rules.proofs.All.{All, all-into}
@@ -20,7 +20,7 @@ use Rattle.rules.proofs.Every.{Fewer, none, less, stay, fewer-all}
 use Rattle.rules.proofs.Leaving.{endAt-fewer, evicted-started, aborted-fewer, closedBy-fewer}
 use Rattle.rules.proofs.Always.{KeptHeld, held-always}
 use Rattle.rules.proofs.Tick.{run-law}
-pub use Rattle.rules.specs.Sound.{Falling}
+pub use Rattle.rules.specs.follows.Sound.{Falling}
 
 pub fewer-falling : {k l : List Session} → Fewer k l → Falling k → Falling l
 fewer-falling none f = tt

@@ -10,10 +10,13 @@ use lib.Seq.{drop-drop}
 use borrow.Author.Tests.{eqb-false, ltb-false, eq-eqb, ne-eqb}
 use Rattle.rules.specs.declared.Request.{Request}
 use Rattle.rules.specs.declared.Message.the-variants.{Splice}
-use Rattle.rules.specs.Reading.{nobody, initRequest, aliveRequest, spliceRequest, abortRequest, configRequest, extendedRequest}
-use Rattle.rules.specs.Reading.{badInit, badExtended, badTail, badSplice, readInit, readAlive, readAbort, readConfig, readExtended}
-use Rattle.rules.specs.Reading.{readStart, readWhole, readSplice, read, priorSession, tailOf, wholeRequest, descriptorsOf}
-use Rattle.rules.specs.Asked.{Within, Asked, Reads}
+use Rattle.rules.specs.Request.{nobody}
+use Rattle.rules.specs.Reading.{initRequest, aliveRequest, spliceRequest, abortRequest, configRequest, extendedRequest}
+use Rattle.rules.specs.Reading.{badInit, badExtended, readInit, readAlive, readAbort, readConfig, readExtended}
+use Rattle.rules.specs.Request.{badTail, badSplice}
+use Rattle.rules.specs.Request.{readStart, readWhole, readSplice, priorSession, tailOf, wholeRequest, descriptorsOf}
+use Rattle.rules.specs.Reading.{read}
+use Rattle.rules.specs.follows.Asked.{Within, Asked, Reads}
 use Rattle.rules.proofs.Tests.{by, or-none}
 use Rattle.rules.proofs.All.{All}
 use Rattle.rules.proofs.Bytes.{Byte, field-below}

@@ -10,10 +10,11 @@ use lib.ListN.{length, getD}
 use borrow.Author.Tests.{ltb-true, ltb-false}
 use Rattle.rules.specs.declared.Past.{Past}
 use Rattle.rules.specs.Lists.{All, some, place}
-use Rattle.rules.specs.State.{Lately, Queue, sameNumber, mostKept, unused, isKept, recentAt, recentFrom, recent}
+use Rattle.rules.specs.State.{Lately, Queue, sameNumber}
+use Rattle.rules.specs.Recent.{mostKept, unused, isKept, recentAt, recentFrom, recent}
 use Rattle.rules.specs.Records.{Record, ExtendedFound, ExtendedNone}
 use Rattle.rules.specs.Answers.{isPast, latest, extendedResponse}
-use Rattle.rules.specs.Sound.{Noted, Recalled}
+use Rattle.rules.specs.follows.Sound.{Noted, Recalled}
 use Rattle.rules.proofs.Tests.{by, clash, and-both}
 use Rattle.rules.proofs.Count.{place≤, place-holds, some-place}
 use Rattle.rules.proofs.Lately.{unused-noted}

@@ -12,10 +12,10 @@ use borrow.Author.Tests.{ne-eqb}
 use Rattle.rules.specs.Bytes.{bytes, valueFrom, value, part, field, padded, nameIn}
 use Rattle.rules.specs.Records.{Record, General, InitResponse, AliveResponse, SpliceResponse, SpliceComplete, AbortResponse}
 use Rattle.rules.specs.Records.{ConfigResponse, ExtendedFound, ExtendedNone, endDescriptor, CueRequest, framed, recordBytes, output}
-use Rattle.rules.specs.Records.{configIn, recordIn, recordsUpTo, recordsIn}
-use Rattle.rules.specs.Reading.{lengthIn, longestHardware}
-use Rattle.rules.specs.Calls.{longestSection}
-use Rattle.rules.specs.Sound.{Structure}
+use Rattle.rules.specs.follows.ReadBack.{configIn, recordIn, recordsUpTo, recordsIn}
+use Rattle.rules.specs.Hardware.{lengthIn, longestHardware}
+use Rattle.rules.specs.HouseNumbers.{longestSection}
+use Rattle.rules.specs.follows.Sound.{Structure}
 use Rattle.rules.proofs.All.{All, all-append}
 use Rattle.rules.proofs.Bytes.{Byte, bytes-byte, value-bytes, NoZero, length-padded, nameIn-padded, padded-byte}
 

@@ -6,7 +6,8 @@ use native.Mathlib.Omega.{arith}
 use Rattle.rules.specs.declared.Refusal.{Refusal}
 use Rattle.rules.specs.State.{Splicer}
 use Rattle.rules.specs.Records.{Record}
-use Rattle.rules.specs.Calls.{refused, good, Called, ticked, Call, call}
+use Rattle.rules.specs.HouseNumbers.{refused, good, Called}
+use Rattle.rules.specs.Calls.{ticked, Call, call}
 use Rattle.rules.proofs.Cases.{cases}
 
 module _ (s : Splicer) where

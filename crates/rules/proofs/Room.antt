@@ -14,7 +14,8 @@ use Rattle.rules.specs.declared.Session.{Session}
 use Rattle.rules.specs.declared.Request.{Request}
 use Rattle.rules.specs.Lists.{bit}
 use Rattle.rules.specs.State.{Splicer, of}
-use Rattle.rules.specs.Answers.{sessionAt, requested, waits, raised, sumOf, raisedSum, full, accepted}
+use Rattle.rules.specs.Splicing.{sessionAt, requested, waits, raised, sumOf, full, accepted}
+use Rattle.rules.specs.follows.Sound.{raisedSum}
 use Rattle.rules.specs.Calls.{Call, fresh, after}
 use Rattle.rules.proofs.Tests.{or-none}
 use Rattle.rules.proofs.All.{All}
@@ -22,7 +23,7 @@ use Rattle.rules.proofs.Every.{Fewer, fewer-count}
 use Rattle.rules.proofs.Leaving.{evicted-fewer, aborted-fewer, closedBy-fewer}
 use Rattle.rules.proofs.Always.{Admitted, KeptHeld, held-always}
 use Rattle.rules.proofs.Sessions.{count-accepted, waiting-tick}
-pub use Rattle.rules.specs.Sound.{Room}
+pub use Rattle.rules.specs.follows.Sound.{Room}
 
 raised-up : (x y : ℕ) → x ≤ y → raised x ≤ raised y
 raised-up x y h = omega arith

@@ -12,7 +12,7 @@ use Rattle.rules.specs.Lists.{bit, count, place, removeAt}
 use Rattle.rules.specs.State.{Queue, Splicer, empty, startsAt, startsAfter, held, withWaiting}
 use Rattle.rules.specs.Ends.{Turn, andThen, evicted}
 use Rattle.rules.specs.Instants.{mayStart, ousted, launched, startAt, endAt, instant, playing, elapse, runAll}
-use Rattle.rules.specs.Answers.{requested, accepted, inserted}
+use Rattle.rules.specs.Splicing.{requested, accepted, inserted}
 use Rattle.rules.specs.Calls.{Call}
 use Rattle.rules.proofs.Tests.{by}
 use Rattle.rules.proofs.Count.{count-append, count-removeAt, count-insertAt}
@@ -21,7 +21,7 @@ use Rattle.rules.proofs.Every.{FewerHeld, fewer-each}
 use Rattle.rules.proofs.Leaving.{failed-fewer, ousted-fewer, endAt-fewer, evicted-fewer, aborted-fewer, closedBy-fewer}
 use Rattle.rules.proofs.Always.{Admitted, KeptHeld}
 use Rattle.rules.proofs.Tick.{all-onAir, count-onAir, run-law}
-pub use Rattle.rules.specs.Sound.{heldCount}
+pub use Rattle.rules.specs.follows.Sound.{heldCount}
 
 -- ## A fact of each session
 

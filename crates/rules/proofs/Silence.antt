@@ -9,7 +9,7 @@ use Rattle.rules.specs.declared.When.the-variants.{At, Never}
 use Rattle.rules.specs.declared.Session.{Session}
 use Rattle.rules.specs.State.{Queue, due, notAfter, toCome}
 use Rattle.rules.specs.Instants.{elapse, silence, silent, silentAll}
-use Rattle.rules.specs.Sound.{OnTime}
+use Rattle.rules.specs.follows.Sound.{OnTime}
 use Rattle.rules.proofs.Tick.{due-first, due-time, due-meets, elapse-due, moved, moved-less, due-none, by-next}
 use Rattle.rules.proofs.Timed.{instant-timed, elapse-timed, meets-after}
 

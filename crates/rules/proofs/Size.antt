@@ -16,10 +16,12 @@ use Rattle.rules.specs.Records.{Record, General, InitResponse, AliveResp
 use Rattle.rules.specs.Records.{ExtendedFound, ExtendedNone, output}
 use Rattle.rules.specs.Ends.{Turn, quiet, andThen, ended, ending, oneEnd, endings, followers, dismissed, evictedAt, evicted}
 use Rattle.rules.specs.Ends.{cancelled, aborted, closedBy}
-use Rattle.rules.specs.Reading.{longestHardware}
+use Rattle.rules.specs.Hardware.{longestHardware}
 use Rattle.rules.specs.Instants.{mayStart, began, meetsEqual, ousted, launched, startAt, endAt, instant, runAll}
-use Rattle.rules.specs.Answers.{Answered, airFeed, requested, accepts, accepted, aliveResponse, configResponse, answer}
-use Rattle.rules.specs.Calls.{writtenBy, longestSection, longSection, sectionOf, Loans, ticked, Call, call}
+use Rattle.rules.specs.Answers.{Answered, airFeed, aliveResponse, configResponse, answer}
+use Rattle.rules.specs.Splicing.{requested, accepts, accepted}
+use Rattle.rules.specs.HouseNumbers.{writtenBy, longestSection, longSection, Loans}
+use Rattle.rules.specs.Calls.{sectionOf, ticked, Call, call}
 use Rattle.rules.specs.Cues.{readCue, cueTime, initialisedOnes}
 use Rattle.rules.proofs.Tests.{by, or-none}
 use Rattle.rules.proofs.Cued.{section-size, initialised-four, cue-weight}

@@ -9,11 +9,13 @@ use Rattle.rules.specs.declared.Ninths.{Ninths}
 use Rattle.rules.specs.declared.Session.{Session}
 use Rattle.rules.specs.declared.When.the-variants.{At}
 use Rattle.rules.specs.Bytes.{hasZero}
-use Rattle.rules.specs.State.{Queue, Splicer, is, due, notAfter, noneHeld}
-use Rattle.rules.specs.Records.{recordsIn}
+use Rattle.rules.specs.State.{Queue, Splicer, is, due, notAfter}
+use Rattle.rules.specs.Recent.{noneHeld}
+use Rattle.rules.specs.follows.ReadBack.{recordsIn}
 use Rattle.rules.specs.Ends.{Turn, andThen}
 use Rattle.rules.specs.Instants.{instant, elapse, run, runAll}
-use Rattle.rules.specs.Calls.{Called, writtenBy, named, fresh, Call, call, after}
+use Rattle.rules.specs.HouseNumbers.{Called, writtenBy}
+use Rattle.rules.specs.Calls.{named, fresh, Call, call, after}
 use Rattle.rules.proofs.Tests.{by}
 use Rattle.rules.proofs.All.{All, all-into, all-append}
 use Rattle.rules.proofs.Bytes.{Byte}
@@ -35,7 +37,7 @@ use Rattle.rules.proofs.Bounds.{horizon, longest, never, ends-early}
 use Rattle.rules.proofs.Fitted.{recordsOf, found}
 use Rattle.rules.proofs.Size.{call-size}
 use Rattle.rules.proofs.Lately.{Notable, Keeping, aborted-keeps, closedBy-keeps, accepted-recalls, instant-recalls, recalled-none}
-pub use Rattle.rules.specs.Sound.{Holding, Recalled, Sound, Reached}
+pub use Rattle.rules.specs.follows.Sound.{Holding, Recalled, Sound, Reached}
 
 -- ## Of the sessions held at a time: the clock, or an instant of a tick
 

@@ -10,10 +10,13 @@ use lib.ListN.{length, getD, take, drop, length-append, length-take, length-drop
 use lib.Seq.{take-suc, take-at, drop-at, take-add, take-append-le, drop-append-le, length-take-le, take-all}
 use borrow.Author.Tests.{le-ltb, lt-ltb, ltb-false, eqb-false, eq-eqb, ne-eqb}
 use Rattle.rules.specs.Bytes.{bytes, valueFrom, value, part, field}
-use Rattle.rules.specs.Reading.{nobody, separateService, sessionID, priorSession, seconds, microSeconds, serviceID, readStart, Stream}
-use Rattle.rules.specs.Reading.{streamLength, streamAt, highestPid, unknownSize, badStream, Listed, listed, unlisted, behind}
-use Rattle.rules.specs.Reading.{streamsIn, pcrPid, pidCount, mostStreams, badCount, separateIn, restOf, Writable, streamBytes}
-use Rattle.rules.specs.Reading.{streamsBytes, separateBytes, tailOf, badTail, badSplice, wholeRequest, readWhole, readSplice}
+use Rattle.rules.specs.Request.{nobody, separateService, sessionID, priorSession, seconds, microSeconds, serviceID, readStart}
+use Rattle.rules.specs.Streams.{Stream}
+use Rattle.rules.specs.Streams.{streamLength, streamAt, highestPid, unknownSize, badStream, Listed, listed, unlisted, behind}
+use Rattle.rules.specs.Streams.{streamsIn, pcrPid, pidCount, mostStreams, badCount, separateIn, restOf, streamBytes}
+use Rattle.rules.specs.follows.ReadBack.{Writable}
+use Rattle.rules.specs.Streams.{streamsBytes, separateBytes}
+use Rattle.rules.specs.Request.{tailOf, badTail, badSplice, wholeRequest, readWhole, readSplice}
 use Rattle.rules.proofs.Tests.{clash, or-none}
 use Rattle.rules.proofs.All.{All, all-drop, at-all}
 use Rattle.rules.proofs.Bytes.{Byte, length-bytes, value-bytes, value-append, field-below}

@@ -13,7 +13,8 @@ use Rattle.rules.specs.declared.When.{When}
 use Rattle.rules.specs.declared.When.the-variants.{At, Never}
 use Rattle.rules.specs.declared.Session.{Session}
 use Rattle.rules.specs.Lists.{bit, keep, omit, count, place, removeAt}
-use Rattle.rules.specs.State.{Queue, Sorted, empty, startsAt, endsAt, sooner, earliest, due, notAfter, toCome, withWaiting}
+use Rattle.rules.specs.State.{Queue, empty, startsAt, endsAt, sooner, earliest, due, notAfter, toCome, withWaiting}
+use Rattle.rules.specs.follows.Wires.{Sorted}
 use Rattle.rules.specs.State.{withStarted}
 use Rattle.rules.specs.Ends.{Turn, quiet, andThen}
 use Rattle.rules.specs.Instants.{mayStart, launched, startAt, endAt, instant, playing, onAir, elapse, onwards, run, runAll}

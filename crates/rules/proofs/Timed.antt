@@ -19,7 +19,7 @@ use Rattle.rules.specs.Lists.{bit, omit, count, place, removeAt}
 use Rattle.rules.specs.State.{due, notAfter, Queue, Splicer, empty, is, startsAt, endsAt, held, holds, withWaiting, withStarted}
 use Rattle.rules.specs.Ends.{Turn, andThen, ending, oneEnd, evictedAt, evicted}
 use Rattle.rules.specs.Instants.{mayStart, ousted, launched, startAt, endAt, instant, elapse, runAll}
-use Rattle.rules.specs.Answers.{endOf, startOf, sessionAt, requested, unknownPrior, tooLate, accepted}
+use Rattle.rules.specs.Splicing.{endOf, startOf, sessionAt, requested, unknownPrior, tooLate, accepted}
 use Rattle.rules.specs.Calls.{Call, after, fresh}
 use Rattle.rules.proofs.Tests.{tests, by}
 use Rattle.rules.proofs.All.{All, all-into}
@@ -29,7 +29,7 @@ use Rattle.rules.proofs.Every.{Sorted, fewer-sorted, sorted-inserted, a
 use Rattle.rules.proofs.Leaving.{dismissed-fewer, failed-fewer, ousted-fewer, evicted-fewer, aborted-fewer, closedBy-fewer}
 use Rattle.rules.proofs.Tick.{due-time, due-meets, Due, meets, all-onAir, elapse-due, tick-through}
 use Rattle.rules.proofs.Always.{Admitted, grants, KeptHeld, held-always}
-pub use Rattle.rules.specs.Sound.{Later, OnTime}
+pub use Rattle.rules.specs.follows.Sound.{Later, OnTime}
 
 pub timed-fewer : (now : ℕ) (q r : Queue) → FewerHeld q r → OnTime now q → OnTime now r
 timed-fewer now q r f h =

@@ -2,7 +2,7 @@
 use mathlib.Core.Path.{_≡_, refl, subst}
 use Prim.Native.Nat.{ℕ}
 use Rattle.rules.specs.Calls.{Call, opens, closes, messages, ticks, moves, cues}
-use Rattle.rules.specs.Rolling.{Timeless}
+use Rattle.rules.specs.follows.Sequences.{Timeless}
 
 abbrev pub NoTime : Call → Type 0
 NoTime k = ((seconds micros room : ℕ) → k ≡ ticks seconds micros room → ⊥) × ((until room : ℕ) → k ≡ moves until room → ⊥)

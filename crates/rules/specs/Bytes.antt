@@ -1,14 +1,10 @@
 -- 01, Bytes: numbers, the header of a message, strings, and what a lent buffer holds. Assumes nothing.
-use mathlib.Core.Path.{_≡_}
-use mathlib.Core.Bool.{Bool, false, cond}
+use mathlib.Core.Bool.{Bool, cond}
 use mathlib.Core.List.{List, [], _∷_, _++_}
-use Prim.Native.Nat.{ℕ, zero, suc, _+_, _-_, _*_, _/_, _%_, _<_}
+use Prim.Native.Nat.{ℕ, zero, suc, _+_, _-_, _*_, _/_, _%_}
 use lib.Dec.{eqb, ltb}
 use lib.ListN.{length, take, drop, replicate}
 use Rattle.rules.specs.Lists.{some, same}
-
-abbrev pub Byte : ℕ → Type 0
-Byte b = b < 256
 
 -- "All numbers are big-endian." x in n bytes, the highest first
 unfoldable pub bytes : ℕ → ℕ → List ℕ
@@ -53,9 +49,6 @@ oversize l = ltb largestSize (messageSize l)
 -- "A string ends at its first zero byte; bytes after it don't count when names are compared."
 abbrev pub hasZero : List ℕ → Bool
 hasZero l = some (eqb 0) l
-
-abbrev pub NoZero : List ℕ → Type 0
-NoZero l = hasZero l ≡ false
 
 abbrev pub nameIn : List ℕ → List ℕ
 nameIn [] = []

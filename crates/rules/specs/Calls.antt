@@ -1,5 +1,5 @@
 -- 01, "Calls and house numbers".
-use mathlib.Core.Bool.{Bool, false, cond, not, _||_}
+use mathlib.Core.Bool.{Bool, cond}
 use mathlib.Core.List.{List, [], _∷_}
 use Prim.Native.Nat.{ℕ, _+_, _*_, _/_, _%_}
 use lib.Dec.{leb, ltb}
@@ -7,113 +7,19 @@ use lib.ListN.{length}
 use Rattle.rules.specs.declared.When.{When}
 use Rattle.rules.specs.declared.When.the-variants.{At, Never}
 use Rattle.rules.specs.declared.Link.the-variants.{Closed, Opened}
-use Rattle.rules.specs.declared.Refusal.{Refusal}
 use Rattle.rules.specs.declared.Refusal.the-variants.{NoConnection, NoRoom, ClockBack, Oversize, Short, AlreadyOpen, NotOpen}
-use Rattle.rules.specs.declared.Refusal.the-variants.{BadMicros, BadName, Counter, LongSection, BadSection, NotSixteen}
+use Rattle.rules.specs.declared.Refusal.the-variants.{BadMicros, BadName, LongSection, BadSection}
 use Rattle.rules.specs.declared.Framing.{Framing}
 use Rattle.rules.specs.declared.Framing.the-variants.{Framed, Unframed}
-use Rattle.rules.specs.Units.{second, timeOf, badMicros, fromMicros, upMicros}
+use Rattle.rules.specs.Units.{horizon, second, timeOf, badMicros, fromMicros, upMicros}
 use Rattle.rules.specs.Bytes.{messageID, messageSize, oversize, dataOf, hasZero, nameIn, written}
-use Rattle.rules.specs.State.{Splicer, noHardware, linkOf, isOpen, withLink, withHardware, withQueue, withClock, noneHeld}
-use Rattle.rules.specs.Records.{Record, output}
+use Rattle.rules.specs.State.{Splicer, noHardware, linkOf, isOpen, withLink, withHardware, withQueue, withClock}
+use Rattle.rules.specs.Recent.{noneHeld}
 use Rattle.rules.specs.Ends.{closedBy}
-use Rattle.rules.specs.Answers.{Answered, airMap, answer}
 use Rattle.rules.specs.Instants.{runAll, silentAll}
+use Rattle.rules.specs.Answers.{airMap, answer}
 use Rattle.rules.specs.Cues.{badSection, readCue, cueTime, initialisedOnes, cueRecords}
-
--- the table of house numbers
-unfoldable pub houseNumber : Refusal → ℕ
-houseNumber NoConnection = 1
-houseNumber NoRoom = 2
-houseNumber ClockBack = 3
-houseNumber Oversize = 4
-houseNumber Short = 5
-houseNumber AlreadyOpen = 6
-houseNumber NotOpen = 7
-houseNumber BadMicros = 8
-houseNumber BadName = 9
--- 02, CR 9
-houseNumber Counter = 12
--- 02, CR 7
-houseNumber BadSection = 11
--- 02, CR 6
-houseNumber LongSection = 10
--- 02, CR 8: the page's alone, no call's
-houseNumber NotSixteen = 16
-
--- "A good call returns the bytes written, and message also the bytes consumed." "A refusal returns its number, writes nothing,
--- consumes nothing"
-pub data Answer : Type 0 where
-  refused : Refusal → Answer
-  good : (consumed : ℕ) (records : List Record) → Answer
-
--- the splicer after a call, and what the call answers; 02, CR 11: whether it accepted a request, and "how many places an acceptance
--- shifts": "Report that number with the call."
-pub record Called : Type 0 where
-  pub splicer : Splicer
-  pub answer : Answer
-  pub accepted : Bool
-  pub moved : ℕ
-
--- "and changes no state"
-abbrev pub refuse : Refusal → Splicer → Called
-refuse n s = record { splicer = s; answer = refused n; accepted = false; moved = 0 }
-
-abbrev pub does : ℕ → List Record → Splicer → Called
-does consumed rs s = record { splicer = s; answer = good consumed rs; accepted = false; moved = 0 }
-
--- a message of that many bytes was answered
-abbrev pub replies : ℕ → Answered → Called
-replies consumed a =
-    record { splicer = a .splicer; answer = good consumed (a .written); accepted = a .accepted; moved = a .moved }
-
--- what an answer writes into the output buffer
-unfoldable pub writtenBy : Answer → List ℕ
-writtenBy (refused n) = []
-writtenBy (good consumed rs) = output rs
-
-unfoldable pub consumedBy : Answer → ℕ
-consumedBy (refused n) = 0
-consumedBy (good consumed rs) = consumed
-
--- "bytes beyond those written stay unchanged": what a lent output buffer holds after a call that held e before it
-unfoldable pub bufferAfter : Answer → List ℕ → List ℕ
-bufferAfter a e = written e 0 (writtenBy a)
-
--- ## The tests behind the house numbers
-
--- 1: "connection above 3"
-abbrev pub noConnection : ℕ → Bool
-noConnection c = ltb 3 c
-
--- 2: "output buffer below 4,096 bytes"; room: its length
-abbrev pub noRoom : ℕ → Bool
-noRoom room = ltb room 4096
-
--- 7: "not open"
-abbrev pub notOpen : ℕ → Splicer → Bool
-notOpen c s = not (isOpen (linkOf c s))
-
--- what a message call is lent; room: the length of its output buffer; 02, CR 6: "the caller lends both sections, the primary's and the
--- insertion's"
-pub record Loans : Type 0 where
-  pub room : ℕ
-  pub primary : List ℕ
-  pub insertion : List ℕ
-
-abbrev pub lendingMaps : (primary insertion : List ℕ) (room : ℕ) → Loans
-lendingMaps primary insertion room = record { room = room; primary = primary; insertion = insertion }
-
--- empty sections
-abbrev pub lending : ℕ → Loans
-lending room = lendingMaps [] [] room
-
--- 02, CR 6, 10: "for a lent section over 1,024 bytes"
-abbrev pub longestSection : ℕ
-longestSection = 1024
-
-abbrev pub longSection : Loans → Bool
-longSection loans = ltb longestSection (length (loans .primary)) || ltb longestSection (length (loans .insertion))
+use Rattle.rules.specs.HouseNumbers.{Called, refuse, does, replies, noConnection, noRoom, notOpen, Loans, longSection}
 
 -- ## The five calls
 
@@ -209,7 +115,7 @@ tickCall seconds micros room s =
 
 -- no tick's time is so late: Seconds has four bytes
 abbrev pub beyond : ℕ → Bool
-beyond t = leb (4294967296 * 9000000) (upMicros t * 9)
+beyond t = leb horizon (upMicros t * 9)
 
 -- when a tick would next do anything, in words: 0 with nothing due; 1 and the instant in ninths, if no tick reaches it; 2, the instant, and
 -- Seconds and MicroSeconds of the first tick that does
@@ -247,7 +153,3 @@ call (cues l pts seconds micros room) s = cueCall l pts seconds micros room s
 unfoldable pub after : List Call → Splicer → Splicer
 after [] s = s
 after (k ∷ ks) s = after ks (call k s .splicer)
-
-unfoldable pub answers : List Call → Splicer → List Answer
-answers [] s = []
-answers (k ∷ ks) s = call k s .answer ∷ answers ks (call k s .splicer)

@@ -6,8 +6,8 @@ use lib.Dec.{eqb, ltb}
 use lib.ListN.{length, drop}
 use Rattle.rules.specs.Bytes.{part, field, messageSize, oversize, padded}
 use Rattle.rules.specs.State.{Splicer}
-use Rattle.rules.specs.Calls.{Answer, refused, good, writtenBy, houseNumber, fresh, Loans, lending, Call, opens, closes, messages}
-use Rattle.rules.specs.Calls.{ticks, call}
+use Rattle.rules.specs.HouseNumbers.{Answer, refused, good, writtenBy, houseNumber, Loans, lending}
+use Rattle.rules.specs.Calls.{fresh, Call, opens, closes, messages, ticks, call}
 
 -- "ChannelName is "CH1"."
 unfoldable pub cardName : List ℕ

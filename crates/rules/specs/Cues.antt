@@ -2,16 +2,16 @@
 use mathlib.Core.Bool.{Bool, cond, not, _&&_, _||_}
 use mathlib.Core.List.{List, [], _∷_, map}
 use Prim.Native.Nat.{ℕ, _+_, _-_, _*_, _/_, _%_}
-use lib.Dec.{eqb, leb, ltb}
+use lib.Dec.{eqb, ltb}
 use lib.ListN.{length, getD}
 use Rattle.rules.specs.declared.Cue.{Cue}
 use Rattle.rules.specs.declared.Cue.the-variants.{At, Timeless, Silent, Bad}
 use Rattle.rules.specs.declared.WireTime.{WireTime}
-use Rattle.rules.specs.Units.{second, timeOf, fromMicros, fromTicks, toMicros}
-use Rattle.rules.specs.Lists.{keep}
-use Rattle.rules.specs.Bytes.{field}
 use Rattle.rules.specs.declared.Link.{Link}
 use Rattle.rules.specs.declared.Link.the-variants.{Closed}
+use Rattle.rules.specs.Lists.{keep}
+use Rattle.rules.specs.Units.{second, timeOf, fromMicros, fromTicks, toMicros}
+use Rattle.rules.specs.Bytes.{field}
 use Rattle.rules.specs.State.{isInitialised}
 use Rattle.rules.specs.Records.{Record, General, CueRequest}
 use Rattle.rules.specs.Crc.{rightCrc}

@@ -1,35 +1,58 @@
--- The descriptors of a message one by one, for the theorems about them (no rule: Reading has the rules).
-use mathlib.Core.Bool.{Bool, true, cond, _&&_}
-use mathlib.Core.List.{List, [], _∷_, _++_}
+-- 01, Bytes, "Descriptor": what makes one good; 02, CR 5: the mux priority that a message's descriptors give.
+use mathlib.Core.Bool.{Bool, true, false, cond, not, _&&_}
+use mathlib.Core.List.{List}
 use Prim.Native.Nat.{ℕ, zero, suc, _+_}
-use lib.Dec.{eqb}
-use lib.ListN.{length, take, drop}
-use Rattle.rules.specs.Lists.{put}
-use Rattle.rules.specs.Reading.{descriptorLength, isMux, muxValue, goodDescriptor}
+use lib.Dec.{eqb, leb}
+use lib.ListN.{length, getD, drop}
+use Rattle.rules.specs.declared.Priority.{Priority}
+use Rattle.rules.specs.declared.Priority.the-variants.{Is, Bad}
+use Rattle.rules.specs.Bytes.{field}
 
--- the bytes l cut behind each descriptor, as its length says; what is left at the last is what there is. n is at least their number
-unfoldable pub cut : ℕ → List ℕ → List (List ℕ)
-cut zero l = []
-cut (suc n) l = cond (eqb (length l) 0) [] (take (2 + descriptorLength l) l ∷ cut n (drop (2 + descriptorLength l) l))
+-- "Descriptor: tag 1, length 1, identifier 4, private bytes. Length counts what follows it, is 4 to 254, and the descriptors
+-- fill the message exactly." n is at least the number of descriptors.
+abbrev pub descriptorLength : List ℕ → ℕ
+descriptorLength l = getD l 1 0
 
-abbrev pub descriptorsIn : List ℕ → List (List ℕ)
-descriptorsIn l = cut (length l) l
+abbrev pub descriptorFits : List ℕ → Bool
+descriptorFits l = leb 4 (descriptorLength l) && (leb (descriptorLength l) 254 && leb (2 + descriptorLength l) (length l))
 
--- their bytes again
-unfoldable pub bytesOf : List (List ℕ) → List ℕ
-bytesOf [] = []
-bytesOf (d ∷ ds) = d ++ bytesOf ds
+-- 02, CR 5: "For tag 0x02 under "SAPI" the length must be 5 and the value 1 to 10" (000, Table 8-11)
+abbrev pub isMux : List ℕ → Bool
+isMux l = eqb (getD l 0 0) 0x02 && eqb (field 2 4 l) 0x53415049
 
-unfoldable pub allGood : List (List ℕ) → Bool
-allGood [] = true
-allGood (d ∷ ds) = goodDescriptor d && allGood ds
+abbrev pub muxValue : List ℕ → ℕ
+muxValue l = getD l 6 0
 
--- the muxpriority values among them, in their order
-unfoldable pub muxValues : List (List ℕ) → List ℕ
-muxValues [] = []
-muxValues (d ∷ ds) = put (isMux d) (muxValue d) (muxValues ds)
+abbrev pub badMux : List ℕ → Bool
+badMux l = not (eqb (descriptorLength l) 5 && (leb 1 (muxValue l) && leb (muxValue l) 10))
 
--- the last of l, or v where there is none
-unfoldable pub lastOr : ℕ → List ℕ → ℕ
-lastOr v [] = v
-lastOr v (x ∷ l) = lastOr x l
+-- whether the first descriptor of l is good; of a foreign one its form alone
+abbrev pub goodDescriptor : List ℕ → Bool
+goodDescriptor l = descriptorFits l && not (isMux l && badMux l)
+
+-- "without one the value is 5"
+abbrev pub averageMux : ℕ
+averageMux = 5
+
+-- "the last one wins": the value is v before the first descriptor of l, and this behind it
+abbrev pub muxAfter : ℕ → List ℕ → ℕ
+muxAfter v l = cond (isMux l) (muxValue l) v
+
+unfoldable pub muxFrom : ℕ → ℕ → List ℕ → Priority
+muxFrom zero v l = cond (eqb (length l) 0) (Is v) Bad
+muxFrom (suc n) v l =
+    cond (eqb (length l) 0) (Is v)
+    (cond (goodDescriptor l) (muxFrom n (muxAfter v l) (drop (2 + descriptorLength l) l)) Bad)
+
+-- each takes at least six bytes, so there are fewer than bytes
+abbrev pub muxOf : List ℕ → Priority
+muxOf l = muxFrom (length l) averageMux l
+
+abbrev pub isBad : Priority → Bool
+isBad (Is v) = false
+isBad Bad = true
+
+-- of bad descriptors, with which nothing is read, as without one
+abbrev pub muxIn : Priority → ℕ
+muxIn (Is v) = v
+muxIn Bad = averageMux

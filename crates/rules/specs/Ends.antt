@@ -8,9 +8,10 @@ use Rattle.rules.specs.declared.Session.{Session}
 use Rattle.rules.specs.declared.Ending.{Ending}
 use Rattle.rules.specs.declared.Ending.the-variants.{Complete, Failed, Response}
 use Rattle.rules.specs.declared.Past.{Past}
-use Rattle.rules.specs.Units.{toTicks}
 use Rattle.rules.specs.Lists.{put, keep, omit, place, removeAt}
-use Rattle.rules.specs.State.{Queue, empty, of, is, follows, startsAt, withWaiting, withLately, rememberedAll}
+use Rattle.rules.specs.Units.{toTicks}
+use Rattle.rules.specs.State.{Queue, empty, of, is, follows, startsAt, withWaiting, withLately}
+use Rattle.rules.specs.Recent.{rememberedAll}
 use Rattle.rules.specs.Records.{Record, SpliceResponse, SpliceComplete, resultOf}
 
 -- a queue after some of the work, and the records which that wrote

@@ -1,20 +1,16 @@
 -- 02, CR 9: "The card with a rolling counter."
-use mathlib.Core.Path.{_≡_}
 use mathlib.Core.Bool.{Bool, true, false, cond}
-use mathlib.Core.List.{List, [], _∷_, _++_}
-use Prim.Native.Nat.{ℕ, _+_, _-_, _*_, _%_, _<_}
+use mathlib.Core.List.{List, [], _∷_}
+use Prim.Native.Nat.{ℕ, _+_, _-_, _%_}
 use lib.Dec.{leb, ltb}
-use lib.ListN.{length}
 use Rattle.rules.specs.declared.When.{When}
 use Rattle.rules.specs.declared.When.the-variants.{At, Never}
 use Rattle.rules.specs.declared.Refusal.{Refusal}
 use Rattle.rules.specs.declared.Refusal.the-variants.{NoRoom, BadMicros, Counter}
-use Rattle.rules.specs.Lists.{All}
-use Rattle.rules.specs.Units.{timeOf, badMicros, fromMicros, fromTicks, upTicks}
-use Rattle.rules.specs.Bytes.{Byte}
+use Rattle.rules.specs.Units.{timeOf, badMicros, fromMicros, fromTicks, upTicks, horizon}
 use Rattle.rules.specs.State.{Splicer}
-use Rattle.rules.specs.Calls.{Answer, Called, refuse, noRoom, fresh, ticked, Call, opens, closes, messages, ticks, moves, cues, call}
-use Rattle.rules.specs.Sound.{Wired, horizon}
+use Rattle.rules.specs.HouseNumbers.{Called, refuse, noRoom}
+use Rattle.rules.specs.Calls.{ticked, Call, call}
 
 -- "Given a UTC instant and a reading once": none yet, or the last reading that a good call kept
 pub data Last : Type 0 where
@@ -30,10 +26,6 @@ pub record Rolling : Type 0 where
 pub record Rolled : Type 0 where
   pub called : Called
   pub last : Last
-
--- the card's state after it
-abbrev pub rollingOf : Rolled → Rolling
-rollingOf c = record { splicer = c .called .splicer; last = c .last }
 
 -- ## The step
 
@@ -121,19 +113,6 @@ stepRow (at reading) clock (At t) = within clock (upTicks (t .0 - clock))
 
 -- ## Sequences of this card's calls
 
--- fresh is document 01's, and no instant was given
-unfoldable pub rollingFresh : List ℕ → Rolled
-rollingFresh name = record { called = fresh name; last = none }
-
--- document 01's calls but for those that bring the clock to a time
-abbrev pub Timeless : Call → Type 0
-Timeless (opens c) = Unit {0}
-Timeless (closes c room) = Unit {0}
-Timeless (messages c l loans) = Unit {0}
-Timeless (ticks seconds micros room) = ⊥
-Timeless (moves until room) = ⊥
-Timeless (cues l pts seconds micros room) = Unit {0}
-
 pub data RollingCall : Type 0 where
   known : (k : Call) → RollingCall
   instants : (seconds micros reading room : ℕ) → RollingCall
@@ -143,48 +122,3 @@ unfoldable pub roll : RollingCall → Rolling → Rolled
 roll (known k) r = record { called = call k (r .splicer); last = r .last }
 roll (instants seconds micros reading room) r = instantCall seconds micros reading room r
 roll (readings reading room) r = readingCall reading room r
-
-unfoldable pub rolledAfter : List RollingCall → Rolling → Rolling
-rolledAfter [] r = r
-rolledAfter (k ∷ ks) r = rolledAfter ks (rollingOf (roll k r))
-
--- ## What a sequence amounts to: "those of document 01"
-
--- a good call is the clock brought to its instant, a refused one is none
-abbrev pub asMove : Course → (room : ℕ) → List Call
-asMove (refuses n) room = []
-asMove (brings until) room = moves until room ∷ []
-
-unfoldable pub asCalls : RollingCall → Rolling → List Call
-asCalls (known k) r = k ∷ []
-asCalls (instants seconds micros reading room) r = asMove (instantCourse seconds micros room (r .last)) room
-asCalls (readings reading room) r = asMove (readingCourse (r .splicer .clock) reading room (r .last)) room
-
-unfoldable pub asMoves : List RollingCall → Rolling → List Call
-asMoves [] r = []
-asMoves (k ∷ ks) r = asCalls k r ++ asMoves ks (rollingOf (roll k r))
-
--- the answers of the calls that amount to one of document 01's
-abbrev pub said : List Call → Answer → List Answer
-said [] a = []
-said (k ∷ ks) a = a ∷ []
-
-unfoldable pub rollAnswers : List RollingCall → Rolling → List Answer
-rollAnswers [] r = []
-rollAnswers (k ∷ ks) r = said (asCalls k r) (roll k r .called .answer) ++ rollAnswers ks (rollingOf (roll k r))
-
--- ## "A splicer is what fresh and the calls since have given", of this card
-
--- the known calls without ticks; Seconds and readings are four bytes
-abbrev pub RollWired : RollingCall → Type 0
-RollWired (known k) = Wired k × Timeless k
-RollWired (instants seconds micros reading room) = (seconds < 4294967296) × (reading < rollover)
-RollWired (readings reading room) = reading < rollover
-
-pub record RollReached (r : Rolling) : Type 0 where
-  pub name : List ℕ
-  pub whole : length name ≡ 32
-  pub bytes : All Byte name
-  pub calls : List RollingCall
-  pub wired : All RollWired calls
-  pub same : r ≡ rolledAfter calls (rollingOf (rollingFresh name))

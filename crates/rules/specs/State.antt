@@ -1,9 +1,9 @@
--- The splicer as plain lists and numbers: the sessions held, the connections, the clock (in ninths) and the ChannelName.
-use mathlib.Core.Bool.{Bool, true, false, cond, not, _&&_}
+-- The splicer as plain lists and numbers: sessions held, connections, the clock in ninths, the ChannelName.
+use mathlib.Core.Bool.{Bool, true, false, cond, _&&_}
 use mathlib.Core.List.{List, [], _∷_, _++_}
-use Prim.Native.Nat.{ℕ, zero, suc, _+_, _-_, _*_, _%_, _<_}
+use Prim.Native.Nat.{ℕ, _+_, _*_}
 use lib.Dec.{eqb, leb, ltb}
-use lib.ListN.{length, getD, set, replicate}
+use lib.ListN.{length, getD, set}
 use Rattle.rules.specs.declared.Ninths.{Ninths}
 use Rattle.rules.specs.declared.When.{When}
 use Rattle.rules.specs.declared.When.the-variants.{At, Never}
@@ -11,7 +11,7 @@ use Rattle.rules.specs.declared.Session.{Session}
 use Rattle.rules.specs.declared.Past.{Past}
 use Rattle.rules.specs.declared.Link.{Link}
 use Rattle.rules.specs.declared.Link.the-variants.{Closed, Opened, Initialised}
-use Rattle.rules.specs.Lists.{All, some}
+use Rattle.rules.specs.Lists.{some}
 
 -- 02, CR 8: "the last 16 ended sessions", in sixteen places that are written in turn, the oldest over. next: the place of the next end
 pub record Lately : Type 0 where
@@ -113,12 +113,6 @@ notAfter until (At t) = cond (ltb until (t .0)) Never (At t)
 abbrev pub toCome : Queue → ℕ
 toCome q = 2 * length (q .waiting) + length (q .started)
 
--- in order of start, no two alike
--- 02, CR 10: "Keep the waiting sessions ordered by start."
-abbrev pub Sorted : List Session → Type 0
-Sorted [] = Unit {0}
-Sorted (s ∷ w) = All (λ u. s .start .0 < u .start .0) w × Sorted w
-
 -- ## Connections
 
 abbrev pub linkOf : ℕ → Splicer → Link
@@ -168,44 +162,3 @@ withStarted k q = record { waiting = q .waiting; started = k; lately = q .lately
 
 abbrev pub withLately : Lately → Queue → Queue
 withLately l q = record { waiting = q .waiting; started = q .started; lately = l }
-
--- ## 02, CR 8: what ended lately
-
-abbrev pub mostKept : ℕ
-mostKept = 16
-
--- what stands where none is kept: "numbers 0"
-abbrev pub unused : Past
-unused = record { conn = 0; id = 0; event = 0; result = 0; played = 0 }
-
--- no end has the result 0
-abbrev pub isKept : Past → Bool
-isKept e = not (eqb (e .result) 0)
-
-abbrev pub noneEnded : Lately
-noneEnded = record { places = replicate mostKept unused; next = 0 }
-
--- no session is held, and none has ended
-abbrev pub noneHeld : Queue
-noneHeld = record { waiting = []; started = []; lately = noneEnded }
-
--- one more has ended: "oldest dropped first"
-unfoldable pub remembered : Past → Lately → Lately
-remembered e l = record { places = set (l .places) (l .next) e; next = (l .next + 1) % mostKept }
-
--- one after the other
-unfoldable pub rememberedAll : List Past → Lately → Lately
-rememberedAll [] l = l
-rememberedAll (e ∷ es) l = rememberedAll es (remembered e l)
-
--- "from the newest down": the one that ended i ends before the newest, i below 16
-unfoldable pub recentAt : ℕ → Lately → Past
-recentAt i l = getD (l .places) ((l .next + (mostKept - 1 - i)) % mostKept) unused
-
-unfoldable pub recentFrom : (i n : ℕ) → Lately → List Past
-recentFrom i zero l = []
-recentFrom i (suc n) l = recentAt i l ∷ recentFrom (suc i) n l
-
--- all sixteen, unused ones too
-unfoldable pub recent : Lately → List Past
-recent l = recentFrom 0 mostKept l

@@ -8,6 +8,10 @@ use Rattle.rules.specs.declared.Micros.{Micros}
 use Rattle.rules.specs.declared.Ticks.{Ticks}
 use Rattle.rules.specs.declared.Ninths.{Ninths}
 
+-- the clock and a timed start stay below this: Seconds are four bytes
+abbrev pub horizon : ℕ
+horizon = 4294967296 * 9000000
+
 -- microseconds of a second
 abbrev pub second : ℕ
 second = 1000000

@@ -12,8 +12,8 @@ use lib.Dec.{leb, ltb}
 use lib.ListN.{length, getD, take, drop, replicate, length-append, length-take, length-drop}
 use lib.Seq.{drop-drop, getD-drop, append-snoc, length-take-le}
 use Rattle.rules.specs.Bytes.{bytes, written}
-use Rattle.rules.specs.Reading.{Stream, streamLength, streamAt, badStream, highestPid, unknownSize, Listed, listed, unlisted, streamsIn}
-use Rattle.rules.specs.Reading.{pcrPid, pidCount, mostStreams, separateIn, streamBytes, streamsBytes, separateBytes}
+use Rattle.rules.specs.Streams.{Stream, streamLength, streamAt, badStream, highestPid, unknownSize, Listed, listed, unlisted, streamsIn}
+use Rattle.rules.specs.Streams.{pcrPid, pidCount, mostStreams, separateIn, streamBytes, streamsBytes, separateBytes}
 use Rattle.rules.proofs.Tests.{or-none}
 use Rattle.rules.proofs.Written.{written-next, written-none}
 use Rattle.rules.proofs.Streams.{Stepped, streams-step, streams-none, GoodStream, good-stream, length-kept, streams-count, separate-step}

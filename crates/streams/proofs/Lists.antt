@@ -11,9 +11,11 @@ use native.Mathlib.Nat.{zero-add}
 use lib.ListN.{length, getD, take, drop, replicate, length-append, length-take, length-drop}
 use lib.Seq.{take-add, take-at, drop-at, length-take-le}
 use Rattle.rules.specs.Lists.{All}
-use Rattle.rules.specs.Bytes.{Byte, written}
-use Rattle.rules.specs.Reading.{Stream, highestPid, unknownSize, listed, pcrPid, mostStreams, pidCount, Listed, unlisted, separateIn}
-use Rattle.rules.specs.Reading.{Writable, streamBytes, streamsBytes, separateBytes}
+use Rattle.rules.specs.follows.Wires.{Byte}
+use Rattle.rules.specs.Bytes.{written}
+use Rattle.rules.specs.Streams.{Stream, highestPid, unknownSize, listed, pcrPid, mostStreams, pidCount, Listed, unlisted, separateIn}
+use Rattle.rules.specs.follows.ReadBack.{Writable}
+use Rattle.rules.specs.Streams.{streamBytes, streamsBytes, separateBytes}
 use Rattle.rules.proofs.Tests.{or-none}
 use Rattle.rules.proofs.All.{all-drop}
 use Rattle.rules.proofs.Bytes.{length-bytes}

@@ -10,8 +10,11 @@ use Rattle.rules.specs.Lists.{All}
 use Rattle.rules.specs.Bytes
 use Rattle.rules.specs.Bytes.{bytes}
 use Rattle.rules.specs.Reading
-use Rattle.rules.specs.Reading.{Stream, highestPid, listed, mostStreams, separateService, serviceID, Writable, streamsIn, separateIn}
-use Rattle.rules.specs.Reading.{streamsBytes, separateBytes}
+use Rattle.rules.specs.Streams
+use Rattle.rules.specs.Streams.{Stream, highestPid, listed, mostStreams, streamsIn, separateIn}
+use Rattle.rules.specs.Request.{separateService, serviceID}
+use Rattle.rules.specs.follows.ReadBack.{Writable}
+use Rattle.rules.specs.Streams.{streamsBytes, separateBytes}
 use Rattle.streams.specs.Rows
 use Rattle.streams.specs.Rows.{taken, badList, bytesOf}
 
@@ -72,8 +75,8 @@ unfoldable pub kept : List ℕ
 kept = 1 ∷ 2 ∷ replicate 3742 0
 
 unfoldable computing : ℕ
-unfolding structures separate request words kept Bytes.bytes Bytes.value Bytes.valueFrom Reading.behind Reading.streamsIn Reading.separateIn
-    Reading.streamBytes Reading.streamsBytes Reading.separateBytes Rows.taken Rows.listIn Rows.badRows Rows.bytesOf
+unfolding structures separate request words kept Bytes.bytes Bytes.value Bytes.valueFrom Streams.behind Streams.streamsIn Streams.separateIn
+    Streams.streamBytes Streams.streamsBytes Streams.separateBytes Rows.taken Rows.listIn Rows.badRows Rows.bytesOf
 computing = 0
 
 pub streams-read : streamsIn 1 structures ≡ listed one (3 ∷ 4 ∷ [])

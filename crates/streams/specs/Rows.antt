@@ -7,8 +7,8 @@ use Prim.Native.Nat.{ℕ, zero, suc, _+_, _-_, _*_, _≤_, _<_}
 use lib.Dec.{leb, ltb}
 use lib.ListN.{length, getD, take, drop, replicate}
 use Rattle.rules.specs.Bytes.{written}
-use Rattle.rules.specs.Reading.{Stream, highestPid, unknownSize, Listed, listed, unlisted, streamsIn, pcrPid, mostStreams, separateIn}
-use Rattle.rules.specs.Reading.{streamsBytes, separateBytes}
+use Rattle.rules.specs.Streams.{Stream, highestPid, unknownSize, Listed, listed, unlisted, streamsIn, pcrPid, mostStreams, separateIn}
+use Rattle.rules.specs.Streams.{streamsBytes, separateBytes}
 use Rattle.reading.specs.Structures.{sizesOf}
 use Rattle.reading.specs.declared.structures.Streams.{Streams}
 use Rattle.reading.specs.declared.structures.Streams.the-variants.{End, Bad}

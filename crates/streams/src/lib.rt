@@ -11,7 +11,7 @@ ghost use mathlib.Core.List.{_++_};
 ghost use Prim.Native.Nat.{_≤_};
 ghost use lib.ListN.{length, drop};
 ghost use Rattle.rules.specs.Bytes.{bytes, written};
-ghost use Rattle.rules.specs.Reading.{badStream, streamAt, streamBytes, streamsBytes};
+ghost use Rattle.rules.specs.Streams.{badStream, streamAt, streamBytes, streamsBytes};
 ghost use Rattle.streams.specs.Rows.{rowOf, Fillable, Filled, ReadsList};
 ghost use Rattle.streams.specs.Rows.{badRow, judged, rowStream, listIn, Puttable, Writing, Judged, WritesList};
 

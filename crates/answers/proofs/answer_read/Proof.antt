@@ -2,7 +2,7 @@
 use Rattle.rules.specs.Answers.{answerRead}
 use mathlib.Core.Path.{sym, _∙_}
 use native.Mathlib.Omega.{arith}
-use Rattle.rules.specs.Bytes.{Byte}
+use Rattle.rules.specs.follows.Wires.{Byte}
 use Rattle.rules.proofs.All.{all-at}
 use Rattle.rules.proofs.Readings.{splice-grants}
 use Rattle.memory.specs.Memory.{shown}

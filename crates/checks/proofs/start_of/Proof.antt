@@ -2,7 +2,7 @@
 use mathlib.Core.Path.{ap, subst}
 use native.Mathlib.Omega.{arith}
 use Rattle.rules.specs.declared.When.the-variants.{At}
-use Rattle.rules.specs.Asked.{Within}
+use Rattle.rules.specs.follows.Asked.{Within}
 use Rattle.checks.specs.Found.{startIn}
 use borrow.Author.Needs.{needs}
 use Rattle.checks.proofs.start_of.Statement.{statement}

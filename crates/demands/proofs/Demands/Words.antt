@@ -9,14 +9,18 @@ pub use Rattle.rules.specs.declared.Request.{Request}
 pub use Rattle.rules.specs.declared.Refusal.{Refusal}
 pub use Rattle.rules.specs.declared.Refusal.the-variants.{BadName}
 pub use Rattle.rules.specs.Lists.{All, count}
-pub use Rattle.rules.specs.Bytes.{Byte, hasZero}
-pub use Rattle.rules.specs.State.{Splicer, mostKept, recent}
-pub use Rattle.rules.specs.Records.{recordsIn}
-pub use Rattle.rules.specs.Answers.{airMux, requested, spliceResult}
+pub use Rattle.rules.specs.follows.Wires.{Byte}
+pub use Rattle.rules.specs.Bytes.{hasZero}
+pub use Rattle.rules.specs.State.{Splicer}
+pub use Rattle.rules.specs.Recent.{mostKept, recent}
+pub use Rattle.rules.specs.follows.ReadBack.{recordsIn}
+pub use Rattle.rules.specs.Answers.{airMux}
+pub use Rattle.rules.specs.Splicing.{requested, spliceResult}
 pub use Rattle.rules.specs.Cues.{readCue, cueTime, initialisedOnes, cueRecords}
-pub use Rattle.rules.specs.Calls.{refused, refuse, writtenBy, named, fresh, Loans, Call, closes, messages, cues, call, after}
+pub use Rattle.rules.specs.HouseNumbers.{refused, refuse, writtenBy, Loans}
+pub use Rattle.rules.specs.Calls.{named, fresh, Call, closes, messages, cues, call, after}
 pub use Rattle.demands.specs.History.{Event, startsOf, endsOf, history, ownAnswer, othersOf, waitingCount, book, clockAfter}
-pub use Rattle.rules.specs.Sound.{Each, Wired, Coded}
+pub use Rattle.rules.specs.follows.Sound.{Each, Wired, Coded}
 pub use Rattle.rules.proofs.Sound.{sound-size, sound-found}
 pub use Rattle.rules.proofs.Codes.{call-coded}
 pub use Rattle.demands.specs.Told.{FromFresh, Unchanged, firstNumber, checks, numberOf, answers, Asks, Passes, earlierCode, fullTold}

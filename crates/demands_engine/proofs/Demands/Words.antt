@@ -11,15 +11,20 @@ pub use lib.ListN.{length, take, getD, replicate}
 pub use Rattle.rules.specs.declared.Request.{Request}
 pub use Rattle.rules.specs.declared.When.the-variants.{At, Never}
 pub use Rattle.rules.specs.Lists.{All, some, count}
-pub use Rattle.rules.specs.Bytes.{Byte, hasZero}
-pub use Rattle.rules.specs.Records.{recordsIn, General, ConfigResponse}
-pub use Rattle.rules.specs.State.{Splicer, hardwareOf, empty, Sorted, startsAt, startsAfter, sooner, earliest, mostKept, recent}
+pub use Rattle.rules.specs.follows.Wires.{Byte}
+pub use Rattle.rules.specs.Bytes.{hasZero}
+pub use Rattle.rules.specs.follows.ReadBack.{recordsIn}
+pub use Rattle.rules.specs.Records.{General, ConfigResponse}
+pub use Rattle.rules.specs.State.{Splicer, hardwareOf, empty, startsAt, startsAfter, sooner, earliest}
+pub use Rattle.rules.specs.follows.Wires.{Sorted}
+pub use Rattle.rules.specs.Recent.{mostKept, recent}
 unfoldable pub use Rattle.rules.specs.State.{due}
-pub use Rattle.rules.specs.Reading.{longestHardware}
-pub use Rattle.rules.specs.Sound.{Each, Later, Falling, Coded}
-pub use Rattle.rules.specs.Answers.{requested, spliceResult}
+pub use Rattle.rules.specs.Hardware.{longestHardware}
+pub use Rattle.rules.specs.follows.Sound.{Each, Later, Falling, Coded}
+pub use Rattle.rules.specs.Splicing.{requested, spliceResult}
 pub use Rattle.rules.specs.Cues.{readCue, cueTime, initialisedOnes, cueRecords}
-pub use Rattle.rules.specs.Calls.{fresh, after, lendingMaps, messages, call, writtenBy, sectionOf, Loans}
+pub use Rattle.rules.specs.Calls.{fresh, after, messages, call, sectionOf}
+pub use Rattle.rules.specs.HouseNumbers.{lendingMaps, writtenBy, Loans}
 pub use Rattle.rules.proofs.All.{all-into}
 pub use Rattle.rules.proofs.Sound.{reached-sound}
 pub use Rattle.rules.proofs.Tick.{earliest-start}

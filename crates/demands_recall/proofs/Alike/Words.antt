@@ -5,7 +5,8 @@ pub use mathlib.Core.List.{List, [], _∷_}
 pub use Prim.Native.Nat.{ℕ}
 pub use lib.ListN.{length}
 pub use Rattle.rules.specs.State.{Splicer}
-pub use Rattle.rules.specs.Calls.{Answer, refused, good, call}
+pub use Rattle.rules.specs.HouseNumbers.{Answer, refused, good}
+pub use Rattle.rules.specs.Calls.{call}
 pub use Rattle.recall_log.specs.Log.{logLength, otherLength}
 unfoldable pub use Rattle.recall_log.specs.Kept.{replyOf}
 unfoldable pub use Rattle.engine.specs.Lent.{answerOf}

@@ -12,7 +12,7 @@ pub use Rattle.rules.specs.Lists.{All, put}
 pub use Rattle.rules.specs.State.{Splicer}
 pub use Rattle.rules.specs.Calls.{Call, call}
 unfoldable pub use Rattle.rules.specs.Calls.{houseNumber}
-pub use Rattle.rules.specs.Sound.{Wired}
+pub use Rattle.rules.specs.follows.Sound.{Wired}
 pub use Rattle.rules.proofs.Tests.{by}
 pub use Rattle.memory.specs.Memory.{shown}
 pub use Rattle.engine.specs.declared.Answer.{Answer}

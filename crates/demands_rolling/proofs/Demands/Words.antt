@@ -11,16 +11,23 @@ pub use lib.ListN.{length, take, getD, replicate}
 pub use Rattle.rules.specs.declared.Request.{Request}
 pub use Rattle.rules.specs.declared.When.the-variants.{At}
 pub use Rattle.rules.specs.Lists.{All, some, count}
-pub use Rattle.rules.specs.Bytes.{Byte, hasZero}
-pub use Rattle.rules.specs.Records.{recordsIn, General, ConfigResponse}
-pub use Rattle.rules.specs.Answers.{requested, spliceResult}
+pub use Rattle.rules.specs.follows.Wires.{Byte}
+pub use Rattle.rules.specs.Bytes.{hasZero}
+pub use Rattle.rules.specs.follows.ReadBack.{recordsIn}
+pub use Rattle.rules.specs.Records.{General, ConfigResponse}
+pub use Rattle.rules.specs.Splicing.{requested, spliceResult}
 pub use Rattle.rules.specs.Units.{timeOf, fromMicros}
 pub use Rattle.rules.specs.Cues.{readCue, cueTime, initialisedOnes, cueRecords}
-pub use Rattle.rules.specs.Calls.{fresh, after, lendingMaps, sectionOf, Loans}
-pub use Rattle.rules.specs.State.{empty, Sorted, startsAt, startsAfter, earliest, due, mostKept, recent, hardwareOf}
-pub use Rattle.rules.specs.Reading.{longestHardware}
-pub use Rattle.rules.specs.Sound.{horizon, Each, Falling, Coded}
-pub use Rattle.rules.specs.Rolling.{none, Rolling, stepOf, rollingOf, rollingFresh, instants, readings, roll, rolledAfter, asMoves}
+pub use Rattle.rules.specs.Calls.{fresh, after, sectionOf}
+pub use Rattle.rules.specs.HouseNumbers.{lendingMaps, Loans}
+pub use Rattle.rules.specs.State.{empty, startsAt, startsAfter, earliest, due, hardwareOf}
+pub use Rattle.rules.specs.follows.Wires.{Sorted}
+pub use Rattle.rules.specs.Recent.{mostKept, recent}
+pub use Rattle.rules.specs.Hardware.{longestHardware}
+pub use Rattle.rules.specs.Units.{horizon}
+pub use Rattle.rules.specs.follows.Sound.{Each, Falling, Coded}
+pub use Rattle.rules.specs.Rolling.{none, Rolling, stepOf, instants, readings, roll}
+pub use Rattle.rules.specs.follows.Sequences.{rollingOf, rollingFresh, rolledAfter, asMoves}
 pub use Rattle.demands.specs.History.{startsOf, endsOf, history, ownAnswer, waitingCount, book, clockAfter}
 pub use Rattle.demands.specs.Told.{firstNumber, numberOf, answers, Asks, Passes, earlierCode, fullTold, countsTold, outsOf, startedTold}
 pub use Rattle.demands.specs.Told.{unended, Ended, Stands, airMuxTold, MuxInRange, Inquires, Finds, connOf, concerned, Carries}

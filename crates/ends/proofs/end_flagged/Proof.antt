@@ -13,7 +13,8 @@ use lib.ListN.{length, drop, getD}
 use mathlib.Core.List.{List}
 use Rattle.rules.specs.declared.Session.{Session}
 use Rattle.rules.specs.Lists.{All, keep, omit}
-use Rattle.rules.specs.State.{empty, of, Sorted}
+use Rattle.rules.specs.State.{empty, of}
+use Rattle.rules.specs.follows.Wires.{Sorted}
 use Rattle.places.specs.Places.{flagged, unflagged, Unflagged}
 use Rattle.places.proofs.Laws.{flag-at}
 use Rattle.ends.proofs.Followers.{few-places}

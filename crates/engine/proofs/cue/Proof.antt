@@ -1,7 +1,7 @@
 -- Each return is one law of proofs/Calls; the section that is passed on has 20 to 512 bytes (`section-size`).
 use mathlib.Core.Path.{sym, _∙_}
 use native.Mathlib.Omega.{arith}
-use Rattle.rules.specs.Bytes.{Byte}
+use Rattle.rules.specs.follows.Wires.{Byte}
 use Rattle.rules.proofs.All.{all-at}
 use Rattle.rules.proofs.Cued.{section-size}
 use Rattle.engine.proofs.Calls.{cue-small, cue-micros, cue-section, cue-done}

@@ -1,6 +1,6 @@
 -- What `has_zero` says, and that a slice of u8 has bytes.
 use native.Mathlib.Omega.{arith}
-use Rattle.rules.specs.Bytes.{Byte}
+use Rattle.rules.specs.follows.Wires.{Byte}
 use Rattle.rules.proofs.All.{all-at}
 use borrow.Author.Needs.{needs}
 use Rattle.engine.proofs.is_ended.Statement.{statement}

@@ -6,7 +6,7 @@ use lib.ListN.{length, take, length-take, length-drop}
 use Rattle.rules.specs.Bytes.{written}
 use Rattle.rules.specs.State.{empty}
 use Rattle.rules.specs.Listing.{sessionRows}
-use Rattle.rules.specs.Sound.{Proper, Small}
+use Rattle.rules.specs.follows.Sound.{Proper, Small}
 use Rattle.rules.proofs.Every.{all-getD}
 use Rattle.memory.specs.Memory.{sessions}
 use Rattle.engine.specs.Lent.{stateOf, Lists}

@@ -3,7 +3,7 @@ use mathlib.Core.Path.{refl, sym, ap, _∙_}
 use native.Mathlib.Omega.{arith}
 use borrow.Author.Tests.{lt-ltb, le-ltb, eq-eqb, ne-eqb}
 use lib.ListN.{length}
-use Rattle.rules.specs.Calls.{longestSection}
+use Rattle.rules.specs.HouseNumbers.{longestSection}
 use Rattle.memory.specs.Memory.{see}
 use borrow.Author.Needs.{needs}
 use Rattle.engine.proofs.map_on_air.Statement.{statement}

@@ -4,8 +4,8 @@ use mathlib.Core.Path.{sym, _∙_}
 use Prim.Native.Nat.{_≤_}
 use native.Mathlib.Omega.{arith}
 use lib.ListN.{length}
-use Rattle.rules.specs.Bytes.{Byte}
-use Rattle.rules.specs.Calls.{longestSection}
+use Rattle.rules.specs.follows.Wires.{Byte}
+use Rattle.rules.specs.HouseNumbers.{longestSection}
 use Rattle.rules.proofs.All.{all-at}
 use Rattle.rules.proofs.Sound.{reached-sound}
 use Rattle.reading.proofs.Laws.{framed}

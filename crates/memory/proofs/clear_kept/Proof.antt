@@ -5,7 +5,7 @@ use native.Mathlib.Omega.{arith}
 use Prim.Native.Nat.{ℕ, _-_, _≤_}
 use lib.ListN.{length, set, getD-replicate}
 use lib.Seq.{paste, paste-zero}
-use Rattle.rules.specs.Reading.{longestHardware}
+use Rattle.rules.specs.Hardware.{longestHardware}
 use Rattle.places.specs.Places.{zeros}
 use Rattle.memory.proofs.Names.{copied, zeroed}
 use Rattle.memory.proofs.clear_kept.Statement.{statement}

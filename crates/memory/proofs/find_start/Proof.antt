@@ -1,7 +1,7 @@
 -- The part that is lent is the waiting ones' lot (`lot-at`).
 use mathlib.Core.Path.{refl, sym, ap, subst, _∙_}
 use Rattle.rules.specs.Lists.{place}
-use Rattle.rules.specs.State.{Sorted}
+use Rattle.rules.specs.follows.Wires.{Sorted}
 use Rattle.places.specs.Places.{Lot, used, startsFrom}
 use Rattle.memory.specs.declared.Which.the-variants.{Waiting}
 use Rattle.memory.proofs.Laws.{lot-at, good-at, ring-at}

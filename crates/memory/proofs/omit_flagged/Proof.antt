@@ -6,7 +6,7 @@ use Prim.Native.Nat.{_-_}
 use native.Mathlib.Omega.{arith}
 use lib.ListN.{length, set}
 use borrow.Rule.Slice.PartMut.{putMid}
-use Rattle.rules.specs.State.{Sorted}
+use Rattle.rules.specs.follows.Wires.{Sorted}
 use Rattle.rules.proofs.Count.{length-split}
 use Rattle.places.specs.Places.{Lot, used, flagged, unflagged, Unflagged}
 use Rattle.memory.specs.declared.Which.the-variants.{Waiting}

@@ -3,7 +3,7 @@ use mathlib.Core.Path.{_≡_, sym, ap, _∙_}
 use mathlib.Core.Bool.{true, false}
 use Prim.Native.Nat.{_-_}
 use native.Mathlib.Omega.{arith}
-use Rattle.rules.specs.State.{mostKept, recentAt}
+use Rattle.rules.specs.Recent.{mostKept, recentAt}
 use Rattle.rules.specs.Answers.{isPast}
 use Rattle.rules.proofs.Recall.{Seeking, seek-none, seek-more, seek-hit, seek-out}
 use Rattle.memory.specs.Memory.{see}

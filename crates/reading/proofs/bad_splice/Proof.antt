@@ -7,7 +7,7 @@ use borrow.Author.Tests.{eq-eqb, ne-eqb, lt-ltb, le-ltb}
 use lib.Dec.{eqb, ltb}
 use lib.ListN.{length}
 use Rattle.rules.specs.Units.{badMicros}
-use Rattle.rules.specs.Reading.{nobody, priorSession, microSeconds, duration, accessType, overridePlaying, returnToPriorChannel}
+use Rattle.rules.specs.Request.{nobody, priorSession, microSeconds, duration, accessType, overridePlaying, returnToPriorChannel}
 use Rattle.rules.proofs.Tests.{tests}
 use borrow.Author.Needs.{needs}
 use Rattle.reading.proofs.bad_splice.Statement.{statement}

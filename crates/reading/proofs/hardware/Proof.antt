@@ -2,7 +2,7 @@
 use mathlib.Core.Path.{ap, _∙_}
 use native.Mathlib.Omega.{arith}
 use lib.ListN.{length-drop}
-use Rattle.rules.specs.Reading.{structureIn}
+use Rattle.rules.specs.Hardware.{structureIn}
 use Rattle.reading.proofs.Laws.{behind}
 use borrow.Author.Needs.{needs}
 use Rattle.reading.proofs.hardware.Statement.{statement}

@@ -6,7 +6,7 @@ use borrow.Author.Tests.{lt-ltb, le-ltb}
 use lib.ListN.{length}
 use Prim.Native.Nat.{_+_}
 use Rattle.rules.specs.Bytes.{hasZero}
-use Rattle.rules.specs.Reading.{longestHardware, hardwareLength, hardwarePlace}
+use Rattle.rules.specs.Hardware.{longestHardware, hardwareLength, hardwarePlace}
 use Rattle.rules.specs.declared.Message.the-variants.{Init}
 use Rattle.reading.proofs.Laws.{said}
 use borrow.Author.Needs.{needs}

@@ -3,7 +3,7 @@ use mathlib.Core.Path.{sym, ap, subst, _∙_}
 use native.Mathlib.Omega.{arith}
 use borrow.Author.Tests.{lt-ltb, le-ltb}
 use lib.ListN.{length}
-use Rattle.rules.specs.Reading.{tailOf, readWhole, readSplice}
+use Rattle.rules.specs.Request.{tailOf, readWhole, readSplice}
 use Rattle.reading.proofs.Laws.{behind}
 use Rattle.reading.proofs.Steps.{Placed, tail-is}
 use borrow.Author.Needs.{needs}

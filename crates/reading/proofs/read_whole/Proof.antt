@@ -3,7 +3,8 @@ use mathlib.Core.Path.{sym, ap, _∙_}
 use native.Mathlib.Omega.{arith}
 use borrow.Author.Tests.{lt-ltb, le-ltb}
 use lib.ListN.{length}
-use Rattle.rules.specs.Reading.{muxOf, isBad, readWhole}
+use Rattle.rules.specs.Descriptors.{muxOf, isBad}
+use Rattle.rules.specs.Request.{readWhole}
 use Rattle.rules.specs.declared.Message.the-variants.{Splice}
 use Rattle.reading.proofs.Laws.{behind}
 use borrow.Author.Needs.{needs}

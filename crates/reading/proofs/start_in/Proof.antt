@@ -1,7 +1,7 @@
 -- The PriorSession decides between timed and linked.
 use mathlib.Core.Path.{sym, ap, ap₂, _∙_}
 use borrow.Author.Tests.{eq-eqb, ne-eqb}
-use Rattle.rules.specs.Reading.{nobody, readStart, priorSession}
+use Rattle.rules.specs.Request.{nobody, readStart, priorSession}
 use Rattle.rules.specs.Units.{timeOf}
 use Rattle.rules.specs.declared.Start.the-variants.{Timed, Linked}
 use borrow.Author.Needs.{needs}

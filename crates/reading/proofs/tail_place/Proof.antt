@@ -3,7 +3,7 @@ use mathlib.Core.Path.{sym, ap, _∙_}
 use native.Mathlib.Omega.{arith}
 use borrow.Author.Tests.{eq-eqb, ne-eqb}
 use lib.ListN.{drop, length-drop}
-use Rattle.rules.specs.Reading.{separateService, serviceID}
+use Rattle.rules.specs.Request.{separateService, serviceID}
 use Rattle.reading.specs.Structures.{streamsEnd, from, tailPlace}
 use Rattle.reading.proofs.Laws.{behind}
 use Rattle.reading.proofs.Steps.{end-found, found-rest}

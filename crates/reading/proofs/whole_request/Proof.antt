@@ -1,6 +1,6 @@
 -- Each field is what its reader promises.
 use mathlib.Core.Path.{ap}
-use Rattle.rules.specs.Reading.{muxIn}
+use Rattle.rules.specs.Descriptors.{muxIn}
 use borrow.Author.Needs.{needs}
 use Rattle.reading.proofs.whole_request.Statement.{statement}
 use Rattle.reading.proofs.whole_request.Tie as tie

@@ -6,8 +6,9 @@ use Rattle.recall.proofs.Calls.{remembers-full, space-none, space-from}
 use Rattle.recall.proofs.Messages.{both-short, framed-here, chosen, brief, message-refused, message-low, message-within}
 use Rattle.recall.proofs.Messages.{message-whole}
 use Rattle.rules.proofs.All.{all-at}
-use Rattle.rules.specs.Bytes.{Byte}
-use Rattle.rules.specs.Calls.{lendingMaps, longestSection, messages}
+use Rattle.rules.specs.follows.Wires.{Byte}
+use Rattle.rules.specs.HouseNumbers.{lendingMaps, longestSection}
+use Rattle.rules.specs.Calls.{messages}
 use borrow.Author.Needs.{needs}
 use denote.Ref.{now}
 use lib.Dec.{eqb}

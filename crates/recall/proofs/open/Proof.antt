@@ -4,7 +4,7 @@ use Rattle.recall_log.proofs.Logs.{not-full}
 use Rattle.recall_log.specs.Kept.{keptForm}
 use Rattle.recall.proofs.Calls.{remembers-full, space-none, space-from, played-not, played-done, played-good, open-is}
 use Rattle.rules.proofs.All.{all-at}
-use Rattle.rules.specs.Bytes.{Byte}
+use Rattle.rules.specs.follows.Wires.{Byte}
 use Rattle.rules.specs.Calls.{opens}
 use borrow.Author.Needs.{needs}
 use mathlib.Core.List.{[]}

@@ -4,7 +4,7 @@ use Rattle.recall_log.specs.Kept.{keptForm}
 use Rattle.recall_pass.proofs.Laws.{passed-ready}
 use Rattle.recall.proofs.Calls.{remembers-full, space-none, space-from, played-not, played-done, played-good, tick-is}
 use Rattle.rules.proofs.All.{all-at}
-use Rattle.rules.specs.Bytes.{Byte}
+use Rattle.rules.specs.follows.Wires.{Byte}
 use Rattle.rules.specs.Calls.{ticks}
 use borrow.Author.Needs.{needs}
 use lib.ListN.{length}

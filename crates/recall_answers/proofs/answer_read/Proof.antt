@@ -2,7 +2,7 @@
 use mathlib.Core.Path.{refl, sym, _∙_}
 use native.Mathlib.Omega.{arith}
 use borrow.Author.Tests.{le-ltb}
-use Rattle.rules.specs.Bytes.{Byte}
+use Rattle.rules.specs.follows.Wires.{Byte}
 use Rattle.rules.proofs.All.{all-at}
 use Rattle.rules.proofs.Readings.{splice-grants}
 use Rattle.reading.proofs.Laws.{init-good}

@@ -5,7 +5,7 @@ use borrow.Author.Needs.{needs}
 use lib.ListN.{length}
 use Rattle.recall_pass.proofs.Walks.{Walking, walking-first, walking-fits, walking-ready, walking-end, walking-record}
 use Rattle.recall_pass.proofs.Walks.{walking-within, walking-next}
-use Rattle.rules.specs.Bytes.{Byte}
+use Rattle.rules.specs.follows.Wires.{Byte}
 use Rattle.rules.proofs.All.{all-at}
 use Prim.Native.Nat.{_-_}
 use Rattle.recall_pass.proofs.pass.Statement.{statement}

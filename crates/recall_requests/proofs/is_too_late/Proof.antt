@@ -4,8 +4,8 @@ use Prim.Native.Nat.{_+_}
 use native.Mathlib.Omega.{arith}
 use lib.Dec.{ltb}
 use Rattle.rules.specs.Units.{timeOf, fromMicros}
-use Rattle.rules.specs.Asked.{Within}
-use Rattle.rules.specs.Answers.{tooLate}
+use Rattle.rules.specs.follows.Asked.{Within}
+use Rattle.rules.specs.Splicing.{tooLate}
 use borrow.Author.Needs.{needs}
 use Rattle.recall_requests.proofs.is_too_late.Statement.{statement}
 use Rattle.recall_requests.proofs.is_too_late.Tie as tie

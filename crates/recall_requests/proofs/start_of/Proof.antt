@@ -1,7 +1,7 @@
 -- A timed start is the request's time; a linked one is the end of the session of that number.
 use mathlib.Core.Path.{ap, subst}
 use native.Mathlib.Omega.{arith}
-use Rattle.rules.specs.Asked.{Within}
+use Rattle.rules.specs.follows.Asked.{Within}
 use Rattle.recall_rules.specs.Work.{startOf}
 use borrow.Author.Needs.{needs}
 use Rattle.recall_requests.proofs.start_of.Statement.{statement}

@@ -1,7 +1,8 @@
 -- The part is empty, and the buffer has the card's length.
 -- Rests on what `recall` promises of a message.
 use mathlib.Core.Path.{ap}
-use Rattle.rules.specs.Calls.{lending, messages}
+use Rattle.rules.specs.HouseNumbers.{lending}
+use Rattle.rules.specs.Calls.{messages}
 use Rattle.remember.proofs.Plays.{renamed}
 use borrow.Author.Needs.{needs}
 use Rattle.remember.proofs.message.Statement.{statement}

@@ -1,7 +1,7 @@
 -- The call, and what is said behind it: `plays`.
 -- Rests on: the log's bytes are bytes.
 use native.Mathlib.Omega.{arith}
-use Rattle.rules.specs.Bytes.{Byte}
+use Rattle.rules.specs.follows.Wires.{Byte}
 use Rattle.rules.proofs.All.{all-at}
 use Rattle.remember.proofs.Plays.{plays}
 use borrow.Author.Needs.{needs}

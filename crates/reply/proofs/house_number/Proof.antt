@@ -1,5 +1,5 @@
 -- `house_number`: each case is the table's.
-use Rattle.rules.specs.Calls.{houseNumber}
+use Rattle.rules.specs.HouseNumbers.{houseNumber}
 use borrow.Author.Needs.{needs}
 use Rattle.reply.proofs.house_number.Statement.{statement}
 use Rattle.reply.proofs.house_number.Tie as tie

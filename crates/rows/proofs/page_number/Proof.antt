@@ -1,7 +1,7 @@
 -- `page_number`: each case is the definition's, by the table of house numbers.
 use mathlib.Core.Path.{refl}
 use borrow.Author.Tests.{eq-eqb, ne-eqb}
-use Rattle.rules.specs.Calls.{houseNumber}
+use Rattle.rules.specs.HouseNumbers.{houseNumber}
 use Rattle.rows.specs.Rows.{pageNumber}
 use Rattle.rows.proofs.page_number.Statement.{statement}
 use Rattle.rows.proofs.page_number.Tie as tie

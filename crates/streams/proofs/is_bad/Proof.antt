@@ -3,7 +3,7 @@ use mathlib.Core.Bool.{or-true}
 use native.Mathlib.Omega.{arith}
 use borrow.Author.Tests.{lt-ltb, le-ltb, le-leb, lt-leb}
 use lib.ListN.{getD}
-use Rattle.rules.specs.Reading.{highestPid, unknownSize}
+use Rattle.rules.specs.Streams.{highestPid, unknownSize}
 use borrow.Author.Needs.{needs}
 use Rattle.streams.proofs.is_bad.Statement.{statement}
 use Rattle.streams.proofs.is_bad.Tie as tie

@@ -5,7 +5,7 @@ use Prim.Native.Nat.{_+_, _≤_}
 use native.Mathlib.Omega.{arith}
 use lib.ListN.{length, getD, drop, length-append}
 use Rattle.rules.specs.Bytes.{bytes, written}
-use Rattle.rules.specs.Reading.{streamsBytes}
+use Rattle.rules.specs.Streams.{streamsBytes}
 use Rattle.rules.proofs.Bytes.{length-bytes}
 use Rattle.rules.proofs.Written.{written-next, written-more}
 use Rattle.streams.specs.Rows.{listIn}

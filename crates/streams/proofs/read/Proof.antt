@@ -2,7 +2,7 @@
 use mathlib.Core.Path.{sym, ap, _∙_}
 use native.Mathlib.Omega.{arith}
 use lib.ListN.{length, drop}
-use Rattle.rules.specs.Reading.{streamsIn}
+use Rattle.rules.specs.Streams.{streamsIn}
 use Rattle.rules.proofs.Streams.{separate-step}
 use Rattle.reading.proofs.Laws.{behind}
 use Rattle.reading.proofs.Steps.{end-found, end-unlisted}

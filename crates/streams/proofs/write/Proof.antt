@@ -4,7 +4,7 @@ use mathlib.Core.Path.{sym, _∙_}
 use native.Mathlib.Omega.{arith}
 use borrow.Author.Tests.{lt-ltb}
 use lib.ListN.{getD, drop}
-use Rattle.rules.specs.Reading.{highestPid, mostStreams}
+use Rattle.rules.specs.Streams.{highestPid, mostStreams}
 use Rattle.streams.proofs.Laws.{judged-none, write-none}
 use borrow.Author.Needs.{needs}
 use Rattle.streams.proofs.write.Statement.{statement}

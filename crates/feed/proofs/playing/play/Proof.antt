@@ -3,7 +3,8 @@
 use Prim.Native.Nat.{_-_}
 use native.Mathlib.Omega.{arith}
 use Rattle.rules.specs.Bytes.{part}
-use Rattle.rules.specs.Calls.{closes, messages, ticks, call, lending}
+use Rattle.rules.specs.Calls.{closes, messages, ticks, call}
+use Rattle.rules.specs.HouseNumbers.{lending}
 use Rattle.rules.specs.Card.{messageEnd}
 use Rattle.memory.specs.Memory.{shown}
 use Rattle.feed.specs.Feed.{nextOf, usedBy, isCut}

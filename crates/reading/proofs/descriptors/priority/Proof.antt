@@ -3,7 +3,7 @@ use mathlib.Core.Path.{_≡_, refl, sym, subst, _∙_}
 use Prim.Native.Nat.{_-_, _≤_}
 use native.Mathlib.Omega.{arith}
 use lib.ListN.{length, drop}
-use Rattle.rules.specs.Reading.{muxOf}
+use Rattle.rules.specs.Descriptors.{muxOf}
 use Rattle.rules.proofs.Descriptors.{muxRest}
 use Rattle.reading.proofs.Walks.{Says, step-says}
 use borrow.Author.Needs.{needs}

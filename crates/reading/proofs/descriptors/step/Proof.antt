@@ -5,7 +5,7 @@ use Prim.Native.Nat.{_+_, _-_}
 use native.Mathlib.Omega.{arith}
 use borrow.Author.Tests.{eq-eqb, ne-eqb, le-leb, lt-leb, not-true, not-false}
 use lib.ListN.{length, getD, drop}
-use Rattle.rules.specs.Reading.{isMux}
+use Rattle.rules.specs.Descriptors.{isMux}
 use Rattle.reading.proofs.Walks.{step-end, step-is}
 use borrow.Author.Needs.{needs}
 use Rattle.reading.proofs.descriptors.step.Statement.{statement}

@@ -3,7 +3,7 @@ use mathlib.Core.Path.{_≡_, refl, sym, ap, _∙_}
 use Prim.Native.Nat.{suc, _+_, _-_, _≤_}
 use native.Mathlib.Omega.{arith}
 use lib.ListN.{length, getD, drop}
-use Rattle.rules.specs.Reading.{badStream}
+use Rattle.rules.specs.Streams.{badStream}
 use Rattle.reading.specs.Structures.{endFrom}
 use Rattle.reading.proofs.Laws.{behind}
 use Rattle.reading.proofs.Steps.{On, on-good, end-step, end-bad}

@@ -4,7 +4,7 @@ use mathlib.Core.Path.{sym, ap, _∙_}
 use native.Mathlib.Omega.{arith}
 use borrow.Author.Tests.{lt-ltb, le-ltb}
 use lib.ListN.{length}
-use Rattle.rules.specs.Reading.{highestPid, pcrPid, pidCount, mostStreams}
+use Rattle.rules.specs.Streams.{highestPid, pcrPid, pidCount, mostStreams}
 use Rattle.reading.specs.Structures.{endFrom}
 use Rattle.reading.proofs.Steps.{end-counted, end-miscounted}
 use borrow.Author.Needs.{needs}

@@ -5,7 +5,7 @@ use native.Mathlib.Omega.{arith}
 use borrow.Author.Tests.{eq-eqb, ne-eqb, lt-ltb, le-ltb}
 use lib.ListN.{length}
 use Rattle.rules.specs.Bytes.{field}
-use Rattle.rules.specs.Reading.{streamLength, highestPid}
+use Rattle.rules.specs.Streams.{streamLength, highestPid}
 use borrow.Author.Needs.{needs}
 use Rattle.reading.proofs.structures.is_bad.Statement.{statement}
 use Rattle.reading.proofs.structures.is_bad.Tie as tie

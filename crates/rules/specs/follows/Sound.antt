@@ -1,20 +1,26 @@
--- What holds of every splicer that fresh and the calls since have given. proofs/Sound shows it for all sequences of calls.
-use mathlib.Core.Path.{_≡_}
+-- What holds of every splicer that fresh and the calls since have given; proofs/Sound shows it.
 use mathlib.Core.Bool.{Bool, true, false, _&&_}
 use mathlib.Core.List.{List, [], _∷_}
+use mathlib.Core.Path.{_≡_}
 use Prim.Native.Nat.{ℕ, _+_, _*_, _≤_, _<_}
 use lib.Dec.{eqb}
 use lib.ListN.{length}
 use Rattle.rules.specs.declared.Session.{Session}
 use Rattle.rules.specs.declared.Past.{Past}
-use Rattle.rules.specs.Lists.{All, some, count}
-use Rattle.rules.specs.Bytes.{Byte, NoZero}
-use Rattle.rules.specs.Reading.{nobody, lengthIn, longestHardware}
-use Rattle.rules.specs.State.{Queue, Splicer, of, is, Sorted, noHardware, linkOf, isOpen, isInitialised, hardwareOf, mostKept, Lately}
-use Rattle.rules.specs.Records.{Record, General, InitResponse, AliveResponse, SpliceResponse, SpliceComplete, AbortResponse}
-use Rattle.rules.specs.Records.{CueRequest, ExtendedFound, ExtendedNone, ConfigResponse, resultOf}
-use Rattle.rules.specs.Answers.{waits, raisedSum}
+use Rattle.rules.specs.Lists.{some, count, All}
+use Rattle.rules.specs.Units.{horizon}
+use Rattle.rules.specs.State.{Queue, Splicer, of, is, linkOf, isInitialised, hardwareOf, noHardware, isOpen, Lately}
+use Rattle.rules.specs.Recent.{mostKept}
+use Rattle.rules.specs.Hardware.{lengthIn, longestHardware}
+use Rattle.rules.specs.Request.{nobody}
+use Rattle.rules.specs.Records.{Record, General, InitResponse, AliveResponse, SpliceResponse, AbortResponse, ConfigResponse}
+use Rattle.rules.specs.Records.{ExtendedFound, ExtendedNone, SpliceComplete, CueRequest, resultOf}
+use Rattle.rules.specs.Splicing.{waits, sumOf, later}
 use Rattle.rules.specs.Calls.{fresh, Call, opens, closes, messages, ticks, moves, cues, after}
+use Rattle.rules.specs.follows.Wires.{Byte, NoZero, Sorted}
+
+abbrev pub raisedSum : List Session → ℕ
+raisedSum w = sumOf (λ c. waits c w)
 
 -- ## The sessions held at a time: the clock, or an instant of a tick
 
@@ -63,10 +69,6 @@ pub record Proper (s : Session) : Type 0 where
   pub overrides : s .overrides ≤ 1
   pub mux : (1 ≤ s .mux) × (s .mux ≤ 10)
   pub lasts : s .start .0 < s .end .0
-
--- the clock and a timed start stay below this: Seconds are four bytes
-abbrev pub horizon : ℕ
-horizon = 4294967296 * 9000000
 
 -- the numbers that bytes hold: a SessionID and a PriorSession are four of them, and so is a Duration
 pub record Small (s : Session) : Type 0 where
