@@ -1,7 +1,7 @@
 #!/bin/sh
 # docs.sh: what pages say of the house: no line above 140 columns, every link leads to a file and a heading that are there, every name in
 # backticks exists: a path, a script, a function, a definition, a theorem, an edit, a macro; every cost that a header names is in a table of
-# MEASURES. Pages of docs/notes speak of what was, so of these only lines and links are held. A line for each that is wrong. The last line
+# MEASURES. Notes and decisions speak of what was, so of these only lines and links are held. A line for each that is wrong. The last line
 # is 'N passed, M failed'.
 set -eu
 . "$(dirname "$0")/words.sh"
@@ -11,8 +11,8 @@ work=target/docs
 mkdir -p "$work"
 LC_ALL=C
 export LC_ALL
-# what stands in tools/demands and tools/promises is part of pages that are made
-pages=$(git ls-files '*.md' | grep -vE '^(target|tools/demands|tools/promises)/')
+# what stands in tools/demands, promises and measures is part of pages that are made
+pages=$(git ls-files '*.md' | grep -vE '^(target|tools/demands|tools/promises|tools/measures)/')
 
 # anchors PAGE: the headings of a page as a browser names them
 anchors() {
@@ -89,7 +89,7 @@ words | sort -u >"$work/words"
 lines >"$work/wrong"
 broken >>"$work/wrong"
 figures >>"$work/wrong"
-for page in $(echo "$pages" | grep -vE '^(docs/notes/|CHANGELOG)'); do names "$page"; done >"$work/names"
+for page in $(echo "$pages" | grep -vE '^(docs/notes/|CHANGELOG|docs/DECISIONS)'); do names "$page"; done >"$work/names"
 awk -F '\t' '
 NR == FNR { known[$1] = 1; next }
 {
