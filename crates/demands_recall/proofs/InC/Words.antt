@@ -11,7 +11,7 @@ pub use Rattle.rules.specs.declared.Refusal.the-variants.{BadName, Counter, Lon
 pub use Rattle.rules.specs.Lists.{All, put}
 pub use Rattle.rules.specs.State.{Splicer}
 pub use Rattle.rules.specs.Calls.{Call, call}
-unfoldable pub use Rattle.rules.specs.Calls.{houseNumber}
+unfoldable pub use Rattle.rules.specs.HouseNumbers.{houseNumber}
 pub use Rattle.rules.specs.follows.Sound.{Wired}
 pub use Rattle.rules.proofs.Tests.{by}
 pub use Rattle.memory.specs.Memory.{shown}
