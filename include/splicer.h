@@ -362,7 +362,7 @@ static inline struct splicer_reply splicer_call_fresh(struct splicer *s, const u
 }
 
 /* Makes a rolling splicer, whatever r held: clock 0, all connections closed, no instant given. name as above.
- * Refused: 9. Cost: clears 6,560 bytes. Threads: alone. */
+ * Refused: 9. Cost: clears the struct. Threads: alone. */
 static inline struct splicer_reply splicer_call_rolling_fresh(struct splicer_rolling *r, const uint8_t *name) {
     uint64_t reply[SPLICER_REPLY];
     splicer_7_rolling_fresh(name, r->core.words, r->core.bytes, r->counter, reply);
@@ -380,7 +380,7 @@ static inline struct splicer_reply splicer_call_open(struct splicer *s, uint32_t
 }
 
 /* The connection is gone: its sessions end. The records are not sent but logged.
- * Refused: 1, 2, 7. Cost: 1,223 with 20 waiting and one on air. Threads: alone. */
+ * Refused: 1, 2, 7. Cost: 970 with 20 waiting and one on air. Threads: alone. */
 static inline struct splicer_reply splicer_call_close(struct splicer *s, uint32_t conn, uint8_t *out, size_t room) {
     uint64_t reply[SPLICER_REPLY];
     splicer_7_close(s->words, s->bytes, conn, out, room, reply);
@@ -391,7 +391,7 @@ static inline struct splicer_reply splicer_call_close(struct splicer *s, uint32_
 
 /* Brings the clock to a time, Seconds since 1970-01-01 00:00 UTC and MicroSeconds, and does what is due until then. A tick to the present
  * time is good and does nothing.
- * Refused: 2, 8, 3. Cost: 57 to 78 where nothing is due and at most one is on air, however many wait; 255 for an end and a start; 6,446 for
+ * Refused: 2, 8, 3. Cost: 55 to 76 where nothing is due and at most one is on air, however many wait; 255 for an end and a start; 2,537 for
  * a start that fails with 19 followers among 64 that wait. Threads: alone. */
 static inline struct splicer_reply splicer_call_tick(struct splicer *s, uint32_t seconds, uint32_t micros, uint8_t *out, size_t room) {
     uint64_t reply[SPLICER_REPLY];
@@ -423,8 +423,8 @@ static inline struct splicer_reply splicer_call_reading(struct splicer_rolling *
 
 /* Handles the first message of the `length` bytes read so far from conn; `consumed` says how many it was. A GetConfig_Request is answered
  * with the section of the feed that is on air.
- * Refused: 1, 2, 7, 10, 5, 4. Cost: 136 for an Alive_Request, 299 for an Init_Request; an accepted Splice_Request 264 and some 16 for each
- * place of `moved`; an Abort_Request 1,966 with 19 followers. Threads: alone. */
+ * Refused: 1, 2, 7, 10, 5, 4. Cost: 121 for an Alive_Request, 225 for an Init_Request; an accepted Splice_Request 261 and some 16 for each
+ * place of `moved`; an Abort_Request 1,428 with 19 followers. Threads: alone. */
 static inline struct splicer_reply splicer_call_message_maps(struct splicer *s, uint32_t conn, const uint8_t *in, size_t length,
                                                              const struct splicer_maps *maps, uint8_t *out, size_t room) {
     uint64_t reply[SPLICER_REPLY];
@@ -490,7 +490,7 @@ static inline int splicer_next_record(const uint8_t *out, size_t written, size_t
 
 /* The list of a Splice_Request that names its PIDs itself. in: from PcrPID on, which is data + 18 of the request. The bytes taken, or 0 for
  * a bad one: then s stays as it was. Rows behind the last are zeroed; kept bytes behind the last stay.
- * Refused: never; 0 says that it is bad. Cost: 230 for one stream, 1,090 for sixteen. Threads: free. */
+ * Refused: never; 0 says that it is bad. Cost: some 230 for one stream, some 1,090 for sixteen. Threads: free. */
 static inline size_t splicer_call_read_streams(const uint8_t *in, size_t length, struct splicer_streams *s) {
     return splicer_7_read_streams(in, length, (uint64_t *)(void *)s, s->kept);
 }
@@ -592,7 +592,7 @@ static inline size_t splicer_call_sessions(const struct splicer *s, struct splic
 
 /* A list of streams written, from PcrPID on. The bytes written, or 0 for a list that could not be read back or an output that is too short:
  * then out stays as it was. Bytes behind those written stay.
- * Refused: never; 0 says so. Cost: 120 for one stream, 960 for sixteen. Threads: free. */
+ * Refused: never; 0 says so. Cost: some 120 for one stream, some 960 for sixteen. Threads: free. */
 static inline size_t splicer_call_write_streams(const struct splicer_streams *s, uint8_t *out, size_t room) {
     return splicer_7_write_streams((const uint64_t *)(const void *)s, s->kept, out, room);
 }

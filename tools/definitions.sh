@@ -32,7 +32,8 @@ numbers() {
 }
 
 # every definition of rules that has to be computed with, by its module's name
-names=$(for m in Lists Bytes Reading State Records Ends Instants Answers Calls Card; do
+modules='Lists Bytes State Recent Hardware Descriptors Streams Request Reading Records Ends Instants Splicing Answers HouseNumbers Calls Card'
+names=$(for m in $modules; do
     sed -nE "s/^ *unfoldable pub ([^ ]+).*/$m.\\1/p" "crates/rules/specs/$m.antt"
 done | tr '\n' ' ')
 
@@ -41,7 +42,7 @@ done | tr '\n' ' ')
     echo 'use mathlib.Core.Path.{_≡_, refl}'
     echo 'use mathlib.Core.List.{List, [], _∷_}'
     echo 'use Prim.Native.Nat.{ℕ}'
-    for m in Lists Bytes Reading State Records Ends Instants Answers Calls Card; do
+    for m in $modules; do
         echo "use Rattle.rules.specs.$m"
     done
     i=0

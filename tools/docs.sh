@@ -72,17 +72,13 @@ names() {
     }' "$1"
 }
 
-# figures: numbers of 20 and more that the headers' costs and INTEGRATION's sizes name and no table of MEASURES has; some and up to are no
-# figures of a table
+# figures: numbers of 20 and more that the headers' costs name and no table of MEASURES has; some and up to are no figures of a table
 figures() {
     tr -d ',' <docs/MEASURES.md | grep -oE '[0-9]+' | sort -u >"$work/measured"
-    {
-        awk '/Cost: /, /Threads: /' include/*.h | sed 's/.*Cost: //; s/Threads: .*//'
-        sed -n '/^## Sizes$/,/^## /p' docs/INTEGRATION.md
-    } | sed -E 's/(some|up to) [0-9,]+( (KB|million))?//g' | tr -d ',' | grep -oE '(^|[^A-Za-z0-9_.])[0-9]{2,}' | grep -oE '[0-9]+' | sort -u |
+    awk '/Cost: /, /Threads: /' include/*.h | sed 's/.*Cost: //; s/Threads: .*//' | sed -E 's/(some|up to) [0-9,]+( (KB|million))?//g' | tr -d ',' | grep -oE '(^|[^A-Za-z0-9_.])[0-9]{2,}' | grep -oE '[0-9]+' | sort -u |
         awk -v measured="$work/measured" '
         BEGIN { while ((getline one <measured) > 0) known[one] = 1 }
-        $1 >= 20 && !($1 in known) { print "no table of docs/MEASURES.md has " $1 ", which a header or INTEGRATION names" }'
+        $1 >= 20 && !($1 in known) { print "no table of docs/MEASURES.md has " $1 ", which a header names" }'
 }
 
 words | sort -u >"$work/words"

@@ -18,16 +18,30 @@ part() {
     echo "measures.sh: $*" >&2
     "$@" >"$work/part" 2>"$work/said" || { cat "$work/said" "$work/part" >&2; exit 1; }
     printf '\n## %s\n\n`%s`. %s\n\n' "$title" "$*" "$words" >>"$page"
-    sed -n '/^|/p; /^$/p' "$work/part" | cat -s >>"$page"
+    sed -n '/^|/p; /^$/p' "$work/part" | cat -s | timeless >>"$page"
+}
+
+# timeless: tables without the columns of times, which depend on the machine
+timeless() {
+    awk -F ' *[|] *' '
+    /^\|/ {
+        if (!on) { on = 1; for (i = 2; i < NF; i++) drop[i] = $i ~ /\(real\)/ }
+        line = "|"
+        for (i = 2; i < NF; i++) if (!drop[i]) line = line " " $i " |"
+        print line
+        next
+    }
+    { on = 0; print }'
 }
 
 cat tools/measures/head.md >"$page"
 printf '\nOf commit %s, %s, %s.\n\n' "$(git rev-parse --short=7 HEAD)" "$(rustc --version | cut -d ' ' -f 1,2)" \
     "$(qemu-x86_64 --version | sed -n '1s/ (.*//p')" >>"$page"
 cat tools/measures/gate.md >>"$page"
-part 'Calls' "x86-64 instructions of one call; Rust and C: engines of the same rules as one writes them in these (tools/measure)." \
+part 'Calls' "x86-64 instructions of one call; Rust and C: engines of the same rules (tools/measure)." \
     sh tools/measure.sh counts
 part 'Ticks' 'With 0, 10 and 64 waiting.' sh tools/measure.sh ticks
+part 'Reads' "Instructions, called from C with their arguments." sh tools/measure-reads.sh
 part 'Stack' "Bytes below the caller's stack pointer." sh tools/measure.sh stack
 part 'Size' 'No writable data, no bss; memset is all that the archive needs.' sh tools/measure.sh size
 part 'Cues' 'The cue call beside a plain one in C.' sh tools/measure-cues.sh

@@ -160,34 +160,44 @@ impl Run {
         all.iter().flat_map(|(seat, m)| [&[0x52, *seat][..], m].concat()).collect()
     }
 
-    /// What is read of the state here.
+    /// What is read of the state here, in the words of a scenario: `mux`, `map` and `rows`.
     fn read(&mut self, step: &Step) -> Result<(), String> {
         let state = self.splicerd.state();
         let channel = &state["channels"][0];
         let on_air = &channel["on_air"];
-        if let Some(mux) = step.mux {
-            let found = on_air["mux"].as_u64().unwrap_or(5);
-            return if found == u64::from(mux) { Ok(()) } else { Err(format!("mux {found}")) };
-        }
-        if let Some(insertion) = step.insertion {
-            return if insertion != on_air.is_null() { Ok(()) } else { Err("the other feed".into()) };
-        }
-        let rows = step.rows.unwrap_or_default();
-        let of = |c: u8| u64::from(self.was.get(&c).copied().unwrap_or(c));
-        let wanted: Vec<[u64; 5]> = rows
-            .iter()
-            .filter(|row| row.kept)
-            .map(|r| [of(r.conn), r.id.into(), r.event.into(), r.result.into(), r.played.into()])
-            .collect();
-        let keys = ["connection", "session", "event", "result", "played_ticks"];
-        let found = channel["ended"].as_array().ok_or("no rows")?;
-        let found: Vec<[u64; 5]> = found.iter().map(|row| keys.map(|key| row[key].as_u64().unwrap_or(u64::MAX))).collect();
+        let wanted = self.seated(step.read.as_deref().unwrap_or_default());
+        let found = match wanted.split(' ').next().unwrap_or_default() {
+            "mux" => format!("mux {}", on_air["mux"].as_u64().unwrap_or(5)),
+            "map" => format!("map {}", if on_air.is_null() { "primary" } else { "insertion" }),
+            "rows" => rows_text(channel)?,
+            other => return Err(format!("{other} is not read over sockets")),
+        };
         if found == wanted {
             Ok(())
         } else {
-            Err(format!("rows {found:?}"))
+            Err(found)
         }
     }
+
+    /// What a scenario's line says, with the numbers that its connections have here.
+    fn seated(&self, wanted: &str) -> String {
+        let row = |text: &str| match text.split_once(':') {
+            Some((c, rest)) => {
+                let c: u8 = c.parse().unwrap_or(u8::MAX);
+                format!("{}:{rest}", self.was.get(&c).copied().unwrap_or(c))
+            }
+            None => text.to_string(),
+        };
+        wanted.split(' ').map(row).collect::<Vec<_>>().join(" ")
+    }
+}
+
+/// What ended lately, the newest first.
+fn rows_text(channel: &serde_json::Value) -> Result<String, String> {
+    let keys = ["connection", "session", "event", "result", "played_ticks"];
+    let rows = channel["ended"].as_array().ok_or("no rows")?.iter();
+    let text = rows.map(|row| keys.map(|key| model::people::reads::number(row[key].as_u64().unwrap_or(u64::MAX))).join(":"));
+    Ok(std::iter::once("rows".to_string()).chain(text).collect::<Vec<_>>().join(" "))
 }
 
 /// Whether its bytes are more than one call.

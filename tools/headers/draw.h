@@ -70,7 +70,7 @@ static uint8_t *splice(uint8_t *p) {
     return put(put(put(put(p, 2, 1), 5, 1), 0x53415049, 4), 1 + below(10), 1);
 }
 
-/* A message, mostly good and whole; its length. */
+/* A message, mostly good and whole, at times cut, by one byte too; its length. */
 static size_t message(uint8_t *in) {
     uint8_t *end;
     uint32_t kind = below(16);
@@ -88,6 +88,9 @@ static size_t message(uint8_t *in) {
         end = put(put(header(in, 3, 8), below(30), 4), 0xFFFFFFFF, 4);
     } else {
         end = header(in, below(20), once_in(2) ? 4089 : below(20)) + below(20);
+    }
+    if (once_in(24)) {
+        return (size_t)(end - in) - 1;
     }
     return once_in(12) ? below((uint32_t)(end - in)) : (size_t)(end - in) + below(3);
 }

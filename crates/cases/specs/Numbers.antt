@@ -13,15 +13,16 @@ use Rattle.rules.specs.declared.Link.the-variants.{Initialised}
 use Rattle.rules.specs.declared.Cue.{Cue}
 use Rattle.rules.specs.declared.Cue.the-variants.{At, Timeless, Bad}
 use Rattle.rules.specs.declared.Refusal.the-variants.{NoConnection}
+use Rattle.rules.specs.declared.When.the-variants as when
 use Rattle.rules.specs.State.{Splicer, empty, sameNumber, startsAt, startsAfter, endsAt, withLink}
 use Rattle.rules.specs.Recent.{noneHeld}
 use Rattle.rules.specs.Records.{General}
 use Rattle.rules.specs.Instants.{outranks, mayStart, onAir}
-use Rattle.rules.specs.Answers.{initResult, answer, airFeed, isPast}
+use Rattle.rules.specs.Answers.{initResult, answer, airFeed, airRow, isPast}
 use Rattle.rules.specs.Splicing.{wrongNumber, tooLate}
 use Rattle.rules.specs.Cues.{readCue}
 use Rattle.rules.specs.HouseNumbers.{refused, consumedBy}
-use Rattle.rules.specs.Calls.{named, fresh, openCall, closeCall}
+use Rattle.rules.specs.Calls.{named, fresh, openCall, closeCall, dueRow}
 use Rattle.rules.specs.Card.{card}
 use Rattle.cases.specs.Scenario.{hex}
 use Rattle.cases.specs.Computing.{computing}
@@ -219,3 +220,14 @@ registers = refl
 onward : onAir 5 (distinct 7 ∷ distinct 8 ∷ []) ≡ distinct 12 ∷ distinct 8 ∷ []
 unfolding computing distinct
 onward = refl
+
+-- ## Who is on air, in words: each number in its place; and an instant that no tick's time reaches: exactly the time field's end is one
+
+in-words : airRow (distinct 7 ∷ distinct 8 ∷ []) ≡ 1 ∷ 1 ∷ 2 ∷ 400 ∷ 500 ∷ 7 ∷ 10 ∷ 6 ∷ 9 ∷ []
+unfolding computing distinct
+in-words = refl
+
+out-of-reach : map (λ t. dueRow (when.At (record { 0 = t }))) (38654705664000000 ∷ 38654705663999991 ∷ [])
+    ≡ (1 ∷ 38654705664000000 ∷ 0 ∷ 0 ∷ []) ∷ (2 ∷ 38654705663999991 ∷ 4294967295 ∷ 999999 ∷ []) ∷ []
+unfolding computing
+out-of-reach = refl
