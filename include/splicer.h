@@ -550,7 +550,7 @@ static inline int splicer_call_air(const struct splicer *s, struct splicer_air *
 
 /* When a tick would next do anything. 0: nothing is due, and all of *due is 0. 1: an instant is, but no tick's time reaches it; seconds and
  * micros are 0. 2: the instant, and the time of the first tick that reaches it: an earlier tick writes nothing and leaves this as it is,
- * that tick is good and writes. To be read again after a call that wrote anything.
+ * that tick is good and writes. To be read before every sleep: other calls than ticks can move it.
  * Refused: never. Cost: 19 to 52 with at most one on air, however many wait; 150 with 10 started. Threads: shared. */
 static inline int splicer_call_due(const struct splicer *s, struct splicer_due *due) {
     uint64_t row[4];
@@ -563,7 +563,7 @@ static inline int splicer_call_due(const struct splicer *s, struct splicer_due *
 
 /* The card with a rolling counter: when a reading would next do anything. 1, and in *ticks how many ticks after the last good reading: fewer
  * write nothing, so many are good and write. 0 and SPLICER_LONGEST_STEP, by when the counter must be read anyway: no good reading before
- * that writes anything, or the instant is not yet given.
+ * that writes anything, or the instant is not yet given. To be read before every sleep, so after every good reading and the instant.
  * Refused: never. Cost: that of splicer_call_due. Threads: shared. */
 static inline int splicer_call_rolling_due(const struct splicer_rolling *r, uint32_t *ticks) {
     uint64_t row[2];

@@ -64,6 +64,7 @@ of() {
     crate=$1
     shift
     for file in $door; do
+        [ "$file" != Due ] || printf 'heading\t%s\n' 'Who is on air, and what is due'
         [ "$file" != Sessions ] || printf 'heading\t%s\n' 'The sessions that are held, and ticks that are left out'
         theorems "crates/$crate/proofs/$file.antt" "$@"
     done

@@ -59,8 +59,8 @@ impl Splicer {
     }
 
     /// When a tick would next do anything, if one would. It only reads. A tick before `tick` writes
-    /// nothing and leaves this as it is; a tick at it or later is good, and writes. To be read again
-    /// after a call that wrote anything.
+    /// nothing and leaves this as it is; a tick at it or later is good, and writes. To be read before
+    /// every sleep: other calls than ticks can move it.
     ///
     /// ```
     /// let (channel, _) = splicer::Splicer::fresh(&splicer::name(b"CH1"));

@@ -146,7 +146,7 @@ impl RollingSplicer {
     /// How many ticks of 90 kHz after the last good reading a reading would next do anything: fewer
     /// write nothing, so many are good, and write. None, if no good reading does, or the instant is not
     /// yet given; the counter must be read all the same, at the latest after
-    /// [`LONGEST_STEP`](crate::LONGEST_STEP) ticks. It only reads.
+    /// [`LONGEST_STEP`](crate::LONGEST_STEP) ticks. It only reads. To be read before every sleep.
     ///
     /// ```
     /// let (channel, _) = splicer::RollingSplicer::fresh(&splicer::name(b"CH1"));
