@@ -1,4 +1,6 @@
 // Answering a message: 01's five steps, Init, Alive, GetConfig, ExtendedData, and what requests answer.
+#![tactic(auto)]
+
 ghost use Rattle.std.specs.Prelude.{◌≡◌, false, ◌≤◌, length};
 ghost use Rattle.rules.specs.Bytes.{name_in};
 ghost use Rattle.rules.specs.Reading.{bad_init, «read»};
@@ -14,7 +16,7 @@ use reply::Did;
 use rules::{Link, Message};
 
 // What came: the connection that sent it, and its MessageID.
-#[derive(Drop)]
+#[derive(Clone, Copy)]
 pub struct Sent {
     pub conn: u32,
     pub id: u16,

@@ -1,4 +1,6 @@
 // The card program: it reads calls from standard input and writes what they give to standard output.
+#![tactic(auto)]
+
 mod stdio;
 
 ghost use Rattle.std.specs.Prelude.{◌≡◌, ◌+◌, ◌≤◌, length, take};
@@ -14,7 +16,7 @@ use memory::{BYTES, WORDS};
 use stdio::Written;
 
 // After a turn: the bytes that are still to be played, whether there may be more to play, and the answer of the write.
-#[derive(Drop)]
+#[derive(Clone, Copy)]
 struct Left {
     have: usize,
     more: bool,
@@ -22,7 +24,7 @@ struct Left {
 }
 
 // Why the program ends: there is nothing more to play; its output is not taken; or it has counted its turns down.
-#[derive(Drop)]
+#[derive(Clone, Copy)]
 enum Stop {
     Over,
     Unwritten(Written),

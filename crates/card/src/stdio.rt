@@ -3,7 +3,7 @@
 ghost use Rattle.std.specs.Prelude.{◌≡◌, ◌+◌, ◌≤◌, length, take};
 
 // Whether a write took all that it was handed: only `write` makes one, so that nobody else can say that it failed.
-#[derive(Drop)]
+#[derive(Clone, Copy)]
 pub struct Written {
     whole: bool,
 }

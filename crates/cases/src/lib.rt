@@ -1,1 +1,2 @@
 // No code: worked cases of the definitions as tables that the prover computes.
+#![tactic(auto)]

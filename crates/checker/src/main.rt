@@ -1,5 +1,7 @@
 // The checker as a program: a recording from standard input, one line to standard output (02, CR 14).
 // The line is "none", "call 17", "refused 14 at 812" or "refused 15".
+#![tactic(auto)]
+
 mod stdio;
 
 ghost use Rattle.std.specs.Prelude.{◌≡◌};
@@ -9,14 +11,14 @@ use recording::Finding;
 use stdio::Came;
 
 // What stands behind the bytes that were read. A short read is the whole input; behind a full one a byte more is tried.
-#[derive(Drop)]
+#[derive(Clone, Copy)]
 enum Behind {
     Short,
     Tried(Came),
 }
 
 // What was found in the bytes that came.
-#[derive(Drop)]
+#[derive(Clone, Copy)]
 struct Judged {
     read: Came,
     behind: Behind,

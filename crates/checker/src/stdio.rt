@@ -3,7 +3,7 @@ ghost use Rattle.std.specs.Prelude.{◌≡◌};
 ghost use Rattle.io.specs.Counts.{IsPrefixLen};
 
 // How many bytes came: only `read` makes one, so that nobody can say so who has not tried.
-#[derive(Drop)]
+#[derive(Clone, Copy)]
 pub struct Came {
     count: usize,
 }

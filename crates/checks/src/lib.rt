@@ -1,4 +1,6 @@
 // A Splice_Request's checks b to e, and the session that it asks for.
+#![tactic(auto)]
+
 ghost use Rattle.std.specs.Prelude.{◌≡◌, ◌||◌, eqb, ◌+◌, ◌≤◌, ◌<◌, get_or};
 ghost use Rattle.rules.specs.Lists.{some, place};
 ghost use Rattle.rules.specs.State.{starts_at, holds};
@@ -29,7 +31,7 @@ const OWN: u64 = 10;
 const MOST: u64 = 64;
 
 // Where a session is held: at a place of a list, or nowhere.
-#[derive(Drop)]
+#[derive(Clone, Copy)]
 pub enum Where {
     In(Which, usize),
     Nowhere,

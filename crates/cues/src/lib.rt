@@ -1,5 +1,7 @@
 // Sections of cues: what is read of one, its CRC_32, what comes of it, the time of its cue (02, CR 7).
 // One function for each definition of rules' specs/Cues.
+#![tactic(auto)]
+
 ghost use Rattle.std.specs.Prelude.{◌≡◌, ◌+◌, ◌≤◌, ◌<◌, length};
 ghost use Rattle.rules.specs.Cues.{bad_section, flag_at, pts_turn, pts_at, bad_lengths, time_size, time_in, read_signal, program_size, read_program};
 ghost use Rattle.rules.specs.Cues.{read_insert, read_command, read_cue, ticks_after, wire_time_of, cue_time};

@@ -1,6 +1,8 @@
 // The calls of document 01 for C, what a card reads, and lists of streams: libdoor.a.
 // Lent words, bytes and numbers only; a reply is lent words too. include/splicer.h declares them. The names carry the header's
 // version, so that a header of another version does not link.
+#![tactic(auto)]
+
 ghost use Rattle.std.specs.Prelude.{◌≡◌, [], length};
 ghost use Rattle.rules.specs.Calls.{fresh, open_call, close_call, message_call, tick_call};
 ghost use Rattle.rules.specs.HouseNumbers.{lending_maps};

@@ -1,5 +1,7 @@
 // The checker, the referee and the engine that only remembers, for C: libbench.a (02, CR 14, CR 12).
 // include/splicer_bench.h declares them; the names carry that header's version, and a finding or a reply goes into lent words.
+#![tactic(auto)]
+
 ghost use Rattle.std.specs.Prelude.{◌≡◌, [], length};
 ghost use Rattle.rules.specs.HouseNumbers.{lending_maps};
 ghost use Rattle.rules.specs.Calls.{opens, closes, messages, ticks};

@@ -1,6 +1,8 @@
 // The rolling card's own calls for C, beside those of `door`: librolldoor.a (02, CR 9).
 // Lent words, bytes and numbers only; the reply goes into lent words. include/splicer.h declares them. An archive of its own, so that
 // the tick of the other cards is compiled as it was.
+#![tactic(auto)]
+
 ghost use Rattle.std.specs.Prelude.{◌≡◌, []};
 ghost use Rattle.rules.specs.Follows.Sequences.{rolling_fresh};
 ghost use Rattle.rules.specs.Rolling.{reading_call};

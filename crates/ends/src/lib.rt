@@ -1,4 +1,6 @@
 // How sessions end: each end written by one function, followers link by link, the list closed up.
+#![tactic(auto)]
+
 ghost use Rattle.std.specs.Prelude.{◌≡◌, ◌+◌, ◌≤◌, ◌<◌, length, take, drop, get_or, true, [], ◌∷◌, ◌++◌};
 ghost use Rattle.rules.specs.Lists.{All, keep};
 ghost use Rattle.rules.specs.declared.Ending.TheVariants.{Response};
@@ -18,7 +20,7 @@ use places::Key;
 use rules::{Ending, Ninths, Past, Session, Ticks};
 
 // Followers of one number: whose they are, and the place behind the last of them.
-#[derive(Drop)]
+#[derive(Clone, Copy)]
 struct Chain {
     conn: u64,
     end: usize,

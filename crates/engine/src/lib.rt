@@ -1,5 +1,7 @@
 // The calls of document 01 and the reads, over memory that the caller lends.
 // The splicer's words are in one piece and its bytes in a second.
+#![tactic(auto)]
+
 ghost use Rattle.std.specs.Prelude.{◌≡◌, [], ◌<◌, ◌≤◌, min, length};
 ghost use Rattle.rules.specs.Lists.{All};
 ghost use Rattle.rules.specs.Follows.Wires.{Byte};
@@ -41,14 +43,14 @@ pub const ROOM: usize = 4096;
 pub const LAST_MICRO: u32 = 999999;
 
 // What a call answers: a refusal, or what it did.
-#[derive(Drop)]
+#[derive(Clone, Copy)]
 pub enum Answer {
     Refused(Refusal),
     Done(Did),
 }
 
 // Whether a call may go on to its work.
-#[derive(Drop)]
+#[derive(Clone, Copy)]
 enum Tested {
     Good,
     Bad(Refusal),

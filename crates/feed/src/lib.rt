@@ -1,4 +1,6 @@
 // The card program's input, record by record, and its ChannelName.
+#![tactic(auto)]
+
 mod playing;
 
 ghost use Rattle.std.specs.Prelude.{◌≡◌};
@@ -18,7 +20,7 @@ pub const TICK_END: usize = 10;
 pub const HEADER_END: usize = 10;
 
 // The record that some bytes begin with: a connection, the MessageSize, Seconds and MicroSeconds.
-#[derive(Drop)]
+#[derive(Clone, Copy)]
 pub enum Record {
     Open(u8),
     Close(u8),
@@ -30,7 +32,7 @@ pub enum Record {
 }
 
 // A record played: the bytes that it took, how much was written, and whether to go on.
-#[derive(Drop)]
+#[derive(Clone, Copy)]
 pub struct Played {
     pub used: usize,
     pub len: usize,

@@ -1,6 +1,8 @@
 // The referee: a bench recording of any length is followed piece by piece, as it comes.
 // All that is known between two pieces is lent: the splicer, what is due of the last call, the bytes of an entry that is not whole yet, and
 // the stage.
+#![tactic(auto)]
+
 ghost use Rattle.std.specs.Prelude.{◌≡◌, ℕ, ◌<◌, ◌≤◌, List, [], ◌∷◌, length};
 ghost use Rattle.rules.specs.Calls.{fresh};
 ghost use Rattle.engine.specs.Lent.{Answers};
@@ -29,7 +31,7 @@ const CUT: usize = 3;
 
 // What was told, or 0; the number of the last call and the place of its mark; the place of the next entry; from where to where in the
 // buffer what is still due stands; and how many bytes of the next entry are kept. Numbers and places are counted modulo 2^64.
-#[derive(Drop)]
+#[derive(Clone, Copy)]
 pub struct Stage {
     pub told: usize,
     pub number: usize,
@@ -40,7 +42,7 @@ pub struct Stage {
     pub have: usize,
 }
 
-#[derive(Drop)]
+#[derive(Clone, Copy)]
 pub struct Verdict {
     pub kind: usize,
     pub number: usize,
@@ -49,7 +51,7 @@ pub struct Verdict {
 }
 
 // Behind some bytes: how many of them were gone through, none if they are no whole entry.
-#[derive(Drop)]
+#[derive(Clone, Copy)]
 struct Went {
     taken: usize,
     stage: Stage,

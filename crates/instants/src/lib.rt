@@ -1,4 +1,6 @@
 // Starts, ends, being covered and on air again, and a tick's run from instant to instant.
+#![tactic(auto)]
+
 ghost use Rattle.std.specs.Prelude.{◌≡◌, ◌+◌, ◌≤◌, ◌<◌, length};
 ghost use Rattle.rules.specs.Lists.{All};
 ghost use Rattle.rules.specs.State.{due, not_after, to_come};

@@ -1,5 +1,7 @@
 // The checker of bench recordings, over a lent recording (02, CR 14).
 // The recording is only read; the splicer that the calls are made on, and what is due of the last one, live in its frame.
+#![tactic(auto)]
+
 mod marks;
 mod turns;
 

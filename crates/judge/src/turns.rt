@@ -13,7 +13,7 @@ use recording::{Entry, Finding};
 pub const ROOM: usize = 4096;
 
 // The number of the last call, and from where to where in the buffer what is still due of it stands.
-#[derive(Drop)]
+#[derive(Clone, Copy)]
 pub struct Still {
     pub number: usize,
     pub from: usize,
@@ -21,7 +21,7 @@ pub struct Still {
 }
 
 // After an entry: the bytes that it took and what is still due, or the finding.
-#[derive(Drop)]
+#[derive(Clone, Copy)]
 enum After {
     On(usize, Still),
     Over(Finding),

@@ -3,6 +3,8 @@
 // those that wait are each connection's, a word for each connection, the places of those that wait and of those that have started,
 // what ended lately. Its bytes: the ChannelName with zeros behind its end, and of each connection the Hardware_Config that it keeps,
 // with zeros behind its end.
+#![tactic(auto)]
+
 ghost use Rattle.std.specs.Prelude.{◌≡◌, true, [], ◌∷◌, ◌+◌, ◌-◌, ◌≤◌, ◌<◌, eqb, length, get_or, set};
 ghost use Rattle.std.proofs.Math.Seq.{paste};
 ghost use Rattle.rules.specs.declared.Link.TheVariants.{Closed};
@@ -79,7 +81,7 @@ const HARDWARE: usize = 256;
 pub const BYTES: usize = NAME + CONNECTIONS * HARDWARE;
 
 // The lists of sessions.
-#[derive(Drop)]
+#[derive(Clone, Copy)]
 pub enum Which {
     Waiting,
     Started,

@@ -2,6 +2,8 @@
 // WIDTH words to a place: the used ones last before the place `ring_end`, and from there on to the first of them each place all
 // zeros. Those that wait stand in 64 places, in order of start: one that is accepted takes the place `ring_end`, those that start
 // later move one on, and the ring's end with them. The started ones stand in 10 that never come round.
+#![tactic(auto)]
+
 ghost use Rattle.std.specs.Prelude.{◌≡◌, ◌∷◌, ◌+◌, ◌-◌, ◌/◌, ◌≤◌, ◌<◌, length, drop, set, get_or};
 ghost use Rattle.rules.specs.Lists.{omit, place, insert_at, remove_at};
 ghost use Rattle.rules.specs.State.{empty, of};
@@ -38,7 +40,7 @@ const ASKED: usize = 6;
 const PLAYED: usize = 7;
 
 // What a search looks for: `key_test` of specs/ gives each its test.
-#[derive(Drop)]
+#[derive(Clone, Copy)]
 pub enum Key {
     Held(u64, u64),
     Follows(u64, u64),

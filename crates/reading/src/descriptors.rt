@@ -8,7 +8,7 @@ use rules::Priority;
 
 // What stands at a place (02, CR 5): a muxpriority descriptor, with its value and the place behind it; a foreign one, with the place behind
 // it; the end; or what is no good descriptor.
-#[derive(Drop)]
+#[derive(Clone, Copy)]
 pub enum Descriptor {
     Mux(u8, usize),
     Foreign(usize),
@@ -68,7 +68,7 @@ pub fn step(l: &[u8], at: usize) -> Descriptor
 }
 
 // The descriptors' bytes as they stand in the message, and a place in them. Its functions are thin: `step` has the work.
-#[derive(Drop)]
+#[derive(Clone, Copy)]
 pub struct Reader<'a> {
     pub src: &'a [u8],
     pub at: usize,

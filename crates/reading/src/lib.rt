@@ -1,5 +1,7 @@
 // Reading what a connection sent: framing, messages, names, descriptors, where streams end.
 // 01, Bytes and "Not readable": one function for each definition of rules' specs/Reading.
+#![tactic(auto)]
+
 ghost use Rattle.std.specs.Prelude.{◌≡◌, ◌+◌, ◌≤◌, length, false};
 ghost use Rattle.rules.specs.Bytes.{data_of};
 ghost use Rattle.rules.specs.Calls.{framing};

@@ -12,7 +12,7 @@ pub const HIGHEST_PID: u16 = 0x1FFF;
 pub const MOST: u32 = 16;
 
 // The place behind the last structure, or structures that are bad.
-#[derive(Drop)]
+#[derive(Clone, Copy)]
 pub enum Streams {
     End(usize),
     Bad,

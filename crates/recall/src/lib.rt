@@ -1,5 +1,7 @@
 // The engine that only remembers: its five calls over a lent log, any bytes (02, CR 12).
 // specs/ says what each answers; proofs/ shows that it answers like the card.
+#![tactic(auto)]
+
 ghost use Rattle.std.specs.Prelude.{◌≡◌, cond, [], ◌≤◌, eqb, length};
 ghost use Rattle.rules.specs.Lists.{All};
 ghost use Rattle.rules.specs.HouseNumbers.{lending_maps, longest_section, long_section};

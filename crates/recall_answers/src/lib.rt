@@ -1,4 +1,6 @@
 // 01's five steps of answering over verdicts, Init, Alive, ExtendedData, and GetConfig from the log.
+#![tactic(auto)]
+
 ghost use Rattle.std.specs.Prelude.{◌≡◌, false, ◌≤◌, ◌<◌, length, get_or};
 ghost use Rattle.rules.specs.Lists.{All, place};
 ghost use Rattle.rules.specs.Bytes.{padded, name_in};
@@ -25,7 +27,7 @@ use rules::{Link, Message, Ninths, Past, Request, Session};
 // What a pass over the log carries beside the verdicts: the clock; of each connection what it is (0 closed, 1 open, 2 initialised) and
 // where
 // in the log the message stands whose Hardware_Config is kept (0: none); and how many verdicts there are.
-#[derive(Drop)]
+#[derive(Clone, Copy)]
 pub struct Carried {
     pub clock: Ninths,
     pub links: [u64; 4],
@@ -35,7 +37,7 @@ pub struct Carried {
 
 // What is left to do of an answer: nothing; the session waits from now on; the connection is initialised; the configuration is to be
 // written.
-#[derive(Drop)]
+#[derive(Clone, Copy)]
 pub enum Effect {
     Nothing,
     Joins(Session),
@@ -44,7 +46,7 @@ pub enum Effect {
 }
 
 // How far the output is written, 02's CR 11, and what is left to do.
-#[derive(Drop)]
+#[derive(Clone, Copy)]
 pub struct Given {
     pub len: usize,
     pub moved: usize,

@@ -1,5 +1,7 @@
 // Ends on verdicts in words: followers, eviction, abort, close, those whose end has come.
 // Every row of the words is a verdict. Records go behind the last one in the output buffer.
+#![tactic(auto)]
+
 ghost use Rattle.std.specs.Prelude.{◌≡◌, [], ◌∷◌, ◌+◌, ◌/◌, ◌≤◌, ◌<◌, length};
 ghost use Rattle.rules.specs.Records.{result_of, output};
 ghost use Rattle.rules.specs.Ends.{ended};

@@ -1,5 +1,7 @@
 // The tick on verdicts in words: who is on air, the next instant, starts, ends.
 // Each is found by a scan.
+#![tactic(auto)]
+
 ghost use Rattle.std.specs.Prelude.{◌≡◌, ◌+◌, ◌/◌, ◌≤◌, ◌<◌, length};
 ghost use Rattle.rules.specs.State.{earliest, not_after};
 ghost use Rattle.rules.specs.Units.{horizon};

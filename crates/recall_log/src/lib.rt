@@ -1,4 +1,6 @@
 // The lent log of the engine that only remembers: its records, when it is full, a call put behind the last.
+#![tactic(auto)]
+
 mod keeping;
 mod records;
 
@@ -20,7 +22,7 @@ const MOST: usize = 256;
 const LONGEST_RECORD: usize = 4098;
 
 // What stands in the log at a place: a connection, the MessageSize, Seconds and MicroSeconds; or no call.
-#[derive(Drop)]
+#[derive(Clone, Copy)]
 pub enum Record {
     Open(u8),
     Close(u8),
@@ -30,21 +32,21 @@ pub enum Record {
 }
 
 // What is in a log: how many calls, and the bytes that they take.
-#[derive(Drop)]
+#[derive(Clone, Copy)]
 pub struct Held {
     pub calls: usize,
     pub taken: usize,
 }
 
 // Where the next record goes; or the log is full.
-#[derive(Drop)]
+#[derive(Clone, Copy)]
 pub enum Space {
     From(usize),
     NoSpace,
 }
 
 // What this engine answers: 13, or the rules' refusal, or what the call did.
-#[derive(Drop)]
+#[derive(Clone, Copy)]
 pub enum Reply {
     Full,
     Refused(Refusal),

@@ -1,5 +1,7 @@
 // What is carried from call to call, the four calls played onto it, and the pass over a log.
 // At each call the kept calls are gone through once, from the first.
+#![tactic(auto)]
+
 ghost use Rattle.std.specs.Prelude.{◌≡◌, ◌+◌, ◌*◌, ◌≤◌, ◌<◌, length, drop};
 ghost use Rattle.rules.specs.Bytes.{part, message_size};
 ghost use Rattle.rules.specs.Calls.{messages};
@@ -26,14 +28,14 @@ use rules::{Framing, Link, Ninths, Refusal};
 pub const WORDS: usize = 3328;
 
 // After a call: what is carried on, and what is answered.
-#[derive(Drop)]
+#[derive(Clone, Copy)]
 pub struct Played {
     pub carried: Carried,
     pub reply: Reply,
 }
 
 // After a message: what is carried on, how far the output is written, 02's CR 11, and what is left to do.
-#[derive(Drop)]
+#[derive(Clone, Copy)]
 pub struct Heard {
     pub carried: Carried,
     pub len: usize,

@@ -1,6 +1,8 @@
 // Checks b to f on verdicts in words, and the answers to a Splice_Request and an Abort_Request.
 // Every row of the words is a verdict; the new session of an accepted request goes into a row behind them, which is the caller's to
 // give.
+#![tactic(auto)]
+
 ghost use Rattle.std.specs.Prelude.{◌≡◌, ◌+◌, ◌<◌, true};
 ghost use Rattle.rules.specs.Splicing.{prior_of, session_at, too_late, raised, sum_of};
 ghost use Rattle.rules.specs.Follows.Asked.{Within, Asked};
@@ -16,7 +18,7 @@ use recall_rows::{Stand, Test};
 use rules::{Ninths, Request, Session, Start};
 
 // What an answer gave: how far the output is written, 02's CR 11, and the session that was asked for, with whether it was accepted.
-#[derive(Drop)]
+#[derive(Clone, Copy)]
 pub struct Given {
     pub len: usize,
     pub moved: usize,

@@ -1,4 +1,6 @@
 // Verdicts in rows of lent words, and the few scans that look through them.
+#![tactic(auto)]
+
 ghost use Rattle.std.specs.Prelude.{◌≡◌, ◌+◌, ◌*◌, ◌≤◌, ◌<◌, length, get_or, set};
 ghost use Rattle.rules.specs.Lists.{count};
 ghost use Rattle.recall_rules.specs.Verdicts.{none, standing, stands, which};
@@ -9,7 +11,7 @@ use recall_rules::{Phase, Verdict};
 use rules::{Ninths, Session};
 
 // How those stand that a scan looks through: `stand_test` of specs/ gives each its test.
-#[derive(Drop)]
+#[derive(Clone, Copy)]
 pub enum Stand {
     Waiting,
     Started,
@@ -18,7 +20,7 @@ pub enum Stand {
 }
 
 // Which of them it looks for: `session_test` gives each its test.
-#[derive(Drop)]
+#[derive(Clone, Copy)]
 pub enum Test {
     Any,
     Of(u64),
@@ -31,7 +33,7 @@ pub enum Test {
 }
 
 // In which order: of the started from the highest AccessType down, of the waiting by start, of the started by end.
-#[derive(Drop)]
+#[derive(Clone, Copy)]
 pub enum Order {
     Highest,
     Earliest,

@@ -2,6 +2,8 @@
 // The first line is "none", "call 17" or "refused 14 at 812", as the checker's; a call or a mark is told as soon as its bytes have come.
 // Behind a call: what was wanted of it and what was found there, in hex. What is told is follow's promise; what is read and written no
 // contract can say.
+#![tactic(auto)]
+
 mod hex;
 
 ghost use Rattle.std.specs.Prelude.{◌≡◌, ◌≤◌, length};

@@ -1,6 +1,8 @@
 // A section of cues passed on: the records, connection by connection (02, CR 7).
 // To every initialised connection, from 0 upward, a Cue_Request with its time, or General_Response 117 for a bad one; each record
 // behind the last. The connections' states are read, and nothing is changed.
+#![tactic(auto)]
+
 ghost use Rattle.std.specs.Prelude.{◌∷◌, [], ◌+◌, ◌≤◌, length};
 ghost use Rattle.rules.specs.Cues.{read_cue, cue_time, initialised_ones, cue_records};
 ghost use Rattle.memory.specs.Memory.{Form, see};
@@ -11,7 +13,7 @@ use memory::WORDS;
 use rules::{Cue, Link, WireTime};
 
 // A PTS, and the UTC instant that belongs to it.
-#[derive(Drop)]
+#[derive(Clone, Copy)]
 pub struct Anchor {
     pub pts: u64,
     pub seconds: u32,

@@ -1,5 +1,7 @@
 // The engine that only remembers as a program: the card program's input, its own output (02, CR 12).
 // It goes on after 13.
+#![tactic(auto)]
+
 mod stdio;
 
 ghost use Rattle.std.specs.Prelude.{◌≡◌, ◌≤◌, length};
@@ -101,14 +103,14 @@ fn head_of(mark: u8) -> usize
 }
 
 // A record that was read: how many bytes it has, 0 at the end, at a cut record or at another mark; and what came of it.
-#[derive(Drop)]
+#[derive(Clone, Copy)]
 struct Read {
     len: usize,
     last: Came,
 }
 
 // Why the program ends: there is nothing more to play; its output is not taken; or it has counted its turns down.
-#[derive(Drop)]
+#[derive(Clone, Copy)]
 enum Stop {
     Over(Came),
     Unwritten(Written),

@@ -5,14 +5,14 @@ ghost use Rattle.remember.specs.Remembered.{Filled};
 
 // What came of a record: how many bytes, and whether its last read gave all that it was asked for. Only `none` and `fill` make one, so
 // that nobody can say so who has not read them.
-#[derive(Drop)]
+#[derive(Clone, Copy)]
 pub struct Came {
     count: usize,
     whole: bool,
 }
 
 // Whether a write took all that it was handed, and how much that was: only `write` makes one.
-#[derive(Drop)]
+#[derive(Clone, Copy)]
 pub struct Written {
     whole: bool,
     handed: usize,

@@ -1,11 +1,13 @@
 // What a call did, and the table of house numbers: for both engines the one form below a reply's words.
+#![tactic(auto)]
+
 ghost use Rattle.std.specs.Prelude.{◌≡◌};
 ghost use Rattle.rules.specs.HouseNumbers.{house_number};
 
 use rules::Refusal;
 
 // The bytes consumed and written, and how many places an acceptance shifted (02, CR 11).
-#[derive(Drop)]
+#[derive(Clone, Copy)]
 pub struct Did {
     pub consumed: usize,
     pub written: usize,

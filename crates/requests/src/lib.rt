@@ -1,4 +1,6 @@
 // A Splice_Request's eviction and acceptance, and an Abort_Request's answer.
+#![tactic(auto)]
+
 ghost use Rattle.std.specs.Prelude.{◌≡◌, ◌+◌, ◌≤◌, ◌<◌, length};
 ghost use Rattle.rules.specs.Lists.{some, place};
 ghost use Rattle.rules.specs.State.{starts_at};
@@ -19,7 +21,7 @@ use reply::Did;
 use rules::{Ninths, Request, Session, When};
 
 // Where a new session goes, and how far the output is written.
-#[derive(Drop)]
+#[derive(Clone, Copy)]
 struct Way {
     at: usize,
     len: usize,

@@ -1,6 +1,8 @@
 // The card with a rolling counter: an instant and readings in place of ticks (02, CR 9).
 // Beside the splicer's memory the caller lends two words: whether the instant was given, and the last reading. Open, close and
 // message are the engine's.
+#![tactic(auto)]
+
 ghost use Rattle.std.specs.Prelude.{◌≡◌, ◌<◌, []};
 ghost use Rattle.rules.specs.Lists.{All};
 ghost use Rattle.rules.specs.Follows.Wires.{Byte};
@@ -16,7 +18,7 @@ use memory::{BYTES, WORDS};
 use rules::{Ninths, Refusal, Ticks, When};
 
 // What is given once: a UTC instant, and the counter's reading at it.
-#[derive(Drop)]
+#[derive(Clone, Copy)]
 pub struct Given {
     pub seconds: u32,
     pub micros: u32,

@@ -1,5 +1,7 @@
 // The rows of the driver's page, from the words in which what ended is kept (02, CR 8).
 // The page itself is the door's; where what stands in the words `memory` knows.
+#![tactic(auto)]
+
 ghost use Rattle.std.specs.Prelude.{◌≡◌, ◌<◌};
 ghost use Rattle.rows.specs.Rows.{rows, unused_row, row_in, row_at, sixteen, page_number};
 
@@ -16,7 +18,7 @@ const U32: u64 = 4294967296;
 
 // One that ended: kept is 1, or 0 in a row that is unused, whose numbers are all 0.
 #[repr(C)]
-#[derive(Drop)]
+#[derive(Clone, Copy)]
 pub struct Row {
     pub kept: u32,
     pub connection: u32,

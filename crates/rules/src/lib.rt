@@ -1,41 +1,42 @@
 // Documents 01 and 02 as definitions, in specs/, and the types that they share with code.
 // This file only declares what they speak of: units, a parsed message, a session and its end, a refusal.
+#![tactic(auto)]
 
 // A wire time counts microseconds.
-#[derive(Drop)]
+#[derive(Clone, Copy)]
 pub struct Micros(pub u64);
 
 // A Duration counts 90 k_hz ticks.
-#[derive(Drop)]
+#[derive(Clone, Copy)]
 pub struct Ticks(pub u32);
 
 // The clock and all instants are kept in ninths of a microsecond.
-#[derive(Drop)]
+#[derive(Clone, Copy)]
 pub struct Ninths(pub u64);
 
 // An instant, or none.
-#[derive(Drop)]
+#[derive(Clone, Copy)]
 pub enum When {
     At(Ninths),
     Never,
 }
 
 // A Splice_Request's start is either timed or linked (by the PriorSession).
-#[derive(Drop)]
+#[derive(Clone, Copy)]
 pub enum Start {
     Timed(Micros),
     Linked(u32),
 }
 
 // What a Splice_Request's descriptors ask of the multiplexer (02, CR 5): a value, or one of them is bad.
-#[derive(Drop)]
+#[derive(Clone, Copy)]
 pub enum Priority {
     Is(u8),
     Bad,
 }
 
 // What is read of a Splice_Request.
-#[derive(Drop)]
+#[derive(Clone, Copy)]
 pub struct Request {
     pub id: u32,
     pub start: Start,
@@ -47,7 +48,7 @@ pub struct Request {
 }
 
 // A parsed message is one of its kinds. Init holds the Revision_Num; its names and its Hardware_Config stay in the message's data.
-#[derive(Drop)]
+#[derive(Clone, Copy)]
 pub enum Message {
     Init(u16),
     Alive,
@@ -60,7 +61,7 @@ pub enum Message {
 
 // A session that is held: its connection, SessionID and PriorSession (0xFFFFFFFF if timed), start and end,
 // AccessType, OverridePlaying, what it asks of the multiplexer (MuxPriorityValue), its SpliceEventID, and its time on air.
-#[derive(Drop)]
+#[derive(Clone, Copy)]
 pub struct Session {
     pub conn: u64,
     pub id: u64,
@@ -76,7 +77,7 @@ pub struct Session {
 
 // What is kept of a session that has ended (02, CR 8): its connection, SessionID and SpliceEventID, the result of its end, and its time on
 // air in ticks. All 0 where none is kept.
-#[derive(Drop)]
+#[derive(Clone, Copy)]
 pub struct Past {
     pub conn: u64,
     pub id: u64,
@@ -87,7 +88,7 @@ pub struct Past {
 
 // How a session ends: by a SpliceComplete with flag 1 and a result, by a SpliceComplete with flag 0 and 109 (its start
 // failed), or by a Splice_Response with a result.
-#[derive(Drop)]
+#[derive(Clone, Copy)]
 pub enum Ending {
     Complete(u16),
     Failed,
@@ -95,7 +96,7 @@ pub enum Ending {
 }
 
 // What a connection is.
-#[derive(Drop)]
+#[derive(Clone, Copy)]
 pub enum Link {
     Closed,
     Opened,
@@ -103,7 +104,7 @@ pub enum Link {
 }
 
 // The refusals of document 01's table and of 02's requests; `house_number` of specs/Calls gives each its number.
-#[derive(Drop)]
+#[derive(Clone, Copy)]
 pub enum Refusal {
     NoConnection,
     NoRoom,
@@ -121,14 +122,14 @@ pub enum Refusal {
 }
 
 // The first message of what was read: its MessageID and MessageSize, or the refusal that it gets.
-#[derive(Drop)]
+#[derive(Clone, Copy)]
 pub enum Framing {
     Framed(u16, u16),
     Unframed(Refusal),
 }
 
 // What comes of a section of cues: it is passed on, with the 33-bit PTS of its cue or without a time; nothing comes of it; or it is bad.
-#[derive(Drop)]
+#[derive(Clone, Copy)]
 pub enum Cue {
     At(u64),
     Timeless,
@@ -137,7 +138,7 @@ pub enum Cue {
 }
 
 // A time as it stands on the wire.
-#[derive(Drop)]
+#[derive(Clone, Copy)]
 pub struct WireTime {
     pub seconds: u32,
     pub micros: u32,

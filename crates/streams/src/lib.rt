@@ -1,6 +1,8 @@
 // A request's list of streams in lent memory: read from its bytes, and written (02, CR 1).
 // Both begin with PcrPID. Words: how many, the PcrPID, and 16 rows of eight words. Bytes: what the structures keep, all streams' in a
 // row.
+#![tactic(auto)]
+
 ghost use Rattle.std.specs.Prelude.{◌≡◌, false, ◌++◌, ◌≤◌, length, drop};
 ghost use Rattle.rules.specs.Bytes.{bytes, written};
 ghost use Rattle.rules.specs.Streams.{bad_stream, stream_at, stream_bytes, streams_bytes};

@@ -1,5 +1,7 @@
 // Microseconds, ticks and ninths, converted in one place.
 // 01, Bytes: "A wire time counts microseconds and a Duration counts 90 k_hz ticks, and one becomes the other only here".
+#![tactic(auto)]
+
 ghost use Rattle.std.specs.Prelude.{◌≡◌, ◌*◌, ◌^◌, ◌<◌};
 ghost use Rattle.rules.specs.Units.{time_of, from_micros, from_ticks, to_micros, to_ticks, up_micros, up_ticks};
 ghost use Rattle.rules.specs.State.{sooner, not_after};

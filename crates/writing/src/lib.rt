@@ -1,6 +1,8 @@
 // One writer for each kind of record.
 // "Every outgoing message goes directly behind the last one in the output buffer". Each is lent the rest of that buffer from the
 // current length on, writes its record at the start and says how many bytes it took; every other byte stays as it was.
+#![tactic(auto)]
+
 ghost use Rattle.std.specs.Prelude.{◌≡◌, ◌+◌, ◌≤◌, length};
 ghost use Rattle.rules.specs.Bytes.{bytes, written, name_in, padded};
 ghost use Rattle.rules.specs.Records.{framed, time_bytes, end_descriptor};
