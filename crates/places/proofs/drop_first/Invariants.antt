@@ -1,0 +1,17 @@
+-- The first goes, again and again (`remove_at-drop`).
+use native.Mathlib.Omega.{arith}
+use borrow.Author.Rules.{rules}
+use mathlib.Core.Path.{◌≡◌, refl, ap, subst, ◌∙◌}
+use Prim.Native.Nat.{ℕ, ◌+◌, ◌-◌, ◌≤◌}
+use lib.ListN.{length, drop}
+use Rattle.rules.specs.Lists.{remove_at}
+use Rattle.places.specs.Places.{capacity, lot, used, Made}
+use Rattle.places.proofs.Ring.{ring-same}
+use Rattle.places.proofs.Laws.{remove_at-drop}
+use Rattle.places.proofs.drop_first.Given as goal
+
+abbrev pub invariant-loop-i : goal.invariant-loop-i
+invariant-loop-i l = (l.i ≤ l.k) × (length l.q ≡ length l.initial.q) × Made l.initial.q l.q l.ring_end (l.n - l.i) (drop l.i (used (lot l.initial.q l.ring_end l.n)))
+
+abbrev pub decreases-loop-i : goal.decreases-loop-i
+decreases-loop-i l = l.k - l.i

@@ -1,0 +1,17 @@
+-- No place before `at` passes the test, and the rest decides (`Sought`); b is the first word of the place `at`.
+use native.Mathlib.Omega.{arith}
+use mathlib.Core.Path.{◌≡◌, sym, ap, ◌∙◌}
+use Prim.Native.Nat.{◌+◌, ◌-◌, ◌*◌, ◌%◌}
+use Rattle.rules.specs.State.{empty}
+use Rattle.places.specs.Places.{width, capacity, round, lot, key_test}
+use Rattle.places.proofs.Ring.{ring-small}
+use Rattle.places.proofs.Laws.{used-fits, slot_row, slot-place, Sought, sought-none, sought-more, sought-hit, sought-out}
+use borrow.Author.Rules.{rules}
+use Rattle.places.proofs.find.Given as goal
+
+abbrev pub invariant-loop-at : goal.invariant-loop-at
+invariant-loop-at l = Sought (key_test l.key) (lot l.q l.ring_end l.n) l.at ×
+    (l.b ≡ (l.ring_end + (capacity l.q - l.n + l.at)) % round * width)
+
+abbrev pub decreases-loop-at : goal.decreases-loop-at
+decreases-loop-at l = l.n - l.at

@@ -1,0 +1,15 @@
+-- The place lies between `low` and `high` (`Halved`), and the middle one decides which half is next.
+use native.Mathlib.Omega.{arith}
+use mathlib.Core.Path.{subst}
+use Prim.Native.Nat.{◌-◌, ◌≤◌, ◌<◌}
+use Rattle.rules.specs.declared.Ninths.{Ninths}
+use Rattle.places.specs.Places.{lot}
+use Rattle.places.proofs.Laws.{Halved, halved-all, halved-low, halved-high}
+use borrow.Author.Rules.{rules}
+use Rattle.places.proofs.find_from.Given as goal
+
+abbrev pub invariant-loop-low : goal.invariant-loop-low
+invariant-loop-low l = Halved l.t.0 (lot l.q l.ring_end l.n) l.low l.high
+
+abbrev pub decreases-loop-low : goal.decreases-loop-low
+decreases-loop-low l = l.high - l.low

@@ -1,0 +1,10 @@
+-- `put2` meets its contract: the stores, one behind the other, are the number's bytes (`sets-eq`).
+use native.Mathlib.Omega.{arith}
+use lib.Seq.{sets-eq}
+use Rattle.rules.specs.Bytes.{bytes, written}
+use borrow.Author.Rules.{rules}
+use Rattle.writing.proofs.put2.Goals as goal
+
+pub returns : goal.returns
+unfolding bytes written
+returns c = sets-eq (bytes 2 c.args.x) c.args.out.now 0 (omega arith)
