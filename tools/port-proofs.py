@@ -113,6 +113,8 @@ class Function:
                         best = (new, path)
             if best is not None:
                 return ("path", [arm[0], best[0]] + rest[len(best[1]):], None)
+            if any(norm(step) == norm(head) and path[: len(rest)] == rest for _, step, path in arm[2]):
+                return ("part", place, [head] + rest)
             if norm(head) != norm(p[2][0]):
                 self.problems.append(f"arm {place}.{head}")
         if norm(head) != norm(p[2][0]):
@@ -256,7 +258,7 @@ class Turn:
                 k = re.compile(r"let\s+(" + IDENT + r")\s*=\s*(" + IDENT + r")((?:\.[A-Za-z0-9_'-]+)*)\s*in\b\s*").match(text, i)
                 if k and k.group(2) in scope:
                     r = self.follow(scope[k.group(2)], FIELD.findall(k.group(3)))
-                    if r[0] == "place":
+                    if r[0] in ("place", "part"):
                         scope[k.group(1)] = r
                         i = k.end()
                         if out.endswith("in"):
@@ -295,7 +297,10 @@ class Turn:
                 j = f.end()
             kind = scope[word]
             r = self.follow(kind, chain)
-            if r[0] == "place":
+            if r[0] == "part":
+                self.fn.problems.append(f"{word}{chain}: part of an arm")
+                out += f"c.?{'.'.join(r[2])}"
+            elif r[0] == "place":
                 out += "c{-TODO: a record of another place: " + r[1] + "-}" if r[1] != place else "c"
                 if r[1] != place:
                     self.fn.problems.append(f"the record at {r[1]} whole")
@@ -309,6 +314,8 @@ class Turn:
     def follow(self, kind, chain):
         if kind[0] == "place":
             return self.fn.resolve(kind[1], chain)
+        if kind[0] == "part":
+            return self.fn.resolve(kind[1], kind[2] + chain)
         r = kind[1]
         base, how = r[1], r[2]
         if how and chain:
@@ -328,6 +335,10 @@ class Turn:
         if how and how[0] == "call" and chain == ["ensures"]:
             how2 = ("ensures", how[1], 0)
         return ("path", base + chain, how2 if how2 and how2[0] != "call" and chain == ["ensures"] else None)
+
+    def joins(self, text):
+        """`⊎_elim (λ w. A) (λ w. B) c.if-X.branch` as an elim on the branch."""
+        return text
 
     def inline(self, name):
         need, text = self.answers[name]
@@ -380,7 +391,7 @@ def turn(folder, crate, module, fn):
             ans.append("-- TODO " + n + "\n" + whole)
             continue
         text = answers[n][1]
-        if text.strip() in ("search rules",):
+        if text.strip() in ("search rules",) and not any(l.startswith("unfolding ") for l in b):
             continue
         if need not in fn.needs:
             fn.problems.append(f"{n}: no need {need}")

@@ -8,6 +8,7 @@ use borrow.Author.Rules.{rules}
 use Rattle.places.specs.Places.{lot, used}
 use Rattle.places.proofs.Laws.{length-used, Leading, leading-none, leading-next, leading-stays, leading-out}
 use Rattle.places.proofs.least_end.Goals as goal
+use Rattle.places.proofs.least_end.Goals.{then-t-least, else-t-least}
 
 pub loop-i-init : goal.loop-i-init
 loop-i-init c =
@@ -31,12 +32,12 @@ loop-i-preserved c =
     let h : l.i < length u =
     omega (arith, length-used (lot c.args.q.now 0 c.args.n) g, c.loop-i-test.true)
     in
-    ⊎_elim
-    (λ w. subst (λ (b : ℕ). Leading u (l.i + 1) b) (sym w.1) (leading-next u l.i l.best h l.invariant
-    (omega (arith, w.0, here, best))))
-    (λ w. subst (λ (b : ℕ). Leading u (l.i + 1) b) (sym w.1) (leading-stays u l.i l.best h l.invariant
-    (omega (arith, w.0, here, best))))
-    c.if-t-least.branch
+    elim c.if-t-least.branch [
+      | then-t-least w ↦ subst (λ (b : ℕ). Leading u (l.i + 1) b) (sym w.best-is) (leading-next u l.i l.best h l.invariant
+          (omega (arith, w.if-t-least.true, here, best)))
+      | else-t-least w ↦ subst (λ (b : ℕ). Leading u (l.i + 1) b) (sym w.best-is) (leading-stays u l.i l.best h l.invariant
+          (omega (arith, w.if-t-least.false, here, best)))
+    ]
 
 pub returns : goal.returns
 returns c =

@@ -9,9 +9,15 @@ pub overflow_sub-free : goal.overflow_sub-free
 overflow_sub-free c = used-fits c.args.q.now c.args.ring_end c.args.n c.requires.good
 
 pub read_at-requires : goal.read_at-requires
-read_at-requires c = record { ring = c.requires.ring; i_bound = slot-within c.args.q.now c.args.ring_end c.args.n c.args.at
-      c.requires.good c.requires.at_lt_n }
+read_at-requires c = record {
+  ring = c.requires.ring;
+  i_bound = slot-within c.args.q.now c.args.ring_end c.args.n c.args.at
+      c.requires.good c.requires.at_lt_n;
+}
 
 pub returns : goal.returns
-returns c = record { is = c.read_at.ensures.is
-      ∙ slot_read c.args.q.now c.args.ring_end c.args.n c.args.at c.requires.good c.requires.at_lt_n empty; narrow = c.read_at.ensures.narrow }
+returns c = record {
+  is = c.read_at.ensures.is
+      ∙ slot_read c.args.q.now c.args.ring_end c.args.n c.args.at c.requires.good c.requires.at_lt_n empty;
+  narrow = c.read_at.ensures.narrow;
+}

@@ -26,8 +26,7 @@ returns-then-id-q c =
 
 pub returns-else-id-q : goal.returns-else-id-q
 returns-else-id-q c =
-    let k = c.key-1.given in
-    rw k.1 (last-fails (eqb k.0.0 (get_or c.args.q.now (c.args.b + 0) 0)) _ (ne_eqb _ _ c.if-id-q.false)
+    rw c.in-Held.is (last-fails (eqb c.in-Held.conn (get_or c.args.q.now (c.args.b + 0) 0)) _ (ne_eqb _ _ c.if-id-q.false)
     ∙ ap (is _ _) (load_is c.args.q.now c.args.b empty c.requires))
 
 pub returns-then-id-q-2 : goal.returns-then-id-q-2
@@ -37,6 +36,5 @@ returns-then-id-q-2 c =
 
 pub returns-else-id-q-2 : goal.returns-else-id-q-2
 returns-else-id-q-2 c =
-    let k = c.key-in-Follows-1.given in
-    rw k.1 (last-fails (eqb k.0.0 (get_or c.args.q.now (c.args.b + 0) 0)) _ (ne_eqb _ _ c.if-id-q-2.false)
+    rw c.in-Follows.is (last-fails (eqb c.in-Follows.conn (get_or c.args.q.now (c.args.b + 0) 0)) _ (ne_eqb _ _ c.if-id-q-2.false)
     ∙ ap (follows _ _) (load_is c.args.q.now c.args.b empty c.requires))

@@ -13,13 +13,12 @@ use Rattle.places.proofs.Laws.{omitting-ahead, omitting-done}
 use Rattle.places.proofs.omit_flagged.Goals as goal
 
 pub loop-to-init : goal.loop-to-init
-loop-to-init c =
-    (
-      omitting-from c.args.flags.now (lot c.args.q.now c.args.ring_end c.args.n) c.args.end c.requires.good
-          c.requires.unflagged,
-      search rules,
-      refl,
-    )
+loop-to-init c = (
+  omitting-from c.args.flags.now (lot c.args.q.now c.args.ring_end c.args.n) c.args.end c.requires.good
+      c.requires.unflagged,
+  search rules,
+  refl,
+)
 
 pub overflow_sub-n : goal.overflow_sub-n
 overflow_sub-n c =
@@ -46,8 +45,12 @@ bounds-flags-from c =
 
 pub move_to-requires : goal.move_to-requires
 move_to-requires c =
-    let l = c.loop-to in record { good = l.invariant.0.good; ring = ring-same (capacity c.args.q.now) (capacity l.q) c.args.ring_end c.requires.ring
-            (omega (arith, l.invariant.1)); from_lt_n = (omega (arith, l.invariant.0.ahead, l.invariant.0.fits), omega (arith, l.invariant.0.ahead, l.invariant.0.fits)) }
+    let l = c.loop-to in record {
+      good = l.invariant.0.good;
+      ring = ring-same (capacity c.args.q.now) (capacity l.q) c.args.ring_end c.requires.ring
+          (omega (arith, l.invariant.1));
+      from_lt_n = (omega (arith, l.invariant.0.ahead, l.invariant.0.fits), omega (arith, l.invariant.0.ahead, l.invariant.0.fits));
+    }
 
 pub loop-to-smaller-then-flags-from-ne1 : goal.loop-to-smaller-then-flags-from-ne1
 loop-to-smaller-then-flags-from-ne1 c = omega (arith, (let l = c.loop-to in omitting-ahead _ _ (lot l.q c.args.ring_end c.args.n) l.from l.to c.args.stay l.invariant.0 c.requires.stay_value (omega (arith, l.invariant.0.ahead))))
@@ -91,8 +94,12 @@ overflow_sub-n-2 c = omega (arith, (let q = lot c.args.q.now c.args.ring_end c.a
 
 pub drop_first-requires : goal.drop_first-requires
 drop_first-requires c =
-    let l = c.loop-to in record { good = l.invariant.0.good; ring = ring-same (capacity c.args.q.now) (capacity l.q) c.args.ring_end c.requires.ring
-            (omega (arith, l.invariant.1)); k_le_n = omega arith }
+    let l = c.loop-to in record {
+      good = l.invariant.0.good;
+      ring = ring-same (capacity c.args.q.now) (capacity l.q) c.args.ring_end c.requires.ring
+          (omega (arith, l.invariant.1));
+      k_le_n = omega arith;
+    }
 
 pub returns : goal.returns
 returns c =

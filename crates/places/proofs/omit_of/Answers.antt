@@ -31,13 +31,21 @@ overflow_sub-i c =
 
 pub conn_at-requires : goal.conn_at-requires
 conn_at-requires c =
-    let l = c.loop-to in record { good = l.invariant.0.good; ring = ring-same (capacity c.args.q.now) (capacity l.q) c.args.ring_end c.requires.ring
-            (omega (arith, l.invariant.1)); at_lt_n = omega (arith, l.invariant.0.ahead, l.invariant.0.fits) }
+    let l = c.loop-to in record {
+      good = l.invariant.0.good;
+      ring = ring-same (capacity c.args.q.now) (capacity l.q) c.args.ring_end c.requires.ring
+          (omega (arith, l.invariant.1));
+      at_lt_n = omega (arith, l.invariant.0.ahead, l.invariant.0.fits);
+    }
 
 pub move_to-requires : goal.move_to-requires
 move_to-requires c =
-    let l = c.loop-to in record { good = l.invariant.0.good; ring = ring-same (capacity c.args.q.now) (capacity l.q) c.args.ring_end c.requires.ring
-            (omega (arith, l.invariant.1)); from_lt_n = (omega (arith, l.invariant.0.ahead, l.invariant.0.fits), omega (arith, l.invariant.0.ahead, l.invariant.0.fits)) }
+    let l = c.loop-to in record {
+      good = l.invariant.0.good;
+      ring = ring-same (capacity c.args.q.now) (capacity l.q) c.args.ring_end c.requires.ring
+          (omega (arith, l.invariant.1));
+      from_lt_n = (omega (arith, l.invariant.0.ahead, l.invariant.0.fits), omega (arith, l.invariant.0.ahead, l.invariant.0.fits));
+    }
 
 pub loop-to-smaller-then-conn-conn_at : goal.loop-to-smaller-then-conn-conn_at
 loop-to-smaller-then-conn-conn_at c = omega (arith, (let l = c.loop-to in omitting-ahead (of c.args.conn) _ (lot l.q c.args.ring_end c.args.n) l.i l.to c.args.left l.invariant.0 c.requires.left_value (omega (arith, l.invariant.0.ahead))))
@@ -77,8 +85,12 @@ overflow_sub-n-2 c = omega (arith, (stay-fits (of c.args.conn) (lot c.args.q.now
 
 pub drop_first-requires : goal.drop_first-requires
 drop_first-requires c =
-    let l = c.loop-to in record { good = l.invariant.0.good; ring = ring-same (capacity c.args.q.now) (capacity l.q) c.args.ring_end c.requires.ring
-            (omega (arith, l.invariant.1)); k_le_n = omega arith }
+    let l = c.loop-to in record {
+      good = l.invariant.0.good;
+      ring = ring-same (capacity c.args.q.now) (capacity l.q) c.args.ring_end c.requires.ring
+          (omega (arith, l.invariant.1));
+      k_le_n = omega arith;
+    }
 
 pub returns : goal.returns
 returns c =

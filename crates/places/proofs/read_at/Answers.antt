@@ -14,5 +14,8 @@ pub read_row-requires : goal.read_row-requires
 read_row-requires c = row_of c.args.q.now c.args.ring_end c.args.i _ c.requires.ring c.requires.i_bound refl
 
 pub returns : goal.returns
-returns c = record { is = c.read_row.ensures.is
-      ∙ row_read c.args.q.now c.args.ring_end c.args.i _ c.requires.ring c.requires.i_bound refl empty; narrow = c.read_row.ensures.narrow }
+returns c = record {
+  is = c.read_row.ensures.is
+      ∙ row_read c.args.q.now c.args.ring_end c.args.i _ c.requires.ring c.requires.i_bound refl empty;
+  narrow = c.read_row.ensures.narrow;
+}

@@ -35,9 +35,12 @@ read_row-y-requires c =
 pub write_row-requires : goal.write_row-requires
 write_row-requires c =
     let l = c.loop-left in
-    let k = capacity c.args.q.now - c.args.n in record { row = row_of l.q c.args.ring_end (k + l.left) l.hole l.invariant.5
+    let k = capacity c.args.q.now - c.args.n in record {
+      row = row_of l.q c.args.ring_end (k + l.left) l.hole l.invariant.5
           (omega (arith, slot-within c.args.q.now c.args.ring_end c.args.n c.args.at c.requires.good c.requires.at_lt_n))
-          l.invariant.1; narrow = c.read_row-y.ensures.narrow }
+          l.invariant.1;
+      narrow = c.read_row-y.ensures.narrow;
+    }
 
 pub loop-left-preserved : goal.loop-left-preserved
 loop-left-preserved c =
@@ -54,9 +57,12 @@ loop-left-preserved c =
 pub write_row-requires-2 : goal.write_row-requires-2
 write_row-requires-2 c =
     let l = c.loop-left in
-    let k = capacity c.args.q.now - c.args.n in record { row = row_of l.q c.args.ring_end (k + l.left) l.hole l.invariant.5
+    let k = capacity c.args.q.now - c.args.n in record {
+      row = row_of l.q c.args.ring_end (k + l.left) l.hole l.invariant.5
           (omega (arith, slot-within c.args.q.now c.args.ring_end c.args.n c.args.at c.requires.good c.requires.at_lt_n))
-          l.invariant.1; narrow = c.nothing-none.ensures.narrow }
+          l.invariant.1;
+      narrow = c.nothing-none.ensures.narrow;
+    }
 
 pub returns : goal.returns
 returns c =

@@ -13,13 +13,12 @@ pub loop-i-init : goal.loop-i-init
 loop-i-init c = (search rules, search rules, sym (written_none c.args.out.now 0))
 
 pub loop-i-preserved : goal.loop-i-preserved
-loop-i-preserved c =
-    (
-      search rules,
-      search rules,
-      copied c.args.out.now c.args.name.now _ c.loop-i.i (omega arith) c.requires
-          c.loop-i.invariant.2,
-    )
+loop-i-preserved c = (
+  search rules,
+  search rules,
+  copied c.args.out.now c.args.name.now _ c.loop-i.i (omega arith) c.requires
+      c.loop-i.invariant.2,
+)
 
 pub returns : goal.returns
 returns c =
