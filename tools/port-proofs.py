@@ -19,8 +19,7 @@ IDENT = r"[A-Za-zα-ωκ_][A-Za-z0-9_'₀-₉′α-ωκ-]*"
 
 def norm(name):
     name = name.replace("_", "-")
-    name = re.sub(r"^overflow-", "", name)
-    return name
+    return re.sub(r"^overflow-", "", name).lower()
 
 
 class Function:
@@ -86,6 +85,15 @@ class Function:
         return arm is not None and any(norm(step) == norm(head) for _, step, _ in arm[2])
 
     def resolve(self, place, chain):
+        """As `step_path` has it, with where it came from; half of a clause's number is a part."""
+        r = self.step_path(place, chain)
+        if r[0] == "path":
+            if r[1][-1] == "?CLAUSES":
+                return ("part", place, chain)
+            return ("path", r[1], place, chain)
+        return r
+
+    def step_path(self, place, chain):
         """The new path of `chain` behind the record of `place`: ('place', P) or ('path', text fields, how clauses go on)."""
         while chain and chain[0] == "before":
             place = self.places[place][1] or place
@@ -132,7 +140,19 @@ class Function:
                 i, more = i + 1, more[1:]
             if params and more and more[0] == "0":
                 return ("path", [step, "new", params[i]] + more[1:], None)
+        if rest and rest[0] == "auto" and len(rest) > 1 and p[3]:
+            return ("path", [step] + self.auto(rest, p[3]), None)
         return ("path", [step] + rest, ("call", fields, p[3]) if not rest else None)
+
+    def auto(self, rest, callee):
+        """`.auto.0` and so on: the facts on lengths, by the parameter's name."""
+        params = self.data["params"].get(callee)
+        i, more = 0, rest[1:]
+        while more and more[0] == "1":
+            i, more = i + 1, more[1:]
+        if params and more and more[0] == "0" and i < len(params):
+            return ["auto", params[i]] + more[1:]
+        return rest
 
 
 def parts(text):
@@ -235,10 +255,27 @@ def record(text, fields):
     return None if rest is None else [f"{fields[0]} = {items[0]}"] + rest
 
 
+def paired(body, fields):
+    """The body's last expression, a pair, as a record of its parts."""
+    depth, at = 0, 0
+    for m in re.finditer(r"[([{]|[)\]}]|\bin\b", body):
+        if m.group() in "([{":
+            depth += 1
+        elif m.group() in ")]}":
+            depth -= 1
+        elif depth == 0:
+            at = m.end()
+    each = [".1" * i + (".0" if i < len(fields) - 1 else "") for i in range(len(fields))]
+    rec = "; ".join(f"{f} = both{e}" for f, e in zip(fields, each))
+    return body[:at] + " let both = " + body[at:].strip() + " in\n    record { " + rec + " }"
+
+
 class Turn:
-    def __init__(self, fn, answers):
+    def __init__(self, fn, answers, locals_=None):
         self.fn = fn
         self.answers = answers
+        self.locals = locals_ or {}
+        self.used = []
         self.depth = 0
 
     def body(self, text, place, var="c"):
@@ -278,6 +315,10 @@ class Turn:
                 continue
             if prev == "." or not re.match(IDENT, word) or word not in scope:
                 k = re.compile(r"(" + IDENT + r")\s+(" + IDENT + r")((?:\.before)*)(?![A-Za-z0-9_'.-])").match(text, i)
+                if k and prev != "." and k.group(1) in self.locals and k.group(2) in scope:
+                    out += self.local(k.group(1))
+                    i = k.end()
+                    continue
                 if k and prev != "." and k.group(1) in self.answers and k.group(2) in scope and self.depth < 4:
                     r = self.follow(scope[k.group(2)], FIELD.findall(k.group(3)))
                     if r[0] == "place":
@@ -304,7 +345,7 @@ class Turn:
                 out += "c{-TODO: a record of another place: " + r[1] + "-}" if r[1] != place else "c"
                 if r[1] != place:
                     self.fn.problems.append(f"the record at {r[1]} whole")
-            elif kind[0] == "alias":
+            elif kind[0] == "alias" and r[1][: len(kind[1][1])] == kind[1][1]:
                 out += word + "".join("." + x for x in r[1][len(kind[1][1]):])
             else:
                 out += "c." + ".".join(r[1])
@@ -317,28 +358,17 @@ class Turn:
         if kind[0] == "part":
             return self.fn.resolve(kind[1], kind[2] + chain)
         r = kind[1]
-        base, how = r[1], r[2]
-        if how and chain:
-            if how[0] in ("ensures", "requires") and how[2] == 0:
-                return ("path", base + self.fn.clause(how[1], chain), None)
-            if how[0] == "call":
-                if chain[0] == "ensures":
-                    return ("path", base + ["ensures"] + self.fn.clause(how[1], chain[1:]), None)
-                if chain[0] == "new" and how[2]:
-                    params = self.fn.data["params"].get(how[2])
-                    i, more = 0, chain[1:]
-                    while more and more[0] == "1":
-                        i, more = i + 1, more[1:]
-                    if params and more and more[0] == "0":
-                        return ("path", base + ["new", params[i]] + more[1:], None)
-        how2 = how
-        if how and how[0] == "call" and chain == ["ensures"]:
-            how2 = ("ensures", how[1], 0)
-        return ("path", base + chain, how2 if how2 and how2[0] != "call" and chain == ["ensures"] else None)
+        return self.fn.resolve(r[2], r[3] + chain)
 
-    def joins(self, text):
-        """`⊎_elim (λ w. A) (λ w. B) c.if-X.branch` as an elim on the branch."""
-        return text
+    def local(self, name):
+        """A lemma over a step's record: a `let` at the answer's head."""
+        if name not in [u[0] for u in self.used]:
+            place, kind, text = self.locals[name]
+            goal, self.fn.goal = self.fn.goal, place
+            kind, text = self.body(kind, place), self.body(text, place)
+            self.fn.goal = goal
+            self.used.append((name, f"let {name} : ({' '.join(kind.split())}) = ({' '.join(text.split())}) in"))
+        return name
 
     def inline(self, name):
         need, text = self.answers[name]
@@ -365,6 +395,14 @@ def turn(folder, crate, module, fn):
             k = re.search(re.escape(n) + r"\s+c(?:\s+κs)?\s*=", "\n".join(b))
             if k:
                 answers[n] = (need, "\n".join(b)[k.end():])
+    locals_ = {}
+    for _, b in blocks:
+        n, whole = name_of(b), "\n".join(b)
+        m = n and re.match(re.escape(n) + r"\s*:\s*\(c : tie\.([A-Za-z0-9_'-]+)\)\s*→(.*?)\n(?:unfolding [^\n]*\n)?" + re.escape(n) + r" c =(.*)", whole, re.S)
+        if m and m.group(1).split("-")[0] in ("After", "Then", "Else", "In", "At", "Joined"):
+            place = [p for p in fn.order if norm(p) == norm(m.group(1))]
+            if place:
+                locals_[n] = (place[0], m.group(2), m.group(3))
     inv, ans = [], []
     for notes, b in blocks:
         n = name_of(b)
@@ -382,6 +420,8 @@ def turn(folder, crate, module, fn):
             inv.append(notes + text)
             continue
         m = re.search(r"tie\.Need-([A-Za-z0-9_'-]+)", whole)
+        if n in locals_:
+            continue
         if not m:
             ans.append(notes + whole)
             continue
@@ -409,14 +449,16 @@ def turn(folder, crate, module, fn):
                 end += 1
             opens = b[start:end]
         fn.goal = fn.at[need]
-        body = Turn(fn, answers).body(text, fn.at[need])
+        turner = Turn(fn, answers, locals_)
+        body = turner.body(text, fn.at[need])
+        if turner.used:
+            body = "\n    " + "\n    ".join(u[1] for u in turner.used) + "\n    " + body.strip()
         fields = fn.asked.get(need)
         if fields and len(fields) > 1:
             at = last_tuple(body)
             rec = record(body[at:], fields) if at is not None else None
             if rec is None:
-                fn.problems.append(f"{new}: no tuple of {fields}")
-                body = body.rstrip() + "  -- TODO record of " + ", ".join(fields)
+                body = paired(body, fields)
             else:
                 body = body[:at] + "record { " + "; ".join(rec) + " }"
         ans.append(notes + f"pub {new} : goal.{new}\n" + ("\n".join(opens) + "\n" if opens else "") + f"{new} c ={body if body.startswith((' ', chr(10))) else ' ' + body}")

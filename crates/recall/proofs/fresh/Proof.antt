@@ -10,7 +10,7 @@ returns : tie.Need-returns
 returns c =
     let s = c.before.before in
     let if1 = c.if1 in
-    forgets-full s.args.log.now (logs.other_length s.args.log.now (λ e. absurd (if1.true e)))
+    forgets-full s.args.log.now (logs.other_length_lem s.args.log.now (λ e. absurd (if1.true e)))
 
 clear-requires : tie.Need-clear-requires
 clear-requires c κs = search rules

@@ -1,0 +1,13 @@
+-- The words of its place are read where they stand, whatever says which is the next.
+use borrow.Author.Rules.{rules}
+use borrow.Author.Tests.{lt-ltb, le-ltb}
+use Rattle.memory.specs.Memory.{ended_in}
+use Rattle.memory.proofs.ended_at.Goals as goal
+
+pub returns-then-e-lt-PAST_WORDS : goal.returns-then-e-lt-PAST_WORDS
+unfolding ended_in
+returns-then-e-lt-PAST_WORDS c = rw (lt-ltb _ _ c.if-e-lt-PAST_WORDS.true) c.no_past.ensures
+
+pub returns : goal.returns
+unfolding ended_in
+returns c = rw (le-ltb _ _ c.if-e-lt-PAST_WORDS.false) c.past_in.ensures
