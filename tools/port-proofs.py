@@ -104,7 +104,7 @@ class Function:
         place = self.nearest(place, head)
         p = self.places[place]
         if head == "args" and rest:
-            rest = [rest[0].replace("-", "_")] + rest[1:]
+            rest = ["res" if rest[0] == "result" else rest[0].replace("-", "_")] + rest[1:]
         if norm(head) == "loop" or re.match(r"loop\d*$", head):
             rest = [rest[0].replace("-", "_")] + rest[1:] if rest else rest
         arm = self.data["arms"][self.index[place]]
@@ -398,7 +398,7 @@ def turn(folder, crate, module, fn):
     locals_ = {}
     for _, b in blocks:
         n, whole = name_of(b), "\n".join(b)
-        m = n and re.match(re.escape(n) + r"\s*:\s*\(c : tie\.([A-Za-z0-9_'-]+)\)\s*→(.*?)\n(?:unfolding [^\n]*\n)?" + re.escape(n) + r" c =(.*)", whole, re.S)
+        m = n and re.match(re.escape(n) + r"\s*:\s*\(c : tie\.([A-Za-z0-9_'-]+)(?: invariant-[A-Za-z0-9-]+| decreases-[A-Za-z0-9-]+)*\)\s*→(.*?)\n(?:unfolding [^\n]*\n)?" + re.escape(n) + r" c =(.*)", whole, re.S)
         if m and m.group(1).split("-")[0] in ("After", "Then", "Else", "In", "At", "Joined"):
             place = [p for p in fn.order if norm(p) == norm(m.group(1))]
             if place:

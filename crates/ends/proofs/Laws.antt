@@ -124,15 +124,13 @@ writable Failed s p = tt
 writable (Response r) s p = tt
 
 -- what the tags say
-pub completing : (h : Ending) → OneOf (0 ∷ 1 ∷ []) (tag_of the_type h) → Completing h
+pub completing : (h : Ending) → ((r : ℕ) → h ≡ Response r → ⊥) → Completing h
 completing (Complete r) k = tt
 completing Failed k = tt
-completing (Response r) (inl e) = absurd (omega arith)
-completing (Response r) (inr e) = absurd (omega arith)
+completing (Response r) k = k r refl
 
-pub failing : (h : Ending) → Completing h → OneOf (1 ∷ 2 ∷ []) (tag_of the_type h) → h ≡ Failed
-failing (Complete r) c (inl e) = absurd (omega arith)
-failing (Complete r) c (inr e) = absurd (omega arith)
+pub failing : (h : Ending) → Completing h → ((r : ℕ) → h ≡ Complete r → ⊥) → h ≡ Failed
+failing (Complete r) c k = absurd (k r refl)
 failing Failed c k = refl
 failing (Response r) c k = absurd c
 
