@@ -1,15 +1,15 @@
 -- Demands: the accounts that are kept from calls and answers, entry by entry, with every number of an entry another one; each row is for a
 -- reading that takes one number for its neighbour, or changes what it should keep. By hand, from the comments of each. Assumes nothing.
-use Rattle.std.specs.Prelude.{◌≡◌, refl, Bool, true, false, List, [], ◌∷◌, map, ℕ, ◌*◌, ◌+◌, replicate}
+use Rattle.std.specs.Prelude.{◌≡◌, refl, Bool, true, false, List, [], ◌∷◌, map, ℕ, replicate}
 use Rattle.std.proofs.Common.{ap}
-use Rattle.rules.specs.declared.Start.TheVariants.{Timed, Linked}
+use Rattle.rules.specs.declared.Start.TheVariants.{Linked}
 use Rattle.rules.specs.declared.Message.{Message}
 use Rattle.rules.specs.declared.Message.TheVariants.{Init, Alive, Splice, Abort, Config, Extended, Unreadable}
 use Rattle.rules.specs.Records.{Record, General, InitResponse, AliveResponse, SpliceResponse, SpliceComplete, AbortResponse, CueRequest}
 use Rattle.rules.specs.Records.{ExtendedFound, ExtendedNone, ConfigResponse}
 use Rattle.rules.specs.Calls.{closes}
 use Rattle.rules.specs.Recent.{unused}
-use Rattle.demands.specs.History.{Entry, with_ends, with_closed, last_told, end_told, mux_told, event_told, prior_told, overrides_told}
+use Rattle.demands.specs.History.{Entry, with_ends, with_closed, end_told, mux_told, event_told, prior_told, overrides_told}
 use Rattle.demands.specs.History.{wait_after, end_asked, mux_asked, event_asked, prior_asked, overrides_asked}
 use Rattle.demands.specs.Airing.{Airing, newest, begins, by_then, airing_asked, granted, peak_at, top_at, airings_told}
 use Rattle.demands.specs.Lately.{Told, told_in, ended_once, KeptAs}
@@ -156,14 +156,14 @@ from-fresh = refl
 tells : (id event result played : ℕ) → Told
 tells x v r d = record { conn = 1; id = x; event = v; result = r; played = d }
 
-told_in : map (told_in (entry 0 false ∷ []) (λ c x. 250))
+told-in : map (told_in (entry 0 false ∷ []) (λ c x. 250))
     (SpliceResponse 1 116 2 ∷ SpliceComplete 1 109 2 1 70 ∷ AbortResponse 1 100 2 ∷ AliveResponse 1 100 1 2 3 ∷ General 1 103
     ∷ InitResponse 1 104 []
     ∷ CueRequest 1 1 2 [] ∷ ConfigResponse 1 117 [] [] [] ∷ ExtendedFound 1 2 3 4 5 ∷ ExtendedNone 1 2 ∷ [])
     ≡ tells 2 5 116 2 ∷ tells 2 5 109 70 ∷ tells 2 5 100 0 ∷ tells 2 5 100 0 ∷ tells 0 0 103 0 ∷ tells 0 0 104 0
     ∷ tells 0 0 0 0 ∷ tells 0 0 117 0 ∷ tells 2 5 100 0 ∷ tells 2 5 121 0 ∷ []
 unfolding account entry tells
-told_in = refl
+told-in = refl
 
 -- "where fewer are told, unused": each of them
 kept-not : KeptAs (unused ∷ record { conn = 1; id = 2; event = 3; result = 109; played = 4 } ∷ []) [] → ⊥

@@ -1,6 +1,6 @@
 -- That the answers of two histories tell the same (demands' Alike): pairs that do, and for each thing told a pair that differs in it, from
 -- the bytes of requests and answers. Worked by hand. Assumes nothing.
-use Rattle.std.specs.Prelude.{◌≡◌, refl, List, [], ◌∷◌, ◌++◌, ℕ, length, replicate}
+use Rattle.std.specs.Prelude.{refl, List, [], ◌∷◌, ◌++◌, ℕ, length, replicate}
 use Rattle.std.proofs.Common.{ap}
 use Prim.Native.String.{String}
 use Rattle.rules.specs.declared.Refusal.TheVariants.{AlreadyOpen}

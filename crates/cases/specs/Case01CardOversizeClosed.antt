@@ -3,7 +3,6 @@
 -- Shows: the refusal is the first of the call's order (1, 2, 7, 5, 4), here 7; it stops all
 -- the same, so the second refusal 7 (close 1) isn't written.
 use Rattle.std.specs.Prelude.{List, [], ◌∷◌}
-use Prim.Native.String.{◌++◌}
 use Rattle.cases.specs.Scenario.{Row, row, Holds, holds}
 use Rattle.cases.specs.Computing.{computing}
 

@@ -2,7 +2,6 @@
 -- Document 01, "The card program": a header with MessageSize above 4,088, connection 9.
 -- Shows: refusal 1, and it stops.
 use Rattle.std.specs.Prelude.{List, [], ◌∷◌}
-use Prim.Native.String.{◌++◌}
 use Rattle.cases.specs.Scenario.{Row, row, Holds, holds}
 use Rattle.cases.specs.Computing.{computing}
 

@@ -4,7 +4,6 @@ use Rattle.rules.specs.Lists
 use Rattle.rules.specs.Bytes
 use Rattle.rules.specs.State
 use Rattle.rules.specs.Recent
-use Rattle.rules.specs.Hardware
 use Rattle.rules.specs.Descriptors
 use Rattle.rules.specs.Streams
 use Rattle.rules.specs.Request

@@ -6,7 +6,7 @@ use Rattle.rules.specs.Bytes.{padded}
 use Rattle.rules.specs.Records.{Record, AliveResponse, SpliceResponse, SpliceComplete, AbortResponse}
 use Rattle.rules.specs.Follows.ReadBack.{records_in}
 use Rattle.rules.specs.HouseNumbers.{Answer, refused, good, house_number, written_by}
-use Rattle.rules.specs.Calls.{Call, opens}
+use Rattle.rules.specs.Calls.{opens}
 use Rattle.rules.specs.Card
 use Rattle.rules.specs.Rolling.{Rolling, Rolled, step_of, instant_course, step_course, reading_course, rolls, instant_call}
 use Rattle.rules.specs.Follows.Sequences.{rolling_of}

@@ -8,7 +8,7 @@ use Rattle.rules.specs.Bytes.{padded}
 use Rattle.rules.specs.Answers.{air_row}
 use Rattle.rules.specs.Calls.{Call, call, due_row, opens}
 use Rattle.rules.specs.HouseNumbers.{Called, written_by}
-use Rattle.rules.specs.Rolling.{none, at, Rolling, Rolled, step_of, instant_course, step_course, reading_course, rolls}
+use Rattle.rules.specs.Rolling.{at, Rolling, Rolled, step_of, instant_course, step_course, reading_course, rolls}
 use Rattle.rules.specs.Follows.Sequences.{rolling_of, rolling_fresh}
 use Rattle.rules.specs.Rolling.{instant_call, reading_call, RollingCall, known, instants, readings, roll, step_row}
 use Rattle.rules.specs.Card.{card_name}

@@ -1,13 +1,12 @@
 -- 02, CR 8: ExtendedData_Request and the driver's list, from the bytes of requests. Worked by hand from 02 and 000, Tables 7-12, 7-13 and
 -- 8-8.
 -- Assumes nothing.
-use Rattle.std.specs.Prelude.{◌≡◌, refl, List, [], ◌∷◌, ◌++◌, map, ℕ, zero, suc, ◌+◌, take, drop}
+use Rattle.std.specs.Prelude.{◌≡◌, refl, List, [], ◌∷◌, ◌++◌, map, ℕ, take, drop}
 use Rattle.rules.specs.declared.Past.{Past}
 use Rattle.rules.specs.Lists.{keep}
 use Rattle.rules.specs.Bytes.{bytes}
 use Rattle.rules.specs.State.{Splicer}
 use Rattle.rules.specs.Recent.{is_kept, recent}
-use Rattle.rules.specs.Reading
 use Rattle.rules.specs.Request
 use Rattle.rules.specs.Records.{Record, General, InitResponse, SpliceResponse, SpliceComplete, AbortResponse, ExtendedFound, ExtendedNone}
 use Rattle.rules.specs.Follows.ReadBack.{records_in}

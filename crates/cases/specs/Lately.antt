@@ -4,7 +4,6 @@ use Rattle.rules.specs.declared.Past.{Past}
 use Rattle.rules.specs.Bytes.{bytes}
 use Rattle.rules.specs.State.{Splicer}
 use Rattle.rules.specs.Recent.{unused, recent}
-use Rattle.rules.specs.Reading
 use Rattle.rules.specs.Request
 use Rattle.rules.specs.Records.{Record, SpliceResponse, SpliceComplete, AbortResponse}
 use Rattle.rules.specs.Follows.ReadBack.{records_in}

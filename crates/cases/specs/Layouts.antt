@@ -2,8 +2,7 @@
 -- 7-15 and 7-17, and 02's lists of streams, from tables 7-6 and 8-6.
 -- The same bytes are written of a record, or of a list, and read back as it. Assumes nothing.
 use Rattle.std.specs.Prelude.{◌≡◌, refl, List, [], ◌∷◌, ◌++◌, map, ℕ, replicate}
-use Prim.Native.String.{String}
-use Rattle.rules.specs.Streams.{Stream, Listed, listed, unlisted, pcr_pid, pid_count, separate_in, separate_bytes}
+use Rattle.rules.specs.Streams.{Stream, listed, pcr_pid, pid_count, separate_in, separate_bytes}
 use Rattle.rules.specs.Records.{Record, General, InitResponse, AliveResponse, SpliceResponse, SpliceComplete, AbortResponse, CueRequest}
 use Rattle.rules.specs.Records.{ExtendedFound, ExtendedNone, ConfigResponse, record_bytes, output}
 use Rattle.rules.specs.Follows.ReadBack.{records_in}

@@ -1,20 +1,19 @@
 -- Demand 3: what one record tells of a session, of every kind of record, results and flags to their highest bits. From the demand's own
 -- words and 02, by hand: a record of another kind, or with a number of which some bits are right, tells nothing. Assumes nothing.
-use Rattle.std.specs.Prelude.{◌≡◌, refl, Bool, true, false, List, [], ◌∷◌, map, ℕ, replicate}
+use Rattle.std.specs.Prelude.{◌≡◌, refl, true, false, List, [], ◌∷◌, map, ℕ, replicate}
 use Rattle.rules.specs.declared.Cue.TheVariants.{At, Timeless, Silent, Bad}
-use Rattle.rules.specs.declared.Link.TheVariants.{Closed, Opened, Initialised}
+use Rattle.rules.specs.declared.Link.TheVariants.{Opened, Initialised}
 use Rattle.rules.specs.Bytes.{padded}
 use Rattle.rules.specs.State.{Splicer, with_link}
 use Rattle.rules.specs.Records.{Record, General, InitResponse, AliveResponse, SpliceResponse, SpliceComplete, AbortResponse, CueRequest}
 use Rattle.rules.specs.Records.{ExtendedFound, ExtendedNone, ConfigResponse}
 use Rattle.rules.specs.HouseNumbers.{lending}
-use Rattle.rules.specs.Calls.{fresh, opens, messages}
+use Rattle.rules.specs.Calls.{fresh, messages}
 use Rattle.demands.specs.History.{is_start, is_end, is_yes, unmarked}
 use Rattle.demands.specs.Airing.{lists, says_played}
 use Rattle.demands.specs.Kept.{is_initialising, state_in}
 use Rattle.demands.specs.Lately.{is_an_end}
-use Rattle.demands.specs.Told.{answers, is_out, Check, check, checks, first_number, concerned}
-use Rattle.cases.specs.Scenario.{hex}
+use Rattle.demands.specs.Told.{answers, is_out, checks, first_number, concerned}
 use Rattle.cases.specs.Computing.{computing}
 
 telling : ℕ

@@ -2,7 +2,6 @@
 use Rattle.std.specs.Prelude.{◌≡◌, refl, List, [], ◌∷◌, ◌++◌, map, ℕ, replicate, take, drop}
 use Rattle.rules.specs.Bytes.{bytes}
 use Rattle.rules.specs.State.{Splicer}
-use Rattle.rules.specs.Reading
 use Rattle.rules.specs.Request
 use Rattle.rules.specs.Records.{Record, General, SpliceResponse, SpliceComplete, AbortResponse}
 use Rattle.rules.specs.Follows.ReadBack.{records_in}

@@ -7,7 +7,7 @@ use Rattle.rules.specs.Lists.{place, All, same}
 use Rattle.rules.specs.State.{Queue}
 use Rattle.rules.specs.Recent.{none_ended, remembered, recent}
 use Rattle.rules.specs.Listing.{held_rows}
-use Rattle.rules.specs.Records.{Record, General, InitResponse, AliveResponse, SpliceResponse, SpliceComplete, AbortResponse, CueRequest}
+use Rattle.rules.specs.Records.{General, InitResponse, AliveResponse, SpliceResponse, SpliceComplete, AbortResponse, CueRequest}
 use Rattle.rules.specs.Records.{ExtendedFound, ExtendedNone, ConfigResponse, result_of}
 use Rattle.cases.specs.Computing.{computing}
 use Rattle.cases.specs.Heard.{unlike}

@@ -1,7 +1,7 @@
 -- The reads for drivers in the demands' words: who is on air, what is due, the rows of the sessions. Rows by hand, every number another
 -- one.
 -- Assumes nothing.
-use Rattle.std.specs.Prelude.{◌≡◌, refl, Bool, true, false, List, [], ◌∷◌, map, ℕ, ◌+◌, ◌*◌, ◌≤◌, ◌<◌, length, replicate}
+use Rattle.std.specs.Prelude.{◌≡◌, refl, Bool, true, false, List, [], ◌∷◌, map, ℕ, ◌+◌, ◌*◌, length, replicate}
 use Rattle.std.proofs.Common.{arith}
 use Rattle.rules.specs.Rolling.{none, at, step_of}
 use Rattle.demands.specs.Airing.{Airing}

@@ -1,12 +1,12 @@
 -- 02, CR 12: the second engine's rules on the scenarios: the bytes of each call, through a list of verdicts that is kept in no order, give
 -- the bytes that the scenario wants, which were worked by hand from the documents. Assumes nothing.
-use Rattle.std.specs.Prelude.{◌≡◌, refl, List, [], ◌∷◌, ◌++◌, ℕ, zero, suc, length}
+use Rattle.std.specs.Prelude.{◌≡◌, refl, List, [], ◌++◌, ℕ, zero, suc, length}
 use Rattle.rules.specs.Card.{card_name, Next, calls, ends, stops, next, told}
 use Rattle.recall_rules.specs.Verdicts
 use Rattle.recall_rules.specs.Work
 use Rattle.recall_rules.specs.Calls
 use Rattle.recall_rules.specs.Calls.{Pass, begun, call}
-use Rattle.cases.specs.Scenario.{Row, input, output}
+use Rattle.cases.specs.Scenario.{input, output}
 use Rattle.cases.specs.Computing.{computing}
 use Rattle.cases.specs.Case01CardCutHeader as s01cardcutheader
 use Rattle.cases.specs.Case01CardCutMark as s01cardcutmark

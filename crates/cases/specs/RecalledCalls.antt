@@ -9,7 +9,6 @@ use Rattle.rules.specs.Calls.{Call, opens, closes, messages, cues}
 use Rattle.rules.specs.Card.{card_name, told}
 use Rattle.recall_rules.specs.Calls.{Pass, begun, call, passed}
 use Rattle.cases.specs.Scenario.{hex}
-use Rattle.cases.specs.Computing.{computing}
 use Rattle.cases.specs.Rehearsed.{sent, from, init_of, asks, timed, linked, aborts, to}
 use Rattle.cases.specs.Recalled.{recalling}
 

@@ -1,11 +1,11 @@
 -- 02, CR 12: the second engine's list of verdicts, which is kept in no order and never gets shorter: sessions among hundreds that are over,
 -- chains as long as the list, what is kept where nothing has ended. By hand. Assumes nothing.
-use Rattle.std.specs.Prelude.{◌≡◌, refl, Bool, true, false, List, [], ◌∷◌, ◌++◌, map, ℕ, get_or, replicate}
+use Rattle.std.specs.Prelude.{◌≡◌, refl, true, false, List, [], ◌∷◌, map, ℕ, get_or, replicate}
 use Rattle.std.proofs.Common.{arith}
 use Rattle.rules.specs.declared.Past.{Past}
 use Rattle.rules.specs.declared.Session.{Session}
 use Rattle.rules.specs.Recent.{unused}
-use Rattle.rules.specs.Records.{Record, SpliceResponse, SpliceComplete}
+use Rattle.rules.specs.Records.{SpliceResponse, SpliceComplete}
 use Rattle.recall_rules.specs.declared.Phase.{Phase}
 use Rattle.recall_rules.specs.declared.Phase.TheVariants.{Out, Waits, Started, Ended}
 use Rattle.recall_rules.specs.declared.Verdict.{Verdict}

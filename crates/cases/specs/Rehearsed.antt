@@ -4,12 +4,10 @@
 use Rattle.std.specs.Prelude.{◌≡◌, refl, List, [], ◌∷◌, ◌++◌, map, ℕ, zero, suc, ◌+◌, ◌*◌, length, replicate}
 use Rattle.rules.specs.declared.Session.{Session}
 use Rattle.rules.specs.Bytes.{bytes, padded}
-use Rattle.rules.specs.Reading
 use Rattle.rules.specs.Request
 use Rattle.rules.specs.Records
 use Rattle.rules.specs.Records.{Record}
 use Rattle.rules.specs.Follows.ReadBack.{records_in}
-use Rattle.rules.specs.Answers
 use Rattle.rules.specs.Splicing
 use Rattle.rules.specs.Calls
 use Rattle.rules.specs.HouseNumbers

@@ -2,7 +2,7 @@
 -- program, from
 -- a table of 256. The prover computes what is read of each, what comes of it, and the times. Assumes nothing.
 use Rattle.std.specs.Prelude.{◌≡◌, refl, Bool, true, false, List, [], ◌∷◌, map, ◌++◌ as ◌then◌, ℕ, ◌+◌, ◌*◌, replicate, take}
-use Prim.Native.String.{String, ◌++◌}
+use Prim.Native.String.{String}
 use Rattle.rules.specs.declared.Cue.{Cue}
 use Rattle.rules.specs.declared.Cue.TheVariants.{At, Timeless, Silent, Bad}
 use Rattle.rules.specs.declared.WireTime.{WireTime}

@@ -1,6 +1,6 @@
 -- What theorems speak of beside the rules: the rolling card's calls as document 01's, descriptors one by one, the ranges of what is read.
 -- By hand, with the numbers on both sides of each bound. Assumes nothing.
-use Rattle.std.specs.Prelude.{◌≡◌, refl, true, false, List, [], ◌∷◌, ◌++◌, map, ℕ, ◌<◌, length, replicate}
+use Rattle.std.specs.Prelude.{◌≡◌, refl, true, false, List, [], ◌∷◌, ◌++◌, map, ℕ, length, replicate}
 use Rattle.std.proofs.Common.{arith}
 use Rattle.rules.specs.declared.Start.TheVariants.{Timed, Linked}
 use Rattle.rules.specs.declared.Message.TheVariants.{Init, Alive, Splice, Abort, Config, Extended, Unreadable}
@@ -16,11 +16,10 @@ use Rattle.rules.specs.Rolling.{Rolling, at, RollingCall, known, instants, readi
 use Rattle.rules.specs.Rolling as rolling
 use Rattle.rules.specs.Follows.Descriptors.{descriptors_in, cut, bytes_of, all_good, mux_values, last_or}
 use Rattle.rules.specs.Follows.Asked.{Within, Reads}
-use Rattle.rules.specs.Follows.Wires.{Byte, Sorted}
+use Rattle.rules.specs.Follows.Wires.{Sorted}
 use Rattle.rules.specs.Follows.Sequences.{rolling_of, rolling_fresh, Timeless, rolled_after, as_calls, as_moves, roll_answers, RollWired}
 use Rattle.cases.specs.Scenario.{hex}
 use Rattle.cases.specs.Computing.{computing}
-use Rattle.cases.specs.Heard.{unordered}
 
 sequencing : ℕ
 unfolding computing rolling.step_of rolling.instant_course rolling.step_course rolling.reading_course rolling.rolls rolling.instant_call

@@ -1,12 +1,12 @@
 -- What holds of every splicer, in the words that theorems say it with: each statement of a session that meets it and of ones that just miss
 -- it. By hand, from 01 and 02. Assumes nothing.
-use Rattle.std.specs.Prelude.{◌≡◌, refl, Bool, true, false, List, [], ◌∷◌, map, ℕ, zero, suc, ◌+◌, ◌≤◌, ◌<◌, eqb, replicate}
+use Rattle.std.specs.Prelude.{◌≡◌, refl, Bool, true, false, List, [], ◌∷◌, map, ℕ, zero, suc, ◌+◌, ◌≤◌, eqb, replicate}
 use Rattle.std.proofs.Common.{arith}
 use Rattle.rules.specs.declared.Session.{Session}
 use Rattle.rules.specs.Lists.{bit, some, keep}
 use Rattle.rules.specs.State.{Queue, is}
 use Rattle.rules.specs.Recent.{none_ended}
-use Rattle.rules.specs.Records.{Record, General, InitResponse, AliveResponse, SpliceResponse, SpliceComplete, AbortResponse, CueRequest}
+use Rattle.rules.specs.Records.{General, InitResponse, AliveResponse, SpliceResponse, SpliceComplete, AbortResponse, CueRequest}
 use Rattle.rules.specs.Records.{ExtendedFound, ExtendedNone, ConfigResponse}
 use Rattle.rules.specs.HouseNumbers.{lending_maps}
 use Rattle.rules.specs.Calls.{opens, closes, messages, ticks, moves, cues}

@@ -2,7 +2,6 @@
 -- ended, and which does not; what an answer finds among what is kept. Worked by hand from 01 and 02. Assumes nothing.
 use Rattle.std.specs.Prelude.{◌≡◌, refl, false, true, List, [], ◌∷◌, ◌++◌, ℕ, zero, suc, ◌<◌, replicate, get_or}
 use Rattle.std.proofs.Common.{ap, arith, lit<}
-use Prim.Native.String.{String}
 use Rattle.rules.specs.declared.Framing.{Framing}
 use Rattle.rules.specs.declared.Framing.TheVariants.{Framed, Unframed}
 use Rattle.rules.specs.declared.Link.TheVariants.{Closed, Opened, Initialised}

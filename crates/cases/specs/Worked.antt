@@ -6,7 +6,6 @@ use Rattle.rules.specs.Bytes.{bytes}
 use Rattle.rules.specs.State.{Splicer}
 use Rattle.rules.specs.Records.{Record, InitResponse, SpliceResponse, SpliceComplete, AbortResponse}
 use Rattle.rules.specs.Follows.ReadBack.{records_in}
-use Rattle.rules.specs.Calls
 use Rattle.rules.specs.Follows.Sequences
 use Rattle.rules.specs.HouseNumbers
 use Rattle.rules.specs.Calls.{Call, opens, closes}

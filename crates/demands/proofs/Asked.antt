@@ -7,19 +7,18 @@ use mathlib.Core.List.{List, [], ◌∷◌}
 use mathlib.Core.Logic.{◌⊎◌, inl, inr}
 use Prim.Native.Nat.{ℕ, suc, ◌+◌, ◌<◌}
 use native.Mathlib.Omega.{arith}
-use lib.Dec.{ltb}
 use lib.ListN.{length}
 use Rattle.rules.specs.declared.Request.{Request}
 use Rattle.rules.specs.declared.Link.{Link}
 use Rattle.rules.specs.declared.Link.TheVariants.{Closed, Opened, Initialised}
 use Rattle.rules.specs.declared.Message.TheVariants.{Splice, Extended}
 use Rattle.rules.specs.declared.Framing.TheVariants.{Framed}
-use Rattle.rules.specs.Lists.{All, bit}
-use Rattle.rules.specs.Bytes.{message_id, message_size, oversize}
+use Rattle.rules.specs.Lists.{All, bit, omit}
+use Rattle.rules.specs.Bytes.{message_id, message_size}
 use Rattle.rules.specs.Reading.{splice_request, extended_request, config_request, alive_request, read_extended}
 use Rattle.rules.specs.Request.{read_splice}
 use Rattle.rules.specs.Follows.ReadBack.{data_in}
-use Rattle.rules.specs.State.{Splicer, link_of, is_open, is_initialised}
+use Rattle.rules.specs.State.{Splicer, link_of, is_initialised}
 use Rattle.rules.specs.Records.{Record, General}
 use Rattle.rules.specs.Follows.ReadBack.{records_in}
 use Rattle.rules.specs.HouseNumbers.{Called, written_by, no_connection, no_room, not_open, long_section, Loans}
@@ -29,7 +28,7 @@ use Rattle.rules.specs.Follows.Sound.{Wired}
 use Rattle.rules.proofs.Count.{length-put}
 use Rattle.rules.proofs.Fitted.{records_of}
 use Rattle.rules.proofs.Sound.{sound-found}
-use Rattle.demands.specs.History.{Event, Entry, granted_in, others_in, entry_of, credited, shut, book_answered, book_after}
+use Rattle.demands.specs.History.{is_end, Event, Entry, granted_in, others_in, entry_of, credited, shut, book_answered, book_after}
 use Rattle.demands.specs.Told.{FromFresh, Asks, Inquires, Check, first_number, checks, number_of, granted_by}
 use Rattle.demands.specs.Kept.{AsksConfig, AsksAlive, Ready}
 use Rattle.demands.proofs.Refusals.{first-number}
@@ -134,7 +133,7 @@ module _ (c : ℕ) (l : List ℕ) (loans : Loans) (s : Splicer) (w : Wired (mess
 credited-length : (rs : List Record) (es : List Entry) → length (credited rs es) ≡ length es
 unfolding credited
 credited-length rs [] = refl
-credited-length rs (e ∷ es) = ap suc (credited-length _ es)
+credited-length rs (e ∷ es) = ap suc (credited-length (omit (is_end e.conn e.id) rs) es)
 
 shut-length : (d : ℕ) (es : List Entry) → length (shut d es) ≡ length es
 unfolding shut

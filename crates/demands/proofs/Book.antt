@@ -1,7 +1,7 @@
 -- The book of the accepted sessions beside the splicer: of each number, the newest entry has had its end or is held, and all older ones
 -- have
 -- had theirs. Rests on Laws (held before is held after or ended).
-use mathlib.Core.Path.{◌≡◌, refl, ap, sym, ◌∙◌}
+use mathlib.Core.Path.{◌≡◌, refl, ap, sym, subst, ◌∙◌}
 use mathlib.Core.Bool.{Bool, true, false, cond, ◌&&◌, ◌||◌, and-false}
 use mathlib.Core.List.{List, [], ◌∷◌}
 use Prim.Native.Nat.{ℕ, ◌+◌, ◌<◌}
@@ -278,7 +278,7 @@ module _ (new : Session) (q : Queue) (es : List Entry) (b : Booked q es) (none :
       (fewer-each (Dated es) q t.queue (evicted-fewer new.start.0 q) b.dated)
 
   owed : (c x : ℕ) → Owed c x (held_count (accepted new q).queue (is c x)) later
-  owed c x = rw (held-accepted (is c x) new q) (go (is c x new) refl)
+  owed c x = subst (λ (n : ℕ). Owed c x n later) (sym (held-accepted (is c x) new q)) (go (is c x new) refl)
     where
       go : (k : Bool) → is c x new ≡ k
           → cond {A = Type 0} (is c x new) ((0 + (bit (is c x new) + held_count t.queue (is c x)) ≡ 1) ×

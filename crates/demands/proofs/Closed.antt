@@ -167,7 +167,7 @@ since-replied (cues m pts seconds micros room) (wrote l) h = since-credited (rec
 since-book : {es fs : List Entry} (h : List Event) → Since es fs → Since es (book h fs)
 unfolding book
 since-book [] k = k
-since-book (e ∷ h) k = since-book h (since-replied e.call e.reply k)
+since-book {es = es} {fs = fs} (e ∷ h) k = since-book {es = es} {fs = book_replied e.call e.reply fs} h (since-replied e.call e.reply k)
 
 -- ## Connection c has closed
 

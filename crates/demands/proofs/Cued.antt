@@ -1,27 +1,25 @@
 -- 02, CR 7: what a cue call does to the splicer and to what the answers tell (nothing), to whom it writes, and what. Rests on what holds of
 -- each of its records (rules' Cued) and on records being read back from bytes.
-use mathlib.Core.Path.{◌≡◌, refl, ap, ap₂, sym, ◌∙◌}
-use mathlib.Core.Bool.{Bool, true, false, cond}
+use mathlib.Core.Path.{◌≡◌, refl, ap, ap₂, ◌∙◌}
+use mathlib.Core.Bool.{false, cond}
 use mathlib.Core.List.{List, [], ◌∷◌, ◌++◌, map}
-use Prim.Native.Nat.{ℕ, ◌+◌, ◌-◌, ◌≤◌}
+use Prim.Native.Nat.{ℕ, ◌+◌}
 use native.Mathlib.Omega.{arith}
-use lib.Dec.{eqb}
-use lib.ListN.{length, drop}
+use lib.ListN.{length}
 use Rattle.rules.specs.declared.Refusal.TheVariants.{NoRoom, BadMicros, BadSection}
 use Rattle.rules.specs.declared.Cue.{Cue}
 use Rattle.rules.specs.declared.Cue.TheVariants.{At, Timeless, Silent, Bad}
-use Rattle.rules.specs.declared.WireTime.{WireTime}
-use Rattle.rules.specs.Lists.{All, put, keep, count, omit}
+use Rattle.rules.specs.Lists.{All, keep, omit}
 use Rattle.rules.specs.Follows.Wires.{Byte}
 use Rattle.rules.specs.Bytes.{bytes}
 use Rattle.rules.specs.Units.{bad_micros}
 use Rattle.rules.specs.State.{Splicer, no_hardware}
-use Rattle.rules.specs.Records.{Record, CueRequest, framed, record_bytes, output}
+use Rattle.rules.specs.Records.{Record, framed, record_bytes}
 use Rattle.rules.specs.Follows.ReadBack.{records_in}
 use Rattle.rules.specs.Cues.{bad_section, read_cue, cue_time, initialised_ones, passed_to, complained_to, cue_records}
-use Rattle.rules.specs.HouseNumbers.{Answer, refused, good, Called, refuse, does, no_room, written_by}
+use Rattle.rules.specs.HouseNumbers.{Answer, refused, good, Called, no_room, written_by}
 use Rattle.rules.specs.Calls.{Call, cues, cue_call, call}
-use Rattle.rules.proofs.Tests.{by, clash}
+use Rattle.rules.proofs.Tests.{by}
 use Rattle.rules.proofs.Every.{all_keep}
 use Rattle.rules.proofs.Fitted.{records_of}
 use Rattle.rules.proofs.Cued.{initialised-low, cue-all}
@@ -29,7 +27,7 @@ use Rattle.rules.proofs.Sound.{sound-found}
 use Rattle.demands.specs.History.{Event, Entry, is_start, is_end, starts_of, ends_of, unmarked, with_ends, credited, reply_of, history}
 use Rattle.demands.specs.History.{others_of, wait_after, wait_replied, waiting_told, waiting_count, book_after, book_replied, book}
 use Rattle.demands.specs.History.{clock_replied, clock_after}
-use Rattle.demands.specs.Airing.{Airing, heard, by_then, heard_all, aired_after, aired_replied, airings}
+use Rattle.demands.specs.Airing.{Airing, by_then, heard_all, aired_after, aired_replied, airings}
 use Rattle.demands.specs.Told.{FromFresh, number_of, started_replied, started_told, conn_of, concerned, Carries}
 use Rattle.demands.specs.Lately.{Told, time_so_far, newer, ended_replied, ended_told}
 use Rattle.demands.specs.Kept.{changes, left, changed, kept_behind, kept_told}

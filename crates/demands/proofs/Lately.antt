@@ -4,10 +4,10 @@
 use mathlib.Core.Path.{◌≡◌, refl, sym, ap, subst, ◌∙◌}
 use mathlib.Core.Bool.{Bool, true, false, cond, not, ◌&&◌, ◌||◌}
 use mathlib.Core.List.{List, [], ◌∷◌, ◌++◌, map}
-use Prim.Native.Nat.{ℕ, zero, suc, ◌+◌, ◌-◌, ◌%◌, ◌≤◌, ◌<◌}
+use Prim.Native.Nat.{ℕ, zero, suc, ◌+◌, ◌-◌, ◌%◌, ◌<◌}
 use native.Mathlib.Omega.{arith}
 use lib.Dec.{eqb, ltb}
-use lib.ListN.{length, take, get_or, set, length-set, replicate}
+use lib.ListN.{length, take, get_or, length-set, replicate}
 use borrow.Author.Tests.{ltb-true, eq-eqb, ne_eqb}
 use Rattle.rules.specs.declared.Session.{Session}
 use Rattle.rules.specs.declared.Past.{Past}
@@ -32,7 +32,7 @@ use Rattle.rules.proofs.Tests.{by, clash, eqb_same}
 use Rattle.rules.proofs.All.{all-into}
 use Rattle.rules.proofs.Every.{all_keep, all_both, all_get_d, fewer-all, fewer-remove_at}
 use Rattle.rules.proofs.Walk.{followers-gone}
-use Rattle.rules.proofs.Leaving.{meets-some, dismissed-fewer, removed-fewer, end_at-fewer, cancelled-fewer}
+use Rattle.rules.proofs.Leaving.{meets-some, end_at-fewer, cancelled-fewer}
 use Rattle.rules.proofs.Lately.{recent-next, remembered-append}
 use Rattle.rules.proofs.Tick.{moved, by_next}
 use Rattle.rules.proofs.Checks.{read-id}

@@ -8,7 +8,6 @@ use native.Mathlib.Omega.{arith}
 use lib.Dec.{eqb, ltb}
 use lib.ListN.{length, get_or}
 use borrow.Author.Tests.{eqb-true, ltb-true}
-use Rattle.rules.specs.declared.Ninths.{Ninths}
 use Rattle.rules.specs.declared.When.{When}
 use Rattle.rules.specs.declared.When.TheVariants.{At, Never}
 use Rattle.rules.specs.declared.Session.{Session}
@@ -17,7 +16,7 @@ use Rattle.rules.specs.declared.Ending.TheVariants.{Complete, Failed, Response}
 use Rattle.rules.specs.Lists.{All, put, keep, omit, place, remove_at}
 use Rattle.rules.specs.State.{Queue, empty, of, is, starts_at, ends_at, due, not_after, to_come, with_waiting, with_started}
 use Rattle.rules.specs.Records.{Record, AbortResponse}
-use Rattle.rules.specs.Ends.{Turn, quiet, and_then, writes, ended, ending, one_end, endings, followers, dismissed, evicted_at, evicted}
+use Rattle.rules.specs.Ends.{Turn, and_then, ended, ending, one_end, endings, followers, dismissed, evicted_at, evicted}
 use Rattle.rules.specs.Ends.{cancelled, aborted, closed_by}
 use Rattle.rules.specs.Instants.{may_start, began, meets_equal, ousted, launched, start_at, end_at, instant, elapse, run, run_all, silence}
 use Rattle.rules.specs.Instants.{silent, silent_all}

@@ -18,7 +18,6 @@ use Rattle.rules.specs.Follows.ReadBack.{records_in}
 use Rattle.rules.specs.Answers.{air_state, air_id, alive_response, air_row}
 use Rattle.rules.specs.HouseNumbers.{Called, written_by, Loans}
 use Rattle.rules.specs.Calls.{messages, call, due_row}
-use Rattle.rules.specs.Rolling.{none}
 use Rattle.rules.specs.Follows.Sound.{Falling}
 use Rattle.rules.proofs.Tests.{eqb_same}
 use Rattle.rules.proofs.All.{all-into}

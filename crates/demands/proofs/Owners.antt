@@ -38,7 +38,7 @@ use Rattle.rules.proofs.Fitted.{records_of}
 use Rattle.rules.proofs.Silence.{silent_all-most}
 use Rattle.rules.proofs.Sound.{sound-call, sound-fresh, sound-found}
 use Rattle.demands.specs.Told.{FromFresh}
-use Rattle.demands.specs.Airing.{Airing, newest, heard, by_then, heard_all, start_asked, airing_asked, aired_answered, aired_after}
+use Rattle.demands.specs.Airing.{Airing, newest, by_then, heard_all, start_asked, airing_asked, aired_answered, aired_after}
 use Rattle.demands.specs.Airing.{aired_replied, airings, during, peak_at, top_at, primary_time, air_time, sum_by}
 use Rattle.demands.specs.Airing.{airings_told, clock_told, primary_told, time_told, air_told, number_told}
 use Rattle.demands.specs.Moments.{Gapless, Printed, Within, oldest, newer, stands}

@@ -18,7 +18,6 @@ use Rattle.rules.specs.Follows.ReadBack.{records_in}
 use Rattle.rules.specs.Answers.{says, is_past, latest, recalls, extended_response, answer_read, answer}
 use Rattle.rules.specs.HouseNumbers.{replies, Loans, written_by}
 use Rattle.rules.specs.Calls.{handled, message_call, messages, call}
-use Rattle.rules.proofs.Tests.{clash}
 use Rattle.rules.proofs.Sound.{sound-found}
 use Rattle.rules.proofs.Recall.{answers-latest, answers-none}
 use Rattle.demands.specs.History.{Event}

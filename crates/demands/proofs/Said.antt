@@ -1,6 +1,6 @@
 -- Each SpliceComplete flag 1 in an answer tells its session's time, counted from the history with this call.
 -- Rests on Owners (what was told is what was counted) and on Laws (no number ends twice in one answer).
-use mathlib.Core.Path.{◌≡◌, refl, ap, sym, ◌∙◌}
+use mathlib.Core.Path.{◌≡◌, refl, ap, sym, subst, ◌∙◌}
 use mathlib.Core.Bool.{Bool, true, false, cond}
 use mathlib.Core.List.{List, [], ◌∷◌, ◌++◌, map}
 use Prim.Native.Nat.{ℕ, zero, suc, ◌+◌, ◌/◌, ◌≤◌, ◌<◌}
@@ -16,7 +16,7 @@ use Rattle.rules.specs.State.{same_number, Queue, Splicer, empty, is, held, star
 use Rattle.rules.specs.Records.{Record, General, InitResponse, AliveResponse, SpliceResponse, SpliceComplete, AbortResponse, ConfigResponse}
 use Rattle.rules.specs.Records.{ExtendedFound, ExtendedNone, CueRequest}
 use Rattle.rules.specs.Follows.ReadBack.{records_in}
-use Rattle.rules.specs.Ends.{Turn, and_then, ended, evicted, evicted_at, dismissed, followers, closed_by}
+use Rattle.rules.specs.Ends.{Turn, and_then, ended, aborted, evicted, evicted_at, dismissed, followers, closed_by}
 use Rattle.rules.specs.Instants.{run_all}
 use Rattle.rules.specs.Splicing.{requested, accepts, accepted}
 use Rattle.rules.specs.HouseNumbers.{Called, written_by}
@@ -32,7 +32,7 @@ use Rattle.rules.proofs.Fitted.{records_of}
 use Rattle.rules.proofs.Sound.{sound-found}
 use Rattle.demands.specs.Told.{FromFresh, is_out}
 use Rattle.demands.specs.Airing.{Airing, airing_is, nobodys, newest, begins, lists, says_played, ends, marked, concerns, heard, by_then}
-use Rattle.demands.specs.Airing.{heard_all, aired_answered, aired_after, air_time, airings_told, number_told}
+use Rattle.demands.specs.Airing.{heard_all, aired_answered, aired_after, air_time, airings_told}
 use Rattle.demands.specs.Moments.{PlayedAs}
 use Rattle.demands.proofs.Laws.{Law, Plain, closed_by-law, answered-law, tick-law, outs-ends}
 use Rattle.demands.proofs.Cases.{cases}
@@ -244,7 +244,10 @@ module _ (β : Base) (s : Splicer) (l : List Airing) (h : Sound s) (o : Kept β 
         closing = λ d room low e. turn-told s.clock (closed_by d q) (closed_by-law c x d q);
         saying = λ d b loans n rs e p. plain_out _ rs p;
         naming = λ d b loans n r hw e p. plain_out _ (r ∷ []) p;
-        aborting = λ d b loans n y e i. rw e (turn-told s.clock _ (answered-law c x d y q));
+        aborting = λ d b loans n y e i. let rs = AbortResponse d 100 y ∷ (aborted d y q).written in
+            let m : aired_answered s.clock d b rs l ≡ heard_all s.clock rs l = rw e refl in
+            subst (λ (m : List Airing). All (λ r. is_out c x r ≡ true → Told c x 0 (newest c x m) r) rs) (sym m)
+            (turn-told s.clock _ (answered-law c x d y q));
         declining = λ d b loans n r e y f. ((λ i. absurd (clash (is_out c x r) i (f.outs c x))), tt);
         accepting = λ d b loans n r e f p. let new = requested d r q in
             nothing-out _ ((evicted new.start.0 q).written ++ (accepts new ∷ []))

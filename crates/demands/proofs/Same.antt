@@ -2,7 +2,7 @@
 use mathlib.Core.Path.{◌≡◌, refl, ap, sym, ◌∙◌}
 use mathlib.Core.Bool.{Bool, true, false, cond}
 use mathlib.Core.List.{List, [], ◌∷◌, map}
-use Prim.Native.Nat.{ℕ, ◌+◌}
+use Prim.Native.Nat.{ℕ}
 use native.Mathlib.Omega.{arith}
 use lib.Dec.{eqb}
 use borrow.Author.Tests.{eqb-true}
@@ -10,8 +10,7 @@ use Rattle.rules.specs.declared.Start.{Start}
 use Rattle.rules.specs.declared.Start.TheVariants.{Timed, Linked}
 use Rattle.rules.specs.declared.Message.{Message}
 use Rattle.rules.specs.declared.Message.TheVariants.{Init, Alive, Splice, Abort, Config, Extended, Unreadable}
-use Rattle.rules.specs.Units.{from_ticks}
-use Rattle.rules.specs.Lists.{put, keep}
+use Rattle.rules.specs.Lists.{put, omit}
 use Rattle.rules.specs.Request.{session_id, read_splice}
 use Rattle.rules.specs.Follows.ReadBack.{data_in}
 use Rattle.rules.specs.State.{same_number}
@@ -22,7 +21,7 @@ use Rattle.demands.specs.History.{Reply, refusal, wrote, Event, Entry, entry_is,
 use Rattle.demands.specs.History.{last_told, end_told, start_told, end_asked, mux_asked, event_asked, prior_asked, overrides_asked, entry_of}
 use Rattle.demands.specs.History.{book_answered, shut}
 use Rattle.demands.specs.History.{book_after, book_replied, book, clock_replied}
-use Rattle.rules.proofs.Tests.{by, and_both, eqb_same}
+use Rattle.rules.proofs.Tests.{and_both}
 use Rattle.demands.specs.Airing.{Airing, airing_is, newest, begins, ends, marked, concerns, heard, by_then, heard_all, start_asked}
 use Rattle.demands.specs.Airing.{airing_asked, aired_answered, aired_after, aired_replied, airings}
 use Rattle.demands.proofs.Marks.{other}
@@ -63,7 +62,7 @@ key-heard_all u (r ∷ rs) l = key-heard_all u rs (heard (by_then u l rs) r l) �
 key-credited : (rs : List Record) (es : List Entry) → map of_entry (credited rs es) ≡ map of_entry es
 unfolding credited
 key-credited rs [] = refl
-key-credited rs (e ∷ es) = ap (of_entry e ∷◌) (key-credited _ es)
+key-credited rs (e ∷ es) = ap (of_entry e ∷◌) (key-credited (omit (is_end e.conn e.id) rs) es)
 
 key-shut : (d : ℕ) (es : List Entry) → map of_entry (shut d es) ≡ map of_entry es
 unfolding shut

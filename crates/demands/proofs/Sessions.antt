@@ -14,17 +14,17 @@ use Rattle.rules.specs.Lists.{All, count}
 use Rattle.rules.specs.Bytes.{written}
 use Rattle.rules.specs.State.{Queue, Splicer, same_number, is}
 use Rattle.rules.specs.Follows.Wires.{Sorted}
-use Rattle.rules.specs.Listing.{state_on_air, state_covered, state_waiting, started_state, waiting_state, row_width, session_row, session_rows}
+use Rattle.rules.specs.Listing.{state_on_air, state_covered, state_waiting, started_state, waiting_state, session_row, session_rows}
 use Rattle.rules.specs.Listing.{held_rows, held_number}
 use Rattle.rules.specs.Follows.Sound.{Each, Proper, Small, Falling}
 use Rattle.rules.proofs.Tests.{clash}
-use Rattle.rules.proofs.All.{all_append, all_take, all-into}
+use Rattle.rules.proofs.All.{all_append, all_take}
 use Rattle.rules.proofs.Every.{all_both}
 use Rattle.rules.proofs.Count.{count-append, count_same}
-use Rattle.demands.specs.History.{Event, Entry, book}
+use Rattle.demands.specs.History.{Event, book}
 use Rattle.demands.specs.Airing.{Airing, newest, airings_told, number_told}
 use Rattle.demands.specs.Told.{FromFresh}
-use Rattle.demands.specs.Sessions.{HeldRow, row_in, rows_in, RowTold, row_is, open_as, SessionsTold, Behind, Ranked, Led, InOrder}
+use Rattle.demands.specs.Sessions.{HeldRow, row_in, rows_in, RowTold, row_is, open_as, SessionsTold, Behind, Ranked, InOrder}
 use Rattle.demands.proofs.Room.{from-sound}
 use Rattle.demands.proofs.Book.{Dated}
 use Rattle.demands.proofs.Once.{book-told}

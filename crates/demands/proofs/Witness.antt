@@ -27,8 +27,6 @@ use Rattle.rules.specs.Follows.ReadBack
 use Rattle.rules.specs.Follows.ReadBack.{records_in}
 use Rattle.rules.specs.Ends
 use Rattle.rules.specs.Instants
-use Rattle.rules.specs.Crc
-use Rattle.rules.specs.Cues
 use Rattle.rules.specs.Answers
 use Rattle.rules.specs.Splicing
 use Rattle.rules.specs.Splicing.{requested}
@@ -36,7 +34,6 @@ use Rattle.rules.specs.Calls
 use Rattle.rules.specs.HouseNumbers
 use Rattle.rules.specs.HouseNumbers.{refused, written_by, Loans, lending}
 use Rattle.rules.specs.Calls.{fresh, Call, opens, closes, messages, ticks, cues, call, after}
-use Rattle.rules.specs.Card
 use Rattle.rules.specs.Card.{card_name}
 use Rattle.demands.specs.History
 use Rattle.demands.specs.History.{Event, reply_of, history, own_answer, waiting_count}
