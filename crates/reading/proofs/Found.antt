@@ -15,7 +15,7 @@ use Rattle.rules.specs.Follows.Descriptors.{descriptors_in, all_good}
 use Rattle.rules.proofs.Descriptors.{within, one-mux, one-good, good-fits, one_value, in_end, in_step, descriptors-whole}
 use Rattle.reading.specs.declared.descriptors.Descriptor.{Descriptor}
 use Rattle.reading.specs.declared.descriptors.Descriptor.TheVariants.{Mux, Foreign, End, Bad}
-use Rattle.reading.specs.Walk.{found_as, step_at, following, found_from, found, due, is_end, Inside, FoundAll}
+use Rattle.reading.specs.Walk.{found_as, step_at, following, found_from, due, is_end, Inside, FoundAll}
 use Rattle.reading.proofs.Walks.{step_end, Says, step-says}
 
 -- a good descriptor cut out of the bytes is found as it stands there

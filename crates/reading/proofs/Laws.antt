@@ -1,6 +1,6 @@
 -- Laws for the readers and their callers: what is said of a part, and the lengths that an answer grants.
 -- Rests on nothing but the definitions.
-use mathlib.Core.Bool.{Bool, true, false, not}
+use mathlib.Core.Bool.{Bool, true, false}
 use mathlib.Core.List.{List}
 use mathlib.Core.Path.{◌≡◌, sym, ap, subst, ◌∙◌}
 use mathlib.Core.Logic.{◌⊎◌, inl, inr}
@@ -24,9 +24,9 @@ use Rattle.rules.specs.Reading.{read_config, read_extended, is_read, read}
 use Rattle.rules.specs.Request.{tail_of, bad_splice, read_whole, read_splice}
 use Rattle.rules.proofs.Tests.{by, or-none}
 
--- what was said of a part, by a test that is turned round
-pub said : (f : List ℕ → Bool) {x y : List ℕ} {b n : Bool} → b ≡ f x → x ≡ y → not b ≡ n → not (f y) ≡ n
-said f e p g = ap not (ap f (sym p) ∙ sym e) ∙ g
+-- what was said of a part
+pub said : (f : List ℕ → Bool) {x y : List ℕ} {b n : Bool} → b ≡ f x → x ≡ y → b ≡ n → f y ≡ n
+said f e p g = ap f (sym p) ∙ sym e ∙ g
 
 -- `&l[a..]` is all that stands from the place a on
 pub behind : (a : ℕ) (l : List ℕ) → take (length l - a) (drop a l) ≡ drop a l

@@ -1,9 +1,9 @@
 -- Laws of the walk over a request's structures: what a step says of the rest, and what stands behind the last one.
 -- Rests on rules' laws of one structure in front of others (`streams-step`) and of its length (`length-kept`).
-use mathlib.Core.Bool.{Bool, true, false, cond, ◌||◌}
-use mathlib.Core.List.{List, [], ◌∷◌}
+use mathlib.Core.Bool.{Bool, true, false, cond}
+use mathlib.Core.List.{List, []}
 use mathlib.Core.Path.{◌≡◌, refl, sym, ap, ap₂, ◌∙◌}
-use Prim.Native.Nat.{ℕ, zero, suc, ◌+◌, ◌-◌, ◌≤◌, ◌<◌}
+use Prim.Native.Nat.{ℕ, zero, suc, ◌+◌, ◌≤◌, ◌<◌}
 use native.Mathlib.Omega.{arith}
 use native.Mathlib.Nat.{add_assoc, add-zero}
 use lib.Dec.{eqb}
@@ -12,7 +12,7 @@ use lib.Seq.{drop-drop, get_or-drop}
 use Rattle.rules.specs.Request.{separate_service, service_id, tail_of}
 use Rattle.rules.specs.Streams.{Stream, stream_length, stream_at, bad_stream, Listed, listed, unlisted}
 use Rattle.rules.specs.Streams.{behind, streams_in, pid_count, bad_count, separate_in, rest_of}
-use Rattle.rules.proofs.Streams.{streams-step, streams-none, GoodStream, good-stream, length-kept, Separate, separate-step}
+use Rattle.rules.proofs.Streams.{streams-step, streams-none, good-stream, length-kept, separate-step}
 use Rattle.reading.specs.declared.structures.Streams.{Streams}
 use Rattle.reading.specs.declared.structures.Streams.TheVariants.{End, Bad}
 use Rattle.reading.specs.Structures.{size_of, sizes_of, place_of, streams_end, end_from, from, tail_place}

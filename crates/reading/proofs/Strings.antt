@@ -74,7 +74,8 @@ module _ (a b : List ℕ) (i : ℕ) where
       ≡ same_name (drop (i + 1) a) (drop (i + 1) b)
   name-goes-on e n =
       both
-      ∙ ap₂ same (from_more (get_or a i 0) (name_in (drop (i + 1) a)) n) (from_more (get_or b i 0) (name_in (drop (i + 1) b)) (λ z. n (e ∙ z)))
+      ∙ ap₂ same (from_more (get_or a i 0) (name_in (drop (i + 1) a)) n) (from_more (get_or b i 0) (name_in (drop (i + 1) b)) (λ z. n
+      (e ∙ z)))
       ∙ ap (λ t. t && same_name (drop (i + 1) a) (drop (i + 1) b)) (eq-eqb (get_or a i 0) (get_or b i 0) e)
 
 -- a byte that is not zero stands within the slice
