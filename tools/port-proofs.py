@@ -19,7 +19,7 @@ IDENT = r"[A-Za-zα-ωκ_][A-Za-z0-9_'₀-₉′α-ωκ-]*"
 
 def norm(name):
     name = name.replace("_", "-")
-    return re.sub(r"^overflow-", "", name).lower()
+    return re.sub(r"-lem$", "", re.sub(r"^overflow-", "", name).lower())
 
 
 class Function:
@@ -255,6 +255,18 @@ def record(text, fields):
     return None if rest is None else [f"{fields[0]} = {items[0]}"] + rest
 
 
+def by_rank(need, order, fn):
+    """A goal of a value with no name, `add-t8`: the one of its rank."""
+    m = re.match(r"(.*)-t\d+(?:-\d+)?$", need)
+    if not m:
+        return need
+    like = re.compile(re.escape(m.group(1)) + r"-t\d+(?:-\d+)?$")
+    mine = [x for x in order if like.match(x)]
+    theirs = [x for x in fn.needs if like.match(x) and x not in order]
+    i = mine.index(need)
+    return theirs[i] if i < len(theirs) else need
+
+
 def paired(body, fields):
     """The body's last expression, a pair, as a record of its parts."""
     depth, at = 0, 0
@@ -403,6 +415,7 @@ def turn(folder, crate, module, fn):
             place = [p for p in fn.order if norm(p) == norm(m.group(1))]
             if place:
                 locals_[n] = (place[0], m.group(2), m.group(3))
+    order = [norm(x) for _, b in blocks for x in re.findall(r"tie\.Need-([A-Za-z0-9_'-]+)", "\n".join(b))]
     inv, ans = [], []
     for notes, b in blocks:
         n = name_of(b)
@@ -433,6 +446,8 @@ def turn(folder, crate, module, fn):
         text = answers[n][1]
         if text.strip() in ("search rules",) and not any(l.startswith("unfolding ") for l in b):
             continue
+        if need not in fn.needs:
+            need = by_rank(need, [x for x in order if x not in fn.needs], fn)
         if need not in fn.needs:
             fn.problems.append(f"{n}: no need {need}")
             ans.append("-- TODO no need " + need + "\n" + whole)

@@ -5,8 +5,7 @@ use Prim.Native.Nat.{ℕ, ◌+◌, ◌-◌, ◌≤◌}
 use native.Mathlib.Omega.{arith}
 use lib.Dec.{ltb}
 use borrow.Author.Tests.{ltb-true, ltb-false, lt-ltb, le-ltb}
-use Rattle.checks.proofs.outranks.Statement.{statement}
-use Rattle.checks.proofs.outranks.Tie as tie
+use Rattle.checks.proofs.outranks.Goals as goal
 
 less-of-sum : (a b o : ℕ) → b ≤ a → ltb (a - b) o ≡ ltb a (b + o)
 less-of-sum a b o h = go (ltb a (b + o)) refl
@@ -15,16 +14,13 @@ less-of-sum a b o h = go (ltb a (b + o)) refl
     go true e = lt-ltb (a - b) o (omega (arith, ltb-true a (b + o) e))
     go false e = le-ltb (a - b) o (omega (arith, ltb-false a (b + o) e))
 
-returns : tie.Need-returns
-returns c =
-    let s = c.before.before.before.args in
-    let h = c.if1.true in
+pub returns-then-old-new : goal.returns-then-old-new
+returns-then-old-new c =
+    let s = c.args in
+    let h = c.if-old-new.true in
     lt-ltb s.old.access s.new.access h ∙ sym (lt-ltb s.old.access (s.new.access + s.new.overrides) (omega (arith, h)))
 
-returns-2 : tie.Need-returns-2
-returns-2 c =
-    let s = c.before.before.before.before.before.before.args in
-    less-of-sum s.old.access s.new.access s.new.overrides (omega (arith, c.before.before.before.if1.false))
-
-pub outranks-spec : {M : Type 1} → statement M
-outranks-spec = tie.close (tie.spec returns returns-2)
+pub returns-else-old-new : goal.returns-else-old-new
+returns-else-old-new c =
+    let s = c.args in
+    less-of-sum s.old.access s.new.access s.new.overrides (omega (arith, c.if-old-new.false))
