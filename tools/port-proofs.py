@@ -19,7 +19,7 @@ IDENT = r"[A-Za-zα-ωκ_][A-Za-z0-9_'₀-₉′α-ωκ-]*"
 
 def norm(name):
     name = name.replace("_", "-")
-    return re.sub(r"-lem$", "", re.sub(r"^overflow-", "", name).lower())
+    return re.sub(r"-lem$", "", re.sub(r"^slice-bounds-", "part-", re.sub(r"^overflow-", "", name)).lower())
 
 
 class Function:
@@ -325,6 +325,12 @@ class Turn:
                 out += word
                 i = m.end()
                 continue
+            if word == "λ":
+                k = re.compile(r"λ[^.]*\.").match(text, i)
+                if k and "(" not in k.group() :
+                    out += k.group()
+                    i = k.end()
+                    continue
             if prev == "." or not re.match(IDENT, word) or word not in scope:
                 k = re.compile(r"(" + IDENT + r")\s+(" + IDENT + r")((?:\.before)*)(?![A-Za-z0-9_'.-])").match(text, i)
                 if k and prev != "." and k.group(1) in self.locals and k.group(2) in scope:
@@ -357,6 +363,8 @@ class Turn:
                 out += "c{-TODO: a record of another place: " + r[1] + "-}" if r[1] != place else "c"
                 if r[1] != place:
                     self.fn.problems.append(f"the record at {r[1]} whole")
+            elif r[1][-1] in ("requires", "ensures") and self.clauses(r):
+                out += self.clauses(r)
             elif kind[0] == "alias" and r[1][: len(kind[1][1])] == kind[1][1]:
                 out += word + "".join("." + x for x in r[1][len(kind[1][1]):])
             else:
@@ -371,6 +379,23 @@ class Turn:
             return self.fn.resolve(kind[1], kind[2] + chain)
         r = kind[1]
         return self.fn.resolve(r[2], r[3] + chain)
+
+    def clauses(self, r):
+        """All clauses of a call or of the function as the nested pair that lemmas take; nothing where there is one."""
+        one = self.fn.resolve(r[2], r[3] + ["0"])
+        if one[0] != "path" or one[1][-1] == "0":
+            return None
+        out, ones = [], []
+        while True:
+            x = self.fn.resolve(r[2], r[3] + ones + ["0"])
+            if x[0] == "path" and x[1][-1] not in ("0", "1") and "?CLAUSES" not in x[1]:
+                out.append("c." + ".".join(x[1]))
+                ones = ones + ["1"]
+                continue
+            x = self.fn.resolve(r[2], r[3] + ones)
+            out.append("c." + ".".join(x[1]))
+            break
+        return "(" + ", (".join(out[:-1]) + ", " + out[-1] + ")" * (len(out) - 1)
 
     def local(self, name):
         """A lemma over a step's record: a `let` at the answer's head."""
