@@ -1,29 +1,30 @@
 -- Laws of rows and kept bytes, for the functions that fill and write them: a structure more, a row more.
 -- Rests on rules' laws of structures (`streams-step`) and of what is written (`written_next`).
-use mathlib.Core.Bool.{Bool, true, false, cond, ◌||◌, or-true}
+use mathlib.Core.Bool.{Bool, true, false, cond, or-true}
 use mathlib.Core.List.{List, [], ◌∷◌, ◌++◌, append_assoc, append-nil}
-use mathlib.Core.Path.{◌≡◌, refl, sym, ap, ap₂, subst, ◌∙◌}
+use mathlib.Core.Path.{◌≡◌, refl, sym, ap, ap₂, ◌∙◌}
 use Prim.Native.Nat.{ℕ, zero, suc, ◌+◌, ◌-◌, ◌*◌, ◌≤◌, ◌<◌}
 use native.Mathlib.Omega.{arith}
 use native.Mathlib.Nat.{add_assoc, add-zero, zero-add}
 use borrow.Author.Tests.{lt-ltb, le-ltb, ltb-false, leb-false}
 use borrow.Rule.Slice.PartMut.{put_mid, mid_of}
 use lib.Dec.{leb, ltb}
-use lib.ListN.{length, get_or, take, drop, replicate, length-append, length-take, length-drop}
+use lib.ListN.{length, get_or, take, drop, replicate, length-append, length-drop}
 use lib.Seq.{drop-drop, get_or-drop, append_snoc, length-take-le}
 use Rattle.rules.specs.Bytes.{bytes, written}
-use Rattle.rules.specs.Streams.{Stream, stream_length, stream_at, bad_stream, highest_pid, unknown_size, Listed, listed, unlisted, streams_in}
+use Rattle.rules.specs.Streams.{Stream, stream_length, stream_at, bad_stream, highest_pid, unknown_size, listed, unlisted, streams_in}
 use Rattle.rules.specs.Streams.{pcr_pid, pid_count, most_streams, separate_in, stream_bytes, streams_bytes, separate_bytes}
 use Rattle.rules.proofs.Tests.{or-none}
 use Rattle.rules.proofs.Written.{written_next, written_none}
-use Rattle.rules.proofs.Streams.{Stepped, streams-step, streams-none, GoodStream, good-stream, length-kept, streams-count, separate-step}
+use Rattle.rules.proofs.Streams.{Stepped, streams-step, streams-none, length-kept, streams-count, separate-step}
 use Rattle.rules.proofs.Bytes.{length-bytes}
 use Rattle.reading.specs.declared.structures.Streams.{Streams}
 use Rattle.reading.specs.declared.structures.Streams.TheVariants.{End, Bad}
 use Rattle.reading.specs.Structures.{from}
 use Rattle.reading.proofs.Laws.{behind}
 use Rattle.reading.proofs.Steps.{On, on-good, Found}
-use Rattle.streams.specs.Rows.{row_of, rows_of, kept_of, row_stream, list_in, bad_row, bad_rows, rows_size, judged, words_of, taken, words_for}
+use Rattle.streams.specs.Rows.{row_of, rows_of, kept_of, row_stream, list_in, bad_row, bad_rows, rows_size, judged, words_of, taken}
+use Rattle.streams.specs.Rows.{words_for}
 use Rattle.streams.specs.Rows.{words_after, kept_after, bad_list, bytes_of, put_size, out_after, ReadsList, WritesList, Filled, Puttable}
 use Rattle.streams.specs.Rows.{Writing}
 
@@ -451,7 +452,8 @@ rows-small (suc n) w e =
     let t = or-none (bad_row w) (bad_rows n (drop 8 w)) e in
     omega (arith, (good-row w t.0).kept, rows-small n (drop 8 w) t.1)
 
-pub judged-end : (n : ℕ) (w : List ℕ) {size : ℕ} → judged n w ≡ End size → (bad_rows n w ≡ false) × (size ≡ rows_size n w) × (size ≤ 255 * n)
+pub judged-end : (n : ℕ) (w : List ℕ) {size : ℕ} → judged n w ≡ End size
+    → (bad_rows n w ≡ false) × (size ≡ rows_size n w) × (size ≤ 255 * n)
 unfolding judged
 judged-end n w {size} = go (bad_rows n w) refl
   where

@@ -9,7 +9,6 @@ use lib.ListN.{length, drop, replicate}
 use Rattle.rules.specs.Lists.{All}
 use Rattle.rules.specs.Bytes
 use Rattle.rules.specs.Bytes.{bytes}
-use Rattle.rules.specs.Reading
 use Rattle.rules.specs.Streams
 use Rattle.rules.specs.Streams.{Stream, highest_pid, listed, most_streams, streams_in, separate_in}
 use Rattle.rules.specs.Request.{separate_service, service_id}
@@ -75,7 +74,8 @@ unfoldable pub kept : List ℕ
 kept = 1 ∷ 2 ∷ replicate 3742 0
 
 unfoldable computing : ℕ
-unfolding structures separate request words kept Bytes.bytes Bytes.value Bytes.value_from Streams.behind Streams.streams_in Streams.separate_in
+unfolding structures separate request words kept Bytes.bytes Bytes.value Bytes.value_from Streams.behind Streams.streams_in
+    Streams.separate_in
     Streams.stream_bytes Streams.streams_bytes Streams.separate_bytes Rows.taken Rows.list_in Rows.bad_rows Rows.bytes_of
 computing = 0
 

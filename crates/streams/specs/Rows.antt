@@ -1,9 +1,9 @@
 -- 02, CR 1: a list of streams in lent memory. Words: how many, the PcrPID, and 16 rows of eight words; bytes: what the structures keep, all
 -- streams' in a row.
-use Rattle.std.specs.Prelude.{◌≡◌, Bool, false, cond, ◌||◌, List, [], ◌∷◌, ◌++◌, ℕ, zero, suc, ◌+◌, ◌-◌, ◌*◌, ◌≤◌, ◌<◌, leb, ltb, length, get_or, take, drop, replicate}
+use Rattle.std.specs.Prelude.{◌≡◌, Bool, false, cond, ◌||◌, List, [], ◌∷◌, ◌++◌, ℕ, zero, suc, ◌+◌, ◌≤◌, leb, ltb, length, get_or, take, drop, replicate}
 use Rattle.rules.specs.Bytes.{written}
 use Rattle.rules.specs.Streams.{Stream, highest_pid, unknown_size, Listed, listed, unlisted, streams_in, pcr_pid, most_streams, separate_in}
-use Rattle.rules.specs.Streams.{streams_bytes, separate_bytes}
+use Rattle.rules.specs.Streams.{separate_bytes}
 use Rattle.reading.specs.Structures.{sizes_of}
 use Rattle.reading.specs.declared.structures.Streams.{Streams}
 use Rattle.reading.specs.declared.structures.Streams.TheVariants.{End, Bad}
