@@ -19,7 +19,9 @@ IDENT = r"[A-Za-zα-ωκ_][A-Za-z0-9_'₀-₉′α-ωκ-]*"
 
 def norm(name):
     name = name.replace("_", "-")
-    return re.sub(r"-lem$", "", re.sub(r"^slice-bounds-", "part-", re.sub(r"^overflow-", "", name)).lower())
+    if name == "type-size":
+        return "size-of"
+    return re.sub(r"-lem(\d*)$", r"\1", re.sub(r"^slice-bounds-", "part-", re.sub(r"^overflow-", "", name)).lower())
 
 
 class Function:
@@ -101,6 +103,8 @@ class Function:
         if not chain:
             return ("place", place)
         head, rest = chain[0], chain[1:]
+        if head == "pre":
+            head, chain = "requires", ["requires"] + rest
         place = self.nearest(place, head)
         p = self.places[place]
         if head == "args" and rest:
@@ -348,6 +352,7 @@ class Turn:
                 continue
             j = m.end()
             chain = []
+            turned = re.search(r"\bnot-(?:true|false) (?:_|[A-Za-z0-9_'.-]+) $", out)
             while True:
                 f = FIELD.match(text, j)
                 if not f or (text[j] == "." and f.group(1) and text[j - 1] == " "):
@@ -368,6 +373,9 @@ class Turn:
             elif kind[0] == "alias" and r[1][: len(kind[1][1])] == kind[1][1]:
                 out += word + "".join("." + x for x in r[1][len(kind[1][1]):])
             else:
+                # a test `!b` is a fact of b itself today
+                if turned and r[1][0].startswith("if-not-"):
+                    out = out[: turned.start()]
                 out += "c." + ".".join(r[1])
             i = j
         return out
@@ -500,7 +508,7 @@ def turn(folder, crate, module, fn):
             if rec is None:
                 body = paired(body, fields)
             else:
-                body = body[:at] + "record { " + "; ".join(rec) + " }"
+                body = body[:at] + "record {\n" + "".join(f"      {x};\n" for x in rec) + "    }"
         ans.append(notes + f"pub {new} : goal.{new}\n" + ("\n".join(opens) + "\n" if opens else "") + f"{new} c ={body if body.startswith((' ', chr(10))) else ' ' + body}")
     for extra in ("Invariants.antt", "Answers.antt"):
         e = os.path.join(folder, extra)

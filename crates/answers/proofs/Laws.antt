@@ -221,11 +221,10 @@ bars : (s : Splicer) (c id : ℕ) {l : Link} {t v : Bool} → l ≡ link_of c s 
 bars s c id p q i = ap (λ (y : Link). barred y id) (sym p) ∙ sym q ∙ i
 
 -- one that the match leaves: Closed or Opened
-pub not-initialised : (l : Link) → OneOf (0 ∷ 1 ∷ []) (tag_of the_type l) → is_initialised l ≡ false
+pub not-initialised : (l : Link) → (l ≡ Initialised → ⊥) → is_initialised l ≡ false
 not-initialised Closed h = refl
 not-initialised Opened h = refl
-not-initialised Initialised (inl e) = absurd (omega arith)
-not-initialised Initialised (inr e) = absurd (omega arith)
+not-initialised Initialised h = absurd (h refl)
 
 unless : (a : Bool) → not a ≡ true → a ≡ false
 unless true e = sym e
