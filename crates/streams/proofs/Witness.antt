@@ -74,9 +74,8 @@ unfoldable pub kept : List ℕ
 kept = 1 ∷ 2 ∷ replicate 3742 0
 
 unfoldable computing : ℕ
-unfolding structures separate request words kept Bytes.bytes Bytes.value Bytes.value_from Streams.behind Streams.streams_in Streams.separate_i
-
-unfolding structures separate request words kept Bytes.bytes Bytes.value Bytes.value_from Streams.behind Streams.streams_in Streams.separate_in
+unfolding structures separate request words kept Bytes.bytes Bytes.value Bytes.value_from Streams.behind Streams.streams_in
+    Streams.separate_in
     Streams.stream_bytes Streams.streams_bytes Streams.separate_bytes Rows.taken Rows.list_in Rows.bad_rows Rows.bytes_of
 computing = 0
 
