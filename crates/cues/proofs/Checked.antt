@@ -3,7 +3,7 @@
 use mathlib.Core.Path.{◌≡◌, refl, sym, ap, ap₂, ◌∙◌}
 use mathlib.Core.Bool.{Bool, true, false, cond}
 use mathlib.Core.List.{List, [], ◌∷◌, ◌++◌}
-use Prim.Native.Nat.{ℕ, zero, suc, ◌+◌, ◌-◌, ◌*◌, ◌/◌, ◌%◌, ◌^◌, ◌<◌, ◌≤◌}
+use Prim.Native.Nat.{ℕ, zero, suc, ◌+◌, ◌*◌, ◌/◌, ◌%◌, ◌^◌, ◌<◌}
 use native.Mathlib.Omega.{arith}
 use native.Mathlib.Nat.{mul-add-mod_self_right}
 use lib.Dec.{eqb}
@@ -207,7 +207,8 @@ unfolding crc_bits
 bits_back zero c d b h k l e = e
 bits_back (suc n) c d b h k l e =
     bit-back c d h k (b / 128) (omega arith)
-    (bits_back n (crc_bit c (b / 128)) (crc_bit d (b / 128)) (b * 2 % 256) (bit-register c (b / 128)) (bit-register d (b / 128)) (omega arith)
+    (bits_back n (crc_bit c (b / 128)) (crc_bit d (b / 128)) (b * 2 % 256) (bit-register c (b / 128)) (bit-register d (b / 128))
+    (omega arith)
     e)
 
 from_back : (c d : ℕ) (l : List ℕ) → Register c → Register d → All Byte l → crc_from c l ≡ crc_from d l → c ≡ d
@@ -241,7 +242,8 @@ wrong64 n c x h k z e =
     wrong128 n (crc_bit c (x / 128)) (x * 2 % 256) (bit-register c (x / 128)) (omega arith) (omega arith)
     (bit_past (suc n) c x 64 (omega arith) e)
 
-wrong32 : (n c x : ℕ) → Register c → Byte x → x / 32 % 2 ≡ 0 → crc_bits (suc (suc (suc n))) c x ≡ crc_bits (suc (suc (suc n))) c (x + 32) → ⊥
+wrong32 : (n c x : ℕ) → Register c → Byte x → x / 32 % 2 ≡ 0
+    → crc_bits (suc (suc (suc n))) c x ≡ crc_bits (suc (suc (suc n))) c (x + 32) → ⊥
 wrong32 n c x h k z e =
     wrong64 n (crc_bit c (x / 128)) (x * 2 % 256) (bit-register c (x / 128)) (omega arith) (omega arith)
     (bit_past (suc (suc n)) c x 32 (omega arith) e)
@@ -295,5 +297,6 @@ one-bit-wrong a r x i b k l z u v =
     let c = crc_from 0xFFFFFFFF a in
     let h : Register c = from-register 0xFFFFFFFF a (omega arith) in
     let e = sym (from-append 0xFFFFFFFF a (x ∷ r)) ∙ eqb-true _ 0 u ∙ sym (eqb-true _ 0 v) ∙ from-append 0xFFFFFFFF a ((x + 2 ^ i) ∷ r) in
-    byte-wrong i c x l h k z (from_back (crc_byte c x) (crc_byte c (x + 2 ^ i)) r (bits-register 8 c x h) (bits-register 8 c (x + 2 ^ i) h) b
+    byte-wrong i c x l h k z (from_back (crc_byte c x) (crc_byte c (x + 2 ^ i)) r (bits-register 8 c x h) (bits-register 8 c
+    (x + 2 ^ i) h) b
     e)

@@ -1,19 +1,15 @@
 -- What a test of the code says of the definitions' choice. Assumes nothing.
-use mathlib.Core.Path.{◌≡◌, refl, sym, ap, ◌∙◌}
+use mathlib.Core.Path.{◌≡◌, refl, sym}
 use mathlib.Core.Bool.{Bool, true, false, cond, not, ◌&&◌, ◌||◌}
-use mathlib.Core.Logic.{inl, inr}
-use mathlib.Core.List.{List, [], ◌∷◌}
-use Prim.Native.Nat.{ℕ, ◌+◌, ◌-◌, ◌*◌, ◌/◌, ◌%◌, ◌<◌, ◌≤◌}
+use mathlib.Core.List.{List}
+use Prim.Native.Nat.{ℕ, ◌+◌, ◌<◌, ◌≤◌}
 use native.Mathlib.Omega.{arith}
 use lib.Dec.{eqb, ltb}
 use lib.ListN.{length}
-use types.Run.{OneOf}
-use denote.Enum.Declared.{tag_of}
 use borrow.Author.Tests.{ltb-false, lt-ltb, le-ltb, eq-eqb, ne_eqb}
-use Rattle.rules.specs.contracts.Cue.{the_type}
 use Rattle.rules.proofs.Tests.{by, or-none}
 use Rattle.rules.specs.Cues.{section_length, bad_section, command_length, command_room, given_otherwise, loop_length, bad_lengths}
-use Rattle.rules.specs.Cues.{is_specified, time_size, is_immediate, has_duration, insert_time_at, program_size, pts_turn, all_ones, ticks_after}
+use Rattle.rules.specs.Cues.{is_specified, time_size, is_immediate, insert_time_at, program_size, pts_turn, all_ones, ticks_after}
 use Rattle.rules.specs.Cues.{cue_time}
 use Rattle.rules.specs.declared.Cue.{Cue}
 use Rattle.rules.specs.declared.Cue.TheVariants.{At, Timeless, Silent, Bad}
@@ -97,14 +93,12 @@ module _ (l : List ℕ) where
 -- ## The time
 
 -- a cue without a time
-pub without-time : (x : Cue) (pts seconds micros : ℕ) → OneOf (1 ∷ 2 ∷ 3 ∷ []) (tag_of the_type x) → all_ones ≡ cue_time pts seconds micros x
+pub without-time : (x : Cue) (pts seconds micros : ℕ) → ((p : ℕ) → x ≡ At p → ⊥) → all_ones ≡ cue_time pts seconds micros x
 unfolding cue_time
-without-time (At p) pts seconds micros (inl e) = absurd (omega arith)
-without-time (At p) pts seconds micros (inr (inl e)) = absurd (omega arith)
-without-time (At p) pts seconds micros (inr (inr e)) = absurd (omega arith)
-without-time Timeless pts seconds micros k = refl
-without-time Silent pts seconds micros k = refl
-without-time Bad pts seconds micros k = refl
+without-time (At p) pts seconds micros n = absurd (n p refl)
+without-time Timeless pts seconds micros n = refl
+without-time Silent pts seconds micros n = refl
+without-time Bad pts seconds micros n = refl
 
 pub ticks-small : (pts p : ℕ) → ticks_after pts p < pts_turn
 unfolding ticks_after

@@ -1,7 +1,7 @@
 -- A register's way through bits and bytes, one step at a time. Rests on the bit operations' digits.
 use mathlib.Core.Path.{◌≡◌, refl, sym, ap, ap₂, ◌∙◌}
 use mathlib.Core.Bool.{Bool, true, false, cond}
-use mathlib.Core.List.{List, [], ◌∷◌}
+use mathlib.Core.List.{List}
 use Prim.Native.Nat.{ℕ, zero, suc, ◌+◌, ◌-◌, ◌*◌, ◌/◌, ◌%◌, ◌<◌, ◌≤◌}
 use native.Mathlib.Omega.{arith}
 use native.Mathlib.Numerals.{add-one}
@@ -10,7 +10,7 @@ use lib.Bits.{bit_xor, differ, xor_step, xor_lt, xor_mod, xor_shr, xor_zero_r}
 use lib.Arith.{bin_ind}
 use lib.ListN.{length, drop, get_or, drop_of_length-le}
 use lib.Seq.{drop-cons}
-use Rattle.rules.specs.Crc.{crc_bit, crc_bits, crc_byte, crc_from, crc}
+use Rattle.rules.specs.Crc.{crc_bit, crc_bits, crc_byte, crc_from}
 use Rattle.rules.proofs.Tests.{by}
 use Rattle.cues.specs.Turns.{turns}
 

@@ -2,10 +2,10 @@
 -- right CRC_32. By computing, and by crc-closes.
 use mathlib.Core.Path.{◌≡◌, refl}
 use mathlib.Core.Bool.{true}
-use mathlib.Core.List.{List, [], ◌∷◌, ◌++◌}
-use Prim.Native.Nat.{ℕ, ◌+◌, ◌/◌, ◌%◌, ◌^◌, ◌≤◌, ◌<◌}
+use mathlib.Core.List.{[], ◌∷◌, ◌++◌}
+use Prim.Native.Nat.{◌/◌, ◌%◌, ◌^◌, ◌<◌}
 use native.Mathlib.Omega.{arith}
-use Rattle.rules.specs.declared.Cue.TheVariants.{At, Timeless, Silent, Bad}
+use Rattle.rules.specs.declared.Cue.TheVariants.{At, Timeless}
 use Rattle.rules.specs.Bytes.{bytes}
 use Rattle.rules.specs.Crc.{crc, right_crc}
 use Rattle.rules.specs.Cues.{ticks_after, exact_time}
