@@ -19,7 +19,11 @@ IDENT = r"[A-Za-zα-ωκ_][A-Za-z0-9_'₀-₉′α-ωκ-]*"
 
 def norm(name):
     name = name.replace("_", "-")
-    return re.sub(r"-lem$", "", re.sub(r"^overflow-", "", name).lower())
+    name = re.sub(r"^overflow-", "", name).lower()
+    # a part's end goes by two names, and some steps bear the name that the respelling gave to a word that they share
+    name = re.sub(r"^slice-bounds-(.*-(?:start|end)(?:-\d+)?)$", r"part-\1", name)
+    name = re.sub(r"-lem(\d*)$", r"\1", name)
+    return "size-of" if name == "type-size" else name
 
 
 class Function:
@@ -342,6 +346,7 @@ class Turn:
                 continue
             j = m.end()
             chain = []
+            turned = re.search(r"\bnot-(?:true|false) (?:_|[A-Za-z0-9_'.-]+) $", out)
             while True:
                 f = FIELD.match(text, j)
                 if not f or (text[j] == "." and f.group(1) and text[j - 1] == " "):
@@ -360,6 +365,9 @@ class Turn:
             elif kind[0] == "alias" and r[1][: len(kind[1][1])] == kind[1][1]:
                 out += word + "".join("." + x for x in r[1][len(kind[1][1]):])
             else:
+                # a test `!b` is a fact of b itself today
+                if turned and r[1][0].startswith("if-not-"):
+                    out = out[: turned.start()]
                 out += "c." + ".".join(r[1])
             i = j
         return out
@@ -475,7 +483,7 @@ def turn(folder, crate, module, fn):
             if rec is None:
                 body = paired(body, fields)
             else:
-                body = body[:at] + "record { " + "; ".join(rec) + " }"
+                body = body[:at] + "record {\n" + "".join(f"      {x};\n" for x in rec) + "    }"
         ans.append(notes + f"pub {new} : goal.{new}\n" + ("\n".join(opens) + "\n" if opens else "") + f"{new} c ={body if body.startswith((' ', chr(10))) else ' ' + body}")
     for extra in ("Invariants.antt", "Answers.antt"):
         e = os.path.join(folder, extra)
