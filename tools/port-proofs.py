@@ -18,8 +18,9 @@ IDENT = r"[A-Za-zα-ωκ_][A-Za-z0-9_'₀-₉′α-ωκ-]*"
 
 
 def norm(name):
-    name = name.replace("_", "-")
-    return re.sub(r"^overflow-", "", name).lower()
+    name = name.replace("_", "-").lower()
+    name = re.sub(r"^overflow-", "", name)
+    return re.sub(r"-lem(?=$|\d)", "", name)
 
 
 class Function:
