@@ -24,7 +24,7 @@ def norm(name):
 
 
 class Function:
-    def __init__(self, data):
+    def __init__(self, key, data):
         self.data = data
         self.places = {p[0]: p for p in data["places"]}
         self.order = [p[0] for p in data["places"]]
@@ -520,7 +520,7 @@ def main():
         if key not in data:
             print(f"{rel}: not in the list")
             continue
-        fn = Function(data[key])
+        fn = Function(key, data[key])
         said = turn(folder, crate, rel, fn)
         if said or fn.problems:
             print(f"{rel}: {said or ''} {'; '.join(fn.problems)}")
