@@ -2,15 +2,12 @@
 -- Rests on rules' laws of what is written into a buffer.
 use mathlib.Core.Path.{◌≡◌, refl, sym, ap, ap₂, subst, ◌∙◌}
 use mathlib.Core.Bool.{Bool, true}
-use mathlib.Core.Logic.{inl, inr}
 use mathlib.Core.List.{List, [], ◌∷◌, ◌++◌}
-use Prim.Native.Nat.{ℕ, zero, suc, ◌+◌, ◌-◌, ◌*◌, ◌/◌, ◌%◌, ◌≤◌, ◌<◌}
+use Prim.Native.Nat.{ℕ, suc, ◌+◌, ◌-◌, ◌*◌, ◌/◌, ◌%◌, ◌≤◌, ◌<◌}
 use native.Mathlib.Omega.{arith}
 use lib.ListN.{length, get_or, set, length-append, length-take, length-drop}
 use borrow.Author.Tests.{lt-ltb, le-ltb}
 use borrow.Rule.Slice.PartMut.{put_mid, mid_of}
-use types.Run.{OneOf}
-use denote.Enum.Declared.{tag_of}
 use Rattle.rules.specs.declared.Session.{Session}
 use Rattle.rules.specs.declared.Ending.{Ending}
 use Rattle.rules.specs.declared.Ending.TheVariants.{Complete, Failed, Response}
@@ -18,7 +15,6 @@ use Rattle.rules.specs.Bytes.{bytes, written}
 use Rattle.rules.specs.Records.{Record, SpliceComplete, result_of, framed, record_bytes, output}
 use Rattle.rules.specs.State.{is, follows, starts_at}
 use Rattle.rules.specs.Ends.{ended}
-use Rattle.rules.specs.contracts.Ending.{the_type}
 use Rattle.rules.proofs.Records.{length-record}
 use Rattle.rules.proofs.Written.{written_none, written-part, output-append, output-one, written-output}
 use Rattle.rules.specs.Lists.{count}
@@ -98,15 +94,13 @@ module _ {e : List ℕ} {len : ℕ} where
 -- ## An end
 
 -- what the tags say
-pub completing : (h : Ending) → OneOf (0 ∷ 1 ∷ []) (tag_of the_type h) → Completing h
+pub completing : (h : Ending) → ((r : ℕ) → h ≡ Response r → ⊥) → Completing h
 completing (Complete r) k = tt
 completing Failed k = tt
-completing (Response r) (inl e) = absurd (omega arith)
-completing (Response r) (inr e) = absurd (omega arith)
+completing (Response r) k = k r refl
 
-pub failing : (h : Ending) → Completing h → OneOf (1 ∷ 2 ∷ []) (tag_of the_type h) → h ≡ Failed
-failing (Complete r) c (inl e) = absurd (omega arith)
-failing (Complete r) c (inr e) = absurd (omega arith)
+pub failing : (h : Ending) → Completing h → ((r : ℕ) → h ≡ Complete r → ⊥) → h ≡ Failed
+failing (Complete r) c k = absurd (k r refl)
 failing Failed c k = refl
 failing (Response r) c k = absurd c
 
@@ -185,7 +179,8 @@ loaded n i m v e f = ap (λ (w : Verdict). w.session) (f ∙ ap (λ (j : ℕ). g
 pub ended-phase : (how : Ending) (x : Session) (m : List ℕ) (nth r : ℕ) → (n : ℕ) → n ≡ length m / width
     → nth ≡ count (λ s. true) (standing has_ended (verdicts_in n m)) → r ≡ result_of (ended how x) → Ended nth r ≡ as_ended how x (all m)
 ended-phase how x m nth r n e a b =
-    ap₂ (λ (j h : ℕ). Ended j h) (a ∙ ap (λ (j : ℕ). count (λ s. true) (standing has_ended (verdicts_in j m))) e ∙ count-all has_ended (all m))
+    ap₂ (λ (j h : ℕ). Ended j h) (a ∙ ap (λ (j : ℕ). count (λ s. true) (standing has_ended (verdicts_in j m))) e ∙ count-all has_ended
+        (all m))
     b
 
 -- as many verdicts as rows
@@ -242,7 +237,8 @@ module _ (r c x i : ℕ) (m : List ℕ) (f : i ≡ which is_waiting (follows c x
 
 -- ## One piece of work after another, as it is called
 
-module _ (whole f g : List Verdict → Turn) (m e : List ℕ) (len : ℕ) (is : whole (all m) ≡ and_then (f (all m)) g) (room : Room whole len m e)
+module _ (whole f g : List Verdict → Turn) (m e : List ℕ) (len : ℕ) (is : whole (all m) ≡ and_then (f (all m)) g)
+    (room : Room whole len m e)
   where
     two : len + (length (output (f (all m)).written) + length (output (g (f (all m)).verdicts).written)) ≤ length e
     two = omega (arith, room, ap (λ (t : Turn). length (output t.written)) is, length-then (f (all m)) g)

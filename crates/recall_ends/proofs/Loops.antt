@@ -106,7 +106,8 @@ module _ (how : Ending) (p : Session → Bool) (m e : List ℕ) (len : ℕ) wher
   waiting-does d = does-same m e len (waiting_end how p) (stage is_waiting waiting-shut earlier p (λ s. how)) waiting-is d
 
 module _ (air cover : Ending) (p : Session → Bool) (m e : List ℕ) (len top : ℕ) (t : Top (all m) top) where
-  pub started-room : Room (started_end air cover p) len m e → Room (stage has_started started-shut higher p (by_access top air cover)) len m e
+  pub started-room : Room (started_end air cover p) len m e
+      → Room (stage has_started started-shut higher p (by_access top air cover)) len m e
   started-room r = room-same m e len (started_end air cover p) (stage has_started started-shut higher p (by_access top air cover))
       (started-stage air cover p (all m) top t) r
 

@@ -2,23 +2,22 @@
 use mathlib.Core.Path.{◌≡◌, refl, sym, ap, fun_ext, subst, ◌∙◌}
 use mathlib.Core.Logic.{inl, inr}
 use mathlib.Core.Bool.{Bool, true, false, cond, not, ◌&&◌, ◌||◌}
-use mathlib.Core.List.{List, [], ◌∷◌, ◌++◌, append_assoc}
+use mathlib.Core.List.{List, [], ◌∷◌, append_assoc}
 use Prim.Native.Nat.{ℕ, zero, suc, ◌+◌, ◌/◌, ◌≤◌, ◌<◌}
 use native.Mathlib.Omega.{arith}
 use lib.Dec.{leb, ltb}
 use lib.ListN.{length, get_or, length-set}
-use borrow.Author.Tests.{ltb-true, ltb-false, lt-ltb, le-ltb, le-leb, lt-leb, leb-true, leb-false}
+use borrow.Author.Tests.{ltb-true, ltb-false, lt-ltb, le-ltb, leb-true, leb-false}
 use Rattle.rules.specs.declared.Session.{Session}
 use Rattle.rules.specs.declared.Ending.{Ending}
 use Rattle.rules.specs.Lists.{bit, some, count}
-use Rattle.rules.specs.Ends.{ended}
 use Rattle.rules.proofs.Tests.{clash, and_both, both-and}
-use Rattle.rules.proofs.Count.{place-holds, count≤length, some_one, some-none}
+use Rattle.rules.proofs.Count.{place-holds, count≤length, some-none}
 use Rattle.recall_rules.specs.declared.Phase.{Phase}
 use Rattle.recall_rules.specs.declared.Phase.TheVariants.{Ended}
 use Rattle.recall_rules.specs.declared.Verdict.{Verdict}
 use Rattle.recall_rules.specs.Verdicts.{is_waiting, has_started, none, verdict, standing, stands, which, session_of, as_ended, over, first}
-use Rattle.recall_rules.specs.Work.{Walk, Turn, quiet, writes, and_then, leaving, higher, earlier, started_ones, waiting_ones, airs, on_air}
+use Rattle.recall_rules.specs.Work.{Turn, quiet, writes, and_then, leaving, higher, started_ones, airs, on_air}
 use Rattle.recall_rules.specs.Work.{as_was, endings}
 use Rattle.recall_rows.specs.declared.Test.TheVariants.{Any}
 use Rattle.recall_rows.specs.declared.Order.TheVariants.{Highest}
@@ -167,7 +166,8 @@ airs-top l s k = go (leb top s.access) refl
             absurd (omega (
               arith,
               some-none (λ u. higher u s) (standing has_started l) f,
-              counted-at has_started (λ u. higher u s) l i k (both-and (has_started (get_or l i none).phase) (higher (session_of l i) s) is.0
+              counted-at has_started (λ u. higher u s) l i k
+                  (both-and (has_started (get_or l i none).phase) (higher (session_of l i) s) is.0
                   (lt-ltb s.access top (leb-false top s.access e))),
             ))
 

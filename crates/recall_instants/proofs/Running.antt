@@ -2,22 +2,21 @@
 -- rules' laws of a tick tell that time goes on and that a time on air stays small.
 use mathlib.Core.Path.{◌≡◌, refl, sym, ap, subst, ◌∙◌}
 use mathlib.Core.Bool.{Bool, true, false}
-use mathlib.Core.List.{List, [], ◌∷◌}
-use Prim.Native.Nat.{ℕ, zero, suc, ◌+◌, ◌-◌, ◌*◌, ◌/◌, ◌≤◌, ◌<◌}
+use mathlib.Core.List.{List}
+use Prim.Native.Nat.{ℕ, zero, suc, ◌-◌, ◌*◌, ◌/◌, ◌≤◌, ◌<◌}
 use native.Mathlib.Omega.{arith}
 use lib.Dec.{ltb}
 use lib.ListN.{length}
-use borrow.Author.Tests.{ltb-true, ltb-false, lt-ltb, le-ltb}
+use borrow.Author.Tests.{ltb-false, le-ltb}
 use Rattle.rules.specs.declared.Ninths.{Ninths}
-use Rattle.rules.specs.declared.When.{When}
 use Rattle.rules.specs.declared.When.TheVariants.{At, Never}
 use Rattle.rules.specs.declared.Session.{Session}
-use Rattle.rules.specs.Lists.{All, count}
+use Rattle.rules.specs.Lists.{count}
 use Rattle.rules.specs.State as state
 use Rattle.rules.specs.State.{not_after}
 use Rattle.rules.specs.Records.{Record, output}
 use Rattle.rules.specs.Instants as instants
-use Rattle.rules.specs.Follows.Sound.{Since, Holding}
+use Rattle.rules.specs.Follows.Sound.{Since}
 use Rattle.rules.specs.Units.{horizon}
 use Rattle.rules.specs.HouseNumbers.{no_room}
 use Rattle.rules.proofs.All.{all-into}
@@ -34,7 +33,7 @@ use Rattle.recall_rules.specs.Work.{Turn, quiet, and_then, higher, on_air, insta
 use Rattle.recall_rows.proofs.Best.{strict}
 use Rattle.recall_rules.proofs.Ends.{fit}
 use Rattle.recall_rules.proofs.Instants.{elapse-same, due-same, instant-same, fit-elapse, proper-elapse, run_all-same}
-use Rattle.recall_ends.specs.Does.{all, Tells, Turns, Room, Does}
+use Rattle.recall_ends.specs.Does.{all, Turns, Room, Does}
 use Rattle.recall_ends.proofs.Laws.{length-all, tells_none}
 use Rattle.recall_instants.specs.Moments.{Lasting, Keeps}
 use Rattle.recall_instants.proofs.Leads.{is-there}

@@ -5,9 +5,7 @@ use Prim.Native.Nat.{ℕ, ◌+◌, ◌/◌, ◌≤◌, ◌<◌}
 use native.Mathlib.Omega.{arith}
 use lib.ListN.{length, get_or, set}
 use borrow.Author.Tests.{lt-ltb, le-ltb}
-use Rattle.rules.specs.declared.Session.{Session}
 use Rattle.rules.specs.Instants.{playing}
-use Rattle.recall_rules.specs.declared.Phase.{Phase}
 use Rattle.recall_rules.specs.declared.Phase.TheVariants.{Started}
 use Rattle.recall_rules.specs.declared.Verdict.{Verdict}
 use Rattle.recall_rules.specs.Verdicts.{none, verdict, session_of}
@@ -26,7 +24,8 @@ module _ (m : List ℕ) (n : ℕ) (rows : n ≡ length m / width) where
   -- the words k have v for the row i
   pub stored : (k : List ℕ) (i : ℕ) (v : Verdict) → length k ≡ length m → verdicts_in n k ≡ set (verdicts_in n m) i v
       → all k ≡ set (all m) i v
-  stored k i v f e = ap (λ (j : ℕ). verdicts_in (j / width) k) f ∙ ap (λ (j : ℕ). verdicts_in j k) (sym rows) ∙ e ∙ ap (λ l. set l i v) as-all
+  stored k i v f e = ap (λ (j : ℕ). verdicts_in (j / width) k) f ∙ ap (λ (j : ℕ). verdicts_in j k) (sym rows) ∙ e ∙ ap (λ l. set l i v)
+      as-all
 
 -- ## The time on air
 

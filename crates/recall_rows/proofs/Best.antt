@@ -11,7 +11,7 @@ use borrow.Author.Tests.{eqb-true, eqb-false, ltb-true, ltb-false, lt-ltb, le-lt
 use Rattle.rules.specs.declared.Session.{Session}
 use Rattle.rules.specs.Lists.{some, place}
 use Rattle.rules.proofs.Tests.{clash, failed, and_both, both-and}
-use Rattle.rules.proofs.Count.{some_one, some-none}
+use Rattle.rules.proofs.Count.{some-none}
 use Rattle.recall_rows.specs.declared.Test.{Test}
 use Rattle.recall_rows.specs.declared.Order.{Order}
 use Rattle.recall_rows.specs.declared.Order.TheVariants.{Highest, Earliest, Ending}
@@ -98,8 +98,8 @@ module _ (h : Phase → Bool) (before : Session → Session → Bool) (o : Stric
       go false e = f j (let n = eqb-false j i e in omega (arith, n))
 
   -- call i is better
-  pub leading-next : (i b : ℕ) → i < length l → one i ≡ true → (b < length l → before (session_of l i) (session_of l b) ≡ true) → Leading i b
-      → Leading (i + 1) i
+  pub leading-next : (i b : ℕ) → i < length l → one i ≡ true → (b < length l → before (session_of l i) (session_of l b) ≡ true)
+      → Leading i b → Leading (i + 1) i
   leading-next i b k e f (inl n) =
       inr (record {
         among = omega arith;
@@ -201,7 +201,8 @@ module _ (o : Order) (t : Test) (l : List Verdict) (i best : ℕ) where
         → r ≡ order_test o (session_of l i) (session_of l best) → r ≡ is_better o t l i best
     better-is b r e f k g = rw (as-order b e ∙ f, lt-ltb best (length l) k) g
 
-    pub better-first : (b : Bool) → b ≡ stands h (session_test t) (get_or l i none) → b ≡ true → length l ≤ best → true ≡ is_better o t l i best
+    pub better-first : (b : Bool) → b ≡ stands h (session_test t) (get_or l i none) → b ≡ true → length l ≤ best
+        → true ≡ is_better o t l i best
     better-first b e f k = rw (as-order b e ∙ f, le-ltb best (length l) k) refl
 
     pub better-not : (b : Bool) → b ≡ stands h (session_test t) (get_or l i none) → b ≡ false → false ≡ is_better o t l i best

@@ -5,7 +5,7 @@ use mathlib.Core.List.{List, [], ◌∷◌, ◌++◌, append_assoc}
 use Prim.Native.Nat.{ℕ, zero, suc, ◌+◌, ◌*◌, ◌≤◌, ◌<◌}
 use native.Mathlib.Omega.{arith}
 use native.Mathlib.Nat.{le_of_suc-le-suc}
-use lib.ListN.{length, take, drop, set, get_or, length-set, length-drop}
+use lib.ListN.{length, take, drop, set, get_or, length-drop}
 use lib.Seq.{length-take-le, sets, sets-eq, take-add, drop-drop, get_or-drop}
 use Rattle.recall_rules.specs.declared.Phase.{Phase}
 use Rattle.recall_rules.specs.declared.Phase.TheVariants.{Out, Waits, Started, Ended}

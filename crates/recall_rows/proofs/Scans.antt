@@ -1,21 +1,21 @@
 -- Laws of scans: what the first word of a row says, and what is known of the first i rows. Assumes nothing.
-use mathlib.Core.Path.{◌≡◌, refl, sym, ap, ◌∙◌}
-use mathlib.Core.Bool.{Bool, true, false, cond, not, ◌&&◌, ◌||◌}
+use mathlib.Core.Path.{◌≡◌, refl, ap, ◌∙◌}
+use mathlib.Core.Bool.{Bool, true, false, cond, not, ◌&&◌}
 use mathlib.Core.List.{List, [], ◌∷◌}
-use Prim.Native.Nat.{ℕ, zero, suc, ◌+◌, ◌≤◌, ◌<◌}
+use Prim.Native.Nat.{ℕ, suc, ◌+◌, ◌≤◌, ◌<◌}
 use native.Mathlib.Omega.{arith}
 use lib.Dec.{eqb, leb, ltb}
 use lib.ListN.{length, drop, get_or, drop_of_length-le}
 use lib.Seq.{drop-cons}
-use borrow.Author.Tests.{eqb-true, le-leb, lt-leb, lt-ltb, le-ltb, ltb-true, ltb-false}
+use borrow.Author.Tests.{eqb-true, le-leb, lt-leb, ltb-true, ltb-false}
 use Rattle.rules.specs.declared.Session.{Session}
-use Rattle.rules.specs.Lists.{bit, put, count, place}
+use Rattle.rules.specs.Lists.{bit, count, place}
 use Rattle.rules.proofs.Count.{count-put}
 use Rattle.recall_rules.specs.declared.Phase.{Phase}
 use Rattle.recall_rules.specs.declared.Phase.TheVariants.{Out, Waits, Started, Ended}
 use Rattle.recall_rules.specs.declared.Verdict.{Verdict}
-use Rattle.recall_rules.specs.Verdicts.{is_waiting, has_started, is_held, has_ended, none, standing, stands}
-use Rattle.recall_rows.specs.Rows.{phase_of, nth_of, result_of}
+use Rattle.recall_rules.specs.Verdicts.{is_waiting, has_started, is_held, has_ended, standing, stands}
+use Rattle.recall_rows.specs.Rows.{phase_of}
 
 -- ## The words of a phase
 

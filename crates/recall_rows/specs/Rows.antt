@@ -1,6 +1,5 @@
 -- The verdicts that lent words hold.
 use Rattle.std.specs.Prelude.{cond, List, [], ◌∷◌, ℕ, zero, suc, ◌*◌, ◌≤◌, eqb, length, drop, get_or}
-use Rattle.rules.specs.declared.Session.{Session}
 use Rattle.recall_rules.specs.declared.Phase.{Phase}
 use Rattle.recall_rules.specs.declared.Phase.TheVariants.{Out, Waits, Started, Ended}
 use Rattle.recall_rules.specs.declared.Verdict.{Verdict}

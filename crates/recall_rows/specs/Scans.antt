@@ -48,4 +48,5 @@ first_in o t l = which (order_stand o) (first (order_stand o) (order_test o) (se
 -- call i is one, and comes before the call `best`, if that is any
 abbrev pub is_better : Order → Test → List Verdict → (i best : ℕ) → Bool
 is_better o t l i best =
-    stands (order_stand o) (session_test t) (get_or l i none) && (not (ltb best (length l)) || order_test o (session_of l i) (session_of l best))
+    stands (order_stand o) (session_test t) (get_or l i none)
+    && (not (ltb best (length l)) || order_test o (session_of l i) (session_of l best))
