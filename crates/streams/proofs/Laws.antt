@@ -23,18 +23,8 @@ use Rattle.reading.specs.declared.structures.Streams.TheVariants.{End, Bad}
 use Rattle.reading.specs.Structures.{from}
 use Rattle.reading.proofs.Laws.{behind}
 use Rattle.reading.proofs.Steps.{On, on-good, Found}
-<<<<<<< HEAD
-<<<<<<< HEAD
-use Rattle.streams.specs.Rows.{row_of, rows_of, kept_of, row_stream, list_in, bad_row, bad_rows, rows_size, judged, words_of, taken, words_for
-use Rattle.streams.specs.Rows.{row_of, rows_of, kept_of, row_stream, list_in, bad_row, bad_rows, rows_size, judged, words_of, taken, words_for}
-=======
 use Rattle.streams.specs.Rows.{row_of, rows_of, kept_of, row_stream, list_in, bad_row, bad_rows, rows_size, judged, words_of, taken}
 use Rattle.streams.specs.Rows.{words_for}
->>>>>>> 041a93deb9c6c9f371e29844ed4ad2c6814ab5b1
-=======
-use Rattle.streams.specs.Rows.{row_of, rows_of, kept_of, row_stream, list_in, bad_row, bad_rows, rows_size, judged, words_of, taken}
-use Rattle.streams.specs.Rows.{words_for}
->>>>>>> 2c57f9724778f37223c5e3a4862219eaf4e85fe2
 use Rattle.streams.specs.Rows.{words_after, kept_after, bad_list, bytes_of, put_size, out_after, ReadsList, WritesList, Filled, Puttable}
 use Rattle.streams.specs.Rows.{Writing}
 
@@ -462,18 +452,8 @@ rows-small (suc n) w e =
     let t = or-none (bad_row w) (bad_rows n (drop 8 w)) e in
     omega (arith, (good-row w t.0).kept, rows-small n (drop 8 w) t.1)
 
-<<<<<<< HEAD
-<<<<<<< HEAD
-pub judged-end : (n : ℕ) (w : List ℕ) {size : ℕ} → judged n w ≡ End size → (bad_rows n w ≡ false) × (size ≡ rows_size n w) ×
-(size ≤ 255 * n)
-=======
 pub judged-end : (n : ℕ) (w : List ℕ) {size : ℕ} → judged n w ≡ End size
     → (bad_rows n w ≡ false) × (size ≡ rows_size n w) × (size ≤ 255 * n)
->>>>>>> 041a93deb9c6c9f371e29844ed4ad2c6814ab5b1
-=======
-pub judged-end : (n : ℕ) (w : List ℕ) {size : ℕ} → judged n w ≡ End size
-    → (bad_rows n w ≡ false) × (size ≡ rows_size n w) × (size ≤ 255 * n)
->>>>>>> 2c57f9724778f37223c5e3a4862219eaf4e85fe2
 unfolding judged
 judged-end n w {size} = go (bad_rows n w) refl
   where

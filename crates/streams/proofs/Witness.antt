@@ -74,19 +74,8 @@ unfoldable pub kept : List ℕ
 kept = 1 ∷ 2 ∷ replicate 3742 0
 
 unfoldable computing : ℕ
-<<<<<<< HEAD
-<<<<<<< HEAD
-unfolding structures separate request words kept Bytes.bytes Bytes.value Bytes.value_from Streams.behind Streams.streams_in Streams.separate_i
-
-unfolding structures separate request words kept Bytes.bytes Bytes.value Bytes.value_from Streams.behind Streams.streams_in Streams.separate_in
-=======
 unfolding structures separate request words kept Bytes.bytes Bytes.value Bytes.value_from Streams.behind Streams.streams_in
     Streams.separate_in
->>>>>>> 041a93deb9c6c9f371e29844ed4ad2c6814ab5b1
-=======
-unfolding structures separate request words kept Bytes.bytes Bytes.value Bytes.value_from Streams.behind Streams.streams_in
-    Streams.separate_in
->>>>>>> 2c57f9724778f37223c5e3a4862219eaf4e85fe2
     Streams.stream_bytes Streams.streams_bytes Streams.separate_bytes Rows.taken Rows.list_in Rows.bad_rows Rows.bytes_of
 computing = 0
 
