@@ -3,7 +3,7 @@
 -- the words show; of another number, every row is as it was. Assumes nothing.
 use mathlib.Core.Path.{◌≡◌, refl, sym, ap, ◌∙◌}
 use mathlib.Core.Bool.{Bool, true, false}
-use mathlib.Core.List.{List, [], ◌∷◌, map}
+use mathlib.Core.List.{List, map}
 use Prim.Native.Nat.{ℕ, zero, suc, ◌+◌, ◌%◌, ◌≤◌, ◌<◌}
 use native.Mathlib.Omega.{arith}
 use lib.Dec.{eqb}
@@ -13,10 +13,9 @@ use borrow.Author.Tests.{eqb-true, eqb-false, eq-eqb, ne_eqb}
 use Rattle.rules.specs.declared.Past.{Past}
 use Rattle.rules.specs.declared.Refusal.TheVariants.{NotSixteen}
 use Rattle.rules.specs.State.{Lately}
-use Rattle.rules.specs.Recent.{most_kept, is_kept, recent_at, recent_from, recent}
+use Rattle.rules.specs.Recent.{most_kept, recent_at, recent_from, recent}
 use Rattle.rules.specs.HouseNumbers.{house_number}
 use Rattle.rules.specs.Follows.Sound.{Noted}
-use Rattle.rules.proofs.Tests.{by}
 use Rattle.rows.specs.declared.Row.{Row}
 use Rattle.rows.specs.Rows.{rows, unused_row, row_in, row_at, sixteen, page_number, filled, Pages}
 use Rattle.rows.specs.Rows.{row_of, rows_of}

@@ -1,8 +1,7 @@
 -- 02, CR 8, "house number 16 for other than sixteen rows": by hand, of none, one, fifteen, sixteen, seventeen and 32 rows. Rests on
 -- nothing.
 use mathlib.Core.Path.{◌≡◌, refl}
-use mathlib.Core.List.{List, [], ◌∷◌, map}
-use Prim.Native.Nat.{ℕ}
+use mathlib.Core.List.{[], ◌∷◌, map}
 use Rattle.rules.specs.HouseNumbers.{house_number}
 use Rattle.rows.specs.Rows.{page_number}
 
