@@ -3,16 +3,11 @@
 use mathlib.Core.Path.{◌≡◌, refl, sym, ap, subst, ◌∙◌}
 use mathlib.Core.Bool.{Bool, true, false}
 use mathlib.Core.List.{List, [], ◌∷◌, ◌++◌, map, append-nil}
-use mathlib.Core.Logic.{inl, inr}
 use Prim.Native.Nat.{ℕ, zero, suc, ◌+◌, ◌-◌, ◌≤◌, ◌<◌}
 use native.Mathlib.Omega.{arith}
 use native.Mathlib.Numerals.{add-one}
 use lib.ListN.{length, get_or}
-use types.Run.{OneOf}
-use denote.Enum.Declared.{tag_of}
 use borrow.Rule.Slice.PartMut.{put_mid, mid_of}
-use Rattle.rules.specs.contracts.Link.{the_type}
-use Rattle.rules.specs.contracts.Cue as cue
 use Rattle.rules.specs.declared.Link.{Link}
 use Rattle.rules.specs.declared.Link.TheVariants.{Closed, Opened, Initialised}
 use Rattle.rules.specs.declared.Cue.{Cue}
@@ -59,14 +54,14 @@ module _ (links : List Link) (n : ℕ) where
 
   first-same : is_initialised (get_or links n Closed) ≡ false → first links (n + 1) ≡ first links n
   first-same e =
-      keep-next (λ c. is_initialised (get_or links c Closed)) n ∙ ap (λ (b : Bool). first links n ++ put b n []) e ∙ append-nil (first links n)
+      keep-next (λ c. is_initialised (get_or links c Closed)) n ∙ ap (λ (b : Bool). first links n ++ put b n []) e
+      ∙ append-nil (first links n)
 
 -- the second way of `if let Link::Initialised`
-pub not-initialised : (a : Link) → OneOf (0 ∷ 1 ∷ []) (tag_of the_type a) → is_initialised a ≡ false
-not-initialised Closed h = refl
-not-initialised Opened h = refl
-not-initialised Initialised (inl e) = absurd (omega arith)
-not-initialised Initialised (inr e) = absurd (omega arith)
+pub not-initialised : (a : Link) → (a ≡ Initialised → ⊥) → is_initialised a ≡ false
+not-initialised Closed n = refl
+not-initialised Opened n = refl
+not-initialised Initialised n = absurd (n refl)
 
 -- ## One connection
 
@@ -81,16 +76,14 @@ module _ {e : List ℕ} {len : ℕ} (t : WireTime) (l : List ℕ) (c : ℕ) wher
   tells-bad f h w = rw f (tells-part h w)
 
   -- the third way of the match in `write_cue`
-  pub tells-passed : (x : Cue) {n : ℕ} {y : List ℕ} → OneOf (0 ∷ 1 ∷ []) (tag_of cue.the_type x) → len ≤ length e
+  pub tells-passed : (x : Cue) {n : ℕ} {y : List ℕ} → (x ≡ Silent → ⊥) → (x ≡ Bad → ⊥) → len ≤ length e
       → Puts (passed_to t l c) (mid_of len (length e - len) e) n y
       → Tells e len (cue_records x t l (c ∷ [])) (len + n) (put_mid len (length e - len) e y)
   unfolding cue_records
-  tells-passed (At p) k h w = tells-part h w
-  tells-passed Timeless k h w = tells-part h w
-  tells-passed Silent (inl k) h w = absurd (omega arith)
-  tells-passed Silent (inr k) h w = absurd (omega arith)
-  tells-passed Bad (inl k) h w = absurd (omega arith)
-  tells-passed Bad (inr k) h w = absurd (omega arith)
+  tells-passed (At p) i j h w = tells-part h w
+  tells-passed Timeless i j h w = tells-part h w
+  tells-passed Silent i j h w = absurd (i refl)
+  tells-passed Bad i j h w = absurd (j refl)
 
 -- ## What is written for them
 
@@ -128,7 +121,8 @@ module _ (x : Cue) (t : WireTime) (l : List ℕ) (links : List Link) (e : List �
     pub room-more : len + cue_room 1 ≤ length o
     room-more = omega (arith, v.short, v.long)
 
-    pub sofar-tells : {to : ℕ} {o' : List ℕ} → is_initialised (get_or links n Closed) ≡ true → Tells o len (cue_records x t l (n ∷ [])) to o'
+    pub sofar-tells : {to : ℕ} {o' : List ℕ} → is_initialised (get_or links n Closed) ≡ true
+        → Tells o len (cue_records x t l (n ∷ [])) to o'
         → Sofar (n + 1) to o'
     sofar-tells {to} {o'} i w =
         let rs = cue_records x t l (first links n) in
