@@ -40,6 +40,15 @@ class Function:
         self.problems = []
         self.goal = None
 
+    def like(self, need):
+        """The need that `need` is, if it was called otherwise: a part's bound, or what is put in a value with no name, if one alone is."""
+        need = re.sub(r"^slice-bounds-", "part-", need)
+        if need in self.needs or not re.search(r"-t\d+$", need):
+            return need
+        kind = re.sub(r"t\d+$", "t", need)
+        alike = [k for k in self.needs if re.fullmatch(re.escape(kind) + r"\d+", k)]
+        return alike[0] if len(alike) == 1 else need
+
     def clause(self, fields, rest):
         """rest: fields behind .ensures or .requires; the clause's number becomes its name."""
         if not fields or len(fields) < 2 or not rest:
@@ -434,6 +443,8 @@ def turn(folder, crate, module, fn):
         text = answers[n][1]
         if text.strip() in ("search rules",) and not any(l.startswith("unfolding ") for l in b):
             continue
+        if need not in fn.needs:
+            need = fn.like(need)
         if need not in fn.needs:
             fn.problems.append(f"{n}: no need {need}")
             ans.append("-- TODO no need " + need + "\n" + whole)
