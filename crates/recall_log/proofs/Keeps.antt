@@ -127,7 +127,11 @@ module _ (l : List ℕ) (f : Framing l) where
   unfolding handled
   front-stands c loans s =
       rw (f.framed, front-framed, front-part 8 (message_size l) (omega arith))
-      (record { good = tt; splicer = any-section c (message_id l) (data_of (message_size l) l) (section_of card_loans s) (section_of loans s) s })
+      (record {
+        good = tt;
+        splicer = any-section c (message_id l) (data_of (message_size l) l) (section_of card_loans s)
+            (section_of loans s) s;
+      })
 
   front-keepable : (length front ≡ 8 + message_size front) × (oversize front ≡ false)
   front-keepable = (long ∙ ap (λ x. 8 + x) (sym same_size), rw same_size f.fits)

@@ -1,8 +1,5 @@
-use borrow.Author.Rules.{rules}
-use Prim.Native.Nat.{◌-◌}
 use native.Mathlib.Omega.{arith}
-use lib.ListN.{length}
-use Rattle.recall_log.proofs.Reading.{Counting, counting-none, counting-end, counting-within, counting_more}
+use Rattle.recall_log.proofs.Reading.{counting-none, counting-end, counting-within, counting_more}
 use Rattle.recall_log.proofs.count.Goals as goal
 
 pub loop-at-init : goal.loop-at-init

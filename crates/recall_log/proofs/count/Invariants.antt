@@ -1,10 +1,8 @@
 -- The invariant: the calls before the place are counted.
 -- Rests on proofs/Reading: one record more.
-use borrow.Author.Rules.{rules}
 use Prim.Native.Nat.{◌-◌}
-use native.Mathlib.Omega.{arith}
 use lib.ListN.{length}
-use Rattle.recall_log.proofs.Reading.{Counting, counting-none, counting-end, counting-within, counting_more}
+use Rattle.recall_log.proofs.Reading.{Counting}
 use Rattle.recall_log.proofs.count.Given as goal
 
 abbrev pub invariant-loop-at : goal.invariant-loop-at

@@ -7,7 +7,6 @@ use Rattle.recall_log.specs.declared.Space.TheVariants.{From}
 use Rattle.recall_log.specs.Log.{free, longest_record}
 use Rattle.recall_log.proofs.Walks.{within}
 use Rattle.recall_log.proofs.Logs.{full-length, full-calls, full-space, place_none, place-from}
-use borrow.Author.Rules.{rules}
 use Rattle.recall_log.proofs.next_place.Goals as goal
 
 pub returns-then-l-ne-LOG : goal.returns-then-l-ne-LOG

@@ -1,9 +1,6 @@
 use borrow.Author.Rules.{rules}
-use mathlib.Core.Path.{◌≡◌, sym, ◌∙◌}
-use Prim.Native.Nat.{◌-◌, ◌≤◌}
+use mathlib.Core.Path.{sym, ◌∙◌}
 use native.Mathlib.Omega.{arith}
-use lib.ListN.{length, replicate}
-use Rattle.rules.specs.Bytes.{written}
 use Rattle.rules.proofs.Written.{written_none}
 use Rattle.recall_log.proofs.Puts.{cleared_more, cleared-all}
 use Rattle.recall_log.proofs.keeping.clear.Goals as goal

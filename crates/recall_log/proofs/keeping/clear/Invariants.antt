@@ -1,12 +1,8 @@
 -- The invariant: the first i bytes are zeros, and nothing else is changed.
-use borrow.Author.Rules.{rules}
-use mathlib.Core.Path.{◌≡◌, sym, ◌∙◌}
+use mathlib.Core.Path.{◌≡◌}
 use Prim.Native.Nat.{◌-◌, ◌≤◌}
-use native.Mathlib.Omega.{arith}
 use lib.ListN.{length, replicate}
 use Rattle.rules.specs.Bytes.{written}
-use Rattle.rules.proofs.Written.{written_none}
-use Rattle.recall_log.proofs.Puts.{cleared_more, cleared-all}
 use Rattle.recall_log.proofs.keeping.clear.Given as goal
 
 abbrev pub invariant-loop-i : goal.invariant-loop-i

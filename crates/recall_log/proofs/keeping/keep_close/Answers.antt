@@ -5,7 +5,6 @@ use Rattle.rules.specs.Calls.{closes}
 use Rattle.rules.specs.Card.{card_room}
 use Rattle.recall_log.specs.Kept.{marked}
 use Rattle.recall_log.proofs.Puts.{record-put}
-use borrow.Author.Rules.{rules}
 use Rattle.recall_log.proofs.keeping.keep_close.Goals as goal
 
 pub returns : goal.returns

@@ -10,7 +10,6 @@ use Rattle.rules.specs.Card.{card_loans, message_mark, mark_end}
 use Rattle.rules.proofs.Written.{written_next}
 use Rattle.recall_log.specs.Kept.{marked}
 use Rattle.recall_log.proofs.Puts.{record-put}
-use borrow.Author.Rules.{rules}
 use Rattle.recall_log.proofs.keeping.keep_message.Goals as goal
 
 pub slice_bounds-copy-end-2 : goal.slice_bounds-copy-end-2

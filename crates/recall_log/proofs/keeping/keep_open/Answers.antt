@@ -4,7 +4,6 @@ use native.Mathlib.Omega.{arith}
 use Rattle.rules.specs.Calls.{opens}
 use Rattle.recall_log.specs.Kept.{marked}
 use Rattle.recall_log.proofs.Puts.{record-put}
-use borrow.Author.Rules.{rules}
 use Rattle.recall_log.proofs.keeping.keep_open.Goals as goal
 
 pub returns : goal.returns

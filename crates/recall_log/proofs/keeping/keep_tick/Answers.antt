@@ -10,7 +10,6 @@ use Rattle.rules.proofs.Bytes.{length-bytes}
 use Rattle.rules.proofs.Written.{written_next}
 use Rattle.recall_log.specs.Kept.{marked}
 use Rattle.recall_log.proofs.Puts.{record-put}
-use borrow.Author.Rules.{rules}
 use Rattle.recall_log.proofs.keeping.keep_tick.Goals as goal
 
 pub returns : goal.returns

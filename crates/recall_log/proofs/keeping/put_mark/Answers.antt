@@ -2,7 +2,6 @@
 use native.Mathlib.Omega.{arith}
 use lib.ListN.{length-set}
 use Rattle.recall_log.proofs.Puts.{two-set}
-use borrow.Author.Rules.{rules}
 use Rattle.recall_log.proofs.keeping.put_mark.Goals as goal
 
 pub bounds-l-at-2 : goal.bounds-l-at-2

@@ -1,7 +1,6 @@
 -- A store, or no room for one.
 use native.Mathlib.Omega.{arith}
 use Rattle.recall_log.proofs.Puts.{zero-set, zero-none}
-use borrow.Author.Rules.{rules}
 use Rattle.recall_log.proofs.keeping.put_zero.Goals as goal
 
 pub returns-then-end-l : goal.returns-then-end-l

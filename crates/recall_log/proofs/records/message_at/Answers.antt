@@ -3,7 +3,6 @@
 use mathlib.Core.Path.{sym}
 use native.Mathlib.Omega.{arith}
 use Rattle.recall_log.proofs.Reading.{header-cut, message-oversize, message-cut, message-whole}
-use borrow.Author.Rules.{rules}
 use Rattle.recall_log.proofs.records.message_at.Goals as goal
 
 pub returns-then-l-lt-HEADER_END : goal.returns-then-l-lt-HEADER_END

@@ -6,7 +6,6 @@ use borrow.Author.Tests.{eq-eqb, ne_eqb}
 use lib.ListN.{get_or}
 use Rattle.rules.specs.Card.{open_mark, close_mark, message_mark, tick_mark}
 use Rattle.recall_log.proofs.Reading.{record-cut, record-at}
-use borrow.Author.Rules.{rules}
 use Rattle.recall_log.proofs.records.record_at.Goals as goal
 
 pub returns-then-l-lt-MARK_END : goal.returns-then-l-lt-MARK_END

@@ -1,6 +1,5 @@
 -- Each way of the match is a clause of the definition.
 use Rattle.recall_log.specs.Kept.{span_of}
-use borrow.Author.Rules.{rules}
 use Rattle.recall_log.proofs.records.span_of.Goals as goal
 
 pub returns-in-Open : goal.returns-in-Open

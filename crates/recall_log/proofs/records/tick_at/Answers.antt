@@ -4,7 +4,6 @@ use mathlib.Core.Path.{sym, ap₂, ◌∙◌}
 use native.Mathlib.Omega.{arith}
 use Rattle.recall_log.specs.declared.Record.TheVariants.{Tick}
 use Rattle.recall_log.proofs.Reading.{tick-cut, tick-whole}
-use borrow.Author.Rules.{rules}
 use Rattle.recall_log.proofs.records.tick_at.Goals as goal
 
 pub returns-then-l-lt-TICK_END : goal.returns-then-l-lt-TICK_END
