@@ -132,9 +132,8 @@ module _ {now : ℕ} {q : Queue} (h : Holding now q) where
 -- ## Open
 
 -- the second way of `if let Link::Closed`
-pub not-closed : (a : Link) → OneOf (1 ∷ 2 ∷ []) (tag_of the_type a) → is_open a ≡ true
-not-closed Closed (inl e) = absurd (omega arith)
-not-closed Closed (inr e) = absurd (omega arith)
+pub not-closed : (a : Link) → (a ≡ Closed → ⊥) → is_open a ≡ true
+not-closed Closed h = absurd (h refl)
 not-closed Opened h = refl
 not-closed Initialised h = refl
 
