@@ -239,7 +239,7 @@ module _ (κs : Lfts 6) (e : List ℕ) where
       let n = number-held conn in
       let b = bytes-held κs.1.1.0 l in
       let p = bytes-held κs.1.1.1.0 pm in
-      let i = bytes-held κs.1.1.1.1.0 im in (
+      let i = bytes-held κs.1.1.1.0 im in (
         (λ h. ((n.0 h.0, (b.0 h.1).0, (p.0 h.2).0, (i.0 h.3).0), (b.0 h.1).1, (p.0 h.2).1, (i.0 h.3).1)),
         (λ t. (n.1 t.0.0, b.1 (t.0.1, t.1), p.1 (t.0.2, t.2), i.1 (t.0.3, t.3))),
       )
