@@ -7,10 +7,9 @@ use Prim.Native.Nat.{ℕ, ◌≤◌}
 use lib.ListN.{length}
 use base.Logic.{SProp}
 use seplogic.Ra.Ura.{Ura}
+use types.Logic.{Logic}
 use prog.Memory as store
 use prog.Routine.{Routine}
-use prog.Wp.{Heap}
-use ghost.Atoms.{Atoms}
 use contract.Lifetimes.{Lfts}
 use contract.Monad.{Fun}
 use contract.Notation.{Connectives, connectives}
@@ -28,30 +27,30 @@ use Rattle.card.proofs.Whole.{Bytes}
 use Rattle.card.specs.contracts.run as running
 use Rattle.card.specs.contracts.play as playing
 
-module _ {M : Type 1} (𝓤 : Ura M) (H : Heap 𝓤) (A : Atoms 𝓤) (mem : store.Memory → SProp 𝓤) (run : Routine → Fun 𝓤) where
-  abbrev 𝓛 : Connectives 𝓤
-  𝓛 = connectives 𝓤
+module _ {M : Type 1} {𝓤 : Ura M} (𝓛 : Logic 𝓤) (mem : store.Memory → SProp 𝓤) (run : Routine → Fun 𝓤) where
+  abbrev 𝓝 : Connectives 𝓤
+  𝓝 = connectives 𝓤
 
-  open 𝓛 use {⌜◌⌝, ◌∗◌, ⊤ₛ}
+  open 𝓝 use {⌜◌⌝, ◌∗◌, ⊤ₛ}
 
   -- run(m, b, l, out)
   module _ (κs : Lfts 4) (a : Args running.signature κs) (r : Res running.signature κs) (z : AtExit running.ended κs) where
-    pub run-requires : (running.clauses 𝓤 H A mem run κs a).requires tt
+    pub run-requires : (running.clauses 𝓛 mem run κs a).requires tt
         ≡ ⌜ Lent a.0.now a.1.0.now ⌝ ∗ ⌜ card_room ≤ length a.1.1.1.0.now ⌝
     run-requires = refl
 
-    pub run-ensures : (running.clauses 𝓤 H A mem run κs a).ensures tt r z
+    pub run-ensures : (running.clauses 𝓛 mem run κs a).ensures tt r z
         ≡ ⌜ Ran (shown a.0.now a.1.0.now) a.1.1.0.now r z.0.now z.1.0.now z.1.1.1.0.now ⌝
     run-ensures = refl
 
   -- play()
   module _ (κs : Lfts 0) (a : Args playing.signature κs) (r : Res playing.signature κs) (z : AtExit playing.ended κs) where
-    pub play-requires : (playing.clauses 𝓤 H A mem run κs a).requires tt ≡ ⊤ₛ
+    pub play-requires : (playing.clauses 𝓛 mem run κs a).requires tt ≡ ⊤ₛ
     play-requires = refl
 
-    pub play-ensures : (playing.clauses 𝓤 H A mem run κs a).ensures tt r z ≡ ⌜ Stopped (fresh (padded card_name)).splicer r ⌝
+    pub play-ensures : (playing.clauses 𝓛 mem run κs a).ensures tt r z ≡ ⌜ Stopped (fresh (padded card_name)).splicer r ⌝
     play-ensures = refl
 
 -- a piece is what a &[u8] may be, and no less
 pub bytes-typed : (κs : Lfts 4) (l : Bor (List ℕ)) → Same (Holds (kind running.signature κs 2) l) (Bytes (l.now ∷ []) × InRoom l.now)
-bytes-typed κs l = let b = bytes-held l in ((λ h. (((b.0 h).0, tt), (b.0 h).1)), λ t. b.1 (t.0.0, t.1))
+bytes-typed κs l = let b = bytes-held κs.1.1.0 l in ((λ h. (((b.0 h).0, tt), (b.0 h).1)), λ t. b.1 (t.0.0, t.1))

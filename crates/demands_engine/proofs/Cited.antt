@@ -7,10 +7,9 @@ use Prim.Native.Nat.{ℕ}
 use lib.ListN.{length}
 use base.Logic.{SProp}
 use seplogic.Ra.Ura.{Ura}
+use types.Logic.{Logic}
 use prog.Memory as store
 use prog.Routine.{Routine}
-use prog.Wp.{Heap}
-use ghost.Atoms.{Atoms}
 use contract.Lifetimes.{Lfts}
 use contract.Monad.{Fun}
 use contract.Notation.{Connectives, connectives}
@@ -54,18 +53,18 @@ at m b = record { words = m; bytes = b }
 abbrev ended : Answer → (m b o : List ℕ) → Result
 ended r m b o = record { answer = r; memory = at m b; buffer = o }
 
-module _ {M : Type 1} (𝓤 : Ura M) (H : Heap 𝓤) (A : Atoms 𝓤) (mem : store.Memory → SProp 𝓤) (run : Routine → Fun 𝓤) where
-  abbrev 𝓛 : Connectives 𝓤
-  𝓛 = connectives 𝓤
+module _ {M : Type 1} {𝓤 : Ura M} (𝓛 : Logic 𝓤) (mem : store.Memory → SProp 𝓤) (run : Routine → Fun 𝓤) where
+  abbrev 𝓝 : Connectives 𝓤
+  𝓝 = connectives 𝓤
 
-  open 𝓛 use {⌜◌⌝, ◌∗◌, ⊤ₛ}
+  open 𝓝 use {⌜◌⌝, ◌∗◌, ⊤ₛ}
 
   -- fresh(name, m, b)
   module _ (κs : Lfts 3) (a : Args fresh.signature κs) (r : Res fresh.signature κs) (z : AtExit fresh.ended κs) where
-    pub fresh-requires : (fresh.clauses 𝓤 H A mem run κs a).requires tt ≡ ⊤ₛ
+    pub fresh-requires : (fresh.clauses 𝓛 mem run κs a).requires tt ≡ ⊤ₛ
     fresh-requires = refl
 
-    pub fresh-ensures : (fresh.clauses 𝓤 H A mem run κs a).ensures tt r z
+    pub fresh-ensures : (fresh.clauses 𝓛 mem run κs a).ensures tt r z
         ≡ ⌜ Answers (rules.fresh a.0.now) 0 [] r z.1.0.now z.1.1.0.now [] ⌝
     fresh-ensures = refl
 
@@ -74,10 +73,10 @@ module _ {M : Type 1} (𝓤 : Ura M) (H : Heap 𝓤) (A : Atoms 𝓤) (mem : sto
     abbrev open_at : Memory
     open_at = at a.0.now a.1.0.now
 
-    pub open-requires : (opening.clauses 𝓤 H A mem run κs a).requires tt ≡ ⌜ LentAt open_at ⌝
+    pub open-requires : (opening.clauses 𝓛 mem run κs a).requires tt ≡ ⌜ LentAt open_at ⌝
     open-requires = refl
 
-    pub open-ensures : (opening.clauses 𝓤 H A mem run κs a).ensures tt r z
+    pub open-ensures : (opening.clauses 𝓛 mem run κs a).ensures tt r z
         ≡ ⌜ Allowed open_at (an_open a.1.1.0) (ended r z.0.now z.1.0.now []) ⌝
     open-ensures = refl
 
@@ -86,10 +85,10 @@ module _ {M : Type 1} (𝓤 : Ura M) (H : Heap 𝓤) (A : Atoms 𝓤) (mem : sto
     abbrev close_at : Memory
     close_at = at a.0.now a.1.0.now
 
-    pub close-requires : (close.clauses 𝓤 H A mem run κs a).requires tt ≡ ⌜ LentAt close_at ⌝
+    pub close-requires : (close.clauses 𝓛 mem run κs a).requires tt ≡ ⌜ LentAt close_at ⌝
     close-requires = refl
 
-    pub close-ensures : (close.clauses 𝓤 H A mem run κs a).ensures tt r z
+    pub close-ensures : (close.clauses 𝓛 mem run κs a).ensures tt r z
         ≡ ⌜ Allowed close_at (a_close a.1.1.0 a.1.1.1.0.now) (ended r z.0.now z.1.0.now z.1.1.1.0.now) ⌝
     close-ensures = refl
 
@@ -98,10 +97,10 @@ module _ {M : Type 1} (𝓤 : Ura M) (H : Heap 𝓤) (A : Atoms 𝓤) (mem : sto
     abbrev message-at : Memory
     message-at = at a.0.now a.1.0.now
 
-    pub message-requires : (message.clauses 𝓤 H A mem run κs a).requires tt ≡ ⌜ LentAt message-at ⌝
+    pub message-requires : (message.clauses 𝓛 mem run κs a).requires tt ≡ ⌜ LentAt message-at ⌝
     message-requires = refl
 
-    pub message-ensures : (message.clauses 𝓤 H A mem run κs a).ensures tt r z
+    pub message-ensures : (message.clauses 𝓛 mem run κs a).ensures tt r z
         ≡ ⌜ Allowed message-at (a_message a.1.1.0 a.1.1.1.0.now a.1.1.1.1.0.now a.1.1.1.1.0.now
         a.1.1.1.1.1.0.now)
         (ended r z.0.now z.1.0.now z.1.1.1.1.1.0.now) ⌝
@@ -109,7 +108,7 @@ module _ {M : Type 1} (𝓤 : Ura M) (H : Heap 𝓤) (A : Atoms 𝓤) (mem : sto
 
   -- map_on_air(m, primary, insertion)
   module _ (κs : Lfts 2) (a : Args mapping.signature κs) (r : Res mapping.signature κs) (z : AtExit mapping.ended κs) where
-    pub map-ensures : (mapping.clauses 𝓤 H A mem run κs a).ensures tt r z
+    pub map-ensures : (mapping.clauses 𝓛 mem run κs a).ensures tt r z
         ≡ ⌜ r ≡ needed (length a.1.0.now) (length a.1.1.0.now) (length (see a.0.now).queue.started)
         a.1.0 a.1.1.0 ⌝
     map-ensures = refl
@@ -119,10 +118,10 @@ module _ {M : Type 1} (𝓤 : Ura M) (H : Heap 𝓤) (A : Atoms 𝓤) (mem : sto
     abbrev tick-at : Memory
     tick-at = at a.0.now a.1.0.now
 
-    pub tick-requires : (tick.clauses 𝓤 H A mem run κs a).requires tt ≡ ⌜ LentAt tick-at ⌝
+    pub tick-requires : (tick.clauses 𝓛 mem run κs a).requires tt ≡ ⌜ LentAt tick-at ⌝
     tick-requires = refl
 
-    pub tick-ensures : (tick.clauses 𝓤 H A mem run κs a).ensures tt r z
+    pub tick-ensures : (tick.clauses 𝓛 mem run κs a).ensures tt r z
         ≡ ⌜ Allowed tick-at (a_tick a.1.1.0 a.1.1.1.0 a.1.1.1.1.0.now)
         (ended r z.0.now z.1.0.now z.1.1.1.1.0.now) ⌝
     tick-ensures = refl
@@ -132,11 +131,11 @@ module _ {M : Type 1} (𝓤 : Ura M) (H : Heap 𝓤) (A : Atoms 𝓤) (mem : sto
     abbrev move_at : Memory
     move_at = at a.0.now a.1.0.now
 
-    pub move-requires : (bringing.clauses 𝓤 H A mem run κs a).requires tt
+    pub move-requires : (bringing.clauses 𝓛 mem run κs a).requires tt
         ≡ ⌜ LentAt move_at ⌝ ∗ ⌜ Typed (a_move a.1.1.0.0 a.1.1.1.0.now) ⌝
     move-requires = refl
 
-    pub move-ensures : (bringing.clauses 𝓤 H A mem run κs a).ensures tt r z
+    pub move-ensures : (bringing.clauses 𝓛 mem run κs a).ensures tt r z
         ≡ ⌜ Allowed move_at (a_move a.1.1.0.0 a.1.1.1.0.now) (ended r z.0.now z.1.0.now z.1.1.1.0.now) ⌝
     move-ensures = refl
 
@@ -145,10 +144,10 @@ module _ {M : Type 1} (𝓤 : Ura M) (H : Heap 𝓤) (A : Atoms 𝓤) (mem : sto
     abbrev cue-at : Memory
     cue-at = at a.0.now a.1.0.now
 
-    pub cue-requires : (cue.clauses 𝓤 H A mem run κs a).requires tt ≡ ⌜ LentAt cue-at ⌝
+    pub cue-requires : (cue.clauses 𝓛 mem run κs a).requires tt ≡ ⌜ LentAt cue-at ⌝
     cue-requires = refl
 
-    pub cue-ensures : (cue.clauses 𝓤 H A mem run κs a).ensures tt r z
+    pub cue-ensures : (cue.clauses 𝓛 mem run κs a).ensures tt r z
         ≡ ⌜ Allowed cue-at (a_cue a.1.1.0.now a.1.1.1.0.pts a.1.1.1.0.seconds a.1.1.1.0.micros
         a.1.1.1.1.0.now)
         (ended r a.0.now a.1.0.now z.1.1.1.1.0.now) ⌝
@@ -156,58 +155,58 @@ module _ {M : Type 1} (𝓤 : Ura M) (H : Heap 𝓤) (A : Atoms 𝓤) (mem : sto
 
   -- waiting(m, b)
   module _ (κs : Lfts 2) (a : Args waiting.signature κs) (r : Res waiting.signature κs) (z : AtExit waiting.ended κs) where
-    pub waiting-requires : (waiting.clauses 𝓤 H A mem run κs a).requires tt ≡ ⌜ LentAt (at a.0.now a.1.0.now) ⌝
+    pub waiting-requires : (waiting.clauses 𝓛 mem run κs a).requires tt ≡ ⌜ LentAt (at a.0.now a.1.0.now) ⌝
     waiting-requires = refl
 
-    pub waiting-ensures : (waiting.clauses 𝓤 H A mem run κs a).ensures tt r z ≡ ⌜ Counts a.0.now a.1.0.now r ⌝
+    pub waiting-ensures : (waiting.clauses 𝓛 mem run κs a).ensures tt r z ≡ ⌜ Counts a.0.now a.1.0.now r ⌝
     waiting-ensures = refl
 
   -- primary(m, b)
   module _ (κs : Lfts 2) (a : Args primary.signature κs) (r : Res primary.signature κs) (z : AtExit primary.ended κs) where
-    pub primary-requires : (primary.clauses 𝓤 H A mem run κs a).requires tt ≡ ⌜ LentAt (at a.0.now a.1.0.now) ⌝
+    pub primary-requires : (primary.clauses 𝓛 mem run κs a).requires tt ≡ ⌜ LentAt (at a.0.now a.1.0.now) ⌝
     primary-requires = refl
 
-    pub primary-ensures : (primary.clauses 𝓤 H A mem run κs a).ensures tt r z ≡ ⌜ Primary a.0.now a.1.0.now r.0 ⌝
+    pub primary-ensures : (primary.clauses 𝓛 mem run κs a).ensures tt r z ≡ ⌜ Primary a.0.now a.1.0.now r.0 ⌝
     primary-ensures = refl
 
   -- mux(m, b)
   module _ (κs : Lfts 2) (a : Args mux.signature κs) (r : Res mux.signature κs) (z : AtExit mux.ended κs) where
-    pub mux-requires : (mux.clauses 𝓤 H A mem run κs a).requires tt ≡ ⌜ LentAt (at a.0.now a.1.0.now) ⌝
+    pub mux-requires : (mux.clauses 𝓛 mem run κs a).requires tt ≡ ⌜ LentAt (at a.0.now a.1.0.now) ⌝
     mux-requires = refl
 
-    pub mux-ensures : (mux.clauses 𝓤 H A mem run κs a).ensures tt r z ≡ ⌜ ReadsMux a.0.now a.1.0.now r ⌝
+    pub mux-ensures : (mux.clauses 𝓛 mem run κs a).ensures tt r z ≡ ⌜ ReadsMux a.0.now a.1.0.now r ⌝
     mux-ensures = refl
 
   -- on_air(m, b)
   module _ (κs : Lfts 2) (a : Args airing.signature κs) (r : Res airing.signature κs) (z : AtExit airing.ended κs) where
-    pub airing-requires : (airing.clauses 𝓤 H A mem run κs a).requires tt ≡ ⌜ LentAt (at a.0.now a.1.0.now) ⌝
+    pub airing-requires : (airing.clauses 𝓛 mem run κs a).requires tt ≡ ⌜ LentAt (at a.0.now a.1.0.now) ⌝
     airing-requires = refl
 
-    pub airing-ensures : (airing.clauses 𝓤 H A mem run κs a).ensures tt r z ≡ ⌜ ReadsFeed a.0.now a.1.0.now r ⌝
+    pub airing-ensures : (airing.clauses 𝓛 mem run κs a).ensures tt r z ≡ ⌜ ReadsFeed a.0.now a.1.0.now r ⌝
     airing-ensures = refl
 
   -- air(m, b)
   module _ (κs : Lfts 2) (a : Args reading-air.signature κs) (r : Res reading-air.signature κs) (z : AtExit reading-air.ended κs) where
-    pub air-requires : (reading-air.clauses 𝓤 H A mem run κs a).requires tt ≡ ⌜ LentAt (at a.0.now a.1.0.now) ⌝
+    pub air-requires : (reading-air.clauses 𝓛 mem run κs a).requires tt ≡ ⌜ LentAt (at a.0.now a.1.0.now) ⌝
     air-requires = refl
 
-    pub air-ensures : (reading-air.clauses 𝓤 H A mem run κs a).ensures tt r z ≡ ⌜ ReadsAir a.0.now a.1.0.now r ⌝
+    pub air-ensures : (reading-air.clauses 𝓛 mem run κs a).ensures tt r z ≡ ⌜ ReadsAir a.0.now a.1.0.now r ⌝
     air-ensures = refl
 
   -- due(m, b)
   module _ (κs : Lfts 2) (a : Args reading-due.signature κs) (r : Res reading-due.signature κs) (z : AtExit reading-due.ended κs) where
-    pub due-requires : (reading-due.clauses 𝓤 H A mem run κs a).requires tt ≡ ⌜ LentAt (at a.0.now a.1.0.now) ⌝
+    pub due-requires : (reading-due.clauses 𝓛 mem run κs a).requires tt ≡ ⌜ LentAt (at a.0.now a.1.0.now) ⌝
     due-requires = refl
 
-    pub due-ensures : (reading-due.clauses 𝓤 H A mem run κs a).ensures tt r z ≡ ⌜ ReadsDue a.0.now a.1.0.now r ⌝
+    pub due-ensures : (reading-due.clauses 𝓛 mem run κs a).ensures tt r z ≡ ⌜ ReadsDue a.0.now a.1.0.now r ⌝
     due-ensures = refl
 
   -- sessions(m, b, rows): the memory is only read
   module _ (κs : Lfts 3) (a : Args listing.signature κs) (r : Res listing.signature κs) (z : AtExit listing.ended κs) where
-    pub sessions-requires : (listing.clauses 𝓤 H A mem run κs a).requires tt ≡ ⌜ LentAt (at a.0.now a.1.0.now) ⌝
+    pub sessions-requires : (listing.clauses 𝓛 mem run κs a).requires tt ≡ ⌜ LentAt (at a.0.now a.1.0.now) ⌝
     sessions-requires = refl
 
-    pub sessions-ensures : (listing.clauses 𝓤 H A mem run κs a).ensures tt r z
+    pub sessions-ensures : (listing.clauses 𝓛 mem run κs a).ensures tt r z
         ≡ ⌜ ReadsSessions a.0.now a.1.0.now a.1.1.0.now r z.1.1.0.now ⌝
     sessions-ensures = refl
 
@@ -230,7 +229,7 @@ called m (a_cue l pts seconds micros e) r = refl
 -- a trace asks of a name what its type says: 32 bytes
 pub name_typed : (κs : Lfts 3) (name : Bor (List ℕ)) → Same (Holds (kind fresh.signature κs 0) name) (Run name.now [])
 name_typed κs name =
-    let n = name-held name in
+    let n = name-held κs.0 name in
     ((λ h. runs name.now (n.0 h).0 (n.0 h).1 [] tt), λ t. n.1 (t.trace.whole, t.trace.bytes))
 
 pub open-typed : (κs : Lfts 2) (conn : ℕ) → Same (Holds (kind opening.signature κs 2) conn) (Typed (an_open conn))
@@ -249,8 +248,8 @@ pub message-typed : (κs : Lfts 5) (conn : ℕ) (l pm : Bor (List ℕ)) (e : Lis
     (Typed (a_message conn l.now pm.now pm.now e) × InRoom l.now × InRoom pm.now)
 message-typed κs conn l pm e =
     let n = number-held conn in
-    let b = bytes-held l in
-    let p = bytes-held pm in (
+    let b = bytes-held κs.1.1.0 l in
+    let p = bytes-held κs.1.1.1.0 pm in (
       (λ h. ((n.0 h.0, (b.0 h.1).0, (p.0 h.2).0, (p.0 h.2).0), (b.0 h.1).1, (p.0 h.2).1)),
       (λ t. (n.1 t.0.0, b.1 (t.0.1, t.1), p.1 (t.0.2, t.2))),
     )
@@ -270,7 +269,7 @@ pub cue-typed : (κs : Lfts 4) (section : Bor (List ℕ)) (pts seconds micros : 
     × Holds (kind cue.signature κs 3) (record { pts = pts; seconds = seconds; micros = micros }))
     (Typed (a_cue section.now pts seconds micros e) × InRoom section.now)
 cue-typed κs section pts seconds micros e =
-    let b = bytes-held section in (
+    let b = bytes-held κs.1.1.0 section in (
       (λ h. let g = h.1.1.1.1 in (((b.0 h.0).0, g.0.1, g.1.0.1, g.1.1.0.1), (b.0 h.0).1)),
       (λ t. (b.1 (t.0.0, t.1), (_, (_, (refl, ((refl, t.0.1), ((refl, t.0.2), ((refl, t.0.3), tt)))))))),
     )

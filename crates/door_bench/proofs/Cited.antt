@@ -7,10 +7,9 @@ use Prim.Native.Nat.{ℕ, ◌<◌}
 use lib.ListN.{length}
 use base.Logic.{SProp}
 use seplogic.Ra.Ura.{Ura}
+use types.Logic.{Logic}
 use prog.Memory as store
 use prog.Routine.{Routine}
-use prog.Wp.{Heap}
-use ghost.Atoms.{Atoms}
 use contract.Lifetimes.{Lfts}
 use contract.Monad.{Fun}
 use contract.Notation.{Connectives, connectives}
@@ -39,39 +38,39 @@ use Rattle.door_bench.specs.contracts.splicer_bench_2_recall_close as close
 use Rattle.door_bench.specs.contracts.splicer_bench_2_recall_message as message
 use Rattle.door_bench.specs.contracts.splicer_bench_2_recall_tick as tick
 
-module _ {M : Type 1} (𝓤 : Ura M) (H : Heap 𝓤) (A : Atoms 𝓤) (mem : store.Memory → SProp 𝓤) (run : Routine → Fun 𝓤) where
-  abbrev 𝓛 : Connectives 𝓤
-  𝓛 = connectives 𝓤
+module _ {M : Type 1} {𝓤 : Ura M} (𝓛 : Logic 𝓤) (mem : store.Memory → SProp 𝓤) (run : Routine → Fun 𝓤) where
+  abbrev 𝓝 : Connectives 𝓤
+  𝓝 = connectives 𝓤
 
-  open 𝓛 use {⌜◌⌝, ⊤ₛ}
+  open 𝓝 use {⌜◌⌝, ⊤ₛ}
 
   -- splicer_bench_2_check(recording, reply)
   module _ (κs : Lfts 2) (a : Args check.signature κs) (r : Res check.signature κs) (z : AtExit check.ended κs) where
     -- it asks nothing
-    pub check-requires : (check.clauses 𝓤 H A mem run κs a).requires tt ≡ ⊤ₛ
+    pub check-requires : (check.clauses 𝓛 mem run κs a).requires tt ≡ ⊤ₛ
     check-requires = refl
 
-    pub check-ensures : (check.clauses 𝓤 H A mem run κs a).ensures tt r z ≡ ⌜ z.1.0.now ≡ words_of (checked a.0.now) ⌝
+    pub check-ensures : (check.clauses 𝓛 mem run κs a).ensures tt r z ≡ ⌜ z.1.0.now ≡ words_of (checked a.0.now) ⌝
     check-ensures = refl
 
   -- ## The referee: feed asks that the memory is what fresh and the feeds since have given, and the others ask nothing
 
   -- splicer_bench_2_referee_fresh(name, words, bytes, stage, reply)
   module _ (κs : Lfts 5) (a : Args begun.signature κs) (r : Res begun.signature κs) (z : AtExit begun.ended κs) where
-    pub begun-requires : (begun.clauses 𝓤 H A mem run κs a).requires tt ≡ ⊤ₛ
+    pub begun-requires : (begun.clauses 𝓛 mem run κs a).requires tt ≡ ⊤ₛ
     begun-requires = refl
 
-    pub begun-ensures : (begun.clauses 𝓤 H A mem run κs a).ensures tt r z
+    pub begun-ensures : (begun.clauses 𝓛 mem run κs a).ensures tt r z
         ≡ ⌜ TellsBegun a.0.now z.1.0.now z.1.1.0.now z.1.1.1.0.now z.1.1.1.1.0.now ⌝
     begun-ensures = refl
 
   -- splicer_bench_2_referee_feed(words, bytes, due, kept, stage, piece, reply)
   module _ (κs : Lfts 7) (a : Args fed.signature κs) (r : Res fed.signature κs) (z : AtExit fed.ended κs) where
-    pub fed-requires : (fed.clauses 𝓤 H A mem run κs a).requires tt
+    pub fed-requires : (fed.clauses 𝓛 mem run κs a).requires tt
         ≡ ⌜ referee.Holds (stage_in a.1.1.1.1.0.now) a.0.now a.1.0.now a.1.1.0.now a.1.1.1.0.now ⌝
     fed-requires = refl
 
-    pub fed-ensures : (fed.clauses 𝓤 H A mem run κs a).ensures tt r z
+    pub fed-ensures : (fed.clauses 𝓛 mem run κs a).ensures tt r z
         ≡ ⌜ TellsFed a.1.1.1.1.1.0.now a.1.1.1.1.0.now a.0.now a.1.0.now a.1.1.0.now
         a.1.1.1.0.now
         z.1.1.1.1.0.now z.0.now z.1.0.now z.1.1.0.now z.1.1.1.0.now z.1.1.1.1.1.1.0.now ⌝
@@ -79,55 +78,55 @@ module _ {M : Type 1} (𝓤 : Ura M) (H : Heap 𝓤) (A : Atoms 𝓤) (mem : sto
 
   -- splicer_bench_2_referee_end(stage, reply)
   module _ (κs : Lfts 2) (a : Args ended.signature κs) (r : Res ended.signature κs) (z : AtExit ended.ended κs) where
-    pub end-requires : (ended.clauses 𝓤 H A mem run κs a).requires tt ≡ ⊤ₛ
+    pub end-requires : (ended.clauses 𝓛 mem run κs a).requires tt ≡ ⊤ₛ
     end-requires = refl
 
-    pub end-ensures : (ended.clauses 𝓤 H A mem run κs a).ensures tt r z ≡ ⌜ z.1.0.now ≡ verdict_words (end_by (stage_in a.0.now)) ⌝
+    pub end-ensures : (ended.clauses 𝓛 mem run κs a).ensures tt r z ≡ ⌜ z.1.0.now ≡ verdict_words (end_by (stage_in a.0.now)) ⌝
     end-ensures = refl
 
   -- splicer_bench_2_referee_due(stage, part)
   module _ (κs : Lfts 2) (a : Args due.signature κs) (r : Res due.signature κs) (z : AtExit due.ended κs) where
-    pub due-requires : (due.clauses 𝓤 H A mem run κs a).requires tt ≡ ⊤ₛ
+    pub due-requires : (due.clauses 𝓛 mem run κs a).requires tt ≡ ⊤ₛ
     due-requires = refl
 
-    pub due-ensures : (due.clauses 𝓤 H A mem run κs a).ensures tt r z ≡ ⌜ z.1.0.now ≡ part_of (stage_in a.0.now) ⌝
+    pub due-ensures : (due.clauses 𝓛 mem run κs a).ensures tt r z ≡ ⌜ z.1.0.now ≡ part_of (stage_in a.0.now) ⌝
     due-ensures = refl
 
   -- ## 02, CR 12: the log is any bytes, so nothing is asked
 
   -- splicer_bench_2_recall_fresh(log, reply)
   module _ (κs : Lfts 2) (a : Args freshly.signature κs) (r : Res freshly.signature κs) (z : AtExit freshly.ended κs) where
-    pub fresh-requires : (freshly.clauses 𝓤 H A mem run κs a).requires tt ≡ ⊤ₛ
+    pub fresh-requires : (freshly.clauses 𝓛 mem run κs a).requires tt ≡ ⊤ₛ
     fresh-requires = refl
 
-    pub fresh-ensures : (freshly.clauses 𝓤 H A mem run κs a).ensures tt r z ≡ ⌜ TellsFresh a.0.now z.1.0.now z.0.now ⌝
+    pub fresh-ensures : (freshly.clauses 𝓛 mem run κs a).ensures tt r z ≡ ⌜ TellsFresh a.0.now z.1.0.now z.0.now ⌝
     fresh-ensures = refl
 
   -- splicer_bench_2_recall_open(log, conn, reply)
   module _ (κs : Lfts 2) (a : Args opening.signature κs) (r : Res opening.signature κs) (z : AtExit opening.ended κs) where
-    pub open-requires : (opening.clauses 𝓤 H A mem run κs a).requires tt ≡ ⊤ₛ
+    pub open-requires : (opening.clauses 𝓛 mem run κs a).requires tt ≡ ⊤ₛ
     open-requires = refl
 
-    pub open-ensures : (opening.clauses 𝓤 H A mem run κs a).ensures tt r z
+    pub open-ensures : (opening.clauses 𝓛 mem run κs a).ensures tt r z
         ≡ ⌜ Tells (opens a.1.0) a.0.now [] z.1.1.0.now z.0.now [] ⌝
     open-ensures = refl
 
   -- splicer_bench_2_recall_close(log, conn, out, reply)
   module _ (κs : Lfts 3) (a : Args close.signature κs) (r : Res close.signature κs) (z : AtExit close.ended κs) where
-    pub close-requires : (close.clauses 𝓤 H A mem run κs a).requires tt ≡ ⊤ₛ
+    pub close-requires : (close.clauses 𝓛 mem run κs a).requires tt ≡ ⊤ₛ
     close-requires = refl
 
-    pub close-ensures : (close.clauses 𝓤 H A mem run κs a).ensures tt r z
+    pub close-ensures : (close.clauses 𝓛 mem run κs a).ensures tt r z
         ≡ ⌜ Tells (closes a.1.0 (length a.1.1.0.now)) a.0.now a.1.1.0.now z.1.1.1.0.now z.0.now
         z.1.1.0.now ⌝
     close-ensures = refl
 
   -- splicer_bench_2_recall_message(log, conn, l, primary, insertion, out, reply)
   module _ (κs : Lfts 5) (a : Args message.signature κs) (r : Res message.signature κs) (z : AtExit message.ended κs) where
-    pub message-requires : (message.clauses 𝓤 H A mem run κs a).requires tt ≡ ⊤ₛ
+    pub message-requires : (message.clauses 𝓛 mem run κs a).requires tt ≡ ⊤ₛ
     message-requires = refl
 
-    pub message-ensures : (message.clauses 𝓤 H A mem run κs a).ensures tt r z
+    pub message-ensures : (message.clauses 𝓛 mem run κs a).ensures tt r z
         ≡ ⌜ Tells
         (messages a.1.0 a.1.1.0.now (lending_maps a.1.1.1.0.now a.1.1.1.1.0.now
         (length a.1.1.1.1.1.0.now)))
@@ -136,10 +135,10 @@ module _ {M : Type 1} (𝓤 : Ura M) (H : Heap 𝓤) (A : Atoms 𝓤) (mem : sto
 
   -- splicer_bench_2_recall_tick(log, seconds, micros, out, reply)
   module _ (κs : Lfts 3) (a : Args tick.signature κs) (r : Res tick.signature κs) (z : AtExit tick.ended κs) where
-    pub tick-requires : (tick.clauses 𝓤 H A mem run κs a).requires tt ≡ ⊤ₛ
+    pub tick-requires : (tick.clauses 𝓛 mem run κs a).requires tt ≡ ⊤ₛ
     tick-requires = refl
 
-    pub tick-ensures : (tick.clauses 𝓤 H A mem run κs a).ensures tt r z
+    pub tick-ensures : (tick.clauses 𝓛 mem run κs a).ensures tt r z
         ≡ ⌜ Tells (ticks a.1.0 a.1.1.0 (length a.1.1.1.0.now)) a.0.now a.1.1.1.0.now
         z.1.1.1.1.0.now z.0.now z.1.1.1.0.now ⌝
     tick-ensures = refl
@@ -163,9 +162,9 @@ pub message-typed : (κs : Lfts 5) (conn : ℕ) (l pm im : Bor (List ℕ))
     (((conn < 4294967296) × All Byte l.now × All Byte pm.now × All Byte im.now) × InRoom l.now × InRoom pm.now × InRoom im.now)
 message-typed κs conn l pm im =
     let n = number-held conn in
-    let b = bytes-held l in
-    let p = bytes-held pm in
-    let i = bytes-held im in (
+    let b = bytes-held κs.1.0 l in
+    let p = bytes-held κs.1.1.0 pm in
+    let i = bytes-held κs.1.1.0 im in (
       (λ h. ((n.0 h.0, (b.0 h.1).0, (p.0 h.2).0, (i.0 h.3).0), (b.0 h.1).1, (p.0 h.2).1, (i.0 h.3).1)),
       (λ t. (n.1 t.0.0, b.1 (t.0.1, t.1), p.1 (t.0.2, t.2), i.1 (t.0.3, t.3))),
     )

@@ -6,10 +6,9 @@ use Prim.Native.Nat.{ℕ}
 use lib.ListN.{length}
 use base.Logic.{SProp}
 use seplogic.Ra.Ura.{Ura}
+use types.Logic.{Logic}
 use prog.Memory as store
 use prog.Routine.{Routine}
-use prog.Wp.{Heap}
-use ghost.Atoms.{Atoms}
 use contract.Lifetimes.{Lfts}
 use contract.Monad.{Fun}
 use contract.Notation.{Connectives, connectives}
@@ -36,28 +35,28 @@ use Rattle.door_rolling.specs.contracts.splicer_7_rolling_due as dueing
 abbrev ended : (r m b k o : List ℕ) → RollSeen
 ended r m b k o = record { reply = r; words = m; bytes = b; counter = k; buffer = o }
 
-module _ {M : Type 1} (𝓤 : Ura M) (H : Heap 𝓤) (A : Atoms 𝓤) (mem : store.Memory → SProp 𝓤) (run : Routine → Fun 𝓤) where
-  abbrev 𝓛 : Connectives 𝓤
-  𝓛 = connectives 𝓤
+module _ {M : Type 1} {𝓤 : Ura M} (𝓛 : Logic 𝓤) (mem : store.Memory → SProp 𝓤) (run : Routine → Fun 𝓤) where
+  abbrev 𝓝 : Connectives 𝓤
+  𝓝 = connectives 𝓤
 
-  open 𝓛 use {⌜◌⌝, ⊤ₛ}
+  open 𝓝 use {⌜◌⌝, ⊤ₛ}
 
   -- splicer_7_rolling_fresh(name, words, bytes, counter, reply)
   module _ (κs : Lfts 5) (a : Args fresh.signature κs) (r : Res fresh.signature κs) (z : AtExit fresh.ended κs) where
-    pub fresh-requires : (fresh.clauses 𝓤 H A mem run κs a).requires tt ≡ ⊤ₛ
+    pub fresh-requires : (fresh.clauses 𝓛 mem run κs a).requires tt ≡ ⊤ₛ
     fresh-requires = refl
 
-    pub fresh-ensures : (fresh.clauses 𝓤 H A mem run κs a).ensures tt r z
+    pub fresh-ensures : (fresh.clauses 𝓛 mem run κs a).ensures tt r z
         ≡ ⌜ RollReplies (rolling_fresh a.0.now) 0 [] z.1.1.1.1.0.now z.1.0.now z.1.1.0.now z.1.1.1.0.now
         [] ⌝
     fresh-ensures = refl
 
   -- splicer_7_instant(words, bytes, counter, given, out, reply)
   module _ (κs : Lfts 6) (a : Args instant.signature κs) (r : Res instant.signature κs) (z : AtExit instant.ended κs) where
-    pub instant-requires : (instant.clauses 𝓤 H A mem run κs a).requires tt ≡ ⌜ LentRolling a.0.now a.1.0.now a.1.1.0.now ⌝
+    pub instant-requires : (instant.clauses 𝓛 mem run κs a).requires tt ≡ ⌜ LentRolling a.0.now a.1.0.now a.1.1.0.now ⌝
     instant-requires = refl
 
-    pub instant-ensures : (instant.clauses 𝓤 H A mem run κs a).ensures tt r z
+    pub instant-ensures : (instant.clauses 𝓛 mem run κs a).ensures tt r z
         ≡ ⌜ RollAllowed a.0.now a.1.0.now a.1.1.0.now (an_instant a.1.1.1.0.now a.1.1.1.1.0.now)
         (ended z.1.1.1.1.1.0.now z.0.now z.1.0.now z.1.1.0.now z.1.1.1.1.0.now) ⌝
     unfolding roll
@@ -65,10 +64,10 @@ module _ {M : Type 1} (𝓤 : Ura M) (H : Heap 𝓤) (A : Atoms 𝓤) (mem : sto
 
   -- splicer_7_reading(words, bytes, counter, reading, out, reply)
   module _ (κs : Lfts 5) (a : Args reading.signature κs) (r : Res reading.signature κs) (z : AtExit reading.ended κs) where
-    pub reading-requires : (reading.clauses 𝓤 H A mem run κs a).requires tt ≡ ⌜ LentRolling a.0.now a.1.0.now a.1.1.0.now ⌝
+    pub reading-requires : (reading.clauses 𝓛 mem run κs a).requires tt ≡ ⌜ LentRolling a.0.now a.1.0.now a.1.1.0.now ⌝
     reading-requires = refl
 
-    pub reading-ensures : (reading.clauses 𝓤 H A mem run κs a).ensures tt r z
+    pub reading-ensures : (reading.clauses 𝓛 mem run κs a).ensures tt r z
         ≡ ⌜ RollAllowed a.0.now a.1.0.now a.1.1.0.now (a_reading a.1.1.1.0 a.1.1.1.1.0.now)
         (ended z.1.1.1.1.1.0.now z.0.now z.1.0.now z.1.1.0.now z.1.1.1.1.0.now) ⌝
     unfolding roll
@@ -76,10 +75,10 @@ module _ {M : Type 1} (𝓤 : Ura M) (H : Heap 𝓤) (A : Atoms 𝓤) (mem : sto
 
   -- splicer_7_rolling_due(words, bytes, counter, due)
   module _ (κs : Lfts 4) (a : Args dueing.signature κs) (r : Res dueing.signature κs) (z : AtExit dueing.ended κs) where
-    pub due-requires : (dueing.clauses 𝓤 H A mem run κs a).requires tt ≡ ⌜ Lent a.0.now a.1.0.now ⌝
+    pub due-requires : (dueing.clauses 𝓛 mem run κs a).requires tt ≡ ⌜ Lent a.0.now a.1.0.now ⌝
     due-requires = refl
 
-    pub due-ensures : (dueing.clauses 𝓤 H A mem run κs a).ensures tt r z
+    pub due-ensures : (dueing.clauses 𝓛 mem run κs a).ensures tt r z
         ≡ ⌜ ReadsStep a.0.now a.1.0.now a.1.1.0.now z.1.1.1.0.now ⌝
     due-ensures = refl
 
@@ -88,12 +87,12 @@ module _ {M : Type 1} (𝓤 : Ura M) (H : Heap 𝓤) (A : Atoms 𝓤) (mem : sto
 -- a name is a &[u8; 32]
 pub name_typed : (κs : Lfts 5) (name : Bor (List ℕ))
     → Same (Holds (kind fresh.signature κs 0) name) ((length name.now ≡ 32) × All Byte name.now)
-name_typed κs = name-held
+name_typed κs = name-held κs.0
 
 -- what is given once is a &[u32; 3]
 pub instant-typed : (κs : Lfts 6) (given : Bor (List ℕ)) (e : List ℕ)
     → Same (Holds (kind instant.signature κs 3) given) (RollTyped (an_instant given.now e))
-instant-typed κs given e = words-held 3 given
+instant-typed κs given e = words-held κs.1.1.1.0 3 given
 
 pub reading-typed : (κs : Lfts 5) (x : ℕ) (e : List ℕ) → Same (Holds (kind reading.signature κs 3) x) (RollTyped (a_reading x e))
 reading-typed κs x e = number-held x
