@@ -18,7 +18,7 @@ IDENT = r"[A-Za-zα-ωκ_][A-Za-z0-9_'₀-₉′α-ωκ-]*"
 
 
 def norm(name):
-    name = name.replace("_", "-")
+    name = name.replace("_", "-").strip("«»")
     if name == "type-size":
         return "size-of"
     return re.sub(r"-lem(\d*)$", r"\1", re.sub(r"^slice-bounds-", "part-", re.sub(r"^overflow-", "", name)).lower())

@@ -1,0 +1,15 @@
+-- The slice says that its elements have 32 bits.
+use borrow.Author.Rules.{rules}
+use Rattle.door.proofs.anchor_of.Goals as goal
+
+pub overflow_cast-result : goal.overflow_cast-result
+overflow_cast-result c = search (rules, c.shared_slice_known-1.given 0)
+
+pub overflow_mul-result : goal.overflow_mul-result
+overflow_mul-result c = search (rules, c.shared_slice_known-1.given 0)
+
+pub overflow_cast-result-2 : goal.overflow_cast-result-2
+overflow_cast-result-2 c = search (rules, c.shared_slice_known-2-1.given 1)
+
+pub overflow_add-result : goal.overflow_add-result
+overflow_add-result c = search (rules, c.shared_slice_known-1.given 0, c.shared_slice_known-2-1.given 1)
