@@ -6,4 +6,4 @@ use Rattle.rolling.proofs.step.Goals as goal
 pub returns : goal.returns
 returns c =
     step_back c.wrapping_sub_u32.result c.args.last c.args.reading (omega arith) (omega arith)
-    c.wrapping_sub_u32.ensures
+    c.wrapping_sub_u32.ensures.value
