@@ -1,9 +1,10 @@
-use mathlib.Core.Path.{sym, ap, ◌∙◌}
+use mathlib.Core.Path.{◌≡◌, sym, ap, ◌∙◌}
 use Rattle.rules.specs.State.{is_initialised}
 use Rattle.memory.specs.Memory.{see}
 use Rattle.relay.proofs.Laws.{not-initialised, sofar-none, room-more, sofar-tells, sofar-skips, sofar-done}
+use Rattle.rules.specs.declared.Link.TheVariants.{Initialised}
 use Rattle.relay.proofs.tell.Goals as goal
-use Rattle.relay.proofs.tell.Goals.{in-Initialised, in_default}
+use mathlib.Core.Logic.{inl, inr}
 
 pub loop-conn-init : goal.loop-conn-init
 loop-conn-init c =
@@ -24,15 +25,18 @@ loop-conn-preserved c =
     let l = c.loop-conn in
     let a = c.args in
     let links = (see a.m.now).links in
-    elim c.match-link.branch [
-      | in-Initialised w ↦ rw (w.out-is, w.len-is)
+    -- the two ways by their place and not by a variant's name, so that code that serves another variant is refused for that
+    elim c.match-link.branch-raw [
+      | inl w ↦
+          let i : c.link-link.result ≡ Initialised = cc in
+          rw (w.out-is, w.len-is)
           (sofar-tells a.cue a.time a.section.now links a.out.now c.requires.section_len_bound c.requires.cue_room_in_bounds l.invariant
-          c.loop-conn-test.true
-          (ap is_initialised (sym c.link-link.ensures ∙ w.in-Initialised.is)) w.write_cue-len.ensures)
-      | in_default w ↦ rw (w.out-is, w.len-is)
+          c.loop-conn-test.true (ap is_initialised (sym c.link-link.ensures ∙ i)) w.write_cue-len.ensures)
+      | inr w ↦
+          let n : c.link-link.result ≡ Initialised → ⊥ = assumption w in
+          rw (w.out-is, w.len-is)
           (sofar-skips a.cue a.time a.section.now links a.out.now c.requires.section_len_bound c.requires.cue_room_in_bounds l.invariant
-          c.loop-conn-test.true
-          (ap is_initialised (sym c.link-link.ensures) ∙ not-initialised c.link-link.result w.in_default.not-Initialised))
+          c.loop-conn-test.true (ap is_initialised (sym c.link-link.ensures) ∙ not-initialised c.link-link.result n))
     ]
 
 pub shape_of-out : goal.shape_of-out
