@@ -15,7 +15,7 @@ use Rattle.door_bench.specs.Referee.{stage_in, verdict_words, part_of}
 use Rattle.door_bench.proofs.Staged.{stage-back}
 use Rattle.demands_referee.specs.Fed as plain
 use Rattle.demands_referee.specs.Fed.{Referee, Fresh, Fed}
-use Rattle.demands_referee.specs.Bench.{Lent, BegunInC, FedInC, over, piece}
+use Rattle.demands_referee.specs.InC.{Lent, BegunInC, FedInC, over, piece}
 use Rattle.demands_referee.proofs.Beside.{ours}
 use Rattle.demands_referee.proofs.Referee.{verdict, pieces-refereed, pieces-due, told-verdict, told-stays, own-in-order}
 

@@ -198,6 +198,6 @@ end-kinds : map end_kind
 unfolding refereeing stage
 end-kinds = refl
 
-end_by : map end_by (stage 0 20 30 40 5 6 0 ∷ stage 0 20 30 40 5 6 7 ∷ []) ≡ verdict 1 20 30 19 ∷ verdict 3 20 40 20 ∷ []
+end-by : map end_by (stage 0 20 30 40 5 6 0 ∷ stage 0 20 30 40 5 6 7 ∷ []) ≡ verdict 1 20 30 19 ∷ verdict 3 20 40 20 ∷ []
 unfolding refereeing stage verdict
-end_by = refl
+end-by = refl
