@@ -102,9 +102,9 @@ class Function:
             chain = chain[1:]
         if not chain:
             return ("place", place)
-        head, rest = chain[0], chain[1:]
-        if head == "pre":
-            head, chain = "requires", ["requires"] + rest
+        head, rest = "requires" if chain[0] == "pre" else chain[0], chain[1:]
+        if re.match(r"if\d*$", head) and rest:
+            rest = rest[:-1] + [{"taken": "true", "left": "false"}.get(rest[-1], rest[-1])]
         place = self.nearest(place, head)
         p = self.places[place]
         if head == "args" and rest:

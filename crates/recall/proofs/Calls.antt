@@ -2,12 +2,9 @@
 -- calls from fresh, 01 over verdicts answers as 01.
 use mathlib.Core.Path.{◌≡◌, refl, sym, subst, ap, ap₂, ◌∙◌}
 use mathlib.Core.Bool.{Bool, true, false, cond}
-use mathlib.Core.Logic.{inl, inr}
-use mathlib.Core.List.{List, [], ◌∷◌}
+use mathlib.Core.List.{List, []}
 use Prim.Native.Nat.{ℕ}
 use native.Mathlib.Omega.{arith}
-use types.Run.{OneOf}
-use denote.Enum.Declared.{tag_of}
 use Rattle.rules.specs.Lists.{All}
 use Rattle.rules.specs.Follows.Wires.{Byte}
 use Rattle.rules.specs.Bytes.{padded, written}
@@ -24,7 +21,6 @@ use Rattle.recall_log.specs.Log.{kept_calls, taken, full, other_length}
 use Rattle.reply.specs.declared.Did.{Did}
 use Rattle.recall_log.specs.Kept.{Good, kept_form, reply_of, unmoved, appended, cleared, log_after, space_in, Behind}
 use Rattle.recall_log.proofs.Logs.{place-behind, any-log}
-use Rattle.recall_log.specs.contracts.Reply.{the_type}
 use Rattle.recall_rules.specs.Calls.{Pass, Called, open_call, close_call, tick_call, call, begun, passed}
 use Rattle.recall_rules.proofs.Calls.{SameCalled}
 use Rattle.recall_rules.proofs.Twice.{answers-like-the-rules}
@@ -77,11 +73,10 @@ unfolding reply_of log_after
 is-kept k (refused m) n l e = let z : ◌≡◌ {A = ℕ} 0 1 = cc in absurd (omega arith)
 is-kept k (good consumed rs) n l e = (tt, refl)
 
-not-kept : (k : Call) (a : Answer) (n : ℕ) (l : List ℕ) → OneOf (0 ∷ 1 ∷ []) (tag_of the_type (reply_of a n)) → log_after k a l ≡ l
+not-kept : (k : Call) (a : Answer) (n : ℕ) (l : List ℕ) → ((x : Did) → reply_of a n ≡ Done x → ⊥) → log_after k a l ≡ l
 unfolding reply_of log_after
 not-kept k (refused m) n l t = refl
-not-kept k (good consumed rs) n l (inl e) = absurd (omega arith)
-not-kept k (good consumed rs) n l (inr e) = absurd (omega arith)
+not-kept k (good consumed rs) n l t = absurd (t _ refl)
 
 -- ## A call of a log that is not full, in the state that its calls lead to
 
@@ -123,9 +118,9 @@ module _ (k : Call) (l : List ℕ) (b : All Byte l) (f : full l ≡ false) where
           }
 
       -- a refused call is not kept
-      pub remembers-not : OneOf (0 ∷ 1 ∷ []) (tag_of the_type r) → {e o : List ℕ} → o ≡ buffer_after c.answer e → Remembers k l e r l o
+      pub remembers-not : ((x : Did) → r ≡ Done x → ⊥) → {e o : List ℕ} → o ≡ buffer_after c.answer e → Remembers k l e r l o
       remembers-not t i = remembers (sym (not-kept k c.answer c.moved l
-          (subst (λ (x : Reply). OneOf (0 ∷ 1 ∷ []) (tag_of the_type x)) told t))) i
+          (subst (λ (x : Reply). (y : Did) → x ≡ Done y → ⊥) told t))) i
 
       -- a good one is
       module _ {x : Did} (d : r ≡ Done x) where
@@ -161,7 +156,7 @@ module _ (k : Call) (l : List ℕ) (b : All Byte l) (f : full l ≡ false) {h : 
   played-made : g (pass_in l h m) ≡ call k (passed (kept_calls l) (begun card_name))
   played-made = is_call (pass_in l h m) ∙ ap (call k) p.pass
 
-  pub played-not : OneOf (0 ∷ 1 ∷ []) (tag_of the_type q.reply) → Remembers k l e q.reply l o
+  pub played-not : ((x : Did) → q.reply ≡ Done x → ⊥) → Remembers k l e q.reply l o
   played-not t = remembers-not k l b f played-made y.reply t y.buffer
 
   module _ {x : Did} (d : q.reply ≡ Done x) where

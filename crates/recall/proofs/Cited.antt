@@ -1,6 +1,5 @@
--- The contracts in src/lib.rt, as the toolchain reads them, are what specs/Recall says of the calls, by computing: whoever edits one side
--- alone
--- is refused here. a: what the call is handed, z: what the lent memory is at its end. None asks anything.
+-- The contracts in src/lib.rt, as the toolchain reads them, are what specs/Recall says of the calls, by computing: whoever edits one
+-- side alone is refused here. a: what the call is handed, z: what the lent memory is at its end. None asks anything.
 use mathlib.Core.Path.{◌≡◌, refl}
 use mathlib.Core.List.{[]}
 use lib.ListN.{length}

@@ -3,15 +3,12 @@
 -- message that is heard, and on Calls.
 use mathlib.Core.Path.{◌≡◌, refl, sym, subst, ap, ap₂, ◌∙◌}
 use mathlib.Core.Bool.{Bool, true, false, cond}
-use mathlib.Core.Logic.{inl, inr}
 use mathlib.Core.List.{List, [], ◌∷◌}
 use Prim.Native.Nat.{ℕ, ◌+◌, ◌≤◌, ◌<◌}
 use native.Mathlib.Omega.{arith}
 use lib.Dec.{ltb}
 use lib.ListN.{length, get_or}
 use borrow.Author.Tests.{ltb-false, lt-ltb, le-ltb}
-use types.Run.{OneOf}
-use denote.Enum.Declared.{tag_of}
 use Rattle.rules.specs.declared.Refusal.{Refusal}
 use Rattle.rules.specs.declared.Framing.{Framing}
 use Rattle.rules.specs.declared.Framing.TheVariants.{Framed, Unframed}
@@ -34,7 +31,6 @@ use Rattle.recall_answers.specs.declared.Carried.{Carried}
 use Rattle.recall_answers.specs.declared.Effect.{Effect}
 use Rattle.recall_answers.specs.declared.Effect.TheVariants.{Nothing, Joins, Enters, Configures}
 use Rattle.recall_answers.specs.Replies.{hardwares, spoken, Left}
-use Rattle.recall_answers.specs.contracts.Effect as effect-type
 use Rattle.recall_pass.specs.declared.Heard.{Heard}
 use Rattle.recall_pass.specs.Passes.{rows_of, pass_in, framed, FramesAny, HearsAny, Passed}
 use Rattle.recall_pass.proofs.Messages.{message-is, framed-low, framed-size}
@@ -45,23 +41,22 @@ use Rattle.recall.proofs.Calls.{remembers}
 -- ## GetConfig's record
 
 -- every answer but GetConfig's stands there already
-all-spoken : (x : Effect) (rs : List Record) → OneOf (0 ∷ 1 ∷ 2 ∷ []) (tag_of effect-type.the_type x) → spoken x rs ≡ rs
+all-spoken : (x : Effect) (rs : List Record) → (x ≡ Configures → ⊥) → spoken x rs ≡ rs
 unfolding spoken
 all-spoken Nothing rs k = refl
 all-spoken (Joins s) rs k = refl
 all-spoken Enters rs k = refl
-all-spoken Configures rs (inl e) = absurd (omega arith)
-all-spoken Configures rs (inr (inl e)) = absurd (omega arith)
-all-spoken Configures rs (inr (inr e)) = absurd (omega arith)
+all-spoken Configures rs k = absurd (k refl)
 
 pub finish-none : (l : List ℕ) (h : Carried) (c : ℕ) (section : List ℕ) (g : Heard) (i : List ℕ)
-    → OneOf (0 ∷ 1 ∷ 2 ∷ []) (tag_of effect-type.the_type g.effect) → Finishes l h c section g i g.len i
+    → (g.effect ≡ Configures → ⊥) → Finishes l h c section g i g.len i
 finish-none l h c section g i k d a s e n w f t = subst (λ (rs : List Record). Tells e 0 rs g.len i)
     (all-spoken g.effect a.written k) t
 
 pub finish-config : (l : List ℕ) (h : Carried) (c : ℕ) (section : List ℕ) (g : Heard) (i : List ℕ) {len : ℕ} {o : List ℕ}
     → g.effect ≡ Configures
-    → Tells i 0 (ConfigResponse c 100 card_name (get_or (hardwares l h) c no_hardware) section ∷ []) len o → Finishes l h c section g i len o
+    → Tells i 0 (ConfigResponse c 100 card_name (get_or (hardwares l h) c no_hardware) section ∷ []) len o
+    → Finishes l h c section g i len o
 unfolding spoken config_response output
 finish-config l h c section g i {len} {o} k y d a s e n w f t =
     let b : a.written ≡ config_response c section s ∷ [] = subst (λ (x : Effect). Left x c d section s a.written) k f in
@@ -164,7 +159,8 @@ module _ (l : List ℕ) (b : All Byte l) (f : full l ≡ false) {h : Carried} {m
         → Remembers k l e (Done (record { consumed = 8 + size; written = len; moved = w.moved })) n o
     message-whole {y} {x} {e} {i} {j} {o} {n} {w} {len} z t a v q =
         let b = a (hardwares l h) x in
-        let r : answer c id y x s ≡ answer c id (data_of size read) (section_of loans s) s = ap₂ (λ (u v : List ℕ). answer c id u v s) z t in
+        let r : answer c id y x s ≡ answer c id (data_of size read) (section_of loans s) s = ap₂ (λ (u v : List ℕ). answer c id u v s) z t
+        in
         message-done
         (subst (λ (u : Answered). Tells e 0 u.written len o) r (v y (answer c id y x s) s e refl refl b.left b.tells))
         (b.moved ∙ ap (λ (u : Answered). u.moved) r) q

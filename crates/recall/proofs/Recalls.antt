@@ -3,7 +3,7 @@
 use mathlib.Core.Path.{◌≡◌, refl, sym, subst, ap, ap₂, ◌∙◌}
 use mathlib.Core.Bool.{Bool, true, false, cond}
 use mathlib.Core.List.{List, [], ◌∷◌, ◌++◌, append_assoc, append-nil}
-use Prim.Native.Nat.{ℕ, ◌+◌, ◌-◌}
+use Prim.Native.Nat.{ℕ, ◌-◌}
 use native.Mathlib.Omega.{arith}
 use lib.Dec.{eqb}
 use lib.ListN.{length, take, replicate, take-append-drop}
@@ -28,7 +28,8 @@ use Rattle.recall.proofs.Steps.{Leads, leads-cleared, told_same, leads-on, calls
 
 -- ## From a log that leads to the splicer s
 
-run-told : (ks : List Call) (l : List ℕ) (s : Splicer) → All Its ks → All Wired ks → Leads l s → None13 ks l → recalls ks l ≡ card_tells ks s
+run-told : (ks : List Call) (l : List ℕ) (s : Splicer) → All Its ks → All Wired ks → Leads l s → None13 ks l
+    → recalls ks l ≡ card_tells ks s
 unfolding recalls card_tells
 run-told [] l s i w h n = refl
 run-told (k ∷ ks) l s i w h n =

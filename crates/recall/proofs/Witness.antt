@@ -6,7 +6,7 @@ use mathlib.Core.List.{List, []}
 use Prim.Native.Nat.{ℕ}
 use lib.ListN.{length, replicate, length-replicate}
 use Rattle.rules.specs.declared.Refusal.TheVariants.{NoConnection}
-use Rattle.rules.specs.Calls.{Call, opens, open_call, call}
+use Rattle.rules.specs.Calls.{opens, open_call, call}
 use Rattle.recall_log.specs.declared.Reply.TheVariants.{Refused}
 use Rattle.recall_log.specs.Log.{log_length, other_length, full}
 use Rattle.recall_log.specs.Kept.{reply_of, cleared}

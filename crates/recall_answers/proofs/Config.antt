@@ -63,8 +63,10 @@ unfolding hardware_at
 hardware-none l {p} e = rw (eq-eqb p 0 e)
 
 -- x: the splicer's name; y: what the connection keeps; z: the section; o: the buffer that held e
-pub config-told : (c : ℕ) (l ps : List ℕ) {x y z e : List ℕ} {n : ℕ} {o : List ℕ} → x ≡ padded card_name → y ≡ hardware_at l (get_or ps c 0) →
-    Puts (ConfigResponse c 100 (name_in x) y z) e n o → Says (ConfigResponse c 100 card_name (get_or (map (hardware_at l) ps) c no_hardware) z) e
+pub config-told : (c : ℕ) (l ps : List ℕ) {x y z e : List ℕ} {n : ℕ} {o : List ℕ} → x ≡ padded card_name
+    → y ≡ hardware_at l (get_or ps c 0) →
+    Puts (ConfigResponse c 100 (name_in x) y z) e n o
+    → Says (ConfigResponse c 100 card_name (get_or (map (hardware_at l) ps) c no_hardware) z) e
     n o
 unfolding hardware_at
 config-told c l ps {x} {y} {z} {e} {n} {o} rx ry w =

@@ -93,7 +93,8 @@ module _ (c x : ℕ) where
 
       pub seek_hit : is_past c x e ≡ true → e ≡ latest c x (recent l)
       seek_hit p =
-          q ∙ sym (s ∙ ap (latest c x) (next n k h g) ∙ hit (nth_end (n - 1) l) (lately_from (k - 1) (n - 1) l) (ap (is_past c x) (sym q) ∙ p))
+          q ∙ sym (s ∙ ap (latest c x) (next n k h g) ∙ hit (nth_end (n - 1) l) (lately_from (k - 1) (n - 1) l)
+          (ap (is_past c x) (sym q) ∙ p))
 
     -- all sixteen were looked at, or all that ended
     pub seek-full : (n k : ℕ) → k ≡ 0 → Seeking c x l n k → unused ≡ latest c x (recent l)

@@ -82,13 +82,15 @@ pub record Gives (c : ℕ) (d section : List ℕ) (a : Answered) (s : Pass) (e :
 -- of a message of that MessageID, whatever stands in the log and whatever sections are lent
 abbrev pub Replies : (c id : ℕ) (d : List ℕ) → Carried → (m e : List ℕ) → Given → (k o : List ℕ) → Type 0
 Replies c id d h m e g k o =
-    (hardware : List (List ℕ)) (section : List ℕ) → Gives c d section (answer c id d section (pass_of hardware h m)) (pass_of hardware h m) e
+    (hardware : List (List ℕ)) (section : List ℕ)
+    → Gives c d section (answer c id d section (pass_of hardware h m)) (pass_of hardware h m) e
     g k o
 
 -- of a message that is read
 abbrev pub Reads : (c : ℕ) → Message → (d : List ℕ) → Carried → (m e : List ℕ) → Given → (k o : List ℕ) → Type 0
 Reads c x d h m e g k o =
-    (hardware : List (List ℕ)) (section : List ℕ) → Gives c d section (answer_read c x d section (pass_of hardware h m)) (pass_of hardware h m)
+    (hardware : List (List ℕ)) (section : List ℕ)
+    → Gives c d section (answer_read c x d section (pass_of hardware h m)) (pass_of hardware h m)
     e g k o
 
 -- an Init_Request, whatever is carried and held

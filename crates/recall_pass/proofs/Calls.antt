@@ -4,14 +4,10 @@
 use mathlib.Core.Path.{◌≡◌, refl, sym, ap, subst, ◌∙◌}
 use mathlib.Core.Bool.{Bool, true, false}
 use mathlib.Core.List.{List, [], ◌∷◌, ◌++◌}
-use mathlib.Core.Logic.{inl, inr}
 use Prim.Native.Nat.{ℕ, ◌+◌, ◌*◌, ◌≤◌, ◌<◌}
 use native.Mathlib.Omega.{arith}
 use lib.ListN.{length, get_or, take, drop, get_or-map}
 use borrow.Author.Tests.{lt-ltb, le-ltb}
-use types.Run.{OneOf}
-use denote.Enum.Declared.{tag_of}
-use Rattle.rules.specs.contracts.Link.{the_type}
 use Rattle.rules.specs.declared.Ninths.{Ninths}
 use Rattle.rules.specs.declared.Link.{Link}
 use Rattle.rules.specs.declared.Link.TheVariants.{Closed, Opened, Initialised}
@@ -95,9 +91,8 @@ plays-done {l} {h} {c} {e} {k} {o} {r} {len} rs q i g t =
 -- ## Connections
 
 -- the second way of `if let Link::Closed`
-pub not-closed : (a : Link) → OneOf (1 ∷ 2 ∷ []) (tag_of the_type a) → is_open a ≡ true
-not-closed Closed (inl e) = absurd (omega arith)
-not-closed Closed (inr e) = absurd (omega arith)
+pub not-closed : (a : Link) → (a ≡ Closed → ⊥) → is_open a ≡ true
+not-closed Closed h = absurd (h refl)
 not-closed Opened h = refl
 not-closed Initialised h = refl
 
@@ -243,7 +238,8 @@ module _ (c : ℕ) (h : Carried) (m e : List ℕ) (f : Fits h.rows m) (l : List 
           let t = closed_by c (all (rows_of h m)) in
           let x = k ++ drop (h.rows * width) m in
           let v : all (take (h.rows * width) x) ≡ t.verdicts = ap all (rows_back h.rows m k f z) ∙ d.holds in
-          subst (λ (y : Carried). Plays l h (close_call c (length e) (pass_in l h m)) e (record { carried = y; reply = Done (unmoved len) }) x
+          subst (λ (y : Carried). Plays l h (close_call c (length e) (pass_in l h m)) e
+          (record { carried = y; reply = Done (unmoved len) }) x
           o) (sym g)
           (plays-done t.written (shut c (with_verdicts t.verdicts (pass_in l h m)))
           (close-good c (length e) (pass_in l h m) low roomy (ap is_open (link-is (hardwares l h) h (rows_of h m) c is) ∙ i))

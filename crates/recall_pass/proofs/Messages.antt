@@ -2,18 +2,13 @@
 -- Rests on what recall_answers promises of an answer, and on recall_log's laws of the first bytes.
 use mathlib.Core.Path.{◌≡◌, refl, sym, ap, ap₂, subst, ◌∙◌}
 use mathlib.Core.Bool.{Bool, true, false, cond}
-use mathlib.Core.List.{List, [], ◌∷◌, ◌++◌, map}
-use mathlib.Core.Logic.{inl, inr}
+use mathlib.Core.List.{List, ◌++◌, map}
 use Prim.Native.Nat.{ℕ, ◌+◌, ◌-◌, ◌*◌, ◌≤◌, ◌<◌}
 use native.Mathlib.Omega.{arith}
 use lib.Dec.{ltb}
 use lib.ListN.{length, take, drop, set, length-drop}
 use borrow.Author.Tests.{ltb-false, ne_eqb}
 use borrow.Rule.Slice.PartMut.{mid_of}
-use types.Run.{OneOf}
-use denote.Enum.Declared.{tag_of}
-use Rattle.rules.specs.contracts.Framing as framing-type
-use Rattle.recall_answers.specs.contracts.Effect as effect-type
 use Rattle.rules.specs.declared.Session.{Session}
 use Rattle.rules.specs.declared.Framing.{Framing}
 use Rattle.rules.specs.declared.Framing.TheVariants.{Framed, Unframed}
@@ -150,21 +145,19 @@ pub framed-size : (l : List ℕ) {id n : ℕ} → framing l ≡ Framed id n → 
 framed-size l e = subst (Sized l) e (sized l)
 
 -- a call that was refused
-unframed : (c : ℕ) (f : Framing) (l : List ℕ) (loans : Loans) (s : Pass) → OneOf (1 ∷ []) (tag_of framing-type.the_type f)
+unframed : (c : ℕ) (f : Framing) (l : List ℕ) (loans : Loans) (s : Pass) → ((id n : ℕ) → f ≡ Framed id n → ⊥)
     → (handled c f l loans s).pass ≡ s
 unfolding handled
-unframed c (Framed id n) l loans s e = absurd (omega arith)
+unframed c (Framed id n) l loans s e = absurd (e id n refl)
 unframed c (Unframed r) l loans s e = refl
 
 -- every answer but that of an Init_Request with 100
-pub not-entering : (x : Effect) (c : ℕ) (d : List ℕ) (hs : List (List ℕ)) → OneOf (0 ∷ 1 ∷ 3 ∷ []) (tag_of effect-type.the_type x)
+pub not-entering : (x : Effect) (c : ℕ) (d : List ℕ) (hs : List (List ℕ)) → (x ≡ Enters → ⊥)
     → kept_by x c d hs ≡ hs
 unfolding kept_by
 not-entering Nothing c d hs k = refl
 not-entering (Joins s) c d hs k = refl
-not-entering Enters c d hs (inl e) = absurd (omega arith)
-not-entering Enters c d hs (inr (inl e)) = absurd (omega arith)
-not-entering Enters c d hs (inr (inr e)) = absurd (omega arith)
+not-entering Enters c d hs k = absurd (k refl)
 not-entering Configures c d hs k = refl
 
 -- ## The kept message that stands in the log at a place
@@ -193,7 +186,8 @@ module _ (log : List ℕ) (from : ℕ) (w : from + (8 + message_size (drop from 
 
     pub framed-there : (c : ℕ) (h : Carried) (m : List ℕ) {room : ℕ} {f : Framing} → room ≡ 4096 → FramesAny c read room false h f
         → f ≡ framed c there 4096 false (pass_in log h m)
-    framed-there c h m i g = g (hardwares log h) (rows_of h m) ∙ ap₂ (λ (l : List ℕ) (r : ℕ). framed c l r false (pass_in log h m)) part-is i
+    framed-there c h m i g = g (hardwares log h) (rows_of h m) ∙ ap₂ (λ (l : List ℕ) (r : ℕ). framed c l r false (pass_in log h m)) part-is
+        i
 
   own-size : message_size there ≡ size
   own-size = ap value (part-take 2 2 (8 + size) (drop from log) (omega arith) (omega (arith, length-drop from log)))
@@ -212,7 +206,7 @@ module _ (log : List ℕ) (from : ℕ) (w : from + (8 + message_size (drop from 
     unfolding call
     called_is = message-is c there card_loans s ∙ ap (λ (x : Framing). handled c x there card_loans s) (sym is)
 
-    pub message-stays : OneOf (1 ∷ []) (tag_of framing-type.the_type f) → Fits h.rows m → Leads log h called h m
+    pub message-stays : ((id n : ℕ) → f ≡ Framed id n → ⊥) → Fits h.rows m → Leads log h called h m
     message-stays k z = stays log h m z (ap (λ (x : Called). x.pass) called_is ∙ unframed c f there card_loans s k)
 
     module _ (id n : ℕ) (e : f ≡ Framed id n) where
@@ -242,7 +236,7 @@ module _ (log : List ℕ) (from : ℕ) (w : from + (8 + message_size (drop from 
             ap (λ (x : List ℕ). (answer c id x section s).pass) a
             ∙ sym (ap (λ (x : Called). x.pass) (called_is ∙ ap (λ (x : Framing). handled c x there card_loans s) e))
 
-        pub message-leads : OneOf (0 ∷ 1 ∷ 3 ∷ []) (tag_of effect-type.the_type g.effect) → Leads log h called g.carried k
+        pub message-leads : (g.effect ≡ Enters → ⊥) → Leads log h called g.carried k
         message-leads z =
             let i : hardwares log g.carried ≡ kept_by g.effect c d (hardwares log h) =
             ap (map (hardware_at log)) heard.places ∙ sym (not-entering g.effect c d (hardwares log h) z) in

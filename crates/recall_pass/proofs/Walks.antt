@@ -88,7 +88,8 @@ module _ (log : List ℕ) (at : ℕ) {x : Record} (is : x ≡ record_in (drop at
         → Leads log h (tick_call seconds micros room (pass_in log h m)) r k
         → Leads log h (call (call_of x (drop at log)) (pass_in log h m)) r k
     unfolding call call_of
-    led-tick {seconds} {micros} e i g = subst Led (sym e) (subst (λ (j : ℕ). Leads log h (tick_call seconds micros j (pass_in log h m)) r k) i
+    led-tick {seconds} {micros} e i g = subst Led (sym e)
+        (subst (λ (j : ℕ). Leads log h (tick_call seconds micros j (pass_in log h m)) r k) i
         g)
 
     pub led-message : {c n : ℕ} → x ≡ Message c n

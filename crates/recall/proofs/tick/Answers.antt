@@ -1,0 +1,61 @@
+-- 13, or the pass and the call behind it; a good one is kept. Rests on what `recall_pass` promises, and on Calls.
+use Rattle.recall_log.proofs.Logs.{not_full}
+use Rattle.recall_log.specs.Kept.{kept_form}
+use Rattle.recall_pass.proofs.Laws.{passed-ready}
+use Rattle.recall.proofs.Calls.{remembers-full, space-none, space-from, played-not, played-done, tick_is}
+use Rattle.rules.proofs.All.{all-at}
+use Rattle.rules.specs.Follows.Wires.{Byte}
+use Rattle.rules.specs.Calls.{ticks}
+use lib.ListN.{length}
+use mathlib.Core.Path.{sym, ◌∙◌}
+use native.Mathlib.Omega.{arith}
+use Rattle.recall.proofs.tick.Goals as goal
+
+pub returns-in_default : goal.returns-in_default
+returns-in_default c =
+    let next_place = c.next_place-space in
+    remembers-full (ticks c.args.seconds c.args.micros (length c.args.out.now)) c.args.log.now c.args.out.now
+    (space-none c.args.log.now (sym next_place.ensures ∙ c.in_default.is))
+
+pub pass-h-requires : goal.pass-h-requires
+pass-h-requires c =
+    let next_place = c.next_place-space in
+    record {
+      log_len_bound = (not_full c.args.log.now (space-from c.args.log.now (sym next_place.ensures ∙ c.in-From.is)).0).few;
+      width_in_bounds = omega arith;
+    }
+
+pub tick-p-requires : goal.tick-p-requires
+tick-p-requires c =
+    let pass = c.pass-h in
+    passed-ready pass.ensures
+
+pub returns-in_default-reply : goal.returns-in_default-reply
+returns-in_default-reply c =
+    let slice-known = c.slice_known-1 in
+    let next_place = c.next_place-space in
+    let pass = c.pass-h in
+    let tick = c.tick-p in
+    played-not (ticks c.args.seconds c.args.micros (length c.args.out.now)) c.args.log.now
+    (all-at Byte 0 c.args.log.now (λ i. omega (arith, slice-known.given i)))
+    (space-from c.args.log.now (sym next_place.ensures ∙ c.in-From.is)).0 pass.ensures
+    (tick_is c.args.seconds c.args.micros (length c.args.out.now)) (tick.ensures c.args.log.now) c.in_default-reply.not-Done
+
+pub keep_tick-requires : goal.keep_tick-requires
+keep_tick-requires c =
+    let next_place = c.next_place-space in
+    (space-from c.args.log.now (sym next_place.ensures ∙ c.in-From.is)).1
+
+pub returns : goal.returns
+unfolding kept_form
+returns c =
+    let slice-known = c.slice_known-1 in
+    let next_place = c.next_place-space in
+    let pass = c.pass-h in
+    let tick = c.tick-p in
+    let keep-tick = c.keep_tick in
+    played-done (ticks c.args.seconds c.args.micros (length c.args.out.now)) c.args.log.now
+    (all-at Byte 0 c.args.log.now (λ i. omega (arith, slice-known.given i)))
+    (space-from c.args.log.now (sym next_place.ensures ∙ c.in-From.is)).0 pass.ensures
+    (tick_is c.args.seconds c.args.micros (length c.args.out.now)) (tick.ensures c.args.log.now)
+    c.in-Done.is keep-tick.ensures
