@@ -430,16 +430,17 @@ def turn(folder, crate, module, fn):
     if not any("tie." in l for _, b in blocks for l in b):
         return "no tie"
     uses = [u for u in uses if not re.search(r"\.(Statement|Tie)\b", u)]
-    answers = {}
+    answers, more = {}, {}
     for _, b in blocks:
         n = name_of(b)
         m = re.search(r"tie\.Need-([A-Za-z0-9_'-]+)", b[0] if ":" in b[0] else "")
         if n and m:
             need = norm(m.group(1))
             clause = "\n".join(l for l in b[1:] if not l.startswith("unfolding "))
-            k = re.search(re.escape(n) + r"\s+c(?:\s+κs)?\s*=", "\n".join(b))
+            k = re.search(re.escape(n) + r"\s+c(?:\s+κs)?((?:\s+[a-z][A-Za-z0-9_']*)*)\s*=", "\n".join(b))
             if k:
                 answers[n] = (need, "\n".join(b)[k.end():])
+                more[n] = k.group(1)
     locals_ = {}
     for _, b in blocks:
         n, whole = name_of(b), "\n".join(b)
@@ -509,7 +510,7 @@ def turn(folder, crate, module, fn):
                 body = paired(body, fields)
             else:
                 body = body[:at] + "record {\n" + "".join(f"      {x};\n" for x in rec) + "    }"
-        ans.append(notes + f"pub {new} : goal.{new}\n" + ("\n".join(opens) + "\n" if opens else "") + f"{new} c ={body if body.startswith((' ', chr(10))) else ' ' + body}")
+        ans.append(notes + f"pub {new} : goal.{new}\n" + ("\n".join(opens) + "\n" if opens else "") + f"{new} c{more[n]} ={body if body.startswith((' ', chr(10))) else ' ' + body}")
     for extra in ("Invariants.antt", "Answers.antt"):
         e = os.path.join(folder, extra)
         if os.path.exists(e):

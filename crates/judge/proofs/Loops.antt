@@ -123,17 +123,15 @@ judged-start l m b name e f =
     ap (λ s. judged (record { splicer = s; number = 0; due = [] }) (entries l)) (e ∙ ap (λ x. (fresh x).splicer) f)
 
 -- the second way of `let Finding::None`
-not_none : (u f : Finding) → OneOf (0 ∷ 1 ∷ 2 ∷ []) (tag_of the_type u) → before u f ≡ u
+not_none : (u f : Finding) → (u ≡ None → ⊥) → before u f ≡ u
 unfolding before
 not_none Longer f h = refl
 not_none (Unknown i) f h = refl
 not_none (Differs n) f h = refl
-not_none None f (inl e) = absurd (omega arith)
-not_none None f (inr (inl e)) = absurd (omega arith)
-not_none None f (inr (inr e)) = absurd (omega arith)
+not_none None f h = absurd (h refl)
 
 module _ (l : List ℕ) (u : Finding) (h : length l ≤ longest) (e : u ≡ first_unknown l) where
-  pub checked-unknown : OneOf (0 ∷ 1 ∷ 2 ∷ []) (tag_of the_type u) → u ≡ checked l
+  pub checked-unknown : (u ≡ None → ⊥) → u ≡ checked l
   checked-unknown k =
       sym (short-is l h ∙ ap (λ x. before x (judged start (entries l))) (sym e) ∙ not_none u (judged start (entries l)) k)
 

@@ -1,0 +1,14 @@
+-- The invariant: the judgement of the bytes that are left, with what is still due, is that of all.
+-- Rests on proofs/Loops: one more entry.
+use Prim.Native.Nat.{◌-◌, ◌^◌, ◌<◌}
+use native.Mathlib.Omega.{arith}
+use lib.ListN.{length}
+use borrow.Author.Rules.{rules}
+use Rattle.judge.proofs.Loops.{Running, running_none, running-stands, running-over, running-within, running_more}
+use Rattle.judge.proofs.turns.run.Given as goal
+
+abbrev pub invariant-loop-n : goal.invariant-loop-n
+invariant-loop-n l = Running l.l l.initial.m l.initial.b l.m l.b l.due l.at l.g × (length l.l < 2 ^ 64)
+
+abbrev pub decreases-loop-n : goal.decreases-loop-n
+decreases-loop-n l = length l.l - l.at
