@@ -5,7 +5,7 @@ use mathlib.Core.List.{List, [], ◌∷◌, ◌++◌}
 use Prim.Native.Nat.{ℕ}
 use Rattle.rules.specs.Lists.{All}
 use Rattle.rules.specs.Bytes.{has_zero}
-use Rattle.rules.specs.Calls.{fresh, Call, call, after}
+use Rattle.rules.specs.Calls.{fresh, Call, after}
 use Rattle.demands.specs.History.{Reply, Event, history}
 use Rattle.rules.specs.Follows.Sound.{Wired}
 use Rattle.engine.specs.declared.Answer.{Answer}

@@ -13,7 +13,6 @@ use Rattle.rules.specs.HouseNumbers as numbers
 use Rattle.demands.specs.History.{wrote, reply_of}
 use Rattle.rules.specs.Follows.Sound.{Wired}
 use Rattle.memory.specs.Memory.{see}
-use Rattle.engine.specs.declared.Answer.{Answer}
 use Rattle.engine.specs.declared.Answer.TheVariants.{Refused}
 use Rattle.engine.specs.Lent.{Lent, answer_of, Answers}
 use Rattle.engine.proofs.Laws.{answers-same, refused-unchanged}

@@ -2,7 +2,7 @@
 -- Rests on the toolchain's `own`: what a type says of a value and its machine value, and of what a reference to it holds.
 use mathlib.Core.Path.{◌≡◌, refl}
 use mathlib.Core.Logic.{◌∨₁◌}
-use mathlib.Core.List.{List, [], ◌∷◌, map}
+use mathlib.Core.List.{List, [], ◌∷◌}
 use Prim.Native.Nat.{ℕ, ◌+◌, ◌<◌, ◌^◌}
 use lib.ListN.{length, get_or}
 use mir.Syntax.{erased, Width, w8, w32}

@@ -1,7 +1,7 @@
 -- 02, CR 14: what its theorems speak of, worked by hand: what our own card program's recordings are, the parts of any recording, and what
 -- belongs to which call. Rests on the definitions alone.
 use mathlib.Core.Path.{◌≡◌, refl}
-use mathlib.Core.Bool.{Bool, true, false}
+use mathlib.Core.Bool.{true, false}
 use mathlib.Core.List.{List, [], ◌∷◌, map}
 use mathlib.Core.List.{◌++◌ as ◌then◌}
 use Prim.Native.Nat.{ℕ, zero, suc}
@@ -11,7 +11,7 @@ use Rattle.cases.specs.Computing.{computing}
 use Rattle.rules.specs.declared.Refusal.TheVariants.{AlreadyOpen}
 use Rattle.rules.specs.Records.{General, AbortResponse}
 use Rattle.rules.specs.HouseNumbers.{refused, good}
-use Rattle.rules.specs.Calls.{Call, opens, closes, messages, ticks}
+use Rattle.rules.specs.Calls.{opens, closes, messages, ticks}
 use Rattle.rules.specs.Card.{card_loans}
 use Rattle.recording.specs.Recording.{span, entry_in, entries_by, entries_run, entries, start, begins}
 use Rattle.recording.specs.Recording.{Item, made, wrote, cut, another}

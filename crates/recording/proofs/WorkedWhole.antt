@@ -7,7 +7,6 @@ use Prim.Native.Nat.{ℕ}
 use lib.ListN.{replicate}
 use Rattle.cases.specs.Scenario.{hex}
 use Rattle.cases.specs.Computing.{computing}
-use Rattle.recording.specs.declared.Finding.{Finding}
 use Rattle.recording.specs.declared.Finding.TheVariants.{Longer, Unknown, Differs, None}
 use Rattle.recording.specs.Recording.{span, entry_in, entries_by, entries_run, entries, start, called, called_by, taken, begins}
 use Rattle.recording.specs.Recording.{is_nothing, judged}
