@@ -1,4 +1,5 @@
 -- 13, or the pass and the call behind it; a good one is kept. Rests on what `recall_pass` promises, and on Calls.
+use borrow.Author.Rules.{rules}
 use Rattle.recall_log.proofs.Keeps.{close-low}
 use Rattle.recall_log.proofs.Logs.{not_full}
 use Rattle.recall_log.specs.Kept.{kept_form}
@@ -33,18 +34,16 @@ close-p-requires c =
 
 pub returns-in_default-reply : goal.returns-in_default-reply
 returns-in_default-reply c =
-    let slice-known = c.slice_known-1 in
     let next_place = c.next_place-space in
     let pass = c.pass-h in
     let close = c.close-p in
     played-not (closes c.args.conn (length c.args.out.now)) c.args.log.now
-    (all-at Byte 0 c.args.log.now (λ i. omega (arith, slice-known.given i)))
+    (all-at Byte 0 c.args.log.now (λ i. search rules))
     (space-from c.args.log.now (sym next_place.ensures ∙ c.in-From.is)).0 pass.ensures
     (close-is c.args.conn (length c.args.out.now)) (close.ensures c.args.log.now) c.in_default-reply.not-Done
 
 pub overflow_cast-conn : goal.overflow_cast-conn
 overflow_cast-conn c =
-    let slice-known = c.slice_known-1 in
     let next_place = c.next_place-space in
     let pass = c.pass-h in
     let close = c.close-p in
@@ -52,7 +51,7 @@ overflow_cast-conn c =
       arith,
       close-low c.args.conn (length c.args.out.now) _
           (played-good (closes c.args.conn (length c.args.out.now)) c.args.log.now
-          (all-at Byte 0 c.args.log.now (λ i. omega (arith, slice-known.given i)))
+          (all-at Byte 0 c.args.log.now (λ i. search rules))
           (space-from c.args.log.now (sym next_place.ensures ∙ c.in-From.is)).0 pass.ensures
           (close-is c.args.conn (length c.args.out.now)) (close.ensures c.args.log.now) c.in-Done.is),
     )
@@ -65,13 +64,12 @@ keep_close-requires c =
 pub returns : goal.returns
 unfolding kept_form
 returns c =
-    let slice-known = c.slice_known-1 in
     let next_place = c.next_place-space in
     let pass = c.pass-h in
     let close = c.close-p in
     let keep-close = c.keep_close in
     played-done (closes c.args.conn (length c.args.out.now)) c.args.log.now
-    (all-at Byte 0 c.args.log.now (λ i. omega (arith, slice-known.given i)))
+    (all-at Byte 0 c.args.log.now (λ i. search rules))
     (space-from c.args.log.now (sym next_place.ensures ∙ c.in-From.is)).0 pass.ensures
     (close-is c.args.conn (length c.args.out.now)) (close.ensures c.args.log.now) c.in-Done.is
     keep-close.ensures

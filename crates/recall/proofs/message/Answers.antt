@@ -41,12 +41,11 @@ feed-requires c =
 
 pub data_of-d-requires : goal.data_of-d-requires
 data_of-d-requires c =
-    let slice-known = c.slice_known-1 in
     let next_place = c.next_place-space in
     let pass = c.pass-h in
     let is-long = c.is_long in
     let framed = c.framed in
-    (message-within c.args.log.now (all-at Byte 0 c.args.log.now (λ i. omega (arith, slice-known.given i)))
+    (message-within c.args.log.now (all-at Byte 0 c.args.log.now (λ i. search rules))
     (space-from c.args.log.now (sym next_place.ensures ∙ c.in-From.is)).0 pass.ensures c.args.conn
     c.args.l.now (lending_maps c.args.primary.now c.args.insertion.now (length c.args.out.now))
     (framed-here pass.ensures c.args.conn c.args.l.now
@@ -55,7 +54,6 @@ data_of-d-requires c =
 
 pub hear-g-requires : goal.hear-g-requires
 hear-g-requires c =
-    let slice-known = c.slice_known-1 in
     let next_place = c.next_place-space in
     let pass = c.pass-h in
     let is-long = c.is_long in
@@ -64,7 +62,7 @@ hear-g-requires c =
       ready = passed-ready pass.ensures;
       fits = pass.ensures.fits;
       conn_bound = (message-low c.args.log.now
-          (all-at Byte 0 c.args.log.now (λ i. omega (arith, slice-known.given i)))
+          (all-at Byte 0 c.args.log.now (λ i. search rules))
           (space-from c.args.log.now (sym next_place.ensures ∙ c.in-From.is)).0 pass.ensures c.args.conn
           c.args.l.now (lending_maps c.args.primary.now c.args.insertion.now (length c.args.out.now))
           (framed-here pass.ensures c.args.conn c.args.l.now
@@ -72,7 +70,7 @@ hear-g-requires c =
           is-long.ensures
           c.in-Framed.is)).0;
       card_room_in_bounds = (message-low c.args.log.now
-          (all-at Byte 0 c.args.log.now (λ i. omega (arith, slice-known.given i)))
+          (all-at Byte 0 c.args.log.now (λ i. search rules))
           (space-from c.args.log.now (sym next_place.ensures ∙ c.in-From.is)).0 pass.ensures c.args.conn
           c.args.l.now (lending_maps c.args.primary.now c.args.insertion.now (length c.args.out.now))
           (framed-here pass.ensures c.args.conn c.args.l.now
@@ -84,11 +82,10 @@ hear-g-requires c =
 pub finish-len-requires : goal.finish-len-requires
 finish-len-requires c =
     let low = (
-    let slice-known = c.slice_known-1 in
     let pass = c.pass-h in
     let framed = c.framed in
     let loans = lending_maps c.args.primary.now c.args.insertion.now (length c.args.out.now) in
-    message-low c.args.log.now (all-at Byte 0 c.args.log.now (λ i. omega (arith, slice-known.given i)))
+    message-low c.args.log.now (all-at Byte 0 c.args.log.now (λ i. search rules))
     (space-from c.args.log.now (sym c.next_place-space.ensures ∙ c.in-From.is)).0 pass.ensures c.args.conn
     c.args.l.now loans
     (framed-here pass.ensures c.args.conn c.args.l.now loans framed.ensures c.is_long.ensures c.in-Framed.is)
@@ -112,14 +109,13 @@ finish-len-requires c =
 
 pub overflow_cast-conn : goal.overflow_cast-conn
 overflow_cast-conn c =
-    let slice-known = c.slice_known-1 in
     let next_place = c.next_place-space in
     let pass = c.pass-h in
     let is-long = c.is_long in
     let framed = c.framed in
     omega (
       arith,
-      (message-low c.args.log.now (all-at Byte 0 c.args.log.now (λ i. omega (arith, slice-known.given i)))
+      (message-low c.args.log.now (all-at Byte 0 c.args.log.now (λ i. search rules))
           (space-from c.args.log.now (sym next_place.ensures ∙ c.in-From.is)).0 pass.ensures c.args.conn
           c.args.l.now (lending_maps c.args.primary.now c.args.insertion.now (length c.args.out.now))
           (framed-here pass.ensures c.args.conn c.args.l.now
@@ -129,7 +125,6 @@ overflow_cast-conn c =
 
 pub keep_message-requires : goal.keep_message-requires
 keep_message-requires c =
-    let slice-known = c.slice_known-1 in
     let next_place = c.next_place-space in
     let pass = c.pass-h in
     let is-long = c.is_long in
@@ -137,7 +132,7 @@ keep_message-requires c =
     record {
       behind = (space-from c.args.log.now (sym next_place.ensures ∙ c.in-From.is)).1;
       size_le_largest_size
-          = (message-within c.args.log.now (all-at Byte 0 c.args.log.now (λ i. omega (arith, slice-known.given i)))
+          = (message-within c.args.log.now (all-at Byte 0 c.args.log.now (λ i. search rules))
           (space-from c.args.log.now (sym next_place.ensures ∙ c.in-From.is)).0 pass.ensures c.args.conn
           c.args.l.now (lending_maps c.args.primary.now c.args.insertion.now (length c.args.out.now))
           (framed-here pass.ensures c.args.conn c.args.l.now
@@ -145,7 +140,7 @@ keep_message-requires c =
           is-long.ensures
           c.in-Framed.is)).1;
       size_in_bounds = (message-within c.args.log.now (all-at Byte 0 c.args.log.now
-          (λ i. omega (arith, slice-known.given i))) (space-from c.args.log.now (sym next_place.ensures ∙ c.in-From.is)).0
+          (λ i. search rules)) (space-from c.args.log.now (sym next_place.ensures ∙ c.in-From.is)).0
           pass.ensures c.args.conn c.args.l.now (lending_maps c.args.primary.now c.args.insertion.now
           (length c.args.out.now)) (framed-here pass.ensures c.args.conn c.args.l.now
           (lending_maps c.args.primary.now c.args.insertion.now (length c.args.out.now)) framed.ensures
@@ -155,14 +150,13 @@ keep_message-requires c =
 
 pub overflow_cast-result : goal.overflow_cast-result
 overflow_cast-result c =
-    let slice-known = c.slice_known-1 in
     let next_place = c.next_place-space in
     let pass = c.pass-h in
     let is-long = c.is_long in
     let framed = c.framed in
     omega (
       arith,
-      (message-within c.args.log.now (all-at Byte 0 c.args.log.now (λ i. omega (arith, slice-known.given i)))
+      (message-within c.args.log.now (all-at Byte 0 c.args.log.now (λ i. search rules))
           (space-from c.args.log.now (sym next_place.ensures ∙ c.in-From.is)).0 pass.ensures c.args.conn
           c.args.l.now (lending_maps c.args.primary.now c.args.insertion.now (length c.args.out.now))
           (framed-here pass.ensures c.args.conn c.args.l.now
@@ -172,14 +166,13 @@ overflow_cast-result c =
 
 pub overflow_add-result : goal.overflow_add-result
 overflow_add-result c =
-    let slice-known = c.slice_known-1 in
     let next_place = c.next_place-space in
     let pass = c.pass-h in
     let is-long = c.is_long in
     let framed = c.framed in
     omega (
       arith,
-      (message-within c.args.log.now (all-at Byte 0 c.args.log.now (λ i. omega (arith, slice-known.given i)))
+      (message-within c.args.log.now (all-at Byte 0 c.args.log.now (λ i. search rules))
           (space-from c.args.log.now (sym next_place.ensures ∙ c.in-From.is)).0 pass.ensures c.args.conn
           c.args.l.now (lending_maps c.args.primary.now c.args.insertion.now (length c.args.out.now))
           (framed-here pass.ensures c.args.conn c.args.l.now
@@ -189,12 +182,11 @@ overflow_add-result c =
 
 pub returns-in-Unframed : goal.returns-in-Unframed
 returns-in-Unframed c =
-    let slice-known = c.slice_known-1 in
     let next_place = c.next_place-space in
     let pass = c.pass-h in
     let is-long = c.is_long in
     let framed = c.framed in
-    message-refused c.args.log.now (all-at Byte 0 c.args.log.now (λ i. omega (arith, slice-known.given i)))
+    message-refused c.args.log.now (all-at Byte 0 c.args.log.now (λ i. search rules))
     (space-from c.args.log.now (sym next_place.ensures ∙ c.in-From.is)).0 pass.ensures c.args.conn
     c.args.l.now (lending_maps c.args.primary.now c.args.insertion.now (length c.args.out.now))
     (framed-here pass.ensures c.args.conn c.args.l.now
@@ -203,7 +195,6 @@ returns-in-Unframed c =
 
 pub returns-in-Framed : goal.returns-in-Framed
 returns-in-Framed c =
-    let slice-known = c.slice_known-1 in
     let next_place = c.next_place-space in
     let pass = c.pass-h in
     let is-long = c.is_long in
@@ -214,7 +205,7 @@ returns-in-Framed c =
     let hear = c.hear-g in
     let finish = c.finish-len in
     let keep-message = c.keep_message in
-    message-whole c.args.log.now (all-at Byte 0 c.args.log.now (λ i. omega (arith, slice-known.given i)))
+    message-whole c.args.log.now (all-at Byte 0 c.args.log.now (λ i. search rules))
     (space-from c.args.log.now (sym next_place.ensures ∙ c.in-From.is)).0 pass.ensures c.args.conn
     c.args.l.now (lending_maps c.args.primary.now c.args.insertion.now (length c.args.out.now))
     (framed-here pass.ensures c.args.conn c.args.l.now

@@ -1,4 +1,5 @@
 -- 13, or the pass and the call behind it; a good one is kept. Rests on what `recall_pass` promises, and on Calls.
+use borrow.Author.Rules.{rules}
 use Rattle.recall_log.proofs.Keeps.{open-low}
 use Rattle.recall_log.proofs.Logs.{not_full}
 use Rattle.recall_log.specs.Kept.{kept_form}
@@ -27,24 +28,22 @@ pass-h-requires c =
 
 pub returns-in_default-reply : goal.returns-in_default-reply
 returns-in_default-reply c =
-    let slice-known = c.slice_known-1 in
     let next_place = c.next_place-space in
     let pass = c.pass-h in
     let opened = c.open-p in
-    played-not (opens c.args.conn) c.args.log.now (all-at Byte 0 c.args.log.now (λ i. omega (arith, slice-known.given i)))
+    played-not (opens c.args.conn) c.args.log.now (all-at Byte 0 c.args.log.now (λ i. search rules))
     (space-from c.args.log.now (sym next_place.ensures ∙ c.in-From.is)).0 pass.ensures (open_is c.args.conn)
     (opened.ensures _ [] (omega (arith, pass.ensures.fits)) c.args.log.now) c.in_default-reply.not-Done
 
 pub overflow_cast-conn : goal.overflow_cast-conn
 overflow_cast-conn c =
-    let slice-known = c.slice_known-1 in
     let next_place = c.next_place-space in
     let pass = c.pass-h in
     let opened = c.open-p in
     omega (
       arith,
       open-low c.args.conn _ (played-good (opens c.args.conn) c.args.log.now
-          (all-at Byte 0 c.args.log.now (λ i. omega (arith, slice-known.given i)))
+          (all-at Byte 0 c.args.log.now (λ i. search rules))
           (space-from c.args.log.now (sym next_place.ensures ∙ c.in-From.is)).0 pass.ensures (open_is c.args.conn)
           (opened.ensures _ [] (omega (arith, pass.ensures.fits)) c.args.log.now) c.in-Done.is),
     )
@@ -57,11 +56,10 @@ keep_open-requires c =
 pub returns : goal.returns
 unfolding kept_form
 returns c =
-    let slice-known = c.slice_known-1 in
     let next_place = c.next_place-space in
     let pass = c.pass-h in
     let opened = c.open-p in
     let keep-open = c.keep_open in
-    played-done (opens c.args.conn) c.args.log.now (all-at Byte 0 c.args.log.now (λ i. omega (arith, slice-known.given i)))
+    played-done (opens c.args.conn) c.args.log.now (all-at Byte 0 c.args.log.now (λ i. search rules))
     (space-from c.args.log.now (sym next_place.ensures ∙ c.in-From.is)).0 pass.ensures (open_is c.args.conn)
     (opened.ensures _ [] (omega (arith, pass.ensures.fits)) c.args.log.now) c.in-Done.is keep-open.ensures

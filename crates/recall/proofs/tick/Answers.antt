@@ -1,4 +1,5 @@
 -- 13, or the pass and the call behind it; a good one is kept. Rests on what `recall_pass` promises, and on Calls.
+use borrow.Author.Rules.{rules}
 use Rattle.recall_log.proofs.Logs.{not_full}
 use Rattle.recall_log.specs.Kept.{kept_form}
 use Rattle.recall_pass.proofs.Laws.{passed-ready}
@@ -32,12 +33,11 @@ tick-p-requires c =
 
 pub returns-in_default-reply : goal.returns-in_default-reply
 returns-in_default-reply c =
-    let slice-known = c.slice_known-1 in
     let next_place = c.next_place-space in
     let pass = c.pass-h in
     let tick = c.tick-p in
     played-not (ticks c.args.seconds c.args.micros (length c.args.out.now)) c.args.log.now
-    (all-at Byte 0 c.args.log.now (λ i. omega (arith, slice-known.given i)))
+    (all-at Byte 0 c.args.log.now (λ i. search rules))
     (space-from c.args.log.now (sym next_place.ensures ∙ c.in-From.is)).0 pass.ensures
     (tick_is c.args.seconds c.args.micros (length c.args.out.now)) (tick.ensures c.args.log.now) c.in_default-reply.not-Done
 
@@ -49,13 +49,12 @@ keep_tick-requires c =
 pub returns : goal.returns
 unfolding kept_form
 returns c =
-    let slice-known = c.slice_known-1 in
     let next_place = c.next_place-space in
     let pass = c.pass-h in
     let tick = c.tick-p in
     let keep-tick = c.keep_tick in
     played-done (ticks c.args.seconds c.args.micros (length c.args.out.now)) c.args.log.now
-    (all-at Byte 0 c.args.log.now (λ i. omega (arith, slice-known.given i)))
+    (all-at Byte 0 c.args.log.now (λ i. search rules))
     (space-from c.args.log.now (sym next_place.ensures ∙ c.in-From.is)).0 pass.ensures
     (tick_is c.args.seconds c.args.micros (length c.args.out.now)) (tick.ensures c.args.log.now)
     c.in-Done.is keep-tick.ensures

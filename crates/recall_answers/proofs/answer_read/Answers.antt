@@ -14,8 +14,11 @@ use Rattle.recall_answers.proofs.answer_read.Goals as goal
 pub answer_init-requires : goal.answer_init-requires
 answer_init-requires c =
     let read = c.read-message in
-    record { d_value = init-good c.args.id c.args.d.now _ (sym read.ensures ∙ c.in-Init.is); in_bounds = omega
-        (arith, c.requires.in_bounds) }
+    record {
+      d_value = init-good c.args.id c.args.d.now _ (sym read.ensures ∙ c.in-Init.is);
+      in_bounds = omega
+          (arith, c.requires.in_bounds);
+    }
 
 pub answer_alive-requires : goal.answer_alive-requires
 answer_alive-requires c =
@@ -23,9 +26,8 @@ answer_alive-requires c =
 
 pub answer_splice-requires : goal.answer_splice-requires
 answer_splice-requires c =
-    let shared-slice-known = c.shared_slice_known-1 in
     let read = c.read-message in
-    let a = all-at Byte 0 c.args.d.now (λ i. omega (arith, shared-slice-known.given i)) in
+    let a = all-at Byte 0 c.args.d.now (λ i. omega (arith, c.type_inv.d i)) in
     let asked = splice-grants c.args.d.now a c.args.id _ (sym read.ensures ∙ c.in-Splice.is) in
     record { keeps = c.requires.keeps; clock_lt_horizon = c.requires.clock_lt_horizon; asked = asked; in_bounds = c.requires.in_bounds }
 

@@ -87,7 +87,6 @@ loop-scratch-smaller c =
 
 pub loop-scratch-preserved : goal.loop-scratch-preserved
 loop-scratch-preserved c =
-    let shared-slice-known = c.shared_slice_known-1 in
     let loop = c.loop-scratch in
     let record-at = c.record_at-record in
     let Span-of = c.span_of-k in
@@ -95,7 +94,7 @@ loop-scratch-preserved c =
     let play = c.play-h in (
       walking-next loop.invariant.0 record-at.ensures Span-of.ensures c.requires.log_len_bound
           (omega (arith, loop.invariant.1, c.requires.width_in_bounds)) if1.false
-          (all-at Byte 0 c.args.log.now (λ i. omega (arith, shared-slice-known.given i))) play.ensures,
+          (all-at Byte 0 c.args.log.now (λ i. omega (arith, c.type_inv.log i))) play.ensures,
       play.auto.m
           ∙ loop.invariant.1,
       play.auto.scratch ∙ loop.invariant.2,
