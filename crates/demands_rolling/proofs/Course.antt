@@ -7,7 +7,6 @@ use lib.ListN.{length, get_or}
 use borrow.Author.Tests.{ltb-false}
 use Rattle.rules.specs.Lists.{All}
 use Rattle.rules.specs.Follows.Wires.{Byte}
-use Rattle.rules.specs.Calls.{fresh}
 use Rattle.rules.specs.Rolling.{Rolled, Course, refuses, brings, instant_course, reading_course, rolls, instant_call, reading_call}
 use Rattle.rules.specs.Rolling.{RollingCall, roll}
 use Rattle.rules.specs.Follows.Sequences.{RollWired}

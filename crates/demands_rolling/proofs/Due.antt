@@ -10,7 +10,7 @@ use Rattle.rules.specs.Records.{AliveResponse}
 use Rattle.rules.specs.HouseNumbers.{lending_maps}
 use Rattle.rules.specs.State.{due}
 use Rattle.rules.specs.Follows.Sound.{Sound}
-use Rattle.rules.specs.Rolling.{at, Rolling}
+use Rattle.rules.specs.Rolling.{at}
 use Rattle.rules.proofs.Sound.{reached-sound}
 use Rattle.demands.specs.Told.{number_of}
 use Rattle.demands.specs.Airing.{clock_told}

@@ -35,7 +35,7 @@ use Rattle.demands_engine.proofs.Device as any
 use Rattle.demands_engine.proofs.Steps.{wired, memory-same}
 use Rattle.demands_door.specs.Driven.{handed, inside, answer_in, number_in, moved_in}
 use Rattle.demands_door.proofs.Inside.{number-told, moved_told, told, call-handed, typed-handed, allowed-inside, reply-back}
-use Rattle.demands_rolling.specs.Rolled.{Memory, shown, LentAt, left, device, Made, made, AllowedAt, Leads, Trace, More, seen_of}
+use Rattle.demands_rolling.specs.Rolled.{Memory, shown, LentAt, left, device, Made, AllowedAt, Leads, Trace, More, seen_of}
 use Rattle.demands_rolling.specs.Rolled.{number, calls, time_made, as_made, within}
 
 -- ## One call, as this card's rules have it

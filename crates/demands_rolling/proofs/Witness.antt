@@ -2,7 +2,7 @@
 -- late as is allowed. Rests on instant-shows, and on computing.
 use mathlib.Core.Path.{◌≡◌, refl}
 use mathlib.Core.List.{List, [], ◌∷◌, map}
-use Prim.Native.Nat.{ℕ, ◌+◌, ◌*◌, ◌≤◌, ◌<◌}
+use Prim.Native.Nat.{ℕ, ◌+◌, ◌*◌, ◌<◌}
 use native.Mathlib.Omega.{arith}
 use lib.ListN.{replicate}
 use Rattle.rules.specs.Lists.{All}
@@ -11,7 +11,7 @@ use Rattle.rules.specs.Card.{card_name}
 use Rattle.rules.specs.Units.{time_of, from_micros}
 use Rattle.rules.specs.Calls.{opens}
 use Rattle.rules.specs.Units.{horizon}
-use Rattle.rules.specs.Rolling.{none, Rolling, instants}
+use Rattle.rules.specs.Rolling.{none, Rolling}
 use Rattle.rules.specs.Follows.Sequences.{rolling_of, rolling_fresh, rolled_after}
 use Rattle.rolling.specs.Ruled.{Act, asked, read, InTime, ticked, calls_at}
 use Rattle.rolling.proofs.Time.{Shows, instant-shows}
