@@ -31,8 +31,8 @@ for file in "$made"/Case-*.antt; do
 done
 
 # what Scenario hands on, in two lines
-first='digit, hex, row, input, output, joined, eachStep, eachRun'
-second='outputs, oneMore, callsIn, size, same, fits, Written'
+first='digit, hex, row, input, output, joined, each_step, each_run'
+second='outputs, one_more, calls_in, size, same, fits, Written'
 
 # the modules of rules that the card program and what is read of cues are written in, those of demand 3 and of CR 13, and their definitions
 modules='Lists Bytes State Recent Hardware Descriptors Streams Request Reading Records Ends Instants Splicing Answers Crc Cues'

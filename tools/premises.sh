@@ -185,8 +185,8 @@ left() {
         # a referee from its fresh on, then any pieces; what its end and its due answer
         words("Fresh Fed BegunInC FedInC Ends Dues", trace)
         # what may stand in one of these beside names that are bound: then it is of any calls, of that kind
-        words("anOpen aClose aMessage aTick aMove aCue aKnown anInstant aReading made ++ ∷", among)
-        words(".words .bytes .counter .memory .log left lateOf logAfter pairs", among)
+        words("an_open a_close a_message a_tick a_move a_cue a_known an_instant a_reading made ++ ∷", among)
+        words(".words .bytes .counter .memory .log left late_of log_after pairs", among)
         # what the types say of an input: tied to them by Cited
         words("Typed engine.Typed door-calls.Typed RollTyped Byte Bytes Wired", types)
     }
@@ -211,9 +211,9 @@ left() {
     # of any calls: a number, or an empty list, would leave some out; what the check of recordings, and a referee at its end and of what is
     # due, promise is one equation each
     function traced(s, names,    n, t) {
-        sub(/^[rs] ≡ wordsOf [(]checked l[)]$/, "Finds l", s)
-        sub(/^v ≡ verdictWords [(]endBy [(]stageIn [(]t .stage[)][)][)]$/, "Ends v t", s)
-        sub(/^i ∷ n ∷ \[\] ≡ partOf [(]stageIn [(]t .stage[)][)]$/, "Dues i n t", s)
+        sub(/^[rs] ≡ words_of [(]checked l[)]$/, "Finds l", s)
+        sub(/^v ≡ verdict_words [(]end_by [(]stage_in [(]t .stage[)][)][)]$/, "Ends v t", s)
+        sub(/^i ∷ n ∷ \[\] ≡ part_of [(]stage_in [(]t .stage[)][)]$/, "Dues i n t", s)
         gsub(/[(){}]/, " ", s)
         n = split(s, t, " ")
         return t[1] in trace && rest_bound(t, 2, n, names)
