@@ -154,7 +154,8 @@ premises() {
         gsub(/[{] /, "{", s)
         gsub(/ [}]/, "}", s)
         gsub(/[)] \. /, "). ", s)
-        gsub(/ \.(splicer|core)/, "", s)
+        while (match(s, /[)] \.[a-z0-9]/)) s = substr(s, 1, RSTART) substr(s, RSTART + 2)
+        gsub(/\.(splicer|core)/, "", s)
         sub(/^ /, "", s)
         sub(/ $/, "", s)
         print name "\t" crate "\t" how "\t" s "\t" names
@@ -174,14 +175,14 @@ left() {
         words("Came Stop", data)
         words("Record Act Rolling Cue Stream Splicer Both Recollection Reply Answer engine.Input door-calls.Input engine.Result", data)
         # what a contract speaks of, as the toolchain has it
-        handed = "Type 1|Lfts [0-9]+|RefT [(]List ℕ[)]|URA M|(Heap|Atoms) 𝓤|store[.]Memory → SProp 𝓤|Routine → Fun 𝓤"
+        handed = "Type 1|Lfts [0-9]+|Bor [(]List ℕ[)]|Ura M|(Heap|Atoms) 𝓤|store[.]Memory → SProp 𝓤|Routine → Fun 𝓤"
         handed = "^(" handed "|(Args|Res) [a-z-]+[.]signature κs|AtExit [a-z-]+[.]ended κs)$"
         # the trace: fresh, then any calls, each result one that its contract allows
         words("Trace engine.Trace More Point Leads Run Beside FromFresh", trace)
         # what a contract allows: the code is proved to meet it, and Cited holds it to the source
         words("Allowed AllowedAt Counts Primary ReadsMux ReadsFeed ReadsAir ReadsDue ReadsStep ReadsSessions Pages", trace)
         words("ReadsList WritesList", trace)
-        words("RemembersInC ForgetsInC Remembers Forgets Recollects Judges Finds", trace)
+        words("Tells TellsFresh Remembers Forgets Recollects Judges Finds", trace)
         # a referee from its fresh on, then any pieces; what its end and its due answer
         words("Fresh Fed BegunInC FedInC Ends Dues", trace)
         # what may stand in one of these beside names that are bound: then it is of any calls, of that kind
@@ -191,6 +192,15 @@ left() {
         words("Typed engine.Typed door-calls.Typed RollTyped Byte Bytes Wired", types)
     }
     $3 == "premise" && !plain($4) && !traced($4, $5) && !typed($4, $5) { print $1 "\t" $2 "\t" $4 }
+
+    # apart(S): each projection a word of its own, as m .words
+    function apart(s,    out) {
+        while (match(s, /[a-z0-9)]\.[a-z]/)) {
+            out = out substr(s, 1, RSTART) " "
+            s = substr(s, RSTART + 1)
+        }
+        return out s
+    }
 
     function words(s, set,    n, t, i) {
         n = split(s, t, " ")
@@ -212,8 +222,9 @@ left() {
     # due, promise is one equation each
     function traced(s, names,    n, t) {
         sub(/^[rs] ≡ words_of [(]checked l[)]$/, "Finds l", s)
-        sub(/^v ≡ verdict_words [(]end_by [(]stage_in [(]t .stage[)][)][)]$/, "Ends v t", s)
-        sub(/^i ∷ n ∷ \[\] ≡ part_of [(]stage_in [(]t .stage[)][)]$/, "Dues i n t", s)
+        sub(/^v ≡ verdict_words [(]end_by [(]stage_in t.stage[)][)]$/, "Ends v t", s)
+        sub(/^i ∷ n ∷ \[\] ≡ part_of [(]stage_in t.stage[)]$/, "Dues i n t", s)
+        s = apart(s)
         gsub(/[(){}]/, " ", s)
         n = split(s, t, " ")
         return t[1] in trace && rest_bound(t, 2, n, names)
@@ -260,7 +271,7 @@ named() {
     /^## Premises$/ { exit }
     {
         n = split($0, part, "`")
-        for (i = 2; i <= n; i += 2) if (part[i] ~ /^[a-z][A-Za-z0-9]*(-[A-Za-z0-9]+)*$/) print part[i]
+        for (i = 2; i <= n; i += 2) if (part[i] ~ /^[a-z][A-Za-z0-9_]*(-[A-Za-z0-9_]+)*$/) print part[i]
     }' "$page" | sort -u
 }
 
