@@ -10,6 +10,8 @@ case $#${1:-} in
 esac
 needs_rust 1.81
 cd "$(dirname "$0")/.."
+LC_ALL=C
+export LC_ALL
 specs=crates/cases/specs
 hand='Layouts Rooms Rehearsed Histories Worked Moved Counted Days Mux DueCases DueWitness Lately Sections Cued Extended Config'
 hand="$hand Heard LatelyCases KeptCases MomentsCases ToldCases ToldNumbers ToldRequests AlikeCases HeldCases Widths Numbers Places"
@@ -21,7 +23,7 @@ CARGO_TARGET_DIR=target/model cargo build --quiet --release --offline --manifest
 target/model/release/model scenario --tables "$made" model/scenarios/*.txt
 
 # a field of many bytes goes over several lines
-for file in "$made"/Case-*.antt; do
+for file in "$made"/Case[0-9A-Z]*.antt; do
     awk '
     {
         while (length($0) > 140 && match($0, /^ *\+\+ "[0-9A-F]+"$/)) { print substr($0, 1, 136) "\""; $0 = "    ++ \"" substr($0, 137) }
@@ -32,14 +34,14 @@ done
 
 # what Scenario hands on, in two lines
 first='digit, hex, row, input, output, joined, each_step, each_run'
-second='outputs, one_more, calls_in, size, same, fits, Written'
+second='outputs, one_more, calls_in, size, same, Fits, Written'
 
 # the modules of rules that the card program and what is read of cues are written in, those of demand 3 and of CR 13, and their definitions
 modules='Lists Bytes State Recent Hardware Descriptors Streams Request Reading Records Ends Instants Splicing Answers Crc Cues'
-modules="$modules HouseNumbers Calls Listing Card follows.ReadBack follows.Sequences"
+modules="$modules HouseNumbers Calls Listing Card Follows.ReadBack Follows.Sequences"
 names=$({
     for m in $modules; do
-        sed -nE "s/^ *unfoldable pub ([^ ]+).*/${m#follows.}.\\1/p" "crates/rules/specs/$(echo "$m" | tr . /).antt"
+        sed -nE "s/^ *unfoldable pub ([^ ]+).*/${m#Follows.}.\\1/p" "crates/rules/specs/$(echo "$m" | tr . /).antt"
     done
     for m in History Airing; do
         sed -nE "s/^ *unfoldable pub ([^ ]+).*/$m.\\1/p" "crates/demands/specs/$m.antt"
@@ -47,16 +49,16 @@ names=$({
 } | tr '\n' ' ')
 {
     echo '-- The definitions that the tables are computed with, made by tools/cases.sh: `unfolding computing` unfolds them all.'
-    echo 'use Prim.Native.Nat.{ℕ}'
-    for m in $modules; do echo "use Rattle·rules.specs.$m"; done
-    for m in History Airing; do echo "use Rattle·demands.specs.$m"; done
-    for words in "$first" "$second"; do echo "use Rattle·cases·specs.specs.Scenario.{$words}"; done
+    echo 'use Rattle.std.specs.Prelude.{ℕ}'
+    for m in $modules; do echo "use Rattle.rules.specs.$m"; done
+    for m in History Airing; do echo "use Rattle.demands.specs.$m"; done
+    for words in "$first" "$second"; do echo "use Rattle.cases.specs.Scenario.{$words}"; done
     printf '\nunfoldable pub computing : ℕ\n'
     echo "unfolding $first $second $names" | tr -d ',' | fold -s -w 132 | sed 's/ *$//; 2,$s/^/    /'
     echo 'computing = 0'
 } >"$made/Computing.antt"
 for file in Scenario $hand; do cp "$specs/$file.antt" "$made/"; done
-(cd "$made" && printf 'pub mod %s\n' Scenario Computing $hand && ls | sed -n 's/^\(Case-.*\)\.antt$/pub mod \1/p') >target/cases.list
+(cd "$made" && printf 'pub mod %s\n' Scenario Computing $hand && ls | sed -n 's/^\(Case[0-9A-Z].*\)\.antt$/pub mod \1/p') >target/cases.list
 mv target/cases.list "$made/Lib.antt"
 
 if [ "${1:-}" = --check ]; then
@@ -67,6 +69,6 @@ if [ "${1:-}" = --check ]; then
         exit 1
     fi
 else
-    rm -f "$specs"/Case-*.antt
+    rm -f "$specs"/Case[0-9A-Z]*.antt
     cp "$made"/*.antt "$specs/"
 fi

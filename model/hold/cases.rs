@@ -106,10 +106,14 @@ fn row(step: &Step) -> String {
     format!("{head}\n    {calls}\n    {wants}")
 }
 
-/// The module's name of a scenario file: antt takes no dot in it.
+/// The module's name of a scenario file: its words, each with a capital, without what stands between them.
 pub fn module(file: &str) -> String {
     let stem = file.rsplit('/').next().unwrap_or(file);
-    format!("Case-{}", stem.trim_end_matches(".txt").replace('.', "-"))
+    let words = stem.trim_end_matches(".txt").split(['-', '.']).map(|word| {
+        let mut letters = word.chars();
+        letters.next().map_or(String::new(), |first| first.to_ascii_uppercase().to_string() + letters.as_str())
+    });
+    format!("Case{}", words.collect::<String>())
 }
 
 /// The module of a scenario.
@@ -122,10 +126,10 @@ pub fn table(file: &str, text: &str, steps: &[Step]) -> String {
     let rows: Vec<String> = calls.map(row).collect();
     format!(
         "-- model/scenarios/{name}, made by tools/cases.sh. Line numbers are that file's.\n{}\n\
-         use mathlib.Core.List.{{List, [], _∷_}}\n\
-         use Prim.Native.String.{{_++_}}\n\
-         use Rattle·cases·specs.specs.Scenario.{{Row, row, Holds, holds}}\n\
-         use Rattle·cases·specs.specs.Computing.{{computing}}\n\n\
+         use Rattle.std.specs.Prelude.{{List, [], ◌∷◌}}\n\
+         use Prim.Native.String.{{◌++◌}}\n\
+         use Rattle.cases.specs.Scenario.{{Row, row, Holds, holds}}\n\
+         use Rattle.cases.specs.Computing.{{computing}}\n\n\
          unfoldable pub rows : List Row\n\
          rows =\n    {}\n    ∷ []\n\n\
          pub same : Holds rows\n\
@@ -166,6 +170,6 @@ mod tests {
 
     #[test]
     fn a_module_has_no_dot() {
-        assert_eq!(module("a/6.2-first-come.txt"), "Case-6-2-first-come");
+        assert_eq!(module("a/6.2-first-come.txt"), "Case62FirstCome");
     }
 }
