@@ -40,11 +40,9 @@ done | tr '\n' ' ')
 
 {
     echo '-- the definition of the card program and the second program, on the same streams'
-    echo 'use mathlib.Core.Path.{_≡_, refl}'
-    echo 'use mathlib.Core.List.{List, [], _∷_}'
-    echo 'use Prim.Native.Nat.{ℕ}'
+    echo 'use Rattle.std.specs.Prelude.{◌≡◌, refl, List, [], ◌∷◌, ℕ}'
     for m in $modules; do
-        echo "use Rattle·rules.specs.$m"
+        echo "use Rattle.rules.specs.$m"
     done
     i=0
     for stream in "$work"/streams/*; do
@@ -59,7 +57,7 @@ done | tr '\n' ' ')
 } >"$work/crates/trial/specs/Trial.antt"
 
 echo "definitions: the prover computes $count streams of seed $seed"
-if (cd "$work" && rt check trial >check.log 2>&1); then
+if (cd "$work/crates/trial" && rt check >../../check.log 2>&1); then
     echo "definitions: $count streams of seed $seed, 0 differ"
     echo "$count passed, 0 failed"
 else
