@@ -16,9 +16,9 @@ specs=crates/cases/specs
 hand='Layouts Rooms Rehearsed Histories Worked Moved Counted Days Mux DueCases DueWitness Lately Sections Cued Extended Config'
 hand="$hand Heard LatelyCases KeptCases MomentsCases ToldCases ToldNumbers ToldRequests AlikeCases HeldCases Widths Numbers Places"
 hand="$hand RecordsRead Marks Accounts ReadRows Recalled RecalledCalls RecalledLists Sequenced SoundCases"
-made=target/cases
-rm -rf "$made"
-mkdir -p "$made"
+apart
+made=$room/cases
+mkdir "$made"
 CARGO_TARGET_DIR=target/model cargo build --quiet --release --offline --manifest-path model/Cargo.toml
 target/model/release/model scenario --tables "$made" model/scenarios/*.txt
 
@@ -58,8 +58,8 @@ names=$({
     echo 'computing = 0'
 } >"$made/Computing.antt"
 for file in Scenario $hand; do cp "$specs/$file.antt" "$made/"; done
-(cd "$made" && printf 'pub mod %s\n' Scenario Computing $hand && ls | sed -n 's/^\(Case[0-9A-Z].*\)\.antt$/pub mod \1/p') >target/cases.list
-mv target/cases.list "$made/Lib.antt"
+(cd "$made" && printf 'pub mod %s\n' Scenario Computing $hand && ls | sed -n 's/^\(Case[0-9A-Z].*\)\.antt$/pub mod \1/p') >"$room/list"
+mv "$room/list" "$made/Lib.antt"
 
 if [ "${1:-}" = --check ]; then
     if diff -r "$made" "$specs"; then

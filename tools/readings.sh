@@ -2,12 +2,11 @@
 # readings.sh [--all | LABEL..]: tries wrong readings of documents 01 and 02, edits of the definitions in crates/rules and crates/demands:
 # those of crates/cases/readings, as the gate does; with --all those of crates/cases/more-readings too; or the named ones.
 # Each edit names a table of the crate cases, and that table alone must refuse it: definitions and table are put into one crate of a scratch
-# repository under target/, with no law and no other table beside them. The last line is 'N passed, M failed'.
+# repository elsewhere, with no law and no other table beside them. The last line is 'N passed, M failed'.
 set -eu
 . "$(dirname "$0")/words.sh"
 cd "$(dirname "$0")/.."
 needs rt
-work=target/readings
 case ${1:-} in
 '') set -- crates/cases/readings/*.edit ;;
 --all) set -- crates/cases/readings/*.edit crates/cases/more-readings/*.edit ;;
@@ -18,8 +17,10 @@ case ${1:-} in
     set -- $(for label; do ls crates/cases/*readings/"$label.edit"; done)
     ;;
 esac
-rm -rf "$work"
-mkdir -p "$work/crates"
+apart
+work=$room
+log=target/readings/log
+mkdir -p "$work/crates" target/readings
 
 # crate_of TABLE: the name of its crate, and of no library of the kit
 crate_of() { echo "table_$1" | tr 'A-Z' 'a-z'; }
@@ -78,14 +79,13 @@ for edit; do
 done
 
 trial() { (cd "$work" && rt must-fail); }
-watched target/readings.log "$edits" 'rt: must-fail*' trial || true
-mv target/readings.log "$work/log"
-grep -q '^rt: must-fail' "$work/log" || tail -n 20 "$work/log" | cut -c 1-400
+watched "$log" "$edits" 'rt: must-fail*' trial || true
+grep -q '^rt: must-fail' "$log" || tail -n 20 "$log" | cut -c 1-400
 refused=0
 for edit; do
     table=$(sed -n 's/^# table: //p' "$edit")
     label=$(basename "$edit" .edit)
-    if grep -qF "rt: must-fail $(crate_of "$table")/$label.edit: refused, as it must be: ./specs/$table.antt:" "$work/log"; then
+    if grep -qF "rt: must-fail $(crate_of "$table")/$label.edit: refused, as it must be: ./specs/$table.antt:" "$log"; then
         refused=$((refused + 1))
     else
         echo "readings.sh: $label is not refused by $table"
