@@ -39,18 +39,18 @@ second='outputs, one_more, calls_in, size, same, Fits, Written'
 # the modules of rules that the card program and what is read of cues are written in, those of demand 3 and of CR 13, and their definitions
 modules='Lists Bytes State Recent Hardware Descriptors Streams Request Reading Records Ends Instants Splicing Answers Crc Cues'
 modules="$modules HouseNumbers Calls Listing Card Follows.ReadBack Follows.Sequences"
+# unfolded CRATE MODULE: its definitions that are unfolded, by their names in Computing
+unfolded() {
+    sed -nE "s/^ *unfoldable pub ([^ ]+).*/${2#Follows.}.\\1/p" "crates/$1/specs/$(echo "$2" | tr . /).antt"
+}
 names=$({
-    for m in $modules; do
-        sed -nE "s/^ *unfoldable pub ([^ ]+).*/${m#Follows.}.\\1/p" "crates/rules/specs/$(echo "$m" | tr . /).antt"
-    done
-    for m in History Airing; do
-        sed -nE "s/^ *unfoldable pub ([^ ]+).*/$m.\\1/p" "crates/demands/specs/$m.antt"
-    done
+    for m in $modules; do unfolded rules "$m"; done
+    for m in History Airing; do unfolded demands "$m"; done
 } | tr '\n' ' ')
 {
     echo '-- The definitions that the tables are computed with, made by tools/cases.sh: `unfolding computing` unfolds them all.'
     echo 'use Rattle.std.specs.Prelude.{ℕ}'
-    for m in $modules; do echo "use Rattle.rules.specs.$m"; done
+    for m in $modules; do [ -z "$(unfolded rules "$m")" ] || echo "use Rattle.rules.specs.$m"; done
     for m in History Airing; do echo "use Rattle.demands.specs.$m"; done
     for words in "$first" "$second"; do echo "use Rattle.cases.specs.Scenario.{$words}"; done
     printf '\nunfoldable pub computing : ℕ\n'

@@ -123,20 +123,21 @@ pub fn table(file: &str, text: &str, steps: &[Step]) -> String {
         text.lines().take_while(|l| l.starts_with('#')).map(|l| l.replacen('#', "--", 1).trim_end().to_string()).collect();
     // A read is no call of the card program.
     let calls = steps.iter().filter(|step| !step.is_read());
-    let rows: Vec<String> = calls.map(row).collect();
+    let rows = calls.map(row).collect::<Vec<String>>().join("\n    ∷ ");
+    // Texts of several lines are put together.
+    let strings = if rows.contains("\n    ++ ") { "use Prim.Native.String.{◌++◌}\n" } else { "" };
     format!(
         "-- model/scenarios/{name}, made by tools/cases.sh. Line numbers are that file's.\n{}\n\
          use Rattle.std.specs.Prelude.{{List, [], ◌∷◌}}\n\
-         use Prim.Native.String.{{◌++◌}}\n\
+         {strings}\
          use Rattle.cases.specs.Scenario.{{Row, row, Holds, holds}}\n\
          use Rattle.cases.specs.Computing.{{computing}}\n\n\
          unfoldable pub rows : List Row\n\
-         rows =\n    {}\n    ∷ []\n\n\
+         rows =\n    {rows}\n    ∷ []\n\n\
          pub same : Holds rows\n\
          unfolding rows computing\n\
          same = holds rows (tt, tt)\n",
-        head.join("\n"),
-        rows.join("\n    ∷ ")
+        head.join("\n")
     )
 }
 
