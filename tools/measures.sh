@@ -1,6 +1,6 @@
 #!/bin/sh
 # measures.sh: writes docs/MEASURES.md anew: what stands in tools/measures by hand, and the tables of tools/measure.sh, measure-cues.sh,
-# measure-check.sh, measure-recall.sh and lines.sh over the proved archives, with kit, compiler and commit. Takes some minutes on x86-64; needs
+# measure-check.sh, measure-recall.sh and lines.sh over the proved archives, with kit and commit. Takes some minutes on x86-64; needs
 # what `sh tools/setup.sh x86` installs, and valgrind. No part of the gate, which only holds the page's lines, links and names (docs.sh).
 set -eu
 . "$(dirname "$0")/words.sh"

@@ -13,8 +13,8 @@ mkdir -p "$work"
 
 # Where a theorem is looked for: the statements about the calls, and what was read from the source. One that is not there is a law of the
 # crates below; a law below that has a theorem's name is what that one rests on, and no statement of its own.
-stated='demands_engine demands_door demands_rolling demands_recall demands_referee door door_rolling'
-below='demands recording recall card checker remember cues reading rules judge streams door_bench rolling memory rows'
+stated='demands_engine demands_door demands_rolling demands_recall demands_referee door door_rolling door_c door_rolling_c'
+below='demands recording recall card checker remember cues reading rules judge streams door_bench door_bench_c rolling memory rows'
 
 # files CRATE..: their statements
 files() {

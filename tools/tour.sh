@@ -13,7 +13,7 @@ sed -e :a -e '$!N; s/\n  */ /; ta' -e 'P; D' >"$work/wings" <<'END'
 The law: rules cases
 The core, from the bottom up: units reply writing reading places memory ends instants checks requests answers cues relay engine
     streams rows feed
-Doors, for C: door door_rolling door_bench
+Doors, for C: door door_rolling door_bench door_c door_rolling_c door_bench_c
 Programs: card checker referee remember
 The rolling card: rolling
 The second engine: recall_rules recall_rows recall_ends recall_instants recall_requests recall_answers recall_log recall_pass recall
