@@ -175,7 +175,7 @@ left() {
         words("Came Stop", data)
         words("Record Act Rolling Cue Stream Splicer Both Recollection Reply Answer engine.Input door-calls.Input engine.Result", data)
         # what a contract speaks of, as the toolchain has it
-        handed = "Type 1|Lfts [0-9]+|Bor [(]List ℕ[)]|Ura M|(Heap|Atoms) 𝓤|store[.]Memory → SProp 𝓤|Routine → Fun 𝓤"
+        handed = "Type 1|Lfts [0-9]+|Bor [(]List ℕ[)]|Ura M|Logic 𝓤|store[.]Memory → SProp 𝓤|Routine → Fun 𝓤"
         handed = "^(" handed "|(Args|Res) [a-z-]+[.]signature κs|AtExit [a-z-]+[.]ended κs)$"
         # the trace: fresh, then any calls, each result one that its contract allows
         words("Trace engine.Trace More Point Leads Run Beside FromFresh", trace)
