@@ -322,9 +322,16 @@ wrong() {
     failed=$((failed + 1))
 }
 
-# a name with a hyphen is a theorem's: each is stated
+# a name with a hyphen is a theorem's: each is stated; one with an underline may also be a crate's, a function's or a definition's
 while read -r name; do
-    case $name in *-*) grep -qx -e "$name" "$work/found" || wrong "no statement $name" ;; esac
+    case $name in
+    *-*) grep -qx -e "$name" "$work/found" || wrong "no statement $name" ;;
+    *_*)
+        grep -qx -e "$name" "$work/found" || [ -d "crates/$name" ] ||
+            git grep -qE "fn $name\(|^ *((abbrev|unfoldable|pub) )*$name :" -- 'crates/*/src/*.rt' 'crates/*/specs/*.antt' ||
+            wrong "no statement, crate, function or definition $name"
+        ;;
+    esac
 done <"$work/names"
 
 # each premise that is left has a row, and each row a premise
