@@ -48,7 +48,8 @@ END {
     put()
 }
 function put() {
-    if (long && !(file[other] == file[first] && file[other] ~ /\/proofs\/.*\/(Answers|Invariants|Proof)\.antt$/)) print long "\t" file[other] ":" at[other] "\t" file[first] ":" at[first]
+    own = file[other] == file[first] && file[other] ~ /\/proofs\/.*\/(Answers|Invariants|Proof)\.antt$/
+    if (long && !own) print long "\t" file[other] ":" at[other] "\t" file[first] ":" at[first]
     long = 0
 }' "$work/lines" | sort -rn >"$work/pairs"
 awk -F '\t' '{ printf "%d lines  %s  %s\n", $1, $2, $3 }' "$work/pairs"
