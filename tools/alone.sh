@@ -1,6 +1,6 @@
 #!/bin/sh
 # alone.sh: the law alone: every definition of crates/rules/specs is reached from what is asked of a splicer (fresh, the calls, the reads,
-# the card program, the rolling card, lists of streams), but for those of specs/follows, of which none is. A line for each that is in the
+# the card program, the rolling card, lists of streams), but for those of specs/Follows, of which none is. A line for each that is in the
 # wrong place, and for a file above 200 lines. The last line is 'N passed, M failed'.
 set -eu
 . "$(dirname "$0")/words.sh"
@@ -9,8 +9,8 @@ cd "$(dirname "$0")/.."
 LC_ALL=C
 export LC_ALL
 # what is asked, and what the contracts say of an answer: bytes consumed, the buffer after it
-roots='fresh call after card roll consumedBy bufferAfter waits airMux sectionOf recent separateIn separateBytes'
-roots="$roots airRow dueRow stepRow heldRows heldNumber rowWidth"
+roots='fresh call after card roll consumed_by buffer_after waits air_mux section_of recent separate_in separate_bytes'
+roots="$roots air_row due_row step_row held_rows held_number row_width"
 # shellcheck disable=SC2046
 awk -v roots="$roots" '
 FNR == 1 {
@@ -18,15 +18,15 @@ FNR == 1 {
     sub(/^crates\/rules\/specs\//, "", file)
     sub(/\.antt$/, "", file)
     gsub(/\//, ".", file)
-    if (file != "Lib" && file != "follows") names[++files] = file
+    if (file != "Lib" && file != "Follows") names[++files] = file
     here = ""
 }
 { lines[file]++ }
 /^--/ || /^$/ { next }
 /^(pub )?use / {
-    if (match($0, /^(pub )?use Rattle·rules·specs\.specs\.[A-Za-z.]*\.\{/) && $0 !~ /declared/) {
+    if (match($0, /^(pub )?use Rattle\.rules\.specs\.[A-Za-z.]*\.\{/) && $0 !~ /declared/) {
         from = substr($0, RSTART, RLENGTH - 2)
-        sub(/.*specs\.specs\./, "", from)
+        sub(/.*rules\.specs\./, "", from)
         list = substr($0, RSTART + RLENGTH)
         sub(/\}.*/, "", list)
         n = split(list, each, /, */)
@@ -63,8 +63,8 @@ END {
     }
     for (k = 1; k <= defs; k++) {
         split(all[k], p, SUBSEP)
-        beside = p[1] ~ /^follows\./
-        if (beside && all[k] in seen) { print "alone: " p[1] "." p[2] " is reached, and stands in follows: FAILED"; failed++ }
+        beside = p[1] ~ /^Follows\./
+        if (beside && all[k] in seen) { print "alone: " p[1] "." p[2] " is reached, and stands in Follows: FAILED"; failed++ }
         else if (!beside && !(all[k] in seen) && !helper(p[1])) { print "alone: nothing reaches " p[1] "." p[2] ": FAILED"; failed++ }
         else passed++
     }
@@ -82,7 +82,9 @@ function reach(d,    p, n, w, i, from) {
     n = split(text[d], w, /[][ \t(){},;]+/)
     for (i = 1; i <= n; i++) {
         sub(/:$/, "", w[i])
-        if (w[i] == "" || w[i] ~ /^\./) continue
+        # of a projection, as `t.written`, what it is of; behind a bracket, as `(f x).queue`, it is of that
+        sub(/\..*/, "", w[i])
+        if (w[i] == "") continue
         from = (p[1], w[i]) in origin ? origin[p[1], w[i]] : p[1]
         if ((from, w[i]) in known) reach(from SUBSEP w[i])
         if ((from, w[i]) in made) reach(made[from, w[i]])

@@ -1,7 +1,7 @@
 #!/bin/sh
 # definitions.sh SEED N: holds the definitions themselves against the second program. For N generated streams it states that the
 # definition `card` of the input is the second program's output, byte for byte, and has the prover compute it.
-# The statements stand in a scratch repository under target/, nothing of them is kept. The last line is 'N passed, M failed'.
+# The statements stand in a scratch repository elsewhere, nothing of them is kept. The last line is 'N passed, M failed'.
 set -eu
 . "$(dirname "$0")/words.sh"
 [ $# -le 2 ] || refuse 'a seed and a number of streams'
@@ -15,13 +15,14 @@ needs_rust 1.81
 cd "$(dirname "$0")/.."
 seed=${1:-1}
 count=${2:-4}
-work=target/definitions
-rm -rf "$work"
+apart
+work=$room
 mkdir -p "$work/crates/trial/src" "$work/crates/trial/specs" "$work/streams"
 CARGO_TARGET_DIR=target/model cargo build --quiet --release --offline --manifest-path model/Cargo.toml
 model=target/model/release/model
 "$model" gen --seed "$seed" --n "$count" --out "$work/streams" >/dev/null
-cp -R crates/rules "$work/crates/rules"
+mkdir "$work/crates/rules"
+cp -R crates/rules/src crates/rules/specs crates/rules/proofs "$work/crates/rules"
 printf 'rules:\ntrial: rules\n' >"$work/crates.txt"
 echo '// The statements stand in specs/.' >"$work/crates/trial/src/lib.rt"
 echo 'pub mod Trial' >"$work/crates/trial/specs/Lib.antt"
@@ -40,11 +41,9 @@ done | tr '\n' ' ')
 
 {
     echo '-- the definition of the card program and the second program, on the same streams'
-    echo 'use mathlib.Core.Path.{_≡_, refl}'
-    echo 'use mathlib.Core.List.{List, [], _∷_}'
-    echo 'use Prim.Native.Nat.{ℕ}'
+    echo 'use Rattle.std.specs.Prelude.{◌≡◌, refl, List, [], ◌∷◌, ℕ}'
     for m in $modules; do
-        echo "use Rattle·rules.specs.$m"
+        echo "use Rattle.rules.specs.$m"
     done
     i=0
     for stream in "$work"/streams/*; do
@@ -59,7 +58,7 @@ done | tr '\n' ' ')
 } >"$work/crates/trial/specs/Trial.antt"
 
 echo "definitions: the prover computes $count streams of seed $seed"
-if (cd "$work" && rt check trial >check.log 2>&1); then
+if (cd "$work/crates/trial" && rt check >../../check.log 2>&1); then
     echo "definitions: $count streams of seed $seed, 0 differ"
     echo "$count passed, 0 failed"
 else

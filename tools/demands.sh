@@ -14,7 +14,7 @@ theorems() {
     { match($0, /^ */); line = substr($0, RLENGTH + 1) }
     line ~ /^-- ## / { print "heading\t" substr(line, 7); said = ""; next }
     line ~ /^--/ { sub(/^-- ?/, "", line); said = said (said == "" ? "" : " ") line; next }
-    line ~ /^pub [a-z0-9-]+ :/ {
+    line ~ /^pub [a-z0-9_-]+ :/ {
         name = line
         sub(/^pub /, "", name)
         sub(/ :.*/, "", name)

@@ -1,6 +1,6 @@
 #!/bin/sh
 # measures.sh: writes docs/MEASURES.md anew: what stands in tools/measures by hand, and the tables of tools/measure.sh, measure-cues.sh,
-# measure-check.sh, measure-recall.sh and lines.sh over the proved archives, with compiler and commit. Takes some minutes on x86-64; needs
+# measure-check.sh, measure-recall.sh and lines.sh over the proved archives, with kit and commit. Takes some minutes on x86-64; needs
 # what `sh tools/setup.sh x86` installs, and valgrind. No part of the gate, which only holds the page's lines, links and names (docs.sh).
 set -eu
 . "$(dirname "$0")/words.sh"
@@ -35,8 +35,8 @@ timeless() {
 }
 
 cat tools/measures/head.md >"$page"
-printf '\nOf commit %s, %s, %s.\n\n' "$(git rev-parse --short=7 HEAD)" "$(rustc --version | cut -d ' ' -f 1,2)" \
-    "$(qemu-x86_64 --version | sed -n '1s/ (.*//p')" >>"$page"
+printf '\nOf commit %s, %s, %s, %s.\n\n' "$(git rev-parse --short=7 HEAD)" "$(rt version | cut -d ' ' -f 1)" \
+    "$(rustc --version | cut -d ' ' -f 1,2)" "$(qemu-x86_64 --version | sed -n '1s/ (.*//p')" >>"$page"
 cat tools/measures/gate.md >>"$page"
 part 'Calls' "x86-64 instructions of one call; Rust and C: engines of the same rules (tools/measure)." \
     sh tools/measure.sh counts

@@ -13,8 +13,8 @@ mkdir -p "$work"
 
 # Where a theorem is looked for: the statements about the calls, and what was read from the source. One that is not there is a law of the
 # crates below; a law below that has a theorem's name is what that one rests on, and no statement of its own.
-stated='demands_engine demands_door demands_rolling demands_recall demands_referee door door_rolling'
-below='demands recording recall card checker remember cues reading rules judge streams door_bench rolling memory rows'
+stated='demands_engine demands_door demands_rolling demands_recall demands_referee door door_rolling door_c door_rolling_c'
+below='demands recording recall card checker remember cues reading rules judge streams door_bench door_bench_c rolling memory rows'
 
 # files CRATE..: their statements
 files() {
@@ -154,7 +154,8 @@ premises() {
         gsub(/[{] /, "{", s)
         gsub(/ [}]/, "}", s)
         gsub(/[)] \. /, "). ", s)
-        gsub(/ \.(splicer|core)/, "", s)
+        while (match(s, /[)] \.[a-z0-9]/)) s = substr(s, 1, RSTART) substr(s, RSTART + 2)
+        gsub(/\.(splicer|core)/, "", s)
         sub(/^ /, "", s)
         sub(/ $/, "", s)
         print name "\t" crate "\t" how "\t" s "\t" names
@@ -174,23 +175,32 @@ left() {
         words("Came Stop", data)
         words("Record Act Rolling Cue Stream Splicer Both Recollection Reply Answer engine.Input door-calls.Input engine.Result", data)
         # what a contract speaks of, as the toolchain has it
-        handed = "Type 1|Lfts [0-9]+|RefT [(]List ℕ[)]|URA M|(Heap|Atoms) 𝓤|store[.]Memory → SProp 𝓤|Routine → Fun 𝓤"
+        handed = "Type 1|Lfts [0-9]+|Bor [(]List ℕ[)]|Ura M|Logic 𝓤|store[.]Memory → SProp 𝓤|Routine → Fun 𝓤"
         handed = "^(" handed "|(Args|Res) [a-z-]+[.]signature κs|AtExit [a-z-]+[.]ended κs)$"
         # the trace: fresh, then any calls, each result one that its contract allows
         words("Trace engine.Trace More Point Leads Run Beside FromFresh", trace)
         # what a contract allows: the code is proved to meet it, and Cited holds it to the source
         words("Allowed AllowedAt Counts Primary ReadsMux ReadsFeed ReadsAir ReadsDue ReadsStep ReadsSessions Pages", trace)
         words("ReadsList WritesList", trace)
-        words("RemembersInC ForgetsInC Remembers Forgets Recollects Judges Finds", trace)
+        words("Tells TellsFresh Remembers Forgets Recollects Judges Finds", trace)
         # a referee from its fresh on, then any pieces; what its end and its due answer
         words("Fresh Fed BegunInC FedInC Ends Dues", trace)
         # what may stand in one of these beside names that are bound: then it is of any calls, of that kind
-        words("anOpen aClose aMessage aTick aMove aCue aKnown anInstant aReading made ++ ∷", among)
-        words(".words .bytes .counter .memory .log left lateOf logAfter pairs", among)
+        words("an_open a_close a_message a_tick a_move a_cue a_known an_instant a_reading made ++ ∷", among)
+        words(".words .bytes .counter .memory .log left late_of log_after pairs", among)
         # what the types say of an input: tied to them by Cited
         words("Typed engine.Typed door-calls.Typed RollTyped Byte Bytes Wired", types)
     }
     $3 == "premise" && !plain($4) && !traced($4, $5) && !typed($4, $5) { print $1 "\t" $2 "\t" $4 }
+
+    # apart(S): each projection a word of its own, as m .words
+    function apart(s,    out) {
+        while (match(s, /[a-z0-9)]\.[a-z]/)) {
+            out = out substr(s, 1, RSTART) " "
+            s = substr(s, RSTART + 1)
+        }
+        return out s
+    }
 
     function words(s, set,    n, t, i) {
         n = split(s, t, " ")
@@ -211,9 +221,10 @@ left() {
     # of any calls: a number, or an empty list, would leave some out; what the check of recordings, and a referee at its end and of what is
     # due, promise is one equation each
     function traced(s, names,    n, t) {
-        sub(/^[rs] ≡ wordsOf [(]checked l[)]$/, "Finds l", s)
-        sub(/^v ≡ verdictWords [(]endBy [(]stageIn [(]t .stage[)][)][)]$/, "Ends v t", s)
-        sub(/^i ∷ n ∷ \[\] ≡ partOf [(]stageIn [(]t .stage[)][)]$/, "Dues i n t", s)
+        sub(/^[rs] ≡ words_of [(]checked l[)]$/, "Finds l", s)
+        sub(/^v ≡ verdict_words [(]end_by [(]stage_in t.stage[)][)]$/, "Ends v t", s)
+        sub(/^i ∷ n ∷ \[\] ≡ part_of [(]stage_in t.stage[)]$/, "Dues i n t", s)
+        s = apart(s)
         gsub(/[(){}]/, " ", s)
         n = split(s, t, " ")
         return t[1] in trace && rest_bound(t, 2, n, names)
@@ -260,7 +271,7 @@ named() {
     /^## Premises$/ { exit }
     {
         n = split($0, part, "`")
-        for (i = 2; i <= n; i += 2) if (part[i] ~ /^[a-z][A-Za-z0-9]*(-[A-Za-z0-9]+)*$/) print part[i]
+        for (i = 2; i <= n; i += 2) if (part[i] ~ /^[a-z][A-Za-z0-9_]*(-[A-Za-z0-9_]+)*$/) print part[i]
     }' "$page" | sort -u
 }
 
@@ -311,9 +322,16 @@ wrong() {
     failed=$((failed + 1))
 }
 
-# a name with a hyphen is a theorem's: each is stated
+# a name with a hyphen is a theorem's: each is stated; one with an underline may also be a crate's, a function's or a definition's
 while read -r name; do
-    case $name in *-*) grep -qx -e "$name" "$work/found" || wrong "no statement $name" ;; esac
+    case $name in
+    *-*) grep -qx -e "$name" "$work/found" || wrong "no statement $name" ;;
+    *_*)
+        grep -qx -e "$name" "$work/found" || [ -d "crates/$name" ] ||
+            git grep -qE "fn $name\(|^ *((abbrev|unfoldable|pub) )*$name :" -- 'crates/*/src/*.rt' 'crates/*/specs/*.antt' ||
+            wrong "no statement, crate, function or definition $name"
+        ;;
+    esac
 done <"$work/names"
 
 # each premise that is left has a row, and each row a premise

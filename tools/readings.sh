@@ -2,12 +2,11 @@
 # readings.sh [--all | LABEL..]: tries wrong readings of documents 01 and 02, edits of the definitions in crates/rules and crates/demands:
 # those of crates/cases/readings, as the gate does; with --all those of crates/cases/more-readings too; or the named ones.
 # Each edit names a table of the crate cases, and that table alone must refuse it: definitions and table are put into one crate of a scratch
-# repository under target/, with no law and no other table beside them. The last line is 'N passed, M failed'.
+# repository elsewhere, with no law and no other table beside them. The last line is 'N passed, M failed'.
 set -eu
 . "$(dirname "$0")/words.sh"
 cd "$(dirname "$0")/.."
 needs rt
-work=target/readings
 case ${1:-} in
 '') set -- crates/cases/readings/*.edit ;;
 --all) set -- crates/cases/readings/*.edit crates/cases/more-readings/*.edit ;;
@@ -18,16 +17,17 @@ case ${1:-} in
     set -- $(for label; do ls crates/cases/*readings/"$label.edit"; done)
     ;;
 esac
-rm -rf "$work"
-mkdir -p "$work/crates"
+apart
+work=$room
+log=target/readings/log
+mkdir -p "$work/crates" target/readings
 
-# crate_of TABLE: the name of its crate
-crate_of() { echo "$1" | tr 'A-Z-' 'a-z_'; }
+# crate_of TABLE: the name of its crate, and of no library of the kit
+crate_of() { echo "table_$1" | tr 'A-Z' 'a-z'; }
 
 # moved TABLE FILE: the text of a file, with all modules in the table's crate
 moved() {
-    sed -E "s/Rattle·(rules·specs|demands·specs|cases·specs)\.specs\./Rattle·$(crate_of "$1")·specs.specs./g
-        s/Rattle·(rules|demands)\.specs\./Rattle·$(crate_of "$1")·specs.specs./g" "$2"
+    sed -E "s/Rattle\.(rules|demands|cases)\.specs\./Rattle.$(crate_of "$1").specs./g" "$2"
 }
 
 # needed TABLE: the files of definitions and tables that it imports, directly or through others, and its own
@@ -39,17 +39,17 @@ needed() {
         seen[file] = 1
         print file
         n = 0
-        while ((getline line <file) > 0) if (line ~ /^(pub )?use Rattle·(rules|demands|cases)(·specs\.specs|\.specs)\./) list[++n] = line
+        while ((getline line <file) > 0) if (line ~ /^(pub )?use Rattle\.(rules|demands|cases)\.specs\./) list[++n] = line
         close(file)
         for (i = 1; i <= n; i++) if ((own = path(list[i])) != "") visit(own)
     }
     # path LINE: the file that an import names; none for a type of the code
     function path(line,    crate) {
-        sub(/^(pub )?use Rattle·/, "", line)
+        sub(/^(pub )?use Rattle\./, "", line)
         crate = line
-        sub(/(·specs\.specs|\.specs)\..*/, "", crate)
-        sub(/^[a-z]*(·specs\.specs|\.specs)\./, "", line)
-        sub(/\.\{.*/, "", line)
+        sub(/\..*/, "", crate)
+        sub(/^[a-z]*\.specs\./, "", line)
+        sub(/(\.\{| as ).*/, "", line)
         if (line ~ /^declared/) return ""
         gsub(/\./, "/", line)
         return "crates/" crate "/specs/" line ".antt"
@@ -59,11 +59,11 @@ needed() {
 # build TABLE: its crate
 build() {
     crate=$work/crates/$(crate_of "$1")
-    mkdir -p "$crate/specs/follows" "$crate/must-fail"
+    mkdir -p "$crate/specs/Follows" "$crate/must-fail"
     cp -R crates/rules/src "$crate/src"
     for file in $(needed "$1"); do moved "$1" "$file" >"$crate/specs/${file#crates/*/specs/}"; done
-    ls "$crate/specs/follows" | sed -n 's/\.antt$//p' | sed 's/^/pub mod /' >"$work/lib"
-    if [ -s "$work/lib" ]; then mv "$work/lib" "$crate/specs/follows.antt"; else rmdir "$crate/specs/follows"; fi
+    ls "$crate/specs/Follows" | sed -n 's/\.antt$//p' | sed 's/^/pub mod /' >"$work/lib"
+    if [ -s "$work/lib" ]; then mv "$work/lib" "$crate/specs/Follows.antt"; else rmdir "$crate/specs/Follows"; fi
     ls "$crate/specs" | sed -n 's/\.antt$//p' | sed 's/^/pub mod /' >"$work/lib"
     mv "$work/lib" "$crate/specs/Lib.antt"
     echo "$(crate_of "$1"):" >>"$work/crates.txt"
@@ -79,14 +79,13 @@ for edit; do
 done
 
 trial() { (cd "$work" && rt must-fail); }
-watched target/readings.log "$edits" 'rt: must-fail*' trial || true
-mv target/readings.log "$work/log"
-grep -q '^rt: must-fail' "$work/log" || tail -n 20 "$work/log" | cut -c 1-400
+watched "$log" "$edits" 'rt: must-fail*' trial || true
+grep -q '^rt: must-fail' "$log" || tail -n 20 "$log" | cut -c 1-400
 refused=0
 for edit; do
     table=$(sed -n 's/^# table: //p' "$edit")
     label=$(basename "$edit" .edit)
-    if grep -qF "rt: must-fail $(crate_of "$table")/$label: refused, as it must be (first at specs/$table.antt:" "$work/log"; then
+    if grep -qF "rt: must-fail $(crate_of "$table")/$label.edit: refused, as it must be: ./specs/$table.antt:" "$log"; then
         refused=$((refused + 1))
     else
         echo "readings.sh: $label is not refused by $table"

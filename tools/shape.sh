@@ -20,7 +20,7 @@ parameters() {
     # shellcheck disable=SC2086
     awk '
     FNR == 1 { on = 0 }
-    /^[ \t]*(#\[.*\] *)?(pub )?(extern "C" )?fn / { on = 1; text = "" }
+    /^[ \t]*(#\[.*\] *)?(pub )?(unsafe )?(extern "C" )?fn / { on = 1; text = "" }
     on { text = text " " $0; if (index(text, ")")) { on = 0; count(text) } }
     function count(s,    n, c) {
         c = s ~ /extern "C" fn/
@@ -55,7 +55,7 @@ lines() {
     END { printf "%d %d %d\n", NR, wide, most }' $sources $proofs
 }
 
-# paths: runs of `.before` in proofs
+# paths: runs of `.before`, in proofs that walk a function by hand; answers name each step
 paths() {
     # shellcheck disable=SC2086
     awk '

@@ -25,7 +25,7 @@ demands: stored-as-told read-as-told primary-read section-read: what the words o
 demands: places-stay fresh-unmoved: the lent places, and the words of fresh's reply
 demands: no-two-alike waiting-in-order first-starts-next first-is-next waiting-played-none: of every splicer, by rules/proofs/Sound
 demands: unmoved-else at-most-63 moved-is-later: in Moved
-demands: every-moment primary-kept air-kept lists-as-counted no-gap prints-alike: in Owners
+demands: every-moment primary-kept air-kept lists-as-counted no_gap prints-alike: in Owners
 demands: played-as-counted: in Said
 demands: kept-told config-told section-told nothing-else-changes close-forgets opened-denied: in Kept
 demands demands_engine: page-read: the page is a call of the door's alone
@@ -38,8 +38,8 @@ demands: quiet-always wakes-from good-from: what a read gives; laws in its Due
 demands: sessions-told sessions-in-order sessions-at-most ticks-between later-stays-good moves-between: laws in its Sessions and Between
 demands demands_door demands_rolling: move-quiet-before move-wakes-from: bring_to is a call of the engine's alone
 demands_door demands_rolling: moves-between: bring_to is a call of the engine's alone
-demands_rolling: first-tick due-stays quiet-always later-stays-good: of a counter: first-step, left-after, quiet-before
-demands demands_engine demands_door: first-step left-after counter-step: of a counter: no other card has one
+demands_rolling: first-tick due-stays quiet-always later-stays-good: of a counter: first_step, left_after, quiet-before
+demands demands_engine demands_door: first_step left_after counter-step: of a counter: no other card has one
 END
 
 lists='demands demands_engine demands_door demands_rolling'
@@ -116,36 +116,39 @@ in_order demands_door demands_rolling
 # of a call for C its words, and what stands for it in the engine's call
 cat >"$work/demands_door.sed" <<'END'
 s/Seen/Result/g
-s/left r/r .memory/g
-s/r \.words/r .memory .words/g
-s/r \.bytes/r .memory .bytes/g
-s/r \.reply/r .answer/g
-s/Allowed (r \.memory \.words) (r \.memory \.bytes)/Allowed (r .memory)/g
-s/Allowed (one \.words) (one \.bytes)/Allowed (one .memory)/g
-s/left \(two\|alone\)/\1 .memory/g
+s/(left r)/r.memory/g
+s/left r/r.memory/g
+s/\([ (]\)r\.words/\1r.memory.words/g
+s/\([ (]\)r\.bytes/\1r.memory.bytes/g
+s/\([ (]\)r\.reply/\1r.answer/g
+s/Allowed r\.memory\.words r\.memory\.bytes/Allowed r.memory/g
+s/Allowed one\.words one\.bytes/Allowed one.memory/g
+s/(left \(two\|alone\))/\1.memory/g
+s/left \(two\|alone\)/\1.memory/g
 s/(l g e : List ℕ)/(l : List ℕ) (pts seconds micros : ℕ) (e : List ℕ)/g
-s/aCue l g e/aCue l pts seconds micros e/g
-s/(ptsOf g) (getD g 2 0) (getD g 3 0)/pts seconds micros/g
+s/a_cue l g e/a_cue l pts seconds micros e/g
+s/(pts_of g) (get_or g 2 0) (get_or g 3 0)/pts seconds micros/g
 END
 
 # of the rolling card: the engine's memory is one part of its own, a known call is the door's, another one grants nothing and changes
 # nothing that is kept
 cat >"$work/demands_rolling.sed" <<'END'
-s/aKnown (\([^()]*\))/\1/g
+s/a_known (\([^()]*\))/\1/g
 s/RollSeen/Seen/g
 s/RollInput/Input/g
 s/RollTyped/Typed/g
-s/rollCallOf/callOf/g
-s/rollBufferOf/bufferOf/g
-s/rollChecks/checks/g
-s/LentAt m/Lent (m .words) (m .bytes)/g
-s/AllowedAt (left r)/Allowed (r .words) (r .bytes)/g
-s/shown m \.splicer/shown m/g
-s/shown (left r) \.splicer/shown (left r)/g
-s/m \.core/m/g
-s/othersBy i/othersOf (callOf i)/g
-s/grants i/grantedBy (callOf i)/g
-s/changes d i/changed d (callOf i)/g
+s/roll_call_of/call_of/g
+s/roll_buffer_of/buffer_of/g
+s/roll_checks/checks/g
+s/LentAt m/Lent m.words m.bytes/g
+s/AllowedAt (left r)/Allowed r.words r.bytes/g
+s/((shown m)\.splicer ≡/(shown m ≡/g
+s/(shown m)\.splicer/(shown m)/g
+s/(shown (left r))\.splicer/(shown (left r))/g
+s/m\.core/m/g
+s/others_by i/others_of (call_of i)/g
+s/grants i/granted_by (call_of i)/g
+s/changes d i/changed d (call_of i)/g
 s/engine\.calls (within h)/calls h/g
 s/places\.next/next/g
 END

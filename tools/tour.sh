@@ -13,7 +13,7 @@ sed -e :a -e '$!N; s/\n  */ /; ta' -e 'P; D' >"$work/wings" <<'END'
 The law: rules cases
 The core, from the bottom up: units reply writing reading places memory ends instants checks requests answers cues relay engine
     streams rows feed
-Doors, for C: door door_rolling door_bench
+Doors, for C: door door_rolling door_bench door_c door_rolling_c door_bench_c
 Programs: card checker referee remember
 The rolling card: rolling
 The second engine: recall_rules recall_rows recall_ends recall_instants recall_requests recall_answers recall_log recall_pass recall
@@ -54,7 +54,7 @@ table() {
 # law: the files of the law in the order in which they are read, and what follows from it, each with its first line
 law() {
     printf '\n| File | Holds |\n|---|---|\n'
-    for name in $(cd crates/rules/specs && sed -n 's/^pub mod //p' Lib.antt && sed -n 's/^pub mod /follows\//p' follows.antt); do
+    for name in $(cd crates/rules/specs && sed -n 's/^pub mod //p' Lib.antt && sed -n 's/^pub mod /Follows\//p' Follows.antt); do
         first=$(head -n 1 "crates/rules/specs/$name.antt")
         case $first in
         '-- '*) ;;
@@ -68,15 +68,16 @@ law() {
 # imports: each word of crates.txt that its crate has no use for
 imports() {
     sed 's/#.*//' crates.txt | while IFS=: read -r name rest; do
+        name=${name%% *}
         for import in $rest; do
-            word="Rattle·$import[·.]|(^|[^a-z_:])$import::"
+            word="Rattle\\.$import\\.|(^|[^a-z_:])$import::"
             found=$(find "crates/$name" \( -name '*.rt' -o -name '*.antt' \) -exec grep -lE "$word" {} +) || :
             [ -n "$found" ] || wrong "$name does not use $import"
         done
     done
 }
 
-sed 's/#.*//; s/:.*//; /^ *$/d' crates.txt | sort >"$work/listed"
+sed 's/#.*//; s/[ :].*//; /^ *$/d' crates.txt | sort >"$work/listed"
 sed 's/.*://' "$work/wings" | tr -s ' ' '\n' | sed '/^$/d' | sort >"$work/walked"
 diff "$work/listed" "$work/walked" |
     sed -n 's/^< \(.*\)/\1 stands in no wing/p; s/^> \(.*\)/\1 stands in two wings, or is no crate/p' >>"$work/errors"

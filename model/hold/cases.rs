@@ -106,10 +106,14 @@ fn row(step: &Step) -> String {
     format!("{head}\n    {calls}\n    {wants}")
 }
 
-/// The module's name of a scenario file: antt takes no dot in it.
+/// The module's name of a scenario file: its words, each with a capital, without what stands between them.
 pub fn module(file: &str) -> String {
     let stem = file.rsplit('/').next().unwrap_or(file);
-    format!("Case-{}", stem.trim_end_matches(".txt").replace('.', "-"))
+    let words = stem.trim_end_matches(".txt").split(['-', '.']).map(|word| {
+        let mut letters = word.chars();
+        letters.next().map_or(String::new(), |first| first.to_ascii_uppercase().to_string() + letters.as_str())
+    });
+    format!("Case{}", words.collect::<String>())
 }
 
 /// The module of a scenario.
@@ -119,20 +123,21 @@ pub fn table(file: &str, text: &str, steps: &[Step]) -> String {
         text.lines().take_while(|l| l.starts_with('#')).map(|l| l.replacen('#', "--", 1).trim_end().to_string()).collect();
     // A read is no call of the card program.
     let calls = steps.iter().filter(|step| !step.is_read());
-    let rows: Vec<String> = calls.map(row).collect();
+    let rows = calls.map(row).collect::<Vec<String>>().join("\n    ∷ ");
+    // Texts of several lines are put together.
+    let strings = if rows.contains("\n    ++ ") { "use Prim.Native.String.{◌++◌}\n" } else { "" };
     format!(
         "-- model/scenarios/{name}, made by tools/cases.sh. Line numbers are that file's.\n{}\n\
-         use mathlib.Core.List.{{List, [], _∷_}}\n\
-         use Prim.Native.String.{{_++_}}\n\
-         use Rattle·cases·specs.specs.Scenario.{{Row, row, Holds, holds}}\n\
-         use Rattle·cases·specs.specs.Computing.{{computing}}\n\n\
+         use Rattle.std.specs.Prelude.{{List, [], ◌∷◌}}\n\
+         {strings}\
+         use Rattle.cases.specs.Scenario.{{Row, row, Holds, holds}}\n\
+         use Rattle.cases.specs.Computing.{{computing}}\n\n\
          unfoldable pub rows : List Row\n\
-         rows =\n    {}\n    ∷ []\n\n\
+         rows =\n    {rows}\n    ∷ []\n\n\
          pub same : Holds rows\n\
          unfolding rows computing\n\
          same = holds rows (tt, tt)\n",
-        head.join("\n"),
-        rows.join("\n    ∷ ")
+        head.join("\n")
     )
 }
 
@@ -166,6 +171,6 @@ mod tests {
 
     #[test]
     fn a_module_has_no_dot() {
-        assert_eq!(module("a/6.2-first-come.txt"), "Case-6-2-first-come");
+        assert_eq!(module("a/6.2-first-come.txt"), "Case62FirstCome");
     }
 }

@@ -11,7 +11,9 @@ file != "" {
     text[texts] = line
     where[texts] = file
     if (line ~ /^ *\/\/ /) { sub(/^ *\/\/ */, "", line); said = said (said == "" ? "" : " ") line; owner[texts] = name; next }
-    if (line ~ /^ *(#\[.*\] *)?(pub )?(extern "C" )?(unsafe )?fn /) {
+    # an attribute between comment and function
+    if (attribute || line ~ /^ *#\[/) { attribute = line !~ /\] *$/ && line !~ /fn /; if (line !~ /fn /) { owner[texts] = name; next } }
+    if (line ~ /^ *(#\[.*\] *)?(pub )?(const )?(unsafe )?(extern "C" )?(unsafe )?fn /) {
         name = line
         sub(/^.*fn /, "", name)
         sub(/[(<].*/, "", name)
@@ -62,7 +64,7 @@ END {
     }
 }
 
-function squeezed(s) { gsub(/^ +| +$/, "", s); gsub(/⌜ ?/, "", s); gsub(/ ?⌝/, "", s); gsub(/  +/, " ", s); return s }
+function squeezed(s) { gsub(/^ +| +$/, "", s); gsub(/  +/, " ", s); return s }
 
 # show CLAUSE: a line of a contract, as code
 function show(c) {

@@ -46,7 +46,7 @@ END {
     write_all()
 }
 
-# hold_names: a definition that a row names by hand, as `Calls.closeCall`, stands in that file of the law, or of the second engine's rules;
+# hold_names: a definition that a row names by hand, as `Calls.close_call`, stands in that file of the law, or of the second engine's rules;
 # names with a hyphen are laws
 function hold_names(    t, i, rest, one, field, part2) {
     for (t = 1; t <= texts; t++) {
@@ -56,7 +56,7 @@ function hold_names(    t, i, rest, one, field, part2) {
         is_file[one] = 1
         stands[one, name[t]] = 1
         # a field or a case stands in the text of its type
-        if (line[t] ~ /^ +(pub )?[A-Za-z]+ /) {
+        if (line[t] ~ /^ +(pub )?[A-Za-z_]+ /) {
             field = line[t]
             sub(/^ +(pub )?/, "", field)
             sub(/ .*/, "", field)
@@ -65,7 +65,7 @@ function hold_names(    t, i, rest, one, field, part2) {
     }
     for (i = 1; i <= sentences; i++) {
         rest = by_hand[i] " " remark[i]
-        while (match(rest, /`[A-Z][A-Za-z]*\.[A-Za-z0-9]+`/)) {
+        while (match(rest, /`[A-Z][A-Za-z]*\.[A-Za-z0-9_]+`/)) {
             one = substr(rest, RSTART + 1, RLENGTH - 2)
             rest = substr(rest, RSTART + RLENGTH)
             split(one, part2, ".")

@@ -2,7 +2,7 @@
 -- J.280 clauses 7.3, 8.1 and 8.2: initialisation, version, Hardware_Config.
 -- Shows: Revision_Num 2 or 102, ChannelName or 104, in that order; a failed first Init
 -- leaves the connection not initialised, a failed later one leaves it initialised;
--- of Hardware_Config only that it Fits is looked at, and nothing behind it is read (02, CR 6).
+-- of Hardware_Config only that it fits is looked at, and nothing behind it is read (02, CR 6).
 --
 -- 01 leads elsewhere: 7.3's example has three connections per channel (120 for 40); 01 has
 --   connections 0 to 3 for its one channel, and a fifth is house number 1.

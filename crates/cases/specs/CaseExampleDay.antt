@@ -10,7 +10,7 @@
 -- open, init, splice … and in front of each record is the connection.
 --   connection 0: the local ad server, AccessType 3
 --   connection 1: the national ad server, AccessType 6
---   Durations count 90 k_hz ticks: 15 s = 1,350,000, 30 s = 2,700,000, 60 s = 5,400,000,
+--   Durations count 90 kHz ticks: 15 s = 1,350,000, 30 s = 2,700,000, 60 s = 5,400,000,
 --   120 s = 10,800,000. "played" counts the same ticks, only while really on air.
 --   flag=0 is a start (splice-in), flag=1 an end (splice-out).
 --
