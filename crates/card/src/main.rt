@@ -13,6 +13,7 @@ ghost use Rattle.card.specs.Ran.{Ran, moved, again, Turned, Stopped};
 
 use feed::Played;
 use memory::{BYTES, WORDS};
+use std::io::{Stdin, Stdout};
 use stdio::Written;
 
 // After a turn: the bytes that are still to be played, whether there may be more to play, and the answer of the write.
@@ -80,19 +81,27 @@ fn goes_on(more: bool, read: usize, used: usize) -> bool
 }
 
 // Reads once, plays what is there, writes what that gives, and keeps the bytes of a cut record.
-fn turn(m: &mut [u64; WORDS], b: &mut [u8], input: &mut [u8], have: usize, out: &mut [u8]) -> Left
+fn turn(
+    stdin: Stdin,
+    stdout: Stdout,
+    m: &mut [u64; WORDS],
+    b: &mut [u8],
+    input: &mut [u8],
+    have: usize,
+    out: &mut [u8],
+) -> Left
     requires lent { Lent m.old b.old }
     requires have_in_bounds { (have ≤ length input.old) × (message_end largest_size ≤ length input.old) }
     requires card_room_in_bounds { card_room ≤ length out.old }
     ensures { Turned (shown m.old b.old) (take have input.old) result
         m.new b.new input.new out.new }
 {
-    let n = stdio::refill(&mut *input, have);
+    let n = stdio::refill(stdin, &mut *input, have);
     let end = have + n;
     let p = run(&mut *m, &mut *b, &input[..end], &mut *out);
     let len = p.len;
     let used = p.used;
-    let written = stdio::write(&out[..len]);
+    let written = stdio::write(stdout, &out[..len]);
     keep(&mut *input, used, end);
     Left {
         have: end - used,
@@ -102,7 +111,14 @@ fn turn(m: &mut [u64; WORDS], b: &mut [u8], input: &mut [u8], have: usize, out: 
 }
 
 // A proved loop has to end, and nothing says that the input does. So it counts its turns down, from a number that no run uses up.
-fn turns(m: &mut [u64; WORDS], b: &mut [u8], input: &mut [u8], out: &mut [u8]) -> Stop
+fn turns(
+    stdin: Stdin,
+    stdout: Stdout,
+    m: &mut [u64; WORDS],
+    b: &mut [u8],
+    input: &mut [u8],
+    out: &mut [u8],
+) -> Stop
     requires lent { Lent m.old b.old }
     requires largest_size_in_bounds { (message_end largest_size ≤ length input.old) × (card_room ≤ length out.old) }
     ensures { Stopped (shown m.old b.old) result }
@@ -110,7 +126,15 @@ fn turns(m: &mut [u64; WORDS], b: &mut [u8], input: &mut [u8], out: &mut [u8]) -
     let mut have = 0;
     let mut left = u64::MAX;
     while 0 < left {
-        let t = turn(&mut *m, &mut *b, &mut *input, have, &mut *out);
+        let t = turn(
+            stdin,
+            stdout,
+            &mut *m,
+            &mut *b,
+            &mut *input,
+            have,
+            &mut *out,
+        );
         let written = t.written;
         if !stdio::is_whole(written) {
             return Stop::Unwritten(written);
@@ -125,17 +149,17 @@ fn turns(m: &mut [u64; WORDS], b: &mut [u8], input: &mut [u8], out: &mut [u8]) -
 }
 
 // The whole program.
-fn play() -> Stop
+fn play(stdin: Stdin, stdout: Stdout) -> Stop
     ensures { Stopped (fresh (padded card_name)).splicer result }
 {
     let mut m = [0; WORDS];
     let mut b = [0; BYTES];
     engine::fresh(&feed::channel(), &mut m, &mut b);
-    let mut input = io::large_buffer();
-    let mut out = io::large_buffer();
-    turns(&mut m, &mut b, &mut input, &mut out)
+    let mut input = stdio::large_buffer();
+    let mut out = stdio::large_buffer();
+    turns(stdin, stdout, &mut m, &mut b, &mut input, &mut out)
 }
 
-fn main() {
-    play();
+fn main(rt: HostRuntime) {
+    play(rt.stdin(), rt.stdout());
 }

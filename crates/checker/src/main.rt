@@ -8,6 +8,8 @@ ghost use Rattle.std.specs.Prelude.{◌≡◌};
 ghost use Rattle.checker.specs.Input.{found_in, is_longer, Asks, Judges};
 
 use recording::Finding;
+use std::io;
+use std::io::{Stdin, Stdout};
 use stdio::Came;
 
 // What stands behind the bytes that were read. A short read is the whole input; behind a full one a byte more is tried.
@@ -25,14 +27,14 @@ struct Judged {
     finding: Finding,
 }
 
-fn look_behind(read: usize) -> Behind
+fn look_behind(stdin: Stdin, read: usize) -> Behind
     ensures { Asks read result }
 {
     if read < judge::LONGEST {
         return Behind::Short;
     }
     let mut next = [0; 1];
-    Behind::Tried(stdio::read(&mut next))
+    Behind::Tried(stdio::read(stdin, &mut next))
 }
 
 fn is_longer(b: Behind) -> bool
@@ -53,33 +55,27 @@ fn found(l: &[u8], is_longer: bool) -> Finding
     judge::check(l)
 }
 
-fn numbered(words: &[u8], n: usize) {
-    io::write_all(libc::STDOUT_FILENO, words);
-    io::print_decimal(libc::STDOUT_FILENO, n as u64);
-    io::write_all(libc::STDOUT_FILENO, b"\n");
+fn numbered(stdout: Stdout, words: &str, n: usize) -> io::Result<()> {
+    println!(stdout; "{words}{n}")
 }
 
-fn say(f: Finding) {
+fn say(stdout: Stdout, f: Finding) -> io::Result<()> {
     match f {
-        Finding::Longer => {
-            io::write_all(libc::STDOUT_FILENO, b"refused 15\n");
-        }
-        Finding::Unknown(at) => numbered(b"refused 14 at ", at),
-        Finding::Differs(n) => numbered(b"call ", n),
-        Finding::None => {
-            io::write_all(libc::STDOUT_FILENO, b"none\n");
-        }
+        Finding::Longer => println!(stdout; "refused 15"),
+        Finding::Unknown(at) => numbered(stdout, "refused 14 at ", at),
+        Finding::Differs(n) => numbered(stdout, "call ", n),
+        Finding::None => println!(stdout; "none"),
     }
 }
 
 // The whole program, but for the line that it writes.
-fn read_and_judge() -> Judged
+fn read_and_judge(stdin: Stdin) -> Judged
     ensures { Judges result }
 {
-    let mut input = io::large_buffer();
-    let read = stdio::read(&mut input);
+    let mut input = stdio::large_buffer();
+    let read = stdio::read(stdin, &mut input);
     let n = stdio::count_of(read);
-    let behind = look_behind(n);
+    let behind = look_behind(stdin, n);
     let finding = found(&input[..n], is_longer(behind));
     Judged {
         read: read,
@@ -88,8 +84,8 @@ fn read_and_judge() -> Judged
     }
 }
 
-fn main() {
-    let j = read_and_judge();
+fn main(rt: HostRuntime) -> io::Result<()> {
+    let j = read_and_judge(rt.stdin());
     let f = j.finding;
-    say(f);
+    say(rt.stdout(), f)
 }

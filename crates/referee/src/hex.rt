@@ -1,4 +1,7 @@
 // A line of bytes in hex.
+use std::io;
+use std::io::Stdout;
+
 fn digit(x: u8) -> u8 {
     if x < 10 {
         return b'0' + x;
@@ -10,16 +13,16 @@ fn digit(x: u8) -> u8 {
 }
 
 // A word, and behind a space the bytes, if there are any.
-pub fn line(word: &[u8], l: &[u8]) {
-    io::write_all(libc::STDOUT_FILENO, word);
+pub fn line(stdout: Stdout, word: &[u8], l: &[u8]) -> io::Result<()> {
+    stdout.write_all(word)?;
     if 0 < l.len() {
-        io::write_all(libc::STDOUT_FILENO, b" ");
+        stdout.write_all(b" ")?;
     }
     let mut i = 0;
     while i < l.len() {
         let two = [digit(l[i] / 16), digit(l[i] % 16)];
-        io::write_all(libc::STDOUT_FILENO, &two);
+        stdout.write_all(&two)?;
         i += 1;
     }
-    io::write_all(libc::STDOUT_FILENO, b"\n");
+    stdout.write_all(b"\n")
 }

@@ -14,133 +14,152 @@ use hex::line;
 use judge::ROOM;
 use memory::{BYTES, WORDS};
 use recording::Entry;
+use std::io;
+use std::io::{Read, Stdin, Stdout};
 use std::num::wrapping_add_usize;
 
 // One read: how many bytes came.
-fn read(input: &mut [u8]) -> usize
+fn read(mut stdin: Stdin, input: &mut [u8]) -> usize
     ensures { result ≤ length input.new }
 {
-    let got = libc::read(libc::STDIN_FILENO, &mut *input);
-    io::count(got, &*input)
+    match stdin.read(&mut *input) {
+        Ok(n) => n,
+        Err(_) => 0,
+    }
 }
 
-fn numbered(words: &[u8], n: usize) {
-    io::write_all(libc::STDOUT_FILENO, words);
-    io::print_decimal(libc::STDOUT_FILENO, n as u64);
-    io::write_all(libc::STDOUT_FILENO, b"\n");
+// 65,536 zeros.
+fn large_buffer() -> [u8; 65536]
+    ensures { 65536 ≡ length result }
+{
+    [0; 65536]
+}
+
+fn numbered(stdout: Stdout, words: &str, n: usize) -> io::Result<()> {
+    println!(stdout; "{words}{n}")
 }
 
 // The checker's line: a cut last entry is none.
-fn say(v: Verdict) {
+fn say(stdout: Stdout, v: Verdict) -> io::Result<()> {
     if v.kind == 1 {
-        numbered(b"call ", v.number);
-        return;
+        return numbered(stdout, "call ", v.number);
     }
     if v.kind == 2 {
-        numbered(b"refused 14 at ", v.place);
-        return;
+        return numbered(stdout, "refused 14 at ", v.place);
     }
-    io::write_all(libc::STDOUT_FILENO, b"none\n");
+    println!(stdout; "none")
 }
 
 // The record that l begins with; a call or a mark there is none.
-fn found(l: &[u8]) {
+fn found(stdout: Stdout, l: &[u8]) -> io::Result<()> {
     if let Entry::Wrote(n) = judge::entry_at(l) {
-        line(b"found", &l[..n]);
-        return;
+        return line(stdout, b"found", &l[..n]);
     }
-    line(b"found", b"");
+    line(stdout, b"found", b"")
 }
 
-fn wanted(t: Stage, due: &[u8])
+fn wanted(stdout: Stdout, t: Stage, due: &[u8]) -> io::Result<()>
     requires from_le_end { t.from ≤ t.end }
     requires end_in_bounds { t.end ≤ length due.now }
 {
     let from = t.from;
     let end = t.end;
-    line(b"wanted", &due[from..end]);
+    line(stdout, b"wanted", &due[from..end])
 }
 
 // Told while the piece was handed in, which begins at the place `before`: its entry lies there, or was kept.
-fn tell(t: Stage, due: &[u8], kept: &[u8], piece: &[u8], before: usize)
+fn tell(
+    stdout: Stdout,
+    t: Stage,
+    due: &[u8],
+    kept: &[u8],
+    piece: &[u8],
+    before: usize,
+) -> io::Result<()>
     requires from_le_end { t.from ≤ t.end }
     requires end_in_bounds { t.end ≤ length due.now }
 {
-    say(follow::told(t));
+    say(stdout, follow::told(t))?;
     if t.told != 1 {
-        return;
+        return Ok(());
     }
-    wanted(t, due);
+    wanted(stdout, t, due)?;
     if before <= t.at {
         let off = t.at - before;
         if off < piece.len() {
-            found(&piece[off..]);
-            return;
+            return found(stdout, &piece[off..]);
         }
     }
-    found(kept);
+    found(stdout, kept)
 }
 
 // The recording ended, and nothing was told before.
-fn close(t: Stage, due: &[u8])
+fn close(stdout: Stdout, t: Stage, due: &[u8]) -> io::Result<()>
     requires from_le_end { t.from ≤ t.end }
     requires end_in_bounds { t.end ≤ length due.now }
 {
     let v = follow::end(t);
-    say(v);
+    say(stdout, v)?;
     if v.kind == 1 {
-        wanted(t, due);
-        line(b"found", b"");
+        wanted(stdout, t, due)?;
+        line(stdout, b"found", b"")?;
     }
+    Ok(())
 }
 
 // Piece by piece, as it comes, and on to the end when something was told: who writes into a pipe is not stopped. A proved loop has to end,
 // and nothing says that the input does: it counts its turns down, from a number that no run uses up.
 fn turns(
+    stdin: Stdin,
+    stdout: Stdout,
     s: Stage,
     m: &mut [u64; WORDS],
     b: &mut [u8; BYTES],
     due: &mut [u8; ROOM],
     kept: &mut [u8; KEPT],
     input: &mut [u8],
-)
+) -> io::Result<()>
     requires { Holds s m.old b.old due.old kept.old }
 {
     let mut t = s;
     let mut is_said = false;
+    let mut said = Ok(());
     let mut before: usize = 0;
     let mut left: usize = 18446744073709551615;
     while 0 < left {
-        let n = read(&mut *input);
+        let n = read(stdin, &mut *input);
         if n == 0 {
             if !is_said {
-                close(t, &*due);
+                return close(stdout, t, &*due);
             }
-            return;
+            return said;
         }
         t = follow::feed(&input[..n], t, &mut *m, &mut *b, &mut *due, &mut *kept);
         if !is_said && t.told != 0 {
-            tell(t, &*due, &*kept, &input[..n], before);
+            said = tell(stdout, t, &*due, &*kept, &input[..n], before);
             is_said = true;
         }
         before = wrapping_add_usize(before, n);
         left -= 1;
     }
+    said
 }
 
-fn main() {
+fn main(rt: HostRuntime) -> io::Result<()> {
     let mut m = [0; WORDS];
     let mut b = [0; BYTES];
     let mut due = [0; ROOM];
     let mut kept = [0; KEPT];
-    let mut input = io::large_buffer();
+    let mut input = large_buffer();
     let _answer: engine::Answer = follow::fresh(&feed::channel(), &mut m, &mut b);
     turns(
+        rt.stdin(),
+        rt.stdout(),
         follow::first(),
         &mut m,
         &mut b,
         &mut due,
         &mut kept,
         &mut input,
-    );
+    )
 }

@@ -14,6 +14,7 @@ ghost use Rattle.remember.specs.Remembered.{Reads, Answers, Stopped, fresh_log};
 use reading::LONGEST;
 use reading::numbers::number2;
 use recall_log::{Record, Reply};
+use std::io::{Stdin, Stdout};
 use stdio::{Came, Written};
 
 // A mark, a connection, and the longest message: 4,088 bytes behind a header of 8.
@@ -118,11 +119,11 @@ enum Stop {
 }
 
 // One record of the input, which is read from its front on. Of a message with MessageSize above 4,088 the header.
-fn read_record(l: &mut [u8]) -> Read
+fn read_record(stdin: Stdin, l: &mut [u8]) -> Read
     requires { length l.old ≡ 4098 }
     ensures { Reads result l.new }
 {
-    let mark = stdio::fill(&mut *l, stdio::none(), MARK_END);
+    let mark = stdio::fill(stdin, &mut *l, stdio::none(), MARK_END);
     if !stdio::is_whole(mark) {
         return Read { len: 0, last: mark };
     }
@@ -134,7 +135,7 @@ fn read_record(l: &mut [u8]) -> Read
             last: mark,
         };
     }
-    let header = stdio::fill(&mut *l, mark, HEADER_END);
+    let header = stdio::fill(stdin, &mut *l, mark, HEADER_END);
     if !stdio::is_whole(header) {
         return Read {
             len: 0,
@@ -149,7 +150,7 @@ fn read_record(l: &mut [u8]) -> Read
         };
     }
     let end = HEADER_END + size as usize;
-    let data = stdio::fill(&mut *l, header, end);
+    let data = stdio::fill(stdin, &mut *l, header, end);
     let len = if stdio::is_whole(data) { end } else { 0 };
     Read {
         len: len,
@@ -168,31 +169,31 @@ fn is_last(l: &[u8]) -> bool
 }
 
 // One record played, and what that gives handed to be written.
-fn answer(log: &mut [u8], l: &[u8], out: &mut [u8]) -> Written
+fn answer(stdout: Stdout, log: &mut [u8], l: &[u8], out: &mut [u8]) -> Written
     requires in_bounds { 2 ≤ length l.now }
     requires out_len { length out.old ≡ card_room }
     ensures { Answers log.old l.now result log.new }
 {
     let len = play_record(&mut *log, l, &mut *out);
-    stdio::write(&out[..len])
+    stdio::write(stdout, &out[..len])
 }
 
 // It goes on after 13. A proved loop has to end, and nothing says that the input does. So it counts its turns down, from a number that no
 // run uses up.
-fn turns(log: &mut [u8], l: &mut [u8], out: &mut [u8]) -> Stop
+fn turns(stdin: Stdin, stdout: Stdout, log: &mut [u8], l: &mut [u8], out: &mut [u8]) -> Stop
     requires l_len { length l.old ≡ 4098 }
     requires out_len { length out.old ≡ card_room }
     ensures { Stopped log.old result }
 {
     let mut left = u64::MAX;
     while 0 < left {
-        let r = read_record(&mut *l);
+        let r = read_record(stdin, &mut *l);
         let came = r.last;
         let n = r.len;
         if n < MARK_END {
             return Stop::Over(came);
         }
-        let written = answer(&mut *log, &l[..n], &mut *out);
+        let written = answer(stdout, &mut *log, &l[..n], &mut *out);
         if !stdio::is_taken(written) {
             return Stop::Unwritten(written);
         }
@@ -205,16 +206,16 @@ fn turns(log: &mut [u8], l: &mut [u8], out: &mut [u8]) -> Stop
 }
 
 // The whole program.
-fn play() -> Stop
+fn play(stdin: Stdin, stdout: Stdout) -> Stop
     ensures { Stopped fresh_log result }
 {
-    let mut log = io::large_buffer();
+    let mut log = stdio::large_buffer();
     recall::fresh(&mut log);
     let mut l = [0; RECORD];
     let mut out = [0; 4096];
-    turns(&mut log, &mut l, &mut out)
+    turns(stdin, stdout, &mut log, &mut l, &mut out)
 }
 
-fn main() {
-    play();
+fn main(rt: HostRuntime) {
+    play(rt.stdin(), rt.stdout());
 }
