@@ -17,8 +17,7 @@ use rows::Row;
 use streams::{KEPT, LIST};
 
 // Whatever stood in the words before.
-#[unsafe(no_mangle)]
-pub extern "C" fn splicer_7_fresh(
+pub fn splicer_7_fresh(
     name: &[u8; 32],
     words: &mut [u64; WORDS],
     bytes: &mut [u8; BYTES],
@@ -30,8 +29,7 @@ pub extern "C" fn splicer_7_fresh(
     *reply = engine::reply_of(a);
 }
 
-#[unsafe(no_mangle)]
-pub extern "C" fn splicer_7_open(
+pub fn splicer_7_open(
     words: &mut [u64; WORDS],
     bytes: &mut [u8; BYTES],
     conn: u32,
@@ -45,8 +43,7 @@ pub extern "C" fn splicer_7_open(
     *reply = engine::reply_of(a);
 }
 
-#[unsafe(no_mangle)]
-pub extern "C" fn splicer_7_close(
+pub fn splicer_7_close(
     words: &mut [u64; WORDS],
     bytes: &mut [u8; BYTES],
     conn: u32,
@@ -62,8 +59,7 @@ pub extern "C" fn splicer_7_close(
 }
 
 // l: the bytes read so far. 02, CR 6: the lent sections have one lifetime, as the function has that returns one of them.
-#[unsafe(no_mangle)]
-pub extern "C" fn splicer_7_message<'a>(
+pub fn splicer_7_message<'a>(
     words: &mut [u64; WORDS],
     bytes: &mut [u8; BYTES],
     conn: u32,
@@ -83,8 +79,7 @@ pub extern "C" fn splicer_7_message<'a>(
     *reply = engine::reply_of(a);
 }
 
-#[unsafe(no_mangle)]
-pub extern "C" fn splicer_7_tick(
+pub fn splicer_7_tick(
     words: &mut [u64; WORDS],
     bytes: &mut [u8; BYTES],
     seconds: u32,
@@ -101,12 +96,7 @@ pub extern "C" fn splicer_7_tick(
 }
 
 // 02, CR 2: how many wait of each connection. It only reads, and nothing is refused.
-#[unsafe(no_mangle)]
-pub extern "C" fn splicer_7_waiting(
-    words: &[u64; WORDS],
-    bytes: &[u8; BYTES],
-    counts: &mut [u64; 4],
-)
+pub fn splicer_7_waiting(words: &[u64; WORDS], bytes: &[u8; BYTES], counts: &mut [u64; 4])
     requires { Lent words.now bytes.now }
     ensures { Counts words.now bytes.now counts.new }
 {
@@ -114,8 +104,7 @@ pub extern "C" fn splicer_7_waiting(
 }
 
 // 02, CR 13: the ninths of a microsecond, since clock 0, in which nothing was on air. It only reads, and nothing is refused.
-#[unsafe(no_mangle)]
-pub extern "C" fn splicer_7_primary(words: &[u64; WORDS], bytes: &[u8; BYTES]) -> u64
+pub fn splicer_7_primary(words: &[u64; WORDS], bytes: &[u8; BYTES]) -> u64
     requires { Lent words.now bytes.now }
     ensures { Primary words.now bytes.now result }
 {
@@ -125,32 +114,21 @@ pub extern "C" fn splicer_7_primary(words: &[u64; WORDS], bytes: &[u8; BYTES]) -
 
 // 02, CR 1: the list of a request that names its PIDs itself, from PcrPID on, into lent words and bytes. The bytes taken, or 0: then all
 // that is lent stays as it was.
-#[unsafe(no_mangle)]
-pub extern "C" fn splicer_7_read_streams(
-    l: &[u8],
-    words: &mut [u64; LIST],
-    kept: &mut [u8; KEPT],
-) -> usize
+pub fn splicer_7_read_streams(l: &[u8], words: &mut [u64; LIST], kept: &mut [u8; KEPT]) -> usize
     ensures { ReadsList l.now words.old kept.old result words.new kept.new }
 {
     streams::read(l, &mut *words, &mut *kept)
 }
 
 // The bytes written of it, from PcrPID on, or 0: then out stays as it was.
-#[unsafe(no_mangle)]
-pub extern "C" fn splicer_7_write_streams(
-    words: &[u64; LIST],
-    kept: &[u8; KEPT],
-    out: &mut [u8],
-) -> usize
+pub fn splicer_7_write_streams(words: &[u64; LIST], kept: &[u8; KEPT], out: &mut [u8]) -> usize
     ensures { WritesList words.now kept.now out.old result out.new }
 {
     streams::write(words, kept, &mut *out)
 }
 
 // 02, CR 5: what the one on air asks of the multiplexer. It only reads, and nothing is refused.
-#[unsafe(no_mangle)]
-pub extern "C" fn splicer_7_mux(words: &[u64; WORDS], bytes: &[u8; BYTES]) -> u64
+pub fn splicer_7_mux(words: &[u64; WORDS], bytes: &[u8; BYTES]) -> u64
     requires { Lent words.now bytes.now }
     ensures { ReadsMux words.now bytes.now result }
 {
@@ -171,8 +149,7 @@ fn anchor_of(given: &[u32]) -> Anchor
 
 // 02, CR 7: a section of cues. given: the PTS, its high 32 bits first, then Seconds and MicroSeconds of the instant that belongs to it. The
 // words and bytes are only read.
-#[unsafe(no_mangle)]
-pub extern "C" fn splicer_7_cue(
+pub fn splicer_7_cue(
     words: &[u64; WORDS],
     bytes: &[u8; BYTES],
     section: &[u8],
@@ -190,9 +167,8 @@ pub extern "C" fn splicer_7_cue(
 
 // 02, CR 8: the driver's page: the last 16 that ended, from the newest down, into sixteen rows that the caller lends. 0, or house number 16
 // for other than sixteen rows: then every row stays as it was. Lent are the last words of the memory, in which what ended is kept. It only
-// reads them. The one function that is walked by hand: Rattle covers no lent slice of structs.
-#[unsafe(no_mangle)]
-pub extern "C" fn splicer_7_ended(ended: &[u64], page: &mut [Row]) -> u64
+// reads them.
+pub fn splicer_7_ended(ended: &[u64], page: &mut [Row]) -> u64
     ensures { Pages ended.now page.old result page.new }
 {
     let n = rows::to_fill(page.len());
@@ -206,10 +182,8 @@ pub extern "C" fn splicer_7_ended(ended: &[u64], page: &mut [Row]) -> u64
 }
 
 // 02, CR 6: whose section is on air: 0 the primary's, 1 the insertion's. It only reads, and nothing is refused. C then takes its own
-// pointer:
-// an exported function returns no reference.
-#[unsafe(no_mangle)]
-pub extern "C" fn splicer_7_map(words: &[u64; WORDS], bytes: &[u8; BYTES]) -> u64
+// pointer: an exported function returns no reference.
+pub fn splicer_7_map(words: &[u64; WORDS], bytes: &[u8; BYTES]) -> u64
     requires { Lent words.now bytes.now }
     ensures { ReadsFeed words.now bytes.now result }
 {
@@ -218,12 +192,7 @@ pub extern "C" fn splicer_7_map(words: &[u64; WORDS], bytes: &[u8; BYTES]) -> u6
 
 // The sessions that are held, as rows of seven words in lent words: two 32-bit numbers of a row share a word, the first in its low half, so
 // that on a little-endian machine a row is C's struct. How many there are. It only reads, and nothing is refused.
-#[unsafe(no_mangle)]
-pub extern "C" fn splicer_7_sessions(
-    words: &[u64; WORDS],
-    bytes: &[u8; BYTES],
-    rows: &mut [u64],
-) -> usize
+pub fn splicer_7_sessions(words: &[u64; WORDS], bytes: &[u8; BYTES], rows: &mut [u64]) -> usize
     requires { Lent words.now bytes.now }
     ensures { ReadsSessions words.now bytes.now rows.old result rows.new }
 {
@@ -231,8 +200,7 @@ pub extern "C" fn splicer_7_sessions(
 }
 
 // What the archive is: so that a driver that was linked can say it.
-#[unsafe(no_mangle)]
-pub extern "C" fn splicer_7_version() -> u64
+pub fn splicer_7_version() -> u64
     ensures { result ≡ version }
 {
     7000
@@ -240,8 +208,7 @@ pub extern "C" fn splicer_7_version() -> u64
 
 // The one on air: 1, connection, SessionID, start, end and time on air so far in ninths, SpliceEventID, AccessType, MuxPriorityValue; with
 // none all 0. It only reads, and nothing is refused.
-#[unsafe(no_mangle)]
-pub extern "C" fn splicer_7_air(words: &[u64; WORDS], bytes: &[u8; BYTES], air: &mut [u64; 9])
+pub fn splicer_7_air(words: &[u64; WORDS], bytes: &[u8; BYTES], air: &mut [u64; 9])
     requires { Lent words.now bytes.now }
     ensures { ReadsAir words.now bytes.now air.new }
 {
@@ -255,8 +222,7 @@ pub extern "C" fn splicer_7_air(words: &[u64; WORDS], bytes: &[u8; BYTES], air: 
 
 // When a tick would do anything: 2, the instant in ninths, Seconds and MicroSeconds of the first tick that reaches it; 1 and the instant,
 // if no tick does; 0 with nothing due. It only reads, and nothing is refused.
-#[unsafe(no_mangle)]
-pub extern "C" fn splicer_7_due(words: &[u64; WORDS], bytes: &[u8; BYTES], due: &mut [u64; 4])
+pub fn splicer_7_due(words: &[u64; WORDS], bytes: &[u8; BYTES], due: &mut [u64; 4])
     requires { Lent words.now bytes.now }
     ensures { ReadsDue words.now bytes.now due.new }
 {

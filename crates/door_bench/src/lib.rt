@@ -29,8 +29,7 @@ fn words_of(f: Finding) -> [u64; 3]
 }
 
 // The recording is only read.
-#[unsafe(no_mangle)]
-pub extern "C" fn splicer_bench_2_check(recording: &[u8], reply: &mut [u64; 3])
+pub fn splicer_bench_2_check(recording: &[u8], reply: &mut [u64; 3])
     ensures { reply.new ≡ words_of (checked recording.now) }
 {
     let f = judge::check(recording);
@@ -39,7 +38,7 @@ pub extern "C" fn splicer_bench_2_check(recording: &[u8], reply: &mut [u64; 3])
 
 // ---- The referee: the same judgement of a recording that comes in pieces. Its stage is lent words.
 
-const STAGE: usize = 7;
+pub const STAGE: usize = 7;
 
 fn stage_of(w: &[u64; STAGE]) -> Stage
     ensures { result ≡ stage_in w.now }
@@ -91,8 +90,7 @@ fn part_of(s: Stage) -> [u64; 2]
 }
 
 // Whatever stood in the lent memory before; what is due and what is kept need not be cleared. The reply is that of fresh.
-#[unsafe(no_mangle)]
-pub extern "C" fn splicer_bench_2_referee_fresh(
+pub fn splicer_bench_2_referee_fresh(
     name: &[u8; 32],
     words: &mut [u64; WORDS],
     bytes: &mut [u8; BYTES],
@@ -107,8 +105,7 @@ pub extern "C" fn splicer_bench_2_referee_fresh(
 }
 
 // A piece of any length; the reply: what is told so far.
-#[unsafe(no_mangle)]
-pub extern "C" fn splicer_bench_2_referee_feed(
+pub fn splicer_bench_2_referee_feed(
     words: &mut [u64; WORDS],
     bytes: &mut [u8; BYTES],
     due: &mut [u8; ROOM],
@@ -129,8 +126,7 @@ pub extern "C" fn splicer_bench_2_referee_feed(
 }
 
 // What is found if the recording ends here. It only reads.
-#[unsafe(no_mangle)]
-pub extern "C" fn splicer_bench_2_referee_end(stage: &[u64; STAGE], reply: &mut [u64; 4])
+pub fn splicer_bench_2_referee_end(stage: &[u64; STAGE], reply: &mut [u64; 4])
     ensures { reply.new ≡ verdict_words (end_by (stage_in stage.now)) }
 {
     let s = stage_of(stage);
@@ -138,8 +134,7 @@ pub extern "C" fn splicer_bench_2_referee_end(stage: &[u64; STAGE], reply: &mut 
 }
 
 // Where in the buffer what is still due stands, and how long it is. It only reads.
-#[unsafe(no_mangle)]
-pub extern "C" fn splicer_bench_2_referee_due(stage: &[u64; STAGE], part: &mut [u64; 2])
+pub fn splicer_bench_2_referee_due(stage: &[u64; STAGE], part: &mut [u64; 2])
     ensures { part.new ≡ part_of (stage_in stage.now) }
 {
     *part = part_of(stage_of(stage));
@@ -158,29 +153,21 @@ fn reply_words(r: Reply) -> [u64; 4]
     }
 }
 
-#[unsafe(no_mangle)]
-pub extern "C" fn splicer_bench_2_recall_fresh(log: &mut [u8], reply: &mut [u64; 4])
+pub fn splicer_bench_2_recall_fresh(log: &mut [u8], reply: &mut [u64; 4])
     ensures { TellsFresh log.old reply.new log.new }
 {
     let r = recall::fresh(&mut *log);
     *reply = reply_words(r);
 }
 
-#[unsafe(no_mangle)]
-pub extern "C" fn splicer_bench_2_recall_open(log: &mut [u8], conn: u32, reply: &mut [u64; 4])
+pub fn splicer_bench_2_recall_open(log: &mut [u8], conn: u32, reply: &mut [u64; 4])
     ensures { Tells (opens conn) log.old [] reply.new log.new [] }
 {
     let r = recall::open(&mut *log, conn);
     *reply = reply_words(r);
 }
 
-#[unsafe(no_mangle)]
-pub extern "C" fn splicer_bench_2_recall_close(
-    log: &mut [u8],
-    conn: u32,
-    out: &mut [u8],
-    reply: &mut [u64; 4],
-)
+pub fn splicer_bench_2_recall_close(log: &mut [u8], conn: u32, out: &mut [u8], reply: &mut [u64; 4])
     ensures { Tells (closes conn (length out.old)) log.old out.old reply.new
         log.new out.new }
 {
@@ -189,8 +176,7 @@ pub extern "C" fn splicer_bench_2_recall_close(
 }
 
 // l: the bytes read so far. 02, CR 6: the lent sections have one lifetime, as the function has that returns one of them.
-#[unsafe(no_mangle)]
-pub extern "C" fn splicer_bench_2_recall_message<'a>(
+pub fn splicer_bench_2_recall_message<'a>(
     log: &mut [u8],
     conn: u32,
     l: &[u8],
@@ -207,8 +193,7 @@ pub extern "C" fn splicer_bench_2_recall_message<'a>(
     *reply = reply_words(r);
 }
 
-#[unsafe(no_mangle)]
-pub extern "C" fn splicer_bench_2_recall_tick(
+pub fn splicer_bench_2_recall_tick(
     log: &mut [u8],
     seconds: u32,
     micros: u32,

@@ -15,8 +15,7 @@ use rolling::Given;
 
 // Whatever stood in the words before. The words and bytes go to the door's open, close, message and read; the counter's words stand beside
 // them.
-#[unsafe(no_mangle)]
-pub extern "C" fn splicer_7_rolling_fresh(
+pub fn splicer_7_rolling_fresh(
     name: &[u8; 32],
     words: &mut [u64; WORDS],
     bytes: &mut [u8; BYTES],
@@ -31,8 +30,7 @@ pub extern "C" fn splicer_7_rolling_fresh(
 }
 
 // given: Seconds, MicroSeconds and the counter's reading.
-#[unsafe(no_mangle)]
-pub extern "C" fn splicer_7_instant(
+pub fn splicer_7_instant(
     words: &mut [u64; WORDS],
     bytes: &mut [u8; BYTES],
     counter: &mut [u64; 2],
@@ -53,8 +51,7 @@ pub extern "C" fn splicer_7_instant(
     *reply = engine::reply_of(a);
 }
 
-#[unsafe(no_mangle)]
-pub extern "C" fn splicer_7_reading(
+pub fn splicer_7_reading(
     words: &mut [u64; WORDS],
     bytes: &mut [u8; BYTES],
     counter: &mut [u64; 2],
@@ -72,8 +69,7 @@ pub extern "C" fn splicer_7_reading(
 
 // After how many ticks of the counter, from the last good reading on, a reading would do anything: 1 and the ticks; or 0 and the longest
 // step, if none that is good does, as before the instant is given. It only reads, and nothing is refused.
-#[unsafe(no_mangle)]
-pub extern "C" fn splicer_7_rolling_due(
+pub fn splicer_7_rolling_due(
     words: &[u64; WORDS],
     bytes: &[u8; BYTES],
     counter: &[u64; 2],
