@@ -1,6 +1,6 @@
 -- Both engines over any calls, by what each promises alone. Rests on recall's Steps: one call of a log that leads to the card's splicer.
 use mathlib.Core.Path.{◌≡◌, refl, sym, subst, ap, ◌∙◌}
-use mathlib.Core.Bool.{Bool, true, false, cond, ◌||◌}
+use mathlib.Core.Bool.{Bool, true, false, ◌||◌}
 use mathlib.Core.List.{List, [], ◌∷◌, ◌++◌, append-nil, append_assoc}
 use Prim.Native.Nat.{ℕ, ◌+◌, ◌-◌}
 use native.Mathlib.Omega.{arith}
@@ -19,9 +19,9 @@ use Rattle.rules.specs.Follows.Sound.{Wired}
 use Rattle.rules.proofs.Tests.{by}
 use Rattle.rules.proofs.Written.{written_none}
 use Rattle.recall_log.specs.declared.Reply.{Reply}
-use Rattle.recall_log.specs.declared.Reply.TheVariants.{Full, Refused, Done}
+use Rattle.recall_log.specs.declared.Reply.TheVariants.{Done}
 use Rattle.recall_log.specs.Log.{kept_calls, log_length, most_calls, longest_record, other_length, full}
-use Rattle.recall_log.specs.Kept.{Its, kept_form, is_good, recorded, number_of, reply_of, cleared}
+use Rattle.recall_log.specs.Kept.{Its, kept_form, is_good, recorded, reply_of, cleared}
 use Rattle.recall_log.proofs.Appends.{cleared-calls}
 use Rattle.recall_log.proofs.Logs.{same_length, length-same, recorded-append}
 use Rattle.demands_recall.specs.Sides.{Pair, Same, is13, until13, None13, log_after, is_done, good_ones, LikeTheCard}

@@ -1,7 +1,7 @@
 -- Both engines called side by side, each result one that the call's contract allows: the card's from fresh with "CH1", as
 -- demands_engine/specs/Trace
 -- has it, and the second one from its fresh, each call handed the log that the last one left.
-use Rattle.std.specs.Prelude.{◌≡◌, List, [], ◌∷◌, map, ℕ}
+use Rattle.std.specs.Prelude.{List, [], ◌∷◌, map, ℕ}
 use Rattle.rules.specs.Bytes.{padded}
 use Rattle.rules.specs.Card.{card_name}
 use Rattle.rules.specs.Calls.{fresh}
