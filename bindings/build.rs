@@ -1,7 +1,7 @@
 //! Links the archives `libdoor.a` and `librolldoor.a`, and for the feature `bench` `libbench.a`.
 //! SPLICER_LIB names their folder. Without it they are those of the release that this crate stands
-//! in, `../lib`; in the repository, which has none, `../target/staticlib` (`rt staticlib`), or for
-//! another processor than x86-64 `../target/native`, where `tools/beside.sh` has them compiled.
+//! in, `../lib`; in the repository, which has none, `../target/staticlib` (`sh tools/archives.sh`),
+//! or for another processor than x86-64 `../target/native`, where `tools/beside.sh` has them compiled.
 
 use std::path::{Path, PathBuf};
 
@@ -43,7 +43,7 @@ fn link(folder: &Path, name: &str) {
     let archive = folder.join(format!("lib{name}.a"));
     if !archive.is_file() {
         let by = if is_x86() {
-            "rt staticlib"
+            "sh tools/archives.sh"
         } else {
             "sh tools/archive-for.sh TARGET OUT.a"
         };

@@ -183,12 +183,12 @@ long() {
 
 # the programs, and from C
 checkers() {
-    rt check checker door_bench && archive "$work/archive" bench && archive "$work/archive" door &&
+    program "$work/proving" checker && archive "$work/archive" bench && archive "$work/archive" door &&
         sh tools/build-driver.sh "$work/check" tools/bench/check.c target/staticlib/libdoor.a target/staticlib/libbench.a -Iinclude
 }
 
 recalls() {
-    rt check card remember &&
+    programs "$work/proving" card remember &&
         sh tools/build-driver.sh "$work/recall" tools/bench/recall.c target/staticlib/libdoor.a target/staticlib/libbench.a -Iinclude
 }
 
@@ -219,7 +219,7 @@ ends 2 '' breaking
 built on_terminal
 
 # the referee: the same recordings, each in the order of what stands in it, worked by hand
-built rt check referee
+built program "$work/proving" referee
 while read -r file wanted; do
     referee <"examples/recordings/$file" >"$work/lines" 2>/dev/null || :
     # nothing read is no recording

@@ -1,8 +1,8 @@
 #!/bin/sh
 # beside.sh [ARG..]: the second program and the proved core called side by side in one process over the archives (model/beside, ARGs as it
-# takes them), and the tests of the Rust wrapper (bindings), built for this machine and run by it: on x86-64 over the archives that
-# `rt staticlib` makes, on another machine over the same proved modules compiled for it (tools/archive-for.sh). Where that cannot be done
-# it fails. By request alone: on another machine ROUTE=x86 takes the x86-64 archives, by a Rust for x86-64 and Debian's emulator (sh
+# takes them), and the tests of the Rust wrapper (bindings), built for this machine and run by it: on x86-64 over the archives of
+# tools/archives.sh, on another machine over the same proved crates compiled for it (tools/archive-for.sh). Where that cannot be done it
+# fails. By request alone: on another machine ROUTE=x86 takes the x86-64 archives, by a Rust for x86-64 and Debian's emulator (sh
 # tools/setup.sh x86), and ROUTE=card holds more streams through the card program to the second program instead, which has no cue, no
 # rolling call, no count and no `moved` and so says nothing of these.
 # The last line is 'N passed, M failed'.
@@ -113,9 +113,7 @@ over_card() {
     CARGO_TARGET_DIR=target/model
     export CARGO_TARGET_DIR
     ran build cargo build --release --offline --manifest-path model/Cargo.toml || return 0
-    if [ ! -x target/bin/card ]; then
-        ran card rt check card || return 0
-    fi
+    ran card program "$work/rt.log" card || return 0
     if ran fuzz target/model/release/model fuzz --seed 281 --n 900 --card 'sh tools/run-program.sh target/bin/card'; then
         passed=$((passed + 1))
     fi

@@ -1,6 +1,7 @@
 #!/bin/sh
-# build-driver.sh OUT SOURCE.c ARCHIVE [ARCHIVE.a|FLAG..]: an x86-64 program of a C source and archives that `rt staticlib` made, compiled
-# and linked by the kit alone, on x86-64 or Arm. Run it by run-program.sh. The kit has no C headers: the source declares what it calls.
+# build-driver.sh OUT SOURCE.c ARCHIVE [ARCHIVE.a|FLAG..]: an x86-64 program of a C source and archives that the kit made
+# (tools/archives.sh), compiled and linked by the kit alone. Run it by run-program.sh. The kit has no C headers: the source declares what it
+# calls.
 set -eu
 . "$(dirname "$0")/words.sh"
 [ $# -ge 3 ] || refuse 'usage: build-driver.sh OUT SOURCE.c ARCHIVE [ARCHIVE.a|FLAG..]'
@@ -17,10 +18,9 @@ while :; do
     *) break ;;
     esac
 done
-own=$kit/on/$(uname -m)
 target=x86_64-unknown-linux-gnu
-"$own/toolchain/bin/clang" --target=$target -march=x86-64 -std=c11 -Wall -Wextra -Werror -O3 -fPIC -DSPLICER_NO_STANDARD_HEADERS \
+"$kit/toolchain/bin/clang" --target=$target -march=x86-64 -std=c11 -Wall -Wextra -Werror -O3 -fPIC -DSPLICER_NO_STANDARD_HEADERS \
     "$@" -c "$source" -o "$out.o"
-"$own/bin/rattle-link" --target $target --toolchain "$own/toolchain" -o "$out" "$out.o" "$archive" $more >"$out.log" 2>&1 ||
+"$kit/bin/rattle-link" --target $target --toolchain "$kit/toolchain" -o "$out" "$out.o" "$archive" $more >"$out.log" 2>&1 ||
     { cat "$out.log" >&2; exit 1; }
 rm -f "$out.o" "$out.log"

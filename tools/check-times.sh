@@ -1,7 +1,7 @@
 #!/bin/sh
-# check-times.sh [--write | COMMIT..]: how long a check takes, by commit: the processor seconds (user and system) of `rt check` of all
-# listed crates from nothing, in a clone under target/; nothing else should run meanwhile, though processor seconds hardly change if it
-# does. Of the named commits, or of all that tools/check-times/requests.txt names, oldest first. A commit that docs/notes/README.md or an
+# check-times.sh [--write | COMMIT..]: how long a check takes, by commit: the processor seconds (user and system) of `rt all verdict`, which
+# checks all listed crates from nothing, in a clone outside of this folder; nothing else should run meanwhile, though processor seconds
+# hardly change if it does. The figures of commits in an older Rattle are of its own kit, `rt check`. Of the named commits, or of all that tools/check-times/requests.txt names, oldest first. A commit that docs/notes/README.md or an
 # earlier run has a figure of is not checked again. With --write nothing is checked: the figures that are there go to the tables of
 # docs/notes/README.md and to the notes of the requests. No part of the gate.
 set -eu
@@ -34,21 +34,21 @@ named() {
 
 # measure NAME: a commit in a clone. Its figures go to files of its name; what does not check goes to NAME.failed
 measure() {
-    rm -rf "$work/clone"
-    git clone -q --no-checkout . "$work/clone"
-    git -C "$work/clone" checkout -q "$1"
-    if (cd "$work/clone" && RT_JOBS=1 rt check >../log 2>&1 && times >../times); then
+    rm -rf "$room/clone"
+    git clone -q --no-checkout . "$room/clone"
+    git -C "$room/clone" checkout -q "$1"
+    if (cd "$room/clone" && rt all verdict --jobs 1 >"$here/$work/log" 2>&1 && times >"$here/$work/times"); then
         # `times` of the shell: the last line is what its children took
         tail -n 1 "$work/times" | awk '
         { for (i = 1; i <= NF; i++) { split($i, t, /[ms]/); s += t[1] * 60 + t[2] } printf "%.0f\n", s }' >"$work/$1.part"
-        grep -cE '^[a-z_]+:' "$work/clone/crates.txt" >"$work/$1.crates"
+        grep -cE '^[a-z_]+[ a-z]*:' "$room/clone/crates.txt" >"$work/$1.crates"
         mv "$work/$1.part" "$work/$1"
     else
         tail -n 20 "$work/log" >"$work/$1.failed"
         echo "check-times: $1 does not check:" >&2
         tail -n 3 "$work/log" >&2
     fi
-    rm -rf "$work/clone"
+    rm -rf "$room/clone"
 }
 
 # tables: those of the page, as they can be filled
@@ -101,6 +101,8 @@ if [ "${1:-}" = --write ]; then
     exit 0
 fi
 needs rt git
+here=$PWD
+apart
 # shellcheck disable=SC2046
 [ $# -gt 0 ] || set -- $(named)
 for commit; do

@@ -3,10 +3,10 @@
 # target/dist/splicer-VERSION-PROCESSOR.tar.gz: headers, archives, pkg-config files, programs, the desk's program, splicerd and adserver
 # with their man pages and a systemd unit, the Rust crate, examples, docs, README, CHANGELOG, NOTICE, splicer.spdx (what is in it, by
 # SPDX) and MANIFEST (commit, versions of kit and compilers, the sum of the logic that the proofs were checked by, and of each file). It
-# is built twice of what is committed, from nothing and in two folders, and compared byte by byte; then it is unpacked and used
-# (tools/use-release.sh). With --proved both folders take over the proofs of this one (target/rlib, target/stamp) for all crates but those
-# of archives and programs, which are proved and built anew. With --gate it is built once, of the files as they stand and of the archives
-# and programs that the gate proved and built here, into target/dist/gate; its `desk`, `splicerd` and `adserver` are built without
+# is built twice of what is committed, from nothing and in two folders outside of this one, by `rt ci --anew`, and compared byte by byte;
+# then it is unpacked and used (tools/use-release.sh). With --proved both folders take what `rt ci` passed on this machine as proved, and
+# the programs as built; the archives are proved and built anew. With --gate it is built once, of the files as they stand and of the
+# archives and programs that the gate proved and built here, into target/dist/gate; its `desk`, `splicerd` and `adserver` are built without
 # optimisation, and its MANIFEST says so. The last line is 'N passed, M failed'.
 set -eu
 . "$(dirname "$0")/words.sh"
@@ -83,6 +83,11 @@ when() {
     TZ=UTC git -C "$here" log -1 --date=format-local:%Y-%m-%dT%H:%M:%SZ --format=%cd "$head"
 }
 
+# proved CRATE FILE: what rt said of its proof, which is nothing where it took one over
+proved() {
+    echo "proved, of $1: $(grep . "$2" || echo 'by an earlier rt ci on the same machine, of the same sources by the same kit')"
+}
+
 # manifest: of the files in the present folder, and what they were made by
 manifest() {
     echo "$release"
@@ -90,10 +95,9 @@ manifest() {
     echo "processor $processor"
     echo "version of the state and of the archive's functions $state"
     echo "kit $(rt version)"
-    for crate in door door_rolling door_bench $programs; do
-        echo "proved, of $crate: $(sed -n 's/^logic=proved //p' "$source/target/log/$crate.say" | head -n 1)"
-    done
-    echo "compiler of archives and proved programs $("$kit/on/$(uname -m)/toolchain/bin/clang" --version | head -n 1)"
+    for name in door rolldoor bench; do proved "$(crate_of "$name")" "$parts/lib$name.a.proved"; done
+    for program in $programs; do proved "$program" "$source/target/bin/$program.proved"; done
+    echo "compiler of archives and proved programs $("$kit/toolchain/bin/clang" --version | head -n 1)"
     echo "compiler of desk, splicerd and adserver $(rustc --version), $optimised"
     find . -type f ! -name MANIFEST | LC_ALL=C sort | xargs sha256sum
 }
@@ -140,14 +144,14 @@ network() {
 proved_parts() {
     for name in door rolldoor bench; do
         if [ "$processor" = x86_64 ]; then
-            archive "$parts/$name.log" "$name" && cp "target/staticlib/lib$name.a" "$parts/"
+            archive "$parts/$name.log" "$name" && cp "target/staticlib/lib$name.a" "target/staticlib/lib$name.a.proved" "$parts/"
         else
             sh tools/archive-for.sh "$target" "$parts/lib$name.a" "$name"
         fi || return 1
     done
     if [ -n "$programs" ]; then
         # shellcheck disable=SC2086
-        proving "$parts/programs.log" check $programs || return 1
+        programs "$parts/programs.log" $programs || return 1
         for program in $programs; do cp "target/bin/$program" "$parts/" || return 1; done
     fi
     for program in $judges; do
@@ -184,14 +188,15 @@ gathered() {
     manifest >MANIFEST
 }
 
-# committed FOLDER: the sources as they are committed, and with --proved the proofs of this folder
+# committed FOLDER: the sources as they are committed, and proved; for rt it is the top of a repository
 committed() {
-    mkdir -p "$1"
+    mkdir -p "$1/.git" "$1/target"
     git archive "$head" | tar -x -C "$1"
-    [ "$how" = --proved ] || return 0
-    mkdir -p "$1/target"
-    cp -R target/rlib target/stamp target/log "$1/target/"
-    for crate in door door_rolling door_bench card checker referee remember; do rm -f "$1/target/stamp/$crate"; done
+    anew=--anew
+    [ "$how" != --proved ] || anew=
+    echo "proving all that is committed, each edit and run with it (many minutes)"
+    # shellcheck disable=SC2086
+    (cd "$1" && rt ci $anew >target/rt-ci 2>&1 && proved_by_ci '' target/rt-ci) || { tail -n 20 "$1/target/rt-ci" >&2; return 1; }
 }
 
 # built FOLDER: a release in FOLDER
@@ -225,12 +230,14 @@ if [ "$how" = --gate ]; then
     built "$work/one"
 else
     [ -z "$(git status --porcelain)" ] || echo 'dist: what is not committed is left out'
+    apart
     for folder in one a-second-folder; do
         echo "dist: building in $folder"
-        built "$work/$folder"
+        built "$room/$folder"
     done
-    held 'both folders alike, file by file' diff -r "$work/one/$release" "$work/a-second-folder/$release"
-    held 'both packages alike' cmp "$work/one.tar.gz" "$work/a-second-folder.tar.gz"
+    held 'both folders alike, file by file' diff -r "$room/one/$release" "$room/a-second-folder/$release"
+    held 'both packages alike' cmp "$room/one.tar.gz" "$room/a-second-folder.tar.gz"
+    mv "$room/one.tar.gz" "$work/"
 fi
 mv "$work/one.tar.gz" "$work/$release.tar.gz"
 used

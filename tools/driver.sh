@@ -13,7 +13,7 @@ cd "$(dirname "$0")/.."
 work=target/driver
 rm -rf "$work"
 mkdir -p "$work"
-clang=$kit/on/$(uname -m)/toolchain/bin/clang
+clang=$kit/toolchain/bin/clang
 passed=0
 failed=0
 

@@ -26,7 +26,7 @@ if ! command -v rt >/dev/null 2>&1; then
     exit 0
 fi
 echo 'example: now the proved card program'
-proving "$work/log" check card checker
+programs "$work/log" card checker
 echo 'example: running the card program on the same day'
 sh tools/run-program.sh target/bin/card <"$work/in" >"$work/out"
 if cmp "$work/second" "$work/out"; then

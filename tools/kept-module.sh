@@ -1,6 +1,6 @@
 #!/bin/sh
 # kept-module.sh FOLDER WORD..: runs `rt WORD..` in the present folder, by a copy of the kit made of links (FOLDER/kit) whose clang keeps
-# the first LLVM module that it is handed: FOLDER/module.bc.
+# the largest LLVM module that it is handed: FOLDER/module.bc. FOLDER lies outside of this project's, where rt refuses links.
 set -eu
 . "$(dirname "$0")/words.sh"
 [ $# -ge 2 ] || refuse 'usage: kept-module.sh FOLDER WORD..'
@@ -9,7 +9,6 @@ find_kit
 mkdir -p "$1"
 work=$(cd "$1" && pwd -P)
 shift
-tools=on/$(uname -m)/toolchain
 rm -rf "$work/kit" "$work/module.bc"
 
 # links FOLDER: a link in the copy to each file of the kit's folder
@@ -22,20 +21,28 @@ links() {
 }
 
 links .
-links on
-links "$(dirname "$tools")"
-links "$tools"
-links "$tools/bin"
-rm "$work/kit/$tools/bin/clang"
-cat >"$work/kit/$tools/bin/clang" <<END
+links bin
+# rt finds its kit by where its own file lies
+for file in rt rtlib.py; do
+    rm "$work/kit/bin/$file"
+    cp "$kit/bin/$file" "$work/kit/bin/"
+done
+links toolchain
+links toolchain/bin
+rm "$work/kit/toolchain/bin/clang"
+cat >"$work/kit/toolchain/bin/clang" <<END
 #!/bin/sh
 for word in "\$@"; do
     case \$word in
-    *.bc) [ -f "$work/module.bc" ] || cp "\$word" "$work/module.bc" ;;
+    *.bc)
+        if [ ! -f "$work/module.bc" ] || [ "\$(wc -c <"\$word")" -gt "\$(wc -c <"$work/module.bc")" ]; then
+            cp "\$word" "$work/module.bc"
+        fi
+        ;;
     esac
 done
-exec "$kit/$tools/bin/clang" "\$@"
+exec "$kit/toolchain/bin/clang" "\$@"
 END
-chmod +x "$work/kit/$tools/bin/clang"
-RATTLE_HOME=$work/kit rt "$@"
+chmod +x "$work/kit/toolchain/bin/clang"
+"$work/kit/bin/rt" "$@"
 [ -f "$work/module.bc" ] || { echo "kept-module.sh: rt $* compiled nothing" >&2; exit 1; }

@@ -10,7 +10,7 @@ find_kit
 cd "$(dirname "$0")/.."
 work=target/measure-check
 mkdir -p "$work"
-tools=$kit/on/$(uname -m)/toolchain
+tools=$kit/toolchain
 archive=${ARCHIVE:-target/staticlib/libbench.a}
 [ -n "${ARCHIVE:-}" ] || archive "$work/log" bench >"$work/said" 2>&1 || { tail -n 3 "$work/said" >&2; exit 1; }
 sh tools/build-driver.sh "$work/measure" tools/bench/measure.c "$archive" -Iinclude

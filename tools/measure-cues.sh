@@ -1,8 +1,8 @@
 #!/bin/sh
 # measure-cues.sh: instructions and stack of the cue call (02, CR 7) beside a plain one in C (tools/measure/cues.c), after some random
 # sections by both, and the bytes of its code; tables for docs/MEASURES.md. Instructions are exact, counted by Debian's qemu-user with
-# tools/measure/insns.c. ARCHIVE names another archive than that of `rt staticlib door`, CALLS another number of random ones. No part of the
-# gate.
+# tools/measure/insns.c. ARCHIVE names another archive than libdoor.a of tools/archives.sh, CALLS another number of random ones. No part of
+# the gate.
 set -eu
 . "$(dirname "$0")/words.sh"
 no_words "$@"
@@ -11,9 +11,9 @@ find_kit
 cd "$(dirname "$0")/.."
 work=target/measure-cues
 mkdir -p "$work"
-tools=$kit/on/$(uname -m)/toolchain
+tools=$kit/toolchain
 archive=${ARCHIVE:-target/staticlib/libdoor.a}
-[ -n "${ARCHIVE:-}" ] || rt staticlib door >"$work/log" 2>&1 || { tail -n 3 "$work/log" >&2; exit 1; }
+[ -n "${ARCHIVE:-}" ] || archive "$work/log" door >"$work/said" 2>&1 || { tail -n 3 "$work/said" >&2; exit 1; }
 sh tools/build-driver.sh "$work/cues" tools/measure/cues.c "$archive" -Iinclude
 gcc -O2 -shared -fPIC tools/measure/insns.c -o "$work/insns.so"
 objdump=$(command -v x86_64-linux-gnu-objdump || command -v objdump)

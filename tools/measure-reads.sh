@@ -12,7 +12,7 @@ find_kit
 cd "$(dirname "$0")/.."
 work=target/measure-reads
 mkdir -p "$work"
-tools=$kit/on/$(uname -m)/toolchain
+tools=$kit/toolchain
 folder=${ARCHIVES:-target/staticlib}
 [ -n "${ARCHIVES:-}" ] || { archive "$work/log" door && archive "$work/log" rolldoor; }
 sh tools/build-driver.sh "$work/reads" tools/measure/reads.c "$folder/libdoor.a" "$folder/librolldoor.a" -Iinclude

@@ -15,7 +15,7 @@
 # Before anything is measured, replies, buffers and reads (waiting counts, value on air, primary sum) of all five are compared on the call
 # and on all calls that made its state.
 # How the states are made, so that they favour no engine: tools/measure/cases.h.
-# ARCHIVE names another archive than that of `rt staticlib door`, as the unproved one of tools/try-archive.sh.
+# ARCHIVE names another archive than libdoor.a of tools/archives.sh, as the unproved one of tools/try-archive.sh.
 # Needs Debian's qemu-user and gcc (once, for the plugin; the kit's own emulator takes no plugin), cargo and a rustc with the library for
 # x86-64 (RUSTC names one; Debian 12: rustc-web and libstd-rust-web-dev:amd64), on Arm gcc-x86-64-linux-gnu too (objdump, objcopy, and the
 # linker for programs). `sh tools/setup.sh x86` installs them. No part of the gate.
@@ -33,8 +33,7 @@ find_kit
 cd "$(dirname "$0")/.."
 work=target/measure
 mkdir -p "$work"
-own=$kit/on/$(uname -m)
-tools=$own/toolchain
+tools=$kit/toolchain
 target=x86_64-unknown-linux-gnu
 core=${ARCHIVE:-target/staticlib/libdoor.a}
 rust=$work/libinplace.a
@@ -80,7 +79,7 @@ in_place() {
 
 build() {
     if [ -z "${ARCHIVE:-}" ]; then
-        quiet rt staticlib door
+        quiet archive "$work/rt.log" door
     fi
     in_place inplace
     in_place unordered
@@ -88,7 +87,7 @@ build() {
         --manifest-path tools/measure/second/Cargo.toml
     quiet "$tools/bin/clang" --target=$target -march=x86-64 -std=c11 -Wall -Wextra -Werror -O3 -fPIC -DSPLICER_NO_STANDARD_HEADERS \
         -Iinclude -Itools/measure -c tools/measure/bench.c -o "$work/bench.o"
-    quiet "$own/bin/rattle-link" --target $target --toolchain "$tools" -o "$work/bench" "$work/bench.o" "$core" "$rust" \
+    quiet "$kit/bin/rattle-link" --target $target --toolchain "$tools" -o "$work/bench" "$work/bench.o" "$core" "$rust" \
         "$unordered" "$second"
     quiet gcc -O2 -shared -fPIC tools/measure/insns.c -o "$work/insns.so"
 }
@@ -378,7 +377,7 @@ programs() {
     [ "$(uname -m)" = x86_64 ] || linker=x86_64-linux-gnu-gcc
     quiet env RUSTC="$rustc" CARGO_TARGET_DIR="$work/model" CARGO_TARGET_X86_64_UNKNOWN_LINUX_GNU_LINKER=$linker \
         cargo build --release --offline --target $target --manifest-path model/Cargo.toml
-    quiet rt check card
+    quiet program "$work/rt.log" card
     program=$work/model/$target/release/model
     rm -rf "$work/streams"
     mkdir -p "$work/streams"

@@ -10,8 +10,7 @@ plain=
 [ $# -ge 1 ] || refuse 'usage: run-program.sh [--plain] PROGRAM [ARG..]'
 [ -f "$1" ] || refuse "no program $1"
 find_kit
-tools=$kit/on/$(uname -m)/toolchain
-[ -d "$tools" ] || { echo "run-program.sh: the kit has nothing for $(uname -m)" >&2; exit 2; }
+tools=$kit/toolchain
 program=$1
 shift
 case $program in

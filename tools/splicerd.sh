@@ -1,5 +1,5 @@
 #!/bin/sh
-# splicerd.sh [install FOLDER]: builds splicerd and adserver (splicerd/) over the proved archive and runs their tests, over real sockets:
+# splicerd.sh [install FOLDER]: builds splicerd and adserver (splicerd/) over the proved archives and runs their tests, over real sockets:
 # the scenarios that sockets can make byte for byte, drops, slow readers, kills, the page. With `install FOLDER` it builds them optimised
 # and puts programs, man pages and systemd unit into FOLDER/bin, FOLDER/share/man/man1 and FOLDER/lib/systemd/system. The libraries are
 # Debian's packages (sh tools/setup.sh installs them); nothing comes from a network. SPLICER_LIB names a folder with archives that are

@@ -1,7 +1,7 @@
 #!/bin/sh
-# symbols.sh: the functions that each archive exports are those that its header declares, with the header's version in their names, those
-# whose requires and ensures its crate's proofs/Cited goes through, and those that the Rust wrapper links; and the version of all that bears
-# one is CHANGELOG's. One line for each difference.
+# symbols.sh: the functions that each archive exports are those that its header declares, with the header's version in their names, those of
+# the crate below whose requires and ensures its proofs/Cited goes through, and those that the Rust wrapper links; and the version of all
+# that bears one is CHANGELOG's. One line for each difference.
 # The last line is 'N passed, M failed'.
 set -eu
 . "$(dirname "$0")/words.sh"
@@ -13,13 +13,14 @@ work=target/symbols
 rm -rf "$work"
 mkdir -p "$work"
 # the kit's clang is llvm-nm too, by that name
-ln -s "$kit/on/$(uname -m)/toolchain/bin/clang" "$work/llvm-nm"
+apart
+ln -s "$kit/toolchain/bin/clang" "$room/llvm-nm"
 passed=0
 failed=0
 
 # exported NAME: every global symbol that its archive defines
 exported() {
-    "$work/llvm-nm" --extern-only --defined-only --just-symbol-name "target/staticlib/lib$1.a" | sed '/:$/d; /^$/d'
+    "$room/llvm-nm" --extern-only --defined-only --just-symbol-name "target/staticlib/lib$1.a" | sed '/:$/d; /^$/d'
 }
 
 # declared HEADER..: every function that is declared and has no body there
@@ -27,23 +28,23 @@ declared() {
     sed -nE '/^(static|typedef) /!s/^[a-z][A-Za-z0-9_ ]*[ *]([A-Za-z_][A-Za-z0-9_]*)\(.*/\1/p' "$@"
 }
 
-# cited NAME: every function of which the crate's Cited equates requires and ensures with something
+# cited CRATE: every function of which its Cited equates requires and ensures with something
 cited() {
     awk '
     { text = text " " $0 }
-    match($0, /«[a-z0-9_]+» as [A-Za-z0-9-]+$/) {
+    match($0, /\.(contracts|proofs)\.(«)?[a-z0-9_]+(»)? as [A-Za-z0-9_-]+$/) {
         split(substr($0, RSTART, RLENGTH), words, / as /)
-        gsub(/[«»]/, "", words[1])
+        gsub(/^.*\.|«|»/, "", words[1])
         symbol[words[2]] = words[1]
     }
     END {
         for (alias in symbol) {
-            n = split(text, parts, " " alias "\\.clauses ")
+            n = split(text, parts, "[ (]" alias "\\.clauses ")
             requires = ensures = 0
             for (i = 2; i <= n; i++) {
                 sub(/≡.*/, "", parts[i])
-                if (parts[i] ~ / \.requires /) requires = 1
-                if (parts[i] ~ / \.ensures /) ensures = 1
+                if (parts[i] ~ /\.requires /) requires = 1
+                if (parts[i] ~ /\.ensures /) ensures = 1
             }
             if (requires && ensures) print symbol[alias]
         }
@@ -113,7 +114,8 @@ fi
 for name in door rolldoor bench; do
     archive "$work/log" "$name" >"$work/said" || { cat "$work/said"; echo '0 passed, 1 failed'; exit 1; }
     list "lib$name.a" exported "$name"
-    list "Cited-of-$name" cited "$(crate_of "$name")"
+    below=$(crate_of "$name")
+    list "Cited-of-$name" cited "${below%_c}"
     same "lib$name.a" "Cited-of-$name"
 done
 headers=$(ls include/*.h | grep -v '/splicer_bench\.h$')

@@ -7,6 +7,7 @@ no_words "$@"
 cd "$(dirname "$0")/.."
 work=target/uses
 mkdir -p "$work"
+apart
 passed=0
 failed=0
 
@@ -66,9 +67,8 @@ alone() {
 
 # first_look: example.sh where there is no kit: the day, then what the kit would add, and a good end
 first_look() {
-    mkdir -p "$work/rust"
-    for tool in cargo rustc; do ln -sf "$(command -v $tool)" "$work/rust/$tool"; done
-    env -u RATTLE_HOME PATH="$PWD/$work/rust:/usr/bin:/bin" sh tools/example.sh >"$work/said" 2>&1 &&
+    for tool in cargo rustc; do ln -sf "$(command -v $tool)" "$room/$tool"; done
+    env -u RATTLE_HOME PATH="$room:/usr/bin:/bin" sh tools/example.sh >"$work/said" 2>&1 &&
         grep -q 'Init_Request' "$work/said" && grep -q 'with the Rattle kit' "$work/said"
 }
 
@@ -85,6 +85,7 @@ held 'definitions.sh, no number' refuses tools/definitions.sh 1 two
 held 'measure.sh, no such part' refuses tools/measure.sh counts weight
 held 'archive-for.sh, a 32-bit processor' refuses tools/archive-for.sh armv7-unknown-linux-gnu target/x.a
 held 'archives.sh, a crate' refuses tools/archives.sh door_rolling
+held 'programs.sh, a library' refuses tools/programs.sh engine
 held 'archive-for.sh, a crate without an archive' refuses tools/archive-for.sh aarch64-unknown-linux-gnu target/x.a engine
 held 'archive-for.sh, one word' refuses tools/archive-for.sh aarch64-unknown-linux-gnu
 held 'beside.sh, a value is missing' refuses tools/beside.sh --seed

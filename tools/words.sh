@@ -81,21 +81,42 @@ needs_rust() {
 find_kit() {
     [ -n "${RATTLE_HOME:-}" ] || needs rt
     kit=${RATTLE_HOME:-$(cd "$(dirname "$(readlink -f "$(command -v rt)")")/.." && pwd -P)}
-    [ -d "$kit/on" ] || { echo "$(basename "$0"): $kit is no Rattle kit (RATTLE_HOME names another)" >&2; exit 2; }
+    [ -x "$kit/toolchain/bin/clang" ] || {
+        echo "$(basename "$0"): $kit is no Rattle kit (RATTLE_HOME names another)" >&2
+        exit 2
+    }
+}
+
+# apart: sets room to a new folder outside of this one, which is gone when the script ends. For copies of sources and for links: `rt ci`
+# reads every folder here, and stops at a link, at a crates.txt and at a .rt or .antt file that belongs to no listed crate
+apart() {
+    room=$(mktemp -d)
+    trap 'rm -rf "$room"' EXIT
+    trap 'exit 1' HUP INT TERM
+}
+
+# crates_listed: the listed crates, a line each: name, what it is (- or staticlib), what it uses
+crates_listed() {
+    awk '
+    { sub(/#.*/, ""); at = index($0, ":") }
+    at {
+        n = split(substr($0, 1, at - 1), words, " ")
+        print words[1], (n > 1 && words[2] == "staticlib" ? words[2] : "-") substr($0, at + 1)
+    }' crates.txt
 }
 
 # reached NAME: the listed crates that it depends on, and itself
 reached() {
-    awk -v name="$1" '
-    { sub(/#.*/, ""); at = index($0, ":"); if (at) deps[substr($0, 1, at - 1)] = substr($0, at + 1) }
+    crates_listed | awk -v name="$1" '
+    { deps[$1] = $0 }
     END { visit(name) }
     function visit(one,    n, i, list) {
         if (one in seen || !(one in deps)) return
         seen[one] = 1
         print one
         n = split(deps[one], list, " ")
-        for (i = 1; i <= n; i++) visit(list[i])
-    }' crates.txt
+        for (i = 3; i <= n; i++) visit(list[i])
+    }'
 }
 
 # watched LOG ALL PATTERN COMMAND..: runs it; each line that fits the pattern is shown as it comes, with how many of ALL are left. LOG gets
@@ -110,9 +131,13 @@ watched() {
             printf '%s\n' "$line" >>"$log"
             case $line in
             'rt: ok'*) ;;
-            $pattern | 'rt: target/staticlib/'*)
+            $pattern)
                 at=$((at + 1))
-                echo "  $at of $all: ${line#rt: }; $((all - at)) left"
+                line=${line#rt: }
+                case $line in
+                'crate '*': modules loaded='*) line=${line#crate } line="${line%%:*} checked" ;;
+                esac
+                echo "  $at of $all: $line; $((all - at)) left"
                 ;;
             esac
         done
@@ -122,75 +147,129 @@ watched() {
     return "$status"
 }
 
-# proving LOG check|staticlib NAME..: `rt check NAME..` or `rt staticlib NAME`, a line for each crate as it is proved; what rt said is shown
-# if it fails
+# proving LOG NAME COMMAND..: the command, which runs rt in the folder of the crate NAME; a line for each crate as it is checked; what rt
+# said is shown if it fails. What is proved already has no line
 proving() {
-    said=$1 verb=$2
+    said=$1 one=$2
     shift 2
-    proving_by "$said" "$*" rt "$verb" "$@"
+    echo "proving $one and what is needed for it (some minutes where nothing is proved yet)"
+    watched "$said" "$(reached "$one" | wc -l)" 'crate *: modules loaded=*' in_crate "$one" "$@" || { cat "$said" >&2; return 1; }
 }
 
-# proving_by LOG NAMES COMMAND..: the same by a command that runs rt
-proving_by() {
-    said=$1 all=$(for one in $2; do reached "$one"; done | sort -u | wc -l)
-    echo "proving $2 and what is needed for it (some minutes where nothing is proved yet)"
-    shift 2
-    watched "$said" "$all" 'rt: * proved*' "$@" || { cat "$said" >&2; return 1; }
-}
+# in_crate NAME COMMAND..: in its folder, with nothing to read
+in_crate() { (cd "crates/$1" && shift && "$@" </dev/null); }
 
-# crate_of NAME: the crate whose archive people link as libNAME.a
-crate_of() {
-    case $1 in
-    rolldoor) echo door_rolling ;;
-    bench) echo door_bench ;;
-    *) echo "$1" ;;
-    esac
-}
-
-# made_of NAME: one number of the kit, of the listed crates, of all sources that libNAME.a is made of, of it and of the module that is kept
-# of it
-made_of() {
+# sources NAME..: one number of the kit, of crates.txt and of the crates' sources
+sources() {
     {
         rt version
         cat crates.txt
-        for crate in $(reached "$(crate_of "$1")"); do find "crates/$crate" -name '*.rt' -o -name '*.antt'; done | sort | xargs sha256sum
-        sha256sum "target/staticlib/lib$1.a"
-        if [ -f "target/staticlib/$1.bc" ]; then sha256sum "target/staticlib/$1.bc"; fi
+        for one; do
+            find "crates/$one" -path "crates/$one/out" -prune -o '(' -name '*.rt' -o -name '*.antt' ')' -print
+        done | LC_ALL=C sort | xargs sha256sum
     } | sha256sum | cut -d ' ' -f 1
 }
 
-# is_made NAME: whether an earlier step made the archive of these sources
-is_made() {
-    [ -f "target/staticlib/$1.made" ] && [ "$(cat "target/staticlib/$1.made")" = "$(made_of "$1")" ]
+# made_of FILE CRATE: one number of the sources that the file is made of, and of it
+made_of() {
+    # shellcheck disable=SC2046
+    { sources $(reached "$2") && sha256sum "$1"; } | sha256sum | cut -d ' ' -f 1
 }
 
-# archive LOG NAME: target/staticlib/libNAME.a of the proved crate that it is of, for x86-64; one that an earlier step made of the same
-# sources is taken as it is. On another machine its module is kept too
-archive() {
-    if [ "$(uname -m)" != x86_64 ]; then
-        module "$@"
-    elif is_made "$2"; then
-        echo "target/staticlib/lib$2.a is there, of these sources"
+# is_made FILE CRATE: whether an earlier step made it of these sources
+is_made() { [ -f "$1" ] && [ -f "$1.made" ] && [ "$(cat "$1.made")" = "$(made_of "$1" "$2")" ]; }
+
+# crate_of NAME: the static library that people link as libNAME.a: a thin crate with the exports, over the crate that has the functions
+crate_of() {
+    case $1 in
+    rolldoor) echo door_rolling_c ;;
+    bench) echo door_bench_c ;;
+    *) echo "$1_c" ;;
+    esac
+}
+
+# is_of_ci NAME: whether the libraries that it uses are those that `rt ci` proved from nothing here, of the present sources (.ci/run notes
+# their number in target/proved); one that an own check built since has a stamp
+is_of_ci() {
+    [ -f target/proved ] || return 1
+    for one in $(reached "$1"); do
+        [ "$one" = "$1" ] || { [ -f "crates/$one/out/rlib/$one.rlib/format" ] && [ ! -f "crates/$one/out/rlib/stamp" ]; } || return 1
+    done
+    # shellcheck disable=SC2046
+    [ "$(cat target/proved)" = "$(sources $(crates_listed | cut -d ' ' -f 1))" ]
+}
+
+# static_library LOG CRATE OUT.a FLAG..: proves the static library and has the kit compile it by these flags. Over the libraries of `rt ci`,
+# where these are here, in the words with which rt calls the compiler; else by `rt lib`, which first checks what it has not checked
+static_library() {
+    said=$1 made=$2 out=$3
+    shift 3
+    mkdir -p "$(dirname "$out")" "crates/$made/out"
+    rm -f "$out"
+    if is_of_ci "$made"; then
+        find_kit
+        for one in $(crates_listed | awk -v name="$made" '$1 == name { for (i = 3; i <= NF; i++) print $i }'); do
+            set -- "$@" --extern "$one=../$one/out/rlib/$one.rlib"
+        done
+        for one in $(reached "$made"); do
+            [ "$one" = "$made" ] || set -- "$@" -L "dependency=../$one/out/rlib"
+        done
+        in_crate "$made" "$kit/bin/rattle" build --crate-name "$made" src/lib.rt --extern "std=$kit/rlibs/std.rlib" \
+            -L "dependency=$kit/rlibs" --antt-project "$kit/rattle/logic/antt-project.json" --logic-built "$kit/logic_built" \
+            --links "$made=" --crate-type staticlib --toolchain "$kit/toolchain" --backend llvm "$@" -o "out/lib$made.a" >"$said" 2>&1 ||
+            { cat "$said" >&2; return 1; }
     else
-        rm -f "target/staticlib/$2.bc"
-        proving "$1" staticlib "$(crate_of "$2")" && named "$2" && made_of "$2" >"target/staticlib/$2.made"
+        proving "$said" "$made" rt lib "$@" || return 1
+    fi
+    grep -q '^logic=proved ' "$said" && cp "crates/$made/out/lib$made.a" "$out" || return 1
+    sed -n 's/^logic=proved //p' "$said" | tail -n 1 >"$out.proved"
+}
+
+# archive LOG NAME: target/staticlib/libNAME.a of the proved crate that it is of, for every x86-64; one that an earlier step made of the
+# same sources is taken as it is
+archive() {
+    file=target/staticlib/lib$2.a
+    if is_made "$file" "$(crate_of "$2")"; then
+        echo "$file is there, of these sources"
+    else
+        static_library "$1" "$(crate_of "$2")" "$file" --cpu=x86-64 && made_of "$file" "$(crate_of "$2")" >"$file.made"
     fi
 }
 
-# named NAME: the archive of the crate, after which rt names it, by the name that people link: no link line changes with a crate's name
-named() {
-    [ "$(crate_of "$1")" = "$1" ] || cp "target/staticlib/lib$(crate_of "$1").a" "target/staticlib/lib$1.a"
+# program LOG NAME: target/bin/NAME, the program of that proved crate, by the kit for x86-64; one that an earlier step made of the same
+# sources is taken as it is. `rt run` runs it once, on nothing: its stamp, and not its status, says that it is proved and built
+program() {
+    file=target/bin/$2
+    if is_made "$file" "$2"; then
+        echo "$file is there, of these sources"
+    else
+        proving "$1" "$2" sh -c 'rt run || [ -f "out/$1.stamp" ]' rt "$2" && [ -f "crates/$2/out/$2.stamp" ] &&
+            taken "$2" "$(sed -n 's/^logic=proved //p' "$1" | tail -n 1)"
+    fi
 }
 
-# module LOG NAME: the archive, and target/staticlib/NAME.bc, the LLVM module that the kit handed to its compiler for it
-module() {
-    kept=target/staticlib/$2
-    if is_made "$2" && [ -f "$kept.bc" ]; then
-        echo "target/staticlib/lib$2.a is there, of these sources, and its module"
-        return
-    fi
-    rm -f "$kept.bc" "$kept.made"
-    made=$(crate_of "$2")
-    proving_by "$1" "$made" sh tools/kept-module.sh "$kept.kept" staticlib "$made" || return 1
-    mv "$kept.kept/module.bc" "$kept.bc" && rm -rf "$kept.kept" && named "$2" && made_of "$2" >"$kept.made"
+# programs LOG NAME..: the same for each
+programs() {
+    to=$1
+    shift
+    for each; do program "$to" "$each" || return 1; done
+}
+
+# taken NAME SAID: target/bin/NAME is the program that rt has just built in the crate's folder, with what it said of its proof
+taken() {
+    mkdir -p target/bin
+    cp "crates/$1/out/$1" "target/bin/$1" && echo "$2" >"target/bin/$1.proved" && made_of "target/bin/$1" "$1" >"target/bin/$1.made"
+}
+
+# proved_by_ci HAD LOG: what `rt ci`, which has passed here and said what LOG has, leaves as proved: target/proved has the sources' number,
+# if no libraries of other checks were here before (HAD), which rt then puts back in the place of its own; target/bin has the programs
+proved_by_ci() {
+    rm -rf target/proved target/bin
+    # shellcheck disable=SC2046
+    [ -n "$1" ] || sources $(crates_listed | cut -d ' ' -f 1) >target/proved
+    for program in crates/*/src/main.rt; do
+        program=${program#crates/} program=${program%%/*}
+        said=$(sed -n "/^== $program\$/,/^rt: $program proved\$/s/^logic=proved //p" "$2" | tail -n 1)
+        taken "$program" "$said" || return 1
+    done
 }

@@ -1,7 +1,8 @@
 #!/bin/sh
 # wrong-cards.sh: what no promise of the card program can say (which bytes its reads and writes move, src/stdio.rt) is seen by runs, and so
-# is a wrong loop, which its promise refuses. Each edit of crates/card/wrong-runs makes a wrong program of it, built here WITHOUT proof; the
-# run with input in pieces (model pieces) must notice it, and must pass the program of the source as it stands, built in the same way.
+# is a wrong loop, which its promise refuses. Each edit of crates/card/wrong-runs makes a wrong program of it, built here WITHOUT proof, of
+# the module that `rt try` compiles; the run with input in pieces (model pieces) must notice it, and must pass the program of the source as
+# it stands, built in the same way.
 # Needs target/model/release/model (tools/compare.sh builds it). The last line is 'N passed, M failed'.
 set -eu
 . "$(dirname "$0")/words.sh"
@@ -9,14 +10,22 @@ no_words "$@"
 needs rt
 find_kit
 cd "$(dirname "$0")/.."
-own=$kit/on/$(uname -m)
 target=x86_64-unknown-linux-gnu
 model=target/model/release/model
-work=$PWD/target/wrong-cards
 here=$PWD
 passed=0
 failed=0
 [ -x "$model" ] || { echo "wrong-cards.sh: $model is missing: sh tools/compare.sh builds it" >&2; exit 1; }
+
+# a copy of the repository, outside of it
+apart
+work=$room
+mkdir -p "$work/repo/.git"
+cp crates.txt "$work/repo/"
+for part in crates/*/src crates/*/specs; do
+    mkdir -p "$work/repo/$(dirname "$part")"
+    cp -R "$part" "$work/repo/$part"
+done
 
 # changed EDIT FILE: the text of FILE with the edit made; its old text must stand there once
 changed() {
@@ -40,22 +49,19 @@ changed() {
 
 # built [EDIT]: the program $work/card, wrong by the edit if there is one
 built() {
-    rm -rf "$work"
-    mkdir -p "$work/repo/crates/card"
-    cp crates.txt "$work/repo/"
-    for crate in "$here"/crates/*; do
-        [ "$(basename "$crate")" = card ] || ln -s "$crate" "$work/repo/crates/"
-    done
+    rm -rf "$work/repo/crates/card/src" "$work/module.bc" "$work/card" "$work/log" "$work/said"
     cp -R crates/card/src "$work/repo/crates/card/"
     if [ $# -gt 0 ]; then
         file=$(sed -n 's/^file: //p' "$1")
         changed "$1" "crates/card/$file" >"$work/repo/crates/card/$file" || return 1
     fi
-    (cd "$work/repo" && sh "$here/tools/kept-module.sh" "$work" try card </dev/null) >"$work/log" 2>&1 ||
+    # its own run is on nothing, and what it says of that is no matter
+    (cd "$work/repo/crates/card" && sh "$here/tools/kept-module.sh" "$work" try --steps 1 </dev/null) >"$work/log" 2>&1 ||
         [ -f "$work/module.bc" ] || return 1
-    "$own/toolchain/bin/clang" --target=$target -march=x86-64 --no-default-config -no-canonical-prefixes -x ir -c -fPIC -O3 \
+    "$kit/toolchain/bin/clang" --target=$target -march=x86-64 --no-default-config -no-canonical-prefixes -x ir -c -fPIC -O3 \
         "$work/module.bc" -o "$work/card.o" 2>>"$work/log" || return 1
-    "$own/bin/rattle-link" --target $target --toolchain "$own/toolchain" -o "$work/card" "$work/card.o" >>"$work/log" 2>&1
+    "$kit/bin/rattle-link" --target $target --toolchain "$kit/toolchain" -o "$work/card" "$work/card.o" "$kit/c/libos_c.a" \
+        "$kit/c/liblibc_c.a" >>"$work/log" 2>&1
 }
 
 # runs: with input in pieces, as the gate runs the proved program

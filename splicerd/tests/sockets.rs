@@ -121,9 +121,9 @@ fn an_oversize_header_closes_after_it_is_refused() {
     let header = [0, 5, 0x0F, 0xF9, 255, 255, 255, 255];
     stream.write_all(&header).unwrap();
     assert!(is_closed(&mut stream));
-    let recording = splicerd.recording("CH1");
+    // the close is recorded a moment later
     let wanted = [&[0x4D, 0][..], &header, &[0x45, 4, 0x43, 0]].concat();
-    assert!(recording.ends_with(&wanted), "{recording:02X?}");
+    splicerd.until("the refusal and the close in the recording", || splicerd.recording("CH1").ends_with(&wanted));
     // the longest message is read
     let mut stream = splicerd.initialised(b"CH1");
     assert_eq!(asked(&mut stream, &wire::message(5, &[0; 4088])), (0, 123));
