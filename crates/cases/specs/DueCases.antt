@@ -53,7 +53,7 @@ longest = 0 ∷ 8100000 ∷ []
 rows : List Row
 rows =
     row (to 1000 0) [] nobody nothing longest
-    -- from 1,010 s on, for one tick of 90 k_hz: 100 ninths, so its end is between two microseconds. 10 s are 900,000 ticks
+    -- from 1,010 s on, for one tick of 90 kHz: 100 ninths, so its end is between two microseconds. 10 s are 900,000 ticks
     ∷ row (timed 0 1 1010 0 1 0 1) (SpliceResponse 0 100 1 ∷ []) nobody (tick_at 9090000000 1010 0) (steps 900000)
     -- a microsecond before it: 9 ninths are less than a tick, rounded up
     ∷ row (to 1009 999999) [] nobody (tick_at 9090000000 1010 0) (steps 1)

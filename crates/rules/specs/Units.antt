@@ -1,5 +1,5 @@
--- 01, Bytes: microseconds, 90 k_hz ticks and ninths, and how one becomes the other.
--- 01, Bytes: "A wire time counts microseconds and a Duration counts 90 k_hz ticks, and one becomes the other only here:
+-- 01, Bytes: microseconds, 90 kHz ticks and ninths, and how one becomes the other.
+-- 01, Bytes: "A wire time counts microseconds and a Duration counts 90 kHz ticks, and one becomes the other only here:
 -- in ninths of a microsecond, a second is 9,000,000, a microsecond 9, a tick 100. The clock and all instants are kept in ninths."
 use Rattle.std.specs.Prelude.{Bool, ℕ, ◌+◌, ◌*◌, ◌/◌, ltb}
 use Rattle.rules.specs.declared.Micros.{Micros}

@@ -6,7 +6,7 @@
 #[derive(Clone, Copy)]
 pub struct Micros(pub u64);
 
-// A Duration counts 90 k_hz ticks.
+// A Duration counts 90 kHz ticks.
 #[derive(Clone, Copy)]
 pub struct Ticks(pub u32);
 

@@ -1,5 +1,5 @@
 // Microseconds, ticks and ninths, converted in one place.
-// 01, Bytes: "A wire time counts microseconds and a Duration counts 90 k_hz ticks, and one becomes the other only here".
+// 01, Bytes: "A wire time counts microseconds and a Duration counts 90 kHz ticks, and one becomes the other only here".
 #![tactic(auto)]
 
 ghost use Rattle.std.specs.Prelude.{◌≡◌, ◌*◌, ◌^◌, ◌<◌};
