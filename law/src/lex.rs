@@ -192,7 +192,9 @@ fn aliased(words: Vec<Token>) -> Vec<Token> {
     let mut out: Vec<Token> = Vec::new();
     for t in words {
         match (&t.tok, out.last_mut()) {
-            (Tok::Field(f), Some(Token { tok: Tok::Word(w), col, .. })) if *col == t.col && names.contains(w) => *w = format!("{w}.{f}"),
+            (Tok::Field(f), Some(Token { tok: Tok::Word(w), col, .. })) if *col == t.col && names.contains(w) => {
+                *w = format!("{w}.{f}")
+            }
             _ => out.push(t),
         }
     }
