@@ -133,7 +133,7 @@ kit() {
     echo 'pub mod Kit' >"$work/kit/crates/trial/specs/Lib.antt"
     "$law" kit >"$work/kit/crates/trial/specs/Kit.antt"
     n=$(grep -c '= refl$' "$work/kit/crates/trial/specs/Kit.antt")
-    if (cd "$work/kit" && rt check trial >check.log 2>&1); then
+    if (cd "$work/kit/crates/trial" && rt check >../../check.log 2>&1); then
         echo "$n passed, 0 failed"
     else
         tail -n 20 "$work/kit/check.log" | cut -c 1-400

@@ -22,8 +22,7 @@ struct Change {
     new: Ex,
 }
 
-const NAT: &str = "@Prim.Native.Nat.";
-const DEC: &str = "@lib.Dec.";
+const KIT: &str = "@std.Prelude.";
 
 fn name(n: &str) -> Ex {
     Ex { id: 0, line: 0, kind: Kind::Name(n.to_string()) }
@@ -42,7 +41,7 @@ fn op(o: &str, a: &Ex, b: &Ex) -> Ex {
 }
 
 fn nat(o: &str, a: &Ex, n: u128) -> Ex {
-    app(&format!("{NAT}{o}"), &[a, &num(n)])
+    app(&format!("{KIT}{o}"), &[a, &num(n)])
 }
 
 /// one up, one down, and a width in place of another
@@ -59,7 +58,7 @@ fn numeral(n: u128) -> Vec<Ex> {
 
 /// turned, strict or not, an equality, and in the low 7 or 8 bits only
 fn comparison(f: &str, a: &Ex, b: &Ex) -> Vec<Ex> {
-    let test = |g: &str, x: &Ex, y: &Ex| app(&format!("{DEC}{g}"), &[x, y]);
+    let test = |g: &str, x: &Ex, y: &Ex| app(&format!("{KIT}{g}"), &[x, y]);
     let is_zero = |e: &Ex| matches!(e.kind, Kind::Num(0));
     let mut out = Vec::new();
     for g in ["eqb", "leb", "ltb"] {
@@ -84,7 +83,7 @@ fn comparison(f: &str, a: &Ex, b: &Ex) -> Vec<Ex> {
 /// a number read from bytes, without its highest bit; of two bytes, its low twelve bits
 fn fewer_bits(f: &str, args: &[Ex], whole: &Ex) -> Vec<Ex> {
     let width = match (f, args.get(1).map(|e| &e.kind)) {
-        ("getD", _) => Some(1),
+        ("get_or", _) => Some(1),
         ("field", Some(Kind::Num(n))) => Some(*n as u32),
         _ => None,
     };
@@ -110,16 +109,16 @@ fn one_off(f: &Ex, args: &[Ex], i: usize) -> Vec<Ex> {
 }
 
 fn operator(o: &str, a: &Ex, b: &Ex) -> Vec<Ex> {
-    let arith = |g: &str| app(&format!("{NAT}{g}"), &[a, b]);
-    let turned = |g: &str| app(&format!("{NAT}{g}"), &[b, a]);
+    let arith = |g: &str| app(&format!("{KIT}{g}"), &[a, b]);
+    let turned = |g: &str| app(&format!("{KIT}{g}"), &[b, a]);
     match o {
         "+" => vec![arith("-")],
         "-" => vec![arith("+"), turned("-")],
         "*" => vec![arith("+"), arith("/")],
         "/" => vec![arith("%"), arith("*"), turned("/")],
         "%" => vec![arith("/"), a.clone(), turned("%")],
-        "&&" => vec![app("@mathlib.Core.Bool.||", &[a, b]), a.clone(), b.clone()],
-        "||" => vec![app("@mathlib.Core.Bool.&&", &[a, b]), a.clone(), b.clone()],
+        "&&" => vec![app("@std.Prelude.||", &[a, b]), a.clone(), b.clone()],
+        "||" => vec![app("@std.Prelude.&&", &[a, b]), a.clone(), b.clone()],
         "++" => appended(a, b),
         "∷" => listed(a, b),
         "≤" => vec![op("@<", a, b), op("@≤", b, a)],
@@ -169,11 +168,11 @@ fn call(law: &Law, module: usize, ex: &Ex, f: &str, args: &[Ex]) -> Vec<Ex> {
         ("Cond", [a, b, c]) => vec![app(f, &[a, c, b])],
         ("Not", [a]) => vec![a.clone()],
         ("Suc", [a]) => vec![a.clone()],
-        ("Max", [a, b]) => vec![app("@Prim.Native.Nat.min", &[a, b])],
-        ("Min", [a, b]) => vec![app("@Prim.Native.Nat.max", &[a, b])],
-        ("Take", [n, l]) => [one_off(&head, args, 0), vec![app("@lib.ListN.drop", &[n, l]), l.clone()]].concat(),
-        ("Drop", [n, l]) => [one_off(&head, args, 0), vec![app("@lib.ListN.take", &[n, l]), l.clone()]].concat(),
-        ("GetD", [_, _, _]) => [one_off(&head, args, 1), fewer_bits("getD", args, ex)].concat(),
+        ("Max", [a, b]) => vec![app("@std.Prelude.min", &[a, b])],
+        ("Min", [a, b]) => vec![app("@std.Prelude.max", &[a, b])],
+        ("Take", [n, l]) => [one_off(&head, args, 0), vec![app("@std.Prelude.drop", &[n, l]), l.clone()]].concat(),
+        ("Drop", [n, l]) => [one_off(&head, args, 0), vec![app("@std.Prelude.take", &[n, l]), l.clone()]].concat(),
+        ("GetOr", [_, _, _]) => [one_off(&head, args, 1), fewer_bits("get_or", args, ex)].concat(),
         ("field", [_, _, _]) => [one_off(&head, args, 0), one_off(&head, args, 1), fewer_bits("field", args, ex)].concat(),
         ("part", [_, _, _]) => [one_off(&head, args, 0), one_off(&head, args, 1)].concat(),
         _ => vec![],
@@ -197,6 +196,7 @@ fn fields(law: &Law, e: &Ex, field: &str) -> Vec<Ex> {
 fn changes_at(law: &Law, module: usize, ex: &Ex) -> Vec<Ex> {
     match &ex.kind {
         Kind::Num(n) => numeral(*n),
+        Kind::Op(o, a, b) if o == "==" => comparison("eqb", a, b),
         Kind::Op(o, a, b) => operator(o, a, b),
         Kind::App(f, args) => match &f.kind {
             Kind::Name(n) => call(law, module, ex, n, args),
@@ -249,9 +249,9 @@ fn recursion(me: &str, clause: &Clause, ex: &Ex) -> Vec<Ex> {
             out.push(with(nat("-", a, 1)));
         }
         if tails.contains(n) {
-            let less = nat("-", &app("@lib.ListN.length", &[a]), 1);
-            out.push(with(app("@lib.ListN.take", &[&less, a])));
-            out.push(with(app("@lib.ListN.drop", &[&num(1), a])));
+            let less = nat("-", &app("@std.Prelude.length", &[a]), 1);
+            out.push(with(app("@std.Prelude.take", &[&less, a])));
+            out.push(with(app("@std.Prelude.drop", &[&num(1), a])));
         }
     }
     out

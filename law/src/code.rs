@@ -32,7 +32,7 @@ pub enum Prim {
     Length,
     Take,
     Drop,
-    GetD,
+    GetOr,
     Set,
     Replicate,
     Slice,

@@ -21,10 +21,10 @@ fn comes(told: &[u8]) -> Result<String, String> {
 
 /// A splicer of which connection 0 is initialised.
 fn splicer(law: &mut Law) -> Result<V, String> {
-    let def = law.prog.find("rules.Answers.answerInit").ok_or("no rules.Answers.answerInit")?;
+    let def = law.prog.find("rules.Answers.answer_init").ok_or("no rules.Answers.answer_init")?;
     let initialised = law.argument(law.prog.infos[def as usize].module, "Initialised")?;
     let named = law.value("rules.Calls.named", vec![V::Nil])?;
-    law.value("rules.State.withLink", vec![V::Num(0), initialised, named])
+    law.value("rules.State.with_link", vec![V::Num(0), initialised, named])
 }
 
 pub fn rows(law: &mut Law) -> Result<i32, String> {
@@ -39,7 +39,7 @@ pub fn rows(law: &mut Law) -> Result<i32, String> {
             args.push(V::Num(w.parse().map_err(|_| format!("no row: {line}"))?));
         }
         args.extend([V::Num(4096), state.clone()]);
-        let called = law.value("rules.Calls.cueCall", args)?;
+        let called = law.value("rules.Calls.cue_call", args)?;
         let answer = law.field(&called, "answer")?;
         let told = law.value("rules.Card.told", vec![answer])?;
         let told = value::as_bytes(&told).ok_or("the output is not bytes")?;

@@ -399,7 +399,7 @@ impl Machine {
             (Prim::Take, Some(V::Num(n)), Some(l), _) => Ok(value::take(clamp(n), l)),
             (Prim::Drop, Some(V::Num(0)), Some(l), _) => Ok(l),
             (Prim::Drop, Some(V::Num(n)), Some(l), _) => Ok(value::drop(clamp(n), l)),
-            (Prim::GetD, Some(l), Some(V::Num(n)), Some(d)) => Ok(value::nth(&l, n).unwrap_or(d)),
+            (Prim::GetOr, Some(l), Some(V::Num(n)), Some(d)) => Ok(value::nth(&l, n).unwrap_or(d)),
             (Prim::Set, Some(l), Some(V::Num(n)), Some(x)) => Ok(value::set(l, n, x)),
             (Prim::Replicate, Some(V::Num(n)), Some(x), _) if n < 1 << 24 => Ok(value::vals(vec![x; n as usize])),
             (Prim::Slice, Some(V::Num(a)), Some(V::Num(b)), Some(l)) => Ok(value::take(clamp(b.saturating_sub(a)), dropped(a, l))),

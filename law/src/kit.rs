@@ -3,54 +3,72 @@
 use crate::code::Prim;
 use crate::load::Res;
 
-/// Each function of the kit: its module, its name, how many arguments it takes.
-pub const FUNCTIONS: [(&str, &str, Prim, usize); 36] = [
-    ("mathlib.Core.Bool", "cond", Prim::Cond, 3),
-    ("mathlib.Core.Bool", "not", Prim::Not, 1),
-    ("mathlib.Core.Bool", "&&", Prim::And, 2),
-    ("mathlib.Core.Bool", "||", Prim::Or, 2),
-    ("mathlib.Core.List", "∷", Prim::Cons, 2),
-    ("mathlib.Core.List", "++", Prim::Append, 2),
-    ("mathlib.Core.List", "map", Prim::Map, 2),
-    ("Prim.Native.Nat", "suc", Prim::Suc, 1),
-    ("Prim.Native.Nat", "+", Prim::Add, 2),
-    ("Prim.Native.Nat", "-", Prim::Sub, 2),
-    ("Prim.Native.Nat", "*", Prim::Mul, 2),
-    ("Prim.Native.Nat", "/", Prim::Div, 2),
-    ("Prim.Native.Nat", "%", Prim::Mod, 2),
-    ("Prim.Native.Nat", "^", Prim::Pow, 2),
-    ("Prim.Native.Nat", "max", Prim::Max, 2),
-    ("Prim.Native.Nat", "min", Prim::Min, 2),
-    ("Prim.Native.Nat", "≤", Prim::Le, 2),
-    ("Prim.Native.Nat", "<", Prim::Lt, 2),
-    ("lib.Dec", "eqb", Prim::Eqb, 2),
-    ("lib.Dec", "leb", Prim::Leb, 2),
-    ("lib.Dec", "ltb", Prim::Ltb, 2),
-    ("lib.Dec", "T", Prim::T, 1),
-    ("lib.ListN", "length", Prim::Length, 1),
-    ("lib.ListN", "take", Prim::Take, 2),
-    ("lib.ListN", "drop", Prim::Drop, 2),
-    ("lib.ListN", "getD", Prim::GetD, 3),
-    ("lib.ListN", "set", Prim::Set, 3),
-    ("lib.ListN", "replicate", Prim::Replicate, 2),
-    ("lib.Bits", "bitXor", Prim::BitXor, 2),
-    ("lib.Seq", "slice", Prim::Slice, 3),
+const PRELUDE: &str = "std.Prelude";
+
+/// Each function of the kit: the module that definitions have it from, its name, how many arguments it takes.
+pub const FUNCTIONS: [(&str, &str, Prim, usize); 40] = [
+    (PRELUDE, "cond", Prim::Cond, 3),
+    (PRELUDE, "not", Prim::Not, 1),
+    (PRELUDE, "&&", Prim::And, 2),
+    (PRELUDE, "||", Prim::Or, 2),
+    (PRELUDE, "∷", Prim::Cons, 2),
+    (PRELUDE, "++", Prim::Append, 2),
+    (PRELUDE, "map", Prim::Map, 2),
+    (PRELUDE, "suc", Prim::Suc, 1),
+    (PRELUDE, "+", Prim::Add, 2),
+    (PRELUDE, "-", Prim::Sub, 2),
+    (PRELUDE, "*", Prim::Mul, 2),
+    (PRELUDE, "/", Prim::Div, 2),
+    (PRELUDE, "%", Prim::Mod, 2),
+    (PRELUDE, "^", Prim::Pow, 2),
+    (PRELUDE, "max", Prim::Max, 2),
+    (PRELUDE, "min", Prim::Min, 2),
+    (PRELUDE, "≤", Prim::Le, 2),
+    (PRELUDE, "<", Prim::Lt, 2),
+    (PRELUDE, "eqb", Prim::Eqb, 2),
+    (PRELUDE, "==", Prim::Eqb, 2),
+    (PRELUDE, "nat_eq", Prim::Eqb, 2),
+    (PRELUDE, "leb", Prim::Leb, 2),
+    (PRELUDE, "nat_le", Prim::Leb, 2),
+    (PRELUDE, "ltb", Prim::Ltb, 2),
+    (PRELUDE, "nat_lt", Prim::Ltb, 2),
+    (PRELUDE, "T", Prim::T, 1),
+    (PRELUDE, "length", Prim::Length, 1),
+    (PRELUDE, "take", Prim::Take, 2),
+    (PRELUDE, "drop", Prim::Drop, 2),
+    (PRELUDE, "get_or", Prim::GetOr, 3),
+    (PRELUDE, "set", Prim::Set, 3),
+    (PRELUDE, "replicate", Prim::Replicate, 2),
+    (PRELUDE, "bit_xor", Prim::BitXor, 2),
+    ("std.proofs.Math.Seq", "slice", Prim::Slice, 3),
     ("Prim.Native.String", "∷", Prim::Cons, 2),
     ("Prim.Native.String", "++", Prim::Append, 2),
     ("Prim.Native.Char", "code", Prim::Code, 1),
-    ("mathlib.Core.Path", "≡", Prim::Eq, 2),
+    (PRELUDE, "≡", Prim::Eq, 2),
     ("", "×", Prim::Pair, 2),
-    ("", "⊎", Prim::Either, 2),
+    (PRELUDE, "⊎", Prim::Either, 2),
 ];
 
 const TYPES: [(&str, &str); 7] = [
-    ("mathlib.Core.Bool", "Bool"),
-    ("mathlib.Core.List", "List"),
-    ("Prim.Native.Nat", "ℕ"),
+    (PRELUDE, "Bool"),
+    (PRELUDE, "List"),
+    (PRELUDE, "ℕ"),
     ("Prim.Native.String", "String"),
     ("Prim.Native.Char", "Char"),
     ("", "Type"),
     ("", "Set"),
+];
+
+/// The modules that pass a name on, or have it first; one name means one thing in all of them.
+const ALIKE: [&str; 8] = [
+    "std.proofs.Common",
+    "std.Int.Bits",
+    "mathlib.Core.Bool",
+    "mathlib.Core.List",
+    "mathlib.Core.Path",
+    "Prim.Native.Nat",
+    "lib.Dec",
+    "lib.ListN",
 ];
 
 pub fn arity(prim: Prim) -> usize {
@@ -59,11 +77,12 @@ pub fn arity(prim: Prim) -> usize {
 
 /// What a name of the kit stands for; a module "" has what needs no import.
 pub fn kit(module: &str, name: &str) -> Option<Res> {
+    let module = if ALIKE.contains(&module) { PRELUDE } else { module };
     match (module, name) {
-        ("mathlib.Core.Bool", "true") => return Some(Res::Bool(true)),
-        ("mathlib.Core.Bool", "false") => return Some(Res::Bool(false)),
-        ("mathlib.Core.List" | "Prim.Native.String", "[]") => return Some(Res::Nil),
-        ("Prim.Native.Nat", "zero") => return Some(Res::Zero),
+        (PRELUDE, "true") => return Some(Res::Bool(true)),
+        (PRELUDE, "false") => return Some(Res::Bool(false)),
+        (PRELUDE | "Prim.Native.String", "[]") => return Some(Res::Nil),
+        (PRELUDE, "zero") => return Some(Res::Zero),
         ("", "tt") => return Some(Res::Unit),
         ("", "Unit") => return Some(Res::Truth(true)),
         ("", "⊥") => return Some(Res::Truth(false)),

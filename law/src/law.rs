@@ -30,7 +30,7 @@ law: the definitions of crates/*/specs, run
   law recalls FILE..         its output by the second engine's rules, to FILE.recall
   law rolls <ROWS            rolling cards' calls, as `model states --rolling` writes them, with what the definitions give
   law recordings DIR         what is found in each recording of a folder that `model recordings --out` wrote
-  law show DEF ARGS          a definition's value, as law show rules.Reading.readAlive hex:0000000000000000
+  law show DEF ARGS          a definition's value, as law show rules.Reading.read_alive hex:0000000000000000
   law cues <ROWS             cue calls, as `model cues --rows` writes them, with what the definitions give
   law kit                    the kit's functions on a table of arguments, as statements for the prover
   law cases                  every worked case of crates/cases that it can decide
@@ -39,7 +39,7 @@ law: the definitions of crates/*/specs, run
   law mutate [--every] [--part I/N] [--stream FILE].. [MODULE..]
                              mechanical changes of definitions, one at a time, each against the worked cases that reach it: of rules and
                              demands, of recordings and of the second engine, or of the named modules or definitions (rules.Reading,
-                             rules.Reading.muxOf); with --stream against the card program's output for such input in place of cases
+                             rules.Descriptors.mux_of); with --stream against the card program's output for such input in place of cases
 The repository is the present folder, or that in LAW_ROOT.";
 
 impl Law {

@@ -106,16 +106,35 @@ impl Reader<'_> {
         Ok(())
     }
 
+    /// `x`, `M.x`, `x.f`, `M.x.f`, `x.` in front of a body, and `.f` that stands tight behind a bracket
     fn named(&mut self, word: String, line: u32, col: u32) -> Result<(), String> {
-        if let Some(field) = word.strip_prefix('.') {
-            self.push(Tok::Field(field.to_string()), line, col);
-        } else if let Some(name) = word.strip_suffix('.') {
-            self.push(Tok::Word(name.to_string()), line, col);
+        if let Some(fields) = word.strip_prefix('.') {
+            let tight = self.out.last().is_some_and(|t| t.tok == Tok::Close(')') && (t.line, t.col + 1) == (line, col));
+            if !tight {
+                return Err(format!("a field that stands alone: {word}"));
+            }
+            self.fields(fields, line, col);
+            return Ok(());
+        }
+        let (named, ends) = word.strip_suffix('.').map_or((word.as_str(), false), |w| (w, true));
+        let parts: Vec<&str> = named.split('.').collect();
+        // modules have capitals: what stands behind them is the name
+        let modules = parts.iter().take_while(|p| p.starts_with(char::is_uppercase)).count();
+        let name = (modules + 1).min(parts.len());
+        let plain = |p: &&str| p.trim_start_matches('«').trim_end_matches('»').to_string();
+        let spelled = parts[..name].iter().map(plain).collect::<Vec<_>>().join(".");
+        self.push(Tok::Word(spelled), line, col);
+        self.fields(&parts[name..].join("."), line, col);
+        if ends {
             self.push(Tok::Dot, line, col);
-        } else {
-            self.push(Tok::Word(word), line, col);
         }
         Ok(())
+    }
+
+    fn fields(&mut self, all: &str, line: u32, col: u32) {
+        for f in all.split('.').filter(|f| !f.is_empty()) {
+            self.push(Tok::Field(f.to_string()), line, col);
+        }
     }
 
     fn next(&mut self) -> Result<(), String> {
@@ -157,7 +176,29 @@ pub fn words(text: &str) -> Result<Vec<Token>, String> {
         let line = r.line;
         r.next().map_err(|e| format!("{line}: {e}"))?;
     }
-    Ok(r.out)
+    Ok(aliased(r.out))
+}
+
+/// A module that `use .. as name` names has a small letter: `name.x` is one word.
+fn aliased(words: Vec<Token>) -> Vec<Token> {
+    let is = |t: &Token, w: &str| t.tok == Tok::Word(w.to_string());
+    let named = |w: &[Token]| is(&w[0], "as") && w[2].col == 0;
+    let mut names = Vec::new();
+    for w in words.windows(3).filter(|w| named(w)) {
+        if let Tok::Word(name) = &w[1].tok {
+            names.push(name.clone());
+        }
+    }
+    let mut out: Vec<Token> = Vec::new();
+    for t in words {
+        match (&t.tok, out.last_mut()) {
+            (Tok::Field(f), Some(Token { tok: Tok::Word(w), col, .. })) if *col == t.col && names.contains(w) => {
+                *w = format!("{w}.{f}")
+            }
+            _ => out.push(t),
+        }
+    }
+    out
 }
 
 /// The words cut before each that begins a line at that column, outside of brackets.

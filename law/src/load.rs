@@ -66,16 +66,10 @@ fn explicit(kind: &Ex) -> usize {
     }
 }
 
-/// "Rattle·rules·specs.specs.Lists" and "Rattle·rules.specs.Lists" are one module: rules.Lists
+/// "Rattle.rules.specs.Lists" is the module rules.Lists
 fn key(path: &[String]) -> String {
-    match path[0].strip_prefix("Rattle·") {
-        Some(rest) => {
-            let name = rest.strip_suffix("·specs").unwrap_or(rest);
-            let rest: Vec<&str> = path[1..].iter().map(String::as_str).filter(|p| *p != "specs").collect();
-            std::iter::once(name).chain(rest).collect::<Vec<_>>().join(".")
-        }
-        None => path.join("."),
-    }
+    let rest = if path[0] == "Rattle" { &path[1..] } else { path };
+    rest.iter().map(String::as_str).filter(|p| *p != "specs").collect::<Vec<_>>().join(".")
 }
 
 impl Program {
@@ -199,7 +193,7 @@ impl Program {
             return;
         }
         let body = text.split('{').nth(1).and_then(|b| b.split('}').next()).unwrap_or("");
-        let v = self.module(&format!("{prefix}.{name}.the-variants"), "");
+        let v = self.module(&format!("{prefix}.{name}.TheVariants"), "");
         let mut depth = 0;
         let parts = body.split(|c| {
             depth += i32::from(c == '(') - i32::from(c == ')');

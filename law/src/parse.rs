@@ -5,7 +5,7 @@ use crate::tree::{Clause, Ex, Id, Item, Kind, Param, Placed};
 use std::collections::HashMap;
 
 /// Each operator's strength, and whether it goes on to the right (1), the left (-1) or not (0); as the kit declares them.
-const STRENGTHS: [(&str, u32, i8); 17] = [
+const STRENGTHS: [(&str, u32, i8); 19] = [
     ("^", 75, 1),
     ("*", 70, -1),
     ("/", 70, -1),
@@ -16,10 +16,12 @@ const STRENGTHS: [(&str, u32, i8); 17] = [
     ("++", 65, -1),
     ("≤", 50, 0),
     ("<", 50, 0),
+    ("==", 40, 0),
     ("&&", 35, -1),
     ("||", 30, -1),
     ("∙", 30, 1),
     ("≡", 4, 0),
+    ("≢", 4, 0),
     ("×", 2, 1),
     ("⊎", 2, 1),
     ("↔", 1, 0),
@@ -218,7 +220,19 @@ impl Parser<'_> {
         Ok(if parts.len() == 1 { parts.remove(0) } else { self.ex(line, Kind::Tuple(parts)) })
     }
 
+    /// `x.f.g`, `(f x).g`: fields stand tight
     fn atom(&mut self) -> Read<Option<Ex>> {
+        let line = self.line();
+        let Some(mut ex) = self.plain()? else { return Ok(None) };
+        while let Some(Tok::Field(f)) = self.peek() {
+            let field = f.clone();
+            self.at += 1;
+            ex = self.ex(line, Kind::Proj(Box::new(ex), field));
+        }
+        Ok(Some(ex))
+    }
+
+    fn plain(&mut self) -> Read<Option<Ex>> {
         let line = self.line();
         let kind = match self.peek() {
             Some(Tok::Lambda) => return self.lambda().map(Some),
@@ -246,18 +260,12 @@ impl Parser<'_> {
         self.take(&Tok::Close('}'))
     }
 
-    /// `f x y .field z`: a field is that of all that stands before it
     fn apply(&mut self) -> Read<Ex> {
         let line = self.line();
-        let Some(mut head) = self.atom()? else { return self.fail("an expression is wanted") };
+        let Some(head) = self.atom()? else { return self.fail("an expression is wanted") };
         let mut args = Vec::new();
         loop {
-            if let Some(Tok::Field(f)) = self.peek() {
-                let field = f.clone();
-                self.at += 1;
-                head = self.applied(line, head, std::mem::take(&mut args));
-                head = self.ex(line, Kind::Proj(Box::new(head), field));
-            } else if self.is(&Tok::Open('{')) && !self.binds() {
+            if self.is(&Tok::Open('{')) && !self.binds() {
                 self.implicit()?;
             } else if let Some(arg) = self.atom()? {
                 args.push(arg);
@@ -284,14 +292,19 @@ impl Parser<'_> {
 }
 
 fn path(words: &[Token]) -> Vec<String> {
-    match words.first().map(|t| &t.tok) {
-        Some(Tok::Word(w)) => w.split('.').map(str::to_string).collect(),
-        _ => vec![],
+    let mut out = Vec::new();
+    for t in words {
+        match &t.tok {
+            Tok::Word(w) if out.is_empty() => out.extend(w.split('.').map(str::to_string)),
+            Tok::Field(f) => out.push(f.clone()),
+            _ => break,
+        }
     }
+    out
 }
 
 fn imported(words: &[Token]) -> Vec<(String, String)> {
-    let plain = |w: &str| w.trim_matches('_').to_string();
+    let plain = |w: &str| w.trim_matches('◌').to_string();
     let names: Vec<String> = words.iter().map(|t| if let Tok::Word(w) = &t.tok { w.clone() } else { ",".to_string() }).collect();
     let parts = names.split(|n| n == ",").filter(|p| !p.is_empty());
     parts.map(|p| (plain(&p[0]), plain(p.last().unwrap()))).collect()
@@ -299,8 +312,8 @@ fn imported(words: &[Token]) -> Vec<(String, String)> {
 
 fn usage(words: &[Token]) -> Item {
     let path = path(&words[1..]);
-    let alias = match &words[words.len() - 1].tok {
-        Tok::Word(w) if words.len() == 4 => w.clone(),
+    let alias = match words {
+        [.., Token { tok: Tok::Word(a), .. }, Token { tok: Tok::Word(w), .. }] if a == "as" => w.clone(),
         _ => path.last().cloned().unwrap_or_default(),
     };
     let open = words.iter().position(|t| t.tok == Tok::Open('{'));
@@ -313,9 +326,9 @@ fn operators(words: &[Token]) -> HashMap<String, (u32, i8)> {
     let mut ops: HashMap<String, (u32, i8)> = STRENGTHS.iter().map(|(n, s, a)| (n.to_string(), (*s, *a))).collect();
     for w in words.windows(3) {
         if let (Tok::Word(a), Tok::Word(b), Tok::Word(c)) = (&w[0].tok, &w[1].tok, &w[2].tok) {
-            if let (Some(s), "as", true) = (ops.get(a.trim_matches('_')), b.as_str(), c.starts_with('_')) {
+            if let (Some(s), "as", true) = (ops.get(a.trim_matches('◌')), b.as_str(), c.starts_with('◌')) {
                 let s = *s;
-                ops.insert(c.trim_matches('_').to_string(), s);
+                ops.insert(c.trim_matches('◌').to_string(), s);
             }
         }
     }

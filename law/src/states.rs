@@ -38,7 +38,7 @@ fn fields(law: &mut Law, v: &V, names: &[&str]) -> Got<Vec<V>> {
 
 /// How far a connection is: 0 closed, 1 open, 2 initialised.
 fn link(law: &mut Law, v: &V) -> Got<u128> {
-    let known = ["isOpen", "isInitialised"].map(|f| law.value(&format!("rules.State.{f}"), vec![v.clone()]));
+    let known = ["is_open", "is_initialised"].map(|f| law.value(&format!("rules.State.{f}"), vec![v.clone()]));
     known.into_iter().map(|k| k.map(|k| u128::from(matches!(k, V::Bool(true))))).sum()
 }
 
@@ -59,26 +59,26 @@ fn line(law: &mut Law, c: &V) -> Got<String> {
     let told = law.value("rules.Card.told", vec![answer])?;
     let mut numbers = fields(law, &s, &["clock", "primary"])?;
     numbers.push(law.field(c, "moved")?);
-    numbers.push(law.value("rules.Answers.airMux", vec![started.clone()])?);
-    numbers.push(law.value("rules.Answers.airFeed", vec![started.clone()])?);
+    numbers.push(law.value("rules.Answers.air_mux", vec![started.clone()])?);
+    numbers.push(law.value("rules.Answers.air_feed", vec![started.clone()])?);
     let mut out = vec![hex(&told)?, words(&value::vals(numbers))?];
     for h in value::all(&law.field(&s, "hardware")?) {
         out.push(hex(&h)?);
     }
     let links = value::all(&law.field(&s, "links")?).iter().map(|l| link(law, l).map(V::Num)).collect::<Got<Vec<_>>>()?;
     out.push(words(&value::vals(links))?);
-    out.push(words(&law.value("rules.Answers.airRow", vec![started])?)?);
+    out.push(words(&law.value("rules.Answers.air_row", vec![started])?)?);
     let due = law.value("rules.State.due", vec![queue.clone()])?;
-    out.push(words(&law.value("rules.Calls.dueRow", vec![due])?)?);
+    out.push(words(&law.value("rules.Calls.due_row", vec![due])?)?);
     let lately = law.field(&queue, "lately")?;
     out.push(rows(law, lately)?);
-    let all = law.value("rules.Listing.heldNumber", vec![queue.clone()])?;
-    out.push(words(&law.value("rules.Listing.heldRows", vec![all, queue])?)?);
+    let all = law.value("rules.Listing.held_number", vec![queue.clone()])?;
+    out.push(words(&law.value("rules.Listing.held_rows", vec![all, queue])?)?);
     Ok(out.join(" "))
 }
 
 fn fresh(law: &mut Law) -> Got<V> {
-    let name = law.value("rules.Card.cardName", vec![])?;
+    let name = law.value("rules.Card.card_name", vec![])?;
     law.value("rules.Bytes.padded", vec![name])
 }
 
@@ -145,7 +145,7 @@ fn rolled(law: &mut Law, r: &V) -> Got<String> {
     let s = law.field(&called, "splicer")?;
     let (clock, queue) = (law.field(&s, "clock")?, law.field(&s, "queue")?);
     let due = law.value("rules.State.due", vec![queue])?;
-    let step = law.value("rules.Rolling.stepRow", vec![last.clone(), clock, due])?;
+    let step = law.value("rules.Rolling.step_row", vec![last.clone(), clock, due])?;
     let reading = match made(law, &last)?.1.first() {
         Some(x) => number(x)?.to_string(),
         None => "none".to_string(),
@@ -162,8 +162,8 @@ pub fn rolls(law: &mut Law) -> Got<i32> {
         law.machine.clear();
         if row == "fresh" {
             let name = fresh(law)?;
-            let first = law.value("rules.follows.Sequences.rollingFresh", vec![name])?;
-            card = law.value("rules.follows.Sequences.rollingOf", vec![first])?;
+            let first = law.value("rules.Follows.Sequences.rolling_fresh", vec![name])?;
+            card = law.value("rules.Follows.Sequences.rolling_of", vec![first])?;
             println!("fresh");
             continue;
         }
@@ -171,7 +171,7 @@ pub fn rolls(law: &mut Law) -> Got<i32> {
         let call = rolling_call(law, &given.split(' ').collect::<Vec<_>>())?;
         let r = law.value("rules.Rolling.roll", vec![call, card])?;
         println!("{given} = {}", rolled(law, &r)?);
-        card = law.value("rules.follows.Sequences.rollingOf", vec![r])?;
+        card = law.value("rules.Follows.Sequences.rolling_of", vec![r])?;
     }
     Ok(0)
 }
@@ -184,7 +184,7 @@ pub fn recordings(law: &mut Law, dir: &str) -> Got<i32> {
         let bytes = std::fs::read(format!("{dir}/{name}")).map_err(|e| format!("{name}: {e}"))?;
         let found = law.value("recording.Recording.checked", vec![value::bytes(bytes)])?;
         let (kind, at) = made(law, &found)?;
-        let house = law.value("recording.Recording.houseNumber", vec![found])?;
+        let house = law.value("recording.Recording.house_number", vec![found])?;
         let place = at.first().map(number).transpose()?.map_or(String::new(), |n| format!(" {n}"));
         match kind.as_str() {
             "None" => println!("{name} none"),

@@ -5,16 +5,12 @@ use crate::value::{self, V};
 
 const HEAD: &str = "\
 -- The kit's functions that are built into law/, on a table of arguments: made by `law kit`, for the prover to compute.
-use mathlib.Core.Path.{_≡_, refl}
-use mathlib.Core.Bool.{Bool, true, false, cond, not, _&&_, _||_}
-use mathlib.Core.List.{List, [], _∷_, _++_, map}
-use Prim.Native.Nat.{ℕ, zero, suc, _+_, _-_, _*_, _/_, _%_, _^_, max, min}
+use Rattle.std.specs.Prelude.{◌≡◌, refl, Bool, true, false, cond, not, ◌&&◌, ◌||◌, List, [], ◌∷◌, ◌++◌, map}
+use Rattle.std.specs.Prelude.{ℕ, zero, suc, ◌+◌, ◌-◌, ◌*◌, ◌/◌, ◌%◌, ◌^◌, max, min, eqb, ◌==◌, nat_eq, leb, nat_le, ltb, nat_lt}
+use Rattle.std.specs.Prelude.{length, take, drop, get_or, set, replicate, bit_xor}
 use Prim.Native.String
 use Prim.Native.Char.{code}
-use lib.Dec.{eqb, leb, ltb}
-use lib.ListN.{length, take, drop, getD, set, replicate}
-use lib.Bits.{bitXor}
-use lib.Seq.{slice}
+use Rattle.std.proofs.Math.Seq.{slice}
 
 abbrev none : List ℕ
 none = []
@@ -38,10 +34,10 @@ fn pairs(out: &mut Vec<String>, make: impl Fn(&str, &str) -> String, xs: &[&str]
 }
 
 fn numeric(out: &mut Vec<String>) {
-    for op in ["+", "-", "*", "/", "%"] {
+    for op in ["+", "-", "*", "/", "%", "=="] {
         pairs(out, |x, y| format!("{x} {op} {y}"), &NUMBERS, &NUMBERS);
     }
-    for f in ["eqb", "leb", "ltb", "max", "min", "bitXor"] {
+    for f in ["eqb", "nat_eq", "leb", "nat_le", "ltb", "nat_lt", "max", "min", "bit_xor"] {
         pairs(out, |x, y| format!("{f} {x} {y}"), &NUMBERS, &NUMBERS);
     }
     pairs(out, |x, y| format!("{x} ^ {y}"), &NUMBERS[..5], &NUMBERS[..5]);
@@ -54,7 +50,7 @@ fn lists(out: &mut Vec<String>) {
     out.extend(LISTS.iter().map(|l| format!("map suc {l}")));
     pairs(out, |x, y| format!("take {x} {y}"), small, &LISTS);
     pairs(out, |x, y| format!("drop {x} {y}"), small, &LISTS);
-    pairs(out, |x, y| format!("getD {y} {x} 77"), small, &LISTS);
+    pairs(out, |x, y| format!("get_or {y} {x} 77"), small, &LISTS);
     pairs(out, |x, y| format!("set {y} {x} 77"), small, &LISTS);
     pairs(out, |x, y| format!("slice 1 {x} {y}"), small, &LISTS);
     pairs(out, |x, y| format!("slice {x} 2 {y}"), small, &LISTS);
@@ -100,7 +96,7 @@ pub fn statements(law: &mut Law) -> Result<i32, String> {
     println!("{HEAD}");
     for (i, line) in all.iter().enumerate() {
         let v = law.argument(module, line)?;
-        println!("pub s{i} : _≡_ {{A = {}}} ({line}) {}\ns{i} = refl\n", kind(&v), written(&v)?);
+        println!("pub s{i} : ◌≡◌ {{A = {}}} ({line}) {}\ns{i} = refl\n", kind(&v), written(&v)?);
     }
     Ok(0)
 }

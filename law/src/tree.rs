@@ -95,7 +95,7 @@ impl Ex {
             Kind::Op(o, a, b) => format!("({} {o} {})", a.text(), b.text()),
             Kind::Lam(ps, b) => format!("(λ {}. {})", ps.join(" "), b.text()),
             Kind::Let(n, a, b) => format!("(let {n} = {} in {})", a.text(), b.text()),
-            Kind::Proj(e, f) => format!("({} .{f})", e.text()),
+            Kind::Proj(e, f) => format!("{}.{f}", e.text()),
             Kind::Rec(fs) => {
                 let fs: Vec<_> = fs.iter().map(|(n, e)| format!("{n} = {}", e.text())).collect();
                 format!("record {{ {} }}", fs.join("; "))

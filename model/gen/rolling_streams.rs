@@ -13,18 +13,27 @@ pub struct Stream {
     pub whole: bool,
 }
 
+/// From this index on streams end behind the last second.
+const BEHIND: u64 = 1 << 32;
+
+/// The indices of n streams, and behind them of some that end behind the last second, one for a few dozen.
+pub fn indices(n: u64) -> impl Iterator<Item = u64> {
+    let more = n.div_ceil(2 * themes::THEMES.len() as u64);
+    (0..n).chain(BEHIND..BEHIND + more)
+}
+
 /// One stream. The same seed and index give the same on every machine.
 pub fn stream(seed: u64, index: u64) -> Stream {
     let mixed = Rng::new(seed ^ 0x9000);
     let rng = Rng::new(mixed.next() ^ index.wrapping_mul(0xD1B5_4A32_D192_ED03));
     let mut gen = Gen::new(rng);
     let themes = themes::THEMES;
-    let theme = &themes[(index % themes.len() as u64) as usize];
+    let ends_behind = index >= BEHIND;
+    let drawn = themes.iter().find(|theme| ends_behind && theme.at_the_top);
+    let theme = drawn.unwrap_or(&themes[(index % themes.len() as u64) as usize]);
     gen.at_the_top = theme.at_the_top;
     let whole = index % 6 == 5;
     gen.rolling = Some(Box::new(Rolls { last: None, calls: Vec::new(), whole, held_off: true, call }));
-    // every other stream at the top, so that a few dozen streams of any seed have one
-    let ends_behind = theme.at_the_top && (index / themes.len() as u64).is_multiple_of(2);
     begin(&mut gen, theme.favourites, ends_behind);
     if ends_behind {
         past_the_end(&mut gen);
@@ -72,7 +81,7 @@ fn begin(gen: &mut Gen, favourites: &[themes::Episode], ends_behind: bool) {
     let drawn = gen.rng.below(1_000_000);
     let mut time = gen.rng.pick(&[0, 1_000_000_000, past, past + drawn, near, near + 1, near / 2]);
     if gen.at_the_top {
-        let before = if ends_behind { [5, 6, 20, 50, 80] } else { [0, 0, 1, 100, 300] };
+        let before = if ends_behind { [5, 6, 20, 50, 80] } else { [0, 1, 5, 100, 300] };
         time = TOP - gen.rng.pick(&before) * 1_000_000 - drawn;
     }
     if let Some(rolls) = &mut gen.rolling {

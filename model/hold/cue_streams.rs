@@ -7,6 +7,7 @@ use crate::hold::watch::table::Hits;
 use crate::hold::watch::{Watch, Watcher, CUE_FLOORS as FLOORS, SEEN};
 use crate::people::card;
 use crate::people::cue_call::{self, judged, Comes, Given, WRAP};
+use crate::people::decode::call_line;
 use crate::people::driver_call::{Act, Call};
 use crate::people::record_lines::{self, Item, Line, What};
 use crate::rules::{ninths, Splicer, NONE, ROOM, TICK};
@@ -151,12 +152,26 @@ pub fn faults(seed: u64, n: u64) -> Result<bool, String> {
     Ok(unnoticed == 0)
 }
 
+/// A call of the card program in a scenario's words.
+fn written(act: &Act) -> String {
+    let byte = |conn: &u32| *conn as u8;
+    let plain = match &act.call {
+        Call::Open(conn) => card::Call::Open(byte(conn)),
+        Call::Close(conn) => card::Call::Close(byte(conn)),
+        Call::Message(conn, bytes) => card::Call::Message(byte(conn), bytes.clone()),
+        Call::Tick(seconds, micros) => card::Call::Tick(*seconds, *micros),
+        Call::Cue(given) if act.room == ROOM => return given.line(),
+        _ => return act.line(),
+    };
+    call_line(&plain)
+}
+
 /// A stream as lines, for people.
 pub fn lines(seed: u64, index: u64) -> String {
     let (mut splicer, _) = Splicer::fresh(&card::channel_name());
     let mut text = String::new();
     for act in stream(seed, index) {
-        text += &format!("> {}\n", act.line());
+        text += &format!("> {}\n", written(&act));
         for item in record_lines::items(&card::shown(act.made(&mut splicer))) {
             text += &format!("< {}\n", item.line());
         }

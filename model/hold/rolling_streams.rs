@@ -1,6 +1,6 @@
 //! The commands `rolls` and `rolls --faults`: streams of a rolling card (02, CR 9) on the second program.
 
-use crate::gen::rolling_streams::{stream, Stream};
+use crate::gen::rolling_streams::{indices, stream, Stream};
 use crate::hold::faults::{told, Slip, SLIPS};
 use crate::hold::watch::table::{Floors, Hits};
 use crate::hold::watch::{self, Watch, Watcher};
@@ -130,7 +130,7 @@ pub fn as_plain(plain: &mut Splicer, call: &Call, good: bool, clock: u64) -> Opt
 pub fn rolls(seed: u64, n: u64, table: bool, floors: bool) -> Result<bool, String> {
     let mut hits = Hits::default();
     let (mut calls, mut differ) = (0, 0);
-    for index in 0..n {
+    for index in indices(n) {
         let stream = stream(seed, index);
         let (played, seen) = counted(&stream);
         calls += stream.calls.len();
@@ -142,13 +142,16 @@ pub fn rolls(seed: u64, n: u64, table: bool, floors: bool) -> Result<bool, Strin
     }
     let reached = hits.reached(FLOORS, table, floors);
     let rollovers = hits.of("rollover");
-    println!("rolls: {n} streams, {calls} calls, {rollovers} rollovers, {differ} differ");
+    let more = indices(n).count() as u64 - n;
+    println!(
+        "rolls: {n} streams and {more} that end behind the last second, {calls} calls, {rollovers} rollovers, {differ} differ"
+    );
     Ok(differ == 0 && reached)
 }
 
 /// Shows that each deliberate mistake of a rolling card is noticed.
 pub fn faults(seed: u64, n: u64) -> Result<bool, String> {
-    let streams: Vec<Stream> = (0..n).map(|index| stream(seed, index)).collect();
+    let streams: Vec<Stream> = indices(n).map(|index| stream(seed, index)).collect();
     let clean: Vec<Played> = streams.iter().map(|s| play(s, None)).collect();
     let seen = |(slip, text): &&(Slip, &str)| {
         let differs = |at: &usize| {

@@ -1,6 +1,6 @@
 //! The state and all that is read after each call, as lines of numbers: for a program that knows nothing of this one to be held to.
 
-use crate::gen::rolling_streams::stream;
+use crate::gen::rolling_streams::{indices, stream};
 use crate::people::card;
 use crate::people::looks::Reads;
 use crate::people::rolling::{Call, Rolling};
@@ -79,7 +79,7 @@ fn run_each(input: &[u8], mut each: impl FnMut(&Splicer, &[u8])) {
 /// is due.
 pub fn rolling(seed: u64, n: u64) -> String {
     let mut text = String::new();
-    for index in 0..n {
+    for index in indices(n) {
         let (mut card, _) = Rolling::fresh(&card::channel_name());
         text += "fresh\n";
         for (at, call) in stream(seed, index).calls.iter().enumerate() {

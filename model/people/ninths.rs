@@ -48,11 +48,43 @@ mod tests {
 
     #[test]
     fn instants_as_text() {
-        assert_eq!(ISO.text(951_782_400 * SECOND + 8), "2000-02-29T00:00:00.000000Z");
-        assert_eq!(ISO.text(951_868_800 * SECOND + 9), "2000-03-01T00:00:00.000001Z");
-        assert_eq!(read("2000-03-01T00:00:00.000001Z"), Some(951_868_800 * SECOND + 9));
+        let cases = [
+            (0, "1970-01-01T00:00:00.000000Z"),
+            (1_000_000_000 * SECOND, "2001-09-09T01:46:40.000000Z"),
+            (951_782_400 * SECOND + 8, "2000-02-29T00:00:00.000000Z"),
+            (951_868_800 * SECOND + 9, "2000-03-01T00:00:00.000001Z"),
+            (4_294_967_295 * SECOND, "2106-02-07T06:28:15.000000Z"),
+        ];
+        for (instant, text) in cases {
+            assert_eq!(ISO.text(instant), text);
+            assert_eq!(read(text), Some(instant / MICRO * MICRO));
+        }
         assert_eq!(Clock { raw: true }.text(9_000_009 * 5), "5.000005");
         assert_eq!(ISO.wire(u32::MAX, u32::MAX), "none");
         assert_eq!(ISO.wire(5, 1_000_000), "5:1000000");
+    }
+
+    #[test]
+    fn instants_from_people() {
+        assert_eq!(read("1000"), Some(1_000 * SECOND));
+        assert_eq!(read("1000.5"), Some(1_000 * SECOND + SECOND / 2));
+        assert_eq!(read("1970-01-02"), Some(86_400 * SECOND));
+        assert_eq!(read("1970-01-01T01:00"), Some(3_600 * SECOND));
+        for wrong in [
+            "",
+            "x",
+            "1.1234567",
+            "2001-02-29",
+            "2001-13-01",
+            "2001-01-01T24:00",
+            "2001-01-01T10:60",
+            "2001-01-01T10:00:60",
+            "2001-01-01T10",
+            "99999999999",
+            "1969-12-31",
+            "-5",
+        ] {
+            assert_eq!(read(wrong), None, "{wrong}");
+        }
     }
 }

@@ -141,7 +141,7 @@ mod tests {
             assert_eq!(names.iter().position(|other| other == name), Some(place), "{name}");
             assert!(table().contains(&format!("\n  {name} ")), "{name}");
         }
-        assert_eq!(names.len(), 19);
+        assert_eq!(names.len(), 16 + 3);
     }
 
     const WRONG: &[&[&str]] = &[

@@ -93,11 +93,40 @@ pub fn escaped(name: &[u8]) -> String {
 #[cfg(test)]
 mod tests {
     use super::*;
+    use splicer::recorder::{record_cue, record_name, record_section, Feed};
+
+    fn made(record: impl Fn(&mut dyn FnMut(&[u8]))) -> Vec<u8> {
+        let mut entry = Vec::new();
+        record(&mut |bytes: &[u8]| entry.extend_from_slice(bytes));
+        entry
+    }
+
+    fn name_entry(name: &[u8; splicer::NAME]) -> Vec<u8> {
+        made(|mut to| record_name(&mut to, name))
+    }
+
+    fn section_entry(which: u8, section: &[u8]) -> Vec<u8> {
+        let feed = if which == 0 { Feed::Primary } else { Feed::Insertion };
+        made(|mut to| record_section(&mut to, feed, section))
+    }
+
+    fn cue_entry(section: &[u8], pts: u64, seconds: u32, micros: u32) -> Vec<u8> {
+        made(|mut to| record_cue(&mut to, section, pts, seconds, micros))
+    }
 
     #[test]
     fn names_of_files() {
         assert_eq!(escaped(b"CH1"), "CH1");
         assert_eq!(escaped(b"../a b\xFF"), "%2E%2E%2Fa%20b%FF");
+    }
+
+    #[test]
+    fn further_marks() {
+        assert_eq!(section_entry(1, &[7, 8]), [0x4C, 1, 0, 2, 7, 8]);
+        assert_eq!(section_entry(0, &[0; 2000]).len(), 4 + 1025);
+        let cue = cue_entry(&[9], 1 << 32, 5, 6);
+        assert_eq!(cue, [0x51, 0, 0, 1, 9, 0, 0, 0, 1, 0, 0, 0, 0, 0, 0, 0, 5, 0, 0, 0, 6]);
+        assert_eq!(name_entry(&splicer::name(b"A"))[..4], [0x4E, 0, b'A', 0]);
     }
 
     #[test]

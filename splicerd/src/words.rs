@@ -205,21 +205,29 @@ mod tests {
     use super::*;
     use crate::wire;
 
+    fn entry(entry: &[u8]) -> String {
+        Entry(entry).to_string()
+    }
+
+    fn request(message: &[u8]) -> String {
+        Asked(message).to_string()
+    }
+
     #[test]
     fn entries_in_words() {
         let refused = [0x43, 0, 0x45, 7];
-        assert_eq!(Entry(&refused).to_string(), "close 0; refused 7: not open");
+        assert_eq!(entry(&refused), "close 0; refused 7: not open");
         let mut alive = vec![0x4D, 1];
         alive.extend(wire::alive(0, 0));
         alive.extend([0x52, 1, 0, 0, 0, 0, 0, 103, 255, 255]);
-        assert_eq!(Entry(&alive).to_string(), "from 1: Alive_Request; to 1: General_Response 103 Access Denied");
-        assert_eq!(Entry(&[0x54, 0, 0, 0, 0, 1, 0, 0, 0, 2]).to_string(), "tick to 1970-01-01T00:00:01.000002Z");
+        assert_eq!(entry(&alive), "from 1: Alive_Request; to 1: General_Response 103 Access Denied");
+        assert_eq!(entry(&[0x54, 0, 0, 0, 0, 1, 0, 0, 0, 2]), "tick to 1970-01-01T00:00:01.000002Z");
     }
 
     #[test]
     fn names_are_text() {
         assert_eq!(name(b"<b>\x07\0junk"), "<b>\\u{7}");
-        assert_eq!(Asked(&wire::init(b"CH2", b"")).to_string(), "Init_Request for CH2");
+        assert_eq!(request(&wire::init(b"CH2", b"")), "Init_Request for CH2");
     }
 
     #[test]
@@ -236,6 +244,6 @@ mod tests {
             mux: None,
         };
         let said = "Splice_Request session 9 at 1970-01-01T00:00:10.000000Z for 30.000 s, event 3, access 5, may override";
-        assert_eq!(Asked(&wire::splice(&asked)).to_string(), said);
+        assert_eq!(request(&wire::splice(&asked)), said);
     }
 }

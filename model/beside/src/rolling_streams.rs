@@ -271,7 +271,7 @@ pub fn everything(seed: u64, n: u64) -> Vec<bool> {
 
 fn compared(seed: u64, n: u64) -> bool {
     let (mut desk, mut tally) = (Desk::new(LONGEST), Tally::default());
-    for index in 0..n {
+    for index in rolling_streams::indices(n) {
         play(seed, index, None, &mut desk, &mut tally);
     }
     let never = if n < 200 { Vec::new() } else { tally.hits.never(FLOORS) };
@@ -283,7 +283,7 @@ fn compared(seed: u64, n: u64) -> bool {
 
 fn noticed(seed: u64, slip: Slip, text: &str) -> bool {
     let (mut desk, mut tally) = (Desk::new(LONGEST), Tally::default());
-    for index in 0..FOR_A_SLIP {
+    for index in rolling_streams::indices(FOR_A_SLIP) {
         play(seed, index, Some(slip), &mut desk, &mut tally);
         if !tally.differences.is_empty() {
             break;
@@ -294,7 +294,8 @@ fn noticed(seed: u64, slip: Slip, text: &str) -> bool {
 
 /// The books find a mistake of the second program without the core.
 fn booked(seed: u64, slip: Slip, text: &str) -> bool {
-    let found = (0..FOR_A_SLIP).find_map(|index| Some(format!("rolling stream {index}, {}", booked_in(seed, index, slip)?)));
+    let found = rolling_streams::indices(FOR_A_SLIP)
+        .find_map(|index| Some(format!("rolling stream {index}, {}", booked_in(seed, index, slip)?)));
     tell::noticed(&format!("{slip:?}: {text}"), found.as_deref(), " by the records alone")
 }
 

@@ -5,6 +5,7 @@ mod check;
 mod config;
 mod cue;
 mod descriptors;
+mod full_queues;
 mod lately;
 mod moved;
 mod places;
@@ -76,34 +77,67 @@ fn waiting(counts: [u32; 4]) -> String {
     text
 }
 
-/// What each shows, how many wait on each connection, the calls of connection 0 and their answers, and how many wait then.
-const QUEUES: &[(&str, [u32; 4], &str, [usize; 4])] = &[
-    ("P3 a reserved place", [9, 20, 20, 14], "+ splice 0 id=50 at=1003 duration=1", [10, 20, 20, 14]),
-    (
-        "P4 full by the sum",
-        [10, 20, 20, 14],
-        "> splice 0 id=50 at=1003 duration=1\n< 0 Splice_Response 114 id=50",
-        [10, 20, 20, 14],
-    ),
-    (
-        "P5 the twentieth and P6 the twenty-first",
-        [19, 0, 0, 0],
-        "+ splice 0 id=50 at=1003 duration=1\n> splice 0 id=51 at=1004 duration=1\n< 0 Splice_Response 114 id=51",
-        [20, 0, 0, 0],
-    ),
-    (
-        "a full queue is counted before the eviction",
-        [20, 0, 0, 0],
-        "> splice 0 id=50 at=2001 duration=1 access=9\n< 0 Splice_Response 114 id=50",
-        [20, 0, 0, 0],
-    ),
-];
+#[test]
+fn p3_a_reserved_place() {
+    let splicer =
+        rehearsed(&format!("{}> splice 0 id=50 at=1003 duration=1\n< 0 Splice_Response 100 id=50", waiting([9, 20, 20, 14])));
+    assert_eq!(splicer.waiting_counts(), [10, 20, 20, 14]);
+}
 
 #[test]
-fn full_queues() {
-    for (shows, counts, text, then) in QUEUES {
-        let splicer = rehearsed(&format!("{}{text}", waiting(*counts)));
-        assert_eq!(splicer.waiting_counts(), *then, "{shows}");
+fn p4_full_by_the_sum() {
+    let splicer =
+        rehearsed(&format!("{}> splice 0 id=50 at=1003 duration=1\n< 0 Splice_Response 114 id=50", waiting([10, 20, 20, 14])));
+    assert_eq!(splicer.waiting_counts(), [10, 20, 20, 14]);
+}
+
+#[test]
+fn p5_the_twentieth_and_p6_the_twenty_first() {
+    rehearsed(&format!(
+        "{}> splice 0 id=50 at=1003 duration=1\n< 0 Splice_Response 100 id=50
+         > splice 0 id=51 at=1004 duration=1\n< 0 Splice_Response 114 id=51",
+        waiting([19, 0, 0, 0])
+    ));
+}
+
+#[test]
+fn p9_the_end_and_p10_an_abort_at_1013() {
+    let accepted = rehearsed(
+        "> splice 0 id=1 at=1003 duration=2700000
+         < 0 Splice_Response 100 id=1",
+    );
+    assert_eq!(accepted.sessions[0].end, 9_297_000_000);
+    rehearsed(
+        "> splice 0 id=1 at=1003 duration=2700000
+         < 0 Splice_Response 100 id=1
+         > tick 1013
+         < 0 SpliceComplete_Response 100 id=1 flag=0 played=0
+         > abort 0 id=1
+         < 0 Abort_Response 100 id=1
+         < 0 SpliceComplete_Response 116 id=1 flag=1 played=900000",
+    );
+    rehearsed(
+        "> splice 0 id=1 at=1003 duration=2700000
+         < 0 Splice_Response 100 id=1
+         > tick 1032.999999
+         < 0 SpliceComplete_Response 100 id=1 flag=0 played=0
+         > tick 1033
+         < 0 SpliceComplete_Response 100 id=1 flag=1 played=2700000",
+    );
+}
+
+#[test]
+fn p11_eleven_and_twelve_microseconds() {
+    for (micros, played) in [(11, 0), (12, 1)] {
+        rehearsed(&format!(
+            "> splice 0 id=1 at=1003 duration=90000
+             < 0 Splice_Response 100 id=1
+             > tick 1003.0000{micros}
+             < 0 SpliceComplete_Response 100 id=1 flag=0 played=0
+             > abort 0 id=1
+             < 0 Abort_Response 100 id=1
+             < 0 SpliceComplete_Response 116 id=1 flag=1 played={played}"
+        ));
     }
 }
 
@@ -120,8 +154,10 @@ fn p12_to_p14_starts_against_one_on_air() {
     ];
     for (access, overrides, before, result, left) in cases {
         let splicer = rehearsed(&format!(
-            "+ splice 0 id=1 at=1003 duration=900000 access=4
-             + splice 0 id=2 at=1005 duration=90000 access={access} override={overrides}
+            "> splice 0 id=1 at=1003 duration=900000 access=4
+             < 0 Splice_Response 100 id=1
+             > splice 0 id=2 at=1005 duration=90000 access={access} override={overrides}
+             < 0 Splice_Response 100 id=2
              > tick 1005
              < 0 SpliceComplete_Response 100 id=1 flag=0 played=0
              {before}< 0 SpliceComplete_Response {result} id=2 flag=0 played=0"
@@ -129,6 +165,92 @@ fn p12_to_p14_starts_against_one_on_air() {
         let states: Vec<(u32, State)> = splicer.sessions.iter().map(|s| (s.id, s.state)).collect();
         assert_eq!(states, left);
     }
+}
+
+#[test]
+fn an_equal_start_ends_the_one_on_air_and_its_followers() {
+    // 1 (access 3) is covered by 2 (access 6) from 1,004 s on; 5 (6) ends 2 at 1,006 s.
+    let splicer = rehearsed(
+        "> splice 0 id=1 at=1003 duration=900000 access=3
+         < 0 Splice_Response 100 id=1
+         > splice 0 id=2 at=1004 duration=900000 access=6 override=1
+         < 0 Splice_Response 100 id=2
+         > splice 0 id=3 prior=2 duration=90000
+         < 0 Splice_Response 100 id=3
+         > splice 0 id=4 prior=3 duration=90000
+         < 0 Splice_Response 100 id=4
+         > splice 0 id=5 at=1006 duration=90000 access=6 override=1
+         < 0 Splice_Response 100 id=5
+         > tick 1006
+         < 0 SpliceComplete_Response 100 id=1 flag=0 played=0
+         < 0 SpliceComplete_Response 100 id=2 flag=0 played=0
+         < 0 SpliceComplete_Response 125 id=2 flag=1 played=180000
+         < 0 Splice_Response 125 id=3
+         < 0 Splice_Response 125 id=4
+         < 0 SpliceComplete_Response 100 id=5 flag=0 played=0
+         > tick 1007
+         < 0 SpliceComplete_Response 100 id=5 flag=1 played=90000
+         > alive 0
+         < 0 Alive_Response 100 state=2 id=1 time=1007.000000",
+    );
+    assert_eq!(splicer.sessions.len(), 1);
+}
+
+#[test]
+fn three_linked_sessions_the_first_aborted_all_three_end() {
+    let splicer = rehearsed(
+        "> splice 0 id=1 at=1010 duration=90000
+         < 0 Splice_Response 100 id=1
+         > splice 0 id=2 prior=1 duration=90000
+         < 0 Splice_Response 100 id=2
+         > splice 0 id=3 prior=2 duration=90000
+         < 0 Splice_Response 100 id=3
+         > abort 0 id=1
+         < 0 Abort_Response 100 id=1
+         < 0 Splice_Response 116 id=1
+         < 0 Splice_Response 116 id=2
+         < 0 Splice_Response 116 id=3
+         > abort 0 id=3
+         < 0 Abort_Response 121 id=3",
+    );
+    assert!(splicer.sessions.is_empty());
+}
+
+#[test]
+fn close_ends_started_from_the_highest_then_waiting_by_start() {
+    let text = "> open 1
+         > init 1
+         < 1 Init_Response 100
+         > splice 0 id=1 at=1003 duration=1800000 access=1
+         < 0 Splice_Response 100 id=1
+         > splice 1 id=1 at=1004 duration=1800000 access=2 override=1
+         < 1 Splice_Response 100 id=1
+         > splice 0 id=2 at=1005 duration=1800000 access=3 override=1
+         < 0 Splice_Response 100 id=2
+         > splice 0 id=9 prior=1 duration=90000
+         < 0 Splice_Response 100 id=9
+         > splice 0 id=8 prior=9 duration=90000
+         < 0 Splice_Response 100 id=8
+         > splice 0 id=7 at=1020 duration=90000
+         < 0 Splice_Response 100 id=7
+         > tick 1006
+         < 0 SpliceComplete_Response 100 id=1 flag=0 played=0
+         < 1 SpliceComplete_Response 100 id=1 flag=0 played=0
+         < 0 SpliceComplete_Response 100 id=2 flag=0 played=0
+         > close 0
+         < 0 SpliceComplete_Response 116 id=2 flag=1 played=90000
+         < 0 Splice_Response 116 id=1
+         < 0 Splice_Response 116 id=7
+         < 0 Splice_Response 116 id=9
+         < 0 Splice_Response 116 id=8
+         > alive 1
+         < 1 Alive_Response 100 state=2 id=1 time=1006.000000
+         > tick 1024
+         < 1 SpliceComplete_Response 100 id=1 flag=1 played=1710000
+         > open 0
+         > alive 0
+         < 0 General_Response 103";
+    rehearsed(text);
 }
 
 #[test]
@@ -165,6 +287,11 @@ fn answers_before_and_after_init() {
          > alive 2
          < 2 Alive_Response 100 state=1 id=0xFFFFFFFF time=0.000000",
     );
+}
+
+#[test]
+fn a_full_queue_is_counted_before_the_eviction() {
+    rehearsed(&format!("{}> splice 0 id=50 at=2001 duration=1 access=9\n< 0 Splice_Response 114 id=50", waiting([20, 0, 0, 0])));
 }
 
 #[test]
@@ -227,10 +354,14 @@ fn a_large_message_is_read_whole() {
 #[test]
 fn times_at_the_top_of_the_range() {
     let splicer = hold(
-        "+ open 3
+        "> open 3
+         > init 3
+         < 3 Init_Response 100
          > tick 4294967290
-         + splice 3 id=1 at=4294967295.999999 duration=0xFFFFFFFF
-         + splice 3 id=2 prior=1 duration=0xFFFFFFFF
+         > splice 3 id=1 at=4294967295.999999 duration=0xFFFFFFFF
+         < 3 Splice_Response 100 id=1
+         > splice 3 id=2 prior=1 duration=0xFFFFFFFF
+         < 3 Splice_Response 100 id=2
          > tick 4294967295.999999
          < 3 SpliceComplete_Response 100 id=1 flag=0 played=0
          > alive 3

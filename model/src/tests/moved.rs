@@ -1,13 +1,13 @@
 //! The waiting counts (02, CR 2) and the places that an acceptance shifts (02, CR 11).
 
-use super::{rehearsed, waiting, written_out, REHEARSED};
+use super::{rehearsed, waiting, REHEARSED};
 use crate::people::record_lines::hex;
 use crate::people::scenario as format;
 use crate::rules::Splicer;
 
 /// The places moved by each call behind the rehearsed situation, 0 for calls that are refused.
 fn moves(text: &str) -> Vec<usize> {
-    let steps = format::parse(&written_out(&format!("{REHEARSED}{text}"))).unwrap();
+    let steps = format::parse(&format!("{REHEARSED}{text}")).unwrap();
     let (mut splicer, _) = Splicer::fresh(&crate::people::card::channel_name());
     let mut list = Vec::new();
     for step in &steps {
@@ -94,20 +94,26 @@ fn the_waiting_counts_after_each_event() {
 
 #[test]
 fn moved_counts_the_waiting_that_start_later() {
-    let text = "+ splice 0 id=1 at=1010 duration=90000
-         + splice 0 id=2 at=1030 duration=90000
-         + splice 0 id=3 at=1020 duration=90000
-         + splice 0 id=4 at=1005 duration=90000
+    let text = "> splice 0 id=1 at=1010 duration=90000
+         < 0 Splice_Response 100 id=1
+         > splice 0 id=2 at=1030 duration=90000
+         < 0 Splice_Response 100 id=2
+         > splice 0 id=3 at=1020 duration=90000
+         < 0 Splice_Response 100 id=3
+         > splice 0 id=4 at=1005 duration=90000
+         < 0 Splice_Response 100 id=4
          > splice 0 id=5 at=1005 duration=90000
          < 0 Splice_Response 109 id=5
-         + splice 0 id=6 prior=1 duration=90000
+         > splice 0 id=6 prior=1 duration=90000
+         < 0 Splice_Response 100 id=6
          > alive 0
          < 0 Alive_Response 100 state=1 id=0xFFFFFFFF time=1000.000000
          > tick 1010
          < 0 SpliceComplete_Response 100 id=4 flag=0 played=0
          < 0 SpliceComplete_Response 100 id=4 flag=1 played=90000
          < 0 SpliceComplete_Response 100 id=1 flag=0 played=0
-         + splice 0 id=4 at=1015 duration=90000
+         > splice 0 id=4 at=1015 duration=90000
+         < 0 Splice_Response 100 id=4
          > open 0
          < refused 6
          > close 0
@@ -123,11 +129,17 @@ fn moved_counts_the_waiting_that_start_later() {
 
 #[test]
 fn moved_is_counted_after_the_eviction() {
-    let text = "+ open 1
-         + splice 1 id=1 at=1010 duration=90000 access=3
-         + splice 1 id=2 prior=1 duration=90000
-         + splice 1 id=3 prior=2 duration=90000
-         + splice 0 id=4 at=1011.500000 duration=90000
+    let text = "> open 1
+         > init 1
+         < 1 Init_Response 100
+         > splice 1 id=1 at=1010 duration=90000 access=3
+         < 1 Splice_Response 100 id=1
+         > splice 1 id=2 prior=1 duration=90000
+         < 1 Splice_Response 100 id=2
+         > splice 1 id=3 prior=2 duration=90000
+         < 1 Splice_Response 100 id=3
+         > splice 0 id=4 at=1011.500000 duration=90000
+         < 0 Splice_Response 100 id=4
          > splice 0 id=5 at=1010 duration=90000 access=4
          < 1 Splice_Response 109 id=1
          < 1 Splice_Response 109 id=2
@@ -142,7 +154,7 @@ fn at_most_63_are_moved() {
     let (mut splicer, _) = Splicer::fresh(&crate::people::card::channel_name());
     let text = format!("{REHEARSED}{}", waiting([9, 20, 20, 14]));
     let last = "> splice 0 id=50 at=1003 duration=1\n< 0 Splice_Response 100 id=50";
-    for step in format::parse(&written_out(&format!("{text}{last}"))).unwrap() {
+    for step in format::parse(&format!("{text}{last}")).unwrap() {
         let (call, _) = crate::people::card::next_call(&step.input).unwrap();
         crate::people::card::make(&mut splicer, &call);
     }

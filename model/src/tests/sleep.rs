@@ -16,7 +16,8 @@ fn with_nothing_held_nothing_is_read() {
 #[test]
 fn one_waits_and_is_on_air() {
     rehearsed(
-        "+ splice 0 id=7 at=1003 duration=2700000 access=4 event=99 desc=02055341504908
+        "> splice 0 id=7 at=1003 duration=2700000 access=4 event=99 desc=02055341504908
+         < 0 Splice_Response 100 id=7
          > air none
          > due 9027000000 1003.000000
          > sessions waiting:0:7:99:0xFFFFFFFF:4:0:8:9027000000:9297000000:0
@@ -38,7 +39,8 @@ fn one_waits_and_is_on_air() {
 #[test]
 fn an_end_between_two_microseconds() {
     rehearsed(
-        "+ splice 0 id=1 at=1003 duration=1
+        "> splice 0 id=1 at=1003 duration=1
+         < 0 Splice_Response 100 id=1
          > tick 1003
          < 0 SpliceComplete_Response 100 id=1 flag=0 played=0
          > due 9027000100 1003.000012
@@ -57,18 +59,24 @@ fn the_last_second() {
     for (micros, instant, tick) in [("999988", "38654705663999992", "never"), ("999987", "38654705663999983", "4294967295.999999")]
     {
         hold(&format!(
-            "+ open 3
+            "> open 3
+             > init 3
+             < 3 Init_Response 100
              > tick 4294967290
-             + splice 3 id=1 at=4294967295.{micros} duration=1
+             > splice 3 id=1 at=4294967295.{micros} duration=1
+             < 3 Splice_Response 100 id=1
              > tick 4294967295.{micros}
              < 3 SpliceComplete_Response 100 id=1 flag=0 played=0
              > due {instant} {tick}"
         ));
     }
     hold(
-        "+ open 3
+        "> open 3
+         > init 3
+         < 3 Init_Response 100
          > tick 4294967290
-         + splice 3 id=1 at=4294967295.999999 duration=1
+         > splice 3 id=1 at=4294967295.999999 duration=1
+         < 3 Splice_Response 100 id=1
          > due 38654705663999991 4294967295.999999
          > tick 4294967295.999999
          < 3 SpliceComplete_Response 100 id=1 flag=0 played=0
@@ -81,14 +89,18 @@ fn the_last_second() {
 #[test]
 fn equal_starts() {
     rehearsed(
-        "+ open 1
-         + splice 0 id=1 at=1003 duration=90000 access=2
+        "> open 1
+         > init 1
+         < 1 Init_Response 100
+         > splice 0 id=1 at=1003 duration=90000 access=2
+         < 0 Splice_Response 100 id=1
          > due 9027000000 1003.000000
          > splice 1 id=1 at=1003 duration=180000 access=5
          < 0 Splice_Response 109 id=1
          < 1 Splice_Response 100 id=1
          > due 9027000000 1003.000000
-         + splice 1 id=2 prior=1 duration=90000 access=5
+         > splice 1 id=2 prior=1 duration=90000 access=5
+         < 1 Splice_Response 100 id=2
          > sessions waiting:1:1:0xFFFFFFFF:0xFFFFFFFF:5:0:5:9027000000:9045000000:0 \
            waiting:1:2:0xFFFFFFFF:1:5:0:5:9045000000:9054000000:0
          > tick 1003
@@ -107,8 +119,10 @@ fn equal_starts() {
 #[test]
 fn covered_and_on_air_again() {
     rehearsed(
-        "+ splice 0 id=1 at=1003 duration=900000 access=3
-         + splice 0 id=2 at=1004 duration=180000 access=6 override=1
+        "> splice 0 id=1 at=1003 duration=900000 access=3
+         < 0 Splice_Response 100 id=1
+         > splice 0 id=2 at=1004 duration=180000 access=6 override=1
+         < 0 Splice_Response 100 id=2
          > tick 1005
          < 0 SpliceComplete_Response 100 id=1 flag=0 played=0
          < 0 SpliceComplete_Response 100 id=2 flag=0 played=0
