@@ -118,7 +118,8 @@ module _ {m b : List ℕ} (w : Whole m b) (c revision : ℕ) (d : List ℕ) {e :
       (see n).ring_end ≡ (see m).ring_end → Gives (answer_init c revision d (shown m b)) (see m).ring_end e (unmoved len) n p o
   unfolding answer_init
   init-gives k h g =
-      let p : r ≡ init_result revision (channel_name d) (name_of b) = rr ∙ ap₂ (λ (y z : List ℕ). init_result revision y (name_in z)) ra rx in
+      let p : r ≡ init_result revision (channel_name d) (name_of b) = rr ∙ ap₂ (λ (y z : List ℕ). init_result revision y (name_in z)) ra rx
+          in
       record {
         whole = k;
         splicer = h ∙ ap (λ (k : ℕ). cond (eqb k 100) (initialised c (hardware_in d) (shown m b)) (shown m b)) p;
@@ -200,7 +201,8 @@ kept-short {b} s c low e =
     omega (arith, l, length-take (2 + length_in (kept_bytes c b)) (kept_bytes c b), (s.kept c low).fits)
 
 -- x: the stored name; h: what the connection keeps; y: the section
-pub config-says : (m b : List ℕ) (c : ℕ) {e o x : List ℕ} {len : ℕ} (h y : List ℕ) → x ≡ name_bytes b → h ≡ get_or (kept_of b) c no_hardware →
+pub config-says : (m b : List ℕ) (c : ℕ) {e o x : List ℕ} {len : ℕ} (h y : List ℕ) → x ≡ name_bytes b
+    → h ≡ get_or (kept_of b) c no_hardware →
     Puts (ConfigResponse c 100 (name_in x) h y) e len o → Says (config_response c y (shown m b)) e len o
 unfolding config_response
 config-says m b c {e} {o} {len = len} h y rx rh g =
@@ -212,7 +214,8 @@ config-says m b c {e} {o} {len = len} h y rx rh g =
 pub reads : (s : Splicer) (c id : ℕ) (d section : List ℕ) {at : ℕ} {e : List ℕ} {r : Did} {n b o : List ℕ} {y x : Message} → y ≡ read id d
     → y ≡ x →
     Gives (answer_read c x d section s) at e r n b o → Gives (answer_read c (read id d) d section s) at e r n b o
-reads s c id d section {at} {e} {r} {n} {b} {o} p q g = subst (λ (z : Message). Gives (answer_read c z d section s) at e r n b o) (sym q ∙ p)
+reads s c id d section {at} {e} {r} {n} {b} {o} p q g = subst (λ (z : Message). Gives (answer_read c z d section s) at e r n b o)
+    (sym q ∙ p)
     g
 
 -- ## "first that applies"

@@ -20,7 +20,8 @@ use Rattle.cases.specs.Heard.{heard, spoken, silent, denied, till, splice, unlik
 -- what the histories are computed with
 unfoldable telling : ℕ
 unfolding Told.started_replied Told.started_told Lately.is_an_end Lately.told_in Lately.newer Lately.ended_replied Lately.ended_told
-    Kept.is_initialising Kept.initialises Kept.changes Kept.left Kept.changed Kept.kept_behind Kept.kept_told heard spoken silent denied till
+    Kept.is_initialising Kept.initialises Kept.changes Kept.left Kept.changed Kept.kept_behind Kept.kept_told heard spoken silent denied
+        till
     splice computing
 telling = 0
 

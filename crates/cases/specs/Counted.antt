@@ -140,31 +140,37 @@ records : List Row → List (List Record)
 records l = map (λ c. records_in (written_by c.called.answer)) (results l)
 
 numbered : numbers rows ≡ map (λ r. r.number) rows
-unfolding sent from init_of asks timed aborts step_of instant_course step_course reading_course rolls instant_call reading_call rolling_fresh roll
+unfolding sent from init_of asks timed aborts step_of instant_course step_course reading_course rolls instant_call reading_call
+    rolling_fresh roll
     refuses writes gives reads alive is rows each plays ready results told numbers computing
 numbered = refl
 
 answered : records rows ≡ map (λ r. r.wants) rows
-unfolding sent from init_of asks timed aborts step_of instant_course step_course reading_course rolls instant_call reading_call rolling_fresh roll
+unfolding sent from init_of asks timed aborts step_of instant_course step_course reading_course rolls instant_call reading_call
+    rolling_fresh roll
     refuses writes gives reads alive is rows each plays ready results records computing
 answered = refl
 
 last_numbered : numbers last_rows ≡ map (λ r. r.number) last_rows
-unfolding sent from init_of asks step_of instant_course step_course reading_course rolls instant_call reading_call rolling_fresh roll refuses writes
+unfolding sent from init_of asks step_of instant_course step_course reading_course rolls instant_call reading_call rolling_fresh roll
+    refuses writes
     gives reads alive is last_rows each plays ready results told numbers computing
 last_numbered = refl
 
 last_answered : records last_rows ≡ map (λ r. r.wants) last_rows
-unfolding sent from init_of asks step_of instant_course step_course reading_course rolls instant_call reading_call rolling_fresh roll refuses writes
+unfolding sent from init_of asks step_of instant_course step_course reading_course rolls instant_call reading_call rolling_fresh roll
+    refuses writes
     gives reads alive is last_rows each plays ready results records computing
 last_answered = refl
 
 limit_numbered : numbers limit_rows ≡ map (λ r. r.number) limit_rows
-unfolding sent from init_of asks step_of instant_course step_course reading_course rolls instant_call reading_call rolling_fresh roll refuses writes
+unfolding sent from init_of asks step_of instant_course step_course reading_course rolls instant_call reading_call rolling_fresh roll
+    refuses writes
     gives reads alive is limit_rows each plays ready results told numbers computing
 limit_numbered = refl
 
 limit_answered : records limit_rows ≡ map (λ r. r.wants) limit_rows
-unfolding sent from init_of asks step_of instant_course step_course reading_course rolls instant_call reading_call rolling_fresh roll refuses writes
+unfolding sent from init_of asks step_of instant_course step_course reading_course rolls instant_call reading_call rolling_fresh roll
+    refuses writes
     gives reads alive is limit_rows each plays ready results records computing
 limit_answered = refl

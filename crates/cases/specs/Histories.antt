@@ -5,7 +5,8 @@ use Rattle.rules.specs.Lists.{bit}
 use Rattle.rules.specs.Records.{Record, General, InitResponse, AliveResponse, SpliceResponse, SpliceComplete, AbortResponse, ExtendedFound}
 use Rattle.rules.specs.Records.{ExtendedNone}
 use Rattle.rules.specs.Calls.{Call, opens, closes, moves}
-use Rattle.demands.specs.History.{is_start, is_end, is_yes, own_answer, others_of, wrote, Event, Entry, history, waiting_count, book, clock_after}
+use Rattle.demands.specs.History.{is_start, is_end, is_yes, own_answer, others_of, wrote, Event, Entry, history, waiting_count, book}
+use Rattle.demands.specs.History.{clock_after}
 use Rattle.cases.specs.Scenario.{hex}
 use Rattle.cases.specs.Computing.{computing}
 use Rattle.cases.specs.Rehearsed.{sent, from, init_of, asks, timed, linked, aborts, to, card, up, ready}

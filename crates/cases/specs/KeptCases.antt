@@ -20,7 +20,8 @@ use Rattle.cases.specs.Heard.{heard, silent, denied, till, says, each, small, un
 
 -- what the definitions of demands' Kept are computed with
 unfoldable telling : ℕ
-unfolding Kept.is_initialising Kept.initialises Kept.changes Kept.left Kept.changed Kept.kept_behind Kept.kept_told Kept.state_in heard silent
+unfolding Kept.is_initialising Kept.initialises Kept.changes Kept.left Kept.changed Kept.kept_behind Kept.kept_told Kept.state_in heard
+    silent
     denied till says computing
 telling = 0
 

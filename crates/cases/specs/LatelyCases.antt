@@ -22,7 +22,8 @@ use Rattle.cases.specs.Heard.{heard, silent, denied, till, says, splice, unlike}
 
 -- what the definitions of demands' Lately are computed with
 unfoldable telling : ℕ
-unfolding Lately.is_an_end Lately.told_in Lately.newer Lately.ended_replied Lately.ended_told Lately.answer_told heard silent denied till says
+unfolding Lately.is_an_end Lately.told_in Lately.newer Lately.ended_replied Lately.ended_told Lately.answer_told heard silent denied till
+    says
     splice computing
 telling = 0
 
@@ -159,7 +160,8 @@ ended-once : map (λ n. get_or n 0 0 ∷ get_or n 1 0 ∷ ended_once (get_or n 0
 unfolding ended step day all numbers telling
 ended-once = refl
 
-of_number_lem : map (λ n. get_or n 0 0 ∷ get_or n 1 0 ∷ count (of_number (get_or n 0 0) (get_or n 1 0)) (ends_told all) ∷ []) numbers ≡ numbers
+of_number_lem : map (λ n. get_or n 0 0 ∷ get_or n 1 0 ∷ count (of_number (get_or n 0 0) (get_or n 1 0)) (ends_told all) ∷ []) numbers ≡
+    numbers
 unfolding ended step day all numbers telling
 of_number_lem = refl
 

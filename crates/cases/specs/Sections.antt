@@ -7,8 +7,10 @@ use Rattle.rules.specs.declared.Cue.{Cue}
 use Rattle.rules.specs.declared.Cue.TheVariants.{At, Timeless, Silent, Bad}
 use Rattle.rules.specs.declared.WireTime.{WireTime}
 use Rattle.rules.specs.Crc.{crc}
-use Rattle.rules.specs.Cues.{section_length, bad_section, table_id, is_encrypted, pts_at, pts_adjustment, command_length, command_type, command_at}
-use Rattle.rules.specs.Cues.{is_cancelled, is_program, has_duration, is_immediate, insert_time_at, program_size, loop_length, read_cue, all_ones}
+use Rattle.rules.specs.Cues.{section_length, bad_section, table_id, is_encrypted, pts_at, pts_adjustment, command_length, command_type}
+use Rattle.rules.specs.Cues.{command_at}
+use Rattle.rules.specs.Cues.{is_cancelled, is_program, has_duration, is_immediate, insert_time_at, program_size, loop_length, read_cue}
+use Rattle.rules.specs.Cues.{all_ones}
 use Rattle.rules.specs.Cues.{cue_time}
 use Rattle.cases.specs.Scenario.{hex}
 use Rattle.cases.specs.Computing.{computing}
@@ -53,7 +55,8 @@ registers = refl
 -- table 0xFC, 32 bytes behind the length; splice_insert of 15 bytes by its own syntax too; pts_time; no descriptors
 insert-numbers :
     map (λ f. f (hex insert))
-    (table_id ∷ section_length ∷ pts_adjustment ∷ command_length ∷ command_type ∷ program_size ∷ pts_at insert_time_at ∷ loop_length 15 ∷ [])
+    (table_id ∷ section_length ∷ pts_adjustment ∷ command_length ∷ command_type ∷ program_size ∷ pts_at insert_time_at ∷ loop_length 15 ∷
+        [])
     ≡ (0xFC ∷ 32 ∷ 0 ∷ 15 ∷ 0x05 ∷ 15 ∷ 3582534591 ∷ 0 ∷ [])
 unfolding computing insert
 insert-numbers = refl
@@ -74,7 +77,8 @@ signal : String
 signal = "FC 3016 00 01 00000010 00 FF F005 06 FF23456789 0000 713B22BD"
 
 signal-numbers :
-    map (λ f. f (hex signal)) (table_id ∷ section_length ∷ pts_adjustment ∷ command_length ∷ command_type ∷ pts_at command_at ∷ loop_length 5 ∷ [])
+    map (λ f. f (hex signal)) (table_id ∷ section_length ∷ pts_adjustment ∷ command_length ∷ command_type ∷ pts_at command_at ∷ loop_length
+        5 ∷ [])
     ≡ (0xFC ∷ 22 ∷ 0x100000010 ∷ 5 ∷ 0x06 ∷ 0x123456789 ∷ 0 ∷ [])
 unfolding computing signal
 signal-numbers = refl

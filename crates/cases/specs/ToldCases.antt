@@ -18,7 +18,8 @@ use Rattle.rules.specs.Calls.{Call, opens, closes, messages, ticks, cues}
 use Rattle.rules.specs.HouseNumbers.{lending}
 use Rattle.demands.specs.History.{Event, wrote, Entry, book, clock_after}
 use Rattle.demands.specs.Told
-use Rattle.demands.specs.Told.{answers, full_told, is_out, outs_of, started_told, unended, Ended, entries_of, Stands, counts_told, air_mux_told}
+use Rattle.demands.specs.Told.{answers, full_told, is_out, outs_of, started_told, unended, Ended, entries_of, Stands, counts_told}
+use Rattle.demands.specs.Told.{air_mux_told}
 use Rattle.demands.specs.Told.{MuxInRange, conn_of, concerned, Carries, granted_by}
 use Rattle.cases.specs.Scenario.{hex}
 use Rattle.cases.specs.Computing.{computing}

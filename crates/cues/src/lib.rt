@@ -3,7 +3,8 @@
 #![tactic(auto)]
 
 ghost use Rattle.std.specs.Prelude.{◌≡◌, ◌+◌, ◌≤◌, ◌<◌, length};
-ghost use Rattle.rules.specs.Cues.{bad_section, flag_at, pts_turn, pts_at, bad_lengths, time_size, time_in, read_signal, program_size, read_program};
+ghost use Rattle.rules.specs.Cues.{bad_section, flag_at, pts_turn, pts_at, bad_lengths, time_size, time_in, read_signal, program_size};
+ghost use Rattle.rules.specs.Cues.{read_program};
 ghost use Rattle.rules.specs.Cues.{read_insert, read_command, read_cue, ticks_after, wire_time_of, cue_time};
 
 pub mod crc;

@@ -90,7 +90,8 @@ module _ (c : ℕ) (l : List ℕ) (loans : Loans) (s : Splicer) (w : Wired (mess
       }
 
   -- 02, CR 8: an ExtendedData_Request
-  pub good-inquires : (x : ℕ) → message_id l ≡ extended_request → is_initialised (link_of c s) ≡ true → read_extended (data_in l) ≡ Extended x
+  pub good-inquires : (x : ℕ) → message_id l ≡ extended_request → is_initialised (link_of c s) ≡ true
+      → read_extended (data_in l) ≡ Extended x
       → Inquires c l loans x s
   good-inquires x e i f =
       let g = good in

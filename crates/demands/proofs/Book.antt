@@ -30,7 +30,8 @@ use Rattle.rules.specs.Instants.{run_all}
 use Rattle.rules.specs.Splicing.{end_of, start_of, session_at, requested, unknown_prior, accepts, accepted}
 use Rattle.rules.specs.HouseNumbers.{Called}
 use Rattle.rules.specs.Calls.{ticked, Call, call, after, named, fresh}
-use Rattle.demands.specs.History.{end_result, is_end, is_yes, ends_of, front, last, Entry, entry_is, with_ends, credited, last_told, end_told}
+use Rattle.demands.specs.History.{end_result, is_end, is_yes, ends_of, front, last, Entry, entry_is, with_ends, credited, last_told}
+use Rattle.demands.specs.History.{end_told}
 use Rattle.demands.specs.History.{mux_told, event_told, start_told, end_asked, mux_asked, event_asked, entry_of, book_answered, with_closed}
 use Rattle.demands.specs.History.{shut, book_after, prior_told, overrides_told, prior_asked, overrides_asked}
 use Rattle.rules.specs.Follows.Sound.{Each, held_count}

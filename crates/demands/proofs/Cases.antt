@@ -55,7 +55,8 @@ pub record Cases (s : Splicer) (P : Call → Called → Type 0) : Type 0 where
       → P (messages c l loans) (does n (AbortResponse c 100 x ∷ (aborted c x s.queue).written)
       (with_queue (aborted c x s.queue).queue s))
   -- a Splice_Request that is not accepted, and one that is
-  pub declining : (c : ℕ) (l : List ℕ) (loans : Loans) (n : ℕ) (r : Record) → is_splice l ≡ true → is_yes c (session_id (data_in l)) r ≡ false
+  pub declining : (c : ℕ) (l : List ℕ) (loans : Loans) (n : ℕ) (r : Record) → is_splice l ≡ true
+      → is_yes c (session_id (data_in l)) r ≡ false
       → Offair r → P (messages c l loans) (does n (r ∷ []) s)
   pub accepting : (c : ℕ) (l : List ℕ) (loans : Loans) (n : ℕ) (r : Request) → is_splice l ≡ true → read_splice (data_in l) ≡ Splice r
       → Passed s.clock c r s.queue → P (messages c l loans) (replies n (splices (grants (requested c r s.queue) s.queue) s))
@@ -95,7 +96,8 @@ module _ (s : Splicer) (P : Call → Called → Type 0) (k : Cases s P) where
     n = 8 + message_size l
 
     -- one record that says neither yes nor start nor end
-    one : (r : Record) → is_yes c (session_id (data_in l)) r ≡ false → Offair r → Plain (r ∷ []) → P (messages c l loans) (does n (r ∷ []) s)
+    one : (r : Record) → is_yes c (session_id (data_in l)) r ≡ false → Offair r → Plain (r ∷ [])
+        → P (messages c l loans) (does n (r ∷ []) s)
     one r y o p = go (is_splice l) refl
       where
         go : (b : Bool) → is_splice l ≡ b → P (messages c l loans) (does n (r ∷ []) s)

@@ -16,7 +16,8 @@ use Rattle.rules.specs.declared.Ending.TheVariants.{Complete, Failed, Response}
 use Rattle.rules.specs.Units.{time_of, from_micros, to_ticks}
 use Rattle.rules.specs.Lists.{All, bit, put, keep, omit, count, place, remove_at}
 use Rattle.rules.specs.Bytes.{has_zero}
-use Rattle.rules.specs.State.{same_number, Lately, Queue, Splicer, empty, of, is, starts_at, ends_at, due, not_after, with_waiting, with_started}
+use Rattle.rules.specs.State.{same_number, Lately, Queue, Splicer, empty, of, is, starts_at, ends_at, due, not_after, with_waiting}
+use Rattle.rules.specs.State.{with_started}
 use Rattle.rules.specs.Recent.{most_kept, unused, is_kept, none_ended, remembered, remembered_all, recent_at, recent_from, recent}
 use Rattle.rules.specs.Records.{Record, General, InitResponse, AliveResponse, SpliceResponse, SpliceComplete, AbortResponse, CueRequest}
 use Rattle.rules.specs.Records.{ConfigResponse, ExtendedFound, ExtendedNone}
@@ -532,12 +533,14 @@ module _ (c x : ℕ) where
   told-one es on (AliveResponse d m a y t) l n h = omega (arith, h)
   told-one es on (SpliceResponse d m y) l n h = rw (eqb_same d, eqb_same y) (go (end_result m))
     where
-      go : (b : Bool) → count (of_number c x) (put (b && true) (told_in es on (SpliceResponse d m y)) l) ≡ bit (b && same_number c x d y) + n
+      go : (b : Bool) → count (of_number c x) (put (b && true) (told_in es on (SpliceResponse d m y)) l) ≡ bit (b && same_number c x d y) +
+          n
       go true = omega (arith, h)
       go false = omega (arith, h)
   told-one es on (SpliceComplete d m y f p) l n h = rw (eqb_same d, eqb_same y) (go (eqb f 1 || (eqb f 0 && eqb m 109)))
     where
-      go : (b : Bool) → count (of_number c x) (put (b && true) (told_in es on (SpliceComplete d m y f p)) l) ≡ bit (b && same_number c x d y)
+      go : (b : Bool) → count (of_number c x) (put (b && true) (told_in es on (SpliceComplete d m y f p)) l) ≡ bit
+          (b && same_number c x d y)
           + n
       go true = omega (arith, h)
       go false = omega (arith, h)

@@ -64,7 +64,8 @@ module _ (c x : ℕ) where
   unfolding is_start
   starts-responses r l = count_map (is_start c x) (ended (Response r)) l ∙ count_none (λ s. false) (λ s. refl) l
 
-  ends-endings : (r : ℕ) (cover : Ending) → ((s : Session) → is_end c x (ended cover s) ≡ is c x s) → (p : Session → Bool) (k : List Session)
+  ends-endings : (r : ℕ) (cover : Ending) → ((s : Session) → is_end c x (ended cover s) ≡ is c x s)
+      → (p : Session → Bool) (k : List Session)
       → ends_of c x (endings (Complete r) cover p k Record ended) ≡ tally c x (keep p k)
   unfolding is_end
   ends-endings r cover h p k = count-endings (is_end c x) (is c x) (Complete r) cover (λ s. refl) h p k

@@ -119,7 +119,8 @@ module _ (now c x : ℕ) (f : Airing → Airing) (conn : (a : Airing) → (f a).
 
   pub primary-upon : primary_time now m ≡ primary_time now l
   unfolding primary_time
-  primary-upon = during-same now (λ n. not (some (live_at n) m)) (λ n. not (some (live_at n) l)) (λ n h. rw (some-upon c x f n l (quiet n h)))
+  primary-upon = during-same now (λ n. not (some (live_at n) m)) (λ n. not (some (live_at n) l))
+      (λ n h. rw (some-upon c x f n l (quiet n h)))
 
   waits-upon : (w : List Session) → count (is c x) w ≡ 0 → All (Waits l) w → All (Waits m) w
   waits-upon w z a =

@@ -16,7 +16,8 @@ use Rattle.rules.specs.State.{due, not_after}
 use Rattle.rules.specs.Follows.ReadBack.{records_in}
 use Rattle.rules.specs.HouseNumbers.{Answer, written_by, no_room}
 use Rattle.rules.specs.Calls.{ticked}
-use Rattle.rules.specs.Rolling.{Last, none, at, Rolling, step_of, over_step, moved_on, past_field, Course, brings, step_course, reading_course}
+use Rattle.rules.specs.Rolling.{Last, none, at, Rolling, step_of, over_step, moved_on, past_field, Course, brings, step_course}
+use Rattle.rules.specs.Rolling.{reading_course}
 use Rattle.rules.specs.Rolling.{rolls, reading_call, readings, roll, Rolled, within, longest_step, step_row}
 use Rattle.rules.specs.Follows.Sequences.{rolling_of}
 use Rattle.rules.specs.Follows.Sound.{Sound}
@@ -191,7 +192,8 @@ module _ (r : Rolling) where
         (λ f. by P (past_field (moved_on clock last reading)) _ _ (λ g z. absurd (omega (arith, a-number Counter))) (λ g z. refl)))
 
     -- and one of fewer ticks leaves so many fewer
-    pub reading-leaves : get_or (steps_of r) 0 0 ≡ 1 → step_from r.last reading < get_or (steps_of r) 1 0 → number_of (answer_to reading room) ≡ 0
+    pub reading-leaves : get_or (steps_of r) 0 0 ≡ 1 → step_from r.last reading < get_or (steps_of r) 1 0
+        → number_of (answer_to reading room) ≡ 0
         → steps_of (rolling_of (rolled_by reading room)) ≡ 1 ∷ (get_or (steps_of r) 1 0 - step_from r.last reading) ∷ []
     unfolding roll reading_call step_from rolls
     reading-leaves e few z = go r.last e few z

@@ -16,7 +16,8 @@ use Rattle.rules.specs.Bytes.{message_id, message_size, oversize, has_zero, name
 use Rattle.rules.specs.State.{Splicer, link_of, is_open, with_link, with_queue}
 use Rattle.rules.specs.Ends.{closed_by}
 use Rattle.rules.specs.Cues.{bad_section, read_cue, cue_time, initialised_ones, cue_records}
-use Rattle.rules.specs.HouseNumbers.{house_number, refused, refuse, does, written_by, consumed_by, buffer_after, no_connection, no_room, not_open}
+use Rattle.rules.specs.HouseNumbers.{house_number, refused, refuse, does, written_by, consumed_by, buffer_after, no_connection, no_room}
+use Rattle.rules.specs.HouseNumbers.{not_open}
 use Rattle.rules.specs.HouseNumbers.{long_section}
 use Rattle.rules.specs.Calls.{shut, named, fresh, open_call, close_call, framing, handled, message_call, ticked, move_call}
 use Rattle.rules.specs.Calls.{tick_call, Call, opens, closes, messages, ticks, moves, cue_call, cues, call}
@@ -31,7 +32,8 @@ module _ (s : Splicer) where
       record { splicer = rules.unchanged s k n e; written = rw e; consumed = rw e; buffer = λ b. rw e (written_none b 0) }
 
   pub first-number : (k : Call) → number_of (call k s).answer ≡ first_number (checks k s)
-  unfolding call open_call close_call message_call framing handled move_call tick_call cue_call ticked number_of house_number first_number checks
+  unfolding call open_call close_call message_call framing handled move_call tick_call cue_call ticked number_of house_number first_number
+      checks
   first-number (opens c) = go (no_connection c) (is_open (link_of c s))
     where
       go : (a b : Bool) → number_of (cond a (refuse NoConnection s)
@@ -54,7 +56,8 @@ module _ (s : Splicer) where
     where
       go : (a b d h e f g : Bool)
           → number_of (cond a (refuse NoConnection s) (cond b (refuse NoRoom s) (cond d (refuse NotOpen s) (cond h (refuse LongSection s)
-          (handled c (cond e (Unframed Short) (cond f (Unframed Oversize) (cond g (Unframed Short) (Framed (message_id l) (message_size l)))))
+          (handled c (cond e (Unframed Short) (cond f (Unframed Oversize)
+              (cond g (Unframed Short) (Framed (message_id l) (message_size l)))))
           l loans s))))).answer
           ≡ cond a 1 (cond b 2 (cond d 7 (cond h 10 (cond e 5 (cond f 4 (cond g 5 0))))))
       go true b d h e f g = refl

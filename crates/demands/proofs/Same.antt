@@ -18,7 +18,8 @@ use Rattle.rules.specs.Records.{Record}
 use Rattle.rules.specs.Follows.ReadBack.{records_in}
 use Rattle.rules.specs.Calls.{Call, opens, closes, messages, ticks, moves, cues}
 use Rattle.demands.specs.History.{Reply, refusal, wrote, Event, Entry, entry_is, is_start, is_end, granted_in, others_in, credited}
-use Rattle.demands.specs.History.{last_told, end_told, start_told, end_asked, mux_asked, event_asked, prior_asked, overrides_asked, entry_of}
+use Rattle.demands.specs.History.{last_told, end_told, start_told, end_asked, mux_asked, event_asked, prior_asked, overrides_asked}
+use Rattle.demands.specs.History.{entry_of}
 use Rattle.demands.specs.History.{book_answered, shut}
 use Rattle.demands.specs.History.{book_after, book_replied, book, clock_replied}
 use Rattle.rules.proofs.Tests.{and_both}
@@ -49,7 +50,8 @@ key-heard t r (a ∷ l) = go (concerns r a) (key-heard t r l)
     same false true = refl
     same false false = refl
 
-    go : (b : Bool) → map of_airing (heard t r l) ≡ map of_airing l → map of_airing (cond b (marked t r a ∷ l) (a ∷ heard t r l)) ≡ of_airing a
+    go : (b : Bool) → map of_airing (heard t r l) ≡ map of_airing l
+        → map of_airing (cond b (marked t r a ∷ l) (a ∷ heard t r l)) ≡ of_airing a
         ∷ map of_airing l
     go true ih = ap (◌∷ map of_airing l) (same (is_start a.conn a.id r) (is_end a.conn a.id r))
     go false ih = ap (of_airing a ∷◌) ih
@@ -120,7 +122,8 @@ module _ (l : List Airing) (es : List Entry) (h : map of_airing l ≡ map of_ent
   heard-credited : (u : ℕ) (rs : List Record) → map of_airing (heard_all u rs l) ≡ map of_entry (credited rs es)
   heard-credited u rs = key-heard_all u rs l ∙ h ∙ sym (key-credited rs es)
 
-  key-answered : (u d : ℕ) (b : List ℕ) (rs : List Record) → map of_airing (aired_answered u d b rs l) ≡ map of_entry (book_answered d b rs es)
+  key-answered : (u d : ℕ) (b : List ℕ) (rs : List Record)
+      → map of_airing (aired_answered u d b rs l) ≡ map of_entry (book_answered d b rs es)
   unfolding aired_answered book_answered entry_of
   key-answered u d b rs = go (granted_in d b rs)
     where

@@ -106,7 +106,8 @@ module _ (q : Queue) (room : ℕ) where
   abbrev filled : List HeldRow
   filled = rows_of started_state S ++ rows_of waiting_state W
 
-  rows_are : (lent : List ℕ) → Each Proper q → Each Small q → rows_in (min (held_number q) room) (written lent 0 (held_rows room q)) ≡ filled
+  rows_are : (lent : List ℕ) → Each Proper q → Each Small q
+      → rows_in (min (held_number q) room) (written lent 0 (held_rows room q)) ≡ filled
   unfolding written held_rows rows_in
   rows_are lent p m =
       let k : min (held_number q) room ≡ length S + (length W + 0) =

@@ -1,5 +1,6 @@
 -- What the demands' statements speak of, beside the definitions of `rules`.
-use Rattle.std.specs.Prelude.{◌≡◌, Bool, true, false, cond, ◌&&◌, List, [], ◌∷◌, ◌++◌, ℕ, ◌+◌, ◌-◌, ◌≤◌, ◌<◌, eqb, ltb, length, get_or, drop}
+use Rattle.std.specs.Prelude.{◌≡◌, Bool, true, false, cond, ◌&&◌, List, [], ◌∷◌, ◌++◌, ℕ, ◌+◌, ◌-◌, ◌≤◌, ◌<◌, eqb, ltb, length, get_or}
+use Rattle.std.specs.Prelude.{drop}
 use Rattle.rules.specs.declared.Request.{Request}
 use Rattle.rules.specs.declared.Cue.{Cue}
 use Rattle.rules.specs.declared.Cue.TheVariants.{At, Timeless, Silent, Bad}
@@ -23,7 +24,8 @@ use Rattle.rules.specs.Follows.ReadBack.{records_in}
 use Rattle.rules.specs.Cues.{bad_section}
 use Rattle.rules.specs.Splicing.{full_by, first_of, requested, wrong_number, too_late, collides}
 use Rattle.rules.specs.Answers.{is_past}
-use Rattle.rules.specs.HouseNumbers.{house_number, Answer, refused, good, Called, written_by, consumed_by, buffer_after, no_connection, no_room}
+use Rattle.rules.specs.HouseNumbers.{house_number, Answer, refused, good, Called, written_by, consumed_by, buffer_after, no_connection}
+use Rattle.rules.specs.HouseNumbers.{no_room}
 use Rattle.rules.specs.HouseNumbers.{not_open}
 use Rattle.rules.specs.HouseNumbers.{long_section, Loans}
 use Rattle.rules.specs.Calls.{fresh, framing, Call, opens, closes, messages, ticks, moves, cues, after}

@@ -153,7 +153,8 @@ module _ (name : List ℕ) (h : List Made) (m : Memory) where
 
     -- "Two operators' as-run logs listed a spot that never aired.": a SpliceComplete flag 1 is written only under a number whose start is
     -- written, since its last end or by the same call
-    pub only-aired-is-listed : outs_of d x (records_in (bytes_of r)) ≤ started_told d x (events h) 0 + starts_of d x (records_in (bytes_of r))
+    pub only-aired-is-listed : outs_of d x (records_in (bytes_of r)) ≤ started_told d x (events h) 0 + starts_of d x
+        (records_in (bytes_of r))
     only-aired-is-listed =
         rw (trace-events name h m c.trace, bytes_inside c.allowed)
         (called.only-aired-is-listed name (within h) m _ _ (more-inside name h m i r c) d x)
@@ -165,7 +166,8 @@ module _ (name : List ℕ) (h : List Made) (m : Memory) where
 module _ (name : List ℕ) (h g : List Made) (m : Memory) (d : ℕ) (e : List ℕ) (r : Seen)
     (t : Trace name (h ++ (made (a_close d e) r ∷ g)) m) (z : number r ≡ 0) where
   -- its sessions of before stand in the book as they stood at the close, each with its one end; newer are those accepted since
-  pub closed-stays-ended : Stands d (book (events (h ++ (made (a_close d e) r ∷ []))) []) (book (events (h ++ (made (a_close d e) r ∷ g))) [])
+  pub closed-stays-ended : Stands d (book (events (h ++ (made (a_close d e) r ∷ []))) [])
+      (book (events (h ++ (made (a_close d e) r ∷ g))) [])
   closed-stays-ended =
       let x = made (a_close d e) r in
       let p = trace-point name h (x ∷ g) m t in
@@ -422,7 +424,8 @@ module _ (name : List ℕ) (h : List Made) (m : Memory) (l g e : List ℕ) (r : 
       (sym (number-inside c.allowed) ∙ n))
 
   -- and which records those are: 117 for a bad section, else the Cue_Request with the cue's time
-  pub cue-records : number r ≡ 0 → records_in (bytes_of r) ≡ cue_records (read_cue l) (cue_time (pts_of g) (get_or g 2 0) (get_or g 3 0) (read_cue l))
+  pub cue-records : number r ≡ 0 → records_in (bytes_of r) ≡ cue_records (read_cue l)
+      (cue_time (pts_of g) (get_or g 2 0) (get_or g 3 0) (read_cue l))
       l (initialised_ones (shown m).links)
   cue-records n =
       rw (bytes_inside c.allowed)

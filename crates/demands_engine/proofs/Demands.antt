@@ -144,7 +144,8 @@ module _ (name : List ℕ) (h : List Made) (m : Memory) where
 
     -- "Two operators' as-run logs listed a spot that never aired.": a SpliceComplete flag 1 is written only under a number whose start is
     -- written, since its last end or by the same call
-    pub only-aired-is-listed : outs_of d x (records_in (bytes_of r)) ≤ started_told d x (events h) 0 + starts_of d x (records_in (bytes_of r))
+    pub only-aired-is-listed : outs_of d x (records_in (bytes_of r)) ≤ started_told d x (events h) 0 + starts_of d x
+        (records_in (bytes_of r))
     only-aired-is-listed =
         rw (as-ruled m i r c.allowed).bytes
         (told.only-aired-is-listed d x (events h) (shown m) (trace-told name h m c.trace) (call_of i) (wired i c.typed))
@@ -156,7 +157,8 @@ module _ (name : List ℕ) (h : List Made) (m : Memory) where
 module _ (name : List ℕ) (h g : List Made) (m : Memory) (d : ℕ) (e : List ℕ) (r : Result)
     (t : Trace name (h ++ (made (a_close d e) r ∷ g)) m) (z : number r ≡ 0) where
   -- its sessions of before stand in the book as they stood at the close, each with its one end; newer are those accepted since
-  pub closed-stays-ended : Stands d (book (events (h ++ (made (a_close d e) r ∷ []))) []) (book (events (h ++ (made (a_close d e) r ∷ g))) [])
+  pub closed-stays-ended : Stands d (book (events (h ++ (made (a_close d e) r ∷ []))) [])
+      (book (events (h ++ (made (a_close d e) r ∷ g))) [])
   closed-stays-ended = closed-stands name h g m d e r t z
 
   -- "the completion routine then wrote the old spot's end under the new SessionID": an end of the connection that the next call writes, 125
@@ -222,7 +224,8 @@ module _ (name : List ℕ) (h : List Made) (m : Memory) where
   one-kept-for-each t = told.one-kept-for-each (events h) (shown m) (trace-told name h m t)
 
 -- the next message, from whatever connection d, which asks by an ExtendedData_Request for the number x
-module _ (name : List ℕ) (h : List Made) (m : Memory) (d : ℕ) (l pm im e : List ℕ) (r : Result) (c : More name h m (a_message d l pm im e) r)
+module _ (name : List ℕ) (h : List Made) (m : Memory) (d : ℕ) (l pm im e : List ℕ) (r : Result)
+    (c : More name h m (a_message d l pm im e) r)
     (x : ℕ)
     (asks : Inquires d l (lending_maps pm im (length e)) x (shown m)) where
   -- "answered with the asking connection's latest ended session of that number", "121 .. where none is kept": whatever the call's contract

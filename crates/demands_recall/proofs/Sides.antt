@@ -168,7 +168,8 @@ spent-more ks js e = go (leb most_calls (length ks)) refl e
         (or-true (leb most_calls (length (ks ++ js))))
 
 -- from a log that leads to the card's splicer
-open-all : (h : List Pair) (s : Splicer) (l : List ℕ) → Leads l s → Course s l h → full (log_after l h) ≡ spent (kept_calls l ++ good_ones h)
+open-all : (h : List Pair) (s : Splicer) (l : List ℕ) → Leads l s → Course s l h
+    → full (log_after l h) ≡ spent (kept_calls l ++ good_ones h)
 open-all [] s l g c = full-spent l g.long ∙ ap spent (sym (append-nil (kept_calls l)))
 open-all (p ∷ h) s l g c = go (full l) refl (λ j. open-all h (call p.call s).splicer p.log j c.1)
   where

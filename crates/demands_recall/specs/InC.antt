@@ -77,4 +77,5 @@ good_ones (x ∷ h) = put (eqb (number_in x.card.reply) 0) (kept_form (call_of x
 pub record LikeTheCard (l : List ℕ) (h : List Both) : Type 0 where
   pub same : All Alike (until13 h)
   pub calls : kept_calls (log_after l (until13 h)) ≡ good_ones (until13 h)
-  pub bytes : log_after l (until13 h) ≡ recorded (good_ones (until13 h)) ++ replicate (log_length - length (recorded (good_ones (until13 h)))) 0
+  pub bytes : log_after l (until13 h) ≡ recorded (good_ones (until13 h)) ++ replicate
+      (log_length - length (recorded (good_ones (until13 h)))) 0

@@ -58,4 +58,5 @@ good_ones (p ∷ h) = put (is_done p.reply) (kept_form p.call) (good_ones h)
 pub record LikeTheCard (l : List ℕ) (h : List Pair) : Type 0 where
   pub same : All Same (until13 h)
   pub calls : kept_calls (log_after l (until13 h)) ≡ good_ones (until13 h)
-  pub bytes : log_after l (until13 h) ≡ recorded (good_ones (until13 h)) ++ replicate (log_length - length (recorded (good_ones (until13 h)))) 0
+  pub bytes : log_after l (until13 h) ≡ recorded (good_ones (until13 h)) ++ replicate
+      (log_length - length (recorded (good_ones (until13 h)))) 0

@@ -196,10 +196,12 @@ module _ (name : List ℕ) (h : List Made) (m : Memory) where
 
     -- "Two operators' as-run logs listed a spot that never aired.": a SpliceComplete flag 1 is written only under a number whose start is
     -- written, since its last end or by the same call
-    pub only-aired-is-listed : outs_of d x (records_in (bytes_of r)) ≤ started_told d x (events h) 0 + starts_of d x (records_in (bytes_of r))
+    pub only-aired-is-listed : outs_of d x (records_in (bytes_of r)) ≤ started_told d x (events h) 0 + starts_of d x
+        (records_in (bytes_of r))
     only-aired-is-listed = go (next name h m i r c)
       where
-        go : Next name h m i r → outs_of d x (records_in (bytes_of r)) ≤ started_told d x (events h) 0 + starts_of d x (records_in (bytes_of r))
+        go : Next name h m i r → outs_of d x (records_in (bytes_of r)) ≤ started_told d x (events h) 0 + starts_of d x
+            (records_in (bytes_of r))
         go (silent e) = none-outs d x (bytes_of r) _ e.bytes
         go (calls-of j o f k) =
             rw (bytes-are name h m i r c) (called.only-aired-is-listed name (within h) m.core j (inside (seen_of r)) o d x)
@@ -470,7 +472,8 @@ module _ (name : List ℕ) (h : List Made) (m : Memory) (l g e : List ℕ) (r : 
 
   -- and which records those are: 117 for a bad section, else the Cue_Request with the cue's time
   pub cue-records : number r ≡ 0 → records_in (bytes_of r)
-      ≡ cue_records (read_cue l) (cue_time (pts_of g) (get_or g 2 0) (get_or g 3 0) (read_cue l)) l (initialised_ones (shown m).splicer.links)
+      ≡ cue_records (read_cue l) (cue_time (pts_of g) (get_or g 2 0) (get_or g 3 0) (read_cue l)) l
+          (initialised_ones (shown m).splicer.links)
   cue-records n =
       rw (bytes-are name h m _ r c)
       (called.cue-records name (within h) m.core l (pts_of g) (get_or g 2 0) (get_or g 3 0) e (inside (seen_of r)) called-cue (good-cue n))

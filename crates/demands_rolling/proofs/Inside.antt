@@ -29,7 +29,8 @@ use Rattle.rolling.proofs.Ruled.{Ahead, move_same, instant-ahead, reading-ahead,
 use Rattle.rolling.proofs.Calls.{lent-steady, last-read}
 use Rattle.rolling.proofs.Laws.{refused-unchanged}
 use Rattle.door.specs.Door.{reply_of, Replies, Input, call_of}
-use Rattle.door_rolling.specs.RollDoor.{RollReplies, RollInput, a_known, an_instant, a_reading, RollTyped, roll_call_of, roll_buffer_of, RollSeen}
+use Rattle.door_rolling.specs.RollDoor.{RollReplies, RollInput, a_known, an_instant, a_reading, RollTyped, roll_call_of, roll_buffer_of}
+use Rattle.door_rolling.specs.RollDoor.{RollSeen}
 use Rattle.demands_engine.specs.Trace as engine
 use Rattle.demands_engine.proofs.Device as any
 use Rattle.demands_engine.proofs.Steps.{wired, memory-same}

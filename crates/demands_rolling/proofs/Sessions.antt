@@ -11,7 +11,8 @@ use lib.ListN.{length}
 use borrow.Author.Tests.{ltb-false}
 use Rattle.rules.specs.HouseNumbers.{no_room, house_number}
 use Rattle.rules.specs.Calls.{ticked, move_call}
-use Rattle.rules.specs.Rolling.{Last, none, at, Rolling, Rolled, step_of, over_step, moved_on, past_field, Course, step_course, reading_course}
+use Rattle.rules.specs.Rolling.{Last, none, at, Rolling, Rolled, step_of, over_step, moved_on, past_field, Course, step_course}
+use Rattle.rules.specs.Rolling.{reading_course}
 use Rattle.rules.specs.Follows.Sequences.{rolling_of}
 use Rattle.rules.specs.Rolling.{rolls, reading_call, readings, roll}
 use Rattle.rules.proofs.Tests.{by}
@@ -171,7 +172,8 @@ module _ (name : List ℕ) (h : List Made) (m : Memory) (x y : ℕ) (e o : List 
       let g = replies-of (left one) (a_reading y o) two d in
       let k = replies-of m (a_reading y o) alone a.allowed in
       let j = joined mid end (move_call mid) (move_call end) m.core e o (move-brings mid (length e)) (move-brings end (length o))
-      (inside (seen_of one)) (inside (seen_of two)) (inside (seen_of alone)) p q r (sym (number-inside f) ∙ z) (sym (number-inside g) ∙ w) in
+      (inside (seen_of one)) (inside (seen_of two)) (inside (seen_of alone)) p q r (sym (number-inside f) ∙ z) (sym (number-inside g) ∙ w)
+          in
       let n = counter-is (left one) there y o two a.typed d w ∙ sym (counter-is m here y o alone a.typed a.allowed v) in (
         ap₂ ◌++◌ (bytes_inside f) (bytes_inside g) ∙ j.1 ∙ sym (bytes_inside k),
         (λ i. record { core = j.2 i; counter = n i }),

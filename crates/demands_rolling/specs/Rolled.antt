@@ -11,7 +11,8 @@ use Rattle.demands.specs.Told.{granted_by}
 use Rattle.demands.specs.Kept.{changed}
 use Rattle.rolling.specs.LentRolling.{counter_of, rolling, LentRolling}
 use Rattle.door.specs.Door.{call_of, Seen}
-use Rattle.door_rolling.specs.RollDoor.{RollReplies, RollInput, a_known, an_instant, a_reading, RollTyped, roll_call_of, roll_buffer_of, RollSeen}
+use Rattle.door_rolling.specs.RollDoor.{RollReplies, RollInput, a_known, an_instant, a_reading, RollTyped, roll_call_of, roll_buffer_of}
+use Rattle.door_rolling.specs.RollDoor.{RollSeen}
 use Rattle.door_rolling.specs.RollDoor.{RollAllowed}
 use Rattle.demands_engine.specs.Device.{Device}
 use Rattle.demands_engine.specs.Device as any

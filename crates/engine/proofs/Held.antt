@@ -92,7 +92,8 @@ module _ (w : Width) where
   each_in (x ∷ xs) s b o κ t = ((vint w x ∷ [], ((refl, t.0), (full_share, tt))), each_in xs s b (o + s) κ t.1)
 
   -- a &[u_w; n] is n of them; of no reference it matters here what its lifetime is
-  array-held : (κ : Lft) (n : ℕ) (x : Bor (List ℕ)) → Same (Holds (ShrRef erased κ (Array (UInt w) n)) x) ((length x.now ≡ n) × All Fits x.now)
+  array-held : (κ : Lft) (n : ℕ) (x : Bor (List ℕ))
+      → Same (Holds (ShrRef erased κ (Array (UInt w) n)) x) ((length x.now ≡ n) × All Fits x.now)
   array-held κ n x = (
     (λ h. (h.1.1.0, each-out x.now _ _ _ κ h.1.1.1)),
     (λ t. (_, (refl, (t.0, each_in x.now _ _ _ κ t.1)))),

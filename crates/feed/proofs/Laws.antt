@@ -10,7 +10,8 @@ use lib.ListN.{length, get_or, take}
 use lib.Seq.{drop-drop}
 use borrow.Author.Tests.{le-ltb}
 use Rattle.rules.specs.Bytes.{value, field, largest_size}
-use Rattle.rules.specs.Card.{open_mark, close_mark, message_mark, tick_mark, mark_end, header_end, message_end, next, next_message, next_tick}
+use Rattle.rules.specs.Card.{open_mark, close_mark, message_mark, tick_mark, mark_end, header_end, message_end, next, next_message}
+use Rattle.rules.specs.Card.{next_tick}
 use Rattle.rules.proofs.Values.{field-one}
 use Rattle.feed.specs.declared.Record.{Record}
 use Rattle.feed.specs.declared.Record.TheVariants.{Open, Close, Message, Oversize, Unknown}

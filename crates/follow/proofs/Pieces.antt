@@ -1,6 +1,8 @@
 -- One byte more, and a piece: whatever follows, what is found in the end stays.
 -- Rests on proofs/Steps and proofs/Open.
-use Rattle.std.proofs.Common.{◌≡◌, ℕ, ◌+◌, ◌-◌, ◌<◌, ◌≤◌, List, [], ◌∷◌, ◌++◌, length, get_or, take, drop, set, sym, refl, ap, ◌∙◌, subst, append_assoc, add-one, arith, length-drop, length-set, take-append-drop, length-take-le, take_all, take-suc, take-suc-set, take-add}
+use Rattle.std.proofs.Common.{◌≡◌, ℕ, ◌+◌, ◌-◌, ◌<◌, ◌≤◌, List, [], ◌∷◌, ◌++◌, length, get_or, take, drop, set, sym, refl, ap, ◌∙◌, subst}
+use Rattle.std.proofs.Common.{append_assoc, add-one, arith, length-drop, length-set, take-append-drop, length-take-le, take_all, take-suc}
+use Rattle.std.proofs.Common.{take-suc-set, take-add}
 use lib.Seq.{take-length}
 use Rattle.recording.specs.Recording.{entry_in}
 use Rattle.follow.specs.declared.Stage.{Stage}

@@ -1,6 +1,8 @@
 -- One entry, whole entries in front, one byte, a piece: whatever follows, what is found in the end stays.
 -- Rests on proofs/Open, on recording's laws of entries, and on the checker's: a call that is made is the definition's.
-use Rattle.std.proofs.Common.{◌≡◌, ℕ, ◌+◌, ◌-◌, ◌%◌, ◌^◌, ◌<◌, ◌≤◌, Bool, true, false, cond, eqb, List, [], ◌∷◌, ◌++◌, length, take, drop, sym, refl, ap, ◌∙◌, subst, append_assoc, arith, length-drop, length-take-le, take_all, take-add, eq-eqb, ne_eqb, eqb-true}
+use Rattle.std.proofs.Common.{◌≡◌, ℕ, ◌+◌, ◌-◌, ◌%◌, ◌^◌, ◌<◌, ◌≤◌, Bool, true, false, cond, eqb, List, [], ◌∷◌, ◌++◌, length, take, drop}
+use Rattle.std.proofs.Common.{sym, refl, ap, ◌∙◌, subst, append_assoc, arith, length-drop, length-take-le, take_all, take-add, eq-eqb}
+use Rattle.std.proofs.Common.{ne_eqb, eqb-true}
 use borrow.Author.Tests.{eqb-false}
 use Rattle.recording.specs.declared.Entry.{Entry}
 use Rattle.recording.specs.declared.Entry.TheVariants.{Made, Wrote, Another}
@@ -62,7 +64,8 @@ module _ (s : Stage) (l m b o : List ℕ) (h : Stands s m b o) (z : s.told ≡ i
     made-is : Begins l (Made n)
     made-is = begins-as l e
 
-    found-made : (more : List ℕ) → found_in s m b o (take n l ++ more) ≡ unless_due here (followed (called_at (take n l) here) (entries more))
+    found-made : (more : List ℕ) → found_in s m b o (take n l ++ more) ≡ unless_due here
+        (followed (called_at (take n l) here) (entries more))
     unfolding followed
     found-made more =
         found-on s m b o (take n l ++ more) z ∙ ap (followed here) (entries-made (take n l) more (made-whole l n e))

@@ -42,7 +42,8 @@ unfoldable pub flat_past : List Past → List ℕ
 flat_past [] = []
 flat_past (e ∷ l) = e.conn ∷ e.id ∷ e.event ∷ e.result ∷ e.played ∷ flat_past l
 
-five : (q : List ℕ) → past_width ≤ length q → q ≡ get_or q 0 0 ∷ get_or q 1 0 ∷ get_or q 2 0 ∷ get_or q 3 0 ∷ get_or q 4 0 ∷ drop past_width q
+five : (q : List ℕ) → past_width ≤ length q
+    → q ≡ get_or q 0 0 ∷ get_or q 1 0 ∷ get_or q 2 0 ∷ get_or q 3 0 ∷ get_or q 4 0 ∷ drop past_width q
 five q h =
     drop-cons q 0 0 (omega arith)
     ∙ ap (λ (z : List ℕ). get_or q 0 0 ∷ z) (drop-cons q 1 0 (omega arith))

@@ -37,9 +37,11 @@ use Rattle.places.proofs.Ring.{ring-full}
 use Rattle.memory.specs.declared.Which.{Which}
 use Rattle.memory.proofs.Late.{past_at, pasts-at, late-same, none-late, written5, length5, far5, late_after, late-after}
 use Rattle.memory.specs.declared.Which.TheVariants.{Waiting, Started}
-use Rattle.memory.specs.Memory.{clock_word, slot_of, ring_word, primary_word, first_count, first_link, connections, places_of, from_of, to_of}
+use Rattle.memory.specs.Memory.{clock_word, slot_of, ring_word, primary_word, first_count, first_link, connections, places_of, from_of}
+use Rattle.memory.specs.Memory.{to_of}
 use Rattle.memory.specs.Memory.{span_of, words, word_of, link_in, IsLink, links_of, counts_of, ring_of, lot_of, sessions, OfFour, tallied}
-use Rattle.memory.specs.Memory.{Form, Memory, see, Now, first_past, past_width, past_words, next_word, late_size, late_of, next_in, lately_in}
+use Rattle.memory.specs.Memory.{Form, Memory, see, Now, first_past, past_width, past_words, next_word, late_size, late_of, next_in}
+use Rattle.memory.specs.Memory.{lately_in}
 use Rattle.memory.specs.Memory.{recalling, past_from, ended_in}
 use Rattle.memory.specs.Memory.{timed, silenced, linked, list_of, relisted, onward, nothing_shown, name_size, bytes, name_bytes, name_of}
 use Rattle.memory.specs.Memory.{kept_from, kept_bytes, kept_of, spread, Stored, Whole, shown}
@@ -165,7 +167,8 @@ link_at m c h = ap link_in (part_at m first_link c connections (omega arith)) �
 pub counts-read : (m : List ℕ) → length m ≡ words →
     get_or m first_count 0 ∷ get_or m (first_count + 1) 0 ∷ get_or m (first_count + 2) 0 ∷ get_or m (first_count + 3) 0 ∷ [] ≡ counts_of m
 counts-read m w =
-    let n : length (counts_of m) ≡ connections = length-take-le connections (drop first_count m) (omega (arith, w, length-drop first_count m))
+    let n : length (counts_of m) ≡ connections = length-take-le connections (drop first_count m)
+        (omega (arith, w, length-drop first_count m))
     in
     ext_get_or 0 _ (counts_of m) (sym n) (λ i h. each i h ∙ part_at m first_count i connections h)
   where
@@ -545,11 +548,13 @@ recounted m s c n h g =
 
 -- a word of the head that is neither a list's nor a connection's
 module _ (m : List ℕ) (i n t p : ℕ) (f : Form m) where
-  worded : i < first_count → (i ≡ ring_word → ⊥) → (i ≡ slot_of Waiting → ⊥) → (i ≡ slot_of Started → ⊥) → get_or (set m i n) clock_word 0 ≡ t
+  worded : i < first_count → (i ≡ ring_word → ⊥) → (i ≡ slot_of Waiting → ⊥) → (i ≡ slot_of Started → ⊥)
+      → get_or (set m i n) clock_word 0 ≡ t
       → get_or (set m i n) primary_word 0 ≡ p →
       Now (set m i n) (record { clock = t; primary = p; links = (see m).links; queue = (see m).queue; ring_end = (see m).ring_end })
   worded low not_ring not_waiting not_started clock primary =
-      with-counts (sessions Waiting m) (shows (set m i n) t p (links_of m) (ring_of Waiting m) (lot_of Waiting m) (lot_of Started m) (late_of m)
+      with-counts (sessions Waiting m) (shows (set m i n) t p (links_of m) (ring_of Waiting m) (lot_of Waiting m) (lot_of Started m)
+          (late_of m)
       (length-set m i n ∙ f.whole)
       clock
       primary
@@ -629,7 +634,8 @@ past_word m i k h l = part_at m first_past (i * past_width + k) late_size (omega
 -- the one that ended i ends before the newest, n being the next place
 pub recent-word : (m : List ℕ) (i : ℕ) {n : ℕ} → i < most_kept → n ≡ next_in (late_of m) →
     let b = first_past + (n + (most_kept - 1 - i)) % most_kept * past_width in
-    record { conn = get_or m b 0; id = get_or m (b + 1) 0; event = get_or m (b + 2) 0; result = get_or m (b + 3) 0; played = get_or m (b + 4) 0 }
+    record { conn = get_or m b 0; id = get_or m (b + 1) 0; event = get_or m (b + 2) 0; result = get_or m (b + 3) 0; played = get_or m
+        (b + 4) 0 }
     ≡ recent_at i (lately_in (late_of m))
 unfolding recent_at
 recent-word m i {n} h o =
@@ -821,7 +827,8 @@ module _ {a : Bool} {v : Which} {m x : List ℕ} {u : List Session} (w : v ≡ W
       (set-within x n first_count c connections (omega arith) ∙ ap (λ (l : List ℕ). set l c n) counts-were ∙ e)
 
 -- the waiting with one more, accepted
-pub accepted-now : {m x : List ℕ} (i : ℕ) (s : Session) → Form m → OfFour s → Changed true Waiting m x (insert_at i s (sessions Waiting m)) →
+pub accepted-now : {m x : List ℕ} (i : ℕ) (s : Session) → Form m → OfFour s
+    → Changed true Waiting m x (insert_at i s (sessions Waiting m)) →
     Now (set x (first_count + s.conn) (get_or x (first_count + s.conn) 0 + 1))
     (onward true (relisted Waiting (insert_at i s (sessions Waiting m)) (see m)))
 accepted-now {m} i s f h g =
@@ -890,13 +897,15 @@ parts m w =
     let s = from_of Started in
     let late : drop first_past m ≡ late_of m = sym (take_all late_size (drop first_past m) (omega (arith, w, length-drop first_past m))) in
     let tail : drop s m ≡ placed Started m ++ late_of m =
-    sym (take-append-drop (span_of Started) (drop s m)) ∙ ap (λ (z : List ℕ). placed Started m ++ z) (drop-drop (span_of Started) s m ∙ late)
+    sym (take-append-drop (span_of Started) (drop s m)) ∙ ap (λ (z : List ℕ). placed Started m ++ z)
+        (drop-drop (span_of Started) s m ∙ late)
     in
     let rest : drop (from_of Waiting) m ≡ placed Waiting m ++ (placed Started m ++ late_of m) =
     sym (take-append-drop (span_of Waiting) (drop (from_of Waiting) m))
     ∙ ap (λ (z : List ℕ). placed Waiting m ++ z) (drop-drop (span_of Waiting) (from_of Waiting) m ∙ tail) in
     let links : drop first_link m ≡ links_of m ++ (placed Waiting m ++ (placed Started m ++ late_of m)) =
-    sym (take-append-drop connections (drop first_link m)) ∙ ap (λ (z : List ℕ). links_of m ++ z) (drop-drop connections first_link m ∙ rest)
+    sym (take-append-drop connections (drop first_link m)) ∙ ap (λ (z : List ℕ). links_of m ++ z)
+        (drop-drop connections first_link m ∙ rest)
     in
     let counts : drop first_count m ≡ counts_of m ++ (links_of m ++ (placed Waiting m ++ (placed Started m ++ late_of m))) =
     sym (take-append-drop connections (drop first_count m)) ∙ ap (λ (z : List ℕ). counts_of m ++ z)
@@ -942,7 +951,8 @@ same-words m n f g e =
     ∙ sym (parts n g.whole)
 
 -- the bytes are their parts
-bytes-parts : (b : List ℕ) → length b ≡ bytes → b ≡ name_bytes b ++ (kept_bytes 0 b ++ (kept_bytes 1 b ++ (kept_bytes 2 b ++ kept_bytes 3 b)))
+bytes-parts : (b : List ℕ) → length b ≡ bytes
+    → b ≡ name_bytes b ++ (kept_bytes 0 b ++ (kept_bytes 1 b ++ (kept_bytes 2 b ++ kept_bytes 3 b)))
 bytes-parts b w =
     sym (take-append-drop name_size b) ∙ ap (λ (z : List ℕ). name_bytes b ++ z)
     (from 0 ∙ ap (behind 0) (from 1 ∙ ap (behind 1) (from 2 ∙ ap (behind 2) last)))
@@ -981,7 +991,8 @@ same_bytes b c f g e k =
         ∙ sym (g.kept d h).zeros
 
 -- and a splicer with where the ring ends
-pub memory-same : (m b n c : List ℕ) → Whole m b → Whole n c → (see m).ring_end ≡ (see n).ring_end → shown m b ≡ shown n c → (m ≡ n) × (b ≡ c)
+pub memory-same : (m b n c : List ℕ) → Whole m b → Whole n c → (see m).ring_end ≡ (see n).ring_end → shown m b ≡ shown n c
+    → (m ≡ n) × (b ≡ c)
 memory-same m b n c f g r e = (
   same-words m n f.words g.words (λ i. record {
     clock = (e i).clock;

@@ -9,7 +9,8 @@ use native.Mathlib.Nat.{zero-add}
 use lib.Dec.{eqb, ltb}
 use lib.ListN.{length, get_or, take, drop, set, length-set, length-append, length-drop, length-replicate, replicate-append-replicate}
 use lib.ListN.{drop_of_length-le}
-use lib.Seq.{length-take-le, take_all, drop-cons, drop_at, drop-drop, take_at, paste, paste-suc, ext_get_or, get_or-set_same, get_or-set_other}
+use lib.Seq.{length-take-le, take_all, drop-cons, drop_at, drop-drop, take_at, paste, paste-suc, ext_get_or, get_or-set_same}
+use lib.Seq.{get_or-set_other}
 use borrow.Rule.Slice.PartMut.{put_mid}
 use borrow.Author.Tests.{eq-eqb, ne_eqb, eqb-true, eqb-false, ltb-true, ltb-false}
 use Rattle.rules.specs.Lists.{All}
@@ -164,7 +165,8 @@ kept-now b c h s low whole short =
     at : (d : ℕ) → d ≤ 3 → (t : Bool) → eqb d c ≡ t → get_or (kept_of o) d no_hardware ≡ get_or (set (kept_of b) c h) d no_hardware
     at d k true f =
         let i = eqb-true d c f in
-        rw i (kept_at o c low ∙ ap structure_in own ∙ found_in h whole short ∙ sym (get_or-set_same (kept_of b) c h no_hardware (omega arith)))
+        rw i (kept_at o c low ∙ ap structure_in own ∙ found_in h whole short ∙ sym
+            (get_or-set_same (kept_of b) c h no_hardware (omega arith)))
     at d k false f =
         let n = eqb-false d c f in
         kept_at o d k ∙ ap structure_in (other d k n) ∙ sym (kept_at b d k) ∙ sym (get_or-set_other (kept_of b) c d h no_hardware n)

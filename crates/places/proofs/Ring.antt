@@ -89,7 +89,8 @@ turned-near e i l d h =
     let n : length (drop e l) ≡ length l - e = length-drop e l in
     get_left (drop e l) (take e l) i d (omega arith) ∙ get_or-drop e l i d
 
-turned-far : (e i k : ℕ) (l : List Session) (d : Session) → e ≤ length l → i ≡ length l - e + k → k < e → get_or (turned e l) i d ≡ get_or l k d
+turned-far : (e i k : ℕ) (l : List Session) (d : Session) → e ≤ length l → i ≡ length l - e + k → k < e
+    → get_or (turned e l) i d ≡ get_or l k d
 unfolding turned
 turned-far e i k l d g z h =
     let n : length (drop e l) ≡ length l - e = length-drop e l in
@@ -237,4 +238,5 @@ pub turned_taken : (e : ℕ) (l : List Session) → length l ≡ round → e < r
     → remove_at (round - 1) (turned (next e) l) ≡ drop 1 (turned e l)
 turned_taken e l m h =
     let n : length (drop 1 (turned e l)) ≡ round - 1 = length-drop 1 (turned e l) ∙ omega (arith, length-turned e l) in
-    ap (remove_at (round - 1)) (turned-next e l empty m h) ∙ remove_at-last (drop 1 (turned e l)) (get_or (turned e l) 0 empty) (round - 1) n
+    ap (remove_at (round - 1)) (turned-next e l empty m h) ∙ remove_at-last (drop 1 (turned e l)) (get_or (turned e l) 0 empty) (round - 1)
+        n

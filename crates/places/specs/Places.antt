@@ -1,5 +1,6 @@
 -- The sessions that lent words hold, what is asked of the words, and what a search looks for.
-use Rattle.std.specs.Prelude.{◌≡◌, List, [], ◌∷◌, ◌++◌, Bool, not, ℕ, zero, suc, ◌+◌, ◌-◌, ◌*◌, ◌/◌, ◌%◌, ◌≤◌, ◌<◌, eqb, leb, ltb, length, take, drop, set, get_or, replicate}
+use Rattle.std.specs.Prelude.{◌≡◌, List, [], ◌∷◌, ◌++◌, Bool, not, ℕ, zero, suc, ◌+◌, ◌-◌, ◌*◌, ◌/◌, ◌%◌, ◌≤◌, ◌<◌, eqb, leb, ltb, length}
+use Rattle.std.specs.Prelude.{take, drop, set, get_or, replicate}
 use Rattle.rules.specs.declared.Session.{Session}
 use Rattle.rules.specs.Lists.{some, omit, place}
 use Rattle.rules.specs.State.{empty, is, follows, starts_at}

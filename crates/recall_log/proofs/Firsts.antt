@@ -12,7 +12,8 @@ use borrow.Author.Tests.{ltb-false, le-ltb}
 use Rattle.rules.specs.Bytes.{value, bytes, part, field, message_size, oversize}
 use Rattle.rules.specs.Calls.{Call, opens, closes, messages, ticks}
 use Rattle.rules.specs.Card.{open_mark, close_mark, message_mark, tick_mark, mark_in, conn_in, message_from, seconds_in, micros_in}
-use Rattle.rules.specs.Card.{mark_end, tick_end, header_end, message_end, Next, calls, ends, stops, card_room, card_loans, next, next_message}
+use Rattle.rules.specs.Card.{mark_end, tick_end, header_end, message_end, Next, calls, ends, stops, card_room, card_loans, next}
+use Rattle.rules.specs.Card.{next_message}
 use Rattle.rules.specs.Card.{next_tick}
 use Rattle.rules.proofs.Tests.{by}
 use Rattle.rules.proofs.Bytes.{length-bytes}

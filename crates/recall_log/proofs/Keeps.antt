@@ -23,7 +23,8 @@ use Rattle.rules.specs.Answers.{says, answer_read, answer}
 use Rattle.rules.specs.Card.{card_loans}
 use Rattle.rules.specs.HouseNumbers.{Loans, Called, refuse, no_connection, no_room, not_open, long_section}
 use Rattle.rules.specs.Calls.{section_of, framing, handled}
-use Rattle.rules.specs.Calls.{open_call, close_call, message_call, move_call, tick_call, Call, opens, closes, messages, ticks, moves, cues, call}
+use Rattle.rules.specs.Calls.{open_call, close_call, message_call, move_call, tick_call, Call, opens, closes, messages, ticks, moves, cues}
+use Rattle.rules.specs.Calls.{call}
 use Rattle.rules.specs.Follows.Sound.{Wired}
 use Rattle.rules.proofs.Bytes.{part-byte}
 use Rattle.recall_log.specs.Kept.{Its, kept_form, Good}

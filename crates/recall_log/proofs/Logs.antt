@@ -15,7 +15,8 @@ use Rattle.rules.specs.Follows.Wires.{Byte}
 use Rattle.rules.specs.Bytes.{message_size, oversize}
 use Rattle.rules.specs.HouseNumbers.{Answer, refused}
 use Rattle.rules.specs.Calls.{Call}
-use Rattle.rules.specs.Card.{open_mark, close_mark, message_mark, tick_mark, mark_in, message_from, mark_end, tick_end, header_end, message_end}
+use Rattle.rules.specs.Card.{open_mark, close_mark, message_mark, tick_mark, mark_in, message_from, mark_end, tick_end, header_end}
+use Rattle.rules.specs.Card.{message_end}
 use Rattle.rules.specs.Card.{Next, calls, ends, stops, next, next_message, next_tick}
 use Rattle.rules.specs.Follows.Sound.{Wired}
 use Rattle.rules.proofs.Tests.{by, clash, or-none}

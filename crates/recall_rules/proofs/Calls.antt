@@ -147,7 +147,8 @@ module _ (s : Pass) (p : ℕ) (q : Queue) (e : Shows s.verdicts q) (h : Holding 
       }))
 
   call-shown : (k : Call) → SameCalled (call k s) (calls.call k (shown s p q))
-  unfolding call open_call close_call message_call tick_call cue_call calls.call calls.open_call calls.close_call calls.message_call calls.tick_call
+  unfolding call open_call close_call message_call tick_call cue_call calls.call calls.open_call calls.close_call calls.message_call
+      calls.tick_call
       calls.cue_call
   call-shown (opens c) =
       chosen SameCalled (no_connection c) _ _ _ _ (λ f. refused-same _)

@@ -116,7 +116,8 @@ others h g p l v apart k r = omega (arith, count_set g r l (which h p l) v k, wa
     i = which h p l
 
     was : bit (stands g r (get_or l i none)) ≡ 0
-    was = rw (apart (get_or l i none).phase (and_both (h (get_or l i none).phase) (p (session_of l i)) (place-holds (stands h p) l none k)).0)
+    was = rw (apart (get_or l i none).phase (and_both (h (get_or l i none).phase) (p (session_of l i))
+        (place-holds (stands h p) l none k)).0)
 
 -- those that are held are those that wait and those that have started
 pub shows-held : (l : List Verdict) (q : Queue) → Shows l q → Same (standing is_held l) (held q)

@@ -17,7 +17,8 @@ use Rattle.rules.specs.declared.Ending.TheVariants.{Complete, Failed}
 use Rattle.rules.specs.Lists.{All, bit, some, count, place, remove_at}
 use Rattle.rules.specs.Request.{nobody}
 use Rattle.rules.specs.State as state
-use Rattle.rules.specs.State.{Queue, empty, follows, starts_at, ends_at, sooner, earliest, not_after, held, to_come, with_waiting, with_started}
+use Rattle.rules.specs.State.{Queue, empty, follows, starts_at, ends_at, sooner, earliest, not_after, held, to_come, with_waiting}
+use Rattle.rules.specs.State.{with_started}
 use Rattle.rules.specs.Recent.{remembered_all}
 use Rattle.rules.specs.Ends as ends
 use Rattle.rules.specs.Ends.{ended, past}

@@ -101,7 +101,8 @@ not-it n Started e = refl
 not-it n (Ended m r) e = absurd (clash true refl e)
 
 -- the verdict of call i, which had not ended, becomes v
-module _ (l : List Verdict) (i : ℕ) (v : Verdict) (k : i < length l) (was : has_ended (get_or l i none).phase ≡ false) (o : Numbered l) where
+module _ (l : List Verdict) (i : ℕ) (v : Verdict) (k : i < length l) (was : has_ended (get_or l i none).phase ≡ false) (o : Numbered l)
+    where
   below-same : (n : ℕ) → ((a : ℕ) → a < n → is_end a v.phase ≡ false) → ends_below n (set l i v) ≡ ends_below n l
   below-same zero f = refl
   below-same (suc n) f =

@@ -80,7 +80,8 @@ module _ (f : Session → Ninths) where
 -- ## The one that passes
 
 -- where only one passes, the place is its own
-pub only-place : (p : Session → Bool) (m : List Session) (j : ℕ) → count p m ≤ 1 → j < length m → p (get_or m j empty) ≡ true → place p m ≡ j
+pub only-place : (p : Session → Bool) (m : List Session) (j : ℕ) → count p m ≤ 1 → j < length m → p (get_or m j empty) ≡ true
+    → place p m ≡ j
 unfolding place
 only-place p [] j u h e = absurd (omega arith)
 only-place p (s ∷ m) zero u h e = rw e

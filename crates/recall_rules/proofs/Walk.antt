@@ -74,7 +74,8 @@ walk_same how (suc n) c x l w e o z =
           gone = ap (λ m. s ∷ m) on.gone;
           left = on.left;
           others =
-              λ r. omega (arith, on.others r, others is_waiting has_started (follows c x) l (verdict (as_ended how s l) s) waiting-apart k r);
+              λ r. omega (arith, on.others r, others is_waiting has_started (follows c x) l (verdict (as_ended how s l) s) waiting-apart k
+                  r);
         })
     go false f ih = record { gone = refl; left = e; others = λ r. refl }
 
@@ -90,7 +91,8 @@ walk-enough (suc m) (suc n) c x w f g =
     walk-enough m n c (get_or w i empty).id (remove_at i w) (omega arith) (omega arith))
   where
     go : (b : Bool) → ltb (place (follows c x) w) (length w) ≡ b
-        → (place (follows c x) w < length w → ends.walk m c (get_or w (place (follows c x) w) empty).id (remove_at (place (follows c x) w) w)
+        → (place (follows c x) w < length w → ends.walk m c (get_or w (place (follows c x) w) empty).id
+            (remove_at (place (follows c x) w) w)
         ≡ ends.walk n c (get_or w (place (follows c x) w) empty).id (remove_at (place (follows c x) w) w))
         → ends.walk (suc m) c x w ≡ ends.walk (suc n) c x w
     go true e ih = rw (ih (ltb-true (place (follows c x) w) (length w) e))

@@ -1,6 +1,7 @@
 -- 01's work over an unordered list of verdicts: followers from call to call, ends and waiting ones by looking for the next,
 -- the one on air as the one than which none is higher. Nothing is kept in order, moved or removed.
-use Rattle.std.specs.Prelude.{Bool, true, false, cond, not, ◌&&◌, ◌||◌, List, [], ◌∷◌, ◌++◌, map, ℕ, zero, suc, ◌-◌, ◌*◌, eqb, ltb, length, set}
+use Rattle.std.specs.Prelude.{Bool, true, false, cond, not, ◌&&◌, ◌||◌, List, [], ◌∷◌, ◌++◌, map, ℕ, zero, suc, ◌-◌, ◌*◌, eqb, ltb, length}
+use Rattle.std.specs.Prelude.{set}
 use Rattle.rules.specs.declared.When.{When}
 use Rattle.rules.specs.declared.Session.{Session}
 use Rattle.rules.specs.declared.Ending.{Ending}

@@ -75,7 +75,8 @@ module _ (l : List ℕ) where
       like-all (record_is.Close (conn_in l)) refl (sym d) (omega (arith, d)))
       (λ g. by Like (eqb (mark_in l) message_mark) _ _ (λ k. like-message (marked message_mark (eqb-true (mark_in l) message_mark k)))
       (λ k. by Like (eqb (mark_in l) tick_mark) _ _
-      (λ t. like-whole tick_end (record_is.Tick (seconds_in l) (micros_in l)) (marked tick_mark (eqb-true (mark_in l) tick_mark t)) refl refl)
+      (λ t. like-whole tick_end (record_is.Tick (seconds_in l) (micros_in l)) (marked tick_mark (eqb-true (mark_in l) tick_mark t)) refl
+          refl)
       (λ t. absurd (clash _ m (rw (f, g, k, t))))))))
 
 -- ## The call

@@ -84,7 +84,8 @@ recorded-none zero s = refl
 recorded-none (suc n) s = refl
 
 -- what was still due, and then the recording of the calls that are left
-pub passed-ours : (es : List Item) (g : Bench) (n i : ℕ) → All Valid es → judged g es ≡ None → unknown_from i es ≡ None → ends_cut es ≡ false
+pub passed-ours : (es : List Item) (g : Bench) (n i : ℕ) → All Valid es → judged g es ≡ None → unknown_from i es ≡ None
+    → ends_cut es ≡ false
     → has_oversize es ≡ false → length (made_bytes es) ≤ n → bytes_of es ≡ g.due ++ recorded_run n g.splicer (made_bytes es)
 unfolding judged taken called unknown_from ends_cut has_oversize bytes_of made_bytes
 passed-ours [] g n i v j u c o h =

@@ -12,7 +12,8 @@ use Rattle.rules.specs.Follows.Wires.{Byte}
 use Rattle.rules.specs.State.{Splicer}
 use Rattle.rules.specs.Follows.Sound.{Wired, Sound}
 use Rattle.rules.specs.Calls.{Call, call}
-use Rattle.rules.specs.Card.{open_mark, close_mark, message_mark, tick_mark, mark_in, message_from, mark_end, tick_end, header_end, message_end}
+use Rattle.rules.specs.Card.{open_mark, close_mark, message_mark, tick_mark, mark_in, message_from, mark_end, tick_end, header_end}
+use Rattle.rules.specs.Card.{message_end}
 use Rattle.rules.specs.Card.{Next, calls, ends, stops, next_message, next_tick, next, told, card_step, card_run}
 use Rattle.rules.specs.Bytes.{oversize, message_size}
 use Rattle.rules.proofs.All.{All, all_drop}
@@ -166,7 +167,8 @@ first_run zero m s l h = refl
 first_run (suc n) zero s l h = absurd (omega arith)
 first_run (suc n) (suc m) s l h = go (next l) (λ t left. first_run n m t left (omega arith))
   where
-    go : (x : Next) → ((t : Splicer) (left : List ℕ) → take (length (recorded_run n t left)) (recorded_run m t left) ≡ recorded_run n t left)
+    go : (x : Next) → ((t : Splicer) (left : List ℕ)
+        → take (length (recorded_run n t left)) (recorded_run m t left) ≡ recorded_run n t left)
         → take (length (recorded_by (recorded_run n) x s l)) (recorded_by (recorded_run m) x s l) ≡ recorded_by (recorded_run n) x s l
     go stops f = refl
     go (ends k) f = take-length (take (span l) l ++ told (call k s).answer)

@@ -168,7 +168,8 @@ passes-cut-own zero s n l h a m = cut-none (bench s n []) m
 passes-cut-own (suc j) s n l h a m =
     go (next l) refl (wired-next l a) (λ k left w b. passes-cut-own j (call k s).splicer (suc n) left (sound-call s k w h) b)
   where
-    made-first : (k : Call) (r : List ℕ) → entry_in l ≡ Made (span l) → called_by (next l) (bench s n []) ≡ called k (bench s n []) → Wired k
+    made-first : (k : Call) (r : List ℕ) → entry_in l ≡ Made (span l) → called_by (next l) (bench s n []) ≡ called k (bench s n [])
+        → Wired k
         → ((m : ℕ) → CutPasses (bench (call k s).splicer (suc n) []) r m)
         → CutPasses (bench s n []) (take (span l) l ++ (told (call k s).answer ++ r)) m
     made-first k r e f w p =

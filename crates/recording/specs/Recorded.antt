@@ -1,6 +1,7 @@
 -- 02, CR 14: what its theorems speak of: recordings that our own card program could have made, and what belongs to which call of any
 -- recording.
-use Rattle.std.specs.Prelude.{◌≡◌, Bool, true, false, cond, ◌&&◌, ◌||◌, List, [], ◌∷◌, ◌++◌, map, ℕ, zero, suc, ◌+◌, ◌≤◌, ◌<◌, eqb, length, get_or, take, drop}
+use Rattle.std.specs.Prelude.{◌≡◌, Bool, true, false, cond, ◌&&◌, ◌||◌, List, [], ◌∷◌, ◌++◌, map, ℕ, zero, suc, ◌+◌, ◌≤◌, ◌<◌, eqb, length}
+use Rattle.std.specs.Prelude.{get_or, take, drop}
 use Rattle.rules.specs.Lists.{same}
 use Rattle.rules.specs.State.{Splicer}
 use Rattle.rules.specs.Records.{record_bytes}

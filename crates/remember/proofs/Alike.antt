@@ -12,7 +12,8 @@ use Rattle.rules.specs.Bytes.{value, value_from, message_size, oversize}
 use Rattle.rules.specs.State.{Splicer}
 use Rattle.rules.specs.HouseNumbers.{Answer, refused, good, written_by}
 use Rattle.rules.specs.Calls.{Call, call}
-use Rattle.rules.specs.Card.{open_mark, close_mark, message_mark, tick_mark, mark_in, message_from, mark_end, tick_end, header_end, message_end}
+use Rattle.rules.specs.Card.{open_mark, close_mark, message_mark, tick_mark, mark_in, message_from, mark_end, tick_end, header_end}
+use Rattle.rules.specs.Card.{message_end}
 use Rattle.rules.specs.Card.{Next, calls, ends, stops, next, next_message, next_tick, told, card_step, card_run, card}
 use Rattle.rules.specs.Follows.Sound.{Wired}
 use Rattle.rules.proofs.All.{all_drop}

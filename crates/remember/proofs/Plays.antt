@@ -59,7 +59,8 @@ fits-full : Fits (record { reply = Full; shows = [] })
 unfolding said said_length number_of
 fits-full = record { count = refl; whole = λ e. ap (λ x. written x 0 (said Full [])) (written_none e 0); room = omega arith }
 
-fits-answer : (a : Answer) (moved : ℕ) → length (written_by a) ≤ card_room → Fits (record { reply = reply_of a moved; shows = written_by a })
+fits-answer : (a : Answer) (moved : ℕ) → length (written_by a) ≤ card_room
+    → Fits (record { reply = reply_of a moved; shows = written_by a })
 unfolding said said_length number_of told reply_of written_by
 fits-answer (refused n) moved h =
     record { count = refl; whole = λ e. ap (λ x. written x 0 (said (Refused n) [])) (written_none e 0); room = omega arith }
@@ -84,7 +85,8 @@ unfolding written
 front e w = take_at w _ (length w) refl
 
 -- e: the buffer before the call; o: after it; p: with what is said behind it
-pub plays : (l g : List ℕ) → All Byte g → {e : List ℕ} → length e ≡ card_room → {r : Reply} {n o : List ℕ} → Remembers (call_for l) g e r n o
+pub plays : (l g : List ℕ) → All Byte g → {e : List ℕ} → length e ≡ card_room → {r : Reply} {n o : List ℕ}
+    → Remembers (call_for l) g e r n o
     → {len : ℕ} {p : List ℕ} → Says r o len p → Plays g l len n p
 plays l g b {e} h {r} {n} {o} m {len} {p} s =
     let t = (recall_call (call_for l) g).told in

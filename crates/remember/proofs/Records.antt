@@ -70,14 +70,16 @@ module _ (p : List ℕ) where
   close-whole : length p ≡ mark_end → eqb (mark_in p) open_mark ≡ false → eqb (mark_in p) close_mark ≡ true → Whole p
   unfolding next record_of span_of
   close-whole h c e =
-      calls-whole {k = closes (conn_in p) card_room} {m = drop mark_end p} (rw (le-ltb (length p) mark_end (omega arith), c, e) refl) (sym h)
+      calls-whole {k = closes (conn_in p) card_room} {m = drop mark_end p} (rw (le-ltb (length p) mark_end (omega arith), c, e) refl)
+          (sym h)
       (not_last (omega arith))
 
   short-mark : length p < mark_end → next p ≡ stops
   unfolding next
   short-mark h = rw (lt-ltb (length p) mark_end h) refl
 
-  other-mark : mark_end ≤ length p → eqb (mark_in p) open_mark ≡ false → eqb (mark_in p) close_mark ≡ false → eqb (mark_in p) message_mark ≡ false
+  other-mark : mark_end ≤ length p → eqb (mark_in p) open_mark ≡ false → eqb (mark_in p) close_mark ≡ false
+      → eqb (mark_in p) message_mark ≡ false
       → eqb (mark_in p) tick_mark ≡ false → (more : List ℕ) → next (p ++ more) ≡ stops
   unfolding next
   other-mark h c d e f more = rw (enough mark_end more h, front 0 1 more (omega arith), c, d, e, f) refl
@@ -402,7 +404,8 @@ module _ (l : List ℕ) where
             size = 10;
             two = omega arith;
             there = h;
-            whole = tick-whole p (omega arith) (at open_mark false o) (at close_mark false d) (at message_mark false i) (at tick_mark true t) n;
+            whole = tick-whole p (omega arith) (at open_mark false o) (at close_mark false d) (at message_mark false i)
+                (at tick_mark true t) n;
             last = ends-with p (omega arith) (at message_mark false i) refl;
           }
 
@@ -416,7 +419,8 @@ module _ (l : List ℕ) where
             size = 10;
             two = omega arith;
             there = h;
-            whole = oversize-whole p (omega arith) (at open_mark false o) (at close_mark false d) (at message_mark true i) (omega arith) big n;
+            whole = oversize-whole p (omega arith) (at open_mark false o) (at close_mark false d) (at message_mark true i) (omega arith)
+                big n;
             last = ends-with p (omega arith) (at message_mark true i) big;
           }
 
@@ -433,7 +437,8 @@ module _ (l : List ℕ) where
             size = k;
             two = omega arith;
             there = h;
-            whole = message-whole p (omega arith) (at open_mark false o) (at close_mark false d) (at message_mark true i) (omega arith) small
+            whole = message-whole p (omega arith) (at open_mark false o) (at close_mark false d) (at message_mark true i) (omega arith)
+                small
                 (n ∙ ap message_end (sym size));
             last = ends-with p (omega arith) (at message_mark true i) small;
           }

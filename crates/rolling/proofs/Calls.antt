@@ -1,6 +1,7 @@
 -- What each call's proof says of its own paths: the refusals in their order, and the words after a call that is done.
 -- Rests on what holds of every rolling splicer that this card's fresh and calls have given (proofs/Ruled).
-use Rattle.std.proofs.Common.{◌≡◌, ℕ, ◌+◌, ◌*◌, ◌%◌, ◌<◌, ◌≤◌, Bool, true, false, cond, eqb, List, [], ◌∷◌, length, get_or, sym, refl, ap, ◌∙◌, subst, arith, le-ltb, lt-ltb, ne_eqb, le-leb}
+use Rattle.std.proofs.Common.{◌≡◌, ℕ, ◌+◌, ◌*◌, ◌%◌, ◌<◌, ◌≤◌, Bool, true, false, cond, eqb, List, [], ◌∷◌, length, get_or, sym, refl, ap}
+use Rattle.std.proofs.Common.{◌∙◌, subst, arith, le-ltb, lt-ltb, ne_eqb, le-leb}
 use borrow.Author.Tests.{lt-leb}
 use Rattle.rules.specs.declared.Ninths.{Ninths}
 use Rattle.rules.specs.declared.When.{When}
@@ -180,7 +181,8 @@ module _ (clock last reading : ℕ) where
   unfolding step_course when_of
   step-over h = rw (lt-ltb 8100000 (step_of last reading) h)
 
-  pub step_past : step_of last reading ≤ 8100000 → horizon ≤ moved_on clock last reading → Never ≡ when_of (step_course clock reading (at last))
+  pub step_past : step_of last reading ≤ 8100000 → horizon ≤ moved_on clock last reading
+      → Never ≡ when_of (step_course clock reading (at last))
   unfolding step_course when_of
   step_past h i = rw (le-ltb 8100000 (step_of last reading) h, le-leb horizon (moved_on clock last reading) i)
 
@@ -190,7 +192,8 @@ module _ (clock last reading : ℕ) where
   step-good h i = rw (le-ltb 8100000 (step_of last reading) h, lt-leb horizon (moved_on clock last reading) i)
 
 -- the course that an instant, or none, stands for
-course-never : (clock reading : ℕ) (l : Last) → when_of (step_course clock reading l) ≡ Never → step_course clock reading l ≡ refuses Counter
+course-never : (clock reading : ℕ) (l : Last) → when_of (step_course clock reading l) ≡ Never
+    → step_course clock reading l ≡ refuses Counter
 unfolding step_course when_of
 course-never clock reading none e = refl
 course-never clock reading (at last) e = go (over_step last reading) (past_field (moved_on clock last reading)) e

@@ -6,8 +6,10 @@ use Rattle.rules.specs.declared.Refusal.TheVariants.{NoRoom, BadMicros, Counter}
 use Rattle.rules.specs.Units.{bad_micros, time_of, from_micros}
 use Rattle.rules.specs.HouseNumbers.{refused, good, house_number, no_room}
 use Rattle.rules.specs.Calls.{ticked, call}
-use Rattle.rules.specs.Rolling.{Last, none, at, Rolling, Rolled, rollover, over_step, moved_on, past_field, is_given, Course, refuses, brings}
-use Rattle.rules.specs.Rolling.{instant_course, step_course, reading_course, rolls, instant_call, reading_call, RollingCall, known, instants}
+use Rattle.rules.specs.Rolling.{Last, none, at, Rolling, Rolled, rollover, over_step, moved_on, past_field, is_given, Course, refuses}
+use Rattle.rules.specs.Rolling.{brings}
+use Rattle.rules.specs.Rolling.{instant_course, step_course, reading_course, rolls, instant_call, reading_call, RollingCall, known}
+use Rattle.rules.specs.Rolling.{instants}
 use Rattle.rules.specs.Rolling.{readings, roll}
 use Rattle.rules.specs.Follows.Sequences.{RollWired}
 use Rattle.demands.specs.Told.{first_number, number_of}

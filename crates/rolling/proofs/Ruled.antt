@@ -1,6 +1,7 @@
 -- Each call of this card is one of document 01's, or is refused and changes nothing. Rests on demands' call-clock, that open, close and
 -- message leave the clock, so that it is 0 until the instant is given.
-use Rattle.std.proofs.Common.{◌≡◌, ℕ, ◌+◌, ◌*◌, ◌<◌, ◌≤◌, Bool, true, false, cond, List, [], ◌∷◌, ◌++◌, length, sym, refl, ap, ◌∙◌, subst, ap₂, arith, ltb-false, le-ltb, leb-false}
+use Rattle.std.proofs.Common.{◌≡◌, ℕ, ◌+◌, ◌*◌, ◌<◌, ◌≤◌, Bool, true, false, cond, List, [], ◌∷◌, ◌++◌, length, sym, refl, ap, ◌∙◌, subst}
+use Rattle.std.proofs.Common.{ap₂, arith, ltb-false, le-ltb, leb-false}
 use Rattle.rules.specs.declared.Refusal.{Refusal}
 use Rattle.rules.specs.declared.Refusal.TheVariants.{NoRoom, BadMicros, Counter}
 use Rattle.rules.specs.Lists.{All}

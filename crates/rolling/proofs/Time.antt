@@ -1,6 +1,7 @@
 -- True time: the clock is the instant and the ticks since, however often the counter has rolled over; what is in time, and a course so.
 -- By induction on what is done; rests on proofs/Ruled's timeless-clock.
-use Rattle.std.proofs.Common.{◌≡◌, ℕ, ◌+◌, ◌*◌, ◌%◌, ◌<◌, ◌≤◌, Bool, true, false, ltb, List, [], ◌∷◌, sym, refl, ap, ◌∙◌, arith, ltb-false, le-ltb}
+use Rattle.std.proofs.Common.{◌≡◌, ℕ, ◌+◌, ◌*◌, ◌%◌, ◌<◌, ◌≤◌, Bool, true, false, ltb, List, [], ◌∷◌, sym, refl, ap, ◌∙◌, arith, ltb-false}
+use Rattle.std.proofs.Common.{le-ltb}
 use borrow.Author.Tests.{lt-leb}
 use Rattle.rules.specs.Lists.{All}
 use Rattle.rules.specs.Units.{time_of, from_micros}

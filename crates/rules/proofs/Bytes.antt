@@ -105,7 +105,8 @@ pub name_in-shorter : (l : List ℕ) → has_zero l ≡ true → length (name_in
 name_in-shorter [] e = absurd (clash false e refl)
 name_in-shorter (b ∷ l) e = go (eqb 0 b) refl (name_in-shorter l)
   where
-    go : (t : Bool) → eqb 0 b ≡ t → (has_zero l ≡ true → length (name_in l) < length l) → length (cond t [] (b ∷ name_in l)) < suc (length l)
+    go : (t : Bool) → eqb 0 b ≡ t → (has_zero l ≡ true → length (name_in l) < length l)
+        → length (cond t [] (b ∷ name_in l)) < suc (length l)
     go true f i = omega arith
     go false f i = omega (arith, i (rw f at e))
 

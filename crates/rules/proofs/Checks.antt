@@ -17,7 +17,8 @@ use Rattle.rules.specs.Request.{nobody, session_id}
 use Rattle.rules.specs.Reading.{bad_init, bad_extended, read_init, read_alive, read_abort, read_config, read_extended}
 use Rattle.rules.specs.Descriptors.{is_bad, mux_of}
 use Rattle.rules.specs.Request.{descriptors_of, prior_session, seconds, micro_seconds, duration, access_type}
-use Rattle.rules.specs.Request.{override_playing, return_to_prior_channel, read_start, tail_of, bad_tail, bad_splice, whole_request, read_whole}
+use Rattle.rules.specs.Request.{override_playing, return_to_prior_channel, read_start, tail_of, bad_tail, bad_splice, whole_request}
+use Rattle.rules.specs.Request.{read_whole}
 use Rattle.rules.specs.Request.{read_splice}
 use Rattle.rules.specs.Reading.{read}
 use Rattle.rules.specs.State.{Queue, holds}
@@ -125,7 +126,8 @@ whole-read d t r h = go (bad_splice d t) refl h
     go true f e = let z : ◌≡◌ {A = ℕ} 0 1 = cc in absurd (omega arith)
     go false f e = (taken (whole_request d t) r e, f)
 
-pub read_whole_lem : (d : List ℕ) (r : Request) → read_splice d ≡ Splice r → (r ≡ whole_request d (tail_of d)) × (bad_splice d (tail_of d) ≡ false)
+pub read_whole_lem : (d : List ℕ) (r : Request) → read_splice d ≡ Splice r
+    → (r ≡ whole_request d (tail_of d)) × (bad_splice d (tail_of d) ≡ false)
 unfolding read_splice
 read_whole_lem d r h = go (ltb (length d) 18) h
   where

@@ -143,7 +143,8 @@ fewer-sorted (less h) o = fewer-sorted h o.1
 fewer-sorted (stay {x = s} h) o = (fewer-all (λ u. s.start.0 < u.start.0) h o.0, fewer-sorted h o.1)
 
 -- by places
-pub sorted-at : (w : List Session) (i j : ℕ) (d : Session) → Sorted w → i < j → j < length w → (get_or w i d).start.0 < (get_or w j d).start.0
+pub sorted-at : (w : List Session) (i j : ℕ) (d : Session) → Sorted w → i < j → j < length w
+    → (get_or w i d).start.0 < (get_or w j d).start.0
 sorted-at [] i j d o h k = absurd (omega arith)
 sorted-at (s ∷ w) i zero d o h k = absurd (omega arith)
 sorted-at (s ∷ w) zero (suc j) d o h k = all_get_d (λ u. s.start.0 < u.start.0) w j d (omega arith) o.0

@@ -150,7 +150,8 @@ read_whole_lem d a e =
     let p = or-none (ltb longest_hardware (2 + n)) _ (or-none (ltb (length d) (hardware_place + 2)) _ o).1 in
     let short = ltb-false longest_hardware (2 + n) p.0 in
     let fits = ltb-false (length d) (hardware_place + 2 + n) p.1 in
-    let long : length (hardware_in d) ≡ 2 + n = length-take-le (2 + n) (drop hardware_place d) (omega (arith, length-drop hardware_place d)) in
+    let long : length (hardware_in d) ≡ 2 + n = length-take-le (2 + n) (drop hardware_place d)
+        (omega (arith, length-drop hardware_place d)) in
     record {
       whole = long ∙ ap (λ x. 2 + value x) (sym (take-take 2 (2 + n) (drop hardware_place d) (omega arith)));
       short = omega arith;

@@ -196,7 +196,8 @@ end_of-held P c p q e a =
     all_get_d (λ s. P s.end.0) (held q) (place (is c p) (held q)) empty (ltb-true _ _ (sym (some-place (is c p) (held q)) ∙ e))
     (all_held (λ s. P s.end.0) q a)
 
-start-after : (now c : ℕ) (f : Start) (q : Queue) → OnTime now q → unknown_prior c f q ≡ false → too_late now f ≡ false → now < start_of c f q
+start-after : (now c : ℕ) (f : Start) (q : Queue) → OnTime now q → unknown_prior c f q ≡ false → too_late now f ≡ false
+    → now < start_of c f q
 unfolding unknown_prior too_late start_of
 start-after now c (Timed t) q h a b = let k = ltb-false (t.0 * 9) (now + 3 * 9000000) b in omega arith
 start-after now c (Linked p) q h a b = end_of-held (λ n. now < n) c p q (not-false _ a) (ends_held now q h)

@@ -71,7 +71,8 @@ written_next e a l m xs ys n w k h p =
 pub output-append : (rs ss : List Record) → output (rs ++ ss) ≡ output rs ++ output ss
 unfolding output
 output-append [] ss = refl
-output-append (r ∷ rs) ss = ap (λ x. record_bytes r ++ x) (output-append rs ss) ∙ sym (append_assoc (record_bytes r) (output rs) (output ss))
+output-append (r ∷ rs) ss = ap (λ x. record_bytes r ++ x) (output-append rs ss) ∙ sym
+    (append_assoc (record_bytes r) (output rs) (output ss))
 
 pub output-one : (r : Record) → output (r ∷ []) ≡ record_bytes r
 unfolding output

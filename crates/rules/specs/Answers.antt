@@ -8,7 +8,8 @@ use Rattle.rules.specs.declared.Past.{Past}
 use Rattle.rules.specs.Lists.{place}
 use Rattle.rules.specs.Units.{to_micros}
 use Rattle.rules.specs.Bytes.{same_name}
-use Rattle.rules.specs.State.{Queue, Splicer, same_number, holds, link_of, is_initialised, hardware_of, with_queue, with_link, with_hardware}
+use Rattle.rules.specs.State.{Queue, Splicer, same_number, holds, link_of, is_initialised, hardware_of, with_queue, with_link}
+use Rattle.rules.specs.State.{with_hardware}
 use Rattle.rules.specs.Recent.{unused, is_kept, recent}
 use Rattle.rules.specs.Hardware.{hardware_in}
 use Rattle.rules.specs.Descriptors.{average_mux}

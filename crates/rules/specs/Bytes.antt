@@ -1,5 +1,6 @@
 -- 01, Bytes: numbers, the header of a message, strings, and what a lent buffer holds. Assumes nothing.
-use Rattle.std.specs.Prelude.{Bool, cond, List, [], ◌∷◌, ◌++◌, ℕ, zero, suc, ◌+◌, ◌-◌, ◌*◌, ◌/◌, ◌%◌, eqb, ltb, length, take, drop, replicate}
+use Rattle.std.specs.Prelude.{Bool, cond, List, [], ◌∷◌, ◌++◌, ℕ, zero, suc, ◌+◌, ◌-◌, ◌*◌, ◌/◌, ◌%◌, eqb, ltb, length, take, drop}
+use Rattle.std.specs.Prelude.{replicate}
 use Rattle.rules.specs.Lists.{some, same}
 
 -- "All numbers are big-endian." x in n bytes, the highest first

@@ -1,6 +1,7 @@
 -- 02, CR 1: a list of streams in lent memory. Words: how many, the PcrPID, and 16 rows of eight words; bytes: what the structures keep, all
 -- streams' in a row.
-use Rattle.std.specs.Prelude.{◌≡◌, Bool, false, cond, ◌||◌, List, [], ◌∷◌, ◌++◌, ℕ, zero, suc, ◌+◌, ◌≤◌, leb, ltb, length, get_or, take, drop, replicate}
+use Rattle.std.specs.Prelude.{◌≡◌, Bool, false, cond, ◌||◌, List, [], ◌∷◌, ◌++◌, ℕ, zero, suc, ◌+◌, ◌≤◌, leb, ltb, length, get_or, take}
+use Rattle.std.specs.Prelude.{drop, replicate}
 use Rattle.rules.specs.Bytes.{written}
 use Rattle.rules.specs.Streams.{Stream, highest_pid, unknown_size, Listed, listed, unlisted, streams_in, pcr_pid, most_streams, separate_in}
 use Rattle.rules.specs.Streams.{separate_bytes}
@@ -100,7 +101,8 @@ unfoldable pub put_size : List ℕ → List ℕ → ℕ → ℕ
 put_size words kept room = cond (bad_list words || ltb room (length (bytes_of words kept))) 0 (length (bytes_of words kept))
 
 unfoldable pub out_after : List ℕ → List ℕ → List ℕ → List ℕ
-out_after words kept out = cond (bad_list words || ltb (length out) (length (bytes_of words kept))) out (written out 0 (bytes_of words kept))
+out_after words kept out = cond (bad_list words || ltb (length out) (length (bytes_of words kept))) out
+    (written out 0 (bytes_of words kept))
 
 -- ## What the two promise
 

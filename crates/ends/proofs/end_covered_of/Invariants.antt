@@ -15,7 +15,8 @@ use Rattle.ends.proofs.Closing.{Leaving, leaving-none, leaving-goes, leaving-sta
 use Rattle.ends.proofs.end_covered_of.Given as goal
 
 abbrev pub invariant-loop-i : goal.invariant-loop-i
-invariant-loop-i l = Leaving (of l.conn) (Response 116) (Response 116) (see l.initial.m) l.initial.out l.len l.m l.i (Response 116) l.to l.out
+invariant-loop-i l = Leaving (of l.conn) (Response 116) (Response 116) (see l.initial.m) l.initial.out l.len l.m l.i (Response 116) l.to
+    l.out
 
 abbrev pub decreases-loop-i : goal.decreases-loop-i
 decreases-loop-i l = length (see l.m).queue.started - l.i

@@ -21,12 +21,14 @@ pub returns-then-w-eq0 : goal.returns-then-w-eq0
 returns-then-w-eq0 c =
     record {
       taken_value = refl;
-      feeds = byte-open c.args.s _ _ _ _ c.requires.holds c.requires.told_value c.args.x c.run-w.ensures c.requires.kept_len c.if-w-eq0.true;
+      feeds = byte-open c.args.s _ _ _ _ c.requires.holds c.requires.told_value c.args.x c.run-w.ensures c.requires.kept_len
+          c.if-w-eq0.true;
     }
 
 pub returns : goal.returns
 returns c =
     record {
       taken_value = refl;
-      feeds = byte-whole c.args.s _ _ _ _ c.requires.holds c.requires.told_value c.args.x c.run-w.ensures c.requires.kept_len c.if-w-eq0.false;
+      feeds = byte-whole c.args.s _ _ _ _ c.requires.holds c.requires.told_value c.args.x c.run-w.ensures c.requires.kept_len
+          c.if-w-eq0.false;
     }

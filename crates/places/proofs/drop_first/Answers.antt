@@ -16,7 +16,8 @@ loop-i-init c =
 
 pub remove_at-requires : goal.remove_at-requires
 remove_at-requires c =
-    let l = c.loop-i in record { good = l.invariant.2.good; ring = ring-same (capacity c.args.q.now) (capacity l.q) c.args.ring_end c.requires.ring (omega arith); at_lt_n = omega arith }
+    let l = c.loop-i in record { good = l.invariant.2.good; ring = ring-same (capacity c.args.q.now) (capacity l.q) c.args.ring_end
+        c.requires.ring (omega arith); at_lt_n = omega arith }
 
 pub loop-i-preserved : goal.loop-i-preserved
 loop-i-preserved c =

@@ -22,7 +22,8 @@ read_row-y-requires c =
 pub write_row-requires : goal.write_row-requires
 write_row-requires c =
     let l = c.loop-moves in
-    let e = c.args.ring_end in record { row = row_of l.q (next e) (round - 1 - l.moves) l.hole (ring-next (capacity l.q) e (omega arith)) (omega arith) l.invariant.1; narrow = c.read_row-y.ensures.narrow }
+    let e = c.args.ring_end in record { row = row_of l.q (next e) (round - 1 - l.moves) l.hole (ring-next (capacity l.q) e (omega arith))
+        (omega arith) l.invariant.1; narrow = c.read_row-y.ensures.narrow }
 
 pub loop-moves-smaller : goal.loop-moves-smaller
 loop-moves-smaller c = omega arith
@@ -41,7 +42,8 @@ loop-moves-preserved c =
 pub write_row-requires-2 : goal.write_row-requires-2
 write_row-requires-2 c =
     let l = c.loop-moves in
-    let e = c.args.ring_end in record { row = row_of l.q (next e) (round - 1 - l.moves) l.hole (ring-next (capacity l.q) e (omega arith)) (omega arith) l.invariant.1; narrow = c.requires.narrow }
+    let e = c.args.ring_end in record { row = row_of l.q (next e) (round - 1 - l.moves) l.hole (ring-next (capacity l.q) e (omega arith))
+        (omega arith) l.invariant.1; narrow = c.requires.narrow }
 
 pub returns : goal.returns
 returns c =

@@ -36,7 +36,8 @@ bounds-flags-from c =
     let v = c.loop-to.invariant.0 in
     omega (
       arith,
-      (let l = c.loop-to in omitting-ahead _ _ (lot l.q c.args.ring_end c.args.n) l.from l.to c.args.stay l.invariant.0 c.requires.stay_value (omega (arith, l.invariant.0.ahead))),
+      (let l = c.loop-to in omitting-ahead _ _ (lot l.q c.args.ring_end c.args.n) l.from l.to c.args.stay l.invariant.0
+          c.requires.stay_value (omega (arith, l.invariant.0.ahead))),
       v.ahead,
       v.fits,
       used-fits c.args.q.now c.args.ring_end c.args.n c.requires.good,
@@ -53,7 +54,9 @@ move_to-requires c =
     }
 
 pub loop-to-smaller-then-flags-from-ne1 : goal.loop-to-smaller-then-flags-from-ne1
-loop-to-smaller-then-flags-from-ne1 c = omega (arith, (let l = c.loop-to in omitting-ahead _ _ (lot l.q c.args.ring_end c.args.n) l.from l.to c.args.stay l.invariant.0 c.requires.stay_value (omega (arith, l.invariant.0.ahead))))
+loop-to-smaller-then-flags-from-ne1 c = omega
+    (arith, (let l = c.loop-to in omitting-ahead _ _ (lot l.q c.args.ring_end c.args.n) l.from l.to c.args.stay l.invariant.0
+        c.requires.stay_value (omega (arith, l.invariant.0.ahead))))
 
 pub loop-to-preserved-then-flags-from-ne1 : goal.loop-to-preserved-then-flags-from-ne1
 loop-to-preserved-then-flags-from-ne1 c =
@@ -63,7 +66,8 @@ loop-to-preserved-then-flags-from-ne1 c =
     let q = lot l.q c.args.ring_end c.args.n in
     let v = c.loop-to.invariant.0 in
     let m = c.move_to.ensures in
-    let a = (let l = c.loop-to in omitting-ahead _ _ (lot l.q c.args.ring_end c.args.n) l.from l.to c.args.stay l.invariant.0 c.requires.stay_value (omega (arith, l.invariant.0.ahead))) in
+    let a = (let l = c.loop-to in omitting-ahead _ _ (lot l.q c.args.ring_end c.args.n) l.from l.to c.args.stay l.invariant.0
+        c.requires.stay_value (omega (arith, l.invariant.0.ahead))) in
     let d : flagged f u (get_or (used q) (l.from - 1) empty) ≡ false =
     omitting-flag f u q l.from l.to (l.from - 1) v (omega (arith, a)) c.requires.sorted
     ∙ ne_eqb 1 (get_or f (l.from - 1) 0) (λ e. c.if-flags-from-ne1.true (sym e)) in (
@@ -75,7 +79,8 @@ loop-to-preserved-then-flags-from-ne1 c =
     )
 
 pub loop-to-smaller : goal.loop-to-smaller
-loop-to-smaller c = omega (arith, (let l = c.loop-to in omitting-ahead _ _ (lot l.q c.args.ring_end c.args.n) l.from l.to c.args.stay l.invariant.0 c.requires.stay_value (omega (arith, l.invariant.0.ahead))))
+loop-to-smaller c = omega (arith, (let l = c.loop-to in omitting-ahead _ _ (lot l.q c.args.ring_end c.args.n) l.from l.to c.args.stay
+    l.invariant.0 c.requires.stay_value (omega (arith, l.invariant.0.ahead))))
 
 pub loop-to-preserved : goal.loop-to-preserved
 loop-to-preserved c =
@@ -83,14 +88,16 @@ loop-to-preserved c =
     let f = c.args.flags.now in
     let u = used (lot c.args.q.now c.args.ring_end c.args.n) in
     let q = lot l.q c.args.ring_end c.args.n in
-    let a = (let l = c.loop-to in omitting-ahead _ _ (lot l.q c.args.ring_end c.args.n) l.from l.to c.args.stay l.invariant.0 c.requires.stay_value (omega (arith, l.invariant.0.ahead))) in
+    let a = (let l = c.loop-to in omitting-ahead _ _ (lot l.q c.args.ring_end c.args.n) l.from l.to c.args.stay l.invariant.0
+        c.requires.stay_value (omega (arith, l.invariant.0.ahead))) in
     let d : flagged f u (get_or (used q) (l.from - 1) empty) ≡ true =
     omitting-flag f u q l.from l.to (l.from - 1) l.invariant.0 (omega (arith, a)) c.requires.sorted
     ∙ eq-eqb 1 (get_or f (l.from - 1) 0) (sym c.if-flags-from-ne1.false) in
     (omitting-goes _ _ q l.from l.to (l.from - 1) l.invariant.0 (omega (arith, a)) d, l.invariant.1, l.invariant.2)
 
 pub overflow_sub-n-2 : goal.overflow_sub-n-2
-overflow_sub-n-2 c = omega (arith, (let q = lot c.args.q.now c.args.ring_end c.args.n in stay-fits (flagged c.args.flags.now (used q)) q c.args.stay c.requires.good c.requires.stay_value))
+overflow_sub-n-2 c = omega (arith, (let q = lot c.args.q.now c.args.ring_end c.args.n in stay-fits (flagged c.args.flags.now (used q)) q
+    c.args.stay c.requires.good c.requires.stay_value))
 
 pub drop_first-requires : goal.drop_first-requires
 drop_first-requires c =
@@ -105,7 +112,8 @@ pub returns : goal.returns
 returns c =
     let l = c.loop-to in
     let m = c.drop_first.ensures in
-    let f = (let q = lot c.args.q.now c.args.ring_end c.args.n in stay-fits (flagged c.args.flags.now (used q)) q c.args.stay c.requires.good c.requires.stay_value) in
+    let f = (let q = lot c.args.q.now c.args.ring_end c.args.n in stay-fits (flagged c.args.flags.now (used q)) q c.args.stay
+        c.requires.good c.requires.stay_value) in
     let u = unflagged c.args.flags.now (used (lot c.args.q.now c.args.ring_end c.args.n)) in
     let z : c.args.n - (c.args.n - c.args.stay) ≡ c.args.stay = omega (arith, f) in
     let d = omitting-done _ _ (lot l.q c.args.ring_end c.args.n) l.from l.to c.args.stay l.invariant.0

@@ -16,7 +16,8 @@ use Rattle.places.proofs.omit_flagged.Given as goal
 abbrev pub invariant-loop-to : goal.invariant-loop-to
 invariant-loop-to l =
     let u = used (lot l.initial.q l.ring_end l.n) in
-    Omitting (flagged l.flags u) u (lot l.q l.ring_end l.n) l.from l.to × (length l.q ≡ length l.initial.q) × (spare l.q ≡ spare l.initial.q)
+    Omitting (flagged l.flags u) u (lot l.q l.ring_end l.n) l.from l.to × (length l.q ≡ length l.initial.q) ×
+        (spare l.q ≡ spare l.initial.q)
 
 abbrev pub decreases-loop-to : goal.decreases-loop-to
 decreases-loop-to l = l.from

@@ -52,7 +52,8 @@ loop-left-preserved c =
     let t = shifts l.q e (k + (l.left - 1)) (k + l.left) a l.hole l.invariant.5 (omega arith)
     (omega (arith, slot-within c.args.q.now c.args.ring_end c.args.n c.args.at c.requires.good c.requires.at_lt_n))
     (omega arith) l.invariant.1 _ _ c.read_row-y.ensures.is w.list in
-    (omega arith, omega arith, omega arith, t ∙ l.invariant.3, w.rest ∙ l.invariant.4, ring-same (capacity l.q) _ e l.invariant.5 (omega arith))
+    (omega arith, omega arith, omega arith, t ∙ l.invariant.3, w.rest ∙ l.invariant.4, ring-same (capacity l.q) _ e l.invariant.5
+        (omega arith))
 
 pub write_row-requires-2 : goal.write_row-requires-2
 write_row-requires-2 c =

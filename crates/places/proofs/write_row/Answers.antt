@@ -31,4 +31,5 @@ shape_of-q c = simp length-set
 
 pub returns : goal.returns
 returns c =
-    let a = c.args in record { list = store_is a.q.now a.b a.x (c.requires.narrow.overrides, c.requires.narrow.mux) c.requires.row; rest = store-spare a.q.now a.b a.x c.requires.row }
+    let a = c.args in record { list = store_is a.q.now a.b a.x (c.requires.narrow.overrides, c.requires.narrow.mux) c.requires.row; rest
+        = store-spare a.q.now a.b a.x c.requires.row }
