@@ -97,7 +97,7 @@ ends-are-owed = ends-accepted
 -- never aired." A SpliceComplete flag 1 is written only under a number whose start is written, since its last end or by the same call
 pub only-aired-is-listed : (c x : ℕ) (h : List Event) (s : Splicer) → FromFresh h s → (k : Call) → Wired k
     → outs_of c x (records_in (written_by (call k s).answer)) ≤ started_told c x h 0 + starts_of c x
-        (records_in (written_by (call k s).answer))
+    (records_in (written_by (call k s).answer))
 only-aired-is-listed = outs-started
 
 -- "An ad server dropped its connection with its spot on air." Once connection c has closed, by a good call, its sessions of before stand in

@@ -57,7 +57,7 @@ module _ (s : Splicer) where
       go : (a b d h e f g : Bool)
           → number_of (cond a (refuse NoConnection s) (cond b (refuse NoRoom s) (cond d (refuse NotOpen s) (cond h (refuse LongSection s)
           (handled c (cond e (Unframed Short) (cond f (Unframed Oversize)
-              (cond g (Unframed Short) (Framed (message_id l) (message_size l)))))
+          (cond g (Unframed Short) (Framed (message_id l) (message_size l)))))
           l loans s))))).answer
           ≡ cond a 1 (cond b 2 (cond d 7 (cond h 10 (cond e 5 (cond f 4 (cond g 5 0))))))
       go true b d h e f g = refl

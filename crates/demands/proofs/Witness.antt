@@ -130,7 +130,7 @@ unfoldable computing : ℕ
 unfolding name message initialise asking inquiring configuring alive room calls heard now told asked waiting airing section request each
     card_name Lists.place Lists.insert_at Lists.remove_at Bytes.bytes Bytes.value Bytes.value_from Reading.read_init Reading.read_alive
     Request.tail_of Request.read_whole Request.read_splice Descriptors.mux_from Request.read_start Reading.read_extended Reading.read
-        State.empty
+    State.empty
     State.due Records.framed Records.record_bytes Records.output ReadBack.record_in ReadBack.records_up_to ReadBack.records_in Ends.and_then
     Ends.endings Ends.evicted Ends.evicted_at Ends.closed_by Instants.may_start Instants.meets_equal Instants.ousted Instants.launched
     Instants.start_at Instants.end_at Instants.instant Instants.on_air Instants.elapse Instants.run Instants.run_all Instants.silent
@@ -143,7 +143,7 @@ unfolding name message initialise asking inquiring configuring alive room calls 
     History.wait_replied History.waiting_told History.waiting_count History.is_start History.is_end History.front History.others_of
     History.start_told History.end_asked History.last_told Airing.newest Airing.lists Airing.says_played Airing.heard Airing.by_then
     Airing.heard_all Airing.start_asked Airing.airing_asked Airing.aired_answered Airing.aired_after Airing.aired_replied Airing.airings
-        answers
+    answers
     first_number earlier_code number_of granted_by is_initialising initialises changes changed
 computing = 0
 

@@ -3,15 +3,15 @@
 use mathlib.Core.Path.{◌≡◌, refl, sym, ap, ◌∙◌}
 use mathlib.Core.Bool.{Bool, true, false}
 use mathlib.Core.List.{List, [], ◌∷◌, ◌++◌}
-use Prim.Native.Nat.{ℕ, zero, suc, ◌+◌, ◌-◌, ◌*◌, ◌/◌, ◌%◌, ◌≤◌, ◌<◌}
+use Prim.Native.Nat.{ℕ, zero, suc, ◌+◌, ◌*◌, ◌%◌, ◌≤◌, ◌<◌}
 use native.Mathlib.Omega.{arith}
 use lib.Dec.{eqb}
-use lib.ListN.{length, drop, set, get_or, replicate, length-set, length-drop, drop_of_length-le}
+use lib.ListN.{length, drop, set, get_or, length-set, length-drop, drop_of_length-le}
 use lib.Seq.{drop-cons, drop-drop, get_or-drop, get_or-set_same, get_or-set_other, ext_get_or}
 use borrow.Author.Tests.{eqb-true, eqb-false}
 use Rattle.rules.specs.declared.Past.{Past}
 use Rattle.rules.specs.State.{Lately}
-use Rattle.rules.specs.Recent.{most_kept, unused, none_ended, remembered, recent_at}
+use Rattle.rules.specs.Recent.{most_kept, unused, none_ended, remembered}
 use Rattle.places.specs.Places.{zeros}
 use Rattle.memory.specs.Memory.{past_width, past_words, late_size, past_of, pasts, next_in, lately_in}
 

@@ -239,4 +239,4 @@ pub turned_taken : (e : ℕ) (l : List Session) → length l ≡ round → e < r
 turned_taken e l m h =
     let n : length (drop 1 (turned e l)) ≡ round - 1 = length-drop 1 (turned e l) ∙ omega (arith, length-turned e l) in
     ap (remove_at (round - 1)) (turned-next e l empty m h) ∙ remove_at-last (drop 1 (turned e l)) (get_or (turned e l) 0 empty) (round - 1)
-        n
+    n

@@ -2,7 +2,7 @@
 use mathlib.Core.Path.{◌≡◌, refl, sym, ap, ap₂, fun_ext, ◌∙◌}
 use mathlib.Core.Bool.{Bool, true, false, cond, not, ◌&&◌}
 use mathlib.Core.List.{List, [], ◌∷◌, ◌++◌, map}
-use Prim.Native.Nat.{ℕ, ◌+◌, ◌≤◌, ◌<◌}
+use Prim.Native.Nat.{ℕ, ◌≤◌, ◌<◌}
 use native.Mathlib.Omega.{arith}
 use lib.Dec.{eqb, ltb}
 use lib.ListN.{length, get_or}
@@ -16,7 +16,6 @@ use Rattle.rules.specs.Request.{nobody}
 use Rattle.rules.specs.State.{Queue, empty, of, is, starts_at, holds, with_waiting, with_lately}
 use Rattle.rules.specs.Follows.Wires.{Sorted}
 use Rattle.rules.specs.Recent.{remembered_all}
-use Rattle.rules.specs.Records.{Record}
 use Rattle.rules.specs.Ends as ends
 use Rattle.rules.specs.Ends.{ended, past}
 use Rattle.rules.specs.Follows.Sound.{Each, Falling, Proper, Holding}
@@ -28,7 +27,7 @@ use Rattle.rules.proofs.Chained.{holds-somebody}
 use Rattle.rules.proofs.Sound.{in_order}
 use Rattle.recall_rules.specs.Verdicts.{Phase, Out, is_waiting, has_started, Verdict, verdict, standing, which, session_of, as_ended}
 use Rattle.recall_rules.specs.Verdicts.{over, turned, Same, Shows}
-use Rattle.recall_rules.specs.Work.{Turn, writes, and_then, higher, started_ones, as_was, endings, dismissed, evicted, cancelled}
+use Rattle.recall_rules.specs.Work.{Turn, writes, and_then, higher, started_ones, as_was, dismissed, evicted, cancelled}
 use Rattle.recall_rules.specs.Work.{aborted, closed_by}
 use Rattle.recall_rules.proofs.Same.{same_some}
 use Rattle.recall_rules.proofs.Found.{found, same, there, left, others}

@@ -1,8 +1,8 @@
 -- 02, CR 8: each end has its number, and one more end is told behind those before. Assumes nothing.
 use mathlib.Core.Path.{◌≡◌, refl, sym, ap, ap₂, ◌∙◌}
-use mathlib.Core.Bool.{Bool, true, false, cond, ◌&&◌}
+use mathlib.Core.Bool.{Bool, true, false, cond}
 use mathlib.Core.List.{List, [], ◌∷◌, ◌++◌, map}
-use Prim.Native.Nat.{ℕ, zero, suc, ◌+◌, ◌≤◌, ◌<◌}
+use Prim.Native.Nat.{ℕ, zero, suc, ◌+◌, ◌<◌}
 use native.Mathlib.Omega.{arith}
 use lib.Dec.{eqb, ltb}
 use lib.ListN.{length, get_or, set, take, length-set}
@@ -102,50 +102,50 @@ not-it n (Ended m r) e = absurd (clash true refl e)
 
 -- the verdict of call i, which had not ended, becomes v
 module _ (l : List Verdict) (i : ℕ) (v : Verdict) (k : i < length l) (was : has_ended (get_or l i none).phase ≡ false) (o : Numbered l)
-    where
-  below-same : (n : ℕ) → ((a : ℕ) → a < n → is_end a v.phase ≡ false) → ends_below n (set l i v) ≡ ends_below n l
-  below-same zero f = refl
-  below-same (suc n) f =
-      ap₂ (λ x y. x ++ (y ∷ [])) (below-same n (λ a h. f a (omega arith)))
-      (ap past_of (unseen (ended_as n) l i v (f n (omega arith)) (not-it n (get_or l i none).phase was)))
+  where
+    below-same : (n : ℕ) → ((a : ℕ) → a < n → is_end a v.phase ≡ false) → ends_below n (set l i v) ≡ ends_below n l
+    below-same zero f = refl
+    below-same (suc n) f =
+        ap₂ (λ x y. x ++ (y ∷ [])) (below-same n (λ a h. f a (omega arith)))
+        (ap past_of (unseen (ended_as n) l i v (f n (omega arith)) (not-it n (get_or l i none).phase was)))
 
-  -- and has not
-  pub more-set : has_ended v.phase ≡ false → More l [] (set l i v)
-  more-set e =
-      record {
-        told = rw same_ends (below-same (ends l) (λ a h. not-it a v.phase e) ∙ behind-none (pasts l));
-        numbered = λ n h. omega (
-          arith,
-          same_ends,
-          count_set (ended_as n) l i v k,
-          ap bit (not-it n (get_or l i none).phase was),
-          ap bit (not-it n v.phase e),
-          o n (omega (arith, same_ends)),
-        );
-      }
-    where
-      same_ends : ends (set l i v) ≡ ends l
-      same_ends = omega (arith, count_set (λ u. has_ended u.phase) l i v k, ap bit was, ap bit e)
+    -- and has not
+    pub more-set : has_ended v.phase ≡ false → More l [] (set l i v)
+    more-set e =
+        record {
+          told = rw same_ends (below-same (ends l) (λ a h. not-it a v.phase e) ∙ behind-none (pasts l));
+          numbered = λ n h. omega (
+            arith,
+            same_ends,
+            count_set (ended_as n) l i v k,
+            ap bit (not-it n (get_or l i none).phase was),
+            ap bit (not-it n v.phase e),
+            o n (omega (arith, same_ends)),
+          );
+        }
+      where
+        same_ends : ends (set l i v) ≡ ends l
+        same_ends = omega (arith, count_set (λ u. has_ended u.phase) l i v k, ap bit was, ap bit e)
 
-  -- and has, as the next of all
-  more-next : has_ended v.phase ≡ true → ((n : ℕ) → is_end n v.phase ≡ eqb n (ends l)) → More l (past_of v ∷ []) (set l i v)
-  more-next e f =
-      record {
-        told = rw one_more
-            (ap₂ (λ x y. x ++ (y ∷ [])) (below-same (ends l) (λ a h. f a ∙ ne_eqb a (ends l) (λ g. omega arith)))
-            (ap past_of (seen (ended_as (ends l)) l i v k (f (ends l) ∙ eq-eqb (ends l) (ends l) refl) (o (ends l) (omega arith)))));
-        numbered = λ n h. omega (
-          arith,
-          one_more,
-          count_set (ended_as n) l i v k,
-          ap bit (not-it n (get_or l i none).phase was),
-          ap bit (f n ∙ ne_eqb n (ends l) (λ g. omega (arith, one_more))),
-          o n (omega (arith, one_more)),
-        );
-      }
-    where
-      one_more : ends (set l i v) ≡ suc (ends l)
-      one_more = omega (arith, count_set (λ u. has_ended u.phase) l i v k, ap bit was, ap bit e)
+    -- and has, as the next of all
+    more-next : has_ended v.phase ≡ true → ((n : ℕ) → is_end n v.phase ≡ eqb n (ends l)) → More l (past_of v ∷ []) (set l i v)
+    more-next e f =
+        record {
+          told = rw one_more
+              (ap₂ (λ x y. x ++ (y ∷ [])) (below-same (ends l) (λ a h. f a ∙ ne_eqb a (ends l) (λ g. omega arith)))
+              (ap past_of (seen (ended_as (ends l)) l i v k (f (ends l) ∙ eq-eqb (ends l) (ends l) refl) (o (ends l) (omega arith)))));
+          numbered = λ n h. omega (
+            arith,
+            one_more,
+            count_set (ended_as n) l i v k,
+            ap bit (not-it n (get_or l i none).phase was),
+            ap bit (f n ∙ ne_eqb n (ends l) (λ g. omega (arith, one_more))),
+            o n (omega (arith, one_more)),
+          );
+        }
+      where
+        one_more : ends (set l i v) ≡ suc (ends l)
+        one_more = omega (arith, count_set (λ u. has_ended u.phase) l i v k, ap bit was, ap bit e)
 
 -- the session of call i ends
 pub more-over : (how : Ending) (l : List Verdict) (i : ℕ) → i < length l → has_ended (get_or l i none).phase ≡ false → Numbered l

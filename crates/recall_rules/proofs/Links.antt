@@ -1,22 +1,22 @@
 -- Followers, a link at a time: more links than wait change nothing. Assumes nothing.
-use mathlib.Core.Path.{◌≡◌, refl, sym, ap, ◌∙◌}
-use mathlib.Core.Bool.{Bool, true, false, cond, ◌&&◌}
+use mathlib.Core.Path.{◌≡◌, refl, ap, ◌∙◌}
+use mathlib.Core.Bool.{Bool, true, false}
 use mathlib.Core.List.{List, [], ◌∷◌}
-use Prim.Native.Nat.{ℕ, zero, suc, ◌+◌, ◌≤◌, ◌<◌}
+use Prim.Native.Nat.{ℕ, zero, suc, ◌≤◌, ◌<◌}
 use native.Mathlib.Omega.{arith}
 use lib.Dec.{ltb}
 use lib.ListN.{length, get_or, length-set}
-use borrow.Author.Tests.{ltb-true, ltb-false, lt-ltb, le-ltb}
+use borrow.Author.Tests.{ltb-true, lt-ltb, le-ltb}
 use Rattle.rules.specs.declared.Session.{Session}
 use Rattle.rules.specs.declared.Ending.{Ending}
 use Rattle.rules.specs.declared.Ending.TheVariants.{Response}
-use Rattle.rules.specs.Lists.{bit, count, place}
+use Rattle.rules.specs.Lists.{bit, count}
 use Rattle.rules.specs.State.{follows}
 use Rattle.rules.specs.Ends.{ended}
 use Rattle.rules.proofs.Tests.{and_both, both-and}
 use Rattle.rules.proofs.Count.{place-holds, count≤length}
-use Rattle.recall_rules.specs.Verdicts.{Phase, is_waiting, Verdict, none, verdict, standing, stands, which, session_of, as_ended, over}
-use Rattle.recall_rules.specs.Work.{Walk, Turn, quiet, writes, and_then, walk, dismissed}
+use Rattle.recall_rules.specs.Verdicts.{is_waiting, Verdict, none, verdict, standing, stands, which, session_of, as_ended, over}
+use Rattle.recall_rules.specs.Work.{quiet, writes, and_then, walk, dismissed}
 use Rattle.recall_rules.proofs.Found.{length-standing, count_set, counted-at}
 
 -- how many wait

@@ -21,7 +21,7 @@ use Rattle.rules.specs.Splicing as splicing
 use Rattle.rules.specs.Calls as calls
 use Rattle.rules.specs.Calls.{Call}
 use Rattle.rules.specs.Follows.Sound.{Holding, Wired}
-use Rattle.rules.proofs.Sound.{in_order, sound-fresh, sound-always}
+use Rattle.rules.proofs.Sound.{sound-fresh, sound-always}
 use Rattle.recall_rules.specs.Verdicts.{Verdict, Shows}
 use Rattle.recall_rules.specs.Work.{dismissed, evicted, aborted, closed_by, start_at, end_at, instant, elapse, due, run_all, requested}
 use Rattle.recall_rules.specs.Work.{wrong_number, collides, full, accepted, later, answer_splice, answer_abort, air_state, air_id, air_feed}

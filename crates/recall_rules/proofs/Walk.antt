@@ -74,8 +74,12 @@ walk_same how (suc n) c x l w e o z =
           gone = ap (λ m. s ∷ m) on.gone;
           left = on.left;
           others =
-              λ r. omega (arith, on.others r, others is_waiting has_started (follows c x) l (verdict (as_ended how s l) s) waiting-apart k
-                  r);
+              λ r. omega (
+                arith,
+                on.others r,
+                others is_waiting has_started (follows c x) l (verdict (as_ended how s l) s) waiting-apart k
+                    r,
+              );
         })
     go false f ih = record { gone = refl; left = e; others = λ r. refl }
 
@@ -92,7 +96,7 @@ walk-enough (suc m) (suc n) c x w f g =
   where
     go : (b : Bool) → ltb (place (follows c x) w) (length w) ≡ b
         → (place (follows c x) w < length w → ends.walk m c (get_or w (place (follows c x) w) empty).id
-            (remove_at (place (follows c x) w) w)
+        (remove_at (place (follows c x) w) w)
         ≡ ends.walk n c (get_or w (place (follows c x) w) empty).id (remove_at (place (follows c x) w) w))
         → ends.walk (suc m) c x w ≡ ends.walk (suc n) c x w
     go true e ih = rw (ih (ltb-true (place (follows c x) w) (length w) e))

@@ -9,7 +9,7 @@ use Rattle.rules.specs.declared.Link.TheVariants.{Opened}
 use Rattle.rules.specs.declared.Request.{Request}
 use Rattle.rules.specs.declared.Message.TheVariants.{Splice}
 use Rattle.rules.specs.Bytes.{part, has_zero, message_size}
-use Rattle.rules.specs.Reading.{is_read, bad_init}
+use Rattle.rules.specs.Reading.{bad_init}
 use Rattle.rules.specs.Request.{read_splice}
 use Rattle.rules.specs.Follows.ReadBack.{data_in}
 use Rattle.rules.specs.Hardware.{hardware_in}

@@ -171,7 +171,7 @@ module _ (c : ℕ) (l section : List ℕ) (s : Splicer) (D : Answered → Type 0
       (λ g. by M (eqb (message_id l) abort_request) _ _
       (λ h. by M (eqb (length d) 4) _ _ (λ i. abort-case (session_id d) g refl) (λ i. bad))
       (λ h. by M (eqb (message_id l) extended_request) _ _
-          (λ i. by M (bad_extended d) _ _ (λ j. bad) (λ j. k.recalling (session_id d) g refl))
+      (λ i. by M (bad_extended d) _ _ (λ j. bad) (λ j. k.recalling (session_id d) g refl))
       (λ i. by M (eqb (message_id l) config_request) _ _
       (λ j. by M (eqb (length d) 0) _ _ (λ m. k.telling (other config_request j refl)) (λ m. bad)) (λ j. bad))))))
 

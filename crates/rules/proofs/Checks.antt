@@ -1,6 +1,6 @@
 -- What a request that is accepted has passed: reading, and checks b to e. Assumes nothing.
 use mathlib.Core.Path.{◌≡◌, refl, ap}
-use mathlib.Core.Bool.{Bool, true, false, cond, not, ◌&&◌, ◌||◌}
+use mathlib.Core.Bool.{Bool, true, false, cond, ◌&&◌, ◌||◌}
 use mathlib.Core.List.{List}
 use Prim.Native.Nat.{ℕ, ◌*◌, ◌≤◌, ◌<◌}
 use native.Mathlib.Omega.{arith}
@@ -17,7 +17,7 @@ use Rattle.rules.specs.Request.{nobody, session_id}
 use Rattle.rules.specs.Reading.{bad_init, bad_extended, read_init, read_alive, read_abort, read_config, read_extended}
 use Rattle.rules.specs.Descriptors.{is_bad, mux_of}
 use Rattle.rules.specs.Request.{descriptors_of, prior_session, seconds, micro_seconds, duration, access_type}
-use Rattle.rules.specs.Request.{override_playing, return_to_prior_channel, read_start, tail_of, bad_tail, bad_splice, whole_request}
+use Rattle.rules.specs.Request.{override_playing, read_start, tail_of, bad_tail, bad_splice, whole_request}
 use Rattle.rules.specs.Request.{read_whole}
 use Rattle.rules.specs.Request.{read_splice}
 use Rattle.rules.specs.Reading.{read}

@@ -1,5 +1,5 @@
 -- 02, CR 1: every record of every call has a result of the list; 110 is not in it. Rests on the cases of a call (Cases).
-use mathlib.Core.Path.{◌≡◌, refl}
+use mathlib.Core.Path.{refl}
 use mathlib.Core.Bool.{Bool, true, false}
 use mathlib.Core.List.{List, [], ◌∷◌, map}
 use Prim.Native.Nat.{ℕ, zero, suc, ◌-◌}

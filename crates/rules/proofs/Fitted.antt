@@ -27,7 +27,6 @@ use Rattle.rules.specs.Instants.{may_start, began, meets_equal, ousted, launched
 use Rattle.rules.specs.Answers.{air_state, air_id, alive_response, air_feed, config_response, extended_response}
 use Rattle.rules.specs.Splicing.{session_at, requested}
 use Rattle.rules.specs.Splicing.{accepts, accepted}
-use Rattle.rules.specs.Answers.{answer}
 use Rattle.rules.specs.HouseNumbers.{Answer, refused, good, longest_section, long_section, Loans}
 use Rattle.rules.specs.Calls.{section_of, ticked, Call, messages, call}
 use Rattle.rules.specs.HouseNumbers.{written_by}

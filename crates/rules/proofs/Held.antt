@@ -6,7 +6,7 @@ use mathlib.Core.List.{List, [], ◌∷◌}
 use Prim.Native.Nat.{ℕ, zero, suc, ◌+◌, ◌*◌, ◌≤◌, ◌<◌}
 use native.Mathlib.Omega.{arith}
 use lib.Dec.{eqb, ltb}
-use lib.ListN.{length, get_or, take, drop, set, length-set, length-drop}
+use lib.ListN.{length, get_or, drop, set, length-set, length-drop}
 use lib.Seq.{get_or-set_same, get_or-set_other, set-get_or, length-take-le, take-take}
 use borrow.Author.Tests.{eqb-true, eqb-false, ne_eqb, ltb-false}
 use Rattle.rules.specs.declared.Session.{Session}
@@ -151,7 +151,7 @@ read_whole_lem d a e =
     let short = ltb-false longest_hardware (2 + n) p.0 in
     let fits = ltb-false (length d) (hardware_place + 2 + n) p.1 in
     let long : length (hardware_in d) ≡ 2 + n = length-take-le (2 + n) (drop hardware_place d)
-        (omega (arith, length-drop hardware_place d)) in
+    (omega (arith, length-drop hardware_place d)) in
     record {
       whole = long ∙ ap (λ x. 2 + value x) (sym (take-take 2 (2 + n) (drop hardware_place d) (omega arith)));
       short = omega arith;

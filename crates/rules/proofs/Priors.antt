@@ -71,7 +71,7 @@ module _ (q : Queue) (once : Once q) where
       other : follows c x s ≡ true → (u : Session) → s.start.0 < u.start.0 → Tied (held_count q) u → follows c x u ≡ true → ⊥
       other f u lt d g =
           apart c x (is_prior s) (is_prior u) (λ y. one y (is_prior s y) refl (is_prior u y) refl)
-              (t.0 (rw (← (follows-parts c x s f).1) z))
+          (t.0 (rw (← (follows-parts c x s f).1) z))
           (d (rw (← (follows-parts c x u g).1) z))
         where
           named : (v y : Session) → follows c x v ≡ true → is_prior v y ≡ true → is c x y ≡ true

@@ -1,13 +1,12 @@
 -- What reading grants of a message read from bytes. Rests on Descriptors for what they ask of the multiplexer.
-use mathlib.Core.Path.{◌≡◌, refl, sym, ap, subst, ◌∙◌}
-use mathlib.Core.Bool.{true, false, not, ◌&&◌, ◌||◌}
+use mathlib.Core.Path.{◌≡◌, subst}
+use mathlib.Core.Bool.{false}
 use mathlib.Core.List.{List}
-use Prim.Native.Nat.{ℕ, zero, suc, ◌+◌, ◌-◌, ◌≤◌, ◌<◌}
+use Prim.Native.Nat.{ℕ}
 use native.Mathlib.Omega.{arith}
 use lib.Dec.{eqb, ltb}
-use lib.ListN.{length, drop, length-drop}
-use lib.Seq.{drop-drop}
-use borrow.Author.Tests.{eqb-false, ltb-false, eq-eqb, ne_eqb}
+use lib.ListN.{length}
+use borrow.Author.Tests.{eqb-false}
 use Rattle.rules.specs.declared.Request.{Request}
 use Rattle.rules.specs.declared.Message.TheVariants.{Splice}
 use Rattle.rules.specs.Request.{nobody}

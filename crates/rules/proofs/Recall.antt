@@ -1,22 +1,21 @@
 -- 02, CR 8: the answer to an ExtendedData_Request: it has one of two lengths, it is of the first of the number in what ended lately, newest
 -- first, and none is found exactly when there is none. Rests on Lately's sizes of what is kept.
 use mathlib.Core.Path.{◌≡◌, refl, sym, ap, ◌∙◌}
-use mathlib.Core.Bool.{Bool, true, false, ◌&&◌}
+use mathlib.Core.Bool.{Bool, true, false}
 use mathlib.Core.List.{List, [], ◌∷◌}
 use Prim.Native.Nat.{ℕ, zero, suc, ◌+◌, ◌-◌, ◌%◌, ◌≤◌, ◌<◌}
 use native.Mathlib.Omega.{arith}
-use lib.Dec.{ltb}
 use lib.ListN.{length, get_or}
 use borrow.Author.Tests.{ltb-true, ltb-false}
 use Rattle.rules.specs.declared.Past.{Past}
 use Rattle.rules.specs.Lists.{All, some, place}
-use Rattle.rules.specs.State.{Lately, Queue, same_number}
+use Rattle.rules.specs.State.{Lately, Queue}
 use Rattle.rules.specs.Recent.{most_kept, unused, is_kept, recent_at, recent_from, recent}
 use Rattle.rules.specs.Records.{Record, ExtendedFound, ExtendedNone}
 use Rattle.rules.specs.Answers.{is_past, latest, extended_response}
 use Rattle.rules.specs.Follows.Sound.{Noted, Recalled}
-use Rattle.rules.proofs.Tests.{by, clash, and_both}
-use Rattle.rules.proofs.Count.{place≤, place-holds, some-place}
+use Rattle.rules.proofs.Tests.{by, and_both}
+use Rattle.rules.proofs.Count.{place-holds, some-place}
 use Rattle.rules.proofs.Lately.{unused-noted}
 
 -- a fact of it, from the fact of each length

@@ -13,7 +13,7 @@ use Rattle.rules.specs.Bytes.{bytes, value_from, value, part, field, padded, nam
 use Rattle.rules.specs.Records.{Record, General, InitResponse, AliveResponse, SpliceResponse, SpliceComplete, AbortResponse}
 use Rattle.rules.specs.Records.{ConfigResponse, ExtendedFound, ExtendedNone, end_descriptor, CueRequest, framed, record_bytes, output}
 use Rattle.rules.specs.Follows.ReadBack.{config_in, record_in, records_up_to, records_in}
-use Rattle.rules.specs.Hardware.{length_in, longest_hardware}
+use Rattle.rules.specs.Hardware.{longest_hardware}
 use Rattle.rules.specs.HouseNumbers.{longest_section}
 use Rattle.rules.specs.Follows.Sound.{Structure}
 use Rattle.rules.proofs.All.{All, all_append}

@@ -18,7 +18,7 @@ use Rattle.rules.specs.Ends.{Turn, quiet, and_then, ended, ending, one_end, endi
 use Rattle.rules.specs.Ends.{cancelled, aborted, closed_by}
 use Rattle.rules.specs.Hardware.{longest_hardware}
 use Rattle.rules.specs.Instants.{may_start, began, meets_equal, ousted, launched, start_at, end_at, instant, run_all}
-use Rattle.rules.specs.Answers.{Answered, air_feed, alive_response, config_response, answer}
+use Rattle.rules.specs.Answers.{Answered, air_feed, alive_response, config_response}
 use Rattle.rules.specs.Splicing.{requested, accepts, accepted}
 use Rattle.rules.specs.HouseNumbers.{written_by, longest_section, long_section, Loans}
 use Rattle.rules.specs.Calls.{section_of, ticked, Call, call}

@@ -9,7 +9,7 @@ use Rattle.rules.specs.declared.Ninths.{Ninths}
 use Rattle.rules.specs.declared.Session.{Session}
 use Rattle.rules.specs.declared.When.TheVariants.{At}
 use Rattle.rules.specs.Bytes.{has_zero}
-use Rattle.rules.specs.State.{Queue, Splicer, is, due, not_after}
+use Rattle.rules.specs.State.{Queue, Splicer, due, not_after}
 use Rattle.rules.specs.Recent.{none_held}
 use Rattle.rules.specs.Follows.ReadBack.{records_in}
 use Rattle.rules.specs.Ends.{Turn, and_then}

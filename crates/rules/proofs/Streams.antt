@@ -1,23 +1,23 @@
 -- 02, CR 1: structures are read back as they were written and written back as they were read, and a request that names its PIDs is read
 -- like any other. Rests on the laws of numbers in bytes and of `take`, `drop` and `++`.
-use mathlib.Core.Path.{◌≡◌, refl, sym, ap, ap₂, subst, ◌∙◌}
-use mathlib.Core.Bool.{Bool, true, false, cond, ◌&&◌, ◌||◌}
-use mathlib.Core.List.{List, [], ◌∷◌, ◌++◌, append_assoc, append-nil}
+use mathlib.Core.Path.{◌≡◌, refl, sym, ap, ap₂, ◌∙◌}
+use mathlib.Core.Bool.{Bool, true, false, cond}
+use mathlib.Core.List.{List, [], ◌∷◌, ◌++◌, append_assoc}
 use Prim.Native.Nat.{ℕ, zero, suc, ◌+◌, ◌-◌, ◌*◌, ◌/◌, ◌%◌, ◌^◌, ◌≤◌, ◌<◌}
 use native.Mathlib.Omega.{arith}
 use lib.Dec.{eqb, ltb}
 use lib.ListN.{length, get_or, take, drop, length-append, length-take, length-drop, take-append-drop}
 use lib.Seq.{take-suc, take_at, drop_at, take-add, take-append-le, drop-append-le, length-take-le, take_all}
-use borrow.Author.Tests.{le-ltb, lt-ltb, ltb-false, eqb-false, eq-eqb, ne_eqb}
+use borrow.Author.Tests.{le-ltb, ltb-false, eqb-false, eq-eqb, ne_eqb}
 use Rattle.rules.specs.Bytes.{bytes, value_from, value, part, field}
-use Rattle.rules.specs.Request.{nobody, separate_service, session_id, prior_session, seconds, micro_seconds, service_id, read_start}
+use Rattle.rules.specs.Request.{separate_service, service_id, read_start}
 use Rattle.rules.specs.Streams.{Stream}
 use Rattle.rules.specs.Streams.{stream_length, stream_at, highest_pid, unknown_size, bad_stream, Listed, listed, unlisted, behind}
 use Rattle.rules.specs.Streams.{streams_in, pcr_pid, pid_count, most_streams, bad_count, separate_in, rest_of, stream_bytes}
 use Rattle.rules.specs.Follows.ReadBack.{Writable}
 use Rattle.rules.specs.Streams.{streams_bytes, separate_bytes}
-use Rattle.rules.specs.Request.{tail_of, bad_tail, bad_splice, whole_request, read_whole, read_splice}
-use Rattle.rules.proofs.Tests.{clash, or-none}
+use Rattle.rules.specs.Request.{tail_of, read_whole, read_splice}
+use Rattle.rules.proofs.Tests.{or-none}
 use Rattle.rules.proofs.All.{All, all_drop, at_all}
 use Rattle.rules.proofs.Bytes.{Byte, length-bytes, value-bytes, value-append, field_below}
 use Rattle.rules.proofs.Values.{field-one}

@@ -15,7 +15,6 @@ use Rattle.rules.specs.declared.Session.{Session}
 use Rattle.rules.specs.Lists.{bit, keep, omit, count, place, remove_at}
 use Rattle.rules.specs.State.{Queue, empty, starts_at, ends_at, sooner, earliest, due, not_after, to_come, with_waiting}
 use Rattle.rules.specs.Follows.Wires.{Sorted}
-use Rattle.rules.specs.State.{with_started}
 use Rattle.rules.specs.Ends.{Turn, quiet, and_then}
 use Rattle.rules.specs.Instants.{may_start, launched, start_at, end_at, instant, playing, on_air, elapse, onwards, run, run_all}
 use Rattle.rules.proofs.Tests.{tests, by, eqb_same}

@@ -15,8 +15,8 @@ use Rattle.rules.specs.declared.Ending.TheVariants.{Response}
 use Rattle.rules.specs.declared.Start.{Start}
 use Rattle.rules.specs.declared.Start.TheVariants.{Timed, Linked}
 use Rattle.rules.specs.declared.Request.{Request}
-use Rattle.rules.specs.Lists.{bit, omit, count, place, remove_at}
-use Rattle.rules.specs.State.{due, not_after, Queue, Splicer, empty, is, starts_at, ends_at, held, holds, with_waiting, with_started}
+use Rattle.rules.specs.Lists.{bit, count, place, remove_at}
+use Rattle.rules.specs.State.{due, not_after, Queue, Splicer, empty, is, starts_at, ends_at, held, holds, with_waiting}
 use Rattle.rules.specs.Ends.{Turn, and_then, ending, one_end, evicted_at, evicted}
 use Rattle.rules.specs.Instants.{may_start, ousted, launched, start_at, end_at, instant, elapse, run_all}
 use Rattle.rules.specs.Splicing.{end_of, start_of, session_at, requested, unknown_prior, too_late, accepted}

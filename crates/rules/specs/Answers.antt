@@ -18,7 +18,7 @@ use Rattle.rules.specs.Reading.{init_request, channel_name, is_read, read}
 use Rattle.rules.specs.Records.{Record, General, InitResponse, AliveResponse, AbortResponse, ConfigResponse, ExtendedFound}
 use Rattle.rules.specs.Records.{ExtendedNone}
 use Rattle.rules.specs.Ends.{Turn, and_then, writes, aborted}
-use Rattle.rules.specs.Splicing.{accepted, Spliced, answer_splice}
+use Rattle.rules.specs.Splicing.{Spliced, answer_splice}
 
 -- the splicer after an answer, and the records of the answer; 02, CR 11: whether it accepted a request, and how many places that shifted
 pub record Answered : Type 0 where

@@ -8,7 +8,7 @@ use Rattle.rules.specs.declared.Refusal.TheVariants.{BadMicros, BadName, LongSec
 use Rattle.rules.specs.declared.Framing.{Framing}
 use Rattle.rules.specs.declared.Framing.TheVariants.{Framed, Unframed}
 use Rattle.rules.specs.Units.{horizon, second, time_of, bad_micros, from_micros, up_micros}
-use Rattle.rules.specs.Bytes.{message_id, message_size, oversize, data_of, has_zero, name_in, written}
+use Rattle.rules.specs.Bytes.{message_id, message_size, oversize, data_of, has_zero, name_in}
 use Rattle.rules.specs.State.{Splicer, no_hardware, link_of, is_open, with_link, with_hardware, with_queue, with_clock}
 use Rattle.rules.specs.Recent.{none_held}
 use Rattle.rules.specs.Ends.{closed_by}

@@ -6,7 +6,7 @@ use Rattle.rules.specs.declared.Refusal.TheVariants.{BadMicros, BadName, Counter
 use Rattle.rules.specs.Bytes.{written}
 use Rattle.rules.specs.State.{Splicer, link_of, is_open}
 use Rattle.rules.specs.Records.{Record, output}
-use Rattle.rules.specs.Answers.{Answered, answer}
+use Rattle.rules.specs.Answers.{Answered}
 
 -- the table of house numbers
 unfoldable pub house_number : Refusal → ℕ

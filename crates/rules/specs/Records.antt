@@ -1,5 +1,5 @@
 -- 01, Bytes: what is written, each record's bytes with its mark.
-use Rattle.std.specs.Prelude.{List, [], ◌∷◌, ◌++◌, ℕ, ◌+◌, ◌/◌, ◌%◌, length}
+use Rattle.std.specs.Prelude.{List, [], ◌∷◌, ◌++◌, ℕ, ◌/◌, ◌%◌, length}
 use Rattle.rules.specs.Units.{second}
 use Rattle.rules.specs.Bytes.{bytes, padded}
 

@@ -13,7 +13,6 @@ use Rattle.places.specs.Places.{Lot, used, next}
 use Rattle.memory.specs.declared.Which.TheVariants.{Waiting}
 use Rattle.memory.specs.Memory.{from_of, span_of, slot_of, ring_word, sessions}
 use Rattle.memory.proofs.Laws.{lot-at, good-at, room_at, Changed, accepted-at, accepted-now, count_word}
-use borrow.Author.Rules.{rules}
 use Rattle.memory.proofs.accept.Goals as goal
 
 pub insert_at-moves-requires : goal.insert_at-moves-requires

@@ -1,9 +1,9 @@
 use borrow.Author.Rules.{rules}
 use mathlib.Core.Path.{◌≡◌, refl, sym, ap, ◌∙◌}
 use native.Mathlib.Omega.{arith}
-use Prim.Native.Nat.{ℕ, ◌-◌, ◌≤◌}
-use lib.ListN.{length, set, get_or-replicate}
-use lib.Seq.{paste, paste-zero}
+use Prim.Native.Nat.{ℕ}
+use lib.ListN.{set, get_or-replicate}
+use lib.Seq.{paste-zero}
 use Rattle.rules.specs.Hardware.{longest_hardware}
 use Rattle.places.specs.Places.{zeros}
 use Rattle.memory.proofs.Names.{copied, zeroed}

@@ -1,13 +1,10 @@
 -- i zeros are written (`paste`).
-use borrow.Author.Rules.{rules}
-use mathlib.Core.Path.{◌≡◌, refl, sym, ap, ◌∙◌}
-use native.Mathlib.Omega.{arith}
-use Prim.Native.Nat.{ℕ, ◌-◌, ◌≤◌}
-use lib.ListN.{length, set, get_or-replicate}
-use lib.Seq.{paste, paste-zero}
+use mathlib.Core.Path.{◌≡◌}
+use Prim.Native.Nat.{◌-◌, ◌≤◌}
+use lib.ListN.{length}
+use lib.Seq.{paste}
 use Rattle.rules.specs.Hardware.{longest_hardware}
 use Rattle.places.specs.Places.{zeros}
-use Rattle.memory.proofs.Names.{copied, zeroed}
 use Rattle.memory.proofs.clear_kept.Given as goal
 
 abbrev pub invariant-loop-i : goal.invariant-loop-i

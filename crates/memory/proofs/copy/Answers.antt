@@ -1,8 +1,6 @@
 use mathlib.Core.Path.{◌≡◌}
 use native.Mathlib.Omega.{arith}
-use Prim.Native.Nat.{◌-◌, ◌≤◌}
-use lib.ListN.{length}
-use lib.Seq.{paste, paste-zero}
+use lib.Seq.{paste-zero}
 use Rattle.memory.proofs.Names.{copied}
 use borrow.Author.Rules.{rules}
 use Rattle.memory.proofs.copy.Goals as goal

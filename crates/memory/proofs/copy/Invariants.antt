@@ -1,11 +1,8 @@
 -- i bytes are copied (`paste`).
 use mathlib.Core.Path.{◌≡◌}
-use native.Mathlib.Omega.{arith}
 use Prim.Native.Nat.{◌-◌, ◌≤◌}
 use lib.ListN.{length}
-use lib.Seq.{paste, paste-zero}
-use Rattle.memory.proofs.Names.{copied}
-use borrow.Author.Rules.{rules}
+use lib.Seq.{paste}
 use Rattle.memory.proofs.copy.Given as goal
 
 abbrev pub invariant-loop-i : goal.invariant-loop-i

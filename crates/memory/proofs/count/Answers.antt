@@ -2,7 +2,6 @@
 use mathlib.Core.Path.{ap, ◌∙◌}
 use lib.ListN.{get_or}
 use Rattle.memory.proofs.Laws.{counted}
-use borrow.Author.Rules.{rules}
 use Rattle.memory.proofs.count.Goals as goal
 
 pub returns : goal.returns

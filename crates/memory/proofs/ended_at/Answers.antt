@@ -1,5 +1,4 @@
 -- The words of its place are read where they stand, whatever says which is the next.
-use borrow.Author.Rules.{rules}
 use borrow.Author.Tests.{lt-ltb, le-ltb}
 use Rattle.memory.specs.Memory.{ended_in}
 use Rattle.memory.proofs.ended_at.Goals as goal

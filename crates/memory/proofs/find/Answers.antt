@@ -3,7 +3,6 @@ use mathlib.Core.Path.{ap, ◌∙◌}
 use Rattle.rules.specs.Lists.{place}
 use Rattle.places.specs.Places.{Lot, used, key_test}
 use Rattle.memory.proofs.Laws.{lot-at, good-at, ring-at}
-use borrow.Author.Rules.{rules}
 use Rattle.memory.proofs.find.Goals as goal
 
 pub find-requires : goal.find-requires

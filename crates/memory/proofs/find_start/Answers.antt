@@ -5,7 +5,6 @@ use Rattle.rules.specs.Follows.Wires.{Sorted}
 use Rattle.places.specs.Places.{Lot, used, starts_from}
 use Rattle.memory.specs.declared.Which.TheVariants.{Waiting}
 use Rattle.memory.proofs.Laws.{lot-at, good-at, ring-at}
-use borrow.Author.Rules.{rules}
 use Rattle.memory.proofs.find_start.Goals as goal
 
 pub find_from-requires : goal.find_from-requires

@@ -8,7 +8,6 @@ use Rattle.places.specs.Places.{Lot, used}
 use Rattle.memory.specs.declared.Which.TheVariants.{Waiting}
 use Rattle.memory.specs.Memory.{sessions}
 use Rattle.memory.proofs.Laws.{lot-at, good-at, ring-at, first-earliest}
-use borrow.Author.Rules.{rules}
 use Rattle.memory.proofs.first_start.Goals as goal
 
 pub returns-then-n-eq0 : goal.returns-then-n-eq0

@@ -1,6 +1,5 @@
 -- The bytes of the connection are zeros (`forgotten`).
 use Rattle.memory.proofs.Names.{forgotten}
-use borrow.Author.Rules.{rules}
 use Rattle.memory.proofs.forget.Goals as goal
 
 pub returns : goal.returns

@@ -5,7 +5,6 @@ use Rattle.rules.specs.State.{empty}
 use Rattle.places.specs.Places.{Lot, used}
 use lib.ListN.{get_or}
 use Rattle.memory.proofs.Laws.{lot-at, good-at, ring-at}
-use borrow.Author.Rules.{rules}
 use Rattle.memory.proofs.id_at.Goals as goal
 
 pub id_at-requires : goal.id_at-requires

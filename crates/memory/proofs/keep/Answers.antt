@@ -1,6 +1,5 @@
 -- The bytes of the connection hold the structure (`kept-now`).
 use Rattle.memory.proofs.Names.{kept-now}
-use borrow.Author.Rules.{rules}
 use Rattle.memory.proofs.keep.Goals as goal
 
 pub returns : goal.returns

@@ -1,6 +1,5 @@
 -- All 256 of them (`kept-part`).
 use Rattle.memory.proofs.Names.{kept-part}
-use borrow.Author.Rules.{rules}
 use Rattle.memory.proofs.kept.Goals as goal
 
 pub returns : goal.returns

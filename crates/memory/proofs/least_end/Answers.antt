@@ -8,7 +8,6 @@ use Rattle.places.specs.Places.{Lot, used, least_end}
 use Rattle.memory.specs.declared.Which.TheVariants.{Started}
 use Rattle.memory.specs.Memory.{sessions}
 use Rattle.memory.proofs.Laws.{lot-at, good-at, least-within, least-earliest}
-use borrow.Author.Rules.{rules}
 use Rattle.memory.proofs.least_end.Goals as goal
 
 pub returns-then-n-eq0 : goal.returns-then-n-eq0

@@ -1,7 +1,6 @@
 -- The word behind the first link is that of the connection (`link_at`).
 use mathlib.Core.Path.{◌∙◌}
 use Rattle.memory.proofs.Laws.{link_at}
-use borrow.Author.Rules.{rules}
 use Rattle.memory.proofs.link.Goals as goal
 
 pub returns : goal.returns

@@ -6,7 +6,6 @@ use Rattle.rules.specs.State.{empty}
 use Rattle.places.specs.Places.{Lot, used}
 use Rattle.memory.specs.declared.Which.TheVariants.{Started}
 use Rattle.memory.proofs.Laws.{lot-at, good-at}
-use borrow.Author.Rules.{rules}
 use Rattle.memory.proofs.mux_at.Goals as goal
 
 pub mux_at-requires : goal.mux_at-requires

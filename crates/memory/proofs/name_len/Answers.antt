@@ -1,8 +1,5 @@
 use native.Mathlib.Omega.{arith}
-use Prim.Native.Nat.{◌-◌}
-use lib.ListN.{length}
-use Rattle.memory.proofs.Names.{Passed, passed-more, passed-zero, passed-all}
-use borrow.Author.Rules.{rules}
+use Rattle.memory.proofs.Names.{passed-more, passed-zero, passed-all}
 use Rattle.memory.proofs.name_len.Goals as goal
 
 pub loop-i-init : goal.loop-i-init

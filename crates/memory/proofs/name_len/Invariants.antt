@@ -1,9 +1,7 @@
 -- No zero has been passed (`Passed`), so the name goes on.
-use native.Mathlib.Omega.{arith}
 use Prim.Native.Nat.{◌-◌}
 use lib.ListN.{length}
-use Rattle.memory.proofs.Names.{Passed, passed-more, passed-zero, passed-all}
-use borrow.Author.Rules.{rules}
+use Rattle.memory.proofs.Names.{Passed}
 use Rattle.memory.proofs.name_len.Given as goal
 
 abbrev pub invariant-loop-i : goal.invariant-loop-i

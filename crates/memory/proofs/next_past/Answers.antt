@@ -1,8 +1,6 @@
 -- The word of the next place is read where it stands (`next_word_lem`).
-use mathlib.Core.Path.{◌≡◌}
 use native.Mathlib.Omega.{arith}
 use Rattle.memory.proofs.Laws.{next_word_lem}
-use borrow.Author.Rules.{rules}
 use Rattle.memory.proofs.next_past.Goals as goal
 
 pub returns : goal.returns

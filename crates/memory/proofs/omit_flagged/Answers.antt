@@ -12,7 +12,6 @@ use Rattle.places.specs.Places.{Lot, used, flagged, unflagged, Unflagged}
 use Rattle.memory.specs.declared.Which.TheVariants.{Waiting}
 use Rattle.memory.specs.Memory.{from_of, span_of, slot_of, sessions}
 use Rattle.memory.proofs.Laws.{lot-at, good-at, ring-at, Changed, changed-at, count_word, less-waits, less-now}
-use borrow.Author.Rules.{rules}
 use Rattle.memory.proofs.omit_flagged.Goals as goal
 
 pub omit_flagged-requires : goal.omit_flagged-requires

@@ -11,7 +11,6 @@ use Rattle.rules.specs.State.{of}
 use Rattle.places.specs.Places.{Lot, used}
 use Rattle.memory.specs.Memory.{sessions}
 use Rattle.memory.proofs.Laws.{lot-at, good-at, ring-at, Changed, changed-at, started-now, omitted-now}
-use borrow.Author.Rules.{rules}
 use Rattle.memory.proofs.omit_of.Goals as goal
 
 pub omit_of-requires : goal.omit_of-requires

@@ -7,7 +7,6 @@ use Rattle.rules.specs.Instants.{on_air}
 use Rattle.places.specs.Places.{Lot, used}
 use Rattle.memory.specs.declared.Which.TheVariants.{Started}
 use Rattle.memory.proofs.Laws.{lot-at, good-at, replaced-now}
-use borrow.Author.Rules.{rules}
 use Rattle.memory.proofs.play.Goals as goal
 
 pub play-requires : goal.play-requires

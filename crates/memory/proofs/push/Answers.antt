@@ -6,7 +6,6 @@ use native.Mathlib.Omega.{arith}
 use Rattle.places.specs.Places.{Lot, used}
 use Rattle.memory.specs.declared.Which.TheVariants.{Started}
 use Rattle.memory.proofs.Laws.{lot-at, good-at, room_at, changed-at, started-now}
-use borrow.Author.Rules.{rules}
 use Rattle.memory.proofs.push.Goals as goal
 
 pub push-requires : goal.push-requires

@@ -3,7 +3,6 @@ use mathlib.Core.Path.{ap, ◌∙◌}
 use lib.ListN.{length}
 use lib.Seq.{paste}
 use Rattle.memory.proofs.Names.{spread-over}
-use borrow.Author.Rules.{rules}
 use Rattle.memory.proofs.put_kept.Goals as goal
 
 pub returns : goal.returns

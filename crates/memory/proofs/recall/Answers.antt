@@ -1,12 +1,10 @@
 use mathlib.Core.Path.{◌≡◌, sym, ap, ◌∙◌}
 use mathlib.Core.Bool.{true, false}
-use Prim.Native.Nat.{◌-◌}
 use native.Mathlib.Omega.{arith}
-use Rattle.rules.specs.Recent.{most_kept, recent_at}
+use Rattle.rules.specs.Recent.{recent_at}
 use Rattle.rules.specs.Answers.{is_past}
-use Rattle.rules.proofs.Recall.{Seeking, seek-none, seek-more, seek_hit, seek-out}
+use Rattle.rules.proofs.Recall.{seek-none, seek-more, seek_hit, seek-out}
 use Rattle.memory.specs.Memory.{see}
-use borrow.Author.Rules.{rules}
 use Rattle.memory.proofs.recall.Goals as goal
 
 pub loop-i-init : goal.loop-i-init

@@ -1,8 +1,6 @@
 -- The words of its place are read where they stand (`recent-word`).
 use mathlib.Core.Path.{◌∙◌}
-use native.Mathlib.Omega.{arith}
 use Rattle.memory.proofs.Laws.{recent-word}
-use borrow.Author.Rules.{rules}
 use Rattle.memory.proofs.recent_at.Goals as goal
 
 pub returns : goal.returns

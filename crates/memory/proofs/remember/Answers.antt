@@ -5,7 +5,6 @@ use native.Mathlib.Omega.{arith}
 use lib.ListN.{length-set}
 use Rattle.memory.specs.Memory.{first_past, past_width}
 use Rattle.memory.proofs.Laws.{remembered-now}
-use borrow.Author.Rules.{rules}
 use Rattle.memory.proofs.remember.Goals as goal
 
 pub bounds-m-b-2 : goal.bounds-m-b-2

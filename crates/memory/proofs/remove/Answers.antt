@@ -11,7 +11,6 @@ use Rattle.places.specs.Places.{Lot, used}
 use Rattle.memory.specs.Memory.{sessions}
 use Rattle.memory.proofs.Laws.{lot-at, good-at, ring-at, Changed, changed-at, started-now, one-of-four, one-waits, removed-now}
 use Rattle.memory.proofs.Laws.{count_word}
-use borrow.Author.Rules.{rules}
 use Rattle.memory.proofs.remove.Goals as goal
 
 pub remove_at-requires : goal.remove_at-requires

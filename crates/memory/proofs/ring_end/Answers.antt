@@ -2,7 +2,6 @@
 use mathlib.Core.Path.{sym, ap}
 use Rattle.memory.specs.declared.Which.{Which}
 use Rattle.memory.specs.Memory.{ring_of}
-use borrow.Author.Rules.{rules}
 use Rattle.memory.proofs.ring_end.Goals as goal
 
 pub returns-in-Waiting : goal.returns-in-Waiting

@@ -1,6 +1,5 @@
 -- All else shows as before (`timed-now`).
 use Rattle.memory.proofs.Laws.{timed-now}
-use borrow.Author.Rules.{rules}
 use Rattle.memory.proofs.set_clock.Goals as goal
 
 pub returns : goal.returns

@@ -1,6 +1,5 @@
 -- All else shows as before (`linked-now`).
 use Rattle.memory.proofs.Laws.{linked-now}
-use borrow.Author.Rules.{rules}
 use Rattle.memory.proofs.set_link.Goals as goal
 
 pub returns : goal.returns

@@ -1,6 +1,5 @@
 -- All else shows as before (`silenced-now`).
 use Rattle.memory.proofs.Laws.{silenced-now}
-use borrow.Author.Rules.{rules}
 use Rattle.memory.proofs.silence.Goals as goal
 
 pub returns : goal.returns

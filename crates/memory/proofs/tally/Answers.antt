@@ -1,7 +1,6 @@
 -- The four words are the counts (`counts-read`).
 use mathlib.Core.Path.{◌∙◌}
 use Rattle.memory.proofs.Laws.{counts-read}
-use borrow.Author.Rules.{rules}
 use Rattle.memory.proofs.tally.Goals as goal
 
 pub returns : goal.returns

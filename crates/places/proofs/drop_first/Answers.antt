@@ -1,8 +1,8 @@
 use native.Mathlib.Omega.{arith}
 use borrow.Author.Rules.{rules}
 use mathlib.Core.Path.{◌≡◌, refl, ap, subst, ◌∙◌}
-use Prim.Native.Nat.{ℕ, ◌+◌, ◌-◌, ◌≤◌}
-use lib.ListN.{length, drop}
+use Prim.Native.Nat.{ℕ, ◌+◌, ◌-◌}
+use lib.ListN.{drop}
 use Rattle.rules.specs.Lists.{remove_at}
 use Rattle.places.specs.Places.{capacity, lot, used, Made}
 use Rattle.places.proofs.Ring.{ring-same}
@@ -16,8 +16,12 @@ loop-i-init c =
 
 pub remove_at-requires : goal.remove_at-requires
 remove_at-requires c =
-    let l = c.loop-i in record { good = l.invariant.2.good; ring = ring-same (capacity c.args.q.now) (capacity l.q) c.args.ring_end
-        c.requires.ring (omega arith); at_lt_n = omega arith }
+    let l = c.loop-i in record {
+      good = l.invariant.2.good;
+      ring = ring-same (capacity c.args.q.now) (capacity l.q) c.args.ring_end
+          c.requires.ring (omega arith);
+      at_lt_n = omega arith;
+    }
 
 pub loop-i-preserved : goal.loop-i-preserved
 loop-i-preserved c =

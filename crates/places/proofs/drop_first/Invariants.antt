@@ -1,13 +1,8 @@
 -- The first goes, again and again (`remove_at-drop`).
-use native.Mathlib.Omega.{arith}
-use borrow.Author.Rules.{rules}
-use mathlib.Core.Path.{◌≡◌, refl, ap, subst, ◌∙◌}
-use Prim.Native.Nat.{ℕ, ◌+◌, ◌-◌, ◌≤◌}
+use mathlib.Core.Path.{◌≡◌}
+use Prim.Native.Nat.{◌-◌, ◌≤◌}
 use lib.ListN.{length, drop}
-use Rattle.rules.specs.Lists.{remove_at}
-use Rattle.places.specs.Places.{capacity, lot, used, Made}
-use Rattle.places.proofs.Ring.{ring-same}
-use Rattle.places.proofs.Laws.{remove_at-drop}
+use Rattle.places.specs.Places.{lot, used, Made}
 use Rattle.places.proofs.drop_first.Given as goal
 
 abbrev pub invariant-loop-i : goal.invariant-loop-i

@@ -1,11 +1,9 @@
 use native.Mathlib.Omega.{arith}
-use mathlib.Core.Path.{◌≡◌, sym, ap, ◌∙◌}
-use Prim.Native.Nat.{◌+◌, ◌-◌, ◌*◌, ◌%◌}
+use mathlib.Core.Path.{sym, ap, ◌∙◌}
 use Rattle.rules.specs.State.{empty}
-use Rattle.places.specs.Places.{width, capacity, round, lot, key_test}
+use Rattle.places.specs.Places.{capacity, lot, key_test}
 use Rattle.places.proofs.Ring.{ring-small}
-use Rattle.places.proofs.Laws.{used-fits, slot_row, slot-place, Sought, sought-none, sought-more, sought-hit, sought-out}
-use borrow.Author.Rules.{rules}
+use Rattle.places.proofs.Laws.{used-fits, slot_row, slot-place, sought-none, sought-more, sought-hit, sought-out}
 use Rattle.places.proofs.find.Goals as goal
 
 pub overflow_sub-b : goal.overflow_sub-b

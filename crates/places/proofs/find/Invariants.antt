@@ -1,12 +1,8 @@
 -- No place before `at` passes the test, and the rest decides (`Sought`); b is the first word of the place `at`.
-use native.Mathlib.Omega.{arith}
-use mathlib.Core.Path.{◌≡◌, sym, ap, ◌∙◌}
+use mathlib.Core.Path.{◌≡◌}
 use Prim.Native.Nat.{◌+◌, ◌-◌, ◌*◌, ◌%◌}
-use Rattle.rules.specs.State.{empty}
 use Rattle.places.specs.Places.{width, capacity, round, lot, key_test}
-use Rattle.places.proofs.Ring.{ring-small}
-use Rattle.places.proofs.Laws.{used-fits, slot_row, slot-place, Sought, sought-none, sought-more, sought-hit, sought-out}
-use borrow.Author.Rules.{rules}
+use Rattle.places.proofs.Laws.{Sought}
 use Rattle.places.proofs.find.Given as goal
 
 abbrev pub invariant-loop-at : goal.invariant-loop-at

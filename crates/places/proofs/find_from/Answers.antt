@@ -1,10 +1,9 @@
 use native.Mathlib.Omega.{arith}
 use mathlib.Core.Path.{subst}
-use Prim.Native.Nat.{◌-◌, ◌≤◌, ◌<◌}
+use Prim.Native.Nat.{◌≤◌, ◌<◌}
 use Rattle.rules.specs.declared.Ninths.{Ninths}
 use Rattle.places.specs.Places.{lot}
-use Rattle.places.proofs.Laws.{Halved, halved-all, halved-low, halved-high}
-use borrow.Author.Rules.{rules}
+use Rattle.places.proofs.Laws.{halved-all, halved-low, halved-high}
 use Rattle.places.proofs.find_from.Goals as goal
 
 pub loop-low-init : goal.loop-low-init

@@ -1,11 +1,7 @@
 -- The place lies between `low` and `high` (`Halved`), and the middle one decides which half is next.
-use native.Mathlib.Omega.{arith}
-use mathlib.Core.Path.{subst}
-use Prim.Native.Nat.{◌-◌, ◌≤◌, ◌<◌}
-use Rattle.rules.specs.declared.Ninths.{Ninths}
+use Prim.Native.Nat.{◌-◌}
 use Rattle.places.specs.Places.{lot}
-use Rattle.places.proofs.Laws.{Halved, halved-all, halved-low, halved-high}
-use borrow.Author.Rules.{rules}
+use Rattle.places.proofs.Laws.{Halved}
 use Rattle.places.proofs.find_from.Given as goal
 
 abbrev pub invariant-loop-low : goal.invariant-loop-low

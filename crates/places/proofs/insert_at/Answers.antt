@@ -1,13 +1,12 @@
 use native.Mathlib.Omega.{arith}
 use mathlib.Core.Path.{◌≡◌, refl, ap, ◌∙◌}
-use Prim.Native.Nat.{ℕ, ◌+◌, ◌-◌, ◌*◌, ◌%◌, ◌≤◌}
-use lib.ListN.{length, drop}
-use Rattle.rules.specs.Lists.{insert_at, remove_at}
-use Rattle.places.specs.Places.{width, capacity, places, spare, round, turned, next, lot}
+use Prim.Native.Nat.{ℕ, ◌+◌, ◌-◌, ◌*◌, ◌%◌}
+use lib.ListN.{drop}
+use Rattle.rules.specs.Lists.{insert_at}
+use Rattle.places.specs.Places.{width, capacity, places, round, turned, next, lot}
 use Rattle.places.proofs.Words.{length-places}
 use Rattle.places.proofs.Ring.{size, ring-next, row_of, fills, shifts, turned_taken}
 use Rattle.places.proofs.Laws.{insert-made}
-use borrow.Author.Rules.{rules}
 use Rattle.places.proofs.insert_at.Goals as goal
 
 pub loop-moves-init : goal.loop-moves-init
@@ -22,8 +21,11 @@ read_row-y-requires c =
 pub write_row-requires : goal.write_row-requires
 write_row-requires c =
     let l = c.loop-moves in
-    let e = c.args.ring_end in record { row = row_of l.q (next e) (round - 1 - l.moves) l.hole (ring-next (capacity l.q) e (omega arith))
-        (omega arith) l.invariant.1; narrow = c.read_row-y.ensures.narrow }
+    let e = c.args.ring_end in record {
+      row = row_of l.q (next e) (round - 1 - l.moves) l.hole (ring-next (capacity l.q) e (omega arith))
+          (omega arith) l.invariant.1;
+      narrow = c.read_row-y.ensures.narrow;
+    }
 
 pub loop-moves-smaller : goal.loop-moves-smaller
 loop-moves-smaller c = omega arith
@@ -42,8 +44,11 @@ loop-moves-preserved c =
 pub write_row-requires-2 : goal.write_row-requires-2
 write_row-requires-2 c =
     let l = c.loop-moves in
-    let e = c.args.ring_end in record { row = row_of l.q (next e) (round - 1 - l.moves) l.hole (ring-next (capacity l.q) e (omega arith))
-        (omega arith) l.invariant.1; narrow = c.requires.narrow }
+    let e = c.args.ring_end in record {
+      row = row_of l.q (next e) (round - 1 - l.moves) l.hole (ring-next (capacity l.q) e (omega arith))
+          (omega arith) l.invariant.1;
+      narrow = c.requires.narrow;
+    }
 
 pub returns : goal.returns
 returns c =

@@ -1,10 +1,8 @@
 use native.Mathlib.Omega.{arith}
 use mathlib.Core.Path.{sym, ap, subst}
-use mathlib.Core.Logic.{⊎_elim}
-use Prim.Native.Nat.{ℕ, ◌+◌, ◌-◌, ◌<◌}
+use Prim.Native.Nat.{ℕ, ◌+◌, ◌<◌}
 use lib.ListN.{length}
 use Rattle.rules.specs.declared.Ninths.{Ninths}
-use borrow.Author.Rules.{rules}
 use Rattle.places.specs.Places.{lot, used}
 use Rattle.places.proofs.Laws.{length-used, Leading, leading-none, leading-next, leading-stays, leading-out}
 use Rattle.places.proofs.least_end.Goals as goal

@@ -2,7 +2,6 @@
 use mathlib.Core.Path.{◌∙◌}
 use Rattle.rules.specs.State.{empty}
 use Rattle.places.proofs.Laws.{slot-within, slot_read, used-fits}
-use borrow.Author.Rules.{rules}
 use Rattle.places.proofs.load.Goals as goal
 
 pub overflow_sub-free : goal.overflow_sub-free

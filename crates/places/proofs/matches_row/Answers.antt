@@ -7,7 +7,6 @@ use lib.ListN.{get_or}
 use borrow.Author.Tests.{eq-eqb, ne_eqb}
 use Rattle.rules.specs.State.{empty, is, follows}
 use Rattle.places.proofs.Words.{load_is}
-use borrow.Author.Rules.{rules}
 use Rattle.places.proofs.matches_row.Goals as goal
 
 -- the second test is made first

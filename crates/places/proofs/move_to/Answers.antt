@@ -6,7 +6,6 @@ use lib.Seq.{set-get_or}
 use Rattle.rules.specs.State.{empty}
 use Rattle.places.specs.Places.{capacity, turned, places, lot, used}
 use Rattle.places.proofs.Laws.{used-fits, slot-within, slot_read, slot-set}
-use borrow.Author.Rules.{rules}
 use Rattle.places.proofs.move_to.Goals as goal
 
 pub returns-then-from-to : goal.returns-then-from-to
@@ -23,12 +22,19 @@ pub overflow_sub-free : goal.overflow_sub-free
 overflow_sub-free c = used-fits c.args.q.now c.args.ring_end c.args.n c.requires.good
 
 pub read_at-x-requires : goal.read_at-x-requires
-read_at-x-requires c = record { ring = c.requires.ring; i_bound = slot-within c.args.q.now c.args.ring_end c.args.n c.args.from
-    c.requires.good c.requires.from_lt_n.0 }
+read_at-x-requires c = record {
+  ring = c.requires.ring;
+  i_bound = slot-within c.args.q.now c.args.ring_end c.args.n c.args.from
+      c.requires.good c.requires.from_lt_n.0;
+}
 
 pub write_at-requires : goal.write_at-requires
-write_at-requires c = record { ring = c.requires.ring; i_bound = slot-within c.args.q.now c.args.ring_end c.args.n c.args.to
-    c.requires.good c.requires.from_lt_n.1; narrow = c.read_at-x.ensures.narrow }
+write_at-requires c = record {
+  ring = c.requires.ring;
+  i_bound = slot-within c.args.q.now c.args.ring_end c.args.n c.args.to
+      c.requires.good c.requires.from_lt_n.1;
+  narrow = c.read_at-x.ensures.narrow;
+}
 
 pub returns : goal.returns
 returns c =

@@ -2,7 +2,6 @@
 use mathlib.Core.Path.{refl, ap}
 use native.Mathlib.Omega.{arith}
 use Rattle.places.proofs.Laws.{used-fits, slot-within, flat-row, flat_word}
-use borrow.Author.Rules.{rules}
 use Rattle.places.proofs.mux_at.Goals as goal
 
 pub overflow_sub-b : goal.overflow_sub-b

@@ -4,12 +4,12 @@ use borrow.Author.Tests.{eq-eqb, ne_eqb}
 use mathlib.Core.Path.{◌≡◌, refl, sym, subst, ◌∙◌}
 use mathlib.Core.Bool.{true, false}
 use Prim.Native.Nat.{ℕ, ◌-◌}
-use lib.ListN.{length, get_or}
+use lib.ListN.{get_or}
 use Rattle.rules.specs.Lists.{omit}
 use Rattle.rules.specs.State.{empty, of}
-use Rattle.places.specs.Places.{capacity, lot, used, spare, Made}
+use Rattle.places.specs.Places.{capacity, lot, used, Made}
 use Rattle.places.proofs.Ring.{ring-same}
-use Rattle.places.proofs.Laws.{stay-fits, Omitting, omitting-none, omitting-goes, omitting-stays, omitting-ahead, omitting-done}
+use Rattle.places.proofs.Laws.{stay-fits, omitting-none, omitting-goes, omitting-stays, omitting-ahead, omitting-done}
 use Rattle.places.proofs.omit_of.Goals as goal
 
 pub loop-to-init : goal.loop-to-init
@@ -48,9 +48,11 @@ move_to-requires c =
     }
 
 pub loop-to-smaller-then-conn-conn_at : goal.loop-to-smaller-then-conn-conn_at
-loop-to-smaller-then-conn-conn_at c = omega
-    (arith, (let l = c.loop-to in omitting-ahead (of c.args.conn) _ (lot l.q c.args.ring_end c.args.n) l.i l.to c.args.left l.invariant.0
-        c.requires.left_value (omega (arith, l.invariant.0.ahead))))
+loop-to-smaller-then-conn-conn_at c = omega (
+  arith,
+  (let l = c.loop-to in omitting-ahead (of c.args.conn) _ (lot l.q c.args.ring_end c.args.n) l.i l.to c.args.left l.invariant.0
+      c.requires.left_value (omega (arith, l.invariant.0.ahead))),
+)
 
 pub loop-to-preserved-then-conn-conn_at : goal.loop-to-preserved-then-conn-conn_at
 loop-to-preserved-then-conn-conn_at c =
@@ -58,7 +60,7 @@ loop-to-preserved-then-conn-conn_at c =
     let v = c.loop-to.invariant.0 in
     let m = c.move_to.ensures in
     let a = (let l = c.loop-to in omitting-ahead (of c.args.conn) _ (lot l.q c.args.ring_end c.args.n) l.i l.to c.args.left l.invariant.0
-        c.requires.left_value (omega (arith, l.invariant.0.ahead))) in
+    c.requires.left_value (omega (arith, l.invariant.0.ahead))) in
     let d : of c.args.conn (get_or (used (lot l.q c.args.ring_end c.args.n)) (l.i - 1) empty) ≡ false =
     ne_eqb _ _ (λ e. c.if-conn-conn_at.true (e ∙ sym c.conn_at.ensures))
     in (
@@ -70,14 +72,17 @@ loop-to-preserved-then-conn-conn_at c =
     )
 
 pub loop-to-smaller : goal.loop-to-smaller
-loop-to-smaller c = omega (arith, (let l = c.loop-to in omitting-ahead (of c.args.conn) _ (lot l.q c.args.ring_end c.args.n) l.i l.to
-    c.args.left l.invariant.0 c.requires.left_value (omega (arith, l.invariant.0.ahead))))
+loop-to-smaller c = omega (
+  arith,
+  (let l = c.loop-to in omitting-ahead (of c.args.conn) _ (lot l.q c.args.ring_end c.args.n) l.i l.to
+      c.args.left l.invariant.0 c.requires.left_value (omega (arith, l.invariant.0.ahead))),
+)
 
 pub loop-to-preserved : goal.loop-to-preserved
 loop-to-preserved c =
     let l = c.loop-to in
     let a = (let l = c.loop-to in omitting-ahead (of c.args.conn) _ (lot l.q c.args.ring_end c.args.n) l.i l.to c.args.left l.invariant.0
-        c.requires.left_value (omega (arith, l.invariant.0.ahead))) in
+    c.requires.left_value (omega (arith, l.invariant.0.ahead))) in
     let d : of c.args.conn (get_or (used (lot l.q c.args.ring_end c.args.n)) (l.i - 1) empty) ≡ true =
     eq-eqb _ _ (c.if-conn-conn_at.false ∙ c.conn_at.ensures) in (
       omitting-goes _ _ (lot l.q c.args.ring_end c.args.n) l.i l.to (l.i - 1) l.invariant.0 (omega (arith, a)) d,
@@ -86,8 +91,11 @@ loop-to-preserved c =
     )
 
 pub overflow_sub-n-2 : goal.overflow_sub-n-2
-overflow_sub-n-2 c = omega (arith, (stay-fits (of c.args.conn) (lot c.args.q.now c.args.ring_end c.args.n) c.args.left c.requires.good
-    c.requires.left_value))
+overflow_sub-n-2 c = omega (
+  arith,
+  (stay-fits (of c.args.conn) (lot c.args.q.now c.args.ring_end c.args.n) c.args.left c.requires.good
+      c.requires.left_value),
+)
 
 pub drop_first-requires : goal.drop_first-requires
 drop_first-requires c =

@@ -1,17 +1,10 @@
 -- One turn of `Omitting`: the session before i goes, or stands right before those that stay; where all that stay stand there
 -- (`omitting-done`), `drop_first` clears.
-use native.Mathlib.Omega.{arith}
-use borrow.Author.Rules.{rules}
-use borrow.Author.Tests.{eq-eqb, ne_eqb}
-use mathlib.Core.Path.{◌≡◌, refl, sym, subst, ◌∙◌}
-use mathlib.Core.Bool.{true, false}
-use Prim.Native.Nat.{ℕ, ◌-◌}
-use lib.ListN.{length, get_or}
-use Rattle.rules.specs.Lists.{omit}
-use Rattle.rules.specs.State.{empty, of}
-use Rattle.places.specs.Places.{capacity, lot, used, spare, Made}
-use Rattle.places.proofs.Ring.{ring-same}
-use Rattle.places.proofs.Laws.{stay-fits, Omitting, omitting-none, omitting-goes, omitting-stays, omitting-ahead, omitting-done}
+use mathlib.Core.Path.{◌≡◌}
+use lib.ListN.{length}
+use Rattle.rules.specs.State.{of}
+use Rattle.places.specs.Places.{lot, used, spare}
+use Rattle.places.proofs.Laws.{Omitting}
 use Rattle.places.proofs.omit_of.Given as goal
 
 abbrev pub invariant-loop-to : goal.invariant-loop-to

@@ -4,7 +4,6 @@ use native.Mathlib.Omega.{arith}
 use Prim.Native.Nat.{◌-◌, ◌*◌}
 use Rattle.places.specs.Places.{width, capacity}
 use Rattle.places.proofs.Laws.{used-fits, flat_word, play-made}
-use borrow.Author.Rules.{rules}
 use Rattle.places.proofs.play.Goals as goal
 
 pub overflow_sub-b : goal.overflow_sub-b

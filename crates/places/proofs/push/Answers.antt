@@ -4,7 +4,6 @@ use Prim.Native.Nat.{◌-◌}
 use Rattle.places.specs.Places.{capacity, lot}
 use Rattle.places.proofs.Ring.{size, flat-set}
 use Rattle.places.proofs.Laws.{push-made}
-use borrow.Author.Rules.{rules}
 use Rattle.places.proofs.push.Goals as goal
 
 pub returns : goal.returns

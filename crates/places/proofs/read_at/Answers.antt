@@ -4,7 +4,6 @@ use mathlib.Core.Path.{refl, ◌∙◌}
 use Rattle.rules.specs.State.{empty}
 use Rattle.places.specs.Places.{capacity}
 use Rattle.places.proofs.Ring.{ring-small, row_of, row_read}
-use borrow.Author.Rules.{rules}
 use Rattle.places.proofs.read_at.Goals as goal
 
 pub overflow_add-ring_end : goal.overflow_add-ring_end

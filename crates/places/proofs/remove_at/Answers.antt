@@ -1,10 +1,9 @@
 use native.Mathlib.Omega.{arith}
 use mathlib.Core.Path.{◌≡◌, refl, ap, ◌∙◌}
-use Prim.Native.Nat.{ℕ, ◌+◌, ◌-◌, ◌*◌, ◌%◌, ◌≤◌}
-use lib.ListN.{length}
+use Prim.Native.Nat.{ℕ, ◌+◌, ◌-◌, ◌*◌, ◌%◌}
 use Rattle.rules.specs.Lists.{insert_at, remove_at}
 use Rattle.rules.specs.State.{empty}
-use Rattle.places.specs.Places.{width, capacity, places, spare, round, turned, Ring, lot}
+use Rattle.places.specs.Places.{width, capacity, places, round, turned, lot}
 use Rattle.places.proofs.Ring.{size, ring-small, ring-same, row_of, fills, shifts}
 use Rattle.places.proofs.Laws.{used-fits, slot-within, remove-made}
 use borrow.Author.Rules.{rules}
@@ -51,9 +50,15 @@ loop-left-preserved c =
     let w = c.write_row.ensures in
     let t = shifts l.q e (k + (l.left - 1)) (k + l.left) a l.hole l.invariant.5 (omega arith)
     (omega (arith, slot-within c.args.q.now c.args.ring_end c.args.n c.args.at c.requires.good c.requires.at_lt_n))
-    (omega arith) l.invariant.1 _ _ c.read_row-y.ensures.is w.list in
-    (omega arith, omega arith, omega arith, t ∙ l.invariant.3, w.rest ∙ l.invariant.4, ring-same (capacity l.q) _ e l.invariant.5
-        (omega arith))
+    (omega arith) l.invariant.1 _ _ c.read_row-y.ensures.is w.list in (
+      omega arith,
+      omega arith,
+      omega arith,
+      t ∙ l.invariant.3,
+      w.rest ∙ l.invariant.4,
+      ring-same (capacity l.q) _ e l.invariant.5
+          (omega arith),
+    )
 
 pub write_row-requires-2 : goal.write_row-requires-2
 write_row-requires-2 c =

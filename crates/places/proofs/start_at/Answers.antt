@@ -4,7 +4,6 @@ use native.Mathlib.Omega.{arith}
 use Rattle.places.specs.Places.{capacity}
 use Rattle.places.proofs.Ring.{ring-small}
 use Rattle.places.proofs.Laws.{used-fits, slot-within, slot_row, slot-word}
-use borrow.Author.Rules.{rules}
 use Rattle.places.proofs.start_at.Goals as goal
 
 pub overflow_sub-b : goal.overflow_sub-b

@@ -3,7 +3,6 @@ use native.Mathlib.Omega.{arith}
 use mathlib.Core.Path.{refl, ap, ◌∙◌}
 use Rattle.places.specs.Places.{capacity, turned}
 use Rattle.places.proofs.Ring.{ring-small, row_of, row-set}
-use borrow.Author.Rules.{rules}
 use Rattle.places.proofs.write_at.Goals as goal
 
 pub overflow_add-ring_end : goal.overflow_add-ring_end

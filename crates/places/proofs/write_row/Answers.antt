@@ -2,7 +2,6 @@
 use native.Mathlib.Omega.{arith}
 use lib.ListN.{length-set}
 use Rattle.places.proofs.Words.{store_is, store-spare}
-use borrow.Author.Rules.{rules}
 use Rattle.places.proofs.write_row.Goals as goal
 
 pub bounds-q-b-2 : goal.bounds-q-b-2
@@ -31,5 +30,8 @@ shape_of-q c = simp length-set
 
 pub returns : goal.returns
 returns c =
-    let a = c.args in record { list = store_is a.q.now a.b a.x (c.requires.narrow.overrides, c.requires.narrow.mux) c.requires.row; rest
-        = store-spare a.q.now a.b a.x c.requires.row }
+    let a = c.args in record {
+      list = store_is a.q.now a.b a.x (c.requires.narrow.overrides, c.requires.narrow.mux) c.requires.row;
+      rest
+          = store-spare a.q.now a.b a.x c.requires.row;
+    }

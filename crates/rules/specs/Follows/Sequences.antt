@@ -1,8 +1,7 @@
 -- Sequences of calls and of the rolling card's, and what these amount to.
-use Rattle.std.specs.Prelude.{List, [], ◌∷◌, ◌++◌, ◌≡◌, ℕ, ◌+◌, ◌<◌, length}
+use Rattle.std.specs.Prelude.{List, [], ◌∷◌, ◌++◌, ◌≡◌, ℕ, ◌<◌, length}
 use Rattle.rules.specs.Lists.{All}
 use Rattle.rules.specs.State.{Splicer}
-use Rattle.rules.specs.Answers.{answer}
 use Rattle.rules.specs.HouseNumbers.{Answer}
 use Rattle.rules.specs.Calls.{fresh, Call, opens, closes, messages, ticks, moves, cues, call}
 use Rattle.rules.specs.Rolling.{none, Rolling, Rolled, rollover, Course, refuses, brings, instant_course, reading_course, RollingCall}

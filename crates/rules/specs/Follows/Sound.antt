@@ -10,7 +10,7 @@ use Rattle.rules.specs.Hardware.{length_in, longest_hardware}
 use Rattle.rules.specs.Request.{nobody}
 use Rattle.rules.specs.Records.{Record, General, InitResponse, AliveResponse, SpliceResponse, AbortResponse, ConfigResponse}
 use Rattle.rules.specs.Records.{ExtendedFound, ExtendedNone, SpliceComplete, CueRequest, result_of}
-use Rattle.rules.specs.Splicing.{waits, sum_of, later}
+use Rattle.rules.specs.Splicing.{waits, sum_of}
 use Rattle.rules.specs.Calls.{fresh, Call, opens, closes, messages, ticks, moves, cues, after}
 use Rattle.rules.specs.Follows.Wires.{Byte, NoZero, Sorted}
 

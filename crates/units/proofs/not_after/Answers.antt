@@ -1,7 +1,6 @@
 -- Whether it is At decides, and then the order of the two times.
 use mathlib.Core.Path.{sym, ap, ◌∙◌}
 use native.Mathlib.Omega.{arith}
-use borrow.Author.Rules.{rules}
 use Rattle.rules.specs.State.{not_after}
 use Rattle.rules.proofs.Tick.{not_after-at, not_after-none}
 use Rattle.units.proofs.not_after.Goals as goal

@@ -1,7 +1,6 @@
 -- Which of the two is At decides, and then the order of the times.
 use mathlib.Core.Path.{sym, ap₂, ◌∙◌}
 use native.Mathlib.Omega.{arith}
-use borrow.Author.Rules.{rules}
 use Rattle.rules.specs.State.{sooner}
 use Rattle.rules.proofs.Tick.{sooner-first, sooner-second}
 use Rattle.units.proofs.sooner.Goals as goal

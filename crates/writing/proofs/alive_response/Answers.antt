@@ -1,7 +1,6 @@
 -- `alive_response` meets its contract: the header and three parts of data (`row_next`), which are the record (`alive-parts`).
 use native.Mathlib.Omega.{arith}
 use Rattle.writing.proofs.Parts.{alive-parts, length-time, row-bytes, row-header, row_next, row_wrote}
-use borrow.Author.Rules.{rules}
 use Rattle.writing.proofs.alive_response.Goals as goal
 
 pub returns : goal.returns

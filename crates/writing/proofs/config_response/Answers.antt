@@ -4,7 +4,6 @@ use native.Mathlib.Omega.{arith}
 use Prim.Native.Nat.{◌+◌, ◌-◌}
 use lib.ListN.{length}
 use Rattle.writing.proofs.Parts.{config-parts, row-header, row_next, row_wrote}
-use borrow.Author.Rules.{rules}
 use Rattle.writing.proofs.config_response.Goals as goal
 
 pub returns : goal.returns

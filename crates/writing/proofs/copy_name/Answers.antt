@@ -1,12 +1,10 @@
 -- `copy_name` meets its contract: what the array holds is the name (`written-whole`).
-use mathlib.Core.Path.{◌≡◌, ap, ◌∙◌}
+use mathlib.Core.Path.{ap, ◌∙◌}
 use mathlib.Core.List.{List}
 use Prim.Native.Nat.{ℕ}
 use native.Mathlib.Omega.{arith}
-use lib.ListN.{length, replicate}
 use Rattle.rules.specs.Bytes.{written}
 use Rattle.writing.proofs.Parts.{written-whole}
-use borrow.Author.Rules.{rules}
 use Rattle.writing.proofs.copy_name.Goals as goal
 
 pub returns : goal.returns

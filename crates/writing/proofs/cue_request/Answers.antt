@@ -4,7 +4,6 @@ use Prim.Native.Nat.{◌+◌}
 use lib.ListN.{length}
 use native.Mathlib.Omega.{arith}
 use Rattle.writing.proofs.Parts.{cue-parts, row-bytes, row-header, row_next, row_wrote}
-use borrow.Author.Rules.{rules}
 use Rattle.writing.proofs.cue_request.Goals as goal
 
 pub returns : goal.returns

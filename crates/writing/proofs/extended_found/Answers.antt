@@ -1,7 +1,6 @@
 -- `extended_found` meets its contract: the header and two parts of data (`row_next`), which are the record (`found-parts`).
 use native.Mathlib.Omega.{arith}
 use Rattle.writing.proofs.Parts.{found-parts, length-end, row-bytes, row-header, row_next, row_wrote}
-use borrow.Author.Rules.{rules}
 use Rattle.writing.proofs.extended_found.Goals as goal
 
 pub returns : goal.returns

@@ -1,6 +1,5 @@
 -- `extended_none` meets its contract: it is `session_response` with its own MessageID and 121.
 use Rattle.rules.specs.Records.{record_bytes}
-use borrow.Author.Rules.{rules}
 use Rattle.writing.proofs.extended_none.Goals as goal
 
 pub returns : goal.returns

@@ -1,6 +1,5 @@
 -- `general_response` meets its contract: the record is its header alone.
 use Rattle.writing.proofs.Parts.{general-parts, row-header, row_wrote}
-use borrow.Author.Rules.{rules}
 use Rattle.writing.proofs.general_response.Goals as goal
 
 pub returns : goal.returns

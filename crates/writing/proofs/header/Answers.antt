@@ -3,7 +3,6 @@ use mathlib.Core.Path.{refl, ap, ◌∙◌}
 use Rattle.rules.specs.Bytes.{written}
 use native.Mathlib.Omega.{arith}
 use Rattle.writing.proofs.Parts.{header-parts, row-bytes, row_first}
-use borrow.Author.Rules.{rules}
 use Rattle.writing.proofs.header.Goals as goal
 
 pub returns : goal.returns

@@ -1,7 +1,6 @@
 -- `init_response` meets its contract: the header, Revision_Num and the name (`row_next`), which are the record (`init-parts`).
 use native.Mathlib.Omega.{arith}
 use Rattle.writing.proofs.Parts.{init-parts, row-bytes, row-header, row_next, row_wrote}
-use borrow.Author.Rules.{rules}
 use Rattle.writing.proofs.init_response.Goals as goal
 
 pub returns : goal.returns

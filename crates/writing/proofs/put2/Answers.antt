@@ -2,7 +2,6 @@
 use native.Mathlib.Omega.{arith}
 use lib.Seq.{sets-eq}
 use Rattle.rules.specs.Bytes.{bytes, written}
-use borrow.Author.Rules.{rules}
 use Rattle.writing.proofs.put2.Goals as goal
 
 pub returns : goal.returns

@@ -3,7 +3,6 @@ use native.Mathlib.Omega.{arith}
 use lib.ListN.{length-set}
 use lib.Seq.{sets-eq}
 use Rattle.rules.specs.Bytes.{bytes, written}
-use borrow.Author.Rules.{rules}
 use Rattle.writing.proofs.put4.Goals as goal
 
 pub bounds-out-1 : goal.bounds-out-1

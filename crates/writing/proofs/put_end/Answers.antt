@@ -4,7 +4,6 @@ use Rattle.rules.specs.Bytes.{written}
 use native.Mathlib.Omega.{arith}
 use Prim.Native.Nat.{◌/◌}
 use Rattle.writing.proofs.Parts.{end-parts, row-bytes, row_first}
-use borrow.Author.Rules.{rules}
 use Rattle.writing.proofs.put_end.Goals as goal
 
 pub returns : goal.returns

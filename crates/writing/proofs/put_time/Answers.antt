@@ -5,7 +5,6 @@ use mathlib.Core.List.{◌++◌}
 use Prim.Native.Nat.{ℕ, ◌*◌, ◌-◌, ◌/◌, ◌%◌}
 use Rattle.rules.specs.Bytes.{bytes, written}
 use Rattle.writing.proofs.Parts.{row-bytes, row_first}
-use borrow.Author.Rules.{rules}
 use Rattle.writing.proofs.put_time.Goals as goal
 
 pub returns : goal.returns

@@ -4,7 +4,6 @@ use Rattle.rules.specs.Bytes.{bytes}
 use Rattle.rules.proofs.Bytes.{length-bytes}
 use native.Mathlib.Omega.{arith}
 use Rattle.writing.proofs.Parts.{framed-header, row-bytes, row-header, row_wrote}
-use borrow.Author.Rules.{rules}
 use Rattle.writing.proofs.session_response.Goals as goal
 
 pub returns : goal.returns

@@ -1,7 +1,6 @@
 -- `splice_complete` meets its contract: the header and four parts of data (`row_next`), which are the record (`complete-parts`).
 use native.Mathlib.Omega.{arith}
 use Rattle.writing.proofs.Parts.{complete-parts, row-bytes, row-header, row_wrote}
-use borrow.Author.Rules.{rules}
 use Rattle.writing.proofs.splice_complete.Goals as goal
 
 pub returns : goal.returns

@@ -1,6 +1,5 @@
 -- `splice_response` meets its contract: it is `session_response` with its own MessageID.
 use Rattle.rules.specs.Records.{record_bytes}
-use borrow.Author.Rules.{rules}
 use Rattle.writing.proofs.splice_response.Goals as goal
 
 pub returns : goal.returns
