@@ -1,9 +1,10 @@
 #!/bin/sh
 # check-times.sh [--write | COMMIT..]: how long a check takes, by commit: the processor seconds (user and system) of `rt all verdict`, which
 # checks all listed crates from nothing, in a clone outside of this folder; nothing else should run meanwhile, though processor seconds
-# hardly change if it does. The figures of commits in an older Rattle are of its own kit, `rt check`. Of the named commits, or of all that tools/check-times/requests.txt names, oldest first. A commit that docs/notes/README.md or an
-# earlier run has a figure of is not checked again. With --write nothing is checked: the figures that are there go to the tables of
-# docs/notes/README.md and to the notes of the requests. No part of the gate.
+# hardly change if it does. The figures of commits in an older Rattle are of its own kit, `rt check`. Of the named commits, or of all that
+# tools/check-times/requests.txt names, oldest first. A commit that docs/notes/README.md or an earlier run has a figure of is not checked
+# again. With --write nothing is checked: the figures that are there go to the tables of docs/notes/README.md and to the notes of the
+# requests. No part of the gate.
 set -eu
 . "$(dirname "$0")/words.sh"
 case ${1:-} in

@@ -4,10 +4,10 @@
 # target/try/libdoor.a, and librolldoor.a and libbench.a beside it. A tool for development: no part of the gate, and no product.
 #   ARCHIVE=target/try/libdoor.a sh tools/measure.sh counts     instructions of its calls
 #   SPLICER_LIB=target/try                                      for cargo in bindings/ and model/beside/
-# How: `rt try` compiles a program whose main calls each of these functions once, on nothing, and its LLVM module is kept. The C form of each
-# is written behind the module as the kit writes it for an archive: a slice comes as a pointer and a length, all else as it is. What `rt
-# try` has checked when it runs is assumed, as in an archive. The module is then compiled as the kit compiles an archive's; what `rt try`
-# writes into fresh memory stays in it, so counts come out a little higher.
+# How: `rt try` compiles a program whose main calls each of these functions once, on nothing, and its LLVM module is kept. The C form of
+# each is written behind the module as the kit writes it for an archive: a slice comes as a pointer and a length, all else as it is. What
+# `rt try` has checked when it runs is assumed, as in an archive. The module is then compiled as the kit compiles an archive's; what
+# `rt try` writes into fresh memory stays in it, so counts come out a little higher.
 set -eu
 . "$(dirname "$0")/words.sh"
 case $#${1:-} in

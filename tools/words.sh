@@ -262,11 +262,17 @@ taken() {
 }
 
 # proved_by_ci HAD LOG: what `rt ci`, which has passed here and said what LOG has, leaves as proved: target/proved has the sources' number,
-# if no libraries of other checks were here before (HAD), which rt then puts back in the place of its own; target/bin has the programs
+# if no libraries were here before (HAD), which rt puts back in the place of its own, or those of an earlier `rt ci` of the same sources;
+# target/bin has the programs
 proved_by_ci() {
-    rm -rf target/proved target/bin
+    rm -rf target/bin
     # shellcheck disable=SC2046
-    [ -n "$1" ] || sources $(crates_listed | cut -d ' ' -f 1) >target/proved
+    number=$(sources $(crates_listed | cut -d ' ' -f 1))
+    if [ -z "$1" ]; then
+        echo "$number" >target/proved
+    elif [ ! -f target/proved ] || [ "$(cat target/proved)" != "$number" ]; then
+        rm -f target/proved
+    fi
     for program in crates/*/src/main.rt; do
         program=${program#crates/} program=${program%%/*}
         said=$(sed -n "/^== $program\$/,/^rt: $program proved\$/s/^logic=proved //p" "$2" | tail -n 1)
