@@ -43,7 +43,7 @@ module _ {M : Type 1} {𝓤 : Ura M} (𝓛 : Logic 𝓤) (mem : store.Memory →
         ≡ ⌜ Ran (shown a.0.now a.1.0.now) a.1.1.0.now r z.0.now z.1.0.now z.1.1.1.0.now ⌝
     run-ensures = refl
 
-  -- play()
+  -- play(stdin, stdout)
   module _ (κs : Lfts 0) (a : Args playing.signature κs) (r : Res playing.signature κs) (z : AtExit playing.ended κs) where
     pub play-requires : (playing.clauses 𝓛 mem run κs a).requires tt ≡ ⊤ₛ
     play-requires = refl

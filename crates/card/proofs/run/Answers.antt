@@ -40,8 +40,7 @@ pub loop-out-preserved : goal.loop-out-preserved
 loop-out-preserved c =
     let inv = c.loop-out.invariant in
     let whole = c.play-p.auto.out in
-    let more = runs-more inv.0 c.play-p.ensures whole (omega (arith, c.loop-out-test.true, inv.0.room)) in
-    (
+    let more = runs-more inv.0 c.play-p.ensures whole (omega (arith, c.loop-out-test.true, inv.0.room)) in (
       runs_on more (not-false _ c.if-not-p.false),
       runs-long inv.0 c.play-p.ensures whole ∙ inv.1,
       inv.2,

@@ -1,7 +1,7 @@
 -- Each turn is one of those that `Stopped` speaks of.
 -- Rests on proofs/Turning, one more turn.
 use Rattle.std.proofs.Common.{arith, sym, ◌∙◌}
-use Rattle.card.proofs.Turning.{turning-none, turning-counted, turning-over, turning-failed, turning-more}
+use Rattle.card.proofs.Turning.{turning-counted, turning-over, turning-failed, turning-more}
 use borrow.Author.Tests.{not-true, not-false}
 use Rattle.card.proofs.turns.Goals as goal
 

@@ -1,8 +1,8 @@
 -- Each part is read behind the last, and what came is one record, or begins none: proofs/Records.
 -- Rests on the tests that led there.
-use Rattle.std.proofs.Common.{◌≡◌, sym, ◌∙◌, length, get_or, arith}
+use Rattle.std.proofs.Common.{sym, ◌∙◌, arith}
 use borrow.Author.Tests.{lt-ltb, le-ltb}
-use Rattle.remember.proofs.Records.{Marked, marked-first, filled-all, marked-on, size-on, Long, long-mark}
+use Rattle.remember.proofs.Records.{marked-first, filled-all, marked-on, size-on, long-mark}
 use Rattle.remember.proofs.Records.{reads-cut-mark, reads-mark, reads-cut-header, reads-tick, reads-oversize}
 use Rattle.remember.proofs.Records.{reads-cut-data, reads-message}
 use Rattle.remember.proofs.read_record.Goals as goal
@@ -42,10 +42,10 @@ returns-then-kind-eq84 c =
     let kind = long-mark _ (omega (arith, c.head_of-head.ensures, c.if-head-lt-HEADER_END.false)) in
     let whole = sym c.is_whole-2.ensures ∙ c.if-not-is_whole-2.false in
     elim c.then-kind-eq84.branch [
-      then-kind-eq84-via-then-kind-eq84 w ↦ reads-tick header.ensures second whole w.if-kind-eq84.true
-    | then-kind-eq84-via-else-kind-eq84+then-size-gt-LONGEST w ↦
-        reads-oversize header.ensures second whole kind w.if-kind-eq84.false c.number2-size.ensures
-        (lt-ltb 4088 _ w.if-size-gt-LONGEST.true)
+      | then-kind-eq84-via-then-kind-eq84 w ↦ reads-tick header.ensures second whole w.if-kind-eq84.true
+      | then-kind-eq84-via-else-kind-eq84+then-size-gt-LONGEST w ↦
+          reads-oversize header.ensures second whole kind w.if-kind-eq84.false c.number2-size.ensures
+          (lt-ltb 4088 _ w.if-size-gt-LONGEST.true)
     ]
 
 pub returns-then-is_whole : goal.returns-then-is_whole
