@@ -119,7 +119,7 @@ module _ {m b : List ℕ} (w : Whole m b) (c revision : ℕ) (d : List ℕ) {e :
   unfolding answer_init
   init-gives k h g =
       let p : r ≡ init_result revision (channel_name d) (name_of b) = rr ∙ ap₂ (λ (y z : List ℕ). init_result revision y (name_in z)) ra rx
-          in
+      in
       record {
         whole = k;
         splicer = h ∙ ap (λ (k : ℕ). cond (eqb k 100) (initialised c (hardware_in d) (shown m b)) (shown m b)) p;

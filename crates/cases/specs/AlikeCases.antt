@@ -21,7 +21,7 @@ use Rattle.cases.specs.Heard.{heard, spoken, silent, denied, till, splice, unlik
 unfoldable telling : ℕ
 unfolding Told.started_replied Told.started_told Lately.is_an_end Lately.told_in Lately.newer Lately.ended_replied Lately.ended_told
     Kept.is_initialising Kept.initialises Kept.changes Kept.left Kept.changed Kept.kept_behind Kept.kept_told heard spoken silent denied
-        till
+    till
     splice computing
 telling = 0
 

@@ -56,7 +56,7 @@ registers = refl
 insert-numbers :
     map (λ f. f (hex insert))
     (table_id ∷ section_length ∷ pts_adjustment ∷ command_length ∷ command_type ∷ program_size ∷ pts_at insert_time_at ∷ loop_length 15 ∷
-        [])
+    [])
     ≡ (0xFC ∷ 32 ∷ 0 ∷ 15 ∷ 0x05 ∷ 15 ∷ 3582534591 ∷ 0 ∷ [])
 unfolding computing insert
 insert-numbers = refl
@@ -78,7 +78,7 @@ signal = "FC 3016 00 01 00000010 00 FF F005 06 FF23456789 0000 713B22BD"
 
 signal-numbers :
     map (λ f. f (hex signal)) (table_id ∷ section_length ∷ pts_adjustment ∷ command_length ∷ command_type ∷ pts_at command_at ∷ loop_length
-        5 ∷ [])
+    5 ∷ [])
     ≡ (0xFC ∷ 22 ∷ 0x100000010 ∷ 5 ∷ 0x06 ∷ 0x123456789 ∷ 0 ∷ [])
 unfolding computing signal
 signal-numbers = refl

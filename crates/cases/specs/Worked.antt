@@ -200,7 +200,7 @@ cases =
     ∷ accepts 0 9 ∷ [])
     ∷ says waiting_flag (accepts 1 1 ∷ SpliceResponse 0 109 9 ∷ [])
     ∷ says over_covered (accepts 0 2 ∷ accepts 1 4 ∷ accepts 1 5 ∷ accepts 1 6 ∷ accepts 2 7 ∷ begins 0 2 ∷ begins 1 4 ∷ stops 1 125 4
-        360000
+    360000
     ∷ SpliceResponse 1 125 5 ∷ SpliceResponse 1 125 6 ∷ begins 2 7 ∷ stops 2 100 7 900000 ∷ stops 0 100 2 1440000 ∷ [])
     ∷ counting (ended over_covered) (replicate 5 1)
     ∷ says in_a_row (accepts 0 1 ∷ accepts 0 2 ∷ accepts 1 3 ∷ begins 0 1 ∷ stops 0 125 1 90000 ∷ begins 0 2 ∷ stops 0 125 2 90000
@@ -219,6 +219,6 @@ worked : map (λ c. c.seen) cases ≡ map (λ c. c.wants) cases
 unfolding last_says equal_full equal_sum equal_reserved full_before evict_equal waiting_flag over_covered in_a_row at_its_end covered_before
     resumed_and_ended no_flag climb ten started sent from init_of asks timed aborts to card plays up ready load queued linked known joined
     played says counting accepts begins stops last_writes cases events ended three through incident behind_zero one_tick only_direct
-        hand_over
+    hand_over
     slot computing
 worked = refl

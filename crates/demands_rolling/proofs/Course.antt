@@ -120,7 +120,7 @@ answerable m l (a_known i) t =
 answerable m l (an_instant g e) t =
     let w = roll-wired (an_instant g e) t in
     let f = found m l (roll_call_of (an_instant g e)) w (get_or g 2 0) e
-        (instant_course (get_or g 0 0) (get_or g 1 0) (length e) (shown m).last)
+    (instant_course (get_or g 0 0) (get_or g 1 0) (length e) (shown m).last)
     refl
     (instant-ahead (get_or g 0 0) (get_or g 1 0) (length e) (shown m).splicer.clock (shown m).last w.0 (lent-steady l)) in
     record { result = seen_of f; allowed = replied f.answer f.rolls }

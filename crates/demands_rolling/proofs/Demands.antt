@@ -473,7 +473,7 @@ module _ (name : List ℕ) (h : List Made) (m : Memory) (l g e : List ℕ) (r : 
   -- and which records those are: 117 for a bad section, else the Cue_Request with the cue's time
   pub cue-records : number r ≡ 0 → records_in (bytes_of r)
       ≡ cue_records (read_cue l) (cue_time (pts_of g) (get_or g 2 0) (get_or g 3 0) (read_cue l)) l
-          (initialised_ones (shown m).splicer.links)
+      (initialised_ones (shown m).splicer.links)
   cue-records n =
       rw (bytes-are name h m _ r c)
       (called.cue-records name (within h) m.core l (pts_of g) (get_or g 2 0) (get_or g 3 0) e (inside (seen_of r)) called-cue (good-cue n))

@@ -173,7 +173,7 @@ module _ (name : List ℕ) (h : List Made) (m : Memory) (x y : ℕ) (e o : List 
       let k = replies-of m (a_reading y o) alone a.allowed in
       let j = joined mid end (move_call mid) (move_call end) m.core e o (move-brings mid (length e)) (move-brings end (length o))
       (inside (seen_of one)) (inside (seen_of two)) (inside (seen_of alone)) p q r (sym (number-inside f) ∙ z) (sym (number-inside g) ∙ w)
-          in
+      in
       let n = counter-is (left one) there y o two a.typed d w ∙ sym (counter-is m here y o alone a.typed a.allowed v) in (
         ap₂ ◌++◌ (bytes_inside f) (bytes_inside g) ∙ j.1 ∙ sym (bytes_inside k),
         (λ i. record { core = j.2 i; counter = n i }),

@@ -168,7 +168,7 @@ pub counts-read : (m : List ℕ) → length m ≡ words →
     get_or m first_count 0 ∷ get_or m (first_count + 1) 0 ∷ get_or m (first_count + 2) 0 ∷ get_or m (first_count + 3) 0 ∷ [] ≡ counts_of m
 counts-read m w =
     let n : length (counts_of m) ≡ connections = length-take-le connections (drop first_count m)
-        (omega (arith, w, length-drop first_count m))
+    (omega (arith, w, length-drop first_count m))
     in
     ext_get_or 0 _ (counts_of m) (sym n) (λ i h. each i h ∙ part_at m first_count i connections h)
   where
@@ -554,7 +554,7 @@ module _ (m : List ℕ) (i n t p : ℕ) (f : Form m) where
       Now (set m i n) (record { clock = t; primary = p; links = (see m).links; queue = (see m).queue; ring_end = (see m).ring_end })
   worded low not_ring not_waiting not_started clock primary =
       with-counts (sessions Waiting m) (shows (set m i n) t p (links_of m) (ring_of Waiting m) (lot_of Waiting m) (lot_of Started m)
-          (late_of m)
+      (late_of m)
       (length-set m i n ∙ f.whole)
       clock
       primary
@@ -634,8 +634,14 @@ past_word m i k h l = part_at m first_past (i * past_width + k) late_size (omega
 -- the one that ended i ends before the newest, n being the next place
 pub recent-word : (m : List ℕ) (i : ℕ) {n : ℕ} → i < most_kept → n ≡ next_in (late_of m) →
     let b = first_past + (n + (most_kept - 1 - i)) % most_kept * past_width in
-    record { conn = get_or m b 0; id = get_or m (b + 1) 0; event = get_or m (b + 2) 0; result = get_or m (b + 3) 0; played = get_or m
-        (b + 4) 0 }
+    record {
+      conn = get_or m b 0;
+      id = get_or m (b + 1) 0;
+      event = get_or m (b + 2) 0;
+      result = get_or m (b + 3) 0;
+      played = get_or m
+          (b + 4) 0;
+    }
     ≡ recent_at i (lately_in (late_of m))
 unfolding recent_at
 recent-word m i {n} h o =
@@ -898,14 +904,14 @@ parts m w =
     let late : drop first_past m ≡ late_of m = sym (take_all late_size (drop first_past m) (omega (arith, w, length-drop first_past m))) in
     let tail : drop s m ≡ placed Started m ++ late_of m =
     sym (take-append-drop (span_of Started) (drop s m)) ∙ ap (λ (z : List ℕ). placed Started m ++ z)
-        (drop-drop (span_of Started) s m ∙ late)
+    (drop-drop (span_of Started) s m ∙ late)
     in
     let rest : drop (from_of Waiting) m ≡ placed Waiting m ++ (placed Started m ++ late_of m) =
     sym (take-append-drop (span_of Waiting) (drop (from_of Waiting) m))
     ∙ ap (λ (z : List ℕ). placed Waiting m ++ z) (drop-drop (span_of Waiting) (from_of Waiting) m ∙ tail) in
     let links : drop first_link m ≡ links_of m ++ (placed Waiting m ++ (placed Started m ++ late_of m)) =
     sym (take-append-drop connections (drop first_link m)) ∙ ap (λ (z : List ℕ). links_of m ++ z)
-        (drop-drop connections first_link m ∙ rest)
+    (drop-drop connections first_link m ∙ rest)
     in
     let counts : drop first_count m ≡ counts_of m ++ (links_of m ++ (placed Waiting m ++ (placed Started m ++ late_of m))) =
     sym (take-append-drop connections (drop first_count m)) ∙ ap (λ (z : List ℕ). counts_of m ++ z)

@@ -166,7 +166,7 @@ kept-now b c h s low whole short =
     at d k true f =
         let i = eqb-true d c f in
         rw i (kept_at o c low ∙ ap structure_in own ∙ found_in h whole short ∙ sym
-            (get_or-set_same (kept_of b) c h no_hardware (omega arith)))
+        (get_or-set_same (kept_of b) c h no_hardware (omega arith)))
     at d k false f =
         let n = eqb-false d c f in
         kept_at o d k ∙ ap structure_in (other d k n) ∙ sym (kept_at b d k) ∙ sym (get_or-set_other (kept_of b) c d h no_hardware n)

@@ -139,8 +139,14 @@ lately_in q = record { places = pasts most_kept q; next = next_in q }
 -- the one whose words stand from the word b on
 abbrev pub past_from : List ℕ → ℕ → Past
 past_from q b =
-    record { conn = get_or q b 0; id = get_or q (b + 1) 0; event = get_or q (b + 2) 0; result = get_or q (b + 3) 0; played = get_or q
-        (b + 4) 0 }
+    record {
+      conn = get_or q b 0;
+      id = get_or q (b + 1) 0;
+      event = get_or q (b + 2) 0;
+      result = get_or q (b + 3) 0;
+      played = get_or q
+          (b + 4) 0;
+    }
 
 -- of any words: the one that ended i ends before the newest, "filled from the newest down"; fewer words keep nothing
 unfoldable pub ended_in : List ℕ → ℕ → Past

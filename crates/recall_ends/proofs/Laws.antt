@@ -180,7 +180,7 @@ pub ended-phase : (how : Ending) (x : Session) (m : List ℕ) (nth r : ℕ) → 
     → nth ≡ count (λ s. true) (standing has_ended (verdicts_in n m)) → r ≡ result_of (ended how x) → Ended nth r ≡ as_ended how x (all m)
 ended-phase how x m nth r n e a b =
     ap₂ (λ (j h : ℕ). Ended j h) (a ∙ ap (λ (j : ℕ). count (λ s. true) (standing has_ended (verdicts_in j m))) e ∙ count-all has_ended
-        (all m))
+    (all m))
     b
 
 -- as many verdicts as rows

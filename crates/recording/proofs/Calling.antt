@@ -76,7 +76,7 @@ module _ (l : List ℕ) where
       (λ g. by Like (eqb (mark_in l) message_mark) _ _ (λ k. like-message (marked message_mark (eqb-true (mark_in l) message_mark k)))
       (λ k. by Like (eqb (mark_in l) tick_mark) _ _
       (λ t. like-whole tick_end (record_is.Tick (seconds_in l) (micros_in l)) (marked tick_mark (eqb-true (mark_in l) tick_mark t)) refl
-          refl)
+      refl)
       (λ t. absurd (clash _ m (rw (f, g, k, t))))))))
 
 -- ## The call

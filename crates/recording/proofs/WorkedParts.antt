@@ -22,7 +22,7 @@ use Rattle.recording.specs.Recorded.{due_from, due_after, right_by, right}
 parting : ℕ
 unfolding computing span entry_in entries_by entries_run entries start begins recorded_by recorded_run recorded_up_to recorded unread_by
     unread_run unread pieces bytes_of made_bytes wrote_bytes ends_cut is_last has_oversize call_of calls_in wrote_after due_from due_after
-        right_by
+    right_by
     right
 parting = 0
 

@@ -71,7 +71,7 @@ module _ (p : List ℕ) where
   unfolding next record_of span_of
   close-whole h c e =
       calls-whole {k = closes (conn_in p) card_room} {m = drop mark_end p} (rw (le-ltb (length p) mark_end (omega arith), c, e) refl)
-          (sym h)
+      (sym h)
       (not_last (omega arith))
 
   short-mark : length p < mark_end → next p ≡ stops

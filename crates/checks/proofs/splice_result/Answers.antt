@@ -19,8 +19,13 @@ returns-then-is_too_late c =
 
 pub does_collide-requires : goal.does_collide-requires
 does_collide-requires c =
-    record { form = c.requires.form; sorted = c.requires.holding.timed.sorted; at_value = c.requires.at_value; taken_value
-        = c.requires.taken_value }
+    record {
+      form = c.requires.form;
+      sorted = c.requires.holding.timed.sorted;
+      at_value = c.requires.at_value;
+      taken_value
+          = c.requires.taken_value;
+    }
 
 pub returns-then-does_collide : goal.returns-then-does_collide
 returns-then-does_collide c =

@@ -25,8 +25,19 @@ pub use Rattle.rules.specs.Calls.{fresh, after, section_of}
 pub use Rattle.rules.specs.HouseNumbers.{lending_maps, Loans}
 pub use Rattle.demands.specs.History.{Event, starts_of, ends_of, history, own_answer, others_of, waiting_count, book, clock_after}
 pub use Rattle.demands.specs.Told.{first_number, checks, answers, Asks, Passes, earlier_code, full_told, counts_told, granted_by, outs_of}
-pub use Rattle.demands.specs.Told.{started_told, unended, Ended, Stands, air_mux_told, MuxInRange, Inquires, Finds, conn_of, concerned,
-    Carries}
+pub use Rattle.demands.specs.Told.{
+  started_told,
+  unended,
+  Ended,
+  Stands,
+  air_mux_told,
+  MuxInRange,
+  Inquires,
+  Finds,
+  conn_of,
+  concerned,
+  Carries,
+}
 pub use Rattle.demands.specs.Alike.{Alike}
 pub use Rattle.demands.specs.Lately.{of_number, answer_told, ended_once, KeptAs, ends_told}
 pub use Rattle.demands.specs.Airing.{airings_told, clock_told, primary_told, time_told, air_told, number_told}

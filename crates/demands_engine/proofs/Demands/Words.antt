@@ -36,8 +36,19 @@ pub use Rattle.memory.specs.Memory.{see, places_from, counts_of, kept_bytes}
 unfoldable pub use Rattle.memory.specs.Memory.{tallied}
 pub use Rattle.engine.specs.Lent.{Lent, Counts, Primary, ReadsMux, ReadsFeed}
 pub use Rattle.demands.specs.Told.{first_number, checks, answers, Asks, Passes, earlier_code, full_told, counts_told, granted_by, outs_of}
-pub use Rattle.demands.specs.Told.{started_told, unended, Ended, Stands, air_mux_told, MuxInRange, Inquires, Finds, conn_of, concerned,
-    Carries}
+pub use Rattle.demands.specs.Told.{
+  started_told,
+  unended,
+  Ended,
+  Stands,
+  air_mux_told,
+  MuxInRange,
+  Inquires,
+  Finds,
+  conn_of,
+  concerned,
+  Carries,
+}
 pub use Rattle.demands.specs.Alike.{Alike}
 pub use Rattle.demands.specs.Lately.{of_number, answer_told, ended_once, KeptAs, ends_told}
 pub use Rattle.demands.specs.Airing.{airings_told, clock_told, primary_told, time_told, air_told, number_told}
@@ -49,8 +60,19 @@ pub use Rattle.demands.proofs.Moved as shifting
 pub use Rattle.demands.proofs.Owners as owners
 pub use Rattle.demands.proofs.Said as said
 pub use Rattle.demands.proofs.Kept as kept
-pub use Rattle.demands_engine.specs.Trace.{Memory, empty_memory, shown, Input, an_open, a_close, a_message, a_cue, Typed, call_of,
-    buffer_of}
+pub use Rattle.demands_engine.specs.Trace.{
+  Memory,
+  empty_memory,
+  shown,
+  Input,
+  an_open,
+  a_close,
+  a_message,
+  a_cue,
+  Typed,
+  call_of,
+  buffer_of,
+}
 pub use Rattle.demands_engine.specs.Trace.{Result, Allowed, Made, made, Leads, Trace, More, Point, number, moved_in, moved, bytes_of}
 pub use Rattle.demands_engine.specs.Trace.{reply_in, events, calls, inputs, Answerable, Run, AsRuled}
 unfoldable pub use Rattle.demands_engine.specs.Trace.{number_in}

@@ -29,8 +29,18 @@ pub use Rattle.rules.specs.Follows.Sound.{Each, Falling, Coded}
 pub use Rattle.rules.specs.Rolling.{none, Rolling, step_of, instants, readings, roll}
 pub use Rattle.rules.specs.Follows.Sequences.{rolling_of, rolling_fresh, rolled_after, as_moves}
 pub use Rattle.demands.specs.History.{starts_of, ends_of, history, own_answer, waiting_count, book, clock_after}
-pub use Rattle.demands.specs.Told.{first_number, number_of, answers, Asks, Passes, earlier_code, full_told, counts_told, outs_of,
-    started_told}
+pub use Rattle.demands.specs.Told.{
+  first_number,
+  number_of,
+  answers,
+  Asks,
+  Passes,
+  earlier_code,
+  full_told,
+  counts_told,
+  outs_of,
+  started_told,
+}
 pub use Rattle.demands.specs.Told.{unended, Ended, Stands, air_mux_told, MuxInRange, Inquires, Finds, conn_of, concerned, Carries}
 pub use Rattle.demands.specs.Alike.{Alike}
 pub use Rattle.demands.specs.Lately.{of_number, answer_told, ended_once, KeptAs, ends_told}

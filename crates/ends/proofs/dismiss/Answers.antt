@@ -23,11 +23,17 @@ end_flagged-requires c =
     let h : c.find-i.result < length w = omega (arith, c.if-i-count.true, c.count.ensures) in
     let own =
     subst (λ (f : List ℕ). All (λ y. of a.conn y ≡ true) (keep (flagged f w) w)) (sym c.walk-end.ensures.marks)
-    (flags-own a.conn a.id w c.requires.ordered (few-places m c.requires.form)) in record
-        { form = c.requires.form; conn_bound = conn-small a.conn a.id m c.find-i.result c.requires.form c.find-i.ensures h; sorted
-            = c.requires.ordered.sorted; unflagged = unflagged-last a.conn a.id w _ c.walk-end.result c.requires.ordered.sorted
-                (few-places m c.requires.form)
-                c.walk-end.ensures.marks c.walk-end.ensures.last; all = own; m_in_bounds = c.requires.m_in_bounds }
+    (flags-own a.conn a.id w c.requires.ordered (few-places m c.requires.form)) in record {
+      form = c.requires.form;
+      conn_bound = conn-small a.conn a.id m c.find-i.result c.requires.form c.find-i.ensures h;
+      sorted
+          = c.requires.ordered.sorted;
+      unflagged = unflagged-last a.conn a.id w _ c.walk-end.result c.requires.ordered.sorted
+          (few-places m c.requires.form)
+          c.walk-end.ensures.marks c.walk-end.ensures.last;
+      all = own;
+      m_in_bounds = c.requires.m_in_bounds;
+    }
 
 pub returns-then-i-count : goal.returns-then-i-count
 returns-then-i-count c =

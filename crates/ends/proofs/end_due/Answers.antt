@@ -31,8 +31,13 @@ end_one_started-to-requires c =
     let list = (see l.m).queue.started in
     let k : l.i < length list = omega (arith, c.loop-i-test.true, c.count.ensures) in
     let p = all_get_d Playable list l.i empty k l.invariant.playable in
-    record { form = l.invariant.form; at_in_bounds = k; writable = writable l.how _ p; room_for_in_bounds = closing-room list l.i
-        l.invariant.writes k }
+    record {
+      form = l.invariant.form;
+      at_in_bounds = k;
+      writable = writable l.how _ p;
+      room_for_in_bounds = closing-room list l.i
+          l.invariant.writes k;
+    }
 
 pub loop-i-smaller-then-t-end : goal.loop-i-smaller-then-t-end
 loop-i-smaller-then-t-end c =

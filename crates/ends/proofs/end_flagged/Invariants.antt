@@ -28,7 +28,7 @@ use Rattle.ends.proofs.end_flagged.Given as goal
 abbrev pub invariant-loop-i : goal.invariant-loop-i
 invariant-loop-i l =
     Theirs (flagged l.flags (see l.initial.m).queue.waiting) l.res Waiting (see l.initial.m) l.initial.out l.len l.m l.i l.to
-        (l.left - (l.n - l.end)) l.out × (l.i ≤ l.end)
+    (l.left - (l.n - l.end)) l.out × (l.i ≤ l.end)
     × (l.n - l.end ≤ l.left)
 
 abbrev pub decreases-loop-i : goal.decreases-loop-i

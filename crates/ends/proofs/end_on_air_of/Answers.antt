@@ -32,8 +32,13 @@ end_one_started-requires c =
     let l = (see c.args.m.now).queue.started in
     let h : 0 < length l = quiet-some c.is_quiet.ensures c.if-is_quiet.false in
     let p = all_get_d Playable l 0 empty h c.requires.all in
-    record { form = c.requires.form; at_in_bounds = h; writable = search (rules, p); room_for_in_bounds = omega
-        (arith, c.requires.m_in_bounds) }
+    record {
+      form = c.requires.form;
+      at_in_bounds = h;
+      writable = search (rules, p);
+      room_for_in_bounds = omega
+          (arith, c.requires.m_in_bounds);
+    }
 
 pub returns : goal.returns
 returns c =

@@ -9,8 +9,11 @@ use Rattle.ends.proofs.end_one_started.Goals as goal
 
 pub write_end-requires : goal.write_end-requires
 write_end-requires c =
-    record { form = c.remove.ensures.form; writable = subst (Writable c.args.how) (sym c.load-x.ensures.is) c.requires.writable;
-        room_for_in_bounds = c.requires.room_for_in_bounds }
+    record {
+      form = c.remove.ensures.form;
+      writable = subst (Writable c.args.how) (sym c.load-x.ensures.is) c.requires.writable;
+      room_for_in_bounds = c.requires.room_for_in_bounds;
+    }
 
 pub returns : goal.returns
 returns c =

@@ -14,16 +14,23 @@ use Rattle.ends.proofs.end_started.Goals as goal
 pub end_one_started-to-requires : goal.end_one_started-to-requires
 end_one_started-to-requires c =
     let p = all_get_d Playable (see c.args.m.now).queue.started c.args.at empty c.requires.at_in_bounds c.requires.all in
-    record { form = c.requires.form; at_in_bounds = c.requires.at_in_bounds; writable = writable c.ending_at-how.result _ p;
-        room_for_in_bounds = omega (arith, c.requires.m_in_bounds) }
+    record {
+      form = c.requires.form;
+      at_in_bounds = c.requires.at_in_bounds;
+      writable = writable c.ending_at-how.result _ p;
+      room_for_in_bounds = omega (arith, c.requires.m_in_bounds);
+    }
 
 pub dismiss-requires : goal.dismiss-requires
 dismiss-requires c =
     let a = c.args in
     let how = c.ending_at-how.result in
-    let d = c.end_one_started-to.ensures in record
-        { form = d.shows.form; ordered = started-ordered a.at how a.m.now d c.requires.ordered; m_in_bounds = chain-room Started a.at how
-            a.m.now d c.requires.m_in_bounds (search rules) }
+    let d = c.end_one_started-to.ensures in record {
+      form = d.shows.form;
+      ordered = started-ordered a.at how a.m.now d c.requires.ordered;
+      m_in_bounds = chain-room Started a.at how
+          a.m.now d c.requires.m_in_bounds (search rules);
+    }
 
 pub returns : goal.returns
 returns c =

@@ -16,13 +16,17 @@ write_end-to-requires c =
 
 pub dismiss-requires : goal.dismiss-requires
 dismiss-requires c =
-    let d = c.write_end-to.ensures in record { form = d.shows.form; ordered = kept-ordered c.write_end-to.new.m d.shows.is
-        c.requires.ordered; m_in_bounds = omega (
-          arith,
-          c.requires.m_in_bounds,
-          told-one Failed c.args.x d.tells,
-          ap (λ (z : Memory). length z.queue.waiting) d.shows.is,
-        ) }
+    let d = c.write_end-to.ensures in record {
+      form = d.shows.form;
+      ordered = kept-ordered c.write_end-to.new.m d.shows.is
+          c.requires.ordered;
+      m_in_bounds = omega (
+        arith,
+        c.requires.m_in_bounds,
+        told-one Failed c.args.x d.tells,
+        ap (λ (z : Memory). length z.queue.waiting) d.shows.is,
+      );
+    }
 
 pub returns : goal.returns
 returns c =

@@ -23,7 +23,7 @@ returns c =
     let k = c.match-how in
     let q : SpliceComplete x.conn k.result x.id k.flag k.played.0 ≡ ended c.args.how x =
     elim c.match-how.branch [
-      in-Complete w ↦ rw (w.result-is, w.flag-is, w.played-is, w.to_ticks-played.ensures)
+      | in-Complete w ↦ rw (w.result-is, w.flag-is, w.played-is, w.to_ticks-played.ensures)
           (sym (ap (λ (h : Ending). ended h x) w.in-Complete.is))
       | in_default w ↦ rw (w.result-is, w.flag-is, w.played-is)
           (sym (ap (λ (h : Ending). ended h x) (failing c.args.how c.requires.completing w.in_default.not-Complete)))

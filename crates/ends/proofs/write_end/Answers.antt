@@ -7,8 +7,12 @@ use Rattle.ends.proofs.write_end.Goals as goal
 
 pub write_complete-requires : goal.write_complete-requires
 write_complete-requires c =
-    record { writable = c.requires.writable; completing = completing c.args.how c.in_default.not-Response; room_for_in_bounds
-        = c.requires.room_for_in_bounds }
+    record {
+      writable = c.requires.writable;
+      completing = completing c.args.how c.in_default.not-Response;
+      room_for_in_bounds
+          = c.requires.room_for_in_bounds;
+    }
 
 pub returns-in_default : goal.returns-in_default
 returns-in_default c =

@@ -11,8 +11,14 @@ pub start_at-requires : goal.start_at-requires
 start_at-requires c =
     let t = c.args.t.0 in
     let room = c.requires.m_in_bounds in
-    let e = c.end_due-to.ensures in record { form = e.shows.form; meets = instant-meets t e room c.requires.meets; placed = instant-placed
-        t e room c.requires.placed; all = instant-playable t e room c.requires.all; m_in_bounds = omega (arith, instant-room t e room) }
+    let e = c.end_due-to.ensures in record {
+      form = e.shows.form;
+      meets = instant-meets t e room c.requires.meets;
+      placed = instant-placed
+          t e room c.requires.placed;
+      all = instant-playable t e room c.requires.all;
+      m_in_bounds = omega (arith, instant-room t e room);
+    }
 
 pub returns : goal.returns
 returns c =

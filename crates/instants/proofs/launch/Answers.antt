@@ -12,8 +12,13 @@ use Rattle.instants.proofs.launch.Goals as goal
 
 pub oust-to-requires : goal.oust-to-requires
 oust-to-requires c =
-    record { form = c.requires.form; all = c.requires.all; ordered = c.requires.ordered; m_in_bounds = omega
-        (arith, c.requires.m_in_bounds) }
+    record {
+      form = c.requires.form;
+      all = c.requires.all;
+      ordered = c.requires.ordered;
+      m_in_bounds = omega
+          (arith, c.requires.m_in_bounds);
+    }
 
 pub slice_bounds-splice_complete-count : goal.slice_bounds-splice_complete-count
 slice_bounds-splice_complete-count c =

@@ -19,8 +19,14 @@ load-air-requires c =
 
 pub end_started-requires : goal.end_started-requires
 end_started-requires c =
-    record { form = c.requires.form; at_in_bounds = quiet-some c.is_quiet.ensures c.if-is_quiet.false; all = c.requires.all; ordered
-        = c.requires.ordered; m_in_bounds = c.requires.m_in_bounds }
+    record {
+      form = c.requires.form;
+      at_in_bounds = quiet-some c.is_quiet.ensures c.if-is_quiet.false;
+      all = c.requires.all;
+      ordered
+          = c.requires.ordered;
+      m_in_bounds = c.requires.m_in_bounds;
+    }
 
 pub returns-then-air-x : goal.returns-then-air-x
 returns-then-air-x c =

@@ -18,35 +18,35 @@ overflow_sub-until c =
 pub elapse-requires : goal.elapse-requires
 elapse-requires c =
     let v = first-turn c.args.out.now c.clock-at.ensures
-        (c.requires.form, (c.requires.holding, (c.requires.m_bound, (c.requires.m_bound_2, c.requires.m_in_bounds)))) in let both
-            = turn-asks v c.args.until.0 v.time c.requires.m_bound.1 in
+    (c.requires.form, (c.requires.holding, (c.requires.m_bound, (c.requires.m_bound_2, c.requires.m_in_bounds)))) in let both
+    = turn-asks v c.args.until.0 v.time c.requires.m_bound.1 in
     record { form = both.0; lasting = both.1.0; d_bound = both.1.1 }
 
 pub returns-in_default : goal.returns-in_default
 returns-in_default c =
     let v = first-turn c.args.out.now c.clock-at.ensures
-        (c.requires.form, (c.requires.holding, (c.requires.m_bound, (c.requires.m_bound_2, c.requires.m_in_bounds)))) in
+    (c.requires.form, (c.requires.holding, (c.requires.m_bound, (c.requires.m_bound_2, c.requires.m_in_bounds)))) in
     last_turn v (sym c.next_due-first.ensures ∙ c.in_default.is) c.elapse.ensures
 
 pub overflow_sub-begin : goal.overflow_sub-begin
 overflow_sub-begin c =
     let v = first-turn c.args.out.now c.clock-at.ensures
-        (c.requires.form, (c.requires.holding, (c.requires.m_bound, (c.requires.m_bound_2, c.requires.m_in_bounds)))) in
+    (c.requires.form, (c.requires.holding, (c.requires.m_bound, (c.requires.m_bound_2, c.requires.m_in_bounds)))) in
     omega (arith, turn-after v (sym c.next_due-first.ensures ∙ c.in-At.is))
 
 pub elapse-requires-2 : goal.elapse-requires-2
 elapse-requires-2 c =
     let v = first-turn c.args.out.now c.clock-at.ensures
-        (c.requires.form, (c.requires.holding, (c.requires.m_bound, (c.requires.m_bound_2, c.requires.m_in_bounds)))) in
+    (c.requires.form, (c.requires.holding, (c.requires.m_bound, (c.requires.m_bound_2, c.requires.m_in_bounds)))) in
     let d = sym c.next_due-first.ensures ∙ c.in-At.is in
     let t = c.in-At.begin.0 in let both = turn-asks v t (omega (arith, turn-after v d))
-        (omega (arith, turn-time v d, c.requires.m_bound.1)) in
+    (omega (arith, turn-time v d, c.requires.m_bound.1)) in
     record { form = both.0; lasting = both.1.0; d_bound = both.1.1 }
 
 pub loop-next-init : goal.loop-next-init
 loop-next-init c =
     let v = first-turn c.args.out.now c.clock-at.ensures
-        (c.requires.form, (c.requires.holding, (c.requires.m_bound, (c.requires.m_bound_2, c.requires.m_in_bounds)))) in
+    (c.requires.form, (c.requires.holding, (c.requires.m_bound, (c.requires.m_bound_2, c.requires.m_in_bounds)))) in
     let d = sym c.next_due-first.ensures ∙ c.in-At.is in
     record { whence = see c.args.m.now; come = arrived v d c.elapse-2.ensures; each = λ s a. a }
 
@@ -70,13 +70,13 @@ overflow_sub-until-in_default-due c =
 pub elapse-requires-in_default-due : goal.elapse-requires-in_default-due
 elapse-requires-in_default-due c =
     let v = arrived-on c.loop-next.invariant.come c.at_instant-len.ensures in let both = turn-asks v c.args.until.0 v.time
-        c.requires.m_bound.1 in
+    c.requires.m_bound.1 in
     record { form = both.0; lasting = both.1.0; d_bound = both.1.1 }
 
 pub returns-in_default-due : goal.returns-in_default-due
 returns-in_default-due c =
     let v = first-turn c.args.out.now c.clock-at.ensures
-        (c.requires.form, (c.requires.holding, (c.requires.m_bound, (c.requires.m_bound_2, c.requires.m_in_bounds)))) in
+    (c.requires.form, (c.requires.holding, (c.requires.m_bound, (c.requires.m_bound_2, c.requires.m_in_bounds)))) in
     let d = sym c.next_due-first.ensures ∙ c.in-At.is in
     let a = c.loop-next.invariant.each (see c.args.m.now) (arrived v d c.elapse-2.ensures) in
     last_turn (arrived-on a c.at_instant-len.ensures) (sym c.next_due-due.ensures ∙ c.in_default-due.is) c.elapse-in_default-due.ensures
@@ -91,7 +91,7 @@ elapse-requires-in-loop-next c =
     let v = arrived-on c.loop-next.invariant.come c.at_instant-len.ensures in
     let d = sym c.next_due-due.ensures ∙ c.in-At-due.is in
     let t = c.in-At-due.next.0 in let both = turn-asks v t (omega (arith, turn-after v d))
-        (omega (arith, turn-time v d, c.requires.m_bound.1)) in
+    (omega (arith, turn-time v d, c.requires.m_bound.1)) in
     record { form = both.0; lasting = both.1.0; d_bound = both.1.1 }
 
 pub loop-next-smaller : goal.loop-next-smaller

@@ -17,11 +17,18 @@ launch-requires c =
     let left = c.remove in
     let x = c.load-x in
     let m = see c.args.m.now in
-    let h : 0 < length m.queue.waiting = omega (arith, c.if-count-eq0.false, c.count.ensures) in record
-        { form = left.ensures.form; placed = (start-placed m x.result h x.ensures.is c.if-x-t.true left.ensures c.requires.placed,
-            x.ensures.narrow); all = start-playable m x.result h x.ensures.is c.if-x-t.true left.ensures c.requires.all; ordered
-                = start-ordered m x.result h x.ensures.is c.if-x-t.true left.ensures c.requires.meets.ordered; m_in_bounds = omega
-                    (arith, c.requires.m_in_bounds, start-room m x.result h x.ensures.is c.if-x-t.true left.ensures) }
+    let h : 0 < length m.queue.waiting = omega (arith, c.if-count-eq0.false, c.count.ensures) in record {
+      form = left.ensures.form;
+      placed = (
+        start-placed m x.result h x.ensures.is c.if-x-t.true left.ensures c.requires.placed,
+        x.ensures.narrow,
+      );
+      all = start-playable m x.result h x.ensures.is c.if-x-t.true left.ensures c.requires.all;
+      ordered
+          = start-ordered m x.result h x.ensures.is c.if-x-t.true left.ensures c.requires.meets.ordered;
+      m_in_bounds = omega
+          (arith, c.requires.m_in_bounds, start-room m x.result h x.ensures.is c.if-x-t.true left.ensures);
+    }
 
 pub returns-then-x-t : goal.returns-then-x-t
 returns-then-x-t c =

@@ -33,24 +33,27 @@ insert_at-moves-requires c =
 pub returns : goal.returns
 returns c =
     let so_far : (let count = c.count-n in let ring = c.ring_end-r in Changed true Waiting c.args.m.now
-        (set (set (put_mid (from_of Waiting) (span_of Waiting) c.args.m.now c.insert_at-moves.new.q) (slot_of Waiting) (count.result + 1))
-            ring_word (next ring.result)) (insert_at c.args.at c.args.x (sessions Waiting c.args.m.now)))
-                = (let count = c.count-n in let ring = c.ring_end-r in let l = lot-at Waiting refl refl ring.ensures.value c.requires.form
-                    count.ensures in accepted-at c.insert_at-moves.new.q (count.result + 1) ring.ensures.value c.requires.form
-                        c.insert_at-moves.auto.q c.insert_at-moves.ensures.made.good
-                            (c.insert_at-moves.ensures.made.list ∙ ap (λ (x : Lot). insert_at c.args.at c.args.x (used x)) l)) in
-    let count = c.count-n in record { shows = accepted-now c.args.at c.args.x c.requires.form c.requires.storable.of_four (so_far); moves
-        = omega (arith, c.insert_at-moves.ensures.moves, count.ensures) }
+    (set (set (put_mid (from_of Waiting) (span_of Waiting) c.args.m.now c.insert_at-moves.new.q) (slot_of Waiting) (count.result + 1))
+    ring_word (next ring.result)) (insert_at c.args.at c.args.x (sessions Waiting c.args.m.now)))
+    = (let count = c.count-n in let ring = c.ring_end-r in let l = lot-at Waiting refl refl ring.ensures.value c.requires.form
+    count.ensures in accepted-at c.insert_at-moves.new.q (count.result + 1) ring.ensures.value c.requires.form
+    c.insert_at-moves.auto.q c.insert_at-moves.ensures.made.good
+    (c.insert_at-moves.ensures.made.list ∙ ap (λ (x : Lot). insert_at c.args.at c.args.x (used x)) l)) in
+    let count = c.count-n in record {
+      shows = accepted-now c.args.at c.args.x c.requires.form c.requires.storable.of_four (so_far);
+      moves
+          = omega (arith, c.insert_at-moves.ensures.moves, count.ensures);
+    }
 
 pub bounds-m-3 : goal.bounds-m-3
 bounds-m-3 c =
     let so_far : (let count = c.count-n in let ring = c.ring_end-r in Changed true Waiting c.args.m.now
-        (set (set (put_mid (from_of Waiting) (span_of Waiting) c.args.m.now c.insert_at-moves.new.q) (slot_of Waiting) (count.result + 1))
-            ring_word (next ring.result)) (insert_at c.args.at c.args.x (sessions Waiting c.args.m.now)))
-                = (let count = c.count-n in let ring = c.ring_end-r in let l = lot-at Waiting refl refl ring.ensures.value c.requires.form
-                    count.ensures in accepted-at c.insert_at-moves.new.q (count.result + 1) ring.ensures.value c.requires.form
-                        c.insert_at-moves.auto.q c.insert_at-moves.ensures.made.good
-                            (c.insert_at-moves.ensures.made.list ∙ ap (λ (x : Lot). insert_at c.args.at c.args.x (used x)) l)) in
+    (set (set (put_mid (from_of Waiting) (span_of Waiting) c.args.m.now c.insert_at-moves.new.q) (slot_of Waiting) (count.result + 1))
+    ring_word (next ring.result)) (insert_at c.args.at c.args.x (sessions Waiting c.args.m.now)))
+    = (let count = c.count-n in let ring = c.ring_end-r in let l = lot-at Waiting refl refl ring.ensures.value c.requires.form
+    count.ensures in accepted-at c.insert_at-moves.new.q (count.result + 1) ring.ensures.value c.requires.form
+    c.insert_at-moves.auto.q c.insert_at-moves.ensures.made.good
+    (c.insert_at-moves.ensures.made.list ∙ ap (λ (x : Lot). insert_at c.args.at c.args.x (used x)) l)) in
     let count = c.count-n in
     let ring = c.ring_end-r in
     let x = set (put_mid (from_of Waiting) (span_of Waiting) c.args.m.now c.insert_at-moves.new.q) (slot_of Waiting)
@@ -66,23 +69,23 @@ offset_bounds-m-c c = omega (arith, c.requires.storable.of_four)
 pub bounds-m-c : goal.bounds-m-c
 bounds-m-c c =
     let so_far : (let count = c.count-n in let ring = c.ring_end-r in Changed true Waiting c.args.m.now
-        (set (set (put_mid (from_of Waiting) (span_of Waiting) c.args.m.now c.insert_at-moves.new.q) (slot_of Waiting) (count.result + 1))
-            ring_word (next ring.result)) (insert_at c.args.at c.args.x (sessions Waiting c.args.m.now)))
-                = (let count = c.count-n in let ring = c.ring_end-r in let l = lot-at Waiting refl refl ring.ensures.value c.requires.form
-                    count.ensures in accepted-at c.insert_at-moves.new.q (count.result + 1) ring.ensures.value c.requires.form
-                        c.insert_at-moves.auto.q c.insert_at-moves.ensures.made.good
-                            (c.insert_at-moves.ensures.made.list ∙ ap (λ (x : Lot). insert_at c.args.at c.args.x (used x)) l)) in
+    (set (set (put_mid (from_of Waiting) (span_of Waiting) c.args.m.now c.insert_at-moves.new.q) (slot_of Waiting) (count.result + 1))
+    ring_word (next ring.result)) (insert_at c.args.at c.args.x (sessions Waiting c.args.m.now)))
+    = (let count = c.count-n in let ring = c.ring_end-r in let l = lot-at Waiting refl refl ring.ensures.value c.requires.form
+    count.ensures in accepted-at c.insert_at-moves.new.q (count.result + 1) ring.ensures.value c.requires.form
+    c.insert_at-moves.auto.q c.insert_at-moves.ensures.made.good
+    (c.insert_at-moves.ensures.made.list ∙ ap (λ (x : Lot). insert_at c.args.at c.args.x (used x)) l)) in
     omega (arith, c.requires.storable.of_four, (so_far).shown.whole)
 
 pub overflow_add-m-3 : goal.overflow_add-m-3
 overflow_add-m-3 c =
     let so_far : (let count = c.count-n in let ring = c.ring_end-r in Changed true Waiting c.args.m.now
-        (set (set (put_mid (from_of Waiting) (span_of Waiting) c.args.m.now c.insert_at-moves.new.q) (slot_of Waiting) (count.result + 1))
-            ring_word (next ring.result)) (insert_at c.args.at c.args.x (sessions Waiting c.args.m.now)))
-                = (let count = c.count-n in let ring = c.ring_end-r in let l = lot-at Waiting refl refl ring.ensures.value c.requires.form
-                    count.ensures in accepted-at c.insert_at-moves.new.q (count.result + 1) ring.ensures.value c.requires.form
-                        c.insert_at-moves.auto.q c.insert_at-moves.ensures.made.good
-                            (c.insert_at-moves.ensures.made.list ∙ ap (λ (x : Lot). insert_at c.args.at c.args.x (used x)) l)) in
+    (set (set (put_mid (from_of Waiting) (span_of Waiting) c.args.m.now c.insert_at-moves.new.q) (slot_of Waiting) (count.result + 1))
+    ring_word (next ring.result)) (insert_at c.args.at c.args.x (sessions Waiting c.args.m.now)))
+    = (let count = c.count-n in let ring = c.ring_end-r in let l = lot-at Waiting refl refl ring.ensures.value c.requires.form
+    count.ensures in accepted-at c.insert_at-moves.new.q (count.result + 1) ring.ensures.value c.requires.form
+    c.insert_at-moves.auto.q c.insert_at-moves.ensures.made.good
+    (c.insert_at-moves.ensures.made.list ∙ ap (λ (x : Lot). insert_at c.args.at c.args.x (used x)) l)) in
     let conn = c.args.x.conn in
     let word = count_word refl c.requires.form (so_far) conn c.requires.storable.of_four in
     omega (arith, word, count≤length (of conn) (sessions Waiting c.args.m.now), c.requires.at_in_bounds)
@@ -90,10 +93,10 @@ overflow_add-m-3 c =
 pub bounds-m-c-2 : goal.bounds-m-c-2
 bounds-m-c-2 c =
     let so_far : (let count = c.count-n in let ring = c.ring_end-r in Changed true Waiting c.args.m.now
-        (set (set (put_mid (from_of Waiting) (span_of Waiting) c.args.m.now c.insert_at-moves.new.q) (slot_of Waiting) (count.result + 1))
-            ring_word (next ring.result)) (insert_at c.args.at c.args.x (sessions Waiting c.args.m.now)))
-                = (let count = c.count-n in let ring = c.ring_end-r in let l = lot-at Waiting refl refl ring.ensures.value c.requires.form
-                    count.ensures in accepted-at c.insert_at-moves.new.q (count.result + 1) ring.ensures.value c.requires.form
-                        c.insert_at-moves.auto.q c.insert_at-moves.ensures.made.good
-                            (c.insert_at-moves.ensures.made.list ∙ ap (λ (x : Lot). insert_at c.args.at c.args.x (used x)) l)) in
+    (set (set (put_mid (from_of Waiting) (span_of Waiting) c.args.m.now c.insert_at-moves.new.q) (slot_of Waiting) (count.result + 1))
+    ring_word (next ring.result)) (insert_at c.args.at c.args.x (sessions Waiting c.args.m.now)))
+    = (let count = c.count-n in let ring = c.ring_end-r in let l = lot-at Waiting refl refl ring.ensures.value c.requires.form
+    count.ensures in accepted-at c.insert_at-moves.new.q (count.result + 1) ring.ensures.value c.requires.form
+    c.insert_at-moves.auto.q c.insert_at-moves.ensures.made.good
+    (c.insert_at-moves.ensures.made.list ∙ ap (λ (x : Lot). insert_at c.args.at c.args.x (used x)) l)) in
     (omega (arith, c.requires.storable.of_four, (so_far).shown.whole))

@@ -13,9 +13,13 @@ conn_at-requires c =
     let ring = c.ring_end-r.ensures.value in
     let from = c.from-a in
     let to = c.to-e in
-    let which = c.args.which in record { good = good-at which from.ensures.value to.ensures.value ring c.requires.form count.ensures; ring
-        = ring-at which from.ensures.value to.ensures.value ring c.requires.form; at_lt_n = omega
-            (arith, c.requires.at_in_bounds, count.ensures) }
+    let which = c.args.which in record {
+      good = good-at which from.ensures.value to.ensures.value ring c.requires.form count.ensures;
+      ring
+          = ring-at which from.ensures.value to.ensures.value ring c.requires.form;
+      at_lt_n = omega
+          (arith, c.requires.at_in_bounds, count.ensures);
+    }
 
 pub returns : goal.returns
 returns c =

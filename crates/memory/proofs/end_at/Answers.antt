@@ -11,8 +11,11 @@ use Rattle.memory.proofs.end_at.Goals as goal
 pub end_at-requires : goal.end_at-requires
 end_at-requires c =
     let count = c.count-n in
-    record { good = good-at Started refl refl refl c.requires.form count.ensures; at_lt_n = omega
-        (arith, c.requires.at_in_bounds, count.ensures) }
+    record {
+      good = good-at Started refl refl refl c.requires.form count.ensures;
+      at_lt_n = omega
+          (arith, c.requires.at_in_bounds, count.ensures);
+    }
 
 pub returns : goal.returns
 returns c =

@@ -11,8 +11,11 @@ find-requires c =
     let ring = c.ring_end-r.ensures.value in
     let from = c.from-a in
     let to = c.to-e in
-    let which = c.args.which in record { good = good-at which from.ensures.value to.ensures.value ring c.requires count.ensures; ring
-        = ring-at which from.ensures.value to.ensures.value ring c.requires }
+    let which = c.args.which in record {
+      good = good-at which from.ensures.value to.ensures.value ring c.requires count.ensures;
+      ring
+          = ring-at which from.ensures.value to.ensures.value ring c.requires;
+    }
 
 pub returns : goal.returns
 returns c =

@@ -11,9 +11,11 @@ pub find_from-requires : goal.find_from-requires
 find_from-requires c =
     let count = c.count-n in
     let ring = c.ring_end-r.ensures.value in
-    let l = lot-at Waiting refl refl ring c.requires.form count.ensures in record
-        { good = good-at Waiting refl refl ring c.requires.form count.ensures; ring = ring-at Waiting refl refl ring c.requires.form;
-            sorted = subst (λ (x : Lot). Sorted (used x)) (sym l) c.requires.sorted }
+    let l = lot-at Waiting refl refl ring c.requires.form count.ensures in record {
+      good = good-at Waiting refl refl ring c.requires.form count.ensures;
+      ring = ring-at Waiting refl refl ring c.requires.form;
+      sorted = subst (λ (x : Lot). Sorted (used x)) (sym l) c.requires.sorted;
+    }
 
 pub returns : goal.returns
 returns c =

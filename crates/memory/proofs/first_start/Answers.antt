@@ -16,9 +16,11 @@ returns-then-n-eq0 c =
 
 pub start_at-requires : goal.start_at-requires
 start_at-requires c =
-    let ring = c.ring_end-r.ensures.value in record
-        { good = good-at Waiting refl refl ring c.requires.form c.count-n.ensures; ring = ring-at Waiting refl refl ring c.requires.form;
-            at_lt_n = omega arith }
+    let ring = c.ring_end-r.ensures.value in record {
+      good = good-at Waiting refl refl ring c.requires.form c.count-n.ensures;
+      ring = ring-at Waiting refl refl ring c.requires.form;
+      at_lt_n = omega arith;
+    }
 
 pub returns : goal.returns
 returns c =

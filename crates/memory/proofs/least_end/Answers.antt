@@ -22,7 +22,7 @@ pub end_at-requires : goal.end_at-requires
 end_at-requires c =
     let count = c.count-n in
     let at = c.least_end-i.ensures ∙ ap (λ (x : Lot). least_end (used x)) (lot-at Started refl refl refl c.requires count.ensures) in
-        record {
+    record {
       good = good-at Started refl refl refl c.requires count.ensures;
       at_lt_n = omega (
         arith,

@@ -11,8 +11,11 @@ use Rattle.memory.proofs.mux_at.Goals as goal
 pub mux_at-requires : goal.mux_at-requires
 mux_at-requires c =
     let count = c.count-n in
-    record { good = good-at Started refl refl refl c.requires.form count.ensures; at_lt_n = omega
-        (arith, c.requires.at_in_bounds, count.ensures) }
+    record {
+      good = good-at Started refl refl refl c.requires.form count.ensures;
+      at_lt_n = omega
+          (arith, c.requires.at_in_bounds, count.ensures);
+    }
 
 pub returns : goal.returns
 returns c =

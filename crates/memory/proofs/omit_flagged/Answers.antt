@@ -42,23 +42,23 @@ overflow_sub-m c =
 pub bounds-m-c : goal.bounds-m-c
 bounds-m-c c =
     let so_far : (Changed false Waiting c.args.m.now
-        (set (put_mid (from_of Waiting) (span_of Waiting) c.args.m.now c.omit_flagged.new.q) (slot_of Waiting) c.args.left)
-            (unflagged c.args.flags.now (sessions Waiting c.args.m.now)))
-                = (let count = c.count-n in let ring = c.ring_end-r in let l = lot-at Waiting refl refl ring.ensures.value c.requires.form
-                    count.ensures in changed-at Waiting refl refl ring.ensures.value c.requires.form c.omit_flagged.new.q
-                        c.omit_flagged.auto.q c.args.left refl c.omit_flagged.ensures.good
-                            (c.omit_flagged.ensures.list ∙ ap (λ (x : Lot). unflagged c.args.flags.now (used x)) l)) in
+    (set (put_mid (from_of Waiting) (span_of Waiting) c.args.m.now c.omit_flagged.new.q) (slot_of Waiting) c.args.left)
+    (unflagged c.args.flags.now (sessions Waiting c.args.m.now)))
+    = (let count = c.count-n in let ring = c.ring_end-r in let l = lot-at Waiting refl refl ring.ensures.value c.requires.form
+    count.ensures in changed-at Waiting refl refl ring.ensures.value c.requires.form c.omit_flagged.new.q
+    c.omit_flagged.auto.q c.args.left refl c.omit_flagged.ensures.good
+    (c.omit_flagged.ensures.list ∙ ap (λ (x : Lot). unflagged c.args.flags.now (used x)) l)) in
     omega (arith, c.requires.conn_bound, (so_far).shown.whole)
 
 pub overflow_sub-m-2 : goal.overflow_sub-m-2
 overflow_sub-m-2 c =
     let so_far : (Changed false Waiting c.args.m.now
-        (set (put_mid (from_of Waiting) (span_of Waiting) c.args.m.now c.omit_flagged.new.q) (slot_of Waiting) c.args.left)
-            (unflagged c.args.flags.now (sessions Waiting c.args.m.now)))
-                = (let count = c.count-n in let ring = c.ring_end-r in let l = lot-at Waiting refl refl ring.ensures.value c.requires.form
-                    count.ensures in changed-at Waiting refl refl ring.ensures.value c.requires.form c.omit_flagged.new.q
-                        c.omit_flagged.auto.q c.args.left refl c.omit_flagged.ensures.good
-                            (c.omit_flagged.ensures.list ∙ ap (λ (x : Lot). unflagged c.args.flags.now (used x)) l)) in
+    (set (put_mid (from_of Waiting) (span_of Waiting) c.args.m.now c.omit_flagged.new.q) (slot_of Waiting) c.args.left)
+    (unflagged c.args.flags.now (sessions Waiting c.args.m.now)))
+    = (let count = c.count-n in let ring = c.ring_end-r in let l = lot-at Waiting refl refl ring.ensures.value c.requires.form
+    count.ensures in changed-at Waiting refl refl ring.ensures.value c.requires.form c.omit_flagged.new.q
+    c.omit_flagged.auto.q c.args.left refl c.omit_flagged.ensures.good
+    (c.omit_flagged.ensures.list ∙ ap (λ (x : Lot). unflagged c.args.flags.now (used x)) l)) in
     let l = sessions Waiting c.args.m.now in
     let conn = c.args.conn in
     omega (
@@ -72,23 +72,23 @@ overflow_sub-m-2 c =
 pub bounds-m-c-2 : goal.bounds-m-c-2
 bounds-m-c-2 c =
     let so_far : (Changed false Waiting c.args.m.now
-        (set (put_mid (from_of Waiting) (span_of Waiting) c.args.m.now c.omit_flagged.new.q) (slot_of Waiting) c.args.left)
-            (unflagged c.args.flags.now (sessions Waiting c.args.m.now)))
-                = (let count = c.count-n in let ring = c.ring_end-r in let l = lot-at Waiting refl refl ring.ensures.value c.requires.form
-                    count.ensures in changed-at Waiting refl refl ring.ensures.value c.requires.form c.omit_flagged.new.q
-                        c.omit_flagged.auto.q c.args.left refl c.omit_flagged.ensures.good
-                            (c.omit_flagged.ensures.list ∙ ap (λ (x : Lot). unflagged c.args.flags.now (used x)) l)) in
+    (set (put_mid (from_of Waiting) (span_of Waiting) c.args.m.now c.omit_flagged.new.q) (slot_of Waiting) c.args.left)
+    (unflagged c.args.flags.now (sessions Waiting c.args.m.now)))
+    = (let count = c.count-n in let ring = c.ring_end-r in let l = lot-at Waiting refl refl ring.ensures.value c.requires.form
+    count.ensures in changed-at Waiting refl refl ring.ensures.value c.requires.form c.omit_flagged.new.q
+    c.omit_flagged.auto.q c.args.left refl c.omit_flagged.ensures.good
+    (c.omit_flagged.ensures.list ∙ ap (λ (x : Lot). unflagged c.args.flags.now (used x)) l)) in
     (omega (arith, c.requires.conn_bound, (so_far).shown.whole))
 
 pub returns : goal.returns
 returns c =
     let so_far : (Changed false Waiting c.args.m.now
-        (set (put_mid (from_of Waiting) (span_of Waiting) c.args.m.now c.omit_flagged.new.q) (slot_of Waiting) c.args.left)
-            (unflagged c.args.flags.now (sessions Waiting c.args.m.now)))
-                = (let count = c.count-n in let ring = c.ring_end-r in let l = lot-at Waiting refl refl ring.ensures.value c.requires.form
-                    count.ensures in changed-at Waiting refl refl ring.ensures.value c.requires.form c.omit_flagged.new.q
-                        c.omit_flagged.auto.q c.args.left refl c.omit_flagged.ensures.good
-                            (c.omit_flagged.ensures.list ∙ ap (λ (x : Lot). unflagged c.args.flags.now (used x)) l)) in
+    (set (put_mid (from_of Waiting) (span_of Waiting) c.args.m.now c.omit_flagged.new.q) (slot_of Waiting) c.args.left)
+    (unflagged c.args.flags.now (sessions Waiting c.args.m.now)))
+    = (let count = c.count-n in let ring = c.ring_end-r in let l = lot-at Waiting refl refl ring.ensures.value c.requires.form
+    count.ensures in changed-at Waiting refl refl ring.ensures.value c.requires.form c.omit_flagged.new.q
+    c.omit_flagged.auto.q c.args.left refl c.omit_flagged.ensures.good
+    (c.omit_flagged.ensures.list ∙ ap (λ (x : Lot). unflagged c.args.flags.now (used x)) l)) in
     let count = c.count-n in
     let l = sessions Waiting c.args.m.now in
     less-now refl c.requires.form c.args.conn (flagged c.args.flags.now l) (count.result - c.args.left) c.requires.conn_bound c.requires.all

@@ -12,10 +12,13 @@ use Rattle.memory.proofs.play.Goals as goal
 pub play-requires : goal.play-requires
 play-requires c =
     let count = c.count-n in
-    let l = lot-at Started refl refl refl c.requires.form count.ensures in record
-        { good = good-at Started refl refl refl c.requires.form count.ensures; n_nonzero = omega
-            (arith, c.requires.nonzero, count.ensures); d_bound = omega
-                (arith, c.requires.d_bound, ap (λ (x : Lot). (get_or (used x) 0 empty).played.0) l) }
+    let l = lot-at Started refl refl refl c.requires.form count.ensures in record {
+      good = good-at Started refl refl refl c.requires.form count.ensures;
+      n_nonzero = omega
+          (arith, c.requires.nonzero, count.ensures);
+      d_bound = omega
+          (arith, c.requires.d_bound, ap (λ (x : Lot). (get_or (used x) 0 empty).played.0) l);
+    }
 
 pub returns : goal.returns
 returns c =

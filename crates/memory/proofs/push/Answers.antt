@@ -10,8 +10,12 @@ use Rattle.memory.proofs.push.Goals as goal
 
 pub push-requires : goal.push-requires
 push-requires c =
-    let count = c.count-n in record { good = good-at Started refl refl refl c.requires.form count.ensures; n_bound = omega
-        (arith, c.requires.m_len_bound.0, count.ensures, room_at Started refl refl c.requires.form); narrow = c.requires.m_len_bound.1 }
+    let count = c.count-n in record {
+      good = good-at Started refl refl refl c.requires.form count.ensures;
+      n_bound = omega
+          (arith, c.requires.m_len_bound.0, count.ensures, room_at Started refl refl c.requires.form);
+      narrow = c.requires.m_len_bound.1;
+    }
 
 pub returns : goal.returns
 returns c =

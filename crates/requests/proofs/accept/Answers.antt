@@ -9,14 +9,23 @@ use Rattle.requests.proofs.accept.Goals as goal
 
 pub make_way-way-requires : goal.make_way-way-requires
 make_way-way-requires c =
-    record { form = c.requires.form; holding = c.requires.holding; at_value = c.requires.at_value; taken_value = c.requires.taken_value;
-        in_bounds = c.requires.in_bounds }
+    record {
+      form = c.requires.form;
+      holding = c.requires.holding;
+      at_value = c.requires.at_value;
+      taken_value = c.requires.taken_value;
+      in_bounds = c.requires.in_bounds;
+    }
 
 pub accept-moved-requires : goal.accept-moved-requires
 accept-moved-requires c =
     let w = c.make_way-way.ensures in
-    record { form = w.does.shows.form; at_in_bounds = (way-within w, omega (arith, way-lean w, c.requires.m_len_bound)); storable
-        = c.requires.storable }
+    record {
+      form = w.does.shows.form;
+      at_in_bounds = (way-within w, omega (arith, way-lean w, c.requires.m_len_bound));
+      storable
+          = c.requires.storable;
+    }
 
 pub slice_bounds-splice_response-count : goal.slice_bounds-splice_response-count
 slice_bounds-splice_response-count c =

@@ -36,8 +36,17 @@ splice_result-n-requires c =
     let a = asks c.args.conn c.args.r (see m).queue yes c.session_at-new.ensures c.find_start-at.ensures in
     let b = asks-taken c.args.conn c.args.r (see m).queue.waiting c.in-At.t c.session_at-new.ensures
     c.is_taken-taken.ensures in
-    record { form = c.requires.form; holding = c.requires.holding; m_bound = c.requires.m_bound; conn_bound = c.requires.conn_bound; within
-        = c.requires.asked.start; m_value = a.known; at_value = a.at; taken_value = b }
+    record {
+      form = c.requires.form;
+      holding = c.requires.holding;
+      m_bound = c.requires.m_bound;
+      conn_bound = c.requires.conn_bound;
+      within
+          = c.requires.asked.start;
+      m_value = a.known;
+      at_value = a.at;
+      taken_value = b;
+    }
 
 pub accept-requires : goal.accept-requires
 accept-requires c =
@@ -50,8 +59,15 @@ accept-requires c =
     let fit = storable c.args.conn c.args.r m a.is n low c.requires.asked in
     let b = asks-taken c.args.conn c.args.r (see m).queue.waiting c.in-At.t c.session_at-new.ensures
     c.is_taken-taken.ensures in
-    record { form = c.requires.form; holding = c.requires.holding; at_value = a.at; taken_value = b; m_len_bound = room; storable = fit;
-        in_bounds = c.requires.in_bounds }
+    record {
+      form = c.requires.form;
+      holding = c.requires.holding;
+      at_value = a.at;
+      taken_value = b;
+      m_len_bound = room;
+      storable = fit;
+      in_bounds = c.requires.in_bounds;
+    }
 
 pub returns-then-n-eq100 : goal.returns-then-n-eq100
 returns-then-n-eq100 c =

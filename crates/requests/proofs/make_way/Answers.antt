@@ -10,8 +10,13 @@ use Rattle.requests.proofs.make_way.Goals as goal
 pub end_waiting-to-requires : goal.end_waiting-to-requires
 end_waiting-to-requires c =
     let i = way-taken c.args.t.0 c.args.m.now c.requires.at_value c.requires.taken_value c.if-taken.true c.requires.holding in
-    record { form = c.requires.form; at_in_bounds = omega (arith, i); ordered = ordered-now _ _ c.requires.holding; m_in_bounds = omega
-        (arith, few-wait c.requires.holding, c.requires.in_bounds) }
+    record {
+      form = c.requires.form;
+      at_in_bounds = omega (arith, i);
+      ordered = ordered-now _ _ c.requires.holding;
+      m_in_bounds = omega
+          (arith, few-wait c.requires.holding, c.requires.in_bounds);
+    }
 
 pub find_start-i-requires : goal.find_start-i-requires
 find_start-i-requires c =

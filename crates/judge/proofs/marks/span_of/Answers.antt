@@ -13,9 +13,9 @@ returns-then-marks_message c =
 pub returns-then-mark-eq84 : goal.returns-then-mark-eq84
 returns-then-mark-eq84 c =
     span-tick c.args.l.now c.requires.l_nonzero c.requires.mark_value (sym c.marks_message.ensures ∙ c.if-marks_message.false)
-        c.if-mark-eq84.true
+    c.if-mark-eq84.true
 
 pub returns : goal.returns
 returns c =
     span-mark c.args.l.now c.requires.l_nonzero c.requires.mark_value (sym c.marks_message.ensures ∙ c.if-marks_message.false)
-        c.if-mark-eq84.false
+    c.if-mark-eq84.false
