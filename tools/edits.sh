@@ -2,7 +2,8 @@
 # edits.sh [--gate] [NAME | NAME/LABEL ..]: tries the further must-fail edits of the named crates, or the named ones, or all, which stand in
 # crates/NAME/more-edits so that the gate does not get too long. `rt ci` tries them, in a copy of the repository in which they stand in
 # must-fail/ in the place of those there: each over what a check of its crate as it stands proved, so that this alone refuses nothing, and
-# from nothing what is still proved there. What `rt ci` passed on this machine is not proved again. RT_JOBS at a time, if it is set.
+# from nothing what is still proved there. What `rt ci` passed on this machine is not proved again, and where crates or edits are named only
+# those crates and the ones below them are. RT_JOBS at a time, if it is set.
 # With --gate every edit of the repository is first made in its text (tools/applies.sh); then those of the named that have a line '# gate'
 # are tried, and of the others every tenth, from the one on that the commit's hash says. They are counted in the order of crates, so each
 # tenth has a tenth of each crate's, the slow ones' too, and takes about as long as any other; the hash lets nobody choose.
@@ -16,6 +17,8 @@ if [ "${1:-}" = --gate ]; then
     gate=yes
     shift
 fi
+named=yes
+[ -z "$gate" ] && [ $# -gt 0 ] || named=
 [ $# -gt 0 ] || set -- $(ls -d crates/*/more-edits | cut -d / -f 2)
 for name; do
     case $name in
@@ -91,15 +94,18 @@ while read -r edit; do
     cp "$edit" "$room/${edit%/more-edits/*}/must-fail/"
 done <"$work/list"
 
-# trial: those of crates that are listed
-trial() { (cd "$room" && rt ci); }
+# trial CRATE..: those of the listed crates
+trial() { (cd "$room" && rt ci "$@"); }
+set --
+[ -z "$named" ] || set -- $(cut -d / -f 2 "$work/list" | uniq)
 echo "edits: trying $edits (some minutes, many where nothing is proved yet)"
-watched "$work/log" "$edits" 'rt: must-fail *' trial || :
+watched "$work/log" "$edits" 'rt: must-fail *' trial "$@" || :
 # a refusal of names says nothing: only a proof file named what the edit took away
 names='refused, as it must be (only because a proof file names'
 if grep -F "$names" "$work/log" >"$work/misnamed"; then
     sed 's/^rt: must-fail \([^:]*\): .*/edits: \1: BAD EDIT: refused only for a name that a proof file has/' "$work/misnamed"
 fi
 grep '^rt: must-fail .*: refused, as it must be' "$work/log" | grep -vF "$names" >"$work/refused" || :
-[ "$(wc -l <"$work/refused")" -eq "$edits" ] || grep -E '^rt: .*(NOT PROVED|FAILED|[Nn]ote:|disk)' "$work/log" | tail -n 12
+[ "$(wc -l <"$work/refused")" -eq "$edits" ] ||
+    grep -E '^rt: (note: |FAILED|.*NOT PROVED|.*disk)' "$work/log" | tail -n 12
 summed "$(wc -l <"$work/refused")"
