@@ -34,6 +34,7 @@ values() {
     }'
 }
 
+mkdir -p target
 values >target/layout
 passed=0 failed=0
 # same WHAT CONST FOUND: what another file says is what memory's constant gives
