@@ -1,10 +1,10 @@
 #!/bin/sh
-# twice.sh [--check]: runs of eight or more lines that stand in two places of the .rt and .antt files, longest first:
-# `N lines  A:from  B:from`. Blank lines, comments, imports and the scaffold of a proof (its needs, the places of its facts, the list at its
-# end) do not count; white space is folded. Nor do pairs within the answers to one function's goals: each answer stands by itself, and says
-# again which facts it rests on. The crates door_c, door_rolling_c and door_bench_c are left out: they say again what they export. A pair is a
-# place to look at, no fault: what the second engine says again on purpose is named in the heads
-# of its crates. With --check the number of such lines is held to the bound below, and the last line is 'N passed, M failed'.
+# twice.sh [--check]: runs of eight or more lines that stand in two places of the .rt and .antt files, longest first: `N lines  A:from
+# B:from`. Blank lines, comments, imports and the scaffold of a proof (its needs, the places of its facts, the list at its end) do not
+# count; white space is folded. Nor do pairs within the answers to one function's goals: each answer stands by itself, and says again
+# which facts it rests on. The crates door_c, door_rolling_c and door_bench_c are left out: they say again what they export. A pair is a
+# place to look at, no fault: what the second engine says again on purpose is named in the heads of its crates. With --check the number of
+# such lines is held to the bound below, and the last line is 'N passed, M failed'.
 set -eu
 . "$(dirname "$0")/words.sh"
 case $#${1:-} in
