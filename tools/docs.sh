@@ -162,7 +162,7 @@ figures >>"$work/wrong"
 undecided >>"$work/wrong"
 taken >>"$work/wrong"
 minutes >>"$work/wrong"
-for page in $(echo "$pages" | grep -vE '^(docs/notes/|CHANGELOG|docs/DECISIONS)'); do names "$page"; done >"$work/names"
+for page in $(echo "$pages" | grep -vE '^(docs/notes/|CHANGELOG|docs/DECISIONS|docs/PORT)'); do names "$page"; done >"$work/names"
 awk -F '\t' '
 NR == FNR { known[$1] = 1; next }
 {
