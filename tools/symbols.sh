@@ -106,6 +106,14 @@ one_version() {
         END { exit good != 3 }'
 }
 
+# promised CRATE: the name, parameters and clauses of each of its functions for C
+promised() {
+    awk '
+    /^pub (extern "C" )?fn splicer_/ { on = 1; text = "" }
+    on && /^\{/ { on = 0; gsub(/[ \t]+/, " ", text); gsub(/\( /, "(", text); gsub(/, \)/, ")", text); sub(/extern "C" /, "", text); print text }
+    on { text = text " " $0 }' "crates/$1/src/lib.rt"
+}
+
 if one_version; then
     passed=$((passed + 1))
 else
@@ -117,6 +125,9 @@ for name in door rolldoor bench; do
     below=$(crate_of "$name")
     list "Cited-of-$name" cited "${below%_c}"
     same "lib$name.a" "Cited-of-$name"
+    list "promises-of-$below" promised "$below"
+    list "promises-of-${below%_c}" promised "${below%_c}"
+    same "promises-of-$below" "promises-of-${below%_c}"
 done
 headers=$(ls include/*.h | grep -v '/splicer_bench\.h$')
 list libdoor.a-and-librolldoor.a cat "$work/libdoor.a" "$work/librolldoor.a"
