@@ -110,7 +110,14 @@ one_version() {
 promised() {
     awk '
     /^pub (extern "C" )?fn splicer_/ { on = 1; text = "" }
-    on && /^\{/ { on = 0; gsub(/[ \t]+/, " ", text); gsub(/\( /, "(", text); gsub(/, \)/, ")", text); sub(/extern "C" /, "", text); print text }
+    on && /^\{/ {
+        on = 0
+        gsub(/[ \t]+/, " ", text)
+        gsub(/\( /, "(", text)
+        gsub(/, \)/, ")", text)
+        sub(/extern "C" /, "", text)
+        print text
+    }
     on { text = text " " $0 }' "crates/$1/src/lib.rt"
 }
 
