@@ -177,9 +177,9 @@ unfolding step_of
 step_back r last reading a b e = omega arith
 
 module _ (clock last reading : ℕ) where
-  pub step-over : 8100000 < step_of last reading → Never ≡ when_of (step_course clock reading (at last))
+  pub step_over : 8100000 < step_of last reading → Never ≡ when_of (step_course clock reading (at last))
   unfolding step_course when_of
-  step-over h = rw (lt-ltb 8100000 (step_of last reading) h)
+  step_over h = rw (lt-ltb 8100000 (step_of last reading) h)
 
   pub step_past : step_of last reading ≤ 8100000 → horizon ≤ moved_on clock last reading
       → Never ≡ when_of (step_course clock reading (at last))

@@ -57,6 +57,7 @@ fn step(last: u32, reading: u32) -> u32
 }
 
 // Where a reading brings the clock; never, if the step is over 8,100,000 ticks or past the time field's last second.
+#[tactic(auto, using(crate::proofs::Calls::step_over))]
 fn reached(clock: Ninths, last: u32, reading: u32) -> When
     requires { clock.0 < horizon }
     ensures { result ≡ when_of (step_course clock.0 reading (at last)) }

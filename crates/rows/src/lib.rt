@@ -67,6 +67,7 @@ pub fn row_at(e: &[u64], i: usize) -> Row
 }
 
 // How many rows are filled: all of sixteen, or none.
+#[tactic(auto, using(crate::proofs::Pages::fills_all, crate::proofs::Pages::fills_none))]
 pub fn to_fill(n: usize) -> usize
     ensures { result ≡ sixteen n }
 {
@@ -77,6 +78,7 @@ pub fn to_fill(n: usize) -> usize
 }
 
 // What the page answers: 0, or the house number for other than sixteen rows.
+#[tactic(auto, using(crate::proofs::Pages::page_good, crate::proofs::Pages::page_other))]
 pub fn page_number(n: usize) -> u64
     ensures { result ≡ page_number n }
 {
