@@ -5,10 +5,8 @@ use mathlib.Core.List.{List, [], ◌∷◌}
 use Prim.Native.Nat.{ℕ, ◌+◌}
 use lib.Dec.{eqb, ltb}
 use Rattle.rules.specs.declared.Refusal.{Refusal}
-use Rattle.rules.specs.declared.Framing.{Framing}
-use Rattle.rules.specs.declared.Framing.TheVariants.{Framed, Unframed}
 use Rattle.rules.specs.declared.Message.{Message}
-use Rattle.rules.specs.declared.Message.TheVariants.{Init, Alive, Splice, Abort, Config, Extended, Unreadable}
+use Rattle.rules.specs.declared.Message.TheVariants.{Init, Alive, Splice, Abort, Config, Extended}
 use Rattle.rules.specs.Units.{time_of, bad_micros, from_micros, to_micros}
 use Rattle.rules.specs.Lists.{All}
 use Rattle.rules.specs.Bytes.{data_of}
@@ -32,6 +30,8 @@ use Rattle.recall_rules.specs.Calls.{move_call, tick_call, cue_call, call, begun
 use Rattle.recall_rules.proofs.Ends.{chosen, fit, closed_by-same}
 use Rattle.recall_rules.proofs.Instants.{run_all-same}
 use Rattle.recall_rules.proofs.Answers.{splice-same, abort-same, alive-same, extended-same}
+use Rattle.std.specs.Prelude.{Err, Ok, Result, None, Option, Some}
+use Rattle.rules.specs.declared.Header.{Header}
 
 -- the splicer of a pass whose verdicts show q; its primary sum is in no answer
 abbrev pub shown : Pass → ℕ → Queue → Splicer
@@ -72,11 +72,11 @@ module _ (s : Pass) (p : ℕ) (q : Queue) (e : Shows s.verdicts q) (h : Holding 
             (λ f. record { splicer = refl; shows = e }) (λ f. stays);
       }
 
-  read_same : (c : ℕ) (m : Message) (d section : List ℕ) → SameAnswered (answer_read c m d section s)
+  read_same : (c : ℕ) (m : Option Message) (d section : List ℕ) → SameAnswered (answer_read c m d section s)
       (answers.answer_read c m d section (shown s p q))
   unfolding answer_read alive_response config_response answers.answer_read answers.alive_response answers.config_response
-  read_same c (Init revision) d section = init-same c revision d
-  read_same c Alive d section =
+  read_same c (Some (Init revision)) d section = init-same c revision d
+  read_same c (Some Alive) d section =
       let a = alive-same s.clock s.verdicts q e h in
       record {
         written = ap₂ (λ x y. AliveResponse c 100 x y (to_micros (record { 0 = s.clock })).0 ∷ []) a.0 a.1;
@@ -84,7 +84,7 @@ module _ (s : Pass) (p : ℕ) (q : Queue) (e : Shows s.verdicts q) (h : Holding 
         moved = refl;
         state = stays;
       }
-  read_same c (Splice r) d section =
+  read_same c (Some (Splice r)) d section =
       let t = splice-same s.clock s.verdicts q e h s.clock c r in
       record {
         written = t.turn.written;
@@ -93,18 +93,18 @@ module _ (s : Pass) (p : ℕ) (q : Queue) (e : Shows s.verdicts q) (h : Holding 
         state =
             record { splicer = refl; shows = t.turn.shows };
       }
-  read_same c (Abort x) d section =
+  read_same c (Some (Abort x)) d section =
       let t = abort-same s.clock s.verdicts q e h c x in
       record { written = t.written; accepted = refl; moved = refl; state = record { splicer = refl; shows = t.shows } }
-  read_same c (Extended x) d section =
+  read_same c (Some (Extended x)) d section =
       record {
         written = ap (λ (y : Record). y ∷ []) (extended-same s.clock s.verdicts q e h c x);
         accepted = refl;
         moved = refl;
         state = stays;
       }
-  read_same c Config d section = says_same _
-  read_same c Unreadable d section = says_same _
+  read_same c (Some Config) d section = says_same _
+  read_same c None d section = says_same _
 
   answer-same : (c id : ℕ) (d section : List ℕ) → SameAnswered (answer c id d section s) (answers.answer c id d section (shown s p q))
   unfolding answer answers.answer
@@ -121,16 +121,16 @@ module _ (s : Pass) (p : ℕ) (q : Queue) (e : Shows s.verdicts q) (h : Holding 
   section-same : (loans : Loans) → section_of loans s ≡ calls.section_of loans (shown s p q)
   section-same loans = ap (λ n. cond (eqb n 0) loans.primary loans.insertion) (alive-same s.clock s.verdicts q e h).2
 
-  handled-same : (c : ℕ) (g : Framing) (l : List ℕ) (loans : Loans) → SameCalled (handled c g l loans s)
+  handled-same : (c : ℕ) (g : Result Header Refusal) (l : List ℕ) (loans : Loans) → SameCalled (handled c g l loans s)
       (calls.handled c g l loans (shown s p q))
   unfolding handled calls.handled
-  handled-same c (Unframed n) l loans = refused-same n
-  handled-same c (Framed id size) l loans =
+  handled-same c (Err n) l loans = refused-same n
+  handled-same c (Ok g) l loans =
       let z = shown s p q in
-      let d = data_of size l in
-      let a : SameAnswered (answer c id d (section_of loans s) s) (answers.answer c id d (calls.section_of loans z) z) =
-      rw (section-same loans) (answer-same c id d (calls.section_of loans z)) in
-      record { answer = ap (λ x. numbers.good (8 + size) x) a.written; accepted = a.accepted; moved = a.moved; state = a.state }
+      let d = data_of g.size l in
+      let a : SameAnswered (answer c g.id d (section_of loans s) s) (answers.answer c g.id d (calls.section_of loans z) z) =
+      rw (section-same loans) (answer-same c g.id d (calls.section_of loans z)) in
+      record { answer = ap (λ x. numbers.good (8 + g.size) x) a.written; accepted = a.accepted; moved = a.moved; state = a.state }
 
   move_same : (until room : ℕ) → SameCalled (move_call until room s) (calls.move_call until room (shown s p q))
   unfolding move_call ticked calls.move_call calls.ticked

@@ -8,8 +8,6 @@ use lib.Dec.{eqb, ltb}
 use lib.ListN.{length, get_or, set, length-append, length-set}
 use lib.Seq.{get_or-set_same, get_or-set_other}
 use borrow.Author.Tests.{ltb-true, ltb-false, lt-ltb, le-ltb, eqb-true, eqb-false}
-use Rattle.rules.specs.declared.When.{When}
-use Rattle.rules.specs.declared.When.TheVariants.{At, Never}
 use Rattle.rules.specs.declared.Session.{Session}
 use Rattle.rules.specs.declared.Ending.{Ending}
 use Rattle.rules.specs.declared.Ending.TheVariants.{Complete, Failed}
@@ -44,6 +42,8 @@ use Rattle.recall_rules.proofs.Lately.{more-set, more-over, more-started, starte
 use Rattle.recall_rules.proofs.Leaving.{same_not, started-apart, falling-ordered, leads, leads-first, started-same}
 use Rattle.recall_rules.proofs.Ends.{SameTurn, then_same, chosen, Fit, fit, without-out, without_end, has-number, dismissed-same}
 use Rattle.recall_rules.proofs.Ends.{endings-same}
+use Rattle.std.specs.Prelude.{None, Option, Some}
+use Rattle.rules.specs.declared.Ninths.{Ninths}
 
 -- ## The one on air
 
@@ -374,17 +374,17 @@ unfolding run instants.run
 run-same zero now until l q e h = record { written = refl; shows = elapse-same (until - now) l q e h.falling }
 run-same (suc n) now until l q e h = rw (due-same l q e) (go (not_after until (state.due q)) refl (λ t. run-same n t until))
   where
-    Next : When → Type 0
+    Next : Option Ninths → Type 0
     Next a =
         SameTurn (onwards (λ t. and_then (instant t (elapse (t - now) l)) (run n t until)) (quiet (elapse (until - now) l)) a)
         (onwards (λ t. ends.and_then (instants.instant t (instants.elapse (t - now) q)) (instants.run n t until))
         (ends.quiet (instants.elapse (until - now) q)) a)
 
-    go : (a : When) → not_after until (state.due q) ≡ a
+    go : (a : Option Ninths) → not_after until (state.due q) ≡ a
         → ((t : ℕ) (m : List Verdict) (v : Queue) → Shows m v → Holding t v → SameTurn (run n t until m) (instants.run n t until v))
         → Next a
-    go Never f ih = record { written = refl; shows = elapse-same (until - now) l q e h.falling }
-    go (At t) f ih =
+    go None f ih = record { written = refl; shows = elapse-same (until - now) l q e h.falling }
+    go (Some t) f ih =
         let d = t.0 - now in
         let a = instant-same t.0 (elapse d l) (instants.elapse d q) (elapse-same d l q e h.falling) (fit-elapse d q (fit h))
         (proper-elapse d q h.proper.started) in

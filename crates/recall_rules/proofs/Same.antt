@@ -8,8 +8,6 @@ use lib.Dec.{eqb, ltb, leb}
 use lib.ListN.{length, get_or}
 use borrow.Author.Tests.{eqb-true}
 use Rattle.rules.specs.declared.Ninths.{Ninths}
-use Rattle.rules.specs.declared.When.{When}
-use Rattle.rules.specs.declared.When.TheVariants.{At, Never}
 use Rattle.rules.specs.declared.Session.{Session}
 use Rattle.rules.specs.Lists.{bit, some, count, place}
 use Rattle.rules.specs.State.{empty, sooner, earliest}
@@ -17,6 +15,7 @@ use Rattle.rules.proofs.Tests.{tests, by, eqb_same, and_both, both-and}
 use Rattle.rules.proofs.Tick.{By}
 use Rattle.rules.proofs.Count.{count-remove_at, some-none, some_one, place-holds, place_none}
 use Rattle.recall_rules.specs.Verdicts.{Same}
+use Rattle.std.specs.Prelude.{None, Option, Some}
 
 -- whether some passes
 pub same_some : (p : Session → Bool) (l m : List Session) → Same l m → some p l ≡ some p m
@@ -44,11 +43,11 @@ module _ (f : Session → Ninths) where
   earliest-counted t [] h = absurd h
   earliest-counted t (s ∷ l) h = go (until t s) refl (earliest f l) (earliest-counted t l) h
     where
-      go : (b : Bool) → until t s ≡ b → (a : When) → (By a t → 0 < count (until t) l) → By (sooner (At (f s)) a) t
+      go : (b : Bool) → until t s ≡ b → (a : Option Ninths) → (By a t → 0 < count (until t) l) → By (sooner (Some (f s)) a) t
           → 0 < bit b + count (until t) l
       go true e a ih h = omega arith
-      go false e Never ih h = absurd (omega (arith, tests))
-      go false e (At u) ih h = omega (
+      go false e None ih h = absurd (omega (arith, tests))
+      go false e (Some u) ih h = omega (
         arith,
         by (λ w. By w t → 0 < count (until t) l) (leb (f s).0 u.0) _ _
             (λ g k. absurd (omega (arith, tests))) (λ g k. ih k) h,
@@ -58,24 +57,24 @@ module _ (f : Session → Ninths) where
   counted-earliest t [] h = absurd (omega arith)
   counted-earliest t (s ∷ l) h = go (until t s) refl (earliest f l) (counted-earliest t l) h
     where
-      go : (b : Bool) → until t s ≡ b → (a : When) → (0 < count (until t) l → By a t) → 0 < bit b + count (until t) l
-          → By (sooner (At (f s)) a) t
-      go true e Never ih h = omega (arith, tests)
-      go true e (At u) ih h = by (λ w. By w t) (leb (f s).0 u.0) _ _ (λ g. omega (arith, tests)) (λ g. omega (arith, tests))
-      go false e Never ih h = absurd (ih (omega arith))
-      go false e (At u) ih h = let k = ih (omega arith) in by (λ w. By w t) (leb (f s).0 u.0) _ _ (λ g. omega (arith, tests)) (λ g. k)
+      go : (b : Bool) → until t s ≡ b → (a : Option Ninths) → (0 < count (until t) l → By a t) → 0 < bit b + count (until t) l
+          → By (sooner (Some (f s)) a) t
+      go true e None ih h = omega (arith, tests)
+      go true e (Some u) ih h = by (λ w. By w t) (leb (f s).0 u.0) _ _ (λ g. omega (arith, tests)) (λ g. omega (arith, tests))
+      go false e None ih h = absurd (ih (omega arith))
+      go false e (Some u) ih h = let k = ih (omega arith) in by (λ w. By w t) (leb (f s).0 u.0) _ _ (λ g. omega (arith, tests)) (λ g. k)
 
   pub same-earliest : (l m : List Session) → Same l m → earliest f l ≡ earliest f m
   same-earliest l m h =
       go (earliest f l) (earliest f m) (λ t k. counted-earliest t m (omega (arith, earliest-counted t l k, h (until t))))
       (λ t k. counted-earliest t l (omega (arith, earliest-counted t m k, h (until t))))
     where
-      go : (a b : When) → ((t : ℕ) → By a t → By b t) → ((t : ℕ) → By b t → By a t) → a ≡ b
-      go Never Never i j = refl
-      go Never (At u) i j = absurd (j u.0 (omega arith))
-      go (At t) Never i j = absurd (i t.0 (omega arith))
-      go (At t) (At u) i j = let e : t.0 ≡ u.0 = omega (arith, i t.0 (omega arith), j u.0 (omega arith)) in
-          ap (λ n. At (record { 0 = n })) e
+      go : (a b : Option Ninths) → ((t : ℕ) → By a t → By b t) → ((t : ℕ) → By b t → By a t) → a ≡ b
+      go None None i j = refl
+      go None (Some u) i j = absurd (j u.0 (omega arith))
+      go (Some t) None i j = absurd (i t.0 (omega arith))
+      go (Some t) (Some u) i j = let e : t.0 ≡ u.0 = omega (arith, i t.0 (omega arith), j u.0 (omega arith)) in
+          ap (λ n. Some (record { 0 = n })) e
 
 -- ## The one that passes
 

@@ -1,14 +1,12 @@
 -- 01's answers and calls over verdicts, and a pass over any list of calls.
-use Rattle.std.specs.Prelude.{Bool, false, cond, not, ◌&&◌, List, [], ◌∷◌, ℕ, ◌+◌, eqb, ltb, get_or, set}
+use Rattle.std.specs.Prelude.{Bool, false, cond, not, ◌&&◌, List, [], ◌∷◌, ℕ, ◌+◌, eqb, ltb, get_or, set, Err, Ok, Result}
 use Rattle.rules.specs.declared.Link.{Link}
 use Rattle.rules.specs.declared.Link.TheVariants.{Closed, Opened, Initialised}
 use Rattle.rules.specs.declared.Refusal.{Refusal}
 use Rattle.rules.specs.declared.Refusal.TheVariants.{NoConnection, NoRoom, ClockBack, AlreadyOpen, NotOpen, BadMicros, LongSection}
 use Rattle.rules.specs.declared.Refusal.TheVariants.{BadSection}
-use Rattle.rules.specs.declared.Framing.{Framing}
-use Rattle.rules.specs.declared.Framing.TheVariants.{Framed, Unframed}
 use Rattle.rules.specs.declared.Message.{Message}
-use Rattle.rules.specs.declared.Message.TheVariants.{Init, Alive, Splice, Abort, Config, Extended, Unreadable}
+use Rattle.rules.specs.declared.Message.TheVariants.{Init, Alive, Splice, Abort, Config, Extended}
 use Rattle.rules.specs.Units.{time_of, bad_micros, from_micros, to_micros}
 use Rattle.rules.specs.Bytes.{data_of}
 use Rattle.rules.specs.Reading.{init_request, channel_name, is_read, read}
@@ -23,6 +21,9 @@ use Rattle.rules.specs.Calls.{ticks, moves, cues}
 use Rattle.recall_rules.specs.Verdicts.{Verdict}
 use Rattle.recall_rules.specs.Work.{Turn, Spliced, closed_by, run_all, answer_splice, answer_abort, air_state, air_id, air_feed}
 use Rattle.recall_rules.specs.Work.{extended_response}
+use Rattle.rules.specs.declared.Header.{Header}
+use Rattle.std.specs.declared.option.Option.{Option}
+use Rattle.std.specs.declared.option.Option.TheVariants.{Some, None}
 
 -- what a pass over calls carries; hardware: 02, CR 6, of connections 0 to 3, the Hardware_Config of the latest Init_Request that got 100,
 -- its
@@ -98,14 +99,14 @@ unfoldable pub config_response : ℕ → (section : List ℕ) → Pass → Recor
 config_response c section s = ConfigResponse c 100 s.name (get_or s.hardware c no_hardware) section
 
 -- section: the map on air. "5. Not readable: General_Response 123."
-unfoldable pub answer_read : ℕ → Message → List ℕ → (section : List ℕ) → Pass → Answered
-answer_read c (Init revision) d section s = answer_init c revision d s
-answer_read c Alive d section s = says (alive_response c s ∷ []) s
-answer_read c (Splice r) d section s = splices (answer_splice s.clock c r s.verdicts) s
-answer_read c (Abort x) d section s = turns (answer_abort c x s.verdicts) s
-answer_read c (Extended x) d section s = says (extended_response c x s.verdicts ∷ []) s
-answer_read c Config d section s = says (config_response c section s ∷ []) s
-answer_read c Unreadable d section s = says (General c 123 ∷ []) s
+unfoldable pub answer_read : ℕ → Option Message → List ℕ → (section : List ℕ) → Pass → Answered
+answer_read c (Some (Init revision)) d section s = answer_init c revision d s
+answer_read c (Some Alive) d section s = says (alive_response c s ∷ []) s
+answer_read c (Some (Splice r)) d section s = splices (answer_splice s.clock c r s.verdicts) s
+answer_read c (Some (Abort x)) d section s = turns (answer_abort c x s.verdicts) s
+answer_read c (Some (Extended x)) d section s = says (extended_response c x s.verdicts ∷ []) s
+answer_read c (Some Config) d section s = says (config_response c section s ∷ []) s
+answer_read c None d section s = says (General c 123 ∷ []) s
 
 -- "1. ID 0x0000: no answer. 2. Not initialised and not Init_Request: General_Response 103. 3. ID 0x000D: no answer.
 -- 4. ID not in the list of four: General_Response 120." 02: of six
@@ -134,9 +135,9 @@ abbrev pub section_of : Loans → Pass → List ℕ
 section_of loans s = cond (eqb (air_feed s.verdicts) 0) loans.primary loans.insertion
 
 -- "Message handles the first message only, and each is handed on as its own part of what was read."
-unfoldable pub handled : ℕ → Framing → List ℕ → Loans → Pass → Called
-handled c (Unframed n) l loans s = refuse n s
-handled c (Framed id size) l loans s = replies (8 + size) (answer c id (data_of size l) (section_of loans s) s)
+unfoldable pub handled : ℕ → Result Header Refusal → List ℕ → Loans → Pass → Called
+handled c (Err n) l loans s = refuse n s
+handled c (Ok h) l loans s = replies (8 + h.size) (answer c h.id (data_of h.size l) (section_of loans s) s)
 
 -- "open 1, 6". "Opening leaves the connection not initialised."
 unfoldable pub open_call : ℕ → Pass → Called

@@ -2,7 +2,6 @@
 -- the one on air as the one than which none is higher. Nothing is kept in order, moved or removed.
 use Rattle.std.specs.Prelude.{Bool, true, false, cond, not, ◌&&◌, ◌||◌, List, [], ◌∷◌, ◌++◌, map, ℕ, zero, suc, ◌-◌, ◌*◌, eqb, ltb, length}
 use Rattle.std.specs.Prelude.{set}
-use Rattle.rules.specs.declared.When.{When}
 use Rattle.rules.specs.declared.Session.{Session}
 use Rattle.rules.specs.declared.Ending.{Ending}
 use Rattle.rules.specs.declared.Ending.TheVariants.{Complete, Failed, Response}
@@ -20,6 +19,8 @@ use Rattle.rules.specs.Splicing.{session_at, too_late, full_by, first_of, accept
 use Rattle.rules.specs.Answers.{latest, recalls}
 use Rattle.recall_rules.specs.Verdicts.{Phase, Out, Waits, Started, is_waiting, has_started, is_held, Verdict, verdict, standing, which}
 use Rattle.recall_rules.specs.Verdicts.{session_of, turned, over, first, recent}
+use Rattle.std.specs.declared.option.Option.{Option}
+use Rattle.rules.specs.declared.Ninths.{Ninths}
 
 -- the verdicts after some of the work, and the records which that wrote
 pub record Turn : Type 0 where
@@ -181,7 +182,7 @@ elapse d l =
     cond (ltb i (length l)) (set l i (verdict Started (playing d (session_of l i)))) l
 
 -- the next start or end: the earliest of those that have started or wait
-unfoldable pub due : List Verdict → When
+unfoldable pub due : List Verdict → Option Ninths
 due l = sooner (earliest (λ s. s.end) (standing has_started l)) (earliest (λ s. s.start) (standing is_waiting l))
 
 -- "A tick works through every start and end not later than its time, in order of time": from the time now to until, n instants at most

@@ -28,6 +28,7 @@ use Rattle.rules.proofs.Bytes.{part-byte}
 use Rattle.rules.proofs.Every.{all_any}
 use Rattle.rules.proofs.Checks.{Passed, Granted, granted, Fitting, fitting}
 pub use Rattle.rules.specs.Follows.Sound.{Wired}
+use Rattle.std.specs.Prelude.{Some}
 
 -- any call
 abbrev pub Any : Call → Type 0
@@ -45,7 +46,7 @@ pub record Admitted (F : Call → Type 0) (s : Splicer) (c : ℕ) (r : Request) 
   pub size : ℕ
   pub loans : Loans
   pub given : F (messages c bytes loans)
-  pub is_read : read_splice (part 8 size bytes) ≡ Splice r
+  pub is_read : read_splice (part 8 size bytes) ≡ Some (Splice r)
 
 module _ {F : Call → Type 0} {s : Splicer} {c : ℕ} {r : Request} where
   pub grants : Admitted F s c r → Granted r

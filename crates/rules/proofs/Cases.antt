@@ -9,7 +9,6 @@ use lib.Dec.{eqb, ltb}
 use lib.ListN.{length}
 use borrow.Author.Tests.{eqb-true, ltb-false, not-false}
 use Rattle.rules.specs.declared.Refusal.{Refusal}
-use Rattle.rules.specs.declared.Framing.{Framing}
 use Rattle.rules.specs.declared.Request.{Request}
 use Rattle.rules.specs.declared.Message.{Message}
 use Rattle.rules.specs.declared.Message.TheVariants.{Splice}
@@ -41,6 +40,8 @@ use Rattle.rules.specs.Lists.{All, some}
 use Rattle.rules.specs.Follows.Sound.{codes, Given}
 use Rattle.rules.proofs.Tests.{by, clash}
 use Rattle.rules.proofs.Checks.{Passed, passed-all}
+use Rattle.std.specs.Prelude.{Result, Option, Some}
+use Rattle.rules.specs.declared.Header.{Header}
 
 -- a call that brings the clock to a time
 pub data Brings : Call → ℕ → Type 0 where
@@ -59,9 +60,9 @@ pub record Answering (c : ℕ) (l section : List ℕ) (s : Splicer) (D : Answere
   pub aborting : (x : ℕ) → is_splice l ≡ false → x ≡ session_id (data_in l) → holds c x s.queue ≡ true
       → D (turns (and_then (writes (AbortResponse c 100 x ∷ []) s.queue) (aborted c x)) s)
   pub recalling : (x : ℕ) → is_splice l ≡ false → x ≡ session_id (data_in l) → D (says (extended_response c x s.queue ∷ []) s)
-  pub declining : (r : Request) (v : ℕ) → is_splice l ≡ true → read_splice (data_in l) ≡ Splice r → Given v → eqb v 100 ≡ false
+  pub declining : (r : Request) (v : ℕ) → is_splice l ≡ true → read_splice (data_in l) ≡ Some (Splice r) → Given v → eqb v 100 ≡ false
       → D (says (SpliceResponse c v r.id ∷ []) s)
-  pub accepting : (r : Request) → is_splice l ≡ true → read_splice (data_in l) ≡ Splice r → Passed s.clock c r s.queue
+  pub accepting : (r : Request) → is_splice l ≡ true → read_splice (data_in l) ≡ Some (Splice r) → Passed s.clock c r s.queue
       → D (splices (grants (requested c r s.queue) s.queue) s)
 
 -- the call k of the message l gives an answer that P holds of
@@ -143,7 +144,7 @@ module _ (c : ℕ) (l section : List ℕ) (s : Splicer) (D : Answered → Type 0
   unfolding answer_abort
   abort-case x e f = by (λ (t : Turn). D (turns t s)) (holds c x s.queue) _ _ (λ i. k.aborting x e f i) (λ i. k.unknown x e f)
 
-  splice-case : (r : Request) → is_splice l ≡ true → read_splice (data_in l) ≡ Splice r
+  splice-case : (r : Request) → is_splice l ≡ true → read_splice (data_in l) ≡ Some (Splice r)
       → D (splices (answer_splice s.clock c r s.queue) s)
   unfolding answer_splice splice_result
   splice-case r e f =
@@ -158,7 +159,7 @@ module _ (c : ℕ) (l section : List ℕ) (s : Splicer) (D : Answered → Type 0
   unfolding answer_read answer_init read read_init read_alive read_abort read_config read_extended read_whole read_splice
   read-case =
       let d = data_in l in
-      let M : Message → Type 0 = λ m. D (answer_read c m d section s) in
+      let M : Option Message → Type 0 = λ m. D (answer_read c m d section s) in
       let bad = k.general 123 refl in
       by M (eqb (message_id l) init_request) _ _
       (λ e. by M (bad_init d) _ _ (λ f. bad) (λ f. k.naming _ (init-given (field 0 2 d) (channel_name d) s.name)
@@ -190,7 +191,7 @@ module _ (s : Splicer) (P : Call → Called → Type 0) (k : Cases s P) where
       → P (messages c l loans) (handled c (framing l) l loans s)
   unfolding handled framing
   handled-case c l loans low up short =
-      let G : Framing → Type 0 = λ g. P (messages c l loans) (handled c g l loans s) in
+      let G : Result Header Refusal → Type 0 = λ g. P (messages c l loans) (handled c g l loans s) in
       by G (ltb (length l) 8) _ _ (λ e. k.refusing (messages c l loans) _)
       (λ e. by G (oversize l) _ _ (λ f. k.refusing (messages c l loans) _)
       (λ f. by G (ltb (length l) (8 + message_size l)) _ _ (λ g. k.refusing (messages c l loans) _)

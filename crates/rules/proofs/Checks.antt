@@ -10,7 +10,7 @@ use borrow.Author.Tests.{ltb-false, eqb-false}
 use Rattle.rules.specs.declared.Start.{Start}
 use Rattle.rules.specs.declared.Start.TheVariants.{Timed, Linked}
 use Rattle.rules.specs.declared.Request.{Request}
-use Rattle.rules.specs.declared.Message.TheVariants.{Init, Alive, Splice, Abort, Config, Extended, Unreadable}
+use Rattle.rules.specs.declared.Message.TheVariants.{Init, Alive, Splice, Abort, Config, Extended}
 use Rattle.rules.specs.Units.{time_of}
 use Rattle.rules.specs.Bytes.{field}
 use Rattle.rules.specs.Request.{nobody, session_id}
@@ -28,6 +28,7 @@ use Rattle.rules.proofs.All.{All}
 use Rattle.rules.proofs.Bytes.{Byte, field_below}
 use Rattle.rules.proofs.Streams.{tail-byte}
 use Rattle.rules.proofs.Descriptors.{mux-range}
+use Rattle.std.specs.Prelude.{None, Some}
 
 -- ## Checks b to e
 
@@ -56,55 +57,55 @@ passed-all now c r q e =
 
 -- ## Reading
 
-init-other : (d : List ℕ) (r : Request) → read_init d ≡ Splice r → ⊥
+init-other : (d : List ℕ) (r : Request) → read_init d ≡ Some (Splice r) → ⊥
 unfolding read_init
 init-other d r = go (bad_init d)
   where
-    go : (b : Bool) → cond b Unreadable (Init (field 0 2 d)) ≡ Splice r → ⊥
+    go : (b : Bool) → cond b None (Some (Init (field 0 2 d))) ≡ Some (Splice r) → ⊥
     go true e = let z : ◌≡◌ {A = ℕ} 0 1 = cc in omega arith
     go false e = let z : ◌≡◌ {A = ℕ} 0 1 = cc in omega arith
 
-alive-other : (d : List ℕ) (r : Request) → read_alive d ≡ Splice r → ⊥
+alive-other : (d : List ℕ) (r : Request) → read_alive d ≡ Some (Splice r) → ⊥
 unfolding read_alive
 alive-other d r = go (eqb (length d) 8)
   where
-    go : (b : Bool) → cond b Alive Unreadable ≡ Splice r → ⊥
+    go : (b : Bool) → cond b (Some Alive) None ≡ Some (Splice r) → ⊥
     go true e = let z : ◌≡◌ {A = ℕ} 0 1 = cc in omega arith
     go false e = let z : ◌≡◌ {A = ℕ} 0 1 = cc in omega arith
 
-abort-other : (d : List ℕ) (r : Request) → read_abort d ≡ Splice r → ⊥
+abort-other : (d : List ℕ) (r : Request) → read_abort d ≡ Some (Splice r) → ⊥
 unfolding read_abort
 abort-other d r = go (eqb (length d) 4)
   where
-    go : (b : Bool) → cond b (Abort (field 0 4 d)) Unreadable ≡ Splice r → ⊥
+    go : (b : Bool) → cond b (Some (Abort (field 0 4 d))) None ≡ Some (Splice r) → ⊥
     go true e = let z : ◌≡◌ {A = ℕ} 0 1 = cc in omega arith
     go false e = let z : ◌≡◌ {A = ℕ} 0 1 = cc in omega arith
 
-extended-other : (d : List ℕ) (r : Request) → read_extended d ≡ Splice r → ⊥
+extended-other : (d : List ℕ) (r : Request) → read_extended d ≡ Some (Splice r) → ⊥
 unfolding read_extended
 extended-other d r = go (bad_extended d)
   where
-    go : (b : Bool) → cond b Unreadable (Extended (field 0 4 d)) ≡ Splice r → ⊥
+    go : (b : Bool) → cond b None (Some (Extended (field 0 4 d))) ≡ Some (Splice r) → ⊥
     go true e = let z : ◌≡◌ {A = ℕ} 0 1 = cc in omega arith
     go false e = let z : ◌≡◌ {A = ℕ} 0 1 = cc in omega arith
 
-config-other : (d : List ℕ) (r : Request) → read_config d ≡ Splice r → ⊥
+config-other : (d : List ℕ) (r : Request) → read_config d ≡ Some (Splice r) → ⊥
 unfolding read_config
 config-other d r = go (eqb (length d) 0)
   where
-    go : (b : Bool) → cond b Config Unreadable ≡ Splice r → ⊥
+    go : (b : Bool) → cond b (Some Config) None ≡ Some (Splice r) → ⊥
     go true e = let z : ◌≡◌ {A = ℕ} 0 1 = cc in omega arith
     go false e = let z : ◌≡◌ {A = ℕ} 0 1 = cc in omega arith
 
 -- only a Splice_Request is read as one
-pub read-splice : (id : ℕ) (d : List ℕ) (r : Request) → read id d ≡ Splice r → read_splice d ≡ Splice r
+pub read-splice : (id : ℕ) (d : List ℕ) (r : Request) → read id d ≡ Some (Splice r) → read_splice d ≡ Some (Splice r)
 unfolding read
 read-splice id d r = go (eqb id 0x0001) (eqb id 0x0005) (eqb id 0x0007) (eqb id 0x000E) (eqb id 0x0003) (eqb id 0x000A)
   where
     go : (a b c e f g : Bool)
         → cond a (read_init d) (cond b (read_alive d) (cond c (read_splice d)
-        (cond e (read_abort d) (cond f (read_extended d) (cond g (read_config d) Unreadable))))) ≡ Splice r
-        → read_splice d ≡ Splice r
+        (cond e (read_abort d) (cond f (read_extended d) (cond g (read_config d) None))))) ≡ Some (Splice r)
+        → read_splice d ≡ Some (Splice r)
     go true b c e f g h = absurd (init-other d r h)
     go false true c e f g h = absurd (alive-other d r h)
     go false false true e f g h = h
@@ -114,30 +115,30 @@ read-splice id d r = go (eqb id 0x0001) (eqb id 0x0005) (eqb id 0x0007) (eqb id 
     go false false false false false false h = let z : ◌≡◌ {A = ℕ} 0 1 = cc in absurd (omega arith)
 
 -- what is read whole has a good tail, and a good time if it is timed
-pub whole-read : (d t : List ℕ) (r : Request) → read_whole d t ≡ Splice r → (r ≡ whole_request d t) × (bad_splice d t ≡ false)
+pub whole-read : (d t : List ℕ) (r : Request) → read_whole d t ≡ Some (Splice r) → (r ≡ whole_request d t) × (bad_splice d t ≡ false)
 unfolding read_whole
 whole-read d t r h = go (bad_splice d t) refl h
   where
-    taken : (a b : Request) → Splice a ≡ Splice b → b ≡ a
+    taken : (a b : Request) → Some (Splice a) ≡ Some (Splice b) → b ≡ a
     taken a b e = cc
 
-    go : (b : Bool) → bad_splice d t ≡ b → cond b Unreadable (Splice (whole_request d t)) ≡ Splice r
+    go : (b : Bool) → bad_splice d t ≡ b → cond b None (Some (Splice (whole_request d t))) ≡ Some (Splice r)
         → (r ≡ whole_request d t) × (bad_splice d t ≡ false)
     go true f e = let z : ◌≡◌ {A = ℕ} 0 1 = cc in absurd (omega arith)
     go false f e = (taken (whole_request d t) r e, f)
 
-pub read_whole_lem : (d : List ℕ) (r : Request) → read_splice d ≡ Splice r
+pub read_whole_lem : (d : List ℕ) (r : Request) → read_splice d ≡ Some (Splice r)
     → (r ≡ whole_request d (tail_of d)) × (bad_splice d (tail_of d) ≡ false)
 unfolding read_splice
 read_whole_lem d r h = go (ltb (length d) 18) h
   where
-    go : (a : Bool) → cond a Unreadable (read_whole d (tail_of d)) ≡ Splice r
+    go : (a : Bool) → cond a None (read_whole d (tail_of d)) ≡ Some (Splice r)
         → (r ≡ whole_request d (tail_of d)) × (bad_splice d (tail_of d) ≡ false)
     go true e = let z : ◌≡◌ {A = ℕ} 0 1 = cc in absurd (omega arith)
     go false e = whole-read d (tail_of d) r e
 
 -- whatever was read, its number is the SessionID
-pub read-id : (d : List ℕ) (r : Request) → read_splice d ≡ Splice r → r.id ≡ session_id d
+pub read-id : (d : List ℕ) (r : Request) → read_splice d ≡ Some (Splice r) → r.id ≡ session_id d
 read-id d r h = ap (λ x. x.id) (read_whole_lem d r h).0
 
 -- a linked start names a number
@@ -180,7 +181,7 @@ good-tail t e =
     let z = eqb-false (duration t) 0 c.0 in
     record { lasts = omega arith; ranked = ltb-false 9 (access_type t) f.0; overrides = ltb-false 1 (override_playing t) g.0 }
 
-module _ (d : List ℕ) (r : Request) (h : read_splice d ≡ Splice r) where
+module _ (d : List ℕ) (r : Request) (h : read_splice d ≡ Some (Splice r)) where
   w : (r ≡ whole_request d (tail_of d)) × (bad_splice d (tail_of d) ≡ false)
   w = read_whole_lem d r h
 

@@ -9,14 +9,13 @@ use lib.Dec.{eqb, leb}
 use lib.ListN.{length, get_or, take, drop, length-take, length-drop, take-append-drop}
 use lib.Seq.{drop-drop, take-append-le, drop-append-le, get_or-take}
 use borrow.Author.Tests.{eqb-true, leb-true, leb-false, eq-eqb, ne_eqb, le-leb, lt-leb, not-true, not-false}
-use Rattle.rules.specs.declared.Priority.{Priority}
-use Rattle.rules.specs.declared.Priority.TheVariants.{Is, Bad}
 use Rattle.rules.specs.Lists.{put}
 use Rattle.rules.specs.Bytes.{field, value}
 use Rattle.rules.specs.Descriptors.{descriptor_length, descriptor_fits, is_mux, mux_value, bad_mux, good_descriptor, average_mux, mux_after}
 use Rattle.rules.specs.Descriptors.{mux_from, mux_of, mux_in}
 use Rattle.rules.specs.Follows.Descriptors.{cut, descriptors_in, bytes_of, all_good, mux_values, last_or}
 use Rattle.rules.proofs.Tests.{by, and_both}
+use Rattle.std.specs.Prelude.{None, Option, Some}
 
 -- ## The fuel
 
@@ -24,7 +23,7 @@ eqb-zero : (l : List ℕ) → length l ≤ 0 → eqb (length l) 0 ≡ true
 eqb-zero l h = eq-eqb (length l) 0 (omega arith)
 
 -- what the descriptors of l ask, if it is v before them
-abbrev pub mux_rest : ℕ → List ℕ → Priority
+abbrev pub mux_rest : ℕ → List ℕ → Option ℕ
 mux_rest v l = mux_from (length l) v l
 
 enough : (n m v : ℕ) (l : List ℕ) → length l ≤ n → length l ≤ m → mux_from n v l ≡ mux_from m v l
@@ -35,23 +34,23 @@ enough (suc n) zero v l h k = rw (eqb-zero l k)
 enough (suc n) (suc m) v l h k =
     let r = drop (2 + descriptor_length l) l in
     let s : length r ≡ length l - (2 + descriptor_length l) = length-drop (2 + descriptor_length l) l in
-    ap (λ t. cond (eqb (length l) 0) (Is v) (cond (good_descriptor l) t Bad)) (enough n m (mux_after v l) r (omega arith) (omega arith))
+    ap (λ t. cond (eqb (length l) 0) (Some v) (cond (good_descriptor l) t None)) (enough n m (mux_after v l) r (omega arith) (omega arith))
 
 -- more fuel than bytes changes nothing
 pub mux-rest : (n v : ℕ) (l : List ℕ) → length l ≤ n → mux_from n v l ≡ mux_rest v l
 mux-rest n v l h = enough n (length l) v l h (omega arith)
 
 -- at the end of the bytes
-pub mux-end : (l : List ℕ) (i v : ℕ) → length l ≤ i → mux_rest v (drop i l) ≡ Is v
+pub mux-end : (l : List ℕ) (i v : ℕ) → length l ≤ i → mux_rest v (drop i l) ≡ Some v
 unfolding mux_from
 mux-end l i v h =
     sym (mux-rest 0 v (drop i l) (simp length-drop (omega arith)))
-    ∙ ap (λ t. cond t (Is v) Bad) (eqb-zero (drop i l) (simp length-drop (omega arith)))
+    ∙ ap (λ t. cond t (Some v) None) (eqb-zero (drop i l) (simp length-drop (omega arith)))
 
 -- at a place before it
 pub mux-step : (l : List ℕ) (i v : ℕ) → i < length l
     → mux_rest v (drop i l) ≡ cond (good_descriptor (drop i l)) (mux_rest (mux_after v (drop i l))
-    (drop (i + (2 + descriptor_length (drop i l))) l)) Bad
+    (drop (i + (2 + descriptor_length (drop i l))) l)) None
 unfolding mux_from
 mux-step l i v h =
     let m = drop i l in
@@ -59,9 +58,9 @@ mux-step l i v h =
     let k : length m ≡ length l - i = length-drop i l in
     let j : length (drop n m) ≡ length m - n = length-drop n m in
     sym (mux-rest (suc (length m)) v m (omega arith))
-    ∙ ap (λ t. cond t (Is v) (cond (good_descriptor m) (mux_from (length m) (mux_after v m) (drop n m)) Bad))
+    ∙ ap (λ t. cond t (Some v) (cond (good_descriptor m) (mux_from (length m) (mux_after v m) (drop n m)) None))
     (ne_eqb (length m) 0 (λ z. omega arith))
-    ∙ ap (λ t. cond (good_descriptor m) t Bad) (mux-rest (length m) (mux_after v m) (drop n m) (omega arith)
+    ∙ ap (λ t. cond (good_descriptor m) t None) (mux-rest (length m) (mux_after v m) (drop n m) (omega arith)
     ∙ ap (mux_rest (mux_after v m)) (drop-drop n i l))
 
 -- ## The range of what they ask
@@ -202,7 +201,7 @@ unfolding last_or
 last-put true x v l = refl
 last-put false x v l = refl
 
-mux-cut : (n v : ℕ) (l : List ℕ) → length l ≤ n → mux_from n v l ≡ cond (all_good (cut n l)) (Is (last_or v (mux_values (cut n l)))) Bad
+mux-cut : (n v : ℕ) (l : List ℕ) → length l ≤ n → mux_from n v l ≡ cond (all_good (cut n l)) (Some (last_or v (mux_values (cut n l)))) None
 unfolding mux_from cut all_good mux_values last_or
 mux-cut zero v l h = rw (eqb-zero l h)
 mux-cut (suc n) v l h =
@@ -214,36 +213,36 @@ mux-cut (suc n) v l h =
     ds : List (List ℕ)
     ds = cut n (drop (2 + descriptor_length l) l)
 
-    after : Priority
+    after : Option ℕ
     after = mux_from n (mux_after v l) (drop (2 + descriptor_length l) l)
 
-    good : after ≡ cond (all_good ds) (Is (last_or (mux_after v l) (mux_values ds))) Bad → (g : Bool) → good_descriptor l ≡ g
-        → cond g after Bad ≡ cond (g && all_good ds) (Is (last_or v (put (is_mux d) (mux_value d) (mux_values ds)))) Bad
+    good : after ≡ cond (all_good ds) (Some (last_or (mux_after v l) (mux_values ds))) None → (g : Bool) → good_descriptor l ≡ g
+        → cond g after None ≡ cond (g && all_good ds) (Some (last_or v (put (is_mux d) (mux_value d) (mux_values ds)))) None
     good rest true e =
-        rest ∙ ap (λ (x : ℕ). cond (all_good ds) (Is x) Bad)
+        rest ∙ ap (λ (x : ℕ). cond (all_good ds) (Some x) None)
         (ap (λ (x : ℕ). last_or x (mux_values ds)) (sym (one-after l e v)) ∙ sym (last-put (is_mux d) (mux_value d) v (mux_values ds)))
     good rest false e = refl
 
-    go : after ≡ cond (all_good ds) (Is (last_or (mux_after v l) (mux_values ds))) Bad → (b : Bool)
-        → cond b (Is v) (cond (good_descriptor l) after Bad)
-        ≡ cond (all_good (cond b [] (d ∷ ds))) (Is (last_or v (mux_values (cond b [] (d ∷ ds))))) Bad
+    go : after ≡ cond (all_good ds) (Some (last_or (mux_after v l) (mux_values ds))) None → (b : Bool)
+        → cond b (Some v) (cond (good_descriptor l) after None)
+        ≡ cond (all_good (cond b [] (d ∷ ds))) (Some (last_or v (mux_values (cond b [] (d ∷ ds))))) None
     go rest true = refl
     go rest false = good rest (good_descriptor l) refl ∙ rw (one-good l)
 
 -- mux_of is Is v exactly if all are good and v is the last muxpriority value among them, or 5 if there is none
 pub record LastWins (l : List ℕ) : Type 0 where
-  pub given : (v : ℕ) → mux_of l ≡ Is v → (all_good (descriptors_in l) ≡ true) × (v ≡ last_or average_mux (mux_values (descriptors_in l)))
-  pub taken : all_good (descriptors_in l) ≡ true → mux_of l ≡ Is (last_or average_mux (mux_values (descriptors_in l)))
+  pub given : (v : ℕ) → mux_of l ≡ Some v → (all_good (descriptors_in l) ≡ true) × (v ≡ last_or average_mux (mux_values (descriptors_in l)))
+  pub taken : all_good (descriptors_in l) ≡ true → mux_of l ≡ Some (last_or average_mux (mux_values (descriptors_in l)))
 
 pub last-wins : (l : List ℕ) → LastWins l
 last-wins l =
     let e = mux-cut (length l) average_mux l (omega arith) in
-    record { given = λ v h. given (all_good (descriptors_in l)) v (sym e ∙ h); taken = λ g. e ∙ ap (λ b. cond b (Is last) Bad) g }
+    record { given = λ v h. given (all_good (descriptors_in l)) v (sym e ∙ h); taken = λ g. e ∙ ap (λ b. cond b (Some last) None) g }
   where
     last : ℕ
     last = last_or average_mux (mux_values (descriptors_in l))
 
-    given : (b : Bool) (v : ℕ) → cond b (Is last) Bad ≡ Is v → (b ≡ true) × (v ≡ last)
+    given : (b : Bool) (v : ℕ) → cond b (Some last) None ≡ Some v → (b ≡ true) × (v ≡ last)
     given true v h = (refl, cc)
     given false v h = let z : ◌≡◌ {A = ℕ} 0 1 = cc in absurd (omega arith)
 

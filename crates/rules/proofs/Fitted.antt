@@ -51,6 +51,7 @@ use Rattle.rules.specs.Follows.Sound.{Recalled}
 use Rattle.rules.proofs.Held.{Proper, Small, Linking, structure-at}
 use Rattle.rules.proofs.Size.{section-short}
 use Rattle.rules.proofs.Aired.{Played, elapse-played, Aired, moved-aired}
+use Rattle.std.specs.Prelude.{Some}
 
 -- ## Sessions
 
@@ -316,7 +317,7 @@ abbrev pub records_of : Answer → List Record
 records_of (refused n) = []
 records_of (good consumed rs) = rs
 
-read_asked : (d : List ℕ) → All Byte d → (r : Request) → read_splice d ≡ Splice r → Asked r
+read_asked : (d : List ℕ) → All Byte d → (r : Request) → read_splice d ≡ Some (Splice r) → Asked r
 unfolding read
 read_asked d a r e = splice-grants d a splice_request r e
 
@@ -351,7 +352,7 @@ message-fits s h c l loans low short =
     number : (x : ℕ) → x ≡ session_id (data_in l) → All Byte l → x < 4294967296
     number x e a = omega (arith, e, field_below 0 4 (data_in l) (bytes a))
 
-    asked : (r : Request) → read_splice (data_in l) ≡ Splice r → All Byte l → Asked r
+    asked : (r : Request) → read_splice (data_in l) ≡ Some (Splice r) → All Byte l → Asked r
     asked r e a = read_asked (data_in l) (bytes a) r e
 
 pub call_fits : (k : Call) (s : Splicer) → Wired k → Healthy s → All Fits (records_of (call k s).answer)

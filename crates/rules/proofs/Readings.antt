@@ -22,6 +22,7 @@ use Rattle.rules.proofs.Bytes.{Byte, field_below}
 use Rattle.rules.proofs.Streams.{tail-byte}
 use Rattle.rules.proofs.Descriptors.{mux-range}
 use Rattle.rules.proofs.Checks.{good-tail}
+use Rattle.std.specs.Prelude.{Some}
 
 -- ## Messages
 
@@ -59,5 +60,5 @@ module _ (d : List ℕ) (a : All Byte d) where
       (λ h. by Reads (eqb id extended_request) _ _ (λ i. by Reads (bad_extended d) _ _ (λ j. tt) (λ j. field_below 0 4 d a))
       (λ i. by Reads (eqb id config_request) _ _ (λ j. by Reads (eqb (length d) 0) _ _ (λ k. tt) (λ k. tt)) (λ j. tt))))))
 
-  pub splice-grants : (id : ℕ) (r : Request) → read id d ≡ Splice r → Asked r
+  pub splice-grants : (id : ℕ) (r : Request) → read id d ≡ Some (Splice r) → Asked r
   splice-grants id r e = subst Reads e (read-grants id)

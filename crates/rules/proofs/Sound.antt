@@ -7,7 +7,6 @@ use native.Mathlib.Omega.{arith}
 use lib.ListN.{length}
 use Rattle.rules.specs.declared.Ninths.{Ninths}
 use Rattle.rules.specs.declared.Session.{Session}
-use Rattle.rules.specs.declared.When.TheVariants.{At}
 use Rattle.rules.specs.Bytes.{has_zero}
 use Rattle.rules.specs.State.{Queue, Splicer, due, not_after}
 use Rattle.rules.specs.Recent.{none_held}
@@ -38,6 +37,7 @@ use Rattle.rules.proofs.Fitted.{records_of, found}
 use Rattle.rules.proofs.Size.{call-size}
 use Rattle.rules.proofs.Lately.{Notable, Keeping, aborted-keeps, closed_by-keeps, accepted-recalls, instant-recalls, recalled-none}
 pub use Rattle.rules.specs.Follows.Sound.{Holding, Recalled, Sound, Reached}
+use Rattle.std.specs.Prelude.{Some}
 
 -- ## Of the sessions held at a time: the clock, or an instant of a tick
 
@@ -76,10 +76,10 @@ holding-moved now t q d m h =
     (each-elapse Small small-plays (t - now) q h.small))
 
 -- the next instant not later than until is after the time now
-pub next-after : (now until : ℕ) (t : Ninths) (q : Queue) → not_after until (due q) ≡ At t → Holding now q → now < t.0
+pub next-after : (now until : ℕ) (t : Ninths) (q : Queue) → not_after until (due q) ≡ Some t → Holding now q → now < t.0
 next-after now until t q e h = meets-after now t.0 q h.timed (due-meets until t q e)
 
-pub holding-next : (now until : ℕ) (t : Ninths) (q : Queue) → not_after until (due q) ≡ At t → Holding now q
+pub holding-next : (now until : ℕ) (t : Ninths) (q : Queue) → not_after until (due q) ≡ Some t → Holding now q
     → Holding t.0 (moved now t.0 q).queue
 holding-next now until t q e h = holding-moved now t.0 q (due-first until t q e) (due-meets until t q e) h
 

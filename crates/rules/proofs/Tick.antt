@@ -9,8 +9,6 @@ use lib.Dec.{eqb, ltb, leb}
 use lib.ListN.{length, get_or}
 use borrow.Author.Tests.{ltb-false, ltb-true, le-leb, lt-leb, le-ltb, lt-ltb}
 use Rattle.rules.specs.declared.Ninths.{Ninths}
-use Rattle.rules.specs.declared.When.{When}
-use Rattle.rules.specs.declared.When.TheVariants.{At, Never}
 use Rattle.rules.specs.declared.Session.{Session}
 use Rattle.rules.specs.Lists.{bit, keep, omit, count, place, remove_at}
 use Rattle.rules.specs.State.{Queue, empty, starts_at, ends_at, sooner, earliest, due, not_after, to_come, with_waiting}
@@ -22,75 +20,76 @@ use Rattle.rules.proofs.All.{All, all-into}
 use Rattle.rules.proofs.Count.{length-remove_at, length-split, length-keep, place_none}
 use Rattle.rules.proofs.Every.{fewer-length}
 use Rattle.rules.proofs.Leaving.{failed-fewer, ousted-fewer}
+use Rattle.std.specs.Prelude.{None, Option, Some}
 
 -- ## The sooner of two
 
 -- it is one of them
-pub sooner-one : (P : When → Type 0) (a b : When) → P a → P b → P (sooner a b)
-sooner-one P Never b x y = y
-sooner-one P (At t) Never x y = x
-sooner-one P (At t) (At u) x y = by P (leb t.0 u.0) _ _ (λ e. x) (λ e. y)
+pub sooner-one : (P : Option Ninths → Type 0) (a b : Option Ninths) → P a → P b → P (sooner a b)
+sooner-one P None b x y = y
+sooner-one P (Some t) None x y = x
+sooner-one P (Some t) (Some u) x y = by P (leb t.0 u.0) _ _ (λ e. x) (λ e. y)
 
 module _ (t u : Ninths) where
-  pub sooner-first : t.0 ≤ u.0 → sooner (At t) (At u) ≡ At t
+  pub sooner-first : t.0 ≤ u.0 → sooner (Some t) (Some u) ≡ Some t
   sooner-first h = rw (le-leb t.0 u.0 h)
 
-  pub sooner-second : u.0 < t.0 → sooner (At t) (At u) ≡ At u
+  pub sooner-second : u.0 < t.0 → sooner (Some t) (Some u) ≡ Some u
   sooner-second h = rw (lt-leb t.0 u.0 h)
 
 -- a is not later than the time n
-abbrev pub By : When → ℕ → Type 0
-By (At t) n = t.0 ≤ n
-By Never n = ⊥
+abbrev pub By : Option Ninths → ℕ → Type 0
+By (Some t) n = t.0 ≤ n
+By None n = ⊥
 
-sooner-left : (a b : When) (n : ℕ) → By a n → By (sooner a b) n
-sooner-left Never b n h = absurd h
-sooner-left (At t) Never n h = h
-sooner-left (At t) (At u) n h = by (λ a. By a n) (leb t.0 u.0) _ _ (λ e. h) (λ e. omega (arith, tests))
+sooner-left : (a b : Option Ninths) (n : ℕ) → By a n → By (sooner a b) n
+sooner-left None b n h = absurd h
+sooner-left (Some t) None n h = h
+sooner-left (Some t) (Some u) n h = by (λ a. By a n) (leb t.0 u.0) _ _ (λ e. h) (λ e. omega (arith, tests))
 
-sooner-right : (a b : When) (n : ℕ) → By b n → By (sooner a b) n
-sooner-right Never b n h = h
-sooner-right (At t) Never n h = absurd h
-sooner-right (At t) (At u) n h = by (λ a. By a n) (leb t.0 u.0) _ _ (λ e. omega (arith, tests)) (λ e. h)
+sooner-right : (a b : Option Ninths) (n : ℕ) → By b n → By (sooner a b) n
+sooner-right None b n h = h
+sooner-right (Some t) None n h = absurd h
+sooner-right (Some t) (Some u) n h = by (λ a. By a n) (leb t.0 u.0) _ _ (λ e. omega (arith, tests)) (λ e. h)
 
 -- ## The earliest
 
 module _ (f : Session → Ninths) where
-  pub earliest-none : (l : List Session) → length l ≤ 0 → earliest f l ≡ Never
+  pub earliest-none : (l : List Session) → length l ≤ 0 → earliest f l ≡ None
   earliest-none [] h = refl
   earliest-none (s ∷ l) h = absurd (omega arith)
 
   -- t is not later than any of l
-  pub earliest-first : (t : Ninths) (l : List Session) → All (λ s. t.0 ≤ (f s).0) l → sooner (At t) (earliest f l) ≡ At t
+  pub earliest-first : (t : Ninths) (l : List Session) → All (λ s. t.0 ≤ (f s).0) l → sooner (Some t) (earliest f l) ≡ Some t
   earliest-first t [] a = refl
   earliest-first t (s ∷ l) a =
-      sooner-one (λ w. sooner (At t) w ≡ At t) (At (f s)) (earliest f l) (sooner-first t (f s) a.0) (earliest-first t l a.1)
+      sooner-one (λ w. sooner (Some t) w ≡ Some t) (Some (f s)) (earliest f l) (sooner-first t (f s) a.0) (earliest-first t l a.1)
 
   earliest-all : (l : List Session) → All (λ s. By (earliest f l) (f s).0) l
   earliest-all [] = tt
   earliest-all (s ∷ l) = (
-    sooner-left (At (f s)) (earliest f l) (f s).0 (omega arith),
+    sooner-left (Some (f s)) (earliest f l) (f s).0 (omega arith),
     all-into (λ u. By (earliest f l) (f u).0) (λ u. By (earliest f (s ∷ l)) (f u).0)
-        (λ u h. sooner-right (At (f s)) (earliest f l) (f u).0 h) l (earliest-all l),
+        (λ u h. sooner-right (Some (f s)) (earliest f l) (f u).0 h) l (earliest-all l),
   )
 
   -- one of l has the time a, if it is one
-  abbrev Among : List Session → When → Type 0
-  Among l (At t) = 0 < count (λ s. eqb t.0 (f s).0) l
-  Among l Never = Unit {0}
+  abbrev Among : List Session → Option Ninths → Type 0
+  Among l (Some t) = 0 < count (λ s. eqb t.0 (f s).0) l
+  Among l None = Unit {0}
 
   earliest-among : (l : List Session) → Among l (earliest f l)
   earliest-among [] = tt
   earliest-among (s ∷ l) =
-      sooner-one (Among (s ∷ l)) (At (f s)) (earliest f l) (omega (arith, ap bit (eqb_same (f s).0)))
+      sooner-one (Among (s ∷ l)) (Some (f s)) (earliest f l) (omega (arith, ap bit (eqb_same (f s).0)))
       (more (earliest f l) (earliest-among l))
     where
-      more : (a : When) → Among l a → Among (s ∷ l) a
-      more (At t) h = omega arith
-      more Never h = tt
+      more : (a : Option Ninths) → Among l a → Among (s ∷ l) a
+      more (Some t) h = omega arith
+      more None h = tt
 
 -- of those in order of start: the first's
-pub earliest-start : (w : List Session) (d : Session) → Sorted w → 0 < length w → earliest (λ s. s.start) w ≡ At (get_or w 0 d).start
+pub earliest-start : (w : List Session) (d : Session) → Sorted w → 0 < length w → earliest (λ s. s.start) w ≡ Some (get_or w 0 d).start
 earliest-start [] d o h = absurd (omega arith)
 earliest-start (s ∷ w) d o h =
     earliest-first (λ u. u.start) s.start w (all-into (λ u. s.start.0 < u.start.0) (λ u. s.start.0 ≤ u.start.0)
@@ -98,33 +97,33 @@ earliest-start (s ∷ w) d o h =
 
 -- ## Not after a time
 
-never-at : (t : Ninths) → Never ≡ At t → ⊥
+never-at : (t : Ninths) → None ≡ Some t → ⊥
 never-at t h = let z : ◌≡◌ {A = ℕ} 0 1 = cc in omega arith
 
 module _ (until : ℕ) where
   module _ (t : Ninths) where
-    pub not_after-at : t.0 ≤ until → not_after until (At t) ≡ At t
+    pub not_after-at : t.0 ≤ until → not_after until (Some t) ≡ Some t
     not_after-at h = rw (le-ltb until t.0 h)
 
-    pub not_after-none : until < t.0 → not_after until (At t) ≡ Never
+    pub not_after-none : until < t.0 → not_after until (Some t) ≡ None
     not_after-none h = rw (lt-ltb until t.0 h)
 
-  not_after-is : (a : When) (t : Ninths) → not_after until a ≡ At t → (a ≡ At t) × (t.0 ≤ until)
-  not_after-is (At u) t h = go (ltb until u.0) refl h
+  not_after-is : (a : Option Ninths) (t : Ninths) → not_after until a ≡ Some t → (a ≡ Some t) × (t.0 ≤ until)
+  not_after-is (Some u) t h = go (ltb until u.0) refl h
     where
-      go : (b : Bool) → ltb until u.0 ≡ b → cond b Never (At u) ≡ At t → (At u ≡ At t) × (t.0 ≤ until)
+      go : (b : Bool) → ltb until u.0 ≡ b → cond b None (Some u) ≡ Some t → (Some u ≡ Some t) × (t.0 ≤ until)
       go true e h = absurd (never-at t h)
       go false e h = let k : u.0 ≡ t.0 = cc in (h, omega (arith, tests))
-  not_after-is Never t h = absurd (never-at t h)
+  not_after-is None t h = absurd (never-at t h)
 
   -- what is later than until is after it
-  not_after-later : (a : When) (n : ℕ) → not_after until a ≡ Never → By a n → until < n
-  not_after-later (At u) n h k = go (ltb until u.0) refl h k
+  not_after-later : (a : Option Ninths) (n : ℕ) → not_after until a ≡ None → By a n → until < n
+  not_after-later (Some u) n h k = go (ltb until u.0) refl h k
     where
-      go : (b : Bool) → ltb until u.0 ≡ b → cond b Never (At u) ≡ Never → u.0 ≤ n → until < n
+      go : (b : Bool) → ltb until u.0 ≡ b → cond b None (Some u) ≡ None → u.0 ≤ n → until < n
       go true e h k = omega (arith, tests)
       go false e h k = absurd (never-at u (sym h))
-  not_after-later Never n h k = absurd k
+  not_after-later None n h k = absurd k
 
 -- ## The next instant
 
@@ -138,7 +137,7 @@ abbrev pub meets : ℕ → Queue → ℕ
 meets t q = count (starts_at t) q.waiting + count (ends_at t) q.started
 
 -- as code finds it
-pub due-of : (q : Queue) (a b : When) → a ≡ earliest (λ s. s.end) q.started → b ≡ earliest (λ s. s.start) q.waiting
+pub due-of : (q : Queue) (a b : Option Ninths) → a ≡ earliest (λ s. s.end) q.started → b ≡ earliest (λ s. s.start) q.waiting
     → sooner a b ≡ due q
 unfolding due
 due-of q a b e f = λ i. sooner (e i) (f i)
@@ -155,9 +154,9 @@ due-by q =
           (earliest-all (λ (s : Session). s.end) q.started),
     )
 
-abbrev Met : Queue → When → Type 0
-Met q (At t) = 0 < meets t.0 q
-Met q Never = Unit {0}
+abbrev Met : Queue → Option Ninths → Type 0
+Met q (Some t) = 0 < meets t.0 q
+Met q None = Unit {0}
 
 due-met : (q : Queue) → Met q (due q)
 unfolding due
@@ -166,17 +165,17 @@ due-met q =
     (ends (earliest (λ s. s.end) q.started) (earliest-among (λ s. s.end) q.started))
     (starts (earliest (λ s. s.start) q.waiting) (earliest-among (λ s. s.start) q.waiting))
   where
-    ends : (a : When) → Among (λ s. s.end) q.started a → Met q a
-    ends (At t) h = omega arith
-    ends Never h = tt
+    ends : (a : Option Ninths) → Among (λ s. s.end) q.started a → Met q a
+    ends (Some t) h = omega arith
+    ends None h = tt
 
-    starts : (a : When) → Among (λ s. s.start) q.waiting a → Met q a
-    starts (At t) h = omega arith
-    starts Never h = tt
+    starts : (a : Option Ninths) → Among (λ s. s.start) q.waiting a → Met q a
+    starts (Some t) h = omega arith
+    starts None h = tt
 
 -- the next instant that is not later than until
-module _ (until : ℕ) (t : Ninths) (q : Queue) (e : not_after until (due q) ≡ At t) where
-  is-due : due q ≡ At t
+module _ (until : ℕ) (t : Ninths) (q : Queue) (e : not_after until (due q) ≡ Some t) where
+  is-due : due q ≡ Some t
   is-due = (not_after-is until (due q) t e).0
 
   pub due-time : t.0 ≤ until
@@ -195,7 +194,7 @@ module _ (until : ℕ) (t : Ninths) (q : Queue) (e : not_after until (due q) ≡
   due-meets = subst (Met q) is-due (due-met q)
 
 -- with nothing due by until
-pub due-last : (until : ℕ) (q : Queue) → not_after until (due q) ≡ Never → Due (suc until) q
+pub due-last : (until : ℕ) (q : Queue) → not_after until (due q) ≡ None → Due (suc until) q
 due-last until q e =
     record {
       starts = all-into (λ s. By (due q) s.start.0) (λ s. suc until ≤ s.start.0)
@@ -282,7 +281,7 @@ instant-less t q h =
 abbrev pub moved : ℕ → ℕ → Queue → Turn
 moved now t q = instant t (elapse (t - now) q)
 
-pub moved-less : (now until : ℕ) (t : Ninths) (q : Queue) → not_after until (due q) ≡ At t → to_come (moved now t.0 q).queue < to_come q
+pub moved-less : (now until : ℕ) (t : Ninths) (q : Queue) → not_after until (due q) ≡ Some t → to_come (moved now t.0 q).queue < to_come q
 moved-less now until t q e =
     let m = due-meets until t q e in
     let d = t.0 - now in
@@ -296,27 +295,28 @@ none-due t q h = go q.waiting q.started h
     go [] (s ∷ k) h = absurd (omega arith)
     go (s ∷ w) k h = absurd (omega arith)
 
-pub due-none : (q : Queue) → to_come q ≤ 0 → due q ≡ Never
+pub due-none : (q : Queue) → to_come q ≤ 0 → due q ≡ None
 unfolding due
 due-none q h = rw (earliest-none (λ s. s.end) q.started (omega arith), earliest-none (λ s. s.start) q.waiting (omega arith))
 
 -- ## The definition of a tick, an instant at a time
 
-pub run-stop : (n now until : ℕ) (q : Queue) → not_after until (due q) ≡ Never → run n now until q ≡ quiet (elapse (until - now) q)
+pub run-stop : (n now until : ℕ) (q : Queue) → not_after until (due q) ≡ None → run n now until q ≡ quiet (elapse (until - now) q)
 unfolding run
 run-stop zero now until q e = refl
 run-stop (suc n) now until q e = rw e
 
-pub run_more : (n now until : ℕ) (t : Ninths) (q : Queue) → not_after until (due q) ≡ At t
+pub run_more : (n now until : ℕ) (t : Ninths) (q : Queue) → not_after until (due q) ≡ Some t
     → run (suc n) now until q ≡ and_then (moved now t.0 q) (run n t.0 until)
 unfolding run
 run_more n now until t q e = rw e
 
 -- a fact of what follows, from the fact of each case
-pub by_next : {A : Type 0} (P : A → Type 0) (f : ℕ → A) (x : A) (a : When) → ((t : Ninths) → a ≡ At t → P (f t.0)) → (a ≡ Never → P x)
+pub by_next : {A : Type 0} (P : A → Type 0) (f : ℕ → A) (x : A) (a : Option Ninths) → ((t : Ninths) → a ≡ Some t → P (f t.0))
+    → (a ≡ None → P x)
     → P (onwards f x a)
-by_next P f x (At t) g h = g t refl
-by_next P f x Never g h = h refl
+by_next P f x (Some t) g h = g t refl
+by_next P f x None g h = h refl
 
 -- ## A tick is never cut short: more instants change nothing
 
@@ -325,21 +325,21 @@ unfolding and_then
 then_same t f g e = rw e
 
 pub run-enough : (m n now until : ℕ) (q : Queue) → to_come q ≤ m → to_come q ≤ n → run m now until q ≡ run n now until q
-run-enough zero n now until q f g = let e : not_after until (due q) ≡ Never = rw (due-none q f) in
+run-enough zero n now until q f g = let e : not_after until (due q) ≡ None = rw (due-none q f) in
     run-stop zero now until q e ∙ sym (run-stop n now until q e)
-run-enough (suc m) zero now until q f g = let e : not_after until (due q) ≡ Never = rw (due-none q g) in
+run-enough (suc m) zero now until q f g = let e : not_after until (due q) ≡ None = rw (due-none q g) in
     run-stop (suc m) now until q e ∙ sym (run-stop zero now until q e)
 run-enough (suc m) (suc n) now until q f g = go (not_after until (due q)) refl (λ t. run-enough m n t until (moved now t q).queue)
   where
-    go : (a : When) → not_after until (due q) ≡ a
+    go : (a : Option Ninths) → not_after until (due q) ≡ a
         → ((t : ℕ) → to_come (moved now t q).queue ≤ m → to_come (moved now t q).queue ≤ n
         → run m t until (moved now t q).queue ≡ run n t until (moved now t q).queue)
         → run (suc m) now until q ≡ run (suc n) now until q
-    go (At t) e ih =
+    go (Some t) e ih =
         let l = moved-less now until t q e in
         run_more m now until t q e ∙ then_same (moved now t.0 q) (run m t.0 until) (run n t.0 until)
         (ih t.0 (omega arith) (omega arith)) ∙ sym (run_more n now until t q e)
-    go Never e ih = run-stop (suc m) now until q e ∙ sym (run-stop (suc n) now until q e)
+    go None e ih = run-stop (suc m) now until q e ∙ sym (run-stop (suc n) now until q e)
 
 pub run_all-enough : (n now until : ℕ) (q : Queue) → to_come q ≤ n → run_all now until q ≡ run n now until q
 unfolding run_all

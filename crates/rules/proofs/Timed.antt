@@ -8,8 +8,6 @@ use native.Mathlib.Omega.{arith}
 use lib.Dec.{ltb}
 use lib.ListN.{length, get_or}
 use borrow.Author.Tests.{eqb-true, eqb-false, ne_eqb, not-true, not-false, ltb-false, ltb-true}
-use Rattle.rules.specs.declared.When.{When}
-use Rattle.rules.specs.declared.When.TheVariants.{At, Never}
 use Rattle.rules.specs.declared.Session.{Session}
 use Rattle.rules.specs.declared.Ending.TheVariants.{Response}
 use Rattle.rules.specs.declared.Start.{Start}
@@ -30,6 +28,8 @@ use Rattle.rules.proofs.Leaving.{dismissed-fewer, failed-fewer, ousted-fewer, ev
 use Rattle.rules.proofs.Tick.{due-time, due-meets, Due, meets, all-on_air, elapse-due, tick-through}
 use Rattle.rules.proofs.Always.{Admitted, grants, KeptHeld, held-always}
 pub use Rattle.rules.specs.Follows.Sound.{Later, OnTime}
+use Rattle.std.specs.Prelude.{None, Option, Some}
+use Rattle.rules.specs.declared.Ninths.{Ninths}
 
 pub timed-fewer : (now : ℕ) (q r : Queue) → FewerHeld q r → OnTime now q → OnTime now r
 timed-fewer now q r f h =
@@ -241,9 +241,9 @@ pub timed-always : (ks : List Call) (name : List ℕ) → OnTime (after ks (fres
 timed-always = held-always OnTime timed-kept (record { sorted = tt; later = tt; ends = tt })
 
 -- nothing is left that was due: a tick to the present time does nothing
-pub nothing-due : (now : ℕ) (q : Queue) → OnTime now q → not_after now (due q) ≡ Never
+pub nothing-due : (now : ℕ) (q : Queue) → OnTime now q → not_after now (due q) ≡ None
 nothing-due now q h = go (not_after now (due q)) refl
   where
-    go : (a : When) → not_after now (due q) ≡ a → a ≡ Never
-    go (At t) e = absurd (omega (arith, meets-after now t.0 q h (due-meets now t q e), due-time now t q e))
-    go Never e = refl
+    go : (a : Option Ninths) → not_after now (due q) ≡ a → a ≡ None
+    go (Some t) e = absurd (omega (arith, meets-after now t.0 q h (due-meets now t q e), due-time now t q e))
+    go None e = refl

@@ -1,7 +1,7 @@
 -- 01, "Answering a message, first that applies".
-use Rattle.std.specs.Prelude.{Bool, false, cond, not, ◌&&◌, List, [], ◌∷◌, ℕ, eqb, get_or}
+use Rattle.std.specs.Prelude.{Bool, false, cond, not, ◌&&◌, List, [], ◌∷◌, ℕ, eqb, get_or, None, Option, Some}
 use Rattle.rules.specs.declared.Message.{Message}
-use Rattle.rules.specs.declared.Message.TheVariants.{Init, Alive, Splice, Abort, Config, Extended, Unreadable}
+use Rattle.rules.specs.declared.Message.TheVariants.{Init, Alive, Splice, Abort, Config, Extended}
 use Rattle.rules.specs.declared.Link.TheVariants.{Initialised}
 use Rattle.rules.specs.declared.Session.{Session}
 use Rattle.rules.specs.declared.Past.{Past}
@@ -134,14 +134,14 @@ splices a s =
 -- ## The answer
 
 -- a message of that list, read from the data d; section: the map on air. "5. Not readable: General_Response 123."
-unfoldable pub answer_read : ℕ → Message → List ℕ → (section : List ℕ) → Splicer → Answered
-answer_read c (Init revision) d section s = answer_init c revision d s
-answer_read c Alive d section s = says (alive_response c s ∷ []) s
-answer_read c (Splice r) d section s = splices (answer_splice s.clock c r s.queue) s
-answer_read c (Abort x) d section s = turns (answer_abort c x s.queue) s
-answer_read c (Extended x) d section s = says (extended_response c x s.queue ∷ []) s
-answer_read c Config d section s = says (config_response c section s ∷ []) s
-answer_read c Unreadable d section s = says (General c 123 ∷ []) s
+unfoldable pub answer_read : ℕ → Option Message → List ℕ → (section : List ℕ) → Splicer → Answered
+answer_read c (Some (Init revision)) d section s = answer_init c revision d s
+answer_read c (Some Alive) d section s = says (alive_response c s ∷ []) s
+answer_read c (Some (Splice r)) d section s = splices (answer_splice s.clock c r s.queue) s
+answer_read c (Some (Abort x)) d section s = turns (answer_abort c x s.queue) s
+answer_read c (Some (Extended x)) d section s = says (extended_response c x s.queue ∷ []) s
+answer_read c (Some Config) d section s = says (config_response c section s ∷ []) s
+answer_read c None d section s = says (General c 123 ∷ []) s
 
 -- "1. ID 0x0000: no answer. 2. Not initialised and not Init_Request: General_Response 103. 3. ID 0x000D: no answer.
 -- 4. ID not in the list of four: General_Response 120." 02, CR 8 and CR 6: of six

@@ -1,12 +1,8 @@
 -- 01, "Calls and house numbers".
-use Rattle.std.specs.Prelude.{Bool, cond, List, [], ◌∷◌, ℕ, ◌+◌, ◌*◌, ◌/◌, ◌%◌, leb, ltb, length}
-use Rattle.rules.specs.declared.When.{When}
-use Rattle.rules.specs.declared.When.TheVariants.{At, Never}
+use Rattle.std.specs.Prelude.{Bool, cond, List, [], ◌∷◌, ℕ, ◌+◌, ◌*◌, ◌/◌, ◌%◌, leb, ltb, length, Err, None, Ok, Option, Result, Some}
 use Rattle.rules.specs.declared.Link.TheVariants.{Closed, Opened}
 use Rattle.rules.specs.declared.Refusal.TheVariants.{NoConnection, NoRoom, ClockBack, Oversize, Short, AlreadyOpen, NotOpen}
 use Rattle.rules.specs.declared.Refusal.TheVariants.{BadMicros, BadName, LongSection, BadSection}
-use Rattle.rules.specs.declared.Framing.{Framing}
-use Rattle.rules.specs.declared.Framing.TheVariants.{Framed, Unframed}
 use Rattle.rules.specs.Units.{horizon, second, time_of, bad_micros, from_micros, up_micros}
 use Rattle.rules.specs.Bytes.{message_id, message_size, oversize, data_of, has_zero, name_in}
 use Rattle.rules.specs.State.{Splicer, no_hardware, link_of, is_open, with_link, with_hardware, with_queue, with_clock}
@@ -16,6 +12,9 @@ use Rattle.rules.specs.Instants.{run_all, silent_all}
 use Rattle.rules.specs.Answers.{air_map, answer}
 use Rattle.rules.specs.Cues.{bad_section, read_cue, cue_time, initialised_ones, cue_records}
 use Rattle.rules.specs.HouseNumbers.{Called, refuse, does, replies, no_connection, no_room, not_open, Loans, long_section}
+use Rattle.rules.specs.declared.Ninths.{Ninths}
+use Rattle.rules.specs.declared.Header.{Header}
+use Rattle.rules.specs.declared.Refusal.{Refusal}
 
 -- ## The five calls
 
@@ -60,22 +59,26 @@ close_call c room s =
     (cond (not_open c s) (refuse NotOpen s)
     (does 0 t.written (shut c (with_queue t.queue s)))))
 
+-- a message's MessageID and MessageSize
+abbrev pub headed : ℕ → ℕ → Header
+headed id size = record { id = id; size = size }
+
 -- "5 (header), 4, 5 (body)"; l: the bytes read so far
 -- 5: "fewer than 8 bytes, or fewer than 8 + MessageSize"
-unfoldable pub framing : List ℕ → Framing
+unfoldable pub framing : List ℕ → Result Header Refusal
 framing l =
-    cond (ltb (length l) 8) (Unframed Short)
-    (cond (oversize l) (Unframed Oversize)
-    (cond (ltb (length l) (8 + message_size l)) (Unframed Short) (Framed (message_id l) (message_size l))))
+    cond (ltb (length l) 8) (Err Short)
+    (cond (oversize l) (Err Oversize)
+    (cond (ltb (length l) (8 + message_size l)) (Err Short) (Ok (headed (message_id l) (message_size l)))))
 
 -- 02, CR 6: of the sections "the one on air"
 abbrev pub section_of : Loans → Splicer → List ℕ
 section_of loans s = air_map s.queue.started loans.primary loans.insertion
 
 -- "Message handles the first message only, and each is handed on as its own part of what was read."
-unfoldable pub handled : ℕ → Framing → List ℕ → Loans → Splicer → Called
-handled c (Unframed n) l loans s = refuse n s
-handled c (Framed id size) l loans s = replies (8 + size) (answer c id (data_of size l) (section_of loans s) s)
+unfoldable pub handled : ℕ → Result Header Refusal → List ℕ → Loans → Splicer → Called
+handled c (Err n) l loans s = refuse n s
+handled c (Ok h) l loans s = replies (8 + h.size) (answer c h.id (data_of h.size l) (section_of loans s) s)
 
 -- "message 1, 2, 7"; 02, CR 6: "house number 10 .., in the message call after 7"; then as above
 -- "message (one connection, bytes read so far)"
@@ -115,9 +118,9 @@ beyond t = leb horizon (up_micros t * 9)
 
 -- when a tick would next do anything, in words: 0 with nothing due; 1 and the instant in ninths, if no tick reaches it; 2, the instant, and
 -- Seconds and MicroSeconds of the first tick that does
-unfoldable pub due_row : When → List ℕ
-due_row Never = 0 ∷ 0 ∷ 0 ∷ 0 ∷ []
-due_row (At t) =
+unfoldable pub due_row : Option Ninths → List ℕ
+due_row None = 0 ∷ 0 ∷ 0 ∷ 0 ∷ []
+due_row (Some t) =
     cond (beyond t.0) (1 ∷ t.0 ∷ 0 ∷ 0 ∷ []) (2 ∷ t.0 ∷ up_micros t.0 / second ∷ up_micros t.0 % second ∷ [])
 
 -- 02, CR 7: a section of cues, a PTS and the UTC instant that belongs to it: 2, 8, 11. It changes nothing, and the clock plays no part

@@ -1,8 +1,8 @@
 -- 01, Bytes, "Descriptor": what makes one good; 02, CR 5: the mux priority that a message's descriptors give.
 use Rattle.std.specs.Prelude.{Bool, true, false, cond, not, ◌&&◌, List, ℕ, zero, suc, ◌+◌, eqb, leb, length, get_or, drop}
-use Rattle.rules.specs.declared.Priority.{Priority}
-use Rattle.rules.specs.declared.Priority.TheVariants.{Is, Bad}
 use Rattle.rules.specs.Bytes.{field}
+use Rattle.std.specs.declared.option.Option.{Option}
+use Rattle.std.specs.declared.option.Option.TheVariants.{Some, None}
 
 -- "Descriptor: tag 1, length 1, identifier 4, private bytes. Length counts what follows it, is 4 to 254, and the descriptors
 -- fill the message exactly." n is at least the number of descriptors.
@@ -34,21 +34,21 @@ average_mux = 5
 abbrev pub mux_after : ℕ → List ℕ → ℕ
 mux_after v l = cond (is_mux l) (mux_value l) v
 
-unfoldable pub mux_from : ℕ → ℕ → List ℕ → Priority
-mux_from zero v l = cond (eqb (length l) 0) (Is v) Bad
+unfoldable pub mux_from : ℕ → ℕ → List ℕ → Option ℕ
+mux_from zero v l = cond (eqb (length l) 0) (Some v) None
 mux_from (suc n) v l =
-    cond (eqb (length l) 0) (Is v)
-    (cond (good_descriptor l) (mux_from n (mux_after v l) (drop (2 + descriptor_length l) l)) Bad)
+    cond (eqb (length l) 0) (Some v)
+    (cond (good_descriptor l) (mux_from n (mux_after v l) (drop (2 + descriptor_length l) l)) None)
 
 -- each takes at least six bytes, so there are fewer than bytes
-abbrev pub mux_of : List ℕ → Priority
+abbrev pub mux_of : List ℕ → Option ℕ
 mux_of l = mux_from (length l) average_mux l
 
-abbrev pub is_bad : Priority → Bool
-is_bad (Is v) = false
-is_bad Bad = true
+abbrev pub is_bad : Option ℕ → Bool
+is_bad (Some v) = false
+is_bad None = true
 
 -- of bad descriptors, with which nothing is read, as without one
-abbrev pub mux_in : Priority → ℕ
-mux_in (Is v) = v
-mux_in Bad = average_mux
+abbrev pub mux_in : Option ℕ → ℕ
+mux_in (Some v) = v
+mux_in None = average_mux

@@ -1,13 +1,14 @@
 -- 01, Instants, with 02, CR 4: starts and ends, and a tick as a recursion over instants.
 use Rattle.std.specs.Prelude.{Bool, true, false, cond, ◌&&◌, List, [], ◌∷◌, ℕ, zero, suc, ◌+◌, ◌-◌, eqb, ltb, length, get_or}
-use Rattle.rules.specs.declared.When.{When}
-use Rattle.rules.specs.declared.When.TheVariants.{At, Never}
 use Rattle.rules.specs.declared.Session.{Session}
 use Rattle.rules.specs.declared.Ending.TheVariants.{Complete, Failed}
 use Rattle.rules.specs.Lists.{omit, place, remove_at}
 use Rattle.rules.specs.State.{Queue, empty, starts_at, ends_at, due, not_after, to_come, with_waiting, with_started}
 use Rattle.rules.specs.Records.{Record, SpliceComplete}
 use Rattle.rules.specs.Ends.{Turn, quiet, and_then, writes, ending, one_end, endings, dismissed}
+use Rattle.std.specs.declared.option.Option.{Option}
+use Rattle.std.specs.declared.option.Option.TheVariants.{Some, None}
+use Rattle.rules.specs.declared.Ninths.{Ninths}
 
 -- a new session outranks an old one: the one place where it is decided whether an equal AccessType wins. 02: "With the flag at 1, an equal
 -- AccessType now wins"; the flag is the new one's
@@ -94,9 +95,9 @@ unfoldable pub elapse : ℕ → Queue → Queue
 elapse d q = with_started (on_air d q.started) q
 
 -- f of the next instant, or x where there is none
-abbrev pub onwards : {A : Type 0} → (ℕ → A) → A → When → A
-onwards f x (At t) = f t.0
-onwards f x Never = x
+abbrev pub onwards : {A : Type 0} → (ℕ → A) → A → Option Ninths → A
+onwards f x (Some t) = f t.0
+onwards f x None = x
 
 -- "A tick works through every start and end not later than its time, in order of time": from the time now to until, n instants at most
 unfoldable pub run : ℕ → ℕ → ℕ → Queue → Turn

@@ -1,10 +1,10 @@
 -- 01, Bytes, Splice_Request: its fields, its tail, what makes it unreadable, and the request that is read.
-use Rattle.std.specs.Prelude.{Bool, cond, ◌&&◌, ◌||◌, List, ℕ, eqb, ltb, length, get_or, drop}
+use Rattle.std.specs.Prelude.{Bool, cond, ◌&&◌, ◌||◌, List, ℕ, eqb, ltb, length, get_or, drop, None, Option, Some}
 use Rattle.rules.specs.declared.Start.{Start}
 use Rattle.rules.specs.declared.Start.TheVariants.{Timed, Linked}
 use Rattle.rules.specs.declared.Request.{Request}
 use Rattle.rules.specs.declared.Message.{Message}
-use Rattle.rules.specs.declared.Message.TheVariants.{Splice, Unreadable}
+use Rattle.rules.specs.declared.Message.TheVariants.{Splice}
 use Rattle.rules.specs.Units.{time_of, bad_micros}
 use Rattle.rules.specs.Bytes.{field}
 use Rattle.rules.specs.Descriptors.{mux_of, is_bad, mux_in}
@@ -97,9 +97,9 @@ whole_request d t =
       mux = mux_in (mux_of (descriptors_of t));
     }
 
-unfoldable pub read_whole : List ℕ → List ℕ → Message
-read_whole d t = cond (bad_splice d t) Unreadable (Splice (whole_request d t))
+unfoldable pub read_whole : List ℕ → List ℕ → Option Message
+read_whole d t = cond (bad_splice d t) None (Some (Splice (whole_request d t)))
 
 -- "Splice data below 18 bytes"
-unfoldable pub read_splice : List ℕ → Message
-read_splice d = cond (ltb (length d) 18) Unreadable (read_whole d (tail_of d))
+unfoldable pub read_splice : List ℕ → Option Message
+read_splice d = cond (ltb (length d) 18) None (read_whole d (tail_of d))

@@ -1,13 +1,12 @@
 -- 02, CR 9: "The card with a rolling counter."
-use Rattle.std.specs.Prelude.{Bool, true, false, cond, List, [], ◌∷◌, ℕ, ◌+◌, ◌-◌, ◌%◌, leb, ltb}
-use Rattle.rules.specs.declared.When.{When}
-use Rattle.rules.specs.declared.When.TheVariants.{At, Never}
+use Rattle.std.specs.Prelude.{Bool, true, false, cond, List, [], ◌∷◌, ℕ, ◌+◌, ◌-◌, ◌%◌, leb, ltb, None, Option, Some}
 use Rattle.rules.specs.declared.Refusal.{Refusal}
 use Rattle.rules.specs.declared.Refusal.TheVariants.{NoRoom, BadMicros, Counter}
 use Rattle.rules.specs.Units.{time_of, bad_micros, from_micros, from_ticks, up_ticks, horizon}
 use Rattle.rules.specs.State.{Splicer}
 use Rattle.rules.specs.HouseNumbers.{Called, refuse, no_room}
 use Rattle.rules.specs.Calls.{ticked, Call, call}
+use Rattle.rules.specs.declared.Ninths.{Ninths}
 
 -- "Given a UTC instant and a reading once": none yet, or the last reading that a good call kept
 pub data Last : Type 0 where
@@ -103,10 +102,10 @@ within clock n =
 
 -- from the last good reading on, in words: 1 and after how many ticks of the counter the first reading does anything; 0 and the longest
 -- step, if none that is good does. Before the instant is given every reading is refused
-unfoldable pub step_row : Last → (clock : ℕ) → When → List ℕ
+unfoldable pub step_row : Last → (clock : ℕ) → Option Ninths → List ℕ
 step_row none clock w = 0 ∷ longest_step ∷ []
-step_row (at reading) clock Never = 0 ∷ longest_step ∷ []
-step_row (at reading) clock (At t) = within clock (up_ticks (t.0 - clock))
+step_row (at reading) clock None = 0 ∷ longest_step ∷ []
+step_row (at reading) clock (Some t) = within clock (up_ticks (t.0 - clock))
 
 -- ## Sequences of this card's calls
 

@@ -1,13 +1,13 @@
 -- The splicer as plain lists and numbers: sessions held, connections, the clock in ninths, the ChannelName.
 use Rattle.std.specs.Prelude.{Bool, true, false, cond, ◌&&◌, List, [], ◌∷◌, ◌++◌, ℕ, ◌+◌, ◌*◌, eqb, leb, ltb, length, get_or, set}
 use Rattle.rules.specs.declared.Ninths.{Ninths}
-use Rattle.rules.specs.declared.When.{When}
-use Rattle.rules.specs.declared.When.TheVariants.{At, Never}
 use Rattle.rules.specs.declared.Session.{Session}
 use Rattle.rules.specs.declared.Past.{Past}
 use Rattle.rules.specs.declared.Link.{Link}
 use Rattle.rules.specs.declared.Link.TheVariants.{Closed, Opened, Initialised}
 use Rattle.rules.specs.Lists.{some}
+use Rattle.std.specs.declared.option.Option.{Option}
+use Rattle.std.specs.declared.option.Option.TheVariants.{Some, None}
 
 -- 02, CR 8: "the last 16 ended sessions", in sixteen places that are written in turn, the oldest over. next: the place of the next end
 pub record Lately : Type 0 where
@@ -86,24 +86,24 @@ holds c x q = some (is c x) (held q)
 -- ## The next start or end
 
 -- the sooner of two instants
-abbrev pub sooner : When → When → When
-sooner Never u = u
-sooner (At t) Never = At t
-sooner (At t) (At u) = cond (leb t.0 u.0) (At t) (At u)
+abbrev pub sooner : Option Ninths → Option Ninths → Option Ninths
+sooner None u = u
+sooner (Some t) None = Some t
+sooner (Some t) (Some u) = cond (leb t.0 u.0) (Some t) (Some u)
 
 -- the earliest start, or end, of l
-abbrev pub earliest : (Session → Ninths) → List Session → When
-earliest f [] = Never
-earliest f (s ∷ l) = sooner (At (f s)) (earliest f l)
+abbrev pub earliest : (Session → Ninths) → List Session → Option Ninths
+earliest f [] = None
+earliest f (s ∷ l) = sooner (Some (f s)) (earliest f l)
 
 -- the next start or end
-unfoldable pub due : Queue → When
+unfoldable pub due : Queue → Option Ninths
 due q = sooner (earliest (λ s. s.end) q.started) (earliest (λ s. s.start) q.waiting)
 
 -- t, if it is "not later than" the time until
-abbrev pub not_after : ℕ → When → When
-not_after until Never = Never
-not_after until (At t) = cond (ltb until t.0) Never (At t)
+abbrev pub not_after : ℕ → Option Ninths → Option Ninths
+not_after until None = None
+not_after until (Some t) = cond (ltb until t.0) None (Some t)
 
 -- the starts and ends that are still to come
 abbrev pub to_come : Queue → ℕ

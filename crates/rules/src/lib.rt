@@ -3,36 +3,22 @@
 #![tactic(auto)]
 
 // A wire time counts microseconds.
-#[derive(Clone, Copy)]
+#[derive(Clone, Copy, PartialEq, Eq, PartialOrd, Ord)]
 pub struct Micros(pub u64);
 
 // A Duration counts 90 kHz ticks.
-#[derive(Clone, Copy)]
+#[derive(Clone, Copy, PartialEq, Eq, PartialOrd, Ord)]
 pub struct Ticks(pub u32);
 
 // The clock and all instants are kept in ninths of a microsecond.
-#[derive(Clone, Copy)]
+#[derive(Clone, Copy, PartialEq, Eq, PartialOrd, Ord, Default)]
 pub struct Ninths(pub u64);
-
-// An instant, or none.
-#[derive(Clone, Copy)]
-pub enum When {
-    At(Ninths),
-    Never,
-}
 
 // A Splice_Request's start is either timed or linked (by the PriorSession).
 #[derive(Clone, Copy)]
 pub enum Start {
     Timed(Micros),
     Linked(u32),
-}
-
-// What a Splice_Request's descriptors ask of the multiplexer (02, CR 5): a value, or one of them is bad.
-#[derive(Clone, Copy)]
-pub enum Priority {
-    Is(u8),
-    Bad,
 }
 
 // What is read of a Splice_Request.
@@ -56,12 +42,11 @@ pub enum Message {
     Abort(u32),
     Extended(u32),
     Config,
-    Unreadable,
 }
 
 // A session that is held: its connection, SessionID and PriorSession (0xFFFFFFFF if timed), start and end,
 // AccessType, OverridePlaying, what it asks of the multiplexer (MuxPriorityValue), its SpliceEventID, and its time on air.
-#[derive(Clone, Copy)]
+#[derive(Clone, Copy, Default)]
 pub struct Session {
     pub conn: u64,
     pub id: u64,
@@ -77,7 +62,7 @@ pub struct Session {
 
 // What is kept of a session that has ended (02, CR 8): its connection, SessionID and SpliceEventID, the result of its end, and its time on
 // air in ticks. All 0 where none is kept.
-#[derive(Clone, Copy)]
+#[derive(Clone, Copy, Default)]
 pub struct Past {
     pub conn: u64,
     pub id: u64,
@@ -96,7 +81,7 @@ pub enum Ending {
 }
 
 // What a connection is.
-#[derive(Clone, Copy)]
+#[derive(Clone, Copy, PartialEq, Eq)]
 pub enum Link {
     Closed,
     Opened,
@@ -121,11 +106,11 @@ pub enum Refusal {
     NotSixteen,
 }
 
-// The first message of what was read: its MessageID and MessageSize, or the refusal that it gets.
+// Of the first message of what was read: its MessageID and MessageSize.
 #[derive(Clone, Copy)]
-pub enum Framing {
-    Framed(u16, u16),
-    Unframed(Refusal),
+pub struct Header {
+    pub id: u16,
+    pub size: u16,
 }
 
 // What comes of a section of cues: it is passed on, with the 33-bit PTS of its cue or without a time; nothing comes of it; or it is bad.

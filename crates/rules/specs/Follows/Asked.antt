@@ -1,10 +1,10 @@
 -- What is known of every message that is read: the ranges of its numbers; proofs/Readings shows it.
-use Rattle.std.specs.Prelude.{◌≤◌, ◌<◌}
+use Rattle.std.specs.Prelude.{◌≤◌, ◌<◌, None, Option, Some}
 use Rattle.rules.specs.declared.Start.{Start}
 use Rattle.rules.specs.declared.Start.TheVariants.{Timed, Linked}
 use Rattle.rules.specs.declared.Request.{Request}
 use Rattle.rules.specs.declared.Message.{Message}
-use Rattle.rules.specs.declared.Message.TheVariants.{Init, Alive, Splice, Abort, Config, Extended, Unreadable}
+use Rattle.rules.specs.declared.Message.TheVariants.{Init, Alive, Splice, Abort, Config, Extended}
 use Rattle.rules.specs.Request.{nobody}
 
 -- a time stays below 2^52
@@ -22,11 +22,11 @@ pub record Asked (r : Request) : Type 0 where
   pub overrides : r.overrides ≤ 1
   pub mux : (1 ≤ r.mux) × (r.mux ≤ 10)
 
-abbrev pub Reads : Message → Type 0
-Reads (Init revision) = revision < 65536
-Reads Alive = Unit {0}
-Reads (Splice r) = Asked r
-Reads (Abort x) = x < 4294967296
-Reads (Extended x) = x < 4294967296
-Reads Config = Unit {0}
-Reads Unreadable = Unit {0}
+abbrev pub Reads : Option Message → Type 0
+Reads (Some (Init revision)) = revision < 65536
+Reads (Some Alive) = Unit {0}
+Reads (Some (Splice r)) = Asked r
+Reads (Some (Abort x)) = x < 4294967296
+Reads (Some (Extended x)) = x < 4294967296
+Reads (Some Config) = Unit {0}
+Reads None = Unit {0}
