@@ -71,6 +71,22 @@ const ALIKE: [&str; 8] = [
     "lib.ListN",
 ];
 
+/// The kit's types of cases that definitions use, as their crate declares them: the module that has them, and their declaration.
+pub const ENUMS: [(&str, &str); 2] =
+    [("std.declared.option", "Option<T> { Some(T), None }"), ("std.declared.result", "Result<T, E> { Ok(T), Err(E) }")];
+
+/// The module in which a type of cases or one of its cases is declared, where a module that passes it on is named.
+pub fn declared(module: &str, name: &str) -> Option<&'static str> {
+    match name {
+        _ if module != PRELUDE && !ALIKE.contains(&module) => None,
+        "Option" => Some("std.declared.option.Option"),
+        "Some" | "None" => Some("std.declared.option.Option.TheVariants"),
+        "Result" => Some("std.declared.result.Result"),
+        "Ok" | "Err" => Some("std.declared.result.Result.TheVariants"),
+        _ => None,
+    }
+}
+
 pub fn arity(prim: Prim) -> usize {
     FUNCTIONS.iter().find(|f| f.2 == prim).map_or(0, |f| f.3)
 }

@@ -1,7 +1,7 @@
 //! All files of crates/*/specs, and the types that crates/*/src declare; what each name means in each module.
 
 use crate::code::{Def, Sym};
-use crate::kit::kit;
+use crate::kit::{self, kit};
 use crate::tree::{Clause, Ex, Id, Item, Kind, Param, Placed};
 use crate::{lex, parse};
 use std::collections::HashMap;
@@ -223,7 +223,7 @@ impl Program {
     }
 
     fn from(&self, key: &str, name: &str) -> Option<Res> {
-        match self.keys.get(key) {
+        match self.keys.get(kit::declared(key, name).unwrap_or(key)) {
             Some(m) => self.resolve(*m, name),
             None if key.contains("declared") => None,
             None => Some(kit(key, name).unwrap_or(Res::Foreign(format!("{key}.{name}")))),
@@ -262,6 +262,9 @@ fn stem(p: &Path) -> String {
 /// All of the repository at root.
 pub fn load(root: &Path) -> Program {
     let mut p = Program::default();
+    for (module, text) in kit::ENUMS {
+        p.declaration(module, text, true);
+    }
     for dir in listed(&root.join("crates"), "") {
         let name = stem(&dir);
         for src in listed(&dir.join("src"), ".rt") {
