@@ -10,10 +10,11 @@ use borrow.Author.Tests.{ne_eqb, ltb-false}
 use lib.Dec.{eqb, ltb}
 use lib.ListN.{length, take, drop, length-drop}
 use lib.Seq.{take_all}
-use Rattle.rules.specs.declared.Framing.{Framing}
-use Rattle.rules.specs.declared.Framing.TheVariants.{Framed, Unframed}
+use Rattle.std.specs.Prelude.{Result, Ok, Err}
+use Rattle.rules.specs.declared.Header.{Header}
+use Rattle.rules.specs.declared.Refusal.{Refusal}
 use Rattle.rules.specs.declared.Message.{Message}
-use Rattle.rules.specs.declared.Message.TheVariants.{Init, Alive, Splice, Abort, Config, Extended, Unreadable}
+use Rattle.rules.specs.declared.Message.TheVariants.{Init, Alive, Splice, Abort, Config, Extended}
 use Rattle.rules.specs.Bytes.{message_size, oversize}
 use Rattle.rules.specs.Calls.{framing}
 use Rattle.rules.specs.Reading.{init_request, alive_request, splice_request, abort_request, config_request}
@@ -23,6 +24,7 @@ use Rattle.rules.specs.Reading.{extended_request, bad_init, bad_extended, read_i
 use Rattle.rules.specs.Reading.{read_config, read_extended, is_read, read}
 use Rattle.rules.specs.Request.{tail_of, bad_splice, read_whole, read_splice}
 use Rattle.rules.proofs.Tests.{by, or-none}
+use Rattle.std.specs.Prelude.{None, Option, Some}
 
 -- what was said of a part
 pub said : (f : List ℕ → Bool) {x y : List ℕ} {b n : Bool} → b ≡ f x → x ≡ y → b ≡ n → f y ≡ n
@@ -62,9 +64,9 @@ read_no id n =
 -- ## What callers go on with
 
 -- a framed message's data is there, and its size is not over 4,088
-abbrev Frames : List ℕ → Framing → Type 0
-Frames l (Unframed n) = Unit {0}
-Frames l (Framed id size) = (8 + size ≤ length l) × (size ≤ 4088)
+abbrev Frames : List ℕ → Result Header Refusal → Type 0
+Frames l (Err n) = Unit {0}
+Frames l (Ok h) = (8 + h.size ≤ length l) × (h.size ≤ 4088)
 
 frames : (l : List ℕ) → Frames l (framing l)
 unfolding framing
@@ -74,18 +76,18 @@ frames l =
     (λ f. by (Frames l) (ltb (length l) (8 + message_size l)) _ _ (λ g. tt)
     (λ g. (ltb-false (length l) (8 + message_size l) g, ltb-false 4088 (message_size l) f))))
 
-pub framed : (l : List ℕ) (id size : ℕ) → framing l ≡ Framed id size → (8 + size ≤ length l) × (size ≤ 4088)
-framed l id size e = subst (Frames l) e (frames l)
+pub framed : (l : List ℕ) (h : Header) → framing l ≡ Ok h → (8 + h.size ≤ length l) × (h.size ≤ 4088)
+framed l h e = subst (Frames l) e (frames l)
 
 -- an Init_Request that was read has its names and its Hardware_Config
-abbrev Holds : List ℕ → Message → Type 0
-Holds d (Init revision) = bad_init d ≡ false
-Holds d Alive = Unit {0}
-Holds d (Splice r) = Unit {0}
-Holds d (Abort x) = Unit {0}
-Holds d (Extended x) = Unit {0}
-Holds d Config = Unit {0}
-Holds d Unreadable = Unit {0}
+abbrev Holds : List ℕ → Option Message → Type 0
+Holds d (Some (Init revision)) = bad_init d ≡ false
+Holds d (Some Alive) = Unit {0}
+Holds d (Some (Splice r)) = Unit {0}
+Holds d (Some (Abort x)) = Unit {0}
+Holds d (Some (Extended x)) = Unit {0}
+Holds d (Some Config) = Unit {0}
+Holds d None = Unit {0}
 
 holds : (id : ℕ) (d : List ℕ) → Holds d (read id d)
 unfolding read read_init read_alive read_whole read_splice read_abort read_config read_extended
@@ -100,7 +102,7 @@ holds id d =
     (λ h. by (Holds d) (eqb id extended_request) _ _ (λ i. by (Holds d) (bad_extended d) _ _ (λ j. tt) (λ j. tt))
     (λ i. by (Holds d) (eqb id config_request) _ _ (λ j. by (Holds d) (eqb (length d) 0) _ _ (λ k. tt) (λ k. tt)) (λ j. tt))))))
 
-pub init-good : (id : ℕ) (d : List ℕ) (revision : ℕ) → read id d ≡ Init revision → bad_init d ≡ false
+pub init-good : (id : ℕ) (d : List ℕ) (revision : ℕ) → read id d ≡ Some (Init revision) → bad_init d ≡ false
 init-good id d revision e = subst (Holds d) e (holds id d)
 
 -- which therefore ends within the data, and is not over 256 bytes

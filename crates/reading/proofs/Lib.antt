@@ -1,4 +1,4 @@
-pub mod Strings
+pub mod Widths
 pub mod Walks
 pub mod Found
 pub mod Laws

@@ -13,8 +13,7 @@ use Rattle.rules.specs.Request.{separate_service, service_id, tail_of}
 use Rattle.rules.specs.Streams.{Stream, stream_length, stream_at, bad_stream, Listed, listed, unlisted}
 use Rattle.rules.specs.Streams.{behind, streams_in, pid_count, bad_count, separate_in, rest_of}
 use Rattle.rules.proofs.Streams.{streams-step, streams-none, good-stream, length-kept, separate-step}
-use Rattle.reading.specs.declared.structures.Streams.{Streams}
-use Rattle.reading.specs.declared.structures.Streams.TheVariants.{End, Bad}
+use Rattle.std.specs.Prelude.{Option, Some, None}
 use Rattle.reading.specs.Structures.{size_of, sizes_of, place_of, streams_end, end_from, from, tail_place}
 
 size_is : (l : List ℕ) → bad_stream l ≡ false → size_of (stream_at l) ≡ stream_length l
@@ -22,18 +21,18 @@ size_is l e = let g = good-stream l e in omega (arith, length-kept l e)
 
 place-behind : (at : ℕ) (s : Stream) (x : Listed) → place_of (at + size_of s) x ≡ place_of at (behind s x)
 unfolding place_of behind
-place-behind at s (listed l rest) = ap End (add_assoc at (size_of s) (sizes_of l))
+place-behind at s (listed l rest) = ap Some (add_assoc at (size_of s) (sizes_of l))
 place-behind at s unlisted = refl
 
 -- the walk finds the place that the definition says
 pub end_is : (n at : ℕ) (p : List ℕ) → end_from n at p ≡ place_of at (streams_in n (drop at p))
 unfolding end_from streams_in place_of
-end_is zero at p = ap End (sym (add-zero at))
+end_is zero at p = ap Some (sym (add-zero at))
 end_is (suc n) at p = go (bad_stream (drop at p)) refl (end_is n (at + stream_length (drop at p)) p)
   where
     go : (b : Bool) → bad_stream (drop at p) ≡ b → end_from n (at + stream_length (drop at p)) p
         ≡ place_of (at + stream_length (drop at p)) (streams_in n (drop (at + stream_length (drop at p)) p))
-        → cond b Bad (end_from n (at + stream_length (drop at p)) p) ≡ place_of at
+        → cond b None (end_from n (at + stream_length (drop at p)) p) ≡ place_of at
         (cond b unlisted (behind (stream_at (drop at p)) (streams_in n (drop (stream_length (drop at p)) (drop at p)))))
     go true e ih = refl
     go false e ih =
@@ -62,7 +61,7 @@ unfolding end_from
 end_step n at p e =
     rw e (ap (λ k. end_from n (at + k) p) (get_or-drop at p 0 0 ∙ ap (λ i. get_or p i 0) (add-zero at)))
 
-pub end-bad : (n at : ℕ) (p : List ℕ) → bad_stream (drop at p) ≡ true → end_from (suc n) at p ≡ Bad
+pub end-bad : (n at : ℕ) (p : List ℕ) → bad_stream (drop at p) ≡ true → end_from (suc n) at p ≡ None
 unfolding end_from
 end-bad n at p e = rw e
 
@@ -85,19 +84,19 @@ pub record Found (p : List ℕ) (n : ℕ) : Type 0 where
   pub is : separate_in p ≡ listed items rest
   pub end : n ≡ 6 + sizes_of items
 
-pub end-found : (p : List ℕ) (n : ℕ) → streams_end p ≡ End n → Found p n
+pub end-found : (p : List ℕ) (n : ℕ) → streams_end p ≡ Some n → Found p n
 unfolding streams_end place_of
 end-found p n = go (separate_in p) refl
   where
-    go : (x : Listed) → separate_in p ≡ x → place_of 6 x ≡ End n → Found p n
+    go : (x : Listed) → separate_in p ≡ x → place_of 6 x ≡ Some n → Found p n
     go (listed l r) e f = let k : n ≡ 6 + sizes_of l = cc in record { items = l; rest = r; is = e; end = k }
     go unlisted e f = let z : ◌≡◌ {A = ℕ} 0 1 = cc in absurd (omega arith)
 
-pub end-unlisted : (p : List ℕ) → streams_end p ≡ Bad → separate_in p ≡ unlisted
+pub end-unlisted : (p : List ℕ) → streams_end p ≡ None → separate_in p ≡ unlisted
 unfolding streams_end place_of
 end-unlisted p = go (separate_in p) refl
   where
-    go : (x : Listed) → separate_in p ≡ x → place_of 6 x ≡ Bad → separate_in p ≡ unlisted
+    go : (x : Listed) → separate_in p ≡ x → place_of 6 x ≡ None → separate_in p ≡ unlisted
     go (listed l r) e f = let z : ◌≡◌ {A = ℕ} 0 1 = cc in absurd (omega arith)
     go unlisted e f = e
 
@@ -114,25 +113,25 @@ pub end-counted : (p : List ℕ) → bad_count p ≡ false → streams_end p ≡
 unfolding streams_end separate_in
 end-counted p e = rw e (sym (end_is (pid_count p) 6 p))
 
-pub end-miscounted : (p : List ℕ) → bad_count p ≡ true → streams_end p ≡ Bad
+pub end-miscounted : (p : List ℕ) → bad_count p ≡ true → streams_end p ≡ None
 unfolding streams_end separate_in place_of
 end-miscounted p e = rw e
 
 -- ## Where the tail stands
 
 -- by the place that is found
-abbrev pub Placed : (t d : List ℕ) → Streams → Type 0
-Placed t d (End n) = (t ≡ drop n d) × (n ≤ length d)
-Placed t d Bad = t ≡ []
+abbrev pub Placed : (t d : List ℕ) → Option ℕ → Type 0
+Placed t d (Some n) = (t ≡ drop n d) × (n ≤ length d)
+Placed t d None = t ≡ []
 
 pub tail-is : (d : List ℕ) → 18 ≤ length d → Placed (tail_of d) d (tail_place d)
 unfolding tail_place tail_of from rest_of
 tail-is d long = go (eqb (service_id d) separate_service) (streams_end (drop 18 d)) refl
   where
-    go : (b : Bool) (x : Streams) → streams_end (drop 18 d) ≡ x → Placed (cond b (rest_of (separate_in (drop 18 d))) (drop 18 d)) d
-        (cond b (from 18 x) (End 18))
-    go true (End n) e =
+    go : (b : Bool) (x : Option ℕ) → streams_end (drop 18 d) ≡ x → Placed (cond b (rest_of (separate_in (drop 18 d))) (drop 18 d)) d
+        (cond b (from 18 x) (Some 18))
+    go true (Some n) e =
         let f = found-rest (drop 18 d) n (end-found (drop 18 d) n e) in
         (f.0 ∙ drop-drop n 18 d, omega (arith, f.1, length-drop 18 d))
-    go true Bad e = rw (end-unlisted (drop 18 d) e)
+    go true None e = rw (end-unlisted (drop 18 d) e)
     go false x e = (refl, long)

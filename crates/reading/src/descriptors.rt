@@ -4,10 +4,9 @@ ghost use Rattle.rules.specs.Descriptors.{is_mux, mux_of};
 ghost use Rattle.reading.specs.Walk.{step_at};
 
 use super::numbers::{byte_at, number4};
-use rules::Priority;
 
 // What stands at a place (02, CR 5): a muxpriority descriptor, with its value and the place behind it; a foreign one, with the place behind
-// it; the end; or what is no good descriptor.
+// it; the end; or what is no good descriptor. One type and no Option of a Result: `found_all` speaks of a list of these four answers.
 #[derive(Clone, Copy)]
 pub enum Descriptor {
     Mux(u8, usize),
@@ -24,50 +23,40 @@ const SAPI: u32 = 0x53415049;
 // "without one the value is 5"
 const AVERAGE: u8 = 5;
 
-// Whether a descriptor is muxpriority. Its identifier is looked at only where it is known to be there.
-fn is_mux(l: &[u8], at: usize) -> bool
-    requires { at + 6 ≤ length l.now }
-    ensures { result ≡ is_mux (drop at l.now) }
+// Whether the descriptor that d begins with is muxpriority. Its identifier is looked at only where it is known to be there.
+fn is_mux(d: &[u8]) -> bool
+    requires { 6 ≤ length d.now }
+    ensures { result ≡ is_mux d.now }
 {
-    l[at] == MUX_TAG && number4(l, at + 2) == SAPI
+    d[0] == MUX_TAG && number4(d, 2) == SAPI
 }
 
 // The one place that looks at a descriptor: "Length counts what follows it, is 4 to 254"; "the length must be 5 and the value 1 to 10".
+#[tactic(auto, unfolding(crate::specs::Walk::step_at))]
 pub fn step(l: &[u8], at: usize) -> Descriptor
     ensures { result ≡ step_at l.now at }
 {
     if l.len() <= at {
         return Descriptor::End;
     }
+    let d = &l[at..];
     // A descriptor that is cut before its length counts as one of length 0.
-    let size = byte_at(l, at + 1) as usize;
-    if size < 4 {
-        return Descriptor::Bad;
-    }
-    if 254 < size {
-        return Descriptor::Bad;
-    }
-    if l.len() - at < 2 + size {
+    let size = usize::from(byte_at(d, 1));
+    if !(4..=254).contains(&size) || d.len() < 2 + size {
         return Descriptor::Bad;
     }
     let next = at + (2 + size);
-    if !is_mux(l, at) {
+    if !is_mux(d) {
         return Descriptor::Foreign(next);
     }
-    if size != 5 {
+    if size != 5 || !(1..=10).contains(&d[6]) {
         return Descriptor::Bad;
     }
-    let value = l[at + 6];
-    if value < 1 {
-        return Descriptor::Bad;
-    }
-    if 10 < value {
-        return Descriptor::Bad;
-    }
-    Descriptor::Mux(value, next)
+    Descriptor::Mux(d[6], next)
 }
 
-// The descriptors' bytes as they stand in the message, and a place in them. Its functions are thin: `step` has the work.
+// The descriptors' bytes as they stand in the message, and a place in them. Its functions are thin: `step` has the work. No Iterator:
+// the document asks for a reader that says where it goes on, and `found_all` speaks of the places.
 #[derive(Clone, Copy)]
 pub struct Reader<'a> {
     pub src: &'a [u8],
@@ -108,7 +97,7 @@ pub fn descriptor_at(l: &[u8], place: usize) -> Descriptor
 }
 
 // What the descriptors ask of the multiplexer: "the last one wins". "the descriptors fill the message exactly", and each is good.
-pub fn priority(l: &[u8]) -> Priority
+pub fn priority(l: &[u8]) -> Option<u8>
     ensures { result ≡ mux_of l.now }
 {
     let mut value = AVERAGE;
@@ -120,8 +109,8 @@ pub fn priority(l: &[u8]) -> Priority
                 at = next;
             }
             Descriptor::Foreign(next) => at = next,
-            Descriptor::End => return Priority::Is(value),
-            Descriptor::Bad => return Priority::Bad,
+            Descriptor::End => return Some(value),
+            Descriptor::Bad => return None,
         }
     }
 }

@@ -5,7 +5,6 @@
 ghost use Rattle.std.specs.Prelude.{◌≡◌, ◌+◌, ◌≤◌, length, false};
 ghost use Rattle.rules.specs.Bytes.{data_of};
 ghost use Rattle.rules.specs.Calls.{framing};
-ghost use Rattle.rules.specs.declared.Priority.TheVariants.{Is};
 ghost use Rattle.rules.specs.Reading.{read_extended, read_config};
 ghost use Rattle.rules.specs.Hardware.{length_in, structure_in, hardware_length, hardware_in};
 ghost use Rattle.rules.specs.Reading.{channel_name, splicer_name, read_init, read_alive, read_abort};
@@ -24,8 +23,8 @@ pub mod structures;
 use descriptors::priority;
 use names::has_zero;
 use numbers::{number2, number4};
-use rules::{Framing, Message, Priority, Refusal, Request, Start, Ticks};
-use structures::{Streams, end_of};
+use rules::{Header, Message, Refusal, Request, Start, Ticks};
+use structures::end_of;
 
 // "Read: Init_Request, Alive_Request, Splice_Request, Abort_Request."
 pub const INIT_REQUEST: u16 = 0x0001;
@@ -54,20 +53,24 @@ pub const LONGEST: u16 = 4088;
 const NOBODY: u32 = 0xFFFFFFFF;
 
 // "5 (header), 4, 5 (body)": the first message of the bytes read so far.
-pub fn frame(l: &[u8]) -> Framing
+#[tactic(auto, unfolding(rules::specs::Calls::framing))]
+pub fn frame(l: &[u8]) -> Result<Header, Refusal>
     ensures { result ≡ framing l.now }
 {
     if l.len() < 8 {
-        return Framing::Unframed(Refusal::Short);
+        return Err(Refusal::Short);
     }
     let size = number2(l, 2);
     if LONGEST < size {
-        return Framing::Unframed(Refusal::Oversize);
+        return Err(Refusal::Oversize);
     }
-    if l.len() < 8 + size as usize {
-        return Framing::Unframed(Refusal::Short);
+    if l.len() < 8 + usize::from(size) {
+        return Err(Refusal::Short);
     }
-    Framing::Framed(number2(l, 0), size)
+    Ok(Header {
+        id: number2(l, 0),
+        size,
+    })
 }
 
 // "each is handed on as its own part of what was read": the data behind the 8 bytes of the header.
@@ -75,8 +78,7 @@ pub fn data_of(l: &[u8], size: usize) -> &[u8]
     requires { 8 + size ≤ length l.now }
     ensures { result.now ≡ data_of size l.now }
 {
-    let end = 8 + size;
-    &l[8..end]
+    &l[8..8 + size]
 }
 
 // Of Init_Request's data: "Revision_Num 2, ChannelName 32, SplicerName 32", then Hardware_Config, the rest unread.
@@ -99,8 +101,7 @@ pub fn structure(l: &[u8]) -> &[u8]
     requires { 2 + length_in l.now ≤ length l.now }
     ensures { result.now ≡ structure_in l.now }
 {
-    let end = 2 + number2(l, 0) as usize;
-    &l[0..end]
+    &l[..2 + usize::from(number2(l, 0))]
 }
 
 // The Hardware_Config of Init_Request's data.
@@ -112,80 +113,79 @@ pub fn hardware(d: &[u8]) -> &[u8]
 }
 
 // The Hardware_Config is not over 256 bytes and not past the message's end; each name has its zero.
-fn read_init(d: &[u8]) -> Message
+#[tactic(auto, unfolding(rules::specs::Reading::read_init))]
+fn read_init(d: &[u8]) -> Option<Message>
     ensures { result ≡ read_init d.now }
 {
     if d.len() < 68 {
-        return Message::Unreadable;
+        return None;
     }
-    let n = number2(d, 66) as usize;
-    if HARDWARE < 2 + n {
-        return Message::Unreadable;
+    let n = usize::from(number2(d, 66));
+    if HARDWARE < 2 + n || d.len() < 68 + n {
+        return None;
     }
-    if d.len() < 68 + n {
-        return Message::Unreadable;
+    if !has_zero(channel_name(d)) || !has_zero(splicer_name(d)) {
+        return None;
     }
-    if !has_zero(channel_name(d)) {
-        return Message::Unreadable;
-    }
-    if !has_zero(splicer_name(d)) {
-        return Message::Unreadable;
-    }
-    Message::Init(number2(d, 0))
+    Some(Message::Init(number2(d, 0)))
 }
 
 // "An Alive time is not checked."
-fn read_alive(d: &[u8]) -> Message
+#[tactic(auto, unfolding(rules::specs::Reading::read_alive))]
+fn read_alive(d: &[u8]) -> Option<Message>
     ensures { result ≡ read_alive d.now }
 {
     if d.len() == 8 {
-        return Message::Alive;
+        Some(Message::Alive)
+    } else {
+        None
     }
-    Message::Unreadable
 }
 
-fn read_abort(d: &[u8]) -> Message
+#[tactic(auto, unfolding(rules::specs::Reading::read_abort))]
+fn read_abort(d: &[u8]) -> Option<Message>
     ensures { result ≡ read_abort d.now }
 {
     if d.len() == 4 {
-        return Message::Abort(number4(d, 0));
+        Some(Message::Abort(number4(d, 0)))
+    } else {
+        None
     }
-    Message::Unreadable
 }
 
 // 02, CR 8: "123 for another type or a size not 8".
-fn read_extended(d: &[u8]) -> Message
+#[tactic(auto, unfolding(rules::specs::Reading::read_extended))]
+fn read_extended(d: &[u8]) -> Option<Message>
     ensures { result ≡ read_extended d.now }
 {
-    if d.len() != 8 {
-        return Message::Unreadable;
+    if d.len() != 8 || number4(d, 4) != DEFAULT_TYPE {
+        return None;
     }
-    if number4(d, 4) != DEFAULT_TYPE {
-        return Message::Unreadable;
-    }
-    Message::Extended(number4(d, 0))
+    Some(Message::Extended(number4(d, 0)))
 }
 
 // 02, CR 6: "123 for data present".
-fn read_config(d: &[u8]) -> Message
+#[tactic(auto, unfolding(rules::specs::Reading::read_config))]
+fn read_config(d: &[u8]) -> Option<Message>
     ensures { result ≡ read_config d.now }
 {
-    if d.len() == 0 {
-        return Message::Config;
+    if d.is_empty() {
+        Some(Message::Config)
+    } else {
+        None
     }
-    Message::Unreadable
 }
 
 // "a Splice_Request's start is in turn either timed or linked"
+#[tactic(auto, unfolding(rules::specs::Request::read_start))]
 fn start_in(d: &[u8]) -> Start
     requires { 16 ≤ length d.now }
     ensures { result ≡ read_start d.now }
 {
-    let prior = number4(d, 4);
-    if prior == NOBODY {
-        return Start::Timed(units::time_of(number4(d, 8), number4(d, 12)));
+    match number4(d, 4) {
+        NOBODY => Start::Timed(units::time_of(number4(d, 8), number4(d, 12))),
+        prior => Start::Linked(prior),
     }
-    Start::Linked(prior)
 }
 
 // What makes a request r with good descriptors unreadable whose data is d with the tail t. Only a timed one's MicroSeconds count.
@@ -196,85 +196,70 @@ fn bad_splice(d: &[u8], t: &[u8], r: Request) -> bool
     requires t_value { is_bad (mux_of (descriptors_of t.now)) ≡ false }
     ensures { result ≡ bad_splice d.now t.now }
 {
-    if 999999 < number4(d, 12) && number4(d, 4) == NOBODY {
-        return true;
-    }
-    if r.duration.0 == 0 {
-        return true;
-    }
-    if 9 < r.access {
-        return true;
-    }
-    if 1 < r.overrides {
-        return true;
-    }
-    1 < t[14]
+    (999999 < number4(d, 12) && number4(d, 4) == NOBODY)
+        || r.duration.0 == 0
+        || 9 < r.access
+        || 1 < r.overrides
+        || 1 < t[14]
 }
 
 fn whole_request(d: &[u8], t: &[u8], start: Start, mux: u8) -> Request
     requires in_bounds { 16 ≤ length d.now }
     requires in_bounds_2 { 15 ≤ length t.now }
     requires start_value { start ≡ read_start d.now }
-    requires t_value { mux_of (descriptors_of t.now) ≡ Is mux }
+    requires t_value { mux_of (descriptors_of t.now) ≡ Some mux }
     ensures { result ≡ whole_request d.now t.now }
 {
     Request {
         id: number4(d, 0),
-        start: start,
+        start,
         duration: Ticks(number4(t, 0)),
         event: number4(t, 4),
         access: t[12],
         overrides: t[13],
-        mux: mux,
+        mux,
     }
 }
 
 // Of the data d with the tail t.
-fn read_whole(d: &[u8], t: &[u8], start: Start) -> Message
+#[tactic(auto, unfolding(rules::specs::Request::read_whole))]
+fn read_whole(d: &[u8], t: &[u8], start: Start) -> Option<Message>
     requires in_bounds { 16 ≤ length d.now }
     requires start_value { start ≡ read_start d.now }
     ensures { result ≡ read_whole d.now t.now }
 {
     if t.len() < 15 {
-        return Message::Unreadable;
+        return None;
     }
-    let Priority::Is(mux) = priority(&t[15..]) else {
-        return Message::Unreadable;
-    };
+    let mux = priority(&t[15..])?;
     let r = whole_request(d, t, start, mux);
     if bad_splice(d, t, r) {
-        return Message::Unreadable;
+        return None;
     }
-    Message::Splice(r)
+    Some(Message::Splice(r))
 }
 
 // Where the tail stands; 02, CR 1: with ServiceID 0xFFFF behind the structures.
-fn tail_place(d: &[u8]) -> Streams
+fn tail_place(d: &[u8]) -> Option<usize>
     requires { 18 ≤ length d.now }
     ensures { result ≡ tail_place d.now }
 {
     if number2(d, 16) == 0xFFFF {
-        let found = end_of(&d[18..]);
-        let Streams::End(n) = found else {
-            return Streams::Bad;
-        };
-        return Streams::End(18 + n);
+        let n = end_of(&d[18..])?;
+        return Some(18 + n);
     }
-    Streams::End(18)
+    Some(18)
 }
 
 // Each field is read before the tests on it, the start before the ServiceID parts the ways: its bytes are then one load.
-fn read_splice(d: &[u8]) -> Message
+fn read_splice(d: &[u8]) -> Option<Message>
     ensures { result ≡ read_splice d.now }
 {
     if d.len() < 18 {
-        return Message::Unreadable;
+        return None;
     }
     let start = start_in(d);
-    let place = tail_place(d);
-    let Streams::End(at) = place else {
-        return Message::Unreadable;
-    };
+    let at = tail_place(d)?;
     read_whole(d, &d[at..], start)
 }
 
@@ -282,19 +267,20 @@ fn read_splice(d: &[u8]) -> Message
 pub fn is_read(id: u16) -> bool
     ensures { result ≡ is_read id }
 {
-    match id {
+    matches!(
+        id,
         INIT_REQUEST
-        | ALIVE_REQUEST
-        | SPLICE_REQUEST
-        | ABORT_REQUEST
-        | EXTENDED_REQUEST
-        | CONFIG_REQUEST => true,
-        _ => false,
-    }
+            | ALIVE_REQUEST
+            | SPLICE_REQUEST
+            | ABORT_REQUEST
+            | EXTENDED_REQUEST
+            | CONFIG_REQUEST
+    )
 }
 
 // A message of that list, by its MessageID and its data; any other is unreadable, as the definition has it.
-pub fn read(id: u16, d: &[u8]) -> Message
+#[tactic(auto, unfolding(rules::specs::Reading::read))]
+pub fn read(id: u16, d: &[u8]) -> Option<Message>
     ensures { result ≡ «read» id d.now }
 {
     match id {
@@ -304,6 +290,6 @@ pub fn read(id: u16, d: &[u8]) -> Message
         ABORT_REQUEST => read_abort(d),
         EXTENDED_REQUEST => read_extended(d),
         CONFIG_REQUEST => read_config(d),
-        _ => Message::Unreadable,
+        _ => None,
     }
 }

@@ -4,15 +4,14 @@ ghost use Rattle.rules.specs.Bytes.{has_zero, same_name};
 
 use super::numbers::byte_at;
 
+// By a loop: `contains` of the library takes 91 instructions more for an Init_Request.
 pub fn has_zero(l: &[u8]) -> bool
     ensures { result ≡ has_zero l.now }
 {
-    let mut i = 0;
-    while i < l.len() {
-        if l[i] == 0 {
+    for x in l {
+        if *x == 0 {
             return true;
         }
-        i += 1;
     }
     false
 }
@@ -21,15 +20,13 @@ pub fn has_zero(l: &[u8]) -> bool
 pub fn same_name(a: &[u8], b: &[u8]) -> bool
     ensures { result ≡ same_name a.now b.now }
 {
-    let mut i = 0;
-    loop {
-        let x = byte_at(a, i);
-        if x != byte_at(b, i) {
+    for (i, x) in a.iter().enumerate() {
+        if *x == 0 {
+            return byte_at(b, i) == 0;
+        }
+        if *x != byte_at(b, i) {
             return false;
         }
-        if x == 0 {
-            return true;
-        }
-        i += 1;
     }
+    byte_at(b, a.len()) == 0
 }

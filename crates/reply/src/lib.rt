@@ -3,18 +3,32 @@
 
 ghost use Rattle.std.specs.Prelude.{◌≡◌};
 ghost use Rattle.rules.specs.HouseNumbers.{house_number};
+ghost use Rattle.reply.specs.Unmoved.{unmoved};
 
 use rules::Refusal;
 
 // The bytes consumed and written, and how many places an acceptance shifted (02, CR 11).
-#[derive(Clone, Copy)]
+#[derive(Clone, Copy, Default)]
 pub struct Did {
     pub consumed: usize,
     pub written: usize,
     pub moved: usize,
 }
 
-// The table of house numbers.
+impl Did {
+    // What most calls do: they write len bytes, consume none and shift no place.
+    pub fn unmoved(len: usize) -> Did
+        ensures { result ≡ unmoved len }
+    {
+        Did {
+            written: len,
+            ..Did::default()
+        }
+    }
+}
+
+// The table of house numbers. No `From`, which would have to stand beside Refusal or u8: rules declares only what the documents speak of.
+#[tactic(auto, unfolding(rules::specs::HouseNumbers::house_number))]
 pub fn house_number(n: Refusal) -> u8
     ensures { result ≡ house_number n }
 {

@@ -1,13 +1,14 @@
 -- Each record is its parts, in the order in which they are written.
 -- Rests on the definitions of the bytes alone: `bytes` at a given width computes.
 use mathlib.Core.Path.{◌≡◌, refl, sym, ap, ◌∙◌}
-use mathlib.Core.List.{List, [], ◌∷◌, ◌++◌, append_assoc, append-nil}
-use Prim.Native.Nat.{ℕ, ◌+◌, ◌-◌, ◌/◌, ◌≤◌, ◌<◌}
+use mathlib.Core.List.{List, [], ◌∷◌, ◌++◌, append_assoc}
+use Prim.Native.Nat.{ℕ, ◌+◌, ◌-◌, ◌/◌, ◌%◌, ◌^◌, ◌≤◌, ◌<◌}
 use native.Mathlib.Omega.{arith}
 use native.Mathlib.Numerals.{add-one}
-use lib.ListN.{length, take, set, get_or, length-append, drop_of_length-le}
+use lib.ListN.{length, take, drop, set, get_or, length-append}
 use lib.Seq.{length-take-le, take-suc}
 use borrow.Rule.Slice.PartMut.{put_mid, mid_of}
+use Rattle.std.specs.Int.{w16, w32, to_be_bytes}
 use Rattle.rules.specs.Bytes.{bytes, name_in, padded, written}
 use Rattle.rules.specs.Records.{General, InitResponse, AliveResponse, SpliceComplete, ConfigResponse, ExtendedFound, CueRequest, framed}
 use Rattle.rules.specs.Records.{time_bytes, end_descriptor, record_bytes}
@@ -16,10 +17,19 @@ use Rattle.rules.proofs.Written.{written-set, written-more, written_next, length
 use Rattle.writing.specs.Header.{header_of}
 use Rattle.writing.specs.Puts.{Wrote}
 
--- all bytes of a buffer written
-pub written-whole : (e l : List ℕ) → length l ≡ length e → written e 0 l ≡ l
+-- bytes in front of what was behind them
+pub written-front : (e l : List ℕ) (n : ℕ) → length l ≡ n → l ++ drop n e ≡ written e 0 l
 unfolding written
-written-whole e l h = ap (λ (x : List ℕ). l ++ x) (drop_of_length-le e {i = 0 + length l} (omega arith)) ∙ append-nil l
+written-front e l n h = ap (λ (k : ℕ). l ++ drop k e) (omega arith)
+
+-- the bytes that the library gives of a number
+pub two_bytes : (x : ℕ) → to_be_bytes w16 x ≡ bytes 2 x
+unfolding bytes
+two_bytes x = grind arith
+
+pub four_bytes : (x : ℕ) → to_be_bytes w32 (x % 2 ^ 32) ≡ bytes 4 x
+unfolding bytes
+four_bytes x = grind arith
 
 pub header-parts : (c id n r : ℕ) → bytes 1 0x52 ++ bytes 1 c ++ bytes 2 id ++ bytes 2 n ++ bytes 2 r ++ bytes 2 0xFFFF ≡ header_of c id n r
 unfolding header_of bytes

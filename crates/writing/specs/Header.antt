@@ -1,15 +1,8 @@
 -- The part of a record that all writers share. Assumes nothing.
-use Rattle.std.specs.Prelude.{◌≡◌, List, ◌∷◌, ◌++◌, ℕ, ◌/◌, ◌%◌}
+use Rattle.std.specs.Prelude.{List, ◌∷◌, ◌++◌, ℕ}
 use Rattle.rules.specs.Bytes.{bytes}
 
 -- what stands before `size` bytes of data: the mark, the connection, MessageID, MessageSize, Result, Result_Extension
 -- (`framed-header` of proofs/Parts: the same bytes as `framed` of the rules has there)
 unfoldable pub header_of : (conn id size result : ℕ) → List ℕ
 header_of c id n r = 0x52 ∷ (bytes 1 c ++ (bytes 2 id ++ (bytes 2 n ++ (bytes 2 r ++ bytes 2 0xFFFF))))
-
--- the four low bytes of r are those of x, the other way round
-pub record Turned (x r : ℕ) : Type 0 where
-  pub first : r % 256 ≡ x / 256 / 256 / 256 % 256
-  pub second : r / 256 % 256 ≡ x / 256 / 256 % 256
-  pub third : r / 256 / 256 % 256 ≡ x / 256 % 256
-  pub fourth : r / 256 / 256 / 256 % 256 ≡ x % 256

@@ -8,12 +8,12 @@ ghost use Rattle.rules.specs.Bytes.{bytes, written, name_in, padded};
 ghost use Rattle.rules.specs.Records.{framed, time_bytes, end_descriptor};
 ghost use Rattle.rules.specs.Records.{General, InitResponse, AliveResponse, SpliceResponse, SpliceComplete, AbortResponse, ConfigResponse};
 ghost use Rattle.rules.specs.Records.{ExtendedFound, ExtendedNone, CueRequest};
-ghost use Rattle.writing.specs.Header.{header_of, Turned};
+ghost use Rattle.writing.specs.Header.{header_of};
 ghost use Rattle.writing.specs.Puts.{Wrote, Puts};
 
 use rules::{Micros, Ticks, WireTime};
 
-// ---- parts of a record. "All numbers are big-endian."
+// ---- parts of a record. "All numbers are big-endian." One for each width, as the library has `to_be_bytes` for each.
 
 pub fn put1(out: &mut [u8], x: u64)
     requires { 1 ≤ length out.old }
@@ -26,51 +26,34 @@ pub fn put2(out: &mut [u8], x: u16)
     requires { 2 ≤ length out.old }
     ensures { out.new ≡ written out.old 0 (bytes 2 x) }
 {
-    out[0] = (x / 256 % 256) as u8;
-    out[1] = (x % 256) as u8;
+    out[..2].copy_from_slice(&x.to_be_bytes());
 }
 
-// The four low bytes of x, turned round: stored from the lowest up they stand in big-endian order. So they are one store, where four
-// stores of a number's bytes from the highest down stay four.
-fn turned(x: u64) -> u64
-    ensures { Turned x result }
-{
-    (x % 256) * 16777216
-        + (x / 256 % 256) * 65536
-        + (x / 256 / 256 % 256) * 256
-        + x / 256 / 256 / 256 % 256
-}
-
+// The four low bytes of x.
 pub fn put4(out: &mut [u8], x: u64)
     requires { 4 ≤ length out.old }
     ensures { out.new ≡ written out.old 0 (bytes 4 x) }
 {
-    let y = turned(x);
-    out[0] = (y % 256) as u8;
-    out[1] = (y / 256 % 256) as u8;
-    out[2] = (y / 256 / 256 % 256) as u8;
-    out[3] = (y / 256 / 256 / 256 % 256) as u8;
+    let low = (x % (1 << 32)) as u32;
+    out[..4].copy_from_slice(&low.to_be_bytes());
 }
 
-// Seconds 4, MicroSeconds 4. One division gives both.
+// Seconds 4, MicroSeconds 4.
 fn put_time(out: &mut [u8], time: Micros)
     requires { 8 ≤ length out.old }
     ensures { out.new ≡ written out.old 0 (time_bytes time.0) }
 {
-    let seconds = time.0 / 1000000;
-    put4(&mut *out, seconds);
-    put4(&mut out[4..], time.0 - seconds * 1000000);
+    put4(&mut *out, time.0 / 1000000);
+    put4(&mut out[4..], time.0 % 1000000);
 }
 
-// l at the start of out.
+// l at the start of out. By `copy_from_slice` a length that is not known calls memcpy, and an archive needs nothing but memset.
 pub fn copy(out: &mut [u8], name: &[u8])
     requires { length name.now ≤ length out.old }
     ensures { out.new ≡ written out.old 0 name.now }
 {
-    let mut i = 0;
-    while i < name.len() {
-        out[i] = name[i];
-        i += 1;
+    for (i, byte) in name.iter().enumerate() {
+        out[i] = *byte;
     }
 }
 
@@ -81,12 +64,13 @@ fn copy_name(out: &mut [u8], name: &[u8])
     requires in_bounds { 32 ≤ length out.old }
     ensures { out.new ≡ written out.old 0 name.now }
 {
-    let mut own = [0u8; 32];
-    copy(&mut own, name);
-    copy(&mut *out, &own);
+    let mut own = [0; 32];
+    own.copy_from_slice(&name[..32]);
+    out[..32].copy_from_slice(&own);
 }
 
 // The mark and the header of a record with `size` bytes of data; "in answers Result_Extension is 0xFFFF". How many bytes the record has.
+// What it takes is no struct: each record would fill one in once, for this call alone.
 fn header(out: &mut [u8], conn: u64, id: u16, size: u16, res: u16) -> usize
     requires { 10 ≤ length out.old }
     ensures out_after { out.new ≡ written out.old 0 (header_of conn id size res) }
@@ -145,6 +129,7 @@ pub fn alive_response(out: &mut [u8], conn: u64, state: u32, id: u64, time: Micr
     len
 }
 
+#[tactic(auto, unfolding(rules::specs::Records::record_bytes))]
 pub fn splice_response(out: &mut [u8], conn: u64, res: u16, id: u64) -> usize
     requires { 14 ≤ length out.old }
     ensures { Puts (SpliceResponse conn res id) out.old result out.new }
@@ -172,6 +157,7 @@ pub fn splice_complete(
     len
 }
 
+#[tactic(auto, unfolding(rules::specs::Records::record_bytes))]
 pub fn abort_response(out: &mut [u8], conn: u64, res: u16, id: u64) -> usize
     requires { 14 ≤ length out.old }
     ensures { Puts (AbortResponse conn res id) out.old result out.new }
@@ -223,6 +209,7 @@ pub fn extended_found(
     len
 }
 
+#[tactic(auto, unfolding(rules::specs::Records::record_bytes))]
 pub fn extended_none(out: &mut [u8], conn: u64, id: u64) -> usize
     requires { 14 ≤ length out.old }
     ensures { Puts (ExtendedNone conn id) out.old result out.new }

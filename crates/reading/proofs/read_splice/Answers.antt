@@ -14,24 +14,24 @@ returns-then-d-lt18 c =
     let d = c.args.d.now in
     rw (lt-ltb (length d) 18 (omega arith))
 
-pub returns-in_default : goal.returns-in_default
+pub returns-in_err-at : goal.returns-in_err-at
 unfolding read_splice read_whole
-returns-in_default c =
+returns-in_err-at c =
     let d = c.args.d.now in
-    let t = subst (Placed (tail_of d) d) (sym c.tail_place-place.ensures ∙ c.in_default.is) (tail-is d (omega arith)) in
-    rw (le-ltb (length d) 18 (omega arith), t)
+    let t = subst (Placed (tail_of d) d) (sym c.tail_place.ensures ∙ c.in_err-at.was) (tail-is d (omega arith)) in
+    rw (le-ltb (length d) 18 (omega arith), t) c.from_residual.ensures
 
 pub slice_bounds-read_whole-count : goal.slice_bounds-read_whole-count
 slice_bounds-read_whole-count c =
     let d = c.args.d.now in
-    let t = subst (Placed (tail_of d) d) (sym c.tail_place-place.ensures ∙ c.in-End.is)
+    let t = subst (Placed (tail_of d) d) (sym c.tail_place.ensures ∙ c.in_ok-at.was)
     (tail-is d (omega arith)) in
     omega (arith, t.1)
 
 pub slice_bounds-read_whole-start : goal.slice_bounds-read_whole-start
 slice_bounds-read_whole-start c =
     let d = c.args.d.now in
-    let t = subst (Placed (tail_of d) d) (sym c.tail_place-place.ensures ∙ c.in-End.is)
+    let t = subst (Placed (tail_of d) d) (sym c.tail_place.ensures ∙ c.in_ok-at.was)
     (tail-is d (omega arith)) in
     omega (arith, t.1)
 
@@ -39,7 +39,7 @@ pub returns : goal.returns
 unfolding read_splice
 returns c =
     let d = c.args.d.now in
-    let n = c.in-End.at in
-    let t = subst (Placed (tail_of d) d) (sym c.tail_place-place.ensures
-    ∙ c.in-End.is) (tail-is d (omega arith)) in
+    let n = c.in_ok-at.at in
+    let t = subst (Placed (tail_of d) d) (sym c.tail_place.ensures
+    ∙ c.in_ok-at.was) (tail-is d (omega arith)) in
     rw (le-ltb (length d) 18 (omega arith)) (c.read_whole.ensures ∙ ap (read_whole d) (behind n d ∙ sym t.0))

@@ -1,4 +1,4 @@
-use mathlib.Core.Path.{sym, ap, ◌∙◌}
+use mathlib.Core.Path.{refl, sym, ap, ◌∙◌}
 use native.Mathlib.Omega.{arith}
 use lib.Seq.{take_all}
 use Rattle.rules.specs.Bytes.{written}
@@ -8,16 +8,15 @@ use borrow.Author.Rules.{rules}
 use Rattle.writing.proofs.copy.Goals as goal
 
 pub loop-i-init : goal.loop-i-init
-loop-i-init c = (search rules, search rules, sym (written_none c.args.out.now 0))
+loop-i-init c = (refl, sym (written_none c.args.out.now 0))
 
 pub loop-i-preserved : goal.loop-i-preserved
 loop-i-preserved c = (
   search rules,
-  search rules,
   copied c.args.out.now c.args.name.now _ c.loop-i.i (omega arith) c.requires
-      c.loop-i.invariant.2,
+      c.loop-i.invariant.1,
 )
 
 pub returns : goal.returns
 returns c =
-    c.loop-i.invariant.2 ∙ ap (written c.args.out.now 0) (take_all c.loop-i.i c.args.name.now (omega arith))
+    c.loop-i.invariant.1 ∙ ap (written c.args.out.now 0) (take_all c.loop-i.i c.args.name.now (omega arith))

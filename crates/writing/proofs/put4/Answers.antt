@@ -1,18 +1,15 @@
--- The stores, one behind the other, are the bytes of the turned number (`sets-eq`), which are those of the number in big-endian order.
-use native.Mathlib.Omega.{arith}
-use lib.ListN.{length-set}
-use lib.Seq.{sets-eq}
-use Rattle.rules.specs.Bytes.{bytes, written}
+-- `put4` meets its contract: the library's four bytes of the low part are those of `bytes`, and they stand in front.
+use mathlib.Core.Path.{ap, ◌∙◌}
+use mathlib.Core.List.{List, ◌++◌}
+use Prim.Native.Nat.{ℕ}
+use lib.ListN.{drop}
+use Rattle.rules.specs.Bytes.{bytes}
+use Rattle.rules.proofs.Bytes.{length-bytes}
+use Rattle.writing.proofs.Parts.{written-front, four_bytes}
 use Rattle.writing.proofs.put4.Goals as goal
 
-pub bounds-out-1 : goal.bounds-out-1
-bounds-out-1 c = simp length-set (omega arith)
-
-pub bounds-out-2 : goal.bounds-out-2
-bounds-out-2 c = simp length-set (omega arith)
-
 pub returns : goal.returns
-unfolding bytes written
 returns c =
-    let t = c.turned-y.ensures in
-    rw (t.first, t.second, t.third, t.fourth) (sets-eq (bytes 4 c.args.x) c.args.out.now 0 (omega arith))
+    let out = c.args.out.now in
+    ap (λ (l : List ℕ). l ++ drop 4 out) (c.copy_from_slice.ensures.after ∙ c.to_be_bytes.ensures ∙ four_bytes c.args.x)
+    ∙ written-front out (bytes 4 c.args.x) 4 (length-bytes 4 c.args.x)
