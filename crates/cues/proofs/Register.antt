@@ -145,9 +145,9 @@ unfolding left
 left-none b h = omega arith
 
 -- eight turns take the whole byte
-pub byte-turns : (c b : ℕ) → Register c → b < 256 → turns 4 (turns 4 (bit_xor c (b * 16777216))) ≡ crc_byte c b
+pub byte_turns : (c b : ℕ) → Register c → b < 256 → turns 4 (turns 4 (bit_xor c (b * 16777216))) ≡ crc_byte c b
 unfolding turns
-byte-turns c b h k = turns-byte 8 c b h k ∙ ap (λ y. bit_xor (crc_bits 8 c b) (y * 16777216)) (left-none b k) ∙ xor_zero_r (crc_bits 8 c b)
+byte_turns c b h k = turns-byte 8 c b h k ∙ ap (λ y. bit_xor (crc_bits 8 c b) (y * 16777216)) (left-none b k) ∙ xor_zero_r (crc_bits 8 c b)
 
 -- ## Bytes
 
@@ -155,6 +155,6 @@ pub from_step : (l : List ℕ) (i c : ℕ) → i < length l → crc_from c (drop
 unfolding crc_from
 from_step l i c h = rw add-one (ap (crc_from c) (drop-cons l i 0 h))
 
-pub from-none : (l : List ℕ) (i c : ℕ) → length l ≤ i → crc_from c (drop i l) ≡ c
+pub from_none : (l : List ℕ) (i c : ℕ) → length l ≤ i → crc_from c (drop i l) ≡ c
 unfolding crc_from
-from-none l i c h = ap (crc_from c) (drop_of_length-le l {i = i} h)
+from_none l i c h = ap (crc_from c) (drop_of_length-le l {i = i} h)

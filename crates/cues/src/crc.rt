@@ -4,6 +4,7 @@ ghost use Rattle.rules.specs.Crc.{crc_bit, crc_byte, crc};
 ghost use Rattle.cues.specs.Turns.{turns};
 
 // A bit into the register, which has the data's bit in its highest one already: what is left to take differs from it, or not.
+#[tactic(auto, unfolding(rules::specs::Crc::crc_bit))]
 fn turn(c: u32) -> u32
     ensures { result ≡ crc_bit c 0 }
 {
@@ -15,6 +16,7 @@ fn turn(c: u32) -> u32
 }
 
 // Four bits.
+#[tactic(auto, unfolding(crate::specs::Turns::turns))]
 fn four_turns(c: u32) -> u32
     ensures { result ≡ turns 4 c }
 {
@@ -26,6 +28,7 @@ fn four_turns(c: u32) -> u32
 
 // A byte, its highest bit first. All eight go into the register's highest bits at once; without a loop, in which a compiler would see a
 // table's work.
+#[tactic(auto, using(crate::proofs::Register::byte_turns))]
 fn byte_in(c: u32, b: u8) -> u32
     ensures { result ≡ crc_byte c b }
 {
@@ -35,14 +38,13 @@ fn byte_in(c: u32, b: u8) -> u32
 }
 
 // The register behind all bytes: 0 behind a section with a right CRC_32.
+#[tactic(auto, using(crate::proofs::Register::from_step, crate::proofs::Register::from_none), unfolding(rules::specs::Crc::crc))]
 pub fn crc_of(l: &[u8]) -> u32
     ensures { result ≡ crc l.now }
 {
     let mut c = 0xFFFFFFFF;
-    let mut i = 0;
-    while i < l.len() {
-        c = byte_in(c, l[i]);
-        i += 1;
+    for b in l {
+        c = byte_in(c, *b);
     }
     c
 }

@@ -16,20 +16,16 @@ use rules::{Cue, Micros, Ninths, WireTime};
 const PTS_TURN: u64 = 8589934592;
 
 // "No pts_time gives all ones; so does an instant past the time field's range."
-const ONES: u32 = 0xFFFFFFFF;
+const ONES: WireTime = WireTime {
+    seconds: 0xFFFFFFFF,
+    micros: 0xFFFFFFFF,
+};
 
 // House number 11.
 pub fn bad_section(l: &[u8]) -> bool
     ensures { result ≡ bad_section l.now }
 {
-    if l.len() < 20 {
-        return true;
-    }
-    let size = number2(l, 1) % 4096;
-    if l.len() != 3 + size as usize {
-        return true;
-    }
-    512 < l.len()
+    l.len() < 20 || l.len() != 3 + (number2(l, 1) % 4096) as usize || 512 < l.len()
 }
 
 // The bit of that weight in the byte there.
@@ -55,25 +51,14 @@ fn bad_lengths(l: &[u8], c: usize) -> bool
     ensures { result ≡ bad_lengths c l.now }
 {
     let room = l.len() - 20;
-    if room < c {
-        return true;
-    }
     let given = number2(l, 11) % 4096;
-    if given != 0xFFF {
-        if given as usize != c {
-            return true;
-        }
-    }
-    room < c + number2(l, 14 + c) as usize
+    room < c || (given != 0xFFF && given as usize != c) || room < c + number2(l, 14 + c) as usize
 }
 
 fn time_size(l: &[u8], at: usize) -> usize
     ensures { result ≡ time_size at l.now }
 {
-    if flag_at(l, 128, at) {
-        return 5;
-    }
-    1
+    if flag_at(l, 128, at) { 5 } else { 1 }
 }
 
 // The PTS that stands in a splice_time, with pts_adjustment added.
@@ -89,6 +74,7 @@ fn time_in(l: &[u8], at: usize) -> Cue
     Cue::Timeless
 }
 
+#[tactic(auto, unfolding(rules::specs::Cues::read_signal))]
 fn read_signal(l: &[u8]) -> Cue
     requires { 20 ≤ length l.now }
     ensures { result ≡ read_signal l.now }
@@ -112,6 +98,7 @@ fn program_size(l: &[u8]) -> usize
     size + 4
 }
 
+#[tactic(auto, unfolding(rules::specs::Cues::read_program))]
 fn read_program(l: &[u8]) -> Cue
     requires { 20 ≤ length l.now }
     ensures { result ≡ read_program l.now }
@@ -126,6 +113,7 @@ fn read_program(l: &[u8]) -> Cue
 }
 
 // A section too short for the byte that tells what it is has a command that does not fit.
+#[tactic(auto, unfolding(rules::specs::Cues::read_insert))]
 fn read_insert(l: &[u8]) -> Cue
     requires { 20 ≤ length l.now }
     ensures { result ≡ read_insert l.now }
@@ -148,6 +136,7 @@ fn read_insert(l: &[u8]) -> Cue
     Cue::Silent
 }
 
+#[tactic(auto, unfolding(rules::specs::Cues::read_command))]
 fn read_command(l: &[u8]) -> Cue
     requires { 20 ≤ length l.now }
     ensures { result ≡ read_command l.now }
@@ -166,6 +155,7 @@ fn read_command(l: &[u8]) -> Cue
 }
 
 // What comes of a section: a wrong CRC_32 first, then what writes nothing, then lengths.
+#[tactic(auto, unfolding(rules::specs::Cues::read_cue))]
 pub fn read_cue(l: &[u8]) -> Cue
     requires { 20 ≤ length l.now }
     ensures { result ≡ read_cue l.now }
@@ -173,47 +163,41 @@ pub fn read_cue(l: &[u8]) -> Cue
     if crc::crc_of(l) != 0 {
         return Cue::Bad;
     }
-    if l[0] != 0xFC {
-        return Cue::Silent;
-    }
-    if flag_at(l, 128, 4) {
+    if l[0] != 0xFC || flag_at(l, 128, 4) {
         return Cue::Silent;
     }
     read_command(l)
 }
 
 // "the first one at or after that PTS": so many ticks later.
+#[tactic(auto, unfolding(rules::specs::Cues::ticks_after))]
 fn ticks_after(pts: u64, p: u64) -> u64
     ensures { result ≡ ticks_after pts p }
 {
     (p % PTS_TURN + (PTS_TURN - pts % PTS_TURN)) % PTS_TURN
 }
 
+// No From: Micros and WireTime are of rules.
+#[tactic(auto, unfolding(rules::specs::Cues::wire_time_of))]
 fn wire_time_of(t: Micros) -> WireTime
     ensures { result ≡ wire_time_of t.0 }
 {
-    let seconds = t.0 / 1000000;
-    if (ONES as u64) < seconds {
-        return WireTime {
-            seconds: ONES,
-            micros: ONES,
-        };
-    }
+    let Ok(seconds) = u32::try_from(t.0 / 1000000) else {
+        return ONES;
+    };
     WireTime {
-        seconds: seconds as u32,
+        seconds,
         micros: (t.0 % 1000000) as u32,
     }
 }
 
 // The time that is written for a cue, if that PTS belongs to that instant; all ones without a time.
+#[tactic(auto, unfolding(rules::specs::Cues::cue_time, rules::specs::Cues::exact_time, rules::specs::Cues::ticks_after))]
 pub fn time_of_cue(cue: Cue, pts: u64, seconds: u32, micros: u32) -> WireTime
     ensures { result ≡ cue_time pts seconds micros cue }
 {
     let Cue::At(p) = cue else {
-        return WireTime {
-            seconds: ONES,
-            micros: ONES,
-        };
+        return ONES;
     };
     let given = units::from_micros(units::time_of(seconds, micros));
     let later = units::from_long_ticks(ticks_after(pts, p));

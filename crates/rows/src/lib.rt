@@ -3,22 +3,20 @@
 #![tactic(auto)]
 
 ghost use Rattle.std.specs.Prelude.{◌≡◌, ◌<◌};
-ghost use Rattle.rows.specs.Rows.{rows, unused_row, row_in, row_at, sixteen, page_number};
+ghost use Rattle.rows.specs.Rows.{rows, row_in, row_at, sixteen, page_number};
 
-use rules::Past;
+use rules::{Past, Refusal};
 
 // How many rows the page has.
 pub const ROWS: usize = memory::PAST_PLACES;
 
-// The house number for other than sixteen rows.
-const NOT_SIXTEEN: u64 = 16;
-
 // A row has 32-bit numbers.
 const U32: u64 = 4294967296;
 
-// One that ended: kept is 1, or 0 in a row that is unused, whose numbers are all 0.
+// One that ended: kept is 1, or 0 in a row that is unused, whose numbers are all 0. A flag and no Option: it is C's struct, which
+// splicer_7_ended fills.
 #[repr(C)]
-#[derive(Clone, Copy)]
+#[derive(Clone, Copy, Default)]
 pub struct Row {
     pub kept: u32,
     pub connection: u32,
@@ -28,33 +26,23 @@ pub struct Row {
     pub played: u32,
 }
 
-fn nothing() -> Row
-    ensures { result ≡ unused_row }
-{
-    Row {
-        kept: 0,
-        connection: 0,
-        session: 0,
-        event: 0,
-        result: 0,
-        played: 0,
-    }
-}
-
 // The row of one that ended, or of a place that keeps none.
-fn row_of(x: Past) -> Row
-    ensures { result ≡ row_in x }
-{
-    if x.result == 0 {
-        return nothing();
-    }
-    Row {
-        kept: 1,
-        connection: (x.conn % U32) as u32,
-        session: (x.id % U32) as u32,
-        event: (x.event % U32) as u32,
-        result: (x.result % U32) as u32,
-        played: (x.played % U32) as u32,
+impl From<Past> for Row {
+    ghost from_gives = { λ x r. r ≡ row_in x };
+
+    #[tactic(auto, unfolding(crate::specs::Rows::row_in))]
+    fn from(x: Past) -> Row {
+        if x.result == 0 {
+            return Row::default();
+        }
+        Row {
+            kept: 1,
+            connection: (x.conn % U32) as u32,
+            session: (x.id % U32) as u32,
+            event: (x.event % U32) as u32,
+            result: (x.result % U32) as u32,
+            played: (x.played % U32) as u32,
+        }
     }
 }
 
@@ -63,27 +51,23 @@ pub fn row_at(e: &[u64], i: usize) -> Row
     requires { i < rows }
     ensures { result ≡ row_at e.now i }
 {
-    row_of(memory::ended_at(e, i))
+    Row::from(memory::ended_at(e, i))
 }
 
 // How many rows are filled: all of sixteen, or none.
-#[tactic(auto, using(crate::proofs::Pages::fills_all, crate::proofs::Pages::fills_none))]
 pub fn to_fill(n: usize) -> usize
     ensures { result ≡ sixteen n }
 {
-    if n == ROWS {
-        return ROWS;
-    }
-    0
+    if n == ROWS { ROWS } else { 0 }
 }
 
 // What the page answers: 0, or the house number for other than sixteen rows.
-#[tactic(auto, using(crate::proofs::Pages::page_good, crate::proofs::Pages::page_other))]
+#[tactic(auto, unfolding(crate::specs::Rows::page_number))]
 pub fn page_number(n: usize) -> u64
     ensures { result ≡ page_number n }
 {
     if n != ROWS {
-        return NOT_SIXTEEN;
+        return u64::from(reply::house_number(Refusal::NotSixteen));
     }
     0
 }

@@ -18,8 +18,7 @@ use Rattle.rules.proofs.Tests.{or-none}
 use Rattle.rules.proofs.Written.{written_next, written_none}
 use Rattle.rules.proofs.Streams.{Stepped, streams-step, streams-none, length-kept, streams-count, separate-step}
 use Rattle.rules.proofs.Bytes.{length-bytes}
-use Rattle.reading.specs.declared.structures.Streams.{Streams}
-use Rattle.reading.specs.declared.structures.Streams.TheVariants.{End, Bad}
+use Rattle.std.specs.Prelude.{Option, Some, None}
 use Rattle.reading.specs.Structures.{from}
 use Rattle.reading.proofs.Laws.{behind}
 use Rattle.reading.proofs.Steps.{On, on-good, Found}
@@ -186,15 +185,15 @@ good-row w e =
       kept = ltb-false 234 (get_or w 7 0) j.1;
     }
 
-from-none : (x : Streams) → from 0 x ≡ x
+from-none : (x : Option ℕ) → from 0 x ≡ x
 unfolding from
-from-none (End n) = ap End (zero-add n)
-from-none Bad = refl
+from-none (Some n) = ap Some (zero-add n)
+from-none None = refl
 
-from-from : (a b : ℕ) (x : Streams) → from a (from b x) ≡ from (a + b) x
+from-from : (a b : ℕ) (x : Option ℕ) → from a (from b x) ≡ from (a + b) x
 unfolding from
-from-from a b (End n) = ap End (sym (add_assoc a b n))
-from-from a b Bad = refl
+from-from a b (Some n) = ap Some (sym (add_assoc a b n))
+from-from a b None = refl
 
 -- i of n rows are good and take `size` bytes
 pub record Sizing (n i size : ℕ) (words : List ℕ) : Type 0 where
@@ -211,21 +210,21 @@ judged-good : (m a : ℕ) (words : List ℕ) → bad_row (drop a words) ≡ fals
 unfolding judged bad_rows rows_size from
 judged-good m a words e = rw (e, get_or-drop a words 7 0, drop-drop 8 a words) (go (bad_rows m (drop (a + 8) words)))
   where
-    go : (b : Bool) → cond b Bad (End (21 + get_or words (a + 7) 0 + rows_size m (drop (a + 8) words)))
-        ≡ from (21 + get_or words (a + 7) 0) (cond b Bad (End (rows_size m (drop (a + 8) words))))
+    go : (b : Bool) → cond b None (Some (21 + get_or words (a + 7) 0 + rows_size m (drop (a + 8) words)))
+        ≡ from (21 + get_or words (a + 7) 0) (cond b None (Some (rows_size m (drop (a + 8) words))))
     go true = refl
     go false = refl
 
-judged-bad : (m a : ℕ) (words : List ℕ) → bad_row (drop a words) ≡ true → judged (suc m) (drop a words) ≡ Bad
+judged-bad : (m a : ℕ) (words : List ℕ) → bad_row (drop a words) ≡ true → judged (suc m) (drop a words) ≡ None
 unfolding judged bad_rows
 judged-bad m a words e = rw e
 
 module _ {n i size : ℕ} {words : List ℕ} (f : Sizing n i size words) where
-  pub sizing-ends : n ≤ i → End size ≡ judged n (drop 2 words)
+  pub sizing-ends : n ≤ i → Some size ≡ judged n (drop 2 words)
   unfolding judged bad_rows rows_size from
   sizing-ends h =
       let z : f.left ≡ 0 = omega (arith, f.count) in
-      sym (f.is ∙ ap (λ m. from size (judged m (drop (2 + i * 8) words))) z ∙ ap End (add-zero size))
+      sym (f.is ∙ ap (λ m. from size (judged m (drop (2 + i * 8) words))) z ∙ ap Some (add-zero size))
 
   module _ (h : i < n) where
     abbrev m : ℕ
@@ -234,7 +233,7 @@ module _ {n i size : ℕ} {words : List ℕ} (f : Sizing n i size words) where
     back : f.left ≡ suc m
     back = omega (arith, f.count)
 
-    pub sizing-bad : bad_row (mid_of (2 + i * 8) (length words - (2 + i * 8)) words) ≡ true → Bad ≡ judged n (drop 2 words)
+    pub sizing-bad : bad_row (mid_of (2 + i * 8) (length words - (2 + i * 8)) words) ≡ true → None ≡ judged n (drop 2 words)
     unfolding from
     sizing-bad e =
         sym (f.is ∙ ap (λ j. from size (judged j (drop (2 + i * 8) words))) back
@@ -452,21 +451,21 @@ rows-small (suc n) w e =
     let t = or-none (bad_row w) (bad_rows n (drop 8 w)) e in
     omega (arith, (good-row w t.0).kept, rows-small n (drop 8 w) t.1)
 
-pub judged-end : (n : ℕ) (w : List ℕ) {size : ℕ} → judged n w ≡ End size
+pub judged-end : (n : ℕ) (w : List ℕ) {size : ℕ} → judged n w ≡ Some size
     → (bad_rows n w ≡ false) × (size ≡ rows_size n w) × (size ≤ 255 * n)
 unfolding judged
 judged-end n w {size} = go (bad_rows n w) refl
   where
-    go : (b : Bool) → bad_rows n w ≡ b → cond b Bad (End (rows_size n w)) ≡ End size
+    go : (b : Bool) → bad_rows n w ≡ b → cond b None (Some (rows_size n w)) ≡ Some size
         → (bad_rows n w ≡ false) × (size ≡ rows_size n w) × (size ≤ 255 * n)
     go true e f = let z : ◌≡◌ {A = ℕ} 0 1 = cc in absurd (omega arith)
     go false e f = let k : size ≡ rows_size n w = cc in (e, k, omega (arith, rows-small n w e))
 
-pub judged-none : (n : ℕ) (w : List ℕ) → judged n w ≡ Bad → bad_rows n w ≡ true
+pub judged-none : (n : ℕ) (w : List ℕ) → judged n w ≡ None → bad_rows n w ≡ true
 unfolding judged
 judged-none n w = go (bad_rows n w) refl
   where
-    go : (b : Bool) → bad_rows n w ≡ b → cond b Bad (End (rows_size n w)) ≡ Bad → bad_rows n w ≡ true
+    go : (b : Bool) → bad_rows n w ≡ b → cond b None (Some (rows_size n w)) ≡ None → bad_rows n w ≡ true
     go true e f = e
     go false e f = let z : ◌≡◌ {A = ℕ} 0 1 = cc in absurd (omega arith)
 
@@ -498,7 +497,7 @@ unfolding put_size out_after
 write-none words kept out e = record { size = rw e; bytes = rw e }
 
 module _ (words kept out : List ℕ) {size : ℕ} (few : get_or words 0 0 ≤ most_streams) (long : 3744 ≤ length kept)
-    (j : judged (get_or words 0 0) (drop 2 words) ≡ End size) where
+    (j : judged (get_or words 0 0) (drop 2 words) ≡ Some size) where
   size-of-bytes : length (bytes_of words kept) ≡ 6 + size
   size-of-bytes =
       let z = judged-end (get_or words 0 0) (drop 2 words) j in

@@ -1,13 +1,11 @@
 -- 02, CR 1: a list of streams in lent memory. Words: how many, the PcrPID, and 16 rows of eight words; bytes: what the structures keep, all
 -- streams' in a row.
 use Rattle.std.specs.Prelude.{◌≡◌, Bool, false, cond, ◌||◌, List, [], ◌∷◌, ◌++◌, ℕ, zero, suc, ◌+◌, ◌≤◌, leb, ltb, length, get_or, take}
-use Rattle.std.specs.Prelude.{drop, replicate}
+use Rattle.std.specs.Prelude.{drop, replicate, Option, Some, None}
 use Rattle.rules.specs.Bytes.{written}
 use Rattle.rules.specs.Streams.{Stream, highest_pid, unknown_size, Listed, listed, unlisted, streams_in, pcr_pid, most_streams, separate_in}
 use Rattle.rules.specs.Streams.{separate_bytes}
 use Rattle.reading.specs.Structures.{sizes_of}
-use Rattle.reading.specs.declared.structures.Streams.{Streams}
-use Rattle.reading.specs.declared.structures.Streams.TheVariants.{End, Bad}
 
 -- ## A list as words and bytes
 
@@ -90,8 +88,8 @@ unfoldable pub rows_size : ℕ → List ℕ → ℕ
 rows_size zero w = 0
 rows_size (suc n) w = (21 + get_or w 7 0) + rows_size n (drop 8 w)
 
-unfoldable pub judged : ℕ → List ℕ → Streams
-judged n w = cond (bad_rows n w) Bad (End (rows_size n w))
+unfoldable pub judged : ℕ → List ℕ → Option ℕ
+judged n w = cond (bad_rows n w) None (Some (rows_size n w))
 
 unfoldable pub bytes_of : List ℕ → List ℕ → List ℕ
 bytes_of words kept = separate_bytes (get_or words 1 0) (list_in (get_or words 0 0) (drop 2 words) kept)
@@ -140,7 +138,7 @@ pub record Judged (words kept : List ℕ) (size : ℕ) : Type 0 where
   pub pcr : get_or words 1 0 ≤ highest_pid
   pub wide : 130 ≤ length words
   pub long : 3744 ≤ length kept
-  pub rows : judged (get_or words 0 0) (drop 2 words) ≡ End size
+  pub rows : judged (get_or words 0 0) (drop 2 words) ≡ Some size
 
 -- n structures that p begins with are good, and what is lent is as long as it has to be
 pub record Fillable (n : ℕ) (p words kept : List ℕ) : Type 0 where

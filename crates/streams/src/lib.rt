@@ -1,6 +1,7 @@
 // A request's list of streams in lent memory: read from its bytes, and written (02, CR 1).
 // Both begin with PcrPID. Words: how many, the PcrPID, and 16 rows of eight words. Bytes: what the structures keep, all streams' in a
 // row.
+// The two arrays, the count in the first and numbers of 64 bits are as splicer_7_read_streams and splicer_7_write_streams lend them.
 #![tactic(auto)]
 
 ghost use Rattle.std.specs.Prelude.{◌≡◌, false, ◌++◌, ◌≤◌, length, drop};
@@ -10,10 +11,10 @@ ghost use Rattle.streams.specs.Rows.{row_of, Fillable, Filled, ReadsList};
 ghost use Rattle.streams.specs.Rows.{bad_row, judged, row_stream, list_in, Puttable, Writing, Judged, WritesList};
 
 use reading::numbers::{number2, number4};
-use reading::structures::{Streams, end_of};
+use reading::structures::{HIGHEST_PID, MOST, end_of};
 
 // "At most 16 streams."
-pub const ROWS: usize = 16;
+pub const ROWS: usize = MOST as usize;
 
 // PID, StreamType, AvgBitrate, MaxBitrate, MinBitrate, HResolution, VResolution, how many bytes are kept.
 pub const ROW: usize = 8;
@@ -49,10 +50,9 @@ fn fill(p: &[u8], n: usize, words: &mut [u64], kept: &mut [u8])
     requires { Fillable n p.now words.old kept.old }
     ensures { Filled n p.now words.old kept.old words.new kept.new }
 {
-    let mut i = 0;
     let mut at = 0;
     let mut to = 0;
-    while i < n {
+    for i in 0..n {
         let end = at + p[at] as usize;
         let from = at + 21;
         let row = 2 + i * ROW;
@@ -60,16 +60,15 @@ fn fill(p: &[u8], n: usize, words: &mut [u64], kept: &mut [u8])
         writing::copy(&mut kept[to..], &p[from..end]);
         to += end - from;
         at = end;
-        i += 1;
     }
 }
 
 // The bytes taken, or 0: then all that is lent stays as it was. Rows behind the last are zeroed; kept bytes behind the last stay.
+// 0 and not None: it is what C gets of splicer_7_read_streams.
 pub fn read(p: &[u8], words: &mut [u64; LIST], kept: &mut [u8; KEPT]) -> usize
     ensures { ReadsList p.now words.old kept.old result words.new kept.new }
 {
-    let found = end_of(p);
-    let Streams::End(end) = found else {
+    let Some(end) = end_of(p) else {
         return 0;
     };
     let n = number4(p, 2);
@@ -87,47 +86,31 @@ fn is_bad(w: &[u64]) -> bool
     requires { 8 ≤ length w.now }
     ensures { result ≡ bad_row w.now }
 {
-    if 0x1FFF < w[0] {
-        return true;
-    }
-    if 0xFFFF <= w[1] {
-        return true;
-    }
-    if 4294967296 <= w[2] {
-        return true;
-    }
-    if 4294967296 <= w[3] {
-        return true;
-    }
-    if 4294967296 <= w[4] {
-        return true;
-    }
-    if 65536 <= w[5] {
-        return true;
-    }
-    if 65536 <= w[6] {
-        return true;
-    }
-    MOST_KEPT < w[7]
+    u64::from(HIGHEST_PID) < w[0]
+        || 0xFFFF <= w[1]
+        || 4294967296 <= w[2]
+        || 4294967296 <= w[3]
+        || 4294967296 <= w[4]
+        || 65536 <= w[5]
+        || 65536 <= w[6]
+        || MOST_KEPT < w[7]
 }
 
-// The bytes that n rows take, or rows that are bad.
-fn size_of(words: &[u64], n: usize) -> Streams
+// The bytes that n rows take, if none of them is bad.
+fn size_of(words: &[u64], n: usize) -> Option<usize>
     requires n_bound { n ≤ 16 }
     requires in_bounds { 130 ≤ length words.now }
     ensures { result ≡ judged n (drop 2 words.now) }
 {
-    let mut i = 0;
     let mut size = 0;
-    while i < n {
+    for i in 0..n {
         let row = 2 + i * ROW;
         if is_bad(&words[row..]) {
-            return Streams::Bad;
+            return None;
         }
         size += 21 + words[row + 7] as usize;
-        i += 1;
     }
-    Streams::End(size)
+    Some(size)
 }
 
 // Length, PID, StreamType.
@@ -176,20 +159,19 @@ fn put_rows(words: &[u64], kept: &[u8], n: usize, out: &mut [u8])
     requires { Writing n words.now kept.now out.old }
     ensures { out.new ≡ written out.old 6 (streams_bytes (list_in n (drop 2 words.now) kept.now)) }
 {
-    let mut i = 0;
     let mut at = 0;
     let mut to = 6;
-    while i < n {
+    for i in 0..n {
         let row = 2 + i * ROW;
         let k = words[row + 7] as usize;
         put_row(&words[row..], &kept[at..], &mut out[to..]);
         at += k;
         to += 21 + k;
-        i += 1;
     }
 }
 
 // A good list whose structures take `size` bytes: the bytes written, or 0 where out is too short.
+// 0 and not None, for splicer_7_write_streams, as `write`.
 fn put_list(words: &[u64], kept: &[u8], size: usize, out: &mut [u8]) -> usize
     requires { Judged words.now kept.now size }
     ensures { WritesList words.now kept.now out.old result out.new }
@@ -204,19 +186,14 @@ fn put_list(words: &[u64], kept: &[u8], size: usize, out: &mut [u8]) -> usize
     6 + size
 }
 
-// The bytes written, or 0: then out stays as it was. Bytes behind those written stay.
+// The bytes written, or 0: then out stays as it was. Bytes behind those written stay. 0 and not None, for splicer_7_write_streams.
 pub fn write(words: &[u64; LIST], kept: &[u8; KEPT], out: &mut [u8]) -> usize
     ensures { WritesList words.now kept.now out.old result out.new }
 {
-    if 16 < words[0] {
+    if u64::from(MOST) < words[0] || u64::from(HIGHEST_PID) < words[1] {
         return 0;
     }
-    if 0x1FFF < words[1] {
-        return 0;
-    }
-    let n = words[0] as usize;
-    let judged = size_of(words, n);
-    let Streams::End(size) = judged else {
+    let Some(size) = size_of(words, words[0] as usize) else {
         return 0;
     };
     put_list(words, kept, size, &mut *out)

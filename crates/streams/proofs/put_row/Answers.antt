@@ -8,28 +8,8 @@ use lib.ListN.{get_or, length-append, length-take}
 use Rattle.rules.specs.Bytes.{bytes, written}
 use Rattle.rules.proofs.Bytes.{length-bytes}
 use Rattle.rules.proofs.Written.{written_next}
-use Rattle.streams.proofs.Laws.{good-row, row_is}
+use Rattle.streams.proofs.Laws.{row_is}
 use Rattle.streams.proofs.put_row.Goals as goal
-
-pub overflow_cast-w : goal.overflow_cast-w
-overflow_cast-w c =
-    let g = good-row c.args.w.now c.requires.good in
-    omega (arith, g.pid)
-
-pub overflow_cast-w-2 : goal.overflow_cast-w-2
-overflow_cast-w-2 c =
-    let g = good-row c.args.w.now c.requires.good in
-    omega (arith, g.kind)
-
-pub overflow_cast-w-3 : goal.overflow_cast-w-3
-overflow_cast-w-3 c =
-    let g = good-row c.args.w.now c.requires.good in
-    omega (arith, g.width)
-
-pub overflow_cast-w-4 : goal.overflow_cast-w-4
-overflow_cast-w-4 c =
-    let g = good-row c.args.w.now c.requires.good in
-    omega (arith, g.height)
 
 pub returns : goal.returns
 returns c =

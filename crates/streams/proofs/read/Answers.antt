@@ -13,40 +13,40 @@ use Rattle.streams.proofs.read.Goals as goal
 pub returns-in_default : goal.returns-in_default
 returns-in_default c =
     read_none c.args.p.now c.args.words.now c.args.kept.now
-    (end-unlisted c.args.p.now (sym c.end_of-found.ensures ∙ c.in_default.is))
+    (end-unlisted c.args.p.now (sym c.end_of.ensures ∙ c.in_default.is))
 
 pub number4-n-requires : goal.number4-n-requires
 number4-n-requires c =
-    let e = sym c.end_of-found.ensures ∙ c.in-End.is in
+    let e = sym c.end_of.ensures ∙ c.in-Some.is in
     let f = end-found c.args.p.now _ e in
     let k = separate-step c.args.p.now f.items f.rest f.is in
     omega (arith, k.long)
 
 pub number2-requires : goal.number2-requires
 number2-requires c =
-    let e = sym c.end_of-found.ensures ∙ c.in-End.is in
+    let e = sym c.end_of.ensures ∙ c.in-Some.is in
     let f = end-found c.args.p.now _ e in
     let k = separate-step c.args.p.now f.items f.rest f.is in
     omega (arith, k.long)
 
 pub slice_bounds-fill-count : goal.slice_bounds-fill-count
 slice_bounds-fill-count c =
-    let e = sym c.end_of-found.ensures ∙ c.in-End.is in
+    let e = sym c.end_of.ensures ∙ c.in-Some.is in
     let f = end-found c.args.p.now _ e in
     let k = separate-step c.args.p.now f.items f.rest f.is in
     omega (arith, k.long)
 
 pub slice_bounds-fill-start : goal.slice_bounds-fill-start
 slice_bounds-fill-start c =
-    let e = sym c.end_of-found.ensures ∙ c.in-End.is in
+    let e = sym c.end_of.ensures ∙ c.in-Some.is in
     let f = end-found c.args.p.now _ e in
     let k = separate-step c.args.p.now f.items f.rest f.is in
     omega (arith, k.long)
 
 pub fill-requires : goal.fill-requires
 fill-requires c =
-    let e = sym c.end_of-found.ensures
-    ∙ c.in-End.is in
+    let e = sym c.end_of.ensures
+    ∙ c.in-Some.is in
     let f = end-found c.args.p.now _ e in
     let k = separate-step c.args.p.now f.items f.rest f.is in
     record {
@@ -61,7 +61,7 @@ fill-requires c =
 
 pub returns : goal.returns
 returns c =
-    let e = sym c.end_of-found.ensures ∙ c.in-End.is
+    let e = sym c.end_of.ensures ∙ c.in-Some.is
     in
     let f = end-found c.args.p.now _ e in
     let k = separate-step c.args.p.now f.items f.rest f.is in

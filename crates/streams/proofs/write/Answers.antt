@@ -8,32 +8,33 @@ use Rattle.rules.specs.Streams.{highest_pid, most_streams}
 use Rattle.streams.proofs.Laws.{judged-none, write-none}
 use borrow.Author.Rules.{rules}
 use Rattle.streams.proofs.write.Goals as goal
+use Rattle.streams.proofs.write.Goals.{then-from-words-via-then-from-words, then-from-words-via-else-from-words+then-from-words-2}
 
-pub returns-then-words-gt16 : goal.returns-then-words-gt16
-returns-then-words-gt16 c =
+pub returns-then-from-words : goal.returns-then-from-words
+returns-then-from-words c =
     let w = c.args.words.now in
-    write-none w c.args.kept.now c.args.out.now (rw (lt-ltb most_streams (get_or w 0 0) (omega arith)))
-
-pub returns-then-words-gt8191 : goal.returns-then-words-gt8191
-returns-then-words-gt8191 c =
-    let w = c.args.words.now in
-    write-none w c.args.kept.now c.args.out.now (rw (lt-ltb highest_pid (get_or w 1 0) (omega arith)) (simp or-true))
+    elim c.then-from-words.branch [
+      | then-from-words-via-then-from-words v ↦ write-none w c.args.kept.now c.args.out.now
+          (rw (lt-ltb most_streams (get_or w 0 0) (omega (arith, v.if-from-words.true, c.from.ensures))))
+      | then-from-words-via-else-from-words+then-from-words-2 v ↦ write-none w c.args.kept.now c.args.out.now
+          (rw (lt-ltb highest_pid (get_or w 1 0) (omega (arith, v.if-from-words-2.true, v.from-else-from-words.ensures))) (simp or-true))
+    ]
 
 pub returns-in_default : goal.returns-in_default
 returns-in_default c =
     let w = c.args.words.now in
-    let j = judged-none (get_or w 0 0) (drop 2 w) (sym c.size_of-judged.ensures ∙ c.in_default.is) in
+    let j = judged-none (get_or w 0 0) (drop 2 w) (sym c.size_of.ensures ∙ c.in_default.is) in
     write-none w c.args.kept.now c.args.out.now (rw j (simp or-true))
 
 pub put_list-requires : goal.put_list-requires
 put_list-requires c =
     record {
-      few = omega (arith, c.if-words-gt16.false);
+      few = omega (arith, c.if-from-words.false, c.from.ensures);
       pcr =
-          omega (arith, c.if-words-gt8191.false);
+          omega (arith, c.if-from-words-2.false, c.from-else-from-words.ensures);
       wide = search rules;
       long =
           search rules;
-      rows = sym c.size_of-judged.ensures
-          ∙ c.in-End.is;
+      rows = sym c.size_of.ensures
+          ∙ c.in-Some.is;
     }

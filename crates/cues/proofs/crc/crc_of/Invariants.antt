@@ -1,12 +1,8 @@
--- The invariant: the bytes from i on take the register to where all of them take the first.
+-- The invariant: the bytes that are left take the register to where all of them take the first.
 use mathlib.Core.Path.{◌≡◌}
-use Prim.Native.Nat.{◌-◌, ◌≤◌}
-use lib.ListN.{length, drop}
+use lib.ListN.{drop}
 use Rattle.rules.specs.Crc.{crc_from}
 use Rattle.cues.proofs.crc.crc_of.Given as goal
 
-abbrev pub invariant-loop-i : goal.invariant-loop-i
-invariant-loop-i l = (l.i ≤ length l.l) × (crc_from l.c (drop l.i l.l) ≡ crc_from 0xFFFFFFFF l.l)
-
-abbrev pub decreases-loop-i : goal.decreases-loop-i
-decreases-loop-i l = length l.l - l.i
+abbrev pub invariant-loop-b : goal.invariant-loop-b
+invariant-loop-b l = crc_from l.c (drop l.b-index l.l) ≡ crc_from 0xFFFFFFFF l.l
